@@ -1,0 +1,25 @@
+# The commands of the repository. Each needs the Rattle kit's `rt` and nothing else.
+
+.PHONY: all run test bench
+
+all: ir
+
+# Proves and builds the program.
+ir: FORCE
+	cd crates/ir_cli && rt run < stdin > out.txt && cmp out.txt stdout && rm out.txt
+	cp crates/ir_cli/out/ir_cli ir
+	@echo "The program is ./ir"
+
+FORCE:
+
+# The first session of the README.
+run: ir
+	./ir < crates/ir_cli/stdin
+
+# The merge gate: every proof from nothing, must-fail edits, tests, programs.
+test:
+	rt ci
+
+# Millions of instructions per second.
+bench: ir
+	python3 scripts/bench.py ./ir

@@ -1,0 +1,68 @@
+//! A session over one stream: an image and a trace in hexadecimal, each in a line, and then commands.
+
+ghost use Rattle.std.specs.Prelude.{◌≡◌, ◌≢◌, IfOk, IfSome, OnOk, Err, Ok, None, false, true};
+ghost use Rattle.ir_cli.specs.Bundle.{Bundled, bundle_of, status_of, bytes_of_line, line_of};
+ghost use Rattle.ir_cli.specs.Taking.{TakesBytes};
+
+use crate::fault::BundleErr;
+use crate::line::{bytes_of, read_line};
+use ir_debug::{Ended, SessionErr, Sink, Source, session};
+use std::alloc::Global;
+
+// The bytes of the next line of hexadecimal digits.
+fn next_bytes<R: Source>(alloc: Global, reader: &mut R) -> Result<Vec<u8>, BundleErr>
+    requires { R.broken reader.old ≡ false }
+    ensures ok { IfOk result (λ bytes. TakesBytes (R.left reader.old) (R.left reader.new) bytes.items) }
+    ensures stays { OnOk result (R.broken reader.new ≡ false) }
+    ensures read { result ≡ Err BundleErr.Read → R.broken reader.new ≡ true }
+    ensures bad { result ≡ Err BundleErr.BadLine → IfSome (R.left reader.old) (λ input. bytes_of_line (line_of input) ≡ None) }
+    ensures write { result ≡ Err BundleErr.Write → ⊥ }
+    ensures too_long { result ≡ Err BundleErr.TooLong → ⊥ }
+{
+    let line = read_line(alloc, reader)?;
+    bytes_of(alloc, line.as_slice())
+}
+
+/// Runs the session of an image and a trace that stand in hexadecimal in the reader's first two lines, over its other
+/// lines. A carriage return before a line feed or at the end is dropped, and a missing line is empty.
+///
+/// # Errors
+/// `BadLine`, with nothing written, where one of the two lines is no text of whole bytes in at most 4,194,304 digits of
+/// either case; want of memory; a fault of the session.
+pub fn bundled<R: Source, W: Sink>(
+    alloc: Global,
+    reader: &mut R,
+    writer: &mut W,
+) -> Result<Ended, BundleErr>
+    requires reads { R.broken reader.old ≡ false }
+    requires writes { W.broken writer.old ≡ false }
+    // The session's bytes, where the reader tells its own.
+    ensures ok { IfOk result (λ ended. IfSome (R.left reader.old) (Bundled (Ok ended) (W.written writer.old) (W.written writer.new))) }
+    ensures too_long { result ≡ Err BundleErr.TooLong → IfSome (R.left reader.old) (Bundled (Err SessionErr.TooLong) (W.written writer.old) (W.written writer.new)) }
+    // A line that is no text in hexadecimal is refused, with nothing written.
+    ensures bad_line { result ≡ Err BundleErr.BadLine → IfSome (R.left reader.old) (λ input. bundle_of input ≡ None) × (writer.new ≡ writer.old) }
+    ensures read { result ≡ Err BundleErr.Read → R.broken reader.new ≡ true }
+    ensures write { result ≡ Err BundleErr.Write → W.broken writer.new ≡ true }
+    ensures no_memory { result ≡ Err BundleErr.NoMem → writer.new ≡ writer.old }
+{
+    let image = next_bytes(alloc, reader)?;
+    let trace = next_bytes(alloc, reader)?;
+    match session(alloc, image.as_slice(), trace.as_slice(), reader, writer) {
+        Ok(ended) => Ok(ended),
+        Err(SessionErr::NoMem) => Err(BundleErr::NoMem),
+        Err(SessionErr::Read) => Err(BundleErr::Read),
+        Err(SessionErr::Write) => Err(BundleErr::Write),
+        Err(SessionErr::TooLong) => Err(BundleErr::TooLong),
+    }
+}
+
+/// The exit status of a session that ended: 0, 3 for a refused image or trace, 4 for a trace that doesn't fit.
+pub fn status(ended: Ended) -> u8
+    ensures { result ≡ status_of ended }
+{
+    match ended {
+        Ended::Quit | Ended::InputEnd => 0,
+        Ended::ImageRefused | Ended::TraceRefused => 3,
+        Ended::NotFit => 4,
+    }
+}

@@ -1,0 +1,61 @@
+//! `ir`: a record and replay debugger for guests of RV32IM threads.
+#![tactic(auto)]
+
+mod bundle;
+mod fault;
+mod line;
+#[cfg(test)]
+mod tests;
+mod words;
+
+use bundle::{bundled, status};
+use ir_debug::FromStd;
+use std::io::{self, BufReader};
+use std::process::ExitCode;
+use words::{Asked, read_words};
+
+const DONE: u8 = 0;
+
+const FAULT: u8 = 1;
+
+const BAD_WORDS: u8 = 2;
+
+// Says why the program stops, in one line on standard error. Nobody is left to tell where that fails.
+fn complain(rt: &impl Eprint, why: &str) {
+    let _ = rt.eprintln(format_args!("ir: {why}"));
+}
+
+// The session over standard input and output.
+fn serve(rt: &HostRuntime) -> u8 {
+    let Ok(input) = BufReader::new(rt.alloc(), rt.reader()) else {
+        complain(rt, "memory ran out");
+        return FAULT;
+    };
+    let mut reader = FromStd::new(input);
+    let mut writer = FromStd::new(io::writer(rt));
+    match bundled(rt.alloc(), &mut reader, &mut writer) {
+        Ok(ended) => status(ended),
+        Err(why) => {
+            let _ = rt.eprintln(format_args!("ir: {why}"));
+            FAULT
+        }
+    }
+}
+
+fn main(rt: HostRuntime) -> ExitCode {
+    ExitCode::from(match read_words(&rt) {
+        Asked::Session => serve(&rt),
+        Asked::Help(text) => match rt.print(text) {
+            Ok(()) => DONE,
+            Err(_) => FAULT,
+        },
+        Asked::Nothing(why) => {
+            complain(&rt, why.as_str());
+            BAD_WORDS
+        }
+        Asked::NoMem => {
+            complain(&rt, "memory ran out");
+            FAULT
+        }
+    })
+}

@@ -1,0 +1,42 @@
+-- The texts of answers.
+use Rattle.std.specs.Prelude.{ℕ, zero, suc, ◌==◌, ◌%◌, List, [], ◌++◌, codes, decimal, if◌then◌else◌}
+use Rattle.std.specs.Int.{bytes_high_first}
+use Rattle.hex.specs.Hex.{encode_lower}
+use Rattle.ir_isa.specs.Names.{register_name}
+use Rattle.ir_mach.specs.Core.{Core, register}
+use Rattle.ir_command.specs.declared.refusal.Refusal.{Refusal}
+use Rattle.ir_command.specs.declared.refusal.Refusal.TheVariants.{UnknownCommand, BadArgument, NoSuchThread, LineTooLong}
+
+-- a word in eight lower-case hexadecimal digits, the highest first
+abbrev pub hex_word : ℕ → List ℕ
+hex_word n = encode_lower (bytes_high_first 4 n)
+
+abbrev pub refusal_text : Refusal → List ℕ
+refusal_text UnknownCommand = codes "refused 1 unknown command\n"
+refusal_text BadArgument = codes "refused 2 bad argument\n"
+refusal_text NoSuchThread = codes "refused 3 no such thread\n"
+refusal_text LineTooLong = codes "refused 7 line too long\n"
+
+-- where a move stopped, of a thread whose last position is given
+abbrev pub stop_text : ℕ → ℕ → List ℕ
+stop_text last at = if at == last then codes " end\n" else if at == 0 then codes " start\n" else codes "\n"
+
+-- the answer to a move
+abbrev pub place_text : ℕ → ℕ → List ℕ
+place_text last at = codes "at " ++ decimal at ++ stop_text last at
+
+-- four registers stand in a line
+abbrev pub after_register : ℕ → List ℕ
+after_register n = if n % 4 == 3 then codes "\n" else codes " "
+
+abbrev pub register_text : Core → ℕ → List ℕ
+register_text m n = register_name n ++ codes "=" ++ hex_word (register m n) ++ after_register n
+
+-- the first so many registers
+unfoldable pub registers_text : Core → ℕ → List ℕ
+registers_text m zero = []
+registers_text m (suc n) = registers_text m n ++ register_text m n
+
+-- pc and all registers
+abbrev pub machine_text : Core → List ℕ
+machine_text m = codes "pc " ++ hex_word m.pc ++ codes "\n" ++ registers_text m 32

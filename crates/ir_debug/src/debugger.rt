@@ -1,0 +1,116 @@
+//! The debugger: one thread of a guest, at a position of its recorded run.
+
+ghost use Rattle.std.specs.Prelude.{◌≡◌, ◌≤◌, ◌+◌, ◌++◌, ◌<◌, IfOk};
+ghost use Rattle.std.specs.Io.KnownBytes.{Appends};
+ghost use Rattle.arrayvec.specs.ArrayVec.{array_vec_len};
+ghost use Rattle.ir_stream.specs.Endings.{flow_after};
+ghost use Rattle.ir_debug.specs.Fitting.{thread_at};
+ghost use Rattle.ir_debug.specs.Reference.{Reference, reference_of, moved, answer_to_command, next_of_command, answer_to, next_of, reply_to, next_after, is_quit, ends_session};
+ghost use Rattle.ir_debug.specs.LongLines.{long_reply, long_next, long_quit};
+
+use crate::answer::{Text, put_machine, put_place, put_refusal};
+use crate::fit::run;
+use crate::trace::Trace;
+use ir_command::{Command, Refusal, parse_line};
+use ir_image::Image;
+use ir_stream::{DeviceErr, Flow, Responder, Sink, append, write_all};
+use ir_thread::Thread;
+use std::alloc::{AllocError, Global};
+use std::marker::Model;
+
+/// A debugger, which answers as the reference machine does that holds the guest's run and a position.
+#[derive(Drop)]
+pub struct Debugger {
+    image: Image,
+    thread: Thread,
+    budget: u64,
+    last: u64,
+    at: u64,
+}
+
+impl Model for Debugger {
+    ghost Value = { Reference };
+
+    ghost view = { λ d. record { guest = d.image; budget = d.budget; last = d.last; at = d.at } };
+
+    ghost invariant = { λ d. (d.thread ≡ thread_at d.image d.budget d.at) × (d.at ≤ d.last) };
+}
+
+impl Debugger {
+    /// A debugger at the start of the recorded run of the guest's first thread.
+    ///
+    /// # Errors
+    /// Want of memory.
+    pub fn open(alloc: Global, image: Image, trace: &Trace) -> Result<Debugger, AllocError>
+        ensures { IfOk result (λ d. d ≡ reference_of image trace.now) }
+    {
+        let _entries = image.entries();
+        let thread = Thread::new(alloc, &image, 0, trace.budget())?;
+        Ok(Debugger {
+            image,
+            thread,
+            budget: trace.budget(),
+            last: trace.steps(),
+            at: 0,
+        })
+    }
+
+    fn step(&mut self, count: u64)
+        ensures { self.new ≡ moved self.old count }
+    {
+        let count = count.min(self.last - self.at);
+        run(&mut self.thread, self.image.code(), count);
+        self.at += count;
+    }
+
+    fn carry_out(&mut self, command: Command, text: &mut Text)
+        requires { array_vec_len text.old ≡ 0 }
+        ensures text { text.new.items ≡ text.old.items ++ answer_to_command self.old command }
+        ensures next { self.new ≡ next_of_command self.old command }
+    {
+        match command {
+            Command::Step { thread: 0, count } => {
+                self.step(count as u64);
+                put_place(text, self.last, self.at);
+            }
+            Command::Registers { thread: 0 } => put_machine(text, self.thread.mach()),
+            Command::Step { .. } | Command::Registers { .. } => put_refusal(
+                text,
+                Refusal::NoSuchThread,
+            ),
+            Command::Quit => append(text, b"bye\n"),
+        }
+    }
+}
+
+impl Responder for Debugger {
+    ghost text = { reply_to };
+
+    ghost next = { next_after };
+
+    ghost quits = { is_quit };
+
+    #[tactic(auto, unfolding(crate::specs::Reference::reply_to, crate::specs::Reference::next_after, crate::specs::Reference::is_quit))]
+    fn respond<W: Sink>(&mut self, line: &[u8], writer: &mut W) -> Result<Flow, DeviceErr> {
+        let mut text = Text::new();
+        let mut flow = Flow::Goes;
+        match parse_line(line) {
+            Ok(None) => {}
+            Ok(Some(command)) => {
+                if matches!(command, Command::Quit) {
+                    flow = Flow::Quits;
+                }
+                self.carry_out(command, &mut text);
+            }
+            Err(refusal) => put_refusal(&mut text, refusal),
+        }
+        write_all(writer, text.as_slice())?;
+        Ok(flow)
+    }
+
+    ghost long_text = { long_reply };
+
+    ghost long_next = { long_next };
+
+    ghost long_quits = { long_quit };
+}

@@ -1,0 +1,5 @@
+pub mod Steps
+pub mod Fields
+pub mod Block
+pub mod Loop
+pub mod Whole

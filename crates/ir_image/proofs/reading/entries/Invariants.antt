@@ -1,0 +1,7 @@
+use Rattle.std.proofs.Common.{◌≡◌, ◌-◌}
+use Rattle.ir_image.specs.Reading.{fields_at, entry_at}
+use Rattle.ir_image.proofs.Loop.{with_front}
+use Rattle.ir_image.proofs.reading.entries.Given as goal
+
+abbrev pub invariant-loop : goal.invariant-loop
+invariant-loop l = with_front l.entries.items (fields_at (entry_at l.words) (l.count - l.counter) l.rest) ≡ fields_at (entry_at l.words) l.count l.bytes

@@ -1,0 +1,50 @@
+-- A guest: what an image holds, apart from where it lies in memory.
+use Rattle.std.specs.Prelude.{◌≡◌, ℕ, ◌+◌, ◌*◌, ◌/◌, ◌%◌, ◌^◌, ◌<◌, ◌≤◌, List, length}
+use Rattle.std.specs.List.{AllByRecursion}
+
+pub record Guest : Type 0 where
+  -- each thread's first pc
+  pub entries : List ℕ
+  -- the words of the code
+  pub code : List ℕ
+  -- what private memory begins with
+  pub bytes : List ℕ
+  -- the first words of the objects, eight of each
+  pub words : List ℕ
+
+-- the address of the first word of the code
+abbrev pub code_start : ℕ
+code_start = 0x00010000
+
+-- the number of words of an object
+abbrev pub object_words : ℕ
+object_words = 8
+
+-- the number of objects
+abbrev pub object_count : Guest → ℕ
+object_count g = length g.words / object_words
+
+-- an address of a word in code of so many words
+pub record IsPlace (words place : ℕ) : Type 0 where
+  pub aligned : place % 4 ≡ 0
+  pub low : code_start ≤ place
+  pub high : place < code_start + 4 * words
+
+abbrev pub IsWord : ℕ → Type 0
+IsWord n = n < 2 ^ 32
+
+abbrev pub IsByte : ℕ → Type 0
+IsByte n = n < 2 ^ 8
+
+-- the limits of a guest
+pub record IsGuest (g : Guest) : Type 0 where
+  pub some_thread : 1 ≤ length g.entries
+  pub few_threads : length g.entries ≤ 8
+  pub short_code : length g.code ≤ 16384
+  pub short_data : length g.bytes ≤ 65536
+  pub whole_objects : length g.words % object_words ≡ 0
+  pub few_objects : object_count g ≤ 16
+  pub entries_fit : AllByRecursion (IsPlace (length g.code)) g.entries
+  pub code_fits : AllByRecursion IsWord g.code
+  pub bytes_fit : AllByRecursion IsByte g.bytes
+  pub words_fit : AllByRecursion IsWord g.words

@@ -1,0 +1,5 @@
+pub mod Guest
+pub mod Fetch
+pub mod Refusal
+pub mod Spelling
+pub mod Reading

@@ -1,0 +1,21 @@
+//! The numbers of an image's layout.
+
+/// The bytes `IRI1`, the lowest first.
+pub const MAGIC: u32 = 0x3149_5249;
+
+/// The address of the first word of the code.
+pub const CODE_START: u32 = 0x0001_0000;
+
+/// How many words an object has.
+pub const OBJECT_WORDS: usize = 8;
+
+/// How many bytes stand before the entries.
+pub const COUNTS_LENGTH: usize = 14;
+
+pub const MOST_THREADS: u8 = 8;
+
+pub const MOST_OBJECTS: u8 = 16;
+
+pub const MOST_WORDS: u32 = 16_384;
+
+pub const MOST_BYTES: u32 = 65_536;

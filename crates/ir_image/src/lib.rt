@@ -1,0 +1,22 @@
+//! Images of guests: their bytes, and the code that they hold.
+#![tactic(auto)]
+
+mod code;
+mod counts;
+mod fetched;
+mod image;
+mod image_err;
+mod laws;
+mod layout;
+mod reading;
+#[cfg(test)]
+mod tests;
+mod writing;
+
+pub use code::Code;
+pub use fetched::Fetched;
+pub use image::Image;
+pub use image_err::ImageErr;
+pub use laws::{read_is_spelled, spelling_is_read};
+pub use reading::read_image;
+pub use writing::write_image;

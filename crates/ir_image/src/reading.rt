@@ -1,0 +1,211 @@
+//! The reader of images.
+
+ghost use Rattle.std.specs.Prelude.{◌≡◌, List, ℕ, length, IfOk, Ok, ◌<◌, ◌≤◌};
+ghost use Rattle.ir_image.specs.Guest.{Guest, IsGuest};
+ghost use Rattle.ir_image.specs.Spelling.{spelling};
+ghost use Rattle.ir_image.specs.Reading.{Gives, byte_at, word_at, bytes_at, fields_at, magic_at, count_at, entry_at, counts_at, body_at, guest_at};
+
+use crate::code::Code;
+use crate::counts::Counts;
+use crate::image::Image;
+use crate::image_err::ImageErr;
+use crate::layout::{
+    CODE_START, MAGIC, MOST_BYTES, MOST_OBJECTS, MOST_THREADS, MOST_WORDS, OBJECT_WORDS,
+};
+use byteorder::{ByteOrder, LittleEndian};
+use std::alloc::Global;
+
+// What stands after the counts of an image.
+#[derive(Drop)]
+struct Parts {
+    entries: Vec<u32>,
+    code: Vec<u32>,
+    bytes: Vec<u8>,
+    words: Vec<u32>,
+}
+
+#[tactic(auto, unfolding(crate::specs::Reading::byte_at))]
+fn byte(bytes: &[u8]) -> Result<(u8, &[u8]), ImageErr>
+    ensures { Gives (λ x. (x.0, x.1.now)) result (byte_at bytes.now) }
+{
+    match bytes {
+        [] => Err(ImageErr::Short),
+        [b, rest @ ..] => Ok((*b, rest)),
+    }
+}
+
+#[tactic(auto, unfolding(crate::specs::Reading::word_at))]
+fn word(bytes: &[u8]) -> Result<(u32, &[u8]), ImageErr>
+    ensures { Gives (λ x. (x.0, x.1.now)) result (word_at bytes.now) }
+{
+    if bytes.len() < 4 {
+        return Err(ImageErr::Short);
+    }
+    Ok((LittleEndian::read_u32(bytes), &bytes[4..]))
+}
+
+#[tactic(auto, unfolding(crate::specs::Reading::magic_at))]
+fn after_magic(bytes: &[u8]) -> Result<&[u8], ImageErr>
+    ensures { Gives (λ x. x.now) result (magic_at bytes.now) }
+{
+    let (magic, rest) = word(bytes)?;
+    if magic == MAGIC {
+        Ok(rest)
+    } else {
+        Err(ImageErr::Magic)
+    }
+}
+
+#[tactic(auto, unfolding(crate::specs::Reading::count_at))]
+fn small_count(low: u8, high: u8, bytes: &[u8]) -> Result<(u8, &[u8]), ImageErr>
+    ensures { Gives (λ x. (x.0, x.1.now)) result (count_at byte_at low high bytes.now) }
+{
+    let (count, rest) = byte(bytes)?;
+    if count < low || count > high {
+        return Err(ImageErr::Count);
+    }
+    Ok((count, rest))
+}
+
+#[tactic(auto, unfolding(crate::specs::Reading::count_at))]
+fn large_count(high: u32, bytes: &[u8]) -> Result<(u32, &[u8]), ImageErr>
+    ensures exact { Gives (λ x. (x.0, x.1.now)) result (count_at word_at 0 high bytes.now) }
+    ensures within { IfOk result (λ x. x.0 ≤ high) }
+{
+    let (count, rest) = word(bytes)?;
+    if count > high {
+        return Err(ImageErr::Count);
+    }
+    Ok((count, rest))
+}
+
+#[tactic(auto, unfolding(crate::specs::Reading::counts_at))]
+fn counts(bytes: &[u8]) -> Result<(Counts, &[u8]), ImageErr>
+    ensures exact { Gives (λ x. (x.0, x.1.now)) result (counts_at bytes.now) }
+    ensures short_code { IfOk result (λ x. x.0.words ≤ 16384) }
+{
+    let rest = after_magic(bytes)?;
+    let (threads, rest) = small_count(1, MOST_THREADS, rest)?;
+    let (objects, rest) = small_count(0, MOST_OBJECTS, rest)?;
+    let (words, rest) = large_count(MOST_WORDS, rest)?;
+    let (bytes, rest) = large_count(MOST_BYTES, rest)?;
+    Ok((
+        Counts {
+            threads,
+            objects,
+            words,
+            bytes,
+        },
+        rest,
+    ))
+}
+
+#[tactic(auto, unfolding(crate::specs::Reading::entry_at))]
+fn entry(words: u32, bytes: &[u8]) -> Result<(u32, &[u8]), ImageErr>
+    requires { words ≤ 16384 }
+    ensures { Gives (λ x. (x.0, x.1.now)) result (entry_at words bytes.now) }
+{
+    let (entry, rest) = word(bytes)?;
+    if entry % 4 == 0 && entry >= CODE_START && entry < CODE_START + 4 * words {
+        Ok((entry, rest))
+    } else {
+        Err(ImageErr::Entry)
+    }
+}
+
+fn entries(
+    alloc: Global,
+    count: u8,
+    words: u32,
+    bytes: &[u8],
+) -> Result<(Vec<u32>, &[u8]), ImageErr>
+    requires { words ≤ 16384 }
+    ensures { Gives (λ x. (x.0.items, x.1.now)) result (fields_at (entry_at words) count bytes.now) }
+{
+    let mut entries = Vec::new(alloc);
+    let mut rest = bytes;
+    for _ in 0..count {
+        let (one, after) = entry(words, rest)?;
+        entries.push(one)?;
+        rest = after;
+    }
+    Ok((entries, rest))
+}
+
+// Room is taken once the words are known to be there.
+fn words(alloc: Global, count: usize, bytes: &[u8]) -> Result<(Vec<u32>, &[u8]), ImageErr>
+    requires { count ≤ 16384 }
+    ensures { Gives (λ x. (x.0.items, x.1.now)) result (fields_at word_at count bytes.now) }
+{
+    if bytes.len() < 4 * count {
+        return Err(ImageErr::Short);
+    }
+    let (own, rest) = bytes.split_at(4 * count);
+    let mut words = vec![in alloc; 0u32; count]?;
+    LittleEndian::read_u32_into(own, &mut words);
+    Ok((words, rest))
+}
+
+#[tactic(auto, unfolding(crate::specs::Reading::bytes_at))]
+fn data_bytes(alloc: Global, count: usize, bytes: &[u8]) -> Result<(Vec<u8>, &[u8]), ImageErr>
+    ensures { Gives (λ x. (x.0.items, x.1.now)) result (bytes_at count bytes.now) }
+{
+    if bytes.len() < count {
+        return Err(ImageErr::Short);
+    }
+    let (own, rest) = bytes.split_at(count);
+    let mut data = Vec::with_capacity(alloc, count)?;
+    data.extend_from_slice(own)?;
+    Ok((data, rest))
+}
+
+#[tactic(auto, unfolding(crate::specs::Reading::body_at))]
+fn body(alloc: Global, counts: Counts, bytes: &[u8]) -> Result<Parts, ImageErr>
+    requires { counts.words ≤ 16384 }
+    ensures { Gives (λ p. record { entries = p.entries.items; code = p.code.items; bytes = p.bytes.items; words = p.words.items }) result (body_at counts bytes.now) }
+{
+    let (entries, rest) = entries(alloc, counts.threads, counts.words, bytes)?;
+    let (code, rest) = words(alloc, counts.words as usize, rest)?;
+    let (bytes, rest) = data_bytes(alloc, counts.bytes as usize, rest)?;
+    let (words, rest) = words(alloc, OBJECT_WORDS * counts.objects as usize, rest)?;
+    if !rest.is_empty() {
+        return Err(ImageErr::Trailing);
+    }
+    Ok(Parts {
+        entries,
+        code,
+        bytes,
+        words,
+    })
+}
+
+#[tactic(auto, unfolding(crate::specs::Reading::guest_at))]
+fn image(alloc: Global, bytes: &[u8]) -> Result<Image, ImageErr>
+    ensures found { IfOk result (λ image. IsGuest image × (bytes.now ≡ spelling image)) }
+    ensures exact { Gives (λ image. image) result (guest_at bytes.now) }
+{
+    let (counts, rest) = counts(bytes)?;
+    let Parts {
+        entries,
+        code,
+        bytes,
+        words,
+    } = body(alloc, counts, rest)?;
+    let code = Code::new(alloc, code)?;
+    Ok(Image::new(entries, code, bytes, words))
+}
+
+/// The image that the bytes spell, all of the bytes. Numbers are little-endian, and memory is taken only for what the bytes hold.
+///
+/// # Errors
+/// The first fault from the left, each field being read whole and then tested; or want of memory.
+pub fn read_image(alloc: Global, bytes: &[u8]) -> Result<Image, ImageErr>
+    // What is read is a guest within its limits, and spelled so.
+    ensures found { IfOk result (λ image. IsGuest image × (bytes.now ≡ spelling image)) }
+    // What is spelled so is read, unless memory runs out.
+    ensures only { (g : Guest) → IsGuest g → bytes.now ≡ spelling g → Gives (λ image. image) result (Ok g) }
+    // Which fault it is.
+    ensures exact { Gives (λ image. image) result (guest_at bytes.now) }
+{
+    image(alloc, bytes)
+}

@@ -1,0 +1,141 @@
+use crate::{Fetched, ImageErr, read_image, write_image};
+use ir_isa::Inst;
+use std::alloc::Global;
+use std::test::Fail;
+
+// `addi a0, zero, 72`, `addi a7, zero, 2`, `ecall`, `add a0, a0, a0`, `addi a7, zero, 1`, `ecall` for one thread.
+const PROGRAM: [u8; 42] = [
+    0x49, 0x52, 0x49, 0x31, 1, 0, 6, 0, 0, 0, 0, 0, 0, 0, 0x00, 0x00, 0x01, 0x00, 0x13, 0x05, 0x80,
+    0x04, 0x93, 0x08, 0x20, 0x00, 0x73, 0x00, 0x00, 0x00, 0x33, 0x05, 0xa5, 0x00, 0x93, 0x08, 0x10,
+    0x00, 0x73, 0x00, 0x00, 0x00,
+];
+
+// The number of the refusal, if the bytes are refused.
+fn refusal(alloc: Global, bytes: &[u8]) -> Option<u8> {
+    match read_image(alloc, bytes) {
+        Ok(_) => None,
+        Err(error) => error.number(),
+    }
+}
+
+// The program with another byte at a place.
+fn changed(place: usize, byte: u8) -> [u8; 42] {
+    let mut bytes = PROGRAM;
+    if place < bytes.len() {
+        bytes[place] = byte;
+    }
+    bytes
+}
+
+#[test]
+fn a_program_is_read_and_written(rt: HostRuntime) -> Result<(), Fail> {
+    let image = read_image(rt.alloc(), &PROGRAM)?;
+    assert_eq!(rt; image.entries(), [0x0001_0000].as_slice());
+    assert_eq!(rt;
+        image.code().words(),
+        [
+            0x0480_0513,
+            0x0020_0893,
+            0x73,
+            0x00a5_0533,
+            0x0010_0893,
+            0x73
+        ]
+        .as_slice()
+    );
+    assert!(rt; image.bytes().is_empty());
+    assert!(rt; image.words().is_empty());
+    assert_eq!(rt;
+        write_image(rt.alloc(), &image)?.as_slice(),
+        PROGRAM.as_slice()
+    );
+    Ok(())
+}
+
+#[test]
+fn a_fetch_stays_in_the_code(rt: HostRuntime) -> Result<(), Fail> {
+    let image = read_image(rt.alloc(), &PROGRAM)?;
+    let code = image.code();
+    assert!(rt; matches!(code.fetch(0x0001_0000), Fetched::Found(_)));
+    assert_eq!(rt; code.fetch(0x0001_0014), Fetched::Found(Inst::Ecall));
+    for pc in [0, 0x0000_fffc, 0x0001_0018, 0xffff_fffc] {
+        assert_eq!(rt; code.fetch(pc), Fetched::Outside);
+    }
+    Ok(())
+}
+
+#[test]
+fn the_first_fault_is_named(rt: HostRuntime) -> Result<(), Fail> {
+    for length in 0..42usize {
+        assert_eq!(rt;
+            refusal(rt.alloc(), &PROGRAM[..length]),
+            Some(1),
+            "at {length}"
+        );
+    }
+    let mut longer = Vec::new(rt.alloc());
+    longer.extend_from_slice(&PROGRAM)?;
+    longer.push(0)?;
+    assert_eq!(rt; refusal(rt.alloc(), &longer), Some(5));
+    // the magic, the numbers of threads and objects, the words of code, the bytes of data, the entry
+    for (place, byte, want) in [
+        (0, 0, 2),
+        (4, 0, 3),
+        (4, 9, 3),
+        (5, 17, 3),
+        (7, 0x41, 3),
+        (12, 2, 3),
+        (14, 2, 4),
+        (14, 0x18, 4),
+        (16, 0, 4),
+    ] {
+        assert_eq!(rt;
+            refusal(rt.alloc(), &changed(place, byte)),
+            Some(want),
+            "at {place}"
+        );
+    }
+    Ok(())
+}
+
+#[test]
+fn a_count_without_its_bytes_is_short(rt: HostRuntime) {
+    let announced = [
+        0x49, 0x52, 0x49, 0x31, 1, 0, 0x00, 0x40, 0, 0, 0, 0, 0, 0, 0, 0, 1, 0,
+    ];
+    assert_eq!(rt; refusal(rt.alloc(), &announced), Some(1));
+    let over = [
+        0x49, 0x52, 0x49, 0x31, 1, 0, 0x01, 0x40, 0, 0, 0, 0, 0, 0, 0, 0, 1, 0,
+    ];
+    assert_eq!(rt; refusal(rt.alloc(), &over), Some(3));
+    let data = [0x49, 0x52, 0x49, 0x31, 1, 0, 0, 0, 0, 0, 1, 0, 1, 0];
+    assert_eq!(rt; refusal(rt.alloc(), &data), Some(3));
+    assert_eq!(rt; ImageErr::NoMem.number(), None);
+}
+
+#[test]
+fn threads_objects_and_data_stand_in_order(rt: HostRuntime) -> Result<(), Fail> {
+    let mut bytes = Vec::new(rt.alloc());
+    bytes.extend_from_slice(&[0x49, 0x52, 0x49, 0x31, 8, 16, 2, 0, 0, 0, 3, 0, 0, 0])?;
+    for _ in 0..7 {
+        bytes.extend_from_slice(&[0, 0, 1, 0])?;
+    }
+    bytes.extend_from_slice(&[4, 0, 1, 0])?;
+    bytes.extend_from_slice(&[0x73, 0, 0, 0, 0x73, 0, 0x10, 0])?;
+    bytes.extend_from_slice(&[7, 8, 9])?;
+    for word in 0..128u8 {
+        bytes.extend_from_slice(&[word, 0, 0, 0xff])?;
+    }
+    let image = read_image(rt.alloc(), &bytes)?;
+    assert_eq!(rt; image.entries().last(), Some(&0x0001_0004));
+    assert_eq!(rt; image.entries().len(), 8);
+    assert_eq!(rt; image.code().words(), [0x73, 0x0010_0073].as_slice());
+    assert_eq!(rt; image.bytes(), [7, 8, 9].as_slice());
+    assert_eq!(rt; image.words().len(), 128);
+    assert_eq!(rt; image.words().last(), Some(&0xff00_007f));
+    assert_eq!(rt;
+        write_image(rt.alloc(), &image)?.as_slice(),
+        bytes.as_slice()
+    );
+    Ok(())
+}

@@ -1,0 +1,5 @@
+use Rattle.ir_isa.proofs.WordLaws.{word_is}
+use Rattle.ir_isa.proofs.laws.word_by_code.Goals as goal
+
+pub returns : goal.returns
+returns c = word_is

@@ -1,0 +1,6 @@
+pub mod Fields
+pub mod Code
+pub mod Rows
+pub mod Decoded
+pub mod Words
+pub mod Names

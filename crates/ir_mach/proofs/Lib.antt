@@ -1,0 +1,3 @@
+pub mod Lists
+pub mod Guests
+pub mod Runs

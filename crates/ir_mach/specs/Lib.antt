@@ -1,0 +1,6 @@
+pub mod Core
+pub mod Arithmetic
+pub mod Memory
+pub mod Execution
+pub mod Effects
+pub mod Run

@@ -1,0 +1,4 @@
+pub mod Cuts
+pub mod Replies
+pub mod Hearing
+pub mod Exits

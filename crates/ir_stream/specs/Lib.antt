@@ -1,0 +1,6 @@
+pub mod Lines
+pub mod Answers
+pub mod Devices
+pub mod Nexts
+pub mod Endings
+pub mod Wrapped

@@ -1,0 +1,3 @@
+pub mod Ends
+pub mod State
+pub mod Calls

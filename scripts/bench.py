@@ -1,0 +1,106 @@
+#!/usr/bin/env python3
+"""bench.py BIN: guests of 8 * 10^7 steps and more, run by BIN, as millions of instructions per second.
+
+A session is opened on each guest with the trace of its run, which runs the guest once to see that the trace fits.
+The time of an empty session is taken off."""
+import struct
+import subprocess
+import sys
+import time
+
+BIN = sys.argv[1]
+CODE, MEMORY = 0x10000, 0x100000
+A0, A1, A2, A3, A7, T0, T1, T2, RA, SP = 10, 11, 12, 13, 17, 5, 6, 7, 1, 2
+
+
+def op(funct3, rd, rs1, imm):
+    return (imm & 0xFFF) << 20 | rs1 << 15 | funct3 << 12 | rd << 7 | 0x13
+
+
+def addi(rd, rs1, imm):
+    return op(0, rd, rs1, imm)
+
+
+def reg(funct7, funct3, rd, rs1, rs2):
+    return funct7 << 25 | rs2 << 20 | rs1 << 15 | funct3 << 12 | rd << 7 | 0x33
+
+
+def lui(rd, upper):
+    return upper << 12 | rd << 7 | 0x37
+
+
+def load(funct3, rd, imm, rs1):
+    return (imm & 0xFFF) << 20 | rs1 << 15 | funct3 << 12 | rd << 7 | 0x03
+
+
+def store(funct3, rs2, imm, rs1):
+    return (imm >> 5 & 0x7F) << 25 | rs2 << 20 | rs1 << 15 | funct3 << 12 | (imm & 0x1F) << 7 | 0x23
+
+
+def branch(funct3, rs1, rs2, offset):
+    o = offset & 0x1FFF
+    return (o >> 12) << 31 | (o >> 5 & 0x3F) << 25 | rs2 << 20 | rs1 << 15 | funct3 << 12 | (o >> 1 & 0xF) << 8 | (o >> 11 & 1) << 7 | 0x63
+
+
+def jal(rd, offset):
+    o = offset & 0x1FFFFF
+    return (o >> 20) << 31 | (o >> 1 & 0x3FF) << 21 | (o >> 11 & 1) << 20 | (o >> 12 & 0xFF) << 12 | rd << 7 | 0x6F
+
+
+ECALL = 0x73
+JALR_RA = RA << 15 | 0x67
+
+
+def counted(body, rounds, body_steps=None):
+    """The body, `rounds` times 4096 over: T0 counts down; then END with code 0. A body that jumps takes `body_steps`."""
+    head = [lui(T0, rounds)]
+    loop = body + [addi(T0, T0, -1)]
+    loop.append(branch(1, T0, 0, -4 * len(loop)))
+    tail = [addi(A0, 0, 0), addi(A7, 0, 1), ECALL]
+    once = (len(body) if body_steps is None else body_steps) + 2
+    return head + loop + tail, len(head) + (rounds << 12) * once + len(tail)
+
+
+def guests():
+    """Each guest's name, code and steps."""
+    yield ("counted loop", *counted([], 12200))
+    array = [lui(A1, MEMORY >> 12), load(2, A0, 64, A1), addi(A0, A0, 1), store(2, A0, 64, A1), load(4, A2, 3, A1), store(0, A2, 9, A1)]
+    yield ("loads and stores", *counted(array, 3000))
+    arithmetic = [reg(1, 0, A0, T0, T0), reg(1, 1, A1, A0, T0), reg(1, 4, A2, A0, T0), reg(1, 7, A3, A0, T0)]
+    yield ("multiply and divide", *counted(arithmetic, 4000))
+    forks = [branch(1, T0, 0, 8), ECALL, branch(4, T0, 0, 8), branch(7, T0, 0, 8), ECALL]
+    yield ("branches", *counted(forks, 4000, 3))
+    calls = [jal(RA, 12), jal(0, 16), ECALL, addi(A0, A0, 1), JALR_RA]
+    yield ("calls", *counted(calls, 4000, 4))
+
+
+def image(code):
+    return b"IRI1" + bytes([1, 0]) + struct.pack("<II", len(code), 0) + struct.pack("<I", CODE) + b"".join(struct.pack("<I", w) for w in code)
+
+
+def trace(steps, budget):
+    return b"IRT1" + bytes([1, 0, 0, 0]) + struct.pack("<Q", budget) + struct.pack("<QBII", steps, 1, 0, 0)
+
+
+def seconds(code, steps, budget, commands=b""):
+    data = image(code).hex().encode() + b"\n" + trace(steps, budget).hex().encode() + b"\n" + commands
+    best = None
+    for _ in range(3):
+        start = time.perf_counter()
+        p = subprocess.run([BIN], input=data, stdout=subprocess.PIPE)
+        took = time.perf_counter() - start
+        if p.returncode != 0 or not p.stdout.startswith(b"ready\n"):
+            sys.exit(f"the guest isn't served: status {p.returncode}, {p.stdout!r}")
+        best = took if best is None else min(best, took)
+    return best
+
+
+def main():
+    base = seconds([addi(A7, 0, 1), ECALL], 2, 10)
+    print(f"{'guest':24}{'steps':>12}{'seconds':>10}{'million/s':>12}")
+    for name, code, steps in guests():
+        took = seconds(code, steps, steps + 10) - base
+        print(f"{name:24}{steps:>12}{took:>10.3f}{steps / took / 1e6:>12.1f}")
+
+
+main()
