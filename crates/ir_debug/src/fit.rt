@@ -1,24 +1,35 @@
 //! Whether a recorded run is a run of the guest.
 
 ghost use Rattle.std.specs.Prelude.{◌≡◌, ◌≤◌, IfOk};
-ghost use Rattle.ir_debug.specs.Fitting.{judged, verdict_of, is_end};
-ghost use Rattle.ir_thread.specs.Calls.{run_of};
+ghost use Rattle.ir_debug.specs.Fitting.{is_own, judged, verdict_of, is_end, own_run, last_step};
 
 use crate::trace::Trace;
 use crate::verdict::Verdict;
 use ir_image::{Code, Image};
-use ir_thread::{Ask, End, Thread};
+use ir_thread::{Ask, End, Reply, Thread};
 use std::alloc::{AllocError, Global};
 
-/// Takes so many steps of the thread, or all that are left.
-pub fn run(thread: &mut Thread, code: &Code, count: u64)
-    ensures { thread.new ≡ run_of code.now count thread.old }
+fn is_own(asked: Ask) -> bool
+    ensures { result ≡ is_own asked }
 {
-    for _ in 0..count {
-        match thread.ask(code) {
-            Ask::Done => return,
-            _ => thread.take(code),
+    matches!(asked, Ask::Private | Ask::Print | Ask::End(_))
+}
+
+/// Takes so many of the thread's own steps, or all before its first that logs an event or needs a reply.
+pub fn run(thread: &mut Thread, code: &Code, count: u64)
+    ensures { thread.new ≡ own_run code.now count thread.old }
+{
+    let mut left = count;
+    while left > 0 {
+        left -= thread.run(code, left);
+        if left == 0 {
+            return;
         }
+        if !is_own(thread.ask(code)) {
+            return;
+        }
+        thread.take(code, Reply::Go);
+        left -= 1;
     }
 }
 
@@ -31,6 +42,15 @@ fn is_end(ended: Option<End>, end: End) -> bool
     }
 }
 
+fn last_step(last: &Thread) -> u64
+    ensures { result ≡ last_step last.now }
+{
+    match last.ended() {
+        Some(_) => last.steps().saturating_sub(1),
+        None => last.steps(),
+    }
+}
+
 fn judge(last: &Thread, trace: &Trace) -> Verdict
     ensures { result ≡ judged last.now trace.now }
 {
@@ -38,7 +58,7 @@ fn judge(last: &Thread, trace: &Trace) -> Verdict
         return Verdict::Same;
     }
     Verdict::Disagrees {
-        step: trace.steps().min(last.steps().saturating_sub(1)),
+        step: trace.steps().min(last_step(last)),
     }
 }
 

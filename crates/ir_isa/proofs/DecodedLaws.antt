@@ -1,6 +1,6 @@
 -- The instruction of a word is the one whose code it is.
 use Rattle.std.proofs.Common.{◌≡◌, ℕ, Bool, true, false, cond, eqb, Option, Some, None, Result, Ok, Err, refl, sym, ap, subst, ◌∙◌}
-use Rattle.std.specs.Prelude.{◌&&◌, option_and_then, IfOk}
+use Rattle.std.specs.Prelude.{◌&&◌, option_and_then, IfOk, IfErr}
 use Rattle.std.specs.Result.{result_ok}
 use Rattle.std.proofs.lemmas.Bool.{and_parts, eqb-true}
 use Rattle.std.proofs.lemmas.Option.{same_Some, option_and_then_some}
@@ -15,6 +15,7 @@ use Rattle.ir_isa.specs.declared.inst.ImmediateOp.{ImmediateOp}
 use Rattle.ir_isa.specs.declared.inst.Inst.{Inst}
 use Rattle.ir_isa.specs.declared.inst.Inst.TheVariants.{Lui, Auipc, Jal, Jalr, Branch, Load, Store, OpImm, Shift, Op, Fence, Ecall, Ebreak}
 use Rattle.ir_isa.proofs.Same.{same_Register, same_Immediate, same_BranchOffset, same_JumpOffset, same_UpperImmediate, same_ShiftAmount}
+use Rattle.ir_isa.proofs.Unique.{one_instruction}
 use Rattle.ir_isa.proofs.RowLaws.{branch_again, load_again, store_again, imm_again, shift_again, reg_again, branch_found, load_found, store_found, imm_found, shift_found, reg_found}
 
 -- of_imm, once the operation is looked up
@@ -174,6 +175,12 @@ is_instruction w i e =
     by_test (eqb w 0x00000073) (Some Ecall) (since_ebreak w) i e9 (λ t h. is_of w Ecall i h (eqb-true _ _ t)) (λ f10 e10.
     by_test (eqb w 0x00100073) (Some Ebreak) None i e10 (λ t h. is_of w Ebreak i h (eqb-true _ _ t)) (λ f11 e11.
     absurd cc))))))))))))
+
+-- what a decoder answers that finds the instruction of a word, and refuses only a word without one
+pub only_lem : (w : ℕ) (r : Result Inst Illegal) → IfOk r (λ i. IsCode w i) → IfErr r (λ _. (i : Inst) → IsCode w i → ⊥)
+    → (i : Inst) → IsCode w i → r ≡ Ok i
+only_lem w (Ok j) found illegal i code = ap (λ (k : Inst). Ok k) (one_instruction w j i found code)
+only_lem w (Err d) found illegal i code = absurd (illegal i code)
 
 -- what a decoder answers that finds the instruction of a word, and no other
 pub exact_lem : (w : ℕ) (r : Result Inst Illegal) → IfOk r (λ i. IsCode w i) → ((i : Inst) → IsCode w i → r ≡ Ok i) → result_ok r ≡ instruction_of w

@@ -1,8 +1,8 @@
 //! From words to instructions.
 
-ghost use Rattle.std.specs.Prelude.{◌≡◌, ℕ, ◌<◌, ◌/◌, ◌%◌, ◌^◌, IfOk, Ok};
+ghost use Rattle.std.specs.Prelude.{◌≡◌, ◌<◌, ◌/◌, ◌%◌, ◌^◌, IfOk, IfErr, Ok};
 ghost use Rattle.std.specs.Result.{result_ok};
-ghost use Rattle.ir_isa.specs.Fields.{sign_extended, imm_i, imm_s, imm_b, imm_u, imm_j};
+ghost use Rattle.ir_isa.specs.Fields.{bits, sign_extended, imm_i, imm_s, imm_b, imm_u, imm_j};
 ghost use Rattle.ir_isa.specs.Decoded.{instruction_of};
 ghost use Rattle.ir_isa.specs.Code.{IsCode};
 ghost use Rattle.ir_isa.specs.declared.inst.Inst.{Inst};
@@ -118,18 +118,17 @@ pub fn decode(word: u32) -> Result<Inst, Illegal>
     ensures only { (i : Inst) → IsCode word i → result ≡ Ok i }
     ensures exact { result_ok result ≡ instruction_of word }
 {
-    by_fields(word)
+    by_opcode(word)
 }
 
-fn by_fields(word: u32) -> Result<Inst, Illegal>
+fn by_opcode(word: u32) -> Result<Inst, Illegal>
     ensures found { IfOk result (λ i. IsCode word i) }
-    ensures only { (i : Inst) → IsCode word i → result ≡ Ok i }
+    ensures illegal { IfErr result (λ _. (i : Inst) → IsCode word i → ⊥) }
 {
     let rd = reg(word, 7);
     let rs1 = reg(word, 15);
-    let rs2 = reg(word, 20);
     let funct3 = field(word, 12, 3);
-    let funct7 = field(word, 25, 7);
+    let imm = read_i(word);
     match field(word, 0, 7) {
         0b0110111 => Ok(Inst::Lui {
             rd,
@@ -143,56 +142,102 @@ fn by_fields(word: u32) -> Result<Inst, Illegal>
             rd,
             offset: read_j(word),
         }),
-        0b1100111 if funct3 == 0 => Ok(Inst::Jalr {
-            rd,
-            rs1,
-            imm: read_i(word),
-        }),
-        0b1100011 => Ok(Inst::Branch {
-            op: branch_op(funct3).ok_or(Illegal)?,
-            rs1,
-            rs2,
-            offset: read_b(word),
-        }),
-        0b0000011 => Ok(Inst::Load {
-            op: load_op(funct3).ok_or(Illegal)?,
-            rd,
-            rs1,
-            imm: read_i(word),
-        }),
-        0b0100011 => Ok(Inst::Store {
-            op: store_op(funct3).ok_or(Illegal)?,
-            rs1,
-            rs2,
-            imm: read_s(word),
-        }),
-        0b0010011 => match imm_op(funct3) {
-            Some(op) => Ok(Inst::OpImm {
-                op,
-                rd,
-                rs1,
-                imm: read_i(word),
-            }),
-            None => Ok(Inst::Shift {
-                op: shift_op(funct7, funct3).ok_or(Illegal)?,
-                rd,
-                rs1,
-                amount: ShiftAmount { bits: rs2.number },
-            }),
-        },
-        0b0110011 => Ok(Inst::Op {
-            op: reg_op(funct7, funct3).ok_or(Illegal)?,
-            rd,
-            rs1,
-            rs2,
-        }),
-        0b0001111 if funct3 == 0 => Ok(Inst::Fence {
-            rd,
-            rs1,
-            imm: read_i(word),
-        }),
+        0b1100111 if funct3 == 0 => Ok(Inst::Jalr { rd, rs1, imm }),
+        0b1100011 => branch(word),
+        0b0000011 => load(word),
+        0b0100011 => store(word),
+        0b0010011 => with_immediate(word),
+        0b0110011 => of_registers(word),
+        0b0001111 if funct3 == 0 => Ok(Inst::Fence { rd, rs1, imm }),
         _ if word == 0x0000_0073 => Ok(Inst::Ecall),
         _ if word == 0x0010_0073 => Ok(Inst::Ebreak),
         _ => Err(Illegal),
     }
+}
+
+// A branch, by its funct3.
+fn branch(word: u32) -> Result<Inst, Illegal>
+    requires { bits 6 0 word ≡ 0b1100011 }
+    ensures found { IfOk result (λ i. IsCode word i) }
+    ensures illegal { IfErr result (λ _. (i : Inst) → IsCode word i → ⊥) }
+{
+    let op = branch_op(field(word, 12, 3)).ok_or(Illegal)?;
+    let (rs1, rs2) = (reg(word, 15), reg(word, 20));
+    Ok(Inst::Branch {
+        op,
+        rs1,
+        rs2,
+        offset: read_b(word),
+    })
+}
+
+// A load, by its funct3.
+fn load(word: u32) -> Result<Inst, Illegal>
+    requires { bits 6 0 word ≡ 0b0000011 }
+    ensures found { IfOk result (λ i. IsCode word i) }
+    ensures illegal { IfErr result (λ _. (i : Inst) → IsCode word i → ⊥) }
+{
+    let op = load_op(field(word, 12, 3)).ok_or(Illegal)?;
+    let (rd, rs1) = (reg(word, 7), reg(word, 15));
+    Ok(Inst::Load {
+        op,
+        rd,
+        rs1,
+        imm: read_i(word),
+    })
+}
+
+// A store, by its funct3.
+fn store(word: u32) -> Result<Inst, Illegal>
+    requires { bits 6 0 word ≡ 0b0100011 }
+    ensures found { IfOk result (λ i. IsCode word i) }
+    ensures illegal { IfErr result (λ _. (i : Inst) → IsCode word i → ⊥) }
+{
+    let op = store_op(field(word, 12, 3)).ok_or(Illegal)?;
+    let (rs1, rs2) = (reg(word, 15), reg(word, 20));
+    Ok(Inst::Store {
+        op,
+        rs1,
+        rs2,
+        imm: read_s(word),
+    })
+}
+
+// An operation with an immediate, by its funct3, or else a shift, by its funct7 too.
+fn with_immediate(word: u32) -> Result<Inst, Illegal>
+    requires { bits 6 0 word ≡ 0b0010011 }
+    ensures found { IfOk result (λ i. IsCode word i) }
+    ensures illegal { IfErr result (λ _. (i : Inst) → IsCode word i → ⊥) }
+{
+    let (rd, rs1) = (reg(word, 7), reg(word, 15));
+    let funct3 = field(word, 12, 3);
+    if let Some(op) = imm_op(funct3) {
+        return Ok(Inst::OpImm {
+            op,
+            rd,
+            rs1,
+            imm: read_i(word),
+        });
+    }
+    let op = shift_op(field(word, 25, 7), funct3).ok_or(Illegal)?;
+    let amount = ShiftAmount {
+        bits: field(word, 20, 5) as u8,
+    };
+    Ok(Inst::Shift {
+        op,
+        rd,
+        rs1,
+        amount,
+    })
+}
+
+// An operation of two registers, by its funct7 and funct3.
+fn of_registers(word: u32) -> Result<Inst, Illegal>
+    requires { bits 6 0 word ≡ 0b0110011 }
+    ensures found { IfOk result (λ i. IsCode word i) }
+    ensures illegal { IfErr result (λ _. (i : Inst) → IsCode word i → ⊥) }
+{
+    let op = reg_op(field(word, 25, 7), field(word, 12, 3)).ok_or(Illegal)?;
+    let (rd, rs1, rs2) = (reg(word, 7), reg(word, 15), reg(word, 20));
+    Ok(Inst::Op { op, rd, rs1, rs2 })
 }

@@ -1,71 +1,245 @@
 -- What a thread asks, and what comes after it.
-use Rattle.std.specs.Prelude.{◌==◌, ℕ, zero, suc, ◌+◌, ◌%◌, ◌^◌, List, [], ◌∷◌, ◌++◌, length, nat_le, if◌then◌else◌, Option, Some, None}
+use Rattle.std.specs.Prelude.{◌≡◌, ◌==◌, ◌&&◌, ℕ, zero, suc, ◌+◌, ◌≢◌, ◌<◌, ◌≤◌, ◌%◌, ◌^◌, Bool, true, List, [], ◌∷◌, ◌++◌, length, slice_set, nat_le, nat_lt, if◌then◌else◌, Option, Some, None, ⊤}
+use Rattle.std.specs.Fmt.{signed_decimal}
+use Rattle.ir_mach.specs.Arithmetic.{signed}
 use Rattle.ir_mach.specs.Core.{Core, Outcome, Goes, Calls, Ends, register}
 use Rattle.ir_mach.specs.Execution.{outcome_of, past_call}
 use Rattle.ir_thread.specs.Ends.{end_of_fault}
+use Rattle.ir_thread.specs.Held.{held_at, highest, is_above}
 use Rattle.ir_thread.specs.State.{State}
+use Rattle.ir_thread.specs.declared.ask.Access.{Access}
+use Rattle.ir_thread.specs.declared.ask.Access.TheVariants.{Reading, Writing}
+use Rattle.ir_thread.specs.declared.ask.Ask.{Ask}
+use Rattle.ir_thread.specs.declared.ask.Ask.TheVariants as ask
+use Rattle.ir_thread.specs.declared.ask.EnvKind.TheVariants.{Clock, Random, Input}
+use Rattle.ir_thread.specs.declared.ask.Reply.{Reply}
+use Rattle.ir_thread.specs.declared.ask.Reply.TheVariants.{Go, Value}
+use Rattle.ir_thread.specs.declared.call.Call.{Call}
+use Rattle.ir_thread.specs.declared.call.Call.TheVariants as call
 use Rattle.ir_thread.specs.declared.end.End.{End}
 use Rattle.ir_thread.specs.declared.end.End.TheVariants as end
-use Rattle.ir_thread.specs.declared.thread.Ask.{Ask}
-use Rattle.ir_thread.specs.declared.thread.Ask.TheVariants as ask
+
+-- the system calls by their numbers
+abbrev pub call_of : ℕ → Option Call
+call_of number =
+    if number == 1 then Some call.End else
+    if number == 2 then Some call.PutByte else
+    if number == 3 then Some call.PutNumber else
+    if number == 4 then Some (call.Env Clock) else
+    if number == 5 then Some (call.Env Random) else
+    if number == 6 then Some (call.Env Input) else
+    if number == 7 then Some (call.Enter Reading) else
+    if number == 8 then Some (call.Enter Writing) else
+    if number == 9 then Some call.Leave else
+    if number == 10 then Some call.Get else
+    if number == 11 then Some call.Put else
+    if number == 12 then Some call.OwnNumber else None
 
 -- the register that holds a call's number
 abbrev pub a7 : State → ℕ
 a7 s = register s.core 17
 
--- the register of a call's first argument
+-- the registers of a call's arguments
 abbrev pub a0 : State → ℕ
 a0 s = register s.core 10
+
+abbrev pub a1 : State → ℕ
+a1 s = register s.core 11
+
+abbrev pub a2 : State → ℕ
+a2 s = register s.core 12
+
+-- the call that the thread makes where it stands at one
+abbrev pub call_at : State → Option Call
+call_at s = call_of (a7 s)
 
 -- the most bytes that a thread may print
 abbrev pub most_output : ℕ
 most_output = 65536
 
--- a call of the environment: 1 is END, 2 is PUTC
-abbrev pub call_ask : State → Ask
-call_ask s =
-    if a7 s == 1 then ask.End (end.Exit (a0 s)) else
-    if a7 s == 2 then (if nat_le most_output (length s.output) then ask.End end.OutputFull else ask.Print) else
-    ask.End end.UnknownCall
+-- the most events that a thread may log
+abbrev pub most_events : ℕ
+most_events = 1048576
+
+-- the number of words of an object
+abbrev pub words_each : ℕ
+words_each = 8
+
+-- ---- what a thread asks
+
+-- the low byte of a0
+abbrev pub byte_text : State → List ℕ
+byte_text s = (a0 s % 2 ^ 8) ∷ []
+
+-- a0 as a signed decimal number, and a line feed
+abbrev pub number_text : State → List ℕ
+number_text s = signed_decimal (signed (a0 s)) ++ 10 ∷ []
+
+-- what a call prints
+abbrev pub printed_by : Option Call → State → List ℕ
+printed_by (Some call.PutByte) s = byte_text s
+printed_by (Some call.PutNumber) s = number_text s
+printed_by _ s = []
+
+-- what the call that the thread makes prints
+abbrev pub printed : State → List ℕ
+printed s = printed_by (call_at s) s
+
+-- printing so many bytes, where there is room for them
+abbrev pub print_ask : State → ℕ → Ask
+print_ask s count = if nat_le (length s.output + count) most_output then ask.Print else ask.End end.OutputFull
+
+-- a call that is logged, where there is room for it
+abbrev pub logged_ask : State → Ask → Ask
+logged_ask s q = if nat_lt s.events most_events then q else ask.End end.LogFull
+
+-- whether the guest has an object of this number
+abbrev pub is_object : State → ℕ → Bool
+is_object s object = nat_lt object (length s.held)
+
+-- an entry: an object above all that are held
+abbrev pub enter_ask : State → Access → Ask
+enter_ask s access =
+    if is_object s (a0 s)
+    then (if is_above (highest s.held) (a0 s) then logged_ask s (ask.Enter (a0 s) access) else ask.End end.EntryOutOfOrder)
+    else ask.End end.NoSuchObject
+
+abbrev pub leave_held : ℕ → Option Access → Ask
+leave_held object None = ask.End end.NotHeld
+leave_held object (Some access) = ask.Leave object access
+
+-- leaving an object that is held
+abbrev pub leave_ask : State → Ask
+leave_ask s = if is_object s (a0 s) then leave_held (a0 s) (held_at s.held (a0 s)) else ask.End end.NoSuchObject
+
+-- whether object a0 has a word a1
+abbrev pub has_word : State → Bool
+has_word s = is_object s (a0 s) && nat_lt (a1 s) words_each
+
+abbrev pub get_held : ℕ → ℕ → Option Access → Ask
+get_held object index None = ask.End end.NotHeld
+get_held object index (Some access) = ask.Get object index
+
+-- reading a word of an object that is held
+abbrev pub get_ask : State → Ask
+get_ask s = if has_word s then get_held (a0 s) (a1 s) (held_at s.held (a0 s)) else ask.End end.NoSuchObject
+
+abbrev pub put_held : ℕ → ℕ → ℕ → Option Access → Ask
+put_held object index value None = ask.End end.NotHeld
+put_held object index value (Some Reading) = ask.End end.NotHeld
+put_held object index value (Some Writing) = ask.Put object index value
+
+-- writing a word of an object that is held for writing
+abbrev pub put_ask : State → Ask
+put_ask s = if has_word s then put_held (a0 s) (a1 s) (a2 s) (held_at s.held (a0 s)) else ask.End end.NoSuchObject
+
+-- what a system call asks
+abbrev pub call_ask : Option Call → State → Ask
+call_ask None s = ask.End end.UnknownCall
+call_ask (Some call.End) s = ask.End (end.Exit (a0 s))
+call_ask (Some call.PutByte) s = print_ask s (length (byte_text s))
+call_ask (Some call.PutNumber) s = print_ask s (length (number_text s))
+call_ask (Some (call.Env kind)) s = logged_ask s (ask.Env kind)
+call_ask (Some (call.Enter access)) s = enter_ask s access
+call_ask (Some call.Leave) s = leave_ask s
+call_ask (Some call.Get) s = get_ask s
+call_ask (Some call.Put) s = put_ask s
+call_ask (Some call.OwnNumber) s = ask.Private
 
 abbrev pub outcome_ask : Outcome → State → Ask
-outcome_ask (Goes m) s = ask.Private
+outcome_ask (Goes core) s = ask.Private
 outcome_ask (Ends fault) s = ask.End (end_of_fault fault)
-outcome_ask Calls s = call_ask s
+outcome_ask Calls s = call_ask (call_at s) s
 
 -- what a thread that hasn't ended asks: the budget is tested first
 abbrev pub running_ask : List ℕ → State → Ask
 running_ask code s = if nat_le s.budget s.steps then ask.End end.BudgetSpent else outcome_ask (outcome_of code s.core) s
 
+-- after its end a thread leaves what it holds, the greatest object first
+abbrev pub give_back : Option (ℕ × Access) → Ask
+give_back None = ask.Done
+give_back (Some top) = ask.Leave top.0 top.1
+
 abbrev pub ask_by : List ℕ → Option End → State → Ask
-ask_by code (Some e) s = ask.Done
+ask_by code (Some e) s = give_back (highest s.held)
 ask_by code None s = running_ask code s
 
 -- what a thread asks
 abbrev pub ask_of : List ℕ → State → Ask
 ask_of code s = ask_by code s.ended s
 
-abbrev pub core_after : Outcome → Core → Core
-core_after (Goes m) old = m
-core_after Calls old = past_call old None
-core_after (Ends fault) old = old
+-- a thread that hasn't ended, and has a step left
+pub record IsRunning (s : State) : Type 0 where
+  pub lives : s.ended ≡ None
+  pub has_budget : s.steps < s.budget
 
--- a byte more of output, the low byte of a0
-abbrev pub printed : State → List ℕ
-printed s = s.output ++ (a0 s % 2 ^ 8) ∷ []
+-- there is room for an event
+abbrev pub CanLog : State → Type 0
+CanLog s = s.events < most_events
+
+-- where a thread asks so: what it holds and has room for
+abbrev pub Permits : State → Ask → Type 0
+Permits s ask.Private = IsRunning s
+Permits s (ask.Env kind) = IsRunning s × CanLog s
+Permits s (ask.Enter object access) = IsRunning s × CanLog s × (object < length s.held) × (is_above (highest s.held) object ≡ true)
+Permits s (ask.Leave object access) = (s.ended ≡ None → s.steps < s.budget) × (object < length s.held) × (held_at s.held object ≡ Some access)
+Permits s (ask.Get object index) = IsRunning s × (object < length s.held) × (index < words_each) × (held_at s.held object ≢ None)
+Permits s (ask.Put object index value) = IsRunning s × (object < length s.held) × (index < words_each) × (held_at s.held object ≡ Some Writing)
+Permits s ask.Print = IsRunning s × (length s.output + length (printed s) ≤ most_output)
+Permits s (ask.End e) = s.ended ≡ None
+Permits s ask.Done = (s.ended ≢ None) × (highest s.held ≡ None)
+
+-- ---- what comes after it
+
+abbrev pub IsValue : Reply → Type 0
+IsValue Go = ⊥
+IsValue (Value value) = ⊤
+
+-- the reply fits what is asked: a value where one is wanted, leave to go elsewhere, and nothing where there is no step
+abbrev pub Suits : Ask → Reply → Type 0
+Suits (ask.Env kind) reply = IsValue reply
+Suits (ask.Get object index) reply = IsValue reply
+Suits ask.Done reply = ⊥
+Suits _ reply = reply ≡ Go
+
+-- what goes into a0
+abbrev pub answer_of : Reply → Option ℕ
+answer_of Go = None
+answer_of (Value value) = Some value
+
+-- a machine after a private step; a call that is private answers the thread's number
+abbrev pub core_after : ℕ → Outcome → Core → Core
+core_after number (Goes core) old = core
+core_after number Calls old = past_call old (Some number)
+core_after number (Ends fault) old = old
+
+-- a machine after leaving: while a thread gives back, pc stays
+abbrev pub core_left : Option End → Core → Core
+core_left None core = past_call core None
+core_left (Some e) core = core
 
 -- the thread after what it asked; an end changes no register, no memory and no pc
-abbrev pub after_ask : List ℕ → State → Ask → State
-after_ask code s ask.Private = record s { core = core_after (outcome_of code s.core) s.core; steps = s.steps + 1 }
-after_ask code s ask.Print = record s { core = past_call s.core None; steps = s.steps + 1; output = printed s }
-after_ask code s (ask.End e) = record s { steps = s.steps + 1; ended = Some e }
-after_ask code s ask.Done = s
+abbrev pub after_ask : List ℕ → State → Ask → Reply → State
+after_ask code s ask.Private reply = record s { core = core_after s.number (outcome_of code s.core) s.core; steps = s.steps + 1 }
+after_ask code s (ask.Env kind) reply = record s { core = past_call s.core (answer_of reply); steps = s.steps + 1; events = s.events + 1 }
+after_ask code s (ask.Enter object access) reply =
+    record s { core = past_call s.core None; steps = s.steps + 1; events = s.events + 1; held = slice_set s.held object (Some access) }
+after_ask code s (ask.Leave object access) reply = record s { core = core_left s.ended s.core; steps = s.steps + 1; held = slice_set s.held object None }
+after_ask code s (ask.Get object index) reply = record s { core = past_call s.core (answer_of reply); steps = s.steps + 1 }
+after_ask code s (ask.Put object index value) reply = record s { core = past_call s.core None; steps = s.steps + 1 }
+after_ask code s ask.Print reply = record s { core = past_call s.core None; steps = s.steps + 1; output = s.output ++ printed s }
+after_ask code s (ask.End e) reply = record s { steps = s.steps + 1; ended = Some e }
+after_ask code s ask.Done reply = s
 
--- the thread after its next step; one that is done stays
+-- the thread after its next step and the reply to what it asked; one that is done stays
+unfoldable pub after_reply : List ℕ → State → Reply → State
+after_reply code s reply = after_ask code s (ask_of code s) reply
+
+-- the thread after a step that is answered no value
 unfoldable pub step_of : List ℕ → State → State
-step_of code s = after_ask code s (ask_of code s)
+step_of code s = after_reply code s Go
 
--- the thread after so many steps
+-- the thread after so many steps that are answered no value
 unfoldable pub run_of : List ℕ → ℕ → State → State
 run_of code zero s = s
 run_of code (suc k) s = step_of code (run_of code k s)

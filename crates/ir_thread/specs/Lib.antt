@@ -1,3 +1,8 @@
 pub mod Ends
+pub mod Held
 pub mod State
 pub mod Calls
+pub mod Machine
+pub mod Instance
+pub mod Alone
+pub mod Private

@@ -1,8 +1,17 @@
-//! A thread of a guest: a machine with its system calls, its output and its end.
+//! A thread of a guest: a machine with its system calls, the objects that it holds, its output and its end.
 #![tactic(auto)]
 
+mod ask;
+mod call;
 mod end;
+mod holding;
+mod laws;
+#[cfg(test)]
+mod tests;
 mod thread;
 
+pub use ask::{Access, Ask, EnvKind, Reply};
+pub use call::Call;
 pub use end::End;
-pub use thread::{Ask, Thread};
+pub use laws::{closes, runs_alone};
+pub use thread::Thread;

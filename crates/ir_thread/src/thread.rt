@@ -1,40 +1,34 @@
-//! One thread, step by step.
+//! One thread: what it is, and how it starts.
 
-ghost use Rattle.std.specs.Prelude.{◌≡◌, ◌≢◌, ℕ, ◌+◌, ◌<◌, ◌≤◌, ◌^◌, ◌%◌, List, length, IfOk, IfNone, vec_capacity, slice_index};
+ghost use Rattle.std.specs.Prelude.{◌≡◌, ◌≢◌, ℕ, ◌+◌, ◌<◌, ◌≤◌, ◌^◌, ◌%◌, List, length, IfOk, MatchOption, vec_capacity, slice_index};
+ghost use Rattle.ir_image.specs.Guest.{object_count};
+ghost use Rattle.ir_thread.specs.Held.{held_count};
 ghost use Rattle.ir_thread.specs.State.{State, start_state};
-ghost use Rattle.ir_thread.specs.declared.thread.Ask.TheVariants.{Done};
 
+use crate::ask::Access;
 use crate::end::End;
-use ir_image::{Code, Image};
-use ir_mach::{Mach, Ran};
+use ir_image::Image;
+use ir_mach::Mach;
 use std::alloc::{AllocError, Global};
 use std::marker::Model;
 
+mod asking;
+mod running;
+mod taking;
+
 const MOST_OUTPUT: usize = 65_536;
 
-const A0: u8 = 10;
-
-const A7: u8 = 17;
-
-/// What a thread's next step is.
-#[derive(Clone, Copy, Debug, PartialEq, Eq)]
-pub enum Ask {
-    /// An instruction.
-    Private,
-    /// A call that prints.
-    Print,
-    /// The thread ends so.
-    End(End),
-    /// There is none: the thread has ended.
-    Done,
-}
+const WORDS_EACH: usize = 8;
 
 /// A thread of a guest. Its room is made by `new`; no step takes memory.
 #[derive(Drop)]
 pub struct Thread {
     mach: Mach,
+    number: u8,
+    held: Vec<Option<Access>>,
     budget: u64,
     steps: u64,
+    events: u32,
     output: Vec<u8>,
     ended: Option<End>,
 }
@@ -42,15 +36,23 @@ pub struct Thread {
 impl Model for Thread {
     ghost Value = { State };
 
-    ghost view = { λ t. record { core = t.mach; budget = t.budget; steps = t.steps; output = t.output.items; ended = t.ended } };
+    ghost view = { λ t. record {
+      core = t.mach;
+      number = t.number;
+      held = t.held.items;
+      budget = t.budget;
+      steps = t.steps;
+      events = t.events;
+      output = t.output.items;
+      ended = t.ended;
+    } };
 
-    ghost invariant = { λ t. (t.budget ≤ 1000000000000) × (t.steps ≤ t.budget + 1) × IfNone t.ended (t.steps ≤ t.budget)
+    ghost invariant = { λ t. (t.budget ≤ 1000000000000) × (t.events ≤ 1048576) × (length t.held.items ≤ 16)
+        × MatchOption t.ended (t.steps ≤ t.budget) (λ _. t.steps + held_count t.held.items ≤ t.budget + 1 + length t.held.items)
         × (65536 ≤ vec_capacity t.output) × (length t.output.items ≤ 65536) };
 }
 
 impl Thread {
-    ghost use Rattle.ir_thread.specs.Calls.{ask_of, running_ask, step_of, call_ask, after_ask};
-
     /// The thread of this number at its start, with room for all that it may print. The budget is in steps.
     ///
     /// # Errors
@@ -65,23 +67,81 @@ impl Thread {
         requires budget { budget ≤ 1000000000000 }
         ensures { IfOk result (λ t. t ≡ start_state image.now thread budget) }
     {
+        let objects = image.words().len() / WORDS_EACH;
         let output = Vec::with_capacity(alloc, MOST_OUTPUT)?;
+        let mut held = Vec::with_capacity(alloc, objects)?;
+        held.resize(objects, None)?;
         let mach = Mach::new(alloc, image, thread)?;
         Ok(Thread {
             mach,
+            number: thread as u8,
+            held,
             budget,
             steps: 0,
+            events: 0,
             output,
             ended: None,
+        })
+    }
+
+    /// An equal thread with memory of its own.
+    ///
+    /// # Errors
+    /// Want of memory.
+    pub fn copy(&self, alloc: Global) -> Result<Thread, AllocError>
+        ensures { IfOk result (λ t. t ≡ self.now) }
+    {
+        let mut output = Vec::with_capacity(alloc, MOST_OUTPUT)?;
+        output.extend_from_slice(self.output.as_slice())?;
+        Ok(Thread {
+            mach: self.mach.copy()?,
+            number: self.number,
+            held: self.held.clone()?,
+            budget: self.budget,
+            steps: self.steps,
+            events: self.events,
+            output,
+            ended: self.ended,
         })
     }
 
     /// How many steps it has taken: its position.
     pub fn steps(&self) -> u64
         ensures value { result ≡ self.now.steps }
-        ensures bound { result ≤ 1000000000001 }
+        ensures bound { result ≤ 1000000000017 }
     {
         self.steps
+    }
+
+    /// How many steps it may take before it ends.
+    pub fn budget(&self) -> u64
+        ensures value { result ≡ self.now.budget }
+        ensures bound { result ≤ 1000000000000 }
+    {
+        self.budget
+    }
+
+    /// How many events it has logged.
+    pub fn events(&self) -> u32
+        ensures value { result ≡ self.now.events }
+        ensures bound { result ≤ 1048576 }
+    {
+        self.events
+    }
+
+    /// Its number.
+    pub fn number(&self) -> u8
+        ensures { result ≡ self.now.number }
+    {
+        self.number
+    }
+
+    /// For each object of the guest, what the thread is inside for, if it is inside.
+    pub fn held(&self) -> &[Option<Access>]
+        ensures value { result.now ≡ self.now.held }
+        ensures bound { length result.now ≤ 16 }
+    {
+        self.held.as_slice()
     }
 
     /// How it ended, if it has.
@@ -93,7 +153,8 @@ impl Thread {
 
     /// The bytes that it has printed.
     pub fn output(&self) -> &[u8]
-        ensures { result.now ≡ self.now.output }
+        ensures value { result.now ≡ self.now.output }
+        ensures bound { length result.now ≤ 65536 }
     {
         self.output.as_slice()
     }
@@ -103,69 +164,5 @@ impl Thread {
         ensures { result.now ≡ self.now.core }
     {
         &self.mach
-    }
-
-    // What an ECALL asks, by its number in a7.
-    fn call(&self) -> Ask
-        ensures { result ≡ call_ask self.now }
-    {
-        match self.mach.reg(A7) {
-            1 => Ask::End(End::Exit(self.mach.reg(A0))),
-            2 if self.output.len() >= MOST_OUTPUT => Ask::End(End::OutputFull),
-            2 => Ask::Print,
-            _ => Ask::End(End::UnknownCall),
-        }
-    }
-
-    fn running(&self, code: &Code) -> Ask
-        ensures { result ≡ running_ask code.now self.now }
-    {
-        if self.steps >= self.budget {
-            return Ask::End(End::BudgetSpent);
-        }
-        match self.mach.next(code) {
-            Ran::Ran => Ask::Private,
-            Ran::Call => self.call(),
-            Ran::Fault(fault) => Ask::End(End::from(fault)),
-        }
-    }
-
-    /// What the thread asks: what its next step is.
-    pub fn ask(&self, code: &Code) -> Ask
-        ensures { result ≡ ask_of code.now self.now }
-    {
-        match self.ended {
-            Some(_) => Ask::Done,
-            None => self.running(code),
-        }
-    }
-
-    /// Takes the step that the thread asks.
-    #[tactic(auto, unfolding(crate::specs::Calls::step_of))]
-    pub fn take(&mut self, code: &Code)
-        requires { ask_of code.now self.old ≢ Done }
-        ensures { self.new ≡ step_of code.now self.old }
-    {
-        let asked = self.ask(code);
-        self.go(code, asked)
-    }
-
-    fn go(&mut self, code: &Code, asked: Ask)
-        requires is { asked ≡ ask_of code.now self.old }
-        requires not_done { asked ≢ Done }
-        ensures { self.new ≡ after_ask code.now self.old asked }
-    {
-        match asked {
-            Ask::Private => {
-                let _ran = self.mach.step(code);
-            }
-            Ask::Print => {
-                let _ = self.output.push((self.mach.reg(A0) & 0xff) as u8);
-                self.mach.pass_call(None);
-            }
-            Ask::End(end) => self.ended = Some(end),
-            Ask::Done => unreachable!(),
-        }
-        self.steps += 1;
     }
 }

@@ -1,0 +1,27 @@
+-- Powers of sixteen within a word.
+use Rattle.std.proofs.Common.{◌≡◌, ◌<◌, ◌+◌, ◌-◌, ◌/◌, ◌%◌, ◌^◌, ℕ, zero, suc, List, ◌∷◌, ◌++◌, arith, refl, ap, ◌∙◌}
+use Rattle.std.specs.Prelude.{codes, ℤ}
+use Rattle.ir_isa.specs.Words.{low_bits}
+use Rattle.std.specs.Char.{digit_char}
+use Rattle.ir_asm.specs.Printed.{hex, distance, far}
+
+pub sixteen : (p : ℕ) → p < 8 → (0 < 16 ^ p) × (16 ^ p < 4294967296)
+sixteen zero h = (omega arith, omega arith)
+sixteen (suc zero) h = (omega arith, omega arith)
+sixteen (suc (suc zero)) h = (omega arith, omega arith)
+sixteen (suc (suc (suc zero))) h = (omega arith, omega arith)
+sixteen (suc (suc (suc (suc zero)))) h = (omega arith, omega arith)
+sixteen (suc (suc (suc (suc (suc zero))))) h = (omega arith, omega arith)
+sixteen (suc (suc (suc (suc (suc (suc zero)))))) h = (omega arith, omega arith)
+sixteen (suc (suc (suc (suc (suc (suc (suc zero))))))) h = (omega arith, omega arith)
+sixteen (suc (suc (suc (suc (suc (suc (suc (suc p)))))))) h = absurd (omega (arith, h))
+
+-- the first of so many digits
+pub hex_step : (k n : ℕ) → 0 < k → hex k n ≡ digit_char (n / 16 ^ (k - 1) % 16) ∷ hex (k - 1) n
+hex_step zero n h = absurd (omega (arith, h))
+hex_step (suc k) n h = let e : suc k - 1 ≡ k = omega arith in rw e refl
+
+-- a distance and the address of it, put together
+pub far_from : (pc t : ℕ) (z : ℤ) (s d a : List ℕ) → s ≡ d ++ (codes " # " ++ a) → d ≡ distance z → a ≡ hex 8 t → t ≡ (pc + low_bits 32 z) % 2 ^ 32 → s ≡ far pc z
+far_from pc t z s d a e f g h =
+    e ∙ ap (λ (x : List ℕ). x ++ (codes " # " ++ a)) f ∙ ap (λ (x : List ℕ). distance z ++ (codes " # " ++ x)) (g ∙ ap (λ (n : ℕ). hex 8 n) h)

@@ -1,0 +1,17 @@
+pub mod Lines
+pub mod Firsts
+pub mod Texts
+pub mod Tables
+pub mod Numerals
+pub mod Cuts
+pub mod Digits
+pub mod Pieces
+pub mod Numbers
+pub mod Statements
+pub mod Formats
+pub mod Branches
+pub mod Pairs
+pub mod Addresses
+pub mod Uppers
+pub mod Law
+pub mod RowTests

@@ -1,0 +1,37 @@
+-- A source of one statement.
+use Rattle.std.proofs.Common.{◌≡◌, ℕ, true, false, List, [], ◌∷◌, Some, Ok, refl}
+use Rattle.std.specs.List.{list_all}
+use Rattle.ir_asm.specs.declared.form.Section.TheVariants.{Text}
+use Rattle.ir_asm.specs.declared.form.Form.{Form}
+use Rattle.ir_asm.specs.declared.item.Operand.{Operand}
+use Rattle.ir_asm.specs.declared.item.Item.TheVariants.{Code}
+use Rattle.ir_asm.specs.Text.{before, trim, is_nil}
+use Rattle.ir_asm.specs.Forms.{form_named, stands_in}
+use Rattle.ir_asm.specs.Operands.{operands_of}
+use Rattle.ir_asm.specs.Items.{item_of}
+use Rattle.ir_asm.specs.Source.{line_of, name_of, operand_texts, is_source_byte, may_stand, nothing_seen, with_statement, with_item, with_line}
+use Rattle.ir_asm.specs.Passes.{assembled, IsWordGuest}
+use Rattle.ir_asm.proofs.Pieces.{lacks, split_one}
+
+-- the text is a line whose statement st is an instruction with this word
+pub record Says (text st : List ℕ) (word : ℕ) : Type 0 where
+  pub form : Form
+  pub xs : List Operand
+  pub feed : lacks 10 text ≡ true
+  pub source : list_all is_source_byte text ≡ true
+  pub colon : lacks 58 (before 35 text) ≡ true
+  pub trimmed : trim (before 35 text) ≡ st
+  pub some : is_nil st ≡ false
+  pub named : form_named (name_of st) ≡ Some form
+  pub stands : may_stand (stands_in form) Text ≡ true
+  pub read : operands_of form (operand_texts st) ≡ Ok xs
+  pub means : item_of form xs ≡ Code (word ∷ [])
+
+statement_says : (text st : List ℕ) (word : ℕ) (s : Says text st word) → with_statement 1 st nothing_seen ≡ with_item 1 (Code (word ∷ [])) nothing_seen
+statement_says text st word s = rw (s.some, s.named) (rw (s.stands, s.read) (rw (s.means) refl))
+
+line_says : (text st : List ℕ) (word : ℕ) (s : Says text st word) → with_line 1 (line_of text) nothing_seen ≡ with_item 1 (Code (word ∷ [])) nothing_seen
+line_says text st word s = rw (s.source, split_one 58 (before 35 text) s.colon) (rw s.trimmed (statement_says text st word s))
+
+pub one_statement : (text st : List ℕ) (word : ℕ) (s : Says text st word) → IsWordGuest (assembled text) word
+one_statement text st word s = rw (split_one 10 text s.feed) (rw (line_says text st word s) refl)

@@ -1,0 +1,16 @@
+use Rattle.std.proofs.Common.{◌++◌, ℕ, ◌-◌, List, ap, sym, ◌∙◌, append_assoc, arith}
+use Rattle.std.specs.String.{string_bytes}
+use Rattle.ir_asm.specs.Printed.{hex}
+use Rattle.ir_asm.proofs.Digits.{hex_step}
+use Rattle.ir_asm.proofs.disassembler.digits.Goals as goal
+
+pub loop-left-preserved : goal.loop-left-preserved
+loop-left-preserved c =
+    let rest : List ℕ = hex (c.loop-left.left - 1) c.args.number in
+    record {
+      few = omega arith;
+      told = ap (λ (l : List ℕ). l ++ rest) (c.in_ok-push_str.ensures.bytes ∙ ap (λ (l : List ℕ). string_bytes c.loop-left.text ++ l) c.digit_at.ensures)
+          ∙ append_assoc _ _ rest
+          ∙ ap (λ (l : List ℕ). string_bytes c.loop-left.text ++ l) (sym (hex_step c.loop-left.left c.args.number (omega arith)))
+          ∙ c.loop-left.invariant.told;
+    }

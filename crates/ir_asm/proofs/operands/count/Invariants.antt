@@ -1,0 +1,14 @@
+use Rattle.std.proofs.Common.{◌≡◌, ◌+◌, ◌≤◌, length}
+use Rattle.ir_asm.specs.Source.{texts_of}
+use Rattle.ir_asm.proofs.Texts.{texts_left, size_left}
+use Rattle.ir_asm.proofs.operands.count.Given as goal
+
+-- the operands so far, and those that are left
+abbrev pub invariant-loop-more : goal.invariant-loop-more
+invariant-loop-more l = record {
+  told : l.count + length (texts_left l.more l.rest) ≡ length (texts_of l.text);
+  small : l.count + size_left l.more l.rest ≤ length l.text + 1;
+}
+
+abbrev pub decreases-loop-more : goal.decreases-loop-more
+decreases-loop-more l = size_left l.more l.rest

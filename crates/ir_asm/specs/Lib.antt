@@ -1,0 +1,10 @@
+pub mod Causes
+pub mod Faults
+pub mod Text
+pub mod Names
+pub mod Forms
+pub mod Operands
+pub mod Items
+pub mod Source
+pub mod Passes
+pub mod Printed

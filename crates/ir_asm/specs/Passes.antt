@@ -1,0 +1,92 @@
+-- The second pass, which puts what was placed into a guest, and the whole.
+use Rattle.std.specs.Prelude.{◌≡◌, ◌==◌, ◌&&◌, ℕ, ◌+◌, ◌-◌, ◌*◌, nat_le, nat_lt, List, [], ◌∷◌, ◌++◌, length, take, drop, if◌then◌else◌, ℤ, pos, negsuc, neg_ℤ, Result, Ok, Err, replicate}
+use Rattle.ir_isa.specs.Code.{branch_funct}
+use Rattle.ir_isa.specs.Words.{b_word, j_word}
+use Rattle.ir_image.specs.Guest.{Guest, code_start, object_words}
+use Rattle.ir_asm.specs.declared.cause.Cause.{Cause}
+use Rattle.ir_asm.specs.declared.cause.Cause.TheVariants.{LabelMissing, TooFar, WrongSection, BadSize, BadCount}
+use Rattle.ir_asm.specs.declared.form.Section.TheVariants.{Text}
+use Rattle.ir_asm.specs.declared.item.Item.{Item}
+use Rattle.ir_asm.specs.declared.item.Item.TheVariants.{Code, BranchTo, JumpTo, LoadAddress, Filled, Entry, First}
+use Rattle.ir_asm.specs.declared.item.Place.{Place}
+use Rattle.ir_asm.specs.declared.item.Placed.{Placed}
+use Rattle.ir_asm.specs.Faults.{◌>>=◌, or_cause, unless}
+use Rattle.ir_asm.specs.Names.{named}
+use Rattle.ir_asm.specs.Operands.{int_le}
+use Rattle.ir_asm.specs.Items.{li_words}
+use Rattle.ir_asm.specs.Source.{Seen, Fault, nothing_seen, same_section, at_line, first_pass, lines_of}
+
+-- a - b
+abbrev pub difference : ℕ → ℕ → ℤ
+difference a b = if nat_le b a then pos (a - b) else neg_ℤ (pos (b - a))
+
+-- where a label stands
+abbrev pub value_of : Seen → List ℕ → Result Place Cause
+value_of s label = or_cause LabelMissing (named s.labels label)
+
+-- the address of a label, which has to stand in text
+abbrev pub text_address : Seen → List ℕ → Result ℕ Cause
+text_address s label = value_of s label >>= λ place. unless (same_section place.section Text) WrongSection (Ok place.address)
+
+-- a distance that has to lie in a range
+abbrev pub reached : ℤ → ℤ → ℤ → Result ℤ Cause
+reached low high z = unless (int_le low z && int_le z high) TooFar (Ok z)
+
+-- how far a label lies from an address
+abbrev pub distance_to : Seen → ℤ → ℤ → ℕ → List ℕ → Result ℤ Cause
+distance_to s low high address label = text_address s label >>= λ target. reached low high (difference target address)
+
+-- the guest with more code
+abbrev pub with_code : Guest → List ℕ → Guest
+with_code g words = record g { code = g.code ++ words }
+
+-- eight words, of which these are the first and the others 0
+abbrev pub eight_words : List ℕ → List ℕ
+eight_words words = words ++ replicate (object_words - length words) 0
+
+-- the guest with the first words of an object
+abbrev pub with_object : Guest → ℕ → List ℕ → Guest
+with_object g object words = record g { words = take (object_words * object) g.words ++ (eight_words words ++ drop (object_words * object + object_words) g.words) }
+
+-- after an item
+abbrev pub put : Seen → ℕ → Item → Guest → Result Guest Cause
+put s address (Code words) g = Ok (with_code g words)
+put s address (BranchTo op rs1 rs2 label) g = distance_to s (negsuc 4095) (pos 4094) address label >>= λ z. Ok (with_code g (b_word z rs2 rs1 (branch_funct op) 0b1100011 ∷ []))
+put s address (JumpTo rd label) g = distance_to s (negsuc 1048575) (pos 1048574) address label >>= λ z. Ok (with_code g (j_word z rd 0b1101111 ∷ []))
+put s address (LoadAddress rd label) g = value_of s label >>= λ place. Ok (with_code g (li_words rd place.address))
+put s address (Filled bytes) g = Ok (record g { bytes = g.bytes ++ bytes })
+put s address (Entry label) g = text_address s label >>= λ a. unless (nat_lt a (code_start + s.code)) WrongSection (Ok (record g { entries = g.entries ++ a ∷ [] }))
+put s address (First object words) g = unless (nat_lt object s.objects) BadCount (Ok (with_object g object words))
+put s address item g = Ok g
+
+-- after the items, in their order
+abbrev pub second_pass : Seen → List Placed → Guest → Result Guest Fault
+second_pass s [] g = Ok g
+second_pass s (x ∷ xs) g = at_line x.line (put s x.address x.item g) >>= λ h. second_pass s xs h
+
+-- before the first item: so many objects of zeros
+abbrev pub started : Seen → Guest
+started s = record { entries = []; code = []; bytes = []; words = replicate (object_words * s.objects) 0 }
+
+-- without any entry there is one, at the start of the code
+abbrev pub with_entry : Guest → Guest
+with_entry g = if length g.entries == 0 then record g { entries = code_start ∷ [] } else g
+
+-- what the first pass saw has code
+abbrev pub has_code : ℕ → Seen → Result Seen Fault
+has_code lines s = if s.code == 0 then Err (record { line = lines + 1; cause = BadSize }) else Ok s
+
+-- the guest of the lines, or their first fault
+abbrev pub assembled_lines : List (List ℕ) → Result Guest Fault
+assembled_lines lines =
+    first_pass 1 lines nothing_seen >>= λ s.
+    has_code (length lines) s >>= λ t.
+    second_pass t t.placed (started t) >>= λ g. Ok (with_entry g)
+
+-- the guest of a source, or its first fault
+abbrev pub assembled : List ℕ → Result Guest Fault
+assembled source = assembled_lines (lines_of source)
+
+-- one thread, and that word alone
+abbrev pub IsWordGuest : Result Guest Fault → ℕ → Type 0
+IsWordGuest r word = r ≡ Ok (record { entries = code_start ∷ []; code = word ∷ []; bytes = []; words = [] })

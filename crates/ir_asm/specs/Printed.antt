@@ -1,0 +1,65 @@
+-- The one text of a word.
+use Rattle.std.specs.Prelude.{ℕ, ◌+◌, ◌/◌, ◌%◌, ◌^◌, List, [], ◌∷◌, ◌++◌, codes, zero, Option, Some, None, ℤ, pos, negsuc, suc, decimal}
+use Rattle.std.specs.Fmt.{signed_decimal}
+use Rattle.std.specs.Char.{digit_char}
+use Rattle.ir_isa.specs.Decoded.{instruction_of}
+use Rattle.ir_isa.specs.Words.{low_bits}
+use Rattle.ir_isa.specs.declared.inst.Inst.{Inst}
+use Rattle.ir_isa.specs.declared.inst.Inst.TheVariants.{Lui, Auipc, Jal, Jalr, Branch, Load, Store, OpImm, Shift, Op, Fence, Ecall, Ebreak}
+use Rattle.ir_isa.specs.Names.{register_name}
+use Rattle.ir_asm.specs.Names.{branch_name, load_name, store_name, immediate_name, shift_name, operation_name}
+
+-- the digits of n to the base 16, from the one of 16 ^ (k - 1) down
+abbrev pub hex : ℕ → ℕ → List ℕ
+hex zero n = []
+hex (suc k) n = digit_char (n / 16 ^ k % 16) ∷ hex k n
+
+-- a name and an operand
+abbrev pub one : List ℕ → List ℕ → List ℕ
+one name a = name ++ 32 ∷ a
+
+-- a name and two operands
+abbrev pub two : List ℕ → List ℕ → List ℕ → List ℕ
+two name a b = name ++ 32 ∷ (a ++ 44 ∷ 32 ∷ b)
+
+-- a name and three operands
+abbrev pub three : List ℕ → List ℕ → List ℕ → List ℕ → List ℕ
+three name a b c = name ++ 32 ∷ (a ++ 44 ∷ 32 ∷ (b ++ 44 ∷ 32 ∷ c))
+
+-- a distance with its sign
+abbrev pub distance : ℤ → List ℕ
+distance (pos n) = 46 ∷ 43 ∷ decimal n
+distance (negsuc n) = 46 ∷ 45 ∷ decimal (suc n)
+
+-- how far, and the address of it
+abbrev pub far : ℕ → ℤ → List ℕ
+far pc z = distance z ++ (codes " # " ++ hex 8 ((pc + low_bits 32 z) % 2 ^ 32))
+
+-- a number and a register in parentheses
+abbrev pub address : ℤ → ℕ → List ℕ
+address imm base = signed_decimal imm ++ 40 ∷ (register_name base ++ 41 ∷ [])
+
+-- the text of an instruction that stands at pc
+abbrev pub printed : ℕ → Inst → List ℕ
+printed pc (Lui rd imm) = two (codes "lui") (register_name rd.number) (codes "0x" ++ hex 5 (imm.value / 2 ^ 12))
+printed pc (Auipc rd imm) = two (codes "auipc") (register_name rd.number) (codes "0x" ++ hex 5 (imm.value / 2 ^ 12))
+printed pc (Jal rd offset) = two (codes "jal") (register_name rd.number) (far pc offset.value)
+printed pc (Jalr rd rs1 imm) = two (codes "jalr") (register_name rd.number) (address imm.value rs1.number)
+printed pc (Branch op rs1 rs2 offset) = three (branch_name op) (register_name rs1.number) (register_name rs2.number) (far pc offset.value)
+printed pc (Load op rd rs1 imm) = two (load_name op) (register_name rd.number) (address imm.value rs1.number)
+printed pc (Store op rs1 rs2 imm) = two (store_name op) (register_name rs2.number) (address imm.value rs1.number)
+printed pc (OpImm op rd rs1 imm) = three (immediate_name op) (register_name rd.number) (register_name rs1.number) (signed_decimal imm.value)
+printed pc (Shift op rd rs1 amount) = three (shift_name op) (register_name rd.number) (register_name rs1.number) (decimal amount.bits)
+printed pc (Op op rd rs1 rs2) = three (operation_name op) (register_name rd.number) (register_name rs1.number) (register_name rs2.number)
+printed pc (Fence rd rs1 imm) = three (codes "fence") (register_name rd.number) (register_name rs1.number) (decimal (low_bits 12 imm.value))
+printed pc Ecall = codes "ecall"
+printed pc Ebreak = codes "ebreak"
+
+-- the text of a word that is the code of this instruction, or of none
+abbrev pub text_by : ℕ → ℕ → Option Inst → List ℕ
+text_by pc word (Some i) = printed pc i
+text_by pc word None = one (codes ".word") (codes "0x" ++ hex 8 word)
+
+-- the text of a word that stands at pc
+abbrev pub text_of : ℕ → ℕ → List ℕ
+text_of pc word = text_by pc word (instruction_of word)

@@ -1,0 +1,192 @@
+-- The lines of a source, and the first pass over them: sections, labels, sizes, and what is placed.
+use Rattle.std.specs.Prelude.{◌==◌, ◌&&◌, ◌||◌, ℕ, ◌+◌, ◌*◌, nat_le, nat_lt, not, Bool, true, false, List, [], ◌∷◌, ◌++◌, length, map, flat_map, Option, Some, None, if◌then◌else◌, is_some, Result, Ok, Err}
+use Rattle.std.specs.List.{list_all}
+use Rattle.byteorder.specs.Endian.{little_bytes}
+use Rattle.ir_image.specs.Guest.{code_start}
+use Rattle.ir_asm.specs.declared.cause.Cause.{Cause}
+use Rattle.ir_asm.specs.declared.cause.Cause.TheVariants.{BadByte, UnknownStatement, LabelTwice, WrongSection, BadSize, BadCount, BadLabel}
+use Rattle.ir_asm.specs.declared.form.Section.{Section}
+use Rattle.ir_asm.specs.declared.form.Section.TheVariants.{Text, Data}
+use Rattle.ir_asm.specs.declared.item.Item.{Item}
+use Rattle.ir_asm.specs.declared.item.Item.TheVariants.{Code, BranchTo, JumpTo, LoadAddress, Filled, Within, Entry, Count, Nothing}
+use Rattle.ir_asm.specs.declared.item.Place.{Place}
+use Rattle.ir_asm.specs.declared.item.Placed.{Placed}
+use Rattle.ir_asm.specs.Faults.{◌>>=◌, or_cause, unless}
+use Rattle.ir_asm.specs.Text.{split, before, trim, is_name, is_nil, is_blank, until, from}
+use Rattle.ir_asm.specs.Names.{named}
+use Rattle.ir_asm.specs.Forms.{form_named, stands_in}
+use Rattle.ir_asm.specs.Operands.{operands_of}
+use Rattle.ir_asm.specs.Items.{item_of}
+
+-- ---- one line
+
+-- a printable byte or a tab
+abbrev pub is_source_byte : ℕ → Bool
+is_source_byte b = (nat_le 32 b && nat_le b 126) || (b == 9)
+
+-- a line: its bytes, its labels, and its statement, which may be empty
+pub record Line : Type 0 where
+  pub bytes : List ℕ
+  pub labels : List (List ℕ)
+  pub statement : List ℕ
+
+-- the parts but the last
+abbrev pub all_but_last : List (List ℕ) → List (List ℕ)
+all_but_last [] = []
+all_but_last (x ∷ []) = []
+all_but_last (x ∷ y ∷ ys) = x ∷ all_but_last (y ∷ ys)
+
+-- the last part
+abbrev pub last_of : List (List ℕ) → List ℕ
+last_of [] = []
+last_of (x ∷ []) = x
+last_of (x ∷ y ∷ ys) = last_of (y ∷ ys)
+
+-- labels, each before its colon, and then the statement; a comment is left out
+abbrev pub line_of : List ℕ → Line
+line_of bytes = record {
+  bytes = bytes;
+  labels = map trim (all_but_last (split 58 (before 35 bytes)));
+  statement = trim (last_of (split 58 (before 35 bytes)));
+}
+
+-- the name of a statement
+abbrev pub name_of : List ℕ → List ℕ
+name_of statement = until is_blank statement
+
+-- the operands in a text, of which an empty one has none
+abbrev pub texts_of : List ℕ → List (List ℕ)
+texts_of rest = if is_nil rest then [] else map trim (split 44 rest)
+
+-- the operands of a statement, which follow its name
+abbrev pub operand_texts : List ℕ → List (List ℕ)
+operand_texts statement = texts_of (trim (from is_blank statement))
+
+-- ---- the first pass
+
+-- what the lines so far have: the section, the sizes of both, the numbers of threads and of objects, the labels, and what is placed
+pub record Seen : Type 0 where
+  pub section : Section
+  pub code : ℕ
+  pub filled : ℕ
+  pub threads : ℕ
+  pub objects : ℕ
+  pub labels : List (List ℕ × Place)
+  pub placed : List Placed
+
+-- before the first line
+abbrev pub nothing_seen : Seen
+nothing_seen = record { section = Text; code = 0; filled = 0; threads = 0; objects = 0; labels = []; placed = [] }
+
+-- where a section begins
+abbrev pub start_of : Section → ℕ
+start_of Text = code_start
+start_of Data = 0x00100000
+
+-- how much of a section there is so far
+abbrev pub size_in : Section → Seen → ℕ
+size_in Text s = s.code
+size_in Data s = s.filled
+
+-- where the next byte of the section lies
+abbrev pub here : Seen → Place
+here s = record { section = s.section; address = start_of s.section + size_in s.section s }
+
+-- how many bytes an item takes of its section
+abbrev pub size_of : Item → ℕ
+size_of (Code words) = 4 * length words
+size_of (BranchTo op rs1 rs2 label) = 4
+size_of (JumpTo rd label) = 4
+size_of (LoadAddress rd label) = 8
+size_of (Filled bytes) = length bytes
+size_of item = 0
+
+-- the labels of a line
+abbrev pub with_labels : List (List ℕ) → Seen → Result Seen Cause
+with_labels [] s = Ok s
+with_labels (label ∷ labels) s = unless (not (is_some (named s.labels label))) LabelTwice (with_labels labels (record s { labels = s.labels ++ (label, here s) ∷ [] }))
+
+-- two sections are one
+abbrev pub same_section : Section → Section → Bool
+same_section Text Text = true
+same_section Data Data = true
+same_section a b = false
+
+-- a form for a section may stand in another
+abbrev pub may_stand : Option Section → Section → Bool
+may_stand None s = true
+may_stand (Some a) s = same_section a s
+
+-- after a statement that takes so many bytes of its section
+abbrev pub grown : Section → ℕ → Seen → Result Seen Cause
+grown Text n s = unless (nat_le (s.code + n) 65536) BadSize (Ok (record s { code = s.code + n }))
+grown Data n s = unless (nat_le (s.filled + n) 65536) BadSize (Ok (record s { filled = s.filled + n }))
+
+-- words in data are bytes, the lowest first
+abbrev pub laid : Section → Item → Item
+laid Data (Code words) = Filled (flat_map (little_bytes 4) words)
+laid section item = item
+
+-- after an item that waits for the second pass
+abbrev pub placed_at : ℕ → ℕ → Item → Seen → Seen
+placed_at line address item s = record s { placed = s.placed ++ record { line = line; address = address; item = item } ∷ [] }
+
+-- after what an item says
+abbrev pub entered : ℕ → ℕ → Item → Seen → Result Seen Cause
+entered line address (Within section) s = Ok (record s { section = section })
+entered line address (Count objects) s = Ok (record s { objects = objects })
+entered line address (Entry label) s = unless (nat_lt s.threads 8) BadCount (Ok (placed_at line address (Entry label) (record s { threads = s.threads + 1 })))
+entered line address Nothing s = Ok s
+entered line address item s = Ok (placed_at line address item s)
+
+-- after an item: first its size, then what it says
+abbrev pub with_item : ℕ → Item → Seen → Result Seen Cause
+with_item line item s = grown s.section (size_of item) s >>= λ t. entered line (here s).address (laid s.section item) t
+
+-- what a statement of a section places: first its name, then its section, then its operands
+abbrev pub item_in : Section → List ℕ → Result Item Cause
+item_in section statement =
+    or_cause UnknownStatement (form_named (name_of statement)) >>= λ form.
+    unless (may_stand (stands_in form) section) WrongSection (operands_of form (operand_texts statement) >>= λ xs. Ok (item_of form xs))
+
+-- after a statement, which may be empty
+abbrev pub with_statement : ℕ → List ℕ → Seen → Result Seen Cause
+with_statement line statement s = if is_nil statement then Ok s else (item_in s.section statement >>= λ item. with_item line item s)
+
+-- after a line: its bytes, all its labels' forms, its labels, its statement
+abbrev pub with_line : ℕ → Line → Seen → Result Seen Cause
+with_line number line s =
+    unless (list_all is_source_byte line.bytes) BadByte
+    (unless (list_all is_name line.labels) BadLabel
+    (with_labels line.labels s >>= λ t. with_statement number line.statement t))
+
+-- the first fault: where it is, and what
+pub record Fault : Type 0 where
+  pub line : ℕ
+  pub cause : Cause
+
+-- a fault of a line
+abbrev pub at_line : {A : Type 0} → ℕ → Result A Cause → Result A Fault
+at_line line (Ok x) = Ok x
+at_line line (Err cause) = Err (record { line = line; cause = cause })
+
+-- after the lines from a number on
+abbrev pub first_pass : ℕ → List (List ℕ) → Seen → Result Seen Fault
+first_pass number [] s = Ok s
+first_pass number (line ∷ lines) s = at_line number (with_line number (line_of line) s) >>= λ t. first_pass (number + 1) lines t
+
+-- the carriage return before a line feed is no part of the line
+abbrev pub without_return : List ℕ → List ℕ
+without_return [] = []
+without_return (b ∷ []) = if b == 13 then [] else b ∷ []
+without_return (b ∷ c ∷ bs) = b ∷ without_return (c ∷ bs)
+
+-- parts between line feeds, of which the last is not before one
+abbrev pub without_returns : List (List ℕ) → List (List ℕ)
+without_returns [] = []
+without_returns (line ∷ []) = line ∷ []
+without_returns (line ∷ next ∷ lines) = without_return line ∷ without_returns (next ∷ lines)
+
+-- the lines of a source: one more than its line feeds
+abbrev pub lines_of : List ℕ → List (List ℕ)
+lines_of source = without_returns (split 10 source)

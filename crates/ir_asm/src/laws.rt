@@ -1,0 +1,37 @@
+//! Laws of sources and of the texts of words.
+
+ghost use Rattle.std.specs.Prelude.{◌≡◌, ℕ, List, [], ◌∷◌, ◌++◌, ◌<◌, ◌+◌, ◌^◌, codes, length, Ok, Err};
+ghost use Rattle.ir_asm.specs.Printed.{text_of};
+ghost use Rattle.ir_asm.specs.Source.{Seen, nothing_seen, line_of, with_line, first_pass};
+ghost use Rattle.ir_asm.specs.Passes.{assembled, assembled_lines, IsWordGuest};
+ghost use Rattle.ir_asm.specs.declared.cause.Cause.{Cause};
+ghost use Rattle.ir_asm.specs.declared.cause.Cause.TheVariants.{UnknownStatement, UnknownRegister, BadNumber, LabelTwice, LabelMissing, WrongSection, BadSize};
+
+/// The text of a word is assembled to a guest of one thread, whose code is that word alone.
+pub fn word_law()
+    ensures { (word pc : ℕ) → word < 2 ^ 32 → pc < 2 ^ 32 → IsWordGuest (assembled (text_of pc word)) word }
+{
+    ir_isa::encodes_again()
+}
+
+/// The first line with a fault of the first pass is the one that is named, whatever follows it.
+#[tactic(auto, using(crate::proofs::Firsts::first_fault))]
+pub fn first_fault()
+    ensures { (before after : List (List ℕ)) (line : List ℕ) (s : Seen) (cause : Cause) →
+        first_pass 1 before nothing_seen ≡ Ok s →
+        with_line (1 + length before) (line_of line) s ≡ Err cause →
+        assembled_lines (before ++ line ∷ after) ≡ Err (record { line = 1 + length before; cause = cause }) }
+{}
+
+/// Sources and their answers.
+pub fn examples()
+    ensures empty { assembled (codes "") ≡ Err (record { line = 2; cause = BadSize }) }
+    ensures unknown { assembled (codes "x\n") ≡ Err (record { line = 1; cause = UnknownStatement }) }
+    ensures twice { assembled (codes "a: a: nop\n") ≡ Err (record { line = 1; cause = LabelTwice }) }
+    ensures register { assembled (codes "addi a0, zer, 2048\n") ≡ Err (record { line = 1; cause = UnknownRegister }) }
+    ensures number { assembled (codes "addi a0, zero, 2048\n") ≡ Err (record { line = 1; cause = BadNumber }) }
+    ensures missing { assembled (codes "beq a0, a1, far\n") ≡ Err (record { line = 1; cause = LabelMissing }) }
+    ensures section { assembled (codes "nop\n.space 1\n") ≡ Err (record { line = 2; cause = WrongSection }) }
+    ensures end { assembled (codes "nop\nend: .thread end\n") ≡ Err (record { line = 2; cause = WrongSection }) }
+    ensures carried { assembled (codes "li a0, 0x12345FFF") ≡ Ok (record { entries = 0x00010000 ∷ []; code = 0x12346537 ∷ 0xFFF50513 ∷ []; bytes = []; words = [] }) }
+{}

@@ -1,0 +1,14 @@
+//! What the word of an object says.
+
+/// What the word of an object says.
+#[derive(Clone, Copy, Debug, PartialEq, Eq)]
+pub struct Fields {
+    /// How many times a writer has left the object; below 2^32.
+    pub version: u32,
+    /// How many readers have left this version; below 2^24.
+    pub left: u32,
+    /// How many readers are inside; below 2^7.
+    pub inside: u8,
+    /// Whether a writer is inside.
+    pub writer: bool,
+}

@@ -1,0 +1,20 @@
+//! Laws of words, each the contract of a function without parameters.
+
+ghost use Rattle.ir_object.specs.Cell.{WordsStand};
+ghost use Rattle.ir_object.specs.Word.{OneWordEach, StepsOfWords};
+
+/// Each word says one thing, and each thing is said by one word.
+pub fn one_word_each()
+    ensures { OneWordEach }
+{}
+
+/// What entries and leaves make of a word: a reader adds 2, and 254 as it leaves; a writer adds 1,
+/// and leaves a word of the next version alone.
+pub fn steps_of_words()
+    ensures { StepsOfWords }
+{}
+
+/// The word tells who may enter and leave, and goes with each step of a thread.
+pub fn words_stand()
+    ensures { WordsStand }
+{}

@@ -1,0 +1,12 @@
+//! One shared object of a guest: who may enter, its version, and its eight words.
+#![tactic(auto)]
+
+mod fields;
+mod laws;
+mod object;
+mod word;
+
+pub use fields::Fields;
+pub use laws::{one_word_each, steps_of_words, words_stand};
+pub use object::Object;
+pub use word::Word;

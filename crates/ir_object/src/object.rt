@@ -1,0 +1,143 @@
+//! An object: its word and its eight words of contents.
+
+ghost use Rattle.ir_object.specs.Cell.{Cell, Admitted, CanLeave, StandsFor};
+ghost use Rattle.ir_object.specs.Object.{Object, acted};
+ghost use Rattle.ir_object.specs.Word.{IsFields, fields_of, entered, left_by};
+ghost use Rattle.ir_thread.specs.Machine.{Entry, Exit, Store};
+ghost use Rattle.ir_thread.specs.declared.ask.Access.TheVariants.{Reading, Writing};
+ghost use Rattle.std.specs.Prelude.{◌≡◌, ◌<◌, ◌≢◌, ◌↔◌, ℕ, false, length, slice_index, slice_set, IsTrue, Some, None};
+
+use crate::fields::Fields;
+use crate::word::Word;
+use ir_thread::Access;
+use std::marker::Model;
+
+/// An object: a word that says who is inside and which version it has, and eight words of contents.
+#[derive(Drop)]
+pub struct Object {
+    word: Word,
+    contents: [u32; 8],
+}
+
+impl Model for Object {
+    ghost Value = { Cell };
+
+    ghost view = { λ o. record { fields = fields_of o.word.bits; words = o.contents } };
+}
+
+impl Object {
+    /// The object with these contents, which nobody has entered.
+    pub fn new(contents: [u32; 8]) -> Object
+        ensures { result ≡ record { fields = record { version = 0; left = 0; inside = 0; writer = false }; words = contents } }
+    {
+        Object {
+            word: Word { bits: 0 },
+            contents,
+        }
+    }
+
+    /// An equal object.
+    pub fn copy(&self) -> Object
+        ensures { result ≡ self.now }
+    {
+        Object {
+            word: self.word,
+            contents: self.contents,
+        }
+    }
+
+    /// Its word.
+    pub fn word(&self) -> Word
+        ensures { fields_of result.bits ≡ self.now.fields }
+    {
+        self.word
+    }
+
+    /// What its word says.
+    pub fn fields(&self) -> Fields
+        ensures value { result ≡ self.now.fields }
+        ensures fits { IsFields result }
+    {
+        self.word.fields()
+    }
+
+    /// Its eight words of contents.
+    pub fn contents(&self) -> &[u32]
+        ensures value { result.now ≡ self.now.words }
+        ensures count { length result.now ≡ 8 }
+    {
+        &self.contents
+    }
+
+    /// Whether a reader may enter: no writer is inside.
+    pub fn can_read(&self) -> bool
+        ensures { IsTrue result ↔ Admitted Reading self.now.fields }
+    {
+        !self.fields().writer
+    }
+
+    /// Whether a writer may enter: nobody is inside.
+    pub fn can_write(&self) -> bool
+        ensures { IsTrue result ↔ Admitted Writing self.now.fields }
+    {
+        let fields = self.fields();
+        !fields.writer && fields.inside == 0
+    }
+
+    /// A thread enters.
+    pub fn enter(&mut self, access: Access)
+        requires admitted { Admitted access self.old.fields }
+        requires fits { IsFields (entered access self.old.fields) }
+        ensures { self.new ≡ record self.old { fields = entered access self.old.fields } }
+    {
+        let fields = self.fields();
+        self.word = Word::pack(match access {
+            Access::Reading => Fields {
+                inside: fields.inside + 1,
+                ..fields
+            },
+            Access::Writing => Fields {
+                writer: true,
+                ..fields
+            },
+        });
+    }
+
+    /// A thread that is inside leaves.
+    pub fn leave(&mut self, access: Access)
+        requires inside { CanLeave access self.old.fields }
+        requires fits { IsFields (left_by access self.old.fields) }
+        ensures { self.new ≡ record self.old { fields = left_by access self.old.fields } }
+    {
+        let fields = self.fields();
+        self.word = Word::pack(match access {
+            Access::Reading => Fields {
+                left: fields.left + 1,
+                inside: fields.inside - 1,
+                ..fields
+            },
+            Access::Writing => Fields {
+                version: fields.version + 1,
+                left: 0,
+                inside: 0,
+                writer: false,
+            },
+        });
+    }
+
+    /// The word of this index, from 0 to 7.
+    pub fn get(&self, index: u8) -> u32
+        requires { index < 8 }
+        ensures { result ≡ slice_index self.now.words index }
+    {
+        self.contents[index as usize]
+    }
+
+    /// Writes the word of this index, from 0 to 7.
+    pub fn put(&mut self, index: u8, value: u32)
+        requires { index < 8 }
+        ensures { self.new ≡ record self.old { words = slice_set self.old.words index value } }
+    {
+        self.contents[index as usize] = value;
+    }
+}

@@ -1,0 +1,64 @@
+-- Steps of the machine as steps of its thread.
+use Rattle.std.proofs.Common.{◌≡◌, ◌+◌, ◌-◌, ◌≤◌, ◌<◌, ℕ, zero, suc, Bool, false, leb, List, Option, Some, None, refl, sym, ap, subst, ◌∙◌, add-one, add-zero, below_more, arith}
+use Rattle.std.specs.Prelude.{option_and_then}
+use Rattle.std.proofs.lemmas.Bool.{lt-leb}
+use Rattle.std.proofs.lemmas.Option.{option_and_then_some}
+use Rattle.ir_mach.specs.Core.{Core, Outcome, Goes, Calls, Ends}
+use Rattle.ir_mach.specs.Execution.{outcome_of}
+use Rattle.ir_mach.specs.Run.{core_after as machine_after, core_of}
+use Rattle.ir_thread.specs.State.{State}
+use Rattle.ir_thread.specs.Calls.{ask_of, after_ask, after_reply, step_of, run_of}
+use Rattle.ir_thread.specs.Private.{PrivateSteps}
+use Rattle.ir_thread.specs.declared.ask.Ask.TheVariants as ask
+use Rattle.ir_thread.specs.declared.ask.Reply.TheVariants.{Go}
+
+-- the thread with another machine and so many steps more
+abbrev pub advanced : State → Core → ℕ → State
+advanced s core n = record { core = core; number = s.number; held = s.held; budget = s.budget; steps = s.steps + n; events = s.events; output = s.output; ended = s.ended }
+
+asks : (code : List ℕ) (s : State) (earlier core : Core) (n : ℕ) → s.ended ≡ None → s.steps + n < s.budget → outcome_of code earlier ≡ Goes core → ask_of code (advanced s earlier n) ≡ ask.Private
+asks code s earlier core n running lt goes =
+    let within : leb s.budget (s.steps + n) ≡ false = lt-leb s.budget (s.steps + n) lt in
+    rw (running, within, goes) refl
+
+takes : (code : List ℕ) (s : State) (earlier core : Core) (n : ℕ) → s.ended ≡ None → s.steps + n < s.budget → outcome_of code earlier ≡ Goes core → step_of code (advanced s earlier n) ≡ advanced s core (n + 1)
+unfolding step_of after_reply
+takes code s earlier core n running lt goes =
+    let e : s.steps + n + 1 ≡ s.steps + (n + 1) = omega arith in
+    ap (λ a. after_ask code (advanced s earlier n) a Go) (asks code s earlier core n running lt goes) ∙ rw (goes, e) refl
+
+goes_of : (o : Outcome) (core : Core) → core_of o ≡ Some core → o ≡ Goes core
+goes_of (Goes m) core e = let f : m ≡ core = cc in ap Goes f
+goes_of Calls core e = absurd cc
+goes_of (Ends fault) core e = absurd cc
+
+pub record Ran (code : List ℕ) (s : State) (core : Core) (n : ℕ) : Type 0 where
+  pub ends : run_of code n s ≡ advanced s core n
+  pub each : (k : ℕ) → k < n → ask_of code (run_of code k s) ≡ ask.Private
+
+one_more : (code : List ℕ) (s : State) (earlier core : Core) (n : ℕ) → s.ended ≡ None → s.steps + n < s.budget → outcome_of code earlier ≡ Goes core → Ran code s earlier n → Ran code s core (suc n)
+unfolding run_of
+one_more code s earlier core n running lt goes before =
+    let here : ask_of code (run_of code n s) ≡ ask.Private = ap (λ t. ask_of code t) before.ends ∙ asks code s earlier core n running lt goes in
+    record {
+      ends = ap (λ t. step_of code t) before.ends ∙ takes code s earlier core n running lt goes ∙ ap (λ (m : ℕ). advanced s core m) (add-one n);
+      each = λ k below. below_more (λ (j : ℕ). ask_of code (run_of code j s) ≡ ask.Private) n before.each here k (omega arith);
+    }
+
+pub runs : (code : List ℕ) (s : State) (n : ℕ) (core : Core) → s.ended ≡ None → s.steps + n ≤ s.budget → machine_after n code s.core ≡ Some core → Ran code s core n
+unfolding run_of machine_after
+runs code s zero core running le e =
+    let same : s.core ≡ core = cc in
+    let whole : s ≡ advanced s s.core 0 = rw (add-zero s.steps) refl in
+    record { ends = whole ∙ ap (λ (c : Core). advanced s c 0) same; each = λ k below. absurd (omega arith) }
+runs code s (suc n) core running le e =
+    option_and_then_some (λ earlier. core_of (outcome_of code earlier)) (machine_after n code s.core) core e
+    (λ earlier g k. one_more code s earlier core n running (omega arith) (goes_of (outcome_of code earlier) core k) (runs code s n earlier running (omega arith) g))
+
+-- the thread that has taken no step
+pub none_taken : (code : List ℕ) (s : State) → PrivateSteps code 0 s s
+unfolding run_of
+none_taken code s = record { steps = refl; each = λ k below. absurd (omega arith) }
+
+pub private_steps : (code : List ℕ) (s : State) (n : ℕ) (core : Core) → s.ended ≡ None → s.steps + n ≤ s.budget → machine_after n code s.core ≡ Some core → PrivateSteps code n s (advanced s core n)
+private_steps code s n core running le e = let ran = runs code s n core running le e in record { steps = sym ran.ends; each = ran.each }

@@ -1,0 +1,10 @@
+-- Steps of a thread that are its own alone.
+use Rattle.std.specs.Prelude.{◌≡◌, ℕ, ◌<◌, List}
+use Rattle.ir_thread.specs.State.{State}
+use Rattle.ir_thread.specs.Calls.{ask_of, run_of}
+use Rattle.ir_thread.specs.declared.ask.Ask.TheVariants as ask
+
+-- new is old after so many of its steps, each of which is private
+pub record PrivateSteps (code : List ℕ) (count : ℕ) (old new : State) : Type 0 where
+  pub steps : new ≡ run_of code count old
+  pub each : (k : ℕ) → k < count → ask_of code (run_of code k old) ≡ ask.Private

@@ -1,0 +1,65 @@
+//! Threads answered by hand.
+
+use crate::{Access, Ask, End, EnvKind, Reply, Thread};
+use ir_image::{Code, read_image};
+use std::alloc::Global;
+use std::test::Fail;
+
+// One thread and one object: CLOCK, and its answer by PUTN; SELF, and its answer by PUTC; then the
+// entry of object 0 for writing, and a breakpoint while it is held.
+const PROGRAM: [u8; 18 + 40 + 32] = [
+    0x49, 0x52, 0x49, 0x31, 1, 1, 10, 0, 0, 0, 0, 0, 0, 0, 0x00, 0x00, 0x01, 0x00, //
+    0x93, 0x08, 0x40, 0x00, 0x73, 0, 0, 0, // addi a7, zero, 4; ecall
+    0x93, 0x08, 0x30, 0x00, 0x73, 0, 0, 0, // addi a7, zero, 3; ecall
+    0x93, 0x08, 0xc0, 0x00, 0x73, 0, 0, 0, // addi a7, zero, 12; ecall
+    0x93, 0x08, 0x20, 0x00, 0x73, 0, 0, 0, // addi a7, zero, 2; ecall
+    0x93, 0x08, 0x80, 0x00, 0x73, 0, 0, 0, // addi a7, zero, 8; ecall, with a0 at 0
+    0, 0, 0, 0, 0, 0, 0, 0, 0, 0, 0, 0, 0, 0, 0, 0, 0, 0, 0, 0, 0, 0, 0, 0, 0, 0, 0, 0, 0, 0, 0, 0,
+];
+
+// Takes so many steps, and answers the value wherever one is wanted.
+fn run(thread: &mut Thread, code: &Code, steps: u32, value: u32) {
+    for _ in 0..steps {
+        match thread.ask(code) {
+            Ask::Done => {}
+            Ask::Env(_) | Ask::Get(_, _) => thread.take(code, Reply::Value(value)),
+            _ => thread.take(code, Reply::Go),
+        }
+    }
+}
+
+#[test]
+fn a_thread_asks_and_is_answered(rt: HostRuntime) -> Result<(), Fail> {
+    let image = read_image(rt.alloc(), &PROGRAM)?;
+    let code = image.code();
+    let mut thread = Thread::new(rt.alloc(), &image, 0, 1000)?;
+    assert_eq!(rt; thread.budget(), 1000);
+    run(&mut thread, code, 1, 0);
+    assert_eq!(rt; thread.ask(code), Ask::Env(EnvKind::Clock));
+    run(&mut thread, code, 8, 0xffff_ffff);
+    assert_eq!(rt; thread.output(), b"-1\n\0".as_slice());
+    assert_eq!(rt; thread.events(), 1);
+    Ok(())
+}
+
+#[test]
+fn what_is_held_is_given_back(rt: HostRuntime) -> Result<(), Fail> {
+    let image = read_image(rt.alloc(), &PROGRAM)?;
+    let code = image.code();
+    let mut thread = Thread::new(rt.alloc(), &image, 0, 1000)?;
+    run(&mut thread, code, 9, 7);
+    assert_eq!(rt; thread.ask(code), Ask::Enter(0, Access::Writing));
+    run(&mut thread, code, 2, 7);
+    assert_eq!(rt; thread.ended(), Some(End::OutsideCode));
+    assert_eq!(rt; thread.held(), [Some(Access::Writing)].as_slice());
+    let mut copy = thread.copy(rt.alloc())?;
+    run(&mut copy, code, 1, 7);
+    assert_eq!(rt; copy.held(), [None].as_slice());
+    assert_eq!(rt; copy.ask(code), Ask::Done);
+    assert_eq!(rt;
+        (copy.steps(), copy.number(), copy.mach().pc()),
+        (12, 0, 0x0001_0028)
+    );
+    assert_eq!(rt; thread.ask(code), Ask::Leave(0, Access::Writing));
+    Ok(())
+}

@@ -1,0 +1,199 @@
+//! What a thread asks.
+
+ghost use Rattle.std.specs.Prelude.{◌≡◌, ◌+◌, ◌<◌, length, if◌then◌else◌, Some, None};
+
+use crate::ask::{Access, Ask};
+use crate::call::Call;
+use crate::end::End;
+use crate::holding::highest;
+use crate::thread::{MOST_OUTPUT, Thread, WORDS_EACH};
+use ir_image::Code;
+use ir_mach::Ran;
+use itoa::Buffer;
+
+const MOST_EVENTS: u32 = 1_048_576;
+
+const A0: u8 = 10;
+
+const A1: u8 = 11;
+
+const A2: u8 = 12;
+
+const A7: u8 = 17;
+
+impl Thread {
+    ghost use Rattle.ir_thread.specs.Calls.{a0, a1, call_at, number_text, print_ask, logged_ask, is_object, has_word, enter_ask, leave_ask, get_ask, put_ask, call_ask, running_ask, ask_of, give_back, Permits};
+    ghost use Rattle.ir_thread.specs.Held.{held_at, highest};
+
+    // The call that the thread makes where it stands at one.
+    pub(super) fn call(&self) -> Option<Call>
+        ensures { result ≡ call_at self.now }
+    {
+        Call::of_number(self.mach.reg(A7))
+    }
+
+    // Printing so many bytes, where there is room for them.
+    fn printing(&self, count: usize) -> Ask
+        ensures { result ≡ print_ask self.now count }
+    {
+        if count <= MOST_OUTPUT - self.output.len() {
+            Ask::Print
+        } else {
+            Ask::End(End::OutputFull)
+        }
+    }
+
+    fn number_length(&self) -> usize
+        ensures { result ≡ length (number_text self.now) }
+    {
+        Buffer::new().format(self.mach.reg(A0).cast_signed()).len() + 1
+    }
+
+    // A call that is logged, where there is room for it.
+    fn logged(&self, asked: Ask) -> Ask
+        ensures { result ≡ logged_ask self.now asked }
+    {
+        if self.events < MOST_EVENTS {
+            asked
+        } else {
+            Ask::End(End::LogFull)
+        }
+    }
+
+    // Object a0, if the guest has it.
+    fn object(&self) -> Option<u8>
+        ensures { result ≡ (if is_object self.now (a0 self.now) then Some (a0 self.now) else None) }
+    {
+        let number = self.mach.reg(A0);
+        if (number as usize) < self.held.len() {
+            Some(number as u8)
+        } else {
+            None
+        }
+    }
+
+    // Object a0 and its word a1, if there is such a word.
+    fn word(&self) -> Option<(u8, u8)>
+        ensures { result ≡ (if has_word self.now then Some (a0 self.now, a1 self.now) else None) }
+    {
+        let index = self.mach.reg(A1);
+        match self.object() {
+            Some(object) if index < WORDS_EACH as u32 => Some((object, index as u8)),
+            _ => None,
+        }
+    }
+
+    fn held_for(&self, object: u8) -> Option<Access>
+        requires { object < length self.now.held }
+        ensures { result ≡ held_at self.now.held object }
+    {
+        self.held[object as usize]
+    }
+
+    fn entering(&self, access: Access) -> Ask
+        ensures { result ≡ enter_ask self.now access }
+    {
+        match (self.object(), highest(self.held.as_slice())) {
+            (None, _) => Ask::End(End::NoSuchObject),
+            (Some(object), Some((top, _))) if object <= top => Ask::End(End::EntryOutOfOrder),
+            (Some(object), _) => self.logged(Ask::Enter(object, access)),
+        }
+    }
+
+    fn leaving(&self) -> Ask
+        ensures { result ≡ leave_ask self.now }
+    {
+        match self.object() {
+            None => Ask::End(End::NoSuchObject),
+            Some(object) => match self.held_for(object) {
+                None => Ask::End(End::NotHeld),
+                Some(access) => Ask::Leave(object, access),
+            },
+        }
+    }
+
+    fn getting(&self) -> Ask
+        ensures { result ≡ get_ask self.now }
+    {
+        match self.word() {
+            None => Ask::End(End::NoSuchObject),
+            Some((object, index)) => match self.held_for(object) {
+                None => Ask::End(End::NotHeld),
+                Some(_) => Ask::Get(object, index),
+            },
+        }
+    }
+
+    fn putting(&self) -> Ask
+        ensures { result ≡ put_ask self.now }
+    {
+        match self.word() {
+            None => Ask::End(End::NoSuchObject),
+            Some((object, index)) => match self.held_for(object) {
+                Some(Access::Writing) => Ask::Put(object, index, self.mach.reg(A2)),
+                _ => Ask::End(End::NotHeld),
+            },
+        }
+    }
+
+    // What the thread asks where it stands at a call.
+    fn calling(&self) -> Ask
+        ensures { result ≡ call_ask (call_at self.now) self.now }
+    {
+        let Some(call) = self.call() else {
+            return Ask::End(End::UnknownCall);
+        };
+        match call {
+            Call::End => Ask::End(End::Exit(self.mach.reg(A0))),
+            Call::PutByte => self.printing(1),
+            Call::PutNumber => self.printing(self.number_length()),
+            Call::Env(kind) => self.logged(Ask::Env(kind)),
+            Call::Enter(access) => self.entering(access),
+            Call::Leave => self.leaving(),
+            Call::Get => self.getting(),
+            Call::Put => self.putting(),
+            Call::OwnNumber => Ask::Private,
+        }
+    }
+
+    fn running(&self, code: &Code) -> Ask
+        ensures { result ≡ running_ask code.now self.now }
+    {
+        if self.steps >= self.budget {
+            return Ask::End(End::BudgetSpent);
+        }
+        match self.mach.next(code) {
+            Ran::Ran => Ask::Private,
+            Ran::Call => self.calling(),
+            Ran::Fault(fault) => Ask::End(End::from(fault)),
+        }
+    }
+
+    // After its end the thread leaves what it holds, the greatest object first.
+    fn giving_back(&self) -> Ask
+        ensures { result ≡ give_back (highest self.now.held) }
+    {
+        match highest(self.held.as_slice()) {
+            Some((object, access)) => Ask::Leave(object, access),
+            None => Ask::Done,
+        }
+    }
+
+    // By whether it has ended.
+    fn asked(&self, code: &Code) -> Ask
+        ensures { result ≡ ask_of code.now self.now }
+    {
+        match self.ended {
+            Some(_) => self.giving_back(),
+            None => self.running(code),
+        }
+    }
+
+    /// What the thread asks: what its next step is. Nothing changes.
+    pub fn ask(&self, code: &Code) -> Ask
+        ensures value { result ≡ ask_of code.now self.now }
+        ensures permits { Permits self.now result }
+    {
+        self.asked(code)
+    }
+}
