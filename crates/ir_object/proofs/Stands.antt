@@ -1,5 +1,5 @@
 -- What a word says of who is inside is kept by each step.
-use Rattle.std.proofs.Common.{◌≡◌, ◌≢◌, ℕ, zero, suc, ◌+◌, ◌<◌, ◌≤◌, Bool, true, false, List, length, set, get_or, Option, Some, None, refl, sym, ap, ◌∙◌, subst, arith, inl, inr, ◌⊎◌, get_or-set_same, get_or-set_other}
+use Rattle.std.proofs.Common.{◌≡◌, ◌≢◌, ℕ, zero, suc, ◌+◌, ◌<◌, ◌≤◌, Bool, true, false, length, Option, Some, None, refl, sym, ap, ◌∙◌, subst, arith, inl, inr, get_or-set_same, get_or-set_other}
 use Rattle.std.specs.Prelude.{◌||◌, slice_index, slice_set}
 use Rattle.std.proofs.lemmas.Bool.{cases_eq, cases_lt}
 use Rattle.ir_thread.specs.Machine.{upd}
@@ -97,7 +97,7 @@ one_writes (suc n) f t l e = elim (cases_eq t n) [
 ]
 
 -- a change that puts no writer in and takes none out
-writer_upd : (n : ℕ) (f : ℕ → Option Access) (t : ℕ) (x : Option Access) → is_writing x ≡ is_writing (f t) → has_writer n (upd f t x) ≡ has_writer n f
+pub writer_upd : (n : ℕ) (f : ℕ → Option Access) (t : ℕ) (x : Option Access) → is_writing x ≡ is_writing (f t) → has_writer n (upd f t x) ≡ has_writer n f
 writer_upd zero f t x e = refl
 writer_upd (suc n) f t x e =
     ap (λ a. a || is_writing (upd f t x n)) (writer_upd n f t x e) ∙ ap (λ b. has_writer n f || b)

@@ -7,6 +7,7 @@ use Rattle.ir_object.specs.Object.{Object, acted}
 use Rattle.ir_thread.specs.Machine.{Entry, Exit, Store}
 use Rattle.ir_object.specs.Word.{entered, left_by}
 
+-- an object of the code
 pub record Cell : Type 0 where
   -- what its word says
   pub fields : Fields
@@ -22,11 +23,13 @@ abbrev pub CanLeave : Access → Fields → Type 0
 CanLeave Reading f = 0 < f.inside
 CanLeave Writing f = f.writer ≡ true
 
+-- 1 for a reader
 abbrev pub one_if_reading : Option Access → ℕ
 one_if_reading None = 0
 one_if_reading (Some Reading) = 1
 one_if_reading (Some Writing) = 0
 
+-- whether it is a writer
 abbrev pub is_writing : Option Access → Bool
 is_writing None = false
 is_writing (Some Reading) = false

@@ -5,6 +5,7 @@ use Rattle.ir_thread.specs.declared.ask.Access.{Access}
 use Rattle.ir_thread.specs.declared.ask.Access.TheVariants.{Reading, Writing}
 use Rattle.ir_thread.specs.declared.ask.EnvKind.{EnvKind}
 
+-- an object at one moment
 pub record Object : Type 0 where
   -- how many times a writer has left it
   pub version : ℕ

@@ -4,6 +4,8 @@
 mod fields;
 mod laws;
 mod object;
+#[cfg(test)]
+mod tests;
 mod word;
 
 pub use fields::Fields;

@@ -130,7 +130,7 @@ impl Object {
         requires { index < 8 }
         ensures { result ≡ slice_index self.now.words index }
     {
-        self.contents[index as usize]
+        self.contents()[index as usize]
     }
 
     /// Writes the word of this index, from 0 to 7.

@@ -24,6 +24,7 @@ lone_reply (ask.Get object index) values = next_value values
 lone_reply ask.Done values = None
 lone_reply _ values = Some (Go, values)
 
+-- the thread after the reply, if there is one
 abbrev pub lone_after : List ℕ → State → Option (Reply × List ℕ) → Option Lone
 lone_after code s None = None
 lone_after code s (Some next) = Some (record { thread = after_reply code s next.0; values = next.1 })
@@ -47,6 +48,7 @@ abbrev pub after_replies : List ℕ → State → List Reply → State
 after_replies code s [] = s
 after_replies code s (reply ∷ replies) = after_replies code (after_reply code s reply) replies
 
+-- the values, with that of the reply before them
 abbrev pub value_before : Reply → List ℕ → List ℕ
 value_before Go values = values
 value_before (Value value) values = value ∷ values

@@ -39,13 +39,15 @@ call_of number =
 abbrev pub a7 : State → ℕ
 a7 s = register s.core 17
 
--- the registers of a call's arguments
+-- the first argument of a call
 abbrev pub a0 : State → ℕ
 a0 s = register s.core 10
 
+-- the second argument
 abbrev pub a1 : State → ℕ
 a1 s = register s.core 11
 
+-- the third argument
 abbrev pub a2 : State → ℕ
 a2 s = register s.core 12
 
@@ -104,6 +106,7 @@ enter_ask s access =
     then (if is_above (highest s.held) (a0 s) then logged_ask s (ask.Enter (a0 s) access) else ask.End end.EntryOutOfOrder)
     else ask.End end.NoSuchObject
 
+-- leaving, by how the object is held
 abbrev pub leave_held : ℕ → Option Access → Ask
 leave_held object None = ask.End end.NotHeld
 leave_held object (Some access) = ask.Leave object access
@@ -116,6 +119,7 @@ leave_ask s = if is_object s (a0 s) then leave_held (a0 s) (held_at s.held (a0 s
 abbrev pub has_word : State → Bool
 has_word s = is_object s (a0 s) && nat_lt (a1 s) words_each
 
+-- reading, by how the object is held
 abbrev pub get_held : ℕ → ℕ → Option Access → Ask
 get_held object index None = ask.End end.NotHeld
 get_held object index (Some access) = ask.Get object index
@@ -124,6 +128,7 @@ get_held object index (Some access) = ask.Get object index
 abbrev pub get_ask : State → Ask
 get_ask s = if has_word s then get_held (a0 s) (a1 s) (held_at s.held (a0 s)) else ask.End end.NoSuchObject
 
+-- writing, by how the object is held
 abbrev pub put_held : ℕ → ℕ → ℕ → Option Access → Ask
 put_held object index value None = ask.End end.NotHeld
 put_held object index value (Some Reading) = ask.End end.NotHeld
@@ -146,6 +151,7 @@ call_ask (Some call.Get) s = get_ask s
 call_ask (Some call.Put) s = put_ask s
 call_ask (Some call.OwnNumber) s = ask.Private
 
+-- what is asked by what the next instruction comes to
 abbrev pub outcome_ask : Outcome → State → Ask
 outcome_ask (Goes core) s = ask.Private
 outcome_ask (Ends fault) s = ask.End (end_of_fault fault)
@@ -160,6 +166,7 @@ abbrev pub give_back : Option (ℕ × Access) → Ask
 give_back None = ask.Done
 give_back (Some top) = ask.Leave top.0 top.1
 
+-- what is asked by whether the thread has ended
 abbrev pub ask_by : List ℕ → Option End → State → Ask
 ask_by code (Some e) s = give_back (highest s.held)
 ask_by code None s = running_ask code s
@@ -191,6 +198,7 @@ Permits s ask.Done = (s.ended ≢ None) × (highest s.held ≡ None)
 
 -- ---- what comes after it
 
+-- the reply brings a value
 abbrev pub IsValue : Reply → Type 0
 IsValue Go = ⊥
 IsValue (Value value) = ⊤

@@ -5,6 +5,7 @@ use Rattle.ir_mach.specs.declared.outcome.Fault.TheVariants as fault
 use Rattle.ir_thread.specs.declared.end.End.{End}
 use Rattle.ir_thread.specs.declared.end.End.TheVariants.{Exit, Breakpoint, IllegalWord, TargetMisaligned, OutsideCode, BadLoad, BadStore, UnknownCall, NoSuchObject, EntryOutOfOrder, NotHeld, OutputFull, BudgetSpent, LogFull}
 
+-- the number of an end
 abbrev pub end_number : End → ℕ
 end_number (Exit code) = 1
 end_number Breakpoint = 2
@@ -34,6 +35,7 @@ ends_with code = Exit code ∷ Breakpoint ∷ IllegalWord ∷ TargetMisaligned �
 abbrev pub end_of : ℕ → ℕ → Option End
 end_of number code = find (λ end. (end_number end == number) && (end_code end == code)) (ends_with code)
 
+-- the end that a fault of an instruction is
 abbrev pub end_of_fault : Fault → End
 end_of_fault fault.Breakpoint = Breakpoint
 end_of_fault fault.IllegalWord = IllegalWord

@@ -7,6 +7,7 @@ use Rattle.ir_thread.specs.declared.ask.Access.{Access}
 abbrev pub held_at : List (Option Access) → ℕ → Option Access
 held_at held object = slice_index_or held object None
 
+-- the greatest of the first object and those behind it
 abbrev pub higher_of : Option Access → Option (ℕ × Access) → Option (ℕ × Access)
 higher_of first (Some (object, access)) = Some (suc object, access)
 higher_of (Some access) None = Some (0, access)
@@ -22,6 +23,7 @@ abbrev pub is_above : Option (ℕ × Access) → ℕ → Bool
 is_above None object = true
 is_above (Some top) object = nat_lt top.0 object
 
+-- 1 for an object that is held
 abbrev pub one_if_held : Option Access → ℕ
 one_if_held None = 0
 one_if_held (Some access) = 1

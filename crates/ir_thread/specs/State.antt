@@ -5,6 +5,7 @@ use Rattle.ir_mach.specs.Core.{Core, start_core}
 use Rattle.ir_thread.specs.declared.ask.Access.{Access}
 use Rattle.ir_thread.specs.declared.end.End.{End}
 
+-- a thread at one moment
 pub record State : Type 0 where
   pub core : Core
   -- the thread's number

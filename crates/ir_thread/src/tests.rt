@@ -52,7 +52,7 @@ fn what_is_held_is_given_back(rt: HostRuntime) -> Result<(), Fail> {
     run(&mut thread, code, 2, 7);
     assert_eq!(rt; thread.ended(), Some(End::OutsideCode));
     assert_eq!(rt; thread.held(), [Some(Access::Writing)].as_slice());
-    let mut copy = thread.copy(rt.alloc())?;
+    let mut copy = thread.copy()?;
     run(&mut copy, code, 1, 7);
     assert_eq!(rt; copy.held(), [None].as_slice());
     assert_eq!(rt; copy.ask(code), Ask::Done);

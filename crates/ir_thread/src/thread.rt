@@ -88,10 +88,10 @@ impl Thread {
     ///
     /// # Errors
     /// Want of memory.
-    pub fn copy(&self, alloc: Global) -> Result<Thread, AllocError>
+    pub fn copy(&self) -> Result<Thread, AllocError>
         ensures { IfOk result (λ t. t ≡ self.now) }
     {
-        let mut output = Vec::with_capacity(alloc, MOST_OUTPUT)?;
+        let mut output = Vec::with_capacity(*self.output.allocator(), MOST_OUTPUT)?;
         output.extend_from_slice(self.output.as_slice())?;
         Ok(Thread {
             mach: self.mach.copy()?,

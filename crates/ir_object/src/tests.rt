@@ -1,0 +1,114 @@
+//! The word beside a list of readers and a writer.
+
+use crate::{Object, Word};
+use ir_thread::Access;
+use std::test::Fail;
+
+// The slow way: the numbers of the readers inside, and the writer's.
+#[derive(Drop)]
+struct Slow {
+    version: u64,
+    left: u64,
+    readers: Vec<u64>,
+    writer: Option<u64>,
+}
+
+impl Slow {
+    fn can(&self, thread: u64, step: u64) -> bool {
+        let reads = self.readers.as_slice().contains(&thread);
+        match step {
+            0 => self.writer.is_none() && !reads,
+            1 => self.writer.is_none() && self.readers.is_empty(),
+            _ => reads || self.writer == Some(thread),
+        }
+    }
+
+    fn take(&mut self, thread: u64, step: u64) -> Result<(), Fail> {
+        match step {
+            0 => self.readers.push(thread)?,
+            1 => self.writer = Some(thread),
+            _ if self.writer == Some(thread) => {
+                self.version = self.version.saturating_add(1);
+                self.left = 0;
+                self.writer = None;
+            }
+            _ => {
+                self.left = self.left.saturating_add(1);
+                self.readers.retain(|reader| *reader != thread);
+            }
+        }
+        Ok(())
+    }
+
+    fn word(&self) -> u64 {
+        let readers = self.readers.len() as u64;
+        let writer = u64::from(self.writer.is_some());
+        self.version
+            .saturating_mul(0x1_0000_0000)
+            .saturating_add(self.left.saturating_mul(256))
+            .saturating_add(readers.saturating_mul(2))
+            .saturating_add(writer)
+    }
+}
+
+// The object after the step, where the step is one that its word allows.
+fn fast(object: &mut Object, step: u64, writes: bool) {
+    let fields = object.fields();
+    if fields.inside > 100 || fields.left > 100 || fields.version > 100 {
+        return;
+    }
+    match step {
+        0 if object.can_read() => object.enter(Access::Reading),
+        1 if object.can_write() => object.enter(Access::Writing),
+        2 if writes && fields.writer => object.leave(Access::Writing),
+        2 if !writes && fields.inside > 0 => object.leave(Access::Reading),
+        _ => {}
+    }
+}
+
+// All sequences of five steps of three threads: 0 enters for reading, 1 for writing, 2 leaves.
+#[test]
+fn the_word_goes_with_the_list(rt: HostRuntime) -> Result<(), Fail> {
+    for number in 0..59_049u64 {
+        let mut slow = Slow {
+            version: 0,
+            left: 0,
+            readers: Vec::new(rt.alloc()),
+            writer: None,
+        };
+        let mut object = Object::new([0; 8]);
+        let mut rest = number;
+        for _ in 0..5 {
+            let (thread, step) = (rest % 3, rest / 3 % 3);
+            rest /= 9;
+            if slow.can(thread, step) {
+                fast(&mut object, step, slow.writer.is_some());
+                slow.take(thread, step)?;
+            }
+            assert_eq!(rt; object.word().bits, slow.word());
+            assert_eq!(rt; object.can_read(), slow.can(9, 0));
+            assert_eq!(rt; object.can_write(), slow.can(9, 1));
+        }
+    }
+    Ok(())
+}
+
+#[test]
+fn words_say_what_was_packed(rt: HostRuntime) {
+    let word = Word {
+        bits: 0x0000_0007_0000_0903,
+    };
+    let fields = word.fields();
+    assert_eq!(rt;
+        (fields.version, fields.left, fields.inside, fields.writer),
+        (7, 9, 1, true)
+    );
+    assert_eq!(rt; Word::pack(fields), word);
+    let mut object = Object::new([5; 8]);
+    object.put(3, 8);
+    assert_eq!(rt; (object.get(3), object.get(7)), (8, 5));
+    assert_eq!(rt;
+        object.copy().contents(),
+        [5, 5, 5, 8, 5, 5, 5, 5].as_slice()
+    );
+}
