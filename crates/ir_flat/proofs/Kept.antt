@@ -1,0 +1,157 @@
+-- Each step keeps what is kept.
+use Rattle.std.proofs.Common.{◌≡◌, ◌≢◌, ℕ, zero, suc, ◌+◌, ◌*◌, ◌<◌, ◌≤◌, List, length, length-set, Some, None, refl, sym, le_refl, ap, ◌∙◌, arith, inl, inr}
+use Rattle.std.proofs.lemmas.Bool.{cases_eq}
+use Rattle.ir_thread.specs.Calls.{ask_of, Permits, after_ask, after_reply, most_events}
+use Rattle.ir_thread.specs.Held.{held_at}
+use Rattle.ir_thread.specs.Instance.{shared_ask, reply_of, thread_machine}
+use Rattle.ir_thread.specs.Machine.{act_of, upd}
+use Rattle.ir_thread.specs.State as thread
+use Rattle.ir_thread.specs.declared.ask.Access.TheVariants.{Reading, Writing}
+use Rattle.ir_thread.specs.declared.ask.Ask.{Ask}
+use Rattle.ir_thread.specs.declared.ask.Ask.TheVariants.{Private, Env, Enter, Leave, Get, Put, Print, End, Done}
+use Rattle.ir_thread.specs.declared.ask.Reply.{Reply}
+use Rattle.ir_thread.proofs.Asked.{ask_permits}
+use Rattle.ir_thread.proofs.Lawful.{lawful}
+use Rattle.ir_thread.proofs.Highest.{above_held}
+use Rattle.ir_object.specs.Cell.{has_writer, one_if_reading, is_writing}
+use Rattle.ir_object.specs.Object.{Object, target, Admits, acted, reply}
+use Rattle.ir_object.specs.Word.{bit_of}
+use Rattle.ir_object.proofs.Tables.{upd_same, upd_other, upd_elim}
+use Rattle.ir_object.proofs.Stands.{readers_upd, none_write, one_writes, writer_upd}
+use Rattle.ir_flat.specs.Kept.{IsKept, events_below, entries_seen}
+use Rattle.ir_flat.specs.Run.{State, Step, act, Can, after}
+use Rattle.ir_flat.proofs.Good.{Good, stays_good}
+
+-- how many events a step adds
+abbrev pub added : Ask → ℕ
+added (Env kind) = 1
+added (Enter object access) = 1
+added _ = 0
+
+pub events_added : (code : List ℕ) (x : thread.State) (q : Ask) (r : Reply) → (after_ask code x q r).events ≡ x.events + added q
+events_added code x Private r = omega arith
+events_added code x (Env kind) r = refl
+events_added code x (Enter object access) r = refl
+events_added code x (Leave object access) r = omega arith
+events_added code x (Get object index) r = omega arith
+events_added code x (Put object index value) r = omega arith
+events_added code x Print r = omega arith
+events_added code x (End e) r = omega arith
+events_added code x Done r = omega arith
+
+pub events_bound : (x : thread.State) (q : Ask) → Permits x q → x.events ≤ most_events → x.events + added q ≤ most_events
+events_bound x Private p h = omega arith
+events_bound x (Env kind) p h = omega (arith, p.1)
+events_bound x (Enter object access) p h = omega (arith, p.1)
+events_bound x (Leave object access) p h = omega arith
+events_bound x (Get object index) p h = omega arith
+events_bound x (Put object index value) p h = omega arith
+events_bound x Print p h = omega arith
+events_bound x (End e) p h = omega arith
+events_bound x Done p h = omega arith
+
+pub held_length : (code : List ℕ) (x : thread.State) (q : Ask) (r : Reply) → length (after_ask code x q r).held ≡ length x.held
+held_length code x Private r = refl
+held_length code x (Env kind) r = refl
+held_length code x (Enter object access) r = length-set x.held object (Some access)
+held_length code x (Leave object access) r = length-set x.held object None
+held_length code x (Get object index) r = refl
+held_length code x (Put object index value) r = refl
+held_length code x Print r = refl
+held_length code x (End e) r = refl
+held_length code x Done r = refl
+
+events_past : (n : ℕ) (now : ℕ → thread.State) (t : ℕ) (y : thread.State) → n ≤ t → events_below n (upd now t y) ≡ events_below n now
+events_past zero now t y l = refl
+events_past (suc n) now t y l =
+    let here : (upd now t y n).events ≡ (now n).events = ap (λ z. z.events) (upd_other now t n y (λ e. omega (arith, e, l))) in
+    let rest = events_past n now t y (omega arith) in
+    omega (arith, here, rest)
+
+pub events_upd : (n : ℕ) (now : ℕ → thread.State) (t : ℕ) (y : thread.State) → t < n → events_below n (upd now t y) + (now t).events ≡ events_below n now + y.events
+events_upd zero now t y l = absurd (omega arith)
+events_upd (suc n) now t y l = elim (cases_eq n t) [
+  | inl e ↦
+      let here : (upd now t y n).events ≡ y.events = ap (λ z. z.events) (ap (upd now t y) e ∙ upd_same now t y) in
+      let was : (now n).events ≡ (now t).events = ap (λ z. (now z).events) e in
+      let rest = events_past n now t y (omega (arith, e)) in
+      omega (arith, here, was, rest)
+  | inr ne ↦
+      let here : (upd now t y n).events ≡ (now n).events = ap (λ z. z.events) (upd_other now t n y ne) in
+      let rest = events_upd n now t y (omega (arith, ne, l)) in
+      omega (arith, here, rest)
+]
+
+pub events_most : (n : ℕ) (now : ℕ → thread.State) → ((t : ℕ) → t < n → (now t).events ≤ most_events) → events_below n now ≤ n * most_events
+events_most zero now h = omega arith
+events_most (suc n) now h = let rest = events_most n now (λ t l. h t (omega arith)) in let here = h n (omega arith) in omega (arith, rest, here)
+
+-- the entries that an object has seen grow by those that are logged
+pub seen_grows : (code : List ℕ) (n : ℕ) (x : thread.State) (r : ℕ) (b : Object) (t : ℕ) (q : Ask) → t < n → Permits x q → b.inside t ≡ held_at x.held (target (act_of (shared_ask q) r))
+    → ((u v : ℕ) → u ≢ v → b.inside u ≡ Some Writing → b.inside v ≡ None)
+    → Admits (thread_machine code) (act_of (shared_ask q) r) b → entries_seen n (acted (act_of (shared_ask q) r) t b) ≤ entries_seen n b + added q
+seen_grows code n x r b t Private l p link ex can = omega arith
+seen_grows code n x r b t (Env kind) l p link ex can = omega arith
+seen_grows code n x r b t (Get object index) l p link ex can = omega arith
+seen_grows code n x r b t (Put object index value) l p link ex can = omega arith
+seen_grows code n x r b t Print l p link ex can = omega arith
+seen_grows code n x r b t (End e) l p link ex can = omega arith
+seen_grows code n x r b t Done l p link ex can = absurd can
+seen_grows code n x r b t (Enter object Reading) l p link ex can =
+    let none : b.inside t ≡ None = link ∙ above_held x.held object p.3 object (le_refl object) in
+    let sums = readers_upd n b.inside t (Some Reading) l in
+    let was : one_if_reading (b.inside t) ≡ 0 = ap one_if_reading none in
+    let same : bit_of (has_writer n (upd b.inside t (Some Reading))) ≡ bit_of (has_writer n b.inside) = ap bit_of (writer_upd n b.inside t (Some Reading) (sym (ap is_writing none))) in
+    omega (arith, sums, was, same)
+seen_grows code n x r b t (Enter object Writing) l p link ex can =
+    let none : b.inside t ≡ None = link ∙ above_held x.held object p.3 object (le_refl object) in
+    let sums = readers_upd n b.inside t (Some Writing) l in
+    let was : one_if_reading (b.inside t) ≡ 0 = ap one_if_reading none in
+    let now : bit_of (has_writer n (upd b.inside t (Some Writing))) ≡ 1 = ap bit_of (one_writes n (upd b.inside t (Some Writing)) t l (upd_same b.inside t (Some Writing))) in
+    omega (arith, sums, was, now)
+seen_grows code n x r b t (Leave object Reading) l p link ex can =
+    let is : b.inside t ≡ Some Reading = link ∙ p.2 in
+    let sums = readers_upd n b.inside t None l in
+    let was : one_if_reading (b.inside t) ≡ 1 = ap one_if_reading is in
+    let same : bit_of (has_writer n (upd b.inside t None)) ≡ bit_of (has_writer n b.inside) = ap bit_of (writer_upd n b.inside t None (sym (ap is_writing is))) in
+    omega (arith, sums, was, same)
+seen_grows code n x r b t (Leave object Writing) l p link ex can =
+    let is : b.inside t ≡ Some Writing = link ∙ p.2 in
+    let sums = readers_upd n b.inside t None l in
+    let was : one_if_reading (b.inside t) ≡ 0 = ap one_if_reading is in
+    let had : bit_of (has_writer n b.inside) ≡ 1 = ap bit_of (one_writes n b.inside t l is) in
+    let has : bit_of (has_writer n (upd b.inside t None)) ≡ 0 = ap bit_of (none_write n (upd b.inside t None) (λ u _ h. cc (nobody is u, h))) in
+    omega (arith, sums, was, had, has)
+  where
+    nobody : b.inside t ≡ Some Writing → (u : ℕ) → upd b.inside t None u ≡ None
+    nobody is u = upd_elim b.inside t None u (λ y. y ≡ None) (λ _. refl) (λ ne. ex t u (λ e. ne (sym e)) is)
+
+pub as_good : (code : List ℕ) (n : ℕ) (s : State thread.State) → IsKept n s → Good (thread_machine code) s
+as_good code n s k = record { linked = k.linked; exclusive = k.exclusive }
+
+pub stays_kept : (code : List ℕ) (n : ℕ) (s : State thread.State) (e : Step) → e.0 < n → IsKept n s → Can (thread_machine code) s e → IsKept n (after (thread_machine code) s e)
+unfolding after after_reply
+stays_kept code n s e l k can =
+    let m = thread_machine code in
+    let t : ℕ = e.0 in
+    let x : thread.State = s.now t in
+    let q : Ask = ask_of code x in
+    let o : ℕ = target (act m s e) in
+    let b : Object = s.objects o in
+    let y : thread.State = after_ask code x q (reply_of q (reply (act m s e) b)) in
+    let good = stays_good m (lawful code) s (as_good code n s k) e can in
+    let one : y.events ≡ x.events + added q = events_added code x q (reply_of q (reply (act m s e) b)) in
+    let sums : events_below n (upd s.now t y) + x.events ≡ events_below n s.now + y.events = events_upd n s.now t y l in
+    let seen : entries_seen n (acted (act m s e) t b) ≤ entries_seen n b + added q = seen_grows code n x e.1 b t q l (ask_permits code x) (k.linked t o) (k.exclusive o) can in
+    let more : events_below n (upd s.now t y) ≡ events_below n s.now + added q = omega (arith, one, sums) in
+    record {
+      linked = good.linked;
+      exclusive = good.exclusive;
+      others = λ u i h. good.linked u i ∙ ap (λ z. held_at z.held i) (upd_other s.now t u y (λ p. omega (arith, p, h, l))) ∙ sym (k.linked u i) ∙ k.others u i h;
+      logged = λ i. upd_elim s.objects o (acted (act m s e) t b) i (λ z. entries_seen n z ≤ events_below n (upd s.now t y))
+          (λ _. let was = k.logged o in omega (arith, seen, was, more))
+          (λ _. let was = k.logged i in omega (arith, was, more));
+      events = λ u h. upd_elim s.now t y u (λ z. z.events ≤ most_events)
+          (λ _. let room = events_bound x q (ask_permits code x) (k.events t l) in omega (arith, one, room))
+          (λ _. k.events u h);
+    }

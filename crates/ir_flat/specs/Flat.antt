@@ -1,0 +1,87 @@
+-- The threads and objects of a guest.
+use Rattle.std.specs.Prelude.{◌≡◌, ◌<◌, ◌≤◌, ℕ, zero, suc, List, [], ◌∷◌, length, take, drop, slice_index, Option, Some, false}
+use Rattle.std.specs.List.{slice_index_or}
+use Rattle.ir_image.specs.Guest.{Guest, object_count, object_words}
+use Rattle.ir_thread.specs.Held.{held_at}
+use Rattle.ir_thread.specs.Instance.{thread_machine}
+use Rattle.ir_thread.specs.Machine.{Machine}
+use Rattle.ir_thread.specs.State.{State, start_state}
+use Rattle.ir_thread.specs.declared.ask.Access.{Access}
+use Rattle.ir_thread.specs.declared.end.End.TheVariants.{Breakpoint}
+use Rattle.ir_object.specs.Cell.{Cell, Counts}
+use Rattle.ir_object.specs.Object.{Object}
+use Rattle.ir_flat.specs.Kept.{IsKept}
+use Rattle.ir_flat.specs.Run as run
+
+-- the lists that the code keeps
+pub record Flat : Type 0 where
+  pub code : List ℕ
+  pub threads : List State
+  pub objects : List Cell
+
+-- a thread that is none of the guest's: it has ended and holds nothing
+abbrev pub idle : State
+idle = record { core = record { pc = 0; registers = []; memory = [] }; number = 0; held = []; budget = 0; steps = 0; events = 0; output = []; ended = Some Breakpoint }
+
+-- an object that is none of the guest's
+abbrev pub empty : Cell
+empty = record { fields = record { version = 0; left = 0; inside = 0; writer = false }; words = [] }
+
+-- the thread of a number
+abbrev pub thread_of : Flat → ℕ → State
+thread_of f t = slice_index_or f.threads t idle
+
+-- the object of a number, as the code keeps it
+abbrev pub cell_of : Flat → ℕ → Cell
+cell_of f o = slice_index_or f.objects o empty
+
+-- who is inside an object: who holds it
+abbrev pub inside_of : Flat → ℕ → ℕ → Option Access
+inside_of f o t = held_at (thread_of f t).held o
+
+-- the object whose word and contents these are, with these threads inside
+abbrev pub object_with : Cell → (ℕ → Option Access) → Object
+object_with c inside = record { version = c.fields.version; left = c.fields.left; inside = inside; words = slice_index c.words }
+
+-- the threads and objects as tables
+abbrev pub tables : Flat → run.State State
+tables f = record { now = thread_of f; objects = λ o. object_with (cell_of f o) (inside_of f o) }
+
+-- what a thread does
+abbrev pub machine : Flat → Machine State
+machine f = thread_machine f.code
+
+-- the threads of a guest from a number on
+abbrev pub start_threads : Guest → ℕ → ℕ → ℕ → List State
+start_threads guest budget from zero = []
+start_threads guest budget from (suc n) = start_state guest from budget ∷ start_threads guest budget (suc from) n
+
+-- an object that nobody has entered
+abbrev pub start_cell : List ℕ → Cell
+start_cell words = record { fields = record { version = 0; left = 0; inside = 0; writer = false }; words = words }
+
+-- so many objects, with eight words each
+abbrev pub start_cells : List ℕ → ℕ → List Cell
+start_cells words zero = []
+start_cells words (suc n) = start_cell (take object_words words) ∷ start_cells (drop object_words words) n
+
+-- a guest's threads and objects before the first step
+abbrev pub start_flat : Guest → ℕ → Flat
+start_flat guest budget = record {
+  code = guest.code;
+  threads = start_threads guest budget 0 (length guest.entries);
+  objects = start_cells guest.words (object_count guest);
+}
+
+-- an object of a guest's: its word counts who holds it
+pub record IsShared (f : Flat) (o : ℕ) : Type 0 where
+  pub counts : Counts (length f.threads) (cell_of f o).fields (inside_of f o)
+  pub words : length (cell_of f o).words ≡ object_words
+
+-- what the threads and objects of a guest always keep
+pub record IsFlat (f : Flat) : Type 0 where
+  pub few_threads : length f.threads ≤ 8
+  pub few_objects : length f.objects ≤ 16
+  pub places : (t : ℕ) → t < length f.threads → length (thread_of f t).held ≡ length f.objects
+  pub objects : (o : ℕ) → o < length f.objects → IsShared f o
+  pub kept : IsKept (length f.threads) (tables f)

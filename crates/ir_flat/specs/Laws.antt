@@ -1,0 +1,35 @@
+-- What holds in each state that a run reaches.
+use Rattle.std.specs.Prelude.{◌≡◌, ◌≢◌, ℕ, ◌^◌, ◌<◌, ◌≤◌, List, length, Some, None}
+use Rattle.ir_image.specs.Guest.{Guest}
+use Rattle.ir_thread.specs.Machine.{Done}
+use Rattle.ir_thread.specs.declared.ask.Access.TheVariants.{Writing}
+use Rattle.ir_object.specs.Cell.{readers}
+use Rattle.ir_object.specs.Object.{Object}
+use Rattle.ir_flat.specs.Flat.{start_flat, tables, machine}
+use Rattle.ir_flat.specs.Run.{Step, IsRun, end, asked, Can}
+
+-- in each state that a run reaches and in which a thread isn't done, some thread has a step with result 0
+abbrev pub NothingStuck : Type 0
+NothingStuck = (guest : Guest) (budget : ℕ) (steps : List Step) → let f = start_flat guest budget in IsRun (machine f) (tables f) steps
+    → (t : ℕ) → asked (machine f) (end (machine f) (tables f) steps) t ≢ Done → (u : ℕ) × Can (machine f) (end (machine f) (tables f) steps) (u, 0)
+
+-- an object has a writer or readers, never both, and one writer at most
+abbrev pub WritersAlone : Type 0
+WritersAlone = (guest : Guest) (budget : ℕ) (steps : List Step) → let f = start_flat guest budget in IsRun (machine f) (tables f) steps
+    → (o t u : ℕ) → t ≢ u → let b = (end (machine f) (tables f) steps).objects o in b.inside t ≡ Some Writing → b.inside u ≡ None
+
+-- who is inside an object holds it, and who holds it is inside
+abbrev pub HeldInside : Type 0
+HeldInside = (guest : Guest) (budget : ℕ) (steps : List Step) → let f = start_flat guest budget in IsRun (machine f) (tables f) steps
+    → (o t : ℕ) → let s = end (machine f) (tables f) steps in (s.objects o).inside t ≡ (machine f).held (s.now t) o
+
+-- versions, and counts of readers that have left or are inside, fit the fields of a word
+pub record Fits (n : ℕ) (b : Object) : Type 0 where
+  pub version : b.version < 2 ^ 32
+  pub left : b.left < 2 ^ 24
+  pub inside : readers n b.inside < 2 ^ 7
+
+-- what any run has counted fits
+abbrev pub CountsFit : Type 0
+CountsFit = (guest : Guest) (budget : ℕ) (steps : List Step) → let f = start_flat guest budget in length guest.entries ≤ 8 → IsRun (machine f) (tables f) steps
+    → (o : ℕ) → Fits (length guest.entries) ((end (machine f) (tables f) steps).objects o)

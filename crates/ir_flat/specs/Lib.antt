@@ -1,0 +1,5 @@
+pub mod Run
+pub mod Kept
+pub mod Flat
+pub mod Next
+pub mod Laws

@@ -1,0 +1,124 @@
+//! The flat interpreter.
+
+ghost use Rattle.ir_flat.specs.Flat.{Flat, IsFlat, start_flat, thread_of, cell_of, tables, machine};
+ghost use Rattle.ir_flat.specs.Run.{Can, after};
+ghost use Rattle.ir_flat.specs.Next.{next, MayStep};
+ghost use Rattle.ir_image.specs.Guest.{object_count};
+ghost use Rattle.std.specs.Prelude.{◌≡◌, ◌<◌, ◌≤◌, ◌↔◌, length, IfOk, OnOk, OnErr, IsTrue};
+
+use crate::parts::Parts;
+use crate::start;
+use ir_image::{Code, Image};
+use ir_object::Object;
+use ir_thread::Thread;
+use std::alloc::{AllocError, Global};
+use std::marker::Model;
+
+/// There is no such step now: the thread is done, it must wait, or the result is none of the call's.
+#[derive(Clone, Copy, Debug, PartialEq, Eq)]
+pub struct NotAdmitted;
+
+/// All threads and objects of a guest. In clauses two lists, which are read as tables: the threads,
+/// and the objects with who is inside them.
+#[derive(Drop)]
+pub struct Flat {
+    parts: Parts,
+}
+
+impl Model for Flat {
+    ghost Value = { Flat };
+
+    ghost view = { λ f. f.parts };
+
+    ghost invariant = { λ f. IsFlat f.parts };
+}
+
+impl Flat {
+    /// The guest before its first step. The budget is in steps, for each thread.
+    ///
+    /// # Errors
+    /// Want of memory.
+    pub fn start(alloc: Global, image: &Image, budget: u64) -> Result<Flat, AllocError>
+        requires { budget ≤ 1000000000000 }
+        ensures { IfOk result (λ f. f ≡ start_flat image.now budget) }
+    {
+        let words = image.words();
+        let threads = start::threads(alloc, image, budget)?;
+        let objects = start::objects(alloc, words, words.len() / 8)?;
+        let code = start::code(alloc, image.code())?;
+        Ok(Flat {
+            parts: Parts::new(code, threads, objects),
+        })
+    }
+
+    /// An equal value with memory of its own.
+    ///
+    /// # Errors
+    /// Want of memory.
+    pub fn copy(&self) -> Result<Flat, AllocError>
+        ensures { IfOk result (λ f. f ≡ self.now) }
+    {
+        Ok(Flat {
+            parts: self.parts.copy()?,
+        })
+    }
+
+    /// The threads, by their numbers.
+    pub fn threads(&self) -> &[Thread]
+        ensures value { result.now ≡ self.now.threads }
+        ensures within { IsFlat self.now }
+    {
+        self.parts.threads()
+    }
+
+    /// The objects, by their numbers.
+    pub fn objects(&self) -> &[Object]
+        ensures value { result.now ≡ self.now.objects }
+        ensures within { IsFlat self.now }
+    {
+        self.parts.objects()
+    }
+
+    /// The code that all threads run.
+    pub fn code(&self) -> &Code
+        ensures { result.now ≡ self.now.code }
+    {
+        self.parts.code()
+    }
+
+    /// Whether thread t has a step now, with result 0 where it calls the environment.
+    pub fn can_step(&self, t: usize) -> bool
+        requires { t < length self.now.threads }
+        ensures { IsTrue result ↔ Can (machine self.now) (tables self.now) (t, 0) }
+    {
+        let asked = self.parts.ask(t);
+        self.parts.may(t, 0, asked)
+    }
+
+    /// Thread t takes its next step. r is the result of a call of the environment, and is looked at
+    /// in no other step.
+    ///
+    /// # Errors
+    /// There is no such step; nothing changes.
+    pub fn step(&mut self, t: usize, r: u32) -> Result<(), NotAdmitted>
+        requires { t < length self.old.threads }
+
+        // There is the step, and it is the one that is taken.
+        ensures admitted { OnOk result (Can (machine self.old) (tables self.old) (t, r)) }
+        ensures taken { OnOk result (tables self.new ≡ after (machine self.old) (tables self.old) (t, r)) }
+        ensures code { self.new.code ≡ self.old.code }
+        ensures threads { length self.new.threads ≡ length self.old.threads }
+        ensures objects { length self.new.objects ≡ length self.old.objects }
+
+        // There is none, and nothing changes.
+        ensures refused { OnErr result (Can (machine self.old) (tables self.old) (t, r) → ⊥) }
+        ensures unchanged { OnErr result (self.new ≡ self.old) }
+    {
+        let asked = self.parts.ask(t);
+        if !self.parts.may(t, r, asked) {
+            return Err(NotAdmitted);
+        }
+        self.parts.step(t, r, asked);
+        Ok(())
+    }
+}

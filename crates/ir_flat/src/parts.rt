@@ -1,0 +1,201 @@
+//! The threads and objects of a guest, each for itself.
+
+ghost use Rattle.ir_flat.specs.Flat.{Flat, IsFlat, thread_of, cell_of};
+ghost use Rattle.ir_flat.specs.Next.{with_thread, with_object, answered, next, MayStep};
+ghost use Rattle.ir_object.specs.Cell.{Admitted, CanLeave};
+ghost use Rattle.ir_object.specs.Word.{IsFields, entered, left_by};
+ghost use Rattle.ir_thread.specs.Calls.{ask_of, after_reply, Permits, Suits};
+ghost use Rattle.ir_thread.specs.Instance.{is_result};
+ghost use Rattle.std.specs.Prelude.{◌≡◌, ◌<◌, ◌≢◌, ◌↔◌, true, length, slice_index, slice_set, IsTrue, IfOk};
+
+use crate::start::code;
+use ir_image::Code;
+use ir_object::Object;
+use ir_thread::{Access, Ask, EnvKind, Reply, Thread};
+use std::alloc::{AllocError, Global};
+use std::marker::Model;
+
+// The code that all threads run, the threads and the objects.
+#[derive(Drop)]
+pub struct Parts {
+    code: Code,
+    threads: Vec<Thread>,
+    objects: Vec<Object>,
+}
+
+impl Model for Parts {
+    ghost Value = { Flat };
+
+    ghost view = { λ p. record { code = p.code; threads = p.threads.items; objects = p.objects.items } };
+}
+
+// Whether the result is one of such a call: for the input a byte or 0xFFFFFFFF.
+fn suits(kind: EnvKind, r: u32) -> bool
+    ensures { IsTrue result ↔ (is_result kind r ≡ true) }
+{
+    kind != EnvKind::Input || r < 0x100 || r == 0xffff_ffff
+}
+
+impl Parts {
+    pub fn new(code: Code, threads: Vec<Thread>, objects: Vec<Object>) -> Parts
+        ensures { result ≡ record { code = code; threads = threads.items; objects = objects.items } }
+    {
+        Parts {
+            code,
+            threads,
+            objects,
+        }
+    }
+
+    pub fn code(&self) -> &Code
+        ensures { result.now ≡ self.now.code }
+    {
+        &self.code
+    }
+
+    pub fn threads(&self) -> &[Thread]
+        ensures { result.now ≡ self.now.threads }
+    {
+        self.threads.as_slice()
+    }
+
+    pub fn objects(&self) -> &[Object]
+        ensures { result.now ≡ self.now.objects }
+    {
+        self.objects.as_slice()
+    }
+
+    pub fn thread(&self, t: usize) -> &Thread
+        requires { t < length self.now.threads }
+        ensures { result.now ≡ thread_of self.now t }
+    {
+        &self.threads[t]
+    }
+
+    pub fn object(&self, o: u8) -> &Object
+        requires { o < length self.now.objects }
+        ensures { result.now ≡ cell_of self.now o }
+    {
+        &self.objects[o as usize]
+    }
+
+    pub fn ask(&self, t: usize) -> Ask
+        requires { t < length self.now.threads }
+        ensures value { result ≡ ask_of self.now.code (thread_of self.now t) }
+        ensures permits { Permits (thread_of self.now t) result }
+    {
+        self.thread(t).ask(&self.code)
+    }
+
+    // Thread t takes the step that it asked.
+    #[tactic(auto, unfolding(ir_thread::specs::Calls::after_reply))]
+    fn take(&mut self, t: usize, asked: Ask, reply: Reply)
+        requires thread { t < length self.old.threads }
+        requires asked { asked ≡ ask_of self.old.code (thread_of self.old t) }
+        requires suits { Suits asked reply }
+        ensures { self.new ≡ answered self.old t asked reply }
+    {
+        self.threads[t].take(&self.code, reply);
+    }
+
+    fn enter(&mut self, o: u8, access: Access)
+        requires object { o < length self.old.objects }
+        requires admitted { Admitted access (cell_of self.old o).fields }
+        requires fits { IsFields (entered access (cell_of self.old o).fields) }
+        ensures { self.new ≡ with_object self.old o (record (cell_of self.old o) { fields = entered access (cell_of self.old o).fields }) }
+    {
+        self.objects[o as usize].enter(access);
+    }
+
+    fn leave(&mut self, o: u8, access: Access)
+        requires object { o < length self.old.objects }
+        requires inside { CanLeave access (cell_of self.old o).fields }
+        requires fits { IsFields (left_by access (cell_of self.old o).fields) }
+        ensures { self.new ≡ with_object self.old o (record (cell_of self.old o) { fields = left_by access (cell_of self.old o).fields }) }
+    {
+        self.objects[o as usize].leave(access);
+    }
+
+    fn put(&mut self, o: u8, index: u8, value: u32)
+        requires object { o < length self.old.objects }
+        requires index { index < 8 }
+        ensures { self.new ≡ with_object self.old o (record (cell_of self.old o) { words = slice_set (cell_of self.old o).words index value }) }
+    {
+        self.objects[o as usize].put(index, value);
+    }
+
+    // Whether there is the step that thread t asks, with this result.
+    pub fn may(&self, t: usize, r: u32, asked: Ask) -> bool
+        requires flat { IsFlat self.now }
+        requires thread { t < length self.now.threads }
+        requires permits { Permits (thread_of self.now t) asked }
+        ensures { IsTrue result ↔ MayStep self.now r asked }
+    {
+        match asked {
+            Ask::Env(kind) => suits(kind, r),
+            Ask::Enter(o, Access::Reading) => self.object(o).can_read(),
+            Ask::Enter(o, Access::Writing) => self.object(o).can_write(),
+            Ask::Done => false,
+            _ => true,
+        }
+    }
+
+    // Thread t takes the step that it asked.
+    pub fn step(&mut self, t: usize, r: u32, asked: Ask)
+        requires flat { IsFlat self.old }
+        requires thread { t < length self.old.threads }
+        requires asked { asked ≡ ask_of self.old.code (thread_of self.old t) }
+        requires permits { Permits (thread_of self.old t) asked }
+        requires may { MayStep self.old r asked }
+        ensures { self.new ≡ next self.old t r asked }
+    {
+        match asked {
+            Ask::Env(_) => self.take(t, asked, Reply::Value(r)),
+            Ask::Enter(o, access) => {
+                self.enter(o, access);
+                self.take(t, asked, Reply::Go);
+            }
+            Ask::Leave(o, access) => {
+                self.leave(o, access);
+                self.take(t, asked, Reply::Go);
+            }
+            Ask::Get(o, index) => {
+                let word = self.object(o).get(index);
+                self.take(t, asked, Reply::Value(word));
+            }
+            Ask::Put(o, index, value) => {
+                self.put(o, index, value);
+                self.take(t, asked, Reply::Go);
+            }
+            Ask::Private | Ask::Print | Ask::End(_) => self.take(t, asked, Reply::Go),
+            Ask::Done => {}
+        }
+    }
+
+    pub fn copy(&self) -> Result<Parts, AllocError>
+        ensures { IfOk result (λ p. p ≡ self.now) }
+    {
+        let alloc = *self.threads.allocator();
+        let mut threads = Vec::with_capacity(alloc, self.threads.len())?;
+        for thread in self.threads.as_slice() {
+            threads.push(thread.copy()?)?;
+        }
+        let objects = copies(alloc, self.objects.as_slice())?;
+        Ok(Parts {
+            code: code(alloc, &self.code)?,
+            threads,
+            objects,
+        })
+    }
+}
+
+// The same objects once more.
+fn copies(alloc: Global, objects: &[Object]) -> Result<Vec<Object>, AllocError>
+    ensures { IfOk result (λ copies. copies.items ≡ objects.now) }
+{
+    let mut copies = Vec::with_capacity(alloc, objects.len())?;
+    for object in objects {
+        copies.push(object.copy())?;
+    }
+    Ok(copies)
+}
