@@ -2,7 +2,8 @@
 use Rattle.std.specs.Prelude.{◌≡◌, ℕ, zero, suc, ◌<◌, ◌≤◌, Bool, true, false, eqb, List, [], ◌∷◌, length, None}
 use Rattle.ir_thread.specs.Machine.{Ask, Done, Enter, Act, act_of, Machine, upd}
 use Rattle.ir_thread.specs.declared.ask.Access.{Access}
-use Rattle.ir_object.specs.Object.{Object, target, Admits, acted, reply, Mark, Quiet, Answer, In, Refused, Out, told}
+use Rattle.ir_thread.specs.Marks.{Mark, logged, Trace}
+use Rattle.ir_object.specs.Object.{Object, target, Admits, acted, reply, told}
 
 -- all threads, of any kind, and all objects at one moment
 pub record State (T : Type 0) : Type 0 where
@@ -60,14 +61,6 @@ abbrev pub trail : {T : Type 0} → Machine T → State T → List Step → ℕ 
 trail m s [] t = []
 trail m s (e ∷ run) t = join_if (eqb t e.0) (s.now t, mark m s e) (trail m (after m s e) run t)
 
--- es, with what is logged of the mark before it: results, entries and refused tries
-abbrev pub logged : Mark → List Mark → List Mark
-logged Quiet es = es
-logged (Answer k v) es = Answer k v ∷ es
-logged (In o a v l) es = In o a v l ∷ es
-logged (Refused o) es = Refused o ∷ es
-logged (Out o a v) es = es
-
 -- what is logged of a thread's steps
 abbrev pub events : {T : Type 0} → List (T × Mark) → List Mark
 events [] = []
@@ -86,6 +79,10 @@ abbrev pub thread_in : {T : Type 0} → List (T × Mark) → ℕ → T → T
 thread_in [] k last = last
 thread_in (x ∷ xs) zero last = x.0
 thread_in (x ∷ xs) (suc k) last = thread_in xs k last
+
+-- what is told of the run
+abbrev pub trace : {T : Type 0} → Machine T → State T → List Step → Trace
+trace m s run = record { steps = count m s run; logs = log m s run; ends = λ t. m.ended ((end m s run).now t) }
 
 -- thread t just after its k-th own step
 abbrev pub th : {T : Type 0} → Machine T → State T → List Step → ℕ → ℕ → T

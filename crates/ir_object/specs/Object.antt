@@ -1,9 +1,9 @@
 -- An object as the threads see it, and what a step of a thread makes of it.
 use Rattle.std.specs.Prelude.{◌≡◌, ◌≢◌, ℕ, suc, true, Option, Some, None}
+use Rattle.ir_thread.specs.Marks.{Mark, Quiet, Answer, In, Refused, Out}
 use Rattle.ir_thread.specs.Machine.{Act, Silent, Result, Entry, Refusal, Exit, Load, Store, Never, Machine, upd}
 use Rattle.ir_thread.specs.declared.ask.Access.{Access}
 use Rattle.ir_thread.specs.declared.ask.Access.TheVariants.{Reading, Writing}
-use Rattle.ir_thread.specs.declared.ask.EnvKind.{EnvKind}
 
 -- an object at one moment
 pub record Object : Type 0 where
@@ -60,14 +60,6 @@ reply (Exit o a) b = 0
 reply (Load o i) b = b.words i
 reply (Store o i w) b = 0
 reply Never b = 0
-
--- what a step tells: nothing, the result of a call of the environment, an entry, a refused try, or a leave
-pub data Mark : Type 0 where
-  Quiet : Mark
-  Answer : (kind : EnvKind) → (value : ℕ) → Mark
-  In : (object : ℕ) → (access : Access) → (version left : ℕ) → Mark
-  Refused : (object : ℕ) → Mark
-  Out : (object : ℕ) → (access : Access) → (version : ℕ) → Mark
 
 -- what the act tells: an entry tells the version that it finds and, for writing, how many readers have left it
 abbrev pub told : Act → Object → Mark
