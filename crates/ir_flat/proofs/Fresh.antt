@@ -39,7 +39,7 @@ pub record IsFresh (places : ℕ) (x : thread.State) : Type 0 where
 nothing_held : (n o : ℕ) → held_at (replicate n None) o ≡ None
 nothing_held n o = elim (cases_lt o n) [ inl l ↦ get_or-replicate n o None None l | inr g ↦ get_or_past (replicate n None) o None (subst (λ k. k ≤ o) (sym (length-replicate n None)) g) ]
 
-fresh : (g : Guest) (budget from n t : ℕ) → IsFresh (object_count g) (get_or (start_threads g budget from n) t idle)
+pub fresh : (g : Guest) (budget from n t : ℕ) → IsFresh (object_count g) (get_or (start_threads g budget from n) t idle)
 fresh g budget from zero t = record { none = λ o. refl; events = refl }
 fresh g budget from (suc n) zero = record { none = nothing_held (object_count g); events = refl }
 fresh g budget from (suc n) (suc t) = fresh g budget (suc from) n t
@@ -53,7 +53,7 @@ places_at g budget from (suc n) (suc t) l = places_at g budget (suc from) n t (o
 abbrev no_fields : Fields
 no_fields = record { version = 0; left = 0; inside = 0; writer = false }
 
-fields_at : (words : List ℕ) (n o : ℕ) → (get_or (start_cells words n) o empty).fields ≡ no_fields
+pub fields_at : (words : List ℕ) (n o : ℕ) → (get_or (start_cells words n) o empty).fields ≡ no_fields
 fields_at words zero o = refl
 fields_at words (suc n) zero = refl
 fields_at words (suc n) (suc o) = fields_at (drop 8 words) n o

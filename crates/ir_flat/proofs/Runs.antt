@@ -75,7 +75,7 @@ zero_suits Clock = refl
 zero_suits Random = refl
 zero_suits Input = refl
 
-start_idle : (g : Guest) (budget : ℕ) → IsIdle (thread_machine g.code) (tables (start_flat g budget)) (length g.entries)
+pub start_idle : (g : Guest) (budget : ℕ) → IsIdle (thread_machine g.code) (tables (start_flat g budget)) (length g.entries)
 start_idle g budget t l =
     ap (λ x. shared_ask (ask_of g.code x)) (get_or_past (start_threads g budget 0 (length g.entries)) t idle (let n = threads_length g budget 0 (length g.entries) in omega (arith, n, l)))
 

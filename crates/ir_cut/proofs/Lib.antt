@@ -1,0 +1,5 @@
+pub mod Early
+pub mod Order
+pub mod Admit
+pub mod Exist
+pub mod Highest

@@ -1,0 +1,7 @@
+use Rattle.ir_thread.specs.Instance.{thread_machine}
+use Rattle.ir_flat.specs.Flat.{tables, start_flat}
+use Rattle.ir_cut.proofs.Order.{persists}
+use Rattle.ir_cut.proofs.laws.persistence.Goals as goal
+
+pub returns : goal.returns
+returns c = λ g budget run p q t. persists (thread_machine g.code) (tables (start_flat g budget)) run p q t

@@ -1,0 +1,17 @@
+pub mod Swap
+pub mod Steps
+pub mod Ratchet
+pub mod Pull
+pub mod Same
+pub mod Back
+pub mod Sort
+pub mod Follow
+pub mod Tally
+pub mod Determined
+pub mod Confluent
+pub mod Own
+pub mod Ending
+pub mod Judge
+pub mod OneResult
+pub mod Onward
+pub mod Guests

@@ -1,0 +1,15 @@
+use Rattle.ir_thread.specs.Instance.{thread_machine}
+use Rattle.ir_thread.proofs.Lawful.{lawful, closing as closes}
+use Rattle.ir_flat.specs.Flat.{tables, start_flat}
+use Rattle.ir_flat.specs.Run.{trace}
+use Rattle.ir_flat.proofs.Good.{start_good}
+use Rattle.ir_fit.specs.Following.{closing}
+use Rattle.ir_fit.proofs.Follow.{own_fits}
+use Rattle.ir_fit.proofs.Ending.{own_closing}
+use Rattle.ir_fit.proofs.Guests.{starts}
+use Rattle.ir_fit.proofs.laws.complete_fits.Goals as goal
+
+pub returns : goal.returns
+returns c = λ g budget run ok.
+    let k = own_closing (thread_machine g.code) (closes g.code) (tables (start_flat g budget)) run ok.0 ok.1 in
+    (k.0, k.1, λ follower f top. own_fits (closing (thread_machine g.code) (trace (thread_machine g.code) (tables (start_flat g budget)) run)) (thread_machine g.code) (lawful g.code) (tables (start_flat g budget)) (start_good (thread_machine g.code) (tables (start_flat g budget)) (starts g budget)) run k.0 follower f top)

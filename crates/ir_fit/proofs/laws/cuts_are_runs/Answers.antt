@@ -1,0 +1,10 @@
+use Rattle.ir_thread.specs.Instance.{thread_machine}
+use Rattle.ir_thread.proofs.Lawful.{lawful}
+use Rattle.ir_flat.specs.Flat.{tables, start_flat}
+use Rattle.ir_flat.proofs.Good.{start_good}
+use Rattle.ir_fit.proofs.Determined.{at_cut}
+use Rattle.ir_fit.proofs.Guests.{starts}
+use Rattle.ir_fit.proofs.laws.cuts_are_runs.Goals as goal
+
+pub returns : goal.returns
+returns c = λ g budget run ok p cut same. at_cut (thread_machine g.code) (lawful g.code) (tables (start_flat g budget)) (start_good (thread_machine g.code) (tables (start_flat g budget)) (starts g budget)) run ok p cut same

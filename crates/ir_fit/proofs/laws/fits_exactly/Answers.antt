@@ -1,0 +1,17 @@
+use Rattle.std.proofs.Common.{length}
+use Rattle.ir_thread.specs.Instance.{thread_machine}
+use Rattle.ir_thread.proofs.Lawful.{lawful, closing}
+use Rattle.ir_flat.specs.Flat.{tables, start_flat}
+use Rattle.ir_flat.proofs.Good.{start_good}
+use Rattle.ir_flat.proofs.Runs.{start_idle}
+use Rattle.ir_fit.proofs.Judge.{all_same, whole_same}
+use Rattle.ir_fit.proofs.Guests.{starts, lives}
+use Rattle.ir_fit.proofs.laws.fits_exactly.Goals as goal
+
+pub returns : goal.returns
+returns c = λ g budget tr co run f top.
+    let m = thread_machine g.code in
+    let s = tables (start_flat g budget) in (
+      λ h. (run, all_same (length g.entries) m (closing g.code) tr s (lives g budget) run f h),
+      λ w t. whole_same (length g.entries) m (lawful g.code) (closing g.code) tr co s (start_good m s (starts g budget)) (starts g budget) (start_idle g budget) run f top w.0 w.1 t,
+    )

@@ -1,0 +1,17 @@
+use Rattle.std.proofs.Common.{suc, arith, length}
+use Rattle.ir_thread.specs.Instance.{thread_machine}
+use Rattle.ir_thread.proofs.Lawful.{lawful}
+use Rattle.ir_flat.specs.Flat.{tables, start_flat}
+use Rattle.ir_flat.proofs.Good.{start_good}
+use Rattle.ir_flat.proofs.Runs.{start_idle}
+use Rattle.ir_fit.specs.Coherent.{sum_below}
+use Rattle.ir_fit.proofs.Onward.{Built, build}
+use Rattle.ir_fit.proofs.Guests.{starts}
+use Rattle.ir_fit.proofs.laws.maximal_exists.Goals as goal
+
+pub returns : goal.returns
+returns c = λ g budget tr.
+    let m = thread_machine g.code in
+    let s = tables (start_flat g budget) in
+    let b : Built m tr s tr.steps tr.logs = build (suc (sum_below (length g.entries) tr.steps)) (length g.entries) m (lawful g.code) tr s (start_good m s (starts g budget)) (start_idle g budget) tr.steps tr.logs (omega arith) in
+    (b.run, b.ok, b.top)

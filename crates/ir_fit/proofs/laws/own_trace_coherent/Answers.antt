@@ -1,0 +1,12 @@
+use Rattle.std.proofs.Common.{length}
+use Rattle.ir_thread.specs.Instance.{thread_machine}
+use Rattle.ir_thread.proofs.Lawful.{lawful}
+use Rattle.ir_flat.specs.Flat.{tables, start_flat}
+use Rattle.ir_flat.proofs.Good.{start_good}
+use Rattle.ir_flat.proofs.Runs.{start_idle}
+use Rattle.ir_fit.proofs.Own.{own_coherent}
+use Rattle.ir_fit.proofs.Guests.{starts}
+use Rattle.ir_fit.proofs.laws.own_trace_coherent.Goals as goal
+
+pub returns : goal.returns
+returns c = λ g budget run ok. own_coherent (length g.entries) (thread_machine g.code) (lawful g.code) (tables (start_flat g budget)) (start_good (thread_machine g.code) (tables (start_flat g budget)) (starts g budget)) (starts g budget) (start_idle g budget) run ok

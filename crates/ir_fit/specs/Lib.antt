@@ -1,0 +1,6 @@
+pub mod Cuts
+pub mod Following
+pub mod Coherent
+pub mod Alike
+pub mod Verdicts
+pub mod Laws
