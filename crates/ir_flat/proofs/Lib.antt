@@ -5,3 +5,4 @@ pub mod Next
 pub mod Keeps
 pub mod Fresh
 pub mod Runs
+pub mod Alone

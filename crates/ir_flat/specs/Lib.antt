@@ -2,4 +2,5 @@ pub mod Run
 pub mod Kept
 pub mod Flat
 pub mod Next
+pub mod Alone
 pub mod Laws

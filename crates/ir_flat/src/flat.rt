@@ -1,5 +1,6 @@
 //! The flat interpreter.
 
+ghost use Rattle.ir_flat.specs.Alone.{WentAlone};
 ghost use Rattle.ir_flat.specs.Flat.{Flat, IsFlat, start_flat, thread_of, cell_of, tables, machine};
 ghost use Rattle.ir_flat.specs.Run.{Can, after};
 ghost use Rattle.ir_flat.specs.Next.{next, MayStep};
@@ -93,6 +94,16 @@ impl Flat {
     {
         let asked = self.parts.ask(t);
         self.parts.may(t, 0, asked)
+    }
+
+    /// Thread t takes private steps, instructions and calls that need nobody else, until its next
+    /// step is another or `limit` are taken, and how many they are. They log nothing.
+    pub fn run(&mut self, t: usize, limit: u64) -> u64
+        requires { t < length self.old.threads }
+        ensures within { result ≤ limit }
+        ensures went { WentAlone self.old self.new t result }
+    {
+        self.parts.run(t, limit)
     }
 
     /// Thread t takes its next step. r is the result of a call of the environment, and is looked at

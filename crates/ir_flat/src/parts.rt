@@ -4,9 +4,10 @@ ghost use Rattle.ir_flat.specs.Flat.{Flat, IsFlat, thread_of, cell_of};
 ghost use Rattle.ir_flat.specs.Next.{with_thread, with_object, answered, next, MayStep};
 ghost use Rattle.ir_object.specs.Cell.{Admitted, CanLeave};
 ghost use Rattle.ir_object.specs.Word.{IsFields, entered, left_by};
-ghost use Rattle.ir_thread.specs.Calls.{ask_of, after_reply, Permits, Suits};
+ghost use Rattle.ir_thread.specs.Calls.{ask_of, run_of, after_reply, Permits, Suits};
 ghost use Rattle.ir_thread.specs.Instance.{is_result};
-ghost use Rattle.std.specs.Prelude.{◌≡◌, ◌<◌, ◌≢◌, ◌↔◌, true, length, slice_index, slice_set, IsTrue, IfOk};
+ghost use Rattle.ir_thread.specs.declared.ask.Ask.TheVariants.{Private};
+ghost use Rattle.std.specs.Prelude.{ℕ, ◌≡◌, ◌<◌, ◌≤◌, ◌≢◌, ◌↔◌, true, length, slice_index, slice_set, IsTrue, IfOk};
 
 use crate::start::code;
 use ir_image::Code;
@@ -96,6 +97,16 @@ impl Parts {
         ensures { self.new ≡ answered self.old t asked reply }
     {
         self.threads[t].take(&self.code, reply);
+    }
+
+    // Thread t takes private steps, at most so many, and how many they are.
+    pub fn run(&mut self, t: usize, limit: u64) -> u64
+        requires { t < length self.old.threads }
+        ensures within { result ≤ limit }
+        ensures each { (k : ℕ) → k < result → ask_of self.old.code (run_of self.old.code k (thread_of self.old t)) ≡ Private }
+        ensures moved { self.new ≡ with_thread self.old t (run_of self.old.code result (thread_of self.old t)) }
+    {
+        self.threads[t].run(&self.code, limit)
     }
 
     fn enter(&mut self, o: u8, access: Access)

@@ -237,3 +237,25 @@ fn an_input_is_a_byte_or_the_end(rt: HostRuntime) -> Result<(), Fail> {
     assert_eq!(rt; read, Some(0xffff_ffff));
     Ok(())
 }
+
+// Private steps of the first thread, at most so many.
+fn together(flat: &mut Flat, limit: u64) -> u64 {
+    if flat.threads().is_empty() {
+        0
+    } else {
+        flat.run(0, limit)
+    }
+}
+
+#[test]
+fn private_steps_are_taken_together(rt: HostRuntime) -> Result<(), Fail> {
+    let image = guest(rt.alloc(), 1, 1, &PUT_AND_BREAK)?;
+    let mut flat = Flat::start(rt.alloc(), &image, 1000)?;
+    assert_eq!(rt; (together(&mut flat, 1), together(&mut flat, 9)), (1, 1));
+    assert_eq!(rt; together(&mut flat, 9), 0);
+    run(&mut flat, 0, 1, 0)?;
+    assert_eq!(rt; together(&mut flat, 9), 3);
+    run(&mut flat, 0, 3, 0)?;
+    assert_eq!(rt; end_of(&flat), Some((2, 9, 1)));
+    Ok(())
+}
