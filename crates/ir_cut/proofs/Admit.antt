@@ -5,10 +5,10 @@ use Rattle.ir_thread.specs.Machine.{Machine, IsLawful}
 use Rattle.ir_thread.specs.Marks.{Mark, Quiet, Answer, In, Refused, Out, logged}
 use Rattle.ir_flat.specs.Run.{State, Step, Can, IsRun, end, join_if, trail, events, log, count, mark}
 use Rattle.ir_flat.proofs.Good.{Good}
+use Rattle.ir_flat.proofs.Append.{trail_append, run_append, events_append}
 use Rattle.ir_cut.proofs.Early.{moment}
-use Rattle.ir_fit.proofs.Determined.{trails_cut, events_append}
+use Rattle.ir_fit.proofs.Determined.{trails_cut}
 use Rattle.ir_cut.proofs.Early.{early}
-use Rattle.ir_fit.proofs.Follow.{trail_append, run_append}
 use Rattle.ir_cut.proofs.Order.{whole, consistent_same}
 use Rattle.ir_fit.proofs.Same.{Goes, goes}
 use Rattle.ir_fit.proofs.Sort.{Sorted, sort}

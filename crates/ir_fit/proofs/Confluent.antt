@@ -8,7 +8,8 @@ use Rattle.ir_thread.specs.declared.ask.Access.TheVariants.{Reading, Writing}
 use Rattle.ir_object.specs.Object.{Object, target, Admits, told}
 use Rattle.ir_flat.specs.Run.{act, State, Step, asked, Can, after, mark, IsRun, end, join_if, trail, IsStart, IsIdle}
 use Rattle.ir_flat.proofs.Good.{Good, stays_good}
-use Rattle.ir_fit.proofs.Follow.{fits_part, trail_append, run_append}
+use Rattle.ir_flat.proofs.Append.{trail_append, run_append}
+use Rattle.ir_fit.proofs.Follow.{fits_part}
 use Rattle.ir_fit.proofs.Pull.{Pulled, pull}
 use Rattle.ir_fit.proofs.Same.{Goes, Heads, heads, Starts, now_other, agree, join_append}
 use Rattle.ir_fit.proofs.Steps.{Clashes, Keeps, keeps}

@@ -2,9 +2,10 @@
 use Rattle.std.proofs.Common.{◌≡◌, ◌≢◌, ℕ, suc, zero, min, ◌+◌, ◌≤◌, Bool, true, false, cond, eqb, List, [], ◌∷◌, ◌++◌, length, take, drop, refl, sym, ap, ◌∙◌, subst, arith, inl, inr, eq-eqb, ne_eqb, le_refl, length-append, length-take, take-append-drop}
 use Rattle.std.proofs.lemmas.Bool.{cases_eq}
 use Rattle.ir_thread.specs.Machine.{Machine, IsLawful}
-use Rattle.ir_thread.specs.Marks.{Mark, logged}
+use Rattle.ir_thread.specs.Marks.{Mark}
 use Rattle.ir_flat.specs.Run.{State, Step, Can, after, mark, IsRun, end, join_if, trail, count, events, th, thread_in, IsStart}
 use Rattle.ir_flat.proofs.Good.{Good}
+use Rattle.ir_flat.proofs.Append.{events_append}
 use Rattle.ir_fit.proofs.Same.{Goes, goes, Alike, alike, now_other, no_steps}
 use Rattle.ir_fit.proofs.Sort.{Sorted, sort}
 use Rattle.ir_fit.specs.Alike.{SameTrace, SameRun}
@@ -18,17 +19,6 @@ pub trails_cut : {T : Type 0} (m : Machine T) (s : State T) (run run' : List Ste
 trails_cut m s run run' same p c = λ t k u j a b h g n l. c t k u j a b (h.0, subst (λ z. At z k (h.0, a)) (sym (same t)) h.1) (g.0, subst (λ z. At z j (g.0, b)) (sym (same u)) g.1) n l
 
 -- what the first steps log is a front of the log
-pub events_append : {T : Type 0} (xs ys : List (T × Mark)) → events (xs ++ ys) ≡ events xs ++ events ys
-events_append [] ys = refl
-events_append (x ∷ xs) ys = ap (logged x.1) (events_append xs ys) ∙ logged_append x.1 (events xs) (events ys)
-  where
-    logged_append : (k : Mark) (es fs : List Mark) → logged k (es ++ fs) ≡ logged k es ++ fs
-    logged_append Mark.Quiet es fs = refl
-    logged_append (Mark.Answer i v) es fs = refl
-    logged_append (Mark.In o a v l) es fs = refl
-    logged_append (Mark.Refused o) es fs = refl
-    logged_append (Mark.Out o a v) es fs = refl
-
 -- a part of the run, and then the rest
 pub part_goes : {T : Type 0} (m : Machine T) → IsLawful m → (s : State T) → Good m s → (front run : List Step) → IsRun m s front → IsRun m s run → (n : ℕ → ℕ) → ((t : ℕ) → trail m s front t ≡ take (n t) (trail m s run t)) → Goes m s front run
 part_goes m law s good front run ok ok' n same = goes m law s good front run ok ok' (λ t. events (drop (n t) (trail m s run t)))

@@ -1,9 +1,10 @@
 -- A maximal run that follows a run's own trace goes all the way.
-use Rattle.std.proofs.Common.{◌≡◌, ℕ, pred, ◌≤◌, Bool, true, false, eqb, List, [], ◌∷◌, ◌++◌, length, refl, sym, ap, ◌∙◌, subst, arith, append-nil, append_assoc}
+use Rattle.std.proofs.Common.{◌≡◌, ℕ, pred, ◌≤◌, eqb, List, [], ◌∷◌, ◌++◌, length, refl, sym, ap, ◌∙◌, subst, arith, append-nil, append_assoc}
 use Rattle.ir_thread.specs.Machine.{Machine, IsLawful}
 use Rattle.ir_thread.specs.Marks.{Mark, logged}
-use Rattle.ir_flat.specs.Run.{State, Step, after, IsRun, end, join_if, trail, events, log, count, mark, trace}
+use Rattle.ir_flat.specs.Run.{State, Step, after, IsRun, end, trail, events, log, count, mark, trace}
 use Rattle.ir_flat.proofs.Good.{Good}
+use Rattle.ir_flat.proofs.Append.{join_append, trail_append, run_append}
 use Rattle.ir_fit.proofs.Same.{Goes, goes}
 use Rattle.ir_fit.specs.Alike.{Reaches}
 use Rattle.ir_fit.specs.Following.{left_log, Ending, Check, Ends, unlogged, Fits, Follows, IsMaximal}
@@ -26,18 +27,6 @@ fits_length E n es (x ∷ xs) h = omega (arith, fits_length E (pred n) (unlogged
 pub fits_part : {T : Type 0} (E : Check T) (n : ℕ) (es : List Mark) (xs ys : List (T × Mark)) → Fits E n es (xs ++ ys) → Fits E n es xs
 fits_part E n es [] ys h = tt
 fits_part E n es (x ∷ xs) ys h = (h.0, h.1, h.2, fits_part E (pred n) (unlogged x.1 es) xs ys h.3)
-
-join_append : {A : Type 0} (b : Bool) (x : A) (xs ys : List A) → join_if b x (xs ++ ys) ≡ join_if b x xs ++ ys
-join_append true x xs ys = refl
-join_append false x xs ys = refl
-
-pub trail_append : {T : Type 0} (m : Machine T) (s : State T) (run more : List Step) (t : ℕ) → trail m s (run ++ more) t ≡ trail m s run t ++ trail m (end m s run) more t
-trail_append m s [] more t = refl
-trail_append m s (e ∷ run) more t = ap (join_if (eqb t e.0) (s.now t, mark m s e)) (trail_append m (after m s e) run more t) ∙ join_append (eqb t e.0) (s.now t, mark m s e) (trail m (after m s e) run t) (trail m (end m (after m s e) run) more t)
-
-pub run_append : {T : Type 0} (m : Machine T) (s : State T) (run more : List Step) → IsRun m s run → IsRun m (end m s run) more → IsRun m s (run ++ more)
-run_append m s [] more ok ok' = ok'
-run_append m s (e ∷ run) more ok ok' = (ok.0, run_append m (after m s e) run more ok.1 ok')
 
 -- where the follower stops nothing is left
 stops : {T : Type 0} (E : Ending T) (m : Machine T) (s : State T) (run follower : List Step) → ((t : ℕ) → Fits (E t) (count m s run t) (log m s run t) (trail m s run t)) → IsRun m s follower → IsMaximal E m s (trace m s run) follower

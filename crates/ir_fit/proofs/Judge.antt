@@ -10,9 +10,10 @@ use Rattle.ir_thread.specs.declared.ask.Access.TheVariants.{Reading, Writing}
 use Rattle.ir_object.specs.Object.{Object, target, Admits, reply, told}
 use Rattle.ir_flat.specs.Run.{act, State, Step, Can, after, mark, IsRun, end, trail, IsStart, IsIdle, IsDone, events, log, count}
 use Rattle.ir_flat.proofs.Good.{Good}
+use Rattle.ir_flat.proofs.Append.{trail_append, run_append}
 use Rattle.ir_fit.proofs.Confluent.{confluent, start_sofar, one_maximal}
 use Rattle.ir_fit.proofs.Ending.{now_same, trail_same, trail_other, not_done, Over, over, AtEnd, at_end, closes, run_last}
-use Rattle.ir_fit.proofs.Follow.{trail_append, run_append, fits_own}
+use Rattle.ir_fit.proofs.Follow.{fits_own}
 use Rattle.ir_fit.proofs.Same.{Goes, now_other}
 use Rattle.ir_fit.specs.Alike.{Reaches}
 use Rattle.ir_fit.specs.Coherent.{IsCoherent}

@@ -5,8 +5,9 @@ use Rattle.ir_thread.specs.Machine.{Ask, Private, Env, Enter, Try, Leave, Get, P
 use Rattle.ir_thread.specs.Marks.{Mark, Quiet, Answer, In, Refused, Out, logged, Trace}
 use Rattle.ir_object.specs.Object.{Object, target, Admits, told}
 use Rattle.ir_flat.specs.Run.{act, State, Step, asked, Can, after, mark, IsRun, end, trail}
+use Rattle.ir_flat.proofs.Append.{trail_append}
 use Rattle.ir_fit.proofs.Ending.{trail_same, run_last}
-use Rattle.ir_fit.proofs.Follow.{trail_append, fits_part}
+use Rattle.ir_fit.proofs.Follow.{fits_part}
 use Rattle.ir_fit.proofs.Judge.{goes_further}
 use Rattle.ir_fit.specs.Following.{Check, unlogged, Fits, Follows, IsMaximal, left_log, left_steps, closing}
 use Rattle.ir_fit.specs.Verdicts.{result_of}

@@ -6,3 +6,4 @@ pub mod Keeps
 pub mod Fresh
 pub mod Runs
 pub mod Alone
+pub mod Append
