@@ -1,5 +1,5 @@
 -- What the input of the program without a subcommand holds: an image and a trace in hexadecimal, each in a line, and then commands.
-use Rattle.std.specs.Prelude.{◌≡◌, ◌==◌, ℕ, ◌+◌, ◌*◌, nat_le, Bool, List, [], ◌∷◌, length, Option, Some, None, Result, Ok, Err, if◌then◌else◌}
+use Rattle.std.specs.Prelude.{◌≡◌, ◌==◌, ℕ, ◌+◌, ◌*◌, nat_le, Bool, List, [], ◌∷◌, length, Option, Some, None, Result, Ok, Err, if◌then◌else◌, true, IfSome}
 use Rattle.std.specs.Result.{result_ok}
 use Rattle.hex.specs.Hex.{decode_of}
 use Rattle.ir_command.specs.Words.{without_return}
@@ -7,6 +7,9 @@ use Rattle.ir_debug.specs.Session.{Session, opening_of}
 use Rattle.ir_debug.specs.declared.ended.Ended.{Ended}
 use Rattle.ir_debug.specs.declared.ended.Ended.TheVariants.{Quit, InputEnd, ImageRefused, TraceRefused, NotFit}
 use Rattle.ir_debug.specs.declared.ended.SessionErr.{SessionErr}
+use Rattle.ir_debug.specs.declared.ended.SessionErr.TheVariants as session
+use Rattle.ir_cli.specs.declared.fault.BundleErr.{BundleErr}
+use Rattle.ir_cli.specs.declared.fault.BundleErr.TheVariants.{BadLine, NoMem, Read, Write, TooLong}
 
 -- the most hexadecimal digits of a line
 abbrev pub most_digits : ℕ
@@ -63,3 +66,11 @@ status_of InputEnd = 0
 status_of ImageRefused = 3
 status_of TraceRefused = 3
 status_of NotFit = 4
+
+-- what a fault leaves, of the input, what was written before and after, whether the reader and the writer failed, and that the writer is as it was
+abbrev pub Leaves : BundleErr → Option (List ℕ) → Option (List ℕ) → Option (List ℕ) → Bool → Bool → Type 0 → Type 0
+Leaves BadLine left old new reader writer same = IfSome left (λ input. bundle_of input ≡ None) × same
+Leaves NoMem left old new reader writer same = same
+Leaves Read left old new reader writer same = reader ≡ true
+Leaves Write left old new reader writer same = writer ≡ true
+Leaves TooLong left old new reader writer same = IfSome left (Bundled (Err session.TooLong) old new)

@@ -1,13 +1,22 @@
 //! A session over one stream: an image and a trace in hexadecimal, each in a line, and then commands.
 
 ghost use Rattle.std.specs.Prelude.{◌≡◌, ◌≢◌, IfOk, IfSome, OnOk, Err, Ok, None, false, true};
-ghost use Rattle.ir_cli.specs.Bundle.{Bundled, bundle_of, status_of, bytes_of_line, line_of};
+ghost use Rattle.ir_cli.specs.Bundle.{Bundled, Leaves, bundle_of, status_of, bytes_of_line, line_of};
+ghost use Rattle.ir_cli.specs.declared.fault.BundleErr.{BundleErr};
+ghost use Rattle.ir_debug.specs.declared.ended.Ended.{Ended};
 ghost use Rattle.ir_cli.specs.Taking.{TakesBytes};
 
 use crate::fault::BundleErr;
 use crate::line::{bytes_of, read_line};
+use arrayvec::ArrayVec;
 use ir_debug::{Ended, SessionErr, Sink, Source, session};
+use ir_stream::{append, write_all};
 use std::alloc::Global;
+
+const FAULT: u8 = 1;
+
+// The most bytes of a line that tells a fault.
+const MOST_WORDS: usize = 128;
 
 // The bytes of the next line of hexadecimal digits.
 fn next_bytes<R: Source>(alloc: Global, reader: &mut R) -> Result<Vec<u8>, BundleErr>
@@ -64,5 +73,41 @@ pub fn status(ended: Ended) -> u8
         Ended::Quit | Ended::InputEnd => 0,
         Ended::ImageRefused | Ended::TraceRefused => 3,
         Ended::NotFit => 4,
+    }
+}
+
+// Tells why a session stopped, in one line. Nobody is left to tell where that fails.
+fn tell<E: Sink>(faults: &mut E, why: BundleErr)
+    requires { E.broken faults.old ≡ false }
+{
+    let mut text: ArrayVec<u8, MOST_WORDS> = ArrayVec::new();
+    append(&mut text, b"ir: ");
+    append(&mut text, why.words().as_bytes());
+    append(&mut text, b"\n");
+    let _ = write_all(faults, text.as_slice());
+}
+
+/// Runs a bundled session, and gives the exit status: 0 where it ended, 3 for a refused image or trace, 4 for a trace
+/// that doesn't fit, 1 for a fault, which is told in one line.
+pub fn bundle<R: Source, W: Sink, E: Sink>(
+    alloc: Global,
+    reader: &mut R,
+    writer: &mut W,
+    faults: &mut E,
+) -> u8
+    requires reads { R.broken reader.old ≡ false }
+    requires writes { W.broken writer.old ≡ false }
+    requires tells { E.broken faults.old ≡ false }
+    // The status of a session that ended, whose bytes were written.
+    ensures ended { result ≢ 1 → (e : Ended) × (result ≡ status_of e) × IfSome (R.left reader.old) (Bundled (Ok e) (W.written writer.old) (W.written writer.new)) }
+    // Else what stopped it.
+    ensures stopped { result ≡ 1 → (e : BundleErr) × Leaves e (R.left reader.old) (W.written writer.old) (W.written writer.new) (R.broken reader.new) (W.broken writer.new) (writer.new ≡ writer.old) }
+{
+    match bundled(alloc, reader, writer) {
+        Ok(ended) => status(ended),
+        Err(why) => {
+            tell(faults, why);
+            FAULT
+        }
     }
 }

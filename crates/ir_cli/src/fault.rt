@@ -4,21 +4,39 @@ ghost use Rattle.std.specs.Prelude.{◌≡◌};
 ghost use Rattle.ir_cli.specs.declared.fault.BundleErr.TheVariants.{NoMem};
 
 use std::alloc::{AllocError, AllocFailed};
-use thiserror::Error;
 
 /// Why an image and a trace in hexadecimal had no session, or their session stopped.
-#[derive(Debug, Drop, Error)]
+#[derive(Clone, Copy, Debug, PartialEq, Eq)]
 pub enum BundleErr {
-    #[error("a line of the image or the trace isn't whole bytes in at most 4194304 hexadecimal digits")]
+    /// A line of the image or the trace isn't whole bytes in at most 4,194,304 hexadecimal digits.
     BadLine,
-    #[error("memory ran out")]
+    /// Want of memory.
     NoMem,
-    #[error("standard input can't be read")]
+    /// The reader failed.
     Read,
-    #[error("standard output can't be written")]
+    /// The writer failed.
     Write,
-    #[error("1073741824 bytes of commands held no line of quit")]
+    /// The commands held no line of `quit` within the limit.
     TooLong,
+}
+
+impl BundleErr {
+    ghost use Rattle.std.specs.Prelude.{◌≤◌, length};
+
+    /// The fault in words.
+    pub fn words(self) -> &'static str
+        ensures { length result.now ≤ 100 }
+    {
+        match self {
+            BundleErr::BadLine => {
+                "a line of the image or the trace isn't whole bytes in at most 4194304 hexadecimal digits"
+            }
+            BundleErr::NoMem => "memory ran out",
+            BundleErr::Read => "standard input can't be read",
+            BundleErr::Write => "standard output can't be written",
+            BundleErr::TooLong => "1073741824 bytes of commands held no line of quit",
+        }
+    }
 }
 
 impl From<AllocError> for BundleErr {

@@ -8,7 +8,7 @@ mod line;
 mod tests;
 mod words;
 
-use bundle::{bundled, status};
+use bundle::bundle;
 use ir_debug::FromStd;
 use std::io::{self, BufReader};
 use std::process::ExitCode;
@@ -33,13 +33,8 @@ fn serve(rt: &HostRuntime) -> u8 {
     };
     let mut reader = FromStd::new(input);
     let mut writer = FromStd::new(io::writer(rt));
-    match bundled(rt.alloc(), &mut reader, &mut writer) {
-        Ok(ended) => status(ended),
-        Err(why) => {
-            let _ = rt.eprintln(format_args!("ir: {why}"));
-            FAULT
-        }
-    }
+    let mut faults = FromStd::new(rt.stderr());
+    bundle(rt.alloc(), &mut reader, &mut writer, &mut faults)
 }
 
 fn main(rt: HostRuntime) -> ExitCode {

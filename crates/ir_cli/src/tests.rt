@@ -2,7 +2,7 @@
 
 ghost use Rattle.std.specs.Prelude.{◌≡◌, false};
 
-use crate::bundle::{bundled, status};
+use crate::bundle::{bundle, bundled};
 use crate::fault::BundleErr;
 use ir_debug::{DeviceErr, Ended, SessionErr, Sink, Source, session_up_to};
 use std::test::Fail;
@@ -116,14 +116,14 @@ fn lines_of(
     Ok(all)
 }
 
-// What a bundle of these lines answers, and its exit status.
+// What a bundle of these lines answers, the fault that it tells, and its exit status.
 fn answered(
     rt: &HostRuntime,
     image: &[u8],
     trace: &[u8],
     commands: &[u8],
     most: usize,
-) -> Result<(Page, u8), Fail> {
+) -> Result<(Page, Page, u8), Fail> {
     let all = lines_of(rt, image, trace, commands)?;
     let mut reader = Bytes {
         left: all.as_slice(),
@@ -131,11 +131,9 @@ fn answered(
         failed: false,
     };
     let mut writer = empty_page(rt, most, ENDLESS);
-    let code = match bundled(rt.alloc(), &mut reader, &mut writer) {
-        Ok(ended) => status(ended),
-        Err(_) => 1,
-    };
-    Ok((writer, code))
+    let mut faults = empty_page(rt, most, ENDLESS);
+    let code = bundle(rt.alloc(), &mut reader, &mut writer, &mut faults);
+    Ok((writer, faults, code))
 }
 
 // Each row: a trace line, commands, the answers, and the exit status.
@@ -183,8 +181,9 @@ const ROWS: [(&[u8], &[u8], &[u8], u8); 7] = [
 fn rows(rt: HostRuntime) -> Result<(), Fail> {
     for (trace, commands, answers, code) in ROWS {
         for most in [1, 100] {
-            let (writer, status) = answered(&rt, IMAGE, trace, commands, most)?;
+            let (writer, faults, status) = answered(&rt, IMAGE, trace, commands, most)?;
             assert_eq!(rt; writer.bytes.as_slice(), answers);
+            assert!(rt; faults.bytes.is_empty());
             assert_eq!(rt; status, code);
         }
     }
@@ -193,8 +192,14 @@ fn rows(rt: HostRuntime) -> Result<(), Fail> {
 
 #[test]
 fn odd_digits(rt: HostRuntime) -> Result<(), Fail> {
-    let (writer, status) = answered(&rt, b"49524931010", TRACE, COMMANDS, 100)?;
+    let (writer, faults, status) = answered(&rt, b"49524931010", TRACE, COMMANDS, 100)?;
     assert!(rt; writer.bytes.is_empty());
+    assert!(rt;
+        faults
+            .bytes
+            .as_slice()
+            .starts_with(b"ir: a line of the image")
+    );
     assert_eq!(rt; status, 1);
     Ok(())
 }
