@@ -1,3 +1,8 @@
+pub mod Defined
+pub mod Passing
+pub mod Steps
+pub mod Kept
+pub mod Sound
 pub mod Lines
 pub mod Firsts
 pub mod Texts

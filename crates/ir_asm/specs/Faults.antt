@@ -24,3 +24,9 @@ abbrev pub Gives : {X Y : Type 0} → (X → Y) → Result X Refusal → Result 
 Gives view (Ok x) step = step ≡ Ok (view x)
 Gives view (Err (Faulty cause)) step = step ≡ Err cause
 Gives view (Err NoMem) step = Unit {0}
+
+-- a state is what a step gives, unless memory ran out; a fault leaves it open
+abbrev pub Makes : {A S : Type 0} → S → Result A Refusal → Result S Cause → Type 0
+Makes state (Ok x) step = step ≡ Ok state
+Makes state (Err (Faulty cause)) step = step ≡ Err cause
+Makes state (Err NoMem) step = Unit {0}

@@ -7,4 +7,6 @@ pub mod Operands
 pub mod Items
 pub mod Source
 pub mod Passes
+pub mod Answered
+pub mod Bounds
 pub mod Printed

@@ -76,12 +76,15 @@ with_entry g = if length g.entries == 0 then record g { entries = code_start ∷
 abbrev pub has_code : ℕ → Seen → Result Seen Fault
 has_code lines s = if s.code == 0 then Err (record { line = lines + 1; cause = BadSize }) else Ok s
 
+-- the guest of what the first pass saw
+abbrev pub guest_of : Seen → Result Guest Fault
+guest_of s = second_pass s s.placed (started s) >>= λ g. Ok (with_entry g)
+
 -- the guest of the lines, or their first fault
 abbrev pub assembled_lines : List (List ℕ) → Result Guest Fault
 assembled_lines lines =
     first_pass 1 lines nothing_seen >>= λ s.
-    has_code (length lines) s >>= λ t.
-    second_pass t t.placed (started t) >>= λ g. Ok (with_entry g)
+    has_code (length lines) s >>= guest_of
 
 -- the guest of a source, or its first fault
 abbrev pub assembled : List ℕ → Result Guest Fault

@@ -162,32 +162,64 @@ fn with_number(
     three(alloc, name, reg_name(rd.number), reg_name(rs1.number), text)
 }
 
+fn jump(alloc: Global, pc: u32, rd: Register, offset: i32) -> Result<String, AllocError>
+    ensures { IfOk result (λ s. string_bytes s ≡ two (codes "jal") (register_name rd.number) (far pc offset)) }
+{
+    let target = far(alloc, pc, offset)?;
+    two(alloc, "jal", reg_name(rd.number), &target)
+}
+
+fn branch(
+    alloc: Global,
+    pc: u32,
+    name: &str,
+    rs1: Register,
+    rs2: Register,
+    offset: i32,
+) -> Result<String, AllocError>
+    ensures { IfOk result (λ s. string_bytes s ≡ three name.now (register_name rs1.number) (register_name rs2.number) (far pc offset)) }
+{
+    let target = far(alloc, pc, offset)?;
+    three(
+        alloc,
+        name,
+        reg_name(rs1.number),
+        reg_name(rs2.number),
+        &target,
+    )
+}
+
+fn registers(
+    alloc: Global,
+    name: &str,
+    rd: Register,
+    rs1: Register,
+    rs2: Register,
+) -> Result<String, AllocError>
+    ensures { IfOk result (λ s. string_bytes s ≡ three name.now (register_name rd.number) (register_name rs1.number) (register_name rs2.number)) }
+{
+    let (rd, rs1, rs2) = (
+        reg_name(rd.number),
+        reg_name(rs1.number),
+        reg_name(rs2.number),
+    );
+    three(alloc, name, rd, rs1, rs2)
+}
+
 fn printed(alloc: Global, pc: u32, inst: Inst) -> Result<String, AllocError>
     ensures { IfOk result (λ s. string_bytes s ≡ printed pc inst) }
 {
     match inst {
         Inst::Lui { rd, imm } => upper(alloc, "lui", rd, imm),
         Inst::Auipc { rd, imm } => upper(alloc, "auipc", rd, imm),
-        Inst::Jal { rd, offset } => {
-            let target = far(alloc, pc, offset.value)?;
-            two(alloc, "jal", reg_name(rd.number), &target)
-        }
+        Inst::Jal { rd, offset } => jump(alloc, pc, rd, offset.value),
         Inst::Jalr { rd, rs1, imm } => at_address(alloc, "jalr", rd, imm, rs1),
         Inst::Branch {
             op,
             rs1,
             rs2,
             offset,
-        } => {
-            let target = far(alloc, pc, offset.value)?;
-            three(
-                alloc,
-                branch_name(op),
-                reg_name(rs1.number),
-                reg_name(rs2.number),
-                &target,
-            )
-        }
+        } => branch(alloc, pc, branch_name(op), rs1, rs2, offset.value),
         Inst::Load { op, rd, rs1, imm } => at_address(alloc, load_name(op), rd, imm, rs1),
         Inst::Store { op, rs1, rs2, imm } => at_address(alloc, store_name(op), rs2, imm, rs1),
         Inst::OpImm { op, rd, rs1, imm } => with_number(
@@ -203,13 +235,7 @@ fn printed(alloc: Global, pc: u32, inst: Inst) -> Result<String, AllocError>
             rs1,
             amount,
         } => with_number(alloc, shift_name(op), rd, rs1, amount.bits as i32),
-        Inst::Op { op, rd, rs1, rs2 } => three(
-            alloc,
-            operation_name(op),
-            reg_name(rd.number),
-            reg_name(rs1.number),
-            reg_name(rs2.number),
-        ),
+        Inst::Op { op, rd, rs1, rs2 } => registers(alloc, operation_name(op), rd, rs1, rs2),
         Inst::Fence { rd, rs1, imm } => with_number(alloc, "fence", rd, rs1, imm.value & 0xfff),
         Inst::Ecall => String::from_str(alloc, "ecall"),
         Inst::Ebreak => String::from_str(alloc, "ebreak"),

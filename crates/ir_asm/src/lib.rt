@@ -1,19 +1,28 @@
 //! The assembler and the disassembler.
 #![tactic(auto)]
 
+mod asm_err;
+mod assembler;
 mod cause;
 mod disassembler;
+mod first_pass;
 mod form;
 mod item;
 mod items;
+mod labels;
 mod laws;
 mod line;
 mod names;
 mod number;
 mod operand;
 mod operands;
+mod parts;
 mod refusal;
 mod register;
+mod scan;
+mod second_pass;
+#[cfg(test)]
+mod source_tests;
 mod statement;
 mod table;
 #[cfg(test)]
@@ -21,6 +30,8 @@ mod tests;
 mod text;
 mod words;
 
+pub use asm_err::AsmErr;
+pub use assembler::assemble;
 pub use cause::Cause;
 pub use disassembler::disassemble;
 pub use laws::{examples, first_fault, word_law};

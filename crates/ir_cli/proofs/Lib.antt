@@ -1,1 +1,2 @@
 pub mod TakenLines
+pub mod ReadFiles

@@ -1,15 +1,19 @@
 //! `ir`: a record and replay debugger for guests of RV32IM threads.
 #![tactic(auto)]
 
+mod assembling;
 mod bundle;
 mod fault;
+mod files;
 mod line;
 #[cfg(test)]
 mod tests;
 mod words;
 
+use assembling::asm_run;
 use bundle::bundle;
-use ir_debug::FromStd;
+use files::{NewFile, read_file};
+use ir_debug::{FromStd, Sink};
 use std::io::{self, BufReader};
 use std::process::ExitCode;
 use words::{Asked, read_words};
@@ -37,9 +41,30 @@ fn serve(rt: &HostRuntime) -> u8 {
     bundle(rt.alloc(), &mut reader, &mut writer, &mut faults)
 }
 
+// Assembles a file into another.
+fn assemble_file(rt: &HostRuntime, source: &str, image: &str) -> u8 {
+    let bytes = match read_file(rt, source) {
+        Ok(bytes) => bytes,
+        Err(why) => {
+            let _ = rt.eprintln(format_args!("ir: {source} {why}"));
+            return FAULT;
+        }
+    };
+    let mut file = NewFile::new(rt, image);
+    let mut faults = FromStd::new(rt.stderr());
+    let status = asm_run(rt.alloc(), bytes.as_slice(), &mut file, &mut faults);
+    if status == FAULT && file.failed() {
+        let _ = rt.eprintln(format_args!("ir: {image} can't be written"));
+    } else if status == FAULT {
+        let _ = rt.eprintln(format_args!("ir: {source}: memory ran out"));
+    }
+    status
+}
+
 fn main(rt: HostRuntime) -> ExitCode {
     ExitCode::from(match read_words(&rt) {
         Asked::Session => serve(&rt),
+        Asked::Assembling(source, image) => assemble_file(&rt, source.as_str(), image.as_str()),
         Asked::Help(text) => match rt.print(text) {
             Ok(()) => DONE,
             Err(_) => FAULT,

@@ -1,0 +1,194 @@
+-- What the second pass keeps.
+use Rattle.std.proofs.Common.{◌≡◌, ◌+◌, ◌-◌, ◌*◌, ◌%◌, ◌≤◌, ◌<◌, ℕ, Bool, List, [], ◌∷◌, ◌++◌, length, take, drop, refl, sym, ap, subst, ◌∙◌, arith, Result, Ok, Err, true, false, Some, cond, negsuc, pos, get_or, zero, suc}
+use Rattle.std.specs.Prelude.{nat_lt, replicate, bytes_eq}
+use Rattle.std.specs.List.{AllByRecursion}
+use Rattle.std.proofs.lemmas.Bool.{ltb-true}
+use Rattle.std.proofs.lemmas.Option.{same_Some}
+use Rattle.std.proofs.lemmas.List.{length-replicate, length-append, length-take-le, length-drop}
+use Rattle.ir_image.specs.Guest.{Guest, IsPlace, code_start, object_words}
+use Rattle.ir_asm.specs.declared.item.Item.{Item}
+use Rattle.ir_asm.specs.declared.item.Item.TheVariants.{Code, BranchTo, JumpTo, LoadAddress, Filled, Within, Entry, Count, First, Nothing}
+use Rattle.ir_asm.specs.declared.item.Place.{Place}
+use Rattle.ir_asm.specs.declared.item.Placed.{Placed}
+use Rattle.ir_asm.specs.declared.form.Section.{Section}
+use Rattle.ir_asm.specs.declared.form.Section.TheVariants.{Text, Data}
+use Rattle.ir_asm.specs.declared.cause.Cause.{Cause}
+use Rattle.ir_asm.specs.declared.cause.Cause.TheVariants.{LabelMissing, BadCount, WrongSection}
+use Rattle.ir_asm.specs.Names.{named}
+use Rattle.ir_asm.specs.declared.asm_err.AsmErr.{AsmErr}
+use Rattle.ir_asm.specs.declared.refusal.Refusal.{Refusal}
+use Rattle.ir_asm.specs.declared.refusal.Refusal.TheVariants.{Faulty, NoMem}
+use Rattle.ir_asm.specs.Faults.{◌>>=◌, Makes}
+use Rattle.ir_asm.specs.Answered.{Answers, refused}
+use Rattle.ir_asm.specs.Source.{Seen, Fault, same_section, at_line}
+use Rattle.ir_asm.specs.Passes.{put, distance_to, value_of, text_address, with_code, with_object, eight_words, second_pass}
+use Rattle.ir_asm.specs.Bounds.{HasFewWords}
+use Rattle.ir_asm.proofs.Steps.{ok_is, bind_ok, tested, or_ok}
+
+-- how many bytes of code an item is
+abbrev pub code_size : Item → ℕ
+code_size (Code words) = 4 * length words
+code_size (BranchTo op rs1 rs2 label) = 4
+code_size (JumpTo rd label) = 4
+code_size (LoadAddress rd label) = 8
+code_size item = 0
+
+-- how many bytes of data an item is
+abbrev pub data_size : Item → ℕ
+data_size (Filled bytes) = length bytes
+data_size item = 0
+
+-- how many entries an item is
+abbrev pub entry_count : Item → ℕ
+entry_count (Entry label) = 1
+entry_count item = 0
+
+-- a label that stands in text is a place there
+abbrev pub IsTextPlace : Section → ℕ → Type 0
+IsTextPlace Text address = (address % 4 ≡ 0) × (code_start ≤ address)
+IsTextPlace Data address = Unit {0}
+
+-- all labels in text are places there
+abbrev pub LabelsFit : List (List ℕ × Place) → Type 0
+LabelsFit labels = AllByRecursion (λ l. IsTextPlace l.1.section l.1.address) labels
+
+pub all_push : {X : Type 0} (P : X → Type 0) (xs : List X) (x : X) → AllByRecursion P xs → P x → AllByRecursion P (xs ++ x ∷ [])
+all_push P [] x h p = (p, tt)
+all_push P (y ∷ ys) x h p = (h.0, all_push P ys x h.1 p)
+
+-- what holds beside all names holds beside one
+pub all_named : {A : Type 0} (P : A → Type 0) (rows : List (List ℕ × A)) (name : List ℕ) (x : A) → AllByRecursion (λ r. P r.1) rows → named rows name ≡ Some x → P x
+all_named P [] name x h e = absurd (cc e)
+all_named P (r ∷ rows) name x h e = by_test (bytes_eq name r.0) (λ f. all_named P rows name x h.1 f) e
+  where
+    by_test : (b : Bool) → (named rows name ≡ Some x → P x) → cond b (Some r.1) (named rows name) ≡ Some x → P x
+    by_test true rest f = subst P (same_Some r.1 x f) h.0
+    by_test false rest f = rest f
+
+-- the address of a label in text is a place there
+pub address_fits : (s : Seen) (label : List ℕ) (a : ℕ) → LabelsFit s.labels → text_address s label ≡ Ok a → (a % 4 ≡ 0) × (code_start ≤ a)
+address_fits s label a fits e =
+    let b = bind_ok (value_of s label) _ a e in
+    let t = tested (same_section b.0.section Text) WrongSection b.0.address a b.2 in
+    let p = all_named (λ (place : Place). IsTextPlace place.section place.address) s.labels label b.0 fits (or_ok LabelMissing _ b.0 b.1) in
+    subst (λ n. (n % 4 ≡ 0) × (code_start ≤ n)) t.1 (by_section b.0.section b.0.address t.0 p)
+  where
+    by_section : (section : Section) (n : ℕ) → same_section section Text ≡ true → IsTextPlace section n → (n % 4 ≡ 0) × (code_start ≤ n)
+    by_section Text n f p = p
+    by_section Data n f p = absurd (cc f)
+
+-- an object's words take the place of as many
+pub object_length : (g : Guest) (object : ℕ) (words : List ℕ) → length words ≤ object_words → object_words * object + object_words ≤ length g.words → length (with_object g object words).words ≡ length g.words
+object_length g object words few there =
+    let front : List ℕ = take (object_words * object) g.words in
+    let back : List ℕ = drop (object_words * object + object_words) g.words in
+    omega (
+      arith,
+      length-append front (eight_words words ++ back),
+      length-append (eight_words words) back,
+      length-append words (replicate (object_words - length words) 0),
+      length-replicate {A = ℕ} (object_words - length words) 0,
+      length-take-le (object_words * object) g.words (omega (arith, there)),
+      length-drop (object_words * object + object_words) g.words,
+      few,
+      there,
+    )
+
+-- what an item adds to a guest
+pub record Adds (s : Seen) (item : Item) (g h : Guest) : Type 0 where
+  pub code : 4 * length h.code ≡ 4 * length g.code + code_size item
+  pub bytes : length h.bytes ≡ length g.bytes + data_size item
+  pub entries : length h.entries ≡ length g.entries + entry_count item
+  pub words : length h.words ≡ length g.words
+  pub fit : LabelsFit s.labels → (n : ℕ) → 4 * n ≡ s.code → AllByRecursion (IsPlace n) g.entries → AllByRecursion (IsPlace n) h.entries
+
+more_code : (s : Seen) (item : Item) (g h : Guest) (words : List ℕ) → 4 * length words ≡ code_size item → data_size item ≡ 0 → entry_count item ≡ 0 → with_code g words ≡ h → Adds s item g h
+more_code s item g h words c d n e = subst (Adds s item g) e (record {
+  code = omega (arith, length-append g.code words, c);
+  bytes = omega (arith, d);
+  entries = omega (arith, n);
+  words = refl;
+  fit = λ fits k m all. all;
+})
+
+same_guest : (s : Seen) (item : Item) (g h : Guest) → code_size item ≡ 0 → data_size item ≡ 0 → entry_count item ≡ 0 → g ≡ h → Adds s item g h
+same_guest s item g h c d n e = subst (Adds s item g) e (record { code = omega (arith, c); bytes = omega (arith, d); entries = omega (arith, n); words = refl; fit = λ fits k m all. all })
+
+pub put_adds : (s : Seen) (a : ℕ) (item : Item) (g h : Guest) → HasFewWords item → length g.words ≡ object_words * s.objects → put s a item g ≡ Ok h → Adds s item g h
+put_adds s a (Code words) g h few there e = more_code s (Code words) g h words refl refl refl (ok_is _ h e)
+put_adds s a (BranchTo op rs1 rs2 label) g h few there e =
+    let b = bind_ok (distance_to s (negsuc 4095) (pos 4094) a label) _ h e in
+    more_code s (BranchTo op rs1 rs2 label) g h _ refl refl refl (ok_is _ h b.2)
+put_adds s a (JumpTo rd label) g h few there e =
+    let b = bind_ok (distance_to s (negsuc 1048575) (pos 1048574) a label) _ h e in
+    more_code s (JumpTo rd label) g h _ refl refl refl (ok_is _ h b.2)
+put_adds s a (LoadAddress rd label) g h few there e =
+    let b = bind_ok (value_of s label) _ h e in
+    more_code s (LoadAddress rd label) g h _ refl refl refl (ok_is _ h b.2)
+put_adds s a (Filled bytes) g h few there e = subst (Adds s (Filled bytes) g) (ok_is _ h e) (record {
+  code = omega arith;
+  bytes = length-append g.bytes bytes;
+  entries = omega arith;
+  words = refl;
+  fit = λ fits k m all. all;
+})
+put_adds s a (Entry label) g h few there e =
+    let b = bind_ok (text_address s label) _ h e in
+    let t = tested (nat_lt b.0 (code_start + s.code)) WrongSection _ h b.2 in
+    let below : b.0 < code_start + s.code = ltb-true b.0 (code_start + s.code) t.0 in
+    subst (Adds s (Entry label) g) t.1 (record {
+      code = omega arith;
+      bytes = omega arith;
+      entries = length-append g.entries (b.0 ∷ []);
+      words = refl;
+      fit = λ fits n m all. let p = address_fits s label b.0 fits b.1 in all_push (IsPlace n) g.entries b.0 all (record { aligned = p.0; low = p.1; high = omega (arith, below, m) });
+    })
+put_adds s a (First object words) g h few there e =
+    let t = tested (nat_lt object s.objects) BadCount _ h e in
+    let below : object < s.objects = ltb-true object s.objects t.0 in
+    subst (Adds s (First object words) g) t.1 (record {
+      code = omega arith;
+      bytes = omega arith;
+      entries = omega arith;
+      words = object_length g object words few (omega (arith, below, there));
+      fit = λ fits k m all. all;
+    })
+put_adds s a (Within section) g h few there e = same_guest s (Within section) g h refl refl refl (ok_is _ h e)
+put_adds s a (Count n) g h few there e = same_guest s (Count n) g h refl refl refl (ok_is _ h e)
+put_adds s a Nothing g h few there e = same_guest s Nothing g h refl refl refl (ok_is _ h e)
+
+-- the number of words stays
+pub words_stay : (s : Seen) (a : ℕ) (item : Item) (g h : Guest) → HasFewWords item → length g.words ≡ object_words * s.objects → put s a item g ≡ Ok h → length h.words ≡ object_words * s.objects
+words_stay s a item g h few there e = (put_adds s a item g h few there e).words ∙ there
+
+-- what holds of all holds of one
+pub all_here : {X : Type 0} (P : X → Type 0) (xs : List X) (i : ℕ) (d : X) → i < length xs → AllByRecursion P xs → P (get_or xs i d)
+all_here P [] i d l h = absurd (omega (arith, l))
+all_here P (y ∷ ys) zero d l h = h.0
+all_here P (y ∷ ys) (suc i) d l h = all_here P ys i d (omega (arith, l)) h.1
+
+front : {X : Type 0} (xs : List X) (i : ℕ) (d : X) → i < length xs → drop i xs ≡ get_or xs i d ∷ drop (i + 1) xs
+front [] i d l = absurd (omega (arith, l))
+front (y ∷ ys) zero d l = refl
+front (y ∷ ys) (suc i) d l =
+    let n : suc i + 1 ≡ suc (i + 1) = omega arith in
+    rw n (front ys i d (omega (arith, l)))
+
+-- one step, and those that follow
+pub put_next : (s : Seen) (xs : List Placed) (i : ℕ) (x : Placed) (g h : Guest) (whole : Result Guest Fault) → i < length xs → x ≡ get_or xs i x → put s x.address x.item g ≡ Ok h →
+    second_pass s (drop i xs) g ≡ whole → second_pass s (drop (i + 1) xs) h ≡ whole
+put_next s xs i x g h whole l there e told =
+    let cut : drop i xs ≡ x ∷ drop (i + 1) xs = front xs i x l ∙ ap (λ (y : Placed). y ∷ drop (i + 1) xs) (sym there) in
+    sym (ap (λ (l : List Placed). second_pass s l g) cut ∙ rw e refl) ∙ told
+
+-- a step that is refused
+pub put_refused : {X : Type 0} (view : X → Guest) (s : Seen) (xs : List Placed) (i : ℕ) (x : Placed) (g state : Guest) (refusal : Refusal) (error : AsmErr) (whole : Result Guest Fault) → i < length xs → x ≡ get_or xs i x → error ≡ refused x.line refusal →
+    Makes {A = Unit {0}} state (Err refusal) (put s x.address x.item g) → second_pass s (drop i xs) g ≡ whole → Answers view (Err error) whole
+put_refused view s xs i x g state refusal error whole l there is e told =
+    let cut : drop i xs ≡ x ∷ drop (i + 1) xs = front xs i x l ∙ ap (λ (y : Placed). y ∷ drop (i + 1) xs) (sym there) in
+    let again : second_pass s (x ∷ drop (i + 1) xs) g ≡ whole = sym (ap (λ (l : List Placed). second_pass s l g) cut) ∙ told in
+    subst (λ r. Answers view (Err r) whole) (sym is) (by_refusal refusal (put s x.address x.item g) e again)
+  where
+    by_refusal : (r : Refusal) (step : Result Guest Cause) → Makes {A = Unit {0}} state (Err r) step → (at_line x.line step >>= λ h. second_pass s (drop (i + 1) xs) h) ≡ whole → Answers view (Err (refused x.line r)) whole
+    by_refusal (Faulty cause) step m k = sym k ∙ rw m refl
+    by_refusal NoMem step m k = tt

@@ -1,0 +1,394 @@
+-- What the first pass keeps.
+use Rattle.std.proofs.Common.{is_some, not, ◌≡◌, ◌+◌, ◌*◌, ◌%◌, ◌^◌, ◌≤◌, ◌<◌, ℕ, zero, suc, ℤ, pos, negsuc, Bool, true, false, true≢false, cond, List, [], ◌∷◌, ◌++◌, length, refl, sym, ap, subst, ◌∙◌, arith, Ok, ◌&&◌}
+use Rattle.std.specs.Prelude.{nat_le, nat_lt, slice_index, ◌==◌, flat_map}
+use Rattle.std.specs.List.{AllByRecursion, sum_by, list_all}
+use Rattle.std.proofs.lemmas.Bool.{ltb-true, leb-true, eqb-false}
+use Rattle.std.proofs.lemmas.List.{length-append, length-replicate}
+use Rattle.std.proofs.lemmas.List.Sums.{sum_by-append}
+use Rattle.byteorder.specs.Endian.{little_bytes}
+use Rattle.ir_image.specs.Guest.{Guest, IsGuest, IsPlace, IsWord, IsByte, code_start, object_words}
+use Rattle.ir_asm.specs.declared.cause.Cause.TheVariants.{UnknownStatement, WrongSection, WrongOperands, BadNumber, BadSize, BadCount, BadByte, BadLabel, LabelTwice}
+use Rattle.ir_asm.specs.declared.form.Section.{Section}
+use Rattle.ir_asm.specs.declared.form.Section.TheVariants.{Text, Data}
+use Rattle.ir_asm.specs.declared.form.Form.{Form}
+use Rattle.ir_asm.specs.declared.form.Form.TheVariants.{Registers, Immediates, Shifts, Loads, JumpsTo, Stores, Branches, Jumps, LoadsUpper, AddsUpper, Fences, Calls, Breaks, DoesNothing, LoadsValue, Sections, Bytes, Space, Thread, Objects, Object}
+use Rattle.ir_asm.specs.declared.form.Kind.TheVariants.{Number}
+use Rattle.ir_asm.specs.declared.item.Operand.{Operand}
+use Rattle.ir_asm.specs.declared.item.Operand.TheVariants.{Index, Integer, Offset, Symbol}
+use Rattle.ir_asm.specs.declared.item.Item.{Item}
+use Rattle.ir_asm.specs.declared.item.Item.TheVariants.{Code, BranchTo, JumpTo, LoadAddress, Filled, Within, Entry, Count, First, Nothing}
+use Rattle.ir_asm.specs.declared.item.Placed.{Placed}
+use Rattle.ir_isa.specs.Words.{low_bits}
+use Rattle.ir_asm.specs.Faults.{◌>>=◌, or_cause}
+use Rattle.ir_asm.specs.Forms.{form_named, stands_in, takes, kind_at}
+use Rattle.ir_asm.specs.Operands.{int_le, number_in, read, read_all, are_formed, operands_of}
+use Rattle.ir_asm.specs.Text.{number, is_name}
+use Rattle.ir_asm.specs.Names.{named}
+use Rattle.ir_asm.specs.Items.{values, item_of}
+use Rattle.ir_asm.specs.Source.{Seen, nothing_seen, size_of, here, start_of, size_in, is_source_byte, at_line, grown, laid, placed_at, entered, with_labels, with_statement, with_line, line_of, first_pass, may_stand, item_in, name_of, operand_texts}
+use Rattle.ir_asm.specs.Passes.{put, second_pass, started, with_entry, guest_of}
+use Rattle.ir_asm.specs.Bounds.{HasFewWords, HaveFewWords, HasLimits}
+use Rattle.ir_asm.proofs.Steps.{at_line_ok, ok_is, bind_ok, unless_ok, tested}
+use Rattle.ir_asm.proofs.Kept.{code_size, data_size, entry_count, LabelsFit, IsTextPlace, all_push, put_adds}
+
+-- what holds of each element holds of all
+pub all_fit : (P : ℕ → Type 0) (xs : List ℕ) → ((i : ℕ) → P (slice_index xs i)) → AllByRecursion P xs
+all_fit P [] each = tt
+all_fit P (x ∷ xs) each = (each 0, all_fit P xs (λ i. each (suc i)))
+
+-- ---- what a statement of a section may be
+
+-- an item that a section may have: text has code, data has bytes, and counts are within their limits
+abbrev pub MayStand : Section → Item → Type 0
+MayStand Text (Filled bytes) = ⊥
+MayStand Data (BranchTo op rs1 rs2 label) = ⊥
+MayStand Data (JumpTo rd label) = ⊥
+MayStand Data (LoadAddress rd label) = ⊥
+MayStand section (Count n) = n ≤ 16
+MayStand section (First object words) = length words ≤ object_words
+MayStand section item = Unit {0}
+
+-- as many operands as texts
+pub read_length : (form : Form) (place : ℕ) (texts : List (List ℕ)) (xs : List Operand) → read_all form place texts ≡ Ok xs → length xs ≡ length texts
+read_length form place [] xs e = ap length (sym (ok_is [] xs e))
+read_length form place (t ∷ texts) xs e =
+    let b = bind_ok (read (kind_at form place) t) _ xs e in
+    let d = bind_ok (read_all form (place + 1) texts) _ xs b.2 in
+    ap length (sym (ok_is _ xs d.2)) ∙ ap suc (read_length form (place + 1) texts d.0 d.1)
+
+values_length : (bits : ℕ) (xs : List Operand) → length (values bits xs) ≤ length xs
+values_length bits [] = omega arith
+values_length bits (Integer z ∷ xs) = omega (arith, values_length bits xs)
+values_length bits (Index r ∷ xs) = omega (arith, values_length bits xs)
+values_length bits (Offset z r ∷ xs) = omega (arith, values_length bits xs)
+values_length bits (Symbol label ∷ xs) = omega (arith, values_length bits xs)
+
+and_left : (a b : Bool) → (a && b) ≡ true → a ≡ true
+and_left true b e = refl
+and_left false b e = e
+
+and_right : (a b : Bool) → (a && b) ≡ true → b ≡ true
+and_right true b e = e
+and_right false b e = absurd (true≢false (sym e))
+
+-- the first words of an object are at most eight
+few_first : (texts : List (List ℕ)) (z : ℤ) (xs : List Operand) → operands_of Object texts ≡ Ok (Integer z ∷ xs) → length (values 32 xs) ≤ object_words
+few_first texts z xs e =
+    let u = unless_ok (takes Object (length texts) && are_formed Object 0 texts) WrongOperands (read_all Object 0 texts) _ e in
+    let most : length texts ≤ 9 = leb-true (length texts) 9 (and_right (nat_le 2 (length texts)) _ (and_left (takes Object (length texts)) _ u.0)) in
+    let count : suc (length xs) ≡ length texts = read_length Object 0 texts (Integer z ∷ xs) u.1 in
+    omega (arith, most, count, values_length 32 xs)
+
+-- a number within limits
+number_within : (high : ℕ) (text : List ℕ) (z : ℤ) → number_in (pos 0) (pos high) text ≡ Ok z → high < 2 ^ 32 → low_bits 32 z ≤ high
+number_within high text z e small =
+    let b = bind_ok (or_cause BadNumber (number text)) _ z e in
+    let t = tested (int_le (pos 0) b.0 && int_le b.0 (pos high)) BadNumber b.0 z b.2 in
+    subst (λ y. low_bits 32 y ≤ high) t.1 (by_sign b.0 (and_left _ _ t.0) (and_right (int_le (pos 0) b.0) _ t.0) small)
+  where
+    by_sign : (y : ℤ) → int_le (pos 0) y ≡ true → int_le y (pos high) ≡ true → high < 2 ^ 32 → low_bits 32 y ≤ high
+    by_sign (pos n) l h k = let m : n ≤ high = leb-true n high h in omega (arith, m)
+    by_sign (negsuc n) l h k = absurd (cc l)
+
+-- the whole number that comes first
+abbrev first_number : List Operand → ℤ
+first_number [] = pos 0
+first_number (Integer z ∷ xs) = z
+first_number (x ∷ xs) = pos 0
+
+-- a number of objects is at most sixteen
+few_objects : (texts : List (List ℕ)) (z : ℤ) → operands_of Objects texts ≡ Ok (Integer z ∷ []) → low_bits 32 z ≤ 16
+few_objects [] z e = absurd (cc e)
+few_objects (t ∷ texts) z e =
+    let u = unless_ok (takes Objects (length (t ∷ texts)) && are_formed Objects 0 (t ∷ texts)) WrongOperands (read_all Objects 0 (t ∷ texts)) _ e in
+    let b = bind_ok (read (Number (pos 0) (pos 16)) t) _ _ u.1 in
+    let d = bind_ok (read_all Objects 1 texts) _ _ b.2 in
+    let n = bind_ok (number_in (pos 0) (pos 16) t) _ _ b.1 in
+    let same : n.0 ≡ z = ap (λ x. first_number (x ∷ d.0)) (ok_is _ _ n.2) ∙ ap first_number (ok_is _ _ d.2) in
+    subst (λ y. low_bits 32 y ≤ 16) same (number_within 16 t n.0 n.1 (omega arith))
+
+form_stands : (section : Section) (form : Form) (texts : List (List ℕ)) (xs : List Operand) → may_stand (stands_in form) section ≡ true → operands_of form texts ≡ Ok xs → MayStand section (item_of form xs)
+form_stands Text Bytes texts xs m e = absurd (cc m)
+form_stands Text Space texts xs m e = absurd (cc m)
+form_stands Data (Registers op) texts xs m e = absurd (cc m)
+form_stands Data (Immediates op) texts xs m e = absurd (cc m)
+form_stands Data (Shifts op) texts xs m e = absurd (cc m)
+form_stands Data (Loads op) texts xs m e = absurd (cc m)
+form_stands Data JumpsTo texts xs m e = absurd (cc m)
+form_stands Data (Stores op) texts xs m e = absurd (cc m)
+form_stands Data (Branches op) texts xs m e = absurd (cc m)
+form_stands Data Jumps texts xs m e = absurd (cc m)
+form_stands Data LoadsUpper texts xs m e = absurd (cc m)
+form_stands Data AddsUpper texts xs m e = absurd (cc m)
+form_stands Data Fences texts xs m e = absurd (cc m)
+form_stands Data Calls texts xs m e = absurd (cc m)
+form_stands Data Breaks texts xs m e = absurd (cc m)
+form_stands Data DoesNothing texts xs m e = absurd (cc m)
+form_stands Data LoadsValue texts xs m e = absurd (cc m)
+form_stands section Objects texts (Integer z ∷ []) m e = few_objects texts z e
+form_stands section Object texts (Integer z ∷ xs) m e = few_first texts z xs e
+form_stands Text (Registers op) texts (Index rd ∷ Index rs1 ∷ Index rs2 ∷ []) m e = tt
+form_stands Text (Immediates op) texts (Index rd ∷ Index rs1 ∷ Integer imm ∷ []) m e = tt
+form_stands Text (Shifts op) texts (Index rd ∷ Index rs1 ∷ Integer n ∷ []) m e = tt
+form_stands Text (Loads op) texts (Index rd ∷ Offset imm rs1 ∷ []) m e = tt
+form_stands Text JumpsTo texts (Index rd ∷ Offset imm rs1 ∷ []) m e = tt
+form_stands Text (Stores op) texts (Index rs2 ∷ Offset imm rs1 ∷ []) m e = tt
+form_stands Text (Branches op) texts (Index rs1 ∷ Index rs2 ∷ Integer z ∷ []) m e = tt
+form_stands Text (Branches op) texts (Index rs1 ∷ Index rs2 ∷ Symbol label ∷ []) m e = tt
+form_stands Text Jumps texts (Index rd ∷ Integer z ∷ []) m e = tt
+form_stands Text Jumps texts (Index rd ∷ Symbol label ∷ []) m e = tt
+form_stands Text LoadsUpper texts (Index rd ∷ Integer z ∷ []) m e = tt
+form_stands Text AddsUpper texts (Index rd ∷ Integer z ∷ []) m e = tt
+form_stands Text Fences texts [] m e = tt
+form_stands Text Fences texts (Index rd ∷ Index rs1 ∷ Integer z ∷ []) m e = tt
+form_stands Text Calls texts [] m e = tt
+form_stands Text Breaks texts [] m e = tt
+form_stands Text DoesNothing texts [] m e = tt
+form_stands Text LoadsValue texts (Index rd ∷ Integer z ∷ []) m e = tt
+form_stands Text LoadsValue texts (Index rd ∷ Symbol label ∷ []) m e = tt
+form_stands section (Sections other) texts [] m e = tt
+form_stands Data Space texts (Integer z ∷ []) m e = tt
+form_stands section Thread texts (Symbol label ∷ []) m e = tt
+form_stands section form texts xs m e = tt
+
+-- what a statement of a section places may stand there
+pub item_stands : (section : Section) (statement : List ℕ) (item : Item) → item_in section statement ≡ Ok item → MayStand section item
+item_stands section statement item e =
+    let f = bind_ok (or_cause UnknownStatement (form_named (name_of statement))) _ item e in
+    let u = unless_ok (may_stand (stands_in f.0) section) WrongSection _ item f.2 in
+    let o = bind_ok (operands_of f.0 (operand_texts statement)) _ item u.1 in
+    subst (MayStand section) (ok_is _ item o.2) (form_stands section f.0 (operand_texts statement) o.0 u.0 o.1)
+
+-- ---- the whole guest
+
+-- within its limits, and all of it fits
+pub guest_fits : (g : Guest) → HasLimits g → AllByRecursion IsWord g.code → AllByRecursion IsByte g.bytes → AllByRecursion IsWord g.words → IsGuest g
+guest_fits g l code bytes words = record {
+  some_thread = l.some_thread;
+  few_threads = l.few_threads;
+  short_code = l.short_code;
+  short_data = l.short_data;
+  whole_objects = l.whole_objects;
+  few_objects = l.few_objects;
+  entries_fit = l.entries_fit;
+  code_fits = code;
+  bytes_fit = bytes;
+  words_fit = words;
+}
+
+-- ---- what was seen
+
+-- the bytes of code, the bytes of data and the entries of what is placed
+abbrev pub total : (Item → ℕ) → List Placed → ℕ
+total size placed = sum_by (λ x. size x.item) placed
+
+-- what was seen tells what is placed, and is within the limits
+pub record IsSound (s : Seen) : Type 0 where
+  pub code : total code_size s.placed ≡ s.code
+  pub bytes : total data_size s.placed ≡ s.filled
+  pub entries : total entry_count s.placed ≡ s.threads
+  pub aligned : s.code % 4 ≡ 0
+  pub short_code : s.code ≤ 65536
+  pub short_data : s.filled ≤ 65536
+  pub few_threads : s.threads ≤ 8
+  pub few_objects : s.objects ≤ 16
+  pub labels : LabelsFit s.labels
+  pub few : HaveFewWords s.placed
+
+pub nothing_sound : IsSound nothing_seen
+nothing_sound = record { code = refl; bytes = refl; entries = refl; aligned = refl; short_code = omega arith; short_data = omega arith; few_threads = omega arith; few_objects = omega arith; labels = tt; few = tt }
+
+total_push : (size : Item → ℕ) (placed : List Placed) (x : Placed) → total size (placed ++ x ∷ []) ≡ total size placed + size x.item
+total_push size placed x = sum_by-append (λ y. size y.item) placed (x ∷ []) ∙ omega arith
+
+-- one item more
+item_sound : (s : Seen) (line a c d n : ℕ) (item : Item) → IsSound s → HasFewWords item → code_size item % 4 ≡ 0 → c ≡ s.code + code_size item → d ≡ s.filled + data_size item → n ≡ s.threads + entry_count item → c ≤ 65536 → d ≤ 65536 → n ≤ 8
+    → IsSound (placed_at line a item (record s { code = c; filled = d; threads = n }))
+item_sound s line a c d n item h few whole is_code is_data is_entry short_code short_data few_threads =
+    let x : Placed = record { line = line; address = a; item = item } in
+    record {
+      code = omega (arith, total_push code_size s.placed x, h.code, is_code);
+      bytes = omega (arith, total_push data_size s.placed x, h.bytes, is_data);
+      entries = omega (arith, total_push entry_count s.placed x, h.entries, is_entry);
+      aligned = omega (arith, h.aligned, whole, is_code);
+      short_code = short_code;
+      short_data = short_data;
+      few_threads = few_threads;
+      few_objects = h.few_objects;
+      labels = h.labels;
+      few = all_push (λ y. HasFewWords y.item) s.placed x h.few few;
+    }
+
+-- nothing more
+other_sound : (s : Seen) (section : Section) (c d o : ℕ) → IsSound s → c ≡ s.code → d ≡ s.filled → o ≤ 16 → IsSound (record s { section = section; code = c; filled = d; objects = o })
+other_sound s section c d o h is_code is_data few = record {
+  code = h.code ∙ sym is_code;
+  bytes = h.bytes ∙ sym is_data;
+  entries = h.entries;
+  aligned = omega (arith, h.aligned, is_code);
+  short_code = omega (arith, h.short_code, is_code);
+  short_data = omega (arith, h.short_data, is_data);
+  few_threads = h.few_threads;
+  few_objects = few;
+  labels = h.labels;
+  few = h.few;
+}
+
+-- an item of text
+text_item : (s t : Seen) (line a : ℕ) (item : Item) → IsSound s → MayStand Text item → s.code + size_of item ≤ 65536 → entered line a (laid Text item) (record s { code = s.code + size_of item }) ≡ Ok t → IsSound t
+text_item s t line a (Code words) h m l e = subst IsSound (ok_is _ t e) (item_sound s line a (s.code + 4 * length words) s.filled s.threads (Code words) h tt (omega arith) refl (omega arith) (omega arith) l h.short_data h.few_threads)
+text_item s t line a (BranchTo op rs1 rs2 label) h m l e = subst IsSound (ok_is _ t e) (item_sound s line a (s.code + 4) s.filled s.threads (BranchTo op rs1 rs2 label) h tt refl refl (omega arith) (omega arith) l h.short_data h.few_threads)
+text_item s t line a (JumpTo rd label) h m l e = subst IsSound (ok_is _ t e) (item_sound s line a (s.code + 4) s.filled s.threads (JumpTo rd label) h tt refl refl (omega arith) (omega arith) l h.short_data h.few_threads)
+text_item s t line a (LoadAddress rd label) h m l e = subst IsSound (ok_is _ t e) (item_sound s line a (s.code + 8) s.filled s.threads (LoadAddress rd label) h tt refl refl (omega arith) (omega arith) l h.short_data h.few_threads)
+text_item s t line a (Filled bytes) h m l e = absurd m
+text_item s t line a (Within section) h m l e = subst IsSound (ok_is _ t e) (other_sound s section (s.code + 0) s.filled s.objects h (omega arith) refl h.few_objects)
+text_item s t line a (Entry label) h m l e =
+    let u = tested (nat_lt s.threads 8) BadCount _ t e in
+    let below : s.threads < 8 = ltb-true s.threads 8 u.0 in
+    subst IsSound u.1 (item_sound s line a (s.code + 0) s.filled (s.threads + 1) (Entry label) h tt refl refl (omega arith) refl l h.short_data (omega (arith, below)))
+text_item s t line a (Count n) h m l e = subst IsSound (ok_is _ t e) (other_sound s s.section (s.code + 0) s.filled n h (omega arith) refl m)
+text_item s t line a (First object words) h m l e = subst IsSound (ok_is _ t e) (item_sound s line a (s.code + 0) s.filled s.threads (First object words) h m refl refl (omega arith) (omega arith) l h.short_data h.few_threads)
+text_item s t line a Nothing h m l e = subst IsSound (ok_is _ t e) (other_sound s s.section (s.code + 0) s.filled s.objects h (omega arith) refl h.few_objects)
+
+spelled_length : (words : List ℕ) → length (flat_map (little_bytes 4) words) ≡ 4 * length words
+spelled_length [] = refl
+spelled_length (w ∷ words) = omega (arith, length-append (little_bytes 4 w) (flat_map (little_bytes 4) words), spelled_length words)
+
+-- an item of data
+data_item : (s t : Seen) (line a : ℕ) (item : Item) → IsSound s → MayStand Data item → s.filled + size_of item ≤ 65536 → entered line a (laid Data item) (record s { filled = s.filled + size_of item }) ≡ Ok t → IsSound t
+data_item s t line a (Code words) h m l e = subst IsSound (ok_is _ t e) (item_sound s line a s.code (s.filled + 4 * length words) s.threads (Filled (flat_map (little_bytes 4) words)) h tt refl (omega arith) (omega (arith, spelled_length words)) (omega arith) h.short_code l h.few_threads)
+data_item s t line a (BranchTo op rs1 rs2 label) h m l e = absurd m
+data_item s t line a (JumpTo rd label) h m l e = absurd m
+data_item s t line a (LoadAddress rd label) h m l e = absurd m
+data_item s t line a (Filled bytes) h m l e = subst IsSound (ok_is _ t e) (item_sound s line a s.code (s.filled + length bytes) s.threads (Filled bytes) h tt refl (omega arith) refl (omega arith) h.short_code l h.few_threads)
+data_item s t line a (Within section) h m l e = subst IsSound (ok_is _ t e) (other_sound s section s.code (s.filled + 0) s.objects h refl (omega arith) h.few_objects)
+data_item s t line a (Entry label) h m l e =
+    let u = tested (nat_lt s.threads 8) BadCount _ t e in
+    let below : s.threads < 8 = ltb-true s.threads 8 u.0 in
+    subst IsSound u.1 (item_sound s line a s.code (s.filled + 0) (s.threads + 1) (Entry label) h tt refl (omega arith) refl refl h.short_code l (omega (arith, below)))
+data_item s t line a (Count n) h m l e = subst IsSound (ok_is _ t e) (other_sound s s.section s.code (s.filled + 0) n h refl (omega arith) m)
+data_item s t line a (First object words) h m l e = subst IsSound (ok_is _ t e) (item_sound s line a s.code (s.filled + 0) s.threads (First object words) h m refl (omega arith) refl (omega arith) h.short_code l h.few_threads)
+data_item s t line a Nothing h m l e = subst IsSound (ok_is _ t e) (other_sound s s.section s.code (s.filled + 0) s.objects h refl (omega arith) h.few_objects)
+
+-- an item of a section
+section_item : (section : Section) (s t : Seen) (line a : ℕ) (item : Item) → IsSound s → MayStand section item → (grown section (size_of item) s >>= λ u. entered line a (laid section item) u) ≡ Ok t → IsSound t
+section_item Text s t line a item h m e =
+    let b = bind_ok (grown Text (size_of item) s) _ t e in
+    let u = tested (nat_le (s.code + size_of item) 65536) BadSize _ b.0 b.1 in
+    text_item s t line a item h m (leb-true _ 65536 u.0) (subst (λ v. entered line a (laid Text item) v ≡ Ok t) (sym u.1) b.2)
+section_item Data s t line a item h m e =
+    let b = bind_ok (grown Data (size_of item) s) _ t e in
+    let u = tested (nat_le (s.filled + size_of item) 65536) BadSize _ b.0 b.1 in
+    data_item s t line a item h m (leb-true _ 65536 u.0) (subst (λ v. entered line a (laid Data item) v ≡ Ok t) (sym u.1) b.2)
+
+-- a statement
+statement_sound : (line : ℕ) (statement : List ℕ) (s t : Seen) → IsSound s → with_statement line statement s ≡ Ok t → IsSound t
+statement_sound line [] s t h e = subst IsSound (ok_is s t e) h
+statement_sound line (b ∷ bs) s t h e =
+    let i = bind_ok (item_in s.section (b ∷ bs)) _ t e in
+    section_item s.section s t line (here s).address i.0 h (item_stands s.section (b ∷ bs) i.0 i.1) i.2
+
+here_fits : (s : Seen) → IsSound s → IsTextPlace (here s).section (here s).address
+here_fits s h = by_section s.section
+  where
+    by_section : (section : Section) → IsTextPlace section (start_of section + size_in section s)
+    by_section Text = (omega (arith, h.aligned), omega arith)
+    by_section Data = tt
+
+label_sound : (s : Seen) (x : List ℕ) → IsSound s → IsSound (record s { labels = s.labels ++ (x, here s) ∷ [] })
+label_sound s x h = record {
+  code = h.code;
+  bytes = h.bytes;
+  entries = h.entries;
+  aligned = h.aligned;
+  short_code = h.short_code;
+  short_data = h.short_data;
+  few_threads = h.few_threads;
+  few_objects = h.few_objects;
+  labels = all_push (λ l. IsTextPlace l.1.section l.1.address) s.labels (x, here s) h.labels (here_fits s h);
+  few = h.few;
+}
+
+-- labels
+labels_sound : (labels : List (List ℕ)) (s t : Seen) → IsSound s → with_labels labels s ≡ Ok t → IsSound t
+labels_sound [] s t h e = subst IsSound (ok_is s t e) h
+labels_sound (x ∷ xs) s t h e =
+    let u = unless_ok (not (is_some (named s.labels x))) LabelTwice _ t e in
+    labels_sound xs (record s { labels = s.labels ++ (x, here s) ∷ [] }) t (label_sound s x h) u.1
+
+-- lines
+lines_sound : (number : ℕ) (lines : List (List ℕ)) (s t : Seen) → IsSound s → first_pass number lines s ≡ Ok t → IsSound t
+lines_sound number [] s t h e = subst IsSound (ok_is s t e) h
+lines_sound number (x ∷ xs) s t h e =
+    let f = bind_ok (at_line number (with_line number (line_of x) s)) _ t e in
+    let l = at_line_ok number (with_line number (line_of x) s) f.0 f.1 in
+    let b = unless_ok (list_all is_source_byte x) BadByte _ f.0 l in
+    let n = unless_ok (list_all is_name (line_of x).labels) BadLabel _ f.0 b.1 in
+    let p = bind_ok (with_labels (line_of x).labels s) _ f.0 n.1 in
+    lines_sound (number + 1) xs f.0 t (statement_sound number (line_of x).statement p.0 f.0 (labels_sound (line_of x).labels s p.0 h p.1) p.2) f.2
+
+-- what the first pass saw
+pub seen_sound : (lines : List (List ℕ)) (s t : Seen) → s ≡ nothing_seen → first_pass 1 lines s ≡ Ok t → IsSound t
+seen_sound lines s t e f = lines_sound 1 lines s t (subst IsSound (sym e) nothing_sound) f
+
+-- ---- what is put
+
+-- what is placed, added to a guest
+record Puts (s : Seen) (xs : List Placed) (g h : Guest) : Type 0 where
+  code : 4 * length h.code ≡ 4 * length g.code + total code_size xs
+  bytes : length h.bytes ≡ length g.bytes + total data_size xs
+  entries : length h.entries ≡ length g.entries + total entry_count xs
+  words : length h.words ≡ length g.words
+  fit : (n : ℕ) → 4 * n ≡ s.code → AllByRecursion (IsPlace n) g.entries → AllByRecursion (IsPlace n) h.entries
+
+total_next : (size : Item → ℕ) (x : Placed) (xs : List Placed) → total size (x ∷ xs) ≡ size x.item + total size xs
+total_next size x xs = sum_by-append (λ y. size y.item) (x ∷ []) xs ∙ omega arith
+
+all_put : (s : Seen) (xs : List Placed) (g h : Guest) → LabelsFit s.labels → HaveFewWords xs → length g.words ≡ object_words * s.objects → second_pass s xs g ≡ Ok h → Puts s xs g h
+all_put s [] g h fits few there e = subst (Puts s [] g) (ok_is g h e) (record { code = omega arith; bytes = omega arith; entries = omega arith; words = refl; fit = λ n m all. all })
+all_put s (x ∷ xs) g h fits few there e =
+    let b = bind_ok (at_line x.line (put s x.address x.item g)) _ h e in
+    let a = put_adds s x.address x.item g b.0 few.0 there (at_line_ok x.line _ b.0 b.1) in
+    let p = all_put s xs b.0 h fits few.1 (a.words ∙ there) b.2 in
+    record {
+      code = omega (arith, a.code, p.code, total_next code_size x xs);
+      bytes = omega (arith, a.bytes, p.bytes, total_next data_size x xs);
+      entries = omega (arith, a.entries, p.entries, total_next entry_count x xs);
+      words = p.words ∙ a.words;
+      fit = λ n m all. p.fit n m (a.fit fits n m all);
+    }
+
+-- with an entry, a guest is within the limits
+entry_limits : (s : Seen) (g : Guest) → IsSound s → 1 ≤ s.code → Puts s s.placed (started s) g → HasLimits (with_entry g)
+entry_limits s g h some p = by_test (length g.entries == 0) refl
+  where
+    by_test : (b : Bool) → (length g.entries == 0) ≡ b → HasLimits (cond b (record g { entries = code_start ∷ [] }) g)
+    by_test true e = record {
+      some_thread = omega arith;
+      few_threads = omega arith;
+      short_code = omega (arith, p.code, h.code, h.short_code);
+      short_data = omega (arith, p.bytes, h.bytes, h.short_data);
+      whole_objects = omega (arith, p.words, length-replicate {A = ℕ} (object_words * s.objects) 0);
+      few_objects = omega (arith, p.words, length-replicate {A = ℕ} (object_words * s.objects) 0, h.few_objects);
+      entries_fit = (record { aligned = refl; low = omega arith; high = omega (arith, p.code, h.code, some) }, tt);
+    }
+    by_test false e = record {
+      some_thread = omega (arith, eqb-false (length g.entries) 0 e);
+      few_threads = omega (arith, p.entries, h.entries, h.few_threads);
+      short_code = omega (arith, p.code, h.code, h.short_code);
+      short_data = omega (arith, p.bytes, h.bytes, h.short_data);
+      whole_objects = omega (arith, p.words, length-replicate {A = ℕ} (object_words * s.objects) 0);
+      few_objects = omega (arith, p.words, length-replicate {A = ℕ} (object_words * s.objects) 0, h.few_objects);
+      entries_fit = p.fit (length g.code) (omega (arith, p.code, h.code)) tt;
+    }
+
+-- what the first pass saw and the second put is within the limits
+pub guest_limits : (s : Seen) (g : Guest) → IsSound s → not (s.code == 0) ≡ true → guest_of s ≡ Ok g → HasLimits g
+guest_limits s g h some e =
+    let there = length-replicate {A = ℕ} (object_words * s.objects) 0 in
+    let b = bind_ok (second_pass s s.placed (started s)) _ g e in
+    subst HasLimits (ok_is _ g b.2) (entry_limits s b.0 h (some_code s.code some) (all_put s s.placed (started s) b.0 h.labels h.few there b.1))
+  where
+    some_code : (n : ℕ) → not (n == 0) ≡ true → 1 ≤ n
+    some_code zero f = absurd (cc f)
+    some_code (suc n) f = omega arith

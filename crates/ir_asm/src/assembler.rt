@@ -1,0 +1,80 @@
+//! The assembler.
+
+ghost use Rattle.std.specs.Prelude.{◌≡◌, IfOk};
+ghost use Rattle.std.specs.List.{AllByRecursion};
+ghost use Rattle.ir_image.specs.Guest.{IsByte, IsWord};
+ghost use Rattle.ir_asm.specs.Passes.{guest_of, assembled};
+ghost use Rattle.ir_asm.specs.Answered.{Answers};
+ghost use Rattle.ir_asm.specs.Bounds.{HaveFewWords, HasLimits};
+
+use crate::asm_err::AsmErr;
+use crate::cause::Cause;
+use crate::first_pass::first_pass;
+use crate::parts::Parts;
+use crate::scan::Scan;
+use crate::second_pass::second_pass;
+use ir_image::{Code, Image};
+use std::alloc::{AllocError, Global};
+
+// Words fit their type.
+fn are_words(words: &[u32])
+    ensures { AllByRecursion IsWord words.now }
+{}
+
+// Bytes fit theirs.
+fn are_bytes(bytes: &[u8])
+    ensures { AllByRecursion IsByte bytes.now }
+{}
+
+// The image of parts that are within the limits.
+fn image(alloc: Global, parts: Parts) -> Result<Image, AllocError>
+    requires { HasLimits parts }
+    ensures { IfOk result (λ i. i ≡ parts) }
+{
+    let Parts {
+        entries,
+        code,
+        bytes,
+        words,
+    } = parts;
+    are_words(code.as_slice());
+    are_bytes(bytes.as_slice());
+    are_words(words.as_slice());
+    let code = Code::new(alloc, code)?;
+    Ok(Image::new(entries, code, bytes, words))
+}
+
+// What was placed, and an entry where there is none.
+fn parts_of(alloc: Global, scan: &Scan) -> Result<Parts, AsmErr>
+    requires { HaveFewWords scan.now.placed }
+    ensures { Answers (λ p. p) result (guest_of scan.now) }
+{
+    let mut parts = Parts::new(alloc, scan.objects)?;
+    second_pass(alloc, scan, scan.placed.as_slice(), &mut parts)?;
+    parts.add_first_entry()?;
+    Ok(parts)
+}
+
+/// The image that a source describes.
+///
+/// A source is lines of labels, a statement and a comment each. The code begins at address 0x00010000 and the data at
+/// 0x00100000; a source without `.thread` has one thread, at the start of its code.
+///
+/// # Errors
+/// The first fault: the line, counted from 1, and its cause. A first pass goes over the lines for what each line says
+/// by itself, a second one for labels and objects; a source without code is at fault in the line after its last.
+/// Or want of memory.
+pub fn assemble(alloc: Global, source: &str) -> Result<Image, AsmErr>
+    ensures { Answers (λ i. i) result (assembled source.now) }
+{
+    let mut scan = Scan::new(alloc);
+    let line = first_pass(alloc, &mut scan, source.as_bytes())?;
+    if !scan.has_code() {
+        return Err(AsmErr::At {
+            line,
+            cause: Cause::BadSize,
+        });
+    }
+    let parts = parts_of(alloc, &scan)?;
+    Ok(image(alloc, parts)?)
+}

@@ -1,0 +1,97 @@
+//! A guest that is put together.
+
+ghost use Rattle.std.specs.Prelude.{◌≡◌, ◌+◌, ◌*◌, ◌≤◌, ◌++◌, [], ◌∷◌, length, replicate, IfOk, OnOk};
+ghost use Rattle.ir_image.specs.Guest.{object_words};
+ghost use Rattle.ir_asm.specs.Passes.{with_code, eight_words, with_object, with_entry};
+
+use std::alloc::{AllocError, Global};
+use std::marker::Model;
+
+/// The address of the first word of the code.
+pub const CODE_START: u32 = 0x0001_0000;
+
+const OBJECT_WORDS: usize = 8;
+
+/// Entries, code, data and the objects' first words; in clauses the guest of these.
+#[derive(Drop)]
+pub struct Parts {
+    pub entries: Vec<u32>,
+    pub code: Vec<u32>,
+    pub bytes: Vec<u8>,
+    pub words: Vec<u32>,
+}
+
+impl Model for Parts {
+    ghost use Rattle.ir_image.specs.Guest.{Guest};
+
+    ghost Value = { Guest };
+
+    ghost view = { λ p. record { entries = p.entries.items; code = p.code.items; bytes = p.bytes.items; words = p.words.items } };
+}
+
+// These words and then zeros.
+fn eight_words(words: &[u32]) -> [u32; 8]
+    requires { length words.now ≤ 8 }
+    ensures { result ≡ eight_words words.now }
+{
+    let mut eight = [0; 8];
+    eight[..words.len()].copy_from_slice(words);
+    eight
+}
+
+impl Parts {
+    /// So many objects of zeros, and nothing else.
+    pub fn new(alloc: Global, objects: u32) -> Result<Parts, AllocError>
+        ensures { IfOk result (λ p. p ≡ record { entries = []; code = []; bytes = []; words = replicate (object_words * objects) 0 }) }
+    {
+        Ok(Parts {
+            entries: Vec::new(alloc),
+            code: Vec::new(alloc),
+            bytes: Vec::new(alloc),
+            words: vec![in alloc; 0; OBJECT_WORDS * objects as usize]?,
+        })
+    }
+
+    /// More code.
+    pub fn add_code(&mut self, words: &[u32]) -> Result<(), AllocError>
+        ensures { OnOk result (self.new ≡ with_code self.old words.now) }
+    {
+        self.code.extend_from_slice(words)
+    }
+
+    /// More data.
+    pub fn add_bytes(&mut self, bytes: &[u8]) -> Result<(), AllocError>
+        ensures { OnOk result (self.new ≡ record self.old { bytes = self.old.bytes ++ bytes.now }) }
+    {
+        self.bytes.extend_from_slice(bytes)
+    }
+
+    /// One more thread.
+    pub fn add_entry(&mut self, entry: u32) -> Result<(), AllocError>
+        ensures { OnOk result (self.new ≡ record self.old { entries = self.old.entries ++ entry ∷ [] }) }
+    {
+        self.entries.push(entry)?;
+        Ok(())
+    }
+
+    /// The first words of an object.
+    pub fn set_object(&mut self, object: u32, words: &[u32])
+        requires few { length words.now ≤ 8 }
+        requires there { object_words * object + object_words ≤ length self.old.words }
+        ensures { self.new ≡ with_object self.old object words.now }
+    {
+        let start = OBJECT_WORDS * object as usize;
+        let eight = eight_words(words);
+        self.words[start..start + OBJECT_WORDS].copy_from_slice(&eight);
+    }
+
+    /// One thread at the start of the code, where there is none yet.
+    pub fn add_first_entry(&mut self) -> Result<(), AllocError>
+        ensures { OnOk result (self.new ≡ with_entry self.old) }
+    {
+        if self.entries.is_empty() {
+            return self.add_entry(CODE_START);
+        }
+        Ok(())
+    }
+}

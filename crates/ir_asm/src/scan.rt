@@ -1,0 +1,232 @@
+//! What the lines of a source have so far.
+
+ghost use Rattle.std.specs.Prelude.{◌≡◌, ◌+◌, ◌++◌, [], ◌∷◌, nat_le, not, ◌==◌, flat_map, Ok, IfOk, OnOk};
+ghost use Rattle.byteorder.specs.Endian.{little_bytes};
+ghost use Rattle.ir_asm.specs.Source.{nothing_seen, here, grown, size_of, laid, placed_at, entered, with_item, with_labels};
+ghost use Rattle.ir_asm.specs.declared.item.Item.TheVariants.{Entry};
+ghost use Rattle.ir_asm.specs.Faults.{Makes, unless};
+ghost use Rattle.ir_asm.specs.declared.cause.Cause.TheVariants.{BadSize};
+
+use crate::cause::Cause;
+use crate::form::Section;
+use crate::item::{ByteList, Item, Name, Place, Placed};
+use crate::labels::Labels;
+use crate::refusal::Refusal;
+use byteorder::{ByteOrder, LittleEndian};
+use std::alloc::{AllocError, Global};
+use std::marker::Model;
+use std::mem::size_of_val;
+
+const MOST_BYTES: u32 = 65_536;
+
+const MOST_THREADS: u8 = 8;
+
+const CODE_START: u32 = 0x0001_0000;
+
+const DATA_START: u32 = 0x0010_0000;
+
+/// How many bytes a section has, at most 65,536.
+#[derive(Clone, Copy)]
+pub struct Size {
+    pub bytes: u32,
+}
+
+impl Model for Size {
+    ghost use Rattle.std.specs.Prelude.{ℕ, ◌≤◌};
+
+    ghost Value = { ℕ };
+
+    ghost view = { λ s. s.bytes };
+
+    ghost inverse = { λ n. record { bytes = n } };
+
+    ghost invariant = { λ s. s.bytes ≤ 65536 };
+}
+
+impl Size {
+    // So many bytes more, where that many fit.
+    fn plus(self, bytes: usize) -> Result<Size, Cause>
+        ensures { result ≡ unless (nat_le (self + bytes) 65536) BadSize (Ok (self + bytes)) }
+    {
+        if bytes > (MOST_BYTES - self.bytes) as usize {
+            return Err(Cause::BadSize);
+        }
+        Ok(Size {
+            bytes: self.bytes + bytes as u32,
+        })
+    }
+}
+
+/// The section, the sizes of both, the numbers of threads and of objects, the labels, and what is placed.
+#[derive(Drop)]
+pub struct Scan {
+    pub section: Section,
+    pub code: Size,
+    pub filled: Size,
+    pub threads: u8,
+    pub objects: u32,
+    pub labels: Labels,
+    pub placed: Vec<Placed>,
+}
+
+impl Model for Scan {
+    ghost use Rattle.ir_asm.specs.Source.{Seen};
+
+    ghost Value = { Seen };
+
+    ghost view = { λ s. record { section = s.section; code = s.code; filled = s.filled; threads = s.threads; objects = s.objects; labels = s.labels; placed = s.placed.items } };
+}
+
+// How many bytes an item takes of its section.
+fn size_of(item: &Item) -> usize
+    ensures { result ≡ size_of item.now }
+{
+    match item {
+        Item::Code(list) => size_of_val(list.words.as_slice()),
+        Item::BranchTo(_, _, _, _) | Item::JumpTo(_, _) => 4,
+        Item::LoadAddress(_, _) => 8,
+        Item::Filled(list) => list.bytes.len(),
+        _ => 0,
+    }
+}
+
+fn put_word(bytes: &mut Vec<u8>, word: u32) -> Result<(), AllocError>
+    ensures { OnOk result (bytes.new.items ≡ bytes.old.items ++ little_bytes 4 word) }
+{
+    let mut four = [0; 4];
+    LittleEndian::write_u32(&mut four, word);
+    bytes.extend_from_slice(&four)
+}
+
+// The bytes of words, the lowest first.
+fn bytes_of(alloc: Global, words: &[u32]) -> Result<ByteList, AllocError>
+    ensures { IfOk result (λ b. b ≡ flat_map (little_bytes 4) words.now) }
+{
+    let mut bytes = Vec::new(alloc);
+    for word in words {
+        put_word(&mut bytes, *word)?;
+    }
+    Ok(ByteList { bytes })
+}
+
+// Words in data are bytes.
+fn laid(alloc: Global, section: Section, item: Item) -> Result<Item, AllocError>
+    ensures { IfOk result (λ i. i ≡ laid section item) }
+{
+    match (section, item) {
+        (Section::Data, Item::Code(list)) => {
+            Ok(Item::Filled(bytes_of(alloc, list.words.as_slice())?))
+        }
+        (_, item) => Ok(item),
+    }
+}
+
+impl Scan {
+    /// Before the first line.
+    pub fn new(alloc: Global) -> Scan
+        ensures { result ≡ nothing_seen }
+    {
+        Scan {
+            section: Section::Text,
+            code: Size { bytes: 0 },
+            filled: Size { bytes: 0 },
+            threads: 0,
+            objects: 0,
+            labels: Labels::new(alloc),
+            placed: Vec::new(alloc),
+        }
+    }
+
+    /// Whether there is any code.
+    pub fn has_code(&self) -> bool
+        ensures { result ≡ not (self.now.code == 0) }
+    {
+        self.code.bytes != 0
+    }
+
+    /// Where the next byte of the section lies.
+    pub fn here(&self) -> Place
+        ensures { result ≡ here self.now }
+    {
+        let address = match self.section {
+            Section::Text => CODE_START + self.code.bytes,
+            Section::Data => DATA_START + self.filled.bytes,
+        };
+        Place {
+            section: self.section,
+            address,
+        }
+    }
+
+    // After a statement that takes so many bytes of a section.
+    fn grow(&mut self, section: Section, bytes: usize) -> Result<(), Refusal>
+        ensures { Makes self.new result (grown section bytes self.old) }
+    {
+        match section {
+            Section::Text => self.code = self.code.plus(bytes)?,
+            Section::Data => self.filled = self.filled.plus(bytes)?,
+        }
+        Ok(())
+    }
+
+    // One more item that waits for the second pass.
+    fn place(&mut self, line: usize, address: u32, item: Item) -> Result<(), AllocError>
+        ensures { OnOk result (self.new ≡ placed_at line address item self.old) }
+    {
+        self.placed.push(Placed {
+            line,
+            address,
+            item,
+        })?;
+        Ok(())
+    }
+
+    // One more thread, whose entry waits for the second pass.
+    fn place_entry(&mut self, line: usize, address: u32, label: Name) -> Result<(), Refusal>
+        ensures { Makes self.new result (entered line address (Entry label) self.old) }
+    {
+        if self.threads >= MOST_THREADS {
+            return Err(Refusal::Faulty(Cause::BadCount));
+        }
+        self.threads += 1;
+        self.place(line, address, Item::Entry(label))?;
+        Ok(())
+    }
+
+    // After what an item says.
+    fn enter(&mut self, line: usize, address: u32, item: Item) -> Result<(), Refusal>
+        ensures { Makes self.new result (entered line address item self.old) }
+    {
+        match item {
+            Item::Within(section) => self.section = section,
+            Item::Count(objects) => self.objects = objects,
+            Item::Entry(label) => return self.place_entry(line, address, label),
+            Item::Nothing => {}
+            _ => self.place(line, address, item)?,
+        }
+        Ok(())
+    }
+
+    /// After an item: first its size, then what it says.
+    pub fn with_item(&mut self, alloc: Global, line: usize, item: Item) -> Result<(), Refusal>
+        ensures { Makes self.new result (with_item line item self.old) }
+    {
+        let address = self.here().address;
+        let section = self.section;
+        self.grow(section, size_of(&item))?;
+        let item = laid(alloc, section, item)?;
+        self.enter(line, address, item)
+    }
+
+    /// After a label, of whose name there may be one already.
+    pub fn with_label(&mut self, alloc: Global, label: &[u8]) -> Result<(), Refusal>
+        ensures { Makes self.new result (with_labels (label.now ∷ []) self.old) }
+    {
+        if self.labels.get(label).is_some() {
+            return Err(Refusal::Faulty(Cause::LabelTwice));
+        }
+        let place = self.here();
+        self.labels.insert(alloc, label, place)?;
+        Ok(())
+    }
+}

@@ -1,0 +1,203 @@
+// Sources and what they give, worked out by hand from the tables of statements and causes.
+
+use crate::{AsmErr, assemble};
+use ir_image::{Image, read_image, write_image};
+use std::alloc::Global;
+use std::test::Fail;
+
+// One source or more for each cause.
+const CAUSES: [(&str, usize, u8); 20] = [
+    ("nop\nnop \x01\n", 2, 1),
+    ("nop\r", 1, 1),
+    ("mv a0, a1", 1, 2),
+    ("addi a0, zero", 1, 3),
+    ("addi a0, zer, 2048", 1, 4),
+    ("addi a0, zero, 2048", 1, 5),
+    ("beq a0, a1, .+4096", 1, 5),
+    ("a: nop\na: nop", 2, 6),
+    ("nop\nbeq a0, a1, far", 2, 7),
+    ("nop\n.space 1", 2, 9),
+    ("beq a0, a1, d\n.data\nd: .byte 1", 1, 9),
+    ("nop\nend: .thread end", 2, 9),
+    ("", 2, 10),
+    ("# no code\n\n", 4, 10),
+    (".data\n.space 65536\n.byte 1\n.text\nnop", 3, 10),
+    ("nop\n.object 0, 1", 2, 11),
+    (".objects 2\n.object 1, 7\n.objects 1\nnop", 2, 11),
+    ("nop\n9a: nop", 2, 12),
+    ("a b: nop", 1, 12),
+    (".large\nnop", 1, 2),
+];
+
+// Lines with two faults or more, and the one that is named.
+const ORDER: [(&str, usize, u8); 11] = [
+    ("9a: \x01", 1, 1),
+    ("a: a: 9: nop", 1, 12),
+    ("a: a: mv a0, a1", 1, 6),
+    (".data\nmv a0, a1", 2, 2),
+    (".data\naddi zer", 2, 9),
+    ("addi zer, zero", 1, 3),
+    ("beq zer, a1, $x", 1, 3),
+    ("lw a0, 2048(zer)", 1, 5),
+    ("lw zer, 2048(a0)", 1, 4),
+    // A fault of the second pass comes after all of the first.
+    ("beq a0, a1, far\nmv a0, a1", 2, 2),
+    ("beq a0, a1, far\n.object 0, 1", 1, 7),
+];
+
+// The line and the cause of the first fault; none, and 0 for want of memory, where there is none.
+fn fault_of(alloc: Global, source: &str) -> (usize, u8) {
+    match assemble(alloc, source) {
+        Ok(_) => (0, 0),
+        Err(AsmErr::At { line, cause }) => (line, cause.number()),
+        Err(AsmErr::NoMem) => (0, 255),
+    }
+}
+
+#[test]
+fn each_cause(rt: HostRuntime) {
+    for (source, line, cause) in CAUSES {
+        assert_eq!(rt; fault_of(rt.alloc(), source), (line, cause), "{source}");
+    }
+}
+
+#[test]
+fn the_first_fault(rt: HostRuntime) {
+    for (source, line, cause) in ORDER {
+        assert_eq!(rt; fault_of(rt.alloc(), source), (line, cause), "{source}");
+    }
+}
+
+// A source of the same statement over and over, between two others.
+fn repeated(
+    alloc: Global,
+    first: &str,
+    times: usize,
+    statement: &str,
+    last: &str,
+) -> Result<String, Fail> {
+    let mut source = String::new(alloc);
+    source.push_str(first)?;
+    for _ in 0..times {
+        source.push_str(statement)?;
+    }
+    source.push_str(last)?;
+    Ok(source)
+}
+
+#[test]
+fn distances_at_the_limit(rt: HostRuntime) -> Result<(), Fail> {
+    let near = repeated(rt.alloc(), "beq a0, a1, far\n", 1022, "nop\n", "far: nop")?;
+    assert_eq!(rt; fault_of(rt.alloc(), &near), (0, 0));
+    let far = repeated(rt.alloc(), "beq a0, a1, far\n", 1024, "nop\n", "far: nop")?;
+    assert_eq!(rt; fault_of(rt.alloc(), &far), (1, 8));
+    let back = repeated(rt.alloc(), "far: nop\n", 1024, "nop\n", "beq a0, a1, far")?;
+    assert_eq!(rt; fault_of(rt.alloc(), &back), (1026, 8));
+    Ok(())
+}
+
+#[test]
+fn sizes_at_the_limit(rt: HostRuntime) -> Result<(), Fail> {
+    let full = repeated(rt.alloc(), "", 16_384, "nop\n", "")?;
+    assert_eq!(rt; fault_of(rt.alloc(), &full), (0, 0));
+    let over = repeated(rt.alloc(), "", 16_383, "nop\n", "li a0, 1")?;
+    assert_eq!(rt; fault_of(rt.alloc(), &over), (16_384, 10));
+    let threads = repeated(rt.alloc(), "a: nop\n", 9, ".thread a\n", "")?;
+    assert_eq!(rt; fault_of(rt.alloc(), &threads), (10, 11));
+    Ok(())
+}
+
+#[test]
+fn labels_have_64_characters(rt: HostRuntime) -> Result<(), Fail> {
+    let long = repeated(rt.alloc(), "", 64, "a", ": nop")?;
+    assert_eq!(rt; fault_of(rt.alloc(), &long), (0, 0));
+    let longer = repeated(rt.alloc(), "", 65, "a", ": nop")?;
+    assert_eq!(rt; fault_of(rt.alloc(), &longer), (1, 12));
+    Ok(())
+}
+
+// The image of a source, written and read again.
+fn again(alloc: Global, source: &str) -> Result<Image, Fail> {
+    let image = assemble(alloc, source)?;
+    let bytes = write_image(alloc, &image)?;
+    let read = read_image(alloc, bytes.as_slice())?;
+    Ok(read)
+}
+
+const STRAIGHT: &str = "
+# Prints an H and ends with twice its code.
+        addi a0, zero, 72
+        addi a7, zero, 2
+        ecall
+        add a0, a0, a0
+        addi a7, zero, 1
+        ecall
+";
+
+#[test]
+fn one_thread(rt: HostRuntime) -> Result<(), Fail> {
+    let image = again(rt.alloc(), STRAIGHT)?;
+    let words = [
+        0x0480_0513,
+        0x0020_0893,
+        0x73,
+        0x00a5_0533,
+        0x0010_0893,
+        0x73,
+    ];
+    assert_eq!(rt; image.code().words(), words.as_slice());
+    assert_eq!(rt; image.entries(), [0x0001_0000].as_slice());
+    assert!(rt; image.bytes().is_empty());
+    assert!(rt; image.words().is_empty());
+    Ok(())
+}
+
+const EIGHT: &str = "
+.objects 16
+.object 15, 1, -1
+.object 15, 5, 0xFFFFFFFE
+.thread a
+.thread b
+.thread b
+.thread b
+.thread b
+.thread b
+.thread b
+.thread b
+a: li a0, d
+b: bne a0, a1, a
+.data
+.byte 7
+d: .word 258
+.space 1
+.byte 255
+";
+
+#[test]
+fn eight_threads(rt: HostRuntime) -> Result<(), Fail> {
+    let image = again(rt.alloc(), EIGHT)?;
+    assert_eq!(rt; image.entries().len(), 8);
+    assert_eq!(rt; image.entries()[..2], [0x0001_0000, 0x0001_0008][..]);
+    let words = [0x0010_0537, 0x0015_0513, 0xfeb5_1ce3];
+    assert_eq!(rt; image.code().words(), words.as_slice());
+    assert_eq!(rt; image.bytes(), [7, 2, 1, 0, 0, 0, 255].as_slice());
+    Ok(())
+}
+
+#[test]
+fn sixteen_objects(rt: HostRuntime) -> Result<(), Fail> {
+    let image = again(rt.alloc(), EIGHT)?;
+    let words = image.words();
+    assert_eq!(rt; words.len(), 128);
+    let (zeros, last) = words.split_at(words.len().min(120));
+    assert!(rt; zeros.iter().all(|word| *word == 0));
+    assert_eq!(rt; last, [5, 0xffff_fffe, 0, 0, 0, 0, 0, 0].as_slice());
+    Ok(())
+}
+
+#[test]
+fn the_two_words_of_li(rt: HostRuntime) -> Result<(), Fail> {
+    let image = again(rt.alloc(), "li a0, 0x12345FFF")?;
+    assert_eq!(rt; image.code().words(), [0x1234_6537, 0xfff5_0513].as_slice());
+    Ok(())
+}
