@@ -20,3 +20,4 @@ pub mod Addresses
 pub mod Uppers
 pub mod Law
 pub mod RowTests
+pub mod LabelValues

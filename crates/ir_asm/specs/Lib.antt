@@ -10,3 +10,4 @@ pub mod Passes
 pub mod Answered
 pub mod Bounds
 pub mod Printed
+pub mod Standing

@@ -1,6 +1,10 @@
 //! Laws of sources and of the texts of words.
 
-ghost use Rattle.std.specs.Prelude.{◌≡◌, ℕ, List, [], ◌∷◌, ◌++◌, ◌<◌, ◌+◌, ◌^◌, codes, length, Ok, Err};
+ghost use Rattle.std.specs.Prelude.{◌≡◌, ℕ, List, [], ◌∷◌, ◌++◌, ◌<◌, ◌+◌, ◌^◌, codes, length, Ok, Err, Some, true, bytes_eq};
+ghost use Rattle.std.specs.List.{list_any};
+ghost use Rattle.ir_asm.specs.Names.{named};
+ghost use Rattle.ir_asm.specs.Standing.{place_after};
+ghost use Rattle.ir_asm.specs.declared.form.Section.TheVariants.{Text};
 ghost use Rattle.ir_asm.specs.Printed.{text_of};
 ghost use Rattle.ir_asm.specs.Source.{Seen, nothing_seen, line_of, with_line, first_pass};
 ghost use Rattle.ir_asm.specs.Passes.{assembled, assembled_lines, IsWordGuest};
@@ -21,6 +25,16 @@ pub fn first_fault()
         first_pass 1 before nothing_seen ≡ Ok s →
         with_line (1 + length before) (line_of line) s ≡ Err cause →
         assembled_lines (before ++ line ∷ after) ≡ Err (record { line = 1 + length before; cause = cause }) }
+{}
+
+/// A label stands after what was placed before it: its value is the start of its section plus the sizes of what stands
+/// before it in that section.
+#[tactic(auto, using(crate::proofs::LabelValues::label_value))]
+pub fn label_value()
+    ensures { (before after : List (List ℕ)) (line name : List ℕ) (s : Seen) →
+        first_pass 1 (before ++ line ∷ after) nothing_seen ≡ Ok s →
+        list_any (bytes_eq name) (line_of line).labels ≡ true →
+        named s.labels name ≡ Some (place_after Text before) }
 {}
 
 /// Sources and their answers.

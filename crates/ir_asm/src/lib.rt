@@ -34,4 +34,4 @@ pub use asm_err::AsmErr;
 pub use assembler::assemble;
 pub use cause::Cause;
 pub use disassembler::disassemble;
-pub use laws::{examples, first_fault, word_law};
+pub use laws::{examples, first_fault, label_value, word_law};

@@ -1,8 +1,12 @@
 //! `ir`: a record and replay debugger for guests of RV32IM threads.
 #![tactic(auto)]
 
+#[cfg(test)]
+mod asm_tests;
 mod assembling;
 mod bundle;
+#[cfg(test)]
+mod examples;
 mod fault;
 mod files;
 mod line;

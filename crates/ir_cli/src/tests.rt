@@ -42,11 +42,11 @@ impl Source for Bytes<'_> {
 
 // Takes at most so many bytes a call; the call of this number fails, and each after it.
 #[derive(Drop)]
-struct Page {
-    bytes: Vec<u8>,
+pub struct Page {
+    pub bytes: Vec<u8>,
     most: usize,
     calls_left: u64,
-    failed: bool,
+    pub failed: bool,
 }
 
 impl Sink for Page {
@@ -89,9 +89,9 @@ s8=00000000 s9=00000000 s10=00000000 s11=00000000\n\
 t3=00000000 t4=00000000 t5=00000000 t6=00000000\n\
 at 6 end\n";
 
-const ENDLESS: u64 = 1_000_000;
+pub const ENDLESS: u64 = 1_000_000;
 
-fn empty_page(rt: &HostRuntime, most: usize, calls_left: u64) -> Page
+pub fn empty_page(rt: &HostRuntime, most: usize, calls_left: u64) -> Page
     ensures { result.failed ≡ false }
 {
     Page {

@@ -1,0 +1,14 @@
+//! What a thread logs: events in order, and places among them.
+#![tactic(auto)]
+
+mod cursor;
+mod event;
+mod laws;
+mod log;
+#[cfg(test)]
+mod tests;
+
+pub use cursor::{Cursor, Disagree};
+pub use event::Event;
+pub use laws::one_mark_each;
+pub use log::{Log, MOST_EVENTS};

@@ -1,0 +1,128 @@
+use crate::{Cursor, Disagree, Event, Log, MOST_EVENTS};
+use ir_thread::{Access, Ask, EnvKind};
+use std::alloc::{AllocError, Global};
+use std::test::Fail;
+
+const READ: Event = Event::Read {
+    object: 3,
+    version: 7,
+};
+
+const WRITE: Event = Event::Write {
+    object: 3,
+    version: 7,
+    readers: 2,
+};
+
+// The log of a clock's answer and two entries.
+fn three(alloc: Global) -> Result<Log, AllocError> {
+    let mut events = Vec::with_capacity(alloc, 3)?;
+    events.extend_from_slice(&[Event::Answer(EnvKind::Clock, 5), READ, WRITE])?;
+    Ok(Log::from_events(events))
+}
+
+#[test]
+fn events_stand_in_order(rt: HostRuntime) -> Result<(), Fail> {
+    let mut log = Log::new(rt.alloc(), 2)?;
+    assert_eq!(rt; log.room(), 2);
+    log.push(READ);
+    log.push(WRITE);
+    assert_eq!(rt; log.events(), [READ, WRITE].as_slice());
+    assert_eq!(rt; log.room(), 2);
+    Ok(())
+}
+
+#[test]
+fn a_copy_has_the_room_too(rt: HostRuntime) -> Result<(), Fail> {
+    let mut log = Log::new(rt.alloc(), 3)?;
+    log.push(READ);
+    let mut copy = log.copy()?;
+    copy.push(WRITE);
+    assert_eq!(rt; copy.room(), 3);
+    assert_eq!(rt; copy.events(), [READ, WRITE].as_slice());
+    assert_eq!(rt; log.events(), [READ].as_slice());
+    Ok(())
+}
+
+#[test]
+fn each_event_is_expected_in_its_turn(rt: HostRuntime) -> Result<(), Fail> {
+    let log = three(rt.alloc())?;
+    let mut cursor = Cursor::new();
+    assert_eq!(rt;
+        cursor.expect(&log, &Ask::Env(EnvKind::Clock)),
+        Ok(Event::Answer(EnvKind::Clock, 5))
+    );
+    cursor.advance();
+    assert_eq!(rt;
+        cursor.expect(&log, &Ask::Enter(3, Access::Reading)),
+        Ok(READ)
+    );
+    cursor.advance();
+    assert_eq!(rt;
+        cursor.expect(&log, &Ask::Enter(3, Access::Writing)),
+        Ok(WRITE)
+    );
+    cursor.advance();
+    assert_eq!(rt; cursor.place(), 3);
+    assert_eq!(rt;
+        cursor.expect(&log, &Ask::Enter(3, Access::Writing)),
+        Err(Disagree)
+    );
+    Ok(())
+}
+
+#[test]
+fn each_kind_is_expected(rt: HostRuntime) -> Result<(), Fail> {
+    for kind in [EnvKind::Clock, EnvKind::Random, EnvKind::Input] {
+        let mut log = Log::new(rt.alloc(), 1)?;
+        log.push(Event::Answer(kind, 0xffff_ffff));
+        assert_eq!(rt;
+            Cursor::new().expect(&log, &Ask::Env(kind)),
+            Ok(Event::Answer(kind, 0xffff_ffff))
+        );
+    }
+    Ok(())
+}
+
+#[test]
+fn a_log_gives_its_events_back(rt: HostRuntime) -> Result<(), Fail> {
+    let log = three(rt.alloc())?;
+    assert_eq!(rt; log.room(), 3);
+    assert_eq!(rt;
+        log.into_events().as_slice(),
+        [Event::Answer(EnvKind::Clock, 5), READ, WRITE].as_slice()
+    );
+    assert_eq!(rt; Log::new(rt.alloc(), MOST_EVENTS)?.room(), 1_048_576);
+    Ok(())
+}
+
+#[test]
+fn another_kind_disagrees(rt: HostRuntime) -> Result<(), Fail> {
+    let mut log = Log::new(rt.alloc(), 1)?;
+    log.push(Event::Answer(EnvKind::Random, 5));
+    let cursor = Cursor::new();
+    for ask in [
+        Ask::Env(EnvKind::Clock),
+        Ask::Env(EnvKind::Input),
+        Ask::Enter(0, Access::Reading),
+        Ask::Private,
+    ] {
+        assert_eq!(rt; cursor.expect(&log, &ask), Err(Disagree));
+    }
+    Ok(())
+}
+
+#[test]
+fn another_object_or_access_disagrees(rt: HostRuntime) -> Result<(), Fail> {
+    let log = three(rt.alloc())?;
+    for (place, ask) in [
+        (1, Ask::Enter(2, Access::Reading)),
+        (1, Ask::Enter(3, Access::Writing)),
+        (2, Ask::Enter(2, Access::Writing)),
+        (2, Ask::Enter(3, Access::Reading)),
+        (2, Ask::Leave(3, Access::Writing)),
+    ] {
+        assert_eq!(rt; Cursor::at(place).expect(&log, &ask), Err(Disagree));
+    }
+    Ok(())
+}

@@ -1,0 +1,5 @@
+use Rattle.ir_trace.proofs.Whole.{recorded_again}
+use Rattle.ir_trace.proofs.laws.spelling_is_read.Goals as goal
+
+pub returns : goal.returns
+returns c = recorded_again

@@ -1,0 +1,7 @@
+use Rattle.std.proofs.Common.{◌≡◌, ◌-◌}
+use Rattle.ir_trace.specs.Reading.{fields_at, thread_at}
+use Rattle.ir_trace.proofs.Loop.{with_front}
+use Rattle.ir_trace.proofs.reader.threads.Given as goal
+
+abbrev pub invariant-loop : goal.invariant-loop
+invariant-loop l = with_front l.threads.items (fields_at (thread_at l.objects) (l.count - l.counter) l.rest) ≡ fields_at (thread_at l.objects) l.count l.bytes

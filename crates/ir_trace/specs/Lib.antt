@@ -1,0 +1,5 @@
+pub mod Recorded
+pub mod Refusal
+pub mod Spelling
+pub mod Reading
+pub mod Told

@@ -1,0 +1,65 @@
+-- What was recorded of a run, apart from where it lies in memory.
+use Rattle.std.specs.Prelude.{◌≡◌, ℕ, ◌^◌, ◌<◌, ◌≤◌, ◌⊎◌, List, length}
+use Rattle.std.specs.List.{AllByRecursion}
+use Rattle.ir_thread.specs.Calls.{most_events}
+use Rattle.ir_thread.specs.Ends.{end_code}
+use Rattle.ir_thread.specs.declared.ask.EnvKind.{EnvKind}
+use Rattle.ir_thread.specs.declared.ask.EnvKind.TheVariants.{Clock, Random, Input}
+use Rattle.ir_thread.specs.declared.end.End.{End}
+use Rattle.ir_log.specs.declared.event.Event.{Event}
+use Rattle.ir_log.specs.declared.event.Event.TheVariants.{Answer, Read, Write}
+
+-- what was recorded of one thread
+pub record RecordedThread : Type 0 where
+  -- how many steps it took, its end and what it gave back among them
+  pub steps : ℕ
+  pub end : End
+  -- what it logged, the first event first
+  pub events : List Event
+
+-- what was recorded of a run
+pub record Recorded : Type 0 where
+  -- how many objects the guest has
+  pub objects : ℕ
+  -- how many steps each thread might take before it had to end
+  pub budget : ℕ
+  -- the threads by their numbers
+  pub threads : List RecordedThread
+
+-- the most steps that a budget allows
+abbrev pub most_budget : ℕ
+most_budget = 1000000000000
+
+-- what an input has at its end
+abbrev pub input_end : ℕ
+input_end = 0xFFFFFFFF
+
+abbrev pub IsWord : ℕ → Type 0
+IsWord n = n < 2 ^ 32
+
+-- the values that a call of the environment may have: an input gives a byte, or its end
+abbrev pub IsResult : EnvKind → ℕ → Type 0
+IsResult Clock value = IsWord value
+IsResult Random value = IsWord value
+IsResult Input value = (value < 256) ⊎ (value ≡ input_end)
+
+-- the limits of an event of a guest with so many objects
+abbrev pub IsEvent : ℕ → Event → Type 0
+IsEvent objects (Answer kind value) = IsResult kind value
+IsEvent objects (Read object version) = (object < objects) × IsWord version
+IsEvent objects (Write object version readers) = (object < objects) × IsWord version × IsWord readers
+
+-- the limits of what is recorded of a thread of a guest with so many objects
+pub record IsRecordedThread (objects : ℕ) (t : RecordedThread) : Type 0 where
+  pub steps_fit : t.steps < 2 ^ 64
+  pub code_fits : IsWord (end_code t.end)
+  pub few_events : length t.events ≤ most_events
+  pub events_fit : AllByRecursion (IsEvent objects) t.events
+
+-- the limits of what is recorded
+pub record IsRecorded (r : Recorded) : Type 0 where
+  pub some_thread : 1 ≤ length r.threads
+  pub few_threads : length r.threads ≤ 8
+  pub few_objects : r.objects ≤ 16
+  pub budget_fits : r.budget ≤ most_budget
+  pub threads_fit : AllByRecursion (IsRecordedThread r.objects) r.threads

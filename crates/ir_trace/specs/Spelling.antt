@@ -1,0 +1,48 @@
+-- The one spelling of what was recorded, field by field; a number is its bytes, the lowest first.
+use Rattle.std.specs.Prelude.{ℕ, List, [], ◌∷◌, ◌++◌, length}
+use Rattle.std.specs.List.{flat_map}
+use Rattle.byteorder.specs.Endian.{little_bytes}
+use Rattle.ir_thread.specs.Ends.{end_number, end_code}
+use Rattle.ir_thread.specs.declared.ask.EnvKind.{EnvKind}
+use Rattle.ir_thread.specs.declared.ask.EnvKind.TheVariants.{Clock, Random, Input}
+use Rattle.ir_thread.specs.declared.end.End.{End}
+use Rattle.ir_log.specs.declared.event.Event.{Event}
+use Rattle.ir_log.specs.declared.event.Event.TheVariants.{Answer, Read, Write}
+use Rattle.ir_trace.specs.Recorded.{RecordedThread, Recorded}
+use Rattle.ir_trace.specs.declared.header.Header.{Header}
+
+-- `IRT1`
+abbrev pub magic : List ℕ
+magic = 0x49 ∷ 0x52 ∷ 0x54 ∷ 0x31 ∷ []
+
+-- the byte that a call of the environment begins with
+abbrev pub kind_tag : EnvKind → ℕ
+kind_tag Clock = 1
+kind_tag Random = 2
+kind_tag Input = 3
+
+-- an event: what kind it is of, and its fields
+unfoldable pub event_spelling : Event → List ℕ
+event_spelling (Answer kind value) = kind_tag kind ∷ little_bytes 4 value
+event_spelling (Read object version) = 4 ∷ object ∷ little_bytes 4 version
+event_spelling (Write object version readers) = 5 ∷ object ∷ (little_bytes 4 version ++ little_bytes 4 readers)
+
+-- the number of an end, and its code
+unfoldable pub end_spelling : End → List ℕ
+end_spelling end = end_number end ∷ little_bytes 4 (end_code end)
+
+-- a thread: its steps, its end, the number of its events, and these
+unfoldable pub thread_spelling : RecordedThread → List ℕ
+thread_spelling t = little_bytes 8 t.steps ++ end_spelling t.end ++ little_bytes 4 (length t.events) ++ flat_map event_spelling t.events
+
+-- what stands before the threads
+abbrev pub header_of : Recorded → Header
+header_of r = record { threads = length r.threads; objects = r.objects; budget = r.budget }
+
+-- the magic, the number of threads and of objects, two bytes that are reserved, the budget
+unfoldable pub header_spelling : Header → List ℕ
+header_spelling h = magic ++ h.threads ∷ h.objects ∷ [] ++ little_bytes 2 0 ++ little_bytes 8 h.budget
+
+-- the whole trace
+abbrev pub spelling : Recorded → List ℕ
+spelling r = header_spelling (header_of r) ++ flat_map thread_spelling r.threads

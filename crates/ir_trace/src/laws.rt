@@ -1,0 +1,34 @@
+//! Laws of the traces' spelling, each the contract of a function without parameters.
+
+ghost use Rattle.std.specs.Prelude.{◌≡◌, List, ℕ, length, Ok};
+ghost use Rattle.std.specs.List.{AllByRecursion};
+ghost use Rattle.byteorder.specs.Endian.{little_number, little_bytes};
+ghost use Rattle.ir_image.specs.Guest.{IsByte};
+ghost use Rattle.ir_trace.specs.Recorded.{Recorded, IsRecorded};
+ghost use Rattle.ir_trace.specs.Spelling.{spelling};
+ghost use Rattle.ir_trace.specs.Reading.{recorded_at};
+ghost use Rattle.ir_trace.specs.Told.{trace_of};
+
+use ir_log::one_mark_each;
+
+/// The spelling of what was recorded, within its limits, is read as that, so no two recordings are spelled alike.
+pub fn spelling_is_read()
+    ensures { (r : Recorded) → IsRecorded r → recorded_at (spelling r) ≡ Ok r }
+{}
+
+/// Bytes that are read as a recording are the spelling of it, so none is spelled in two ways, and it is within its limits.
+pub fn read_is_spelled()
+    ensures { (bytes : List ℕ) (r : Recorded) → AllByRecursion IsByte bytes → recorded_at bytes ≡ Ok r → IsRecorded r × (bytes ≡ spelling r) }
+{}
+
+/// Different bytes of one width are different numbers: the bytes are those of the number that they spell.
+pub fn bytes_are_their_number()
+    ensures { (bytes : List ℕ) → AllByRecursion IsByte bytes → bytes ≡ little_bytes (length bytes) (little_number (length bytes) bytes) }
+{}
+
+/// Recordings of as many objects and threads and of one budget that tell the same of a run are the same.
+pub fn told_apart()
+    ensures { (a b : Recorded) → a.objects ≡ b.objects → a.budget ≡ b.budget → length a.threads ≡ length b.threads → trace_of a ≡ trace_of b → a ≡ b }
+{
+    one_mark_each();
+}

@@ -1,0 +1,22 @@
+//! Traces: what was recorded of a run, and its one spelling in bytes.
+#![tactic(auto)]
+
+mod event_reader;
+mod fields;
+mod header;
+mod laws;
+mod layout;
+mod reader;
+#[cfg(test)]
+mod tests;
+mod thread_trace;
+mod trace;
+mod trace_err;
+mod writer;
+
+pub use laws::{bytes_are_their_number, read_is_spelled, spelling_is_read, told_apart};
+pub use reader::read_trace;
+pub use thread_trace::ThreadTrace;
+pub use trace::Trace;
+pub use trace_err::TraceErr;
+pub use writer::write_trace;

@@ -1,0 +1,80 @@
+//! A trace in memory.
+
+ghost use Rattle.std.specs.Prelude.{◌≡◌, IfOk};
+ghost use Rattle.ir_trace.specs.Recorded.{Recorded, IsRecorded};
+
+use crate::thread_trace::ThreadTrace;
+use std::alloc::AllocError;
+use std::marker::Model;
+
+/// What was recorded of a run, within the limits of a trace.
+#[derive(Drop)]
+pub struct Trace {
+    objects: u8,
+    budget: u64,
+    threads: Vec<ThreadTrace>,
+}
+
+impl Model for Trace {
+    ghost Value = { Recorded };
+
+    ghost view = { λ t. record { objects = t.objects; budget = t.budget; threads = t.threads.items } };
+
+    ghost invariant = { λ t. IsRecorded (record { objects = t.objects; budget = t.budget; threads = t.threads.items }) };
+}
+
+impl Trace {
+    /// The trace of these parts: how many objects the guest has, each thread's budget in steps, and the threads by their numbers. It takes no memory.
+    pub fn new(objects: u8, budget: u64, threads: Vec<ThreadTrace>) -> Trace
+        requires { IsRecorded (record { objects = objects; budget = budget; threads = threads.items }) }
+        ensures { result ≡ record { objects = objects; budget = budget; threads = threads.items } }
+    {
+        Trace {
+            objects,
+            budget,
+            threads,
+        }
+    }
+
+    /// How many objects the guest has.
+    pub fn objects(&self) -> u8
+        ensures value { result ≡ self.now.objects }
+        ensures within { IsRecorded self.now }
+    {
+        self.objects
+    }
+
+    /// How many steps each thread might take before it had to end.
+    pub fn budget(&self) -> u64
+        ensures value { result ≡ self.now.budget }
+        ensures within { IsRecorded self.now }
+    {
+        self.budget
+    }
+
+    /// What was recorded of each thread, in the order of their numbers.
+    pub fn threads(&self) -> &[ThreadTrace]
+        ensures value { result.now ≡ self.now.threads }
+        ensures within { IsRecorded self.now }
+    {
+        self.threads.as_slice()
+    }
+
+    /// An equal trace with memory of its own.
+    ///
+    /// # Errors
+    /// Want of memory.
+    pub fn copy(&self) -> Result<Trace, AllocError>
+        ensures { IfOk result (λ t. t ≡ self.now) }
+    {
+        let mut threads = Vec::with_capacity(*self.threads.allocator(), self.threads.len())?;
+        for thread in &self.threads {
+            threads.push(thread.copy()?)?;
+        }
+        Ok(Trace {
+            objects: self.objects,
+            budget: self.budget,
+            threads,
+        })
+    }
+}

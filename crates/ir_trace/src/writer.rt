@@ -1,0 +1,167 @@
+//! The writer of traces.
+
+ghost use Rattle.std.specs.Prelude.{◌≡◌, ◌≤◌, ◌*◌, ◌+◌, ◌∷◌, [], ◌++◌, length, IfOk, OnOk};
+ghost use Rattle.std.specs.List.{flat_map};
+ghost use Rattle.byteorder.specs.Endian.{little_bytes};
+ghost use Rattle.ir_thread.specs.Calls.{most_events};
+ghost use Rattle.ir_trace.specs.Spelling.{header_spelling, kind_tag, event_spelling, end_spelling, thread_spelling, spelling};
+
+use crate::header::Header;
+use crate::layout::{HEADER_LENGTH, SHORTEST_EVENT, THREAD_LENGTH};
+use crate::thread_trace::ThreadTrace;
+use crate::trace::Trace;
+use byteorder::{ByteOrder, LittleEndian};
+use ir_log::Event;
+use ir_thread::{End, EnvKind};
+use std::alloc::{AllocError, Global};
+
+fn put_word(out: &mut Vec<u8>, word: u32) -> Result<(), AllocError>
+    ensures { OnOk result (out.new.items ≡ out.old.items ++ little_bytes 4 word) }
+{
+    let mut bytes = [0; 4];
+    LittleEndian::write_u32(&mut bytes, word);
+    out.extend_from_slice(&bytes)
+}
+
+fn put_double(out: &mut Vec<u8>, double: u64) -> Result<(), AllocError>
+    ensures { OnOk result (out.new.items ≡ out.old.items ++ little_bytes 8 double) }
+{
+    let mut bytes = [0; 8];
+    LittleEndian::write_u64(&mut bytes, double);
+    out.extend_from_slice(&bytes)
+}
+
+#[tactic(auto, unfolding(crate::specs::Spelling::header_spelling))]
+fn put_header(out: &mut Vec<u8>, header: Header) -> Result<(), AllocError>
+    ensures { OnOk result (out.new.items ≡ out.old.items ++ header_spelling header) }
+{
+    out.extend_from_slice(b"IRT1")?;
+    out.extend_from_slice(&[header.threads, header.objects, 0, 0])?;
+    put_double(out, header.budget)
+}
+
+fn tag(kind: EnvKind) -> u8
+    ensures { result ≡ kind_tag kind }
+{
+    match kind {
+        EnvKind::Clock => 1,
+        EnvKind::Random => 2,
+        EnvKind::Input => 3,
+    }
+}
+
+#[tactic(auto, unfolding(crate::specs::Spelling::event_spelling))]
+fn put_event(out: &mut Vec<u8>, event: Event) -> Result<(), AllocError>
+    ensures { OnOk result (out.new.items ≡ out.old.items ++ event_spelling event) }
+{
+    match event {
+        Event::Answer(kind, value) => {
+            out.push(tag(kind))?;
+            put_word(out, value)
+        }
+        Event::Read { object, version } => {
+            out.extend_from_slice(&[4, object])?;
+            put_word(out, version)
+        }
+        Event::Write {
+            object,
+            version,
+            readers,
+        } => {
+            out.extend_from_slice(&[5, object])?;
+            put_word(out, version)?;
+            put_word(out, readers)
+        }
+    }
+}
+
+fn put_events(out: &mut Vec<u8>, events: &[Event]) -> Result<(), AllocError>
+    ensures { OnOk result (out.new.items ≡ out.old.items ++ flat_map event_spelling events.now) }
+{
+    for event in events {
+        put_event(out, *event)?;
+    }
+    Ok(())
+}
+
+#[tactic(auto, unfolding(crate::specs::Spelling::end_spelling))]
+fn put_end(out: &mut Vec<u8>, end: End) -> Result<(), AllocError>
+    ensures { OnOk result (out.new.items ≡ out.old.items ++ end_spelling end) }
+{
+    out.push(end.number())?;
+    put_word(out, end.code())
+}
+
+fn put_thread(out: &mut Vec<u8>, thread: &ThreadTrace) -> Result<(), AllocError>
+    ensures { OnOk result (out.new.items ≡ out.old.items ++ thread_spelling thread.now) }
+{
+    let events = thread.log().events();
+    put_double(out, thread.steps())?;
+    put_end(out, thread.end())?;
+    put_word(out, events.len() as u32)?;
+    put_events(out, events)?;
+    Ok(())
+}
+
+fn put_threads(out: &mut Vec<u8>, threads: &[ThreadTrace]) -> Result<(), AllocError>
+    ensures { OnOk result (out.new.items ≡ out.old.items ++ flat_map thread_spelling threads.now) }
+{
+    for thread in threads {
+        put_thread(out, thread)?;
+    }
+    Ok(())
+}
+
+// How many bytes an event has.
+fn event_length(event: Event) -> usize
+    ensures { result ≤ 10 }
+{
+    match event {
+        Event::Answer(..) => SHORTEST_EVENT,
+        Event::Read { .. } => 6,
+        Event::Write { .. } => 10,
+    }
+}
+
+// How many bytes a thread has.
+fn thread_length(thread: &ThreadTrace) -> usize
+    ensures { result ≤ 17 + 10 * most_events }
+{
+    let mut length = THREAD_LENGTH;
+    for event in thread.log().events() {
+        length += event_length(*event);
+    }
+    length
+}
+
+// How many bytes a trace of these threads has.
+fn written_length(threads: &[ThreadTrace]) -> usize
+    requires { length threads.now ≤ 8 }
+{
+    let mut length = HEADER_LENGTH;
+    for thread in threads {
+        length += thread_length(thread);
+    }
+    length
+}
+
+/// The one spelling of the trace.
+///
+/// # Errors
+/// Want of memory.
+pub fn write_trace(alloc: Global, trace: &Trace) -> Result<Vec<u8>, AllocError>
+    ensures { IfOk result (λ v. v.items ≡ spelling trace.now) }
+{
+    let threads = trace.threads();
+    let mut out = Vec::with_capacity(alloc, written_length(threads))?;
+    put_header(
+        &mut out,
+        Header {
+            threads: threads.len() as u8,
+            objects: trace.objects(),
+            budget: trace.budget(),
+        },
+    )?;
+    put_threads(&mut out, threads)?;
+    Ok(out)
+}
