@@ -3,3 +3,4 @@ pub mod Fields
 pub mod Block
 pub mod Loop
 pub mod Whole
+pub mod Lowered

@@ -16,6 +16,10 @@ pub record Guest : Type 0 where
 abbrev pub code_start : ℕ
 code_start = 0x00010000
 
+-- the first address of private memory
+abbrev pub memory_start : ℕ
+memory_start = 0x00100000
+
 -- the number of words of an object
 abbrev pub object_words : ℕ
 object_words = 8

@@ -1,5 +1,6 @@
 pub mod Guest
 pub mod Fetch
+pub mod Lowering
 pub mod Refusal
 pub mod Spelling
 pub mod Reading

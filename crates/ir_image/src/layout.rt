@@ -6,6 +6,9 @@ pub const MAGIC: u32 = 0x3149_5249;
 /// The address of the first word of the code.
 pub const CODE_START: u32 = 0x0001_0000;
 
+/// The address of the first byte of private memory.
+pub const MEMORY_START: u32 = 0x0010_0000;
+
 /// How many words an object has.
 pub const OBJECT_WORDS: usize = 8;
 

@@ -8,6 +8,8 @@ mod image;
 mod image_err;
 mod laws;
 mod layout;
+mod lowering;
+mod operation;
 mod reading;
 #[cfg(test)]
 mod tests;
@@ -18,5 +20,7 @@ pub use fetched::Fetched;
 pub use image::Image;
 pub use image_err::ImageErr;
 pub use laws::{read_is_spelled, spelling_is_read};
+pub use layout::{CODE_START, MEMORY_START};
+pub use operation::{Kind, Operation};
 pub use reading::read_image;
 pub use writing::write_image;

@@ -1,4 +1,4 @@
-use crate::{Fetched, ImageErr, read_image, write_image};
+use crate::{Code, Fetched, ImageErr, Kind, read_image, write_image};
 use ir_isa::Inst;
 use std::alloc::Global;
 use std::test::Fail;
@@ -137,5 +137,45 @@ fn threads_objects_and_data_stand_in_order(rt: HostRuntime) -> Result<(), Fail> 
         write_image(rt.alloc(), &image)?.as_slice(),
         bytes.as_slice()
     );
+    Ok(())
+}
+
+// `auipc t0, 1`, `jal zero, -4`, `beq t0, t0, 6`, `lw a0, 4(t0)`, `sw a0, -4(t0)`, `sltiu a0, a0, -1`, `ecall`
+const WORDS: [u32; 7] = [
+    0x0000_1297,
+    0xffdf_f06f,
+    0x0052_8363,
+    0x0042_a503,
+    0xfea2_ae23,
+    0xfff5_3513,
+    0x73,
+];
+
+const LOWERED: [(Kind, u8, u8, u8, u32); 7] = [
+    (Kind::Constant, 5, 0, 0, 0x0001_1000),
+    (Kind::Jal, 32, 0, 0, 0),
+    (Kind::Unusual, 32, 0, 0, 0),
+    (Kind::Lw, 10, 5, 0, 0xfff0_0004),
+    (Kind::Sw, 32, 5, 10, 0xffef_fffc),
+    (Kind::Sltiu, 10, 10, 0, 0xffff_ffff),
+    (Kind::Unusual, 32, 0, 0, 0),
+];
+
+#[test]
+fn words_are_lowered_for_their_places(rt: HostRuntime) -> Result<(), Fail> {
+    let code = Code::new(rt.alloc(), Vec::from_slice(rt.alloc(), &WORDS)?)?;
+    assert_eq!(rt; code.operations().len(), LOWERED.len());
+    for (operation, wanted) in code.operations().iter().zip(LOWERED) {
+        assert_eq!(rt;
+            (
+                operation.kind,
+                operation.rd,
+                operation.rs1,
+                operation.rs2,
+                operation.imm
+            ),
+            wanted
+        );
+    }
     Ok(())
 }

@@ -4,3 +4,4 @@ pub mod Memory
 pub mod Execution
 pub mod Effects
 pub mod Run
+pub mod Performing

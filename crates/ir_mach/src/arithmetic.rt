@@ -19,18 +19,18 @@ ghost use Rattle.ir_mach.specs.Arithmetic.{
   is_taken,
 };
 
-use ir_isa::{BranchOp, Immediate, ImmediateOp, RegisterOp, ShiftOp};
+use ir_isa::{BranchOp, ImmediateOp, RegisterOp, ShiftOp};
 
-pub fn plus(a: u32, imm: Immediate) -> u32
-    ensures { result ≡ low_32 (pos a +ℤ imm.value) }
+pub fn plus(a: u32, imm: i32) -> u32
+    ensures { result ≡ low_32 (pos a +ℤ imm) }
 {
-    a.wrapping_add(imm.value.cast_unsigned())
+    a.wrapping_add(imm.cast_unsigned())
 }
 
-fn bits_of(imm: Immediate) -> u32
-    ensures { result ≡ low_32 imm.value }
+fn bits_of(imm: i32) -> u32
+    ensures { result ≡ low_32 imm }
 {
-    imm.value.cast_unsigned()
+    imm.cast_unsigned()
 }
 
 fn is_less(a: u32, b: u32) -> bool
@@ -39,10 +39,10 @@ fn is_less(a: u32, b: u32) -> bool
     a.cast_signed() < b.cast_signed()
 }
 
-fn is_less_than_immediate(a: u32, imm: Immediate) -> bool
-    ensures { result ≡ int_lt (signed a) imm.value }
+fn is_less_than_immediate(a: u32, imm: i32) -> bool
+    ensures { result ≡ int_lt (signed a) imm }
 {
-    a.cast_signed() < imm.value
+    a.cast_signed() < imm
 }
 
 fn left(a: u32, amount: u32) -> u32
@@ -132,8 +132,9 @@ fn left_over_unsigned(a: u32, b: u32) -> u32
 }
 
 // The result of an operation of a register with an immediate.
-pub fn with_immediate(op: ImmediateOp, a: u32, imm: Immediate) -> u32
-    ensures { result ≡ immediate_result op a imm.value }
+#[inline(always)]
+pub fn with_immediate(op: ImmediateOp, a: u32, imm: i32) -> u32
+    ensures { result ≡ immediate_result op a imm }
 {
     match op {
         ImmediateOp::Addi => plus(a, imm),
@@ -146,6 +147,7 @@ pub fn with_immediate(op: ImmediateOp, a: u32, imm: Immediate) -> u32
 }
 
 // The result of a shift by an amount.
+#[inline(always)]
 pub fn shifted(op: ShiftOp, a: u32, amount: u32) -> u32
     requires { amount < 32 }
     ensures { result ≡ shift_result op a amount }
@@ -158,6 +160,7 @@ pub fn shifted(op: ShiftOp, a: u32, amount: u32) -> u32
 }
 
 // The result of an operation of two registers.
+#[inline(always)]
 pub fn of_registers(op: RegisterOp, a: u32, b: u32) -> u32
     ensures { result ≡ register_result op a b }
 {
@@ -184,6 +187,7 @@ pub fn of_registers(op: RegisterOp, a: u32, b: u32) -> u32
 }
 
 // Whether a branch is taken.
+#[inline(always)]
 pub fn takes(op: BranchOp, a: u32, b: u32) -> bool
     ensures { result ≡ is_taken op a b }
 {

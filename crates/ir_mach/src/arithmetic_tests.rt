@@ -6,7 +6,7 @@ use ir_isa::RegisterOp::{
     Add, And, Div, Divu, Mul, Mulh, Mulhsu, Mulhu, Or, Rem, Remu, Sll, Slt, Sltu, Sra, Srl, Sub,
     Xor,
 };
-use ir_isa::{BranchOp, Immediate, ImmediateOp, RegisterOp, ShiftOp};
+use ir_isa::{BranchOp, ImmediateOp, RegisterOp, ShiftOp};
 
 // An operation, its two operands, and the result.
 const OF_REGISTERS: [(RegisterOp, u32, u32, u32); 80] = [
@@ -157,10 +157,8 @@ fn shifts(rt: HostRuntime) {
 #[test]
 fn operations_with_immediates(rt: HostRuntime) {
     for (op, a, value, wanted) in WITH_IMMEDIATES {
-        assert!(rt; -2048 <= value && value <= 2047);
-        let imm = Immediate { value };
         assert_eq!(rt;
-            with_immediate(op, a, imm),
+            with_immediate(op, a, value),
             wanted,
             "of {a:08x} and {value}"
         );

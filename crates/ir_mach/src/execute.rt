@@ -54,7 +54,7 @@ impl Mach {
                 self.store(op, self.sum(rs1, imm), self.get(rs2))
             }
             Inst::OpImm { op, rd, rs1, imm } => {
-                self.write(rd, with_immediate(op, self.get(rs1), imm))
+                self.write(rd, with_immediate(op, self.get(rs1), imm.value))
             }
             Inst::Shift {
                 op,
@@ -80,7 +80,7 @@ impl Mach {
     fn sum(&self, rs1: Register, imm: Immediate) -> u32
         ensures { result ≡ sum_of self.now rs1.number imm.value }
     {
-        plus(self.get(rs1), imm)
+        plus(self.get(rs1), imm.value)
     }
 
     // The address of the next word.

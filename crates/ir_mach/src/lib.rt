@@ -10,6 +10,7 @@ mod laws;
 mod mach;
 mod memory;
 mod outcome;
+mod performing;
 mod run;
 #[cfg(test)]
 mod tests;

@@ -1,16 +1,17 @@
 //! One machine: its pc, its registers and its private memory.
 
-ghost use Rattle.std.specs.Prelude.{◌≡◌, ◌<◌, ◌≤◌, ℕ, List, length, slice_index, IfOk, Some};
+ghost use Rattle.std.specs.Prelude.{◌≡◌, ◌<◌, ◌≤◌, ℕ, List, length, slice_index, take, IfOk, Some};
 ghost use Rattle.ir_isa.specs.declared.inst.LoadOp.TheVariants.{Lw};
 ghost use Rattle.ir_image.specs.Guest.{IsByte, IsWord};
 ghost use Rattle.ir_mach.specs.Core.{Core, IsCore, memory_size, register, start_core, start_memory};
 ghost use Rattle.ir_mach.specs.Memory.{IsMemoryWord, memory_word, loaded};
 
 use crate::effect::Effect;
-use crate::memory::{MEMORY_SIZE, MEMORY_START, overwrite};
+use crate::memory::{MEMORY_SIZE, overwrite};
 use crate::outcome::Ran;
+use crate::performing::{Registers, address_of, carry_out, place_of};
 use byteorder::{ByteOrder, LittleEndian};
-use ir_image::{Code, Image};
+use ir_image::{Code, Image, MEMORY_START};
 use std::alloc::{AllocError, Global};
 use std::marker::Model;
 
@@ -25,14 +26,14 @@ const ANSWER: usize = 10;
 #[derive(Drop)]
 pub struct Mach {
     pc: u32,
-    registers: [u32; 32],
+    registers: Registers,
     memory: Vec<u8>,
 }
 
 impl Model for Mach {
     ghost Value = { Core };
 
-    ghost view = { λ m. record { pc = m.pc; registers = m.registers; memory = m.memory.items } };
+    ghost view = { λ m. record { pc = m.pc; registers = take 32 m.registers; memory = m.memory.items } };
 
     ghost invariant = { λ m. (length m.memory.items ≡ memory_size) × (slice_index m.registers 0 ≡ 0) };
 }
@@ -63,6 +64,7 @@ fn bytes_fit(memory: &[u8])
 impl Mach {
     ghost use Rattle.ir_mach.specs.Effects.{applied, IsPossible};
     ghost use Rattle.ir_mach.specs.Execution.{outcome_of, ran_of, IsStep, past_call};
+    ghost use Rattle.ir_mach.specs.Run.{core_after};
 
     /// The machine of a thread before its first step: pc is the thread's entry, x2 the address just
     /// above private memory, the other registers 0, and private memory the image's data and then
@@ -75,7 +77,7 @@ impl Mach {
         ensures { IfOk result (λ mach. mach ≡ start_core image.now thread) }
     {
         let memory = start_memory(alloc, image.bytes())?;
-        let mut registers = [0; 32];
+        let mut registers = [0; 33];
         registers[STACK_POINTER] = STACK_TOP;
         Ok(Mach {
             pc: image.entries()[thread],
@@ -112,7 +114,7 @@ impl Mach {
         ensures { IsCore self.now }
     {
         word_fits(self.pc);
-        words_fit(&self.registers);
+        words_fit(&self.registers[..32]);
         bytes_fit(self.memory.as_slice());
     }
 
@@ -126,6 +128,7 @@ impl Mach {
     }
 
     /// The value of register x0 to x31.
+    #[tactic(auto, using(crate::proofs::Lists::read_below))]
     pub fn reg(&self, n: u8) -> u32
         requires { n < 32 }
         ensures value { result ≡ register self.now n }
@@ -173,7 +176,29 @@ impl Mach {
         self.apply(effect)
     }
 
+    // Carries out instructions, at most `limit`, as long as none is unusual, and says how many.
+    #[tactic(auto, using(crate::proofs::Runs::after_none))]
+    pub(crate) fn run_usual(&mut self, code: &Code, limit: u64) -> u64
+        ensures within { result ≤ limit }
+        ensures steps { core_after result code.now self.old ≡ Some self.new }
+    {
+        if self.pc % 4 != 0 {
+            return 0;
+        }
+        let start = place_of(self.pc);
+        let (place, done) = carry_out(
+            code,
+            &mut self.registers,
+            self.memory.as_mut_slice(),
+            start,
+            limit,
+        );
+        self.pc = address_of(place);
+        done
+    }
+
     /// Goes past a system call: pc to the next word, and the answer, if there is one, into a0.
+    #[tactic(auto, using(crate::proofs::Lists::set_below))]
     pub fn pass_call(&mut self, answer: Option<u32>)
         ensures { self.new ≡ past_call self.old answer }
     {
@@ -183,6 +208,7 @@ impl Mach {
         self.pc = self.pc.wrapping_add(4);
     }
 
+    #[tactic(auto, using(crate::proofs::Lists::set_below))]
     fn apply(&mut self, effect: Effect) -> Ran
         requires { IsPossible effect }
         ensures { IsStep (applied effect self.old) self.old result self.new }

@@ -9,14 +9,10 @@ ghost use Rattle.ir_mach.specs.Memory.{number_at, extended, loaded, overwritten,
 ghost use Rattle.ir_mach.specs.Effects.{offset_in_memory};
 
 use byteorder::{ByteOrder, LittleEndian};
-use ir_image::Code;
+use ir_image::{CODE_START, Code, MEMORY_START};
 use ir_isa::{LoadOp, StoreOp};
 
-pub const MEMORY_START: u32 = 0x0010_0000;
-
 pub const MEMORY_SIZE: u32 = 0x0001_0000;
-
-const CODE_START: u32 = 0x0001_0000;
 
 // The place of an address in private memory, where so many bytes lie there.
 pub fn memory_offset(width: u32, address: u32) -> Option<usize>
@@ -76,7 +72,7 @@ fn word(code: &Code, memory: &[u8], address: u32) -> Option<u32>
 }
 
 // A byte or half word whose highest bit is its sign, as a word.
-fn sign_8(number: u32) -> u32
+pub fn sign_8(number: u32) -> u32
     requires { number < 2 ^ 8 }
     ensures { result ≡ low_32 (sign_extended 8 number) }
 {
@@ -87,7 +83,7 @@ fn sign_8(number: u32) -> u32
     }
 }
 
-fn sign_16(number: u32) -> u32
+pub fn sign_16(number: u32) -> u32
     requires { number < 2 ^ 16 }
     ensures { result ≡ low_32 (sign_extended 16 number) }
 {
@@ -114,6 +110,7 @@ pub fn load(op: LoadOp, code: &Code, memory: &[u8], address: u32) -> Option<u32>
 }
 
 // The lowest bytes of the value are written from the offset on.
+#[inline(always)]
 pub fn overwrite(op: StoreOp, memory: &mut [u8], offset: usize, value: u32)
     requires { offset + store_width op ≤ length memory.old }
     ensures { memory.new ≡ overwritten (store_width op) offset value memory.old }

@@ -145,71 +145,60 @@ fn loads(rt: HostRuntime) -> Result<(), Fail> {
     Ok(())
 }
 
-// Where t0 points, what is stored there of t1, and the word at 0x00100000 or 0x0010fffc after it.
+// Where t0 points, how far from there t1 is stored, and what the first word of private memory becomes, or the last
+// where t0 points behind it.
+const STORES: [(u32, i32, StoreOp, Option<u32>); 10] = [
+    (0x0010_0000, 0, StoreOp::Sb, Some(0x0000_80fe)),
+    (0x0010_0000, 2, StoreOp::Sh, Some(0xfffe_80ff)),
+    (0x0010_0000, 0, StoreOp::Sw, Some(0xffff_fffe)),
+    (0x0011_0000, -1, StoreOp::Sb, Some(0xfe00_0000)),
+    (0x0011_0000, -4, StoreOp::Sw, Some(0xffff_fffe)),
+    (0x0011_0000, 0, StoreOp::Sb, None),
+    (0x0011_0000, -2, StoreOp::Sw, None),
+    (0x0010_0000, 1, StoreOp::Sh, None),
+    (0x0010_0000, -1, StoreOp::Sb, None),
+    (0x0001_0000, 0, StoreOp::Sw, None),
+];
+
+// The program that points t0 there and stores t1, which is -2.
+fn storing(start: u32, more: i32, op: StoreOp) -> [Inst; 4]
+    requires whole { start % 2 ^ 12 ≡ 0 }
+    requires fits { start < 2 ^ 32 }
+    requires low { negsuc 2047 ≤ℤ more }
+    requires high { more ≤ℤ pos 2047 }
+{
+    [
+        upper(T0, start),
+        add(T0, T0, more),
+        add(T1, ZERO, -2),
+        store(op),
+    ]
+}
+
+// What the fourth step of a program comes to, and the machine after it.
+fn fourth(rt: &impl Abort, alloc: Global, program: &[Inst]) -> Result<(Ran, Mach), Fail> {
+    let image = image(rt, alloc, program)?;
+    assert!(rt; image.entries().len() == 1);
+    let mut mach = Mach::new(alloc, &image, 0)?;
+    for _ in 0..3 {
+        assert!(rt; mach.step(image.code()) == Ran::Ran);
+    }
+    let ran = mach.step(image.code());
+    Ok((ran, mach))
+}
+
 #[test]
 fn stores(rt: HostRuntime) -> Result<(), Fail> {
-    let cases = [
-        (
-            0x0010_0000,
-            0,
-            StoreOp::Sb,
-            Some((0x0010_0000, 0x0000_80fe)),
-        ),
-        (
-            0x0010_0000,
-            2,
-            StoreOp::Sh,
-            Some((0x0010_0000, 0xfffe_80ff)),
-        ),
-        (
-            0x0010_0000,
-            0,
-            StoreOp::Sw,
-            Some((0x0010_0000, 0xffff_fffe)),
-        ),
-        (
-            0x0011_0000,
-            -1,
-            StoreOp::Sb,
-            Some((0x0010_fffc, 0xfe00_0000)),
-        ),
-        (
-            0x0011_0000,
-            -4,
-            StoreOp::Sw,
-            Some((0x0010_fffc, 0xffff_fffe)),
-        ),
-        (0x0011_0000, 0, StoreOp::Sb, None),
-        (0x0011_0000, -2, StoreOp::Sw, None),
-        (0x0010_0000, 1, StoreOp::Sh, None),
-        (0x0010_0000, -1, StoreOp::Sb, None),
-        (0x0001_0000, 0, StoreOp::Sw, None),
-    ];
-    for (start, more, op, wanted) in cases {
+    for (start, more, op, wanted) in STORES {
         assert!(rt; start % 0x1000 == 0 && -2048 <= more && more <= 2047);
-        let program = [
-            upper(T0, start),
-            add(T0, T0, more),
-            add(T1, ZERO, -2),
-            store(op),
-        ];
-        let image = image(&rt, rt.alloc(), &program)?;
-        assert!(rt; image.entries().len() == 1);
-        let mut mach = Mach::new(rt.alloc(), &image, 0)?;
-        for _ in 0..3 {
-            assert!(rt; mach.step(image.code()) == Ran::Ran);
-        }
-        let ran = mach.step(image.code());
+        let (ran, mach) = fourth(&rt, rt.alloc(), &storing(start, more, op))?;
+        let first = mach.load_word(0x0010_0000);
+        let last = mach.load_word(0x0010_fffc);
         match wanted {
-            Some((0x0010_0000, value)) => assert!(rt;
-                ran == Ran::Ran && mach.load_word(0x0010_0000) == value
+            Some(value) => assert!(rt;
+                ran == Ran::Ran && value == (if start == 0x0011_0000 { last } else { first })
             ),
-            Some((_, value)) => assert!(rt;
-                ran == Ran::Ran && mach.load_word(0x0010_fffc) == value
-            ),
-            None => assert!(rt;
-                ran == Ran::Fault(Fault::BadStore) && mach.load_word(0x0010_0000) == 0x80ff
-            ),
+            None => assert!(rt; ran == Ran::Fault(Fault::BadStore) && first == 0x80ff),
         }
     }
     Ok(())
@@ -341,5 +330,59 @@ fn runs(rt: HostRuntime) -> Result<(), Fail> {
     mach.assign(&kept);
     assert_eq!(rt; mach.run(image.code(), 9), 3);
     assert!(rt; mach.next(image.code()) == Ran::Call);
+    Ok(())
+}
+
+// A run goes past a load of code, and stops at the word behind the code.
+#[test]
+fn a_run_loads_code(rt: HostRuntime) -> Result<(), Fail> {
+    let program = [
+        upper(T0, 0x0001_0000),
+        load(LoadOp::Lw),
+        add(A0, A0, 1),
+        add(ZERO, A0, 1),
+    ];
+    let image = image(&rt, rt.alloc(), &program)?;
+    assert!(rt; image.entries().len() == 1);
+    let mut mach = Mach::new(rt.alloc(), &image, 0)?;
+    assert_eq!(rt; mach.run(image.code(), 9), 4);
+    assert_eq!(rt; mach.reg(10), 0x0001_02b8);
+    assert_eq!(rt; mach.reg(0), 0);
+    assert!(rt; mach.next(image.code()) == Ran::Fault(Fault::OutsideCode));
+    Ok(())
+}
+
+// A program that counts t0 down from 3 to 0, and stores and loads it on the way.
+fn countdown() -> [Inst; 6] {
+    [
+        add(T1, ZERO, 3),
+        upper(T0, 0x0010_0000),
+        store(StoreOp::Sw),
+        load(LoadOp::Lw),
+        add(T1, A0, -1),
+        Inst::Branch {
+            op: BranchOp::Bne,
+            rs1: T1,
+            rs2: ZERO,
+            offset: BranchOffset { value: -12 },
+        },
+    ]
+}
+
+// A run of each length leaves what so many steps leave.
+#[test]
+fn a_run_is_its_steps(rt: HostRuntime) -> Result<(), Fail> {
+    let image = image(&rt, rt.alloc(), &countdown())?;
+    assert!(rt; image.entries().len() == 1);
+    let mut stepped = Mach::new(rt.alloc(), &image, 0)?;
+    for length in 1..15u64 {
+        assert!(rt; stepped.step(image.code()) == Ran::Ran);
+        let mut mach = Mach::new(rt.alloc(), &image, 0)?;
+        assert_eq!(rt; mach.run(image.code(), length), length);
+        assert_eq!(rt; mach.pc(), stepped.pc());
+        assert_eq!(rt; mach.reg(6), stepped.reg(6));
+        assert!(rt; mach.memory() == stepped.memory());
+    }
+    assert_eq!(rt; stepped.reg(6), 0);
     Ok(())
 }

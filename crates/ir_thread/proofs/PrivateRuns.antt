@@ -1,7 +1,7 @@
 -- Steps of the machine as steps of its thread.
-use Rattle.std.proofs.Common.{◌≡◌, ◌+◌, ◌-◌, ◌≤◌, ◌<◌, ℕ, zero, suc, Bool, false, leb, List, Option, Some, None, refl, sym, ap, subst, ◌∙◌, add-one, add-zero, below_more, arith}
-use Rattle.std.specs.Prelude.{option_and_then}
-use Rattle.std.proofs.lemmas.Bool.{lt-leb}
+use Rattle.std.proofs.Common.{◌≡◌, ◌+◌, ◌-◌, ◌≤◌, ◌<◌, ℕ, zero, suc, Bool, true, false, leb, List, Some, None, refl, sym, ap, ◌∙◌, add-one, add-zero, add-suc, below_more, arith}
+use Rattle.std.specs.Prelude.{nat_lt}
+use Rattle.std.proofs.lemmas.Bool.{lt-leb, ltb-true, ltb-false}
 use Rattle.std.proofs.lemmas.Option.{option_and_then_some}
 use Rattle.ir_mach.specs.Core.{Core, Outcome, Goes, Calls, Ends}
 use Rattle.ir_mach.specs.Execution.{outcome_of}
@@ -62,3 +62,36 @@ none_taken code s = record { steps = refl; each = λ k below. absurd (omega arit
 
 pub private_steps : (code : List ℕ) (s : State) (n : ℕ) (core : Core) → s.ended ≡ None → s.steps + n ≤ s.budget → machine_after n code s.core ≡ Some core → PrivateSteps code n s (advanced s core n)
 private_steps code s n core running le e = let ran = runs code s n core running le e in record { steps = sym ran.ends; each = ran.each }
+
+-- ---- private steps after others
+
+run_together : (code : List ℕ) (first more : ℕ) (s : State) → run_of code (first + more) s ≡ run_of code more (run_of code first s)
+unfolding run_of
+run_together code first zero s = rw (add-zero first) refl
+run_together code first (suc more) s = rw (add-suc first more) (ap (λ t. step_of code t) (run_together code first more s))
+
+pub then_others : (code : List ℕ) (first more : ℕ) (s middle t : State) → PrivateSteps code first s middle → PrivateSteps code more middle t → PrivateSteps code (first + more) s t
+then_others code first more s middle t before after = record {
+  steps = after.steps ∙ ap (λ m. run_of code more m) before.steps ∙ sym (run_together code first more s);
+  each = λ k below. by k below (nat_lt k first) refl;
+}
+  where
+    by : (k : ℕ) → k < first + more → (b : Bool) → nat_lt k first ≡ b → ask_of code (run_of code k s) ≡ ask.Private
+    by k below true e = before.each k (ltb-true k first e)
+    by k below false e =
+        let past : first ≤ k = ltb-false k first e in
+        let split : first + (k - first) ≡ k = omega (arith, past) in
+        let there : run_of code k s ≡ run_of code (k - first) middle =
+        ap (λ (n : ℕ). run_of code n s) (sym split) ∙ run_together code first (k - first) s ∙ ap (λ m. run_of code (k - first) m) (sym before.steps) in
+        ap (λ u. ask_of code u) there ∙ after.each (k - first) (omega (arith, past, below))
+
+-- a private step more
+pub then_one : (code : List ℕ) (first : ℕ) (s middle t : State) → PrivateSteps code first s middle → ask_of code middle ≡ ask.Private → t ≡ after_reply code middle Go
+    → PrivateSteps code (first + 1) s t
+unfolding run_of step_of
+then_one code first s middle t before asks goes =
+    let here : middle ≡ run_of code first s = before.steps in
+    record {
+      steps = goes ∙ ap (λ m. after_reply code m Go) here ∙ ap (λ (n : ℕ). run_of code n s) (sym (add-one first));
+      each = λ k below. below_more (λ (j : ℕ). ask_of code (run_of code j s) ≡ ask.Private) first before.each (ap (λ m. ask_of code m) (sym here) ∙ asks) k (omega arith);
+    }

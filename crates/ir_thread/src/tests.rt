@@ -63,3 +63,19 @@ fn what_is_held_is_given_back(rt: HostRuntime) -> Result<(), Fail> {
     assert_eq!(rt; thread.ask(code), Ask::Leave(0, Access::Writing));
     Ok(())
 }
+
+// A run goes past the call that answers the thread's number, and stops at its limit or before what isn't private.
+#[test]
+fn a_run_stops_where_a_step_is_not_private(rt: HostRuntime) -> Result<(), Fail> {
+    let image = read_image(rt.alloc(), &PROGRAM)?;
+    let code = image.code();
+    let mut thread = Thread::new(rt.alloc(), &image, 0, 1000)?;
+    assert_eq!(rt; thread.run(code, 9), 1);
+    run(&mut thread, code, 3, 7);
+    assert_eq!(rt; thread.steps(), 4);
+    assert_eq!(rt; thread.run(code, 1), 1);
+    assert_eq!(rt; thread.run(code, 9), 2);
+    assert_eq!(rt; thread.ask(code), Ask::Print);
+    assert_eq!(rt; thread.run(code, 9), 0);
+    Ok(())
+}

@@ -1,16 +1,18 @@
 //! Many steps of a thread in one call.
 
-ghost use Rattle.std.specs.Prelude.{◌≤◌};
+ghost use Rattle.std.specs.Prelude.{◌≢◌, ◌<◌, ◌≤◌};
+ghost use Rattle.ir_thread.specs.Calls.{ask_of};
 ghost use Rattle.ir_thread.specs.Private.{PrivateSteps};
+ghost use Rattle.ir_thread.specs.declared.ask.Ask.TheVariants as ask;
 
+use crate::ask::{Ask, Reply};
 use crate::thread::Thread;
 use ir_image::Code;
 
 impl Thread {
-    /// Takes instructions until the next step is no instruction or `limit` are taken, and says how many they were.
-    pub fn run(&mut self, code: &Code, limit: u64) -> u64
+    // Takes instructions, at most `limit`, and says how many they were.
+    fn run_instructions(&mut self, code: &Code, limit: u64) -> u64
         ensures within { result ≤ limit }
-        // The thread is as after so many of its own steps, each of them private.
         ensures steps { PrivateSteps code.now result self.old self.new }
     {
         if self.ended.is_some() {
@@ -18,6 +20,31 @@ impl Thread {
         }
         let taken = self.mach.run(code, limit.min(self.budget - self.steps));
         self.steps += taken;
+        taken
+    }
+
+    /// Takes private steps, at most `limit`, and says how many they were; it stops below the limit only where the next
+    /// step isn't private.
+    #[tactic(auto, using(crate::proofs::PrivateRuns::none_taken))]
+    pub fn run(&mut self, code: &Code, limit: u64) -> u64
+        ensures within { result ≤ limit }
+        // The thread is as after so many of its own steps, each of them private.
+        ensures steps { PrivateSteps code.now result self.old self.new }
+        // Why it stopped.
+        ensures stops { result < limit → ask_of code.now self.new ≢ ask.Private }
+    {
+        let mut taken = 0;
+        while taken < limit {
+            taken += self.run_instructions(code, limit - taken);
+            if taken == limit {
+                return limit;
+            }
+            match self.ask(code) {
+                Ask::Private => self.take(code, Reply::Go),
+                _ => return taken,
+            }
+            taken += 1;
+        }
         taken
     }
 }

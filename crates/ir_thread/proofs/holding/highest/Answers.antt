@@ -1,5 +1,5 @@
-use Rattle.std.proofs.Common.{Some, None, ap, ◌∙◌, sym}
-use Rattle.ir_thread.proofs.Highest.{one_more, last_of}
+use Rattle.std.proofs.Common.{Some, None, ◌∙◌, sym}
+use Rattle.ir_thread.proofs.Highest.{one_more}
 use Rattle.ir_thread.proofs.holding.highest.Goals as goal
 use Rattle.ir_thread.proofs.holding.highest.Goals.{in-Some, in_default}
 

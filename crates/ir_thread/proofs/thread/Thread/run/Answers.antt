@@ -1,28 +1,27 @@
-use Rattle.std.proofs.Common.{◌≡◌, ◌+◌, ◌≤◌, Bool, false, Option, Some, None, refl, sym, subst, ◌∙◌, arith}
-use Rattle.std.specs.Prelude.{is_some, MatchOption}
-use Rattle.ir_thread.specs.State.{State}
+use Rattle.std.proofs.Common.{ℕ, sym, subst, ◌∙◌, arith}
 use Rattle.ir_thread.specs.Private.{PrivateSteps}
-use Rattle.ir_thread.specs.declared.end.End.{End}
-use Rattle.ir_thread.proofs.PrivateRuns.{advanced, none_taken, private_steps}
+use Rattle.ir_thread.proofs.PrivateRuns.{then_others, then_one}
 use Rattle.ir_thread.proofs.thread.Thread.run.Goals as goal
 
-running : (ended : Option End) → is_some ended ≡ false → ended ≡ None
-running None e = refl
-running (Some end) e = absurd cc
+pub returns-then-taken-limit-clause-steps : goal.returns-then-taken-limit-clause-steps
+returns-then-taken-limit-clause-steps c =
+    subst (λ (n : ℕ). PrivateSteps c.args.code.now n c.args.self.now c.run_instructions-taken.new.self) c.if-taken-limit.true
+    (then_others c.args.code.now c.loop-taken.taken c.run_instructions-taken.result c.args.self.now c.loop-taken.self c.run_instructions-taken.new.self c.loop-taken.invariant.steps
+    c.run_instructions-taken.ensures.steps)
 
-within : (ended : Option End) (P Q : Type 0) → ended ≡ None → MatchOption ended P (λ _. Q) → P
-within None P Q e p = p
-within (Some end) P Q e p = absurd cc
+pub returns-in_default : goal.returns-in_default
+returns-in_default c = record {
+  within = omega (arith, c.run_instructions-taken.ensures.within, c.loop-taken.invariant.within);
+  steps = then_others c.args.code.now c.loop-taken.taken c.run_instructions-taken.result c.args.self.now c.loop-taken.self c.run_instructions-taken.new.self c.loop-taken.invariant.steps
+      c.run_instructions-taken.ensures.steps;
+  stops = λ below private. c.in_default.not-Private (c.ask.ensures.value ∙ private);
+}
 
-pub returns-then-is_some-clause-steps : goal.returns-then-is_some-clause-steps
-returns-then-is_some-clause-steps c = none_taken c.args.code.now c.args.self.now
-
-pub returns-clause-steps : goal.returns-clause-steps
-returns-clause-steps c =
-    let inside = c.self.inside in
-    let none = running inside.ended (sym c.is_some.ensures ∙ c.if-is_some.false) in
-    let le : inside.steps ≤ inside.budget = within inside.ended (inside.steps ≤ inside.budget) _ none c.self.invariant.3 in
-    let s : State = record { core = inside.mach; number = inside.number; held = inside.held.items; budget = inside.budget; steps = inside.steps; events = inside.events; output = inside.output.items; ended = inside.ended } in
-    let P : State → Type 0 = λ old. PrivateSteps c.args.code.now c.run-taken.result old (advanced s c.run-taken.new.self c.run-taken.result) in
-    subst P c.self.view_is
-    (private_steps c.args.code.now s c.run-taken.result c.run-taken.new.self none (omega (arith, le)) c.run-taken.ensures.steps)
+pub loop-taken-preserved : goal.loop-taken-preserved
+loop-taken-preserved c = record {
+  within = omega (arith, c.run_instructions-taken.ensures.within, c.loop-taken.invariant.within, c.if-taken-limit.false);
+  steps = then_one c.args.code.now _ c.args.self.now c.run_instructions-taken.new.self c.take.new.self
+      (then_others c.args.code.now c.loop-taken.taken c.run_instructions-taken.result c.args.self.now c.loop-taken.self c.run_instructions-taken.new.self c.loop-taken.invariant.steps
+      c.run_instructions-taken.ensures.steps)
+      (sym c.in-Private.ensures.value) c.take.ensures;
+}
