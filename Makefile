@@ -20,6 +20,7 @@ run: ir
 test:
 	rt ci
 
-# Millions of instructions per second.
+# Millions of instructions per second, and the assembler's lines.
 bench: ir
-	python3 scripts/bench.py ./ir
+	cd crates/ir_bench && rt run < stdin > out.txt && rm out.txt
+	python3 scripts/bench.py ./ir crates/ir_bench/out/ir_bench

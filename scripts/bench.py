@@ -1,14 +1,16 @@
 #!/usr/bin/env python3
-"""bench.py BIN: guests of 8 * 10^7 steps and more, run by BIN, as millions of instructions per second.
+"""bench.py IR BENCH: millions of instructions per second of guests of 8 * 10^7 steps and more, and the assembler's lines.
 
-A session is opened on each guest with the trace of its run, which runs the guest once to see that the trace fits.
-The time of an empty session is taken off."""
+Each guest is run three ways, best of three, the time of an empty guest taken off: by a session of IR, which runs it once
+to see that the trace fits; by BENCH's private steps many at a time; and by BENCH, each step asked and taken by itself."""
 import struct
+import os
 import subprocess
 import sys
+import tempfile
 import time
 
-BIN = sys.argv[1]
+IR, BENCH = sys.argv[1:3]
 CODE, MEMORY = 0x10000, 0x100000
 A0, A1, A2, A3, A7, T0, T1, T2, RA, SP = 10, 11, 12, 13, 17, 5, 6, 7, 1, 2
 
@@ -64,8 +66,9 @@ def counted(body, rounds, body_steps=None):
 def guests():
     """Each guest's name, code and steps."""
     yield ("counted loop", *counted([], 12200))
-    array = [lui(A1, MEMORY >> 12), load(2, A0, 64, A1), addi(A0, A0, 1), store(2, A0, 64, A1), load(4, A2, 3, A1), store(0, A2, 9, A1)]
-    yield ("loads and stores", *counted(array, 3000))
+    # word T0 of an array of 64 KiB, from its last to its first, over and over
+    place = [lui(A1, MEMORY >> 12), op(1, A0, T0, 18), op(5, A0, A0, 16), reg(0, 0, A0, A0, A1)]
+    yield ("loads and stores", *counted(place + [load(2, A2, 0, A0), addi(A2, A2, 1), store(2, A2, 0, A0)], 3000))
     arithmetic = [reg(1, 0, A0, T0, T0), reg(1, 1, A1, A0, T0), reg(1, 4, A2, A0, T0), reg(1, 7, A3, A0, T0)]
     yield ("multiply and divide", *counted(arithmetic, 4000))
     forks = [branch(1, T0, 0, 8), ECALL, branch(4, T0, 0, 8), branch(7, T0, 0, 8), ECALL]
@@ -82,25 +85,51 @@ def trace(steps, budget):
     return b"IRT1" + bytes([1, 0, 0, 0]) + struct.pack("<Q", budget) + struct.pack("<QBII", steps, 1, 0, 0)
 
 
-def seconds(code, steps, budget, commands=b""):
-    data = image(code).hex().encode() + b"\n" + trace(steps, budget).hex().encode() + b"\n" + commands
+def best_of_three(words, data, is_good):
     best = None
     for _ in range(3):
         start = time.perf_counter()
-        p = subprocess.run([BIN], input=data, stdout=subprocess.PIPE)
+        p = subprocess.run(words, input=data, stdout=subprocess.PIPE)
         took = time.perf_counter() - start
-        if p.returncode != 0 or not p.stdout.startswith(b"ready\n"):
-            sys.exit(f"the guest isn't served: status {p.returncode}, {p.stdout!r}")
+        if p.returncode != 0 or not is_good(p.stdout):
+            sys.exit(f"{words}: status {p.returncode}, {p.stdout!r}")
         best = took if best is None else min(best, took)
     return best
 
 
-def main():
-    base = seconds([addi(A7, 0, 1), ECALL], 2, 10)
-    print(f"{'guest':24}{'steps':>12}{'seconds':>10}{'million/s':>12}")
+def in_session(code, steps):
+    data = image(code).hex().encode() + b"\n" + trace(steps, steps + 10).hex().encode() + b"\n"
+    return best_of_three([IR], data, lambda out: out.startswith(b"ready\n"))
+
+
+def by_itself(mode, code, steps):
+    data = mode + b"\n" + image(code).hex().encode() + b"\n"
+    return best_of_three([BENCH], data, lambda out: out == b"%d steps\n" % steps)
+
+
+def speeds():
+    empty = [addi(A7, 0, 1), ECALL]
+    ways = [in_session, lambda c, n: by_itself(b"run", c, n), lambda c, n: by_itself(b"steps", c, n)]
+    bases = [way(empty, 2) for way in ways]
+    print("millions of steps a second")
+    print(f"{'guest':24}{'steps':>12}{'session':>10}{'run':>10}{'ask, take':>12}{'ratio':>8}")
     for name, code, steps in guests():
-        took = seconds(code, steps, steps + 10) - base
-        print(f"{name:24}{steps:>12}{took:>10.3f}{steps / took / 1e6:>12.1f}")
+        session, run, each = (steps / (way(code, steps) - base) / 1e6 for way, base in zip(ways, bases))
+        print(f"{name:24}{steps:>12}{session:>10.0f}{run:>10.0f}{each:>12.0f}{run / each:>8.1f}")
 
 
-main()
+def assembling():
+    print("the assembler: a label on each fourth statement, which a branch goes back to")
+    print(f"{'statements':24}{'labels':>12}{'seconds':>10}{'lines/s':>12}")
+    with tempfile.TemporaryDirectory() as folder:
+        source, made = os.path.join(folder, "source"), os.path.join(folder, "image")
+        for count in (4000, 8000, 16000):
+            with open(source, "w") as f:
+                for i in range(0, count, 4):
+                    f.write(f"l{i}: addi a0, a0, 1\n  lw a1, 4(sp)\n  beq a0, a1, l{i}\n  sw a1, 4(sp)\n")
+            took = best_of_three([IR, "asm", source, made], b"", lambda out: out == b"")
+            print(f"{count:<24}{count // 4:>12}{took:>10.3f}{count / took:>12.0f}")
+
+
+speeds()
+assembling()
