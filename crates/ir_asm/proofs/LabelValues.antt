@@ -1,19 +1,18 @@
 -- What a label's value is, by what each line does to the sizes.
-use Rattle.std.proofs.Common.{◌≡◌, ◌+◌, ◌++◌, ℕ, Bool, true, false, cond, not, List, [], ◌∷◌, length, refl, sym, ap, subst, ◌∙◌, arith, Option, Some, None, Result, Ok, Err, is_some, ◌||◌}
+use Rattle.std.proofs.Common.{◌≡◌, ◌+◌, ◌++◌, ℕ, Bool, true, false, cond, not, List, [], ◌∷◌, length, refl, sym, ap, subst, ◌∙◌, arith, Option, Some, None, Ok, is_some, ◌||◌}
 use Rattle.std.specs.Prelude.{nat_lt, nat_le, bytes_eq, if◌then◌else◌}
 use Rattle.std.specs.List.{list_any, list_all}
 use Rattle.std.proofs.lemmas.Slice.Eq.{bytes_eq-Decides}
-use Rattle.ir_asm.specs.declared.cause.Cause.{Cause}
 use Rattle.ir_asm.specs.declared.cause.Cause.TheVariants.{BadByte, BadCount, BadLabel, BadSize, LabelTwice}
 use Rattle.ir_asm.specs.declared.form.Section.{Section}
 use Rattle.ir_asm.specs.declared.form.Section.TheVariants.{Text, Data}
 use Rattle.ir_asm.specs.declared.item.Item.{Item}
-use Rattle.ir_asm.specs.declared.item.Item.TheVariants.{Code, Within, Entry, Nothing}
+use Rattle.ir_asm.specs.declared.item.Item.TheVariants.{Code, Entry, Nothing}
 use Rattle.ir_asm.specs.declared.item.Place.{Place}
 use Rattle.ir_asm.specs.Faults.{◌>>=◌}
 use Rattle.ir_asm.specs.Names.{named}
 use Rattle.ir_asm.specs.Text.{is_name, is_nil}
-use Rattle.ir_asm.specs.Source.{Seen, Fault, nothing_seen, start_of, size_in, same_section, size_of, here, is_source_byte, at_line, item_in, grown, laid, entered, with_labels, with_statement, with_line, line_of, first_pass}
+use Rattle.ir_asm.specs.Source.{Seen, nothing_seen, start_of, size_in, same_section, size_of, here, is_source_byte, at_line, item_in, grown, laid, entered, with_labels, with_statement, with_line, line_of, first_pass}
 use Rattle.ir_asm.specs.Standing.{item_or_nothing, placed_by, section_after, section_at_end, bytes_placed, place_after}
 use Rattle.ir_asm.proofs.Steps.{at_line_ok, ok_is, bind_ok, unless_ok, tested}
 

@@ -59,8 +59,8 @@ fn with_line(alloc: Global, scan: &mut Scan, number: usize, line: &[u8]) -> Resu
     with_statement(alloc, scan, number, statement(text))
 }
 
-#[tactic(auto, using(crate::proofs::Passing::return_gone, crate::proofs::Passing::return_kept))]
 // A line without the carriage return at its end.
+#[tactic(auto, using(crate::proofs::Passing::return_gone, crate::proofs::Passing::return_kept))]
 fn without_return(line: &[u8]) -> &[u8]
     ensures { result.now ≡ without_return line.now }
 {

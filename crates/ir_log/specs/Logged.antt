@@ -3,6 +3,7 @@ use Rattle.std.specs.Prelude.{ℕ, ◌≤◌, List, length}
 use Rattle.ir_thread.specs.Calls.{most_events}
 use Rattle.ir_log.specs.declared.event.Event.{Event}
 
+-- what a log holds, and how much it may hold
 pub record Logged : Type 0 where
   -- the events, the first one first
   pub events : List Event

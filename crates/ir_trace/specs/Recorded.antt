@@ -34,6 +34,7 @@ most_budget = 1000000000000
 abbrev pub input_end : ℕ
 input_end = 0xFFFFFFFF
 
+-- a number of four bytes
 abbrev pub IsWord : ℕ → Type 0
 IsWord n = n < 2 ^ 32
 
