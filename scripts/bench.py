@@ -1,7 +1,7 @@
 #!/usr/bin/env python3
 """bench.py IR BENCH: millions of instructions per second of guests of 8 * 10^7 steps and more, and the assembler's lines.
 
-Each guest is run three ways, best of three, the time of an empty guest taken off: by a session of IR, which runs it once
+Each guest is run three ways, best of five, the time of an empty guest taken off: by a session of IR, which runs it once
 to see that the trace fits; by BENCH's private steps many at a time; and by BENCH, each step asked and taken by itself."""
 import struct
 import os
@@ -87,7 +87,7 @@ def trace(steps, budget):
 
 def best_of_three(words, data, is_good):
     best = None
-    for _ in range(3):
+    for _ in range(5):
         start = time.perf_counter()
         p = subprocess.run(words, input=data, stdout=subprocess.PIPE)
         took = time.perf_counter() - start

@@ -1,0 +1,73 @@
+-- Worlds that are asked.
+use Rattle.std.proofs.Common.{◌≡◌, ℕ, ◌<◌, ◌≤◌, true, false, Bool, List, [], ◌∷◌, ◌++◌, length, map, set, get_or, refl, sym, ap, ◌∙◌, subst, arith, inl, inr, get_or-set_same, get_or-set_other, append-nil, append_assoc, length-set, length-append, ◌+◌, zero, suc}
+use Rattle.std.proofs.lemmas.Bool.{cases_eq, cases_lt}
+use Rattle.std.proofs.lemmas.List.{get_or-map, map-set, length-map}
+use Rattle.ir_record.specs.Worlds.{Answered, NoneFailed, IsFirstFailed, Extends}
+use Rattle.ir_record.specs.Progress.{answers_at}
+
+-- a world that is asked has not failed
+pub works_at : {W : Type 0} (broken : W → Bool) (worlds : List W) (t : ℕ) (w : W) → NoneFailed (map broken worlds) → t < length worlds → w ≡ get_or worlds t w → broken w ≡ false
+works_at broken worlds t w works l e = ap broken e ∙ sym (get_or-map broken worlds t w false l) ∙ works t
+
+pub gained_at : {W : Type 0} (answers : W → List Answered) (worlds : List W) (t : ℕ) (w new : W) (given : Answered) → t < length worlds → w ≡ get_or worlds t w → answers new ≡ answers w ++ given ∷ []
+    → map answers (set worlds t new) ≡ set (map answers worlds) t (answers_at (map answers worlds) t ++ given ∷ [])
+gained_at answers worlds t w new given l e h =
+    map-set answers worlds t new ∙ ap (set (map answers worlds) t) (h ∙ ap (λ z. z ++ given ∷ []) (ap answers e ∙ sym (get_or-map answers worlds t w [] l)))
+
+pub still_works : {W : Type 0} (broken : W → Bool) (worlds : List W) (t : ℕ) (new : W) → NoneFailed (map broken worlds) → t < length worlds → broken new ≡ false → NoneFailed (map broken (set worlds t new))
+still_works broken worlds t new works l h u = subst (λ z. get_or z u false ≡ false) (sym (map-set broken worlds t new)) (elim (cases_eq u t) [
+  | inl e ↦ ap (λ z. get_or (set (map broken worlds) t (broken new)) z false) e ∙ get_or-set_same (map broken worlds) t (broken new) false (let n = length-map worlds broken in omega (arith, n, l)) ∙ h
+  | inr ne ↦ get_or-set_other (map broken worlds) t u (broken new) false ne ∙ works u
+])
+
+pub first_failed : {W : Type 0} (broken : W → Bool) (worlds : List W) (t : ℕ) (new : W) → NoneFailed (map broken worlds) → t < length worlds → broken new ≡ true → IsFirstFailed (map broken (set worlds t new)) t
+first_failed broken worlds t new works l h = subst (λ z. IsFirstFailed z t) (sym (map-set broken worlds t new)) (
+  get_or-set_same (map broken worlds) t (broken new) false (let n = length-map worlds broken in omega (arith, n, l)) ∙ h,
+  λ u below. get_or-set_other (map broken worlds) t u (broken new) false (λ e. omega (arith, e, below)) ∙ works u,
+)
+
+-- what has been answered before is kept
+pub extends_same : (a : List (List Answered)) → Extends a a
+extends_same a = record { worlds = refl; more = λ t. ([], sym (append-nil (get_or a t []))) }
+
+pub extends_both : (a b c : List (List Answered)) → Extends a b → Extends b c → Extends a c
+extends_both a b c p q = record {
+  worlds = q.worlds ∙ p.worlds;
+  more = λ t. ((p.more t).0 ++ (q.more t).0, (q.more t).1 ∙ ap (λ z. z ++ (q.more t).0) (p.more t).1 ∙ append_assoc (get_or a t []) (p.more t).0 (q.more t).0);
+}
+
+-- one world has answered so many more
+extends_at : (a : List (List Answered)) (t : ℕ) (added : List Answered) → Extends a (set a t (get_or a t [] ++ added))
+extends_at a t added = record {
+  worlds = length-set a t (get_or a t [] ++ added);
+  more = λ u. elim (cases_eq u t) [
+    | inl e ↦ elim (cases_lt t (length a)) [
+      | inl l ↦ (added, subst (λ z. get_or (set a t (get_or a t [] ++ added)) z [] ≡ get_or a z [] ++ added) (sym e) (get_or-set_same a t (get_or a t [] ++ added) [] l))
+      | inr past ↦ ([], ap (λ z. get_or z u []) (set_past a t (get_or a t [] ++ added) past) ∙ sym (append-nil (get_or a u [])))
+    ]
+    | inr ne ↦ ([], get_or-set_other a t u (get_or a t [] ++ added) [] ne ∙ sym (append-nil (get_or a u [])))
+  ];
+}
+  where
+    set_past : (xs : List (List Answered)) (i : ℕ) (x : List Answered) → length xs ≤ i → set xs i x ≡ xs
+    set_past [] i x l = refl
+    set_past (y ∷ xs) zero x l = absurd (omega arith)
+    set_past (y ∷ xs) (suc i) x l = ap (λ z. y ∷ z) (set_past xs i x (omega arith))
+
+pub asked_extends : {W : Type 0} (answers : W → List Answered) (worlds : List W) (t : ℕ) (w new : W) (added : List Answered) → t < length worlds → w ≡ get_or worlds t w → answers new ≡ answers w ++ added → Extends (map answers worlds) (map answers (set worlds t new))
+asked_extends answers worlds t w new added l e h =
+    subst (Extends (map answers worlds)) (sym (map-set answers worlds t new ∙ ap (set (map answers worlds) t) (h ∙ ap (λ z. z ++ added) (ap answers e ∙ sym (get_or-map answers worlds t w [] l)))))
+    (extends_at (map answers worlds) t added)
+
+-- one world more that has not failed
+pub one_more_works : {W : Type 0} (broken : W → Bool) (worlds new : List W) (w : W) → NoneFailed (map broken worlds) → new ≡ worlds ++ w ∷ [] → broken w ≡ false → NoneFailed (map broken new)
+one_more_works {W} broken worlds new w works e h t = ap (λ z. get_or (map broken z) t false) e ∙ go worlds t (works t)
+  where
+    go : (xs : List W) (t : ℕ) → get_or (map broken xs) t false ≡ false → get_or (map broken (xs ++ w ∷ [])) t false ≡ false
+    go [] zero k = h
+    go [] (suc t) k = refl
+    go (x ∷ xs) zero k = k
+    go (x ∷ xs) (suc t) k = go xs t k
+
+pub one_more_long : {W : Type 0} (worlds new : List W) (w : W) (n : ℕ) → length worlds ≡ n → new ≡ worlds ++ w ∷ [] → length new ≡ n + 1
+one_more_long worlds new w n h e = let k = length-append worlds (w ∷ []) in let m : length new ≡ length (worlds ++ w ∷ []) = ap (λ xs. length xs) e in omega (arith, h, k, m)

@@ -1,0 +1,201 @@
+-- What was recorded once nobody has a step.
+use Rattle.std.proofs.Common.{◌≡◌, ◌≢◌, ℕ, zero, suc, ◌+◌, ◌<◌, Bool, List, [], ◌∷◌, ◌++◌, length, map, replicate, get_or, Option, Some, None, refl, sym, ap, ◌∙◌, subst, arith, inl, inr, ◌⊎◌}
+use Rattle.std.proofs.lemmas.Bool.{cases_lt}
+use Rattle.std.proofs.lemmas.List.{get_or-replicate, length-replicate, length-map}
+use Rattle.std.proofs.lemmas.Option.{slice_get-get_or, slice_get-map}
+use Rattle.std.specs.List.{slice_get, AllByRecursion}
+use Rattle.std.specs.Prelude.{option_map}
+use Rattle.ir_image.specs.Guest.{Guest, object_count}
+use Rattle.ir_thread.specs.Calls.{ask_of, Permits, most_events}
+use Rattle.ir_thread.specs.Instance.{shared_ask, thread_machine}
+use Rattle.ir_thread.specs.Machine as machine
+use Rattle.ir_thread.specs.State as thread
+use Rattle.ir_thread.specs.declared.ask.Ask.{Ask}
+use Rattle.ir_thread.specs.declared.ask.Ask.TheVariants.{Private, Env, Enter, Leave, Get, Put, Print, End, Done}
+use Rattle.ir_thread.specs.Ends.{end_number, end_code}
+use Rattle.ir_thread.specs.declared.end.End as end
+use Rattle.ir_thread.proofs.Asked.{ask_permits}
+use Rattle.ir_object.specs.Object.{Admits, target}
+use Rattle.ir_flat.specs.Flat.{Flat, thread_of, tables, machine, idle, start_flat, start_threads}
+use Rattle.ir_flat.specs.Run.{State, Step, asked, Can, IsRun, end, log, count, IsDone}
+use Rattle.ir_flat.proofs.Fresh.{fresh, threads_length, cells_length}
+use Rattle.ir_flat.proofs.Runs.{nothing_is_stuck, start_idle}
+use Rattle.ir_flat.proofs.Stuck.{run_idle}
+use Rattle.ir_log.specs.Logged.{Logged}
+use Rattle.ir_log.specs.Logging.{mark_of}
+use Rattle.ir_trace.specs.Recorded.{Recorded, RecordedThread, IsEvent}
+use Rattle.ir_trace.specs.Told.{absent}
+use Rattle.ir_record.specs.Gathered.{AreThreadTraces}
+use Rattle.ir_record.specs.InOrder.{HasNone, rounds}
+use Rattle.ir_record.specs.Progress.{Progress, Took, IsReady, log_at, answers_at, no_log}
+use Rattle.ir_record.specs.Recording.{IsTraceOf, AreOutputs, AreAnswers, IsRecording}
+use Rattle.ir_record.specs.Worlds.{Answered, NoneFailed}
+use Rattle.ir_record.proofs.Tally.{tally}
+use Rattle.ir_record.proofs.Turns.{turns_run}
+
+-- ---- the start
+
+-- a log without events
+abbrev pub new_log : Logged
+new_log = record { events = []; room = most_events }
+
+-- a recording before the first step
+abbrev pub start : Guest → ℕ → List (List Answered) → Progress
+start guest budget answers = record { flat = start_flat guest budget; logs = replicate (length guest.entries) new_log; answers = answers }
+
+pub start_ready : (guest : Guest) (budget : ℕ) (answers : List (List Answered)) (failed : List Bool) → length answers ≡ length guest.entries → NoneFailed failed → IsReady (start guest budget answers) failed
+start_ready guest budget answers failed size works =
+    let n : length (start_threads guest budget 0 (length guest.entries)) ≡ length guest.entries = threads_length guest budget 0 (length guest.entries) in
+    let own : (t : ℕ) → t < length (start_threads guest budget 0 (length guest.entries)) → log_at (replicate (length guest.entries) new_log) t ≡ new_log = λ t l. get_or-replicate (length guest.entries) t new_log no_log (omega (arith, l, n)) in
+    record {
+      tape = record {
+        one_each = length-replicate (length guest.entries) new_log ∙ sym n;
+        rooms = λ t l. ap (λ z. z.room) (own t l);
+        counts = λ t l. ap (λ z. length z.events) (own t l) ∙ sym (fresh guest budget 0 (length guest.entries) t).events;
+        events_fit = λ t l. subst (λ z. AllByRecursion (IsEvent (length (start_flat guest budget).objects)) z.events) (sym (own t l)) tt;
+      };
+      worlds = size ∙ sym n;
+      works = works;
+    }
+
+no_steps : (guest : Guest) (budget from n t : ℕ) → (get_or (start_threads guest budget from n) t idle).steps ≡ 0
+no_steps guest budget from zero t = refl
+no_steps guest budget from (suc n) zero = refl
+no_steps guest budget from (suc n) (suc t) = no_steps guest budget (suc from) n t
+
+-- ---- the end
+
+done_or : (q : machine.Ask) → (q ≡ machine.Done) ⊎ (q ≢ machine.Done)
+done_or machine.Private = inr (λ e. cc e)
+done_or (machine.Env k) = inr (λ e. cc e)
+done_or (machine.Enter o a) = inr (λ e. cc e)
+done_or (machine.Try o) = inr (λ e. cc e)
+done_or (machine.Leave o a) = inr (λ e. cc e)
+done_or (machine.Get o i) = inr (λ e. cc e)
+done_or (machine.Put o i w) = inr (λ e. cc e)
+done_or machine.Done = inl refl
+
+-- where none of the guest's threads has a step, all threads are done
+all_done : (guest : Guest) (budget : ℕ) (run : List Step) → IsRun (thread_machine guest.code) (tables (start_flat guest budget)) run
+    → ((t : ℕ) → t < length guest.entries → HasNone (thread_machine guest.code) (end (thread_machine guest.code) (tables (start_flat guest budget)) run) t) → IsDone (thread_machine guest.code) (end (thread_machine guest.code) (tables (start_flat guest budget)) run)
+all_done guest budget run ok none t =
+    let s : State thread.State = end (thread_machine guest.code) (tables (start_flat guest budget)) run in
+    elim (done_or (asked (thread_machine guest.code) s t)) [
+      | inl e ↦ e
+      | inr ne ↦ absurd (stuck (nothing_is_stuck guest budget run ok t ne))
+    ]
+  where
+    stuck : ((u : ℕ) × Can (thread_machine guest.code) (end (thread_machine guest.code) (tables (start_flat guest budget)) run) (u, 0)) → ⊥
+    stuck step = elim (cases_lt step.0 (length guest.entries)) [
+      | inl l ↦ none step.0 l 0 step.1
+      | inr past ↦ subst (λ q. Admits (thread_machine guest.code) (machine.act_of q 0) ((end (thread_machine guest.code) (tables (start_flat guest budget)) run).objects (target (machine.act_of q 0))))
+          (run_idle (thread_machine guest.code) (tables (start_flat guest budget)) (length guest.entries) (start_idle guest budget) run ok step.0 past) step.1
+    ]
+
+really_done : (q : Ask) → shared_ask q ≡ machine.Done → q ≡ Done
+really_done Private e = absurd (cc e)
+really_done (Env k) e = absurd (cc e)
+really_done (Enter o a) e = absurd (cc e)
+really_done (Leave o a) e = absurd (cc e)
+really_done (Get o i) e = absurd (cc e)
+really_done (Put o i w) e = absurd (cc e)
+really_done Print e = absurd (cc e)
+really_done (End k) e = absurd (cc e)
+really_done Done e = refl
+
+-- a thread that is done has ended
+has_ended : (code : List ℕ) (x : thread.State) → shared_ask (ask_of code x) ≡ machine.Done → x.ended ≢ None
+has_ended code x e = (subst (Permits x) (really_done (ask_of code x) e) (ask_permits code x)).0
+
+-- ---- the whole recording
+
+-- a recording at its end: turns by the order, and rounds, until nobody has a step
+pub record Over (guest : Guest) (budget : ℕ) (order : List ℕ) (before : List (List Answered)) (b : Progress) : Type 0 where
+  pub count : ℕ
+  pub took : Took (order ++ rounds (length guest.entries) count) (start guest budget before) b
+  pub none : (t : ℕ) → t < length b.flat.threads → HasNone (machine b.flat) (tables b.flat) t
+
+pub threads_there : (guest : Guest) (budget : ℕ) (order : List ℕ) (before : List (List Answered)) (b : Progress) → Over guest budget order before b → length b.flat.threads ≡ length guest.entries
+threads_there guest budget order before b o = o.took.threads ∙ threads_length guest budget 0 (length guest.entries)
+
+run_of_it : (guest : Guest) (budget : ℕ) (order : List ℕ) (before : List (List Answered)) (b : Progress) → (o : Over guest budget order before b) → IsRun (thread_machine guest.code) (tables (start_flat guest budget)) o.took.run
+run_of_it guest budget order before b o = turns_run (thread_machine guest.code) (tables (start_flat guest budget)) (order ++ rounds (length guest.entries) o.count) o.took.run o.took.turns
+
+done_there : (guest : Guest) (budget : ℕ) (order : List ℕ) (before : List (List Answered)) (b : Progress) → (o : Over guest budget order before b) → IsDone (thread_machine guest.code) (end (thread_machine guest.code) (tables (start_flat guest budget)) o.took.run)
+done_there guest budget order before b o = all_done guest budget o.took.run (run_of_it guest budget order before b o)
+    (λ t l. subst (λ s. HasNone (thread_machine guest.code) s t) o.took.ends (subst (λ c. HasNone (thread_machine c) (tables b.flat) t) o.took.code (o.none t (let n = threads_there guest budget order before b o in omega (arith, l, n)))))
+
+pub ended_there : (guest : Guest) (budget : ℕ) (order : List ℕ) (before : List (List Answered)) (b : Progress) → Over guest budget order before b → (t : ℕ) → (thread_of b.flat t).ended ≢ None
+ended_there guest budget order before b o t =
+    has_ended guest.code (thread_of b.flat t) (ap (λ s. shared_ask (ask_of guest.code (s.now t))) o.took.ends ∙ done_there guest budget order before b o t)
+
+-- the end that is told of a recorded thread
+ends_at : (rs : List RecordedThread) (t : ℕ) (x : Option end.End) → x ≡ Some (get_or rs t absent).end → ◌≡◌ {A = Option (ℕ × ℕ)} (Some (end_number (get_or rs t absent).end, end_code (get_or rs t absent).end)) (option_map (λ e. (end_number e, end_code e)) x)
+ends_at rs t x e = ap (option_map (λ k. (end_number k, end_code k))) (sym e)
+
+pub told_there : (guest : Guest) (budget : ℕ) (order : List ℕ) (before : List (List Answered)) (b : Progress) → (o : Over guest budget order before b) → (trace : Recorded) → IsReady b [] → trace.objects ≡ length b.flat.objects → trace.budget ≡ budget → AreThreadTraces b.flat b.logs trace.threads
+    → IsTraceOf guest budget o.took.run trace
+told_there guest budget order before b o trace ready objects limit threads =
+    let n : length b.flat.threads ≡ length guest.entries = threads_there guest budget order before b o in
+    let logs : length b.logs ≡ length guest.entries = ready.tape.one_each ∙ n in
+    let all : length trace.threads ≡ length guest.entries = threads.count ∙ logs in
+    let f0 : Flat = start_flat guest budget in
+    record {
+      objects = objects ∙ o.took.objects ∙ cells_length guest.words (object_count guest);
+      limit = limit;
+      threads = all;
+      steps = λ t l. (threads.each t (omega (arith, l, logs))).steps ∙ ap (λ s. (s.now t).steps) o.took.ends
+          ∙ (tally guest.code (tables f0) o.took.run (run_of_it guest budget order before b o) t).steps
+          ∙ ap (λ k. k + count (machine f0) (tables f0) o.took.run t) (no_steps guest budget 0 (length guest.entries) t) ∙ (let e : 0 + count (machine f0) (tables f0) o.took.run t ≡ count (machine f0) (tables f0) o.took.run t = omega arith in e);
+      logs = λ t l. ap (map mark_of) (threads.each t (omega (arith, l, logs))).events
+          ∙ o.took.logs t (let m = threads_length guest budget 0 (length guest.entries) in omega (arith, l, m)) ∙ ap (λ z. map mark_of z.events ++ log (machine f0) (tables f0) o.took.run t) (get_or-replicate (length guest.entries) t new_log no_log l);
+      ends = λ t l. ends_at trace.threads t (thread_of b.flat t).ended (threads.each t (omega (arith, l, logs))).end ∙ ap (λ s. (thread_machine guest.code).ended (s.now t)) o.took.ends;
+    }
+
+pub printed_there : (guest : Guest) (budget : ℕ) (order : List ℕ) (before : List (List Answered)) (b : Progress) → (o : Over guest budget order before b) → (outputs : List (List ℕ)) → outputs ≡ map (λ x. x.output) b.flat.threads → AreOutputs guest budget o.took.run outputs
+printed_there guest budget order before b o outputs e =
+    let n : length b.flat.threads ≡ length guest.entries = threads_there guest budget order before b o in
+    record {
+      threads = ap (λ z. length z) e ∙ length-map b.flat.threads (λ x. x.output) ∙ n;
+      each = λ t l. ap (λ z. slice_get z t) e ∙ slice_get-map (λ x. x.output) b.flat.threads t ∙ ap (option_map (λ x. x.output)) (slice_get-get_or b.flat.threads t idle (omega (arith, l, n))) ∙ ap (λ s. Some (s.now t).output) o.took.ends;
+    }
+
+pub answered_there : (guest : Guest) (budget : ℕ) (order : List ℕ) (before : List (List Answered)) (b : Progress) → (o : Over guest budget order before b) → (answers : List (List Answered)) → IsReady b [] → answers ≡ b.answers → AreAnswers guest budget o.took.run before answers
+answered_there guest budget order before b o answers ready e =
+    let n : length b.flat.threads ≡ length guest.entries = threads_there guest budget order before b o in
+    let size : length answers ≡ length guest.entries = ap (λ z. length z) e ∙ ready.worlds ∙ n in
+    record {
+      threads = size;
+      each = λ t l. slice_get-get_or answers t [] (omega (arith, l, size)) ∙ ap Some (ap (λ z. answers_at z t) e ∙ o.took.answers t (let m = threads_length guest budget 0 (length guest.entries) in omega (arith, l, m)));
+    }
+
+pub recorded_there : (guest : Guest) (budget : ℕ) (order : List ℕ) (before : List (List Answered)) (b : Progress) → Over guest budget order before b → (failed : List Bool) → IsReady b failed
+    → (trace : Recorded) → trace.objects ≡ length b.flat.objects → trace.budget ≡ budget → AreThreadTraces b.flat b.logs trace.threads → (outputs : List (List ℕ)) → outputs ≡ map (λ x. x.output) b.flat.threads
+    → (answers : List (List Answered)) → answers ≡ b.answers → IsRecording guest budget order before trace outputs answers
+recorded_there guest budget order before b o failed ready trace objects limit threads outputs printed answers given =
+    let plain : IsReady b [] = record { tape = ready.tape; worlds = ready.worlds; works = λ t. refl } in
+    record {
+      run = o.took.run;
+      by_order = record { count = o.count; turns = o.took.turns; done = done_there guest budget order before b o };
+      told = told_there guest budget order before b o trace plain objects limit threads;
+      printed = printed_there guest budget order before b o outputs printed;
+      answered = answered_there guest budget order before b o answers plain given;
+    }
+
+-- the same, where it began with the recording that was made
+pub over_from : (guest : Guest) (budget : ℕ) (order : List ℕ) (before : List (List Answered)) (a b : Progress) → a ≡ start guest budget before → ((count : ℕ) × Took (order ++ rounds (length a.flat.threads) count) a b) → ((t : ℕ) → t < length b.flat.threads → HasNone (machine b.flat) (tables b.flat) t) → Over guest budget order before b
+over_from guest budget order before a b e k none = record {
+  count = k.0;
+  took = subst (λ n. Took (order ++ rounds n k.0) (start guest budget before) b) (ap (λ z. length z.flat.threads) e ∙ threads_length guest budget 0 (length guest.entries)) (subst (λ z. Took (order ++ rounds (length a.flat.threads) k.0) z b) e k.1);
+  none = none;
+}
+
+pub started : (guest : Guest) (budget : ℕ) (answers : List (List Answered)) (f : Flat) (logs : List Logged) → f ≡ start_flat guest budget → logs ≡ replicate (length guest.entries) new_log → ◌≡◌ {A = Progress} (record { flat = f; logs = logs; answers = answers }) (start guest budget answers)
+started guest budget answers f logs p q = λ i. record { flat = p i; logs = q i; answers = answers }
+
+pub mapped_twice : {A B C : Type 0} (f : B → C) (h : A → B) (xs : List A) (ys : List B) → map h xs ≡ ys → map (λ x. f (h x)) xs ≡ map f ys
+mapped_twice {A} {B} {C} f h xs ys e = twice xs ∙ ap (map f) e
+  where
+    twice : (zs : List A) → map (λ x. f (h x)) zs ≡ map f (map h zs)
+    twice [] = refl
+    twice (z ∷ zs) = ap (λ w. f (h z) ∷ w) (twice zs)

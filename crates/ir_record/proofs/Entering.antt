@@ -1,0 +1,199 @@
+-- Entries, and steps that nothing is logged of.
+use Rattle.std.proofs.Common.{◌≡◌, ℕ, ◌<◌, true, false, Bool, List, [], ◌∷◌, ◌++◌, length, set, Result, Ok, Err, OnOk, OnErr, is_ok, is_err, refl, sym, ap, ◌∙◌, subst, arith, append-nil}
+use Rattle.ir_thread.specs.Calls.{ask_of, Permits, most_events}
+use Rattle.ir_thread.specs.Instance.{shared_ask}
+use Rattle.ir_thread.specs.Machine as machine
+use Rattle.ir_thread.specs.Machine.{act_of}
+use Rattle.ir_thread.specs.Marks.{Mark, logged}
+use Rattle.ir_thread.specs.declared.ask.Access.{Access}
+use Rattle.ir_thread.specs.declared.ask.Access.TheVariants.{Reading, Writing}
+use Rattle.ir_thread.specs.declared.ask.Ask.{Ask}
+use Rattle.ir_thread.specs.declared.ask.Ask.TheVariants.{Private, Env, Enter, Leave, Get, Put, Print, End, Done}
+use Rattle.ir_thread.proofs.Asked.{ask_permits}
+use Rattle.ir_object.specs.Object.{Object, target, told, Admits}
+use Rattle.ir_flat.specs.Flat.{Flat, thread_of, tables, machine, IsFlat}
+use Rattle.ir_flat.specs.Run.{Can, after, mark}
+use Rattle.ir_flat.proofs.Kept.{added}
+use Rattle.ir_log.specs.Logged.{Logged}
+use Rattle.ir_log.specs.Logging.{mark_of}
+use Rattle.ir_log.specs.declared.event.Event.{Event}
+use Rattle.ir_trace.specs.Recorded.{IsEvent}
+use Rattle.ir_record.specs.InOrder.{HasNone}
+use Rattle.ir_record.specs.Progress.{TookIf, IsTape, IsQuiet, log_at, marks_at, answers_at}
+use Rattle.ir_record.specs.Worlds.{Answered, answers_in}
+use Rattle.ir_record.proofs.Steps.{took_one, took_none}
+use Rattle.ir_record.proofs.Logs.{tape_kept, tape_pushed, marks_pushed, marks_other}
+use Rattle.ir_record.proofs.Running.{flat_few}
+
+-- whether a step can be taken is no matter of its result, unless it calls the environment
+abbrev pub IgnoresResult : Ask → Type 0
+IgnoresResult q = (f : Flat) (r : ℕ) → Admits (machine f) (act_of (shared_ask q) r) ((tables f).objects (target (act_of (shared_ask q) r))) → Admits (machine f) (act_of (shared_ask q) 0) ((tables f).objects (target (act_of (shared_ask q) 0)))
+
+enter_ignores : (o : ℕ) (a : Access) → IgnoresResult (Enter o a)
+enter_ignores o Reading f r h = h
+enter_ignores o Writing f r h = h
+
+quiet_ignores : (q : Ask) → IsQuiet q → IgnoresResult q
+quiet_ignores Private k f r h = tt
+quiet_ignores (Env kind) k f r h = absurd k
+quiet_ignores (Enter o a) k f r h = absurd k
+quiet_ignores (Leave o a) k f r h = tt
+quiet_ignores (Get o i) k f r h = tt
+quiet_ignores (Put o i w) k f r h = tt
+quiet_ignores Print k f r h = tt
+quiet_ignores (End e) k f r h = tt
+quiet_ignores Done k f r h = absurd h
+
+none_by : (f : Flat) (t : ℕ) → IgnoresResult (ask_of f.code (thread_of f t)) → (Can (machine f) (tables f) (t, 0) → ⊥) → HasNone (machine f) (tables f) t
+none_by f t ignores never r can = never (ignores f r can)
+
+pub enter_none : (f : Flat) (t o : ℕ) (a : Access) → ask_of f.code (thread_of f t) ≡ Enter o a → (Can (machine f) (tables f) (t, 0) → ⊥) → HasNone (machine f) (tables f) t
+enter_none f t o a is never = none_by f t (subst IgnoresResult (sym is) (enter_ignores o a)) never
+
+pub quiet_none : (f : Flat) (t : ℕ) → IsQuiet (ask_of f.code (thread_of f t)) → (Can (machine f) (tables f) (t, 0) → ⊥) → HasNone (machine f) (tables f) t
+quiet_none f t quiet never = none_by f t (quiet_ignores (ask_of f.code (thread_of f t)) quiet) never
+
+-- the object that is entered is one of the guest's, and there is room to log the entry
+pub enter_object : (f : Flat) (t o : ℕ) (a : Access) → IsFlat f → t < length f.threads → ask_of f.code (thread_of f t) ≡ Enter o a → o < length f.objects
+enter_object f t o a flat l is = let p = subst (Permits (thread_of f t)) is (ask_permits f.code (thread_of f t)) in omega (arith, p.2, flat.places t l)
+
+pub enter_room : (f : Flat) (t o : ℕ) (a : Access) → ask_of f.code (thread_of f t) ≡ Enter o a → (thread_of f t).events < most_events
+enter_room f t o a is = (subst (Permits (thread_of f t)) is (ask_permits f.code (thread_of f t))).1
+
+-- what is known where the step was taken, and where it was not
+pub accepted : {X E : Type 0} (result : Result X E) (b : Bool) (P : Type 0) → b ≡ is_err result → b ≡ false → OnOk result P → P
+accepted (Ok x) b P e h p = p
+accepted (Err x) b P e h p = absurd (cc (e, h))
+
+pub refused : {X E : Type 0} (result : Result X E) (b : Bool) (P : Type 0) → b ≡ is_err result → b ≡ true → OnErr result P → P
+refused (Ok x) b P e h p = absurd (cc (e, h))
+refused (Err x) b P e h p = p
+
+-- an entry was taken, and logged
+pub record Entering (f g : Flat) (logs more : List Logged) (t o : ℕ) (a : Access) (e : Event) : Type 0 where
+  pub tape : IsTape f logs
+  pub flat : IsFlat f
+  pub below : t < length f.threads
+  pub asked : ask_of f.code (thread_of f t) ≡ Enter o a
+  pub tells : mark_of e ≡ told (machine.Entry o a 0) ((tables f).objects o)
+  pub fits : IsEvent (length f.objects) e
+  pub can : Can (machine f) (tables f) (t, 0)
+  pub taken : tables g ≡ after (machine f) (tables f) (t, 0)
+  pub code : g.code ≡ f.code
+  pub threads : length g.threads ≡ length f.threads
+  pub objects : length g.objects ≡ length f.objects
+  pub new : Logged
+  pub pushed : new ≡ record (log_at logs t) { events = (log_at logs t).events ++ e ∷ [] }
+  pub logged : more ≡ set logs t new
+
+pub enter_tape : (f g : Flat) (logs more : List Logged) (t o : ℕ) (a : Access) (e : Event) → Entering f g logs more t o a e → IsTape g more
+enter_tape f g logs more t o a e x =
+    subst (IsTape g) (sym x.logged) (tape_pushed f g logs t 0 e x.new x.tape x.below x.taken x.threads x.objects (ap added x.asked) x.fits x.pushed)
+
+-- what an entry tells is logged, and is no answer
+entry_logged : (o : ℕ) (a : Access) (b : Object) → logged (told (machine.Entry o a 0) b) [] ≡ told (machine.Entry o a 0) b ∷ []
+entry_logged o Reading b = refl
+entry_logged o Writing b = refl
+
+entry_unanswered : (o : ℕ) (a : Access) (b : Object) → answers_in (logged (told (machine.Entry o a 0) b) []) ≡ []
+entry_unanswered o Reading b = refl
+entry_unanswered o Writing b = refl
+
+pub enter_took : (f g : Flat) (logs more : List Logged) (t o : ℕ) (a : Access) (e : Event) → Entering f g logs more t o a e → (answers : List (List Answered))
+    → TookIf true (t ∷ []) (record { flat = f; logs = logs; answers = answers }) (record { flat = g; logs = more; answers = answers })
+enter_took f g logs more t o a e x answers =
+    let k : Mark = told (machine.Entry o a 0) ((tables f).objects o) in
+    took_one t 0 k (record { flat = f; logs = logs; answers = answers }) (record { flat = g; logs = more; answers = answers }) (record {
+      below = x.below;
+      few = flat_few f x.flat;
+      can = x.can;
+      taken = x.taken;
+      code = x.code;
+      threads = x.threads;
+      objects = x.objects;
+      tells = ap (λ q. told (act_of (shared_ask q) 0) ((tables f).objects (target (act_of (shared_ask q) 0)))) x.asked;
+      own_log = subst (λ z. marks_at z t ≡ marks_at logs t ++ logged k []) (sym x.logged)
+          (marks_pushed logs t e x.new (omega (arith, x.below, x.tape.one_each)) x.pushed ∙ ap (λ z. marks_at logs t ++ z) (ap (λ z. z ∷ []) x.tells ∙ sym (entry_logged o a ((tables f).objects o))));
+      own_answers = sym (append-nil (answers_at answers t)) ∙ ap (λ z. answers_at answers t ++ z) (sym (entry_unanswered o a ((tables f).objects o)));
+      other_logs = λ u ne. subst (λ z. marks_at z u ≡ marks_at logs u) (sym x.logged) (marks_other logs t u x.new ne);
+      other_answers = λ u ne. refl;
+    })
+
+-- a step was taken that nothing is logged of
+pub record Going (f g : Flat) (logs : List Logged) (t : ℕ) : Type 0 where
+  pub tape : IsTape f logs
+  pub flat : IsFlat f
+  pub below : t < length f.threads
+  pub quiet : IsQuiet (ask_of f.code (thread_of f t))
+  pub can : Can (machine f) (tables f) (t, 0)
+  pub taken : tables g ≡ after (machine f) (tables f) (t, 0)
+  pub code : g.code ≡ f.code
+  pub threads : length g.threads ≡ length f.threads
+  pub objects : length g.objects ≡ length f.objects
+
+quiet_added : (q : Ask) → IsQuiet q → added q ≡ 0
+quiet_added Private k = refl
+quiet_added (Env kind) k = absurd k
+quiet_added (Enter o a) k = absurd k
+quiet_added (Leave o a) k = refl
+quiet_added (Get o i) k = refl
+quiet_added (Put o i w) k = refl
+quiet_added Print k = refl
+quiet_added (End e) k = refl
+quiet_added Done k = refl
+
+quiet_logged : (q : Ask) (b : Object) → IsQuiet q → logged (told (act_of (shared_ask q) 0) b) [] ≡ []
+quiet_logged Private b k = refl
+quiet_logged (Env kind) b k = absurd k
+quiet_logged (Enter o a) b k = absurd k
+quiet_logged (Leave o a) b k = refl
+quiet_logged (Get o i) b k = refl
+quiet_logged (Put o i w) b k = refl
+quiet_logged Print b k = refl
+quiet_logged (End e) b k = refl
+quiet_logged Done b k = refl
+
+pub go_tape : (f g : Flat) (logs : List Logged) (t : ℕ) → Going f g logs t → IsTape g logs
+go_tape f g logs t x = tape_kept f g logs t 0 x.tape x.taken x.threads x.objects (quiet_added (ask_of f.code (thread_of f t)) x.quiet)
+
+pub go_took : (f g : Flat) (logs : List Logged) (t : ℕ) → Going f g logs t → (answers : List (List Answered))
+    → TookIf true (t ∷ []) (record { flat = f; logs = logs; answers = answers }) (record { flat = g; logs = logs; answers = answers })
+go_took f g logs t x answers =
+    let k : Mark = mark (machine f) (tables f) (t, 0) in
+    let none : logged k [] ≡ [] = quiet_logged (ask_of f.code (thread_of f t)) _ x.quiet in
+    took_one t 0 k (record { flat = f; logs = logs; answers = answers }) (record { flat = g; logs = logs; answers = answers }) (record {
+      below = x.below;
+      few = flat_few f x.flat;
+      can = x.can;
+      taken = x.taken;
+      code = x.code;
+      threads = x.threads;
+      objects = x.objects;
+      tells = refl;
+      own_log = sym (append-nil (marks_at logs t)) ∙ ap (λ z. marks_at logs t ++ z) (sym none);
+      own_answers = sym (append-nil (answers_at answers t)) ∙ ap (λ z. answers_at answers t ++ answers_in z) (sym none);
+      other_logs = λ u ne. refl;
+      other_answers = λ u ne. refl;
+    })
+
+-- where the thread waits, or is done, nothing changes
+pub waits_took : (f g : Flat) (logs : List Logged) (t : ℕ) → HasNone (machine f) (tables f) t → g ≡ f → (answers : List (List Answered))
+    → TookIf false (t ∷ []) (record { flat = f; logs = logs; answers = answers }) (record { flat = g; logs = logs; answers = answers })
+waits_took f g logs t none same answers = took_none t (record { flat = f; logs = logs; answers = answers }) (record { flat = g; logs = logs; answers = answers }) none (ap (λ z. record { flat = z; logs = logs; answers = answers }) same)
+
+pub waits_tape : (f g : Flat) (logs : List Logged) → IsTape f logs → g ≡ f → IsTape g logs
+waits_tape f g logs tape same = subst (λ z. IsTape z logs) (sym same) tape
+
+-- a step that nothing is logged of, if there is one
+pub record Gone (f g : Flat) (logs : List Logged) (t : ℕ) (moved : Bool) : Type 0 where
+  pub took : (answers : List (List Answered)) → TookIf moved (t ∷ []) (record { flat = f; logs = logs; answers = answers }) (record { flat = g; logs = logs; answers = answers })
+  pub tape : IsTape g logs
+
+pub gone : {X E : Type 0} (result : Result X E) (f g : Flat) (logs : List Logged) (t : ℕ) (moved : Bool) → moved ≡ is_ok result → IsTape f logs → IsFlat f → t < length f.threads → IsQuiet (ask_of f.code (thread_of f t))
+    → OnOk result (Can (machine f) (tables f) (t, 0)) → OnOk result (tables g ≡ after (machine f) (tables f) (t, 0)) → g.code ≡ f.code → length g.threads ≡ length f.threads → length g.objects ≡ length f.objects
+    → OnErr result (Can (machine f) (tables f) (t, 0) → ⊥) → OnErr result (g ≡ f) → Gone f g logs t moved
+gone (Ok x) f g logs t moved e tape flat l quiet can taken code threads objects never same =
+    let going : Going f g logs t = record { tape = tape; flat = flat; below = l; quiet = quiet; can = can; taken = taken; code = code; threads = threads; objects = objects } in
+    subst (Gone f g logs t) (sym e) (record { took = go_took f g logs t going; tape = go_tape f g logs t going })
+gone (Err x) f g logs t moved e tape flat l quiet can taken code threads objects never same =
+    subst (Gone f g logs t) (sym e) (record { took = waits_took f g logs t (quiet_none f t quiet never) same; tape = waits_tape f g logs tape same })

@@ -1,0 +1,78 @@
+-- Turns of one thread, and by an order.
+use Rattle.std.proofs.Common.{◌≡◌, ℕ, zero, suc, ◌+◌, ◌-◌, ◌<◌, ◌≤◌, false, Bool, List, [], ◌∷◌, ◌++◌, length, take, drop, replicate, get_or, refl, sym, ap, ◌∙◌, subst, arith, inl, inr}
+use Rattle.std.proofs.lemmas.List.{get_or_past, replicate-append-replicate, take_all, length-drop}
+use Rattle.ir_thread.specs.Calls.{ask_of}
+use Rattle.ir_thread.specs.Instance.{shared_ask}
+use Rattle.ir_thread.specs.Machine.{act_of}
+use Rattle.ir_object.specs.Object.{target, Admits}
+use Rattle.ir_flat.specs.Flat.{Flat, tables, machine, idle}
+use Rattle.ir_flat.specs.Run.{end}
+use Rattle.ir_record.specs.InOrder.{HasNone, InTurn}
+use Rattle.ir_record.specs.Progress.{Progress, Took, TookIf}
+use Rattle.ir_record.proofs.Steps.{took_nothing, took_both, took_none}
+
+-- what is no thread has no step
+pub past_none : (f : Flat) (t : ℕ) → length f.threads ≤ t → HasNone (machine f) (tables f) t
+past_none f t past r can = subst (λ x. Admits (machine f) (act_of (shared_ask (ask_of f.code x)) r) ((tables f).objects (target (act_of (shared_ask (ask_of f.code x)) r)))) (get_or_past f.threads t idle past) can
+
+-- many turns of a thread that has no step
+pub took_nones : (t k : ℕ) (a : Progress) → HasNone (machine a.flat) (tables a.flat) t → Took (replicate k t) a a
+took_nones t zero a none = took_nothing a
+took_nones t (suc k) a none = took_both (t ∷ []) (replicate k t) a a a (took_none t a a none refl).took (took_nones t k a none)
+
+-- a thread that took no step in its turn has none after it
+pub none_after : (t : ℕ) (a b : Progress) (moved : Bool) → moved ≡ false → TookIf moved (t ∷ []) a b → HasNone (machine b.flat) (tables b.flat) t
+none_after t a b moved e k =
+    let still : tables b.flat ≡ tables a.flat = k.took.ends ∙ ap (end (machine a.flat) (tables a.flat)) (k.none e) in
+    none_there (none_first (subst (InTurn (machine a.flat) (tables a.flat) (t ∷ [])) (k.none e) k.took.turns)) still k.took.code
+  where
+    none_first : InTurn (machine a.flat) (tables a.flat) (t ∷ []) [] → HasNone (machine a.flat) (tables a.flat) t
+    none_first (inl none) = none.0
+    none_first (inr some) = absurd (cc some.2)
+
+    none_there : HasNone (machine a.flat) (tables a.flat) t → tables b.flat ≡ tables a.flat → b.flat.code ≡ a.flat.code → HasNone (machine b.flat) (tables b.flat) t
+    none_there none same code = subst (λ s. HasNone (machine b.flat) s t) (sym same) (subst (λ c. HasNone (machine (record a.flat { code = c })) (tables a.flat) t) (sym code) none)
+
+-- so many turns of one thread
+pub turns_joined : (t j k n : ℕ) (a b c : Progress) → j + k ≡ n → Took (replicate j t) a b → Took (replicate k t) b c → Took (replicate n t) a c
+turns_joined t j k n a b c e p q = subst (λ order. Took order a c) (replicate-append-replicate j k t ∙ ap (λ i. replicate i t) e) (took_both (replicate j t) (replicate k t) a b c p q)
+
+-- the turns so far, and those that are left
+pub turns_rest : (t count left : ℕ) (a b : Progress) → left ≤ count → Took (replicate (count - left) t) a b → HasNone (machine b.flat) (tables b.flat) t → Took (replicate count t) a b
+turns_rest t count left a b l p none = turns_joined t (count - left) left count a b b (omega (arith, l)) p (took_nones t left b none)
+
+-- private steps and a turn more
+pub turns_more : (t count left ran : ℕ) (a b c d : Progress) (moved : Bool) → left ≤ count → 0 < left → ran ≤ left - 1 → Took (replicate (count - left) t) a b → Took (replicate ran t) b c → TookIf moved (t ∷ []) c d → Took (replicate (count - (left - (ran + 1))) t) a d
+turns_more t count left ran a b c d moved l some few p q r =
+    let both : Took (replicate (count - left + ran) t) a c = turns_joined t (count - left) ran (count - left + ran) a b c refl p q in
+    turns_joined t (count - left + ran) 1 (count - (left - (ran + 1))) a c d (omega (arith, l, some, few)) both r.took
+
+-- the order up to an entry, that entry, and others that are the same
+take_more : (xs : List ℕ) (at more t : ℕ) → at < length xs → get_or xs at 0 ≡ t → take more (drop (suc at) xs) ≡ replicate more t → take at xs ++ replicate (suc more) t ≡ take (at + suc more) xs
+take_more [] at more t l first same = absurd (omega arith)
+take_more (x ∷ xs) zero more t l first same = ap (λ z. z ∷ replicate more t) (sym first) ∙ ap (λ z. x ∷ z) (sym same) ∙ ap (λ n. take n (x ∷ xs)) (let e : suc more ≡ 0 + suc more = omega arith in e)
+take_more (x ∷ xs) (suc at) more t l first same = ap (λ z. x ∷ z) (take_more xs at more t (omega arith) first same) ∙ ap (λ n. take n (x ∷ xs)) (let e : suc (at + suc more) ≡ suc at + suc more = omega arith in e)
+
+pub followed_more : (order : List ℕ) (at more t : ℕ) (a b c : Progress) → at < length order → t ≡ get_or order at 0 → take more (take (length order - (at + 1)) (drop (at + 1) order)) ≡ replicate more t → Took (take at order) a b → Took (replicate (more + 1) t) b c → Took (take (at + (more + 1)) order) a c
+followed_more order at more t a b c l first same p q =
+    let rest : take (length order - (at + 1)) (drop (at + 1) order) ≡ drop (suc at) order = take_all (length order - (at + 1)) (drop (at + 1) order) (let n = length-drop (at + 1) order in omega (arith, n)) ∙ ap (λ k. drop k order) (let e : at + 1 ≡ suc at = omega arith in e) in
+    subst (λ z. Took z a c) (ap (λ k. take at order ++ replicate k t) (let e : more + 1 ≡ suc more = omega arith in e) ∙ take_more order at more t l (sym first) (ap (take more) (sym rest) ∙ same) ∙ ap (λ k. take k order) (let e : at + suc more ≡ at + (more + 1) = omega arith in e))
+    (took_both (take at order) (replicate (more + 1) t) a b c p q)
+
+pub followed_within : (order : List ℕ) (at more : ℕ) → at < length order → more ≤ length (take (length order - (at + 1)) (drop (at + 1) order)) → at + (more + 1) ≤ length order
+followed_within order at more l h =
+    let n = length-drop (at + 1) order in
+    let rest : length (take (length order - (at + 1)) (drop (at + 1) order)) ≡ length (drop (at + 1) order) = ap (λ xs. length xs) (take_all (length order - (at + 1)) (drop (at + 1) order) (omega (arith, n))) in
+    omega (arith, l, h, n, rest)
+
+pub followed_end : (order : List ℕ) (at : ℕ) (a b : Progress) → length order ≤ at → Took (take at order) a b → Took order a b
+followed_end order at a b l = subst (λ z. Took z a b) (take_all at order l)
+
+-- one entry more that is the same
+pub repeats_more : (order : List ℕ) (index entry x : ℕ) → index < length order → x ≡ get_or order index x → x ≡ entry → take index order ≡ replicate index entry → take (index + 1) order ≡ replicate (index + 1) entry
+repeats_more order index entry x l is same e = subst (λ n. take n order ≡ replicate n entry) (let s : suc index ≡ index + 1 = omega arith in s) (go order index l (sym is) e)
+  where
+    go : (xs : List ℕ) (i : ℕ) → i < length xs → get_or xs i x ≡ x → take i xs ≡ replicate i entry → take (suc i) xs ≡ replicate (suc i) entry
+    go [] i l h e = absurd (omega arith)
+    go (y ∷ xs) zero l h e = ap (λ z. z ∷ []) (h ∙ same)
+    go (y ∷ xs) (suc i) l h e = let first : y ≡ entry = cc e in let rest : take i xs ≡ replicate i entry = cc e in ap (λ z. z ∷ take (suc i) xs) first ∙ ap (λ z. entry ∷ z) (go xs i (omega arith) h rest)

@@ -1,0 +1,14 @@
+pub mod Turns
+pub mod Left
+pub mod Steps
+pub mod Logs
+pub mod Answering
+pub mod Entering
+pub mod Asking
+pub mod Ready
+pub mod Tally
+pub mod Running
+pub mod Joining
+pub mod Following
+pub mod Gathering
+pub mod Ended

@@ -1,0 +1,23 @@
+use Rattle.std.proofs.Common.{length, map, subst}
+use Rattle.ir_record.specs.InOrder.{rounds}
+use Rattle.ir_record.specs.Progress.{progress, Took}
+use Rattle.ir_record.proofs.Steps.{took_both}
+use Rattle.ir_record.proofs.Asking.{extends_both}
+use Rattle.ir_record.proofs.recorder.Recorder.record.Goals as goal
+
+pub returns-clause-took : goal.returns-clause-took
+returns-clause-took g c =
+    let entry = progress c.args.self.now.tape (map g.W.World.answers c.args.self.now.worlds.items) in
+    let mid = progress c.follow.new.self.tape (map g.W.World.answers c.follow.new.self.worlds.items) in
+    let new = progress c.rounds.new.self.tape (map g.W.World.answers c.rounds.new.self.worlds.items) in
+    let n = length c.args.self.now.tape.flat.threads in (
+      c.in_ok-rounds.ensures.took.0,
+      took_both c.args.order.now (rounds n c.in_ok-rounds.ensures.took.0) entry mid new c.in_ok-follow.ensures.took
+          (subst (λ k. Took (rounds k c.in_ok-rounds.ensures.took.0) mid new) c.in_ok-follow.ensures.took.threads c.in_ok-rounds.ensures.took.1),
+    )
+
+pub returns-clause-kept : goal.returns-clause-kept
+returns-clause-kept g c = extends_both (map g.W.World.answers c.args.self.now.worlds.items) (map g.W.World.answers c.follow.new.self.worlds.items) (map g.W.World.answers c.rounds.new.self.worlds.items) c.follow.ensures.kept c.rounds.ensures.kept
+
+pub returns-in_err-rounds-clause-kept : goal.returns-in_err-rounds-clause-kept
+returns-in_err-rounds-clause-kept g c = extends_both (map g.W.World.answers c.args.self.now.worlds.items) (map g.W.World.answers c.follow.new.self.worlds.items) (map g.W.World.answers c.rounds.new.self.worlds.items) c.follow.ensures.kept c.rounds.ensures.kept

@@ -1,0 +1,5 @@
+pub mod Worlds
+pub mod InOrder
+pub mod Recording
+pub mod Progress
+pub mod Gathered

@@ -1,0 +1,92 @@
+-- A recording as it goes on.
+use Rattle.std.specs.Prelude.{◌≡◌, ◌<◌, ◌≤◌, ◌+◌, ◌-◌, ℕ, zero, suc, List, [], ◌++◌, length, map, Option, Some, None, Bool, true, false, ⊤}
+use Rattle.std.specs.List.{slice_index_or, AllByRecursion}
+use Rattle.ir_thread.specs.Calls.{most_events}
+use Rattle.ir_thread.specs.Held.{held_count}
+use Rattle.ir_thread.specs.Marks.{Mark}
+use Rattle.ir_thread.specs.State as thread
+use Rattle.ir_thread.specs.declared.end.End.{End}
+use Rattle.ir_thread.specs.declared.ask.Ask as ask
+use Rattle.ir_thread.specs.declared.ask.Ask.TheVariants as asks
+use Rattle.ir_flat.specs.Flat.{Flat, thread_of, tables, machine}
+use Rattle.ir_flat.specs.Run.{Step, end, log}
+use Rattle.ir_log.specs.Logged.{Logged}
+use Rattle.ir_log.specs.Logging.{mark_of}
+use Rattle.ir_trace.specs.Recorded.{IsEvent}
+use Rattle.ir_record.specs.InOrder.{InTurn}
+use Rattle.ir_record.specs.Worlds.{Answered, answers_in, NoneFailed}
+use Rattle.ir_record.specs.declared.tape.Tape.{Tape}
+
+-- a guest that is recorded: its threads and objects, the threads' logs, and the answers of their worlds
+pub record Progress : Type 0 where
+  pub flat : Flat
+  pub logs : List Logged
+  pub answers : List (List Answered)
+
+-- the same of a tape, and the answers of the worlds
+abbrev pub progress : Tape → List (List Answered) → Progress
+progress tape answers = record { flat = tape.flat; logs = tape.logs.items; answers = answers }
+
+-- the log of no thread
+abbrev pub no_log : Logged
+no_log = record { events = []; room = 0 }
+
+-- the log of thread t
+abbrev pub log_at : List Logged → ℕ → Logged
+log_at logs t = slice_index_or logs t no_log
+
+-- what thread t has logged, as marks of its steps
+abbrev pub marks_at : List Logged → ℕ → List Mark
+marks_at logs t = map mark_of (log_at logs t).events
+
+-- what the world of thread t has answered
+abbrev pub answers_at : List (List Answered) → ℕ → List Answered
+answers_at answers t = slice_index_or answers t []
+
+-- how many steps a thread may still take at most, by how it ended
+abbrev pub steps_left : Option End → thread.State → ℕ
+steps_left None x = 17 + (x.budget - x.steps)
+steps_left (Some e) x = held_count x.held
+
+-- how many steps the first n threads may still take at most
+abbrev pub all_left : ℕ → (ℕ → thread.State) → ℕ
+all_left zero now = 0
+all_left (suc n) now = all_left n now + steps_left (now n).ended (now n)
+
+-- b is a after a turn of each thread that the order names
+pub record Took (order : List ℕ) (a b : Progress) : Type 0 where
+  pub run : List Step
+  pub turns : InTurn (machine a.flat) (tables a.flat) order run
+  pub ends : tables b.flat ≡ end (machine a.flat) (tables a.flat) run
+  pub code : b.flat.code ≡ a.flat.code
+  pub threads : length b.flat.threads ≡ length a.flat.threads
+  pub objects : length b.flat.objects ≡ length a.flat.objects
+  -- what its steps log is added to each thread's log, and the answers among it to those of the thread's world
+  pub logs : (t : ℕ) → t < length a.flat.threads → marks_at b.logs t ≡ marks_at a.logs t ++ log (machine a.flat) (tables a.flat) run t
+  pub answers : (t : ℕ) → t < length a.flat.threads → answers_at b.answers t ≡ answers_at a.answers t ++ answers_in (log (machine a.flat) (tables a.flat) run t)
+  pub fewer : all_left (length a.flat.threads) (tables b.flat).now + length run ≤ all_left (length a.flat.threads) (tables a.flat).now
+
+-- the same, and whether a step was taken
+pub record TookIf (moved : Bool) (order : List ℕ) (a b : Progress) : Type 0 where
+  pub took : Took order a b
+  pub some : moved ≡ true → 0 < length took.run
+  pub none : moved ≡ false → took.run ≡ []
+
+-- nothing is logged of a step that is asked so
+abbrev pub IsQuiet : ask.Ask → Type 0
+IsQuiet (asks.Env kind) = ⊥
+IsQuiet (asks.Enter object access) = ⊥
+IsQuiet _ = ⊤
+
+-- each thread has a log with room for all that it may log, and its events are there
+pub record IsTape (f : Flat) (logs : List Logged) : Type 0 where
+  pub one_each : length logs ≡ length f.threads
+  pub rooms : (t : ℕ) → t < length f.threads → (log_at logs t).room ≡ most_events
+  pub counts : (t : ℕ) → t < length f.threads → length (log_at logs t).events ≡ (thread_of f t).events
+  pub events_fit : (t : ℕ) → t < length f.threads → AllByRecursion (IsEvent (length f.objects)) (log_at logs t).events
+
+-- what holds before each turn: each thread has its log and its world, and no world has failed
+pub record IsReady (p : Progress) (failed : List Bool) : Type 0 where
+  pub tape : IsTape p.flat p.logs
+  pub worlds : length p.answers ≡ length p.flat.threads
+  pub works : NoneFailed failed

@@ -1,0 +1,28 @@
+-- What the world outside has answered.
+use Rattle.std.specs.Prelude.{◌≡◌, ◌<◌, ℕ, List, [], ◌∷◌, ◌++◌, length, Bool, true, false}
+use Rattle.std.specs.List.{slice_index_or}
+use Rattle.ir_thread.specs.Marks.{Mark, Answer}
+use Rattle.ir_thread.specs.declared.ask.EnvKind.{EnvKind}
+
+-- a call of the environment, and what it was answered
+abbrev pub Answered : Type 0
+Answered = EnvKind × ℕ
+
+-- the calls of the environment in a log, with their answers
+abbrev pub answers_in : List Mark → List Answered
+answers_in [] = []
+answers_in (Answer kind value ∷ log) = (kind, value) ∷ answers_in log
+answers_in (event ∷ log) = answers_in log
+
+-- no world has failed
+abbrev pub NoneFailed : List Bool → Type 0
+NoneFailed failed = (t : ℕ) → slice_index_or failed t false ≡ false
+
+-- the world of thread t has failed, and none of a lower thread
+abbrev pub IsFirstFailed : List Bool → ℕ → Type 0
+IsFirstFailed failed t = (slice_index_or failed t false ≡ true) × ((u : ℕ) → u < t → slice_index_or failed u false ≡ false)
+
+-- each world has answered what it had answered, and perhaps more
+pub record Extends (old new : List (List Answered)) : Type 0 where
+  pub worlds : length new ≡ length old
+  pub more : (t : ℕ) → (added : List Answered) × (slice_index_or new t [] ≡ slice_index_or old t [] ++ added)

@@ -1,0 +1,63 @@
+//! What is handed back once all threads are done.
+
+ghost use Rattle.std.specs.Prelude.{◌≡◌, ◌≢◌, ◌≤◌, ◌<◌, ℕ, None, length, map, vec_len, IfOk};
+ghost use Rattle.std.specs.List.{AllByRecursion};
+ghost use Rattle.ir_flat.specs.Flat.{thread_of};
+ghost use Rattle.ir_trace.specs.Recorded.{IsEvent, IsRecordedThread, most_budget};
+ghost use Rattle.ir_record.specs.Gathered.{IsThreadTrace, AreThreadTraces};
+ghost use Rattle.ir_record.specs.Progress.{IsTape};
+
+use crate::outputs::{Output, Outputs};
+use crate::tape::Tape;
+use ir_log::Log;
+use ir_thread::Thread;
+use ir_trace::{ThreadTrace, Trace};
+use std::alloc::{AllocError, Global};
+
+// What each thread printed, beside its world.
+pub fn outputs<W: Drop>(
+    alloc: Global,
+    threads: &[Thread],
+    worlds: Vec<W>,
+) -> Result<Outputs<W>, AllocError>
+    requires { vec_len worlds ≡ length threads.now }
+    ensures bytes { IfOk result (λ o. map (λ x. x.bytes.items) o.each.items ≡ map (λ x. x.output) threads.now) }
+    ensures worlds { IfOk result (λ o. map (λ x. x.world) o.each.items ≡ worlds.items) }
+{
+    let mut each = Vec::with_capacity(alloc, threads.len())?;
+    for world in worlds {
+        let bytes = Vec::from_slice(alloc, threads[each.len()].output())?;
+        each.push(Output { bytes, world })?;
+    }
+    Ok(Outputs { each })
+}
+
+// What was recorded of a thread that has ended.
+fn thread_trace(thread: &Thread, log: Log) -> ThreadTrace
+    requires { thread.now.ended ≢ None }
+    ensures value { IsThreadTrace thread.now log result }
+    ensures fits { (objects : ℕ) → AllByRecursion (IsEvent objects) log.events → IsRecordedThread objects result }
+{
+    ThreadTrace::new(thread.steps(), thread.ended().unwrap(), log)
+}
+
+impl Tape {
+    // The trace, once all threads have ended.
+    pub fn into_trace(self, alloc: Global, budget: u64) -> Result<Trace, AllocError>
+        requires tape { IsTape self.flat self.logs.items }
+        requires some { 1 ≤ length self.flat.threads }
+        requires budget { budget ≤ most_budget }
+        requires ended { (t : ℕ) → t < length self.flat.threads → (thread_of self.flat t).ended ≢ None }
+        ensures objects { IfOk result (λ r. r.objects ≡ length self.flat.objects) }
+        ensures limit { IfOk result (λ r. r.budget ≡ budget) }
+        ensures threads { IfOk result (λ r. AreThreadTraces self.flat self.logs.items r.threads) }
+    {
+        let Tape { flat, logs } = self;
+        let mut threads = Vec::with_capacity(alloc, logs.len())?;
+        for log in logs {
+            let thread = &flat.threads()[threads.len()];
+            threads.push(thread_trace(thread, log))?;
+        }
+        Ok(Trace::new(flat.objects().len() as u8, budget, threads))
+    }
+}

@@ -1,0 +1,73 @@
+//! Recording on one thread, in a given order.
+
+ghost use Rattle.std.specs.Prelude.{◌≡◌, ◌<◌, ◌≤◌, ◌++◌, ℕ, length, map, vec_len, IfOk, OnOk, IfErr};
+ghost use Rattle.ir_flat.specs.Flat.{tables, machine};
+ghost use Rattle.ir_record.specs.InOrder.{HasNone, rounds};
+ghost use Rattle.ir_record.specs.Progress.{progress, Took, IsReady};
+ghost use Rattle.ir_record.specs.Recording.{IsRecording, IsFailure};
+ghost use Rattle.ir_record.specs.Worlds.{NoneFailed, IsFirstFailed, Extends};
+
+use crate::gather::outputs;
+use crate::outputs::Outputs;
+use crate::record_err::RecordErr;
+use crate::recorder::Recorder;
+use crate::tape::Tape;
+use crate::turn::Failed;
+use crate::world::World;
+use ir_image::Image;
+use ir_trace::Trace;
+use std::alloc::Global;
+
+impl<W: World> Recorder<W> {
+    // A turn of each thread that the order names, and then rounds until no thread has a step.
+    fn record(&mut self, order: &[u8]) -> Result<(), Failed>
+        requires { IsReady (progress self.old.tape (map W.answers self.old.worlds.items)) (map W.broken self.old.worlds.items) }
+        ensures took { OnOk result ((count : ℕ) × Took (order.now ++ rounds (length self.old.tape.flat.threads) count) (progress self.old.tape (map W.answers self.old.worlds.items)) (progress self.new.tape (map W.answers self.new.worlds.items))) }
+        ensures over { OnOk result ((t : ℕ) → t < length self.new.tape.flat.threads → HasNone (machine self.new.tape.flat) (tables self.new.tape.flat) t) }
+        ensures ready { OnOk result (IsReady (progress self.new.tape (map W.answers self.new.worlds.items)) (map W.broken self.new.worlds.items)) }
+        ensures failed { IfErr result (λ f. IsFirstFailed (map W.broken self.new.worlds.items) f.thread) }
+        ensures kept { Extends (map W.answers self.old.worlds.items) (map W.answers self.new.worlds.items) }
+    {
+        self.follow(order)?;
+        self.rounds()?;
+        Ok(())
+    }
+}
+
+/// Records the guest on one thread. Each entry of the order takes one step of that thread, or none where it has none;
+/// an entry that is no thread has none. After the order, rounds over the threads from 0 upwards take one step of each
+/// that has one, until all are done. The budget is in steps, for each thread.
+///
+/// # Errors
+/// `RecordErr::NoMem` where memory is wanted, and the worlds are dropped; `RecordErr::World` where a world fails: the
+/// recording ends there, and all worlds are handed back.
+pub fn record_in_order<W: World + Drop>(
+    alloc: Global,
+    image: &Image,
+    order: &[u8],
+    worlds: Vec<W>,
+    budget: u64,
+) -> Result<(Trace, Outputs<W>), RecordErr<W>>
+    requires budget { budget ≤ 1000000000000 }
+    requires each { vec_len worlds ≡ length image.now.entries }
+    requires works { NoneFailed (map W.broken worlds.items) }
+    // The run by the order, which is complete: its trace, what its threads printed, and what their worlds answered.
+    ensures recorded { IfOk result (λ r. IsRecording image.now budget order.now (map W.answers worlds.items) r.0 (map (λ o. o.bytes.items) r.1.each.items) (map (λ o. W.answers o.world) r.1.each.items)) }
+    ensures works { IfOk result (λ r. NoneFailed (map (λ o. W.broken o.world) r.1.each.items)) }
+    ensures failed { IfErr result (λ e. IsFailure W.answers W.broken worlds.items e) }
+{
+    let mut recorder = Recorder {
+        tape: Tape::start(alloc, image, budget)?,
+        worlds,
+    };
+    if let Err(Failed { thread }) = recorder.record(order) {
+        return Err(RecordErr::World {
+            thread,
+            worlds: recorder.worlds,
+        });
+    }
+    let Recorder { tape, worlds } = recorder;
+    let outputs = outputs(alloc, tape.flat.threads(), worlds)?;
+    let trace = tape.into_trace(alloc, budget)?;
+    Ok((trace, outputs))
+}

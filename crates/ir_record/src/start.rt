@@ -1,0 +1,37 @@
+//! A guest before its first step.
+
+ghost use Rattle.std.specs.Prelude.{◌≡◌, ◌≤◌, [], length, replicate, IfOk, OnOk};
+ghost use Rattle.ir_image.specs.Guest.{IsGuest};
+ghost use Rattle.ir_flat.specs.Flat.{start_flat};
+ghost use Rattle.ir_thread.specs.Calls.{most_events};
+
+use crate::tape::Tape;
+use ir_flat::Flat;
+use ir_image::Image;
+use ir_log::{Log, MOST_EVENTS};
+use std::alloc::{AllocError, Global};
+
+// So many logs without events, each with room for all that a thread may log.
+fn logs(alloc: Global, count: usize) -> Result<Vec<Log>, AllocError>
+    ensures { IfOk result (λ logs. logs.items ≡ replicate count (record { events = []; room = most_events })) }
+{
+    let mut logs = Vec::with_capacity(alloc, count)?;
+    for number in 0..count {
+        logs.push(Log::new(alloc, MOST_EVENTS)?)?;
+    }
+    Ok(logs)
+}
+
+impl Tape {
+    // The guest of the image before its first step, with room for all that its threads may log.
+    pub fn start(alloc: Global, image: &Image, budget: u64) -> Result<Tape, AllocError>
+        requires { budget ≤ 1000000000000 }
+        ensures guest { OnOk result (IsGuest image.now) }
+        ensures flat { IfOk result (λ tape. tape.flat ≡ start_flat image.now budget) }
+        ensures logs { IfOk result (λ tape. tape.logs.items ≡ replicate (length image.now.entries) (record { events = []; room = most_events })) }
+    {
+        let flat = Flat::start(alloc, image, budget)?;
+        let logs = logs(alloc, image.entries().len())?;
+        Ok(Tape { flat, logs })
+    }
+}

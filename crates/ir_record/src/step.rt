@@ -1,0 +1,108 @@
+//! A step of one thread, and what is logged of it.
+
+ghost use Rattle.std.specs.Prelude.{◌≡◌, ◌≢◌, ◌<◌, [], ◌∷◌, ◌++◌, ◌≤◌, true, List, length, slice_set, replicate};
+ghost use Rattle.ir_flat.specs.Flat.{thread_of, IsFlat};
+ghost use Rattle.ir_thread.specs.Calls.{ask_of, Permits};
+ghost use Rattle.ir_thread.specs.Instance.{is_result};
+ghost use Rattle.ir_thread.specs.declared.ask.Ask.TheVariants.{Env, Enter};
+ghost use Rattle.ir_flat.specs.Flat.{tables};
+ghost use Rattle.ir_log.specs.Logging.{mark_of};
+ghost use Rattle.ir_object.specs.Object.{told};
+ghost use Rattle.ir_thread.specs.Machine as act;
+ghost use Rattle.ir_trace.specs.Recorded.{IsEvent};
+ghost use Rattle.ir_record.specs.Progress.{progress, Took, TookIf, IsTape, IsQuiet, answers_at};
+ghost use Rattle.ir_record.specs.Worlds.{Answered};
+
+use crate::tape::Tape;
+use ir_log::Event;
+use ir_thread::{Access, Ask, EnvKind};
+
+impl Tape {
+    // What thread t asks.
+    pub fn ask(&self, t: usize) -> Ask
+        requires { t < length self.now.flat.threads }
+        ensures value { result ≡ ask_of self.now.flat.code (thread_of self.now.flat t) }
+        ensures permits { Permits (thread_of self.now.flat t) result }
+        ensures flat { IsFlat self.now.flat }
+    {
+        self.flat.threads()[t].ask(self.flat.code())
+    }
+
+    // Thread t takes the call of the environment that it asks, with this answer.
+    pub fn answer(&mut self, t: usize, kind: EnvKind, value: u32)
+        requires tape { IsTape self.old.flat self.old.logs.items }
+        requires flat { IsFlat self.old.flat }
+        requires thread { t < length self.old.flat.threads }
+        requires asked { ask_of self.old.flat.code (thread_of self.old.flat t) ≡ Env kind }
+        requires fits { is_result kind value ≡ true }
+        ensures took { (answers more : List (List Answered)) → t < length answers → more ≡ slice_set answers t (answers_at answers t ++ (kind, value) ∷ [])
+            → TookIf true (t ∷ []) (progress self.old answers) (progress self.new more) }
+        ensures tape { IsTape self.new.flat self.new.logs.items }
+    {
+        let _ = self.flat.step(t, value);
+        self.logs[t].push(Event::Answer(kind, value));
+    }
+
+    // What is logged of an entry to the object now.
+    fn entry(&self, object: u8, access: Access) -> Event
+        requires { object < length self.now.flat.objects }
+        ensures told { mark_of result ≡ told (act.Entry object access 0) ((tables self.now.flat).objects object) }
+        ensures fits { IsEvent (length self.now.flat.objects) result }
+    {
+        let fields = self.flat.objects()[object as usize].fields();
+        match access {
+            Access::Reading => Event::Read {
+                object,
+                version: fields.version,
+            },
+            Access::Writing => Event::Write {
+                object,
+                version: fields.version,
+                readers: fields.left,
+            },
+        }
+    }
+
+    // Thread t enters the object that it asks for, unless it must wait.
+    pub fn enter(&mut self, t: usize, object: u8, access: Access) -> bool
+        requires tape { IsTape self.old.flat self.old.logs.items }
+        requires flat { IsFlat self.old.flat }
+        requires thread { t < length self.old.flat.threads }
+        requires asked { ask_of self.old.flat.code (thread_of self.old.flat t) ≡ Enter object access }
+        ensures took { (answers : List (List Answered))
+            → TookIf result (t ∷ []) (progress self.old answers) (progress self.new answers) }
+        ensures tape { IsTape self.new.flat self.new.logs.items }
+    {
+        let event = self.entry(object, access);
+        if self.flat.step(t, 0).is_err() {
+            return false;
+        }
+        self.logs[t].push(event);
+        true
+    }
+
+    // Thread t takes the step that it asks, which nothing is logged of; one that is done has none.
+    pub fn go(&mut self, t: usize) -> bool
+        requires tape { IsTape self.old.flat self.old.logs.items }
+        requires flat { IsFlat self.old.flat }
+        requires thread { t < length self.old.flat.threads }
+        requires quiet { IsQuiet (ask_of self.old.flat.code (thread_of self.old.flat t)) }
+        ensures took { (answers : List (List Answered))
+            → TookIf result (t ∷ []) (progress self.old answers) (progress self.new answers) }
+        ensures tape { IsTape self.new.flat self.new.logs.items }
+    {
+        self.flat.step(t, 0).is_ok()
+    }
+
+    // Thread t takes private steps, at most so many, and how many they are.
+    pub fn run(&mut self, t: usize, limit: u64) -> u64
+        requires tape { IsTape self.old.flat self.old.logs.items }
+        requires flat { IsFlat self.old.flat }
+        requires thread { t < length self.old.flat.threads }
+        ensures within { result ≤ limit }
+        ensures took { (answers : List (List Answered)) → Took (replicate result t) (progress self.old answers) (progress self.new answers) }
+        ensures tape { IsTape self.new.flat self.new.logs.items }
+    {
+        self.flat.run(t, limit)
+    }
+}
