@@ -1,4 +1,4 @@
-//! The guests of the folder `examples`, word for word, and how many words of code, bytes of data, threads and objects each has.
+//! The guests of the folder `examples`, word for word.
 
 pub const HELLO: &str =
     "# Prints Hello, world! and a line feed, a byte at a time, and ends with code 0.
