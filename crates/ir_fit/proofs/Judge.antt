@@ -19,7 +19,9 @@ use Rattle.ir_fit.specs.Alike.{Reaches}
 use Rattle.ir_fit.specs.Coherent.{IsCoherent}
 use Rattle.ir_fit.specs.Cuts.{At}
 use Rattle.ir_fit.specs.Following.{Check, unlogged, Fits, Follows, IsMaximal, left_log, left_steps, ends_at, ends_now, Meets, closing}
-use Rattle.ir_fit.specs.Verdicts.{Verdict, Same, Disagrees, Starves, Suits, Agrees, Awaits, Judged, NoneTakes, IsVerdict, IsEvent, HoldsEvents, IsLive, IsWhole}
+use Rattle.ir_fit.specs.declared.verdict.ThreadVerdict.{ThreadVerdict}
+use Rattle.ir_fit.specs.declared.verdict.ThreadVerdict.TheVariants.{Same, Disagrees, Starves}
+use Rattle.ir_fit.specs.Verdicts.{Suits, Agrees, Awaits, Judged, NoneTakes, IsVerdict, IsEvent, HoldsEvents, IsLive, IsWhole}
 
 is_done : (q : Ask) → (q ≡ Done) ⊎ (q ≢ Done)
 is_done Private = inr (λ h. cc h)
@@ -170,7 +172,7 @@ none_takes n m law tr co s good st im run f top t other g =
     let k : Goes m s other run = confluent (closing m tr) n m law tr co s tr.steps tr.logs (start_sofar n m tr s good st im) other run g f top in
     omega (arith, ap length (k.same_trail t), length-append (trail m s other t) (trail m (end m s other) k.rest t))
 
-pub judged : {T : Type 0} (n : ℕ) (m : Machine T) → IsLawful m → (tr : Trace) → IsCoherent n tr → HoldsEvents m tr → (s : State T) → Good m s → IsStart m s → IsIdle m s n → (run : List Step) → Follows (closing m tr) m s tr run → IsMaximal (closing m tr) m s tr run → (t : ℕ) → (v : Verdict) × IsVerdict m s tr run t v
+pub judged : {T : Type 0} (n : ℕ) (m : Machine T) → IsLawful m → (tr : Trace) → IsCoherent n tr → HoldsEvents m tr → (s : State T) → Good m s → IsStart m s → IsIdle m s n → (run : List Step) → Follows (closing m tr) m s tr run → IsMaximal (closing m tr) m s tr run → (t : ℕ) → (v : ThreadVerdict) × IsVerdict m s tr run t v
 judged n m law tr co ev s good st im run f top t =
     let x = (end m s run).now t in
     let k : ℕ = left_steps (trail m s run t) (tr.steps t) in
@@ -193,7 +195,7 @@ judged n m law tr co ev s good st im run f top t =
       ]
     ]
 
-pub one_verdict : {T : Type 0} (m : Machine T) (fin : Option (ℕ × ℕ)) (none : Type 0) (x : T) (n : ℕ) (es : List Mark) (i k : ℕ) (v w : Verdict) → Judged m fin none x n es i k v → Judged m fin none x n es i k w → w ≡ v
+pub one_verdict : {T : Type 0} (m : Machine T) (fin : Option (ℕ × ℕ)) (none : Type 0) (x : T) (n : ℕ) (es : List Mark) (i k : ℕ) (v w : ThreadVerdict) → Judged m fin none x n es i k v → Judged m fin none x n es i k w → w ≡ v
 one_verdict m fin none x n es i k Same Same h g = refl
 one_verdict m fin none x n es i k Same (Disagrees a b) h g = absurd (g.0 h)
 one_verdict m fin none x n es i k Same (Starves a) h g = absurd (g.0 h)
@@ -204,7 +206,7 @@ one_verdict m fin none x n es i k (Starves a) Same h g = absurd (h.0 g)
 one_verdict m fin none x n es i k (Starves a) (Disagrees c d) h g = absurd (g.1 h.1)
 one_verdict m fin none x n es i k (Starves a) (Starves c) h g = λ z. Starves ((g.4 ∙ sym h.4) z)
 
-pub same_verdict : {T : Type 0} (m : Machine T) (s : State T) (tr : Trace) (run run' : List Step) → Reaches m s run run' → (t : ℕ) (v : Verdict) → IsVerdict m s tr run t v → IsVerdict m s tr run' t v
+pub same_verdict : {T : Type 0} (m : Machine T) (s : State T) (tr : Trace) (run run' : List Step) → Reaches m s run run' → (t : ℕ) (v : ThreadVerdict) → IsVerdict m s tr run t v → IsVerdict m s tr run' t v
 same_verdict m s tr run run' k t v h =
     subst (λ z. Judged m (tr.ends t) (NoneTakes m s tr t (length z)) ((end m s run').now t) (left_steps z (tr.steps t)) (left_log z (tr.logs t)) (length (events z)) (length z) v) (k.trails t)
     (subst (λ y. Judged m (tr.ends t) (NoneTakes m s tr t (count m s run t)) (y.now t) (left_steps (trail m s run t) (tr.steps t)) (left_log (trail m s run t) (tr.logs t)) (length (log m s run t)) (count m s run t) v) k.states h)

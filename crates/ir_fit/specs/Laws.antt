@@ -8,7 +8,9 @@ use Rattle.ir_fit.specs.Alike.{SameTrace, SameRun, Reaches}
 use Rattle.ir_fit.specs.Coherent.{IsCoherent}
 use Rattle.ir_fit.specs.Cuts.{Cut, IsCut, Consistent, AtCut}
 use Rattle.ir_fit.specs.Following.{Follows, IsMaximal, closing, left_log}
-use Rattle.ir_fit.specs.Verdicts.{Verdict, Same, IsVerdict, HoldsEvents, IsWhole, result_of}
+use Rattle.ir_fit.specs.declared.verdict.ThreadVerdict.{ThreadVerdict}
+use Rattle.ir_fit.specs.declared.verdict.ThreadVerdict.TheVariants.{Same}
+use Rattle.ir_fit.specs.Verdicts.{IsVerdict, HoldsEvents, IsWhole, result_of}
 
 -- runs with one trace have the same threads, consistent cuts and objects
 abbrev pub TraceDetermines : Type 0
@@ -40,8 +42,8 @@ MaximalExists = (guest : Guest) (budget : ℕ) (tr : Trace) → let f = start_fl
 abbrev pub OneVerdict : Type 0
 OneVerdict = (guest : Guest) (budget : ℕ) (tr : Trace) → let f = start_flat guest budget in IsCoherent (length guest.entries) tr → HoldsEvents (machine f) tr
     → (run : List Step) → Follows (closing (machine f) tr) (machine f) (tables f) tr run → IsMaximal (closing (machine f) tr) (machine f) (tables f) tr run
-    → ((t : ℕ) → (v : Verdict) × IsVerdict (machine f) (tables f) tr run t v × ((w : Verdict) → IsVerdict (machine f) (tables f) tr run t w → w ≡ v))
-    × ((run' : List Step) → Follows (closing (machine f) tr) (machine f) (tables f) tr run' → IsMaximal (closing (machine f) tr) (machine f) (tables f) tr run' → (t : ℕ) (v : Verdict) → IsVerdict (machine f) (tables f) tr run t v → IsVerdict (machine f) (tables f) tr run' t v)
+    → ((t : ℕ) → (v : ThreadVerdict) × IsVerdict (machine f) (tables f) tr run t v × ((w : ThreadVerdict) → IsVerdict (machine f) (tables f) tr run t w → w ≡ v))
+    × ((run' : List Step) → Follows (closing (machine f) tr) (machine f) (tables f) tr run' → IsMaximal (closing (machine f) tr) (machine f) (tables f) tr run' → (t : ℕ) (v : ThreadVerdict) → IsVerdict (machine f) (tables f) tr run t v → IsVerdict (machine f) (tables f) tr run' t v)
 
 -- all threads are the same exactly where there is a complete run with this trace
 abbrev pub FitsExactly : Type 0

@@ -4,3 +4,5 @@ pub mod Coherent
 pub mod Alike
 pub mod Verdicts
 pub mod Laws
+pub mod Standing
+pub mod Fit

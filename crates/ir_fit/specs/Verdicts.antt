@@ -5,13 +5,9 @@ use Rattle.ir_thread.specs.Marks.{Mark, Quiet, Answer, In, Refused, Out, Trace}
 use Rattle.ir_thread.specs.declared.ask.Access.TheVariants.{Reading, Writing}
 use Rattle.ir_flat.specs.Run.{State, Step, IsRun, IsDone, end, trail, log, count}
 use Rattle.ir_fit.specs.Cuts.{At}
+use Rattle.ir_fit.specs.declared.verdict.ThreadVerdict.{ThreadVerdict}
+use Rattle.ir_fit.specs.declared.verdict.ThreadVerdict.TheVariants.{Same, Disagrees, Starves}
 use Rattle.ir_fit.specs.Following.{Follows, left_log, left_steps, ends_now, Meets, closing}
-
--- what is said of a thread
-pub data Verdict : Type 0 where
-  Same : Verdict
-  Disagrees : (event step : ℕ) → Verdict
-  Starves : (event : ℕ) → Verdict
 
 -- where an event is asked for, the next one is of that kind and object
 abbrev pub Suits : Ask → List Mark → Type 0
@@ -39,7 +35,7 @@ Awaits (Try o) (In p c v l ∷ es) = Unit {0}
 Awaits _ _ = ⊥
 
 -- the verdict on a thread that stands as x, with n steps and the log es left, i events and k steps behind it, where no run takes it further
-abbrev pub Judged : {T : Type 0} → Machine T → Option (ℕ × ℕ) → Type 0 → T → ℕ → List Mark → ℕ → ℕ → Verdict → Type 0
+abbrev pub Judged : {T : Type 0} → Machine T → Option (ℕ × ℕ) → Type 0 → T → ℕ → List Mark → ℕ → ℕ → ThreadVerdict → Type 0
 Judged m fin none x n es i k Same = m.ask x ≡ Done
 Judged m fin none x n es i k (Disagrees j h) = (m.ask x ≢ Done) × (Agrees m fin x n es → ⊥) × (j ≡ i) × (h ≡ k)
 Judged m fin none x n es i k (Starves j) = (m.ask x ≢ Done) × Agrees m fin x n es × Awaits (m.ask x) es × none × (j ≡ i)
@@ -49,7 +45,7 @@ abbrev pub NoneTakes : {T : Type 0} → Machine T → State T → Trace → ℕ 
 NoneTakes m s tr t k = (run : List Step) → Follows (closing m tr) m s tr run → count m s run t ≤ k
 
 -- the verdict on thread t at the end of this run, a maximal one that follows the trace
-abbrev pub IsVerdict : {T : Type 0} → Machine T → State T → Trace → List Step → ℕ → Verdict → Type 0
+abbrev pub IsVerdict : {T : Type 0} → Machine T → State T → Trace → List Step → ℕ → ThreadVerdict → Type 0
 IsVerdict m s tr run t v = Judged m (tr.ends t) (NoneTakes m s tr t (count m s run t)) ((end m s run).now t) (left_steps (trail m s run t) (tr.steps t)) (left_log (trail m s run t) (tr.logs t)) (length (log m s run t)) (count m s run t) v
 
 -- what a trace may hold: results that fit, entries and refused tries

@@ -1,0 +1,126 @@
+-- Whether a recorded trace is that of a run of a guest's, by the run that follows it furthest.
+use Rattle.std.proofs.Common.{◌≡◌, ◌≢◌, ℕ, zero, suc, ◌<◌, ◌≤◌, true, List, [], ◌∷◌, length, map, Some, refl, sym, ap, ◌∙◌, subst, arith, inl, inr, get_or}
+use Rattle.std.specs.Prelude.{slice_get}
+use Rattle.std.specs.List.{AllByRecursion}
+use Rattle.std.proofs.lemmas.Bool.{cases_lt}
+use Rattle.std.proofs.lemmas.Bool.Decides.{nat_tests}
+use Rattle.ir_image.specs.Guest.{Guest}
+use Rattle.ir_thread.specs.Instance.{thread_machine, is_result}
+use Rattle.ir_thread.specs.Marks.{Mark}
+use Rattle.ir_thread.specs.declared.ask.EnvKind.{EnvKind}
+use Rattle.ir_thread.specs.declared.ask.EnvKind.TheVariants.{Clock, Random, Input}
+use Rattle.ir_thread.proofs.Lawful.{lawful, closing}
+use Rattle.ir_flat.specs.Flat.{start_flat, tables}
+use Rattle.ir_flat.specs.Run.{Step, log, trace}
+use Rattle.ir_flat.proofs.Good.{start_good}
+use Rattle.ir_flat.proofs.Runs.{start_idle}
+use Rattle.ir_log.specs.Logging.{mark_of}
+use Rattle.ir_log.specs.declared.event.Event.{Event}
+use Rattle.ir_log.specs.declared.event.Event.TheVariants.{Answer, Read, Write}
+use Rattle.ir_trace.specs.Recorded.{Recorded, RecordedThread, IsRecorded, IsRecordedThread, IsEvent, IsResult}
+use Rattle.ir_trace.specs.Told.{absent, trace_of}
+use Rattle.ir_fit.proofs.Confluent.{one_maximal}
+use Rattle.ir_fit.proofs.Ending.{Over, over}
+use Rattle.ir_fit.proofs.Guests.{starts, lives}
+use Rattle.ir_fit.proofs.Judge.{all_same, whole_same, same_verdict}
+use Rattle.ir_fit.proofs.Own.{own_coherent}
+use Rattle.ir_fit.proofs.Settled.{settled, verdict_at, goes_on, all_done}
+use Rattle.ir_fit.specs.Coherent.{IsCoherent}
+use Rattle.ir_fit.specs.Cuts.{At}
+use Rattle.ir_fit.specs.Fit.{HasHeader, IsRunOf, GoesFurthest, AreVerdicts}
+use Rattle.ir_fit.specs.Following as following
+use Rattle.ir_fit.specs.Standing.{StandsAs}
+use Rattle.ir_fit.specs.Verdicts as verdicts
+use Rattle.ir_fit.specs.Verdicts.{HoldsEvents, IsWhole}
+use Rattle.ir_fit.specs.declared.verdict.ThreadVerdict.{ThreadVerdict}
+use Rattle.ir_fit.specs.declared.verdict.ThreadVerdict.TheVariants.{Same}
+
+-- ---- what a trace within its limits holds
+
+result_fits : (kind : EnvKind) (value : ℕ) → IsResult kind value → is_result kind value ≡ true
+result_fits Clock value h = grind (arith, nat_tests, h)
+result_fits Random value h = grind (arith, nat_tests, h)
+result_fits Input value (inl h) = grind (arith, nat_tests, h)
+result_fits Input value (inr h) = grind (arith, nat_tests, h)
+
+event_fits : (code : List ℕ) (objects : ℕ) (e : Event) → IsEvent objects e → verdicts.IsEvent (thread_machine code) (mark_of e)
+event_fits code objects (Answer kind value) h = result_fits kind value h
+event_fits code objects (Read object version) h = refl
+event_fits code objects (Write object version readers) h = tt
+
+events_fit : (code : List ℕ) (objects : ℕ) (es : List Event) → AllByRecursion (IsEvent objects) es → (i : ℕ) (k : Mark) → At (map mark_of es) i k → verdicts.IsEvent (thread_machine code) k
+events_fit code objects [] all i k h = absurd h
+events_fit code objects (e ∷ es) all zero k h = subst (verdicts.IsEvent (thread_machine code)) h (event_fits code objects e all.0)
+events_fit code objects (e ∷ es) all (suc i) k h = events_fit code objects es all.1 i k h
+
+threads_fit : (code : List ℕ) (objects : ℕ) (ts : List RecordedThread) → AllByRecursion (IsRecordedThread objects) ts → (t i : ℕ) (k : Mark) → At (map mark_of (get_or ts t absent).events) i k → verdicts.IsEvent (thread_machine code) k
+threads_fit code objects [] all t i k h = absurd h
+threads_fit code objects (x ∷ xs) all zero i k h = events_fit code objects x.events all.0.events_fit i k h
+threads_fit code objects (x ∷ xs) all (suc t) i k h = threads_fit code objects xs all.1 t i k h
+
+holds_events : (code : List ℕ) (r : Recorded) → IsRecorded r → HoldsEvents (thread_machine code) (trace_of r)
+holds_events code r is t i k h = threads_fit code r.objects r.threads is.threads_fit t i k h
+
+-- ---- a run that goes furthest
+
+-- the run goes furthest, and what is said of the threads is how they stand at its end
+pub verdicts_of : (g : Guest) (r : Recorded) → IsRecorded r → HasHeader g r → IsCoherent (length g.entries) (trace_of r) → (run : List Step)
+    → following.Follows (following.closing (thread_machine g.code) (trace_of r)) (thread_machine g.code) (tables (start_flat g r.budget)) (trace_of r) run → (vs : List ThreadVerdict) → length vs ≡ length g.entries
+    → ((t : ℕ) (v : ThreadVerdict) → slice_get vs t ≡ Some v → StandsAs (thread_machine g.code) (tables (start_flat g r.budget)) (trace_of r) run t v) → GoesFurthest g r run × AreVerdicts g r vs
+verdicts_of g r is header co run f vs each stands =
+    let m = thread_machine g.code in
+    let s = tables (start_flat g r.budget) in
+    let tr = trace_of r in
+    let n : ℕ = length g.entries in
+    let good = start_good m s (starts g r.budget) in
+    let top : following.IsMaximal (following.closing m tr) m s tr run = settled n m s (start_idle g r.budget) tr run f (λ t l. let v = there vs t (subst (λ z. t < z) (sym each) l) in (v.0, stands t v.0 v.1)) in
+    ((f, top), (each, λ run' furthest t v at. same_verdict m s tr run run' (one_maximal (following.closing m tr) n m (lawful g.code) tr co s good (starts g r.budget) (start_idle g r.budget) run run' f top furthest.0 furthest.1) t v
+    (verdict_at n m (lawful g.code) tr co (holds_events g.code r is) s good (starts g r.budget) (start_idle g r.budget) run f top t v (stands t v at))))
+  where
+    there : (vs : List ThreadVerdict) (t : ℕ) → t < length vs → (v : ThreadVerdict) × (slice_get vs t ≡ Some v)
+    there [] t l = absurd (omega (arith, l))
+    there (v ∷ vs) zero l = (v, refl)
+    there (v ∷ vs) (suc t) l = there vs t (omega (arith, l))
+
+-- where each thread is the same, the run is complete and has the trace
+pub whole_of : (g : Guest) (r : Recorded) → HasHeader g r → (run : List Step) → following.Follows (following.closing (thread_machine g.code) (trace_of r)) (thread_machine g.code) (tables (start_flat g r.budget)) (trace_of r) run
+    → ((t : ℕ) → t < length g.entries → StandsAs (thread_machine g.code) (tables (start_flat g r.budget)) (trace_of r) run t Same) → IsRunOf g r run
+whole_of g r header run f same =
+    let m = thread_machine g.code in
+    let s = tables (start_flat g r.budget) in
+    (header, all_same (length g.entries) m (closing g.code) (trace_of r) s (lives g r.budget) run f (all_done (length g.entries) m s (start_idle g r.budget) (trace_of r) run f same))
+
+-- where one isn't, there is no run with the trace
+pub none_of : (g : Guest) (r : Recorded) → IsCoherent (length g.entries) (trace_of r) → (run : List Step) → GoesFurthest g r run → (t : ℕ) (v : ThreadVerdict) → StandsAs (thread_machine g.code) (tables (start_flat g r.budget)) (trace_of r) run t v → v ≢ Same
+    → (whole : List Step) → IsRunOf g r whole → ⊥
+none_of g r co run furthest t v stands ne whole is =
+    let m = thread_machine g.code in
+    let s = tables (start_flat g r.budget) in
+    goes_on m s (trace_of r) run t v stands ne (whole_same (length g.entries) m (lawful g.code) (closing g.code) (trace_of r) co s (start_good m s (starts g r.budget)) (starts g r.budget) (start_idle g r.budget) run furthest.0 furthest.1 whole is.1 t)
+
+-- ---- the trace of a run is coherent
+
+no_events : (ts : List RecordedThread) (t : ℕ) → length ts ≤ t → map mark_of (get_or ts t absent).events ≡ []
+no_events [] t l = refl
+no_events (x ∷ xs) zero l = absurd (omega (arith, l))
+no_events (x ∷ xs) (suc t) l = no_events xs t (omega (arith, l))
+
+-- each thread's log in the run is the trace's
+logs_are : (g : Guest) (r : Recorded) (run : List Step) → IsRunOf g r run → (t : ℕ) → log (thread_machine g.code) (tables (start_flat g r.budget)) run t ≡ (trace_of r).logs t
+logs_are g r run is t = elim (cases_lt t (length g.entries)) [
+  | inl l ↦ is.1.logs t l
+  | inr le ↦
+      let m = thread_machine g.code in
+      let s = tables (start_flat g r.budget) in
+      let d = (closing g.code).done (s.now t) (start_idle g r.budget t le) in
+      let k : Over m s run t d.0 = over m (closing g.code) s run is.1.runs is.1.done t d.0 d.1 in
+      k.silent ∙ sym (no_events r.threads t (subst (λ z. z ≤ t) (sym is.0.threads) le))
+]
+
+pub run_coherent : (g : Guest) (r : Recorded) (run : List Step) → IsRunOf g r run → IsCoherent (length g.entries) (trace_of r)
+run_coherent g r run is =
+    let m = thread_machine g.code in
+    let s = tables (start_flat g r.budget) in
+    let own : IsCoherent (length g.entries) (trace m s run) = own_coherent (length g.entries) m (lawful g.code) s (start_good m s (starts g r.budget)) (starts g r.budget) (start_idle g r.budget) run is.1.runs in
+    let same : log m s run ≡ (trace_of r).logs = λ i t. logs_are g r run is t i in
+    subst (λ logs. IsCoherent (length g.entries) (record (trace_of r) { logs = logs })) same (record { made = own.made; writer = own.writer; readers = own.readers })
