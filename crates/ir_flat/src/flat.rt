@@ -101,6 +101,7 @@ impl Flat {
     pub fn run(&mut self, t: usize, limit: u64) -> u64
         requires { t < length self.old.threads }
         ensures within { result ≤ limit }
+        ensures flat { IsFlat self.old }
         ensures went { WentAlone self.old self.new t result }
     {
         self.parts.run(t, limit)

@@ -11,4 +11,6 @@ pub mod Running
 pub mod Joining
 pub mod Following
 pub mod Gathering
+pub mod Leading
+pub mod Going
 pub mod Ended

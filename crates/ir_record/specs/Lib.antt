@@ -3,3 +3,4 @@ pub mod InOrder
 pub mod Recording
 pub mod Progress
 pub mod Gathered
+pub mod Ahead

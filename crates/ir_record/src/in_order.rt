@@ -1,6 +1,6 @@
 //! Recording on one thread, in a given order.
 
-ghost use Rattle.std.specs.Prelude.{◌≡◌, ◌<◌, ◌≤◌, ◌++◌, ℕ, length, map, vec_len, IfOk, OnOk, IfErr};
+ghost use Rattle.std.specs.Prelude.{◌≡◌, ◌<◌, ◌≤◌, ◌++◌, ℕ, length, map, replicate, vec_len, IfOk, OnOk, IfErr};
 ghost use Rattle.ir_flat.specs.Flat.{tables, machine};
 ghost use Rattle.ir_record.specs.InOrder.{HasNone, rounds};
 ghost use Rattle.ir_record.specs.Progress.{progress, Took, IsReady};
@@ -20,8 +20,10 @@ use std::alloc::Global;
 
 impl<W: World> Recorder<W> {
     // A turn of each thread that the order names, and then rounds until no thread has a step.
-    fn record(&mut self, order: &[u8]) -> Result<(), Failed>
-        requires { IsReady (progress self.old.tape (map W.answers self.old.worlds.items)) (map W.broken self.old.worlds.items) }
+    // `ahead` has a place for each thread, of which none is ahead.
+    fn record(&mut self, order: &[u8], ahead: &mut Vec<u64>) -> Result<(), Failed>
+        requires ready { IsReady (progress self.old.tape (map W.answers self.old.worlds.items)) (map W.broken self.old.worlds.items) }
+        requires level { ahead.old.items ≡ replicate (length self.old.tape.flat.threads) 0 }
         ensures took { OnOk result ((count : ℕ) × Took (order.now ++ rounds (length self.old.tape.flat.threads) count) (progress self.old.tape (map W.answers self.old.worlds.items)) (progress self.new.tape (map W.answers self.new.worlds.items))) }
         ensures over { OnOk result ((t : ℕ) → t < length self.new.tape.flat.threads → HasNone (machine self.new.tape.flat) (tables self.new.tape.flat) t) }
         ensures ready { OnOk result (IsReady (progress self.new.tape (map W.answers self.new.worlds.items)) (map W.broken self.new.worlds.items)) }
@@ -29,7 +31,7 @@ impl<W: World> Recorder<W> {
         ensures kept { Extends (map W.answers self.old.worlds.items) (map W.answers self.new.worlds.items) }
     {
         self.follow(order)?;
-        self.rounds()?;
+        self.rounds(ahead)?;
         Ok(())
     }
 }
@@ -60,7 +62,8 @@ pub fn record_in_order<W: World + Drop>(
         tape: Tape::start(alloc, image, budget)?,
         worlds,
     };
-    if let Err(Failed { thread }) = recorder.record(order) {
+    let mut ahead = vec![in alloc; 0; recorder.tape.flat.threads().len()]?;
+    if let Err(Failed { thread }) = recorder.record(order, &mut ahead) {
         return Err(RecordErr::World {
             thread,
             worlds: recorder.worlds,

@@ -1,6 +1,7 @@
 //! A step of one thread, and what is logged of it.
 
 ghost use Rattle.std.specs.Prelude.{◌≡◌, ◌≢◌, ◌<◌, [], ◌∷◌, ◌++◌, ◌≤◌, true, List, length, slice_set, replicate};
+ghost use Rattle.ir_flat.specs.Alone.{WentAlone};
 ghost use Rattle.ir_flat.specs.Flat.{thread_of, IsFlat};
 ghost use Rattle.ir_thread.specs.Calls.{ask_of, Permits};
 ghost use Rattle.ir_thread.specs.Instance.{is_result};
@@ -97,9 +98,11 @@ impl Tape {
     // Thread t takes private steps, at most so many, and how many they are.
     pub fn run(&mut self, t: usize, limit: u64) -> u64
         requires tape { IsTape self.old.flat self.old.logs.items }
-        requires flat { IsFlat self.old.flat }
         requires thread { t < length self.old.flat.threads }
         ensures within { result ≤ limit }
+        ensures flat { IsFlat self.old.flat }
+        ensures alone { WentAlone self.old.flat self.new.flat t result }
+        ensures logs { self.new.logs ≡ self.old.logs }
         ensures took { (answers : List (List Answered)) → Took (replicate result t) (progress self.old answers) (progress self.new answers) }
         ensures tape { IsTape self.new.flat self.new.logs.items }
     {

@@ -5,8 +5,8 @@ use Rattle.ir_record.specs.Worlds.{NoneFailed}
 use Rattle.ir_record.proofs.Ended.{start_ready, Over, over_from, started, threads_there, ended_there, recorded_there, mapped_twice}
 use Rattle.ir_record.proofs.in_order.record_in_order.Goals as goal
 
-pub record-requires : goal.record-requires
-record-requires g c =
+pub record-requires-clause-ready : goal.record-requires-clause-ready
+record-requires-clause-ready g c =
     let size : length c.args.worlds.items ≡ length c.args.image.now.entries = search rules in
     subst (λ a. IsReady a (map g.W.World.broken c.args.worlds.items)) (sym (started c.args.image.now c.args.budget (map g.W.World.answers c.args.worlds.items) c.in_ok-start.field-0.flat c.in_ok-start.field-0.logs.items c.in_ok-start.ensures.flat c.in_ok-start.ensures.logs))
     (start_ready c.args.image.now c.args.budget (map g.W.World.answers c.args.worlds.items) (map g.W.World.broken c.args.worlds.items) (length-map c.args.worlds.items g.W.World.answers ∙ size) c.requires.works)
@@ -39,7 +39,7 @@ returns-clause-recorded g c =
     let over : Over c.args.image.now c.args.budget c.args.order.now before last = over_from c.args.image.now c.args.budget c.args.order.now before first last same c.in_default.ensures.took c.in_default.ensures.over in
     recorded_there c.args.image.now c.args.budget c.args.order.now before last over (map g.W.World.broken c.record.new.self.worlds.items) c.in_default.ensures.ready
     c.in_ok-trace.trace c.in_ok-trace.ensures.objects c.in_ok-trace.ensures.limit c.in_ok-trace.ensures.threads
-    _ (c.in_ok-outputs.ensures.bytes ∙ ap (map (λ x. x.output)) c.threads.ensures.value)
+    _ (c.in_ok-outputs.ensures.bytes ∙ ap (map (λ x. x.output)) c.threads-2.ensures.value)
     _ (mapped_twice g.W.World.answers (λ o. o.world) c.in_ok-outputs.outputs.each.items c.record.new.self.worlds.items c.in_ok-outputs.ensures.worlds)
 
 pub returns-clause-works : goal.returns-clause-works

@@ -1,4 +1,4 @@
-use Rattle.std.proofs.Common.{length, map, subst}
+use Rattle.std.proofs.Common.{length, map, replicate, sym, ap, ◌∙◌, subst}
 use Rattle.ir_record.specs.InOrder.{rounds}
 use Rattle.ir_record.specs.Progress.{progress, Took}
 use Rattle.ir_record.proofs.Steps.{took_both}
@@ -21,3 +21,6 @@ returns-clause-kept g c = extends_both (map g.W.World.answers c.args.self.now.wo
 
 pub returns-in_err-rounds-clause-kept : goal.returns-in_err-rounds-clause-kept
 returns-in_err-rounds-clause-kept g c = extends_both (map g.W.World.answers c.args.self.now.worlds.items) (map g.W.World.answers c.follow.new.self.worlds.items) (map g.W.World.answers c.rounds.new.self.worlds.items) c.follow.ensures.kept c.rounds.ensures.kept
+
+pub rounds-requires-clause-level : goal.rounds-requires-clause-level
+rounds-requires-clause-level g c = c.requires.level ∙ ap (λ n. replicate n 0) (sym c.in_ok-follow.ensures.took.threads)

@@ -1,46 +1,81 @@
-use Rattle.std.proofs.Common.{map, length, refl}
-use Rattle.ir_record.specs.Progress.{Progress, progress}
-use Rattle.ir_record.proofs.Joining.{Rounds, no_round, more_rounds, one_round, round_over, round_fewer}
+use Rattle.std.proofs.Common.{◌≡◌, ◌<◌, ◌+◌, ℕ, Bool, List, map, length, replicate, refl, sym, ap, ◌∙◌, subst, arith}
+use Rattle.std.proofs.lemmas.List.{length-replicate}
+use Rattle.std.specs.List.{range_with_len}
+use Rattle.ir_flat.specs.Flat.{tables}
+use Rattle.ir_record.specs.Ahead.{all_ahead, WentIf}
+use Rattle.ir_record.specs.InOrder.{rounds}
+use Rattle.ir_record.specs.Progress.{Progress, progress, all_left}
 use Rattle.ir_record.proofs.Asking.{extends_same, extends_both}
+use Rattle.ir_record.proofs.Going.{Rounding, first_round, round_more, reached, ahead_there, none_ahead, caught, all_over, fewer_left}
 use Rattle.ir_record.proofs.recorder.Recorder.rounds.Goals as goal
 
 pub rounds-init : goal.rounds-init
-rounds-init g c = record { took = no_round (length c.args.self.now.tape.flat.threads) (progress c.args.self.now.tape (map g.W.World.answers c.args.self.now.worlds.items)); ready = c.requires; kept = extends_same (map g.W.World.answers c.args.self.now.worlds.items) }
+rounds-init g c =
+    let n : ℕ = length c.args.self.now.tape.flat.threads in
+    let a : Progress = progress c.args.self.now.tape (map g.W.World.answers c.args.self.now.worlds.items) in
+    record {
+      went = subst (Rounding n a a) (sym c.requires.level) (first_round n a);
+      each = ap (λ xs. length xs) c.requires.level ∙ length-replicate {A = ℕ} n 0;
+      ready = c.requires.ready;
+      kept = extends_same (map g.W.World.answers c.args.self.now.worlds.items);
+    }
 
-pub returns-then-not-branch-clause-took : goal.returns-then-not-branch-clause-took
-returns-then-not-branch-clause-took g c =
-    let entry : Progress = progress c.args.self.now.tape (map g.W.World.answers c.args.self.now.worlds.items) in
-    let before : Progress = progress c.rounds.self.tape (map g.W.World.answers c.rounds.self.worlds.items) in
-    let ahead : Progress = progress c.ahead.new.self.tape (map g.W.World.answers c.ahead.new.self.worlds.items) in
-    let new : Progress = progress c.round.new.self.tape (map g.W.World.answers c.round.new.self.worlds.items) in
-    let n = length c.args.self.now.tape.flat.threads in
-    let first : Rounds n entry ahead = more_rounds n (length before.flat.threads) entry before ahead c.rounds.invariant.took.1.threads c.rounds.invariant.took c.ahead.ensures.took in
-    more_rounds n (length ahead.flat.threads) entry ahead new first.1.threads first (one_round (length ahead.flat.threads) c.in_ok-round.field-0 ahead new c.in_ok-round.ensures.took)
-
-pub returns-then-not-branch-clause-over : goal.returns-then-not-branch-clause-over
-returns-then-not-branch-clause-over g c = round_over (length c.ahead.new.self.tape.flat.threads) (progress c.ahead.new.self.tape (map g.W.World.answers c.ahead.new.self.worlds.items)) (progress c.round.new.self.tape (map g.W.World.answers c.round.new.self.worlds.items))
-    c.in_ok-round.field-0 c.if-not-branch.true refl c.in_ok-round.ensures.took
+-- the round that was taken, from where the rounds before it lead
+turned : (n : ℕ) (a b e : Progress) (d f : List ℕ) (moved : Bool) (p : Rounding n a b d) → length b.flat.threads ≡ n → WentIf moved (range_with_len 0 (length b.flat.threads)) (reached p.1) b d e f → WentIf moved (range_with_len 0 n) (reached p.1) b d e f
+turned n a b e d f moved p same q = subst (λ k. WentIf moved (range_with_len 0 k) (reached p.1) b d e f) same q
 
 pub rounds-preserved : goal.rounds-preserved
 rounds-preserved g c =
-    let entry : Progress = progress c.args.self.now.tape (map g.W.World.answers c.args.self.now.worlds.items) in
-    let before : Progress = progress c.rounds.self.tape (map g.W.World.answers c.rounds.self.worlds.items) in
-    let ahead : Progress = progress c.ahead.new.self.tape (map g.W.World.answers c.ahead.new.self.worlds.items) in
-    let new : Progress = progress c.round.new.self.tape (map g.W.World.answers c.round.new.self.worlds.items) in
-    let n = length c.args.self.now.tape.flat.threads in
-    let first : Rounds n entry ahead = more_rounds n (length before.flat.threads) entry before ahead c.rounds.invariant.took.1.threads c.rounds.invariant.took c.ahead.ensures.took in
+    let n : ℕ = length c.args.self.now.tape.flat.threads in
+    let a : Progress = progress c.args.self.now.tape (map g.W.World.answers c.args.self.now.worlds.items) in
+    let b : Progress = progress c.rounds.self.tape (map g.W.World.answers c.rounds.self.worlds.items) in
+    let e : Progress = progress c.round.new.self.tape (map g.W.World.answers c.round.new.self.worlds.items) in
+    let p : Rounding n a b c.rounds.ahead.items = c.rounds.invariant.went in
+    let there = ahead_there (rounds n p.0) (tables a.flat) a b (replicate n 0) c.rounds.ahead.items p.1 in
     record {
-      took = more_rounds n (length ahead.flat.threads) entry ahead new first.1.threads first (one_round (length ahead.flat.threads) c.in_ok-round.field-0 ahead new c.in_ok-round.ensures.took);
+      went = round_more n c.in_ok-round.field-0 a b e c.rounds.ahead.items c.round.new.ahead.items p (turned n a b e c.rounds.ahead.items c.round.new.ahead.items c.in_ok-round.field-0 p p.1.threads (c.in_ok-round.ensures.went (reached p.1) there));
+      each = c.in_ok-round.ensures.each;
       ready = c.in_ok-round.ensures.ready;
-      kept = extends_both (map g.W.World.answers c.args.self.now.worlds.items) (map g.W.World.answers c.ahead.new.self.worlds.items) (map g.W.World.answers c.round.new.self.worlds.items) (extends_both (map g.W.World.answers c.args.self.now.worlds.items) (map g.W.World.answers c.rounds.self.worlds.items) (map g.W.World.answers c.ahead.new.self.worlds.items) c.rounds.invariant.kept c.ahead.ensures.kept) c.round.ensures.kept;
+      kept = extends_both (map g.W.World.answers c.args.self.now.worlds.items) (map g.W.World.answers c.rounds.self.worlds.items) (map g.W.World.answers c.round.new.self.worlds.items) c.rounds.invariant.kept c.round.ensures.kept;
     }
 
 pub rounds-smaller : goal.rounds-smaller
-rounds-smaller g c = round_fewer (length c.rounds.self.tape.flat.threads) (progress c.rounds.self.tape (map g.W.World.answers c.rounds.self.worlds.items)) (progress c.ahead.new.self.tape (map g.W.World.answers c.ahead.new.self.worlds.items)) (progress c.round.new.self.tape (map g.W.World.answers c.round.new.self.worlds.items))
-    c.in_ok-round.field-0 c.if-not-branch.false refl c.ahead.ensures.took c.in_ok-round.ensures.took
+rounds-smaller g c =
+    let n : ℕ = length c.args.self.now.tape.flat.threads in
+    let a : Progress = progress c.args.self.now.tape (map g.W.World.answers c.args.self.now.worlds.items) in
+    let b : Progress = progress c.rounds.self.tape (map g.W.World.answers c.rounds.self.worlds.items) in
+    let e : Progress = progress c.round.new.self.tape (map g.W.World.answers c.round.new.self.worlds.items) in
+    let p : Rounding n a b c.rounds.ahead.items = c.rounds.invariant.went in
+    let there = ahead_there (rounds n p.0) (tables a.flat) a b (replicate n 0) c.rounds.ahead.items p.1 in
+    let less = fewer_left (length b.flat.threads) c.in_ok-round.field-0 (reached p.1) b e c.rounds.ahead.items c.round.new.ahead.items c.if-branch.true refl (c.in_ok-round.ensures.went (reached p.1) there) in
+    subst (λ k. all_left k (tables e.flat).now + all_ahead c.round.new.ahead.items < all_left (length b.flat.threads) (tables b.flat).now + all_ahead c.rounds.ahead.items) (sym c.in_ok-round.ensures.threads) less
 
-pub returns-then-not-branch-clause-kept : goal.returns-then-not-branch-clause-kept
-returns-then-not-branch-clause-kept g c = extends_both (map g.W.World.answers c.args.self.now.worlds.items) (map g.W.World.answers c.ahead.new.self.worlds.items) (map g.W.World.answers c.round.new.self.worlds.items) (extends_both (map g.W.World.answers c.args.self.now.worlds.items) (map g.W.World.answers c.rounds.self.worlds.items) (map g.W.World.answers c.ahead.new.self.worlds.items) c.rounds.invariant.kept c.ahead.ensures.kept) c.round.ensures.kept
+pub returns-clause-took : goal.returns-clause-took
+returns-clause-took g c =
+    let n : ℕ = length c.args.self.now.tape.flat.threads in
+    let a : Progress = progress c.args.self.now.tape (map g.W.World.answers c.args.self.now.worlds.items) in
+    let b : Progress = progress c.rounds.self.tape (map g.W.World.answers c.rounds.self.worlds.items) in
+    let e : Progress = progress c.round.new.self.tape (map g.W.World.answers c.round.new.self.worlds.items) in
+    let p : Rounding n a b c.rounds.ahead.items = c.rounds.invariant.went in
+    let there = ahead_there (rounds n p.0) (tables a.flat) a b (replicate n 0) c.rounds.ahead.items p.1 in
+    let q = turned n a b e c.rounds.ahead.items c.round.new.ahead.items c.in_ok-round.field-0 p p.1.threads (c.in_ok-round.ensures.went (reached p.1) there) in
+    let last : Rounding n a e c.round.new.ahead.items = round_more n c.in_ok-round.field-0 a b e c.rounds.ahead.items c.round.new.ahead.items p q in
+    (last.0, caught n a e c.round.new.ahead.items last (none_ahead n c.in_ok-round.field-0 (reached p.1) b e c.rounds.ahead.items c.round.new.ahead.items c.if-branch.false (c.rounds.invariant.each ∙ p.1.threads) q))
+
+pub returns-clause-over : goal.returns-clause-over
+returns-clause-over g c = λ t l.
+    let n : ℕ = length c.args.self.now.tape.flat.threads in
+    let a : Progress = progress c.args.self.now.tape (map g.W.World.answers c.args.self.now.worlds.items) in
+    let b : Progress = progress c.rounds.self.tape (map g.W.World.answers c.rounds.self.worlds.items) in
+    let e : Progress = progress c.round.new.self.tape (map g.W.World.answers c.round.new.self.worlds.items) in
+    let p : Rounding n a b c.rounds.ahead.items = c.rounds.invariant.went in
+    let there = ahead_there (rounds n p.0) (tables a.flat) a b (replicate n 0) c.rounds.ahead.items p.1 in
+    let q = turned n a b e c.rounds.ahead.items c.round.new.ahead.items c.in_ok-round.field-0 p p.1.threads (c.in_ok-round.ensures.went (reached p.1) there) in
+    all_over n c.in_ok-round.field-0 a b e c.rounds.ahead.items c.round.new.ahead.items p q c.if-branch.false (none_ahead n c.in_ok-round.field-0 (reached p.1) b e c.rounds.ahead.items c.round.new.ahead.items c.if-branch.false (c.rounds.invariant.each ∙ p.1.threads) q) t
+    (omega (arith, l, c.in_ok-round.ensures.threads, p.1.threads))
+
+pub returns-clause-kept : goal.returns-clause-kept
+returns-clause-kept g c = extends_both (map g.W.World.answers c.args.self.now.worlds.items) (map g.W.World.answers c.rounds.self.worlds.items) (map g.W.World.answers c.round.new.self.worlds.items) c.rounds.invariant.kept c.round.ensures.kept
 
 pub returns-in_err-round-clause-kept : goal.returns-in_err-round-clause-kept
-returns-in_err-round-clause-kept g c = extends_both (map g.W.World.answers c.args.self.now.worlds.items) (map g.W.World.answers c.ahead.new.self.worlds.items) (map g.W.World.answers c.round.new.self.worlds.items) (extends_both (map g.W.World.answers c.args.self.now.worlds.items) (map g.W.World.answers c.rounds.self.worlds.items) (map g.W.World.answers c.ahead.new.self.worlds.items) c.rounds.invariant.kept c.ahead.ensures.kept) c.round.ensures.kept
+returns-in_err-round-clause-kept g c = extends_both (map g.W.World.answers c.args.self.now.worlds.items) (map g.W.World.answers c.rounds.self.worlds.items) (map g.W.World.answers c.round.new.self.worlds.items) c.rounds.invariant.kept c.round.ensures.kept

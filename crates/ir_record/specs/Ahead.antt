@@ -1,0 +1,54 @@
+-- Private steps that threads take before their turns come.
+use Rattle.std.specs.Prelude.{◌≡◌, ◌<◌, ◌≤◌, ◌+◌, ℕ, zero, suc, List, [], ◌∷◌, ◌++◌, length, Bool, true, false}
+use Rattle.std.specs.List.{slice_index_or}
+use Rattle.ir_thread.specs.Machine.{Machine, Private}
+use Rattle.ir_thread.specs.State as thread
+use Rattle.ir_flat.specs.Flat.{tables, machine}
+use Rattle.ir_flat.specs.Run.{State, Step, end, log}
+use Rattle.ir_record.specs.InOrder.{InTurn}
+use Rattle.ir_record.specs.Progress.{Progress, all_left, marks_at, answers_at}
+use Rattle.ir_record.specs.Worlds.{answers_in}
+
+-- a thread after so many steps by itself
+abbrev pub alone : {T : Type 0} → Machine T → ℕ → T → T
+alone m zero x = x
+alone m (suc k) x = alone m k (m.take x 0)
+
+-- how many steps thread t is ahead
+abbrev pub lead : List ℕ → ℕ → ℕ
+lead ahead t = slice_index_or ahead t 0
+
+-- the later state is s, with each thread so many private steps ahead
+pub record IsAhead {T : Type 0} (m : Machine T) (ahead : List ℕ) (s later : State T) : Type 0 where
+  pub threads : (t : ℕ) → later.now t ≡ alone m (lead ahead t) (s.now t)
+  pub each : (t k : ℕ) → k < lead ahead t → m.ask (alone m k (s.now t)) ≡ Private
+  pub objects : later.objects ≡ s.objects
+
+-- how many steps all threads are ahead
+abbrev pub all_ahead : List ℕ → ℕ
+all_ahead [] = 0
+all_ahead (k ∷ ks) = k + all_ahead ks
+
+-- none of these threads is ahead
+abbrev pub NoneAhead : List ℕ → List ℕ → Type 0
+NoneAhead [] ahead = Unit {0}
+NoneAhead (t ∷ order) ahead = (lead ahead t ≡ 0) × NoneAhead order ahead
+
+-- a is ahead of the state s, and b is a after a turn of each thread that the order names
+pub record Went (order : List ℕ) (s : State thread.State) (a : Progress) (old : List ℕ) (b : Progress) (new : List ℕ) : Type 0 where
+  pub run : List Step
+  pub turns : InTurn (machine a.flat) s order run
+  pub ahead : IsAhead (machine a.flat) new (end (machine a.flat) s run) (tables b.flat)
+  pub code : b.flat.code ≡ a.flat.code
+  pub threads : length b.flat.threads ≡ length a.flat.threads
+  pub objects : length b.flat.objects ≡ length a.flat.objects
+  -- what its steps log is added to each thread's log, and the answers among it to those of the thread's world
+  pub logs : (t : ℕ) → t < length a.flat.threads → marks_at b.logs t ≡ marks_at a.logs t ++ log (machine a.flat) s run t
+  pub answers : (t : ℕ) → t < length a.flat.threads → answers_at b.answers t ≡ answers_at a.answers t ++ answers_in (log (machine a.flat) s run t)
+  pub fewer : all_left (length a.flat.threads) (tables b.flat).now + all_ahead new + length run ≤ all_left (length a.flat.threads) (tables a.flat).now + all_ahead old
+
+-- the same, and whether a step was taken
+pub record WentIf (moved : Bool) (order : List ℕ) (s : State thread.State) (a : Progress) (old : List ℕ) (b : Progress) (new : List ℕ) : Type 0 where
+  pub went : Went order s a old b new
+  pub some : moved ≡ true → 0 < length went.run
+  pub none : moved ≡ false → (went.run ≡ []) × (new ≡ old) × NoneAhead order old
