@@ -1,8 +1,10 @@
 #!/usr/bin/env python3
-"""bench.py IR BENCH: millions of instructions per second of guests of 8 * 10^7 steps and more, and the assembler's lines.
+"""bench.py IR BENCH: millions of instructions per second of guests of 8 * 10^7 steps and more, recordings, and the
+assembler's lines.
 
 Each guest is run three ways, best of five, the time of an empty guest taken off: by a session of IR, which runs it once
-to see that the trace fits; by BENCH's private steps many at a time; and by BENCH, each step asked and taken by itself."""
+to see that the trace fits; by BENCH's private steps many at a time; and by BENCH, each step asked and taken by itself.
+A recording is `ir record` from file to file, best of five, the time of an empty guest's taken off."""
 import struct
 import os
 import subprocess
@@ -77,8 +79,9 @@ def guests():
     yield ("calls", *counted(calls, 4000, 4))
 
 
-def image(code):
-    return b"IRI1" + bytes([1, 0]) + struct.pack("<II", len(code), 0) + struct.pack("<I", CODE) + b"".join(struct.pack("<I", w) for w in code)
+def image(code, threads=1, objects=0):
+    words = [CODE] * threads + code + [0] * (8 * objects)
+    return b"IRI1" + bytes([threads, objects]) + struct.pack("<II", len(code), 0) + b"".join(struct.pack("<I", w) for w in words)
 
 
 def trace(steps, budget):
@@ -118,6 +121,39 @@ def speeds():
         print(f"{name:24}{steps:>12}{session:>10.0f}{run:>10.0f}{each:>12.0f}{run / each:>8.1f}")
 
 
+def entering():
+    """64 * 4096 times: ten private steps in a loop, then a write entry of object 0 and its leave."""
+    inner = [addi(T1, 0, 4), addi(T1, T1, -1), branch(1, T1, 0, -4)]
+    body = inner + [addi(A7, 0, 8), ECALL, addi(A7, 0, 9), ECALL]
+    return counted(body, 32, 9 + 4)
+
+
+def recording():
+    """Threads by rounds: millions of steps of all threads together a second, beside those of the counted loop's run."""
+    print("recording, millions of steps a second")
+    print(f"{'guest':40}{'steps':>12}{'seconds':>10}{'steps':>10}")
+    loop, steps = counted([], 12200)
+    short, few = counted([], 1525)
+    locks, visits = entering()
+    empty = [addi(A7, 0, 1), ECALL]
+    with tempfile.TemporaryDirectory() as folder:
+        source, made = os.path.join(folder, "image"), os.path.join(folder, "trace")
+
+        def took(code, threads, objects):
+            with open(source, "wb") as f:
+                f.write(image(code, threads, objects))
+            return best_of_three([IR, "record", source, made, "--order", "0", "--budget", "1000000000"], b"", lambda out: out.count(b" end 1 ") == threads)
+
+        for name, code, threads, objects, all_steps in (
+            ("one thread, counted loop", loop, 1, 0, steps),
+            ("eight threads, counted loop", short, 8, 0, 8 * few),
+            ("one thread, an entry each 15 steps", locks, 1, 1, visits),
+            ("eight threads, an entry each 15 steps", locks, 8, 1, 8 * visits),
+        ):
+            seconds = took(code, threads, objects) - took(empty, threads, objects)
+            print(f"{name:40}{all_steps:>12}{seconds:>10.3f}{all_steps / seconds / 1e6:>10.0f}")
+
+
 def assembling():
     print("the assembler: a label on each fourth statement, which a branch goes back to")
     print(f"{'statements':24}{'labels':>12}{'seconds':>10}{'lines/s':>12}")
@@ -132,4 +168,5 @@ def assembling():
 
 
 speeds()
+recording()
 assembling()

@@ -5,13 +5,14 @@ ghost use Rattle.ir_flat.specs.Flat.{Flat, IsFlat, start_flat, thread_of, cell_o
 ghost use Rattle.ir_flat.specs.Run.{Can, after};
 ghost use Rattle.ir_flat.specs.Next.{next, MayStep};
 ghost use Rattle.ir_image.specs.Guest.{object_count};
+ghost use Rattle.ir_thread.specs.Calls.{ask_of, Permits};
 ghost use Rattle.std.specs.Prelude.{◌≡◌, ◌<◌, ◌≤◌, ◌↔◌, length, IfOk, OnOk, OnErr, IsTrue};
 
 use crate::parts::Parts;
 use crate::start;
 use ir_image::{Code, Image};
 use ir_object::Object;
-use ir_thread::Thread;
+use ir_thread::{Ask, Thread};
 use std::alloc::{AllocError, Global};
 use std::marker::Model;
 
@@ -107,6 +108,43 @@ impl Flat {
         self.parts.run(t, limit)
     }
 
+    /// What thread t asks for at its next step.
+    pub fn ask(&self, t: usize) -> Ask
+        requires { t < length self.now.threads }
+        ensures value { result ≡ ask_of self.now.code (thread_of self.now t) }
+        ensures permits { Permits (thread_of self.now t) result }
+        ensures within { IsFlat self.now }
+    {
+        self.parts.ask(t)
+    }
+
+    /// Thread t takes its next step, for which it asks so. r is the result of a call of the
+    /// environment, and is looked at in no other step.
+    ///
+    /// # Errors
+    /// There is no such step; nothing changes.
+    pub fn take(&mut self, t: usize, asked: Ask, r: u32) -> Result<(), NotAdmitted>
+        requires thread { t < length self.old.threads }
+        requires asked { asked ≡ ask_of self.old.code (thread_of self.old t) }
+
+        // There is the step, and it is the one that is taken.
+        ensures admitted { OnOk result (Can (machine self.old) (tables self.old) (t, r)) }
+        ensures taken { OnOk result (tables self.new ≡ after (machine self.old) (tables self.old) (t, r)) }
+        ensures code { self.new.code ≡ self.old.code }
+        ensures threads { length self.new.threads ≡ length self.old.threads }
+        ensures objects { length self.new.objects ≡ length self.old.objects }
+
+        // There is none, and nothing changes.
+        ensures refused { OnErr result (Can (machine self.old) (tables self.old) (t, r) → ⊥) }
+        ensures unchanged { OnErr result (self.new ≡ self.old) }
+    {
+        if !self.parts.may(t, r, asked) {
+            return Err(NotAdmitted);
+        }
+        self.parts.step(t, r, asked);
+        Ok(())
+    }
+
     /// Thread t takes its next step. r is the result of a call of the environment, and is looked at
     /// in no other step.
     ///
@@ -126,11 +164,7 @@ impl Flat {
         ensures refused { OnErr result (Can (machine self.old) (tables self.old) (t, r) → ⊥) }
         ensures unchanged { OnErr result (self.new ≡ self.old) }
     {
-        let asked = self.parts.ask(t);
-        if !self.parts.may(t, r, asked) {
-            return Err(NotAdmitted);
-        }
-        self.parts.step(t, r, asked);
-        Ok(())
+        let asked = self.ask(t);
+        self.take(t, asked, r)
     }
 }

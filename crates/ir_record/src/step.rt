@@ -26,7 +26,7 @@ impl Tape {
         ensures permits { Permits (thread_of self.now.flat t) result }
         ensures flat { IsFlat self.now.flat }
     {
-        self.flat.threads()[t].ask(self.flat.code())
+        self.flat.ask(t)
     }
 
     // Thread t takes the call of the environment that it asks, with this answer.
@@ -40,7 +40,7 @@ impl Tape {
             → TookIf true (t ∷ []) (progress self.old answers) (progress self.new more) }
         ensures tape { IsTape self.new.flat self.new.logs.items }
     {
-        let _ = self.flat.step(t, value);
+        let _ = self.flat.take(t, Ask::Env(kind), value);
         self.logs[t].push(Event::Answer(kind, value));
     }
 
@@ -75,7 +75,7 @@ impl Tape {
         ensures tape { IsTape self.new.flat self.new.logs.items }
     {
         let event = self.entry(object, access);
-        if self.flat.step(t, 0).is_err() {
+        if self.flat.take(t, Ask::Enter(object, access), 0).is_err() {
             return false;
         }
         self.logs[t].push(event);
@@ -83,16 +83,17 @@ impl Tape {
     }
 
     // Thread t takes the step that it asks, which nothing is logged of; one that is done has none.
-    pub fn go(&mut self, t: usize) -> bool
+    pub fn go(&mut self, t: usize, asked: Ask) -> bool
         requires tape { IsTape self.old.flat self.old.logs.items }
         requires flat { IsFlat self.old.flat }
         requires thread { t < length self.old.flat.threads }
-        requires quiet { IsQuiet (ask_of self.old.flat.code (thread_of self.old.flat t)) }
+        requires asked { ask_of self.old.flat.code (thread_of self.old.flat t) ≡ asked }
+        requires quiet { IsQuiet asked }
         ensures took { (answers : List (List Answered))
             → TookIf result (t ∷ []) (progress self.old answers) (progress self.new answers) }
         ensures tape { IsTape self.new.flat self.new.logs.items }
     {
-        self.flat.step(t, 0).is_ok()
+        self.flat.take(t, asked, 0).is_ok()
     }
 
     // Thread t takes private steps, at most so many, and how many they are.

@@ -42,14 +42,15 @@ impl<W: World> Recorder<W> {
         ensures failed { IfErr result (λ f. IsFirstFailed (map W.broken self.new.worlds.items) f.thread) }
         ensures kept { Extends (map W.answers self.old.worlds.items) (map W.answers self.new.worlds.items) }
     {
-        match self.tape.ask(t) {
+        let asked = self.tape.ask(t);
+        match asked {
             Ask::Env(kind) => {
                 let value = answer_to(&mut self.worlds, t, kind)?;
                 self.tape.answer(t, kind, value);
                 Ok(true)
             }
             Ask::Enter(object, access) => Ok(self.tape.enter(t, object, access)),
-            _ => Ok(self.tape.go(t)),
+            _ => Ok(self.tape.go(t, asked)),
         }
     }
 }
