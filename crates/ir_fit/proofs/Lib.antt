@@ -15,3 +15,8 @@ pub mod Judge
 pub mod OneResult
 pub mod Onward
 pub mod Guests
+pub mod Writes
+pub mod Causes
+pub mod Tables
+pub mod Logs
+pub mod Breaks

@@ -4,3 +4,6 @@ pub mod Coherent
 pub mod Alike
 pub mod Verdicts
 pub mod Laws
+pub mod Numbers
+pub mod Breaking
+pub mod Counting
