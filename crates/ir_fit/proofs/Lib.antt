@@ -17,3 +17,8 @@ pub mod Onward
 pub mod Guests
 pub mod Settled
 pub mod Fitting
+pub mod Writes
+pub mod Causes
+pub mod Tables
+pub mod Logs
+pub mod Breaks

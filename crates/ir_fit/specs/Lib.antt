@@ -6,3 +6,6 @@ pub mod Verdicts
 pub mod Laws
 pub mod Standing
 pub mod Fit
+pub mod Numbers
+pub mod Breaking
+pub mod Counting

@@ -19,3 +19,34 @@ pub enum Cause {
     /// A write entry that names another number of readers than the trace has read entries of its object at its version.
     Readers,
 }
+
+impl HeaderCause {
+    ghost use Rattle.std.specs.Prelude.{◌≡◌};
+    ghost use Rattle.ir_fit.specs.Numbers.{header_cause_number};
+
+    /// The cause's number, from 1 in the order above.
+    pub fn number(self) -> u8
+        ensures { result ≡ header_cause_number self }
+    {
+        match self {
+            HeaderCause::Threads => 1,
+            HeaderCause::Objects => 2,
+        }
+    }
+}
+
+impl Cause {
+    ghost use Rattle.std.specs.Prelude.{◌≡◌};
+    ghost use Rattle.ir_fit.specs.Numbers.{cause_number};
+
+    /// The cause's number, from 1 in the order above.
+    pub fn number(self) -> u8
+        ensures { result ≡ cause_number self }
+    {
+        match self {
+            Cause::Unmade => 1,
+            Cause::Twice => 2,
+            Cause::Readers => 3,
+        }
+    }
+}

@@ -3,11 +3,20 @@
 #![tactic(auto)]
 
 mod cause;
+mod coherence;
+mod coherence_laws;
+mod counting;
+mod entry_counts;
 mod fit_err;
 mod laws;
+#[cfg(test)]
+mod tests;
 mod verdict;
+mod version_counts;
 
 pub use cause::{Cause, HeaderCause};
+pub use coherence::coherent;
+pub use coherence_laws::{coherent_unbroken, one_cause, unbroken_coherent};
 pub use fit_err::FitErr;
 pub use laws::{
     complete_fits, cuts_are_runs, fits_exactly, maximal_exists, one_step_each, one_verdict,

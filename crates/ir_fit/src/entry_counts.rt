@@ -1,0 +1,116 @@
+//! How many entries of each object there are at each version.
+
+ghost use Rattle.std.specs.Prelude.{◌≡◌, [], ◌∷◌, length, vec_len, OnOk, IfOk};
+ghost use Rattle.ir_log.specs.Logging.{mark_of};
+ghost use Rattle.ir_trace.specs.Recorded.{IsEvent};
+ghost use Rattle.ir_fit.specs.Counting.{reads_of, writes_of, CountsNone, CountsMore, HasRoom, nobody_made, cause_by};
+
+use crate::cause::Cause;
+use crate::version_counts::VersionCounts;
+use ir_log::Event;
+use std::alloc::{AllocError, Global};
+
+/// The entries of one object.
+#[derive(Drop)]
+pub struct ObjectCounts {
+    pub reads: VersionCounts,
+    pub writes: VersionCounts,
+}
+
+/// The entries of each object.
+#[derive(Drop)]
+pub struct EntryCounts {
+    pub objects: Vec<ObjectCounts>,
+}
+
+impl EntryCounts {
+    /// No entry of any object; for each object the number of versions that have a place of their own.
+    ///
+    /// # Errors
+    /// Want of memory.
+    pub fn new(alloc: Global, limits: &[usize]) -> Result<EntryCounts, AllocError>
+        ensures { IfOk result (CountsNone (length limits.now)) }
+    {
+        let mut objects = Vec::with_capacity(alloc, limits.len())?;
+        for limit in limits {
+            let reads = VersionCounts::new(alloc, *limit)?;
+            let writes = VersionCounts::new(alloc, *limit)?;
+            objects.push(ObjectCounts { reads, writes })?;
+        }
+        Ok(EntryCounts { objects })
+    }
+
+    /// How many read entries of the object there are at the version.
+    pub fn reads(&self, object: u8, version: u32) -> u32
+        ensures { result ≡ reads_of self.now object version }
+    {
+        match self.objects.get(object as usize) {
+            Some(counts) => counts.reads.get(version),
+            None => 0,
+        }
+    }
+
+    /// How many write entries of the object there are at the version.
+    pub fn writes(&self, object: u8, version: u32) -> u32
+        ensures { result ≡ writes_of self.now object version }
+    {
+        match self.objects.get(object as usize) {
+            Some(counts) => counts.writes.get(version),
+            None => 0,
+        }
+    }
+
+    /// Counts one more event.
+    ///
+    /// # Errors
+    /// Want of memory.
+    pub fn add(&mut self, event: Event) -> Result<(), AllocError>
+        requires object { IsEvent (vec_len self.old.objects) event }
+        requires room { HasRoom self.old 1 }
+        ensures { OnOk result (CountsMore self.old self.new (mark_of event ∷ [])) }
+    {
+        match event {
+            Event::Answer(..) => Ok(()),
+            Event::Read { object, version } => self.objects[object as usize].reads.add(version),
+            Event::Write {
+                object,
+                version,
+                ..
+            } => self.objects[object as usize].writes.add(version),
+        }
+    }
+
+    // Whether an entry at the version is of a version that no write entry made.
+    fn is_unmade(&self, object: u8, version: u32) -> bool
+        ensures { result ≡ nobody_made (writes_of self.now) object version }
+    {
+        version > 0 && self.writes(object, version - 1) == 0
+    }
+
+    /// The first cause for which an event breaks coherence, where the entries of its trace are counted here.
+    pub fn cause_of(&self, event: Event) -> Option<Cause>
+        ensures { result ≡ cause_by (reads_of self.now) (writes_of self.now) (mark_of event) }
+    {
+        match event {
+            Event::Answer(..) => None,
+            Event::Read { object, version } => {
+                self.is_unmade(object, version).then_some(Cause::Unmade)
+            }
+            Event::Write {
+                object,
+                version,
+                readers,
+            } => {
+                if self.is_unmade(object, version) {
+                    Some(Cause::Unmade)
+                } else if self.writes(object, version) > 1 {
+                    Some(Cause::Twice)
+                } else if self.reads(object, version) != readers {
+                    Some(Cause::Readers)
+                } else {
+                    None
+                }
+            }
+        }
+    }
+}
