@@ -1,20 +1,20 @@
 -- What follows from where the threads stand at the end of a run.
-use Rattle.std.proofs.Common.{◌≡◌, ◌≢◌, ℕ, suc, zero, ◌<◌, ◌≤◌, List, [], ◌∷◌, ◌++◌, refl, sym, ap, ◌∙◌, subst, inl, inr}
+use Rattle.std.proofs.Common.{◌≡◌, ◌≢◌, ℕ, suc, zero, ◌<◌, List, [], ◌∷◌, refl, inl, inr}
 use Rattle.std.proofs.lemmas.Bool.{cases_lt}
-use Rattle.ir_thread.specs.Machine.{Ask, Private, Env, Enter, Try, Leave, Get, Put, Done, act_of, Machine, IsLawful, IsClosing}
+use Rattle.ir_thread.specs.Machine.{Ask, Private, Env, Enter, Try, Leave, Get, Put, Done, act_of, Machine, IsLawful}
 use Rattle.ir_thread.specs.Marks.{Mark, Quiet, Answer, In, Refused, Out, logged, Trace}
 use Rattle.ir_thread.specs.declared.ask.Access.TheVariants.{Reading, Writing}
 use Rattle.ir_object.specs.Object.{Object, target, Admits, told}
-use Rattle.ir_flat.specs.Run.{State, Step, asked, Can, end, trail, IsStart, IsIdle, IsDone}
+use Rattle.ir_flat.specs.Run.{State, Step, asked, end, IsStart, IsIdle, IsDone}
 use Rattle.ir_flat.proofs.Good.{Good}
 use Rattle.ir_flat.proofs.Stuck.{run_idle}
 use Rattle.ir_fit.proofs.Ending.{not_done}
-use Rattle.ir_fit.proofs.Judge.{judged, all_same, whole_same}
+use Rattle.ir_fit.proofs.Judge.{judged}
 use Rattle.ir_fit.proofs.OneResult.{Last, last_of, one_step_each}
 use Rattle.ir_fit.specs.Coherent.{IsCoherent}
 use Rattle.ir_fit.specs.Following.{unlogged, Follows, IsMaximal, closing}
 use Rattle.ir_fit.specs.Standing.{GoesOn, AgreesNow, StandsAs}
-use Rattle.ir_fit.specs.Verdicts.{Suits, Judged, IsVerdict, HoldsEvents, IsLive, IsWhole}
+use Rattle.ir_fit.specs.Verdicts.{Suits, IsVerdict, HoldsEvents}
 use Rattle.ir_fit.specs.declared.verdict.ThreadVerdict.{ThreadVerdict}
 use Rattle.ir_fit.specs.declared.verdict.ThreadVerdict.TheVariants.{Same, Disagrees, Starves}
 

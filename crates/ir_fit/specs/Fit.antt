@@ -1,13 +1,22 @@
 -- Whether a recorded trace is that of a run of a guest's.
-use Rattle.std.specs.Prelude.{◌≡◌, ◌≢◌, ℕ, ◌<◌, List, length, slice_get, Some, ⊤}
+use Rattle.std.specs.Prelude.{◌≡◌, ◌≢◌, ℕ, List, length, slice_get, Some, ⊤}
 use Rattle.ir_image.specs.Guest.{Guest, object_count}
 use Rattle.ir_flat.specs.Flat.{start_flat, tables, machine}
 use Rattle.ir_flat.specs.Run.{Step}
 use Rattle.ir_trace.specs.Recorded.{Recorded}
 use Rattle.ir_trace.specs.Told.{trace_of}
+use Rattle.ir_fit.specs.Breaking.{IsFirstBreak}
+use Rattle.ir_fit.specs.Coherent.{IsCoherent}
 use Rattle.ir_fit.specs.Following.{Follows, IsMaximal, closing}
 use Rattle.ir_fit.specs.Verdicts.{IsVerdict, IsWhole}
+use Rattle.ir_fit.specs.declared.cause.HeaderCause.{HeaderCause}
+use Rattle.ir_fit.specs.declared.cause.HeaderCause.TheVariants.{Threads, Objects}
+use Rattle.ir_fit.specs.declared.fit_err.FitErr.{FitErr}
+use Rattle.ir_fit.specs.declared.fit_err.FitErr.TheVariants.{NoMem, Refused}
 use Rattle.ir_fit.specs.declared.verdict.ThreadVerdict.{ThreadVerdict}
+use Rattle.ir_fit.specs.declared.verdict.Verdict.{Verdict}
+use Rattle.ir_fit.specs.declared.verdict.Verdict.TheVariants.{Header, Incoherent}
+use Rattle.ir_fit.specs.declared.verdict.Verdict.TheVariants as verdict
 
 -- as many threads and objects as the guest has
 pub record HasHeader (guest : Guest) (r : Recorded) : Type 0 where
@@ -26,3 +35,28 @@ GoesFurthest guest r run = let f = start_flat guest r.budget in Follows (closing
 abbrev pub AreVerdicts : Guest → Recorded → List ThreadVerdict → Type 0
 AreVerdicts guest r vs = let f = start_flat guest r.budget in (length vs ≡ length guest.entries)
     × ((run : List Step) → GoesFurthest guest r run → (t : ℕ) (v : ThreadVerdict) → slice_get vs t ≡ Some v → IsVerdict (machine f) (tables f) (trace_of r) run t v)
+
+-- a guest and what was recorded
+pub record GuestTrace : Type 0 where
+  pub guest : Guest
+  pub recorded : Recorded
+
+-- there is a complete run of the guest with this trace
+abbrev pub HasRun : GuestTrace → Type 0
+HasRun f = (run : List Step) × IsRunOf f.guest f.recorded run
+
+-- the trace has another number of threads than the guest; or as many, and another number of objects
+abbrev pub IsOther : Guest → Recorded → HeaderCause → Type 0
+IsOther guest r Threads = length r.threads ≢ length guest.entries
+IsOther guest r Objects = (length r.threads ≡ length guest.entries) × (r.objects ≢ object_count guest)
+
+-- why no run of the guest has the trace: its header isn't the guest's; or an event can't stand beside the others, the first such; or not all threads of a run that follows it furthest are the same
+abbrev pub IsRefusal : Guest → Recorded → Verdict → Type 0
+IsRefusal guest r (Header c) = IsOther guest r c
+IsRefusal guest r (Incoherent t i c) = HasHeader guest r × IsFirstBreak (length guest.entries) (trace_of r) t i c
+IsRefusal guest r (verdict.Threads vs) = HasHeader guest r × IsCoherent (length guest.entries) (trace_of r) × AreVerdicts guest r vs.items
+
+-- want of memory; or a refusal, and no run of the guest has the trace
+abbrev pub IsRefused : Guest → Recorded → FitErr → Type 0
+IsRefused guest r NoMem = ⊤
+IsRefused guest r (Refused v) = IsRefusal guest r v × ((run : List Step) → IsRunOf guest r run → ⊥)

@@ -8,6 +8,8 @@ mod coherence_laws;
 mod counting;
 mod entry_counts;
 mod fit_err;
+mod fitted;
+mod header;
 mod laws;
 #[cfg(test)]
 mod tests;
@@ -18,6 +20,7 @@ pub use cause::{Cause, HeaderCause};
 pub use coherence::coherent;
 pub use coherence_laws::{coherent_unbroken, one_cause, unbroken_coherent};
 pub use fit_err::FitErr;
+pub use fitted::Fitted;
 pub use laws::{
     complete_fits, cuts_are_runs, fits_exactly, maximal_exists, one_step_each, one_verdict,
     own_trace_coherent, trace_determines,
