@@ -15,3 +15,5 @@ pub mod Judge
 pub mod OneResult
 pub mod Onward
 pub mod Guests
+pub mod Seen
+pub mod Moves

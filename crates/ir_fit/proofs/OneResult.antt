@@ -40,11 +40,11 @@ one_act m (Put o i w) r b es can h = refl
 one_act m Done r b es can h = refl
 
 -- what a thread's last step met
-fits_last : {T : Type 0} (E : Check T) (n : ℕ) (es : List Mark) (xs : List (T × Mark)) (y : T × Mark) → Fits E n es (xs ++ y ∷ []) → (0 < left_steps xs n) × (logged y.1 (unlogged y.1 (left_log xs es)) ≡ left_log xs es) × E y.0 (left_steps xs n) (left_log xs es)
+pub fits_last : {T : Type 0} (E : Check T) (n : ℕ) (es : List Mark) (xs : List (T × Mark)) (y : T × Mark) → Fits E n es (xs ++ y ∷ []) → (0 < left_steps xs n) × (logged y.1 (unlogged y.1 (left_log xs es)) ≡ left_log xs es) × E y.0 (left_steps xs n) (left_log xs es)
 fits_last E n es [] y h = (h.0, h.1, h.2)
 fits_last E n es (x ∷ xs) y h = fits_last E (pred n) (unlogged x.1 es) xs y h.3
 
-run_front : {T : Type 0} (m : Machine T) (s : State T) (run more : List Step) → IsRun m s (run ++ more) → IsRun m s run
+pub run_front : {T : Type 0} (m : Machine T) (s : State T) (run more : List Step) → IsRun m s (run ++ more) → IsRun m s run
 run_front m s [] more h = tt
 run_front m s (e ∷ run) more h = (h.0, run_front m (after m s e) run more h.1)
 

@@ -4,3 +4,6 @@ pub mod Coherent
 pub mod Alike
 pub mod Verdicts
 pub mod Laws
+pub mod Standing
+pub mod Ahead
+pub mod Follower
