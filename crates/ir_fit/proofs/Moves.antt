@@ -1,5 +1,5 @@
 -- A guest that goes on along a trace.
-use Rattle.std.proofs.Common.{◌≡◌, ◌≢◌, ℕ, zero, suc, pred, ◌+◌, ◌-◌, ◌<◌, ◌≤◌, List, [], ◌∷◌, ◌++◌, length, map, drop, replicate, refl, sym, ap, ◌∙◌, subst, arith, inl, inr, append-nil, append_assoc, length-append}
+use Rattle.std.proofs.Common.{◌≡◌, ◌≢◌, ℕ, zero, suc, pred, ◌+◌, ◌-◌, ◌<◌, ◌≤◌, List, [], ◌∷◌, ◌++◌, length, map, drop, replicate, Result, Ok, Err, OnOk, OnErr, refl, sym, ap, ◌∙◌, subst, arith, inl, inr, append-nil, append_assoc, length-append}
 use Rattle.std.proofs.Math.Seq.{drop-append_seam}
 use Rattle.ir_image.specs.Guest.{Guest, object_count}
 use Rattle.ir_thread.specs.Calls.{ask_of}
@@ -12,7 +12,7 @@ use Rattle.ir_thread.specs.declared.ask.Ask.TheVariants.{Private, Done}
 use Rattle.ir_object.specs.Object.{target, told, Admits}
 use Rattle.ir_flat.specs.Alone.{WentAlone}
 use Rattle.ir_flat.specs.Flat.{Flat, thread_of, tables, machine as machine_of, start_flat}
-use Rattle.ir_flat.specs.Run.{State, Step, act, asked, after, end, trail, events, log, count}
+use Rattle.ir_flat.specs.Run.{State, Step, act, asked, Can, after, end, trail, events, log, count}
 use Rattle.ir_flat.proofs.Append.{trail_append, end_append}
 use Rattle.ir_flat.proofs.Counted.{tally, really_done}
 use Rattle.ir_flat.proofs.Fresh.{fresh, no_steps, threads_length, cells_length}
@@ -192,6 +192,16 @@ moved_on r f g n move taken code threads objects = record {
   objects = objects;
   fewer = let less = step_fewer r f g n.thread n.result move.below move.follows taken threads in omega (arith, less);
 }
+
+-- a step that was taken
+pub record Taken (r : Recorded) (f g : Flat) : Type 0 where
+  pub goes : GoesOn r f g
+  pub less : all_ahead r g < all_ahead r f
+
+pub taken_by : {X E : Type 0} (result : Result X E) (r : Recorded) (f g : Flat) (n : Move) → IsMove r f n → OnOk result (tables g ≡ after (machine_of f) (tables f) (n.thread, n.result)) → g.code ≡ f.code → length g.threads ≡ length f.threads → length g.objects ≡ length f.objects
+    → OnErr result (Can (machine_of f) (tables f) (n.thread, n.result) → ⊥) → Taken r f g
+taken_by (Ok x) r f g n move taken code threads objects never = record { goes = moved_on r f g n move taken code threads objects; less = step_fewer r f g n.thread n.result move.below move.follows taken threads }
+taken_by (Err x) r f g n move taken code threads objects never = absurd (never move.follows.0)
 
 pub stays : (r : Recorded) (f : Flat) → GoesOn r f f
 stays r f = record { follows = λ guest k. k; threads = refl; objects = refl; fewer = omega arith }

@@ -1,6 +1,6 @@
 -- What is seen of a thread's next step, by what the thread asks.
-use Rattle.std.proofs.Common.{◌≡◌, ◌≢◌, ℕ, zero, suc, ◌+◌, ◌<◌, ◌≤◌, ◌^◌, true, Bool, List, [], ◌∷◌, length, map, drop, Option, Some, None, refl, sym, ap, ◌∙◌, subst, arith, inl, inr}
-use Rattle.std.specs.Prelude.{slice_get, nat_lt, ◌||◌, ◌==◌}
+use Rattle.std.proofs.Common.{◌≡◌, ◌≢◌, ℕ, zero, suc, ◌+◌, ◌<◌, ◌≤◌, ◌^◌, true, false, Bool, List, [], ◌∷◌, length, map, drop, Option, Some, None, refl, sym, ap, ◌∙◌, subst, arith, inl, inr}
+use Rattle.std.specs.Prelude.{◌↔◌, IsTrue, slice_get, nat_lt, ◌||◌, ◌==◌}
 use Rattle.std.specs.List.{AllByRecursion}
 use Rattle.std.proofs.lemmas.Bool.Decides.{nat_tests}
 use Rattle.ir_thread.specs.Calls.{ask_of, after_ask, after_reply, Permits}
@@ -184,15 +184,15 @@ call_follows r f t v kind j fits is steps next suits =
 open_entry : (f : Flat) (t v o : ℕ) (a : Access) (e : Event) (es rest : List Mark) → es ≡ mark_of e ∷ rest → Suits (Enter o a) e → IsOpen (cell_of f o) e → (Admitted a (cell_of f o).fields) × (logged (tells f (Enter o a) v) (unlogged (tells f (Enter o a) v) es) ≡ es)
 open_entry f t v o a (Answer k w) es rest is suits h = absurd h
 open_entry f t v o a (Read p w) es rest is suits h =
-    let object : ◌≡◌ {A = ℕ} p o = cc suits in
+    let object : ◌≡◌ {A = ℕ} o p = sym (let e : ◌≡◌ {A = ℕ} p o = cc suits in e) in
     let access : ◌≡◌ {A = Access} Reading a = cc suits in
     subst (λ z. (Admitted z (cell_of f o).fields) × (logged (tells f (Enter o z) v) (unlogged (tells f (Enter o z) v) es) ≡ es)) access
-    (h.1, ap (λ z. marks.In o Reading (cell_of f o).fields.version 0 ∷ unlogged (marks.In o Reading (cell_of f o).fields.version 0) z) is ∙ (λ i. marks.In (object (~ i)) Reading (h.0 i) 0 ∷ rest) ∙ sym is)
+    (h.1, ap (λ z. marks.In o Reading (cell_of f o).fields.version 0 ∷ unlogged (marks.In o Reading (cell_of f o).fields.version 0) z) is ∙ (λ i. marks.In (object i) Reading (h.0 i) 0 ∷ rest) ∙ sym is)
 open_entry f t v o a (Write p w l) es rest is suits h =
-    let object : ◌≡◌ {A = ℕ} p o = cc suits in
+    let object : ◌≡◌ {A = ℕ} o p = sym (let e : ◌≡◌ {A = ℕ} p o = cc suits in e) in
     let access : ◌≡◌ {A = Access} Writing a = cc suits in
     subst (λ z. (Admitted z (cell_of f o).fields) × (logged (tells f (Enter o z) v) (unlogged (tells f (Enter o z) v) es) ≡ es)) access
-    (h.2, ap (λ z. marks.In o Writing (cell_of f o).fields.version (cell_of f o).fields.left ∷ unlogged (marks.In o Writing (cell_of f o).fields.version (cell_of f o).fields.left) z) is ∙ (λ i. marks.In (object (~ i)) Writing (h.0 i) (h.1 i) ∷ rest) ∙ sym is)
+    (h.2, ap (λ z. marks.In o Writing (cell_of f o).fields.version (cell_of f o).fields.left ∷ unlogged (marks.In o Writing (cell_of f o).fields.version (cell_of f o).fields.left) z) is ∙ (λ i. marks.In (object i) Writing (h.0 i) (h.1 i) ∷ rest) ∙ sym is)
 
 entry_open : (f : Flat) (t v o : ℕ) (a : Access) (e : Event) (es rest : List Mark) → es ≡ mark_of e ∷ rest → Suits (Enter o a) e → Admitted a (cell_of f o).fields → logged (tells f (Enter o a) v) (unlogged (tells f (Enter o a) v) es) ≡ es → IsOpen (cell_of f o) e
 entry_open f t v o a (Answer k w) es rest is suits can h = absurd (cc suits)
@@ -206,6 +206,17 @@ entry_open f t v o a (Write p w l) es rest is suits can h =
     let tells_write : marks.In o Writing (cell_of f o).fields.version (cell_of f o).fields.left ∷ unlogged (marks.In o Writing (cell_of f o).fields.version (cell_of f o).fields.left) es ≡ es = subst (λ z. logged (tells f (Enter o z) v) (unlogged (tells f (Enter o z) v) es) ≡ es) access h in
     let both = tells_write ∙ is in
     ((let e : ◌≡◌ {A = ℕ} (cell_of f o).fields.version w = cc both in e), (let e : ◌≡◌ {A = ℕ} (cell_of f o).fields.left l = cc both in e), subst (λ z. Admitted z (cell_of f o).fields) access can)
+
+-- what isn't so where its test says no
+pub test_false : (b : Bool) (P : Type 0) → IsTrue b ↔ P → b ≡ false → P → ⊥
+test_false b P test is h = let so : IsTrue b = test.1 h in cc (is, so)
+
+-- what the test of an object says
+pub found_open : (b : Bool) (found c : Cell) (e : Event) → found ≡ c → IsTrue b ↔ IsOpen found e → b ≡ true → IsOpen c e
+found_open b found c e same test is = subst (λ z. IsOpen z e) same (test.0 is)
+
+pub found_shut : (b : Bool) (found c : Cell) (e : Event) → found ≡ c → IsTrue b ↔ IsOpen found e → b ≡ false → IsOpen c e → ⊥
+found_shut b found c e same test is h = test_false b (IsOpen found e) test is (subst (λ z. IsOpen z e) (sym same) h)
 
 pub entry_follows : (r : Recorded) (f : Flat) (t o : ℕ) (a : Access) (e : Event) → IsFlat f → t < length f.threads → ask_of f.code (thread_of f t) ≡ Enter o a → 0 < steps_ahead r f t
     → slice_get (recorded_thread r t).events (thread_of f t).events ≡ Some e → Suits (Enter o a) e → IsOpen (cell_of f o) e → CanFollow r f t 0
@@ -235,6 +246,15 @@ entry_agrees r f t o a e is steps next suits = agrees_by r f t (Enter o a) is (r
 })
 
 -- ---- disagreements
+
+pub asks_env : (q : Ask) (kind : EnvKind) → q ≡ Env kind → q ≢ Done
+asks_env q kind is done = cc (is, done)
+
+pub asks_entry : (q : Ask) (o : ℕ) (a : Access) → q ≡ Enter o a → q ≢ Done
+asks_entry q o a is done = cc (is, done)
+
+pub asks_end : (q : Ask) (e : end.End) → q ≡ End e → q ≢ Done
+asks_end q e is done = cc (is, done)
 
 pub call_disagrees : (r : Recorded) (f : Flat) (t : ℕ) (kind : EnvKind) → ask_of f.code (thread_of f t) ≡ Env kind
     → ((e : Event) → slice_get (recorded_thread r t).events (thread_of f t).events ≡ Some e → Suits (Env kind) e → ⊥) → AgreesAhead r f t → ⊥

@@ -1,13 +1,14 @@
 //! A guest that follows a trace.
 
 ghost use Rattle.std.specs.Prelude.{◌≡◌, ◌<◌, length};
-ghost use Rattle.ir_flat.specs.Flat.{thread_of, IsFlat};
+ghost use Rattle.ir_flat.specs.Flat.{thread_of, cell_of, IsFlat};
 ghost use Rattle.ir_trace.specs.Recorded.{IsRecordedThread};
 ghost use Rattle.ir_trace.specs.Told.{recorded_thread};
 ghost use Rattle.ir_fit.specs.Ahead.{steps_ahead};
 
 use crate::readiness::Readiness;
 use ir_flat::Flat;
+use ir_object::Object;
 use ir_thread::Thread;
 use ir_trace::{ThreadTrace, Trace};
 
@@ -26,6 +27,13 @@ impl Follower {
         ensures flat { IsFlat self.now.flat }
     {
         &self.flat.threads()[t]
+    }
+
+    pub fn object(&self, o: u8) -> &Object
+        requires { o < length self.now.flat.objects }
+        ensures { result.now ≡ cell_of self.now.flat o }
+    {
+        &self.flat.objects()[o as usize]
     }
 
     // What the trace tells of thread t.

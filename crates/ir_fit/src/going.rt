@@ -22,9 +22,9 @@ fn readiness(look: Look) -> Readiness {
 fn wake(ready: &mut Vec<Readiness>, object: u8)
     ensures { length ready.new.items ≡ length ready.old.items }
 {
-    for place in ready {
-        if *place == Readiness::Waits(object) {
-            *place = Readiness::Ready;
+    for t in 0..ready.len() {
+        if ready[t] == Readiness::Waits(object) {
+            ready[t] = Readiness::Ready;
         }
     }
 }

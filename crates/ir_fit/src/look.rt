@@ -4,9 +4,10 @@ ghost use Rattle.std.specs.Prelude.{◌≡◌, ◌<◌, ◌≤◌, ◌↔◌, le
 ghost use Rattle.ir_thread.specs.Calls.{ask_of};
 ghost use Rattle.ir_thread.specs.Held.{held_count};
 ghost use Rattle.ir_thread.specs.declared.ask.Ask.TheVariants as ask;
-ghost use Rattle.ir_flat.specs.Flat.{thread_of};
+ghost use Rattle.ir_flat.specs.Flat.{thread_of, IsFlat};
 ghost use Rattle.ir_log.specs.Logging.{Suits};
 ghost use Rattle.ir_log.specs.declared.event.Event.{Event};
+ghost use Rattle.ir_trace.specs.Recorded.{IsRecordedThread};
 ghost use Rattle.ir_trace.specs.Told.{recorded_thread};
 ghost use Rattle.ir_fit.specs.Ahead.{steps_ahead, IsOpen, EndsSo, IsOwn, IsSeen};
 
@@ -39,7 +40,8 @@ pub enum Look {
 // How many objects are held.
 fn held_count(held: &[Option<Access>]) -> u64
     requires { length held.now ≤ 16 }
-    ensures { result ≡ held_count held.now }
+    ensures value { result ≡ held_count held.now }
+    ensures within { result ≤ 16 }
 {
     let mut count = 0;
     for place in held {
@@ -73,6 +75,8 @@ impl Follower {
         requires told { t < length self.now.trace.threads }
         ensures next { IfOk result (λ event. slice_get (recorded_thread self.now.trace t).events (thread_of self.now.flat t).events ≡ Some event) }
         ensures suits { IfOk result (λ event. Suits asked event) }
+        ensures flat { IsFlat self.now.flat }
+        ensures within { IsRecordedThread self.now.trace.objects (recorded_thread self.now.trace t) }
         ensures disagrees { OnErr result ((event : Event) → slice_get (recorded_thread self.now.trace t).events (thread_of self.now.flat t).events ≡ Some event → Suits asked event → ⊥) }
     {
         let place = self.thread(t).events();
@@ -94,7 +98,8 @@ impl Follower {
                 asked,
                 result,
             }),
-            _ => Look::Disagrees,
+            Ok(_) => Look::Disagrees,
+            Err(_) => Look::Disagrees,
         }
     }
 
@@ -109,14 +114,17 @@ impl Follower {
         let asked = Ask::Enter(object, access);
         match self.next_event(t, asked) {
             Err(_) => Look::Disagrees,
-            Ok(event) if is_open(&self.flat.objects()[object as usize], event) => Look::Goes(
-                Move {
-                    thread: t,
-                    asked,
-                    result: 0,
-                },
-            ),
-            Ok(_) => Look::Waits(object),
+            Ok(event) => {
+                if is_open(self.object(object), event) {
+                    Look::Goes(Move {
+                        thread: t,
+                        asked,
+                        result: 0,
+                    })
+                } else {
+                    Look::Waits(object)
+                }
+            }
         }
     }
 
