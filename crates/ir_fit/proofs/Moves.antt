@@ -214,6 +214,30 @@ goes_both r f g h p q = record {
   fewer = let a = p.fewer in let b = q.fewer in omega (arith, a, b);
 }
 
+-- going on by private steps
+pub went_further : (r q : Recorded) (f g h : Flat) (t n left : ℕ) → q ≡ r → GoesOn r f g → WentAlone g h t n → n ≤ left → left ≡ steps_ahead q g t → GoesOn r f h
+went_further r q f g h t n left same goes w le is = goes_both r f g h goes (subst (λ z. GoesOn z g h) same (went_on q g h t n w (omega (arith, le, is))))
+
+-- and by a further step
+pub moved_further : (r q : Recorded) (f g h i : Flat) (t n left : ℕ) → q ≡ r → GoesOn r f g → WentAlone g h t n → n ≤ left → left ≡ steps_ahead q g t → GoesOn q h i → GoesOn r f i
+moved_further r q f g h i t n left same goes w le is move = goes_both r f h i (went_further r q f g h t n left same goes w le is) (subst (λ z. GoesOn z h i) same move)
+
+-- which leaves fewer
+pub moved_less : (r q : Recorded) (f g h : Flat) (t n : ℕ) → WentAlone f g t n → all_ahead q h < all_ahead r g → all_ahead q h < all_ahead r f
+moved_less r q f g h t n w less = let same = went_fewer r f g t n w in omega (arith, same, less)
+
+-- a step after a look, and what comes behind it
+pub chained : (r q p : Recorded) (f g g' h i : Flat) → GoesOn r f g → g' ≡ g → q ≡ r → GoesOn q g' h → p ≡ q → GoesOn p h i → GoesOn r f i
+chained r q p f g g' h i goes same trace step after_it then =
+    goes_both r f h i (goes_both r f g h goes (subst (λ z. GoesOn r z h) same (subst (λ z. GoesOn z g' h) trace step))) (subst (λ z. GoesOn z h i) (after_it ∙ trace) then)
+
+pub chained_less : (r q p o : Recorded) (g g' h i : Flat) → g' ≡ g → q ≡ r → all_ahead p h < all_ahead q g' → GoesOn p h i → o ≡ p → all_ahead o i < all_ahead r g
+chained_less r q p o g g' h i same trace less then last =
+    let fewer = then.fewer in
+    let there_left : all_ahead q g' ≡ all_ahead r g = ap (λ z. all_ahead z g') trace ∙ ap (all_ahead r) same in
+    let here_left : all_ahead o i ≡ all_ahead p i = ap (λ z. all_ahead z i) last in
+    omega (arith, less, fewer, there_left, here_left)
+
 -- ---- where threads stand
 
 -- what the last step of a run met

@@ -1,5 +1,5 @@
 -- What is seen of a thread's next step, by what the thread asks.
-use Rattle.std.proofs.Common.{◌≡◌, ◌≢◌, ℕ, zero, suc, ◌+◌, ◌<◌, ◌≤◌, ◌^◌, true, false, Bool, List, [], ◌∷◌, length, map, drop, Option, Some, None, refl, sym, ap, ◌∙◌, subst, arith, inl, inr}
+use Rattle.std.proofs.Common.{◌≡◌, ◌≢◌, ℕ, zero, suc, ◌+◌, ◌<◌, ◌≤◌, ◌^◌, true, false, Bool, List, [], ◌∷◌, length, map, drop, Option, Some, None, refl, sym, ap, ◌∙◌, subst, arith, inl, inr, ◌⊎◌}
 use Rattle.std.specs.Prelude.{◌↔◌, IsTrue, slice_get, nat_lt, ◌||◌, ◌==◌}
 use Rattle.std.specs.List.{AllByRecursion}
 use Rattle.std.proofs.lemmas.Bool.Decides.{nat_tests}
@@ -32,7 +32,10 @@ use Rattle.ir_log.specs.declared.event.Event.{Event}
 use Rattle.ir_log.specs.declared.event.Event.TheVariants.{Answer, Read, Write}
 use Rattle.ir_trace.specs.Recorded.{Recorded, RecordedThread, IsResult, IsEvent, IsRecordedThread}
 use Rattle.ir_trace.specs.Told.{recorded_thread, trace_of}
-use Rattle.ir_fit.specs.Ahead.{steps_ahead, log_ahead, CanFollow, IsStopped, AgreesAhead, IsOpen, IsOwn, EndsSo}
+use Rattle.ir_fit.specs.Ahead.{steps_ahead, log_ahead, CanFollow, IsStopped, AgreesAhead, IsOpen, IsOwn, EndsSo, IsSeen}
+use Rattle.ir_fit.specs.declared.look.Look.{Look}
+use Rattle.ir_fit.specs.declared.look.Look.TheVariants as look
+use Rattle.ir_fit.specs.declared.look.Move.{Move}
 use Rattle.ir_fit.specs.Following.{unlogged, ends_at, ends_now, Meets}
 use Rattle.ir_fit.specs.Verdicts as verdicts
 
@@ -323,3 +326,37 @@ own_by r f t n es Done k steps = absurd k
 
 pub own_follows : (r : Recorded) (f : Flat) (t : ℕ) → IsOwn (ask_of f.code (thread_of f t)) → 0 < steps_ahead r f t → CanFollow r f t 0
 own_follows r f t own steps = follows_by r f t 0 (ask_of f.code (thread_of f t)) refl (own_by r f t (steps_ahead r f t) (log_ahead r f t) (ask_of f.code (thread_of f t)) own steps)
+
+-- ---- threads that are stopped
+
+-- what is seen of a thread that is stopped, and neither done nor waiting
+pub seen_other : (r : Recorded) (f : Flat) (t : ℕ) (l : Look) → IsSeen r f t l → IsStopped r f t → (l ≡ look.Disagrees) ⊎ ((m : Move) × (l ≡ look.Goes m)) → (ask_of f.code (thread_of f t) ≢ Done) × (AgreesAhead r f t → ⊥)
+seen_other r f t l seen stopped (inl e) = subst (IsSeen r f t) e seen
+seen_other r f t l seen stopped (inr g) =
+    let goes = subst (IsSeen r f t) g.1 seen in
+    absurd (stopped g.0.result (subst (λ u. CanFollow r f u g.0.result) goes.0 goes.1.follows))
+
+suits_logged : (f : Flat) (v : ℕ) (es : List Mark) (q : Ask) → logged (tells f q v) (unlogged (tells f q v) es) ≡ es → verdicts.Suits (shared_ask q) es
+suits_logged f v es Private h = tt
+suits_logged f v es (Env kind) h = subst (verdicts.Suits (machine.Env kind)) h refl
+suits_logged f v es (Enter o Reading) h = subst (verdicts.Suits (machine.Enter o Reading)) h (refl, refl)
+suits_logged f v es (Enter o Writing) h = subst (verdicts.Suits (machine.Enter o Writing)) h (refl, refl)
+suits_logged f v es (Leave o a) h = tt
+suits_logged f v es (Get o i) h = tt
+suits_logged f v es (Put o i w) h = tt
+suits_logged f v es Print h = tt
+suits_logged f v es (End e) h = tt
+suits_logged f v es Done h = tt
+
+-- what follows agrees
+follows_agrees : (r : Recorded) (f : Flat) (t v : ℕ) → CanFollow r f t v → AgreesAhead r f t
+follows_agrees r f t v h = (h.1, suits_logged f v (log_ahead r f t) (ask_of f.code (thread_of f t)) h.2, h.3)
+
+pub done_stops : (r : Recorded) (f : Flat) (t : ℕ) → ask_of f.code (thread_of f t) ≡ Done → IsStopped r f t
+done_stops r f t is v h = (follows_as r f t v Done is h).can
+
+pub seen_stops : (r : Recorded) (f : Flat) (t : ℕ) (l : Look) → IsSeen r f t l → ((m : Move) → l ≢ look.Goes m) → IsStopped r f t
+seen_stops r f t look.Done seen no_move = done_stops r f t seen
+seen_stops r f t look.Disagrees seen no_move = λ v h. seen.1 (follows_agrees r f t v h)
+seen_stops r f t (look.Waits o) seen no_move = seen.2
+seen_stops r f t (look.Goes m) seen no_move = absurd (no_move m refl)
