@@ -23,7 +23,7 @@ use Rattle.ir_fit.specs.declared.verdict.ThreadVerdict.{ThreadVerdict}
 use Rattle.ir_fit.specs.declared.verdict.ThreadVerdict.TheVariants.{Same, Disagrees, Starves}
 use Rattle.ir_fit.specs.Verdicts.{Suits, Agrees, Awaits, Judged, NoneTakes, IsVerdict, IsEvent, HoldsEvents, IsLive, IsWhole}
 
-is_done : (q : Ask) → (q ≡ Done) ⊎ (q ≢ Done)
+pub is_done : (q : Ask) → (q ≡ Done) ⊎ (q ≢ Done)
 is_done Private = inr (λ h. cc h)
 is_done (Env k) = inr (λ h. cc h)
 is_done (Enter o a) = inr (λ h. cc h)
@@ -104,7 +104,7 @@ pub is_met : (q fin : Option (ℕ × ℕ)) (size n : ℕ) (es : List Mark) → M
 is_met None fin size n es = inl tt
 is_met (Some e) fin size n es = all_three (same_end fin e) (cases_eq n (suc size)) (is_empty es)
 
-agrees : {T : Type 0} (m : Machine T) (fin : Option (ℕ × ℕ)) (x : T) (n : ℕ) (es : List Mark) → Agrees m fin x n es ⊎ (Agrees m fin x n es → ⊥)
+pub agrees : {T : Type 0} (m : Machine T) (fin : Option (ℕ × ℕ)) (x : T) (n : ℕ) (es : List Mark) → Agrees m fin x n es ⊎ (Agrees m fin x n es → ⊥)
 agrees m fin x n es = all_three (positive n) (is_suited (m.ask x) es) (is_met (ends_now m x) fin (m.size x) n es)
   where
     positive : (n : ℕ) → (0 < n) ⊎ ((0 < n) → ⊥)

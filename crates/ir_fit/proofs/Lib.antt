@@ -16,9 +16,11 @@ pub mod OneResult
 pub mod Onward
 pub mod Guests
 pub mod Settled
-pub mod Fitting
+pub mod Furthest
 pub mod Writes
 pub mod Causes
 pub mod Tables
 pub mod Logs
 pub mod Breaks
+pub mod Seen
+pub mod Moves

@@ -44,7 +44,7 @@ pub fits_last : {T : Type 0} (E : Check T) (n : ℕ) (es : List Mark) (xs : List
 fits_last E n es [] y h = (h.0, h.1, h.2)
 fits_last E n es (x ∷ xs) y h = fits_last E (pred n) (unlogged x.1 es) xs y h.3
 
-run_front : {T : Type 0} (m : Machine T) (s : State T) (run more : List Step) → IsRun m s (run ++ more) → IsRun m s run
+pub run_front : {T : Type 0} (m : Machine T) (s : State T) (run more : List Step) → IsRun m s (run ++ more) → IsRun m s run
 run_front m s [] more h = tt
 run_front m s (e ∷ run) more h = (h.0, run_front m (after m s e) run more h.1)
 

@@ -22,16 +22,16 @@ sum_more (suc n) t f g l h k = elim (cases_eq n t) [
   | inr ne ↦ omega (arith, k n ne, sum_more n t f g (omega arith) h k)
 ]
 
+pub sum_le : (n : ℕ) (f g : ℕ → ℕ) → ((u : ℕ) → f u ≤ g u) → sum_below n f ≤ sum_below n g
+sum_le zero f g k = omega arith
+sum_le (suc n) f g k = omega (arith, k n, sum_le n f g k)
+
 pub sum_less : (n t : ℕ) (f g : ℕ → ℕ) → t < n → f t < g t → ((u : ℕ) → f u ≤ g u) → sum_below n f < sum_below n g
 sum_less zero t f g l h k = absurd (omega arith)
 sum_less (suc n) t f g l h k = elim (cases_eq n t) [
   | inl e ↦ omega (arith, ap f e, ap g e, h, sum_le n f g k)
   | inr ne ↦ omega (arith, k n, sum_less n t f g (omega arith) h k)
 ]
-  where
-    sum_le : (n : ℕ) (f g : ℕ → ℕ) → ((u : ℕ) → f u ≤ g u) → sum_below n f ≤ sum_below n g
-    sum_le zero f g k = omega arith
-    sum_le (suc n) f g k = omega (arith, k n, sum_le n f g k)
 
 pub sum_zero : (n : ℕ) (f : ℕ → ℕ) → ((t : ℕ) → t < n → f t ≡ 0) → sum_below n f ≡ 0
 sum_zero zero f h = refl

@@ -9,3 +9,5 @@ pub mod Fit
 pub mod Numbers
 pub mod Breaking
 pub mod Counting
+pub mod Ahead
+pub mod Follower

@@ -5,14 +5,23 @@
 mod cause;
 mod coherence;
 mod coherence_laws;
+#[cfg(test)]
+mod coherence_tests;
 mod counting;
 mod entry_counts;
 mod fit_err;
 mod fitted;
+mod fitting;
+mod followed;
+mod follower;
+#[cfg(test)]
+mod follower_tests;
+mod following;
+mod going;
 mod header;
 mod laws;
-#[cfg(test)]
-mod tests;
+mod look;
+mod readiness;
 mod verdict;
 mod version_counts;
 
@@ -21,6 +30,7 @@ pub use coherence::coherent;
 pub use coherence_laws::{coherent_unbroken, one_cause, unbroken_coherent};
 pub use fit_err::FitErr;
 pub use fitted::Fitted;
+pub use fitting::fit;
 pub use laws::{
     complete_fits, cuts_are_runs, fits_exactly, maximal_exists, one_step_each, one_verdict,
     own_trace_coherent, trace_determines,

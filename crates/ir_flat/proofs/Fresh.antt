@@ -44,6 +44,12 @@ fresh g budget from zero t = record { none = λ o. refl; events = refl }
 fresh g budget from (suc n) zero = record { none = nothing_held (object_count g); events = refl }
 fresh g budget from (suc n) (suc t) = fresh g budget (suc from) n t
 
+-- a thread at the start has taken no step
+pub no_steps : (guest : Guest) (budget from n t : ℕ) → (get_or (start_threads guest budget from n) t idle).steps ≡ 0
+no_steps guest budget from zero t = refl
+no_steps guest budget from (suc n) zero = refl
+no_steps guest budget from (suc n) (suc t) = no_steps guest budget (suc from) n t
+
 -- a place for each object
 pub places_at : (g : Guest) (budget from n t : ℕ) → t < n → length (get_or (start_threads g budget from n) t idle).held ≡ object_count g
 places_at g budget from zero t l = absurd (omega arith)

@@ -183,6 +183,10 @@ next_flat f t r q is flat l may =
     }
 
 -- what is known where the step is taken
+-- the object that is entered is one of the guest's
+pub enter_object : (f : Flat) (t o : ℕ) (a : Access) → IsFlat f → t < length f.threads → ask_of f.code (thread_of f t) ≡ Enter o a → o < length f.objects
+enter_object f t o a flat l is = let p = subst (Permits (thread_of f t)) is (ask_permits f.code (thread_of f t)) in omega (arith, p.2, flat.places t l)
+
 pub enters_fit : (f : Flat) (t : ℕ) (q : Ask) (o : ℕ) (a : Access) → IsFlat f → t < length f.threads → Permits (thread_of f t) q → q ≡ Enter o a → IsFields (entered a (cell_of f o).fields)
 enters_fit f t q o a flat l permits is = let p = subst (Permits (thread_of f t)) is permits in enter_fits f o a flat (omega (arith, p.2, flat.places t l))
 

@@ -7,3 +7,4 @@ pub mod Fresh
 pub mod Runs
 pub mod Alone
 pub mod Append
+pub mod Counted

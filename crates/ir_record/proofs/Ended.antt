@@ -18,7 +18,7 @@ use Rattle.ir_thread.proofs.Asked.{ask_permits}
 use Rattle.ir_object.specs.Object.{Admits, target}
 use Rattle.ir_flat.specs.Flat.{Flat, thread_of, tables, machine, idle, start_flat, start_threads}
 use Rattle.ir_flat.specs.Run.{State, Step, asked, Can, IsRun, end, log, count, IsDone}
-use Rattle.ir_flat.proofs.Fresh.{fresh, threads_length, cells_length}
+use Rattle.ir_flat.proofs.Fresh.{fresh, no_steps, threads_length, cells_length}
 use Rattle.ir_flat.proofs.Runs.{nothing_is_stuck, start_idle}
 use Rattle.ir_flat.proofs.Stuck.{run_idle}
 use Rattle.ir_log.specs.Logged.{Logged}
@@ -30,7 +30,7 @@ use Rattle.ir_record.specs.InOrder.{HasNone, rounds}
 use Rattle.ir_record.specs.Progress.{Progress, Took, IsReady, log_at, answers_at, no_log}
 use Rattle.ir_record.specs.Recording.{IsTraceOf, AreOutputs, AreAnswers, IsRecording}
 use Rattle.ir_record.specs.Worlds.{Answered, NoneFailed}
-use Rattle.ir_record.proofs.Tally.{tally}
+use Rattle.ir_flat.proofs.Counted.{tally, really_done}
 use Rattle.ir_record.proofs.Turns.{turns_run}
 
 -- ---- the start
@@ -57,11 +57,6 @@ start_ready guest budget answers failed size works =
       worlds = size ∙ sym n;
       works = works;
     }
-
-no_steps : (guest : Guest) (budget from n t : ℕ) → (get_or (start_threads guest budget from n) t idle).steps ≡ 0
-no_steps guest budget from zero t = refl
-no_steps guest budget from (suc n) zero = refl
-no_steps guest budget from (suc n) (suc t) = no_steps guest budget (suc from) n t
 
 -- ---- the end
 
@@ -91,17 +86,6 @@ all_done guest budget run ok none t =
       | inr past ↦ subst (λ q. Admits (thread_machine guest.code) (machine.act_of q 0) ((end (thread_machine guest.code) (tables (start_flat guest budget)) run).objects (target (machine.act_of q 0))))
           (run_idle (thread_machine guest.code) (tables (start_flat guest budget)) (length guest.entries) (start_idle guest budget) run ok step.0 past) step.1
     ]
-
-really_done : (q : Ask) → shared_ask q ≡ machine.Done → q ≡ Done
-really_done Private e = absurd (cc e)
-really_done (Env k) e = absurd (cc e)
-really_done (Enter o a) e = absurd (cc e)
-really_done (Leave o a) e = absurd (cc e)
-really_done (Get o i) e = absurd (cc e)
-really_done (Put o i w) e = absurd (cc e)
-really_done Print e = absurd (cc e)
-really_done (End k) e = absurd (cc e)
-really_done Done e = refl
 
 -- a thread that is done has ended
 has_ended : (code : List ℕ) (x : thread.State) → shared_ask (ask_of code x) ≡ machine.Done → x.ended ≢ None

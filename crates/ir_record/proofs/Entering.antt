@@ -53,10 +53,7 @@ enter_none f t o a is never = none_by f t (subst IgnoresResult (sym is) (enter_i
 pub quiet_none : (f : Flat) (t : ℕ) → IsQuiet (ask_of f.code (thread_of f t)) → (Can (machine f) (tables f) (t, 0) → ⊥) → HasNone (machine f) (tables f) t
 quiet_none f t quiet never = none_by f t (quiet_ignores (ask_of f.code (thread_of f t)) quiet) never
 
--- the object that is entered is one of the guest's, and there is room to log the entry
-pub enter_object : (f : Flat) (t o : ℕ) (a : Access) → IsFlat f → t < length f.threads → ask_of f.code (thread_of f t) ≡ Enter o a → o < length f.objects
-enter_object f t o a flat l is = let p = subst (Permits (thread_of f t)) is (ask_permits f.code (thread_of f t)) in omega (arith, p.2, flat.places t l)
-
+-- there is room to log the entry
 pub enter_room : (f : Flat) (t o : ℕ) (a : Access) → ask_of f.code (thread_of f t) ≡ Enter o a → (thread_of f t).events < most_events
 enter_room f t o a is = (subst (Permits (thread_of f t)) is (ask_permits f.code (thread_of f t))).1
 

@@ -18,7 +18,7 @@ use Rattle.ir_log.specs.Logging.{mark_of}
 use Rattle.ir_log.specs.declared.event.Event.{Event}
 use Rattle.ir_trace.specs.Recorded.{IsEvent, IsResult}
 use Rattle.ir_record.specs.Progress.{IsTape, no_log, log_at, marks_at}
-use Rattle.ir_record.proofs.Tally.{moved_thread, now_after}
+use Rattle.ir_flat.proofs.Counted.{moved_thread, now_after}
 
 -- a step that there is, is taken
 pub stepped : {X E : Type 0} (result : Result X E) (P Q : Type 0) → P → OnErr result (P → ⊥) → OnOk result Q → Q

@@ -12,7 +12,8 @@ use Rattle.ir_trace.specs.Recorded.{IsEvent}
 use Rattle.ir_record.specs.InOrder.{InTurn}
 use Rattle.ir_record.specs.Progress.{Took, IsTape, log_at, marks_at, answers_at, all_left}
 use Rattle.ir_record.specs.Worlds.{Answered, answers_in}
-use Rattle.ir_record.proofs.Tally.{Few, alone_less, tally}
+use Rattle.ir_flat.proofs.Counted.{tally}
+use Rattle.ir_record.proofs.Tally.{Few, alone_less}
 
 -- steps of one thread are its turns
 alone_turns : {T : Type 0} (m : Machine T) (t k : ℕ) (s : State T) → IsRun m s (replicate k (t, 0)) → InTurn m s (replicate k t) (replicate k (t, 0))

@@ -1,7 +1,8 @@
 use Rattle.std.proofs.Common.{ap, ◌∙◌, refl, [], ◌∷◌, ◌++◌, set}
+use Rattle.ir_flat.proofs.Keeps.{enter_object}
 use Rattle.ir_log.specs.Logged.{Logged}
 use Rattle.ir_record.proofs.Logs.{has_room, log_found}
-use Rattle.ir_record.proofs.Entering.{Entering, accepted, refused, enter_none, enter_took, enter_tape, enter_object, enter_room, waits_took, waits_tape}
+use Rattle.ir_record.proofs.Entering.{Entering, accepted, refused, enter_none, enter_took, enter_tape, enter_room, waits_took, waits_tape}
 use Rattle.ir_record.proofs.tape.Tape.enter.Goals as goal
 
 pub entry-event-requires : goal.entry-event-requires

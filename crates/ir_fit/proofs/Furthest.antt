@@ -1,5 +1,5 @@
 -- Whether a recorded trace is that of a run of a guest's, by the run that follows it furthest.
-use Rattle.std.proofs.Common.{◌≡◌, ◌≢◌, ℕ, zero, suc, ◌<◌, ◌≤◌, true, List, [], ◌∷◌, length, map, Some, refl, sym, ◌∙◌, subst, arith, inl, inr, get_or}
+use Rattle.std.proofs.Common.{◌≡◌, ◌≢◌, ℕ, zero, suc, ◌<◌, ◌≤◌, true, List, [], ◌∷◌, ◌++◌, ◌⊎◌, length, map, Some, refl, sym, ap, ◌∙◌, subst, arith, inl, inr, get_or}
 use Rattle.std.specs.Prelude.{slice_get}
 use Rattle.std.specs.List.{AllByRecursion}
 use Rattle.std.proofs.lemmas.Bool.{cases_lt}
@@ -10,7 +10,7 @@ use Rattle.ir_thread.specs.Marks.{Mark}
 use Rattle.ir_thread.specs.declared.ask.EnvKind.{EnvKind}
 use Rattle.ir_thread.specs.declared.ask.EnvKind.TheVariants.{Clock, Random, Input}
 use Rattle.ir_thread.proofs.Lawful.{lawful, closing}
-use Rattle.ir_flat.specs.Flat.{start_flat, tables}
+use Rattle.ir_flat.specs.Flat.{Flat, start_flat, tables}
 use Rattle.ir_flat.specs.Run.{Step, log, trace}
 use Rattle.ir_flat.proofs.Good.{start_good}
 use Rattle.ir_flat.proofs.Runs.{start_idle}
@@ -19,21 +19,27 @@ use Rattle.ir_log.specs.declared.event.Event.{Event}
 use Rattle.ir_log.specs.declared.event.Event.TheVariants.{Answer, Read, Write}
 use Rattle.ir_trace.specs.Recorded.{Recorded, RecordedThread, IsRecorded, IsRecordedThread, IsEvent, IsResult}
 use Rattle.ir_trace.specs.Told.{absent, trace_of}
+use Rattle.ir_fit.proofs.Causes.{coherent_unbroken}
 use Rattle.ir_fit.proofs.Confluent.{one_maximal}
 use Rattle.ir_fit.proofs.Ending.{Over, over}
 use Rattle.ir_fit.proofs.Guests.{starts, lives}
 use Rattle.ir_fit.proofs.Judge.{all_same, whole_same, same_verdict}
 use Rattle.ir_fit.proofs.Own.{own_coherent}
 use Rattle.ir_fit.proofs.Settled.{settled, verdict_at, goes_on, all_done}
+use Rattle.ir_fit.specs.Breaking.{BreaksBy, IsFirstBreak}
 use Rattle.ir_fit.specs.Coherent.{IsCoherent}
 use Rattle.ir_fit.specs.Cuts.{At}
-use Rattle.ir_fit.specs.Fit.{HasHeader, IsRunOf, GoesFurthest, AreVerdicts}
+use Rattle.ir_fit.specs.Fit.{HasHeader, IsRunOf, HasRun, GoesFurthest, AreVerdicts, IsRefused}
+use Rattle.ir_fit.specs.Follower.{IsFollower, IsFollowed, AreStanding}
 use Rattle.ir_fit.specs.Following as following
 use Rattle.ir_fit.specs.Standing.{StandsAs}
 use Rattle.ir_fit.specs.Verdicts as verdicts
 use Rattle.ir_fit.specs.Verdicts.{HoldsEvents, IsWhole}
+use Rattle.ir_fit.specs.declared.fit_err.FitErr.{FitErr}
+use Rattle.ir_fit.specs.declared.fit_err.FitErr.TheVariants.{NoMem, Refused}
 use Rattle.ir_fit.specs.declared.verdict.ThreadVerdict.{ThreadVerdict}
 use Rattle.ir_fit.specs.declared.verdict.ThreadVerdict.TheVariants.{Same}
+use Rattle.ir_fit.specs.declared.verdict.Verdict.TheVariants as verdict
 
 -- ---- what a trace within its limits holds
 
@@ -63,6 +69,11 @@ holds_events code r is t i k h = threads_fit code r.objects r.threads is.threads
 
 -- ---- a run that goes furthest
 
+there : (vs : List ThreadVerdict) (t : ℕ) → t < length vs → (v : ThreadVerdict) × (slice_get vs t ≡ Some v)
+there [] t l = absurd (omega (arith, l))
+there (v ∷ vs) zero l = (v, refl)
+there (v ∷ vs) (suc t) l = there vs t (omega (arith, l))
+
 -- the run goes furthest, and what is said of the threads is how they stand at its end
 pub verdicts_of : (g : Guest) (r : Recorded) → IsRecorded r → HasHeader g r → IsCoherent (length g.entries) (trace_of r) → (run : List Step)
     → following.Follows (following.closing (thread_machine g.code) (trace_of r)) (thread_machine g.code) (tables (start_flat g r.budget)) (trace_of r) run → (vs : List ThreadVerdict) → length vs ≡ length g.entries
@@ -76,11 +87,6 @@ verdicts_of g r is header co run f vs each stands =
     let top : following.IsMaximal (following.closing m tr) m s tr run = settled n m s (start_idle g r.budget) tr run f (λ t l. let v = there vs t (subst (λ z. t < z) (sym each) l) in (v.0, stands t v.0 v.1)) in
     ((f, top), (each, λ run' furthest t v at. same_verdict m s tr run run' (one_maximal (following.closing m tr) n m (lawful g.code) tr co s good (starts g r.budget) (start_idle g r.budget) run run' f top furthest.0 furthest.1) t v
     (verdict_at n m (lawful g.code) tr co (holds_events g.code r is) s good (starts g r.budget) (start_idle g r.budget) run f top t v (stands t v at))))
-  where
-    there : (vs : List ThreadVerdict) (t : ℕ) → t < length vs → (v : ThreadVerdict) × (slice_get vs t ≡ Some v)
-    there [] t l = absurd (omega (arith, l))
-    there (v ∷ vs) zero l = (v, refl)
-    there (v ∷ vs) (suc t) l = there vs t (omega (arith, l))
 
 -- where each thread is the same, the run is complete and has the trace
 pub whole_of : (g : Guest) (r : Recorded) → HasHeader g r → (run : List Step) → following.Follows (following.closing (thread_machine g.code) (trace_of r)) (thread_machine g.code) (tables (start_flat g r.budget)) (trace_of r) run
@@ -124,3 +130,37 @@ run_coherent g r run is =
     let own : IsCoherent (length g.entries) (trace m s run) = own_coherent (length g.entries) m (lawful g.code) s (start_good m s (starts g r.budget)) (starts g r.budget) (start_idle g r.budget) run is.1.runs in
     let same : log m s run ≡ (trace_of r).logs = λ i t. logs_are g r run is t i in
     subst (λ logs. IsCoherent (length g.entries) (record (trace_of r) { logs = logs })) same (record { made = own.made; writer = own.writer; readers = own.readers })
+
+-- ---- what the code answers
+
+-- a list, and one more at its end
+pub get_pushed : {A : Type 0} (xs : List A) (y : A) (t : ℕ) (v : A) → slice_get (xs ++ y ∷ []) t ≡ Some v → (slice_get xs t ≡ Some v) ⊎ ((t ≡ length xs) × (y ≡ v))
+get_pushed [] y zero v h = inr (refl, cc h)
+get_pushed [] y (suc t) v h = absurd (cc h)
+get_pushed (x ∷ xs) y zero v h = inl h
+get_pushed (x ∷ xs) y (suc t) v h = elim (get_pushed xs y t v h) [ inl g ↦ inl g | inr e ↦ inr (ap suc e.0, e.1) ]
+
+-- why the trace of one of the events is no run's
+pub breaks_refuse : (g : Guest) (r : Recorded) → HasHeader g r → (e : FitErr) → BreaksBy r e → IsRefused g r e
+breaks_refuse g r header NoMem b = tt
+breaks_refuse g r header (Refused (verdict.Header c)) b = absurd b
+breaks_refuse g r header (Refused (verdict.Threads vs)) b = absurd b
+breaks_refuse g r header (Refused (verdict.Incoherent t i c)) b =
+    let first : IsFirstBreak (length g.entries) (trace_of r) t i c = subst (λ n. IsFirstBreak n (trace_of r) t i c) header.threads b in
+    ((header, first), λ run is. coherent_unbroken (length g.entries) (trace_of r) (run_coherent g r run is) t i c first.breaks)
+
+-- not all threads are the same at the end of the run that was followed
+pub threads_refuse : (g : Guest) (r : Recorded) → IsRecorded r → HasHeader g r → IsCoherent (length g.entries) (trace_of r) → (f : Flat) → IsFollowed g r f → (vs : List ThreadVerdict) → length vs ≡ length f.threads → AreStanding r f vs
+    → (t : ℕ) (v : ThreadVerdict) → slice_get vs t ≡ Some v → v ≢ Same → (HasHeader g r × IsCoherent (length g.entries) (trace_of r) × AreVerdicts g r vs) × ((run : List Step) → IsRunOf g r run → ⊥)
+threads_refuse g r is header co f followed vs each stand t v at ne =
+    let k = followed.follower in
+    let both = verdicts_of g r is header co k.run k.follows vs (each ∙ k.threads) (stand g k) in
+    ((header, co, both.1), none_of g r co k.run both.0 t v (stand g k t v at) ne)
+
+-- all are the same
+pub threads_accept : (g : Guest) (r : Recorded) → HasHeader g r → (f : Flat) → IsFollowed g r f → (vs : List ThreadVerdict) → length vs ≡ length f.threads → AreStanding r f vs → ((t : ℕ) (v : ThreadVerdict) → slice_get vs t ≡ Some v → v ≡ Same) → HasRun (record { guest = g; recorded = r })
+threads_accept g r header f followed vs each stand same =
+    let k = followed.follower in
+    (k.run, whole_of g r header k.run k.follows (λ t l.
+        let v = there vs t (omega (arith, l, each, k.threads)) in
+        subst (StandsAs (thread_machine g.code) (tables (start_flat g r.budget)) (trace_of r) k.run t) (same t v.0 v.1) (stand g k t v.0 v.1)))

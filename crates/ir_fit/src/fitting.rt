@@ -1,0 +1,74 @@
+//! Whether a trace is a run's.
+
+ghost use Rattle.std.specs.Prelude.{◌≡◌, ◌≢◌, ◌<◌, ℕ, length, slice_get, Some, true, false, IfOk, IfErr};
+ghost use Rattle.ir_fit.specs.Ahead.{IsStopped};
+ghost use Rattle.ir_fit.specs.Fit.{IsRefused};
+ghost use Rattle.ir_fit.specs.Follower.{IsFollower, IsSized, AreStanding};
+ghost use Rattle.ir_fit.specs.declared.verdict.ThreadVerdict.{ThreadVerdict};
+ghost use Rattle.ir_fit.specs.declared.verdict.ThreadVerdict.TheVariants.{Same};
+
+use crate::coherence::coherent;
+use crate::fit_err::FitErr;
+use crate::fitted::Fitted;
+use crate::followed::followed;
+use crate::follower::Follower;
+use crate::header::same_header;
+use crate::verdict::{ThreadVerdict, Verdict};
+use ir_image::Image;
+use ir_trace::Trace;
+use std::alloc::{AllocError, Global};
+
+impl Follower {
+    // What is said of each thread, by their numbers.
+    fn verdicts(&self, alloc: Global) -> Result<Vec<ThreadVerdict>, AllocError>
+        requires sized { IsSized self.now }
+        requires stopped { (t : ℕ) → t < length self.now.flat.threads → IsStopped self.now.trace self.now.flat t }
+        ensures each { IfOk result (λ vs. length vs.items ≡ length self.now.flat.threads) }
+        ensures stand { IfOk result (λ vs. AreStanding self.now.trace self.now.flat vs.items) }
+    {
+        let count = self.flat.threads().len();
+        let mut verdicts = Vec::with_capacity(alloc, count)?;
+        for t in 0..count {
+            verdicts.push(self.verdict(t))?;
+        }
+        Ok(verdicts)
+    }
+}
+
+// Whether all threads are the same.
+fn all_same(verdicts: &[ThreadVerdict]) -> bool
+    ensures same { result ≡ true → (t : ℕ) (v : ThreadVerdict) → slice_get verdicts.now t ≡ Some v → v ≡ Same }
+    ensures another { result ≡ false → (t : ℕ) × (v : ThreadVerdict) × (slice_get verdicts.now t ≡ Some v) × (v ≢ Same) }
+{
+    for verdict in verdicts {
+        if *verdict != ThreadVerdict::Same {
+            return false;
+        }
+    }
+    true
+}
+
+/// Whether a trace is that of a complete run of a guest's, under the budget that the trace names. The guest is run once,
+/// on this thread.
+///
+/// # Errors
+/// `FitErr::NoMem` where memory is wanted. Else `FitErr::Refused`, where no run of the guest has the trace: with
+/// `Verdict::Header` where it has another number of threads or of objects; with `Verdict::Incoherent` as `coherent`; with
+/// `Verdict::Threads` where not all threads of a run that follows the trace as far as any can are the same. Both image
+/// and trace are dropped.
+pub fn fit(alloc: Global, image: Image, trace: Trace) -> Result<Fitted, FitErr>
+    ensures fits { IfOk result (λ f. (f.guest ≡ image) × (f.recorded ≡ trace)) }
+    ensures refused { IfErr result (IsRefused image trace) }
+{
+    if let Err(cause) = same_header(&image, &trace) {
+        return Err(FitErr::Refused(Verdict::Header(cause)));
+    }
+    coherent(alloc, &trace)?;
+    let follower = followed(alloc, &image, trace)?;
+    let verdicts = follower.verdicts(alloc)?;
+    if !all_same(&verdicts) {
+        return Err(FitErr::Refused(Verdict::Threads(verdicts)));
+    }
+    let Follower { trace, .. } = follower;
+    Ok(Fitted::new(image, trace))
+}

@@ -1,0 +1,56 @@
+//! A guest at the end of a run that follows a trace.
+
+ghost use Rattle.std.specs.Prelude.{◌≡◌, ◌<◌, length, IfOk};
+ghost use Rattle.ir_image.specs.Guest.{Guest};
+ghost use Rattle.ir_flat.specs.Flat.{start_flat, tables, machine};
+ghost use Rattle.ir_trace.specs.Told.{trace_of};
+ghost use Rattle.ir_fit.specs.Ahead.{IsStopped};
+ghost use Rattle.ir_fit.specs.Follower.{IsFollower, IsFollowed, IsSized};
+ghost use Rattle.ir_fit.specs.Standing.{StandsAs};
+
+use crate::follower::Follower;
+use crate::look::Look;
+use crate::readiness::Readiness;
+use crate::verdict::ThreadVerdict;
+use ir_flat::Flat;
+use ir_image::Image;
+use ir_trace::Trace;
+use std::alloc::{AllocError, Global};
+
+// The guest of the image, run along the trace as far as any run can that follows it.
+pub fn followed(alloc: Global, image: &Image, trace: Trace) -> Result<Follower, AllocError>
+    requires { length trace.threads ≡ length image.now.entries }
+    ensures followed { IfOk result (λ f. IsFollowed image.now trace f.flat) }
+    ensures trace { IfOk result (λ f. f.trace ≡ trace) }
+    ensures sized { IfOk result (λ f. IsSized f) }
+{
+    let flat = Flat::start(alloc, image, trace.budget())?;
+    let count = trace.threads().len();
+    let mut ready = Vec::with_capacity(alloc, count)?;
+    ready.resize(count, Readiness::Ready)?;
+    let mut follower = Follower { flat, trace, ready };
+    follower.follow();
+    Ok(follower)
+}
+
+impl Follower {
+    // What is said of thread t, which has no further step that follows.
+    pub fn verdict(&self, t: usize) -> ThreadVerdict
+        requires sized { IsSized self.now }
+        requires thread { t < length self.now.flat.threads }
+        requires stopped { IsStopped self.now.trace self.now.flat t }
+        ensures { (guest : Guest) (k : IsFollower guest self.now.trace self.now.flat) → StandsAs (machine (start_flat guest self.now.trace.budget)) (tables (start_flat guest self.now.trace.budget)) (trace_of self.now.trace) k.run t result }
+    {
+        let thread = self.thread(t);
+        match self.look(t) {
+            Look::Done => ThreadVerdict::Same,
+            Look::Waits(_) => ThreadVerdict::Starves {
+                event: thread.events(),
+            },
+            Look::Disagrees | Look::Goes(_) => ThreadVerdict::Disagrees {
+                event: thread.events(),
+                step: thread.steps(),
+            },
+        }
+    }
+}

@@ -1,0 +1,56 @@
+//! A guest that follows a trace.
+
+ghost use Rattle.std.specs.Prelude.{◌≡◌, ◌<◌, length};
+ghost use Rattle.ir_flat.specs.Flat.{thread_of, cell_of, IsFlat};
+ghost use Rattle.ir_trace.specs.Recorded.{IsRecordedThread};
+ghost use Rattle.ir_trace.specs.Told.{recorded_thread};
+ghost use Rattle.ir_fit.specs.Ahead.{steps_ahead};
+
+use crate::readiness::Readiness;
+use ir_flat::Flat;
+use ir_object::Object;
+use ir_thread::Thread;
+use ir_trace::{ThreadTrace, Trace};
+
+// The threads and objects of a guest, the trace that they follow, and what is known of each thread.
+#[derive(Drop)]
+pub struct Follower {
+    pub flat: Flat,
+    pub trace: Trace,
+    pub ready: Vec<Readiness>,
+}
+
+impl Follower {
+    pub fn thread(&self, t: usize) -> &Thread
+        requires { t < length self.now.flat.threads }
+        ensures thread { result.now ≡ thread_of self.now.flat t }
+        ensures flat { IsFlat self.now.flat }
+    {
+        &self.flat.threads()[t]
+    }
+
+    pub fn object(&self, o: u8) -> &Object
+        requires { o < length self.now.flat.objects }
+        ensures { result.now ≡ cell_of self.now.flat o }
+    {
+        &self.flat.objects()[o as usize]
+    }
+
+    // What the trace tells of thread t.
+    pub fn told(&self, t: usize) -> &ThreadTrace
+        requires { t < length self.now.trace.threads }
+        ensures told { result.now ≡ recorded_thread self.now.trace t }
+        ensures within { IsRecordedThread self.now.trace.objects (recorded_thread self.now.trace t) }
+    {
+        &self.trace.threads()[t]
+    }
+
+    // How many steps the trace leaves to thread t.
+    pub fn steps_left(&self, t: usize) -> u64
+        requires thread { t < length self.now.flat.threads }
+        requires told { t < length self.now.trace.threads }
+        ensures { result ≡ steps_ahead self.now.trace self.now.flat t }
+    {
+        self.told(t).steps().saturating_sub(self.thread(t).steps())
+    }
+}

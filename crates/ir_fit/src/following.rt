@@ -1,0 +1,94 @@
+//! A run that follows the trace as far as any can.
+
+ghost use Rattle.std.specs.Prelude.{◌≡◌, ◌<◌, ℕ, length, IfSome, IfNone};
+ghost use Rattle.ir_fit.specs.Ahead.{IsMove, IsStopped};
+ghost use Rattle.ir_fit.specs.Follower.{GoesOn, IsSized};
+
+use crate::follower::Follower;
+use crate::look::{Look, Move};
+use crate::readiness::Readiness;
+
+impl Follower {
+    // Thread t goes on while its steps follow the trace.
+    pub fn advance(&mut self, t: usize)
+        requires sized { IsSized self.old }
+        requires thread { t < length self.old.flat.threads }
+        ensures goes { GoesOn self.old.trace self.old.flat self.new.flat }
+        ensures trace { self.new.trace ≡ self.old.trace }
+        ensures sized { IsSized self.new }
+    {
+        'steps: loop {
+            let left = self.steps_left(t);
+            self.flat.run(t, left);
+            let look = self.look(t);
+            let Look::Goes(next) = look else {
+                self.note(t, look);
+                return;
+            };
+            self.take(next);
+        }
+    }
+
+    // The step of a thread that is ready, if one of these has a step that follows. Those that have none aren't ready any more.
+    fn ready_step(&mut self) -> Option<Move>
+        requires { IsSized self.old }
+        ensures flat { self.new.flat ≡ self.old.flat }
+        ensures trace { self.new.trace ≡ self.old.trace }
+        ensures sized { IsSized self.new }
+        ensures follows { IfSome result (λ next. IsMove self.old.trace self.old.flat next) }
+    {
+        for t in 0..self.ready.len() {
+            if self.ready[t] == Readiness::Ready {
+                let look = self.look(t);
+                if let Look::Goes(next) = look {
+                    return Some(next);
+                }
+                self.note(t, look);
+            }
+        }
+        None
+    }
+
+    // The first thread's step that follows, where every thread is looked at once more.
+    fn last_look(&self) -> Option<Move>
+        requires { IsSized self.now }
+        ensures follows { IfSome result (λ next. IsMove self.now.trace self.now.flat next) }
+        ensures none { IfNone result ((t : ℕ) → t < length self.now.flat.threads → IsStopped self.now.trace self.now.flat t) }
+    {
+        for t in 0..self.ready.len() {
+            if let Look::Goes(next) = self.look(t) {
+                return Some(next);
+            }
+        }
+        None
+    }
+
+    // A step that follows the trace, of a thread that is ready before others. That there is none rests on a last look at each thread, and not on what is known of those that wait.
+    fn next(&mut self) -> Option<Move>
+        requires { IsSized self.old }
+        ensures flat { self.new.flat ≡ self.old.flat }
+        ensures trace { self.new.trace ≡ self.old.trace }
+        ensures sized { IsSized self.new }
+        ensures follows { IfSome result (λ next. IsMove self.old.trace self.old.flat next) }
+        ensures none { IfNone result ((t : ℕ) → t < length self.old.flat.threads → IsStopped self.old.trace self.old.flat t) }
+    {
+        match self.ready_step() {
+            Some(next) => Some(next),
+            None => self.last_look(),
+        }
+    }
+
+    // Goes on while any thread has a step that follows.
+    pub fn follow(&mut self)
+        requires { IsSized self.old }
+        ensures goes { GoesOn self.old.trace self.old.flat self.new.flat }
+        ensures trace { self.new.trace ≡ self.old.trace }
+        ensures sized { IsSized self.new }
+        ensures stopped { (t : ℕ) → t < length self.new.flat.threads → IsStopped self.new.trace self.new.flat t }
+    {
+        'moves: while let Some(next) = self.next() {
+            self.take(next);
+            self.advance(next.thread);
+        }
+    }
+}

@@ -1,0 +1,58 @@
+//! Steps that follow the trace, and who is woken by them.
+
+ghost use Rattle.std.specs.Prelude.{◌≡◌, ◌<◌, ◌+◌, ◌≤◌, length};
+ghost use Rattle.ir_fit.specs.Ahead.{IsMove};
+ghost use Rattle.ir_fit.specs.Follower.{all_ahead, GoesOn, IsSized};
+
+use crate::follower::Follower;
+use crate::look::{Look, Move};
+use crate::readiness::Readiness;
+use ir_thread::Ask;
+
+// What is known of a thread that was seen so.
+fn readiness(look: Look) -> Readiness {
+    match look {
+        Look::Goes(_) => Readiness::Ready,
+        Look::Waits(object) => Readiness::Waits(object),
+        Look::Done | Look::Disagrees => Readiness::Stopped,
+    }
+}
+
+// Those that wait for the object are to be looked at again.
+fn wake(ready: &mut Vec<Readiness>, object: u8)
+    ensures { length ready.new.items ≡ length ready.old.items }
+{
+    for t in 0..ready.len() {
+        if ready[t] == Readiness::Waits(object) {
+            ready[t] = Readiness::Ready;
+        }
+    }
+}
+
+impl Follower {
+    // Notes what was seen of thread t.
+    pub fn note(&mut self, t: usize, look: Look)
+        requires sized { IsSized self.old }
+        requires thread { t < length self.old.flat.threads }
+        ensures flat { self.new.flat ≡ self.old.flat }
+        ensures trace { self.new.trace ≡ self.old.trace }
+        ensures sized { IsSized self.new }
+    {
+        self.ready[t] = readiness(look);
+    }
+
+    // Takes a step that follows the trace. Who leaves an object wakes those that wait for it.
+    pub fn take(&mut self, next: Move)
+        requires sized { IsSized self.old }
+        requires follows { IsMove self.old.trace self.old.flat next }
+        ensures goes { GoesOn self.old.trace self.old.flat self.new.flat }
+        ensures fewer { all_ahead self.new.trace self.new.flat < all_ahead self.old.trace self.old.flat }
+        ensures trace { self.new.trace ≡ self.old.trace }
+        ensures sized { IsSized self.new }
+    {
+        let _ = self.flat.step(next.thread, next.result);
+        if let Ask::Leave(object, _) = next.asked {
+            wake(&mut self.ready, object);
+        }
+    }
+}
