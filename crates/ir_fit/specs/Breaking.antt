@@ -1,8 +1,8 @@
 -- The events of a trace that break its coherence.
-use Rattle.std.specs.Prelude.{◌≡◌, ◌≢◌, ℕ, suc, ◌<◌, ◌≤◌, ◌⊎◌, List, [], length}
-use Rattle.ir_thread.specs.Marks.{Mark, In, Trace}
+use Rattle.std.specs.Prelude.{◌≡◌, ◌≢◌, ℕ, suc, ◌<◌, ◌≤◌, ◌⊎◌, [], length}
+use Rattle.ir_thread.specs.Marks.{In, Trace}
 use Rattle.ir_thread.specs.declared.ask.Access.{Access}
-use Rattle.ir_thread.specs.declared.ask.Access.TheVariants.{Reading, Writing}
+use Rattle.ir_thread.specs.declared.ask.Access.TheVariants.{Writing}
 use Rattle.ir_trace.specs.Recorded.{Recorded}
 use Rattle.ir_trace.specs.Told.{trace_of}
 use Rattle.ir_fit.specs.Coherent.{IsCoherent, reads, sum_below}

@@ -7,7 +7,7 @@ use Rattle.ir_thread.specs.Marks.{Mark, Quiet, Answer, In, Refused, Out, Trace}
 use Rattle.ir_thread.specs.declared.ask.Access.TheVariants.{Reading, Writing}
 use Rattle.ir_log.specs.Logging.{mark_of}
 use Rattle.ir_log.specs.declared.event.Event.{Event}
-use Rattle.ir_fit.specs.Coherent.{reads_one, reads, sum_below}
+use Rattle.ir_fit.specs.Coherent.{reads, sum_below}
 use Rattle.ir_fit.specs.declared.cause.Cause.{Cause}
 use Rattle.ir_fit.specs.declared.cause.Cause.TheVariants.{Unmade, Twice, Readers}
 use Rattle.ir_fit.specs.declared.version_counts.VersionCounts.{VersionCounts}

@@ -1,4 +1,4 @@
-use Rattle.std.proofs.Common.{◌≤◌, ◌+◌, map, take, length, arith}
+use Rattle.std.proofs.Common.{map, take, length, arith}
 use Rattle.std.proofs.lemmas.List.{length-map, length-take-le}
 use Rattle.ir_log.specs.Logging.{mark_of}
 use Rattle.ir_fit.proofs.Logs.{room_left, one_counted}

@@ -1,6 +1,5 @@
 use Rattle.std.proofs.Common.{◌≡◌, ◌<◌, ◌∙◌, length, get_or, sym, ap, subst, arith}
 use Rattle.std.proofs.lemmas.List.{get_or_read}
-use Rattle.ir_log.specs.declared.event.Event.{Event}
 use Rattle.ir_trace.specs.Recorded.{RecordedThread}
 use Rattle.ir_trace.specs.Told.{absent, recorded_thread}
 use Rattle.ir_fit.specs.Counting.{HasRoom}

@@ -1,6 +1,5 @@
-use Rattle.std.proofs.Common.{◌≡◌, ◌<◌, length, vec_len, refl, sym, subst, arith}
+use Rattle.std.proofs.Common.{◌<◌, length, vec_len, refl, sym, subst, arith}
 use Rattle.std.proofs.lemmas.Result.{on_ok_weaker}
-use Rattle.ir_log.specs.declared.event.Event.TheVariants.{Read, Write}
 use Rattle.ir_trace.specs.Recorded.{IsEvent}
 use Rattle.ir_fit.proofs.Tables.{room_at, more_reads, same_writes, more_writes, same_reads}
 use Rattle.ir_fit.specs.Counting.{count, OneMore}

@@ -1,7 +1,7 @@
-use Rattle.std.proofs.Common.{◌≡◌, ◌++◌, ◌∷◌, [], sym, subst, arith}
+use Rattle.std.proofs.Common.{arith}
 use Rattle.ir_fit.specs.Counting.{count}
 use Rattle.ir_fit.specs.declared.entry_counts.ObjectCounts.{ObjectCounts}
-use Rattle.ir_fit.proofs.Tables.{at, at_push}
+use Rattle.ir_fit.proofs.Tables.{at_push}
 use Rattle.ir_fit.proofs.entry_counts.EntryCounts.new.Goals as goal
 
 pub loop-limit-preserved : goal.loop-limit-preserved
