@@ -52,11 +52,11 @@ fn put(bytes: &mut Vec<u8>, event: Event) -> Result<(), AllocError> {
 fn spelled(alloc: Global, logs: &[&[Event]]) -> Result<Vec<u8>, AllocError> {
     let mut bytes = Vec::new(alloc);
     bytes.extend_from_slice(b"IRT1")?;
-    bytes.push(logs.len() as u8)?;
+    bytes.push((logs.len() % 256) as u8)?;
     bytes.extend_from_slice(&BUDGET)?;
     for log in logs {
         bytes.extend_from_slice(&STEPS_AND_END)?;
-        bytes.extend_from_slice(&[log.len() as u8, 0, 0, 0])?;
+        bytes.extend_from_slice(&[(log.len() % 256) as u8, 0, 0, 0])?;
         for event in *log {
             put(&mut bytes, *event)?;
         }
