@@ -84,9 +84,14 @@ verdicts_of g r is header co run f vs each stands =
     let tr = trace_of r in
     let n : ℕ = length g.entries in
     let good = start_good m s (starts g r.budget) in
-    let top : following.IsMaximal (following.closing m tr) m s tr run = settled n m s (start_idle g r.budget) tr run f (λ t l. let v = there vs t (subst (λ z. t < z) (sym each) l) in (v.0, stands t v.0 v.1)) in
-    ((f, top), (each, λ run' furthest t v at. same_verdict m s tr run run' (one_maximal (following.closing m tr) n m (lawful g.code) tr co s good (starts g r.budget) (start_idle g r.budget) run run' f top furthest.0 furthest.1) t v
-    (verdict_at n m (lawful g.code) tr co (holds_events g.code r is) s good (starts g r.budget) (start_idle g r.budget) run f top t v (stands t v at))))
+    let top : following.IsMaximal (following.closing m tr) m s tr run = settled n m s (start_idle g r.budget) tr run f (λ t l. let v = there vs t (subst (λ z. t < z) (sym each) l) in (v.0, stands t v.0 v.1)) in (
+      (f, top),
+      (
+        each,
+        λ run' furthest t v at. same_verdict m s tr run run' (one_maximal (following.closing m tr) n m (lawful g.code) tr co s good (starts g r.budget) (start_idle g r.budget) run run' f top furthest.0 furthest.1) t v
+            (verdict_at n m (lawful g.code) tr co (holds_events g.code r is) s good (starts g r.budget) (start_idle g r.budget) run f top t v (stands t v at)),
+      ),
+    )
 
 -- where each thread is the same, the run is complete and has the trace
 pub whole_of : (g : Guest) (r : Recorded) → HasHeader g r → (run : List Step) → following.Follows (following.closing (thread_machine g.code) (trace_of r)) (thread_machine g.code) (tables (start_flat g r.budget)) (trace_of r) run
@@ -160,7 +165,9 @@ threads_refuse g r is header co f followed vs each stand t v at ne =
 -- all are the same
 pub threads_accept : (g : Guest) (r : Recorded) → HasHeader g r → (f : Flat) → IsFollowed g r f → (vs : List ThreadVerdict) → length vs ≡ length f.threads → AreStanding r f vs → ((t : ℕ) (v : ThreadVerdict) → slice_get vs t ≡ Some v → v ≡ Same) → HasRun (record { guest = g; recorded = r })
 threads_accept g r header f followed vs each stand same =
-    let k = followed.follower in
-    (k.run, whole_of g r header k.run k.follows (λ t l.
-        let v = there vs t (omega (arith, l, each, k.threads)) in
-        subst (StandsAs (thread_machine g.code) (tables (start_flat g r.budget)) (trace_of r) k.run t) (same t v.0 v.1) (stand g k t v.0 v.1)))
+    let k = followed.follower in (
+      k.run,
+      whole_of g r header k.run k.follows (λ t l.
+          let v = there vs t (omega (arith, l, each, k.threads)) in
+          subst (StandsAs (thread_machine g.code) (tables (start_flat g r.budget)) (trace_of r) k.run t) (same t v.0 v.1) (stand g k t v.0 v.1)),
+    )

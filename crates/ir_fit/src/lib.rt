@@ -10,12 +10,12 @@ mod coherence_tests;
 mod counting;
 mod entry_counts;
 mod fit_err;
+#[cfg(test)]
+mod fit_tests;
 mod fitted;
 mod fitting;
 mod followed;
 mod follower;
-#[cfg(test)]
-mod follower_tests;
 mod following;
 mod going;
 mod header;

@@ -1,9 +1,6 @@
 //! Guests of a few instructions, run along traces that are theirs, and along others.
 
-ghost use Rattle.std.specs.Prelude.{◌≡◌, ◌<◌, length, IfOk};
-
-use crate::followed::followed;
-use crate::verdict::ThreadVerdict;
+use crate::{Cause, FitErr, HeaderCause, ThreadVerdict, Verdict, fit};
 use ir_image::{Image, read_image};
 use ir_trace::read_trace;
 use std::alloc::Global;
@@ -44,18 +41,47 @@ fn guest(alloc: Global, starts: &[u8], objects: u8, code: &[u32]) -> Result<Imag
     Ok(read_image(alloc, &bytes)?)
 }
 
-// What is said of the first two threads of the guest, where the trace has these bytes and as many threads.
-fn judged(alloc: Global, image: &Image, bytes: &[u8]) -> Result<[Option<ThreadVerdict>; 2], Fail> {
+// What `fit` answers.
+#[derive(Clone, Copy, Debug, PartialEq)]
+enum Told {
+    Fits,
+    Header(HeaderCause),
+    Breaks(u8, u32, Cause),
+    // What is said of the first two threads.
+    Threads(Option<ThreadVerdict>, Option<ThreadVerdict>),
+    NoMem,
+}
+
+// What `fit` answers of the guest and the trace of these bytes.
+fn answer_of(alloc: Global, image: Image, bytes: &[u8]) -> Result<Told, Fail> {
     let trace = read_trace(alloc, bytes)?;
-    if trace.threads().len() != image.entries().len() {
-        return Ok([None, None]);
-    }
-    let follower = followed(alloc, image, trace)?;
-    let first = follower.verdict(0);
-    if image.entries().len() < 2 {
-        return Ok([Some(first), None]);
-    }
-    Ok([Some(first), Some(follower.verdict(1))])
+    Ok(match fit(alloc, image, trace) {
+        Ok(_) => Told::Fits,
+        Err(FitErr::NoMem) => Told::NoMem,
+        Err(FitErr::Refused(Verdict::Header(cause))) => Told::Header(cause),
+        Err(
+            FitErr::Refused(
+                Verdict::Incoherent {
+                    thread,
+                    event,
+                    cause,
+                },
+            ),
+        ) => Told::Breaks(thread, event, cause),
+        Err(FitErr::Refused(Verdict::Threads(each))) => {
+            Told::Threads(each.get(0).copied(), each.get(1).copied())
+        }
+    })
+}
+
+// That the only thread disagrees.
+fn disagrees(event: u32, step: u64) -> Told {
+    Told::Threads(Some(ThreadVerdict::Disagrees { event, step }), None)
+}
+
+// That the only thread starves.
+fn starves(event: u32) -> Told {
+    Told::Threads(Some(ThreadVerdict::Starves { event }), None)
 }
 
 // Prints a byte and ends with its double as the code.
@@ -78,27 +104,21 @@ fn double_trace(budget: u8, steps: [u8; 8], code: u8) -> [u8; 33] {
 }
 
 // Says what is said of the thread that prints, along such a trace.
-fn double(
-    alloc: Global,
-    budget: u8,
-    steps: [u8; 8],
-    code: u8,
-) -> Result<Option<ThreadVerdict>, Fail> {
+fn double(alloc: Global, budget: u8, steps: [u8; 8], code: u8) -> Result<Told, Fail> {
     let image = guest(alloc, &[0], 0, &DOUBLE)?;
-    let [first, _] = judged(alloc, &image, &double_trace(budget, steps, code))?;
-    Ok(first)
+    answer_of(alloc, image, &double_trace(budget, steps, code))
 }
 
 #[test]
 fn an_own_trace_fits(rt: HostRuntime) -> Result<(), Fail> {
     let said = double(rt.alloc(), 100, [6, 0, 0, 0, 0, 0, 0, 0], 144)?;
-    assert_eq!(rt; said, Some(ThreadVerdict::Same));
+    assert_eq!(rt; said, Told::Fits);
     Ok(())
 }
 
 #[test]
 fn steps_are_those_of_the_end(rt: HostRuntime) -> Result<(), Fail> {
-    let other = Some(ThreadVerdict::Disagrees { event: 0, step: 5 });
+    let other = disagrees(0, 5);
     assert_eq!(rt;
         double(rt.alloc(), 100, [7, 0, 0, 0, 0, 0, 0, 0], 144)?,
         other
@@ -114,12 +134,9 @@ fn steps_are_those_of_the_end(rt: HostRuntime) -> Result<(), Fail> {
 #[test]
 fn code_and_budget_are_the_trace_s(rt: HostRuntime) -> Result<(), Fail> {
     let code = double(rt.alloc(), 100, [6, 0, 0, 0, 0, 0, 0, 0], 0)?;
-    assert_eq!(rt; code, Some(ThreadVerdict::Disagrees { event: 0, step: 5 }));
+    assert_eq!(rt; code, disagrees(0, 5));
     let budget = double(rt.alloc(), 2, [6, 0, 0, 0, 0, 0, 0, 0], 144)?;
-    assert_eq!(rt;
-        budget,
-        Some(ThreadVerdict::Disagrees { event: 0, step: 2 })
-    );
+    assert_eq!(rt; budget, disagrees(0, 2));
     Ok(())
 }
 
@@ -139,27 +156,23 @@ const READ_AND_WRITE: [u32; 11] = [
 ];
 
 // Says what is said of the thread that reads and writes, along a trace with so many events.
-fn read_and_write(alloc: Global, count: u8, events: &[u8]) -> Result<Option<ThreadVerdict>, Fail> {
+fn read_and_write(alloc: Global, count: u8, events: &[u8]) -> Result<Told, Fail> {
     let image = guest(alloc, &[0], 1, &READ_AND_WRITE)?;
     let mut bytes = Vec::new(alloc);
     bytes.extend_from_slice(&[0x49, 0x52, 0x54, 0x31, 1, 1, 0, 0, 100, 0, 0, 0, 0, 0, 0, 0])?;
     bytes.extend_from_slice(&[11, 0, 0, 0, 0, 0, 0, 0, 1, 0, 0, 0, 0, count, 0, 0, 0])?;
     bytes.extend_from_slice(events)?;
-    let [first, _] = judged(alloc, &image, &bytes)?;
-    Ok(first)
+    answer_of(alloc, image, &bytes)
 }
 
 #[test]
 fn a_writer_has_its_readers(rt: HostRuntime) -> Result<(), Fail> {
     let own = [4, 0, 0, 0, 0, 0, 5, 0, 0, 0, 0, 0, 1, 0, 0, 0];
-    assert_eq!(rt;
-        read_and_write(rt.alloc(), 2, &own)?,
-        Some(ThreadVerdict::Same)
-    );
+    assert_eq!(rt; read_and_write(rt.alloc(), 2, &own)?, Told::Fits);
     let none = [4, 0, 0, 0, 0, 0, 5, 0, 0, 0, 0, 0, 0, 0, 0, 0];
     assert_eq!(rt;
         read_and_write(rt.alloc(), 2, &none)?,
-        Some(ThreadVerdict::Starves { event: 1 })
+        Told::Breaks(0, 1, Cause::Readers)
     );
     Ok(())
 }
@@ -167,20 +180,14 @@ fn a_writer_has_its_readers(rt: HostRuntime) -> Result<(), Fail> {
 #[test]
 fn a_version_that_never_comes_starves(rt: HostRuntime) -> Result<(), Fail> {
     let later = [4, 0, 1, 0, 0, 0, 5, 0, 0, 0, 0, 0, 0, 0, 0, 0];
-    assert_eq!(rt;
-        read_and_write(rt.alloc(), 2, &later)?,
-        Some(ThreadVerdict::Starves { event: 0 })
-    );
+    assert_eq!(rt; read_and_write(rt.alloc(), 2, &later)?, starves(0));
     Ok(())
 }
 
 #[test]
 fn another_entry_disagrees(rt: HostRuntime) -> Result<(), Fail> {
     let other = [5, 0, 0, 0, 0, 0, 0, 0, 0, 0];
-    assert_eq!(rt;
-        read_and_write(rt.alloc(), 1, &other)?,
-        Some(ThreadVerdict::Disagrees { event: 0, step: 2 })
-    );
+    assert_eq!(rt; read_and_write(rt.alloc(), 1, &other)?, disagrees(0, 2));
     Ok(())
 }
 
@@ -189,10 +196,7 @@ fn events_are_used_up_at_the_end(rt: HostRuntime) -> Result<(), Fail> {
     let more = [
         4, 0, 0, 0, 0, 0, 5, 0, 0, 0, 0, 0, 1, 0, 0, 0, 1, 5, 0, 0, 0,
     ];
-    assert_eq!(rt;
-        read_and_write(rt.alloc(), 3, &more)?,
-        Some(ThreadVerdict::Disagrees { event: 2, step: 10 })
-    );
+    assert_eq!(rt; read_and_write(rt.alloc(), 3, &more)?, disagrees(2, 10));
     Ok(())
 }
 
@@ -237,27 +241,54 @@ fn crossed_trace(first: [u8; 2], second: [u8; 2]) -> [u8; 90] {
     ]
 }
 
-// Says what is said of the two threads, along such a trace.
-fn crossed(
-    alloc: Global,
-    first: [u8; 2],
-    second: [u8; 2],
-) -> Result<[Option<ThreadVerdict>; 2], Fail> {
+// What is answered of the two threads along such a trace.
+fn crossed(alloc: Global, first: [u8; 2], second: [u8; 2]) -> Result<Told, Fail> {
     let image = guest(alloc, &[0, 48], 2, &CROSSED)?;
-    judged(alloc, &image, &crossed_trace(first, second))
+    answer_of(alloc, image, &crossed_trace(first, second))
 }
 
 #[test]
 fn each_waits_for_the_other(rt: HostRuntime) -> Result<(), Fail> {
     let starves = Some(ThreadVerdict::Starves { event: 0 });
-    assert_eq!(rt; crossed(rt.alloc(), [1, 0], [1, 0])?, [starves, starves]);
+    assert_eq!(rt;
+        crossed(rt.alloc(), [1, 0], [1, 0])?,
+        Told::Threads(starves, starves)
+    );
     Ok(())
 }
 
 #[test]
 fn who_waits_goes_on_after_the_leave(rt: HostRuntime) -> Result<(), Fail> {
-    let same = Some(ThreadVerdict::Same);
-    assert_eq!(rt; crossed(rt.alloc(), [1, 1], [0, 0])?, [same, same]);
-    assert_eq!(rt; crossed(rt.alloc(), [0, 1], [0, 1])?, [same, same]);
+    assert_eq!(rt; crossed(rt.alloc(), [1, 1], [0, 0])?, Told::Fits);
+    assert_eq!(rt; crossed(rt.alloc(), [0, 1], [0, 1])?, Told::Fits);
+    Ok(())
+}
+
+#[test]
+fn an_incoherent_trace_is_named_before_any_step(rt: HostRuntime) -> Result<(), Fail> {
+    assert_eq!(rt;
+        crossed(rt.alloc(), [0, 0], [0, 0])?,
+        Told::Breaks(0, 0, Cause::Twice)
+    );
+    assert_eq!(rt;
+        crossed(rt.alloc(), [2, 1], [0, 0])?,
+        Told::Breaks(0, 0, Cause::Unmade)
+    );
+    Ok(())
+}
+
+#[test]
+fn the_header_comes_first(rt: HostRuntime) -> Result<(), Fail> {
+    let bytes = crossed_trace([0, 0], [0, 0]);
+    let fewer = guest(rt.alloc(), &[0], 2, &CROSSED)?;
+    assert_eq!(rt;
+        answer_of(rt.alloc(), fewer, &bytes)?,
+        Told::Header(HeaderCause::Threads)
+    );
+    let more = guest(rt.alloc(), &[0, 48], 3, &CROSSED)?;
+    assert_eq!(rt;
+        answer_of(rt.alloc(), more, &bytes)?,
+        Told::Header(HeaderCause::Objects)
+    );
     Ok(())
 }
