@@ -1,11 +1,12 @@
 //! Numbers as the program's words write them.
 
-ghost use Rattle.std.specs.Prelude.{◌≡◌, ◌<◌, ◌^◌};
+ghost use Rattle.std.specs.Prelude.{◌≡◌, ◌≤◌, IfSome};
 ghost use Rattle.ir_cli.specs.Numerals.{number_within};
 
 /// The number from `low` to `high` that a text writes in decimal digits and nothing else.
 pub fn number_within(low: u64, high: u64, text: &str) -> Option<u64>
-    ensures { result ≡ number_within low high text.now }
+    ensures value { result ≡ number_within low high text.now }
+    ensures within { IfSome result (λ n. n ≤ high) }
 {
     if text.starts_with('+') {
         return None;

@@ -1,5 +1,7 @@
 //! The words that the program is started with.
 
+ghost use Rattle.std.specs.Prelude.{◌≤◌};
+
 use crate::numeral::number_within;
 use clap::{Arg, ArgMatches, Command, Error};
 use std::alloc::{AllocError, Global};
@@ -91,6 +93,7 @@ pub struct RecordWords {
     pub random: u64,
     /// The file that guests read.
     pub input: Option<String>,
+    ghost within: { budget ≤ 1000000000000 },
 }
 
 /// What the words ask for.
