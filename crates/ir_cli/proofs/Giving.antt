@@ -1,6 +1,6 @@
 -- Answers that are given in turn.
-use Rattle.std.proofs.Common.{◌≡◌, ◌≤◌, ◌+◌, ℕ, Bool, List, [], ◌∷◌, ◌++◌, length, refl, sym, ap, ◌∙◌, subst, arith, length-append}
-use Rattle.ir_cli.specs.Sources.{Source, source, given, Gave, IsAnswering}
+use Rattle.std.proofs.Common.{◌≡◌, ◌≤◌, ◌+◌, ℕ, List, [], ◌∷◌, ◌++◌, sym, ap, ◌∙◌, subst, arith}
+use Rattle.ir_cli.specs.Sources.{Source, given, Gave}
 use Rattle.ir_record.specs.Worlds.{Answered}
 use Rattle.ir_thread.specs.declared.ask.EnvKind.{EnvKind}
 use Rattle.ir_thread.specs.declared.ask.EnvKind.TheVariants.{Clock, Random, Input}
@@ -18,15 +18,9 @@ few_more Clock s = omega arith
 few_more Random s = omega arith
 few_more Input s = omega arith
 
--- a world after one answer more
-pub still_answering : (seed capacity capacity' value : ℕ) (file : List ℕ) (answers answers' : List Answered) (failed : Bool) (t u : Source) (kind : EnvKind)
-    → IsAnswering (record { seed = seed; file = file; answers = answers; failed = failed }) t capacity → answers' ≡ answers ++ (kind, value) ∷ [] → capacity' ≡ capacity → ◌≡◌ {A = ℕ × Source} (value, u) (given kind t)
-    → IsAnswering (record { seed = seed; file = file; answers = answers'; failed = failed }) u capacity'
-still_answering seed capacity capacity' value file answers answers' failed t u kind w e same h = record {
-  gave = subst (λ (z : List Answered). Gave (source seed file) z u) (sym e) (gave_more (source seed file) t u answers kind value w.gave h);
-  few =
-      let ticks : u.ticks ≡ (given kind t).1.ticks = ap (λ (p : ℕ × Source). p.1.ticks) h in
-      let long : length answers' ≡ length (answers ++ (kind, value) ∷ []) = ap (λ (z : List Answered). length z) e in
-      omega (arith, ticks, long, few_more kind t, w.few, length-append answers ((kind, value) ∷ []));
-  room = let room = w.room in omega (arith, room, same);
-}
+-- the sources after one answer more
+pub still_gave : (s t u : Source) (answers new : List Answered) (kind : EnvKind) (value : ℕ) → Gave s answers t → new ≡ answers ++ (kind, value) ∷ [] → ◌≡◌ {A = ℕ × Source} (value, u) (given kind t) → Gave s new u
+still_gave s t u answers new kind value gave e h = subst (λ (z : List Answered). Gave s z u) (sym e) (gave_more s t u answers kind value gave h)
+
+pub still_few : (t u : Source) (old new : ℕ) (kind : EnvKind) (value : ℕ) → t.ticks ≤ old → new ≡ old + 1 → ◌≡◌ {A = ℕ × Source} (value, u) (given kind t) → u.ticks ≤ new
+still_few t u old new kind value few e h = let ticks : u.ticks ≡ (given kind t).1.ticks = ap (λ (p : ℕ × Source). p.1.ticks) h in omega (arith, ticks, few, e, few_more kind t)

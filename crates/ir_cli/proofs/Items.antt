@@ -1,5 +1,5 @@
 -- The items of an order.
-use Rattle.std.proofs.Common.{◌≡◌, ◌<◌, ◌≤◌, ℕ, ◌-◌, Bool, true, false, List, [], ◌∷◌, ◌++◌, length, get_or, refl, sym, ap, ◌∙◌, arith, inl, inr, append_assoc, Bor, ◌+◌}
+use Rattle.std.proofs.Common.{◌≡◌, ◌≤◌, ℕ, ◌-◌, List, [], ◌∷◌, length, refl, sym, ap, ◌∙◌, arith, inl, inr, Bor, ◌+◌}
 use Rattle.std.specs.Prelude.{◌==◌, Option, Some, None, replicate}
 use Rattle.std.specs.List.{slice_split, join_with_byte}
 use Rattle.std.specs.Str.{all_ascii_digits}
@@ -7,7 +7,7 @@ use Rattle.std.proofs.lemmas.Bool.{cases_Bool}
 use Rattle.std.proofs.lemmas.List.Splits.{join_with_byte-slice_split, length-slice_split}
 use Rattle.std.proofs.lemmas.Str.Parse.{not_in_digits}
 use Rattle.ir_cli.specs.Numerals.{number_within}
-use Rattle.ir_cli.specs.Order.{most_turns, turns, item_by, item_of, joined, items_of, order_of}
+use Rattle.ir_cli.specs.Order.{most_turns, turns, item_by, item_of}
 use Rattle.ir_cli.proofs.Numerals.{own, refused_byte}
 use Rattle.ir_cli.proofs.Parts.{one_part}
 

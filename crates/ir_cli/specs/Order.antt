@@ -1,5 +1,5 @@
 -- Lists that say which thread takes each next step.
-use Rattle.std.specs.Prelude.{ℕ, ◌-◌, ◌==◌, List, [], ◌∷◌, ◌++◌, replicate, Option, Some, None, option_and_then, option_map}
+use Rattle.std.specs.Prelude.{ℕ, ◌-◌, ◌==◌, List, [], ◌∷◌, ◌++◌, replicate, Option, Some, None}
 use Rattle.std.specs.List.{slice_split}
 use Rattle.ir_cli.specs.Numerals.{number_within}
 

@@ -1,6 +1,6 @@
 -- What recording a guest in a given order writes.
-use Rattle.std.specs.Prelude.{◌≡◌, ℕ, ◌+◌, ◌%◌, ◌^◌, false, List, [], ◌∷◌, ◌++◌, length, map, replicate, codes, decimal, Option, Some, option_and_then, Ok}
-use Rattle.std.specs.List.{range_with_len}
+use Rattle.std.specs.Prelude.{◌≡◌, ◌<◌, ℕ, ◌+◌, ◌%◌, ◌^◌, List, [], ◌∷◌, ◌++◌, length, map, replicate, codes, decimal, Option, Some, option_and_then, Ok}
+use Rattle.std.specs.List.{range_with_len, slice_index_or}
 use Rattle.ir_image.specs.Guest.{Guest}
 use Rattle.ir_image.specs.Reading.{guest_at}
 use Rattle.ir_thread.specs.Ends.{end_number, end_code}
@@ -8,21 +8,22 @@ use Rattle.ir_trace.specs.Recorded.{RecordedThread, Recorded}
 use Rattle.ir_record.specs.Recording.{IsRecording}
 use Rattle.ir_record.specs.Worlds.{Answered}
 use Rattle.ir_cli.specs.Order.{order_of}
-use Rattle.ir_cli.specs.Sources.{Answering}
+use Rattle.ir_cli.specs.Sources.{Source, source, Gave}
 
 -- the seed of the random words of thread t
 abbrev pub seed_of : ℕ → ℕ → ℕ
 seed_of random t = (random + t) % 2 ^ 64
 
--- the world of thread t before the first step
-abbrev pub fresh : ℕ → List ℕ → ℕ → Answering
-fresh random file t = record { seed = seed_of random t; file = file; answers = []; failed = false }
+-- what the world of thread t is made with: the seed of its random words, and the file
+abbrev pub origin_of : ℕ → List ℕ → ℕ → ℕ × List ℕ
+origin_of random file t = (seed_of random t, file)
 
--- the worlds of so many threads before the first step
-abbrev pub fresh_worlds : ℕ → List ℕ → ℕ → List Answering
-fresh_worlds random file threads = map (fresh random file) (range_with_len 0 threads)
+-- the same of so many threads
+abbrev pub origins : ℕ → List ℕ → ℕ → List (ℕ × List ℕ)
+origins random file threads = map (origin_of random file) (range_with_len 0 threads)
 
--- the trace is of the guest's run by the order that the list spells
+-- the trace is of the guest's run by the order that the list spells, whose threads were answered by a count, random words
+-- and the file's bytes
 pub record IsRecordedOf (image : List ℕ) (list : Option (List ℕ)) (budget random : ℕ) (file : List ℕ) (trace : Recorded) : Type 0 where
   pub guest : Guest
   pub is : guest_at image ≡ Ok guest
@@ -31,6 +32,8 @@ pub record IsRecordedOf (image : List ℕ) (list : Option (List ℕ)) (budget ra
   pub outputs : List (List ℕ)
   pub answers : List (List Answered)
   pub recorded : IsRecording guest budget order (replicate (length guest.entries) []) trace outputs answers
+  -- each thread was answered by its own sources
+  pub told : (t : ℕ) → t < length guest.entries → (left : Source) × Gave (source (seed_of random t) file) (slice_index_or answers t []) left
 
 -- a thread's line: its number, the number and the code of its end, its steps, how many events it logged
 abbrev pub line_by : ℕ → ℕ → ℕ → ℕ → ℕ → List ℕ

@@ -1,6 +1,8 @@
 -- What answers a thread that is recorded in a given order: a count, a generator of random words, and the bytes of a file.
-use Rattle.std.specs.Prelude.{◌≡◌, ◌≤◌, ℕ, ◌+◌, Bool, List, [], ◌∷◌, length, drop}
+use Rattle.std.specs.Prelude.{◌≡◌, ℕ, ◌+◌, List, [], ◌∷◌, drop}
 use Rattle.std.specs.List.{slice_index_or}
+use Rattle.std.specs.Coded.{×_prop}
+use Rattle.std.proofs.Props.{props}
 use Rattle.rand_core.specs.Pcg32Seed.{pcg32_seed}
 use Rattle.rand_pcg.specs.Lcg.{Lcg}
 use Rattle.rand_pcg.specs.Pcg.{pcg32, pcg32_of_seed}
@@ -31,15 +33,7 @@ abbrev pub Gave : Source → List Answered → Source → Type 0
 Gave s [] t = t ≡ s
 Gave s (answer ∷ answers) t = (answer.1 ≡ (given answer.0 s).0) × Gave (given answer.0 s).1 answers t
 
--- the world of one thread: where its random words start, its file, what it has answered, and whether it has failed
-pub record Answering : Type 0 where
-  pub seed : ℕ
-  pub file : List ℕ
-  pub answers : List Answered
-  pub failed : Bool
-
--- the answers were given in turn, and these sources are left; there is room for so many answers
-pub record IsAnswering (w : Answering) (left : Source) (capacity : ℕ) : Type 0 where
-  pub gave : Gave (source w.seed w.file) w.answers left
-  pub few : left.ticks ≤ length w.answers
-  pub room : 1048576 ≤ capacity
+-- that they were given so holds in one way
+pub Gave-prop : (s : Source) (answers : List Answered) (t : Source) → IsProp (Gave s answers t)
+Gave-prop s [] t = hlevel props
+Gave-prop s (answer ∷ answers) t = ×_prop (hlevel props) (Gave-prop (given answer.0 s).1 answers t)

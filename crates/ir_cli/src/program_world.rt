@@ -1,13 +1,12 @@
 //! The world of a thread that is recorded in a given order.
 
-ghost use Rattle.std.specs.Prelude.{◌≡◌, ◌<◌, ◌≤◌, ◌+◌, [], length, vec_len, vec_capacity, IfOk, false};
-ghost use Rattle.ir_cli.specs.Sources.{Answering, IsAnswering};
+ghost use Rattle.std.specs.Prelude.{◌≡◌, ◌≤◌, ℕ, List, [], vec_len, vec_capacity, IfOk, false};
+ghost use Rattle.ir_cli.specs.Sources.{source, Gave, Gave-prop};
 
-use ir_thread::EnvKind;
 use crate::sources::Sources;
 use ir_record::{World, WorldErr};
+use ir_thread::EnvKind;
 use std::alloc::{AllocError, Global};
-use std::marker::Model;
 
 /// The most answers: as many as a thread may log.
 pub const MOST_ANSWERS: usize = 1_048_576;
@@ -20,14 +19,9 @@ pub struct ProgramWorld<'a> {
     sources: Sources<'a>,
     answers: Vec<(EnvKind, u32)>,
     failed: bool,
-}
-
-impl<'a> Model for ProgramWorld<'a> {
-    ghost Value = { Answering };
-
-    ghost view = { λ w. record { seed = w.seed; file = w.file.now; answers = w.answers.items; failed = w.failed } };
-
-    ghost invariant = { λ w. IsAnswering (record { seed = w.seed; file = w.file.now; answers = w.answers.items; failed = w.failed }) w.sources (vec_capacity w.answers) };
+    ghost room: { 1048576 ≤ vec_capacity answers },
+    ghost few: { sources.ticks ≤ vec_len answers },
+    ghost gave: { Gave (source seed file.now) answers.items sources } by { Gave-prop (source seed file.now) answers.items sources },
 }
 
 impl<'a> ProgramWorld<'a> {
@@ -36,7 +30,10 @@ impl<'a> ProgramWorld<'a> {
     /// # Errors
     /// Want of memory, which is made for all answers; no answer takes any.
     pub fn new(alloc: Global, seed: u64, file: &'a [u8]) -> Result<ProgramWorld<'a>, AllocError>
-        ensures { IfOk result (λ w. w ≡ record { seed = seed; file = file.now; answers = []; failed = false }) }
+        ensures seed { IfOk result (λ w. w.seed ≡ seed) }
+        ensures file { IfOk result (λ w. w.file.now ≡ file.now) }
+        ensures fresh { IfOk result (λ w. w.answers.items ≡ []) }
+        ensures works { IfOk result (λ w. w.failed ≡ false) }
     {
         let answers = Vec::with_capacity(alloc, MOST_ANSWERS)?;
         Ok(ProgramWorld {
@@ -50,7 +47,11 @@ impl<'a> ProgramWorld<'a> {
 }
 
 impl World for ProgramWorld<'_> {
-    ghost answers = { λ w. w.answers };
+    ghost answers = { λ w. w.answers.items };
+
+    ghost Origin = { ℕ × List ℕ };
+
+    ghost origin = { λ w. (w.seed, w.file.now) };
 
     ghost broken = { λ w. w.failed };
 

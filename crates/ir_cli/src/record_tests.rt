@@ -203,7 +203,10 @@ fn the_order_says_who_counts_first(rt: HostRuntime) {
     ] {
         let run = recorded(&rt, image.as_slice(), with_order(order));
         assert_eq!(rt; run.status, 0);
-        assert_eq!(rt; run.trace.bytes.as_slice(), count_trace(first, second).as_slice());
+        assert_eq!(rt;
+            run.trace.bytes.as_slice(),
+            count_trace(first, second).as_slice()
+        );
         assert_eq!(rt; run.out.bytes.as_slice(), BOTH_LINES);
         assert!(rt; run.faults.bytes.is_empty());
     }
@@ -225,8 +228,16 @@ fn a_reader_is_logged_and_then_a_writer(rt: HostRuntime) {
 #[test]
 fn ends_are_told(rt: HostRuntime) {
     for (source, budget, line) in [
-        (HELD_AT_THE_END, 1000, "thread 0 end 2 code 0 steps 9 events 1\n"),
-        (OUT_OF_ORDER, 1000, "thread 0 end 10 code 0 steps 6 events 1\n"),
+        (
+            HELD_AT_THE_END,
+            1000,
+            "thread 0 end 2 code 0 steps 9 events 1\n",
+        ),
+        (
+            OUT_OF_ORDER,
+            1000,
+            "thread 0 end 10 code 0 steps 6 events 1\n",
+        ),
         (DOUBLE, 1000, "thread 0 end 1 code 144 steps 6 events 0\n"),
         (DOUBLE, 2, "thread 0 end 13 code 0 steps 3 events 0\n"),
     ] {
@@ -260,7 +271,10 @@ fn random_words_start_from_the_sum(rt: HostRuntime) {
         (6, [2, 233, 94, 145, 145, 2, 190, 28, 174, 24]),
     ] {
         let run = recorded(&rt, image.as_slice(), How { random, ..HOW });
-        assert_eq!(rt; second_events(run.trace.bytes.as_slice(), 10), words.as_slice());
+        assert_eq!(rt;
+            second_events(run.trace.bytes.as_slice(), 10),
+            words.as_slice()
+        );
     }
 }
 
@@ -268,17 +282,46 @@ fn random_words_start_from_the_sum(rt: HostRuntime) {
 fn each_thread_reads_all_of_the_input(rt: HostRuntime) {
     let image = image(&rt, BYTES);
     for (input, events) in [
-        (b"\x00\xff".as_slice(), [3, 0, 0, 0, 0, 3, 255, 0, 0, 0, 3, 255, 255, 255, 255]),
-        (b"A".as_slice(), [3, 65, 0, 0, 0, 3, 255, 255, 255, 255, 3, 255, 255, 255, 255]),
+        (
+            b"\x00\xff".as_slice(),
+            [3, 0, 0, 0, 0, 3, 255, 0, 0, 0, 3, 255, 255, 255, 255],
+        ),
+        (
+            b"A".as_slice(),
+            [3, 65, 0, 0, 0, 3, 255, 255, 255, 255, 3, 255, 255, 255, 255],
+        ),
     ] {
         let run = recorded(&rt, image.as_slice(), How { input, ..HOW });
-        assert_eq!(rt; second_events(run.trace.bytes.as_slice(), 15), events.as_slice());
+        assert_eq!(rt;
+            second_events(run.trace.bytes.as_slice(), 15),
+            events.as_slice()
+        );
     }
 }
 
 const NO_ORDERS: [&str; 22] = [
-    "", "x", "zz", "0x0", "0x1000001", "2", "8", "0,", ",0", "0,,1", " 0", "0 ,1", "+0", "-0", "0x", "x1", "0x+1",
-    "0x1x1", "00x1,2", "0;1", "99999999999999999999999", "0x99999999999999999999999",
+    "",
+    "x",
+    "zz",
+    "0x0",
+    "0x1000001",
+    "2",
+    "8",
+    "0,",
+    ",0",
+    "0,,1",
+    " 0",
+    "0 ,1",
+    "+0",
+    "-0",
+    "0x",
+    "x1",
+    "0x+1",
+    "0x1x1",
+    "00x1,2",
+    "0;1",
+    "99999999999999999999999",
+    "0x99999999999999999999999",
 ];
 
 #[test]
@@ -314,7 +357,10 @@ fn a_refused_image_is_told(rt: HostRuntime) {
         let run = recorded(&rt, image.get(..length).unwrap_or(&[]), with_order("x"));
         assert_eq!(rt; run.status, 3);
         assert!(rt; run.trace.bytes.is_empty() && run.out.bytes.is_empty());
-        assert_eq!(rt; run.faults.bytes.as_slice(), b"ir: the image is refused, 1: a field passes the end\n".as_slice());
+        assert_eq!(rt;
+            run.faults.bytes.as_slice(),
+            b"ir: the image is refused, 1: a field passes the end\n".as_slice()
+        );
     }
 }
 
@@ -322,13 +368,22 @@ fn a_refused_image_is_told(rt: HostRuntime) {
 fn a_failing_trace_leaves_no_line(rt: HostRuntime) {
     let image = image(&rt, COUNT);
     for trace_calls in 0..10 {
-        let how = How { trace_calls, ..with_order("1x18") };
+        let how = How {
+            trace_calls,
+            ..with_order("1x18")
+        };
         let run = recorded(&rt, image.as_slice(), how);
         let front = trace_calls as usize * 7;
         assert_eq!(rt; run.status, 1);
-        assert_eq!(rt; run.trace.bytes.as_slice(), count_trace(1, 0).get(..front).unwrap_or(&[]));
+        assert_eq!(rt;
+            run.trace.bytes.as_slice(),
+            count_trace(1, 0).get(..front).unwrap_or(&[])
+        );
         assert!(rt; run.out.bytes.is_empty() && !run.out.failed);
-        assert_eq!(rt; run.faults.bytes.as_slice(), b"ir: the trace can't be written\n".as_slice());
+        assert_eq!(rt;
+            run.faults.bytes.as_slice(),
+            b"ir: the trace can't be written\n".as_slice()
+        );
     }
 }
 
@@ -336,11 +391,17 @@ fn a_failing_trace_leaves_no_line(rt: HostRuntime) {
 fn lines_that_fail_leave_the_trace(rt: HostRuntime) {
     let image = image(&rt, COUNT);
     for out_calls in 0..11 {
-        let how = How { out_calls, ..with_order("1x18") };
+        let how = How {
+            out_calls,
+            ..with_order("1x18")
+        };
         let run = recorded(&rt, image.as_slice(), how);
         assert_eq!(rt; run.status, 1);
         assert_eq!(rt; run.trace.bytes.as_slice(), count_trace(1, 0).as_slice());
         assert!(rt; BOTH_LINES.starts_with(run.out.bytes.as_slice()));
-        assert_eq!(rt; run.faults.bytes.as_slice(), b"ir: standard output can't be written\n".as_slice());
+        assert_eq!(rt;
+            run.faults.bytes.as_slice(),
+            b"ir: standard output can't be written\n".as_slice()
+        );
     }
 }

@@ -1,11 +1,12 @@
 //! An image in, the trace of its guest's run by an order and a line for each thread out.
 
-ghost use Rattle.std.specs.Prelude.{◌≡◌, ◌≢◌, ◌<◌, ◌≤◌, ◌+◌, ℕ, List, Some, None, Ok, Err, true, false, IfOk, IfErr, OnOk, length, option_map, option_and_then};
+ghost use Rattle.std.specs.Prelude.{◌≡◌, ◌≢◌, ◌<◌, ◌≤◌, ◌+◌, ℕ, List, Some, None, Ok, Err, true, false, IfOk, IfErr, OnOk, [], length, map, replicate, option_map};
 ghost use Rattle.std.specs.String.{string_bytes};
 ghost use Rattle.std.specs.Io.KnownBytes.{Appends};
 ghost use Rattle.ir_trace.specs.Recorded.{Recorded};
 ghost use Rattle.ir_trace.specs.Spelling.{spelling};
-ghost use Rattle.ir_cli.specs.Recording.{fresh_worlds, IsRecordedOf, line_by, thread_line, lines_of};
+ghost use Rattle.ir_record.specs.Worlds.{NoneFailed};
+ghost use Rattle.ir_cli.specs.Recording.{origins, IsRecordedOf, line_by, thread_line, lines_of};
 ghost use Rattle.ir_cli.specs.Faults.{fault_status, Refuses, WriteFails, Stops};
 ghost use Rattle.ir_cli.specs.declared.record_fault.RecordFault.{RecordFault};
 ghost use Rattle.ir_cli.specs.declared.record_fault.RecordFault.TheVariants as fault;
@@ -30,7 +31,9 @@ fn worlds<'a>(
     random: u64,
     file: &'a [u8],
 ) -> Result<Vec<ProgramWorld<'a>>, AllocError>
-    ensures { IfOk result (λ worlds. worlds.items ≡ fresh_worlds random file.now threads) }
+    ensures origins { IfOk result (λ worlds. map (λ w. (w.seed, w.file.now)) worlds.items ≡ origins random file.now threads) }
+    ensures fresh { IfOk result (λ worlds. map (λ w. w.answers.items) worlds.items ≡ replicate threads []) }
+    ensures works { IfOk result (λ worlds. NoneFailed (map (λ w. w.failed) worlds.items)) }
 {
     let mut worlds = Vec::with_capacity(alloc, threads)?;
     for thread in 0..threads {
@@ -79,7 +82,14 @@ fn thread_line(alloc: Global, number: usize, thread: &ThreadTrace) -> Result<Str
 {
     let end = thread.end();
     let events = thread.log().events().len();
-    line_by(alloc, number, end.number(), end.code(), thread.steps(), events)
+    line_by(
+        alloc,
+        number,
+        end.number(),
+        end.code(),
+        thread.steps(),
+        events,
+    )
 }
 
 // A line for each thread.

@@ -19,6 +19,7 @@ impl<W: World> Recorder<W> {
         ensures ready { OnOk result (IsReady (progress self.new.tape (map W.answers self.new.worlds.items)) (map W.broken self.new.worlds.items)) }
         ensures failed { IfErr result (λ f. IsFirstFailed (map W.broken self.new.worlds.items) f.thread) }
         ensures kept { Extends (map W.answers self.old.worlds.items) (map W.answers self.new.worlds.items) }
+        ensures origins { map W.origin self.new.worlds.items ≡ map W.origin self.old.worlds.items }
     {
         let mut moved = false;
         for t in 0..self.tape.flat.threads().len() {
@@ -35,6 +36,7 @@ impl<W: World> Recorder<W> {
         ensures took { (count : ℕ) × Took (rounds (length self.old.tape.flat.threads) count) (progress self.old.tape (map W.answers self.old.worlds.items)) (progress self.new.tape (map W.answers self.new.worlds.items)) }
         ensures ready { IsReady (progress self.new.tape (map W.answers self.new.worlds.items)) (map W.broken self.new.worlds.items) }
         ensures kept { Extends (map W.answers self.old.worlds.items) (map W.answers self.new.worlds.items) }
+        ensures origins { map W.origin self.new.worlds.items ≡ map W.origin self.old.worlds.items }
     {
         if self.tape.flat.threads().len() == 1 {
             self.tape.run(0, u64::MAX);
@@ -49,6 +51,7 @@ impl<W: World> Recorder<W> {
         ensures ready { OnOk result (IsReady (progress self.new.tape (map W.answers self.new.worlds.items)) (map W.broken self.new.worlds.items)) }
         ensures failed { IfErr result (λ f. IsFirstFailed (map W.broken self.new.worlds.items) f.thread) }
         ensures kept { Extends (map W.answers self.old.worlds.items) (map W.answers self.new.worlds.items) }
+        ensures origins { map W.origin self.new.worlds.items ≡ map W.origin self.old.worlds.items }
     {
         'rounds: loop {
             self.ahead();

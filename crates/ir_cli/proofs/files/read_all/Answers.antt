@@ -1,4 +1,4 @@
-use Rattle.std.proofs.Common.{◌∙◌, ◌<◌, ◌+◌, length, arith, rules}
+use Rattle.std.proofs.Common.{◌<◌, ◌+◌, length, rules}
 use Rattle.ir_cli.proofs.ReadFiles.{all_read}
 use Rattle.ir_cli.proofs.files.read_all.Goals as goal
 

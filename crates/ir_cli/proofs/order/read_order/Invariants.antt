@@ -1,5 +1,4 @@
-use Rattle.std.proofs.Common.{◌≡◌, ◌+◌, ℕ, length, zero, Option, Some, None}
-use Rattle.std.specs.List.{slice_split}
+use Rattle.std.proofs.Common.{◌≡◌, Some}
 use Rattle.ir_cli.specs.Order.{order_of, joined, items_of}
 use Rattle.ir_cli.proofs.Items.{parts_left, how_long}
 use Rattle.ir_cli.proofs.order.read_order.Given as goal

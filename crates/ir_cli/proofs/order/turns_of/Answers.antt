@@ -1,4 +1,4 @@
-use Rattle.std.proofs.Common.{Some, None, sym, ◌∙◌, ◌≡◌, ap}
+use Rattle.std.proofs.Common.{sym, ◌∙◌}
 use Rattle.ir_cli.proofs.Items.{spelled, unspelled}
 use Rattle.ir_cli.proofs.order.turns_of.Goals as goal
 

@@ -1,4 +1,4 @@
-use Rattle.std.proofs.Common.{◌≡◌, ◌≤◌, length, take}
+use Rattle.std.proofs.Common.{◌≡◌, take}
 use Rattle.std.specs.String.{string_bytes}
 use Rattle.ir_cli.specs.Recording.{lines_from}
 use Rattle.ir_cli.proofs.recording.lines.Given as goal

@@ -1,4 +1,4 @@
-use Rattle.std.proofs.Common.{length, map, subst}
+use Rattle.std.proofs.Common.{length, map, subst, ◌∙◌}
 use Rattle.ir_record.specs.InOrder.{rounds}
 use Rattle.ir_record.specs.Progress.{progress, Took}
 use Rattle.ir_record.proofs.Steps.{took_both}
@@ -21,3 +21,9 @@ returns-clause-kept g c = extends_both (map g.W.World.answers c.args.self.now.wo
 
 pub returns-in_err-rounds-clause-kept : goal.returns-in_err-rounds-clause-kept
 returns-in_err-rounds-clause-kept g c = extends_both (map g.W.World.answers c.args.self.now.worlds.items) (map g.W.World.answers c.follow.new.self.worlds.items) (map g.W.World.answers c.rounds.new.self.worlds.items) c.follow.ensures.kept c.rounds.ensures.kept
+
+pub returns-clause-origins : goal.returns-clause-origins
+returns-clause-origins g c = c.rounds.ensures.origins ∙ c.follow.ensures.origins
+
+pub returns-in_err-rounds-clause-origins : goal.returns-in_err-rounds-clause-origins
+returns-in_err-rounds-clause-origins g c = c.rounds.ensures.origins ∙ c.follow.ensures.origins

@@ -1,4 +1,4 @@
-use Rattle.std.proofs.Common.{◌≡◌, arith, map, length, ap, subst}
+use Rattle.std.proofs.Common.{◌≡◌, arith, map, length, ap, subst, refl, ◌∙◌}
 use Rattle.std.specs.List.{range_with_len}
 use Rattle.ir_record.specs.Progress.{progress, TookIf}
 use Rattle.ir_record.proofs.Joining.{if_nothing, turn_moved, turn_stayed}
@@ -7,7 +7,7 @@ use Rattle.ir_record.proofs.recorder.Recorder.round.Goals as goal
 use Rattle.ir_record.proofs.recorder.Recorder.round.Goals.{then-branch, else-branch}
 
 pub loop-t-init : goal.loop-t-init
-loop-t-init g c = record { took = if_nothing (progress c.args.self.now.tape (map g.W.World.answers c.args.self.now.worlds.items)); ready = c.requires; kept = extends_same (map g.W.World.answers c.args.self.now.worlds.items) }
+loop-t-init g c = record { took = if_nothing (progress c.args.self.now.tape (map g.W.World.answers c.args.self.now.worlds.items)); ready = c.requires; kept = extends_same (map g.W.World.answers c.args.self.now.worlds.items); origins = refl }
 
 pub loop-t-preserved : goal.loop-t-preserved
 loop-t-preserved g c = record {
@@ -17,6 +17,7 @@ loop-t-preserved g c = record {
   ];
   ready = c.in_ok-turn.ensures.ready;
   kept = extends_both (map g.W.World.answers c.args.self.now.worlds.items) (map g.W.World.answers c.loop-t.self.worlds.items) (map g.W.World.answers c.turn.new.self.worlds.items) c.loop-t.invariant.kept c.turn.ensures.kept;
+  origins = c.turn.ensures.origins ∙ c.loop-t.invariant.origins;
 }
 
 pub returns-clause-took : goal.returns-clause-took
@@ -24,3 +25,6 @@ returns-clause-took g c = subst (λ n. TookIf c.loop-t.moved (range_with_len 0 n
 
 pub returns-in_err-turn-clause-kept : goal.returns-in_err-turn-clause-kept
 returns-in_err-turn-clause-kept g c = extends_both (map g.W.World.answers c.args.self.now.worlds.items) (map g.W.World.answers c.loop-t.self.worlds.items) (map g.W.World.answers c.turn.new.self.worlds.items) c.loop-t.invariant.kept c.turn.ensures.kept
+
+pub returns-in_err-turn-clause-origins : goal.returns-in_err-turn-clause-origins
+returns-in_err-turn-clause-origins g c = c.turn.ensures.origins ∙ c.loop-t.invariant.origins

@@ -1,11 +1,11 @@
-use Rattle.std.proofs.Common.{map, length, refl}
+use Rattle.std.proofs.Common.{map, length, refl, ◌∙◌}
 use Rattle.ir_record.specs.Progress.{Progress, progress}
 use Rattle.ir_record.proofs.Joining.{Rounds, no_round, more_rounds, one_round, round_over, round_fewer}
 use Rattle.ir_record.proofs.Asking.{extends_same, extends_both}
 use Rattle.ir_record.proofs.recorder.Recorder.rounds.Goals as goal
 
 pub rounds-init : goal.rounds-init
-rounds-init g c = record { took = no_round (length c.args.self.now.tape.flat.threads) (progress c.args.self.now.tape (map g.W.World.answers c.args.self.now.worlds.items)); ready = c.requires; kept = extends_same (map g.W.World.answers c.args.self.now.worlds.items) }
+rounds-init g c = record { took = no_round (length c.args.self.now.tape.flat.threads) (progress c.args.self.now.tape (map g.W.World.answers c.args.self.now.worlds.items)); ready = c.requires; kept = extends_same (map g.W.World.answers c.args.self.now.worlds.items); origins = refl }
 
 pub returns-then-not-branch-clause-took : goal.returns-then-not-branch-clause-took
 returns-then-not-branch-clause-took g c =
@@ -33,6 +33,7 @@ rounds-preserved g c =
       took = more_rounds n (length ahead.flat.threads) entry ahead new first.1.threads first (one_round (length ahead.flat.threads) c.in_ok-round.field-0 ahead new c.in_ok-round.ensures.took);
       ready = c.in_ok-round.ensures.ready;
       kept = extends_both (map g.W.World.answers c.args.self.now.worlds.items) (map g.W.World.answers c.ahead.new.self.worlds.items) (map g.W.World.answers c.round.new.self.worlds.items) (extends_both (map g.W.World.answers c.args.self.now.worlds.items) (map g.W.World.answers c.rounds.self.worlds.items) (map g.W.World.answers c.ahead.new.self.worlds.items) c.rounds.invariant.kept c.ahead.ensures.kept) c.round.ensures.kept;
+      origins = c.round.ensures.origins ∙ c.ahead.ensures.origins ∙ c.rounds.invariant.origins;
     }
 
 pub rounds-smaller : goal.rounds-smaller
@@ -44,3 +45,9 @@ returns-then-not-branch-clause-kept g c = extends_both (map g.W.World.answers c.
 
 pub returns-in_err-round-clause-kept : goal.returns-in_err-round-clause-kept
 returns-in_err-round-clause-kept g c = extends_both (map g.W.World.answers c.args.self.now.worlds.items) (map g.W.World.answers c.ahead.new.self.worlds.items) (map g.W.World.answers c.round.new.self.worlds.items) (extends_both (map g.W.World.answers c.args.self.now.worlds.items) (map g.W.World.answers c.rounds.self.worlds.items) (map g.W.World.answers c.ahead.new.self.worlds.items) c.rounds.invariant.kept c.ahead.ensures.kept) c.round.ensures.kept
+
+pub returns-then-not-branch-clause-origins : goal.returns-then-not-branch-clause-origins
+returns-then-not-branch-clause-origins g c = c.round.ensures.origins ∙ c.ahead.ensures.origins ∙ c.rounds.invariant.origins
+
+pub returns-in_err-round-clause-origins : goal.returns-in_err-round-clause-origins
+returns-in_err-round-clause-origins g c = c.round.ensures.origins ∙ c.ahead.ensures.origins ∙ c.rounds.invariant.origins

@@ -1,4 +1,4 @@
-use Rattle.std.proofs.Common.{map, length}
+use Rattle.std.proofs.Common.{◌≡◌, map, length}
 use Rattle.ir_flat.specs.Flat.{tables}
 use Rattle.ir_record.specs.Progress.{progress, IsReady, all_left}
 use Rattle.ir_record.proofs.Joining.{Rounds}
@@ -10,6 +10,7 @@ invariant-rounds g l = record {
   took : Rounds (length l.fn.self.tape.flat.threads) (progress l.fn.self.tape (map g.W.World.answers l.fn.self.worlds.items)) (progress l.self.tape (map g.W.World.answers l.self.worlds.items));
   ready : IsReady (progress l.self.tape (map g.W.World.answers l.self.worlds.items)) (map g.W.World.broken l.self.worlds.items);
   kept : Extends (map g.W.World.answers l.fn.self.worlds.items) (map g.W.World.answers l.self.worlds.items);
+  origins : map g.W.World.origin l.self.worlds.items ≡ map g.W.World.origin l.fn.self.worlds.items;
 }
 
 abbrev pub decreases-rounds : goal.decreases-rounds
