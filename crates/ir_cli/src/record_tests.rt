@@ -119,6 +119,7 @@ fn image(rt: &HostRuntime, source: &str) -> Vec<u8> {
 }
 
 // What a recording of an image took and gave.
+#[derive(Drop)]
 struct Run {
     status: u8,
     trace: Page,
