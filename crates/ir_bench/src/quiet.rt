@@ -16,6 +16,8 @@ pub struct Quiet {
 impl World for Quiet {
     ghost answers = { λ _. [] };
 
+    ghost origin = { λ _. tt };
+
     ghost broken = { λ s. s.failed };
 
     fn answer(&mut self, _kind: EnvKind) -> Result<u32, WorldErr> {

@@ -1,5 +1,5 @@
 -- What the input of the program without a subcommand holds: an image and a trace in hexadecimal, each in a line, and then commands.
-use Rattle.std.specs.Prelude.{◌≡◌, ◌==◌, ℕ, ◌+◌, ◌*◌, nat_le, Bool, List, [], ◌∷◌, length, Option, Some, None, Result, Ok, Err, if◌then◌else◌, true, IfSome}
+use Rattle.std.specs.Prelude.{◌≡◌, ◌==◌, ℕ, nat_le, Bool, List, [], ◌∷◌, length, Option, Some, None, Result, Err, if◌then◌else◌, true, IfSome}
 use Rattle.std.specs.Result.{result_ok}
 use Rattle.hex.specs.Hex.{decode_of}
 use Rattle.ir_command.specs.Words.{without_return}

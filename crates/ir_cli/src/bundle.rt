@@ -8,15 +8,11 @@ ghost use Rattle.ir_cli.specs.Taking.{TakesBytes};
 
 use crate::fault::BundleErr;
 use crate::line::{bytes_of, read_line};
-use arrayvec::ArrayVec;
+use crate::telling::tell;
 use ir_debug::{Ended, SessionErr, Sink, Source, session};
-use ir_stream::{append, write_all};
 use std::alloc::Global;
 
 const FAULT: u8 = 1;
-
-// The most bytes of a line that tells a fault.
-const MOST_WORDS: usize = 128;
 
 // The bytes of the next line of hexadecimal digits.
 fn next_bytes<R: Source>(alloc: Global, reader: &mut R) -> Result<Vec<u8>, BundleErr>
@@ -76,17 +72,6 @@ pub fn status(ended: Ended) -> u8
     }
 }
 
-// Tells why a session stopped, in one line. Nobody is left to tell where that fails.
-fn tell<E: Sink>(faults: &mut E, why: BundleErr)
-    requires { E.broken faults.old ≡ false }
-{
-    let mut text: ArrayVec<u8, MOST_WORDS> = ArrayVec::new();
-    append(&mut text, b"ir: ");
-    append(&mut text, why.words().as_bytes());
-    append(&mut text, b"\n");
-    let _ = write_all(faults, text.as_slice());
-}
-
 /// Runs a bundled session, and gives the exit status: 0 where it ended, 3 for a refused image or trace, 4 for a trace
 /// that doesn't fit, 1 for a fault, which is told in one line.
 pub fn bundle<R: Source, W: Sink, E: Sink>(
@@ -106,7 +91,7 @@ pub fn bundle<R: Source, W: Sink, E: Sink>(
     match bundled(alloc, reader, writer) {
         Ok(ended) => status(ended),
         Err(why) => {
-            tell(faults, why);
+            tell(faults, why.words());
             FAULT
         }
     }

@@ -9,16 +9,19 @@ use std::fs::File;
 use std::io::{ErrorKind, Read};
 use thiserror::Error;
 
-/// The most bytes of a file that is read.
-pub const MOST_BYTES: usize = 100_000_000;
+/// The most bytes of a source or an image.
+pub const MOST_BYTES: u32 = 100_000_000;
+
+/// The most bytes of a file that guests read.
+pub const MOST_INPUT: u32 = 1_048_576;
 
 /// Why a file was not read.
 #[derive(Debug, Drop, Error)]
 pub enum FileErr {
     #[error("can't be read")]
     Unreadable,
-    #[error("is over 100000000 bytes")]
-    TooLong,
+    #[error("is over {0} bytes")]
+    TooLong(u32),
     #[error("doesn't fit into memory")]
     NoMem,
 }
@@ -31,27 +34,27 @@ impl From<AllocError> for FileErr {
     }
 }
 
-/// All bytes of a reader, if they are at most 100,000,000.
-pub fn read_all<R: Read + Drop>(alloc: Global, reader: R) -> Result<Vec<u8>, FileErr>
+/// All bytes of a reader, if they are at most so many.
+pub fn read_all<R: Read + Drop>(alloc: Global, reader: R, most: u32) -> Result<Vec<u8>, FileErr>
     ensures all { IfOk result (λ v. IfSome (R.remaining reader) (λ xs. v.items ≡ xs)) }
-    ensures few { IfOk result (λ v. length v.items ≤ 100000000) }
+    ensures few { IfOk result (λ v. length v.items ≤ most) }
 {
     let mut bytes = Vec::new(alloc);
-    match reader.take(MOST_BYTES as u64 + 1).read_to_end(&mut bytes) {
-        Ok(_) if bytes.len() > MOST_BYTES => Err(FileErr::TooLong),
+    match reader.take(most as u64 + 1).read_to_end(&mut bytes) {
+        Ok(_) if bytes.len() > most as usize => Err(FileErr::TooLong(most)),
         Ok(_) => Ok(bytes),
         Err(error) if error.kind() == ErrorKind::OutOfMemory => Err(FileErr::NoMem),
         Err(_) => Err(FileErr::Unreadable),
     }
 }
 
-/// The bytes of a file.
+/// The bytes of a file, which may have so many at most.
 ///
 /// # Errors
-/// No such file, one that can't be read, one over 100,000,000 bytes, or want of memory.
-pub fn read_file(rt: &HostRuntime, path: &str) -> Result<Vec<u8>, FileErr> {
+/// No such file, one that can't be read, one of more bytes, or want of memory.
+pub fn read_file(rt: &HostRuntime, path: &str, most: u32) -> Result<Vec<u8>, FileErr> {
     match File::open(rt, path) {
-        Ok(file) => read_all(rt.alloc(), file),
+        Ok(file) => read_all(rt.alloc(), file, most),
         Err(_) => Err(FileErr::Unreadable),
     }
 }

@@ -10,17 +10,27 @@ mod examples;
 mod fault;
 mod files;
 mod line;
+mod numeral;
+mod order;
+mod program_world;
+mod record_fault;
+#[cfg(test)]
+mod record_tests;
+mod recording;
+mod sources;
+mod telling;
 #[cfg(test)]
 mod tests;
 mod words;
 
 use assembling::asm_run;
 use bundle::bundle;
-use files::{NewFile, read_file};
+use files::{MOST_BYTES, MOST_INPUT, NewFile, read_file};
 use ir_debug::{FromStd, Sink};
+use recording::record_run;
 use std::io::{self, BufReader};
 use std::process::ExitCode;
-use words::{Asked, read_words};
+use words::{Asked, RecordWords, read_words};
 
 const DONE: u8 = 0;
 
@@ -45,14 +55,21 @@ fn serve(rt: &HostRuntime) -> u8 {
     bundle(rt.alloc(), &mut reader, &mut writer, &mut faults)
 }
 
+// The bytes of a file; else it is told why there are none.
+fn bytes_of(rt: &HostRuntime, path: &str, most: u32) -> Option<Vec<u8>> {
+    match read_file(rt, path, most) {
+        Ok(bytes) => Some(bytes),
+        Err(why) => {
+            let _ = rt.eprintln(format_args!("ir: {path} {why}"));
+            None
+        }
+    }
+}
+
 // Assembles a file into another.
 fn assemble_file(rt: &HostRuntime, source: &str, image: &str) -> u8 {
-    let bytes = match read_file(rt, source) {
-        Ok(bytes) => bytes,
-        Err(why) => {
-            let _ = rt.eprintln(format_args!("ir: {source} {why}"));
-            return FAULT;
-        }
+    let Some(bytes) = bytes_of(rt, source, MOST_BYTES) else {
+        return FAULT;
     };
     let mut file = NewFile::new(rt, image);
     let mut faults = FromStd::new(rt.stderr());
@@ -65,10 +82,43 @@ fn assemble_file(rt: &HostRuntime, source: &str, image: &str) -> u8 {
     status
 }
 
+// The bytes that guests read, none without a file.
+fn input_of(rt: &HostRuntime, words: &RecordWords) -> Option<Vec<u8>> {
+    match &words.input {
+        Some(path) => bytes_of(rt, path.as_str(), MOST_INPUT),
+        None => Some(Vec::new(rt.alloc())),
+    }
+}
+
+// Records a guest into a file.
+fn record_file(rt: &HostRuntime, words: &RecordWords) -> u8 {
+    let Some(image) = bytes_of(rt, words.image.as_str(), MOST_BYTES) else {
+        return FAULT;
+    };
+    let Some(input) = input_of(rt, words) else {
+        return FAULT;
+    };
+    let mut trace = NewFile::new(rt, words.trace.as_str());
+    let mut out = FromStd::new(io::writer(rt));
+    let mut faults = FromStd::new(rt.stderr());
+    record_run(
+        rt.alloc(),
+        image.as_slice(),
+        Some(words.order.as_str()),
+        words.budget,
+        words.random,
+        input.as_slice(),
+        &mut trace,
+        &mut out,
+        &mut faults,
+    )
+}
+
 fn main(rt: HostRuntime) -> ExitCode {
     ExitCode::from(match read_words(&rt) {
         Asked::Session => serve(&rt),
         Asked::Assembling(source, image) => assemble_file(&rt, source.as_str(), image.as_str()),
+        Asked::Recording(words) => record_file(&rt, &words),
         Asked::Help(text) => match rt.print(text) {
             Ok(()) => DONE,
             Err(_) => FAULT,

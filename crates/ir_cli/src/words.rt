@@ -1,5 +1,8 @@
 //! The words that the program is started with.
 
+ghost use Rattle.std.specs.Prelude.{◌≤◌};
+
+use crate::numeral::number_within;
 use clap::{Arg, ArgMatches, Command, Error};
 use std::alloc::{AllocError, Global};
 use std::{env, io};
@@ -44,6 +47,55 @@ A fault is told on standard error as `line L error C`, C being
 Exit status: 0 assembled, 1 a file that can't be read or written, 2 bad words, 3 a fault of the source.
 ";
 
+const RECORD: &str = "record";
+
+const TRACE: &str = "TRACE";
+
+const ORDER: &str = "order";
+
+const BUDGET: &str = "budget";
+
+const RANDOM: &str = "random";
+
+const INPUT: &str = "input";
+
+const MOST_BUDGET: u64 = 1_000_000_000_000;
+
+const RECORD_ABOUT: &str = "Records a guest in a given order, and prints a line for each thread";
+
+const RECORD_AFTER: &str =
+    "LIST is items joined by commas: `T`, one step of thread T; or `TxN`, N steps of it, N from 1 to 1000000. An entry
+of a thread that is done or must wait takes no step. After the list, rounds over the threads from 0 on take one step of
+each that has one, until all are done. 1x18 lets thread 1 take 18 steps before thread 0 takes its first.
+CLOCK counts its own calls from 0, in each thread; RANDOM gives PCG32's words, started by S plus the thread's number;
+each thread reads its own copy of FILE, of at most 1048576 bytes, or nothing.
+A line is `thread T end E code C steps S events N`; the ends E are
+   1 END                   6 a bad load              11 an object that isn't held
+   2 EBREAK                7 a bad store             12 too much output
+   3 no instruction        8 an unknown call         13 the budget is spent
+   4 a misaligned jump     9 no such object          14 too many events
+   5 outside the code     10 an entry out of order
+Exit status: 0 recorded, 1 a file that can't be read or written or is too long, 2 bad words, 3 a refused image or LIST.
+";
+
+/// What is recorded, how, and where to.
+#[derive(Drop)]
+pub struct RecordWords {
+    /// The file of the image.
+    pub image: String,
+    /// The file that the trace is written to.
+    pub trace: String,
+    /// The list that spells the order.
+    pub order: String,
+    /// The most steps of each thread.
+    pub budget: u64,
+    /// Where random words start.
+    pub random: u64,
+    /// The file that guests read.
+    pub input: Option<String>,
+    ghost within: { budget ≤ 1000000000000 },
+}
+
 /// What the words ask for.
 #[derive(Drop)]
 pub enum Asked {
@@ -51,6 +103,8 @@ pub enum Asked {
     Session,
     /// The image of the source in the first file, into the second file.
     Assembling(String, String),
+    /// A recording.
+    Recording(RecordWords),
     /// This text, about the program.
     Help(String),
     /// Nothing that there is, for this reason.
@@ -73,12 +127,59 @@ fn asm_command<'a>(alloc: Global) -> Result<Command<'a>, AllocError> {
         .arg(image)
 }
 
+fn record_command<'a>(alloc: Global) -> Result<Command<'a>, AllocError> {
+    let image = Arg::new(alloc, IMAGE)
+        .required(true)
+        .help("The file with the image");
+    let trace = Arg::new(alloc, TRACE)
+        .required(true)
+        .help("The file that the trace is written to");
+    let order = Arg::new(alloc, ORDER)
+        .long(ORDER)
+        .value_name("LIST")
+        .required(true)
+        .help("Which thread takes each next step");
+    Command::new(alloc, RECORD)
+        .about(RECORD_ABOUT)
+        .after_help(RECORD_AFTER)
+        .arg(image)?
+        .arg(trace)?
+        .arg(order)?
+        .arg(budget_arg(alloc))?
+        .arg(random_arg(alloc))?
+        .arg(input_arg(alloc))
+}
+
+fn budget_arg<'a>(alloc: Global) -> Arg<'a> {
+    Arg::new(alloc, BUDGET)
+        .long(BUDGET)
+        .value_name("B")
+        .default_value("1000000")
+        .help("The most steps of each thread, at most 1000000000000")
+}
+
+fn random_arg<'a>(alloc: Global) -> Arg<'a> {
+    Arg::new(alloc, RANDOM)
+        .long(RANDOM)
+        .value_name("S")
+        .default_value("0")
+        .help("Where random words start, at most 18446744073709551615")
+}
+
+fn input_arg<'a>(alloc: Global) -> Arg<'a> {
+    Arg::new(alloc, INPUT)
+        .long(INPUT)
+        .value_name("FILE")
+        .help("The file that guests read")
+}
+
 fn command<'a>(alloc: Global) -> Result<Command<'a>, AllocError> {
     Command::new(alloc, "ir")
         .version("0.1.0")
         .about(ABOUT)
         .after_help(AFTER)
         .subcommand(asm_command(alloc)?)?
+        .subcommand(record_command(alloc)?)?
         .bin_name("ir")
 }
 
@@ -96,13 +197,51 @@ fn asked_for(alloc: Global, error: &Error) -> Result<Asked, AllocError> {
     }
 }
 
+fn text_of(alloc: Global, matches: &ArgMatches<'_>, name: &str) -> Result<String, AllocError> {
+    String::from_str(alloc, matches.get_str(name).unwrap_or_default())
+}
+
+fn input_of(alloc: Global, matches: &ArgMatches<'_>) -> Result<Option<String>, AllocError> {
+    match matches.get_str(INPUT) {
+        Some(path) => Ok(Some(String::from_str(alloc, path)?)),
+        None => Ok(None),
+    }
+}
+
 fn assembling(alloc: Global, matches: &ArgMatches<'_>) -> Result<Asked, AllocError> {
-    let source = matches.get_str(SOURCE).unwrap_or_default();
-    let image = matches.get_str(IMAGE).unwrap_or_default();
     Ok(Asked::Assembling(
-        String::from_str(alloc, source)?,
-        String::from_str(alloc, image)?,
+        text_of(alloc, matches, SOURCE)?,
+        text_of(alloc, matches, IMAGE)?,
     ))
+}
+
+fn recording(alloc: Global, matches: &ArgMatches<'_>) -> Result<Asked, AllocError> {
+    let budget = matches.get_str(BUDGET).unwrap_or_default();
+    let Some(budget) = number_within(0, MOST_BUDGET, budget) else {
+        let why = "the budget is no number up to 1000000000000";
+        return Ok(Asked::Nothing(String::from_str(alloc, why)?));
+    };
+    let random = matches.get_str(RANDOM).unwrap_or_default();
+    let Some(random) = number_within(0, u64::MAX, random) else {
+        let why = "the start of random words is no number up to 18446744073709551615";
+        return Ok(Asked::Nothing(String::from_str(alloc, why)?));
+    };
+    Ok(Asked::Recording(RecordWords {
+        image: text_of(alloc, matches, IMAGE)?,
+        trace: text_of(alloc, matches, TRACE)?,
+        order: text_of(alloc, matches, ORDER)?,
+        budget,
+        random,
+        input: input_of(alloc, matches)?,
+    }))
+}
+
+fn by_subcommand(alloc: Global, matches: &ArgMatches<'_>) -> Result<Asked, AllocError> {
+    match matches.subcommand() {
+        Some((ASM, matches)) => assembling(alloc, matches),
+        Some((RECORD, matches)) => recording(alloc, matches),
+        _ => Ok(Asked::Session),
+    }
 }
 
 fn parsed(alloc: Global, words: &[String]) -> Asked {
@@ -110,10 +249,7 @@ fn parsed(alloc: Global, words: &[String]) -> Asked {
         return Asked::NoMem;
     };
     match command.try_get_matches_from(words) {
-        Ok(matches) => match matches.subcommand_matches(ASM) {
-            Some(matches) => assembling(alloc, matches).unwrap_or(Asked::NoMem),
-            None => Asked::Session,
-        },
+        Ok(matches) => by_subcommand(alloc, &matches).unwrap_or(Asked::NoMem),
         Err(error) => asked_for(alloc, &error).unwrap_or(Asked::NoMem),
     }
 }

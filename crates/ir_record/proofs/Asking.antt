@@ -71,3 +71,9 @@ one_more_works {W} broken worlds new w works e h t = ap (λ z. get_or (map broke
 
 pub one_more_long : {W : Type 0} (worlds new : List W) (w : W) (n : ℕ) → length worlds ≡ n → new ≡ worlds ++ w ∷ [] → length new ≡ n + 1
 one_more_long worlds new w n h e = let k = length-append worlds (w ∷ []) in let m : length new ≡ length (worlds ++ w ∷ []) = ap (λ xs. length xs) e in omega (arith, h, k, m)
+
+-- a world that is as before, seen by a function
+pub same_at : {W B : Type 0} (f : W → B) (worlds : List W) (t : ℕ) (w new : W) → w ≡ get_or worlds t w → f new ≡ f w → map f (set worlds t new) ≡ map f worlds
+same_at f [] t w new e h = refl
+same_at f (x ∷ worlds) zero w new e h = ap (λ z. z ∷ map f worlds) (h ∙ ap f e)
+same_at f (x ∷ worlds) (suc t) w new e h = ap (λ z. f x ∷ z) (same_at f worlds t w new e h)

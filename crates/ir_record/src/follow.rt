@@ -29,6 +29,7 @@ impl<W: World> Recorder<W> {
         ensures ready { OnOk result (IsReady (progress self.new.tape (map W.answers self.new.worlds.items)) (map W.broken self.new.worlds.items)) }
         ensures failed { IfErr result (λ f. IsFirstFailed (map W.broken self.new.worlds.items) f.thread) }
         ensures kept { Extends (map W.answers self.old.worlds.items) (map W.answers self.new.worlds.items) }
+        ensures origins { map W.origin self.new.worlds.items ≡ map W.origin self.old.worlds.items }
     {
         let mut left = count;
         'turns: while left > 0 {
@@ -51,6 +52,7 @@ impl<W: World> Recorder<W> {
         ensures ready { OnOk result (IsReady (progress self.new.tape (map W.answers self.new.worlds.items)) (map W.broken self.new.worlds.items)) }
         ensures failed { IfErr result (λ f. IsFirstFailed (map W.broken self.new.worlds.items) f.thread) }
         ensures kept { Extends (map W.answers self.old.worlds.items) (map W.answers self.new.worlds.items) }
+        ensures origins { map W.origin self.new.worlds.items ≡ map W.origin self.old.worlds.items }
     {
         let mut at = 0;
         'order: while at < order.len() {

@@ -29,6 +29,7 @@ impl<W: World> Recorder<W> {
         ensures ready { OnOk result (IsReady (progress self.new.tape (map W.answers self.new.worlds.items)) (map W.broken self.new.worlds.items)) }
         ensures failed { IfErr result (λ f. IsFirstFailed (map W.broken self.new.worlds.items) f.thread) }
         ensures kept { Extends (map W.answers self.old.worlds.items) (map W.answers self.new.worlds.items) }
+        ensures origins { map W.origin self.new.worlds.items ≡ map W.origin self.old.worlds.items }
     {
         self.follow(order)?;
         self.rounds(ahead)?;
@@ -56,6 +57,8 @@ pub fn record_in_order<W: World + Drop>(
     // The run by the order, which is complete: its trace, what its threads printed, and what their worlds answered.
     ensures recorded { IfOk result (λ r. IsRecording image.now budget order.now (map W.answers worlds.items) r.0 (map (λ o. o.bytes.items) r.1.each.items) (map (λ o. W.answers o.world) r.1.each.items)) }
     ensures works { IfOk result (λ r. NoneFailed (map (λ o. W.broken o.world) r.1.each.items)) }
+    // The worlds are those that were handed in.
+    ensures origins { IfOk result (λ r. map (λ o. W.origin o.world) r.1.each.items ≡ map W.origin worlds.items) }
     ensures failed { IfErr result (λ e. IsFailure W.answers W.broken worlds.items e) }
 {
     let mut recorder = Recorder {

@@ -27,6 +27,7 @@ impl<W: World> Recorder<W> {
         ensures ready { OnOk result (IsReady (progress self.new.tape (map W.answers self.new.worlds.items)) (map W.broken self.new.worlds.items)) }
         ensures failed { IfErr result (λ f. IsFirstFailed (map W.broken self.new.worlds.items) f.thread) }
         ensures kept { Extends (map W.answers self.old.worlds.items) (map W.answers self.new.worlds.items) }
+        ensures origins { map W.origin self.new.worlds.items ≡ map W.origin self.old.worlds.items }
     {
         let lead = ahead[t];
         if lead > 0 {
@@ -50,6 +51,7 @@ impl<W: World> Recorder<W> {
         ensures ready { OnOk result (IsReady (progress self.new.tape (map W.answers self.new.worlds.items)) (map W.broken self.new.worlds.items)) }
         ensures failed { IfErr result (λ f. IsFirstFailed (map W.broken self.new.worlds.items) f.thread) }
         ensures kept { Extends (map W.answers self.old.worlds.items) (map W.answers self.new.worlds.items) }
+        ensures origins { map W.origin self.new.worlds.items ≡ map W.origin self.old.worlds.items }
     {
         let mut moved = false;
         for t in 0..self.tape.flat.threads().len() {
@@ -69,6 +71,7 @@ impl<W: World> Recorder<W> {
         ensures ready { OnOk result (IsReady (progress self.new.tape (map W.answers self.new.worlds.items)) (map W.broken self.new.worlds.items)) }
         ensures failed { IfErr result (λ f. IsFirstFailed (map W.broken self.new.worlds.items) f.thread) }
         ensures kept { Extends (map W.answers self.old.worlds.items) (map W.answers self.new.worlds.items) }
+        ensures origins { map W.origin self.new.worlds.items ≡ map W.origin self.old.worlds.items }
     {
         'rounds: while self.round(ahead)? {}
         Ok(())

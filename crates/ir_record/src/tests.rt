@@ -22,6 +22,8 @@ struct Script {
 impl World for Script {
     ghost answers = { λ s. s.told.items };
 
+    ghost origin = { λ _. tt };
+
     ghost broken = { λ s. s.failed };
 
     fn answer(&mut self, kind: EnvKind) -> Result<u32, WorldErr> {

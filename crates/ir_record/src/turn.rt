@@ -25,6 +25,7 @@ fn answer_to<W: World>(worlds: &mut Vec<W>, t: usize, kind: EnvKind) -> Result<u
     ensures works { OnOk result (NoneFailed (map W.broken worlds.new.items)) }
     ensures failed { IfErr result (λ f. IsFirstFailed (map W.broken worlds.new.items) f.thread) }
     ensures kept { Extends (map W.answers worlds.old.items) (map W.answers worlds.new.items) }
+    ensures origins { map W.origin worlds.new.items ≡ map W.origin worlds.old.items }
 {
     match worlds[t].answer(kind) {
         Ok(value) => Ok(value),
@@ -41,6 +42,7 @@ impl<W: World> Recorder<W> {
         ensures ready { OnOk result (IsReady (progress self.new.tape (map W.answers self.new.worlds.items)) (map W.broken self.new.worlds.items)) }
         ensures failed { IfErr result (λ f. IsFirstFailed (map W.broken self.new.worlds.items) f.thread) }
         ensures kept { Extends (map W.answers self.old.worlds.items) (map W.answers self.new.worlds.items) }
+        ensures origins { map W.origin self.new.worlds.items ≡ map W.origin self.old.worlds.items }
     {
         let asked = self.tape.ask(t);
         match asked {

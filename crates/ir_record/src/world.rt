@@ -10,9 +10,15 @@ use ir_thread::EnvKind;
 #[derive(Clone, Copy, Debug, PartialEq, Eq)]
 pub struct WorldErr;
 
-/// Answers a thread's calls of the environment. In clauses the list of its answers so far, and whether it has failed.
+/// Answers a thread's calls of the environment. In clauses the list of its answers so far, whether it has failed, and what
+/// it was made with.
 pub trait World {
     ghost answers: { Self → List Answered };
+
+    /// What it was made with, which no answer changes.
+    ghost Origin: { Type 0 } = { Unit {0} };
+
+    ghost origin: { Self → Self.Origin };
 
     ghost broken: { Self → Bool };
 
@@ -22,6 +28,7 @@ pub trait World {
     /// The world has failed; its list of answers stays.
     fn answer(&mut self, kind: EnvKind) -> Result<u32, WorldErr>
         requires { broken self.old ≡ false }
+        ensures origin { origin self.new ≡ origin self.old }
         ensures fits { IfOk result (λ value. is_result kind value ≡ true) }
         ensures answered { IfOk result (λ value. answers self.new ≡ answers self.old ++ (kind, value) ∷ []) }
         ensures works { OnOk result (broken self.new ≡ false) }

@@ -1,4 +1,4 @@
-use Rattle.std.proofs.Common.{rules, refl, ◌≡◌, Err, ap, ◌∙◌}
+use Rattle.std.proofs.Common.{rules, refl, Err, ap, ◌∙◌}
 use Rattle.ir_debug.specs.declared.ended.SessionErr.{SessionErr}
 use Rattle.ir_cli.proofs.TakenLines.{refused_image, refused_trace, bundled_from, was_too_long}
 use Rattle.ir_cli.proofs.bundle.bundled.Goals as goal

@@ -1,5 +1,5 @@
-use Rattle.std.proofs.Common.{rules, ◌≡◌, sym, ap, ◌∙◌}
-use Rattle.ir_cli.proofs.TakenLines.{refused_line, refused_long}
+use Rattle.std.proofs.Common.{rules}
+use Rattle.ir_cli.proofs.TakenLines.{refused_long}
 use Rattle.ir_cli.proofs.bundle.next_bytes.Goals as goal
 
 pub returns-in_err-line-clause-bad : goal.returns-in_err-line-clause-bad

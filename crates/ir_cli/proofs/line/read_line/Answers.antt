@@ -1,4 +1,4 @@
-use Rattle.std.proofs.Common.{◌≡◌, ◌+◌, ◌<◌, length, vec_len, arith}
+use Rattle.std.proofs.Common.{arith}
 use Rattle.ir_cli.proofs.TakenLines.{takes_end, takes_byte, longer}
 use Rattle.ir_cli.proofs.line.read_line.Goals as goal
 

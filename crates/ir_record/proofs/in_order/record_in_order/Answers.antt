@@ -44,3 +44,6 @@ returns-clause-recorded g c =
 
 pub returns-clause-works : goal.returns-clause-works
 returns-clause-works g c = subst NoneFailed (sym (mapped_twice g.W.World.broken (λ o. o.world) c.in_ok-outputs.outputs.each.items c.record.new.self.worlds.items c.in_ok-outputs.ensures.worlds)) c.in_default.ensures.ready.works
+
+pub returns-clause-origins : goal.returns-clause-origins
+returns-clause-origins g c = mapped_twice g.W.World.origin (λ o. o.world) c.in_ok-outputs.outputs.each.items c.record.new.self.worlds.items c.in_ok-outputs.ensures.worlds ∙ c.record.ensures.origins

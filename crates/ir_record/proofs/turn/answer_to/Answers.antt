@@ -1,5 +1,5 @@
 use Rattle.std.proofs.Common.{[], ◌∷◌, ◌∙◌, sym, append-nil}
-use Rattle.ir_record.proofs.Asking.{works_at, gained_at, still_works, first_failed, asked_extends}
+use Rattle.ir_record.proofs.Asking.{works_at, gained_at, still_works, first_failed, asked_extends, same_at}
 use Rattle.ir_record.proofs.turn.answer_to.Goals as goal
 
 pub answer-requires : goal.answer-requires
@@ -19,3 +19,9 @@ returns-in-Ok-clause-kept g c = asked_extends g.W.World.answers c.args.worlds.no
 
 pub returns-in-Err-clause-kept : goal.returns-in-Err-clause-kept
 returns-in-Err-clause-kept g c = asked_extends g.W.World.answers c.args.worlds.now.items c.args.t c.index_mut.result.now c.answer.new.self [] c.requires.thread c.index_mut.ensures.value (c.in-Err.ensures.kept ∙ sym (append-nil (g.W.World.answers c.index_mut.result.now)))
+
+pub returns-in-Ok-clause-origins : goal.returns-in-Ok-clause-origins
+returns-in-Ok-clause-origins g c = same_at g.W.World.origin c.args.worlds.now.items c.args.t c.index_mut.result.now c.answer.new.self c.index_mut.ensures.value c.in-Ok.ensures.origin
+
+pub returns-in-Err-clause-origins : goal.returns-in-Err-clause-origins
+returns-in-Err-clause-origins g c = same_at g.W.World.origin c.args.worlds.now.items c.args.t c.index_mut.result.now c.answer.new.self c.index_mut.ensures.value c.in-Err.ensures.origin

@@ -1,4 +1,4 @@
-use Rattle.std.proofs.Common.{arith, map, refl}
+use Rattle.std.proofs.Common.{arith, map, refl, ◌∙◌}
 use Rattle.std.specs.Prelude.{slice_index}
 use Rattle.ir_record.specs.Progress.{progress}
 use Rattle.ir_record.proofs.Steps.{took_nothing}
@@ -7,7 +7,7 @@ use Rattle.ir_record.proofs.Asking.{extends_same, extends_both}
 use Rattle.ir_record.proofs.recorder.Recorder.follow.Goals as goal
 
 pub order-init : goal.order-init
-order-init g c = record { within = omega arith; took = took_nothing (progress c.args.self.now.tape (map g.W.World.answers c.args.self.now.worlds.items)); ready = c.requires; kept = extends_same (map g.W.World.answers c.args.self.now.worlds.items) }
+order-init g c = record { within = omega arith; took = took_nothing (progress c.args.self.now.tape (map g.W.World.answers c.args.self.now.worlds.items)); ready = c.requires; kept = extends_same (map g.W.World.answers c.args.self.now.worlds.items); origins = refl }
 
 pub order-preserved : goal.order-preserved
 order-preserved g c = record {
@@ -16,6 +16,7 @@ order-preserved g c = record {
       c.order-test.true refl c.repeats-more.ensures.same c.order.invariant.took c.in_ok-turns.ensures.took;
   ready = c.in_ok-turns.ensures.ready;
   kept = extends_both (map g.W.World.answers c.args.self.now.worlds.items) (map g.W.World.answers c.order.self.worlds.items) (map g.W.World.answers c.turns.new.self.worlds.items) c.order.invariant.kept c.turns.ensures.kept;
+  origins = c.turns.ensures.origins ∙ c.order.invariant.origins;
 }
 
 pub returns-clause-took : goal.returns-clause-took
@@ -23,3 +24,6 @@ returns-clause-took g c = followed_end c.args.order.now c.order.at (progress c.a
 
 pub returns-in_err-turns-clause-kept : goal.returns-in_err-turns-clause-kept
 returns-in_err-turns-clause-kept g c = extends_both (map g.W.World.answers c.args.self.now.worlds.items) (map g.W.World.answers c.order.self.worlds.items) (map g.W.World.answers c.turns.new.self.worlds.items) c.order.invariant.kept c.turns.ensures.kept
+
+pub returns-in_err-turns-clause-origins : goal.returns-in_err-turns-clause-origins
+returns-in_err-turns-clause-origins g c = c.turns.ensures.origins ∙ c.order.invariant.origins

@@ -1,4 +1,4 @@
-use Rattle.std.proofs.Common.{◌≤◌, ◌-◌, map, length, take}
+use Rattle.std.proofs.Common.{◌≡◌, ◌≤◌, ◌-◌, map, length, take}
 use Rattle.ir_record.specs.Progress.{progress, Took, IsReady}
 use Rattle.ir_record.specs.Worlds.{Extends}
 use Rattle.ir_record.proofs.recorder.Recorder.follow.Given as goal
@@ -9,6 +9,7 @@ invariant-order g l = record {
   took : Took (take l.at l.order) (progress l.fn.self.tape (map g.W.World.answers l.fn.self.worlds.items)) (progress l.self.tape (map g.W.World.answers l.self.worlds.items));
   ready : IsReady (progress l.self.tape (map g.W.World.answers l.self.worlds.items)) (map g.W.World.broken l.self.worlds.items);
   kept : Extends (map g.W.World.answers l.fn.self.worlds.items) (map g.W.World.answers l.self.worlds.items);
+  origins : map g.W.World.origin l.self.worlds.items ≡ map g.W.World.origin l.fn.self.worlds.items;
 }
 
 abbrev pub decreases-order : goal.decreases-order

@@ -24,3 +24,9 @@ returns-in_err-rounds-clause-kept g c = extends_both (map g.W.World.answers c.ar
 
 pub rounds-requires-clause-level : goal.rounds-requires-clause-level
 rounds-requires-clause-level g c = c.requires.level ∙ ap (λ n. replicate n 0) (sym c.in_ok-follow.ensures.took.threads)
+
+pub returns-clause-origins : goal.returns-clause-origins
+returns-clause-origins g c = c.rounds.ensures.origins ∙ c.follow.ensures.origins
+
+pub returns-in_err-rounds-clause-origins : goal.returns-in_err-rounds-clause-origins
+returns-in_err-rounds-clause-origins g c = c.rounds.ensures.origins ∙ c.follow.ensures.origins

@@ -14,6 +14,7 @@ loop-t-init g c = record {
   threads = refl;
   ready = c.requires.ready;
   kept = extends_same (map g.W.World.answers c.args.self.now.worlds.items);
+  origins = refl;
 }
 
 pub loop-t-preserved : goal.loop-t-preserved
@@ -32,6 +33,7 @@ loop-t-preserved g c = record {
   threads = c.in_ok-turn_ahead.ensures.threads ∙ c.loop-t.invariant.threads;
   ready = c.in_ok-turn_ahead.ensures.ready;
   kept = extends_both (map g.W.World.answers c.args.self.now.worlds.items) (map g.W.World.answers c.loop-t.self.worlds.items) (map g.W.World.answers c.turn_ahead.new.self.worlds.items) c.loop-t.invariant.kept c.turn_ahead.ensures.kept;
+  origins = c.turn_ahead.ensures.origins ∙ c.loop-t.invariant.origins;
 }
 
 pub returns-clause-went : goal.returns-clause-went
@@ -40,3 +42,6 @@ returns-clause-went g c = λ s h. subst (λ n. WentIf c.loop-t.moved (range_with
 
 pub returns-in_err-turn_ahead-clause-kept : goal.returns-in_err-turn_ahead-clause-kept
 returns-in_err-turn_ahead-clause-kept g c = extends_both (map g.W.World.answers c.args.self.now.worlds.items) (map g.W.World.answers c.loop-t.self.worlds.items) (map g.W.World.answers c.turn_ahead.new.self.worlds.items) c.loop-t.invariant.kept c.turn_ahead.ensures.kept
+
+pub returns-in_err-turn_ahead-clause-origins : goal.returns-in_err-turn_ahead-clause-origins
+returns-in_err-turn_ahead-clause-origins g c = c.turn_ahead.ensures.origins ∙ c.loop-t.invariant.origins

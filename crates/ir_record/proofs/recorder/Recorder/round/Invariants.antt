@@ -15,4 +15,5 @@ invariant-loop-t g l = record {
   threads : length l.self.tape.flat.threads ≡ length l.fn.self.tape.flat.threads;
   ready : IsReady (progress l.self.tape (map g.W.World.answers l.self.worlds.items)) (map g.W.World.broken l.self.worlds.items);
   kept : Extends (map g.W.World.answers l.fn.self.worlds.items) (map g.W.World.answers l.self.worlds.items);
+  origins : map g.W.World.origin l.self.worlds.items ≡ map g.W.World.origin l.fn.self.worlds.items;
 }

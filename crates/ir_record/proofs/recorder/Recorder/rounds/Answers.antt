@@ -18,6 +18,7 @@ rounds-init g c =
       each = ap (λ xs. length xs) c.requires.level ∙ length-replicate {A = ℕ} n 0;
       ready = c.requires.ready;
       kept = extends_same (map g.W.World.answers c.args.self.now.worlds.items);
+      origins = refl;
     }
 
 -- the round that was taken, from where the rounds before it lead
@@ -37,6 +38,7 @@ rounds-preserved g c =
       each = c.in_ok-round.ensures.each;
       ready = c.in_ok-round.ensures.ready;
       kept = extends_both (map g.W.World.answers c.args.self.now.worlds.items) (map g.W.World.answers c.rounds.self.worlds.items) (map g.W.World.answers c.round.new.self.worlds.items) c.rounds.invariant.kept c.round.ensures.kept;
+      origins = c.round.ensures.origins ∙ c.rounds.invariant.origins;
     }
 
 pub rounds-smaller : goal.rounds-smaller
@@ -79,3 +81,9 @@ returns-clause-kept g c = extends_both (map g.W.World.answers c.args.self.now.wo
 
 pub returns-in_err-round-clause-kept : goal.returns-in_err-round-clause-kept
 returns-in_err-round-clause-kept g c = extends_both (map g.W.World.answers c.args.self.now.worlds.items) (map g.W.World.answers c.rounds.self.worlds.items) (map g.W.World.answers c.round.new.self.worlds.items) c.rounds.invariant.kept c.round.ensures.kept
+
+pub returns-clause-origins : goal.returns-clause-origins
+returns-clause-origins g c = c.round.ensures.origins ∙ c.rounds.invariant.origins
+
+pub returns-in_err-round-clause-origins : goal.returns-in_err-round-clause-origins
+returns-in_err-round-clause-origins g c = c.round.ensures.origins ∙ c.rounds.invariant.origins

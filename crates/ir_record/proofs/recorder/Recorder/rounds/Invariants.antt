@@ -12,6 +12,7 @@ invariant-rounds g l = record {
   each : length l.ahead.items ≡ length l.self.tape.flat.threads;
   ready : IsReady (progress l.self.tape (map g.W.World.answers l.self.worlds.items)) (map g.W.World.broken l.self.worlds.items);
   kept : Extends (map g.W.World.answers l.fn.self.worlds.items) (map g.W.World.answers l.self.worlds.items);
+  origins : map g.W.World.origin l.self.worlds.items ≡ map g.W.World.origin l.fn.self.worlds.items;
 }
 
 abbrev pub decreases-rounds : goal.decreases-rounds

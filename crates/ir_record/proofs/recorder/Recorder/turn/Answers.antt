@@ -31,6 +31,7 @@ returns-in_default g c = record {
       c.requires.ready (c.go.ensures.took (map g.W.World.answers c.args.self.now.worlds.items)) c.go.ensures.tape refl c.requires.ready.works;
   failed = tt;
   kept = extends_same (map g.W.World.answers c.args.self.now.worlds.items);
+  origins = refl;
 }
 
 pub returns-in-Enter-clause-kept : goal.returns-in-Enter-clause-kept

@@ -1,4 +1,4 @@
-use Rattle.std.proofs.Common.{◌≡◌, ◌-◌, ◌+◌, arith, map, length, replicate, refl, ap, subst}
+use Rattle.std.proofs.Common.{◌≡◌, ◌-◌, ◌+◌, arith, map, length, replicate, refl, ap, subst, ◌∙◌}
 use Rattle.ir_record.specs.Progress.{Progress, progress, Took}
 use Rattle.ir_record.proofs.Steps.{took_nothing}
 use Rattle.ir_record.proofs.Joining.{ready_after}
@@ -14,6 +14,7 @@ turns-init g c =
       took = subst (λ n. Took (replicate n c.args.t) entry entry) (let e : 0 ≡ c.args.count - c.args.count = omega arith in e) (took_nothing entry);
       ready = c.requires;
       kept = extends_same (map g.W.World.answers c.args.self.now.worlds.items);
+      origins = refl;
     }
 
 pub returns-then-t-threads-clause-took : goal.returns-then-t-threads-clause-took
@@ -57,6 +58,7 @@ turns-preserved g c =
       took = turns_more c.args.t c.args.count c.turns.left c.run-ran.result entry before ran new c.in_ok-turn.field-0 few (omega (arith, c.turns-test.true)) (omega (arith, within)) c.turns.invariant.took (c.run-ran.ensures.took (map g.W.World.answers c.turns.self.worlds.items)) c.in_ok-turn.ensures.took;
       ready = c.in_ok-turn.ensures.ready;
       kept = extends_both (map g.W.World.answers c.args.self.now.worlds.items) (map g.W.World.answers c.turns.self.worlds.items) (map g.W.World.answers c.turn.new.self.worlds.items) c.turns.invariant.kept c.turn.ensures.kept;
+      origins = c.turn.ensures.origins ∙ c.turns.invariant.origins;
     }
 
 pub returns-then-not-branch-clause-kept : goal.returns-then-not-branch-clause-kept
@@ -64,3 +66,9 @@ returns-then-not-branch-clause-kept g c = extends_both (map g.W.World.answers c.
 
 pub returns-in_err-turn-clause-kept : goal.returns-in_err-turn-clause-kept
 returns-in_err-turn-clause-kept g c = extends_both (map g.W.World.answers c.args.self.now.worlds.items) (map g.W.World.answers c.turns.self.worlds.items) (map g.W.World.answers c.turn.new.self.worlds.items) c.turns.invariant.kept c.turn.ensures.kept
+
+pub returns-then-not-branch-clause-origins : goal.returns-then-not-branch-clause-origins
+returns-then-not-branch-clause-origins g c = c.turn.ensures.origins ∙ c.turns.invariant.origins
+
+pub returns-in_err-turn-clause-origins : goal.returns-in_err-turn-clause-origins
+returns-in_err-turn-clause-origins g c = c.turn.ensures.origins ∙ c.turns.invariant.origins

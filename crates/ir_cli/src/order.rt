@@ -1,0 +1,100 @@
+//! Lists that say which thread takes each next step.
+
+ghost use Rattle.std.specs.Prelude.{◌≡◌, ◌<◌, ◌-◌, ◌≤◌, [], ◌∷◌, length, MatchOption, IfOk, IfSome, Some, None, Err, option_map, replicate, ◌==◌};
+ghost use Rattle.std.specs.List.{slice_split};
+ghost use Rattle.ir_cli.specs.Order.{item_of, order_of, most_turns};
+ghost use Rattle.ir_cli.specs.Numerals.{number_within};
+ghost use Rattle.ir_cli.specs.declared.order.OrderErr.TheVariants.{Bad, NoMem};
+
+use crate::numeral::number_within;
+use std::alloc::{AllocError, Global};
+
+/// The most steps of an item.
+const MOST_TURNS: u64 = 1_000_000;
+
+/// Why a list is no order.
+#[derive(Clone, Copy, Debug, PartialEq, Eq)]
+pub enum OrderErr {
+    /// It is malformed, or names a thread that there is not.
+    Bad,
+    /// Want of memory.
+    NoMem,
+}
+
+impl From<AllocError> for OrderErr {
+    ghost from_gives = { λ _ e. e ≡ NoMem };
+
+    fn from(_e: AllocError) -> OrderErr {
+        OrderErr::NoMem
+    }
+}
+
+// So many steps of one thread.
+#[derive(Clone, Copy)]
+struct Turns {
+    thread: u8,
+    count: usize,
+}
+
+// The part of a text before the first such character, and what follows it, if it stands there.
+fn first_part(text: &str, mark: char) -> (&str, Option<&str>)
+    requires { mark < 128 }
+    ensures parts { MatchOption result.1 (slice_split (λ b. b == mark) text.now ≡ result.0.now ∷ []) (λ rest. slice_split (λ b. b == mark) text.now ≡ result.0.now ∷ slice_split (λ b. b == mark) rest.now) }
+    ensures shorter { IfSome result.1 (λ rest. length rest.now < length text.now) }
+{
+    match text.split_once(mark) {
+        Some((part, rest)) => (part, Some(rest)),
+        None => (text, None),
+    }
+}
+
+// The thread of this number, where the guest has so many.
+fn thread_of(number: &str, threads: usize) -> Option<u8>
+    requires some { 1 ≤ threads }
+    requires few { threads ≤ 8 }
+    ensures { result ≡ number_within 0 (threads - 1) number.now }
+{
+    match number_within(0, threads as u64 - 1, number) {
+        Some(thread) => Some(thread as u8),
+        None => None,
+    }
+}
+
+// The steps that an item spells.
+fn turns_of(item: &str, threads: usize) -> Option<Turns>
+    requires some { 1 ≤ threads }
+    requires few { threads ≤ 8 }
+    ensures spelled { option_map (λ t. replicate t.count t.thread) result ≡ item_of threads item.now }
+    ensures few { IfSome result (λ t. t.count ≤ most_turns) }
+{
+    let (thread, count) = first_part(item, 'x');
+    let thread = thread_of(thread, threads)?;
+    match count {
+        Some(count) => {
+            let count = number_within(1, MOST_TURNS, count)? as usize;
+            Some(Turns { thread, count })
+        }
+        None => Some(Turns { thread, count: 1 }),
+    }
+}
+
+/// The threads in the order that a list spells; the guest has so many threads. It takes memory for each entry.
+///
+/// # Errors
+/// `Bad` where the list spells none; want of memory.
+pub fn read_order(alloc: Global, list: &str, threads: usize) -> Result<Vec<u8>, OrderErr>
+    requires some { 1 ≤ threads }
+    requires few { threads ≤ 8 }
+    ensures spelled { IfOk result (λ order. order_of threads list.now ≡ Some order.items) }
+    ensures bad { result ≡ Err Bad → order_of threads list.now ≡ None }
+{
+    let mut order = Vec::new(alloc);
+    let mut rest = Some(list);
+    'items: while let Some(text) = rest {
+        let (item, others) = first_part(text, ',');
+        let turns = turns_of(item, threads).ok_or(OrderErr::Bad)?;
+        order.resize(order.len() + turns.count, turns.thread)?;
+        rest = others;
+    }
+    Ok(order)
+}

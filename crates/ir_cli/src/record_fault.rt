@@ -1,0 +1,120 @@
+//! Why there is no recording.
+
+ghost use Rattle.std.specs.Prelude.{◌≡◌, ◌≤◌, length};
+
+use crate::order::OrderErr;
+use ir_image::ImageErr;
+use ir_record::RecordErr;
+use std::alloc::AllocError;
+
+/// Why a guest was not recorded, or its recording not written.
+#[derive(Debug, Drop)]
+pub enum RecordFault {
+    /// No order is given.
+    Unordered,
+    /// The image is refused.
+    Image(ImageErr),
+    /// The list spells no order of the guest's threads.
+    Order,
+    /// Want of memory.
+    NoMem,
+    /// A thread asked for more answers than may be logged.
+    World,
+    /// The trace can't be written.
+    Trace,
+    /// The lines can't be written.
+    Lines,
+}
+
+impl RecordFault {
+    ghost use Rattle.ir_cli.specs.Faults.{fault_status};
+
+    /// The exit status.
+    pub fn status(&self) -> u8
+        ensures { result ≡ fault_status self.now }
+    {
+        match self {
+            RecordFault::Unordered => 2,
+            RecordFault::Image(_) | RecordFault::Order => 3,
+            RecordFault::NoMem | RecordFault::World => 1,
+            RecordFault::Trace | RecordFault::Lines => 1,
+        }
+    }
+
+    /// The fault in words.
+    pub fn words(&self) -> &'static str
+        ensures { length result.now ≤ 100 }
+    {
+        match self {
+            RecordFault::Unordered => "recording by threads isn't there yet: give an order",
+            RecordFault::Image(why) => image_words(why),
+            RecordFault::Order => "LIST is no order of this image's threads",
+            RecordFault::NoMem => "memory ran out",
+            RecordFault::World => "a thread asked for more than can be logged",
+            RecordFault::Trace => "the trace can't be written",
+            RecordFault::Lines => "standard output can't be written",
+        }
+    }
+}
+
+fn image_words(why: &ImageErr) -> &'static str
+    ensures { length result.now ≤ 100 }
+{
+    match why {
+        ImageErr::Short => "the image is refused, 1: a field passes the end",
+        ImageErr::Magic => "the image is refused, 2: these bytes are no image",
+        ImageErr::Count => "the image is refused, 3: a count is over its limit, or no thread",
+        ImageErr::Entry => "the image is refused, 4: an entry is no place in the code",
+        ImageErr::Trailing => "the image is refused, 5: bytes stand after the end",
+        ImageErr::NoMem => "memory ran out",
+    }
+}
+
+impl From<ImageErr> for RecordFault {
+    ghost use Rattle.ir_cli.specs.Faults.{of_image};
+
+    ghost from_gives = { λ e f. f ≡ of_image e };
+
+    fn from(e: ImageErr) -> RecordFault {
+        match e {
+            ImageErr::NoMem => RecordFault::NoMem,
+            why => RecordFault::Image(why),
+        }
+    }
+}
+
+impl From<OrderErr> for RecordFault {
+    ghost use Rattle.ir_cli.specs.Faults.{of_order};
+
+    ghost from_gives = { λ e f. f ≡ of_order e };
+
+    fn from(e: OrderErr) -> RecordFault {
+        match e {
+            OrderErr::Bad => RecordFault::Order,
+            OrderErr::NoMem => RecordFault::NoMem,
+        }
+    }
+}
+
+impl<W: Drop> From<RecordErr<W>> for RecordFault {
+    ghost use Rattle.ir_cli.specs.Faults.{of_recorder};
+
+    ghost from_gives = { λ e f. f ≡ of_recorder e };
+
+    fn from(e: RecordErr<W>) -> RecordFault {
+        match e {
+            RecordErr::NoMem => RecordFault::NoMem,
+            RecordErr::World { .. } => RecordFault::World,
+        }
+    }
+}
+
+impl From<AllocError> for RecordFault {
+    ghost use Rattle.ir_cli.specs.declared.record_fault.RecordFault.TheVariants.{NoMem};
+
+    ghost from_gives = { λ _ e. e ≡ NoMem };
+
+    fn from(_e: AllocError) -> RecordFault {
+        RecordFault::NoMem
+    }
+}

@@ -1,0 +1,408 @@
+//! Recording over fakes: traces and lines of small guests, refusals, each writer that fails.
+
+ghost use Rattle.std.specs.Prelude.{◌≤◌};
+
+use crate::assembling::asm_run;
+use crate::recording::record_run;
+use crate::tests::{ENDLESS, Page, empty_page};
+
+// Two threads that add one each to a shared counter, inside for writing.
+const COUNT: &str = "
+        .objects 1
+        .thread main
+        .thread main
+main:   addi a0, zero, 0
+        addi a7, zero, 8
+        ecall
+        addi a0, zero, 0
+        addi a1, zero, 0
+        addi a7, zero, 10
+        ecall
+        addi a2, a0, 1
+        addi a0, zero, 0
+        addi a1, zero, 0
+        addi a7, zero, 11
+        ecall
+        addi a0, zero, 0
+        addi a7, zero, 9
+        ecall
+        addi a0, zero, 0
+        addi a7, zero, 1
+        ecall
+";
+
+// Prints a byte, doubles it and ends with it.
+const DOUBLE: &str = "
+        addi a0, zero, 72
+        addi a7, zero, 2
+        ecall
+        add a0, a0, a0
+        addi a7, zero, 1
+        ecall
+";
+
+// Enters for reading, leaves, enters for writing, leaves, ends.
+const READ_THEN_WRITE: &str = "
+        .objects 1
+        addi a0, zero, 0
+        addi a7, zero, 7
+        ecall
+        addi a7, zero, 9
+        ecall
+        addi a7, zero, 8
+        ecall
+        addi a7, zero, 9
+        ecall
+        addi a7, zero, 1
+        ecall
+";
+
+// Ends while it is inside.
+const HELD_AT_THE_END: &str = "
+        .objects 1
+        addi a0, zero, 0
+        addi a7, zero, 8
+        ecall
+        addi a1, zero, 0
+        addi a2, zero, 7
+        addi a7, zero, 11
+        ecall
+        ebreak
+";
+
+// Enters object 2 while it holds object 3.
+const OUT_OF_ORDER: &str = "
+        .objects 4
+        addi a0, zero, 3
+        addi a7, zero, 7
+        ecall
+        addi a0, zero, 2
+        ecall
+";
+
+// Two threads that ask for the time twice.
+const TWICE_THE_TIME: &str = "
+        .thread main
+        .thread main
+main:   addi a7, zero, 4
+        ecall
+        ecall
+        ebreak
+";
+
+// Two threads that ask for a random word twice.
+const RANDOM_WORDS: &str = "
+        .thread main
+        .thread main
+main:   addi a7, zero, 5
+        ecall
+        ecall
+        ebreak
+";
+
+// Two threads that read three bytes.
+const BYTES: &str = "
+        .thread main
+        .thread main
+main:   addi a7, zero, 6
+        ecall
+        ecall
+        ecall
+        ebreak
+";
+
+fn image(rt: &HostRuntime, source: &str) -> Vec<u8> {
+    let mut image = empty_page(rt, 1000, ENDLESS);
+    let mut faults = empty_page(rt, 1000, ENDLESS);
+    let _ = asm_run(rt.alloc(), source.as_bytes(), &mut image, &mut faults);
+    image.bytes
+}
+
+// What a recording of an image took and gave.
+#[derive(Drop)]
+struct Run {
+    status: u8,
+    trace: Page,
+    out: Page,
+    faults: Page,
+}
+
+// How a guest is recorded.
+#[derive(Clone, Copy)]
+struct How<'a> {
+    order: Option<&'a str>,
+    budget: u32,
+    random: u64,
+    input: &'a [u8],
+    trace_calls: u64,
+    out_calls: u64,
+}
+
+const HOW: How<'static> = How {
+    order: Some("0"),
+    budget: 1000,
+    random: 0,
+    input: &[],
+    trace_calls: ENDLESS,
+    out_calls: ENDLESS,
+};
+
+fn recorded(rt: &HostRuntime, image: &[u8], how: How<'_>) -> Run {
+    let mut trace = empty_page(rt, 7, how.trace_calls);
+    let mut out = empty_page(rt, 7, how.out_calls);
+    let mut faults = empty_page(rt, 7, ENDLESS);
+    let status = record_run(
+        rt.alloc(),
+        image,
+        how.order,
+        how.budget as u64,
+        how.random,
+        how.input,
+        &mut trace,
+        &mut out,
+        &mut faults,
+    );
+    Run {
+        status,
+        trace,
+        out,
+        faults,
+    }
+}
+
+fn with_order<'a>(order: &'a str) -> How<'a> {
+    How {
+        order: Some(order),
+        ..HOW
+    }
+}
+
+// The trace of two threads that count, by which of them comes first.
+fn count_trace(first: u8, second: u8) -> [u8; 70] {
+    [
+        0x49, 0x52, 0x54, 0x31, 2, 1, 0, 0, 0xe8, 3, 0, 0, 0, 0, 0, 0, // header
+        18, 0, 0, 0, 0, 0, 0, 0, 1, 0, 0, 0, 0, 1, 0, 0, 0, // thread 0
+        5, 0, first, 0, 0, 0, 0, 0, 0, 0, // its entry
+        18, 0, 0, 0, 0, 0, 0, 0, 1, 0, 0, 0, 0, 1, 0, 0, 0, // thread 1
+        5, 0, second, 0, 0, 0, 0, 0, 0, 0, // its entry
+    ]
+}
+
+const BOTH_LINES: &[u8] = b"thread 0 end 1 code 0 steps 18 events 1
+thread 1 end 1 code 0 steps 18 events 1
+";
+
+#[test]
+fn the_order_says_who_counts_first(rt: HostRuntime) {
+    let image = image(&rt, COUNT);
+    for (order, first, second) in [
+        ("1x18", 1, 0),
+        ("1", 1, 0),
+        ("0,1", 0, 1),
+        ("1x2,0x2,1", 1, 0),
+        ("1x2,0x3,1x100", 0, 1),
+    ] {
+        let run = recorded(&rt, image.as_slice(), with_order(order));
+        assert_eq!(rt; run.status, 0);
+        assert_eq!(rt;
+            run.trace.bytes.as_slice(),
+            count_trace(first, second).as_slice()
+        );
+        assert_eq!(rt; run.out.bytes.as_slice(), BOTH_LINES);
+        assert!(rt; run.faults.bytes.is_empty());
+    }
+}
+
+#[test]
+fn a_reader_is_logged_and_then_a_writer(rt: HostRuntime) {
+    let image = image(&rt, READ_THEN_WRITE);
+    let run = recorded(&rt, image.as_slice(), HOW);
+    let expected: [u8; 49] = [
+        0x49, 0x52, 0x54, 0x31, 1, 1, 0, 0, 0xe8, 3, 0, 0, 0, 0, 0, 0, // header
+        11, 0, 0, 0, 0, 0, 0, 0, 1, 0, 0, 0, 0, 2, 0, 0, 0, // the thread
+        4, 0, 0, 0, 0, 0, // read
+        5, 0, 0, 0, 0, 0, 1, 0, 0, 0, // write, after one reader
+    ];
+    assert_eq!(rt; run.trace.bytes.as_slice(), expected.as_slice());
+}
+
+#[test]
+fn ends_are_told(rt: HostRuntime) {
+    for (source, budget, line) in [
+        (
+            HELD_AT_THE_END,
+            1000,
+            "thread 0 end 2 code 0 steps 9 events 1\n",
+        ),
+        (
+            OUT_OF_ORDER,
+            1000,
+            "thread 0 end 10 code 0 steps 6 events 1\n",
+        ),
+        (DOUBLE, 1000, "thread 0 end 1 code 144 steps 6 events 0\n"),
+        (DOUBLE, 2, "thread 0 end 13 code 0 steps 3 events 0\n"),
+    ] {
+        let image = image(&rt, source);
+        let run = recorded(&rt, image.as_slice(), How { budget, ..HOW });
+        assert_eq!(rt; run.status, 0);
+        assert_eq!(rt; run.out.bytes.as_slice(), line.as_bytes());
+    }
+}
+
+// The events of the second thread, where both logged so many bytes of events.
+fn second_events(trace: &[u8], length: usize) -> &[u8] {
+    trace.get(16 + 17 + length + 17..).unwrap_or(&[])
+}
+
+#[test]
+fn each_thread_counts_its_calls(rt: HostRuntime) {
+    let image = image(&rt, TWICE_THE_TIME);
+    let run = recorded(&rt, image.as_slice(), with_order("0x4,1"));
+    let events = second_events(run.trace.bytes.as_slice(), 10);
+    assert_eq!(rt; events, [1, 0, 0, 0, 0, 1, 1, 0, 0, 0].as_slice());
+}
+
+#[test]
+fn random_words_start_from_the_sum(rt: HostRuntime) {
+    let image = image(&rt, RANDOM_WORDS);
+    // PCG32 started by 0, by 1, and by 7.
+    for (random, words) in [
+        (u64::MAX, [2, 3, 217, 205, 17, 2, 215, 63, 132, 252]),
+        (0, [2, 230, 11, 167, 51, 2, 238, 243, 188, 125]),
+        (6, [2, 233, 94, 145, 145, 2, 190, 28, 174, 24]),
+    ] {
+        let run = recorded(&rt, image.as_slice(), How { random, ..HOW });
+        assert_eq!(rt;
+            second_events(run.trace.bytes.as_slice(), 10),
+            words.as_slice()
+        );
+    }
+}
+
+#[test]
+fn each_thread_reads_all_of_the_input(rt: HostRuntime) {
+    let image = image(&rt, BYTES);
+    for (input, events) in [
+        (
+            b"\x00\xff".as_slice(),
+            [3, 0, 0, 0, 0, 3, 255, 0, 0, 0, 3, 255, 255, 255, 255],
+        ),
+        (
+            b"A".as_slice(),
+            [3, 65, 0, 0, 0, 3, 255, 255, 255, 255, 3, 255, 255, 255, 255],
+        ),
+    ] {
+        let run = recorded(&rt, image.as_slice(), How { input, ..HOW });
+        assert_eq!(rt;
+            second_events(run.trace.bytes.as_slice(), 15),
+            events.as_slice()
+        );
+    }
+}
+
+const NO_ORDERS: [&str; 22] = [
+    "",
+    "x",
+    "zz",
+    "0x0",
+    "0x1000001",
+    "2",
+    "8",
+    "0,",
+    ",0",
+    "0,,1",
+    " 0",
+    "0 ,1",
+    "+0",
+    "-0",
+    "0x",
+    "x1",
+    "0x+1",
+    "0x1x1",
+    "00x1,2",
+    "0;1",
+    "99999999999999999999999",
+    "0x99999999999999999999999",
+];
+
+#[test]
+fn other_lists_are_refused(rt: HostRuntime) {
+    let image = image(&rt, COUNT);
+    for order in NO_ORDERS {
+        let run = recorded(&rt, image.as_slice(), with_order(order));
+        assert_eq!(rt; run.status, 3);
+        assert!(rt; run.trace.bytes.is_empty() && run.out.bytes.is_empty());
+        assert!(rt; run.faults.bytes.ends_with(b"\n"));
+    }
+}
+
+#[test]
+fn leading_zeros_are_taken(rt: HostRuntime) {
+    let image = image(&rt, COUNT);
+    let run = recorded(&rt, image.as_slice(), with_order("001x0018,00x1000000"));
+    assert_eq!(rt; run.trace.bytes.as_slice(), count_trace(1, 0).as_slice());
+}
+
+#[test]
+fn without_an_order_nothing_is_recorded(rt: HostRuntime) {
+    let run = recorded(&rt, b"IRI1", How { order: None, ..HOW });
+    assert_eq!(rt; run.status, 2);
+    assert!(rt; run.trace.bytes.is_empty() && run.out.bytes.is_empty());
+    assert!(rt; run.faults.bytes.ends_with(b"\n"));
+}
+
+#[test]
+fn a_refused_image_is_told(rt: HostRuntime) {
+    let image = image(&rt, DOUBLE);
+    for length in [0, 3, 14, 41] {
+        let run = recorded(&rt, image.get(..length).unwrap_or(&[]), with_order("x"));
+        assert_eq!(rt; run.status, 3);
+        assert!(rt; run.trace.bytes.is_empty() && run.out.bytes.is_empty());
+        assert_eq!(rt;
+            run.faults.bytes.as_slice(),
+            b"ir: the image is refused, 1: a field passes the end\n".as_slice()
+        );
+    }
+}
+
+#[test]
+fn a_failing_trace_leaves_no_line(rt: HostRuntime) {
+    let image = image(&rt, COUNT);
+    for trace_calls in 0..10 {
+        let how = How {
+            trace_calls,
+            ..with_order("1x18")
+        };
+        let run = recorded(&rt, image.as_slice(), how);
+        let front = trace_calls as usize * 7;
+        assert_eq!(rt; run.status, 1);
+        assert_eq!(rt;
+            run.trace.bytes.as_slice(),
+            count_trace(1, 0).get(..front).unwrap_or(&[])
+        );
+        assert!(rt; run.out.bytes.is_empty() && !run.out.failed);
+        assert_eq!(rt;
+            run.faults.bytes.as_slice(),
+            b"ir: the trace can't be written\n".as_slice()
+        );
+    }
+}
+
+#[test]
+fn lines_that_fail_leave_the_trace(rt: HostRuntime) {
+    let image = image(&rt, COUNT);
+    for out_calls in 0..11 {
+        let how = How {
+            out_calls,
+            ..with_order("1x18")
+        };
+        let run = recorded(&rt, image.as_slice(), how);
+        assert_eq!(rt; run.status, 1);
+        assert_eq!(rt; run.trace.bytes.as_slice(), count_trace(1, 0).as_slice());
+        assert!(rt; BOTH_LINES.starts_with(run.out.bytes.as_slice()));
+        assert_eq!(rt;
+            run.faults.bytes.as_slice(),
+            b"ir: standard output can't be written\n".as_slice()
+        );
+    }
+}

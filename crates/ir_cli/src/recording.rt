@@ -1,0 +1,187 @@
+//! An image in, the trace of its guest's run by an order and a line for each thread out.
+
+ghost use Rattle.std.specs.Prelude.{◌≡◌, ◌≢◌, ◌<◌, ◌≤◌, ◌+◌, ℕ, List, Some, None, Ok, Err, true, false, IfOk, IfErr, OnOk, [], length, map, replicate, option_map};
+ghost use Rattle.std.specs.String.{string_bytes};
+ghost use Rattle.std.specs.Io.KnownBytes.{Appends};
+ghost use Rattle.ir_trace.specs.Recorded.{Recorded};
+ghost use Rattle.ir_trace.specs.Spelling.{spelling};
+ghost use Rattle.ir_record.specs.Worlds.{NoneFailed};
+ghost use Rattle.ir_cli.specs.Recording.{origins, IsRecordedOf, line_by, thread_line, lines_of};
+ghost use Rattle.ir_cli.specs.Faults.{fault_status, Refuses, WriteFails, Stops};
+ghost use Rattle.ir_cli.specs.declared.record_fault.RecordFault.{RecordFault};
+ghost use Rattle.ir_cli.specs.declared.record_fault.RecordFault.TheVariants as fault;
+
+use crate::order::read_order;
+use crate::program_world::ProgramWorld;
+use crate::record_fault::RecordFault;
+use crate::telling::tell;
+use ir_debug::Sink;
+use ir_image::read_image;
+use ir_record::record_in_order;
+use ir_stream::write_all;
+use ir_trace::{ThreadTrace, Trace, write_trace};
+use std::alloc::{AllocError, Global};
+
+const DONE: u8 = 0;
+
+// The worlds of so many threads. Each has its own random words and its own copy of the file.
+fn worlds<'a>(
+    alloc: Global,
+    threads: usize,
+    random: u64,
+    file: &'a [u8],
+) -> Result<Vec<ProgramWorld<'a>>, AllocError>
+    ensures origins { IfOk result (λ worlds. map (λ w. (w.seed, w.file.now)) worlds.items ≡ origins random file.now threads) }
+    ensures fresh { IfOk result (λ worlds. map (λ w. w.answers.items) worlds.items ≡ replicate threads []) }
+    ensures works { IfOk result (λ worlds. NoneFailed (map (λ w. w.failed) worlds.items)) }
+{
+    let mut worlds = Vec::with_capacity(alloc, threads)?;
+    for thread in 0..threads {
+        let seed = random.wrapping_add(thread as u64);
+        worlds.push(ProgramWorld::new(alloc, seed, file)?)?;
+    }
+    Ok(worlds)
+}
+
+// The recording of the image's guest by the order that the list spells.
+fn recorded(
+    alloc: Global,
+    image: &[u8],
+    list: &str,
+    budget: u64,
+    random: u64,
+    file: &[u8],
+) -> Result<Trace, RecordFault>
+    requires { budget ≤ 1000000000000 }
+    ensures recorded { IfOk result (IsRecordedOf image.now (Some list.now) budget random file.now) }
+    ensures refused { IfErr result (λ e. Refuses e image.now (Some list.now)) }
+{
+    let image = read_image(alloc, image)?;
+    let threads = image.entries().len();
+    let order = read_order(alloc, list, threads)?;
+    let worlds = worlds(alloc, threads, random, file)?;
+    let (trace, _) = record_in_order(alloc, &image, order.as_slice(), worlds, budget)?;
+    Ok(trace)
+}
+
+fn line_by(
+    alloc: Global,
+    number: usize,
+    end: u8,
+    code: u32,
+    steps: u64,
+    events: usize,
+) -> Result<String, AllocError>
+    ensures { IfOk result (λ s. string_bytes s ≡ line_by number end code steps events) }
+{
+    format!(in alloc; "thread {number} end {end} code {code} steps {steps} events {events}\n")
+}
+
+fn thread_line(alloc: Global, number: usize, thread: &ThreadTrace) -> Result<String, AllocError>
+    ensures { IfOk result (λ s. string_bytes s ≡ thread_line number thread.now) }
+{
+    let end = thread.end();
+    let events = thread.log().events().len();
+    line_by(
+        alloc,
+        number,
+        end.number(),
+        end.code(),
+        thread.steps(),
+        events,
+    )
+}
+
+// A line for each thread.
+fn lines(alloc: Global, trace: &Trace) -> Result<String, AllocError>
+    ensures { IfOk result (λ s. string_bytes s ≡ lines_of trace.now) }
+{
+    let mut lines = String::new(alloc);
+    for (number, thread) in trace.threads().iter().enumerate() {
+        let line = thread_line(alloc, number, thread)?;
+        lines.push_str(line.as_str())?;
+    }
+    Ok(lines)
+}
+
+// Writes the trace, and then the lines.
+fn written<W: Sink, O: Sink>(
+    trace: &mut W,
+    out: &mut O,
+    bytes: &[u8],
+    lines: &[u8],
+) -> Result<(), RecordFault>
+    ensures trace { OnOk result (Appends (W.written trace.old) (W.written trace.new) bytes.now) }
+    ensures lines { OnOk result (Appends (O.written out.old) (O.written out.new) lines.now) }
+    ensures failed { IfErr result (λ e. WriteFails e bytes.now lines.now (record { before = W.written trace.old; after = W.written trace.new; failed = W.broken trace.new }) (record { before = O.written out.old; after = O.written out.new; failed = O.broken out.new }) (out.new ≡ out.old)) }
+{
+    if write_all(trace, bytes).is_err() {
+        return Err(RecordFault::Trace);
+    }
+    if write_all(out, lines).is_err() {
+        return Err(RecordFault::Lines);
+    }
+    Ok(())
+}
+
+// Records, and writes what was recorded.
+fn run<W: Sink, O: Sink>(
+    alloc: Global,
+    image: &[u8],
+    order: Option<&str>,
+    budget: u64,
+    random: u64,
+    input: &[u8],
+    trace: &mut W,
+    out: &mut O,
+) -> Result<(), RecordFault>
+    requires { budget ≤ 1000000000000 }
+    ensures done { OnOk result ((recorded : Recorded) × IsRecordedOf image.now (option_map (λ s. s.now) order.entry) budget random input.now recorded × Appends (W.written trace.old) (W.written trace.new) (spelling recorded) × Appends (O.written out.old) (O.written out.new) (lines_of recorded)) }
+    ensures stopped { IfErr result (λ e. Stops e image.now (option_map (λ s. s.now) order.entry) (IsRecordedOf image.now (option_map (λ s. s.now) order.entry) budget random input.now) (record { before = W.written trace.old; after = W.written trace.new; failed = W.broken trace.new }) (record { before = O.written out.old; after = O.written out.new; failed = O.broken out.new }) ((trace.new ≡ trace.old) × (out.new ≡ out.old)) (out.new ≡ out.old)) }
+    ensures unordered { order.entry ≡ None → result ≡ Err fault.Unordered }
+{
+    let Some(list) = order else {
+        return Err(RecordFault::Unordered);
+    };
+    let recorded = recorded(alloc, image, list, budget, random, input)?;
+    let bytes = write_trace(alloc, &recorded)?;
+    let lines = lines(alloc, &recorded)?;
+    written(trace, out, bytes.as_slice(), lines.as_bytes())
+}
+
+/// Records the guest of an image in the order that a list spells: writes its trace, and then a line
+/// `thread T end E code C steps S events N` for each thread. The budget is in steps, for each thread. RANDOM gives the
+/// words of PCG32, started for thread T by the number `random` plus T, modulo 2^64; CLOCK counts its own calls from 0, in
+/// each thread; each thread's INPUT gives all bytes of the input. The answer is the exit status: 0 where both were
+/// written, 2 where no order is given, 3 where the image is refused or the list spells no order of its threads, and 1
+/// where memory ran out or a writer failed. A fault is told in one line.
+pub fn record_run<W: Sink, O: Sink, E: Sink>(
+    alloc: Global,
+    image: &[u8],
+    order: Option<&str>,
+    budget: u64,
+    random: u64,
+    input: &[u8],
+    trace: &mut W,
+    out: &mut O,
+    faults: &mut E,
+) -> u8
+    requires budget { budget ≤ 1000000000000 }
+    requires writes { W.broken trace.old ≡ false }
+    requires prints { O.broken out.old ≡ false }
+    requires tells { E.broken faults.old ≡ false }
+    // The trace of the run by the order was written, and its lines, and no fault told.
+    ensures done { result ≡ 0 → (recorded : Recorded) × IsRecordedOf image.now (option_map (λ s. s.now) order.entry) budget random input.now recorded × Appends (W.written trace.old) (W.written trace.new) (spelling recorded) × Appends (O.written out.old) (O.written out.new) (lines_of recorded) }
+    ensures quiet { result ≡ 0 → faults.new ≡ faults.old }
+    // Else what stopped it, and what that left.
+    ensures stopped { result ≢ 0 → (e : RecordFault) × (result ≡ fault_status e) × Stops e image.now (option_map (λ s. s.now) order.entry) (IsRecordedOf image.now (option_map (λ s. s.now) order.entry) budget random input.now) (record { before = W.written trace.old; after = W.written trace.new; failed = W.broken trace.new }) (record { before = O.written out.old; after = O.written out.new; failed = O.broken out.new }) ((trace.new ≡ trace.old) × (out.new ≡ out.old)) (out.new ≡ out.old) }
+    ensures unordered { order.entry ≡ None → result ≡ 2 }
+{
+    match run(alloc, image, order, budget, random, input, trace, out) {
+        Ok(()) => DONE,
+        Err(why) => {
+            tell(faults, why.words());
+            why.status()
+        }
+    }
+}
