@@ -16,4 +16,5 @@ pub mod OneResult
 pub mod Onward
 pub mod Guests
 pub mod Seen
+pub mod Placed
 pub mod Moves

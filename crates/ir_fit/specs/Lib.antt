@@ -6,4 +6,5 @@ pub mod Verdicts
 pub mod Laws
 pub mod Standing
 pub mod Ahead
+pub mod Places
 pub mod Follower

@@ -9,7 +9,9 @@ mod follower;
 mod following;
 mod going;
 mod laws;
+mod leave;
 mod look;
+mod places;
 mod readiness;
 #[cfg(test)]
 mod tests;
@@ -21,4 +23,6 @@ pub use laws::{
     complete_fits, cuts_are_runs, fits_exactly, maximal_exists, one_step_each, one_verdict,
     own_trace_coherent, trace_determines,
 };
+pub use leave::Leave;
+pub use places::Places;
 pub use verdict::{ThreadVerdict, Verdict};
