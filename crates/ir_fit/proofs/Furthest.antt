@@ -32,6 +32,7 @@ use Rattle.ir_fit.specs.Cuts.{At}
 use Rattle.ir_fit.specs.Fit.{HasHeader, IsRunOf, HasRun, GoesFurthest, AreVerdicts, IsRefused}
 use Rattle.ir_fit.specs.Follower.{IsFollower, IsFollowed, AreStanding}
 use Rattle.ir_fit.specs.Following as following
+use Rattle.ir_fit.specs.Places.{Placed}
 use Rattle.ir_fit.specs.Standing.{StandsAs}
 use Rattle.ir_fit.specs.Verdicts as verdicts
 use Rattle.ir_fit.specs.Verdicts.{HoldsEvents, IsWhole}
@@ -155,19 +156,24 @@ breaks_refuse g r header (Refused (verdict.Incoherent t i c)) b =
     ((header, first), λ run is. coherent_unbroken (length g.entries) (trace_of r) (run_coherent g r run is) t i c first.breaks)
 
 -- not all threads are the same at the end of the run that was followed
-pub threads_refuse : (g : Guest) (r : Recorded) → IsRecorded r → HasHeader g r → IsCoherent (length g.entries) (trace_of r) → (f : Flat) → IsFollowed g r f → (vs : List ThreadVerdict) → length vs ≡ length f.threads → AreStanding r f vs
+pub threads_refuse : (g : Guest) (r : Recorded) → IsRecorded r → HasHeader g r → IsCoherent (length g.entries) (trace_of r) → (f : Flat) (ps : List Placed) → IsFollowed g r f ps → (vs : List ThreadVerdict) → length vs ≡ length f.threads → AreStanding r f ps vs
     → (t : ℕ) (v : ThreadVerdict) → slice_get vs t ≡ Some v → v ≢ Same → (HasHeader g r × IsCoherent (length g.entries) (trace_of r) × AreVerdicts g r vs) × ((run : List Step) → IsRunOf g r run → ⊥)
-threads_refuse g r is header co f followed vs each stand t v at ne =
+threads_refuse g r is header co f ps followed vs each stand t v at ne =
     let k = followed.follower in
     let both = verdicts_of g r is header co k.run k.follows vs (each ∙ k.threads) (stand g k) in
     ((header, co, both.1), none_of g r co k.run both.0 t v (stand g k t v at) ne)
 
 -- all are the same
-pub threads_accept : (g : Guest) (r : Recorded) → HasHeader g r → (f : Flat) → IsFollowed g r f → (vs : List ThreadVerdict) → length vs ≡ length f.threads → AreStanding r f vs → ((t : ℕ) (v : ThreadVerdict) → slice_get vs t ≡ Some v → v ≡ Same) → HasRun (record { guest = g; recorded = r })
-threads_accept g r header f followed vs each stand same =
-    let k = followed.follower in (
-      k.run,
-      whole_of g r header k.run k.follows (λ t l.
+pub threads_accept : (g : Guest) (r : Recorded) → HasHeader g r → (f : Flat) (ps : List Placed) → IsFollowed g r f ps → length ps ≡ length f.threads → (vs : List ThreadVerdict) → length vs ≡ length f.threads → AreStanding r f ps vs → ((t : ℕ) (v : ThreadVerdict) → slice_get vs t ≡ Some v → v ≡ Same)
+    → HasRun (record { guest = g; recorded = r; placed = ps })
+threads_accept g r header f ps followed placed vs each stand same =
+    let k = followed.follower in
+    record {
+      run = k.run;
+      whole = whole_of g r header k.run k.follows (λ t l.
           let v = there vs t (omega (arith, l, each, k.threads)) in
-          subst (StandsAs (thread_machine g.code) (tables (start_flat g r.budget)) (trace_of r) k.run t) (same t v.0 v.1) (stand g k t v.0 v.1)),
-    )
+          subst (StandsAs (thread_machine g.code) (tables (start_flat g r.budget)) (trace_of r) k.run t) (same t v.0 v.1) (stand g k t v.0 v.1));
+      each = placed ∙ k.threads;
+      entries = k.placed;
+      leaves = k.left;
+    }

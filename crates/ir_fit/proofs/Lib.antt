@@ -23,4 +23,5 @@ pub mod Tables
 pub mod Logs
 pub mod Breaks
 pub mod Seen
+pub mod Placed
 pub mod Moves

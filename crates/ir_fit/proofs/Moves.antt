@@ -1,27 +1,37 @@
 -- A guest that goes on along a trace.
-use Rattle.std.proofs.Common.{◌≡◌, ◌≢◌, ℕ, zero, suc, pred, ◌+◌, ◌-◌, ◌<◌, ◌≤◌, List, [], ◌∷◌, ◌++◌, length, map, drop, replicate, Result, Ok, Err, OnOk, OnErr, refl, sym, ap, ◌∙◌, subst, arith, inl, inr, append-nil, append_assoc, length-append}
+use Rattle.std.proofs.Common.{◌≡◌, ◌≢◌, ℕ, zero, suc, pred, ◌+◌, ◌-◌, ◌*◌, ◌<◌, ◌≤◌, List, [], ◌∷◌, ◌++◌, length, map, drop, replicate, Result, Ok, Err, OnOk, OnErr, None, refl, sym, ap, ◌∙◌, subst, arith, inl, inr, append-nil, append_assoc, length-append, length-set, get_or-set_same, get_or-set_other, get_or, eqb}
+use Rattle.std.proofs.lemmas.Bool.{cases_eq}
+use Rattle.std.proofs.lemmas.List.{get_or_default, length-map}
+use Rattle.std.proofs.lemmas.List.Folds.{sum_by-replicate}
 use Rattle.std.proofs.Math.Seq.{drop-append_seam}
 use Rattle.ir_image.specs.Guest.{Guest, object_count}
-use Rattle.ir_thread.specs.Calls.{ask_of}
-use Rattle.ir_thread.specs.Instance.{shared_ask, thread_machine}
+use Rattle.ir_thread.specs.Calls.{ask_of, after_ask}
+use Rattle.ir_thread.specs.Held.{held_count, one_if_held}
+use Rattle.ir_thread.proofs.Asked.{ask_permits}
+use Rattle.ir_object.proofs.Tables.{upd_same, upd_other, upd_elim}
+use Rattle.ir_thread.specs.Instance.{shared_ask, reply_of, thread_machine}
 use Rattle.ir_thread.specs.Machine as machine
 use Rattle.ir_thread.specs.Machine.{Machine, act_of}
 use Rattle.ir_thread.specs.Marks.{Mark, logged, Trace}
 use Rattle.ir_thread.specs.State as thread
-use Rattle.ir_thread.specs.declared.ask.Ask.TheVariants.{Private, Done}
-use Rattle.ir_object.specs.Object.{target, told, Admits}
+use Rattle.ir_thread.specs.Calls.{Permits}
+use Rattle.ir_thread.proofs.Highest.{one_fewer}
+use Rattle.ir_thread.specs.declared.ask.Access.{Access}
+use Rattle.ir_thread.specs.declared.ask.Ask.TheVariants.{Private, Done, Leave as Leaves}
+use Rattle.ir_object.specs.Object.{target, told, reply, Admits}
 use Rattle.ir_flat.specs.Alone.{WentAlone}
-use Rattle.ir_flat.specs.Flat.{Flat, thread_of, tables, machine as machine_of, start_flat}
-use Rattle.ir_flat.specs.Run.{State, Step, act, asked, Can, after, end, trail, events, log, count}
+use Rattle.ir_flat.specs.Flat.{Flat, thread_of, tables, machine as machine_of, start_flat, start_threads, idle, IsFlat}
+use Rattle.ir_flat.specs.Run.{State, Step, act, asked, Can, after, mark, end, trail, events, log, count}
 use Rattle.ir_flat.proofs.Append.{trail_append, end_append}
-use Rattle.ir_flat.proofs.Counted.{tally, really_done}
+use Rattle.ir_flat.proofs.Counted.{tally, really_done, moved_thread, now_after}
 use Rattle.ir_flat.proofs.Fresh.{fresh, no_steps, threads_length, cells_length}
 use Rattle.ir_log.specs.Logging.{mark_of}
-use Rattle.ir_trace.specs.Recorded.{Recorded}
-use Rattle.ir_trace.specs.Told.{recorded_thread, trace_of}
+use Rattle.ir_trace.specs.Recorded.{Recorded, RecordedThread}
+use Rattle.ir_trace.specs.Told.{recorded_thread, absent, trace_of}
 use Rattle.ir_fit.specs.Ahead.{steps_ahead, log_ahead, StepFollows, CanFollow, IsStopped, AgreesAhead, IsMove}
 use Rattle.ir_fit.specs.Coherent.{sum_below}
-use Rattle.ir_fit.specs.Follower.{IsFollower, IsFollowed, GoesOn, all_ahead}
+use Rattle.ir_fit.specs.Follower.{IsFollower, IsFollowed, IsPlaced, GoesOn, all_ahead}
+use Rattle.ir_fit.specs.Places.{Placed, placed_at, placed_by, placed_more, none_placed, place_if, leave_if, places_of, leaves_of}
 use Rattle.ir_fit.specs.Following.{Check, unlogged, left_log, left_steps, Fits, Follows, Meets, closing}
 use Rattle.ir_fit.specs.Standing.{AgreesNow, StandsAs}
 use Rattle.ir_fit.specs.Standing as standing
@@ -29,11 +39,12 @@ use Rattle.ir_fit.specs.Verdicts.{Agrees, result_of}
 use Rattle.ir_fit.specs.declared.verdict.ThreadVerdict.{ThreadVerdict}
 use Rattle.ir_fit.specs.declared.verdict.ThreadVerdict.TheVariants.{Same, Disagrees, Starves}
 use Rattle.ir_fit.specs.declared.look.Move.{Move}
-use Rattle.ir_fit.proofs.Ending.{trail_same, run_last}
+use Rattle.ir_fit.proofs.Ending.{trail_same, trail_other, run_last}
 use Rattle.ir_fit.proofs.Follow.{fits_front}
 use Rattle.ir_fit.proofs.Judge.{goes_further, is_done, agrees}
 use Rattle.ir_fit.proofs.OneResult.{fits_last}
-use Rattle.ir_fit.proofs.Seen.{end_asked, ends_asked}
+use Rattle.ir_fit.proofs.Placed.{AllQuiet, quiet_join, quiet_places, quiet_leaves, places_append, leaves_append, placed_entries, placed_leaves, placed_room, placed_count, placed_fewer}
+use Rattle.ir_fit.proofs.Seen.{end_asked, ends_asked, tells, events_within}
 use Rattle.ir_fit.proofs.Tally.{sum_le, sum_less}
 
 -- ---- what is left
@@ -59,8 +70,10 @@ guest_start guest r = tables (start_flat guest r.budget)
 abbrev pub GuestFollows : Guest → Recorded → List Step → Type 0
 GuestFollows guest r run = Follows (closing (guest_machine guest r) (trace_of r)) (guest_machine guest r) (guest_start guest r) (trace_of r) run
 
-pub made : (guest : Guest) (r : Recorded) (f : Flat) (run : List Step) → GuestFollows guest r run → tables f ≡ end (guest_machine guest r) (guest_start guest r) run → f.code ≡ guest.code → length f.threads ≡ length guest.entries → length f.objects ≡ object_count guest → IsFollower guest r f
-made guest r f run h ends code threads objects = record {
+pub made : (guest : Guest) (r : Recorded) (f : Flat) (ps : List Placed) (run : List Step) → GuestFollows guest r run → tables f ≡ end (guest_machine guest r) (guest_start guest r) run → f.code ≡ guest.code → length f.threads ≡ length guest.entries → length f.objects ≡ object_count guest
+    → ((t : ℕ) → t < length guest.entries → (placed_at ps t).entries ≡ places_of (trail (guest_machine guest r) (guest_start guest r) run t))
+    → ((t : ℕ) → t < length guest.entries → (placed_at ps t).leaves ≡ leaves_of (trail (guest_machine guest r) (guest_start guest r) run t)) → IsFollower guest r f ps
+made guest r f ps run h ends code threads objects placed left = record {
   run = run;
   follows = h;
   ends = ends;
@@ -69,19 +82,21 @@ made guest r f run h ends code threads objects = record {
   objects = objects;
   steps = λ t. ap (λ s. (s.now t).steps) ends ∙ (tally guest.code (guest_start guest r) run h.0 t).steps ∙ from_zero (thread_of (start_flat guest r.budget) t).steps (count (guest_machine guest r) (guest_start guest r) run t) (no_steps guest r.budget 0 (length guest.entries) t);
   events = λ t. ap (λ s. (s.now t).events) ends ∙ (tally guest.code (guest_start guest r) run h.0 t).events ∙ from_zero (thread_of (start_flat guest r.budget) t).events (length (log (guest_machine guest r) (guest_start guest r) run t)) (fresh guest r.budget 0 (length guest.entries) t).events;
+  placed = placed;
+  left = left;
 }
   where
     from_zero : (a b : ℕ) → a ≡ 0 → a + b ≡ b
     from_zero a b e = omega (arith, e)
 
-pub started : (guest : Guest) (r : Recorded) → IsFollower guest r (start_flat guest r.budget)
-started guest r = made guest r (start_flat guest r.budget) [] (tt, λ t. tt) refl refl (threads_length guest r.budget 0 (length guest.entries)) (cells_length guest.words (object_count guest))
+pub started : (guest : Guest) (r : Recorded) (ps : List Placed) → ((t : ℕ) → ((placed_at ps t).entries ≡ []) × ((placed_at ps t).leaves ≡ [])) → IsFollower guest r (start_flat guest r.budget) ps
+started guest r ps none = made guest r (start_flat guest r.budget) ps [] (tt, λ t. tt) refl refl (threads_length guest r.budget 0 (length guest.entries)) (cells_length guest.words (object_count guest)) (λ t l. (none t).0) (λ t l. (none t).1)
 
-pub steps_are : (guest : Guest) (r : Recorded) (f : Flat) → (k : IsFollower guest r f) → (t : ℕ) → steps_ahead r f t ≡ left_steps (trail (guest_machine guest r) (guest_start guest r) k.run t) ((trace_of r).steps t)
-steps_are guest r f k t = ap (λ n. (recorded_thread r t).steps - n) (k.steps t) ∙ sym (steps_over_is (trail (guest_machine guest r) (guest_start guest r) k.run t) ((trace_of r).steps t))
+pub steps_are : (guest : Guest) (r : Recorded) (f : Flat) (ps : List Placed) → (k : IsFollower guest r f ps) → (t : ℕ) → steps_ahead r f t ≡ left_steps (trail (guest_machine guest r) (guest_start guest r) k.run t) ((trace_of r).steps t)
+steps_are guest r f ps k t = ap (λ n. (recorded_thread r t).steps - n) (k.steps t) ∙ sym (steps_over_is (trail (guest_machine guest r) (guest_start guest r) k.run t) ((trace_of r).steps t))
 
-pub log_is : (guest : Guest) (r : Recorded) (f : Flat) → (k : IsFollower guest r f) → (t : ℕ) → log_ahead r f t ≡ left_log (trail (guest_machine guest r) (guest_start guest r) k.run t) ((trace_of r).logs t)
-log_is guest r f k t = ap (λ n. drop n (map mark_of (recorded_thread r t).events)) (k.events t)
+pub log_is : (guest : Guest) (r : Recorded) (f : Flat) (ps : List Placed) → (k : IsFollower guest r f ps) → (t : ℕ) → log_ahead r f t ≡ left_log (trail (guest_machine guest r) (guest_start guest r) k.run t) ((trace_of r).logs t)
+log_is guest r f ps k t = ap (λ n. drop n (map mark_of (recorded_thread r t).events)) (k.events t)
     ∙ sym (log_over_is (closing (guest_machine guest r) (trace_of r) t) ((trace_of r).steps t) ((trace_of r).logs t) (trail (guest_machine guest r) (guest_start guest r) k.run t) (k.follows.1 t))
 
 -- what holds of the guest as it stands and of what is left to thread t
@@ -89,38 +104,80 @@ abbrev pub Of : Type 1
 Of = Machine thread.State → State thread.State → ℕ → List Mark → Type 0
 
 -- holds at the end of the run
-pub there : (guest : Guest) (r : Recorded) (f : Flat) → (k : IsFollower guest r f) → (t : ℕ) (P : Of) → P (machine_of f) (tables f) (steps_ahead r f t) (log_ahead r f t)
+pub there : (guest : Guest) (r : Recorded) (f : Flat) (ps : List Placed) → (k : IsFollower guest r f ps) → (t : ℕ) (P : Of) → P (machine_of f) (tables f) (steps_ahead r f t) (log_ahead r f t)
     → P (guest_machine guest r) (end (guest_machine guest r) (guest_start guest r) k.run) (left_steps (trail (guest_machine guest r) (guest_start guest r) k.run t) ((trace_of r).steps t)) (left_log (trail (guest_machine guest r) (guest_start guest r) k.run t) ((trace_of r).logs t))
-there guest r f k t P h =
+there guest r f ps k t P h =
     let m = guest_machine guest r in
     let s = guest_start guest r in
-    subst (λ es. P m (end m s k.run) (left_steps (trail m s k.run t) ((trace_of r).steps t)) es) (log_is guest r f k t)
-    (subst (λ n. P m (end m s k.run) n (log_ahead r f t)) (steps_are guest r f k t)
+    subst (λ es. P m (end m s k.run) (left_steps (trail m s k.run t) ((trace_of r).steps t)) es) (log_is guest r f ps k t)
+    (subst (λ n. P m (end m s k.run) n (log_ahead r f t)) (steps_are guest r f ps k t)
     (subst (λ z. P m z (steps_ahead r f t) (log_ahead r f t)) k.ends
     (subst (λ c. P (thread_machine c) (tables f) (steps_ahead r f t) (log_ahead r f t)) k.code h)))
 
-pub back : (guest : Guest) (r : Recorded) (f : Flat) → (k : IsFollower guest r f) → (t : ℕ) (P : Of)
+pub back : (guest : Guest) (r : Recorded) (f : Flat) (ps : List Placed) → (k : IsFollower guest r f ps) → (t : ℕ) (P : Of)
     → P (guest_machine guest r) (end (guest_machine guest r) (guest_start guest r) k.run) (left_steps (trail (guest_machine guest r) (guest_start guest r) k.run t) ((trace_of r).steps t)) (left_log (trail (guest_machine guest r) (guest_start guest r) k.run t) ((trace_of r).logs t))
     → P (machine_of f) (tables f) (steps_ahead r f t) (log_ahead r f t)
-back guest r f k t P h =
+back guest r f ps k t P h =
     let m = guest_machine guest r in
     let s = guest_start guest r in
     subst (λ c. P (thread_machine c) (tables f) (steps_ahead r f t) (log_ahead r f t)) (sym k.code)
     (subst (λ z. P m z (steps_ahead r f t) (log_ahead r f t)) (sym k.ends)
-    (subst (λ n. P m (end m s k.run) n (log_ahead r f t)) (sym (steps_are guest r f k t))
-    (subst (λ es. P m (end m s k.run) (left_steps (trail m s k.run t) ((trace_of r).steps t)) es) (sym (log_is guest r f k t)) h)))
+    (subst (λ n. P m (end m s k.run) n (log_ahead r f t)) (sym (steps_are guest r f ps k t))
+    (subst (λ es. P m (end m s k.run) (left_steps (trail m s k.run t) ((trace_of r).steps t)) es) (sym (log_is guest r f ps k t)) h)))
 
 -- ---- one step more
 
-pub moves : (guest : Guest) (r : Recorded) (f g : Flat) (t v : ℕ) → CanFollow r f t v → tables g ≡ after (machine_of f) (tables f) (t, v) → g.code ≡ f.code → length g.threads ≡ length f.threads → length g.objects ≡ length f.objects → IsFollower guest r f → IsFollower guest r g
-moves guest r f g t v can taken code threads objects k =
+-- what is kept after a step, of the thread that takes it and of another
+module _ (guest : Guest) (r : Recorded) (f : Flat) (ps qs : List Placed) (n : Move) (move : IsMove r f n) (each : length ps ≡ length f.threads) (more : qs ≡ placed_more f ps n.thread n.asked) (k : IsFollower guest r f ps) where
+  kept_own : placed_at qs n.thread ≡ placed_by f n.thread (placed_at ps n.thread) n.asked
+  kept_own = ap (λ z. placed_at z n.thread) more ∙ get_or-set_same ps n.thread (placed_by f n.thread (placed_at ps n.thread) n.asked) none_placed (let l = move.below in omega (arith, l, each))
+
+  kept_other : (u : ℕ) → u ≢ n.thread → placed_at qs u ≡ placed_at ps u
+  kept_other u ne = ap (λ z. placed_at z u) more ∙ get_or-set_other ps n.thread u (placed_by f n.thread (placed_at ps n.thread) n.asked) none_placed ne
+
+  own_steps : trail (guest_machine guest r) (guest_start guest r) (k.run ++ (n.thread, n.result) ∷ []) n.thread ≡ trail (guest_machine guest r) (guest_start guest r) k.run n.thread ++ ((end (guest_machine guest r) (guest_start guest r) k.run).now n.thread, mark (guest_machine guest r) (end (guest_machine guest r) (guest_start guest r) k.run) (n.thread, n.result)) ∷ []
+  own_steps = trail_append (guest_machine guest r) (guest_start guest r) k.run ((n.thread, n.result) ∷ []) n.thread ∙ ap (λ z. trail (guest_machine guest r) (guest_start guest r) k.run n.thread ++ z) (trail_same (guest_machine guest r) (end (guest_machine guest r) (guest_start guest r) k.run) (n.thread, n.result) [])
+
+  other_steps : (u : ℕ) → u ≢ n.thread → trail (guest_machine guest r) (guest_start guest r) (k.run ++ (n.thread, n.result) ∷ []) u ≡ trail (guest_machine guest r) (guest_start guest r) k.run u
+  other_steps u ne = trail_append (guest_machine guest r) (guest_start guest r) k.run ((n.thread, n.result) ∷ []) u ∙ ap (λ z. trail (guest_machine guest r) (guest_start guest r) k.run u ++ z) (trail_other (guest_machine guest r) (end (guest_machine guest r) (guest_start guest r) k.run) (n.thread, n.result) [] u ne) ∙ append-nil _
+
+  tells_there : tells f n.asked n.result ≡ mark (guest_machine guest r) (end (guest_machine guest r) (guest_start guest r) k.run) (n.thread, n.result)
+  tells_there = ap (λ q. tells f q n.result) move.asked ∙ ap (λ c. mark (thread_machine c) (tables f) (n.thread, n.result)) k.code ∙ ap (λ z. mark (guest_machine guest r) z (n.thread, n.result)) k.ends
+
+  position : (thread_of f n.thread).steps ≡ 0 + length (trail (guest_machine guest r) (guest_start guest r) k.run n.thread)
+  position = k.steps n.thread ∙ (let e : length (trail (guest_machine guest r) (guest_start guest r) k.run n.thread) ≡ 0 + length (trail (guest_machine guest r) (guest_start guest r) k.run n.thread) = omega arith in e)
+
+  more_placed : (t : ℕ) → t < length guest.entries → (placed_at qs t).entries ≡ places_of (trail (guest_machine guest r) (guest_start guest r) (k.run ++ (n.thread, n.result) ∷ []) t)
+  more_placed t l = elim (cases_eq t n.thread) [
+    | inl e ↦ subst (λ u. (placed_at qs u).entries ≡ places_of (trail (guest_machine guest r) (guest_start guest r) (k.run ++ (n.thread, n.result) ∷ []) u)) (sym e)
+        (ap (λ z. z.entries) kept_own ∙ placed_entries f n.thread n.result (placed_at ps n.thread) n.asked ∙ ap (λ z. z ++ place_if (tells f n.asked n.result) (thread_of f n.thread).steps []) (k.placed n.thread (subst (λ u. u < length guest.entries) e l))
+        ∙ ap (λ z. places_of (trail (guest_machine guest r) (guest_start guest r) k.run n.thread) ++ z) (ap (λ z. place_if z (thread_of f n.thread).steps []) tells_there ∙ ap (λ (i : ℕ). place_if (mark (guest_machine guest r) (end (guest_machine guest r) (guest_start guest r) k.run) (n.thread, n.result)) i []) position)
+        ∙ sym (places_append 0 (trail (guest_machine guest r) (guest_start guest r) k.run n.thread) (((end (guest_machine guest r) (guest_start guest r) k.run).now n.thread, mark (guest_machine guest r) (end (guest_machine guest r) (guest_start guest r) k.run) (n.thread, n.result)) ∷ [])) ∙ ap (λ z. places_of z) (sym own_steps))
+    | inr ne ↦ ap (λ z. z.entries) (kept_other t ne) ∙ k.placed t l ∙ ap (λ z. places_of z) (sym (other_steps t ne))
+  ]
+
+  more_left : (t : ℕ) → t < length guest.entries → (placed_at qs t).leaves ≡ leaves_of (trail (guest_machine guest r) (guest_start guest r) (k.run ++ (n.thread, n.result) ∷ []) t)
+  more_left t l = elim (cases_eq t n.thread) [
+    | inl e ↦ subst (λ u. (placed_at qs u).leaves ≡ leaves_of (trail (guest_machine guest r) (guest_start guest r) (k.run ++ (n.thread, n.result) ∷ []) u)) (sym e)
+        (ap (λ z. z.leaves) kept_own ∙ placed_leaves f n.thread n.result (placed_at ps n.thread) n.asked ∙ ap (λ z. z ++ leave_if (tells f n.asked n.result) (thread_of f n.thread).steps []) (k.left n.thread (subst (λ u. u < length guest.entries) e l))
+        ∙ ap (λ z. leaves_of (trail (guest_machine guest r) (guest_start guest r) k.run n.thread) ++ z) (ap (λ z. leave_if z (thread_of f n.thread).steps []) tells_there ∙ ap (λ (i : ℕ). leave_if (mark (guest_machine guest r) (end (guest_machine guest r) (guest_start guest r) k.run) (n.thread, n.result)) i []) position)
+        ∙ sym (leaves_append 0 (trail (guest_machine guest r) (guest_start guest r) k.run n.thread) (((end (guest_machine guest r) (guest_start guest r) k.run).now n.thread, mark (guest_machine guest r) (end (guest_machine guest r) (guest_start guest r) k.run) (n.thread, n.result)) ∷ [])) ∙ ap (λ z. leaves_of z) (sym own_steps))
+    | inr ne ↦ ap (λ z. z.leaves) (kept_other t ne) ∙ k.left t l ∙ ap (λ z. leaves_of z) (sym (other_steps t ne))
+  ]
+
+pub moves : (guest : Guest) (r : Recorded) (f g : Flat) (ps qs : List Placed) (n : Move) → IsMove r f n → length ps ≡ length f.threads → qs ≡ placed_more f ps n.thread n.asked → tables g ≡ after (machine_of f) (tables f) (n.thread, n.result) → g.code ≡ f.code → length g.threads ≡ length f.threads → length g.objects ≡ length f.objects
+    → IsFollower guest r f ps → IsFollower guest r g qs
+moves guest r f g ps qs n move each more taken code threads objects k =
     let m = guest_machine guest r in
     let s = guest_start guest r in
+    let t : ℕ = n.thread in
+    let v : ℕ = n.result in
     let step : StepFollows m (trace_of r) (end m s k.run) (left_steps (trail m s k.run t) ((trace_of r).steps t)) (left_log (trail m s k.run t) ((trace_of r).logs t)) t v =
-    there guest r f k t (λ n z a es. StepFollows n (trace_of r) z a es t v) can in
-    made guest r g (k.run ++ (t, v) ∷ []) (goes_further m s (trace_of r) k.run k.follows t v step.0 (step.1, step.2, step.3))
+    there guest r f ps k t (λ n z a es. StepFollows n (trace_of r) z a es t v) move.follows in
+    made guest r g qs (k.run ++ (t, v) ∷ []) (goes_further m s (trace_of r) k.run k.follows t v step.0 (step.1, step.2, step.3))
     (taken ∙ ap (λ c. after (thread_machine c) (tables f) (t, v)) k.code ∙ ap (λ z. after m z (t, v)) k.ends ∙ sym (end_append m s k.run ((t, v) ∷ [])))
     (code ∙ k.code) (threads ∙ k.threads) (objects ∙ k.objects)
+    (more_placed guest r f ps qs n move each more k) (more_left guest r f ps qs n move each more k)
 
 -- ---- private steps
 
@@ -150,16 +207,31 @@ alone_follows code tr s run t (suc n) h each le =
     (λ k l. ap (λ z. ask_of code ((end m z (replicate k (t, 0))).now t)) (end_append m s run (e ∷ [])) ∙ each (suc k) (omega (arith, l)))
     (omega (arith, le, size, was, now)))
 
-pub went_follows : (guest : Guest) (r : Recorded) (f g : Flat) (t n : ℕ) → WentAlone f g t n → n ≤ steps_ahead r f t → IsFollower guest r f → IsFollower guest r g
-went_follows guest r f g t n w le k =
+-- private steps tell nothing
+alone_quiet : (code : List ℕ) (s : State thread.State) (t n : ℕ) → ((k : ℕ) → k < n → ask_of code ((end (thread_machine code) s (replicate k (t, 0))).now t) ≡ Private) → (u : ℕ) → AllQuiet (trail (thread_machine code) s (replicate n (t, 0)) u)
+alone_quiet code s t zero each u = tt
+alone_quiet code s t (suc n) each u =
+    let m = thread_machine code in
+    let is : ask_of code (s.now t) ≡ Private = each 0 (omega arith) in
+    quiet_join (eqb u t) (s.now u, mark m s (t, 0)) (trail m (after m s (t, 0)) (replicate n (t, 0)) u) (ap (λ q. told (act_of (shared_ask q) 0) (s.objects (target (act_of (shared_ask q) 0)))) is)
+    (alone_quiet code (after m s (t, 0)) t n (λ k l. each (suc k) (omega (arith, l))) u)
+
+pub went_follows : (guest : Guest) (r : Recorded) (f g : Flat) (ps : List Placed) (t n : ℕ) → WentAlone f g t n → n ≤ steps_ahead r f t → IsFollower guest r f ps → IsFollower guest r g ps
+went_follows guest r f g ps t n w le k =
     let m = guest_machine guest r in
     let s = guest_start guest r in
-    made guest r g (k.run ++ replicate n (t, 0))
-    (alone_follows guest.code (trace_of r) s k.run t n k.follows
-    (λ j l. subst (λ z. ask_of guest.code ((end m z (replicate j (t, 0))).now t) ≡ Private) k.ends (subst (λ c. ask_of c ((end (thread_machine c) (tables f) (replicate j (t, 0))).now t) ≡ Private) k.code (w.each j l)))
-    (subst (λ z. n ≤ z) (steps_are guest r f k t) le))
+    let each : (j : ℕ) → j < n → ask_of guest.code ((end m (end m s k.run) (replicate j (t, 0))).now t) ≡ Private =
+    λ j l. subst (λ z. ask_of guest.code ((end m z (replicate j (t, 0))).now t) ≡ Private) k.ends (subst (λ c. ask_of c ((end (thread_machine c) (tables f) (replicate j (t, 0))).now t) ≡ Private) k.code (w.each j l)) in
+    let rest : ℕ → List (thread.State × Mark) = λ u. trail m (end m s k.run) (replicate n (t, 0)) u in
+    let quiet : (u : ℕ) → AllQuiet (rest u) = alone_quiet guest.code (end m s k.run) t n each in
+    made guest r g ps (k.run ++ replicate n (t, 0))
+    (alone_follows guest.code (trace_of r) s k.run t n k.follows each (subst (λ z. n ≤ z) (steps_are guest r f ps k t) le))
     (w.ends ∙ ap (λ c. end (thread_machine c) (tables f) (replicate n (t, 0))) k.code ∙ ap (λ z. end m z (replicate n (t, 0))) k.ends ∙ sym (end_append m s k.run (replicate n (t, 0))))
     (w.code ∙ k.code) (w.threads ∙ k.threads) (w.objects ∙ k.objects)
+    (λ u l. k.placed u l ∙ sym (append-nil (places_of (trail m s k.run u))) ∙ ap (λ z. places_of (trail m s k.run u) ++ z) (sym (quiet_places (0 + length (trail m s k.run u)) (rest u) (quiet u)))
+    ∙ sym (places_append 0 (trail m s k.run u) (rest u)) ∙ ap (λ z. places_of z) (sym (trail_append m s k.run (replicate n (t, 0)) u)))
+    (λ u l. k.left u l ∙ sym (append-nil (leaves_of (trail m s k.run u))) ∙ ap (λ z. leaves_of (trail m s k.run u) ++ z) (sym (quiet_leaves (0 + length (trail m s k.run u)) (rest u) (quiet u)))
+    ∙ sym (leaves_append 0 (trail m s k.run u) (rest u)) ∙ ap (λ z. leaves_of z) (sym (trail_append m s k.run (replicate n (t, 0)) u)))
 
 -- ---- fewer are left
 
@@ -182,34 +254,144 @@ went_fewer r f g t n w =
     (sum_le (length f.threads) (steps_ahead r g) (steps_ahead r f)
     (λ u. less_left (recorded_thread r u).steps (thread_of g u).steps (thread_of f u).steps (count (machine_of f) (tables f) (replicate n (t, 0)) u) (ap (λ s. (s.now u).steps) w.ends ∙ (tally f.code (tables f) (replicate n (t, 0)) w.runs u).steps)))
 
+-- ---- what is kept keeps up
+
+module _ (r : Recorded) (f g : Flat) (ps qs : List Placed) (n : Move) (move : IsMove r f n) (kept : IsPlaced r f ps) (more : qs ≡ placed_more f ps n.thread n.asked) (taken : tables g ≡ after (machine_of f) (tables f) (n.thread, n.result)) (threads : length g.threads ≡ length f.threads) where
+  now_own : thread_of g n.thread ≡ moved_thread f.code (tables f) (n.thread, n.result)
+  now_own = ap (λ s. s.now n.thread) taken ∙ ap (λ now. now n.thread) (now_after f.code (tables f) (n.thread, n.result)) ∙ upd_same (thread_of f) n.thread (moved_thread f.code (tables f) (n.thread, n.result))
+
+  now_else : (u : ℕ) → u ≢ n.thread → thread_of g u ≡ thread_of f u
+  now_else u ne = ap (λ s. s.now u) taken ∙ ap (λ now. now u) (now_after f.code (tables f) (n.thread, n.result)) ∙ upd_other (thread_of f) n.thread u (moved_thread f.code (tables f) (n.thread, n.result)) ne
+
+  at_own : placed_at qs n.thread ≡ placed_by f n.thread (placed_at ps n.thread) (ask_of f.code (thread_of f n.thread))
+  at_own = ap (λ z. placed_at z n.thread) more ∙ get_or-set_same ps n.thread (placed_by f n.thread (placed_at ps n.thread) n.asked) none_placed (let l = move.below in let e = kept.each in omega (arith, l, e)) ∙ ap (placed_by f n.thread (placed_at ps n.thread)) move.asked
+
+  at_else : (u : ℕ) → u ≢ n.thread → placed_at qs u ≡ placed_at ps u
+  at_else u ne = ap (λ z. placed_at z u) more ∙ get_or-set_other ps n.thread u (placed_by f n.thread (placed_at ps n.thread) n.asked) none_placed ne
+
+  -- what holds of a thread and what is kept of it
+  each_of : (P : ℕ → thread.State → Placed → Type 0) → P n.thread (moved_thread f.code (tables f) (n.thread, n.result)) (placed_by f n.thread (placed_at ps n.thread) (ask_of f.code (thread_of f n.thread)))
+      → ((u : ℕ) → u < length f.threads → P u (thread_of f u) (placed_at ps u)) → (u : ℕ) → u < length g.threads → P u (thread_of g u) (placed_at qs u)
+  each_of P own others u l = elim (cases_eq u n.thread) [
+    | inl e ↦ subst (λ z. P z (thread_of g z) (placed_at qs z)) (sym e) (subst (λ x. P n.thread x (placed_at qs n.thread)) (sym now_own) (subst (P n.thread (moved_thread f.code (tables f) (n.thread, n.result))) (sym at_own) own))
+    | inr ne ↦ subst (λ x. P u x (placed_at qs u)) (sym (now_else u ne)) (subst (P u (thread_of f u)) (sym (at_else u ne)) (others u (omega (arith, l, threads))))
+  ]
+
+  placed_on : IsPlaced r g qs
+  placed_on = record {
+    each = ap (λ z. length z) more ∙ length-set ps n.thread _ ∙ kept.each ∙ sym threads;
+    rooms = each_of (λ u x p. p.room ≡ length (recorded_thread r u).events) (placed_room f n.thread (placed_at ps n.thread) (ask_of f.code (thread_of f n.thread)) ∙ kept.rooms n.thread move.below) kept.rooms;
+    counts = each_of (λ u x p. length p.entries ≡ x.events) (placed_count f.code f n.thread (placed_at ps n.thread) (thread_of f n.thread) (ask_of f.code (thread_of f n.thread)) _ (kept.counts n.thread move.below)) kept.counts;
+    fewer = each_of (λ u x p. length p.leaves + held_count x.held ≤ x.events) (placed_fewer f.code f n.thread (placed_at ps n.thread) (thread_of f n.thread) (ask_of f.code (thread_of f n.thread)) _ (ask_permits f.code (thread_of f n.thread)) (kept.fewer n.thread move.below)) kept.fewer;
+    within = each_of (λ u x p. x.events ≤ length (recorded_thread r u).events) (events_within r f n.thread n.result _ move.follows (kept.within n.thread move.below)) kept.within;
+  }
+
+-- who leaves an object leaves one of the guest's, and there is room to keep the leave
+pub leave_object : (f : Flat) (t o : ℕ) (a : Access) → IsFlat f → t < length f.threads → ask_of f.code (thread_of f t) ≡ Leaves o a → o < length f.objects
+leave_object f t o a flat l is = let p = subst (Permits (thread_of f t)) is (ask_permits f.code (thread_of f t)) in omega (arith, p.1, flat.places t l)
+
+pub leave_room : (r : Recorded) (f : Flat) (ps : List Placed) (t o : ℕ) (a : Access) → IsPlaced r f ps → t < length f.threads → ask_of f.code (thread_of f t) ≡ Leaves o a → length (placed_at ps t).leaves < (placed_at ps t).room
+leave_room r f ps t o a kept l is =
+    let p = subst (Permits (thread_of f t)) is (ask_permits f.code (thread_of f t)) in
+    let some = one_fewer (thread_of f t).held o p.1 (λ none. cc (p.2, none)) in
+    omega (arith, some, kept.fewer t l, kept.within t l, kept.rooms t l)
+
+-- what is found at a place is what is kept of that thread
+pub kept_found : (ps : List Placed) (t : ℕ) (p : Placed) → t < length ps → p ≡ get_or ps t p → p ≡ placed_at ps t
+kept_found ps t p l e = e ∙ get_or_default ps t p none_placed l
+
+-- private steps keep what is held
+step_held : (code : List ℕ) (s : State thread.State) (t u : ℕ) → ask_of code (s.now t) ≡ Private → ((after (thread_machine code) s (t, 0)).now u).held ≡ (s.now u).held
+step_held code s t u is = ap (λ now. (now u).held) (now_after code s (t, 0)) ∙ upd_elim s.now t (moved_thread code s (t, 0)) u (λ z. z.held ≡ (s.now u).held)
+    (λ e. ap (λ q. (after_ask code (s.now t) q (reply_of q (reply (act_of (shared_ask q) 0) (s.objects (target (act_of (shared_ask q) 0)))))).held) is ∙ ap (λ i. (s.now i).held) (sym e))
+    (λ _. refl)
+
+alone_held : (code : List ℕ) (s : State thread.State) (t n : ℕ) → ((k : ℕ) → k < n → ask_of code ((end (thread_machine code) s (replicate k (t, 0))).now t) ≡ Private) → (u : ℕ) → ((end (thread_machine code) s (replicate n (t, 0))).now u).held ≡ (s.now u).held
+alone_held code s t zero each u = refl
+alone_held code s t (suc n) each u =
+    alone_held code (after (thread_machine code) s (t, 0)) t n (λ k l. each (suc k) (omega (arith, l))) u ∙ step_held code s t u (each 0 (omega arith))
+
+pub went_placed : (r : Recorded) (f g : Flat) (ps : List Placed) (t n : ℕ) → IsPlaced r f ps → WentAlone f g t n → IsPlaced r g ps
+went_placed r f g ps t n kept w =
+    let events_same : (u : ℕ) → (thread_of g u).events ≡ (thread_of f u).events =
+    λ u. ap (λ s. (s.now u).events) w.ends ∙ (tally f.code (tables f) (replicate n (t, 0)) w.runs u).events ∙ ap (λ z. (thread_of f u).events + length z) (w.quiet u) ∙ (let e : (thread_of f u).events + 0 ≡ (thread_of f u).events = omega arith in e) in
+    let held_same : (u : ℕ) → (thread_of g u).held ≡ (thread_of f u).held = λ u. ap (λ s. (s.now u).held) w.ends ∙ alone_held f.code (tables f) t n w.each u in
+    record {
+      each = kept.each ∙ sym w.threads;
+      rooms = λ u l. kept.rooms u (omega (arith, l, w.threads));
+      counts = λ u l. kept.counts u (omega (arith, l, w.threads)) ∙ sym (events_same u);
+      fewer = λ u l. subst (λ h. length (placed_at ps u).leaves + held_count h ≤ (thread_of g u).events) (sym (held_same u)) (subst (λ e. length (placed_at ps u).leaves + held_count (thread_of f u).held ≤ e) (sym (events_same u)) (kept.fewer u (omega (arith, l, w.threads))));
+      within = λ u l. subst (λ e. e ≤ length (recorded_thread r u).events) (sym (events_same u)) (kept.within u (omega (arith, l, w.threads)));
+    }
+
+-- ---- what is kept at the start
+
+-- nothing, with room for what the trace tells of a thread
+abbrev pub room_for : RecordedThread → Placed
+room_for t = record { entries = []; leaves = []; room = length t.events }
+
+none_held : (guest : Guest) (budget from n t : ℕ) → held_count (get_or (start_threads guest budget from n) t idle).held ≡ 0
+none_held guest budget from zero t = refl
+none_held guest budget from (suc n) zero = sum_by-replicate one_if_held (object_count guest) None ∙ (let e : object_count guest * 0 ≡ 0 = omega arith in e)
+none_held guest budget from (suc n) (suc t) = none_held guest budget (suc from) n t
+
+room_at : (rs : List RecordedThread) (t : ℕ) → placed_at (map room_for rs) t ≡ room_for (get_or rs t absent)
+room_at [] t = refl
+room_at (x ∷ rs) zero = refl
+room_at (x ∷ rs) (suc t) = room_at rs t
+
+pub start_placed : (guest : Guest) (r : Recorded) (f : Flat) (ps : List Placed) → f ≡ start_flat guest r.budget → ps ≡ map room_for r.threads → length r.threads ≡ length f.threads → IsPlaced r f ps
+start_placed guest r f ps start rooms count =
+    let at : (t : ℕ) → placed_at ps t ≡ room_for (recorded_thread r t) = λ t. ap (λ z. placed_at z t) rooms ∙ room_at r.threads t in
+    let no_events : (t : ℕ) → (thread_of f t).events ≡ 0 = λ t. ap (λ z. (thread_of z t).events) start ∙ (fresh guest r.budget 0 (length guest.entries) t).events in
+    let no_held : (t : ℕ) → held_count (thread_of f t).held ≡ 0 = λ t. ap (λ z. held_count (thread_of z t).held) start ∙ none_held guest r.budget 0 (length guest.entries) t in
+    record {
+      each = ap (λ z. length z) rooms ∙ length-map r.threads room_for ∙ count;
+      rooms = λ t l. ap (λ z. z.room) (at t);
+      counts = λ t l. ap (λ z. length z.entries) (at t) ∙ sym (no_events t);
+      fewer = λ t l. let none : length (placed_at ps t).leaves ≡ 0 = ap (λ z. length z.leaves) (at t) in let held = no_held t in omega (arith, none, held);
+      within = λ t l. let none = no_events t in omega (arith, none);
+    }
+
+pub start_none : (r : Recorded) (ps : List Placed) → ps ≡ map room_for r.threads → (t : ℕ) → ((placed_at ps t).entries ≡ []) × ((placed_at ps t).leaves ≡ [])
+start_none r ps rooms t = (ap (λ z. (placed_at z t).entries) rooms ∙ ap (λ z. z.entries) (room_at r.threads t), ap (λ z. (placed_at z t).leaves) rooms ∙ ap (λ z. z.leaves) (room_at r.threads t))
+
 -- ---- going on
 
-pub went_on : (r : Recorded) (f g : Flat) (t n : ℕ) → WentAlone f g t n → n ≤ steps_ahead r f t → GoesOn r f g
-went_on r f g t n w le = record { follows = λ guest. went_follows guest r f g t n w le; threads = w.threads; objects = w.objects; fewer = went_fewer r f g t n w }
-
-pub moved_on : (r : Recorded) (f g : Flat) (n : Move) → IsMove r f n → tables g ≡ after (machine_of f) (tables f) (n.thread, n.result) → g.code ≡ f.code → length g.threads ≡ length f.threads → length g.objects ≡ length f.objects → GoesOn r f g
-moved_on r f g n move taken code threads objects = record {
-  follows = λ guest. moves guest r f g n.thread n.result move.follows taken code threads objects;
-  threads = threads;
-  objects = objects;
-  fewer = let less = step_fewer r f g n.thread n.result move.below move.follows taken threads in omega (arith, less);
-}
+pub went_on : (r : Recorded) (f g : Flat) (ps : List Placed) (t n : ℕ) → WentAlone f g t n → n ≤ steps_ahead r f t → GoesOn r f ps g ps
+went_on r f g ps t n w le = record { follows = λ guest. went_follows guest r f g ps t n w le; threads = w.threads; objects = w.objects; fewer = went_fewer r f g t n w }
 
 -- a step that was taken
-pub record Taken (r : Recorded) (f g : Flat) : Type 0 where
-  pub goes : GoesOn r f g
+pub record Taken (r : Recorded) (f : Flat) (ps : List Placed) (g : Flat) (qs : List Placed) : Type 0 where
+  pub goes : GoesOn r f ps g qs
   pub less : all_ahead r g < all_ahead r f
+  pub placed : IsPlaced r g qs
 
-pub taken_by : {X E : Type 0} (result : Result X E) (r : Recorded) (f g : Flat) (n : Move) → IsMove r f n → OnOk result (tables g ≡ after (machine_of f) (tables f) (n.thread, n.result)) → g.code ≡ f.code → length g.threads ≡ length f.threads → length g.objects ≡ length f.objects
-    → OnErr result (Can (machine_of f) (tables f) (n.thread, n.result) → ⊥) → Taken r f g
-taken_by (Ok x) r f g n move taken code threads objects never = record { goes = moved_on r f g n move taken code threads objects; less = step_fewer r f g n.thread n.result move.below move.follows taken threads }
-taken_by (Err x) r f g n move taken code threads objects never = absurd (never move.follows.0)
+moved_on : (r : Recorded) (f g : Flat) (ps qs : List Placed) (n : Move) → IsMove r f n → IsPlaced r f ps → qs ≡ placed_more f ps n.thread n.asked → tables g ≡ after (machine_of f) (tables f) (n.thread, n.result) → g.code ≡ f.code → length g.threads ≡ length f.threads → length g.objects ≡ length f.objects → Taken r f ps g qs
+moved_on r f g ps qs n move kept more taken code threads objects =
+    let less = step_fewer r f g n.thread n.result move.below move.follows taken threads in
+    record {
+      goes = record {
+        follows = λ guest. moves guest r f g ps qs n move kept.each more taken code threads objects;
+        threads = threads;
+        objects = objects;
+        fewer = omega (arith, less);
+      };
+      less = less;
+      placed = placed_on r f g ps qs n move kept more taken threads;
+    }
 
-pub stays : (r : Recorded) (f : Flat) → GoesOn r f f
-stays r f = record { follows = λ guest k. k; threads = refl; objects = refl; fewer = omega arith }
+pub taken_by : {X E : Type 0} (result : Result X E) (r : Recorded) (f g h : Flat) (ps qs : List Placed) (n : Move) → IsMove r f n → IsPlaced r f ps → qs ≡ placed_more f ps n.thread n.asked → h ≡ f → OnOk result (tables g ≡ after (machine_of h) (tables h) (n.thread, n.result)) → g.code ≡ h.code → length g.threads ≡ length h.threads → length g.objects ≡ length h.objects
+    → OnErr result (Can (machine_of h) (tables h) (n.thread, n.result) → ⊥) → Taken r f ps g qs
+taken_by (Ok x) r f g h ps qs n move kept more same taken code threads objects never =
+    moved_on r f g ps qs n move kept more (subst (λ z. tables g ≡ after (machine_of z) (tables z) (n.thread, n.result)) same taken) (code ∙ ap (λ z. z.code) same) (threads ∙ ap (λ z. length z.threads) same) (objects ∙ ap (λ z. length z.objects) same)
+taken_by (Err x) r f g h ps qs n move kept more same taken code threads objects never = absurd (never (subst (λ z. Can (machine_of z) (tables z) (n.thread, n.result)) (sym same) move.follows.0))
 
-pub goes_both : (r : Recorded) (f g h : Flat) → GoesOn r f g → GoesOn r g h → GoesOn r f h
-goes_both r f g h p q = record {
+pub stays : (r : Recorded) (f : Flat) (ps : List Placed) → GoesOn r f ps f ps
+stays r f ps = record { follows = λ guest k. k; threads = refl; objects = refl; fewer = omega arith }
+
+pub goes_both : (r : Recorded) (f g h : Flat) (ps qs os : List Placed) → GoesOn r f ps g qs → GoesOn r g qs h os → GoesOn r f ps h os
+goes_both r f g h ps qs os p q = record {
   follows = λ guest k. q.follows guest (p.follows guest k);
   threads = q.threads ∙ p.threads;
   objects = q.objects ∙ p.objects;
@@ -217,24 +399,24 @@ goes_both r f g h p q = record {
 }
 
 -- going on by private steps
-pub went_further : (r q : Recorded) (f g h : Flat) (t n left : ℕ) → q ≡ r → GoesOn r f g → WentAlone g h t n → n ≤ left → left ≡ steps_ahead q g t → GoesOn r f h
-went_further r q f g h t n left same goes w le is = goes_both r f g h goes (subst (λ z. GoesOn z g h) same (went_on q g h t n w (omega (arith, le, is))))
+pub went_further : (r q : Recorded) (f g h : Flat) (ps qs : List Placed) (t n left : ℕ) → q ≡ r → GoesOn r f ps g qs → WentAlone g h t n → n ≤ left → left ≡ steps_ahead q g t → GoesOn r f ps h qs
+went_further r q f g h ps qs t n left same goes w le is = goes_both r f g h ps qs qs goes (subst (λ z. GoesOn z g qs h qs) same (went_on q g h qs t n w (omega (arith, le, is))))
 
 -- and by a further step
-pub moved_further : (r q : Recorded) (f g h i : Flat) (t n left : ℕ) → q ≡ r → GoesOn r f g → WentAlone g h t n → n ≤ left → left ≡ steps_ahead q g t → GoesOn q h i → GoesOn r f i
-moved_further r q f g h i t n left same goes w le is move = goes_both r f h i (went_further r q f g h t n left same goes w le is) (subst (λ z. GoesOn z h i) same move)
+pub moved_further : (r q : Recorded) (f g h i : Flat) (ps qs os : List Placed) (t n left : ℕ) → q ≡ r → GoesOn r f ps g qs → WentAlone g h t n → n ≤ left → left ≡ steps_ahead q g t → GoesOn q h qs i os → GoesOn r f ps i os
+moved_further r q f g h i ps qs os t n left same goes w le is move = goes_both r f h i ps qs os (went_further r q f g h ps qs t n left same goes w le is) (subst (λ z. GoesOn z h qs i os) same move)
 
 -- which leaves fewer
 pub moved_less : (r q : Recorded) (f g h : Flat) (t n : ℕ) → WentAlone f g t n → all_ahead q h < all_ahead r g → all_ahead q h < all_ahead r f
 moved_less r q f g h t n w less = let same = went_fewer r f g t n w in omega (arith, same, less)
 
 -- a step after a look, and what comes behind it
-pub chained : (r q p : Recorded) (f g g' h i : Flat) → GoesOn r f g → g' ≡ g → q ≡ r → GoesOn q g' h → p ≡ q → GoesOn p h i → GoesOn r f i
-chained r q p f g g' h i goes same trace step after_it then =
-    goes_both r f h i (goes_both r f g h goes (subst (λ z. GoesOn r z h) same (subst (λ z. GoesOn z g' h) trace step))) (subst (λ z. GoesOn z h i) (after_it ∙ trace) then)
+pub chained : (r q p : Recorded) (f g g' h i : Flat) (ps bs bs' cs ds : List Placed) → GoesOn r f ps g bs → g' ≡ g → bs' ≡ bs → q ≡ r → GoesOn q g' bs' h cs → p ≡ q → GoesOn p h cs i ds → GoesOn r f ps i ds
+chained r q p f g g' h i ps bs bs' cs ds goes same kept trace step after_it then =
+    goes_both r f h i ps cs ds (goes_both r f g h ps bs cs goes (subst (λ z. GoesOn r z bs h cs) same (subst (λ z. GoesOn r g' z h cs) kept (subst (λ z. GoesOn z g' bs' h cs) trace step)))) (subst (λ z. GoesOn z h cs i ds) (after_it ∙ trace) then)
 
-pub chained_less : (r q p o : Recorded) (g g' h i : Flat) → g' ≡ g → q ≡ r → all_ahead p h < all_ahead q g' → GoesOn p h i → o ≡ p → all_ahead o i < all_ahead r g
-chained_less r q p o g g' h i same trace less then last =
+pub chained_less : (r q p o : Recorded) (g g' h i : Flat) (cs ds : List Placed) → g' ≡ g → q ≡ r → all_ahead p h < all_ahead q g' → GoesOn p h cs i ds → o ≡ p → all_ahead o i < all_ahead r g
+chained_less r q p o g g' h i cs ds same trace less then last =
     let fewer = then.fewer in
     let there_left : all_ahead q g' ≡ all_ahead r g = ap (λ z. all_ahead z g') trace ∙ ap (all_ahead r) same in
     let here_left : all_ahead o i ≡ all_ahead p i = ap (λ z. all_ahead z i) last in
@@ -253,51 +435,51 @@ last_follows guest r run t v h =
     (run_last m s run (t, v) h.0, last.0, last.1, last.2)
 
 -- a thread that is stopped can't go on along the run
-pub never_on : (guest : Guest) (r : Recorded) (f : Flat) → (k : IsFollower guest r f) → (t v : ℕ) → IsStopped r f t → GuestFollows guest r (k.run ++ (t, v) ∷ []) → ⊥
-never_on guest r f k t v stopped h = stopped v (back guest r f k t (λ n z a es. StepFollows n (trace_of r) z a es t v) (last_follows guest r k.run t v h))
+pub never_on : (guest : Guest) (r : Recorded) (f : Flat) (ps : List Placed) → (k : IsFollower guest r f ps) → (t v : ℕ) → IsStopped r f t → GuestFollows guest r (k.run ++ (t, v) ∷ []) → ⊥
+never_on guest r f ps k t v stopped h = stopped v (back guest r f ps k t (λ n z a es. StepFollows n (trace_of r) z a es t v) (last_follows guest r k.run t v h))
 
 -- what holds of thread t at the end of a follower's run
-abbrev pub Stands : (guest : Guest) (r : Recorded) (f : Flat) → IsFollower guest r f → ℕ → ThreadVerdict → Type 0
-Stands guest r f k t v = StandsAs (guest_machine guest r) (guest_start guest r) (trace_of r) k.run t v
+abbrev pub Stands : (guest : Guest) (r : Recorded) (f : Flat) (ps : List Placed) → IsFollower guest r f ps → ℕ → ThreadVerdict → Type 0
+Stands guest r f ps k t v = StandsAs (guest_machine guest r) (guest_start guest r) (trace_of r) k.run t v
 
-pub stands_same : (guest : Guest) (r : Recorded) (f : Flat) → (k : IsFollower guest r f) → (t : ℕ) → ask_of f.code (thread_of f t) ≡ Done → Stands guest r f k t Same
-stands_same guest r f k t done = there guest r f k t (λ m s n es. asked m s t ≡ machine.Done) (ap shared_ask done)
+pub stands_same : (guest : Guest) (r : Recorded) (f : Flat) (ps : List Placed) → (k : IsFollower guest r f ps) → (t : ℕ) → ask_of f.code (thread_of f t) ≡ Done → Stands guest r f ps k t Same
+stands_same guest r f ps k t done = there guest r f ps k t (λ m s n es. asked m s t ≡ machine.Done) (ap shared_ask done)
 
-not_done : (guest : Guest) (r : Recorded) (f : Flat) → (k : IsFollower guest r f) → (t : ℕ) → ask_of f.code (thread_of f t) ≢ Done → asked (guest_machine guest r) (end (guest_machine guest r) (guest_start guest r) k.run) t ≢ machine.Done
-not_done guest r f k t ne done = ne (really_done (ask_of f.code (thread_of f t)) (back guest r f k t (λ m s n es. asked m s t ≡ machine.Done) done))
+not_done : (guest : Guest) (r : Recorded) (f : Flat) (ps : List Placed) → (k : IsFollower guest r f ps) → (t : ℕ) → ask_of f.code (thread_of f t) ≢ Done → asked (guest_machine guest r) (end (guest_machine guest r) (guest_start guest r) k.run) t ≢ machine.Done
+not_done guest r f ps k t ne done = ne (really_done (ask_of f.code (thread_of f t)) (back guest r f ps k t (λ m s n es. asked m s t ≡ machine.Done) done))
 
-pub stands_disagrees : (guest : Guest) (r : Recorded) (f : Flat) → (k : IsFollower guest r f) → (t : ℕ) → ask_of f.code (thread_of f t) ≢ Done → (AgreesAhead r f t → ⊥) → Stands guest r f k t (Disagrees (thread_of f t).events (thread_of f t).steps)
-stands_disagrees guest r f k t ne other = (
-  not_done guest r f k t ne,
-  λ h. other (back guest r f k t (λ m s n es. Agrees m ((trace_of r).ends t) (s.now t) n es) h),
+pub stands_disagrees : (guest : Guest) (r : Recorded) (f : Flat) (ps : List Placed) → (k : IsFollower guest r f ps) → (t : ℕ) → ask_of f.code (thread_of f t) ≢ Done → (AgreesAhead r f t → ⊥) → Stands guest r f ps k t (Disagrees (thread_of f t).events (thread_of f t).steps)
+stands_disagrees guest r f ps k t ne other = (
+  not_done guest r f ps k t ne,
+  λ h. other (back guest r f ps k t (λ m s n es. Agrees m ((trace_of r).ends t) (s.now t) n es) h),
   k.events t,
   k.steps t,
 )
 
-pub stands_starves : (guest : Guest) (r : Recorded) (f : Flat) → (k : IsFollower guest r f) → (t : ℕ) → ask_of f.code (thread_of f t) ≢ Done → AgreesAhead r f t → IsStopped r f t → Stands guest r f k t (Starves (thread_of f t).events)
-stands_starves guest r f k t ne same stopped = (
-  not_done guest r f k t ne,
-  there guest r f k t (λ m s n es. Agrees m ((trace_of r).ends t) (s.now t) n es) same,
-  λ h. never_on guest r f k t _ stopped h,
+pub stands_starves : (guest : Guest) (r : Recorded) (f : Flat) (ps : List Placed) → (k : IsFollower guest r f ps) → (t : ℕ) → ask_of f.code (thread_of f t) ≢ Done → AgreesAhead r f t → IsStopped r f t → Stands guest r f ps k t (Starves (thread_of f t).events)
+stands_starves guest r f ps k t ne same stopped = (
+  not_done guest r f ps k t ne,
+  there guest r f ps k t (λ m s n es. Agrees m ((trace_of r).ends t) (s.now t) n es) same,
+  λ h. never_on guest r f ps k t _ stopped h,
   k.events t,
 )
 
 -- each thread that is stopped has a verdict
-pub stands_some : (guest : Guest) (r : Recorded) (f : Flat) → (k : IsFollower guest r f) → (t : ℕ) → IsStopped r f t → (v : ThreadVerdict) × Stands guest r f k t v
-stands_some guest r f k t stopped =
+pub stands_some : (guest : Guest) (r : Recorded) (f : Flat) (ps : List Placed) → (k : IsFollower guest r f ps) → (t : ℕ) → IsStopped r f t → (v : ThreadVerdict) × Stands guest r f ps k t v
+stands_some guest r f ps k t stopped =
     let m = guest_machine guest r in
     let s = guest_start guest r in
     elim (is_done (asked m (end m s k.run) t)) [
       | inl d ↦ (Same, d)
       | inr ne ↦ elim (agrees m ((trace_of r).ends t) ((end m s k.run).now t) (left_steps (trail m s k.run t) ((trace_of r).steps t)) (left_log (trail m s k.run t) ((trace_of r).logs t))) [
-        | inl same ↦ (Starves (length (log m s k.run t)), (ne, same, (λ h. never_on guest r f k t _ stopped h), refl))
+        | inl same ↦ (Starves (length (log m s k.run t)), (ne, same, (λ h. never_on guest r f ps k t _ stopped h), refl))
         | inr other ↦ (Disagrees (length (log m s k.run t)) (count m s k.run t), (ne, other, refl, refl))
       ]
     ]
 
 -- the guest at the end
-pub followed_there : (guest : Guest) (r : Recorded) (f g : Flat) → f ≡ start_flat guest r.budget → GoesOn r f g → ((t : ℕ) → t < length g.threads → IsStopped r g t) → IsFollowed guest r g
-followed_there guest r f g start goes stopped =
-    let k : IsFollower guest r g = goes.follows guest (subst (IsFollower guest r) (sym start) (started guest r)) in
+pub followed_there : (guest : Guest) (r : Recorded) (f g : Flat) (ps qs : List Placed) → f ≡ start_flat guest r.budget → ((t : ℕ) → ((placed_at ps t).entries ≡ []) × ((placed_at ps t).leaves ≡ [])) → GoesOn r f ps g qs → ((t : ℕ) → t < length g.threads → IsStopped r g t) → IsFollowed guest r g qs
+followed_there guest r f g ps qs start none goes stopped =
+    let k : IsFollower guest r g qs = goes.follows guest (subst (λ z. IsFollower guest r z ps) (sym start) (started guest r ps none)) in
     let all : (t : ℕ) → t < length guest.entries → IsStopped r g t = λ t l. stopped t (let n = k.threads in omega (arith, l, n)) in
-    record { follower = k; stopped = all; stands = λ t l. stands_some guest r g k t (all t l) }
+    record { follower = k; stopped = all; stands = λ t l. stands_some guest r g qs k t (all t l) }

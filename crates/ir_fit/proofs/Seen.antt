@@ -27,6 +27,8 @@ use Rattle.ir_object.specs.Object.{target, Admits, told}
 use Rattle.ir_flat.specs.Flat.{Flat, thread_of, cell_of, tables, machine, IsFlat}
 use Rattle.ir_flat.specs.Next.{MayStep}
 use Rattle.ir_flat.proofs.Keeps.{may_admits}
+use Rattle.ir_flat.proofs.Kept.{added}
+use Rattle.std.proofs.lemmas.Option.{slice_get_within}
 use Rattle.ir_log.specs.Logging.{mark_of, Suits}
 use Rattle.ir_log.specs.declared.event.Event.{Event}
 use Rattle.ir_log.specs.declared.event.Event.TheVariants.{Answer, Read, Write}
@@ -360,3 +362,31 @@ seen_stops r f t look.Done seen no_move = done_stops r f t seen
 seen_stops r f t look.Disagrees seen no_move = λ v h. seen.1 (follows_agrees r f t v h)
 seen_stops r f t (look.Waits o) seen no_move = seen.2
 seen_stops r f t (look.Goes m) seen no_move = absurd (no_move m refl)
+
+-- ---- events and the log
+
+-- an event that suits stands in the log
+pub event_left : (r : Recorded) (f : Flat) (t : ℕ) (q : Ask) → ask_of f.code (thread_of f t) ≡ q → AgreesAhead r f t → added q ≡ 1 → (thread_of f t).events < length (recorded_thread r t).events
+event_left r f t (Env kind) is h one = let e = call_there (recorded_thread r t).events (thread_of f t).events kind (agrees_as r f t (Env kind) is h).suits in slice_get_within (recorded_thread r t).events (thread_of f t).events e.0 e.1
+event_left r f t (Enter o a) is h one = let e = entry_there (recorded_thread r t).events (thread_of f t).events o a (agrees_as r f t (Enter o a) is h).suits in slice_get_within (recorded_thread r t).events (thread_of f t).events e.0 e.1
+event_left r f t Private is h one = absurd (cc one)
+event_left r f t (Leave o a) is h one = absurd (cc one)
+event_left r f t (Get o i) is h one = absurd (cc one)
+event_left r f t (Put o i w) is h one = absurd (cc one)
+event_left r f t Print is h one = absurd (cc one)
+event_left r f t (End e) is h one = absurd (cc one)
+event_left r f t Done is h one = absurd (cc one)
+
+within_by : (code : List ℕ) (x : thread.State) (q : Ask) (reply : Reply) (n : ℕ) → (added q ≡ 1 → x.events < n) → x.events ≤ n → (after_ask code x q reply).events ≤ n
+within_by code x Private reply n less le = le
+within_by code x (Env kind) reply n less le = let l = less refl in omega (arith, l)
+within_by code x (Enter o a) reply n less le = let l = less refl in omega (arith, l)
+within_by code x (Leave o a) reply n less le = le
+within_by code x (Get o i) reply n less le = le
+within_by code x (Put o i w) reply n less le = le
+within_by code x Print reply n less le = le
+within_by code x (End e) reply n less le = le
+within_by code x Done reply n less le = le
+
+pub events_within : (r : Recorded) (f : Flat) (t v : ℕ) (reply : Reply) → CanFollow r f t v → (thread_of f t).events ≤ length (recorded_thread r t).events → (after_ask f.code (thread_of f t) (ask_of f.code (thread_of f t)) reply).events ≤ length (recorded_thread r t).events
+events_within r f t v reply h le = within_by f.code (thread_of f t) (ask_of f.code (thread_of f t)) reply (length (recorded_thread r t).events) (event_left r f t (ask_of f.code (thread_of f t)) refl (follows_agrees r f t v h)) le

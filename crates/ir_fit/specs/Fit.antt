@@ -1,13 +1,14 @@
 -- Whether a recorded trace is that of a run of a guest's.
-use Rattle.std.specs.Prelude.{◌≡◌, ◌≢◌, ℕ, List, length, slice_get, Some, ⊤}
+use Rattle.std.specs.Prelude.{◌≡◌, ◌≢◌, ◌<◌, ℕ, List, length, slice_get, Some, ⊤}
 use Rattle.ir_image.specs.Guest.{Guest, object_count}
 use Rattle.ir_flat.specs.Flat.{start_flat, tables, machine}
-use Rattle.ir_flat.specs.Run.{Step}
+use Rattle.ir_flat.specs.Run.{Step, trail}
 use Rattle.ir_trace.specs.Recorded.{Recorded}
 use Rattle.ir_trace.specs.Told.{trace_of}
 use Rattle.ir_fit.specs.Breaking.{IsFirstBreak}
 use Rattle.ir_fit.specs.Coherent.{IsCoherent}
 use Rattle.ir_fit.specs.Following.{Follows, IsMaximal, closing}
+use Rattle.ir_fit.specs.Places.{Placed, placed_at, places_of, leaves_of}
 use Rattle.ir_fit.specs.Verdicts.{IsVerdict, IsWhole}
 use Rattle.ir_fit.specs.declared.cause.HeaderCause.{HeaderCause}
 use Rattle.ir_fit.specs.declared.cause.HeaderCause.TheVariants.{Threads, Objects}
@@ -36,14 +37,19 @@ abbrev pub AreVerdicts : Guest → Recorded → List ThreadVerdict → Type 0
 AreVerdicts guest r vs = let f = start_flat guest r.budget in (length vs ≡ length guest.entries)
     × ((run : List Step) → GoesFurthest guest r run → (t : ℕ) (v : ThreadVerdict) → slice_get vs t ≡ Some v → IsVerdict (machine f) (tables f) (trace_of r) run t v)
 
--- a guest and what was recorded
-pub record GuestTrace : Type 0 where
+-- a guest, what was recorded of a run, and where each thread's events and leaves stand among its steps
+pub record FittedTrace : Type 0 where
   pub guest : Guest
   pub recorded : Recorded
+  pub placed : List Placed
 
--- there is a complete run of the guest with this trace
-abbrev pub HasRun : GuestTrace → Type 0
-HasRun f = (run : List Step) × IsRunOf f.guest f.recorded run
+-- there is a complete run of the guest with this trace, and these are the positions of its events and its leaves
+pub record HasRun (f : FittedTrace) : Type 0 where
+  pub run : List Step
+  pub whole : IsRunOf f.guest f.recorded run
+  pub each : length f.placed ≡ length f.guest.entries
+  pub entries : (t : ℕ) → t < length f.guest.entries → (placed_at f.placed t).entries ≡ places_of (trail (machine (start_flat f.guest f.recorded.budget)) (tables (start_flat f.guest f.recorded.budget)) run t)
+  pub leaves : (t : ℕ) → t < length f.guest.entries → (placed_at f.placed t).leaves ≡ leaves_of (trail (machine (start_flat f.guest f.recorded.budget)) (tables (start_flat f.guest f.recorded.budget)) run t)
 
 -- the trace has another number of threads than the guest; or as many, and another number of objects
 abbrev pub IsOther : Guest → Recorded → HeaderCause → Type 0

@@ -10,4 +10,5 @@ pub mod Numbers
 pub mod Breaking
 pub mod Counting
 pub mod Ahead
+pub mod Places
 pub mod Follower

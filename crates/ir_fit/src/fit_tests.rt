@@ -52,25 +52,27 @@ enum Told {
     NoMem,
 }
 
+// What a verdict says.
+fn said(verdict: &Verdict) -> Told {
+    match verdict {
+        Verdict::Header(cause) => Told::Header(*cause),
+        Verdict::Incoherent {
+            thread,
+            event,
+            cause,
+        } => Told::Breaks(*thread, *event, *cause),
+        Verdict::Threads(each) => Told::Threads(each.get(0).copied(), each.get(1).copied()),
+    }
+}
+
 // What `fit` answers of the guest and the trace of these bytes.
 fn answer_of(alloc: Global, image: Image, bytes: &[u8]) -> Result<Told, Fail> {
     let trace = read_trace(alloc, bytes)?;
-    Ok(match fit(alloc, image, trace) {
+    let answer = fit(alloc, image, trace);
+    Ok(match &answer {
         Ok(_) => Told::Fits,
         Err(FitErr::NoMem) => Told::NoMem,
-        Err(FitErr::Refused(Verdict::Header(cause))) => Told::Header(cause),
-        Err(
-            FitErr::Refused(
-                Verdict::Incoherent {
-                    thread,
-                    event,
-                    cause,
-                },
-            ),
-        ) => Told::Breaks(thread, event, cause),
-        Err(FitErr::Refused(Verdict::Threads(each))) => {
-            Told::Threads(each.get(0).copied(), each.get(1).copied())
-        }
+        Err(FitErr::Refused(verdict)) => said(verdict),
     })
 }
 

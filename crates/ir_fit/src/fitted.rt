@@ -1,35 +1,42 @@
 //! A guest with the trace of one of its runs.
 
-ghost use Rattle.std.specs.Prelude.{◌≡◌, List};
-ghost use Rattle.ir_flat.specs.Run.{Step};
-ghost use Rattle.ir_fit.specs.Fit.{GuestTrace, IsRunOf, HasRun};
+ghost use Rattle.std.specs.Prelude.{◌≡◌, ◌<◌, length};
+ghost use Rattle.ir_fit.specs.Fit.{FittedTrace, HasRun};
+ghost use Rattle.ir_fit.specs.Places.{placed_at};
 
+use crate::leave::Leave;
+use crate::places::Places;
 use ir_image::Image;
 use ir_trace::Trace;
 use std::marker::Model;
 
-/// A guest, and a trace that a run of it has.
+/// A guest, a trace that a run of it has, and where each thread's events and leaves stand among its steps.
 #[derive(Drop)]
 pub struct Fitted {
     image: Image,
     trace: Trace,
+    places: Vec<Places>,
 }
 
 impl Model for Fitted {
-    ghost Value = { GuestTrace };
+    ghost Value = { FittedTrace };
 
-    ghost view = { λ f. record { guest = f.image; recorded = f.trace } };
+    ghost view = { λ f. record { guest = f.image; recorded = f.trace; placed = f.places.items } };
 
-    ghost invariant = { λ f. HasRun (record { guest = f.image; recorded = f.trace }) };
+    ghost invariant = { λ f. HasRun (record { guest = f.image; recorded = f.trace; placed = f.places.items }) };
 }
 
 impl Fitted {
-    // The guest and the trace that one of its runs has.
-    pub(crate) fn new(image: Image, trace: Trace) -> Fitted
-        requires { HasRun (record { guest = image; recorded = trace }) }
-        ensures { result ≡ record { guest = image; recorded = trace } }
+    // The guest, the trace that one of its runs has, and the positions in this run.
+    pub fn new(image: Image, trace: Trace, places: Vec<Places>) -> Fitted
+        requires { HasRun (record { guest = image; recorded = trace; placed = places.items }) }
+        ensures { result ≡ record { guest = image; recorded = trace; placed = places.items } }
     {
-        Fitted { image, trace }
+        Fitted {
+            image,
+            trace,
+            places,
+        }
     }
 
     /// The guest.
@@ -46,5 +53,23 @@ impl Fitted {
         ensures within { HasRun self.now }
     {
         &self.trace
+    }
+
+    /// For each event of thread t, in order, how many steps the thread took before it.
+    pub fn entries(&self, t: usize) -> &[u64]
+        requires { t < length self.now.guest.entries }
+        ensures value { result.now ≡ (placed_at self.now.placed t).entries }
+        ensures within { HasRun self.now }
+    {
+        self.places[t].entries()
+    }
+
+    /// The leaves of thread t, in order; those after its end are among them.
+    pub fn leaves(&self, t: usize) -> &[Leave]
+        requires { t < length self.now.guest.entries }
+        ensures value { result.now ≡ (placed_at self.now.placed t).leaves }
+        ensures within { HasRun self.now }
+    {
+        self.places[t].leaves()
     }
 }

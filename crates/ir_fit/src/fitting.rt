@@ -24,7 +24,7 @@ impl Follower {
         requires sized { IsSized self.now }
         requires stopped { (t : ℕ) → t < length self.now.flat.threads → IsStopped self.now.trace self.now.flat t }
         ensures each { IfOk result (λ vs. length vs.items ≡ length self.now.flat.threads) }
-        ensures stand { IfOk result (λ vs. AreStanding self.now.trace self.now.flat vs.items) }
+        ensures stand { IfOk result (λ vs. AreStanding self.now.trace self.now.flat self.now.places.items vs.items) }
     {
         let count = self.flat.threads().len();
         let mut verdicts = Vec::with_capacity(alloc, count)?;
@@ -69,6 +69,6 @@ pub fn fit(alloc: Global, image: Image, trace: Trace) -> Result<Fitted, FitErr>
     if !all_same(&verdicts) {
         return Err(FitErr::Refused(Verdict::Threads(verdicts)));
     }
-    let Follower { trace, .. } = follower;
-    Ok(Fitted::new(image, trace))
+    let Follower { trace, places, .. } = follower;
+    Ok(Fitted::new(image, trace, places))
 }

@@ -1,6 +1,6 @@
 //! A guest at the end of a run that follows a trace.
 
-ghost use Rattle.std.specs.Prelude.{◌≡◌, ◌<◌, length, IfOk};
+ghost use Rattle.std.specs.Prelude.{◌≡◌, ◌<◌, [], length, map, IfOk};
 ghost use Rattle.ir_image.specs.Guest.{Guest};
 ghost use Rattle.ir_flat.specs.Flat.{start_flat, tables, machine};
 ghost use Rattle.ir_trace.specs.Told.{trace_of};
@@ -10,17 +10,29 @@ ghost use Rattle.ir_fit.specs.Standing.{StandsAs};
 
 use crate::follower::Follower;
 use crate::look::Look;
+use crate::places::Places;
 use crate::readiness::Readiness;
 use crate::verdict::ThreadVerdict;
 use ir_flat::Flat;
 use ir_image::Image;
-use ir_trace::Trace;
+use ir_trace::{ThreadTrace, Trace};
 use std::alloc::{AllocError, Global};
+
+// Room for the places of each thread's events.
+fn rooms(alloc: Global, told: &[ThreadTrace]) -> Result<Vec<Places>, AllocError>
+    ensures { IfOk result (λ ps. ps.items ≡ map (λ t. record { entries = []; leaves = []; room = length t.events }) told.now) }
+{
+    let mut places = Vec::with_capacity(alloc, told.len())?;
+    for thread in told {
+        places.push(Places::new(alloc, thread.log().events().len())?)?;
+    }
+    Ok(places)
+}
 
 // The guest of the image, run along the trace as far as any run can that follows it.
 pub fn followed(alloc: Global, image: &Image, trace: Trace) -> Result<Follower, AllocError>
     requires { length trace.threads ≡ length image.now.entries }
-    ensures followed { IfOk result (λ f. IsFollowed image.now trace f.flat) }
+    ensures followed { IfOk result (λ f. IsFollowed image.now trace f.flat f.places.items) }
     ensures trace { IfOk result (λ f. f.trace ≡ trace) }
     ensures sized { IfOk result (λ f. IsSized f) }
 {
@@ -28,7 +40,13 @@ pub fn followed(alloc: Global, image: &Image, trace: Trace) -> Result<Follower, 
     let count = trace.threads().len();
     let mut ready = Vec::with_capacity(alloc, count)?;
     ready.resize(count, Readiness::Ready)?;
-    let mut follower = Follower { flat, trace, ready };
+    let places = rooms(alloc, trace.threads())?;
+    let mut follower = Follower {
+        flat,
+        trace,
+        ready,
+        places,
+    };
     follower.follow();
     Ok(follower)
 }
@@ -39,7 +57,7 @@ impl Follower {
         requires sized { IsSized self.now }
         requires thread { t < length self.now.flat.threads }
         requires stopped { IsStopped self.now.trace self.now.flat t }
-        ensures { (guest : Guest) (k : IsFollower guest self.now.trace self.now.flat) → StandsAs (machine (start_flat guest self.now.trace.budget)) (tables (start_flat guest self.now.trace.budget)) (trace_of self.now.trace) k.run t result }
+        ensures { (guest : Guest) (k : IsFollower guest self.now.trace self.now.flat self.now.places.items) → StandsAs (machine (start_flat guest self.now.trace.budget)) (tables (start_flat guest self.now.trace.budget)) (trace_of self.now.trace) k.run t result }
     {
         let thread = self.thread(t);
         match self.look(t) {

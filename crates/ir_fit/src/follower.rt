@@ -6,6 +6,7 @@ ghost use Rattle.ir_trace.specs.Recorded.{IsRecordedThread};
 ghost use Rattle.ir_trace.specs.Told.{recorded_thread};
 ghost use Rattle.ir_fit.specs.Ahead.{steps_ahead};
 
+use crate::places::Places;
 use crate::readiness::Readiness;
 use ir_flat::Flat;
 use ir_object::Object;
@@ -18,6 +19,7 @@ pub struct Follower {
     pub flat: Flat,
     pub trace: Trace,
     pub ready: Vec<Readiness>,
+    pub places: Vec<Places>,
 }
 
 impl Follower {

@@ -13,7 +13,7 @@ impl Follower {
     pub fn advance(&mut self, t: usize)
         requires sized { IsSized self.old }
         requires thread { t < length self.old.flat.threads }
-        ensures goes { GoesOn self.old.trace self.old.flat self.new.flat }
+        ensures goes { GoesOn self.old.trace self.old.flat self.old.places.items self.new.flat self.new.places.items }
         ensures trace { self.new.trace ≡ self.old.trace }
         ensures sized { IsSized self.new }
     {
@@ -33,6 +33,7 @@ impl Follower {
     fn ready_step(&mut self) -> Option<Move>
         requires { IsSized self.old }
         ensures flat { self.new.flat ≡ self.old.flat }
+        ensures places { self.new.places.items ≡ self.old.places.items }
         ensures trace { self.new.trace ≡ self.old.trace }
         ensures sized { IsSized self.new }
         ensures follows { IfSome result (λ next. IsMove self.old.trace self.old.flat next) }
@@ -67,6 +68,7 @@ impl Follower {
     fn next(&mut self) -> Option<Move>
         requires { IsSized self.old }
         ensures flat { self.new.flat ≡ self.old.flat }
+        ensures places { self.new.places.items ≡ self.old.places.items }
         ensures trace { self.new.trace ≡ self.old.trace }
         ensures sized { IsSized self.new }
         ensures follows { IfSome result (λ next. IsMove self.old.trace self.old.flat next) }
@@ -81,7 +83,7 @@ impl Follower {
     // Goes on while any thread has a step that follows.
     pub fn follow(&mut self)
         requires { IsSized self.old }
-        ensures goes { GoesOn self.old.trace self.old.flat self.new.flat }
+        ensures goes { GoesOn self.old.trace self.old.flat self.old.places.items self.new.flat self.new.places.items }
         ensures trace { self.new.trace ≡ self.old.trace }
         ensures sized { IsSized self.new }
         ensures stopped { (t : ℕ) → t < length self.new.flat.threads → IsStopped self.new.trace self.new.flat t }

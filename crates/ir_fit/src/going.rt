@@ -3,8 +3,10 @@
 ghost use Rattle.std.specs.Prelude.{◌≡◌, ◌<◌, ◌+◌, ◌≤◌, length};
 ghost use Rattle.ir_fit.specs.Ahead.{IsMove};
 ghost use Rattle.ir_fit.specs.Follower.{all_ahead, GoesOn, IsSized};
+ghost use Rattle.ir_fit.specs.Places.{placed_more};
 
 use crate::follower::Follower;
+use crate::leave::Leave;
 use crate::look::{Look, Move};
 use crate::readiness::Readiness;
 use ir_thread::Ask;
@@ -36,20 +38,47 @@ impl Follower {
         requires thread { t < length self.old.flat.threads }
         ensures flat { self.new.flat ≡ self.old.flat }
         ensures trace { self.new.trace ≡ self.old.trace }
+        ensures places { self.new.places.items ≡ self.old.places.items }
         ensures sized { IsSized self.new }
     {
         self.ready[t] = readiness(look);
+    }
+
+    // Keeps what the step tells: the position of an event, or a leave.
+    fn place(&mut self, next: Move)
+        requires sized { IsSized self.old }
+        requires follows { IsMove self.old.trace self.old.flat next }
+        ensures flat { self.new.flat ≡ self.old.flat }
+        ensures trace { self.new.trace ≡ self.old.trace }
+        ensures ready { self.new.ready ≡ self.old.ready }
+        ensures places { self.new.places.items ≡ placed_more self.old.flat self.old.places.items next.thread next.asked }
+    {
+        let position = self.thread(next.thread).steps();
+        match next.asked {
+            Ask::Env(_) | Ask::Enter(..) => self.places[next.thread].enter(position),
+            Ask::Leave(object, access) => {
+                let version = self.object(object).fields().version;
+                self.places[next.thread].leave(Leave {
+                    position,
+                    object,
+                    access,
+                    version,
+                });
+            }
+            _ => {}
+        }
     }
 
     // Takes a step that follows the trace. Who leaves an object wakes those that wait for it.
     pub fn take(&mut self, next: Move)
         requires sized { IsSized self.old }
         requires follows { IsMove self.old.trace self.old.flat next }
-        ensures goes { GoesOn self.old.trace self.old.flat self.new.flat }
+        ensures goes { GoesOn self.old.trace self.old.flat self.old.places.items self.new.flat self.new.places.items }
         ensures fewer { all_ahead self.new.trace self.new.flat < all_ahead self.old.trace self.old.flat }
         ensures trace { self.new.trace ≡ self.old.trace }
         ensures sized { IsSized self.new }
     {
+        self.place(next);
         let _ = self.flat.step(next.thread, next.result);
         if let Ask::Leave(object, _) = next.asked {
             wake(&mut self.ready, object);

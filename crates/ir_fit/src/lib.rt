@@ -20,7 +20,9 @@ mod following;
 mod going;
 mod header;
 mod laws;
+mod leave;
 mod look;
+mod places;
 mod readiness;
 mod verdict;
 mod version_counts;
@@ -35,4 +37,5 @@ pub use laws::{
     complete_fits, cuts_are_runs, fits_exactly, maximal_exists, one_step_each, one_verdict,
     own_trace_coherent, trace_determines,
 };
+pub use leave::Leave;
 pub use verdict::{ThreadVerdict, Verdict};

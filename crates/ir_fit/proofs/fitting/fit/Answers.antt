@@ -23,14 +23,14 @@ returns-then-not-all_same-clause-refused c =
     let is : IsRecorded r = subst IsRecorded c.trace.view_is c.trace.invariant in
     let n = c.in_default.ensures.same.threads in
     let co : IsCoherent (length c.args.image.entries) (trace_of r) = subst (λ k. IsCoherent k (trace_of r)) n c.in_ok-coherent.ensures.coherent in
-    let stand : AreStanding r c.in_ok-follower.follower.flat vs = subst (λ z. AreStanding z c.in_ok-follower.follower.flat vs) c.in_ok-follower.ensures.trace c.in_ok-verdicts.ensures.stand in
+    let stand : AreStanding r c.in_ok-follower.follower.flat c.in_ok-follower.follower.places.items vs = subst (λ z. AreStanding z c.in_ok-follower.follower.flat c.in_ok-follower.follower.places.items vs) c.in_ok-follower.ensures.trace c.in_ok-verdicts.ensures.stand in
     let w = c.all_same.ensures.another c.if-not-all_same.true in
-    threads_refuse c.args.image r is c.in_default.ensures.same co c.in_ok-follower.follower.flat c.in_ok-follower.ensures.followed vs c.in_ok-verdicts.ensures.each stand w.0 w.1 (subst (λ xs. slice_get xs w.0 ≡ Some w.1) c.deref.ensures.value w.2) w.3
+    threads_refuse c.args.image r is c.in_default.ensures.same co c.in_ok-follower.follower.flat c.in_ok-follower.follower.places.items c.in_ok-follower.ensures.followed vs c.in_ok-verdicts.ensures.each stand w.0 w.1 (subst (λ xs. slice_get xs w.0 ≡ Some w.1) c.deref.ensures.value w.2) w.3
 
 pub new-requires : goal.new-requires
 new-requires c =
     let vs : List ThreadVerdict = c.in_ok-verdicts.verdicts.items in
-    let stand : AreStanding c.args.trace c.in_ok-follower.follower.flat vs = subst (λ z. AreStanding z c.in_ok-follower.follower.flat vs) c.in_ok-follower.ensures.trace c.in_ok-verdicts.ensures.stand in
-    subst (λ r. HasRun (record { guest = c.args.image; recorded = r })) (sym c.in_ok-follower.ensures.trace)
-    (threads_accept c.args.image c.args.trace c.in_default.ensures.same c.in_ok-follower.follower.flat c.in_ok-follower.ensures.followed vs c.in_ok-verdicts.ensures.each stand
+    let stand : AreStanding c.args.trace c.in_ok-follower.follower.flat c.in_ok-follower.follower.places.items vs = subst (λ z. AreStanding z c.in_ok-follower.follower.flat c.in_ok-follower.follower.places.items vs) c.in_ok-follower.ensures.trace c.in_ok-verdicts.ensures.stand in
+    subst (λ r. HasRun (record { guest = c.args.image; recorded = r; placed = c.in_ok-follower.follower.places.items })) (sym c.in_ok-follower.ensures.trace)
+    (threads_accept c.args.image c.args.trace c.in_default.ensures.same c.in_ok-follower.follower.flat c.in_ok-follower.follower.places.items c.in_ok-follower.ensures.followed c.in_ok-follower.ensures.sized.placed.each vs c.in_ok-verdicts.ensures.each stand
     (λ t v at. c.all_same.ensures.same c.if-not-all_same.false t v (subst (λ xs. slice_get xs t ≡ Some v) (sym c.deref.ensures.value) at)))

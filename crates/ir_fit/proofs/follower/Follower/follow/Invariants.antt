@@ -4,7 +4,7 @@ use Rattle.ir_fit.proofs.follower.Follower.follow.Given as goal
 
 abbrev pub invariant-moves : goal.invariant-moves
 invariant-moves l = record {
-  goes : GoesOn l.fn.self.trace l.fn.self.flat l.self.flat;
+  goes : GoesOn l.fn.self.trace l.fn.self.flat l.fn.self.places.items l.self.flat l.self.places.items;
   trace : l.self.trace ≡ l.fn.self.trace;
   sized : IsSized l.self;
 }

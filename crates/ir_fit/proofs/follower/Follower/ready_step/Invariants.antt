@@ -6,5 +6,6 @@ abbrev pub invariant-loop-t : goal.invariant-loop-t
 invariant-loop-t l = record {
   flat : l.self.flat ≡ l.fn.self.flat;
   trace : l.self.trace ≡ l.fn.self.trace;
+  places : l.self.places.items ≡ l.fn.self.places.items;
   sized : IsSized l.self;
 }

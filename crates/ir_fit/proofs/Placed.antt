@@ -1,0 +1,134 @@
+-- Positions of events and leaves along the steps of a thread.
+use Rattle.std.proofs.Common.{◌≡◌, ℕ, zero, suc, ◌+◌, ◌<◌, ◌≤◌, Bool, true, false, List, [], ◌∷◌, ◌++◌, length, length-append, replicate, set, Option, Some, None, refl, sym, ap, ◌∙◌, subst, arith, append-nil}
+use Rattle.std.proofs.lemmas.List.Sums.{sum_by-set}
+use Rattle.ir_thread.specs.Calls.{after_ask, Permits}
+use Rattle.ir_thread.specs.Held.{held_at, held_count, one_if_held}
+use Rattle.ir_thread.specs.State as thread
+use Rattle.ir_thread.specs.declared.ask.Access.{Access}
+use Rattle.ir_thread.specs.declared.ask.Access.TheVariants.{Reading, Writing}
+use Rattle.ir_thread.specs.declared.ask.Ask.{Ask}
+use Rattle.ir_thread.specs.declared.ask.Ask.TheVariants.{Private, Env, Enter, Leave as Leaves, Get, Put, Print, End, Done}
+use Rattle.ir_thread.specs.declared.ask.Reply.{Reply}
+use Rattle.ir_thread.proofs.Highest.{one_fewer}
+use Rattle.ir_flat.specs.Flat.{Flat, thread_of}
+use Rattle.ir_fit.proofs.Seen.{tells}
+use Rattle.ir_thread.specs.Marks.{Mark, Quiet, Answer, In, Refused, Out, logged}
+use Rattle.ir_flat.specs.Run.{join_if, events}
+use Rattle.ir_fit.specs.Places.{Placed, placed_by, place_if, places_from, leave_if, leaves_from}
+use Rattle.ir_fit.specs.declared.leave.Leave.{Leave}
+
+place_front : (k : Mark) (i : ℕ) (ps qs : List ℕ) → place_if k i (ps ++ qs) ≡ place_if k i ps ++ qs
+place_front Quiet i ps qs = refl
+place_front (Answer a v) i ps qs = refl
+place_front (In o a v l) i ps qs = refl
+place_front (Refused o) i ps qs = refl
+place_front (Out o a v) i ps qs = refl
+
+leave_front : (k : Mark) (i : ℕ) (ps qs : List Leave) → leave_if k i (ps ++ qs) ≡ leave_if k i ps ++ qs
+leave_front Quiet i ps qs = refl
+leave_front (Answer a v) i ps qs = refl
+leave_front (In o a v l) i ps qs = refl
+leave_front (Refused o) i ps qs = refl
+leave_front (Out o a v) i ps qs = refl
+
+pub places_append : {T : Type 0} (i : ℕ) (xs ys : List (T × Mark)) → places_from i (xs ++ ys) ≡ places_from i xs ++ places_from (i + length xs) ys
+places_append i [] ys = ap (λ (k : ℕ). places_from k ys) (let e : i ≡ i + 0 = omega arith in e)
+places_append i (x ∷ xs) ys =
+    ap (place_if x.1 i) (places_append (suc i) xs ys ∙ ap (λ (k : ℕ). places_from (suc i) xs ++ places_from k ys) (let e : suc i + length xs ≡ i + suc (length xs) = omega arith in e))
+    ∙ place_front x.1 i (places_from (suc i) xs) (places_from (i + suc (length xs)) ys)
+
+pub leaves_append : {T : Type 0} (i : ℕ) (xs ys : List (T × Mark)) → leaves_from i (xs ++ ys) ≡ leaves_from i xs ++ leaves_from (i + length xs) ys
+leaves_append i [] ys = ap (λ (k : ℕ). leaves_from k ys) (let e : i ≡ i + 0 = omega arith in e)
+leaves_append i (x ∷ xs) ys =
+    ap (leave_if x.1 i) (leaves_append (suc i) xs ys ∙ ap (λ (k : ℕ). leaves_from (suc i) xs ++ leaves_from k ys) (let e : suc i + length xs ≡ i + suc (length xs) = omega arith in e))
+    ∙ leave_front x.1 i (leaves_from (suc i) xs) (leaves_from (i + suc (length xs)) ys)
+
+-- steps that tell nothing
+abbrev pub AllQuiet : {T : Type 0} → List (T × Mark) → Type 0
+AllQuiet [] = Unit {0}
+AllQuiet (x ∷ xs) = (x.1 ≡ Quiet) × AllQuiet xs
+
+pub quiet_places : {T : Type 0} (i : ℕ) (xs : List (T × Mark)) → AllQuiet xs → places_from i xs ≡ []
+quiet_places i [] h = refl
+quiet_places i (x ∷ xs) h = ap (λ k. place_if k i (places_from (suc i) xs)) h.0 ∙ quiet_places (suc i) xs h.1
+
+pub quiet_leaves : {T : Type 0} (i : ℕ) (xs : List (T × Mark)) → AllQuiet xs → leaves_from i xs ≡ []
+quiet_leaves i [] h = refl
+quiet_leaves i (x ∷ xs) h = ap (λ k. leave_if k i (leaves_from (suc i) xs)) h.0 ∙ quiet_leaves (suc i) xs h.1
+
+pub quiet_join : {T : Type 0} (b : Bool) (x : T × Mark) (xs : List (T × Mark)) → x.1 ≡ Quiet → AllQuiet xs → AllQuiet (join_if b x xs)
+quiet_join true x xs h rest = (h, rest)
+quiet_join false x xs h rest = rest
+
+-- ---- what a step adds
+
+pub placed_entries : (f : Flat) (t v : ℕ) (p : Placed) (q : Ask) → (placed_by f t p q).entries ≡ p.entries ++ place_if (tells f q v) (thread_of f t).steps []
+placed_entries f t v p Private = sym (append-nil p.entries)
+placed_entries f t v p (Env kind) = refl
+placed_entries f t v p (Enter o Reading) = refl
+placed_entries f t v p (Enter o Writing) = refl
+placed_entries f t v p (Leaves o a) = sym (append-nil p.entries)
+placed_entries f t v p (Get o i) = sym (append-nil p.entries)
+placed_entries f t v p (Put o i w) = sym (append-nil p.entries)
+placed_entries f t v p Print = sym (append-nil p.entries)
+placed_entries f t v p (End e) = sym (append-nil p.entries)
+placed_entries f t v p Done = sym (append-nil p.entries)
+
+pub placed_leaves : (f : Flat) (t v : ℕ) (p : Placed) (q : Ask) → (placed_by f t p q).leaves ≡ p.leaves ++ leave_if (tells f q v) (thread_of f t).steps []
+placed_leaves f t v p Private = sym (append-nil p.leaves)
+placed_leaves f t v p (Env kind) = sym (append-nil p.leaves)
+placed_leaves f t v p (Enter o Reading) = sym (append-nil p.leaves)
+placed_leaves f t v p (Enter o Writing) = sym (append-nil p.leaves)
+placed_leaves f t v p (Leaves o a) = refl
+placed_leaves f t v p (Get o i) = sym (append-nil p.leaves)
+placed_leaves f t v p (Put o i w) = sym (append-nil p.leaves)
+placed_leaves f t v p Print = sym (append-nil p.leaves)
+placed_leaves f t v p (End e) = sym (append-nil p.leaves)
+placed_leaves f t v p Done = sym (append-nil p.leaves)
+
+pub placed_room : (f : Flat) (t : ℕ) (p : Placed) (q : Ask) → (placed_by f t p q).room ≡ p.room
+placed_room f t p Private = refl
+placed_room f t p (Env kind) = refl
+placed_room f t p (Enter o a) = refl
+placed_room f t p (Leaves o a) = refl
+placed_room f t p (Get o i) = refl
+placed_room f t p (Put o i w) = refl
+placed_room f t p Print = refl
+placed_room f t p (End e) = refl
+placed_room f t p Done = refl
+
+-- ---- how many there are
+
+one_longer : {X : Type 0} (xs : List X) (x : X) → length (xs ++ x ∷ []) ≡ length xs + 1
+one_longer xs x = length-append xs (x ∷ [])
+
+pub placed_count : (code : List ℕ) (f : Flat) (t : ℕ) (p : Placed) (x : thread.State) (q : Ask) (r : Reply) → length p.entries ≡ x.events → length (placed_by f t p q).entries ≡ (after_ask code x q r).events
+placed_count code f t p x Private r h = h
+placed_count code f t p x (Env kind) r h = let n = one_longer p.entries (thread_of f t).steps in omega (arith, n, h)
+placed_count code f t p x (Enter o a) r h = let n = one_longer p.entries (thread_of f t).steps in omega (arith, n, h)
+placed_count code f t p x (Leaves o a) r h = h
+placed_count code f t p x (Get o i) r h = h
+placed_count code f t p x (Put o i w) r h = h
+placed_count code f t p x Print r h = h
+placed_count code f t p x (End e) r h = h
+placed_count code f t p x Done r h = h
+
+held_more : (held : List (Option Access)) (o : ℕ) (a : Access) → o < length held → held_count (set held o (Some a)) ≤ held_count held + 1
+held_more held o a l = let sums = sum_by-set one_if_held held o (Some a) None l in omega (arith, sums)
+
+is_some : (x : Option Access) (a : Access) → x ≡ Some a → x ≡ None → ⊥
+is_some x a e n = cc (e, n)
+
+pub placed_fewer : (code : List ℕ) (f : Flat) (t : ℕ) (p : Placed) (x : thread.State) (q : Ask) (r : Reply) → Permits x q → length p.leaves + held_count x.held ≤ x.events → length (placed_by f t p q).leaves + held_count (after_ask code x q r).held ≤ (after_ask code x q r).events
+placed_fewer code f t p x Private r k h = h
+placed_fewer code f t p x (Env kind) r k h = omega (arith, h)
+placed_fewer code f t p x (Enter o a) r k h = let more = held_more x.held o a k.2 in omega (arith, h, more)
+placed_fewer code f t p x (Leaves o a) r k h =
+    let less = one_fewer x.held o k.1 (is_some (held_at x.held o) a k.2) in
+    let n : length (placed_by f t p (Leaves o a)).leaves ≡ length p.leaves + 1 = one_longer p.leaves _ in
+    omega (arith, h, less, n)
+placed_fewer code f t p x (Get o i) r k h = h
+placed_fewer code f t p x (Put o i w) r k h = h
+placed_fewer code f t p x Print r k h = h
+placed_fewer code f t p x (End e) r k h = h
+placed_fewer code f t p x Done r k h = h
