@@ -30,7 +30,7 @@ use Rattle.ir_fit.specs.Breaking.{BreaksBy, IsFirstBreak}
 use Rattle.ir_fit.specs.Coherent.{IsCoherent}
 use Rattle.ir_fit.specs.Cuts.{At}
 use Rattle.ir_fit.specs.Fit.{HasHeader, IsRunOf, HasRun, GoesFurthest, AreVerdicts, IsRefused}
-use Rattle.ir_fit.specs.Follower.{IsFollower, IsFollowed, AreStanding}
+use Rattle.ir_fit.specs.Follower.{IsFollowed, AreStanding}
 use Rattle.ir_fit.specs.Following as following
 use Rattle.ir_fit.specs.Places.{Placed}
 use Rattle.ir_fit.specs.Standing.{StandsAs}

@@ -33,9 +33,8 @@ use Rattle.ir_fit.specs.Coherent.{sum_below}
 use Rattle.ir_fit.specs.Follower.{IsFollower, IsFollowed, IsPlaced, GoesOn, all_ahead}
 use Rattle.ir_fit.specs.Places.{Placed, placed_at, placed_by, placed_more, none_placed, place_if, leave_if, places_of, leaves_of}
 use Rattle.ir_fit.specs.Following.{Check, unlogged, left_log, left_steps, Fits, Follows, Meets, closing}
-use Rattle.ir_fit.specs.Standing.{AgreesNow, StandsAs}
-use Rattle.ir_fit.specs.Standing as standing
-use Rattle.ir_fit.specs.Verdicts.{Agrees, result_of}
+use Rattle.ir_fit.specs.Standing.{StandsAs}
+use Rattle.ir_fit.specs.Verdicts.{Agrees}
 use Rattle.ir_fit.specs.declared.verdict.ThreadVerdict.{ThreadVerdict}
 use Rattle.ir_fit.specs.declared.verdict.ThreadVerdict.TheVariants.{Same, Disagrees, Starves}
 use Rattle.ir_fit.specs.declared.look.Move.{Move}

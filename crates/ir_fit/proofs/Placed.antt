@@ -1,5 +1,5 @@
 -- Positions of events and leaves along the steps of a thread.
-use Rattle.std.proofs.Common.{◌≡◌, ℕ, zero, suc, ◌+◌, ◌<◌, ◌≤◌, Bool, true, false, List, [], ◌∷◌, ◌++◌, length, length-append, replicate, set, Option, Some, None, refl, sym, ap, ◌∙◌, subst, arith, append-nil}
+use Rattle.std.proofs.Common.{◌≡◌, ℕ, suc, ◌+◌, ◌<◌, ◌≤◌, Bool, true, false, List, [], ◌∷◌, ◌++◌, length, length-append, set, Option, Some, None, refl, sym, ap, ◌∙◌, arith, append-nil}
 use Rattle.std.proofs.lemmas.List.Sums.{sum_by-set}
 use Rattle.ir_thread.specs.Calls.{after_ask, Permits}
 use Rattle.ir_thread.specs.Held.{held_at, held_count, one_if_held}
@@ -12,8 +12,8 @@ use Rattle.ir_thread.specs.declared.ask.Reply.{Reply}
 use Rattle.ir_thread.proofs.Highest.{one_fewer}
 use Rattle.ir_flat.specs.Flat.{Flat, thread_of}
 use Rattle.ir_fit.proofs.Seen.{tells}
-use Rattle.ir_thread.specs.Marks.{Mark, Quiet, Answer, In, Refused, Out, logged}
-use Rattle.ir_flat.specs.Run.{join_if, events}
+use Rattle.ir_thread.specs.Marks.{Mark, Quiet, Answer, In, Refused, Out}
+use Rattle.ir_flat.specs.Run.{join_if}
 use Rattle.ir_fit.specs.Places.{Placed, placed_by, place_if, places_from, leave_if, leaves_from}
 use Rattle.ir_fit.specs.declared.leave.Leave.{Leave}
 

@@ -1,5 +1,5 @@
 -- What is seen of a thread's next step, by what the thread asks.
-use Rattle.std.proofs.Common.{◌≡◌, ◌≢◌, ℕ, zero, suc, ◌+◌, ◌<◌, ◌≤◌, ◌^◌, true, false, Bool, List, [], ◌∷◌, length, map, drop, Option, Some, None, refl, sym, ap, ◌∙◌, subst, arith, inl, inr, ◌⊎◌}
+use Rattle.std.proofs.Common.{◌≡◌, ◌≢◌, ℕ, zero, suc, ◌<◌, ◌≤◌, ◌^◌, true, false, Bool, List, [], ◌∷◌, length, map, drop, Option, Some, None, refl, sym, ap, ◌∙◌, subst, arith, inl, inr, ◌⊎◌}
 use Rattle.std.specs.Prelude.{◌↔◌, IsTrue, slice_get, nat_lt, ◌||◌, ◌==◌}
 use Rattle.std.specs.List.{AllByRecursion}
 use Rattle.std.proofs.lemmas.Bool.Decides.{nat_tests}
@@ -25,14 +25,13 @@ use Rattle.ir_thread.proofs.Lawful.{over}
 use Rattle.ir_object.specs.Cell.{Cell, Admitted}
 use Rattle.ir_object.specs.Object.{target, Admits, told}
 use Rattle.ir_flat.specs.Flat.{Flat, thread_of, cell_of, tables, machine, IsFlat}
-use Rattle.ir_flat.specs.Next.{MayStep}
 use Rattle.ir_flat.proofs.Keeps.{may_admits}
 use Rattle.ir_flat.proofs.Kept.{added}
 use Rattle.std.proofs.lemmas.Option.{slice_get_within}
 use Rattle.ir_log.specs.Logging.{mark_of, Suits}
 use Rattle.ir_log.specs.declared.event.Event.{Event}
 use Rattle.ir_log.specs.declared.event.Event.TheVariants.{Answer, Read, Write}
-use Rattle.ir_trace.specs.Recorded.{Recorded, RecordedThread, IsResult, IsEvent, IsRecordedThread}
+use Rattle.ir_trace.specs.Recorded.{Recorded, IsResult, IsEvent, IsRecordedThread}
 use Rattle.ir_trace.specs.Told.{recorded_thread, trace_of}
 use Rattle.ir_fit.specs.Ahead.{steps_ahead, log_ahead, CanFollow, IsStopped, AgreesAhead, IsOpen, IsOwn, EndsSo, IsSeen}
 use Rattle.ir_fit.specs.declared.look.Look.{Look}

@@ -1,5 +1,5 @@
-use Rattle.std.proofs.Common.{◌<◌, refl, sym, ap, subst, ◌∙◌, length}
-use Rattle.ir_fit.specs.Follower.{GoesOn, IsSized}
+use Rattle.std.proofs.Common.{◌<◌, refl, sym, subst, ◌∙◌}
+use Rattle.ir_fit.specs.Follower.{GoesOn}
 use Rattle.ir_fit.proofs.Moves.{stays, went_further, moved_further, moved_less, went_placed}
 use Rattle.ir_fit.proofs.follower.Follower.advance.Goals as goal
 

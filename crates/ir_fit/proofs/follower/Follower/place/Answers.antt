@@ -1,5 +1,4 @@
-use Rattle.std.proofs.Common.{◌≡◌, ◌<◌, ℕ, sym, ◌∙◌, ap, subst, arith, length}
-use Rattle.ir_fit.specs.Places.{placed_at}
+use Rattle.std.proofs.Common.{◌<◌, sym, ◌∙◌, subst, arith, length}
 use Rattle.ir_fit.proofs.Moves.{leave_object, leave_room, kept_found}
 use Rattle.ir_fit.proofs.follower.Follower.place.Goals as goal
 
