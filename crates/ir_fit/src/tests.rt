@@ -3,8 +3,10 @@
 ghost use Rattle.std.specs.Prelude.{◌≡◌, ◌<◌, length, IfOk};
 
 use crate::followed::followed;
+use crate::leave::Leave;
 use crate::verdict::ThreadVerdict;
 use ir_image::{Image, read_image};
+use ir_thread::Access;
 use ir_trace::read_trace;
 use std::alloc::Global;
 use std::test::Fail;
@@ -193,6 +195,57 @@ fn events_are_used_up_at_the_end(rt: HostRuntime) -> Result<(), Fail> {
         read_and_write(rt.alloc(), 3, &more)?,
         Some(ThreadVerdict::Disagrees { event: 2, step: 10 })
     );
+    Ok(())
+}
+
+// The positions of the first thread's events, and its leaves, where it follows its own trace.
+fn read_and_write_places(alloc: Global) -> Result<([u64; 2], [Option<Leave>; 3]), Fail> {
+    let image = guest(alloc, &[0], 1, &READ_AND_WRITE)?;
+    let bytes = [
+        0x49, 0x52, 0x54, 0x31, 1, 1, 0, 0, 100, 0, 0, 0, 0, 0, 0, 0, // header
+        11, 0, 0, 0, 0, 0, 0, 0, 1, 0, 0, 0, 0, 2, 0, 0, 0, // the thread
+        4, 0, 0, 0, 0, 0, 5, 0, 0, 0, 0, 0, 1, 0, 0, 0, // its entries
+    ];
+    let trace = read_trace(alloc, &bytes)?;
+    if trace.threads().len() != image.entries().len() {
+        return Ok(([0, 0], [None, None, None]));
+    }
+    let follower = followed(alloc, &image, trace)?;
+    let Some(places) = follower.places.first() else {
+        return Ok(([0, 0], [None, None, None]));
+    };
+    let entries = match places.entries() {
+        [first, second] => [*first, *second],
+        _ => [0, 0],
+    };
+    let leaves = places.leaves();
+    Ok((
+        entries,
+        [
+            leaves.first().copied(),
+            leaves.get(1).copied(),
+            leaves.get(2).copied(),
+        ],
+    ))
+}
+
+#[test]
+fn events_and_leaves_have_their_positions(rt: HostRuntime) -> Result<(), Fail> {
+    let (entries, leaves) = read_and_write_places(rt.alloc())?;
+    assert_eq!(rt; entries, [2, 6]);
+    let read = Leave {
+        position: 4,
+        object: 0,
+        access: Access::Reading,
+        version: 0,
+    };
+    let write = Leave {
+        position: 8,
+        object: 0,
+        access: Access::Writing,
+        version: 0,
+    };
+    assert_eq!(rt; leaves, [Some(read), Some(write), None]);
     Ok(())
 }
 
