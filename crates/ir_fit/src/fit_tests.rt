@@ -1,7 +1,8 @@
 //! Guests of a few instructions, run along traces that are theirs, and along others.
 
-use crate::{Cause, FitErr, HeaderCause, ThreadVerdict, Verdict, fit};
+use crate::{Cause, FitErr, Fitted, HeaderCause, Leave, ThreadVerdict, Verdict, fit};
 use ir_image::{Image, read_image};
+use ir_thread::Access;
 use ir_trace::read_trace;
 use std::alloc::Global;
 use std::test::Fail;
@@ -199,6 +200,61 @@ fn events_are_used_up_at_the_end(rt: HostRuntime) -> Result<(), Fail> {
         4, 0, 0, 0, 0, 0, 5, 0, 0, 0, 0, 0, 1, 0, 0, 0, 1, 5, 0, 0, 0,
     ];
     assert_eq!(rt; read_and_write(rt.alloc(), 3, &more)?, disagrees(2, 10));
+    Ok(())
+}
+
+// The positions of the first thread's events, and its leaves.
+fn first_places(fitted: &Fitted) -> ([u64; 2], [Option<Leave>; 3]) {
+    if fitted.image().entries().is_empty() {
+        return ([0, 0], [None, None, None]);
+    }
+    let entries = match fitted.entries(0) {
+        [first, second] => [*first, *second],
+        _ => [0, 0],
+    };
+    let leaves = fitted.leaves(0);
+    (
+        entries,
+        [
+            leaves.first().copied(),
+            leaves.get(1).copied(),
+            leaves.get(2).copied(),
+        ],
+    )
+}
+
+// The same of the thread that reads and writes, where it follows its own trace.
+fn read_and_write_places(alloc: Global) -> Result<([u64; 2], [Option<Leave>; 3]), Fail> {
+    let image = guest(alloc, &[0], 1, &READ_AND_WRITE)?;
+    let bytes = [
+        0x49, 0x52, 0x54, 0x31, 1, 1, 0, 0, 100, 0, 0, 0, 0, 0, 0, 0, // header
+        11, 0, 0, 0, 0, 0, 0, 0, 1, 0, 0, 0, 0, 2, 0, 0, 0, // the thread
+        4, 0, 0, 0, 0, 0, 5, 0, 0, 0, 0, 0, 1, 0, 0, 0, // its entries
+    ];
+    let answer = fit(alloc, image, read_trace(alloc, &bytes)?);
+    Ok(match &answer {
+        Ok(fitted) => first_places(fitted),
+        Err(_) => ([0, 0], [None, None, None]),
+    })
+}
+
+#[test]
+fn events_and_leaves_have_their_positions(rt: HostRuntime) -> Result<(), Fail> {
+    let (entries, leaves) = read_and_write_places(rt.alloc())?;
+    assert_eq!(rt; entries, [2, 6]);
+    let read = Leave {
+        position: 4,
+        object: 0,
+        access: Access::Reading,
+        version: 0,
+    };
+    let write = Leave {
+        position: 8,
+        object: 0,
+        access: Access::Writing,
+        version: 0,
+    };
+    assert_eq!(rt; leaves, [Some(read), Some(write), None]);
     Ok(())
 }
 
