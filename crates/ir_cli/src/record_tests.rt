@@ -250,8 +250,8 @@ fn ends_are_told(rt: HostRuntime) {
 }
 
 // The events of the second thread, where both logged so many bytes of events.
-fn second_events(trace: &[u8], length: usize) -> &[u8] {
-    trace.get(16 + 17 + length + 17..).unwrap_or(&[])
+fn second_events(trace: &[u8], length: u8) -> &[u8] {
+    trace.get(16 + 17 + length as usize + 17..).unwrap_or(&[])
 }
 
 #[test]
