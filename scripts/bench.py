@@ -4,7 +4,8 @@ assembler's lines.
 
 Each guest is run three ways, best of five, the time of an empty guest taken off: by a session of IR, which runs it once
 to see that the trace fits; by BENCH's private steps many at a time; and by BENCH, each step asked and taken by itself.
-A recording is `ir record` from file to file, best of five, the time of an empty guest's taken off."""
+A recording is `ir record` from file to file, best of five, the time of an empty guest's taken off; a fit is BENCH's, the
+time of reading image and trace taken off."""
 import struct
 import os
 import subprocess
@@ -84,8 +85,12 @@ def image(code, threads=1, objects=0):
     return b"IRI1" + bytes([threads, objects]) + struct.pack("<II", len(code), 0) + b"".join(struct.pack("<I", w) for w in words)
 
 
+def header(threads, objects, budget):
+    return b"IRT1" + bytes([threads, objects, 0, 0]) + struct.pack("<Q", budget)
+
+
 def trace(steps, budget):
-    return b"IRT1" + bytes([1, 0, 0, 0]) + struct.pack("<Q", budget) + struct.pack("<QBII", steps, 1, 0, 0)
+    return header(1, 0, budget) + struct.pack("<QBII", steps, 1, 0, 0)
 
 
 def best_of_three(words, data, is_good):
@@ -121,37 +126,60 @@ def speeds():
         print(f"{name:24}{steps:>12}{session:>10.0f}{run:>10.0f}{each:>12.0f}{run / each:>8.1f}")
 
 
-def entering():
-    """64 * 4096 times: ten private steps in a loop, then a write entry of object 0 and its leave."""
-    inner = [addi(T1, 0, 4), addi(T1, T1, -1), branch(1, T1, 0, -4)]
+def entering(turns):
+    """131,072 times: a loop of 1 + 2 * turns private steps, then a write entry of object 0 and its leave."""
+    inner = [addi(T1, 0, turns), addi(T1, T1, -1), branch(1, T1, 0, -4)]
     body = inner + [addi(A7, 0, 8), ECALL, addi(A7, 0, 9), ECALL]
-    return counted(body, 32, 9 + 4)
+    return counted(body, 32, 1 + 2 * turns + 4)
 
 
-def recording():
-    """Threads by rounds: millions of steps of all threads together a second, beside those of the counted loop's run."""
-    print("recording, millions of steps a second")
-    print(f"{'guest':40}{'steps':>12}{'seconds':>10}{'steps':>10}")
+def threaded():
+    """Each guest of threads: its name, code, threads, objects and steps of all threads together."""
     loop, steps = counted([], 12200)
     short, few = counted([], 1525)
-    locks, visits = entering()
+    often, visits = entering(4)
+    seldom, longer = entering(46)
+    yield "one thread, counted loop", loop, 1, 0, steps
+    yield "eight threads, counted loop", short, 8, 0, 8 * few
+    yield "one thread, an entry each 15 steps", often, 1, 1, visits
+    yield "eight threads, an entry each 15 steps", often, 8, 1, 8 * visits
+    yield "eight threads, an entry each 99 steps", seldom, 8, 1, 8 * longer
+
+
+def traces():
+    """Recording by rounds and fitting what was recorded, beside each other."""
+    print("traces, millions of steps of all threads a second")
+    print(f"{'guest':40}{'steps':>12}{'record':>10}{'fit':>10}")
     empty = [addi(A7, 0, 1), ECALL]
     with tempfile.TemporaryDirectory() as folder:
         source, made = os.path.join(folder, "image"), os.path.join(folder, "trace")
 
-        def took(code, threads, objects):
+        def both(code, threads, objects, steps):
+            guest = image(code, threads, objects)
             with open(source, "wb") as f:
-                f.write(image(code, threads, objects))
-            return best_of_three([IR, "record", source, made, "--order", "0", "--budget", "1000000000"], b"", lambda out: out.count(b" end 1 ") == threads)
+                f.write(guest)
+            words = [IR, "record", source, made, "--order", "0", "--budget", "1000000000"]
+            recorded = best_of_three(words, b"", lambda out: out.count(b" end 1 ") == threads)
+            with open(made, "rb") as f:
+                data = b"\n" + guest.hex().encode() + b"\n" + f.read().hex().encode() + b"\n"
+            good = lambda out: out == b"%d steps\n" % steps
+            return recorded, best_of_three([BENCH], b"fit" + data, good) - best_of_three([BENCH], b"read" + data, good)
 
-        for name, code, threads, objects, all_steps in (
-            ("one thread, counted loop", loop, 1, 0, steps),
-            ("eight threads, counted loop", short, 8, 0, 8 * few),
-            ("one thread, an entry each 15 steps", locks, 1, 1, visits),
-            ("eight threads, an entry each 15 steps", locks, 8, 1, 8 * visits),
-        ):
-            seconds = took(code, threads, objects) - took(empty, threads, objects)
-            print(f"{name:40}{all_steps:>12}{seconds:>10.3f}{all_steps / seconds / 1e6:>10.0f}")
+        for name, code, threads, objects, steps in threaded():
+            first, fitted = both(code, threads, objects, steps)
+            base, _ = both(empty, threads, objects, 2 * threads)
+            print(f"{name:40}{steps:>12}{steps / (first - base) / 1e6:>10.0f}{steps / fitted / 1e6:>10.0f}")
+
+
+def coherence():
+    """Eight logs of 1,048,576 write entries each, their versions by turns."""
+    count = 1 << 20
+    logs = [b"".join(struct.pack("<BBII", 5, 0, 8 * i + t, 0) for i in range(count)) for t in range(8)]
+    told = header(8, 1, 1000000) + b"".join(struct.pack("<QBII", 0, 1, 0, count) + log for log in logs)
+    data = b"\n" + image([ECALL], 8, 1).hex().encode() + b"\n" + told.hex().encode() + b"\n"
+    good = lambda out: out == b"0 steps\n"
+    took = best_of_three([BENCH], b"coherent" + data, good) - best_of_three([BENCH], b"read" + data, good)
+    print(f"coherence of {8 * count} write entries: {took:.2f} seconds")
 
 
 def assembling():
@@ -168,5 +196,6 @@ def assembling():
 
 
 speeds()
-recording()
+traces()
+coherence()
 assembling()

@@ -4,11 +4,13 @@
 mod quiet;
 
 use anyhow::{Context, Result, bail, ensure};
+use ir_fit::{coherent, fit};
 use ir_image::{Image, read_image};
 use ir_record::record_in_order;
 use ir_thread::{Ask, Reply, Thread};
+use ir_trace::{Trace, read_trace};
 use std::alloc::Global;
-use std::io::{BufRead, BufReader};
+use std::io::{BufRead, BufReader, Lines};
 
 const BUDGET: u64 = 1_000_000_000;
 
@@ -39,22 +41,47 @@ fn recorded(alloc: Global, image: &Image) -> Result<u64> {
     let (trace, _) = record_in_order(alloc, image, &[], worlds, BUDGET)
         .ok()
         .context("a recording")?;
+    Ok(all_steps(&trace))
+}
+
+// How many steps all threads of a trace take.
+fn all_steps(trace: &Trace) -> u64 {
     let mut steps = 0u64;
     for thread in trace.threads() {
         steps = steps.saturating_add(thread.steps());
     }
-    Ok(steps)
+    steps
 }
 
-// The first line is `run`, `steps` or `record`, the second an image in hexadecimal.
+// How many steps all threads take of a trace that fits.
+fn fitted(alloc: Global, image: Image, trace: Trace) -> Result<u64> {
+    let fitted = fit(alloc, image, trace).ok().context("a trace that fits")?;
+    Ok(all_steps(fitted.trace()))
+}
+
+// The same of a trace that is only read, or is seen to be coherent too.
+fn told(alloc: Global, trace: &Trace, is_judged: bool) -> Result<u64> {
+    if is_judged {
+        coherent(alloc, trace).ok().context("a coherent trace")?;
+    }
+    Ok(all_steps(trace))
+}
+
+// The bytes of the next line, which is in hexadecimal.
+fn next_bytes<R: BufRead + Drop>(alloc: Global, lines: &mut Lines<R>) -> Result<Vec<u8>> {
+    let digits = lines.next().context("a line")??;
+    hex::decode(alloc, digits.as_str())
+        .ok()
+        .context("hexadecimal digits")
+}
+
+// The first line is `run`, `steps`, `record`, `fit`, `read` or `coherent`, the second an image in hexadecimal; the last
+// three have a trace in the third.
 fn main(rt: HostRuntime) -> Result<()> {
     let alloc = rt.alloc();
     let mut lines = BufReader::new(alloc, rt.reader())?.lines(alloc);
     let mode = lines.next().context("the line of the mode")??;
-    let digits = lines.next().context("the line of the image")??;
-    let bytes = hex::decode(alloc, digits.as_str())
-        .ok()
-        .context("hexadecimal digits")?;
+    let bytes = next_bytes(alloc, &mut lines)?;
     let image = read_image(alloc, bytes.as_slice())
         .ok()
         .context("an image")?;
@@ -62,7 +89,16 @@ fn main(rt: HostRuntime) -> Result<()> {
         "run" => alone(alloc, &image, false)?,
         "steps" => alone(alloc, &image, true)?,
         "record" => recorded(alloc, &image)?,
-        _ => bail!("a mode"),
+        other => {
+            let bytes = next_bytes(alloc, &mut lines)?;
+            let trace = read_trace(alloc, bytes.as_slice()).ok().context("a trace")?;
+            match other {
+                "fit" => fitted(alloc, image, trace)?,
+                "read" => told(alloc, &trace, false)?,
+                "coherent" => told(alloc, &trace, true)?,
+                _ => bail!("a mode"),
+            }
+        }
     };
     println!(rt; "{steps} steps")?;
     Ok(())
