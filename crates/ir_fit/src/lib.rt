@@ -21,6 +21,10 @@ mod going;
 mod header;
 mod laws;
 mod look;
+#[cfg(test)]
+mod plain_fit;
+#[cfg(test)]
+mod plain_tests;
 mod readiness;
 mod verdict;
 mod version_counts;
