@@ -26,7 +26,7 @@ const fn write(object: u8, version: u32, readers: u32) -> Event {
 }
 
 // Adds the bytes of an event.
-fn put(bytes: &mut Vec<u8>, event: Event) -> Result<(), AllocError> {
+pub fn put(bytes: &mut Vec<u8>, event: Event) -> Result<(), AllocError> {
     match event {
         Event::Answer(_, value) => {
             bytes.push(1)?;

@@ -27,7 +27,7 @@ const ENTER_WRITE: u32 = 0x0080_0893;
 const LEAVE: u32 = 0x0090_0893;
 
 // A guest whose threads start at these words, and objects that begin with zeros.
-fn guest(alloc: Global, starts: &[u8], objects: u8, code: &[u32]) -> Result<Image, Fail> {
+pub fn guest(alloc: Global, starts: &[u8], objects: u8, code: &[u32]) -> Result<Image, Fail> {
     let mut bytes = Vec::new(alloc);
     let threads = starts.len().min(8) as u8;
     bytes.extend_from_slice(&[0x49, 0x52, 0x49, 0x31, threads, objects])?;

@@ -23,6 +23,10 @@ mod laws;
 mod leave;
 mod look;
 mod places;
+#[cfg(test)]
+mod plain_fit;
+#[cfg(test)]
+mod plain_tests;
 mod readiness;
 mod verdict;
 mod version_counts;
