@@ -13,7 +13,7 @@ use std::test::Fail;
 
 const BUDGET: u64 = 1000;
 
-// Thread 0 reads object 0, asks the clock and writes the object. Thread 1 writes the object, and ends inside it as a
+// One thread reads object 0, asks the clock and writes the object. The other writes the object, and ends inside it as a
 // reader.
 const CODE: [u32; 21] = [
     0x0070_0893, // addi a7, zero, 7
@@ -29,7 +29,7 @@ const CODE: [u32; 21] = [
     0x73,
     0x0010_0893, // addi a7, zero, 1
     0x73,
-    0x0080_0893, // thread 1
+    0x0080_0893, // the other thread
     0x73,
     0x0090_0893,
     0x73,
@@ -39,11 +39,22 @@ const CODE: [u32; 21] = [
     0x73,
 ];
 
-// The bytes of the code before thread 1's.
-const SECOND: u8 = 52;
+// Where each thread starts in the code, in bytes, and how many steps it takes: the other gives back what it holds.
+#[derive(Clone, Copy)]
+struct Sides {
+    starts: [u8; 2],
+    steps: [u8; 2],
+}
 
-// How many steps each thread takes: thread 1 gives back what it holds.
-const STEPS: [u8; 2] = [13, 9];
+const READER_FIRST: Sides = Sides {
+    starts: [0, 52],
+    steps: [13, 9],
+};
+
+const WRITER_FIRST: Sides = Sides {
+    starts: [52, 0],
+    steps: [9, 13],
+};
 
 // The traces of a run are also tried with each number of steps below this, of either thread.
 const MOST_STEPS: u8 = 15;
@@ -137,8 +148,8 @@ fn refused(verdict: &Verdict) -> Answer {
 }
 
 // What `fit` answers.
-fn by_fit(alloc: Global, trace: Trace) -> Result<Answer, Fail> {
-    let image = guest(alloc, &[0, SECOND], 1, &CODE)?;
+fn by_fit(alloc: Global, starts: [u8; 2], trace: Trace) -> Result<Answer, Fail> {
+    let image = guest(alloc, &starts, 1, &CODE)?;
     match fit(alloc, image, trace) {
         Ok(_) => Ok(Answer::Fits),
         Err(FitErr::Refused(verdict)) => Ok(refused(&verdict)),
@@ -213,13 +224,13 @@ impl Tally {
 fn agreed(
     alloc: Global,
     start: &Flat,
-    steps: [u8; 2],
+    sides: Sides,
     first: &[Event],
     second: &[Event],
 ) -> Result<Option<Answer>, Fail> {
-    let trace = traced(alloc, steps, first, second)?;
+    let trace = traced(alloc, sides.steps, first, second)?;
     let answer = plainly(alloc, start, &trace, first, second)?;
-    if answer == Answer::Unsettled || by_fit(alloc, trace)? != answer {
+    if answer == Answer::Unsettled || by_fit(alloc, sides.starts, trace)? != answer {
         return Ok(None);
     }
     Ok(Some(answer))
@@ -229,13 +240,15 @@ fn agreed(
 fn agreed_by_steps(
     alloc: Global,
     start: &Flat,
+    starts: [u8; 2],
     first: &[Event],
     second: &[Event],
 ) -> Result<u32, Fail> {
     let mut count = 0u32;
     for number in 0..MOST_STEPS * MOST_STEPS {
         let steps = [number % MOST_STEPS, number / MOST_STEPS];
-        if agreed(alloc, start, steps, first, second)?.is_some() {
+        let sides = Sides { starts, steps };
+        if agreed(alloc, start, sides, first, second)?.is_some() {
             count = count.saturating_add(1);
         }
     }
@@ -243,17 +256,23 @@ fn agreed_by_steps(
 }
 
 // Counts the traces with the first thread's events of this number.
-fn tally_first(alloc: Global, start: &Flat, number: usize, tally: &mut Tally) -> Result<(), Fail> {
+fn tally_first(
+    alloc: Global,
+    start: &Flat,
+    sides: Sides,
+    number: usize,
+    tally: &mut Tally,
+) -> Result<(), Fail> {
     let first = listed(alloc, number)?;
     for other in 0..LISTS {
         let second = listed(alloc, other)?;
-        let answer = agreed(alloc, start, STEPS, &first, &second)?;
+        let answer = agreed(alloc, start, sides, &first, &second)?;
         match answer {
             None => tally.differs = Some((number, other)),
             Some(answer) => tally.count(answer),
         }
         if answer == Some(Answer::Fits) {
-            let count = agreed_by_steps(alloc, start, &first, &second)?;
+            let count = agreed_by_steps(alloc, start, sides.starts, &first, &second)?;
             tally.by_steps = tally.by_steps.saturating_add(count);
         }
     }
@@ -261,8 +280,8 @@ fn tally_first(alloc: Global, start: &Flat, number: usize, tally: &mut Tally) ->
 }
 
 // Counts all traces.
-fn tally_all(alloc: Global) -> Result<Tally, Fail> {
-    let image = guest(alloc, &[0, SECOND], 1, &CODE)?;
+fn tally_all(alloc: Global, sides: Sides) -> Result<Tally, Fail> {
+    let image = guest(alloc, &sides.starts, 1, &CODE)?;
     let start = Flat::start(alloc, &image, BUDGET)?;
     let mut tally = Tally {
         fits: 0,
@@ -275,14 +294,14 @@ fn tally_all(alloc: Global) -> Result<Tally, Fail> {
         differs: None,
     };
     for number in 0..LISTS {
-        tally_first(alloc, &start, number, &mut tally)?;
+        tally_first(alloc, &start, sides, number, &mut tally)?;
     }
     Ok(tally)
 }
 
 #[test]
 fn fit_answers_as_the_plain_program(rt: HostRuntime) -> Result<(), Fail> {
-    let tally = tally_all(rt.alloc())?;
+    let tally = tally_all(rt.alloc(), READER_FIRST)?;
     assert_eq!(rt; tally.differs, None);
     // Five traces: of the six orders of the four entries, two have the same one.
     assert_eq!(rt; tally.fits, 5);
@@ -292,5 +311,16 @@ fn fit_answers_as_the_plain_program(rt: HostRuntime) -> Result<(), Fail> {
     assert!(rt; tally.unmade > 0);
     assert!(rt; tally.twice > 0);
     assert!(rt; tally.readers > 0);
+    Ok(())
+}
+
+// Here a writer is looked at before its readers have left.
+#[test]
+fn fit_answers_so_with_the_threads_exchanged(rt: HostRuntime) -> Result<(), Fail> {
+    let tally = tally_all(rt.alloc(), WRITER_FIRST)?;
+    assert_eq!(rt; tally.differs, None);
+    assert_eq!(rt; tally.fits, 5);
+    assert_eq!(rt; tally.by_steps, 5 * 15 * 15);
+    assert!(rt; tally.starves > 0);
     Ok(())
 }

@@ -1,5 +1,5 @@
 -- What was recorded once nobody has a step.
-use Rattle.std.proofs.Common.{◌≡◌, ◌≢◌, ℕ, zero, suc, ◌+◌, ◌<◌, Bool, List, [], ◌∷◌, ◌++◌, length, map, replicate, get_or, Option, Some, None, refl, sym, ap, ◌∙◌, subst, arith, inl, inr, ◌⊎◌}
+use Rattle.std.proofs.Common.{◌≡◌, ◌≢◌, ℕ, ◌+◌, ◌<◌, Bool, List, [], ◌∷◌, ◌++◌, length, map, replicate, get_or, Option, Some, None, refl, sym, ap, ◌∙◌, subst, arith, inl, inr, ◌⊎◌}
 use Rattle.std.proofs.lemmas.Bool.{cases_lt}
 use Rattle.std.proofs.lemmas.List.{get_or-replicate, length-replicate, length-map}
 use Rattle.std.proofs.lemmas.Option.{slice_get-get_or, slice_get-map}
@@ -10,8 +10,6 @@ use Rattle.ir_thread.specs.Calls.{ask_of, Permits, most_events}
 use Rattle.ir_thread.specs.Instance.{shared_ask, thread_machine}
 use Rattle.ir_thread.specs.Machine as machine
 use Rattle.ir_thread.specs.State as thread
-use Rattle.ir_thread.specs.declared.ask.Ask.{Ask}
-use Rattle.ir_thread.specs.declared.ask.Ask.TheVariants.{Private, Env, Enter, Leave, Get, Put, Print, End, Done}
 use Rattle.ir_thread.specs.Ends.{end_number, end_code}
 use Rattle.ir_thread.specs.declared.end.End as end
 use Rattle.ir_thread.proofs.Asked.{ask_permits}

@@ -141,7 +141,7 @@ turn_steps s a b g c t k l below flat is h took w = by_turn took.took.turns
     by_turn (inr some) = here some.0 some.1 some.2 some.3 some.4
 
 -- so many numbers and the next one
-range_last : (t : ℕ) → range_with_len 0 t ++ t ∷ [] ≡ range_with_len 0 (t + 1)
+pub range_last : (t : ℕ) → range_with_len 0 t ++ t ∷ [] ≡ range_with_len 0 (t + 1)
 range_last t = ap (λ k. range_with_len 0 t ++ k ∷ []) (let e : t ≡ 0 + t = omega arith in e) ∙ range_more 0 t ∙ ap (range_with_len 0) (let e : suc t ≡ t + 1 = omega arith in e)
 
 -- ---- turns one after the other

@@ -32,6 +32,10 @@ pub rounds_more : (n count : ℕ) → rounds n count ++ range_with_len 0 n ≡ r
 rounds_more n zero = sym (append-nil (range_with_len 0 n))
 rounds_more n (suc count) = append_assoc (range_with_len 0 n) (rounds n count) (range_with_len 0 n) ∙ ap (λ z. range_with_len 0 n ++ z) (rounds_more n count)
 
+pub rounds_both : (n first more : ℕ) → rounds n first ++ rounds n more ≡ rounds n (first + more)
+rounds_both n zero more = ap (rounds n) (let e : more ≡ 0 + more = omega arith in e)
+rounds_both n (suc first) more = append_assoc (range_with_len 0 n) (rounds n first) (rounds n more) ∙ ap (λ z. range_with_len 0 n ++ z) (rounds_both n first more) ∙ ap (rounds n) (let e : suc (first + more) ≡ suc first + more = omega arith in e)
+
 -- what holds before turns holds after them
 pub ready_after : (order : List ℕ) (a b : Progress) (was : List Bool) → IsReady a was → Took order a b → IsTape b.flat b.logs → b.answers ≡ a.answers → IsReady b was
 ready_after order a b was ready took tape same = record { tape = tape; worlds = ap (λ xs. length xs) same ∙ ready.worlds ∙ sym took.threads; works = ready.works }

@@ -13,4 +13,5 @@ pub mod Following
 pub mod Gathering
 pub mod Leading
 pub mod Going
+pub mod Skipping
 pub mod Ended

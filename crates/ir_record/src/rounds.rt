@@ -1,11 +1,11 @@
 //! Turns of many threads.
 
-ghost use Rattle.std.specs.Prelude.{◌≡◌, ◌<◌, ℕ, [], ◌∷◌, length, map, replicate, IfOk, OnOk, IfErr};
+ghost use Rattle.std.specs.Prelude.{◌≡◌, ◌<◌, ◌≤◌, ◌-◌, ℕ, [], ◌∷◌, length, map, replicate, IfOk, OnOk, IfErr};
 ghost use Rattle.std.specs.List.{range_with_len};
 ghost use Rattle.ir_thread.specs.State as thread;
 ghost use Rattle.ir_flat.specs.Flat.{tables, machine};
 ghost use Rattle.ir_flat.specs.Run.{State};
-ghost use Rattle.ir_record.specs.Ahead.{IsAhead, WentIf};
+ghost use Rattle.ir_record.specs.Ahead.{lead, IsAhead, WentIf};
 ghost use Rattle.ir_record.specs.InOrder.{HasNone, rounds};
 ghost use Rattle.ir_record.specs.Progress.{progress, Took, IsReady};
 ghost use Rattle.ir_record.specs.Worlds.{IsFirstFailed, Extends};
@@ -13,6 +13,41 @@ ghost use Rattle.ir_record.specs.Worlds.{IsFirstFailed, Extends};
 use crate::recorder::Recorder;
 use crate::turn::Failed;
 use crate::world::World;
+
+// How many steps every thread is ahead at least.
+fn least(ahead: &[u64]) -> u64
+    ensures { (t : ℕ) → t < length ahead.now → result ≤ lead ahead.now t }
+{
+    let mut least = u64::MAX;
+    for t in 0..ahead.len() {
+        if ahead[t] < least {
+            least = ahead[t];
+        }
+    }
+    least
+}
+
+// Every thread has so many more of its steps behind it.
+fn lower(ahead: &mut Vec<u64>, by: u64)
+    requires { (t : ℕ) → t < length ahead.old.items → by ≤ lead ahead.old.items t }
+    ensures size { length ahead.new.items ≡ length ahead.old.items }
+    ensures each { (t : ℕ) → t < length ahead.old.items → lead ahead.new.items t ≡ lead ahead.old.items t - by }
+{
+    for t in 0..ahead.len() {
+        ahead[t] -= by;
+    }
+}
+
+// Rounds in which every thread has its step behind it, and how many they are.
+fn skip(ahead: &mut Vec<u64>) -> u64
+    ensures size { length ahead.new.items ≡ length ahead.old.items }
+    ensures enough { (t : ℕ) → t < length ahead.old.items → result ≤ lead ahead.old.items t }
+    ensures each { (t : ℕ) → t < length ahead.old.items → lead ahead.new.items t ≡ lead ahead.old.items t - result }
+{
+    let count = least(ahead.as_slice());
+    lower(ahead, count);
+    count
+}
 
 impl<W: World> Recorder<W> {
     // A turn of thread t: one of the private steps that it is ahead; or its next step, if it has one, and then as many
@@ -73,7 +108,11 @@ impl<W: World> Recorder<W> {
         ensures kept { Extends (map W.answers self.old.worlds.items) (map W.answers self.new.worlds.items) }
         ensures origins { map W.origin self.new.worlds.items ≡ map W.origin self.old.worlds.items }
     {
-        'rounds: while self.round(ahead)? {}
-        Ok(())
+        'rounds: loop {
+            skip(ahead);
+            if !self.round(ahead)? {
+                return Ok(());
+            }
+        }
     }
 }
