@@ -79,7 +79,7 @@ impl Follower {
         ensures sized { IsSized self.new }
     {
         self.place(next);
-        let _ = self.flat.step(next.thread, next.result);
+        let _ = self.flat.take(next.thread, next.asked, next.result);
         if let Ask::Leave(object, _) = next.asked {
             wake(&mut self.ready, object);
         }
