@@ -3,3 +3,12 @@ pub mod Order
 pub mod Admit
 pub mod Exist
 pub mod Highest
+pub mod Moved
+pub mod Again
+pub mod Sought
+pub mod Needed
+pub mod Listing
+pub mod Searched
+pub mod Stepping
+pub mod Closed
+pub mod Found

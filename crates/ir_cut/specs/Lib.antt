@@ -1,2 +1,6 @@
 pub mod Extremes
 pub mod Laws
+pub mod Positions
+pub mod Moving
+pub mod Searching
+pub mod Stub

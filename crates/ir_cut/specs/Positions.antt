@@ -1,0 +1,38 @@
+-- Positions of the threads of a guest with the trace of one of its runs.
+use Rattle.std.specs.Prelude.{◌≡◌, ℕ, ◌≤◌, List, length}
+use Rattle.std.specs.List.{slice_index_or}
+use Rattle.ir_thread.specs.Machine.{Machine}
+use Rattle.ir_thread.specs.State as thread
+use Rattle.ir_flat.specs.Flat.{start_flat, tables, machine}
+use Rattle.ir_flat.specs.Run.{State, Step}
+use Rattle.ir_fit.specs.Cuts.{Cut, IsCut, Consistent}
+use Rattle.ir_fit.specs.Fit.{FittedTrace, IsRunOf}
+use Rattle.ir_cut.specs.Extremes.{IsLeast, IsGreatest}
+
+-- what the guest's threads do
+abbrev pub machine_of : FittedTrace → Machine thread.State
+machine_of f = machine (start_flat f.guest f.recorded.budget)
+
+-- where its runs start
+abbrev pub start_of : FittedTrace → State thread.State
+start_of f = tables (start_flat f.guest f.recorded.budget)
+
+-- a fact of each complete run of the guest that has the trace
+abbrev pub EachRun : FittedTrace → (List Step → Type 0) → Type 0
+EachRun f P = (run : List Step) → IsRunOf f.guest f.recorded run → P run
+
+-- the position of each thread; 0 where there is no such thread
+abbrev pub cut_of : List ℕ → Cut
+cut_of ps t = slice_index_or ps t 0
+
+-- these positions are a consistent cut
+abbrev pub IsConsistentCut : FittedTrace → List ℕ → Type 0
+IsConsistentCut f ps = EachRun f (λ run. IsCut (machine_of f) (start_of f) run (cut_of ps) × Consistent (machine_of f) (start_of f) run (cut_of ps))
+
+-- the consistent cut at or above ps with thread t at k or more that lies below every other such
+abbrev pub IsLeastCut : FittedTrace → List ℕ → ℕ → ℕ → List ℕ → Type 0
+IsLeastCut f ps t k qs = (length qs ≡ length f.guest.entries) × EachRun f (λ run. IsLeast (machine_of f) (start_of f) run (cut_of ps) t k (cut_of qs))
+
+-- the consistent cut at or below ps with thread t at k or less that lies above every other such
+abbrev pub IsGreatestCut : FittedTrace → List ℕ → ℕ → ℕ → List ℕ → Type 0
+IsGreatestCut f ps t k qs = (length qs ≡ length f.guest.entries) × EachRun f (λ run. IsGreatest (machine_of f) (start_of f) run (cut_of ps) t k (cut_of qs))

@@ -1,0 +1,111 @@
+-- Positions on the way to the least and the greatest consistent cut.
+use Rattle.std.specs.Prelude.{◌≡◌, ℕ, suc, ◌-◌, ◌<◌, ◌≤◌, List, length, slice_get, Some}
+use Rattle.ir_thread.specs.Marks.{Mark, In, Out}
+use Rattle.ir_thread.specs.declared.ask.Access.{Access}
+use Rattle.ir_flat.specs.Run.{Step, count}
+use Rattle.ir_log.specs.Logging.{mark_of}
+use Rattle.ir_log.specs.declared.event.Event.{Event}
+use Rattle.ir_trace.specs.Recorded.{IsRecorded}
+use Rattle.ir_trace.specs.Told.{recorded_thread}
+use Rattle.ir_fit.specs.Coherent.{sum_below}
+use Rattle.ir_fit.specs.Cuts.{Tells, Needs, Cut, IsCut, Consistent}
+use Rattle.ir_fit.specs.Fit.{FittedTrace, HasRun}
+use Rattle.ir_fit.specs.Places.{placed_at}
+use Rattle.ir_fit.specs.declared.leave.Leave.{Leave}
+use Rattle.ir_cut.specs.Positions.{machine_of, start_of, cut_of}
+
+-- there is a run with the trace, and the trace is within its limits
+pub record IsFitted (f : FittedTrace) : Type 0 where
+  pub run : HasRun f
+  pub within : IsRecorded f.recorded
+
+-- the steps that tell so are inside the cut
+abbrev pub AreInside : FittedTrace → List Step → (Mark → Type 0) → Cut → Type 0
+AreInside f run P c = (t i : ℕ) (k : Mark) → Tells (machine_of f) (start_of f) run t i k → P k → i < c t
+
+-- the steps that tell so are outside
+abbrev pub AreOutside : FittedTrace → List Step → (Mark → Type 0) → Cut → Type 0
+AreOutside f run P c = (t i : ℕ) (k : Mark) → Tells (machine_of f) (start_of f) run t i k → P k → c t ≤ i
+
+-- the least positions at or above the old ones with the steps that tell so inside
+pub record RaisedFor (f : FittedTrace) (run : List Step) (P : Mark → Type 0) (old new : List ℕ) : Type 0 where
+  pub size : length new ≡ length old
+  pub above : (u : ℕ) → cut_of old u ≤ cut_of new u
+  pub inside : AreInside f run P (cut_of new)
+  pub least : (c : Cut) → ((u : ℕ) → cut_of old u ≤ c u) → AreInside f run P c → (u : ℕ) → cut_of new u ≤ c u
+
+-- the greatest positions at or below the old ones with the steps that tell so outside
+pub record LoweredFor (f : FittedTrace) (run : List Step) (P : Mark → Type 0) (old new : List ℕ) : Type 0 where
+  pub size : length new ≡ length old
+  pub below : (u : ℕ) → cut_of new u ≤ cut_of old u
+  pub outside : AreOutside f run P (cut_of new)
+  pub greatest : (c : Cut) → ((u : ℕ) → c u ≤ cut_of old u) → AreOutside f run P c → (u : ℕ) → c u ≤ cut_of new u
+
+-- what an entry that tells k needs
+abbrev pub NeededBy : Mark → Mark → Type 0
+NeededBy k told = Needs told k
+
+-- what needs a leave
+abbrev pub Needing : Leave → Mark → Type 0
+Needing l told = Needs (Out l.object l.access l.version) told
+
+-- an entry of object o at version v
+abbrev pub IsEntryAt : ℕ → ℕ → Mark → Type 0
+IsEntryAt o v told = (a : Access) × (l : ℕ) × (told ≡ In o a v l)
+
+-- on the way from ps up to the least cut with thread t at k or more: no position is above that cut's, and what the first so many events of each thread need is inside
+pub record Rising (f : FittedTrace) (ps : List ℕ) (t k : ℕ) (qs next : List ℕ) (run : List Step) : Type 0 where
+  pub above : (u : ℕ) → cut_of ps u ≤ cut_of qs u
+  pub reaches : k ≤ cut_of qs t
+  pub cut : IsCut (machine_of f) (start_of f) run (cut_of qs)
+  pub least : (c : Cut) → IsCut (machine_of f) (start_of f) run c → Consistent (machine_of f) (start_of f) run c → ((u : ℕ) → cut_of ps u ≤ c u) → k ≤ c t → (u : ℕ) → cut_of qs u ≤ c u
+  pub met : (u e : ℕ) (x : Event) → e < cut_of next u → slice_get (recorded_thread f.recorded u).events e ≡ Some x → AreInside f run (NeededBy (mark_of x)) (cut_of qs)
+
+-- on the way from ps down to the greatest cut with thread t at k or less: no position is below that cut's, and what needs the leaves of each thread but the first so many is outside
+pub record Falling (f : FittedTrace) (ps : List ℕ) (t k : ℕ) (qs next : List ℕ) (run : List Step) : Type 0 where
+  pub below : (u : ℕ) → cut_of qs u ≤ cut_of ps u
+  pub reaches : cut_of qs t ≤ k
+  pub greatest : (c : Cut) → IsCut (machine_of f) (start_of f) run c → Consistent (machine_of f) (start_of f) run c → ((u : ℕ) → c u ≤ cut_of ps u) → c t ≤ k → (u : ℕ) → c u ≤ cut_of qs u
+  pub unmet : (u e : ℕ) (l : Leave) → cut_of next u ≤ e → slice_get (placed_at f.placed u).leaves e ≡ Some l → AreOutside f run (Needing l) (cut_of qs)
+
+-- the event of thread u that comes next, behind the first so many, is no step of the cut
+abbrev pub NoneBelow : FittedTrace → List ℕ → List ℕ → ℕ → Type 0
+NoneBelow f qs next u = (i : ℕ) → slice_get (placed_at f.placed u).entries (cut_of next u) ≡ Some i → cut_of qs u ≤ i
+
+-- the last of the first so many leaves of thread u is a step of the cut
+abbrev pub NoneAbove : FittedTrace → List ℕ → List ℕ → ℕ → Type 0
+NoneAbove f qs next u = (e : ℕ) (l : Leave) → e < cut_of next u → slice_get (placed_at f.placed u).leaves e ≡ Some l → l.position < cut_of qs u
+
+-- its next event is a step of the cut
+abbrev pub HasBelow : FittedTrace → List ℕ → List ℕ → ℕ → Type 0
+HasBelow f qs next u = (i : ℕ) × (slice_get (placed_at f.placed u).entries (cut_of next u) ≡ Some i) × (i < cut_of qs u)
+
+-- the last of the first so many leaves of thread u is no step of the cut
+abbrev pub HasAbove : FittedTrace → List ℕ → List ℕ → ℕ → Type 0
+HasAbove f qs next u = (e : ℕ) × (l : Leave) × (cut_of next u ≡ suc e) × (slice_get (placed_at f.placed u).leaves e ≡ Some l) × (cut_of qs u ≤ l.position)
+
+-- the first n events of thread u are steps of the cut
+abbrev pub AreFirst : FittedTrace → List ℕ → ℕ → ℕ → Type 0
+AreFirst f ps u n = (e i : ℕ) → e < n → slice_get (placed_at f.placed u).entries e ≡ Some i → i < cut_of ps u
+
+-- no leave of thread u behind the first n is, and there are so many
+pub record AreRest (f : FittedTrace) (ps : List ℕ) (u n : ℕ) : Type 0 where
+  pub some : n ≤ length (placed_at f.placed u).leaves
+  pub outside : (e : ℕ) (l : Leave) → n ≤ e → slice_get (placed_at f.placed u).leaves e ≡ Some l → cut_of ps u ≤ l.position
+
+-- each thread has so many leaves
+pub record AreLeaves (f : FittedTrace) (next : List ℕ) : Type 0 where
+  pub each : length next ≡ length f.guest.entries
+  pub some : (t : ℕ) → t < length f.guest.entries → cut_of next t ≤ length (placed_at f.placed t).leaves
+
+-- what the steps of thread t in the cut need is in it
+abbrev pub IsClosed : FittedTrace → List Step → Cut → ℕ → Type 0
+IsClosed f run c t = (i : ℕ) (k : Mark) → Tells (machine_of f) (start_of f) run t i k → i < c t → AreInside f run (NeededBy k) c
+
+-- how many events are behind the first so many of each thread
+abbrev pub events_left : FittedTrace → List ℕ → ℕ
+events_left f next = sum_below (length f.guest.entries) (λ t. length (placed_at f.placed t).entries - cut_of next t)
+
+-- how many leaves these are together
+abbrev pub leaves_left : List ℕ → ℕ
+leaves_left next = sum_below (length next) (cut_of next)

@@ -1,0 +1,26 @@
+//! The logs of a fitted trace.
+
+ghost use Rattle.std.specs.Prelude.{◌≡◌, ◌<◌, length};
+ghost use Rattle.ir_trace.specs.Told.{recorded_thread};
+ghost use Rattle.ir_fit.specs.Places.{placed_at};
+ghost use Rattle.ir_cut.specs.Searching.{IsFitted};
+
+use ir_fit::Fitted;
+use ir_log::Event;
+
+// What thread t logged, an event for each of its entries' positions.
+pub fn log_of(fitted: &Fitted, t: usize) -> &[Event]
+    requires { t < length fitted.now.guest.entries }
+    ensures value { result.now ≡ (recorded_thread fitted.now.recorded t).events }
+    ensures size { length result.now ≡ length (placed_at fitted.now.placed t).entries }
+    ensures fitted { IsFitted fitted.now }
+{
+    fitted.trace().threads()[t].log().events()
+}
+
+// There is a run with the trace, and the trace is within its limits.
+pub fn known(fitted: &Fitted)
+    ensures { IsFitted fitted.now }
+{
+    fitted.trace().threads();
+}

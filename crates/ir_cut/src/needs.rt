@@ -1,0 +1,110 @@
+//! What the entries of a cut need, and what needs its leaves.
+
+ghost use Rattle.std.specs.Prelude.{◌≡◌, ◌<◌, ℕ, length, IsTrue, ◌↔◌};
+ghost use Rattle.ir_thread.specs.Marks.{In};
+ghost use Rattle.ir_thread.specs.declared.ask.Access.TheVariants.{Reading};
+ghost use Rattle.ir_log.specs.Logging.{mark_of};
+ghost use Rattle.ir_cut.specs.Positions.{EachRun, cut_of};
+ghost use Rattle.ir_cut.specs.Searching.{AreInside, IsEntryAt, IsFitted, NeededBy, Needing, RaisedFor, LoweredFor};
+
+use crate::moving::{are_inside, lower, raise};
+use crate::place::{Place, entries_at, leaves_at};
+use ir_fit::{Fitted, Leave};
+use ir_log::Event;
+use ir_thread::Access;
+
+// Whether the leave that made the version is inside. Nobody made the first.
+fn is_made(fitted: &Fitted, positions: &[u64], object: u8, version: u32) -> bool
+    requires fitted { IsFitted fitted.now }
+    requires size { length positions.now ≡ length fitted.now.guest.entries }
+    ensures { IsTrue result ↔ EachRun fitted.now (λ run. AreInside fitted.now run (NeededBy (In object Reading version 0)) (cut_of positions.now)) }
+{
+    match version.checked_sub(1) {
+        None => true,
+        Some(before) => {
+            let places = leaves_at(fitted, object, Access::Writing, before, &[]);
+            are_inside(positions, places)
+        }
+    }
+}
+
+// Whether what the event needs is inside.
+pub fn are_met(fitted: &Fitted, positions: &[u64], event: Event) -> bool
+    requires fitted { IsFitted fitted.now }
+    requires size { length positions.now ≡ length fitted.now.guest.entries }
+    ensures { IsTrue result ↔ EachRun fitted.now (λ run. AreInside fitted.now run (NeededBy (mark_of event)) (cut_of positions.now)) }
+{
+    match event {
+        Event::Answer(..) => true,
+        Event::Read { object, version } => is_made(fitted, positions, object, version),
+        Event::Write {
+            object,
+            version,
+            ..
+        } => {
+            is_made(fitted, positions, object, version)
+                && are_inside(positions, leaves_at(fitted, object, Access::Reading, version, &[]))
+        }
+    }
+}
+
+// The positions are raised until the leave that made the version is inside.
+fn raise_to_maker(fitted: &Fitted, positions: &mut Vec<u64>, object: u8, version: u32)
+    requires fitted { IsFitted fitted.now }
+    requires size { length positions.old.items ≡ length fitted.now.guest.entries }
+    ensures raised { EachRun fitted.now (λ run. RaisedFor fitted.now run (NeededBy (In object Reading version 0)) positions.old.items positions.new.items) }
+    ensures size { length positions.new.items ≡ length positions.old.items }
+{
+    if let Some(before) = version.checked_sub(1) {
+        raise(positions, leaves_at(fitted, object, Access::Writing, before, &[]));
+    }
+}
+
+// The positions are raised until what the event needs is inside, and no further.
+pub fn raise_for(fitted: &Fitted, positions: &mut Vec<u64>, event: Event)
+    requires fitted { IsFitted fitted.now }
+    requires size { length positions.old.items ≡ length fitted.now.guest.entries }
+    ensures raised { EachRun fitted.now (λ run. RaisedFor fitted.now run (NeededBy (mark_of event)) positions.old.items positions.new.items) }
+    ensures size { length positions.new.items ≡ length positions.old.items }
+{
+    match event {
+        Event::Answer(..) => {}
+        Event::Read { object, version } => raise_to_maker(fitted, positions, object, version),
+        Event::Write {
+            object,
+            version,
+            ..
+        } => {
+            raise_to_maker(fitted, positions, object, version);
+            raise(positions, leaves_at(fitted, object, Access::Reading, version, &[]));
+        }
+    }
+}
+
+// The positions are lowered until the entries at the version are outside.
+fn lower_from(fitted: &Fitted, positions: &mut Vec<u64>, object: u8, version: u32)
+    requires fitted { IsFitted fitted.now }
+    requires size { length positions.old.items ≡ length fitted.now.guest.entries }
+    ensures lowered { EachRun fitted.now (λ run. LoweredFor fitted.now run (IsEntryAt object version) positions.old.items positions.new.items) }
+    ensures size { length positions.new.items ≡ length positions.old.items }
+{
+    lower(positions, entries_at(fitted, object, Access::Reading, version, &[]));
+    lower(positions, entries_at(fitted, object, Access::Writing, version, &[]));
+}
+
+// The positions are lowered until what needs the leave is outside, and no further.
+pub fn lower_for(fitted: &Fitted, positions: &mut Vec<u64>, leave: Leave)
+    requires fitted { IsFitted fitted.now }
+    requires size { length positions.old.items ≡ length fitted.now.guest.entries }
+    ensures lowered { EachRun fitted.now (λ run. LoweredFor fitted.now run (Needing leave) positions.old.items positions.new.items) }
+    ensures size { length positions.new.items ≡ length positions.old.items }
+{
+    match leave.access {
+        Access::Reading => lower(positions, entries_at(fitted, leave.object, Access::Writing, leave.version, &[])),
+        Access::Writing => {
+            if let Some(made) = leave.version.checked_add(1) {
+                lower_from(fitted, positions, leave.object, made);
+            }
+        }
+    }
+}
