@@ -8,7 +8,7 @@ ghost use Rattle.ir_fit.specs.Visits.{IsListing, all_entered, all_left, OnlyEntr
 use crate::leave::Leave;
 use crate::place::Place;
 use crate::places::Places;
-use crate::visiting::{entered, left};
+use crate::visiting::{entered, left, rooms};
 use crate::visits::Visits;
 use ir_image::Image;
 use ir_thread::Access;
@@ -45,8 +45,9 @@ impl Fitted {
         requires { HasRun (record { guest = image; recorded = trace; placed = places.items }) }
         ensures { IfOk result (λ f. f ≡ record { guest = image; recorded = trace; placed = places.items }) }
     {
-        let entered = entered(alloc, &trace, &places)?;
-        let left = left(alloc, &places)?;
+        let rooms = rooms(&trace);
+        let entered = entered(alloc, &rooms, &trace, &places)?;
+        let left = left(alloc, &rooms, &places)?;
         Ok(Fitted {
             image,
             trace,

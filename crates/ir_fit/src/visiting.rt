@@ -25,13 +25,6 @@ fn count_entries(rooms: &mut Rooms, events: &[Event]) {
     }
 }
 
-// Counts leaves.
-fn count_leaves(rooms: &mut Rooms, leaves: &[Leave]) {
-    for leave in leaves {
-        rooms.add(leave.object, leave.access);
-    }
-}
-
 // One more event of the thread, logged at this position.
 fn add_entry(visits: &mut Visits, thread: u8, event: Event, position: u64) -> Result<(), AllocError>
     ensures { OnOk result (AddsAll visits.old visits.new (enter_if thread event position [])) }
@@ -87,8 +80,9 @@ fn add_leaves(visits: &mut Visits, thread: u8, leaves: &[Leave]) -> Result<(), A
     Ok(())
 }
 
-// How many entries the trace has.
-fn entry_rooms(trace: &Trace) -> Rooms {
+// How many entries the trace has of each object. In a whole run there are as many leaves, since each thread leaves what it
+// entered, at its end if not before.
+pub fn rooms(trace: &Trace) -> Rooms {
     let mut rooms = Rooms::new();
     for thread in trace.threads() {
         count_entries(&mut rooms, thread.log().events());
@@ -96,25 +90,21 @@ fn entry_rooms(trace: &Trace) -> Rooms {
     rooms
 }
 
-// How many leaves there are.
-fn leave_rooms(places: &[Places]) -> Rooms {
-    let mut rooms = Rooms::new();
-    for thread in places {
-        count_leaves(&mut rooms, thread.leaves());
-    }
-    rooms
-}
-
-/// The entries of all threads.
+/// The entries of all threads, with room for so many.
 ///
 /// # Errors
 /// Want of memory.
-pub fn entered(alloc: Global, trace: &Trace, places: &[Places]) -> Result<Visits, AllocError>
+pub fn entered(
+    alloc: Global,
+    rooms: &Rooms,
+    trace: &Trace,
+    places: &[Places],
+) -> Result<Visits, AllocError>
     requires threads { length places.now ≤ length trace.now.threads }
     requires each { (t : ℕ) → t < length places.now → length (recorded_thread trace.now t).events ≤ length (placed_at places.now t).entries }
     ensures { IfOk result (IsListing (all_entered trace.now places.now)) }
 {
-    let mut visits = Visits::new(alloc, &entry_rooms(trace))?;
+    let mut visits = Visits::new(alloc, rooms)?;
     let threads = trace.threads();
     for t in 0..places.len() {
         add_entries(
@@ -128,15 +118,15 @@ pub fn entered(alloc: Global, trace: &Trace, places: &[Places]) -> Result<Visits
     Ok(visits)
 }
 
-/// The leaves of all threads.
+/// The leaves of all threads, with room for so many.
 ///
 /// # Errors
 /// Want of memory.
-pub fn left(alloc: Global, places: &[Places]) -> Result<Visits, AllocError>
+pub fn left(alloc: Global, rooms: &Rooms, places: &[Places]) -> Result<Visits, AllocError>
     requires { length places.now ≤ 8 }
     ensures { IfOk result (IsListing (all_left places.now)) }
 {
-    let mut visits = Visits::new(alloc, &leave_rooms(places))?;
+    let mut visits = Visits::new(alloc, rooms)?;
     for t in 0..places.len() {
         add_leaves(&mut visits, t as u8, places[t].leaves())?;
     }
