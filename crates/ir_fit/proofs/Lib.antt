@@ -25,3 +25,6 @@ pub mod Breaks
 pub mod Seen
 pub mod Placed
 pub mod Moves
+pub mod ByVersion
+pub mod Listed
+pub mod Found

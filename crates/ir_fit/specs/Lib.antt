@@ -12,3 +12,4 @@ pub mod Counting
 pub mod Ahead
 pub mod Places
 pub mod Follower
+pub mod Visits

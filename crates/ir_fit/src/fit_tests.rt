@@ -144,7 +144,7 @@ fn code_and_budget_are_the_trace_s(rt: HostRuntime) -> Result<(), Fail> {
 }
 
 // Enters object 0 for reading, and then for writing.
-const READ_AND_WRITE: [u32; 11] = [
+pub const READ_AND_WRITE: [u32; 11] = [
     FIRST_OBJECT,
     ENTER_READ,
     ECALL,
@@ -259,7 +259,7 @@ fn events_and_leaves_have_their_positions(rt: HostRuntime) -> Result<(), Fail> {
 }
 
 // One thread enters and leaves object 0 and then 1, the other 1 and then 0.
-const CROSSED: [u32; 24] = [
+pub const CROSSED: [u32; 24] = [
     FIRST_OBJECT,
     ENTER_WRITE,
     ECALL,
@@ -287,7 +287,7 @@ const CROSSED: [u32; 24] = [
 ];
 
 // Their trace, by the versions that the first and the second thread enter first and then.
-fn crossed_trace(first: [u8; 2], second: [u8; 2]) -> [u8; 90] {
+pub fn crossed_trace(first: [u8; 2], second: [u8; 2]) -> [u8; 90] {
     let [a, b] = first;
     let [c, d] = second;
     [

@@ -1,13 +1,19 @@
 //! A guest with the trace of one of its runs.
 
-ghost use Rattle.std.specs.Prelude.{◌≡◌, ◌<◌, length};
+ghost use Rattle.std.specs.Prelude.{◌≡◌, ◌<◌, length, IfOk};
 ghost use Rattle.ir_fit.specs.Fit.{FittedTrace, HasRun};
 ghost use Rattle.ir_fit.specs.Places.{placed_at};
+ghost use Rattle.ir_fit.specs.Visits.{IsListing, all_entered, all_left, OnlyEntries, AllEntries, OnlyLeaves, AllLeaves};
 
 use crate::leave::Leave;
+use crate::place::Place;
 use crate::places::Places;
+use crate::visiting::{entered, left, rooms};
+use crate::visits::Visits;
 use ir_image::Image;
+use ir_thread::Access;
 use ir_trace::Trace;
+use std::alloc::{AllocError, Global};
 use std::marker::Model;
 
 /// A guest, a trace that a run of it has, and where each thread's events and leaves stand among its steps.
@@ -16,6 +22,8 @@ pub struct Fitted {
     image: Image,
     trace: Trace,
     places: Vec<Places>,
+    entered: Visits,
+    left: Visits,
 }
 
 impl Model for Fitted {
@@ -23,20 +31,30 @@ impl Model for Fitted {
 
     ghost view = { λ f. record { guest = f.image; recorded = f.trace; placed = f.places.items } };
 
-    ghost invariant = { λ f. HasRun (record { guest = f.image; recorded = f.trace; placed = f.places.items }) };
+    ghost invariant = { λ f. HasRun (record { guest = f.image; recorded = f.trace; placed = f.places.items }) × IsListing (all_entered f.trace f.places.items) f.entered × IsListing (all_left f.places.items) f.left };
 }
 
 impl Fitted {
     // The guest, the trace that one of its runs has, and the positions in this run.
-    pub fn new(image: Image, trace: Trace, places: Vec<Places>) -> Fitted
+    pub fn new(
+        alloc: Global,
+        image: Image,
+        trace: Trace,
+        places: Vec<Places>,
+    ) -> Result<Fitted, AllocError>
         requires { HasRun (record { guest = image; recorded = trace; placed = places.items }) }
-        ensures { result ≡ record { guest = image; recorded = trace; placed = places.items } }
+        ensures { IfOk result (λ f. f ≡ record { guest = image; recorded = trace; placed = places.items }) }
     {
-        Fitted {
+        let rooms = rooms(&trace);
+        let entered = entered(alloc, &rooms, &trace, &places)?;
+        let left = left(alloc, &rooms, &places)?;
+        Ok(Fitted {
             image,
             trace,
             places,
-        }
+            entered,
+            left,
+        })
     }
 
     /// The guest.
@@ -71,5 +89,25 @@ impl Fitted {
         ensures within { HasRun self.now }
     {
         self.places[t].leaves()
+    }
+    /// The steps by which threads entered the object for such access at this version. None, where the guest has no such
+    /// object or the run no such entry. The search takes the logarithm of the object's entries for such access.
+    pub fn entries_at(&self, object: u8, access: Access, version: u32) -> &[Place]
+        ensures only { OnlyEntries self.now object access version result.now }
+        ensures all { AllEntries self.now object access version result.now }
+        ensures within { HasRun self.now }
+    {
+        self.entered.at(object, access, version)
+    }
+
+    /// The steps by which threads left the object after such access at this version, those after a thread's end among
+    /// them. None, where the guest has no such object or the run no such leave. The search takes the logarithm of the
+    /// object's leaves after such access.
+    pub fn leaves_at(&self, object: u8, access: Access, version: u32) -> &[Place]
+        ensures only { OnlyLeaves self.now object access version result.now }
+        ensures all { AllLeaves self.now object access version result.now }
+        ensures within { HasRun self.now }
+    {
+        self.left.at(object, access, version)
     }
 }

@@ -70,5 +70,5 @@ pub fn fit(alloc: Global, image: Image, trace: Trace) -> Result<Fitted, FitErr>
         return Err(FitErr::Refused(Verdict::Threads(verdicts)));
     }
     let Follower { trace, places, .. } = follower;
-    Ok(Fitted::new(image, trace, places))
+    Ok(Fitted::new(alloc, image, trace, places)?)
 }

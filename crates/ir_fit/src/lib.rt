@@ -22,6 +22,8 @@ mod header;
 mod laws;
 mod leave;
 mod look;
+mod object_places;
+mod place;
 mod places;
 #[cfg(test)]
 mod plain_fit;
@@ -30,6 +32,10 @@ mod plain_tests;
 mod readiness;
 mod verdict;
 mod version_counts;
+mod visiting;
+mod visits;
+#[cfg(test)]
+mod visits_tests;
 
 pub use cause::{Cause, HeaderCause};
 pub use coherence::coherent;
@@ -42,4 +48,5 @@ pub use laws::{
     own_trace_coherent, trace_determines,
 };
 pub use leave::Leave;
+pub use place::Place;
 pub use verdict::{ThreadVerdict, Verdict};

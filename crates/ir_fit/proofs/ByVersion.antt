@@ -1,0 +1,198 @@
+-- Lists of steps by object and version.
+use Rattle.std.proofs.Common.{◌≡◌, ℕ, suc, zero, ◌+◌, ◌-◌, ◌<◌, ◌≤◌, ◌^◌, Bool, true, false, ◌&&◌, eqb, ltb, leb, leb-true, leb-false, ltb-true, ltb-false, eq-eqb, ne_eqb, inl, inr, List, [], ◌∷◌, ◌++◌, length, take, drop, get_or, slice_set, replicate, refl, sym, ap, ◌∙◌, subst, arith, add-one, append-nil, append_assoc}
+use Rattle.std.specs.List.{Contains, AllWithin}
+use Rattle.std.specs.List.Sorted.{IsPermutation, IsNonDecreasingBy, IsPartitionPoint, IsPartitionedBy}
+use Rattle.std.proofs.lemmas.Bool.{cases_lt, cases_eq}
+use Rattle.std.proofs.lemmas.List.{length-drop, length-take-le, length-set, length-replicate, take_all, get_or-take, get_or-drop, get_or-set_same, get_or-set_other, get_or-replicate, get_or_past, get_or_read, map_more}
+use Rattle.std.proofs.lemmas.List.Sorted.{IsPartitionedBy-leb, IsPermutation-refl}
+use Rattle.ir_thread.specs.declared.ask.Access.{Access}
+use Rattle.ir_thread.specs.declared.ask.Access.TheVariants.{Reading, Writing}
+use Rattle.ir_flat.specs.Run.{join_if}
+use Rattle.ir_flat.proofs.Append.{join_append}
+use Rattle.ir_log.specs.declared.event.Event.{Event}
+use Rattle.ir_log.specs.declared.event.Event.TheVariants.{Answer, Read, Write}
+use Rattle.ir_fit.specs.Visits.{Visit, left_by, of_threads, enter_if, entered_by, same_access, picked, Listing, HasLists, listed, added, AddsAll, AreSorted, IsInOrder, none_listed, IsListing}
+use Rattle.ir_fit.specs.declared.leave.Leave.{Leave}
+use Rattle.ir_fit.specs.declared.place.Place.{Place}
+
+-- ---- the steps at one version of a list in the order of versions
+
+rest_is : (xs : List Place) (i : ℕ) → take (length xs - i) (drop i xs) ≡ drop i xs
+rest_is xs i = take_all (length xs - i) (drop i xs) (omega (arith, length-drop i xs))
+
+rest_rises : (xs : List Place) (i : ℕ) → IsNonDecreasingBy (λ (p : Place). p.version) xs → IsNonDecreasingBy (λ (p : Place). p.version) (drop i xs)
+rest_rises xs i up j k d le l = rw (get_or-drop i xs j d, get_or-drop i xs k d) (up (i + j) (i + k) d (omega (arith, le)) (omega (arith, l, length-drop i xs)))
+
+only_at : (xs : List Place) (i n v : ℕ) → n ≤ length (drop i xs) → AllWithin (λ y. ltb y.version v ≡ false) xs i (length xs) → AllWithin (λ y. leb y.version v ≡ true) (drop i xs) 0 n
+    → (p : Place) → Contains (take n (drop i xs)) p → Contains xs p × (p.version ≡ v)
+only_at xs i n v le from to p h =
+    let k : ℕ = h.0 in
+    let kn : k < n = omega (arith, h.1, length-take-le n (drop i xs) le) in
+    let here : get_or (drop i xs) k p ≡ p = sym (get_or-take n (drop i xs) k p kn) ∙ h.2 in
+    let there : get_or xs (i + k) p ≡ p = sym (get_or-drop i xs k p) ∙ here in
+    let within : i + k < length xs = omega (arith, kn, le, length-drop i xs) in
+    let low : v ≤ p.version = ltb-false p.version v (subst (λ (y : Place). ltb y.version v ≡ false) there (from (i + k) p (omega arith) within)) in
+    let high : p.version ≤ v = leb-true p.version v (subst (λ (y : Place). leb y.version v ≡ true) here (to k p (omega arith) kn)) in
+    ((i + k, within, there), omega (arith, low, high))
+
+all_at : (xs : List Place) (i n v : ℕ) → n ≤ length (drop i xs) → AllWithin (λ y. ltb y.version v ≡ true) xs 0 i → AllWithin (λ y. leb y.version v ≡ false) (drop i xs) n (length (drop i xs))
+    → (p : Place) → Contains xs p → p.version ≡ v → Contains (take n (drop i xs)) p
+all_at xs i n v le before behind p h e = elim (cases_lt h.0 i) [
+  | inl l ↦ absurd (let low = ltb-true p.version v (subst (λ (y : Place). ltb y.version v ≡ true) h.2 (before h.0 p (omega arith) l)) in omega (arith, low, e))
+  | inr from ↦
+      let j : ℕ = h.0 - i in
+      let sum : i + j ≡ h.0 = omega (arith, from) in
+      let there : get_or (drop i xs) j p ≡ p = get_or-drop i xs j p ∙ ap (λ k. get_or xs k p) sum ∙ h.2 in
+      let within : j < length (drop i xs) = omega (arith, h.1, from, length-drop i xs) in
+      elim (cases_lt j n) [
+        | inl l ↦ (j, omega (arith, l, length-take-le n (drop i xs) le), get_or-take n (drop i xs) j p l ∙ there)
+        | inr past ↦ absurd (let high = leb-false p.version v (subst (λ (y : Place). leb y.version v ≡ false) there (behind j p past within)) in omega (arith, high, e))
+      ]
+]
+
+-- the steps between where those below the version end and where those at it end
+pub at_version : (xs ys : List Place) (i n v : ℕ) → xs ≡ ys → n ≤ length (take (length xs - i) (drop i xs)) → IsPartitionPoint (λ (y : Place). ltb y.version v ≡ true) (λ y. ltb y.version v ≡ false) xs i
+    → IsPartitionPoint (λ (y : Place). leb y.version v ≡ true) (λ y. leb y.version v ≡ false) (take (length xs - i) (drop i xs)) n
+    → ((p : Place) → Contains (take n (take (length xs - i) (drop i xs))) p → Contains ys p × (p.version ≡ v)) × ((p : Place) → Contains ys p → p.version ≡ v → Contains (take n (take (length xs - i) (drop i xs))) p)
+at_version xs ys i n v same le first second =
+    let rest = rest_is xs i in
+    let fits : n ≤ length (drop i xs) = subst (λ l. n ≤ length l) rest le in
+    let behind : IsPartitionPoint (λ (y : Place). leb y.version v ≡ true) (λ y. leb y.version v ≡ false) (drop i xs) n = subst (λ l. IsPartitionPoint (λ (y : Place). leb y.version v ≡ true) (λ y. leb y.version v ≡ false) l n) rest second in (
+      λ p h. subst (λ l. Contains l p × (p.version ≡ v)) same (only_at xs i n v fits first.1 behind.0 p (subst (λ l. Contains (take n l) p) rest h)),
+      λ p h e. subst (λ l. Contains (take n l) p) (sym rest) (all_at xs i n v fits first.0 behind.1 p (subst (λ l. Contains l p) (sym same) h) e),
+    )
+
+pub rest_parted : (xs : List Place) (i v : ℕ) → IsNonDecreasingBy (λ (p : Place). p.version) xs → IsPartitionedBy (λ (y : Place). leb y.version v) (take (length xs - i) (drop i xs))
+rest_parted xs i v up = subst (IsPartitionedBy (λ (y : Place). leb y.version v)) (sym (rest_is xs i)) (IsPartitionedBy-leb (λ (p : Place). p.version) (drop i xs) v (rest_rises xs i up))
+
+-- ---- lists that are sorted in turn
+
+-- the lists below n have their steps in order, and the others are as they were
+pub record SortedBelow (n : ℕ) (old new : List (List Place)) : Type 0 where
+  pub size : length new ≡ length old
+  pub below : (o : ℕ) → o < n → IsPermutation (get_or old o []) (get_or new o []) × IsNonDecreasingBy (λ (p : Place). p.version) (get_or new o [])
+  pub rest : (o : ℕ) → n ≤ o → get_or new o [] ≡ get_or old o []
+
+pub none_sorted : (xs : List (List Place)) → SortedBelow 0 xs xs
+none_sorted xs = record { size = refl; below = λ o l. absurd (omega (arith, l)); rest = λ o l. refl }
+
+pub one_sorted : (n : ℕ) (old new : List (List Place)) (x y : List Place) → n < length new → x ≡ get_or new n x → IsPermutation x y → IsNonDecreasingBy (λ (p : Place). p.version) y → SortedBelow n old new → SortedBelow (n + 1) old (slice_set new n y)
+one_sorted n old new x y l read same up h = record {
+  size = length-set new n y ∙ h.size;
+  below = λ o lo. elim (cases_eq o n) [
+    | inl here ↦
+        let was : x ≡ get_or old o [] = get_or_read new n x l read [] ∙ ap (λ k. get_or new k []) (sym here) ∙ h.rest o (omega (arith, here)) in
+        let is : get_or (slice_set new n y) o [] ≡ y = ap (λ k. get_or (slice_set new n y) k []) here ∙ get_or-set_same new n y [] l in (
+          subst (λ z. IsPermutation (get_or old o []) z) (sym is) (subst (λ z. IsPermutation z y) was same),
+          subst (IsNonDecreasingBy (λ (p : Place). p.version)) (sym is) up,
+        )
+    | inr ne ↦
+        let is : get_or (slice_set new n y) o [] ≡ get_or new o [] = get_or-set_other new n o y [] ne in
+        let old_one = h.below o (omega (arith, lo, ne)) in (
+          subst (λ z. IsPermutation (get_or old o []) z) (sym is) old_one.0,
+          subst (IsNonDecreasingBy (λ (p : Place). p.version)) (sym is) old_one.1,
+        )
+  ];
+  rest = λ o lo. get_or-set_other new n o y [] (λ e. absurd (omega (arith, lo, e))) ∙ h.rest o (omega (arith, lo));
+}
+
+pub all_sorted : (n : ℕ) (old new : List (List Place)) → SortedBelow n old new → length old ≤ n → AreSorted old new
+all_sorted n old new h l o = elim (cases_lt o n) [
+  | inl lo ↦ h.below o lo
+  | inr past ↦
+      let none : get_or new o [] ≡ [] = get_or_past new o [] (omega (arith, h.size, l, past)) in (
+        subst (λ z. IsPermutation (get_or old o []) z) (sym (h.rest o past)) (IsPermutation-refl (get_or old o [])),
+        subst (IsNonDecreasingBy (λ (p : Place). p.version)) (sym none) (λ i j d le lt. absurd (omega (arith, lt))),
+      )
+]
+
+-- ---- one more step
+
+set_adds : (xs : List (List Place)) (o q : ℕ) (p : Place) → q < length xs → get_or (slice_set xs o (get_or xs o [] ++ p ∷ [])) q [] ≡ get_or xs q [] ++ join_if (eqb o q) p []
+set_adds xs o q p l = elim (cases_eq o q) [
+  | inl here ↦ subst (λ k. get_or (slice_set xs o (get_or xs o [] ++ p ∷ [])) k [] ≡ get_or xs k [] ++ join_if (eqb o k) p []) here
+      (get_or-set_same xs o (get_or xs o [] ++ p ∷ []) [] (omega (arith, l, here)) ∙ ap (λ b. get_or xs o [] ++ join_if b p []) (sym (eq-eqb o o refl)))
+  | inr ne ↦ get_or-set_other xs o q (get_or xs o [] ++ p ∷ []) [] (λ e. ne (sym e)) ∙ sym (append-nil (get_or xs q [])) ∙ ap (λ b. get_or xs q [] ++ join_if b p []) (sym (ne_eqb o q ne))
+]
+
+join_both : (b : Bool) (p : Place) → join_if (b && true) p [] ≡ join_if b p []
+join_both true p = refl
+join_both false p = refl
+
+join_none : (b : Bool) (p : Place) → join_if (b && false) p [] ≡ []
+join_none true p = refl
+join_none false p = refl
+
+pub adds_one : (x : Listing) → HasLists x → (o : ℕ) (a : Access) (p : Place) → AddsAll x (added x o a p) ((o, a, p) ∷ [])
+adds_one x h o Reading p q l Reading = set_adds x.reading o q p (omega (arith, l, h.reading)) ∙ ap (λ z. get_or x.reading q [] ++ z) (sym (join_both (eqb o q) p))
+adds_one x h o Reading p q l Writing = sym (append-nil (get_or x.writing q [])) ∙ ap (λ z. get_or x.writing q [] ++ z) (sym (join_none (eqb o q) p))
+adds_one x h o Writing p q l Reading = sym (append-nil (get_or x.reading q [])) ∙ ap (λ z. get_or x.reading q [] ++ z) (sym (join_none (eqb o q) p))
+adds_one x h o Writing p q l Writing = set_adds x.writing o q p (omega (arith, l, h.writing)) ∙ ap (λ z. get_or x.writing q [] ++ z) (sym (join_both (eqb o q) p))
+
+-- ---- more steps
+
+pub picked_append : (o : ℕ) (a : Access) (xs ys : List Visit) → picked o a (xs ++ ys) ≡ picked o a xs ++ picked o a ys
+picked_append o a [] ys = refl
+picked_append o a (x ∷ xs) ys = ap (join_if (eqb x.0 o && same_access x.1 a) x.2) (picked_append o a xs ys) ∙ join_append (eqb x.0 o && same_access x.1 a) x.2 (picked o a xs) (picked o a ys)
+
+pub adds_none : (x : Listing) → AddsAll x x []
+adds_none x o l a = sym (append-nil (listed x o a))
+
+pub adds_more : (x y z : Listing) (vs ws : List Visit) → AddsAll x y vs → AddsAll y z ws → AddsAll x z (vs ++ ws)
+adds_more x y z vs ws h k o l a =
+    k o l a ∙ ap (λ xs. xs ++ picked o a ws) (h o l a) ∙ append_assoc (listed x o a) (picked o a vs) (picked o a ws) ∙ ap (λ xs. listed x o a ++ xs) (sym (picked_append o a vs ws))
+
+enter_front : (t : ℕ) (e : Event) (k : ℕ) (vs ws : List Visit) → enter_if t e k (vs ++ ws) ≡ enter_if t e k vs ++ ws
+enter_front t (Answer kind value) k vs ws = refl
+enter_front t (Read o v) k vs ws = refl
+enter_front t (Write o v r) k vs ws = refl
+
+entered_next : (t : ℕ) (es : List Event) (ks : List ℕ) (i : ℕ) (d : Event) → i < length es → i < length ks → entered_by t (take (suc i) es) ks ≡ entered_by t (take i es) ks ++ enter_if t (get_or es i d) (get_or ks i 0) []
+entered_next t [] ks i d l m = absurd (omega (arith, l))
+entered_next t (e ∷ es) [] i d l m = absurd (omega (arith, m))
+entered_next t (e ∷ es) (k ∷ ks) zero d l m = refl
+entered_next t (e ∷ es) (k ∷ ks) (suc i) d l m = ap (enter_if t e k) (entered_next t es ks i d (omega (arith, l)) (omega (arith, m))) ∙ enter_front t e k (entered_by t (take i es) ks) (enter_if t (get_or es i d) (get_or ks i 0) [])
+
+-- one more event of a log
+pub adds_event : (x y z : Listing) (t : ℕ) (es : List Event) (ks : List ℕ) (i : ℕ) (d : Event) → i < length es → i < length ks → AddsAll x y (entered_by t (take i es) ks) → AddsAll y z (enter_if t (get_or es i d) (get_or ks i 0) []) → AddsAll x z (entered_by t (take (i + 1) es) ks)
+adds_event x y z t es ks i d l m old new =
+    let next : entered_by t (take (i + 1) es) ks ≡ entered_by t (take i es) ks ++ enter_if t (get_or es i d) (get_or ks i 0) [] = ap (λ n. entered_by t (take n es) ks) (add-one i) ∙ entered_next t es ks i d l m in
+    subst (AddsAll x z) (sym next) (adds_more x y z (entered_by t (take i es) ks) (enter_if t (get_or es i d) (get_or ks i 0) []) old new)
+
+-- one more leave
+pub adds_leave : (x y z : Listing) (t : ℕ) (ls : List Leave) (i : ℕ) (d : Leave) → i < length ls → HasLists y → AddsAll x y (left_by t (take i ls))
+    → z ≡ added y (get_or ls i d).object (get_or ls i d).access (record { position = (get_or ls i d).position; version = (get_or ls i d).version; thread = t }) → AddsAll x z (left_by t (take (i + 1) ls))
+adds_leave x y z t ls i d l sized old new =
+    let f : Leave → Visit = λ g. (g.object, g.access, record { position = g.position; version = g.version; thread = t }) in
+    let e : Leave = get_or ls i d in
+    let next : left_by t (take (i + 1) ls) ≡ left_by t (take i ls) ++ f e ∷ [] = map_more f ls i d l in
+    subst (AddsAll x z) (sym next) (adds_more x y z (left_by t (take i ls)) (f e ∷ []) old (subst (λ w. AddsAll y w (f e ∷ [])) (sym new) (adds_one y sized e.object e.access (record { position = e.position; version = e.version; thread = t }))))
+
+-- one more thread
+pub adds_thread : (x y z : Listing) (n : ℕ) (f : ℕ → List Visit) → AddsAll x y (of_threads n f) → AddsAll y z (f n) → AddsAll x z (of_threads (n + 1) f)
+adds_thread x y z n f old new = subst (λ k. AddsAll x z (of_threads k f)) (sym (add-one n)) (adds_more x y z (of_threads n f) (f n) old new)
+
+-- ---- the whole
+
+abbrev no_places : List Place
+no_places = []
+
+no_lists : (n o : ℕ) → get_or (replicate n no_places) o [] ≡ []
+no_lists n o = elim (cases_lt o n) [
+  | inl l ↦ get_or-replicate n o [] [] l
+  | inr past ↦ get_or_past (replicate n []) o [] (omega (arith, past, length-replicate n no_places))
+]
+
+none_at : (o : ℕ) (a : Access) → listed none_listed o a ≡ []
+none_at o Reading = no_lists (2 ^ 8) o
+none_at o Writing = no_lists (2 ^ 8) o
+
+in_order : (x y : Listing) → IsInOrder x y → (o : ℕ) (a : Access) → IsPermutation (listed x o a) (listed y o a) × IsNonDecreasingBy (λ (p : Place). p.version) (listed y o a)
+in_order x y h o Reading = h.0 o
+in_order x y h o Writing = h.1 o
+
+pub is_listing : (x y : Listing) (vs : List Visit) → AddsAll none_listed x vs → IsInOrder x y → IsListing vs y
+is_listing x y vs h sorted = record {
+  same = λ o l a. subst (λ z. IsPermutation z (listed y o a)) (h o l a ∙ ap (λ z. z ++ picked o a vs) (none_at o a)) (in_order x y sorted o a).0;
+  sorted = λ o a. (in_order x y sorted o a).1;
+}

@@ -1,0 +1,7 @@
+use Rattle.ir_trace.specs.Told.{recorded_thread}
+use Rattle.ir_fit.specs.Places.{placed_at}
+use Rattle.ir_fit.specs.Visits.{AddsAll, none_listed, of_threads, entered_by}
+use Rattle.ir_fit.proofs.visiting.entered.Given as goal
+
+abbrev pub invariant-loop-t : goal.invariant-loop-t
+invariant-loop-t l = AddsAll none_listed l.visits (of_threads l.t (λ t. entered_by t (recorded_thread l.trace t).events (placed_at l.places t).entries))

@@ -1,0 +1,6 @@
+use Rattle.ir_fit.specs.Places.{placed_at}
+use Rattle.ir_fit.specs.Visits.{AddsAll, none_listed, of_threads, left_by}
+use Rattle.ir_fit.proofs.visiting.left.Given as goal
+
+abbrev pub invariant-loop-t : goal.invariant-loop-t
+invariant-loop-t l = AddsAll none_listed l.visits (of_threads l.t (λ t. left_by t (placed_at l.places t).leaves))

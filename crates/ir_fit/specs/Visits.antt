@@ -1,0 +1,128 @@
+-- The steps by which objects are entered and left, by object, access and version.
+use Rattle.std.specs.Prelude.{◌≡◌, ℕ, zero, suc, ◌<◌, Bool, true, false, ◌&&◌, eqb, List, [], ◌∷◌, ◌++◌, map, slice_set, length, replicate, ◌^◌}
+use Rattle.std.specs.List.{Contains, slice_index_or}
+use Rattle.std.specs.List.Sorted.{IsPermutation, IsNonDecreasingBy}
+use Rattle.ir_thread.specs.Marks.{Mark, In, Out}
+use Rattle.ir_thread.specs.declared.ask.Access.{Access}
+use Rattle.ir_thread.specs.declared.ask.Access.TheVariants.{Reading, Writing}
+use Rattle.ir_flat.specs.Flat.{start_flat, tables, machine}
+use Rattle.ir_flat.specs.Run.{join_if}
+use Rattle.ir_log.specs.declared.event.Event.{Event}
+use Rattle.ir_log.specs.declared.event.Event.TheVariants.{Answer, Read, Write}
+use Rattle.ir_trace.specs.Recorded.{Recorded}
+use Rattle.ir_trace.specs.Told.{recorded_thread}
+use Rattle.ir_fit.specs.Cuts.{Tells}
+use Rattle.ir_fit.specs.Fit.{FittedTrace, HasRun}
+use Rattle.ir_fit.specs.Places.{Placed, placed_at}
+use Rattle.ir_fit.specs.declared.leave.Leave.{Leave}
+use Rattle.ir_fit.specs.declared.place.Place.{Place}
+
+-- ---- what the steps of a run tell
+
+-- step k of thread t tells this in the run that is kept
+abbrev pub TellsIn : (f : FittedTrace) → HasRun f → ℕ → ℕ → Mark → Type 0
+TellsIn f h t k told = Tells (machine (start_flat f.guest f.recorded.budget)) (tables (start_flat f.guest f.recorded.budget)) h.run t k told
+
+-- each of these is a step by which object o was left after such access at version v
+abbrev pub OnlyLeaves : FittedTrace → ℕ → Access → ℕ → List Place → Type 0
+OnlyLeaves f o a v ps = (h : HasRun f) (p : Place) → Contains ps p → (p.version ≡ v) × TellsIn f h p.thread p.position (Out o a v)
+
+-- each such step is one of these
+abbrev pub AllLeaves : FittedTrace → ℕ → Access → ℕ → List Place → Type 0
+AllLeaves f o a v ps = (h : HasRun f) (t k : ℕ) → TellsIn f h t k (Out o a v) → Contains ps (record { position = k; version = v; thread = t })
+
+-- each of these is a step by which object o was entered for such access at version v
+abbrev pub OnlyEntries : FittedTrace → ℕ → Access → ℕ → List Place → Type 0
+OnlyEntries f o a v ps = (h : HasRun f) (p : Place) → Contains ps p → (p.version ≡ v) × ((l : ℕ) × TellsIn f h p.thread p.position (In o a v l))
+
+-- each such step is one of these
+abbrev pub AllEntries : FittedTrace → ℕ → Access → ℕ → List Place → Type 0
+AllEntries f o a v ps = (h : HasRun f) (t k l : ℕ) → TellsIn f h t k (In o a v l) → Contains ps (record { position = k; version = v; thread = t })
+
+-- ---- how they are listed
+
+-- an object, what it was entered for, and the step
+abbrev pub Visit : Type 0
+Visit = ℕ × Access × Place
+
+-- the leaves of thread t
+abbrev pub left_by : ℕ → List Leave → List Visit
+left_by t ls = map (λ l. (l.object, l.access, record { position = l.position; version = l.version; thread = t })) ls
+
+-- an event of thread t that is logged at position k, and the entries behind it
+abbrev pub enter_if : ℕ → Event → ℕ → List Visit → List Visit
+enter_if t (Answer kind value) k vs = vs
+enter_if t (Read object version) k vs = (object, Reading, record { position = k; version = version; thread = t }) ∷ vs
+enter_if t (Write object version readers) k vs = (object, Writing, record { position = k; version = version; thread = t }) ∷ vs
+
+-- the entries of thread t, by its log and the positions of its events
+abbrev pub entered_by : ℕ → List Event → List ℕ → List Visit
+entered_by t [] ks = []
+entered_by t (e ∷ es) [] = []
+entered_by t (e ∷ es) (k ∷ ks) = enter_if t e k (entered_by t es ks)
+
+-- those of the threads below n
+abbrev pub of_threads : ℕ → (ℕ → List Visit) → List Visit
+of_threads zero f = []
+of_threads (suc n) f = of_threads n f ++ f n
+
+-- all leaves
+abbrev pub all_left : List Placed → List Visit
+all_left ps = of_threads (length ps) (λ t. left_by t (placed_at ps t).leaves)
+
+-- all entries
+abbrev pub all_entered : Recorded → List Placed → List Visit
+all_entered r ps = of_threads (length ps) (λ t. entered_by t (recorded_thread r t).events (placed_at ps t).entries)
+
+-- whether two accesses are the same
+abbrev pub same_access : Access → Access → Bool
+same_access Reading Reading = true
+same_access Reading Writing = false
+same_access Writing Reading = false
+same_access Writing Writing = true
+
+-- the steps among these of object o and access a
+abbrev pub picked : ℕ → Access → List Visit → List Place
+picked o a [] = []
+picked o a (x ∷ xs) = join_if (eqb x.0 o && same_access x.1 a) x.2 (picked o a xs)
+
+-- lists of steps for each object, for reading and for writing
+pub record Listing : Type 0 where
+  pub reading : List (List Place)
+  pub writing : List (List Place)
+
+-- a list for each number that an object may have
+pub record HasLists (x : Listing) : Type 0 where
+  pub reading : length x.reading ≡ 2 ^ 8
+  pub writing : length x.writing ≡ 2 ^ 8
+
+-- the list for object o and access a
+abbrev pub listed : Listing → ℕ → Access → List Place
+listed x o Reading = slice_index_or x.reading o []
+listed x o Writing = slice_index_or x.writing o []
+
+-- one more step for object o and access a
+abbrev pub added : Listing → ℕ → Access → Place → Listing
+added x o Reading p = record x { reading = slice_set x.reading o (slice_index_or x.reading o [] ++ p ∷ []) }
+added x o Writing p = record x { writing = slice_set x.writing o (slice_index_or x.writing o [] ++ p ∷ []) }
+
+-- the list for each object has the same steps, in the order of their versions
+abbrev pub AreSorted : List (List Place) → List (List Place) → Type 0
+AreSorted old new = (o : ℕ) → IsPermutation (slice_index_or old o []) (slice_index_or new o []) × IsNonDecreasingBy (λ (p : Place). p.version) (slice_index_or new o [])
+
+-- so of both accesses
+abbrev pub IsInOrder : Listing → Listing → Type 0
+IsInOrder old new = AreSorted old.reading new.reading × AreSorted old.writing new.writing
+
+-- no step of any object
+abbrev pub none_listed : Listing
+none_listed = record { reading = replicate (2 ^ 8) []; writing = replicate (2 ^ 8) [] }
+
+-- these visits are listed behind those that were
+abbrev pub AddsAll : Listing → Listing → List Visit → Type 0
+AddsAll old new vs = (o : ℕ) → o < 2 ^ 8 → (a : Access) → listed new o a ≡ listed old o a ++ picked o a vs
+
+-- they are listed, in the order of their versions
+pub record IsListing (vs : List Visit) (x : Listing) : Type 0 where
+  pub same : (o : ℕ) → o < 2 ^ 8 → (a : Access) → IsPermutation (picked o a vs) (listed x o a)
+  pub sorted : (o : ℕ) (a : Access) → IsNonDecreasingBy (λ (p : Place). p.version) (listed x o a)

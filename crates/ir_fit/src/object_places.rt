@@ -1,0 +1,63 @@
+//! The steps by which one object was entered, or left, for one kind of access.
+
+ghost use Rattle.std.specs.Prelude.{◌≡◌, ◌++◌, [], ◌∷◌, List, IfOk, OnOk};
+ghost use Rattle.std.specs.List.{Contains};
+ghost use Rattle.std.specs.List.Sorted.{IsPermutation, IsNonDecreasingBy};
+ghost use Rattle.ir_fit.specs.declared.place.Place.{Place};
+
+use crate::place::Place;
+use std::alloc::{AllocError, Global};
+use std::marker::Model;
+
+/// The steps by which one object was entered, or left, for one kind of access.
+#[derive(Drop)]
+pub struct ObjectPlaces {
+    places: Vec<Place>,
+}
+
+impl Model for ObjectPlaces {
+    ghost Value = { List Place };
+
+    ghost view = { λ l. l.places.items };
+}
+
+impl ObjectPlaces {
+    // None, with room for so many.
+    pub fn new(alloc: Global, room: usize) -> Result<ObjectPlaces, AllocError>
+        ensures { IfOk result (λ l. l ≡ []) }
+    {
+        Ok(ObjectPlaces {
+            places: Vec::with_capacity(alloc, room)?,
+        })
+    }
+
+    // One more.
+    pub fn push(&mut self, place: Place) -> Result<(), AllocError>
+        ensures { OnOk result (self.new ≡ self.old ++ place ∷ []) }
+    {
+        self.places.push(place)?;
+        Ok(())
+    }
+
+    // Brings them into the order of their versions.
+    pub fn sort(&mut self) -> Result<(), AllocError>
+        ensures permutation { OnOk result (IsPermutation self.old self.new) }
+        ensures sorted { OnOk result (IsNonDecreasingBy (λ p. p.version) self.new) }
+    {
+        self.places.sort_by_key(|place| place.version)?;
+        Ok(())
+    }
+
+    // Those at this version, where they are in order.
+    pub fn at(&self, version: u32) -> &[Place]
+        requires { IsNonDecreasingBy (λ (p : Place). p.version) self.now }
+        ensures told { (p : Place) → Contains result.now p → Contains self.now p × (p.version ≡ version) }
+        ensures all { (p : Place) → Contains self.now p → p.version ≡ version → Contains result.now p }
+    {
+        let places = self.places.as_slice();
+        let first = places.partition_point(|place| place.version < version);
+        let rest = &places[first..];
+        let count = rest.partition_point(|place| place.version <= version);
+        &rest[..count]
+    }
+}
