@@ -1,22 +1,20 @@
 -- Whether what the steps of a cut need is in it.
-use Rattle.std.proofs.Common.{◌≡◌, ℕ, ◌+◌, ◌<◌, ◌≤◌, ◌⊎◌, ◌↔◌, Bool, true, false, List, length, Some, refl, sym, ap, ◌∙◌, subst, arith, inl, inr, IsTrue}
+use Rattle.std.proofs.Common.{◌≡◌, ℕ, ◌+◌, ◌<◌, ◌≤◌, ◌↔◌, Bool, true, false, List, length, Some, refl, sym, ap, ◌∙◌, subst, arith, inl, inr, IsTrue}
 use Rattle.std.specs.Prelude.{slice_get}
 use Rattle.std.specs.List.{slice_index_or}
 use Rattle.std.proofs.lemmas.Bool.{cases_lt}
 use Rattle.std.proofs.lemmas.List.{get_or_past}
 use Rattle.std.proofs.lemmas.Option.{slice_get_within, slice_get-get_or}
-use Rattle.ir_thread.specs.Marks.{Mark}
-use Rattle.ir_flat.specs.Run.{Step, count}
 use Rattle.ir_log.specs.Logging.{mark_of}
 use Rattle.ir_log.specs.declared.event.Event.{Event}
 use Rattle.ir_trace.specs.Told.{recorded_thread}
-use Rattle.ir_fit.specs.Cuts.{Tells, Needs, IsCut, Consistent}
-use Rattle.ir_fit.specs.Fit.{FittedTrace, IsRunOf}
+use Rattle.ir_fit.specs.Cuts.{Tells, Needs}
+use Rattle.ir_fit.specs.Fit.{FittedTrace, HasRun}
 use Rattle.ir_fit.specs.Places.{placed_at}
 use Rattle.ir_cut.specs.Positions.{machine_of, start_of, cut_of, EachRun, IsConsistentCut}
 use Rattle.ir_cut.specs.Searching.{IsFitted, AreInside, NeededBy, IsClosed}
-use Rattle.ir_cut.proofs.Again.{teller, no_trail}
-use Rattle.ir_cut.proofs.Listing.{Listed, listed}
+use Rattle.ir_cut.proofs.Again.{teller}
+use Rattle.ir_cut.proofs.Listing.{listed}
 use Rattle.ir_cut.proofs.Searched.{entered, same_element}
 
 -- what the first n events of thread t need is inside
@@ -62,8 +60,11 @@ pub not_closed : (f : FittedTrace) → IsFitted f → (qs ks : List ℕ) (es : L
     → slice_get es n ≡ Some x → IsTrue b ↔ EachRun f (λ run. AreInside f run (NeededBy (mark_of x)) (cut_of qs)) → b ≡ false → IsTrue false ↔ EachRun f (λ run. IsClosed f run (cut_of qs) t)
 not_closed f fit qs ks es t n k x b there list log l read inside event test is = (
   (λ h. absurd (cc h)),
-  (λ closed. absurd (cc (is, test.1 (λ run ok.
-      closed run ok k (mark_of x) ((listed f fit.run run ok).event t n k x there (ap (λ z. slice_get z n) (sym log) ∙ event) (ap (λ z. slice_get z n) (sym list) ∙ slice_get-get_or ks n 0 l ∙ ap Some (sym read))) inside)))),
+  (λ closed. absurd (cc (
+    is,
+    test.1 (λ run ok.
+        closed run ok k (mark_of x) ((listed f fit.run run ok).event t n k x there (ap (λ z. slice_get z n) (sym log) ∙ event) (ap (λ z. slice_get z n) (sym list) ∙ slice_get-get_or ks n 0 l ∙ ap Some (sym read))) inside),
+  ))),
 )
 
 -- one more
@@ -81,14 +82,14 @@ one_met f qs es t n x b log event test is met e y l at = elim (cases_lt e n) [
 abbrev pub FirstClosed : FittedTrace → List ℕ → ℕ → Type 0
 FirstClosed f qs n = (t : ℕ) → t < n → (cut_of qs t ≤ (recorded_thread f.recorded t).steps) × EachRun f (λ run. IsClosed f run (cut_of qs) t)
 
-pub all_closed : (f : FittedTrace) (qs : List ℕ) → length qs ≡ length f.guest.entries → FirstClosed f qs (length qs) → IsConsistentCut f qs
-all_closed f qs size first run is = (
+pub all_closed : (f : FittedTrace) → HasRun f → (qs : List ℕ) → length qs ≡ length f.guest.entries → FirstClosed f qs (length qs) → IsConsistentCut f qs
+all_closed f h qs size first run is = (
   (λ t. elim (cases_lt t (length qs)) [
     | inl l ↦ let a = (first t l).0 in let b = is.1.steps t (omega (arith, l, size)) in omega (arith, a, b)
     | inr past ↦ let none : cut_of qs t ≡ 0 = get_or_past qs t 0 past in omega (arith, none)
   ]),
   (λ t i u j a b at says n inside.
-      let there : t < length f.guest.entries = teller f run is t i a at in
+      let there : t < length f.guest.entries = teller f h run is t i a at in
       (first t (omega (arith, there, size))).1 run is i a at inside u j b says n),
 )
 
@@ -118,8 +119,8 @@ within_too f qs t n b steps l test = (
   (λ h. test.1 h.1),
 )
 
-pub all_within : (f : FittedTrace) (qs : List ℕ) (n : ℕ) → length qs ≡ length f.guest.entries → length qs ≤ n → FirstClosed f qs n → IsTrue true ↔ IsConsistentCut f qs
-all_within f qs n size past first = (
-  (λ _. all_closed f qs size (λ t l. first t (omega (arith, l, past)))),
+pub all_within : (f : FittedTrace) → HasRun f → (qs : List ℕ) (n : ℕ) → length qs ≡ length f.guest.entries → length qs ≤ n → FirstClosed f qs n → IsTrue true ↔ IsConsistentCut f qs
+all_within f h qs n size past first = (
+  (λ _. all_closed f h qs size (λ t l. first t (omega (arith, l, past)))),
   (λ _. refl),
 )

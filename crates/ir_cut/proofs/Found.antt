@@ -1,13 +1,8 @@
 -- What the searches find.
-use Rattle.std.proofs.Common.{◌≡◌, ◌≢◌, ℕ, max, min, ◌+◌, ◌<◌, ◌≤◌, List, length, set, refl, sym, ap, ◌∙◌, subst, arith, length-set}
+use Rattle.std.proofs.Common.{◌≡◌, ◌≢◌, ℕ, max, min, ◌<◌, ◌≤◌, List, length, set, sym, ap, ◌∙◌, subst, arith, length-set}
 use Rattle.std.specs.List.{slice_index_or}
-use Rattle.std.specs.Prelude.{slice_get}
-use Rattle.std.proofs.Common.{Some, inl, inr}
-use Rattle.std.proofs.lemmas.Bool.{cases_lt}
 use Rattle.ir_trace.specs.Told.{recorded_thread}
 use Rattle.ir_fit.specs.Fit.{FittedTrace}
-use Rattle.ir_fit.specs.Places.{placed_at}
-use Rattle.ir_fit.specs.declared.leave.Leave.{Leave}
 use Rattle.ir_cut.specs.Positions.{cut_of, EachRun, IsConsistentCut, IsLeastCut, IsGreatestCut}
 use Rattle.ir_cut.specs.Searching.{IsFitted, Rising, Falling, NoneBelow, NoneAbove, AreFirst, AreRest}
 use Rattle.ir_cut.proofs.Listing.{listed, no_leaves}
@@ -33,9 +28,9 @@ least_found f fit ps xs next qs next' t k v w size con there steps copied read m
   (λ run is.
       let inside : t < length ps = omega (arith, there, size) in
       let own = kept_own ps xs t v w copied inside read in
-      rising_over f run is (listed f fit.run run is) ps qs next' t k
-        (rises ps t k (λ run' is'. rising_start f run' is' (listed f fit.run run' is') ps (set xs t w) next t k (con run' is').0 (con run' is').1 there steps
-          (own.0 ∙ most ∙ ap (λ z. max z k) (sym own.1)) (λ u ne. kept_other ps xs t w u copied ne) sizes first) run is) over),
+      rising_over f fit.run run is (listed f fit.run run is) ps qs next' t k
+      (rises ps t k (λ run' is'. rising_start f run' is' (listed f fit.run run' is') ps (set xs t w) next t k (con run' is').0 (con run' is').1 there steps
+      (own.0 ∙ most ∙ ap (λ z. max z k) (sym own.1)) (λ u ne. kept_other ps xs t w u copied ne) sizes first) run is) over),
 )
 
 pub greatest_found : (f : FittedTrace) → IsFitted f → (ps xs next qs next' : List ℕ) (t k v w : ℕ) → length ps ≡ length f.guest.entries → IsConsistentCut f ps → t < length f.guest.entries
@@ -47,7 +42,7 @@ greatest_found f fit ps xs next qs next' t k v w size con there copied read leas
   (λ run is.
       let inside : t < length ps = omega (arith, there, size) in
       let own = kept_own ps xs t v w copied inside read in
-      falling_over f run is (listed f fit.run run is) ps qs next' t k (con run is).0
-        (falls ps t k (λ run' is'. falling_start f run' (listed f fit.run run' is') ps (set xs t w) next t k (con run' is').1 there
-          (own.0 ∙ least ∙ ap (λ z. min z k) (sym own.1)) (λ u ne. kept_other ps xs t w u copied ne) rest (no_leaves f fit.run)) run is) over),
+      falling_over f fit.run run is (listed f fit.run run is) ps qs next' t k (con run is).0
+      (falls ps t k (λ run' is'. falling_start f run' (listed f fit.run run' is') ps (set xs t w) next t k (con run' is').1 there
+      (own.0 ∙ least ∙ ap (λ z. min z k) (sym own.1)) (λ u ne. kept_other ps xs t w u copied ne) rest (no_leaves f fit.run)) run is) over),
 )

@@ -1,9 +1,15 @@
 -- How the steps of a run are listed beside its trace.
-use Rattle.std.proofs.Common.{◌≡◌, ℕ, ◌<◌, ◌≤◌, List, length, Some, None, inl, inr, subst, arith}
+use Rattle.std.proofs.Common.{◌≡◌, ℕ, ◌<◌, List, length, Some, None, inl, inr, ap, ◌∙◌, subst, arith}
 use Rattle.std.proofs.lemmas.Bool.{cases_lt}
+use Rattle.std.specs.List.{slice_index_or}
 use Rattle.std.proofs.lemmas.List.{get_or_past}
+use Rattle.std.proofs.lemmas.Option.{slice_get_within, slice_get-get_or, get_or_from_slice_get}
+use Rattle.ir_log.specs.declared.event.Event.TheVariants.{Read}
+use Rattle.ir_fit.proofs.Listed as kept
+use Rattle.ir_fit.proofs.Listed.{tells_below, entries_long, entry_tells, entry_of, leave_tells, leave_of}
+use Rattle.ir_cut.proofs.Again.{again}
 use Rattle.std.specs.Prelude.{slice_get}
-use Rattle.ir_thread.specs.Marks.{Mark, In, Out}
+use Rattle.ir_thread.specs.Marks.{In, Out}
 use Rattle.ir_thread.specs.declared.ask.Access.{Access}
 use Rattle.ir_flat.specs.Run.{Step}
 use Rattle.ir_log.specs.Logging.{mark_of}
@@ -26,7 +32,40 @@ pub record Listed (f : FittedTrace) (run : List Step) : Type 0 where
   pub fall : (t e d : ℕ) (l r : Leave) → t < length f.guest.entries → e < d → slice_get (placed_at f.placed t).leaves e ≡ Some l → slice_get (placed_at f.placed t).leaves d ≡ Some r → l.position < r.position
 
 pub listed : (f : FittedTrace) → HasRun f → (run : List Step) → IsRunOf f.guest f.recorded run → Listed f run
-listed f h run is = ?
+unfolding again
+listed f h run is =
+    let k : HasRun f = again f h run is in
+    record {
+      sizes = λ t there. entries_long f k t there;
+      event = λ t e i x there at place.
+          let inside = slice_get_within (recorded_thread f.recorded t).events e x at in
+          subst (λ m. Tells (machine_of f) (start_of f) run t i (mark_of m)) (get_or_from_slice_get (recorded_thread f.recorded t).events e x x at)
+          (subst (λ j. Tells (machine_of f) (start_of f) run t j (mark_of (slice_index_or (recorded_thread f.recorded t).events e x))) (get_or_from_slice_get (placed_at f.placed t).entries e i 0 place) (entry_tells f k t there e x inside));
+      entry = λ t i o a v l told.
+          let there = tells_below f k t i (In o a v l) told in
+          let d : Event = Read 0 0 in
+          let e = entry_of f k t i o a v l told in
+          let inside = e.1 in
+          let size = entries_long f k t there in
+          (e.0, slice_index_or (recorded_thread f.recorded t).events e.0 d, slice_get-get_or (placed_at f.placed t).entries e.0 0 (omega (arith, inside, size)) ∙ ap Some e.2, slice_get-get_or (recorded_thread f.recorded t).events e.0 d inside, e.3 d);
+      rise = λ t e d i j there less first second.
+          let up = kept.entries_rise f k t there e d less (slice_get_within (placed_at f.placed t).entries d j second) in
+          let low = get_or_from_slice_get (placed_at f.placed t).entries e i 0 first in
+          let high = get_or_from_slice_get (placed_at f.placed t).entries d j 0 second in
+          omega (arith, up, low, high);
+      left = λ t e l there at.
+          let inside = slice_get_within (placed_at f.placed t).leaves e l at in
+          subst (λ z. Tells (machine_of f) (start_of f) run t z.position (Out z.object z.access z.version)) (get_or_from_slice_get (placed_at f.placed t).leaves e l l at) (leave_tells f k t there e l inside);
+      leave = λ t i o a v told.
+          let e = leave_of f k t i o a v told in
+          let d : Leave = record { position = i; object = o; access = a; version = v } in
+          (e.0, slice_get-get_or (placed_at f.placed t).leaves e.0 d e.1 ∙ ap Some (e.2 d));
+      fall = λ t e d l r there less first second.
+          let up = kept.leaves_rise f k t there e d l less (slice_get_within (placed_at f.placed t).leaves d r second) in
+          let low = ap (λ (z : Leave). z.position) (get_or_from_slice_get (placed_at f.placed t).leaves e l l first) in
+          let high = ap (λ (z : Leave). z.position) (get_or_from_slice_get (placed_at f.placed t).leaves d r l second) in
+          omega (arith, up, low, high);
+    }
 
 -- a leave is of a thread that there is
 pub no_leaves : (f : FittedTrace) → HasRun f → (u e : ℕ) (l : Leave) → slice_get (placed_at f.placed u).leaves e ≡ Some l → u < length f.guest.entries

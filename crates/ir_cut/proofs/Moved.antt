@@ -1,14 +1,13 @@
 -- Positions that are moved for one place after another.
-use Rattle.std.proofs.Common.{◌≡◌, ◌≢◌, ℕ, suc, ◌+◌, ◌<◌, ◌≤◌, ◌^◌, ◌⊎◌, min, max, List, [], ◌∷◌, length, set, Option, Some, None, refl, sym, ap, ◌∙◌, subst, arith, inl, inr, get_or-set_same, get_or-set_other, length-set, le_refl}
+use Rattle.std.proofs.Common.{◌≡◌, ◌≢◌, ℕ, ◌+◌, ◌<◌, ◌≤◌, ◌^◌, min, max, List, length, set, Some, refl, sym, ap, ◌∙◌, subst, arith, inl, inr, get_or-set_same, get_or-set_other, length-set, le_refl}
 use Rattle.std.specs.Prelude.{slice_get}
 use Rattle.std.specs.List.{slice_index_or}
 use Rattle.std.proofs.lemmas.Bool.{cases_eq, cases_lt}
 use Rattle.std.proofs.lemmas.Grind.{get_or_default_zero}
 use Rattle.std.proofs.lemmas.Option.{slice_get-get_or, get_or_from_slice_get}
-use Rattle.ir_fit.specs.Cuts.{Cut}
 use Rattle.ir_cut.specs.Positions.{cut_of}
 use Rattle.ir_cut.specs.Moving.{ArePlaced, EachPlace, IsRaised, IsLowered}
-use Rattle.ir_cut.specs.declared.place.Place.{Place}
+use Rattle.ir_fit.specs.declared.place.Place.{Place}
 
 -- ---- which places come first
 
@@ -102,14 +101,14 @@ pub next_raised : (old cur : List ℕ) (ps : List Place) (n v top : ℕ) → Are
 next_raised old cur ps n v top h r l e is =
     let there : (place_at ps n).thread < length cur = (let a = (placed_there (length old) ps n h l).0 in omega (arith, a, r.size)) in
     raised_more old cur (set cur (place_at ps n).thread top) ps n (place_at ps n) r (slice_get-get_or ps n _ l) there
-        (ap (set cur (place_at ps n).thread) (is ∙ ap (λ z. max z ((place_at ps n).position + 1)) (position_read cur (place_at ps n).thread v there e)))
+    (ap (set cur (place_at ps n).thread) (is ∙ ap (λ z. max z ((place_at ps n).position + 1)) (position_read cur (place_at ps n).thread v there e)))
 
 pub next_lowered : (old cur : List ℕ) (ps : List Place) (n v low : ℕ) → ArePlaced (length old) ps → IsLowered old cur ps n → n < length ps → v ≡ slice_index_or cur (place_at ps n).thread v
     → low ≡ min v (place_at ps n).position → IsLowered old (set cur (place_at ps n).thread low) ps (n + 1)
 next_lowered old cur ps n v low h r l e is =
     let there : (place_at ps n).thread < length cur = (let a = (placed_there (length old) ps n h l).0 in omega (arith, a, r.size)) in
     lowered_more old cur (set cur (place_at ps n).thread low) ps n (place_at ps n) r (slice_get-get_or ps n _ l) there
-        (ap (set cur (place_at ps n).thread) (is ∙ ap (λ z. min z (place_at ps n).position) (position_read cur (place_at ps n).thread v there e)))
+    (ap (set cur (place_at ps n).thread) (is ∙ ap (λ z. min z (place_at ps n).position) (position_read cur (place_at ps n).thread v there e)))
 
 -- whether the next place is inside, and all that were before it
 pub next_inside : (xs : List ℕ) (ps : List Place) (n v : ℕ) → ArePlaced (length xs) ps → n < length ps → v ≡ slice_index_or xs (place_at ps n).thread v → (place_at ps n).position < v

@@ -1,5 +1,5 @@
 -- What entries need, and what needs leaves.
-use Rattle.std.proofs.Common.{◌≡◌, ℕ, suc, ◌+◌, ◌-◌, ◌<◌, ◌≤◌, ◌^◌, ◌⊎◌, ◌↔◌, Bool, true, false, List, length, refl, sym, ap, ◌∙◌, subst, arith, inl, inr, IsTrue}
+use Rattle.std.proofs.Common.{◌≡◌, ℕ, suc, ◌+◌, ◌-◌, ◌<◌, ◌≤◌, ◌^◌, ◌⊎◌, ◌↔◌, Bool, false, List, length, refl, sym, ap, ◌∙◌, subst, arith, inl, inr, IsTrue}
 use Rattle.ir_thread.specs.Marks.{Mark, Quiet, Answer, In, Refused, Out}
 use Rattle.ir_thread.specs.declared.ask.Access.TheVariants.{Reading, Writing}
 use Rattle.ir_thread.specs.declared.ask.EnvKind.{EnvKind}
@@ -12,8 +12,8 @@ use Rattle.ir_fit.specs.declared.leave.Leave.{Leave}
 use Rattle.ir_cut.specs.Moving.{EachPlace, IsRaised, IsLowered}
 use Rattle.ir_cut.specs.Positions.{machine_of, start_of, cut_of, EachRun}
 use Rattle.ir_cut.specs.Searching.{IsFitted, AreInside, RaisedFor, LoweredFor, NeededBy, Needing, IsEntryAt}
-use Rattle.ir_cut.specs.Stub.{OnlyLeaves, AllLeaves, OnlyEntries, AllEntries}
-use Rattle.ir_cut.specs.declared.place.Place.{Place}
+use Rattle.ir_fit.specs.Visits.{OnlyLeaves, AllLeaves, OnlyEntries, AllEntries}
+use Rattle.ir_fit.specs.declared.place.Place.{Place}
 use Rattle.ir_cut.proofs.Sought.{leaves_inside, leaves_raised, entries_lowered, raised_both, raised_same, raised_nothing, lowered_both, lowered_same, lowered_nothing}
 use Rattle.ir_cut.proofs.Again.{entered_word}
 
@@ -151,7 +151,7 @@ pub reader_lowered : (f : FittedTrace) → IsFitted f → (x : Leave) (ps : List
     → EachRun f (λ run. LoweredFor f run (Needing x) old new)
 reader_lowered f k x ps only all old new is r run ok = subst (λ a. LoweredFor f run (Needs (Out x.object a x.version)) old new) (sym is)
     (lowered_same f run (λ z. (l : ℕ) × (z ≡ In x.object Writing x.version l)) (Needs (Out x.object Reading x.version)) (reading_needs x.object x.version) (needs_reading x.object x.version) old new
-        (entries_lowered f k x.object Writing x.version ps only all old new r run ok))
+    (entries_lowered f k x.object Writing x.version ps only all old new r run ok))
 
 -- what needs a leave after writing is an entry at the version that it made
 writing_needs : (o w v : ℕ) → v ≡ w + 1 → (k : Mark) → Needs (Out o Writing w) k → IsEntryAt o v k
@@ -173,7 +173,7 @@ writer_lowered f x v old new is next r run ok = subst (λ a. LoweredFor f run (N
 pub last_lowered : (f : FittedTrace) → IsFitted f → (x : Leave) (xs : List ℕ) → x.access ≡ Writing → (x.version + 1 < 2 ^ 32 → ⊥) → EachRun f (λ run. LoweredFor f run (Needing x) xs xs)
 last_lowered f k x xs is last run ok = subst (λ a. LoweredFor f run (Needs (Out x.object a x.version)) xs xs) (sym is)
     (lowered_nothing f run (Needs (Out x.object Writing x.version))
-      (λ t i m tells n.
-          let e = writing_needs x.object x.version (x.version + 1) refl m n in
-          last (entered_word f k.within run ok t i x.object e.0 (x.version + 1) e.1 (subst (Tells (machine_of f) (start_of f) run t i) e.2 tells)))
-      xs)
+    (λ t i m tells n.
+    let e = writing_needs x.object x.version (x.version + 1) refl m n in
+    last (entered_word f k.run k.within run ok t i x.object e.0 (x.version + 1) e.1 (subst (Tells (machine_of f) (start_of f) run t i) e.2 tells)))
+    xs)

@@ -1,5 +1,5 @@
 -- The way to the least and to the greatest consistent cut.
-use Rattle.std.proofs.Common.{◌≡◌, ◌≢◌, ℕ, zero, suc, max, min, ◌+◌, ◌<◌, ◌≤◌, ◌⊎◌, List, length, set, Some, refl, sym, ap, ◌∙◌, subst, arith, inl, inr, le_refl, get_or-set_same, get_or-set_other}
+use Rattle.std.proofs.Common.{◌≡◌, ◌≢◌, ℕ, max, min, ◌+◌, ◌<◌, ◌≤◌, List, length, Some, refl, sym, ap, ◌∙◌, subst, arith, inl, inr}
 use Rattle.std.specs.Prelude.{slice_get}
 use Rattle.std.specs.List.{slice_index_or}
 use Rattle.std.proofs.lemmas.Bool.{cases_eq, cases_lt}
@@ -13,12 +13,12 @@ use Rattle.ir_log.specs.Logging.{mark_of}
 use Rattle.ir_log.specs.declared.event.Event.{Event}
 use Rattle.ir_trace.specs.Told.{recorded_thread}
 use Rattle.ir_fit.specs.Cuts.{Tells, Needs, Cut, IsCut, Consistent}
-use Rattle.ir_fit.specs.Fit.{FittedTrace, IsRunOf}
+use Rattle.ir_fit.specs.Fit.{FittedTrace, HasRun, IsRunOf}
 use Rattle.ir_fit.specs.Places.{placed_at}
 use Rattle.ir_fit.specs.declared.leave.Leave.{Leave}
 use Rattle.ir_cut.specs.Extremes.{IsLeast, IsGreatest}
 use Rattle.ir_cut.specs.Positions.{machine_of, start_of, cut_of}
-use Rattle.ir_cut.specs.Searching.{AreInside, AreOutside, RaisedFor, LoweredFor, NeededBy, Needing, Rising, Falling, NoneBelow, NoneAbove, HasBelow, HasAbove, AreFirst, AreRest, IsClosed}
+use Rattle.ir_cut.specs.Searching.{AreInside, AreOutside, RaisedFor, LoweredFor, NeededBy, Needing, Rising, Falling, NoneBelow, NoneAbove, HasBelow, AreFirst, AreRest}
 use Rattle.ir_cut.proofs.Again.{teller, place_within}
 use Rattle.ir_cut.proofs.Listing.{Listed}
 
@@ -145,12 +145,12 @@ behind f run list qs next t e i there none place l = elim (cases_lt e (cut_of ne
       ]
 ]
 
-pub rising_over : (f : FittedTrace) (run : List Step) → IsRunOf f.guest f.recorded run → Listed f run → (ps qs next : List ℕ) (t k : ℕ) → Rising f ps t k qs next run → ((u : ℕ) → u < length f.guest.entries → NoneBelow f qs next u)
+pub rising_over : (f : FittedTrace) → HasRun f → (run : List Step) → IsRunOf f.guest f.recorded run → Listed f run → (ps qs next : List ℕ) (t k : ℕ) → Rising f ps t k qs next run → ((u : ℕ) → u < length f.guest.entries → NoneBelow f qs next u)
     → IsLeast (machine_of f) (start_of f) run (cut_of ps) t k (cut_of qs)
-rising_over f run is list ps qs next t k r none = record {
+rising_over f h run is list ps qs next t k r none = record {
   cut = r.cut;
   consistent = λ u i w j a b at says n l.
-      let there : u < length f.guest.entries = teller f run is u i a at in
+      let there : u < length f.guest.entries = teller f h run is u i a at in
       let x = entered b a n in
       let e = list.entry u i x.object x.access x.version x.left (subst (Tells (machine_of f) (start_of f) run u i) x.is at) in
       r.met u e.0 e.1 (behind f run list qs next u e.0 i there (none u there) e.2 l) e.3 w j b says (subst (Needs b) (x.is ∙ sym e.4) n);
@@ -209,12 +209,12 @@ falling_more f run list ps qs qs' next next' t k u x last r there was at far low
   ];
 }
 
-pub falling_over : (f : FittedTrace) (run : List Step) → IsRunOf f.guest f.recorded run → Listed f run → (ps qs next : List ℕ) (t k : ℕ) → IsCut (machine_of f) (start_of f) run (cut_of ps) → Falling f ps t k qs next run → ((u : ℕ) → u < length f.guest.entries → NoneAbove f qs next u)
+pub falling_over : (f : FittedTrace) → HasRun f → (run : List Step) → IsRunOf f.guest f.recorded run → Listed f run → (ps qs next : List ℕ) (t k : ℕ) → IsCut (machine_of f) (start_of f) run (cut_of ps) → Falling f ps t k qs next run → ((u : ℕ) → u < length f.guest.entries → NoneAbove f qs next u)
     → IsGreatest (machine_of f) (start_of f) run (cut_of ps) t k (cut_of qs)
-falling_over f run is list ps qs next t k cut r none = record {
+falling_over f h run is list ps qs next t k cut r none = record {
   cut = λ u. let a = r.below u in let b = cut u in omega (arith, a, b);
   consistent = λ u i w j a b at says n l.
-      let there : w < length f.guest.entries = teller f run is w j b says in
+      let there : w < length f.guest.entries = teller f h run is w j b says in
       let x = left b a n in
       let e = list.leave w j x.object x.access x.version (subst (Tells (machine_of f) (start_of f) run w j) x.is says) in
       elim (cases_lt e.0 (cut_of next w)) [

@@ -1,21 +1,20 @@
 -- Positions that are moved for the steps that tell something.
-use Rattle.std.proofs.Common.{◌≡◌, ℕ, suc, ◌+◌, ◌<◌, ◌≤◌, ◌^◌, ◌⊎◌, ◌↔◌, List, length, Some, refl, sym, ap, ◌∙◌, subst, arith, inl, inr, le_refl}
+use Rattle.std.proofs.Common.{◌≡◌, ℕ, ◌<◌, ◌⊎◌, ◌↔◌, List, length, Some, refl, sym, ◌∙◌, subst, arith, inl, inr, le_refl}
 use Rattle.std.specs.Prelude.{slice_get}
-use Rattle.std.specs.List.{Contains, AllByRecursion}
+use Rattle.std.specs.List.{Contains}
 use Rattle.std.proofs.lemmas.Option.{slice_get_read, slice_get_within, get_or_from_slice_get}
 use Rattle.ir_thread.specs.Marks.{Mark, In, Out}
 use Rattle.ir_thread.specs.declared.ask.Access.{Access}
 use Rattle.ir_flat.specs.Run.{Step, count}
 use Rattle.ir_trace.specs.Recorded.{IsRecorded}
-use Rattle.ir_trace.specs.Told.{recorded_thread}
 use Rattle.ir_fit.specs.Cuts.{Tells, Cut}
 use Rattle.ir_fit.specs.Fit.{FittedTrace, HasRun, IsRunOf}
 use Rattle.ir_fit.proofs.Breaks.{thread_fits}
 use Rattle.ir_cut.specs.Moving.{ArePlaced, EachPlace, IsRaised, IsLowered}
 use Rattle.ir_cut.specs.Positions.{machine_of, start_of, cut_of, EachRun}
-use Rattle.ir_cut.specs.Searching.{IsFitted, AreInside, AreOutside, RaisedFor, LoweredFor}
-use Rattle.ir_cut.specs.Stub.{OnlyLeaves, AllLeaves, OnlyEntries, AllEntries}
-use Rattle.ir_cut.specs.declared.place.Place.{Place}
+use Rattle.ir_cut.specs.Searching.{IsFitted, AreInside, RaisedFor, LoweredFor}
+use Rattle.ir_fit.specs.Visits.{OnlyLeaves, AllLeaves, OnlyEntries, AllEntries}
+use Rattle.ir_fit.specs.declared.place.Place.{Place}
 use Rattle.ir_cut.proofs.Again.{again, teller, place_within}
 
 -- the places are those of the steps of the run that tell so
@@ -25,7 +24,6 @@ pub record AreOf (f : FittedTrace) (run : List Step) (P : Mark → Type 0) (ps :
 
 contained : (ps : List Place) (i : ℕ) (p : Place) → slice_get ps i ≡ Some p → Contains ps p
 contained ps i p e = (i, slice_get_within ps i p e, get_or_from_slice_get ps i p p e)
-
 
 -- ---- the leaves and the entries of an object at a version
 
@@ -45,10 +43,10 @@ entries_are f h o a v ps only all run is = record {
 
 -- ---- each of them can be counted
 
-pub are_placed : (f : FittedTrace) (run : List Step) → IsRunOf f.guest f.recorded run → IsRecorded f.recorded → (P : Mark → Type 0) (ps : List Place) → AreOf f run P ps → ArePlaced (length f.guest.entries) ps
-are_placed f run is recorded P ps of i p l e =
+pub are_placed : (f : FittedTrace) → HasRun f → (run : List Step) → IsRunOf f.guest f.recorded run → IsRecorded f.recorded → (P : Mark → Type 0) (ps : List Place) → AreOf f run P ps → ArePlaced (length f.guest.entries) ps
+are_placed f h run is recorded P ps of i p l e =
     let t = of.only p (contained ps i p e) in
-    let there : p.thread < length f.guest.entries = teller f run is p.thread p.position t.0 t.2 in
+    let there : p.thread < length f.guest.entries = teller f h run is p.thread p.position t.0 t.2 in
     let less : p.position < count (machine_of f) (start_of f) run p.thread = place_within f run p.thread p.position t.0 t.2 in
     let fits = (thread_fits f.recorded recorded p.thread (let same = is.0.threads in omega (arith, same, there))).steps_fit in
     let steps = is.1.steps p.thread there in
@@ -143,11 +141,11 @@ lowered_nothing f run P none xs = record {
 
 pub leaves_placed : (f : FittedTrace) → IsFitted f → (o : ℕ) (a : Access) (v : ℕ) (ps : List Place) → OnlyLeaves f o a v ps → AllLeaves f o a v ps → (n : ℕ) → n ≡ length f.guest.entries → ArePlaced n ps
 leaves_placed f k o a v ps only all n size =
-    subst (λ z. ArePlaced z ps) (sym size) (are_placed f k.run.run k.run.whole k.within (λ b. b ≡ Out o a v) ps (leaves_are f k.run o a v ps only all k.run.run k.run.whole))
+    subst (λ z. ArePlaced z ps) (sym size) (are_placed f k.run k.run.run k.run.whole k.within (λ b. b ≡ Out o a v) ps (leaves_are f k.run o a v ps only all k.run.run k.run.whole))
 
 pub entries_placed : (f : FittedTrace) → IsFitted f → (o : ℕ) (a : Access) (v : ℕ) (ps : List Place) → OnlyEntries f o a v ps → AllEntries f o a v ps → (n : ℕ) → n ≡ length f.guest.entries → ArePlaced n ps
 entries_placed f k o a v ps only all n size =
-    subst (λ z. ArePlaced z ps) (sym size) (are_placed f k.run.run k.run.whole k.within (λ b. (l : ℕ) × (b ≡ In o a v l)) ps (entries_are f k.run o a v ps only all k.run.run k.run.whole))
+    subst (λ z. ArePlaced z ps) (sym size) (are_placed f k.run k.run.run k.run.whole k.within (λ b. (l : ℕ) × (b ≡ In o a v l)) ps (entries_are f k.run o a v ps only all k.run.run k.run.whole))
 
 pub leaves_inside : (f : FittedTrace) → IsFitted f → (o : ℕ) (a : Access) (v : ℕ) (ps : List Place) → OnlyLeaves f o a v ps → AllLeaves f o a v ps → (xs : List ℕ)
     → EachPlace ps (length ps) (λ p. p.position < cut_of xs p.thread) ↔ EachRun f (λ run. AreInside f run (λ b. b ≡ Out o a v) (cut_of xs))

@@ -1,11 +1,10 @@
 -- What the code of the search reads and changes.
-use Rattle.std.proofs.Common.{◌≡◌, ◌≢◌, ℕ, zero, suc, pred, ◌+◌, ◌-◌, ◌<◌, ◌≤◌, ◌⊎◌, Bool, true, false, List, [], ◌∷◌, ◌++◌, length, set, Some, leb, leb-false, ltb, ltb-true, ltb-false, refl, sym, ap, ◌∙◌, subst, arith, inl, inr, get_or-set_same, get_or-set_other, length-set, le_refl}
+use Rattle.std.proofs.Common.{◌≡◌, ◌≢◌, ℕ, zero, suc, ◌+◌, ◌-◌, ◌<◌, ◌≤◌, true, false, List, length, set, Some, leb, leb-false, ltb, ltb-true, ltb-false, refl, sym, ap, ◌∙◌, subst, arith, inl, inr, get_or-set_same, get_or-set_other, length-set, le_refl}
 use Rattle.std.specs.Prelude.{slice_get}
 use Rattle.std.specs.List.{slice_index_or}
 use Rattle.std.proofs.lemmas.Bool.{cases_eq, cases_lt}
 use Rattle.std.proofs.lemmas.Grind.{get_or_default_zero}
-use Rattle.std.proofs.lemmas.Option.{slice_get_within, slice_get-get_or, slice_get_read, get_or_from_slice_get}
-use Rattle.ir_flat.specs.Run.{Step}
+use Rattle.std.proofs.lemmas.Option.{slice_get_within, slice_get-get_or, get_or_from_slice_get}
 use Rattle.ir_log.specs.Logging.{mark_of}
 use Rattle.ir_log.specs.declared.event.Event.{Event}
 use Rattle.ir_trace.specs.Recorded.{Recorded, RecordedThread, IsRecorded}
@@ -13,7 +12,7 @@ use Rattle.ir_trace.specs.Told.{absent, recorded_thread}
 use Rattle.std.specs.List.Sorted.{IsNonDecreasingBy, IsPartitionPoint}
 use Rattle.std.proofs.lemmas.List.{get_or_default}
 use Rattle.ir_fit.specs.Coherent.{sum_below}
-use Rattle.ir_fit.specs.Fit.{FittedTrace, HasRun, IsRunOf}
+use Rattle.ir_fit.specs.Fit.{FittedTrace, HasRun}
 use Rattle.ir_fit.specs.Places.{placed_at}
 use Rattle.ir_fit.specs.declared.leave.Leave.{Leave}
 use Rattle.ir_cut.specs.Positions.{EachRun, cut_of}
@@ -97,7 +96,7 @@ pub fewer_leaves : (f : FittedTrace) (qs next : List ℕ) (t i : ℕ) → AreLea
 fewer_leaves f qs next t i are there above read =
     let last = last_read f qs next t i are there above read in
     subst (λ n. sum_below n (cut_of (set next t (i - 1))) < leaves_left next) (sym (length-set next t (i - 1)))
-        (sum_less (length next) (cut_of (set next t (i - 1))) (cut_of next) t last.1 (let own = own_number next t (i - 1) last.1 in let at = last.0 in omega (arith, own, at)) (λ u ne. other_number next t (i - 1) u ne))
+    (sum_less (length next) (cut_of (set next t (i - 1))) (cut_of next) t last.1 (let own = own_number next t (i - 1) last.1 in let at = last.0 in omega (arith, own, at)) (λ u ne. other_number next t (i - 1) u ne))
 
 pub leaves_still : (f : FittedTrace) (qs next : List ℕ) (t i : ℕ) → AreLeaves f next → t < length f.guest.entries → HasAbove f qs next t → i ≡ slice_index_or next t i → AreLeaves f (set next t (i - 1))
 leaves_still f qs next t i are there above read =

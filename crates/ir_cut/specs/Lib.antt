@@ -3,4 +3,3 @@ pub mod Laws
 pub mod Positions
 pub mod Moving
 pub mod Searching
-pub mod Stub

@@ -2,7 +2,7 @@
 use Rattle.std.specs.Prelude.{◌≡◌, ℕ, ◌+◌, ◌<◌, ◌≤◌, ◌^◌, List, length, slice_get, Some}
 use Rattle.ir_fit.specs.Cuts.{Cut}
 use Rattle.ir_cut.specs.Positions.{cut_of}
-use Rattle.ir_cut.specs.declared.place.Place.{Place}
+use Rattle.ir_fit.specs.declared.place.Place.{Place}
 
 -- a fact of each of the first n places
 abbrev pub EachPlace : List Place → ℕ → (Place → Type 0) → Type 0

@@ -1,5 +1,5 @@
 -- Positions of the threads of a guest with the trace of one of its runs.
-use Rattle.std.specs.Prelude.{◌≡◌, ℕ, ◌≤◌, List, length}
+use Rattle.std.specs.Prelude.{◌≡◌, ℕ, List, length}
 use Rattle.std.specs.List.{slice_index_or}
 use Rattle.ir_thread.specs.Machine.{Machine}
 use Rattle.ir_thread.specs.State as thread

@@ -2,7 +2,7 @@
 use Rattle.std.specs.Prelude.{◌≡◌, ℕ, suc, ◌-◌, ◌<◌, ◌≤◌, List, length, slice_get, Some}
 use Rattle.ir_thread.specs.Marks.{Mark, In, Out}
 use Rattle.ir_thread.specs.declared.ask.Access.{Access}
-use Rattle.ir_flat.specs.Run.{Step, count}
+use Rattle.ir_flat.specs.Run.{Step}
 use Rattle.ir_log.specs.Logging.{mark_of}
 use Rattle.ir_log.specs.declared.event.Event.{Event}
 use Rattle.ir_trace.specs.Recorded.{IsRecorded}

@@ -6,7 +6,7 @@ ghost use Rattle.ir_cut.specs.Positions.{EachRun, IsConsistentCut, cut_of};
 ghost use Rattle.ir_cut.specs.Searching.{IsClosed, IsFitted};
 
 use crate::cut::Cut;
-use crate::logs::{known, log_of};
+use crate::logs::{known, log_of, steps_of};
 use crate::needs::are_met;
 use ir_fit::Fitted;
 
@@ -37,7 +37,7 @@ fn is_within(fitted: &Fitted, positions: &[u64], t: usize) -> bool
     requires thread { t < length fitted.now.guest.entries }
     ensures { IsTrue result ↔ (cut_of positions.now t ≤ (recorded_thread fitted.now.recorded t).steps) × EachRun fitted.now (λ run. IsClosed fitted.now run (cut_of positions.now) t) }
 {
-    positions[t] <= fitted.trace().threads()[t].steps() && is_closed(fitted, positions, t)
+    positions[t] <= steps_of(fitted, t) && is_closed(fitted, positions, t)
 }
 
 // Whether all threads are so.

@@ -22,7 +22,11 @@ fn count_before(leaves: &[Leave], position: u64) -> usize
 }
 
 // How many leaves of each thread are steps of the cut.
-fn leaves_inside(alloc: Global, fitted: &Fitted, positions: &[u64]) -> Result<Vec<usize>, AllocError>
+fn leaves_inside(
+    alloc: Global,
+    fitted: &Fitted,
+    positions: &[u64],
+) -> Result<Vec<usize>, AllocError>
     requires fitted { IsFitted fitted.now }
     requires size { length positions.now ≡ length fitted.now.guest.entries }
     ensures size { IfOk result (λ next. length next.items ≡ length fitted.now.guest.entries) }
@@ -104,7 +108,13 @@ fn fall(fitted: &Fitted, positions: &mut Vec<u64>, next: &mut Vec<usize>)
 ///
 /// # Errors
 /// Want of memory.
-pub fn greatest(alloc: Global, fitted: &Fitted, cut: &Cut, t: usize, k: u64) -> Result<Cut, AllocError>
+pub fn greatest(
+    alloc: Global,
+    fitted: &Fitted,
+    cut: &Cut,
+    t: usize,
+    k: u64,
+) -> Result<Cut, AllocError>
     requires size { length cut.now ≡ length fitted.now.guest.entries }
     requires consistent { IsConsistentCut fitted.now cut.now }
     requires thread { t < length fitted.now.guest.entries }

@@ -8,8 +8,9 @@ mod laws;
 mod logs;
 mod moving;
 mod needs;
-mod place;
 mod rising;
+#[cfg(test)]
+mod tests;
 
 pub use consistency::consistent;
 pub use cut::Cut;

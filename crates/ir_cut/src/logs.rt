@@ -18,6 +18,14 @@ pub fn log_of(fitted: &Fitted, t: usize) -> &[Event]
     fitted.trace().threads()[t].log().events()
 }
 
+// How many steps thread t takes.
+pub fn steps_of(fitted: &Fitted, t: usize) -> u64
+    requires { t < length fitted.now.guest.entries }
+    ensures { result ≡ (recorded_thread fitted.now.recorded t).steps }
+{
+    fitted.trace().threads()[t].steps()
+}
+
 // There is a run with the trace, and the trace is within its limits.
 pub fn known(fitted: &Fitted)
     ensures { IsFitted fitted.now }

@@ -4,7 +4,7 @@ ghost use Rattle.std.specs.Prelude.{◌≡◌, ◌<◌, ◌+◌, ◌^◌, ℕ, l
 ghost use Rattle.ir_cut.specs.Positions.{cut_of};
 ghost use Rattle.ir_cut.specs.Moving.{ArePlaced, EachPlace, IsRaised, IsLowered};
 
-use crate::place::Place;
+use ir_fit::Place;
 
 // Whether the steps at the places are inside the cut with these positions.
 pub fn are_inside(positions: &[u64], places: &[Place]) -> bool

@@ -8,7 +8,6 @@ ghost use Rattle.ir_cut.specs.Positions.{EachRun, cut_of};
 ghost use Rattle.ir_cut.specs.Searching.{AreInside, IsEntryAt, IsFitted, NeededBy, Needing, RaisedFor, LoweredFor};
 
 use crate::moving::{are_inside, lower, raise};
-use crate::place::{Place, entries_at, leaves_at};
 use ir_fit::{Fitted, Leave};
 use ir_log::Event;
 use ir_thread::Access;
@@ -22,7 +21,7 @@ fn is_made(fitted: &Fitted, positions: &[u64], object: u8, version: u32) -> bool
     match version.checked_sub(1) {
         None => true,
         Some(before) => {
-            let places = leaves_at(fitted, object, Access::Writing, before, &[]);
+            let places = fitted.leaves_at(object, Access::Writing, before);
             are_inside(positions, places)
         }
     }
@@ -42,8 +41,8 @@ pub fn are_met(fitted: &Fitted, positions: &[u64], event: Event) -> bool
             version,
             ..
         } => {
-            is_made(fitted, positions, object, version)
-                && are_inside(positions, leaves_at(fitted, object, Access::Reading, version, &[]))
+            let readers = fitted.leaves_at(object, Access::Reading, version);
+            is_made(fitted, positions, object, version) && are_inside(positions, readers)
         }
     }
 }
@@ -56,7 +55,7 @@ fn raise_to_maker(fitted: &Fitted, positions: &mut Vec<u64>, object: u8, version
     ensures size { length positions.new.items ≡ length positions.old.items }
 {
     if let Some(before) = version.checked_sub(1) {
-        raise(positions, leaves_at(fitted, object, Access::Writing, before, &[]));
+        raise(positions, fitted.leaves_at(object, Access::Writing, before));
     }
 }
 
@@ -76,7 +75,8 @@ pub fn raise_for(fitted: &Fitted, positions: &mut Vec<u64>, event: Event)
             ..
         } => {
             raise_to_maker(fitted, positions, object, version);
-            raise(positions, leaves_at(fitted, object, Access::Reading, version, &[]));
+            let left = fitted.leaves_at(object, Access::Reading, version);
+            raise(positions, left);
         }
     }
 }
@@ -88,8 +88,14 @@ fn lower_from(fitted: &Fitted, positions: &mut Vec<u64>, object: u8, version: u3
     ensures lowered { EachRun fitted.now (λ run. LoweredFor fitted.now run (IsEntryAt object version) positions.old.items positions.new.items) }
     ensures size { length positions.new.items ≡ length positions.old.items }
 {
-    lower(positions, entries_at(fitted, object, Access::Reading, version, &[]));
-    lower(positions, entries_at(fitted, object, Access::Writing, version, &[]));
+    lower(
+        positions,
+        fitted.entries_at(object, Access::Reading, version),
+    );
+    lower(
+        positions,
+        fitted.entries_at(object, Access::Writing, version),
+    );
 }
 
 // The positions are lowered until what needs the leave is outside, and no further.
@@ -100,7 +106,10 @@ pub fn lower_for(fitted: &Fitted, positions: &mut Vec<u64>, leave: Leave)
     ensures size { length positions.new.items ≡ length positions.old.items }
 {
     match leave.access {
-        Access::Reading => lower(positions, entries_at(fitted, leave.object, Access::Writing, leave.version, &[])),
+        Access::Reading => lower(
+            positions,
+            fitted.entries_at(leave.object, Access::Writing, leave.version),
+        ),
         Access::Writing => {
             if let Some(made) = leave.version.checked_add(1) {
                 lower_from(fitted, positions, leave.object, made);

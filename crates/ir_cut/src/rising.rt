@@ -21,7 +21,11 @@ fn count_below(places: &[u64], position: u64) -> usize
 }
 
 // How many events of each thread are steps of the cut.
-fn events_inside(alloc: Global, fitted: &Fitted, positions: &[u64]) -> Result<Vec<usize>, AllocError>
+fn events_inside(
+    alloc: Global,
+    fitted: &Fitted,
+    positions: &[u64],
+) -> Result<Vec<usize>, AllocError>
     requires fitted { IsFitted fitted.now }
     requires size { length positions.now ≡ length fitted.now.guest.entries }
     ensures size { IfOk result (λ next. length next.items ≡ length fitted.now.guest.entries) }

@@ -187,7 +187,7 @@ get_at (y ∷ ys) (suc i) x h = let g = get_at ys i x h in (omega (arith, g.0), 
 abbrev trail_in : (f : FittedTrace) → HasRun f → ℕ → List (thread.State × Mark)
 trail_in f h t = trail (machine (start_flat f.guest f.recorded.budget)) (tables (start_flat f.guest f.recorded.budget)) h.run t
 
-idle_trail : {T : Type 0} (m : Machine T) (s : State T) (n : ℕ) → IsIdle m s n → (run : List Step) → IsRun m s run → (t : ℕ) → n ≤ t → trail m s run t ≡ []
+pub idle_trail : {T : Type 0} (m : Machine T) (s : State T) (n : ℕ) → IsIdle m s n → (run : List Step) → IsRun m s run → (t : ℕ) → n ≤ t → trail m s run t ≡ []
 idle_trail m s n idle [] ok t l = refl
 idle_trail m s n idle (e ∷ run) ok t l =
     let g = stays_idle m s n idle e ok.0 in

@@ -1,4 +1,4 @@
-use Rattle.std.proofs.Common.{◌<◌, length, subst}
+use Rattle.std.proofs.Common.{◌<◌, subst}
 use Rattle.ir_cut.proofs.Closed.{one_open, one_closed, all_within}
 use Rattle.ir_cut.proofs.consistency.are_within.Goals as goal
 
@@ -9,4 +9,4 @@ pub loop-t-preserved : goal.loop-t-preserved
 loop-t-preserved c = one_closed c.args.fitted.now c.args.positions.now c.loop-t.t c.is_within.result c.is_within.ensures c.if-not-is_within.false c.loop-t.invariant
 
 pub returns : goal.returns
-returns c = all_within c.args.fitted.now c.args.positions.now c.loop-t.t c.requires.size c.loop-t-test.false c.loop-t.invariant
+returns c = all_within c.args.fitted.now c.requires.fitted.run c.args.positions.now c.loop-t.t c.requires.size c.loop-t-test.false c.loop-t.invariant

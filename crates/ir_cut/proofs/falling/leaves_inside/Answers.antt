@@ -1,4 +1,4 @@
-use Rattle.std.proofs.Common.{◌<◌, length, subst}
+use Rattle.std.proofs.Common.{◌<◌, subst}
 use Rattle.ir_cut.proofs.Stepping.{leaves_rise}
 use Rattle.ir_cut.proofs.falling.leaves_inside.Goals as goal
 

@@ -1,4 +1,4 @@
-use Rattle.std.proofs.Common.{◌<◌, ℕ}
+use Rattle.std.proofs.Common.{◌<◌}
 use Rattle.ir_cut.specs.Positions.{cut_of}
 use Rattle.ir_cut.specs.Moving.{EachPlace}
 use Rattle.ir_cut.proofs.moving.are_inside.Given as goal

@@ -1,4 +1,4 @@
-use Rattle.std.proofs.Common.{◌∙◌, ◌<◌, length, subst}
+use Rattle.std.proofs.Common.{◌<◌, subst}
 use Rattle.ir_cut.proofs.Stepping.{entries_rise}
 use Rattle.ir_cut.proofs.rising.events_inside.Goals as goal
 
