@@ -1,5 +1,6 @@
 -- What the turns of a round come to.
-use Rattle.std.proofs.Common.{◌≡◌, ◌≢◌, ℕ, ◌+◌, ◌<◌, ◌≤◌, ◌⊎◌, Bool, true, false, List, [], ◌∷◌, refl, sym, ◌∙◌, subst, arith, inl, inr}
+use Rattle.std.proofs.Common.{◌≡◌, ◌≢◌, ℕ, ◌+◌, ◌<◌, ◌≤◌, ◌⊎◌, min, Bool, true, false, List, [], ◌∷◌, refl, sym, ◌∙◌, subst, arith, inl, inr}
+use Rattle.std.proofs.Math.Nat.{min-le_left, min-le_right}
 use Rattle.std.proofs.lemmas.Bool.{cases_eq}
 use Rattle.std.specs.List.{range_with_len}
 use Rattle.ir_thread.specs.State as thread
@@ -37,34 +38,34 @@ still_none u f g code same none = subst (λ s. HasNone (machine g) s u) (sym sam
 still_skips : (u k j : ℕ) (c d : List ℕ) (f g : Flat) → g.code ≡ f.code → tables g ≡ tables f → j ≤ k → lead d u ≡ lead c u → (k ≤ lead c u) ⊎ HasNone (machine f) (tables f) u → (j ≤ lead d u) ⊎ HasNone (machine g) (tables g) u
 still_skips u k j c d f g code same less is some = elim some [ inl enough ↦ inl (omega (arith, less, is, enough)) | inr none ↦ inr (still_none u f g code same none) ]
 
--- a thread that had a step, and whose lead bounds the rounds
-all_more : (t j k : ℕ) (c d : List ℕ) → ((u : ℕ) → u ≢ t → lead d u ≡ lead c u) → j ≤ k → j ≤ lead d t → ((u : ℕ) → u < t → k ≤ lead c u) → (u : ℕ) → u < t + 1 → j ≤ lead d u
-all_more t j k c d others less own before u l = elim (cases_eq u t) [
-  | inl e ↦ subst (λ z. j ≤ lead d z) (sym e) own
-  | inr ne ↦ let same = others u ne in let was = before u (omega (arith, l, ne)) in omega (arith, same, was, less)
+-- where each thread bounds the rounds, and one more
+all_more : (t j k : ℕ) (c d : List ℕ) → ((u : ℕ) → u ≢ t → lead d u ≡ lead c u) → j ≡ min k (lead d t) → ((u : ℕ) → u < t → k ≤ lead c u) → (u : ℕ) → u < t + 1 → j ≤ lead d u
+all_more t j k c d others is before u l = elim (cases_eq u t) [
+  | inl e ↦ subst (λ z. j ≤ lead d z) (sym e) (let own = min-le_right k (lead d t) in omega (arith, is, own))
+  | inr ne ↦ let same = others u ne in let was = before u (omega (arith, l, ne)) in let less = min-le_left k (lead d t) in omega (arith, same, was, less, is)
 ]
 
 pub pass_more : (turned : Turned) (t : ℕ) (old new : Pass) (c d : List ℕ) (f g : Flat) → Passing t old c f → Turning turned t c d f g → Noted turned (lead d t) old new → Passing (t + 1) new d g
 pass_more Spent t old new c d f g p q noted = record {
-  all = λ w. all_more t new.free old.free c d q.others noted.2 noted.3 (p.all (sym noted.1 ∙ w));
+  all = λ w. all_more t new.free old.free c d q.others noted.2 (p.all (sym noted.1 ∙ w));
   each = λ u l. elim (cases_eq u t) [
-    | inl e ↦ inl (subst (λ z. new.free ≤ lead d z) (sym e) noted.3)
-    | inr ne ↦ still_skips u old.free new.free c d f g q.code (q.rests (λ is. cc is)) noted.2 (q.others u ne) (p.each u (omega (arith, l, ne)))
+    | inl e ↦ inl (subst (λ z. new.free ≤ lead d z) (sym e) (let own = min-le_right old.free (lead d t) in omega (arith, noted.2, own)))
+    | inr ne ↦ still_skips u old.free new.free c d f g q.code (q.rests (λ is. cc is)) (let less = min-le_left old.free (lead d t) in omega (arith, noted.2, less)) (q.others u ne) (p.each u (omega (arith, l, ne)))
   ];
 }
 pass_more Stepped t old new c d f g p q noted = record {
-  all = λ w. all_more t new.free old.free c d q.others noted.2 noted.3 (p.all (sym noted.1 ∙ w));
+  all = λ w. all_more t new.free old.free c d q.others (noted.3 (sym noted.1 ∙ w)) (p.all (sym noted.1 ∙ w));
   each = λ u l. by_waited old.waited refl u l;
 }
   where
     by_waited : (b : Bool) → old.waited ≡ b → (u : ℕ) → u < t + 1 → (new.free ≤ lead d u) ⊎ HasNone (machine g) (tables g) u
-    by_waited true e u l = inl (let zeros = noted.4 e in omega (arith, zeros))
-    by_waited false e u l = inl (all_more t new.free old.free c d q.others noted.2 noted.3 (p.all e) u l)
+    by_waited true e u l = inl (let zeros = noted.2 e in omega (arith, zeros))
+    by_waited false e u l = inl (all_more t new.free old.free c d q.others (noted.3 e) (p.all e) u l)
 pass_more Waited t old new c d f g p q noted = record {
   all = λ w. absurd (cc (w, noted.1));
   each = λ u l. elim (cases_eq u t) [
     | inl e ↦ inr (subst (HasNone (machine g) (tables g)) (sym e) (q.waits refl))
-    | inr ne ↦ still_skips u old.free new.free c d f g q.code (q.rests (λ is. cc is)) noted.2 (q.others u ne) (p.each u (omega (arith, l, ne)))
+    | inr ne ↦ still_skips u old.free new.free c d f g q.code (q.rests (λ is. cc is)) (omega (arith, noted.2)) (q.others u ne) (p.each u (omega (arith, l, ne)))
   ];
 }
 

@@ -24,8 +24,8 @@ pub record IsAhead {T : Type 0} (m : Machine T) (ahead : List ℕ) (s later : St
   pub each : (t k : ℕ) → k < lead ahead t → m.ask (alone m k (s.now t)) ≡ Private
   pub objects : later.objects ≡ s.objects
 
--- in so many rounds each of the first n threads takes private steps that it is ahead, and has no step once these are
--- taken, unless it is as many ahead
+-- each of the first n threads is as many steps ahead as there are such rounds, or has no step in the later state: in these
+-- rounds no object changes
 abbrev pub CanSkip : {T : Type 0} → Machine T → ℕ → ℕ → List ℕ → State T → Type 0
 CanSkip m n count ahead later = (t : ℕ) → t < n → (count ≤ lead ahead t) ⊎ HasNone m later t
 

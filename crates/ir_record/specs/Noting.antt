@@ -1,5 +1,5 @@
 -- What the turns of a round come to.
-use Rattle.std.specs.Prelude.{◌≡◌, ◌≤◌, ℕ, Bool, true, false}
+use Rattle.std.specs.Prelude.{◌≡◌, ℕ, min, Bool, true, false}
 use Rattle.ir_record.specs.declared.pass.Pass.{Pass}
 use Rattle.ir_record.specs.declared.pass.Turned.{Turned}
 use Rattle.ir_record.specs.declared.pass.Turned.TheVariants.{Spent, Stepped, Waited}
@@ -10,8 +10,9 @@ has_moved Spent = true
 has_moved Stepped = true
 has_moved Waited = false
 
--- after a turn more, which leaves its thread so many steps ahead
+-- a turn more, after which its thread is so many steps ahead: its lead bounds the rounds that may follow, and a step where a
+-- thread had none leaves no such round
 abbrev pub Noted : Turned → ℕ → Pass → Pass → Type 0
-Noted Spent lead old new = (new.moved ≡ true) × (new.waited ≡ old.waited) × (new.free ≤ old.free) × (new.free ≤ lead)
-Noted Stepped lead old new = (new.moved ≡ true) × (new.waited ≡ old.waited) × (new.free ≤ old.free) × (new.free ≤ lead) × (old.waited ≡ true → new.free ≡ 0)
-Noted Waited lead old new = (new.moved ≡ old.moved) × (new.waited ≡ true) × (new.free ≤ old.free)
+Noted Spent lead old new = (new.moved ≡ true) × (new.waited ≡ old.waited) × (new.free ≡ min old.free lead)
+Noted Stepped lead old new = (new.moved ≡ true) × (new.waited ≡ old.waited) × (old.waited ≡ true → new.free ≡ 0) × (old.waited ≡ false → new.free ≡ min old.free lead)
+Noted Waited lead old new = (new.moved ≡ old.moved) × (new.waited ≡ true) × (new.free ≡ old.free)

@@ -1,4 +1,5 @@
-use Rattle.std.proofs.Common.{◌≡◌, ◌<◌, ◌≤◌, ◌+◌, ◌-◌, ℕ, Bool, true, false, not, List, map, length, replicate, refl, sym, ap, ◌∙◌, subst, arith}
+use Rattle.std.proofs.Common.{◌≡◌, ◌<◌, ◌≤◌, ◌+◌, ◌-◌, ℕ, Bool, List, map, length, replicate, refl, sym, ap, ◌∙◌, subst, arith}
+use Rattle.std.proofs.lemmas.Bool.{not-false, not-true}
 use Rattle.std.proofs.lemmas.List.{length-replicate}
 use Rattle.std.specs.List.{range_with_len}
 use Rattle.ir_flat.specs.Flat.{tables, machine}
@@ -21,14 +22,6 @@ rounds-init g c =
       kept = extends_same (map g.W.World.answers c.args.self.now.worlds.items);
       origins = refl;
     }
-
-is_so : (b : Bool) → not b ≡ false → b ≡ true
-is_so true e = refl
-is_so false e = absurd (cc e)
-
-is_not : (b : Bool) → not b ≡ true → b ≡ false
-is_not true e = absurd (cc e)
-is_not false e = refl
 
 -- the rounds so far, and those that are skipped
 record Skip (n : ℕ) (a e : Progress) (d f : List ℕ) : Type 0 where
@@ -83,7 +76,7 @@ rounds-smaller g c =
     let q : WentIf c.in_ok-pass.pass.moved (range_with_len 0 n) (reached p.1) b was e d = turned n a b e was d c.in_ok-pass.pass.moved p p.1.threads (c.in_ok-pass.ensures.went (reached p.1) there) in
     let last : Rounding n a e d = round_more n c.in_ok-pass.pass.moved a b e was d p q in
     let k : Skip n a e d c.lower.new.ahead.items = skipping n c.in_ok-pass.pass.free a e d c.lower.new.ahead.items last last.1.threads c.in_ok-pass.ensures.each c.lower.ensures.size c.in_ok-pass.ensures.free c.lower.ensures.each in
-    let less = fewer_left (length b.flat.threads) c.in_ok-pass.pass.moved (reached p.1) b e was d (is_so c.in_ok-pass.pass.moved c.if-not-pass.false) refl (c.in_ok-pass.ensures.went (reached p.1) there) in
+    let less = fewer_left (length b.flat.threads) c.in_ok-pass.pass.moved (reached p.1) b e was d (not-false c.in_ok-pass.pass.moved c.if-not-pass.false) refl (c.in_ok-pass.ensures.went (reached p.1) there) in
     let fewer : all_left (length b.flat.threads) (tables e.flat).now + all_ahead c.lower.new.ahead.items < all_left (length b.flat.threads) (tables b.flat).now + all_ahead was = (let least = k.least in omega (arith, less, least)) in
     subst (λ z. all_left z (tables e.flat).now + all_ahead c.lower.new.ahead.items < all_left (length b.flat.threads) (tables b.flat).now + all_ahead was) (sym c.in_ok-pass.ensures.threads) fewer
 
@@ -99,7 +92,7 @@ returns-then-not-pass-clause-took g c =
     let there = ahead_there (rounds n p.0) (tables a.flat) a b (replicate n 0) was p.1 in
     let q : WentIf c.in_ok-pass.pass.moved (range_with_len 0 n) (reached p.1) b was e d = turned n a b e was d c.in_ok-pass.pass.moved p p.1.threads (c.in_ok-pass.ensures.went (reached p.1) there) in
     let last : Rounding n a e d = round_more n c.in_ok-pass.pass.moved a b e was d p q in
-    (last.0, caught n a e d last (none_ahead n c.in_ok-pass.pass.moved (reached p.1) b e was d (is_not c.in_ok-pass.pass.moved c.if-not-pass.true) (c.rounds.invariant.each ∙ p.1.threads) q))
+    (last.0, caught n a e d last (none_ahead n c.in_ok-pass.pass.moved (reached p.1) b e was d (not-true c.in_ok-pass.pass.moved c.if-not-pass.true) (c.rounds.invariant.each ∙ p.1.threads) q))
 
 pub returns-then-not-pass-clause-over : goal.returns-then-not-pass-clause-over
 returns-then-not-pass-clause-over g c = λ t l.
@@ -113,7 +106,7 @@ returns-then-not-pass-clause-over g c = λ t l.
     let there = ahead_there (rounds n p.0) (tables a.flat) a b (replicate n 0) was p.1 in
     let q : WentIf c.in_ok-pass.pass.moved (range_with_len 0 n) (reached p.1) b was e d = turned n a b e was d c.in_ok-pass.pass.moved p p.1.threads (c.in_ok-pass.ensures.went (reached p.1) there) in
     let last : Rounding n a e d = round_more n c.in_ok-pass.pass.moved a b e was d p q in
-    let over = is_not c.in_ok-pass.pass.moved c.if-not-pass.true in
+    let over = not-true c.in_ok-pass.pass.moved c.if-not-pass.true in
     all_over n c.in_ok-pass.pass.moved a b e was d p q over (none_ahead n c.in_ok-pass.pass.moved (reached p.1) b e was d over (c.rounds.invariant.each ∙ p.1.threads) q) t
     (omega (arith, l, c.in_ok-pass.ensures.threads, p.1.threads))
 
