@@ -74,16 +74,28 @@ turn_spent s a c t k l is h =
       none = λ e. absurd cc;
     }
 
+-- a turn in which nothing is taken
+no_turn : {T : Type 0} (m : Machine T) (s : State T) (t : ℕ) (run : List Step) → InTurn m s (t ∷ []) run → run ≡ [] → HasNone m s t
+no_turn m s t run (inl none) z = none.0
+no_turn m s t run (inr some) z = absurd (cc (some.2, z))
+
+pub nothing_changes : (a b : Progress) (t : ℕ) (moved : Bool) → moved ≡ false → TookIf moved (t ∷ []) a b → tables b.flat ≡ tables a.flat
+nothing_changes a b t moved e k = k.took.ends ∙ ap (end (machine a.flat) (tables a.flat)) (k.none e)
+
+pub has_none : (a b : Progress) (t : ℕ) (moved : Bool) → moved ≡ false → TookIf moved (t ∷ []) a b → HasNone (machine b.flat) (tables b.flat) t
+has_none a b t moved e k =
+    let before : HasNone (machine a.flat) (tables a.flat) t = no_turn (machine a.flat) (tables a.flat) t k.took.run k.took.turns (k.none e) in
+    subst (λ s. HasNone (machine b.flat) s t) (sym (nothing_changes a b t moved e k)) (subst (λ code. HasNone (thread_machine code) (tables a.flat) t) (sym k.took.code) before)
+
 -- a thread that is not ahead has no step
 pub turn_stays : (s : State thread.State) (a b : Progress) (c : List ℕ) (t : ℕ) (moved : Bool) → moved ≡ false → lead c t ≡ 0 → IsAhead (machine a.flat) c s (tables a.flat) → TookIf moved (t ∷ []) a b → WentIf false (t ∷ []) s a c b c
 turn_stays s a b c t moved e is h k =
     let none : k.took.run ≡ [] = k.none e in
-    let same : tables b.flat ≡ tables a.flat = k.took.ends ∙ ap (end (machine a.flat) (tables a.flat)) none in
     record {
       went = record {
         run = [];
-        turns = inl (none_there (machine a.flat) c s (tables a.flat) t is h (nobody k.took.turns none), refl);
-        ahead = subst (IsAhead (machine a.flat) c s) (sym same) h;
+        turns = inl (none_there (machine a.flat) c s (tables a.flat) t is h (no_turn (machine a.flat) (tables a.flat) t k.took.run k.took.turns none), refl);
+        ahead = subst (IsAhead (machine a.flat) c s) (sym (nothing_changes a b t moved e k)) h;
         code = k.took.code;
         threads = k.took.threads;
         objects = k.took.objects;
@@ -94,10 +106,6 @@ turn_stays s a b c t moved e is h k =
       some = λ m. absurd cc;
       none = λ m. (refl, refl, (is, tt));
     }
-  where
-    nobody : InTurn (machine a.flat) (tables a.flat) (t ∷ []) k.took.run → k.took.run ≡ [] → HasNone (machine a.flat) (tables a.flat) t
-    nobody (inl none) z = none.0
-    nobody (inr some) z = absurd (cc (some.2, z))
 
 -- its step, and private steps behind it
 pub turn_steps : (s : State thread.State) (a b : Progress) (g : Flat) (c : List ℕ) (t k : ℕ) → t < length c → t < length a.flat.threads → IsFlat b.flat → lead c t ≡ 0 → IsAhead (machine a.flat) c s (tables a.flat) → TookIf true (t ∷ []) a b

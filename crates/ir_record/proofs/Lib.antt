@@ -14,4 +14,5 @@ pub mod Gathering
 pub mod Leading
 pub mod Going
 pub mod Skipping
+pub mod Passing
 pub mod Ended

@@ -1,11 +1,11 @@
 -- Private steps that threads take before their turns come.
-use Rattle.std.specs.Prelude.{◌≡◌, ◌<◌, ◌≤◌, ◌+◌, ℕ, zero, suc, List, [], ◌∷◌, ◌++◌, length, Bool, true, false}
+use Rattle.std.specs.Prelude.{◌≡◌, ◌<◌, ◌≤◌, ◌+◌, ℕ, zero, suc, List, [], ◌∷◌, ◌++◌, length, ◌⊎◌, Bool, true, false}
 use Rattle.std.specs.List.{slice_index_or}
 use Rattle.ir_thread.specs.Machine.{Machine, Private}
 use Rattle.ir_thread.specs.State as thread
 use Rattle.ir_flat.specs.Flat.{tables, machine}
 use Rattle.ir_flat.specs.Run.{State, Step, end, log}
-use Rattle.ir_record.specs.InOrder.{InTurn}
+use Rattle.ir_record.specs.InOrder.{HasNone, InTurn}
 use Rattle.ir_record.specs.Progress.{Progress, all_left, marks_at, answers_at}
 use Rattle.ir_record.specs.Worlds.{answers_in}
 
@@ -23,6 +23,11 @@ pub record IsAhead {T : Type 0} (m : Machine T) (ahead : List ℕ) (s later : St
   pub threads : (t : ℕ) → later.now t ≡ alone m (lead ahead t) (s.now t)
   pub each : (t k : ℕ) → k < lead ahead t → m.ask (alone m k (s.now t)) ≡ Private
   pub objects : later.objects ≡ s.objects
+
+-- each of the first n threads is as many steps ahead as there are such rounds, or has no step in the later state: in these
+-- rounds no object changes
+abbrev pub CanSkip : {T : Type 0} → Machine T → ℕ → ℕ → List ℕ → State T → Type 0
+CanSkip m n count ahead later = (t : ℕ) → t < n → (count ≤ lead ahead t) ⊎ HasNone m later t
 
 -- how many steps all threads are ahead
 abbrev pub all_ahead : List ℕ → ℕ

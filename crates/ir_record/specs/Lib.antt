@@ -4,3 +4,4 @@ pub mod Recording
 pub mod Progress
 pub mod Gathered
 pub mod Ahead
+pub mod Noting

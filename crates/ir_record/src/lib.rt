@@ -5,6 +5,7 @@ mod follow;
 mod gather;
 mod in_order;
 mod outputs;
+mod pass;
 mod record_err;
 mod recorder;
 mod rounds;
@@ -14,6 +15,8 @@ mod tape;
 #[cfg(test)]
 mod tests;
 mod turn;
+#[cfg(test)]
+mod waiting_tests;
 mod world;
 
 pub use in_order::record_in_order;

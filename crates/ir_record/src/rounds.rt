@@ -1,62 +1,47 @@
 //! Turns of many threads.
 
-ghost use Rattle.std.specs.Prelude.{◌≡◌, ◌<◌, ◌≤◌, ◌-◌, ℕ, [], ◌∷◌, length, map, replicate, IfOk, OnOk, IfErr};
+ghost use Rattle.std.specs.Prelude.{◌≡◌, ◌≢◌, ◌<◌, ◌≤◌, ◌-◌, ℕ, [], ◌∷◌, length, map, replicate, IfOk, OnOk, IfErr};
 ghost use Rattle.std.specs.List.{range_with_len};
 ghost use Rattle.ir_thread.specs.State as thread;
 ghost use Rattle.ir_flat.specs.Flat.{tables, machine};
 ghost use Rattle.ir_flat.specs.Run.{State};
-ghost use Rattle.ir_record.specs.Ahead.{lead, IsAhead, WentIf};
+ghost use Rattle.ir_record.specs.Ahead.{lead, IsAhead, CanSkip, WentIf};
 ghost use Rattle.ir_record.specs.InOrder.{HasNone, rounds};
+ghost use Rattle.ir_record.specs.Noting.{has_moved};
 ghost use Rattle.ir_record.specs.Progress.{progress, Took, IsReady};
+ghost use Rattle.ir_record.specs.declared.pass.Turned.TheVariants.{Stepped, Waited};
 ghost use Rattle.ir_record.specs.Worlds.{IsFirstFailed, Extends};
 
+use crate::pass::{Pass, Turned};
 use crate::recorder::Recorder;
 use crate::turn::Failed;
 use crate::world::World;
 
-// How many steps every thread is ahead at least.
-fn least(ahead: &[u64]) -> u64
-    ensures { (t : ℕ) → t < length ahead.now → result ≤ lead ahead.now t }
-{
-    let mut least = u64::MAX;
-    for t in 0..ahead.len() {
-        if ahead[t] < least {
-            least = ahead[t];
-        }
-    }
-    least
-}
-
-// Every thread has so many more of its steps behind it.
+// Every thread has so many more of its steps behind it, or all that it was ahead.
 fn lower(ahead: &mut Vec<u64>, by: u64)
-    requires { (t : ℕ) → t < length ahead.old.items → by ≤ lead ahead.old.items t }
     ensures size { length ahead.new.items ≡ length ahead.old.items }
     ensures each { (t : ℕ) → t < length ahead.old.items → lead ahead.new.items t ≡ lead ahead.old.items t - by }
 {
-    for t in 0..ahead.len() {
-        ahead[t] -= by;
+    if by == 0 {
+        return;
     }
-}
-
-// Rounds in which every thread has its step behind it, and how many they are.
-fn skip(ahead: &mut Vec<u64>) -> u64
-    ensures size { length ahead.new.items ≡ length ahead.old.items }
-    ensures enough { (t : ℕ) → t < length ahead.old.items → result ≤ lead ahead.old.items t }
-    ensures each { (t : ℕ) → t < length ahead.old.items → lead ahead.new.items t ≡ lead ahead.old.items t - result }
-{
-    let count = least(ahead.as_slice());
-    lower(ahead, count);
-    count
+    for t in 0..ahead.len() {
+        ahead[t] = ahead[t].saturating_sub(by);
+    }
 }
 
 impl<W: World> Recorder<W> {
     // A turn of thread t: one of the private steps that it is ahead; or its next step, if it has one, and then as many
-    // private steps as there are. And whether it had one.
-    fn turn_ahead(&mut self, t: usize, ahead: &mut Vec<u64>) -> Result<bool, Failed>
+    // private steps as there are.
+    fn turn_ahead(&mut self, t: usize, ahead: &mut Vec<u64>) -> Result<Turned, Failed>
         requires ready { IsReady (progress self.old.tape (map W.answers self.old.worlds.items)) (map W.broken self.old.worlds.items) }
         requires each { length ahead.old.items ≡ length self.old.tape.flat.threads }
         requires thread { t < length self.old.tape.flat.threads }
-        ensures went { IfOk result (λ moved. (s : State thread.State) → IsAhead (machine self.old.tape.flat) ahead.old.items s (tables self.old.tape.flat) → WentIf moved (t ∷ []) s (progress self.old.tape (map W.answers self.old.worlds.items)) ahead.old.items (progress self.new.tape (map W.answers self.new.worlds.items)) ahead.new.items) }
+        ensures went { IfOk result (λ turned. (s : State thread.State) → IsAhead (machine self.old.tape.flat) ahead.old.items s (tables self.old.tape.flat) → WentIf (has_moved turned) (t ∷ []) s (progress self.old.tape (map W.answers self.old.worlds.items)) ahead.old.items (progress self.new.tape (map W.answers self.new.worlds.items)) ahead.new.items) }
+        ensures waits { IfOk result (λ turned. turned ≡ Waited → HasNone (machine self.new.tape.flat) (tables self.new.tape.flat) t) }
+        ensures rests { IfOk result (λ turned. turned ≢ Stepped → tables self.new.tape.flat ≡ tables self.old.tape.flat) }
+        ensures code { OnOk result (self.new.tape.flat.code ≡ self.old.tape.flat.code) }
+        ensures others { OnOk result ((u : ℕ) → u ≢ t → lead ahead.new.items u ≡ lead ahead.old.items u) }
         ensures each { OnOk result (length ahead.new.items ≡ length self.new.tape.flat.threads) }
         ensures threads { OnOk result (length self.new.tape.flat.threads ≡ length self.old.tape.flat.threads) }
         ensures ready { OnOk result (IsReady (progress self.new.tape (map W.answers self.new.worlds.items)) (map W.broken self.new.worlds.items)) }
@@ -67,20 +52,21 @@ impl<W: World> Recorder<W> {
         let lead = ahead[t];
         if lead > 0 {
             ahead[t] = lead - 1;
-            return Ok(true);
+            return Ok(Turned::Spent);
         }
         if !self.turn(t)? {
-            return Ok(false);
+            return Ok(Turned::Waited);
         }
         ahead[t] = self.tape.run(t, u64::MAX);
-        Ok(true)
+        Ok(Turned::Stepped)
     }
 
-    // A turn of each thread, from 0 upwards; and whether one of them had a step.
-    fn round(&mut self, ahead: &mut Vec<u64>) -> Result<bool, Failed>
+    // A turn of each thread, from 0 upwards, and what it comes to.
+    fn round(&mut self, ahead: &mut Vec<u64>) -> Result<Pass, Failed>
         requires ready { IsReady (progress self.old.tape (map W.answers self.old.worlds.items)) (map W.broken self.old.worlds.items) }
         requires each { length ahead.old.items ≡ length self.old.tape.flat.threads }
-        ensures went { IfOk result (λ moved. (s : State thread.State) → IsAhead (machine self.old.tape.flat) ahead.old.items s (tables self.old.tape.flat) → WentIf moved (range_with_len 0 (length self.old.tape.flat.threads)) s (progress self.old.tape (map W.answers self.old.worlds.items)) ahead.old.items (progress self.new.tape (map W.answers self.new.worlds.items)) ahead.new.items) }
+        ensures went { IfOk result (λ pass. (s : State thread.State) → IsAhead (machine self.old.tape.flat) ahead.old.items s (tables self.old.tape.flat) → WentIf pass.moved (range_with_len 0 (length self.old.tape.flat.threads)) s (progress self.old.tape (map W.answers self.old.worlds.items)) ahead.old.items (progress self.new.tape (map W.answers self.new.worlds.items)) ahead.new.items) }
+        ensures free { IfOk result (λ pass. CanSkip (machine self.new.tape.flat) (length self.new.tape.flat.threads) pass.free ahead.new.items (tables self.new.tape.flat)) }
         ensures each { OnOk result (length ahead.new.items ≡ length self.new.tape.flat.threads) }
         ensures threads { OnOk result (length self.new.tape.flat.threads ≡ length self.old.tape.flat.threads) }
         ensures ready { OnOk result (IsReady (progress self.new.tape (map W.answers self.new.worlds.items)) (map W.broken self.new.worlds.items)) }
@@ -88,13 +74,12 @@ impl<W: World> Recorder<W> {
         ensures kept { Extends (map W.answers self.old.worlds.items) (map W.answers self.new.worlds.items) }
         ensures origins { map W.origin self.new.worlds.items ≡ map W.origin self.old.worlds.items }
     {
-        let mut moved = false;
+        let mut pass = Pass::new();
         for t in 0..self.tape.flat.threads().len() {
-            if self.turn_ahead(t, ahead)? {
-                moved = true;
-            }
+            let turned = self.turn_ahead(t, ahead)?;
+            pass.note(turned, ahead[t]);
         }
-        Ok(moved)
+        Ok(pass)
     }
 
     // Rounds until no thread has a step. `ahead` has a place for each thread, of which none is ahead.
@@ -109,10 +94,11 @@ impl<W: World> Recorder<W> {
         ensures origins { map W.origin self.new.worlds.items ≡ map W.origin self.old.worlds.items }
     {
         'rounds: loop {
-            skip(ahead);
-            if !self.round(ahead)? {
+            let pass = self.round(ahead)?;
+            if !pass.moved {
                 return Ok(());
             }
+            lower(ahead, pass.free);
         }
     }
 }

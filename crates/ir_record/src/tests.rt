@@ -13,7 +13,7 @@ use std::test::Fail;
 
 // A world that answers from a list, the last one first, and fails at its end.
 #[derive(Debug, Drop)]
-struct Script {
+pub struct Script {
     left: Vec<u32>,
     told: Vec<(EnvKind, u32)>,
     failed: bool,
@@ -75,7 +75,7 @@ const GET: u32 = 0x00a0_0893;
 const PUT: u32 = 0x00b0_0893;
 
 // A guest of so many threads, which all start at the first word, and objects that begin with zeros.
-fn guest(alloc: Global, threads: u8, objects: u8, code: &[u32]) -> Result<Image, Fail> {
+pub fn guest(alloc: Global, threads: u8, objects: u8, code: &[u32]) -> Result<Image, Fail> {
     let mut bytes = Vec::new(alloc);
     bytes.extend_from_slice(&[0x49, 0x52, 0x49, 0x31, threads, objects])?;
     bytes.extend_from_slice(&[code.len().min(255) as u8, 0, 0, 0, 0, 0, 0, 0])?;
@@ -107,7 +107,7 @@ fn worlds(alloc: Global, count: usize, answers: &[u32]) -> Result<Vec<Script>, A
 }
 
 // Records the guest in this order, where each thread's world has these answers, the last one first.
-fn recorded(
+pub fn recorded(
     alloc: Global,
     image: &Image,
     order: &[u8],

@@ -1,8 +1,9 @@
 use Rattle.std.proofs.Common.{◌≡◌, ◌<◌, ◌≤◌, ◌+◌, ◌-◌, ℕ, Bool, List, map, length, replicate, refl, sym, ap, ◌∙◌, subst, arith}
+use Rattle.std.proofs.lemmas.Bool.{not-false, not-true}
 use Rattle.std.proofs.lemmas.List.{length-replicate}
 use Rattle.std.specs.List.{range_with_len}
-use Rattle.ir_flat.specs.Flat.{tables}
-use Rattle.ir_record.specs.Ahead.{lead, all_ahead, WentIf}
+use Rattle.ir_flat.specs.Flat.{tables, machine}
+use Rattle.ir_record.specs.Ahead.{lead, CanSkip, all_ahead, WentIf}
 use Rattle.ir_record.specs.InOrder.{rounds}
 use Rattle.ir_record.specs.Progress.{Progress, progress, all_left}
 use Rattle.ir_record.proofs.Asking.{extends_same, extends_both}
@@ -23,17 +24,19 @@ rounds-init g c =
     }
 
 -- the rounds so far, and those that are skipped
-record Skip (n : ℕ) (a b : Progress) (d f : List ℕ) : Type 0 where
-  rounding : Rounding n a b f
+record Skip (n : ℕ) (a e : Progress) (d f : List ℕ) : Type 0 where
+  rounding : Rounding n a e f
   size : length f ≡ n
   least : all_ahead f ≤ all_ahead d
 
-skipping : (n k : ℕ) (a b : Progress) (d f : List ℕ) → Rounding n a b d → length d ≡ n → length f ≡ length d → ((t : ℕ) → t < length d → k ≤ lead d t) → ((t : ℕ) → t < length d → lead f t ≡ lead d t - k) → Skip n a b d f
-skipping n k a b d f p size same enough each = record {
-  rounding = skip_more n k a b d f p size (same ∙ size) (λ t l. enough t (omega (arith, l, size))) (λ t l. each t (omega (arith, l, size)));
-  size = same ∙ size;
-  least = skip_least n k a b d f p size (same ∙ size) (λ t l. enough t (omega (arith, l, size))) (λ t l. each t (omega (arith, l, size)));
-}
+skipping : (n k : ℕ) (a e : Progress) (d f : List ℕ) → Rounding n a e d → length e.flat.threads ≡ n → length d ≡ length e.flat.threads → length f ≡ length d → CanSkip (machine e.flat) (length e.flat.threads) k d (tables e.flat) → ((t : ℕ) → t < length d → lead f t ≡ lead d t - k) → Skip n a e d f
+skipping n k a e d f p count size same enough each =
+    let all : CanSkip (machine e.flat) n k d (tables e.flat) = subst (λ m. CanSkip (machine e.flat) m k d (tables e.flat)) count enough in
+    record {
+      rounding = skip_more n k a e d f p (size ∙ count) (same ∙ size ∙ count) all (λ t l. each t (omega (arith, l, size, count)));
+      size = same ∙ size ∙ count;
+      least = skip_least n k a e d f p (size ∙ count) (same ∙ size ∙ count) all (λ t l. each t (omega (arith, l, size, count)));
+    }
 
 -- the round that was taken, from where the rounds before it lead
 turned : (n : ℕ) (a b e : Progress) (d f : List ℕ) (moved : Bool) (p : Rounding n a b d) → length b.flat.threads ≡ n → WentIf moved (range_with_len 0 (length b.flat.threads)) (reached p.1) b d e f → WentIf moved (range_with_len 0 n) (reached p.1) b d e f
@@ -45,14 +48,17 @@ rounds-preserved g c =
     let a : Progress = progress c.args.self.now.tape (map g.W.World.answers c.args.self.now.worlds.items) in
     let b : Progress = progress c.rounds.self.tape (map g.W.World.answers c.rounds.self.worlds.items) in
     let e : Progress = progress c.round.new.self.tape (map g.W.World.answers c.round.new.self.worlds.items) in
-    let d : List ℕ = c.skip.new.ahead.items in
-    let k : Skip n a b c.rounds.ahead.items d = skipping n c.skip.result a b c.rounds.ahead.items d c.rounds.invariant.went (c.rounds.invariant.each ∙ c.rounds.invariant.went.1.threads) c.skip.ensures.size c.skip.ensures.enough c.skip.ensures.each in
-    let p : Rounding n a b d = k.rounding in
-    let there = ahead_there (rounds n p.0) (tables a.flat) a b (replicate n 0) d p.1 in
+    let was : List ℕ = c.rounds.ahead.items in
+    let d : List ℕ = c.round.new.ahead.items in
+    let p : Rounding n a b was = c.rounds.invariant.went in
+    let there = ahead_there (rounds n p.0) (tables a.flat) a b (replicate n 0) was p.1 in
+    let q : WentIf c.in_ok-pass.pass.moved (range_with_len 0 n) (reached p.1) b was e d = turned n a b e was d c.in_ok-pass.pass.moved p p.1.threads (c.in_ok-pass.ensures.went (reached p.1) there) in
+    let last : Rounding n a e d = round_more n c.in_ok-pass.pass.moved a b e was d p q in
+    let k : Skip n a e d c.lower.new.ahead.items = skipping n c.in_ok-pass.pass.free a e d c.lower.new.ahead.items last last.1.threads c.in_ok-pass.ensures.each c.lower.ensures.size c.in_ok-pass.ensures.free c.lower.ensures.each in
     record {
-      went = round_more n c.in_ok-round.field-0 a b e d c.round.new.ahead.items p (turned n a b e d c.round.new.ahead.items c.in_ok-round.field-0 p p.1.threads (c.in_ok-round.ensures.went (reached p.1) there));
-      each = c.in_ok-round.ensures.each;
-      ready = c.in_ok-round.ensures.ready;
+      went = k.rounding;
+      each = c.lower.ensures.size ∙ c.in_ok-pass.ensures.each;
+      ready = c.in_ok-pass.ensures.ready;
       kept = extends_both (map g.W.World.answers c.args.self.now.worlds.items) (map g.W.World.answers c.rounds.self.worlds.items) (map g.W.World.answers c.round.new.self.worlds.items) c.rounds.invariant.kept c.round.ensures.kept;
       origins = c.round.ensures.origins ∙ c.rounds.invariant.origins;
     }
@@ -63,50 +69,55 @@ rounds-smaller g c =
     let a : Progress = progress c.args.self.now.tape (map g.W.World.answers c.args.self.now.worlds.items) in
     let b : Progress = progress c.rounds.self.tape (map g.W.World.answers c.rounds.self.worlds.items) in
     let e : Progress = progress c.round.new.self.tape (map g.W.World.answers c.round.new.self.worlds.items) in
-    let d : List ℕ = c.skip.new.ahead.items in
-    let k : Skip n a b c.rounds.ahead.items d = skipping n c.skip.result a b c.rounds.ahead.items d c.rounds.invariant.went (c.rounds.invariant.each ∙ c.rounds.invariant.went.1.threads) c.skip.ensures.size c.skip.ensures.enough c.skip.ensures.each in
-    let p : Rounding n a b d = k.rounding in
-    let there = ahead_there (rounds n p.0) (tables a.flat) a b (replicate n 0) d p.1 in
-    let less = fewer_left (length b.flat.threads) c.in_ok-round.field-0 (reached p.1) b e d c.round.new.ahead.items c.if-not-branch.false refl (c.in_ok-round.ensures.went (reached p.1) there) in
-    let fewer : all_left (length b.flat.threads) (tables e.flat).now + all_ahead c.round.new.ahead.items < all_left (length b.flat.threads) (tables b.flat).now + all_ahead c.rounds.ahead.items = (let least = k.least in omega (arith, less, least)) in
-    subst (λ z. all_left z (tables e.flat).now + all_ahead c.round.new.ahead.items < all_left (length b.flat.threads) (tables b.flat).now + all_ahead c.rounds.ahead.items) (sym c.in_ok-round.ensures.threads) fewer
+    let was : List ℕ = c.rounds.ahead.items in
+    let d : List ℕ = c.round.new.ahead.items in
+    let p : Rounding n a b was = c.rounds.invariant.went in
+    let there = ahead_there (rounds n p.0) (tables a.flat) a b (replicate n 0) was p.1 in
+    let q : WentIf c.in_ok-pass.pass.moved (range_with_len 0 n) (reached p.1) b was e d = turned n a b e was d c.in_ok-pass.pass.moved p p.1.threads (c.in_ok-pass.ensures.went (reached p.1) there) in
+    let last : Rounding n a e d = round_more n c.in_ok-pass.pass.moved a b e was d p q in
+    let k : Skip n a e d c.lower.new.ahead.items = skipping n c.in_ok-pass.pass.free a e d c.lower.new.ahead.items last last.1.threads c.in_ok-pass.ensures.each c.lower.ensures.size c.in_ok-pass.ensures.free c.lower.ensures.each in
+    let less = fewer_left (length b.flat.threads) c.in_ok-pass.pass.moved (reached p.1) b e was d (not-false c.in_ok-pass.pass.moved c.if-not-pass.false) refl (c.in_ok-pass.ensures.went (reached p.1) there) in
+    let fewer : all_left (length b.flat.threads) (tables e.flat).now + all_ahead c.lower.new.ahead.items < all_left (length b.flat.threads) (tables b.flat).now + all_ahead was = (let least = k.least in omega (arith, less, least)) in
+    subst (λ z. all_left z (tables e.flat).now + all_ahead c.lower.new.ahead.items < all_left (length b.flat.threads) (tables b.flat).now + all_ahead was) (sym c.in_ok-pass.ensures.threads) fewer
 
-pub returns-then-not-branch-clause-took : goal.returns-then-not-branch-clause-took
-returns-then-not-branch-clause-took g c =
+pub returns-then-not-pass-clause-took : goal.returns-then-not-pass-clause-took
+returns-then-not-pass-clause-took g c =
     let n : ℕ = length c.args.self.now.tape.flat.threads in
     let a : Progress = progress c.args.self.now.tape (map g.W.World.answers c.args.self.now.worlds.items) in
     let b : Progress = progress c.rounds.self.tape (map g.W.World.answers c.rounds.self.worlds.items) in
     let e : Progress = progress c.round.new.self.tape (map g.W.World.answers c.round.new.self.worlds.items) in
-    let d : List ℕ = c.skip.new.ahead.items in
-    let k : Skip n a b c.rounds.ahead.items d = skipping n c.skip.result a b c.rounds.ahead.items d c.rounds.invariant.went (c.rounds.invariant.each ∙ c.rounds.invariant.went.1.threads) c.skip.ensures.size c.skip.ensures.enough c.skip.ensures.each in
-    let p : Rounding n a b d = k.rounding in
-    let there = ahead_there (rounds n p.0) (tables a.flat) a b (replicate n 0) d p.1 in
-    let q = turned n a b e d c.round.new.ahead.items c.in_ok-round.field-0 p p.1.threads (c.in_ok-round.ensures.went (reached p.1) there) in
-    let last : Rounding n a e c.round.new.ahead.items = round_more n c.in_ok-round.field-0 a b e d c.round.new.ahead.items p q in
-    (last.0, caught n a e c.round.new.ahead.items last (none_ahead n c.in_ok-round.field-0 (reached p.1) b e d c.round.new.ahead.items c.if-not-branch.true k.size q))
+    let was : List ℕ = c.rounds.ahead.items in
+    let d : List ℕ = c.round.new.ahead.items in
+    let p : Rounding n a b was = c.rounds.invariant.went in
+    let there = ahead_there (rounds n p.0) (tables a.flat) a b (replicate n 0) was p.1 in
+    let q : WentIf c.in_ok-pass.pass.moved (range_with_len 0 n) (reached p.1) b was e d = turned n a b e was d c.in_ok-pass.pass.moved p p.1.threads (c.in_ok-pass.ensures.went (reached p.1) there) in
+    let last : Rounding n a e d = round_more n c.in_ok-pass.pass.moved a b e was d p q in
+    (last.0, caught n a e d last (none_ahead n c.in_ok-pass.pass.moved (reached p.1) b e was d (not-true c.in_ok-pass.pass.moved c.if-not-pass.true) (c.rounds.invariant.each ∙ p.1.threads) q))
 
-pub returns-then-not-branch-clause-over : goal.returns-then-not-branch-clause-over
-returns-then-not-branch-clause-over g c = λ t l.
+pub returns-then-not-pass-clause-over : goal.returns-then-not-pass-clause-over
+returns-then-not-pass-clause-over g c = λ t l.
     let n : ℕ = length c.args.self.now.tape.flat.threads in
     let a : Progress = progress c.args.self.now.tape (map g.W.World.answers c.args.self.now.worlds.items) in
     let b : Progress = progress c.rounds.self.tape (map g.W.World.answers c.rounds.self.worlds.items) in
     let e : Progress = progress c.round.new.self.tape (map g.W.World.answers c.round.new.self.worlds.items) in
-    let d : List ℕ = c.skip.new.ahead.items in
-    let k : Skip n a b c.rounds.ahead.items d = skipping n c.skip.result a b c.rounds.ahead.items d c.rounds.invariant.went (c.rounds.invariant.each ∙ c.rounds.invariant.went.1.threads) c.skip.ensures.size c.skip.ensures.enough c.skip.ensures.each in
-    let p : Rounding n a b d = k.rounding in
-    let there = ahead_there (rounds n p.0) (tables a.flat) a b (replicate n 0) d p.1 in
-    let q = turned n a b e d c.round.new.ahead.items c.in_ok-round.field-0 p p.1.threads (c.in_ok-round.ensures.went (reached p.1) there) in
-    all_over n c.in_ok-round.field-0 a b e d c.round.new.ahead.items p q c.if-not-branch.true (none_ahead n c.in_ok-round.field-0 (reached p.1) b e d c.round.new.ahead.items c.if-not-branch.true k.size q) t
-    (omega (arith, l, c.in_ok-round.ensures.threads, p.1.threads))
+    let was : List ℕ = c.rounds.ahead.items in
+    let d : List ℕ = c.round.new.ahead.items in
+    let p : Rounding n a b was = c.rounds.invariant.went in
+    let there = ahead_there (rounds n p.0) (tables a.flat) a b (replicate n 0) was p.1 in
+    let q : WentIf c.in_ok-pass.pass.moved (range_with_len 0 n) (reached p.1) b was e d = turned n a b e was d c.in_ok-pass.pass.moved p p.1.threads (c.in_ok-pass.ensures.went (reached p.1) there) in
+    let last : Rounding n a e d = round_more n c.in_ok-pass.pass.moved a b e was d p q in
+    let over = not-true c.in_ok-pass.pass.moved c.if-not-pass.true in
+    all_over n c.in_ok-pass.pass.moved a b e was d p q over (none_ahead n c.in_ok-pass.pass.moved (reached p.1) b e was d over (c.rounds.invariant.each ∙ p.1.threads) q) t
+    (omega (arith, l, c.in_ok-pass.ensures.threads, p.1.threads))
 
-pub returns-then-not-branch-clause-kept : goal.returns-then-not-branch-clause-kept
-returns-then-not-branch-clause-kept g c = extends_both (map g.W.World.answers c.args.self.now.worlds.items) (map g.W.World.answers c.rounds.self.worlds.items) (map g.W.World.answers c.round.new.self.worlds.items) c.rounds.invariant.kept c.round.ensures.kept
+pub returns-then-not-pass-clause-kept : goal.returns-then-not-pass-clause-kept
+returns-then-not-pass-clause-kept g c = extends_both (map g.W.World.answers c.args.self.now.worlds.items) (map g.W.World.answers c.rounds.self.worlds.items) (map g.W.World.answers c.round.new.self.worlds.items) c.rounds.invariant.kept c.round.ensures.kept
 
-pub returns-in_err-round-clause-kept : goal.returns-in_err-round-clause-kept
-returns-in_err-round-clause-kept g c = extends_both (map g.W.World.answers c.args.self.now.worlds.items) (map g.W.World.answers c.rounds.self.worlds.items) (map g.W.World.answers c.round.new.self.worlds.items) c.rounds.invariant.kept c.round.ensures.kept
+pub returns-in_err-pass-clause-kept : goal.returns-in_err-pass-clause-kept
+returns-in_err-pass-clause-kept g c = extends_both (map g.W.World.answers c.args.self.now.worlds.items) (map g.W.World.answers c.rounds.self.worlds.items) (map g.W.World.answers c.round.new.self.worlds.items) c.rounds.invariant.kept c.round.ensures.kept
 
-pub returns-then-not-branch-clause-origins : goal.returns-then-not-branch-clause-origins
-returns-then-not-branch-clause-origins g c = c.round.ensures.origins ∙ c.rounds.invariant.origins
+pub returns-then-not-pass-clause-origins : goal.returns-then-not-pass-clause-origins
+returns-then-not-pass-clause-origins g c = c.round.ensures.origins ∙ c.rounds.invariant.origins
 
-pub returns-in_err-round-clause-origins : goal.returns-in_err-round-clause-origins
-returns-in_err-round-clause-origins g c = c.round.ensures.origins ∙ c.rounds.invariant.origins
+pub returns-in_err-pass-clause-origins : goal.returns-in_err-pass-clause-origins
+returns-in_err-pass-clause-origins g c = c.round.ensures.origins ∙ c.rounds.invariant.origins

@@ -1,7 +1,7 @@
 use Rattle.std.proofs.Common.{◌≡◌, ◌<◌, ◌-◌, ℕ, suc, List, [], ◌∷◌, length, map, set, sym, ◌∙◌, subst, arith, length-set, true}
 use Rattle.ir_record.specs.Ahead.{lead, WentIf}
 use Rattle.ir_record.specs.Progress.{Progress, progress, TookIf}
-use Rattle.ir_record.proofs.Going.{at_lead, turn_spent, turn_stays, turn_steps}
+use Rattle.ir_record.proofs.Going.{at_lead, has_none, turn_spent, turn_stays, turn_steps}
 use Rattle.ir_record.proofs.recorder.Recorder.turn_ahead.Goals as goal
 
 pub returns-then-lead-gt0-clause-went : goal.returns-then-lead-gt0-clause-went
@@ -43,3 +43,9 @@ returns-clause-each g c = length-set c.args.ahead.now.items c.args.t _ ∙ c.req
 
 pub returns-clause-threads : goal.returns-clause-threads
 returns-clause-threads g c = c.run.ensures.alone.threads ∙ c.in_ok-turn.ensures.took.took.threads
+
+pub returns-then-not-branch-clause-waits : goal.returns-then-not-branch-clause-waits
+returns-then-not-branch-clause-waits g c = λ is.
+    let a : Progress = progress c.args.self.now.tape (map g.W.World.answers c.args.self.now.worlds.items) in
+    let b : Progress = progress c.turn.new.self.tape (map g.W.World.answers c.turn.new.self.worlds.items) in
+    has_none a b c.args.t c.in_ok-turn.field-0 c.if-not-branch.true c.in_ok-turn.ensures.took
