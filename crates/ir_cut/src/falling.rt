@@ -118,7 +118,8 @@ pub fn greatest(
     requires size { length cut.now ≡ length fitted.now.guest.entries }
     requires consistent { IsConsistentCut fitted.now cut.now }
     requires thread { t < length fitted.now.guest.entries }
-    ensures { IfOk result (λ c. IsGreatestCut fitted.now cut.now t k c) }
+    ensures greatest { IfOk result (λ c. IsGreatestCut fitted.now cut.now t k c) }
+    ensures exact { IfOk result (λ c. k ≤ cut_of cut.now t → cut_of c t ≡ k) }
 {
     known(fitted);
     let mut next = leaves_inside(alloc, fitted, cut.positions())?;

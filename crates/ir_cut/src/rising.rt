@@ -98,7 +98,8 @@ pub fn least(alloc: Global, fitted: &Fitted, cut: &Cut, t: usize, k: u64) -> Res
     requires consistent { IsConsistentCut fitted.now cut.now }
     requires thread { t < length fitted.now.guest.entries }
     requires steps { k ≤ (recorded_thread fitted.now.recorded t).steps }
-    ensures { IfOk result (λ c. IsLeastCut fitted.now cut.now t k c) }
+    ensures least { IfOk result (λ c. IsLeastCut fitted.now cut.now t k c) }
+    ensures exact { IfOk result (λ c. cut_of cut.now t ≤ k → cut_of c t ≡ k) }
 {
     known(fitted);
     let mut next = events_inside(alloc, fitted, cut.positions())?;
