@@ -1,10 +1,10 @@
 -- Lists of steps by object and version.
 use Rattle.std.proofs.Common.{◌≡◌, ℕ, suc, zero, ◌+◌, ◌-◌, ◌<◌, ◌≤◌, ◌^◌, Bool, true, false, ◌&&◌, eqb, ltb, leb, leb-true, leb-false, ltb-true, ltb-false, eq-eqb, ne_eqb, inl, inr, List, [], ◌∷◌, ◌++◌, length, take, drop, get_or, slice_set, replicate, refl, sym, ap, ◌∙◌, subst, arith, add-one, append-nil, append_assoc}
-use Rattle.std.specs.List.{Contains, AllWithin}
-use Rattle.std.specs.List.Sorted.{IsPermutation, IsNonDecreasingBy, IsPartitionPoint, IsPartitionedBy}
+use Rattle.std.specs.List.{Contains}
+use Rattle.std.specs.List.Sorted.{IsPermutation, IsNonDecreasingBy, IsPartitionPoint}
 use Rattle.std.proofs.lemmas.Bool.{cases_lt, cases_eq}
-use Rattle.std.proofs.lemmas.List.{length-drop, length-take-le, length-set, length-replicate, take_all, get_or-take, get_or-drop, get_or-set_same, get_or-set_other, get_or-replicate, get_or_past, get_or_read, map_more}
-use Rattle.std.proofs.lemmas.List.Sorted.{IsPartitionedBy-leb, IsPermutation-refl}
+use Rattle.std.proofs.lemmas.List.{length-drop, length-take-le, length-set, length-replicate, take_all, get_or-take, get_or-drop, get_or-set_same, get_or-set_other, get_or-replicate, get_or_past, get_or_default, get_or_read, map_more}
+use Rattle.std.proofs.lemmas.List.Sorted.{IsPermutation-refl}
 use Rattle.ir_thread.specs.declared.ask.Access.{Access}
 use Rattle.ir_thread.specs.declared.ask.Access.TheVariants.{Reading, Writing}
 use Rattle.ir_flat.specs.Run.{join_if}
@@ -23,22 +23,27 @@ rest_is xs i = take_all (length xs - i) (drop i xs) (omega (arith, length-drop i
 rest_rises : (xs : List Place) (i : ℕ) → IsNonDecreasingBy (λ (p : Place). p.version) xs → IsNonDecreasingBy (λ (p : Place). p.version) (drop i xs)
 rest_rises xs i up j k d le l = rw (get_or-drop i xs j d, get_or-drop i xs k d) (up (i + j) (i + k) d (omega (arith, le)) (omega (arith, l, length-drop i xs)))
 
-only_at : (xs : List Place) (i n v : ℕ) → n ≤ length (drop i xs) → AllWithin (λ y. ltb y.version v ≡ false) xs i (length xs) → AllWithin (λ y. leb y.version v ≡ true) (drop i xs) 0 n
-    → (p : Place) → Contains (take n (drop i xs)) p → Contains xs p × (p.version ≡ v)
-only_at xs i n v le from to p h =
+-- where those before version v end, and where those at it end
+abbrev pub IsBefore : List Place → ℕ → ℕ → Type 0
+IsBefore xs v i = IsPartitionPoint (λ (p : Place). p.version < v) (λ p. v ≤ p.version) xs i
+
+abbrev pub IsUpTo : List Place → ℕ → ℕ → Type 0
+IsUpTo xs v n = IsPartitionPoint (λ (p : Place). p.version ≤ v) (λ p. v < p.version) xs n
+
+only_at : (xs : List Place) (i n v : ℕ) → n ≤ length (drop i xs) → IsBefore xs v i → IsUpTo (drop i xs) v n → (p : Place) → Contains (take n (drop i xs)) p → Contains xs p × (p.version ≡ v)
+only_at xs i n v le first second p h =
     let k : ℕ = h.0 in
     let kn : k < n = omega (arith, h.1, length-take-le n (drop i xs) le) in
     let here : get_or (drop i xs) k p ≡ p = sym (get_or-take n (drop i xs) k p kn) ∙ h.2 in
     let there : get_or xs (i + k) p ≡ p = sym (get_or-drop i xs k p) ∙ here in
     let within : i + k < length xs = omega (arith, kn, le, length-drop i xs) in
-    let low : v ≤ p.version = ltb-false p.version v (subst (λ (y : Place). ltb y.version v ≡ false) there (from (i + k) p (omega arith) within)) in
-    let high : p.version ≤ v = leb-true p.version v (subst (λ (y : Place). leb y.version v ≡ true) here (to k p (omega arith) kn)) in
+    let low : v ≤ p.version = subst (λ (y : Place). v ≤ y.version) there (first.1 (i + k) p (omega arith) within) in
+    let high : p.version ≤ v = subst (λ (y : Place). y.version ≤ v) here (second.0 k p (omega arith) kn) in
     ((i + k, within, there), omega (arith, low, high))
 
-all_at : (xs : List Place) (i n v : ℕ) → n ≤ length (drop i xs) → AllWithin (λ y. ltb y.version v ≡ true) xs 0 i → AllWithin (λ y. leb y.version v ≡ false) (drop i xs) n (length (drop i xs))
-    → (p : Place) → Contains xs p → p.version ≡ v → Contains (take n (drop i xs)) p
-all_at xs i n v le before behind p h e = elim (cases_lt h.0 i) [
-  | inl l ↦ absurd (let low = ltb-true p.version v (subst (λ (y : Place). ltb y.version v ≡ true) h.2 (before h.0 p (omega arith) l)) in omega (arith, low, e))
+all_at : (xs : List Place) (i n v : ℕ) → n ≤ length (drop i xs) → IsBefore xs v i → IsUpTo (drop i xs) v n → (p : Place) → Contains xs p → p.version ≡ v → Contains (take n (drop i xs)) p
+all_at xs i n v le first second p h e = elim (cases_lt h.0 i) [
+  | inl l ↦ absurd (let low = subst (λ (y : Place). y.version < v) h.2 (first.0 h.0 p (omega arith) l) in omega (arith, low, e))
   | inr from ↦
       let j : ℕ = h.0 - i in
       let sum : i + j ≡ h.0 = omega (arith, from) in
@@ -46,24 +51,53 @@ all_at xs i n v le before behind p h e = elim (cases_lt h.0 i) [
       let within : j < length (drop i xs) = omega (arith, h.1, from, length-drop i xs) in
       elim (cases_lt j n) [
         | inl l ↦ (j, omega (arith, l, length-take-le n (drop i xs) le), get_or-take n (drop i xs) j p l ∙ there)
-        | inr past ↦ absurd (let high = leb-false p.version v (subst (λ (y : Place). leb y.version v ≡ false) there (behind j p past within)) in omega (arith, high, e))
+        | inr past ↦ absurd (let high = subst (λ (y : Place). v < y.version) there (second.1 j p past within) in omega (arith, high, e))
       ]
 ]
 
--- the steps between where those below the version end and where those at it end
-pub at_version : (xs ys : List Place) (i n v : ℕ) → xs ≡ ys → n ≤ length (take (length xs - i) (drop i xs)) → IsPartitionPoint (λ (y : Place). ltb y.version v ≡ true) (λ y. ltb y.version v ≡ false) xs i
-    → IsPartitionPoint (λ (y : Place). leb y.version v ≡ true) (λ y. leb y.version v ≡ false) (take (length xs - i) (drop i xs)) n
+-- the steps between are those at the version
+pub at_version : (xs ys : List Place) (i n v : ℕ) → xs ≡ ys → n ≤ length (take (length xs - i) (drop i xs)) → IsBefore xs v i → IsUpTo (take (length xs - i) (drop i xs)) v n
     → ((p : Place) → Contains (take n (take (length xs - i) (drop i xs))) p → Contains ys p × (p.version ≡ v)) × ((p : Place) → Contains ys p → p.version ≡ v → Contains (take n (take (length xs - i) (drop i xs))) p)
 at_version xs ys i n v same le first second =
     let rest = rest_is xs i in
     let fits : n ≤ length (drop i xs) = subst (λ l. n ≤ length l) rest le in
-    let behind : IsPartitionPoint (λ (y : Place). leb y.version v ≡ true) (λ y. leb y.version v ≡ false) (drop i xs) n = subst (λ l. IsPartitionPoint (λ (y : Place). leb y.version v ≡ true) (λ y. leb y.version v ≡ false) l n) rest second in (
-      λ p h. subst (λ l. Contains l p × (p.version ≡ v)) same (only_at xs i n v fits first.1 behind.0 p (subst (λ l. Contains (take n l) p) rest h)),
-      λ p h e. subst (λ l. Contains (take n l) p) (sym rest) (all_at xs i n v fits first.0 behind.1 p (subst (λ l. Contains l p) (sym same) h) e),
+    let behind : IsUpTo (drop i xs) v n = subst (λ l. IsUpTo l v n) rest second in (
+      λ p h. subst (λ l. Contains l p × (p.version ≡ v)) same (only_at xs i n v fits first behind p (subst (λ l. Contains (take n l) p) rest h)),
+      λ p h e. subst (λ l. Contains (take n l) p) (sym rest) (all_at xs i n v fits first behind p (subst (λ l. Contains l p) (sym same) h) e),
     )
 
-pub rest_parted : (xs : List Place) (i v : ℕ) → IsNonDecreasingBy (λ (p : Place). p.version) xs → IsPartitionedBy (λ (y : Place). leb y.version v) (take (length xs - i) (drop i xs))
-rest_parted xs i v up = subst (IsPartitionedBy (λ (y : Place). leb y.version v)) (sym (rest_is xs i)) (IsPartitionedBy-leb (λ (p : Place). p.version) (drop i xs) v (rest_rises xs i up))
+pub rest_in_order : (xs : List Place) (i : ℕ) → IsNonDecreasingBy (λ (p : Place). p.version) xs → IsNonDecreasingBy (λ (p : Place). p.version) (take (length xs - i) (drop i xs))
+rest_in_order xs i up = subst (IsNonDecreasingBy (λ (p : Place). p.version)) (sym (rest_is xs i)) (rest_rises xs i up)
+
+-- a place that is at the version, and those before it are not
+pub before_guess : (xs : List Place) (v i : ℕ) (d : Place) → IsNonDecreasingBy (λ (p : Place). p.version) xs → i < length xs → (get_or xs i d).version ≡ v → (0 < i → (get_or xs (i - 1) d).version < v) → IsBefore xs v i
+before_guess xs v i d up l at low = (
+  λ k e from lt. let a = up k (i - 1) d (omega (arith, lt)) (omega (arith, l)) in let b = low (omega (arith, lt)) in let s : get_or xs k e ≡ get_or xs k d = get_or_default xs k e d (omega (arith, lt, l)) in subst (λ (y : Place). y.version < v) (sym s) (omega (arith, a, b)),
+  λ k e from lt. let a = up i k d from lt in let s : get_or xs k e ≡ get_or xs k d = get_or_default xs k e d lt in subst (λ (y : Place). v ≤ y.version) (sym s) (omega (arith, a, at)),
+)
+
+-- those from i on are past the version, and the one before i is not
+pub up_to_guess : (xs : List Place) (v i : ℕ) (d : Place) → IsNonDecreasingBy (λ (p : Place). p.version) xs → (0 < i → i ≤ length xs) → (0 < i → (get_or xs (i - 1) d).version ≤ v) → (i < length xs → v < (get_or xs i d).version) → IsUpTo xs v i
+up_to_guess xs v i d up l low high = (
+  λ k e from lt.
+      let le = l (omega (arith, lt)) in
+      let a = up k (i - 1) d (omega (arith, lt)) (omega (arith, lt, le)) in
+      let b = low (omega (arith, lt)) in
+      let s : get_or xs k e ≡ get_or xs k d = get_or_default xs k e d (omega (arith, lt, le)) in
+      subst (λ (y : Place). y.version ≤ v) (sym s) (omega (arith, a, b)),
+  λ k e from lt.
+      let a = up i k d from lt in
+      let b = high (omega (arith, from, lt)) in
+      let s : get_or xs k e ≡ get_or xs k d = get_or_default xs k e d lt in
+      subst (λ (y : Place). v < y.version) (sym s) (omega (arith, a, b)),
+)
+
+-- the same of the tests of a search
+pub before_tested : (xs : List Place) (v i : ℕ) → IsPartitionPoint (λ (y : Place). ltb y.version v ≡ true) (λ y. ltb y.version v ≡ false) xs i → IsBefore xs v i
+before_tested xs v i h = (λ k d from lt. ltb-true _ v (h.0 k d from lt), λ k d from lt. ltb-false _ v (h.1 k d from lt))
+
+pub up_to_tested : (xs : List Place) (v n : ℕ) → IsPartitionPoint (λ (y : Place). leb y.version v ≡ true) (λ y. leb y.version v ≡ false) xs n → IsUpTo xs v n
+up_to_tested xs v n h = (λ k d from lt. leb-true _ v (h.0 k d from lt), λ k d from lt. leb-false _ v (h.1 k d from lt))
 
 -- ---- lists that are sorted in turn
 

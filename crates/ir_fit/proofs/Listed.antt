@@ -10,7 +10,7 @@ use Rattle.ir_thread.specs.declared.ask.Access.{Access}
 use Rattle.ir_thread.specs.declared.ask.EnvKind.{EnvKind}
 use Rattle.ir_thread.specs.declared.ask.EnvKind.TheVariants.{Clock}
 use Rattle.ir_flat.specs.Flat.{start_flat, tables, machine}
-use Rattle.ir_flat.specs.Run.{State, Step, after, IsRun, IsIdle, trail, events}
+use Rattle.ir_flat.specs.Run.{State, Step, after, IsRun, IsIdle, trail, count, events}
 use Rattle.ir_flat.proofs.Runs.{start_idle}
 use Rattle.ir_log.specs.Logging.{mark_of}
 use Rattle.ir_log.specs.declared.event.Event.{Event}
@@ -203,7 +203,7 @@ tells_below f h t k e told = elim (cases_lt t (length f.guest.entries)) [
 ]
 
 -- a thread takes as many steps in the run as were recorded
-pub steps_in : (f : FittedTrace) (h : HasRun f) (t : ℕ) → t < length f.guest.entries → length (trail_in f h t) ≡ (recorded_thread f.recorded t).steps
+pub steps_in : (f : FittedTrace) (h : HasRun f) (t : ℕ) → t < length f.guest.entries → count (machine (start_flat f.guest f.recorded.budget)) (tables (start_flat f.guest f.recorded.budget)) h.run t ≡ (recorded_thread f.recorded t).steps
 steps_in f h t l = h.whole.1.steps t l
 
 -- no step stands past them

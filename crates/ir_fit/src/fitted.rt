@@ -91,7 +91,8 @@ impl Fitted {
         self.places[t].leaves()
     }
     /// The steps by which threads entered the object for such access at this version. None, where the guest has no such
-    /// object or the run no such entry. The search takes the logarithm of the object's entries for such access.
+    /// object or the run no such entry. A write entry is found where its version
+    /// says; read entries are searched, in the logarithm of their number.
     pub fn entries_at(&self, object: u8, access: Access, version: u32) -> &[Place]
         ensures only { OnlyEntries self.now object access version result.now }
         ensures all { AllEntries self.now object access version result.now }
@@ -101,8 +102,8 @@ impl Fitted {
     }
 
     /// The steps by which threads left the object after such access at this version, those after a thread's end among
-    /// them. None, where the guest has no such object or the run no such leave. The search takes the logarithm of the
-    /// object's leaves after such access.
+    /// them. None, where the guest has no such object or the run no such leave. A writer's leave is found where its
+    /// version says; readers' leaves are searched, in the logarithm of their number.
     pub fn leaves_at(&self, object: u8, access: Access, version: u32) -> &[Place]
         ensures only { OnlyLeaves self.now object access version result.now }
         ensures all { AllLeaves self.now object access version result.now }

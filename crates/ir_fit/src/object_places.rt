@@ -1,8 +1,8 @@
 //! The steps by which one object was entered, or left, for one kind of access.
 
-ghost use Rattle.std.specs.Prelude.{◌≡◌, ◌++◌, [], ◌∷◌, List, IfOk, OnOk};
+ghost use Rattle.std.specs.Prelude.{◌≡◌, ◌<◌, ◌≤◌, ◌++◌, [], ◌∷◌, List, length, IfOk, OnOk};
 ghost use Rattle.std.specs.List.{Contains};
-ghost use Rattle.std.specs.List.Sorted.{IsPermutation, IsNonDecreasingBy};
+ghost use Rattle.std.specs.List.Sorted.{IsPermutation, IsNonDecreasingBy, IsPartitionPoint};
 ghost use Rattle.ir_fit.specs.declared.place.Place.{Place};
 
 use crate::place::Place;
@@ -13,6 +13,37 @@ use std::marker::Model;
 #[derive(Drop)]
 pub struct ObjectPlaces {
     places: Vec<Place>,
+}
+
+// How many stand before the version. Where each version has one step, as among write entries, that is the version's number,
+// which is looked at first.
+fn count_before(places: &[Place], version: u32) -> usize
+    requires { IsNonDecreasingBy (λ (p : Place). p.version) places.now }
+    ensures bound { result ≤ length places.now }
+    ensures point { IsPartitionPoint (λ (p : Place). p.version < version) (λ p. version ≤ p.version) places.now result }
+{
+    let guess = version as usize;
+    if guess < places.len() && places[guess].version == version {
+        if guess == 0 || places[guess - 1].version < version {
+            return guess;
+        }
+    }
+    places.partition_point(|place| place.version < version)
+}
+
+// How many stand at the version or before it. None and one are seen at once.
+fn count_up_to(places: &[Place], version: u32) -> usize
+    requires { IsNonDecreasingBy (λ (p : Place). p.version) places.now }
+    ensures bound { result ≤ length places.now }
+    ensures point { IsPartitionPoint (λ (p : Place). p.version ≤ version) (λ p. version < p.version) places.now result }
+{
+    if places.is_empty() || places[0].version > version {
+        return 0;
+    }
+    if places.len() == 1 || places[1].version > version {
+        return 1;
+    }
+    places.partition_point(|place| place.version <= version)
 }
 
 impl Model for ObjectPlaces {
@@ -55,9 +86,7 @@ impl ObjectPlaces {
         ensures all { (p : Place) → Contains self.now p → p.version ≡ version → Contains result.now p }
     {
         let places = self.places.as_slice();
-        let first = places.partition_point(|place| place.version < version);
-        let rest = &places[first..];
-        let count = rest.partition_point(|place| place.version <= version);
-        &rest[..count]
+        let rest = &places[count_before(places, version)..];
+        &rest[..count_up_to(rest, version)]
     }
 }
