@@ -166,15 +166,13 @@ impl FarVersions {
         ensures from { IsFrom self.now.versions.items number result }
     {
         let block = block_of(number, self.shift);
-        let low = self.raised(number, 0, self.start_of(block));
-        let high = self.lowered(
-            number,
-            self.versions.len(),
-            self.start_of(block.saturating_add(1)),
-        );
-        let guess = self.guess(number, low, high);
-        let low = self.raised(number, low, guess);
-        let high = self.lowered(number, high, guess);
+        let start = self.start_of(block);
+        let end = self.start_of(block.saturating_add(1));
+        let guess = self.guess(number, start, end);
+        let low = self.raised(number, 0, guess);
+        let high = self.lowered(number, self.versions.len(), guess);
+        let low = self.raised(number, low, start);
+        let high = self.lowered(number, high, end);
         self.search(number, low, high)
     }
 

@@ -51,6 +51,7 @@ impl VersionCounts {
     }
 
     /// How many entries there are at the version.
+    #[inline(always)]
     pub fn get(&self, version: u32) -> usize
         requires { IsSettled self.now }
         ensures { result ≡ count self.now version }
