@@ -1,6 +1,5 @@
 -- How often a number stands in a list, by where those below it end and where those above it begin.
-use Rattle.std.proofs.Common.{◌≡◌, ℕ, suc, zero, ◌+◌, ◌-◌, ◌<◌, ◌≤◌, Bool, true, false, cond, eqb, List, [], ◌∷◌, ◌++◌, length, refl, sym, ap, ◌∙◌, subst, arith, eq-eqb, ne_eqb}
-use Rattle.std.specs.Prelude.{slice_index}
+use Rattle.std.proofs.Common.{◌≡◌, ℕ, suc, zero, ◌+◌, ◌-◌, ◌<◌, ◌≤◌, cond, eqb, List, [], ◌∷◌, length, sym, ap, ◌∙◌, subst, arith, eq-eqb, ne_eqb}
 use Rattle.std.proofs.lemmas.List.Sums.{sum_by-append}
 use Rattle.ir_fit.specs.Counting.{occurrences, IsBelow, IsFrom}
 
@@ -42,6 +41,8 @@ occurs v (x ∷ xs) (suc first) (suc end) b f c g =
     let rest = occurs v xs first end (fewer x xs v first b) (later x xs v first f) (fewer x xs (v + 1) end c) (later x xs (v + 1) end g) in
     omega (arith, rest, other v x xs (λ e. omega (arith, e, below)))
 
--- one more stands at the end
-pub one_more : (v w : ℕ) (xs : List ℕ) → occurrences w (xs ++ v ∷ []) ≡ occurrences w xs + cond (eqb v w) 1 0
-one_more v w xs = omega (arith, sum_by-append (λ x. cond (eqb x w) 1 0) xs (v ∷ []))
+-- the same of the number before
+pub occurs_before : (v : ℕ) (xs : List ℕ) (first end : ℕ) → 0 < v → IsBelow xs (v - 1) first → IsFrom xs (v - 1) first → IsBelow xs v end → IsFrom xs v end → end - first ≡ occurrences (v - 1) xs
+occurs_before v xs first end l b f c g =
+    let same : v ≡ v - 1 + 1 = omega (arith, l) in
+    occurs (v - 1) xs first end b f (subst (λ z. IsBelow xs z end) same c) (subst (λ z. IsFrom xs z end) same g)

@@ -117,6 +117,24 @@ impl EntryCounts {
         version > 0 && self.writes(object, version - 1) == 0
     }
 
+    // The same of a write entry at the version, and how many of these there are.
+    fn written(&self, object: u8, version: u32) -> (bool, usize)
+        requires { AreSettled self.now }
+        ensures unmade { result.0 ≡ nobody_made (writes_of self.now) object version }
+        ensures writes { result.1 ≡ writes_of self.now object version }
+    {
+        if version == 0 {
+            return (false, self.writes(object, version));
+        }
+        match self.objects.get(object as usize) {
+            Some(counts) => {
+                let (before, here) = counts.writes.both(version);
+                (before == 0, here)
+            }
+            None => (true, 0),
+        }
+    }
+
     /// The first cause for which an event breaks coherence, where the entries of its trace are counted here.
     pub fn cause_of(&self, event: Event) -> Option<Cause>
         requires { AreSettled self.now }
@@ -132,9 +150,10 @@ impl EntryCounts {
                 version,
                 readers,
             } => {
-                if self.is_unmade(object, version) {
+                let (unmade, writes) = self.written(object, version);
+                if unmade {
                     Some(Cause::Unmade)
-                } else if self.writes(object, version) > 1 {
+                } else if writes > 1 {
                     Some(Cause::Twice)
                 } else if self.reads(object, version) != readers as usize {
                     Some(Cause::Readers)

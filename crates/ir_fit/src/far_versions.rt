@@ -1,6 +1,6 @@
 //! Versions, one for each entry, and how often each stands among them.
 
-ghost use Rattle.std.specs.Prelude.{◌≡◌, [], ◌∷◌, ◌++◌, ◌+◌, ℕ, OnOk};
+ghost use Rattle.std.specs.Prelude.{◌≡◌, [], ◌∷◌, ◌++◌, ◌-◌, ◌<◌, ℕ, OnOk};
 ghost use Rattle.std.specs.List.Sorted.{IsNonDecreasing};
 ghost use Rattle.ir_fit.specs.Counting.{occurrences, IsBelow, IsFrom};
 
@@ -159,7 +159,7 @@ impl FarVersions {
         low.saturating_add((into.saturating_mul(count) >> shift) as usize)
     }
 
-    // How many versions are below the number.
+    // How many versions are below the number. The guess is tried first, then places some way off, then the block's bounds.
     fn below(&self, number: u64) -> usize
         requires { IsNonDecreasing self.now.versions.items }
         ensures below { IsBelow self.now.versions.items number result }
@@ -171,9 +171,26 @@ impl FarVersions {
         let guess = self.guess(number, start, end);
         let low = self.raised(number, 0, guess);
         let high = self.lowered(number, self.versions.len(), guess);
+        let low = self.raised(number, low, guess.saturating_sub(16));
+        let high = self.lowered(number, high, guess.saturating_add(16));
+        let low = self.raised(number, low, guess.saturating_sub(64));
+        let high = self.lowered(number, high, guess.saturating_add(64));
         let low = self.raised(number, low, start);
         let high = self.lowered(number, high, end);
         self.search(number, low, high)
+    }
+
+    // How many versions are below the number, where so many are that are mostly all or all but one.
+    fn next(&self, number: u64, first: usize) -> usize
+        requires sorted { IsNonDecreasing self.now.versions.items }
+        requires first { IsBelow self.now.versions.items number first }
+        ensures below { IsBelow self.now.versions.items number result }
+        ensures from { IsFrom self.now.versions.items number result }
+    {
+        let end = self.lowered(number, self.versions.len(), first);
+        let next = self.raised(number, first, first.saturating_add(1));
+        let end = self.lowered(number, end, next);
+        self.search(number, next, end)
     }
 
     /// How often a version stands among them.
@@ -183,9 +200,20 @@ impl FarVersions {
     {
         let number = version as u64;
         let first = self.below(number);
-        let end = self.lowered(number + 1, self.versions.len(), first);
-        let next = self.raised(number + 1, first, first.saturating_add(1));
-        let end = self.lowered(number + 1, end, next);
-        self.search(number + 1, next, end).saturating_sub(first)
+        self.next(number + 1, first).saturating_sub(first)
+    }
+
+    /// How often the version before and the version stand among them.
+    pub fn both(&self, version: u32) -> (usize, usize)
+        requires sorted { IsNonDecreasing self.now.versions.items }
+        requires later { 0 < version }
+        ensures before { result.0 ≡ occurrences (version - 1) self.now.versions.items }
+        ensures here { result.1 ≡ occurrences version self.now.versions.items }
+    {
+        let number = version as u64;
+        let before = self.below(number - 1);
+        let here = self.next(number, before);
+        let after = self.next(number + 1, here);
+        (here.saturating_sub(before), after.saturating_sub(here))
     }
 }

@@ -1,6 +1,6 @@
 //! How many entries there are at each version of an object.
 
-ghost use Rattle.std.specs.Prelude.{◌≡◌, ◌+◌, ◌<◌, ◌^◌, ℕ, OnOk, IfOk};
+ghost use Rattle.std.specs.Prelude.{◌≡◌, ◌+◌, ◌-◌, ◌<◌, ◌^◌, ℕ, OnOk, IfOk};
 ghost use Rattle.ir_fit.specs.Counting.{count, IsEmpty, IsSettled, OneMore};
 
 use crate::far_versions::FarVersions;
@@ -59,6 +59,21 @@ impl VersionCounts {
         match self.near.get(version as usize) {
             Some(count) => *count as usize,
             None => self.far.count(version),
+        }
+    }
+
+    /// How many entries there are at the version before and at the version.
+    #[inline(always)]
+    pub fn both(&self, version: u32) -> (usize, usize)
+        requires settled { IsSettled self.now }
+        requires later { 0 < version }
+        ensures before { result.0 ≡ count self.now (version - 1) }
+        ensures here { result.1 ≡ count self.now version }
+    {
+        if version as usize <= self.near.len() {
+            (self.get(version - 1), self.get(version))
+        } else {
+            self.far.both(version)
         }
     }
 }
