@@ -54,7 +54,7 @@ fn first_break(counts: &EntryCounts, trace: &Trace) -> Result<(), Verdict>
 /// Whether a trace is coherent: each entry at a version after the first has the write entry that made its version, no
 /// two write entries of an object stand at one version, and each write entry names as many readers as read entries of
 /// its version stand in the trace. Time and memory are linear in the events where their versions are no more than the
-/// write entries; searching the others takes the logarithm of their number.
+/// write entries; the others are sorted, and looking one up takes the logarithm of their number at most.
 ///
 /// # Errors
 /// `FitErr::NoMem` where memory is wanted; else `FitErr::Refused` with `Verdict::Incoherent`, which names the first
