@@ -21,6 +21,7 @@ pub mod Writes
 pub mod Causes
 pub mod Tables
 pub mod Logs
+pub mod Far
 pub mod Breaks
 pub mod Seen
 pub mod Placed

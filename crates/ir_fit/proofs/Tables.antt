@@ -1,8 +1,9 @@
 -- Tables of counts by objects.
-use Rattle.std.proofs.Common.{◌≡◌, ℕ, suc, zero, ◌+◌, ◌<◌, inl, inr, cond, eqb, List, [], ◌∷◌, ◌++◌, length, get_or, slice_set, refl, sym, ap, ◌∙◌, subst, arith, eq-eqb, ne_eqb}
+use Rattle.std.proofs.Common.{◌≡◌, ℕ, suc, zero, ◌+◌, ◌<◌, ◌⊎◌, inl, inr, Some, None, cond, eqb, List, [], ◌∷◌, ◌++◌, length, get_or, slice_set, refl, sym, ap, ◌∙◌, subst, arith, eq-eqb, ne_eqb}
 use Rattle.std.specs.Prelude.{slice_get}
 use Rattle.std.specs.Option.{option_map_or}
 use Rattle.std.proofs.lemmas.Bool.{cases_eq}
+use Rattle.std.proofs.lemmas.Option.{same_Some}
 use Rattle.ir_fit.specs.Counting.{count, OneMore}
 use Rattle.ir_fit.specs.declared.version_counts.VersionCounts.{VersionCounts}
 use Rattle.ir_fit.specs.declared.entry_counts.ObjectCounts.{ObjectCounts}
@@ -37,10 +38,21 @@ at_more f xs i o x w n l e more = elim (cases_eq i o) [
 ]
 
 -- f says as much of the element that is written
-at_kept : {X : Type 0} (f : X → ℕ) (xs : List X) (i o : ℕ) (x w : X) → i < length xs → get_or xs i x ≡ x → f w ≡ f x → at f (slice_set xs i w) o ≡ at f xs o
+pub at_kept : {X : Type 0} (f : X → ℕ) (xs : List X) (i o : ℕ) (x w : X) → i < length xs → get_or xs i x ≡ x → f w ≡ f x → at f (slice_set xs i w) o ≡ at f xs o
 at_kept f xs i o x w l e same = elim (cases_eq i o) [
   | inl here ↦ subst (λ z. at f (slice_set xs i w) z ≡ at f xs z) here (at_set_here f xs i w l ∙ same ∙ sym (at_here f xs i x l e))
   | inr ne ↦ at_set_other f xs i o w ne
+]
+
+-- what stands in the list is what is written, or stood there
+pub set_seen : {X : Type 0} (xs : List X) (i o : ℕ) (w y : X) → slice_get (slice_set xs i w) o ≡ Some y → (y ≡ w) ⊎ ((i ≡ o → ⊥) × (slice_get xs o ≡ Some y))
+set_seen [] i o w y e = absurd (let bad : None ≡ Some y = e in cc)
+set_seen (x ∷ xs) zero zero w y e = inl (sym (same_Some w y e))
+set_seen (x ∷ xs) zero (suc o) w y e = inr ((λ q. absurd (omega (arith, q))), e)
+set_seen (x ∷ xs) (suc i) zero w y e = inr ((λ q. absurd (omega (arith, q))), e)
+set_seen (x ∷ xs) (suc i) (suc o) w y e = elim (set_seen xs i o w y e) [
+  | inl h ↦ inl h
+  | inr h ↦ inr ((λ q. h.0 (omega (arith, q))), h.1)
 ]
 
 pub at_push : {X : Type 0} (f : X → ℕ) (xs : List X) (x : X) (o : ℕ) → f x ≡ 0 → ((p : ℕ) → at f xs p ≡ 0) → at f (xs ++ x ∷ []) o ≡ 0

@@ -1,5 +1,5 @@
 -- What a trace leaves to the threads of a guest, and their next steps beside it.
-use Rattle.std.specs.Prelude.{◌≡◌, ◌≢◌, ℕ, suc, ◌-◌, ◌<◌, ◌≤◌, List, length, map, drop, ⊤}
+use Rattle.std.specs.Prelude.{◌≡◌, ◌≢◌, ℕ, suc, ◌-◌, ◌<◌, ◌≤◌, List, length, map, drop, slice_get, Some, ⊤}
 use Rattle.ir_thread.specs.Calls.{ask_of}
 use Rattle.ir_thread.specs.Ends.{end_number, end_code}
 use Rattle.ir_thread.specs.Held.{held_count}
@@ -75,9 +75,16 @@ pub record IsMove (r : Recorded) (f : Flat) (m : Move) : Type 0 where
   pub asked : m.asked ≡ ask_of f.code (thread_of f m.thread)
   pub follows : CanFollow r f m.thread m.result
 
--- what is seen of thread t: it is done; its next step isn't the trace's; it is, and it is an entry to this object that can't be taken now as the log says; or the step follows
+-- the next step of thread t is an entry, and the next event that the trace tells of it is this one
+pub record IsEntryAhead (r : Recorded) (f : Flat) (t : ℕ) (e : Event) : Type 0 where
+  pub object : ℕ
+  pub access : Access
+  pub asked : ask_of f.code (thread_of f t) ≡ asks.Enter object access
+  pub next : slice_get (recorded_thread r t).events (thread_of f t).events ≡ Some e
+
+-- what is seen of thread t: it is done; its next step isn't the trace's; it is, and it is an entry, logged as this event, that can't be taken now as the log says; or the step follows
 abbrev pub IsSeen : Recorded → Flat → ℕ → Look → Type 0
 IsSeen r f t Done = ask_of f.code (thread_of f t) ≡ asks.Done
 IsSeen r f t Disagrees = (ask_of f.code (thread_of f t) ≢ asks.Done) × (AgreesAhead r f t → ⊥)
-IsSeen r f t (Waits o) = ((a : Access) × (ask_of f.code (thread_of f t) ≡ asks.Enter o a)) × AgreesAhead r f t × IsStopped r f t
+IsSeen r f t (Waits e) = IsEntryAhead r f t e × AgreesAhead r f t × IsStopped r f t
 IsSeen r f t (Goes m) = (m.thread ≡ t) × IsMove r f m

@@ -1,8 +1,8 @@
 -- How many entries of a trace there are of each object at each version, and what these numbers tell of an event.
-use Rattle.std.specs.Prelude.{◌≡◌, ℕ, ◌+◌, ◌-◌, ◌^◌, ◌<◌, Bool, cond, eqb, nat_lt, ◌==◌, ◌&&◌, if◌then◌else◌, List, [], ◌∷◌, Option, Some, None, slice_index, slice_get, vec_len, unwrap_or}
+use Rattle.std.specs.Prelude.{◌≡◌, ℕ, ◌+◌, ◌-◌, ◌^◌, ◌<◌, ◌≤◌, Bool, cond, eqb, nat_lt, ◌==◌, ◌&&◌, if◌then◌else◌, List, [], ◌∷◌, Option, Some, None, slice_index, slice_get, vec_len, length}
 use Rattle.std.specs.Option.{option_map_or}
-use Rattle.std.specs.Ordering.{nat_cmp}
-use Rattle.std.specs.BTreeMap.{get}
+use Rattle.std.specs.List.{sum_by}
+use Rattle.std.specs.List.Sorted.{IsNonDecreasing}
 use Rattle.ir_thread.specs.Marks.{Mark, Quiet, Answer, In, Refused, Out, Trace}
 use Rattle.ir_thread.specs.declared.ask.Access.TheVariants.{Reading, Writing}
 use Rattle.ir_log.specs.Logging.{mark_of}
@@ -52,9 +52,27 @@ cause_by r w (In o Writing v l) =
 cause_by r w (Refused o) = None
 cause_by r w (Out o a v) = None
 
+-- how often v stands among these
+abbrev pub occurrences : ℕ → List ℕ → ℕ
+occurrences v xs = sum_by (λ w. cond (eqb w v) 1 0) xs
+
+-- the first n of these are below k
+pub record IsBelow (xs : List ℕ) (k n : ℕ) : Type 0 where
+  pub within : n ≤ length xs
+  pub each : (i : ℕ) → i < n → slice_index xs i < k
+
+-- from place n on none of these is below k
+pub record IsFrom (xs : List ℕ) (k n : ℕ) : Type 0 where
+  pub within : n ≤ length xs
+  pub each : (i : ℕ) → n ≤ i → i < length xs → k ≤ slice_index xs i
+
 -- what a table of one object counts at version v
 abbrev pub count : VersionCounts → ℕ → ℕ
-count c v = if nat_lt v (vec_len c.near) then slice_index c.near.items v else unwrap_or (get nat_cmp c.far v) 0
+count c v = if nat_lt v (vec_len c.near) then slice_index c.near.items v else occurrences v c.far.versions.items
+
+-- the table can be asked
+abbrev pub IsSettled : VersionCounts → Type 0
+IsSettled c = IsNonDecreasing c.far.versions.items
 
 -- nothing is counted
 abbrev pub IsEmpty : VersionCounts → Type 0
@@ -71,6 +89,16 @@ reads_of c o v = option_map_or (λ (x : ObjectCounts). count x.reads v) (slice_g
 -- and of write entries
 abbrev pub writes_of : EntryCounts → ℕ → ℕ → ℕ
 writes_of c o v = option_map_or (λ (x : ObjectCounts). count x.writes v) (slice_get c.objects.items o) 0
+
+-- the tables of all objects can be asked
+abbrev pub AreSettled : EntryCounts → Type 0
+AreSettled c = (o : ℕ) (x : ObjectCounts) → slice_get c.objects.items o ≡ Some x → IsSettled x.reads × IsSettled x.writes
+
+-- as many are counted as before, of each object at each version
+pub record SameCounts (old new : EntryCounts) : Type 0 where
+  pub objects : vec_len new.objects ≡ vec_len old.objects
+  pub reads : (o v : ℕ) → reads_of new o v ≡ reads_of old o v
+  pub writes : (o v : ℕ) → writes_of new o v ≡ writes_of old o v
 
 -- so many objects, and nothing is counted of any
 pub record CountsNone (n : ℕ) (c : EntryCounts) : Type 0 where

@@ -4,7 +4,7 @@ ghost use Rattle.std.specs.Prelude.{◌≡◌, ◌≤◌, length, IfErr, OnOk, I
 ghost use Rattle.ir_thread.specs.Calls.{most_events};
 ghost use Rattle.ir_trace.specs.Told.{trace_of};
 ghost use Rattle.ir_fit.specs.Coherent.{IsCoherent};
-ghost use Rattle.ir_fit.specs.Counting.{CountsAll, reads_of, writes_of, FirstCause, NoCause};
+ghost use Rattle.ir_fit.specs.Counting.{CountsAll, AreSettled, reads_of, writes_of, FirstCause, NoCause};
 ghost use Rattle.ir_fit.specs.Breaking.{BreaksBy, NamesBreak};
 
 use crate::cause::Cause;
@@ -18,7 +18,8 @@ use std::alloc::Global;
 
 // The first event of a log that breaks coherence, and its first cause.
 fn first_in(counts: &EntryCounts, events: &[Event]) -> Option<(u32, Cause)>
-    requires { length events.now ≤ most_events }
+    requires few { length events.now ≤ most_events }
+    requires settled { AreSettled counts.now }
     ensures found { IfSome result (λ f. FirstCause (reads_of counts.now) (writes_of counts.now) events.now f.0 f.1) }
     ensures none { IfNone result (NoCause (reads_of counts.now) (writes_of counts.now) events.now) }
 {
@@ -32,7 +33,8 @@ fn first_in(counts: &EntryCounts, events: &[Event]) -> Option<(u32, Cause)>
 
 // The first event of the trace that breaks coherence, and its first cause.
 fn first_break(counts: &EntryCounts, trace: &Trace) -> Result<(), Verdict>
-    requires { CountsAll (length trace.now.threads) (trace_of trace.now) counts.now }
+    requires counts { CountsAll (length trace.now.threads) (trace_of trace.now) counts.now }
+    requires settled { AreSettled counts.now }
     ensures coherent { OnOk result (IsCoherent (length trace.now.threads) (trace_of trace.now)) }
     ensures breaks { IfErr result (NamesBreak trace.now) }
 {
@@ -52,7 +54,7 @@ fn first_break(counts: &EntryCounts, trace: &Trace) -> Result<(), Verdict>
 /// Whether a trace is coherent: each entry at a version after the first has the write entry that made its version, no
 /// two write entries of an object stand at one version, and each write entry names as many readers as read entries of
 /// its version stand in the trace. Time and memory are linear in the events where their versions are no more than the
-/// write entries; searching the others takes the logarithm of their number.
+/// write entries; the others are sorted, and looking one up takes the logarithm of their number at most.
 ///
 /// # Errors
 /// `FitErr::NoMem` where memory is wanted; else `FitErr::Refused` with `Verdict::Incoherent`, which names the first

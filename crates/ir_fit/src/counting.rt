@@ -5,7 +5,7 @@ ghost use Rattle.std.specs.List.{AllByRecursion};
 ghost use Rattle.ir_log.specs.Logging.{mark_of};
 ghost use Rattle.ir_trace.specs.Recorded.{IsEvent};
 ghost use Rattle.ir_trace.specs.Told.{trace_of};
-ghost use Rattle.ir_fit.specs.Counting.{CountsMore, CountsAll, HasRoom};
+ghost use Rattle.ir_fit.specs.Counting.{CountsMore, CountsAll, HasRoom, AreSettled};
 
 use crate::entry_counts::EntryCounts;
 use ir_log::Event;
@@ -53,12 +53,14 @@ fn add_log(counts: &mut EntryCounts, events: &[Event]) -> Result<(), AllocError>
 /// # Errors
 /// Want of memory.
 pub fn count_entries(alloc: Global, trace: &Trace) -> Result<EntryCounts, AllocError>
-    ensures { IfOk result (CountsAll (length trace.now.threads) (trace_of trace.now)) }
+    ensures counts { IfOk result (CountsAll (length trace.now.threads) (trace_of trace.now)) }
+    ensures settled { IfOk result AreSettled }
 {
     let limits = limits(alloc, trace)?;
     let mut counts = EntryCounts::new(alloc, &limits)?;
     for thread in trace.threads() {
         add_log(&mut counts, thread.log().events())?;
     }
+    counts.settle()?;
     Ok(counts)
 }

@@ -1,9 +1,9 @@
 //! How many entries of each object there are at each version.
 
-ghost use Rattle.std.specs.Prelude.{◌≡◌, [], ◌∷◌, length, vec_len, OnOk, IfOk};
+ghost use Rattle.std.specs.Prelude.{◌≡◌, ℕ, [], ◌∷◌, length, vec_len, OnOk, IfOk};
 ghost use Rattle.ir_log.specs.Logging.{mark_of};
 ghost use Rattle.ir_trace.specs.Recorded.{IsEvent};
-ghost use Rattle.ir_fit.specs.Counting.{reads_of, writes_of, CountsNone, CountsMore, HasRoom, nobody_made, cause_by};
+ghost use Rattle.ir_fit.specs.Counting.{count, reads_of, writes_of, CountsNone, CountsMore, HasRoom, IsSettled, AreSettled, SameCounts, nobody_made, cause_by};
 
 use crate::cause::Cause;
 use crate::version_counts::VersionCounts;
@@ -15,6 +15,19 @@ use std::alloc::{AllocError, Global};
 pub struct ObjectCounts {
     pub reads: VersionCounts,
     pub writes: VersionCounts,
+}
+
+impl ObjectCounts {
+    // Makes ready to be asked.
+    fn settle(&mut self) -> Result<(), AllocError>
+        ensures reads { OnOk result (IsSettled self.new.reads) }
+        ensures writes { OnOk result (IsSettled self.new.writes) }
+        ensures same_reads { OnOk result ((v : ℕ) → count self.new.reads v ≡ count self.old.reads v) }
+        ensures same_writes { OnOk result ((v : ℕ) → count self.new.writes v ≡ count self.old.writes v) }
+    {
+        self.reads.settle()?;
+        self.writes.settle()
+    }
 }
 
 /// The entries of each object.
@@ -41,7 +54,8 @@ impl EntryCounts {
     }
 
     /// How many read entries of the object there are at the version.
-    pub fn reads(&self, object: u8, version: u32) -> u32
+    pub fn reads(&self, object: u8, version: u32) -> usize
+        requires { AreSettled self.now }
         ensures { result ≡ reads_of self.now object version }
     {
         match self.objects.get(object as usize) {
@@ -51,7 +65,8 @@ impl EntryCounts {
     }
 
     /// How many write entries of the object there are at the version.
-    pub fn writes(&self, object: u8, version: u32) -> u32
+    pub fn writes(&self, object: u8, version: u32) -> usize
+        requires { AreSettled self.now }
         ensures { result ≡ writes_of self.now object version }
     {
         match self.objects.get(object as usize) {
@@ -80,15 +95,49 @@ impl EntryCounts {
         }
     }
 
+    /// Makes ready to be asked.
+    ///
+    /// # Errors
+    /// Want of memory.
+    pub fn settle(&mut self) -> Result<(), AllocError>
+        ensures settled { OnOk result (AreSettled self.new) }
+        ensures same { OnOk result (SameCounts self.old self.new) }
+    {
+        for number in 0..self.objects.len() {
+            self.objects[number].settle()?;
+        }
+        Ok(())
+    }
+
     // Whether an entry at the version is of a version that no write entry made.
     fn is_unmade(&self, object: u8, version: u32) -> bool
+        requires { AreSettled self.now }
         ensures { result ≡ nobody_made (writes_of self.now) object version }
     {
         version > 0 && self.writes(object, version - 1) == 0
     }
 
+    // The same of a write entry at the version, and how many of these there are.
+    fn written(&self, object: u8, version: u32) -> (bool, usize)
+        requires { AreSettled self.now }
+        ensures unmade { result.0 ≡ nobody_made (writes_of self.now) object version }
+        ensures writes { result.1 ≡ writes_of self.now object version }
+    {
+        if version == 0 {
+            return (false, self.writes(object, version));
+        }
+        match self.objects.get(object as usize) {
+            Some(counts) => {
+                let (before, here) = counts.writes.both(version);
+                (before == 0, here)
+            }
+            None => (true, 0),
+        }
+    }
+
     /// The first cause for which an event breaks coherence, where the entries of its trace are counted here.
     pub fn cause_of(&self, event: Event) -> Option<Cause>
+        requires { AreSettled self.now }
         ensures { result ≡ cause_by (reads_of self.now) (writes_of self.now) (mark_of event) }
     {
         match event {
@@ -101,11 +150,12 @@ impl EntryCounts {
                 version,
                 readers,
             } => {
-                if self.is_unmade(object, version) {
+                let (unmade, writes) = self.written(object, version);
+                if unmade {
                     Some(Cause::Unmade)
-                } else if self.writes(object, version) > 1 {
+                } else if writes > 1 {
                     Some(Cause::Twice)
-                } else if self.reads(object, version) != readers {
+                } else if self.reads(object, version) != readers as usize {
                     Some(Cause::Readers)
                 } else {
                     None

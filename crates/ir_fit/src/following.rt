@@ -19,7 +19,7 @@ impl Follower {
     {
         'steps: loop {
             let left = self.steps_left(t);
-            self.flat.run(t, left);
+            self.flat.run_instructions(t, left);
             let look = self.look(t);
             let Look::Goes(next) = look else {
                 self.note(t, look);

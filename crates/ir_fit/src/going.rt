@@ -2,31 +2,51 @@
 
 ghost use Rattle.std.specs.Prelude.{◌≡◌, ◌<◌, ◌+◌, ◌≤◌, length};
 ghost use Rattle.ir_fit.specs.Ahead.{IsMove};
+ghost use Rattle.ir_flat.specs.Flat.{IsFlat};
 ghost use Rattle.ir_fit.specs.Follower.{all_ahead, GoesOn, IsSized};
 ghost use Rattle.ir_fit.specs.Places.{placed_more};
 
 use crate::follower::Follower;
 use crate::leave::Leave;
-use crate::look::{Look, Move};
+use crate::look::{Look, Move, is_open};
 use crate::readiness::Readiness;
+use ir_log::Event;
+use ir_object::Object;
 use ir_thread::Ask;
 
 // What is known of a thread that was seen so.
 fn readiness(look: Look) -> Readiness {
     match look {
         Look::Goes(_) => Readiness::Ready,
-        Look::Waits(object) => Readiness::Waits(object),
+        Look::Waits(event) => Readiness::Waits(event),
         Look::Done | Look::Disagrees => Readiness::Stopped,
     }
 }
 
-// Those that wait for the object are to be looked at again.
-fn wake(ready: &mut Vec<Readiness>, object: u8)
+// Whether the event is an entry to the object of this number, which can be entered now as the event says.
+fn opens(number: u8, object: &Object, event: Event) -> bool {
+    match event {
+        Event::Answer(..) => false,
+        Event::Read {
+            object: entered,
+            ..
+        }
+        | Event::Write {
+            object: entered,
+            ..
+        } => { entered == number && is_open(object, event) }
+    }
+}
+
+// Those that can enter the object of this number now, as the events say that they wait for, are to be looked at again.
+fn wake(ready: &mut Vec<Readiness>, number: u8, object: &Object)
     ensures { length ready.new.items ≡ length ready.old.items }
 {
     for t in 0..ready.len() {
-        if ready[t] == Readiness::Waits(object) {
-            ready[t] = Readiness::Ready;
+        if let Readiness::Waits(event) = ready[t] {
+            if opens(number, object, event) {
+                ready[t] = Readiness::Ready;
+            }
         }
     }
 }
@@ -52,6 +72,7 @@ impl Follower {
         ensures trace { self.new.trace ≡ self.old.trace }
         ensures ready { self.new.ready ≡ self.old.ready }
         ensures places { self.new.places.items ≡ placed_more self.old.flat self.old.places.items next.thread next.asked }
+        ensures within { IsFlat self.old.flat }
     {
         let position = self.thread(next.thread).steps();
         match next.asked {
@@ -69,7 +90,7 @@ impl Follower {
         }
     }
 
-    // Takes a step that follows the trace. Who leaves an object wakes those that wait for it.
+    // Takes a step that follows the trace. Who leaves an object wakes those that can enter it now.
     pub fn take(&mut self, next: Move)
         requires sized { IsSized self.old }
         requires follows { IsMove self.old.trace self.old.flat next }
@@ -81,7 +102,11 @@ impl Follower {
         self.place(next);
         let _ = self.flat.take(next.thread, next.asked, next.result);
         if let Ask::Leave(object, _) = next.asked {
-            wake(&mut self.ready, object);
+            wake(
+                &mut self.ready,
+                object,
+                &self.flat.objects()[object as usize],
+            );
         }
     }
 }

@@ -9,6 +9,7 @@ mod coherence_laws;
 mod coherence_tests;
 mod counting;
 mod entry_counts;
+mod far_versions;
 mod fit_err;
 #[cfg(test)]
 mod fit_tests;

@@ -31,8 +31,8 @@ pub enum Look {
     Done,
     // Its next step isn't the trace's.
     Disagrees,
-    // Its next step is the trace's, an entry to this object, and can't be taken now as the log says.
-    Waits(u8),
+    // Its next step is the trace's, an entry that is logged as this event, and can't be taken now as the log says.
+    Waits(Event),
     // Its next step follows the trace.
     Goes(Move),
 }
@@ -53,7 +53,7 @@ fn held_count(held: &[Option<Access>]) -> u64
 }
 
 // Whether the object can be entered now as the event says.
-fn is_open(object: &Object, event: Event) -> bool
+pub fn is_open(object: &Object, event: Event) -> bool
     ensures { IsTrue result ↔ IsOpen object.now event }
 {
     let fields = object.fields();
@@ -122,7 +122,7 @@ impl Follower {
                         result: 0,
                     })
                 } else {
-                    Look::Waits(object)
+                    Look::Waits(event)
                 }
             }
         }

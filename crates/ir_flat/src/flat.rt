@@ -108,6 +108,17 @@ impl Flat {
         self.parts.run(t, limit)
     }
 
+    /// Thread t takes instructions, at most `limit`, and how many they are. They are private steps,
+    /// and where they end the thread may have more of these.
+    pub fn run_instructions(&mut self, t: usize, limit: u64) -> u64
+        requires { t < length self.old.threads }
+        ensures within { result ≤ limit }
+        ensures flat { IsFlat self.old }
+        ensures went { WentAlone self.old self.new t result }
+    {
+        self.parts.run_instructions(t, limit)
+    }
+
     /// What thread t asks for at its next step.
     pub fn ask(&self, t: usize) -> Ask
         requires { t < length self.now.threads }

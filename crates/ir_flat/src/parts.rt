@@ -96,7 +96,7 @@ impl Parts {
         requires suits { Suits asked reply }
         ensures { self.new ≡ answered self.old t asked reply }
     {
-        self.threads[t].take(&self.code, reply);
+        self.threads[t].take_asked(&self.code, asked, reply);
     }
 
     // Thread t takes private steps, at most so many, and how many they are.
@@ -107,6 +107,16 @@ impl Parts {
         ensures moved { self.new ≡ with_thread self.old t (run_of self.old.code result (thread_of self.old t)) }
     {
         self.threads[t].run(&self.code, limit)
+    }
+
+    // The same of instructions alone.
+    pub fn run_instructions(&mut self, t: usize, limit: u64) -> u64
+        requires { t < length self.old.threads }
+        ensures within { result ≤ limit }
+        ensures each { (k : ℕ) → k < result → ask_of self.old.code (run_of self.old.code k (thread_of self.old t)) ≡ Private }
+        ensures moved { self.new ≡ with_thread self.old t (run_of self.old.code result (thread_of self.old t)) }
+    {
+        self.threads[t].run_instructions(&self.code, limit)
     }
 
     fn enter(&mut self, o: u8, access: Access)

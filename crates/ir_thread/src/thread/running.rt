@@ -10,8 +10,8 @@ use crate::thread::Thread;
 use ir_image::Code;
 
 impl Thread {
-    // Takes instructions, at most `limit`, and says how many they were.
-    fn run_instructions(&mut self, code: &Code, limit: u64) -> u64
+    /// Takes instructions, at most `limit`, and says how many they were: private steps, but no call.
+    pub fn run_instructions(&mut self, code: &Code, limit: u64) -> u64
         ensures within { result ≤ limit }
         ensures steps { PrivateSteps code.now result self.old self.new }
     {

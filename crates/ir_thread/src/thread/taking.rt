@@ -151,4 +151,14 @@ impl Thread {
         let asked = self.ask(code);
         self.step(code, asked, reply);
     }
+
+    /// The same, where it is known what the thread asks.
+    #[tactic(auto, using(crate::proofs::Asked::ask_permits), unfolding(crate::specs::Calls::after_reply))]
+    pub fn take_asked(&mut self, code: &Code, asked: Ask, reply: Reply)
+        requires asked { asked ≡ ask_of code.now self.old }
+        requires suits { Suits asked reply }
+        ensures { self.new ≡ after_reply code.now self.old reply }
+    {
+        self.step(code, asked, reply);
+    }
 }

@@ -23,7 +23,7 @@ returns-then-is_open c = (
 
 pub returns-else-is_open : goal.returns-else-is_open
 returns-else-is_open c = (
-  (c.args.access, c.requires.asked),
+  record { object = c.args.object; access = c.args.access; asked = c.requires.asked; next = c.in-Ok.ensures.next },
   entry_agrees c.args.self.now.trace c.args.self.now.flat c.args.t c.args.object c.args.access c.in-Ok.event c.requires.asked c.requires.steps c.in-Ok.ensures.next c.in-Ok.ensures.suits,
   entry_waits c.args.self.now.trace c.args.self.now.flat c.args.t c.args.object c.args.access c.in-Ok.event c.next_event.ensures.flat c.requires.thread c.requires.asked c.in-Ok.ensures.next c.in-Ok.ensures.suits
       (found_shut c.is_open.result c.object.result.now (cell_of c.args.self.now.flat c.args.object) c.in-Ok.event c.object.ensures c.is_open.ensures c.if-is_open.false),

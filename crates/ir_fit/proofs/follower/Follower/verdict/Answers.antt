@@ -10,7 +10,7 @@ returns-in-Waits c = λ guest k.
     let r = c.args.self.now.trace in
     let f = c.args.self.now.flat in
     let events : c.events.result ≡ (thread_of f c.args.t).events = c.events.ensures.value ∙ ap (λ x. x.events) c.thread-thread.ensures.thread in
-    subst (λ e. Stands guest r f c.args.self.now.places.items k c.args.t (Starves e)) (sym events) (stands_starves guest r f c.args.self.now.places.items k c.args.t (asks_entry _ c.in-Waits.field-0 c.in-Waits.ensures.0.0 c.in-Waits.ensures.0.1) c.in-Waits.ensures.1 c.in-Waits.ensures.2)
+    subst (λ e. Stands guest r f c.args.self.now.places.items k c.args.t (Starves e)) (sym events) (stands_starves guest r f c.args.self.now.places.items k c.args.t (asks_entry _ c.in-Waits.ensures.0.object c.in-Waits.ensures.0.access c.in-Waits.ensures.0.asked) c.in-Waits.ensures.1 c.in-Waits.ensures.2)
 
 pub returns-in-Disagrees : goal.returns-in-Disagrees
 returns-in-Disagrees c = λ guest k.
