@@ -3,7 +3,11 @@ use Rattle.std.proofs.Common.{◌≡◌, ◌≢◌, ℕ, max, min, ◌<◌, ◌�
 use Rattle.std.specs.List.{slice_index_or}
 use Rattle.ir_trace.specs.Told.{recorded_thread}
 use Rattle.ir_fit.specs.Fit.{FittedTrace}
-use Rattle.ir_cut.specs.Positions.{cut_of, EachRun, IsConsistentCut, IsLeastCut, IsGreatestCut}
+use Rattle.ir_thread.proofs.Lawful.{lawful}
+use Rattle.ir_flat.proofs.Good.{start_good}
+use Rattle.ir_fit.proofs.Guests.{starts}
+use Rattle.ir_cut.proofs.Order.{least_exact, greatest_exact}
+use Rattle.ir_cut.specs.Positions.{machine_of, start_of, cut_of, EachRun, IsConsistentCut, IsLeastCut, IsGreatestCut}
 use Rattle.ir_cut.specs.Searching.{IsFitted, Rising, Falling, NoneBelow, NoneAbove, AreFirst, AreRest}
 use Rattle.ir_cut.proofs.Listing.{listed, no_leaves}
 use Rattle.ir_cut.proofs.Searched.{rising_start, rising_over, falling_start, falling_over}
@@ -46,3 +50,18 @@ greatest_found f fit ps xs next qs next' t k v w size con there copied read leas
       (falls ps t k (λ run' is'. falling_start f run' (listed f fit.run run' is') ps (set xs t w) next t k (con run' is').1 there
       (own.0 ∙ least ∙ ap (λ z. min z k) (sym own.1)) (λ u ne. kept_other ps xs t w u copied ne) rest (no_leaves f fit.run)) run is) over),
 )
+
+-- ---- where the thread stands in them
+
+pub least_at : (f : FittedTrace) → IsFitted f → (ps qs : List ℕ) (t k : ℕ) → IsConsistentCut f ps → t < length f.guest.entries → k ≤ (recorded_thread f.recorded t).steps → IsLeastCut f ps t k qs → cut_of ps t ≤ k → cut_of qs t ≡ k
+least_at f fit ps qs t k con there steps least lo =
+    let run = fit.run.run in
+    let is = fit.run.whole in
+    least_exact (machine_of f) (lawful f.guest.code) (start_of f) (start_good (machine_of f) (start_of f) (starts f.guest f.recorded.budget)) run is.1.runs (cut_of ps) (cut_of qs) t k (con run is).0 (con run is).1 lo
+        (let a = is.1.steps t there in omega (arith, a, steps)) (least.1 run is)
+
+pub greatest_at : (f : FittedTrace) → IsFitted f → (ps qs : List ℕ) (t k : ℕ) → IsConsistentCut f ps → IsGreatestCut f ps t k qs → k ≤ cut_of ps t → cut_of qs t ≡ k
+greatest_at f fit ps qs t k con greatest hi =
+    let run = fit.run.run in
+    let is = fit.run.whole in
+    greatest_exact (machine_of f) (lawful f.guest.code) (start_of f) (start_good (machine_of f) (start_of f) (starts f.guest f.recorded.budget)) run is.1.runs (cut_of ps) (cut_of qs) t k (con run is).0 (con run is).1 hi (greatest.1 run is)

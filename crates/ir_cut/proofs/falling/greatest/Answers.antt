@@ -1,12 +1,18 @@
 use Rattle.std.proofs.Common.{◌∙◌, ◌<◌, ℕ, List, length, sym, subst}
 use Rattle.ir_cut.specs.Positions.{IsGreatestCut, cut_of}
 use Rattle.ir_cut.specs.Searching.{AreRest}
-use Rattle.ir_cut.proofs.Found.{greatest_found}
+use Rattle.ir_cut.proofs.Found.{greatest_found, greatest_at}
 use Rattle.ir_cut.proofs.falling.greatest.Goals as goal
 
-pub returns : goal.returns
-returns c = subst (IsGreatestCut c.args.fitted.now c.args.cut.now c.args.t c.args.k) (sym c.new.ensures)
+found : (c : goal.After-drop-next-2) → IsGreatestCut c.args.fitted.now c.args.cut.now c.args.t c.args.k c.new.result
+found c = subst (IsGreatestCut c.args.fitted.now c.args.cut.now c.args.t c.args.k) (sym c.new.ensures)
     (greatest_found c.args.fitted.now c.known.ensures c.args.cut.now c.in_ok-positions.positions.items c.in_ok-next.next.items c.fall.new.positions.items c.fall.new.next.items c.args.t c.args.k c.index.result.now c.min.result
     c.requires.size c.requires.consistent c.requires.thread (c.in_ok-positions.ensures.items ∙ c.positions-2.ensures) c.index.ensures c.min.ensures
     (subst (λ (xs : List ℕ). (u : ℕ) → u < length c.args.fitted.now.guest.entries → AreRest c.args.fitted.now xs u (cut_of c.in_ok-next.next.items u)) c.positions.ensures c.in_ok-next.ensures.rest)
     c.fall.ensures.falls c.fall.ensures.size c.fall.ensures.over)
+
+pub returns-clause-greatest : goal.returns-clause-greatest
+returns-clause-greatest c = found c
+
+pub returns-clause-exact : goal.returns-clause-exact
+returns-clause-exact c = greatest_at c.args.fitted.now c.known.ensures c.args.cut.now c.new.result c.args.t c.args.k c.requires.consistent (found c)
