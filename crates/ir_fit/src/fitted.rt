@@ -90,9 +90,10 @@ impl Fitted {
     {
         self.places[t].leaves()
     }
+
     /// The steps by which threads entered the object for such access at this version. None, where the guest has no such
-    /// object or the run no such entry. A write entry is found where its version
-    /// says; read entries are searched, in the logarithm of their number.
+    /// object or the run no such entry. A write entry is found where its version says; read entries are searched, in the
+    /// logarithm of their number.
     pub fn entries_at(&self, object: u8, access: Access, version: u32) -> &[Place]
         ensures only { OnlyEntries self.now object access version result.now }
         ensures all { AllEntries self.now object access version result.now }
