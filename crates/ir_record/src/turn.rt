@@ -52,7 +52,6 @@ impl<W: World> Recorder<W> {
                 Ok(true)
             }
             Ask::Enter(object, access) => Ok(self.tape.enter(t, object, access)),
-            Ask::Leave(object, access) => Ok(self.tape.go(t, Ask::Leave(object, access))),
             _ => Ok(self.tape.go(t, asked)),
         }
     }

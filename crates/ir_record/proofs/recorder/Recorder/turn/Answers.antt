@@ -26,16 +26,6 @@ returns-in-Enter-clause-ready g c = stays_ready c.args.t c.enter.result (progres
 
 pub returns-in_default : goal.returns-in_default
 returns-in_default g c = record {
-  took = c.go-in_default.ensures.took (map g.W.World.answers c.args.self.now.worlds.items);
-  ready = stays_ready c.args.t c.go-in_default.result (progress c.args.self.now.tape (map g.W.World.answers c.args.self.now.worlds.items)) (progress c.go-in_default.new.self (map g.W.World.answers c.args.self.now.worlds.items)) (map g.W.World.broken c.args.self.now.worlds.items) (map g.W.World.broken c.args.self.now.worlds.items)
-      c.requires.ready (c.go-in_default.ensures.took (map g.W.World.answers c.args.self.now.worlds.items)) c.go-in_default.ensures.tape refl c.requires.ready.works;
-  failed = tt;
-  kept = extends_same (map g.W.World.answers c.args.self.now.worlds.items);
-  origins = refl;
-}
-
-pub returns-in-Leave : goal.returns-in-Leave
-returns-in-Leave g c = record {
   took = c.go.ensures.took (map g.W.World.answers c.args.self.now.worlds.items);
   ready = stays_ready c.args.t c.go.result (progress c.args.self.now.tape (map g.W.World.answers c.args.self.now.worlds.items)) (progress c.go.new.self (map g.W.World.answers c.args.self.now.worlds.items)) (map g.W.World.broken c.args.self.now.worlds.items) (map g.W.World.broken c.args.self.now.worlds.items)
       c.requires.ready (c.go.ensures.took (map g.W.World.answers c.args.self.now.worlds.items)) c.go.ensures.tape refl c.requires.ready.works;
