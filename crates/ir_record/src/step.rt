@@ -96,7 +96,7 @@ impl Tape {
         self.flat.take(t, asked, 0).is_ok()
     }
 
-    // Thread t takes private steps, at most so many, and how many they are.
+    // Thread t takes instructions, at most so many, and how many they are. What it asks behind them is left to its next turn.
     pub fn run(&mut self, t: usize, limit: u64) -> u64
         requires tape { IsTape self.old.flat self.old.logs.items }
         requires thread { t < length self.old.flat.threads }
@@ -107,6 +107,6 @@ impl Tape {
         ensures took { (answers : List (List Answered)) → Took (replicate result t) (progress self.old answers) (progress self.new answers) }
         ensures tape { IsTape self.new.flat self.new.logs.items }
     {
-        self.flat.run(t, limit)
+        self.flat.run_instructions(t, limit)
     }
 }
