@@ -58,7 +58,7 @@ least_at f fit ps qs t k con there steps least lo =
     let run = fit.run.run in
     let is = fit.run.whole in
     least_exact (machine_of f) (lawful f.guest.code) (start_of f) (start_good (machine_of f) (start_of f) (starts f.guest f.recorded.budget)) run is.1.runs (cut_of ps) (cut_of qs) t k (con run is).0 (con run is).1 lo
-        (let a = is.1.steps t there in omega (arith, a, steps)) (least.1 run is)
+    (let a = is.1.steps t there in omega (arith, a, steps)) (least.1 run is)
 
 pub greatest_at : (f : FittedTrace) → IsFitted f → (ps qs : List ℕ) (t k : ℕ) → IsConsistentCut f ps → IsGreatestCut f ps t k qs → k ≤ cut_of ps t → cut_of qs t ≡ k
 greatest_at f fit ps qs t k con greatest hi =

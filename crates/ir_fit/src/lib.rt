@@ -49,5 +49,6 @@ pub use laws::{
     own_trace_coherent, trace_determines,
 };
 pub use leave::Leave;
+pub use look::is_open;
 pub use place::Place;
 pub use verdict::{ThreadVerdict, Verdict};

@@ -52,7 +52,8 @@ fn held_count(held: &[Option<Access>]) -> u64
     count
 }
 
-// Whether the object can be entered now as the event says.
+/// Whether the object can be entered now as the event says: it stands at the event's version, for an entry for writing
+/// as many have left it as the event counts, and nobody inside is in the way.
 pub fn is_open(object: &Object, event: Event) -> bool
     ensures { IsTrue result ↔ IsOpen object.now event }
 {
