@@ -1,0 +1,5 @@
+pub mod Fronts
+pub mod Behind
+pub mod Onward
+pub mod Results
+pub mod Reached
