@@ -7,7 +7,7 @@ use Rattle.ir_trace.specs.Recorded.{Recorded}
 use Rattle.ir_fit.specs.Ahead.{log_ahead}
 use Rattle.ir_fit.specs.Coherent.{sum_below}
 use Rattle.ir_fit.specs.Cuts.{Admitted}
-use Rattle.ir_fit.specs.Fit.{FittedTrace}
+use Rattle.ir_fit.specs.Fit.{FittedTrace, HasRun}
 use Rattle.ir_fit.specs.Following.{unlogged}
 use Rattle.ir_cut.specs.Positions.{machine_of, start_of, cut_of, EachRun, IsConsistentCut}
 use Rattle.ir_replay.specs.States.{IsStateAt, positions}
@@ -21,8 +21,9 @@ abbrev pub IsNext : Recorded → Flat → ℕ → Option ℕ → Type 0
 IsNext r s t (Some v) = LogsNext r s t v
 IsNext r s t None = (v : ℕ) → LogsNext r s t v → ⊥
 
--- a consistent cut
+-- there is a run with the trace, and the target is one of its consistent cuts
 pub record IsTarget (f : FittedTrace) (target : List ℕ) : Type 0 where
+  pub run : HasRun f
   pub size : length target ≡ length f.guest.entries
   pub consistent : IsConsistentCut f target
 

@@ -2,12 +2,20 @@
 
 ghost use Rattle.std.specs.Prelude.{◌≡◌, ◌≤◌, ℕ, length};
 ghost use Rattle.ir_cut.specs.Positions.{IsConsistentCut, cut_of};
+ghost use Rattle.ir_fit.specs.Fit.{HasRun};
 ghost use Rattle.ir_replay.specs.States.{IsState, IsStateAt, positions};
 
 use crate::rounds::{finish, follow};
 use crate::state::State;
 use ir_cut::Cut;
 use ir_fit::Fitted;
+
+// There is a run with the trace.
+fn known(fitted: &Fitted)
+    ensures { HasRun fitted.now }
+{
+    fitted.image();
+}
 
 /// Brings the threads and objects to the target, on this thread. Each entry of the order takes one step of that thread,
 /// or nothing where the guest has no such thread, or this one is at its target or its next step isn't admitted. After
@@ -21,6 +29,7 @@ pub fn advance_in_order(fitted: &Fitted, state: State, target: &Cut, order: &[u8
     requires below { (t : ℕ) → positions state t ≤ cut_of target.now t }
     ensures { IsStateAt fitted.now (cut_of target.now) result }
 {
+    known(fitted);
     let mut state = state;
     follow(fitted, target.positions(), &mut state.flat, order);
     finish(fitted, target.positions(), &mut state.flat);
