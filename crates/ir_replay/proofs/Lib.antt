@@ -1,5 +1,6 @@
 pub mod Fronts
 pub mod Behind
 pub mod Onward
+pub mod Going
 pub mod Results
 pub mod Reached
