@@ -27,8 +27,8 @@ moment_append (e ∷ run) more t = ap (λ z. cond (eqb t e.0) (suc z) z) (moment
 consistent_at : {T : Type 0} (m : Machine T) → IsLawful m → (s : State T) → Good m s → (run front : List Step) → IsRun m s front → Goes m s front run → (p : Cut) → ((t : ℕ) → count m s front t ≡ p t) → Consistent m s run p
 consistent_at m law s good run front ok g p is =
     trails_cut m s (front ++ g.rest) run (λ u. trail_append m s front g.rest u ∙ g.same_trail u) p
-        (consistent_same m s (front ++ g.rest) (moment (front ++ g.rest) (length front)) p (λ u. moment_append front g.rest u ∙ whole m s front u ∙ is u)
-        (early m law s good (front ++ g.rest) (run_append m s front g.rest ok g.ok) (length front)))
+    (consistent_same m s (front ++ g.rest) (moment (front ++ g.rest) (length front)) p (λ u. moment_append front g.rest u ∙ whole m s front u ∙ is u)
+    (early m law s good (front ++ g.rest) (run_append m s front g.rest ok g.ok) (length front)))
 
 -- its steps are those in the cut
 same_steps : {T : Type 0} (m : Machine T) (s : State T) (run front : List Step) → Goes m s front run → (p : Cut) → ((t : ℕ) → count m s front t ≡ p t) → (u : ℕ) → trail m s front u ≡ take (p u) (trail m s run u)
@@ -45,6 +45,6 @@ front_at m law s good run front ok ok' left logs few p is =
       cut = λ u. let a = few u in let b = is u in omega (arith, a, b);
       consistent = c;
       same_end = (alike m law s good front (part run p) ok' z.ok
-      (λ u. ap events (same_steps m s run front g p is u ∙ sym (z.same_trail u)))
-      (λ u. ap length (same_steps m s run front g p is u ∙ sym (z.same_trail u)))).same_end;
+          (λ u. ap events (same_steps m s run front g p is u ∙ sym (z.same_trail u)))
+          (λ u. ap length (same_steps m s run front g p is u ∙ sym (z.same_trail u)))).same_end;
     }

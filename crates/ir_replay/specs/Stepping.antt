@@ -1,5 +1,5 @@
 -- Steps on the way to a cut.
-use Rattle.std.specs.Prelude.{◌≡◌, ◌≢◌, ℕ, ◌-◌, ◌<◌, ◌≤◌, ◌⊎◌, List, length, Option, Some, None}
+use Rattle.std.specs.Prelude.{◌≡◌, ◌≢◌, ℕ, ◌-◌, ◌<◌, ◌≤◌, ◌⊎◌, Bool, true, false, List, length, Option, Some, None}
 use Rattle.ir_thread.specs.Marks.{logged}
 use Rattle.ir_flat.specs.Flat.{Flat, tables, machine}
 use Rattle.ir_flat.specs.Run.{Can, mark}
@@ -48,3 +48,10 @@ Rests f target s t = (cut_of target t ≤ positions s t) ⊎ EachRun f (λ run. 
 -- how many steps are left to all threads
 abbrev pub steps_left : List ℕ → Flat → ℕ
 steps_left target s = sum_below (length target) (λ t. cut_of target t - positions s t)
+
+-- in a round that began at old, behind the first n threads: whether any of these has moved, and that they rest if none has
+pub record IsRound (f : FittedTrace) (target : List ℕ) (old s : Flat) (moved : Bool) (n : ℕ) : Type 0 where
+  pub under : IsUnder f target s
+  pub fewer : moved ≡ true → steps_left target s < steps_left target old
+  pub same : moved ≡ false → IsSame old s
+  pub rest : moved ≡ false → (t : ℕ) → t < n → Rests f target s t

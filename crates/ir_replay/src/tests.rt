@@ -67,14 +67,13 @@ const NOTE: [u32; 18] = [
     0x0000_0073,
 ];
 
-// Both threads read version 0, the second after thread 0 asked; then thread 1 writes it and thread 0 version 1.
-const NOTED: [u8; 94] = [
+// Both threads read version 0; then thread 1 writes it and thread 0 version 1. The clock says 70 to thread 0 and 80 to 1.
+const NOTED: [u8; 92] = [
     0x49, 0x52, 0x54, 0x31, 2, 1, 0, 0, 0xe8, 3, 0, 0, 0, 0, 0, 0, // header
     18, 0, 0, 0, 0, 0, 0, 0, 1, 0, 0, 0, 0, 3, 0, 0, 0, // thread 0
     1, 70, 0, 0, 0, 4, 0, 0, 0, 0, 0, 5, 0, 1, 0, 0, 0, 0, 0, 0, 0, // its answer and entries
     18, 0, 0, 0, 0, 0, 0, 0, 1, 0, 0, 0, 0, 3, 0, 0, 0, // thread 1
     1, 80, 0, 0, 0, 4, 0, 0, 0, 0, 0, 5, 0, 0, 0, 0, 0, 2, 0, 0, 0, // its answer and entries
-    0, 0,
 ];
 
 // What `fit` answers of the guest and its trace.
@@ -257,6 +256,33 @@ fn the_second_writer_adds_to_the_first(rt: HostRuntime) -> Result<(), Fail> {
     let wanted = [
         Some((Some(18), Some(18), Some(fields(2, 0, 0, false)), Some(2))),
         Some((Some(3), Some(15), Some(fields(1, 0, 0, true)), Some(1))),
+        None,
+    ];
+    assert_eq!(rt; found, Some(wanted));
+    Ok(())
+}
+
+#[test]
+fn answers_and_readers_are_the_traces(rt: HostRuntime) -> Result<(), Fail> {
+    let answer = answer(rt.alloc(), &NOTE, &NOTED)?;
+    let mut count = 0u64;
+    let mut found = None;
+    if let Ok(fitted) = &answer {
+        for at in [(18, 18), (9, 18), (6, 7), (2, 0)] {
+            count = count.saturating_add(alike(rt.alloc(), fitted, at)?);
+        }
+        found = Some([
+            short(rt.alloc(), fitted, (18, 18))?,
+            short(rt.alloc(), fitted, (9, 13))?,
+            short(rt.alloc(), fitted, (6, 9))?,
+            short(rt.alloc(), fitted, (7, 10))?,
+        ]);
+    }
+    assert_eq!(rt; count, 4 * 5);
+    let wanted = [
+        Some((Some(18), Some(18), Some(fields(2, 0, 0, false)), Some(70))),
+        Some((Some(9), Some(13), Some(fields(0, 2, 0, true)), Some(80))),
+        Some((Some(6), Some(9), Some(fields(0, 1, 1, false)), Some(0))),
         None,
     ];
     assert_eq!(rt; found, Some(wanted));
