@@ -1,6 +1,5 @@
 -- What the trace leaves to the threads at a cut is the log of the steps behind it.
-use Rattle.std.proofs.Common.{◌≡◌, ℕ, suc, zero, ◌+◌, ◌<◌, ◌≤◌, List, [], ◌∷◌, ◌++◌, length, map, take, drop, refl, sym, ap, ◌∙◌, subst, arith, inl, inr, take-append-drop}
-use Rattle.std.proofs.lemmas.Bool.{cases_lt}
+use Rattle.std.proofs.Common.{◌≡◌, ℕ, suc, zero, ◌+◌, ◌<◌, List, [], ◌∷◌, ◌++◌, length, map, take, drop, refl, sym, ap, ◌∙◌, subst, arith, take-append-drop}
 use Rattle.std.proofs.Math.Path.{fun_ext}
 use Rattle.std.proofs.Math.Seq.{drop-append_seam}
 use Rattle.ir_thread.specs.Machine.{Machine, IsLawful}
@@ -8,7 +7,7 @@ use Rattle.ir_thread.specs.Instance.{thread_machine}
 use Rattle.ir_thread.specs.Marks.{Mark, Quiet, Answer, In, Refused, Out, logged}
 use Rattle.ir_thread.specs.State as thread
 use Rattle.ir_thread.proofs.Lawful.{lawful}
-use Rattle.ir_flat.specs.Flat.{Flat, thread_of, tables, machine, start_flat}
+use Rattle.ir_flat.specs.Flat.{Flat, tables, machine}
 use Rattle.ir_flat.specs.Run.{State, Step, Can, mark, IsRun, end, trail, events, log, count}
 use Rattle.ir_flat.proofs.Append.{events_append}
 use Rattle.ir_flat.proofs.Counted.{tally}

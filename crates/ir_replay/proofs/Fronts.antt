@@ -1,5 +1,5 @@
 -- A run that logs the first events of another's threads leads to one of the other's consistent cuts.
-use Rattle.std.proofs.Common.{◌≡◌, ℕ, suc, zero, ◌≤◌, cond, eqb, List, [], ◌∷◌, ◌++◌, length, take, sym, ap, ◌∙◌, refl, arith}
+use Rattle.std.proofs.Common.{◌≡◌, ℕ, suc, ◌≤◌, cond, eqb, List, [], ◌∷◌, ◌++◌, length, take, sym, ap, ◌∙◌, refl, arith}
 use Rattle.std.proofs.Math.Seq.{take-append_seam}
 use Rattle.ir_thread.specs.Machine.{Machine, IsLawful}
 use Rattle.ir_thread.specs.Marks.{Mark}

@@ -1,27 +1,24 @@
 -- A state that goes on along the trace is a state at a later cut.
-use Rattle.std.proofs.Common.{◌≡◌, ◌≢◌, ℕ, suc, zero, ◌+◌, ◌-◌, ◌<◌, ◌≤◌, List, [], ◌∷◌, ◌++◌, length, drop, replicate, Result, Ok, Err, OnOk, OnErr, refl, sym, ap, ◌∙◌, subst, arith, inl, inr, append_assoc}
+use Rattle.std.proofs.Common.{◌≡◌, ◌≢◌, ℕ, suc, zero, ◌+◌, ◌-◌, ◌<◌, ◌≤◌, List, [], ◌∷◌, ◌++◌, length, replicate, Result, Ok, Err, OnOk, OnErr, refl, sym, ap, ◌∙◌, subst, arith, inl, inr, append_assoc}
 use Rattle.std.proofs.lemmas.Bool.{cases_eq}
 use Rattle.ir_image.specs.Guest.{object_count}
-use Rattle.ir_thread.specs.Instance.{thread_machine}
 use Rattle.ir_thread.specs.Machine.{Machine}
 use Rattle.ir_thread.specs.Marks.{Mark, Quiet, Answer, In, Refused, Out, logged}
 use Rattle.ir_thread.specs.State as thread
 use Rattle.ir_flat.specs.Alone.{WentAlone}
-use Rattle.ir_flat.specs.Flat.{Flat, thread_of, tables, machine, start_flat}
-use Rattle.ir_flat.specs.Run.{State, Step, Can, after, mark, IsRun, end, trail, events, log, count}
+use Rattle.ir_flat.specs.Flat.{Flat, tables, machine, start_flat}
+use Rattle.ir_flat.specs.Run.{State, Step, Can, after, mark, IsRun, end, events, log, count}
 use Rattle.ir_flat.proofs.Append.{run_append, end_append, log_append}
 use Rattle.ir_flat.proofs.Counted.{tally}
 use Rattle.ir_flat.proofs.Fresh.{threads_length, cells_length, no_steps}
-use Rattle.ir_trace.specs.Told.{recorded_thread}
-use Rattle.ir_fit.specs.Ahead.{log_ahead}
-use Rattle.ir_fit.specs.Cuts.{Cut, part}
+use Rattle.ir_fit.specs.Cuts.{part}
 use Rattle.ir_fit.specs.Fit.{FittedTrace, IsRunOf}
 use Rattle.ir_fit.specs.Following.{unlogged}
 use Rattle.ir_fit.proofs.Ending.{trail_same, trail_other}
 use Rattle.ir_cut.specs.Positions.{machine_of, start_of, cut_of}
 use Rattle.ir_replay.specs.States.{IsAt, IsStateAt, positions}
-use Rattle.ir_replay.specs.Stepping.{LogsNext, IsTarget, IsUnder, HasGone, IsSame}
-use Rattle.ir_replay.proofs.Behind.{law, good, sorted, tables_at, at_tables, steps_counted, behind, log_parts, log_behind, there}
+use Rattle.ir_replay.specs.Stepping.{LogsNext, IsTarget, IsUnder, HasGone}
+use Rattle.ir_replay.proofs.Behind.{law, good, sorted, at_tables, steps_counted, behind, log_parts, log_behind, there}
 use Rattle.ir_replay.proofs.Fronts.{IsFront, front_at}
 
 -- ---- the end of a front

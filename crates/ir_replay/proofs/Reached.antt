@@ -1,10 +1,9 @@
 -- Where threads rest, and that all are then at their targets.
-use Rattle.std.proofs.Common.{◌≡◌, ◌≢◌, ℕ, ◌+◌, ◌-◌, ◌<◌, ◌≤◌, Bool, true, false, List, length, refl, sym, ap, ◌∙◌, subst, arith, inl, inr, ◌⊎◌}
+use Rattle.std.proofs.Common.{◌≡◌, ℕ, ◌+◌, ◌-◌, ◌<◌, ◌≤◌, Bool, true, false, List, length, refl, sym, ◌∙◌, subst, arith, inl, inr, ◌⊎◌}
 use Rattle.std.proofs.lemmas.Bool.{cases_eq, cases_lt}
 use Rattle.std.proofs.lemmas.List.{get_or_past}
 use Rattle.ir_flat.specs.Flat.{Flat}
 use Rattle.ir_flat.specs.Run.{Step}
-use Rattle.ir_trace.specs.Told.{recorded_thread}
 use Rattle.ir_fit.specs.Ahead.{steps_ahead}
 use Rattle.ir_fit.specs.Cuts.{Cut, Admitted}
 use Rattle.ir_fit.specs.Fit.{FittedTrace, HasRun, IsRunOf}

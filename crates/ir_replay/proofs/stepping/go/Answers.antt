@@ -1,4 +1,4 @@
-use Rattle.std.proofs.Common.{◌≤◌, ℕ, arith, true, refl}
+use Rattle.std.proofs.Common.{arith}
 use Rattle.ir_replay.proofs.Going.{GoesOn, alone_on, none_on, step_on, step_less, less_gone, same_gone}
 use Rattle.ir_replay.proofs.Onward.{alone_under}
 use Rattle.ir_replay.proofs.stepping.go.Goals as goal

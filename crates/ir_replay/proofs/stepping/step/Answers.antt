@@ -1,4 +1,4 @@
-use Rattle.std.proofs.Common.{◌≢◌, ◌<◌, arith}
+use Rattle.std.proofs.Common.{◌<◌, arith}
 use Rattle.ir_cut.specs.Positions.{cut_of}
 use Rattle.ir_replay.specs.States.{positions}
 use Rattle.ir_replay.proofs.Onward.{Stepped, step_taken}
