@@ -4,3 +4,4 @@ pub mod Onward
 pub mod Going
 pub mod Results
 pub mod Reached
+pub mod Unique

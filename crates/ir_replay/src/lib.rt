@@ -3,6 +3,7 @@
 
 mod admission;
 mod advance;
+mod laws;
 mod rounds;
 mod state;
 mod stepping;
@@ -10,4 +11,5 @@ mod stepping;
 mod tests;
 
 pub use advance::advance_in_order;
+pub use laws::one_state_each;
 pub use state::State;
