@@ -3,10 +3,15 @@
 
 mod quiet;
 
+ghost use Rattle.std.specs.Prelude.{◌≡◌, true, length};
+ghost use Rattle.ir_cut.specs.Positions.{IsConsistentCut};
+
 use anyhow::{Context, Result, bail, ensure};
-use ir_fit::{coherent, fit};
+use ir_cut::{Cut, consistent};
+use ir_fit::{Fitted, coherent, fit};
 use ir_image::{Image, read_image};
 use ir_record::record_in_order;
+use ir_replay::{State, advance_in_order};
 use ir_thread::{Ask, Reply, Thread};
 use ir_trace::{Trace, read_trace};
 use std::alloc::Global;
@@ -53,10 +58,38 @@ fn all_steps(trace: &Trace) -> u64 {
     steps
 }
 
+// Whether the cut has a position for each thread, and is consistent.
+fn is_cut(fitted: &Fitted, cut: &Cut) -> bool
+    ensures size { result ≡ true → length cut.now ≡ length fitted.now.guest.entries }
+    ensures consistent { result ≡ true → IsConsistentCut fitted.now cut.now }
+{
+    cut.positions().len() == fitted.image().entries().len() && consistent(fitted, cut)
+}
+
 // How many steps all threads take of a trace that fits.
 fn fitted(alloc: Global, image: Image, trace: Trace) -> Result<u64> {
     let fitted = fit(alloc, image, trace).ok().context("a trace that fits")?;
     Ok(all_steps(fitted.trace()))
+}
+
+// How many steps all threads take when a trace that fits is replayed, from the start to the end.
+fn replayed(alloc: Global, image: Image, trace: Trace) -> Result<u64> {
+    let fitted = fit(alloc, image, trace).ok().context("a trace that fits")?;
+    let state = State::start(alloc, &fitted)?;
+    let mut last = Vec::with_capacity(alloc, state.threads().len())?;
+    for thread in fitted.trace().threads() {
+        last.push(thread.steps())?;
+    }
+    let target = Cut::new(last);
+    if !is_cut(&fitted, &target) {
+        bail!("a consistent cut");
+    }
+    let state = advance_in_order(&fitted, state, &target, &[]);
+    let mut steps = 0u64;
+    for thread in state.threads() {
+        steps = steps.saturating_add(thread.steps());
+    }
+    Ok(steps)
 }
 
 // The same of a trace that is only read, or is seen to be coherent too.
@@ -75,8 +108,8 @@ fn next_bytes<R: BufRead + Drop>(alloc: Global, lines: &mut Lines<R>) -> Result<
         .context("hexadecimal digits")
 }
 
-// The first line is `run`, `steps`, `record`, `fit`, `read` or `coherent`, the second an image in hexadecimal; the last
-// three have a trace in the third.
+// The first line is `run`, `steps`, `record`, `fit`, `replay`, `read` or `coherent`, the second an image in hexadecimal; the
+// last four have a trace in the third.
 fn main(rt: HostRuntime) -> Result<()> {
     let alloc = rt.alloc();
     let mut lines = BufReader::new(alloc, rt.reader())?.lines(alloc);
@@ -94,6 +127,7 @@ fn main(rt: HostRuntime) -> Result<()> {
             let trace = read_trace(alloc, bytes.as_slice()).ok().context("a trace")?;
             match other {
                 "fit" => fitted(alloc, image, trace)?,
+                "replay" => replayed(alloc, image, trace)?,
                 "read" => told(alloc, &trace, false)?,
                 "coherent" => told(alloc, &trace, true)?,
                 _ => bail!("a mode"),

@@ -11,27 +11,10 @@ ghost use Rattle.ir_trace.specs.Told.{recorded_thread};
 ghost use Rattle.ir_fit.specs.Ahead.{steps_ahead, IsOpen};
 ghost use Rattle.ir_replay.specs.Stepping.{IsNext};
 
-use ir_fit::Fitted;
+use ir_fit::{Fitted, is_open};
 use ir_flat::Flat;
 use ir_log::{Cursor, Disagree, Event};
-use ir_object::Object;
 use ir_thread::{Access, Ask, EnvKind};
-
-// Whether the object can be entered now as the event says.
-fn is_open(object: &Object, event: Event) -> bool
-    ensures { IsTrue result ↔ IsOpen object.now event }
-{
-    let fields = object.fields();
-    match event {
-        Event::Answer(..) => false,
-        Event::Read { version, .. } => fields.version == version && object.can_read(),
-        Event::Write {
-            version,
-            readers,
-            ..
-        } => fields.version == version && fields.left == readers && object.can_write(),
-    }
-}
 
 // The next event that the trace tells of thread t, where it is one of what the thread asks.
 fn next_event(fitted: &Fitted, flat: &Flat, t: usize, asked: Ask) -> Result<Event, Disagree>

@@ -51,7 +51,7 @@ pub fn go(fitted: &Fitted, target: &[u64], flat: &mut Flat, t: usize) -> bool
     let before = left(target, flat, t);
     'steps: loop {
         let limit = left(target, flat, t);
-        flat.run(t, limit);
+        flat.run_instructions(t, limit);
         if !step(fitted, target, flat, t) {
             return left(target, flat, t) < before;
         }
