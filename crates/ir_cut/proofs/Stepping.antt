@@ -1,5 +1,5 @@
 -- What the code of the search reads and changes.
-use Rattle.std.proofs.Common.{◌≡◌, ◌≢◌, ℕ, zero, suc, ◌+◌, ◌-◌, ◌<◌, ◌≤◌, true, false, List, length, set, Some, leb, leb-false, ltb, ltb-true, ltb-false, refl, sym, ap, ◌∙◌, subst, arith, inl, inr, get_or-set_same, get_or-set_other, length-set, le_refl}
+use Rattle.std.proofs.Common.{◌≡◌, ◌≢◌, ℕ, ◌+◌, ◌-◌, ◌<◌, ◌≤◌, true, false, List, length, set, Some, leb, leb-false, ltb, ltb-true, ltb-false, sym, ap, ◌∙◌, subst, arith, inl, inr, get_or-set_same, get_or-set_other, length-set, le_refl}
 use Rattle.std.specs.Prelude.{slice_get}
 use Rattle.std.specs.List.{slice_index_or}
 use Rattle.std.proofs.lemmas.Bool.{cases_eq, cases_lt}
@@ -15,6 +15,7 @@ use Rattle.ir_fit.specs.Coherent.{sum_below}
 use Rattle.ir_fit.specs.Fit.{FittedTrace, HasRun}
 use Rattle.ir_fit.specs.Places.{placed_at}
 use Rattle.ir_fit.specs.declared.leave.Leave.{Leave}
+use Rattle.ir_fit.proofs.Tally.{sum_less}
 use Rattle.ir_cut.specs.Positions.{EachRun, cut_of}
 use Rattle.ir_cut.specs.Searching.{IsFitted, RaisedFor, LoweredFor, NeededBy, Needing, Rising, Falling, NoneAbove, HasBelow, HasAbove, AreLeaves, events_left, leaves_left}
 use Rattle.ir_cut.proofs.Listing.{Listed, listed}
@@ -22,20 +23,12 @@ use Rattle.ir_cut.proofs.Searched.{rising_more, falling_more, same_element}
 
 -- ---- sums
 
-sum_same : (n : ℕ) (f g : ℕ → ℕ) → ((t : ℕ) → t < n → f t ≡ g t) → sum_below n f ≡ sum_below n g
-sum_same zero f g h = refl
-sum_same (suc n) f g h = let a = h n (omega arith) in let b = sum_same n f g (λ t l. h t (omega (arith, l))) in omega (arith, a, b)
-
--- one of the numbers is less
-pub sum_less : (n : ℕ) (f g : ℕ → ℕ) (u : ℕ) → u < n → f u < g u → ((t : ℕ) → t ≢ u → f t ≡ g t) → sum_below n f < sum_below n g
-sum_less zero f g u l less rest = absurd (omega (arith, l))
-sum_less (suc n) f g u l less rest = elim (cases_eq n u) [
-  | inl same ↦
-      let here : f n < g n = subst (λ z. f z < g z) (sym same) less in
-      let b = sum_same n f g (λ t k. rest t (λ e. omega (arith, e, same, k))) in
-      omega (arith, here, b)
-  | inr ne ↦ let a = rest n ne in let b = sum_less n f g u (omega (arith, l, ne)) less rest in omega (arith, a, b)
-]
+-- one of the numbers is less, and the others are the same
+one_less : (n : ℕ) (f g : ℕ → ℕ) (u : ℕ) → u < n → f u < g u → ((t : ℕ) → t ≢ u → f t ≡ g t) → sum_below n f < sum_below n g
+one_less n f g u l less rest = sum_less n u f g l less (λ t. elim (cases_eq t u) [
+  | inl same ↦ subst (λ z. f z ≤ g z) (sym same) (omega (arith, less))
+  | inr ne ↦ let e = rest t ne in omega (arith, e)
+])
 
 -- ---- a number of each thread that is changed for one
 
@@ -68,7 +61,7 @@ fewer_events f qs next t i size there below read =
     let inside : t < length next = omega (arith, there, size) in
     let at : cut_of next t ≡ i = read_number next t i inside read in
     let l : i < length (placed_at f.placed t).entries = below_inside f qs next t i below at in
-    sum_less (length f.guest.entries) _ _ t there (let own = own_number next t (i + 1) inside in omega (arith, own, at, l)) (λ u ne. ap (λ z. length (placed_at f.placed u).entries - z) (other_number next t (i + 1) u ne))
+    one_less (length f.guest.entries) _ _ t there (let own = own_number next t (i + 1) inside in omega (arith, own, at, l)) (λ u ne. ap (λ z. length (placed_at f.placed u).entries - z) (other_number next t (i + 1) u ne))
 
 -- ---- a leave is taken
 
@@ -96,7 +89,7 @@ pub fewer_leaves : (f : FittedTrace) (qs next : List ℕ) (t i : ℕ) → AreLea
 fewer_leaves f qs next t i are there above read =
     let last = last_read f qs next t i are there above read in
     subst (λ n. sum_below n (cut_of (set next t (i - 1))) < leaves_left next) (sym (length-set next t (i - 1)))
-    (sum_less (length next) (cut_of (set next t (i - 1))) (cut_of next) t last.1 (let own = own_number next t (i - 1) last.1 in let at = last.0 in omega (arith, own, at)) (λ u ne. other_number next t (i - 1) u ne))
+    (one_less (length next) (cut_of (set next t (i - 1))) (cut_of next) t last.1 (let own = own_number next t (i - 1) last.1 in let at = last.0 in omega (arith, own, at)) (λ u ne. other_number next t (i - 1) u ne))
 
 pub leaves_still : (f : FittedTrace) (qs next : List ℕ) (t i : ℕ) → AreLeaves f next → t < length f.guest.entries → HasAbove f qs next t → i ≡ slice_index_or next t i → AreLeaves f (set next t (i - 1))
 leaves_still f qs next t i are there above read =
