@@ -15,7 +15,7 @@ import time
 
 IR, BENCH = sys.argv[1:3]
 CODE, MEMORY = 0x10000, 0x100000
-A0, A1, A2, A3, A7, T0, T1, T2, RA, SP = 10, 11, 12, 13, 17, 5, 6, 7, 1, 2
+A0, A1, A2, A3, A7, S0, T0, T1, T2, RA, SP = 10, 11, 12, 13, 17, 8, 5, 6, 7, 1, 2
 
 
 def op(funct3, rd, rs1, imm):
@@ -133,28 +133,40 @@ def entering(turns):
     return counted(body, 32, 1 + 2 * turns + 4)
 
 
+def entering_its_own(turns):
+    """The same of the object that has the thread's number."""
+    inner = [addi(T1, 0, turns), addi(T1, T1, -1), branch(1, T1, 0, -4)]
+    code, steps = counted(inner + [addi(A0, S0, 0), addi(A7, 0, 8), ECALL, addi(A7, 0, 9), ECALL], 32, 1 + 2 * turns + 5)
+    head = [addi(A7, 0, 12), ECALL, addi(S0, A0, 0)]
+    return head + code, len(head) + steps
+
+
 def threaded():
     """Each guest of threads: its name, code, threads, objects and steps of all threads together."""
     loop, steps = counted([], 12200)
     short, few = counted([], 1525)
     often, visits = entering(4)
     seldom, longer = entering(46)
+    rarely, longest = entering(71)
+    apart, alone = entering_its_own(46)
     yield "one thread, counted loop", loop, 1, 0, steps
     yield "eight threads, counted loop", short, 8, 0, 8 * few
     yield "one thread, an entry each 15 steps", often, 1, 1, visits
     yield "eight threads, an entry each 15 steps", often, 8, 1, 8 * visits
     yield "eight threads, an entry each 99 steps", seldom, 8, 1, 8 * longer
+    yield "eight threads, an entry each 149 steps", rarely, 8, 1, 8 * longest
+    yield "eight threads, an object each, 100 steps", apart, 8, 8, 8 * alone
 
 
 def traces():
-    """Recording by rounds and fitting what was recorded, beside each other."""
+    """Recording by rounds, fitting what was recorded, and replaying it from its start to its end."""
     print("traces, millions of steps of all threads a second")
-    print(f"{'guest':40}{'steps':>12}{'record':>10}{'fit':>10}")
+    print(f"{'guest':40}{'steps':>12}{'record':>10}{'fit':>10}{'replay':>10}")
     empty = [addi(A7, 0, 1), ECALL]
     with tempfile.TemporaryDirectory() as folder:
         source, made = os.path.join(folder, "image"), os.path.join(folder, "trace")
 
-        def both(code, threads, objects, steps):
+        def all_three(code, threads, objects, steps):
             guest = image(code, threads, objects)
             with open(source, "wb") as f:
                 f.write(guest)
@@ -163,12 +175,13 @@ def traces():
             with open(made, "rb") as f:
                 data = b"\n" + guest.hex().encode() + b"\n" + f.read().hex().encode() + b"\n"
             good = lambda out: out == b"%d steps\n" % steps
-            return recorded, best_of_three([BENCH], b"fit" + data, good) - best_of_three([BENCH], b"read" + data, good)
+            read, fitted, replayed = (best_of_three([BENCH], mode + data, good) for mode in (b"read", b"fit", b"replay"))
+            return recorded, fitted - read, replayed - fitted
 
         for name, code, threads, objects, steps in threaded():
-            first, fitted = both(code, threads, objects, steps)
-            base, _ = both(empty, threads, objects, 2 * threads)
-            print(f"{name:40}{steps:>12}{steps / (first - base) / 1e6:>10.0f}{steps / fitted / 1e6:>10.0f}")
+            first, fitted, replayed = all_three(code, threads, objects, steps)
+            base, _, _ = all_three(empty, threads, objects, 2 * threads)
+            print(f"{name:40}{steps:>12}{steps / (first - base) / 1e6:>10.0f}{steps / fitted / 1e6:>10.0f}{steps / replayed / 1e6:>10.0f}")
 
 
 def coherence():
