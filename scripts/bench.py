@@ -1,5 +1,5 @@
 #!/usr/bin/env python3
-"""bench.py IR BENCH: millions of instructions per second of guests of 8 * 10^7 steps and more, recordings, and the
+"""bench.py IR BENCH [PART..]: millions of instructions per second of guests of 8 * 10^7 steps and more, recordings, and the
 assembler's lines.
 
 Each guest is run three ways, best of five, the time of an empty guest taken off: by a session of IR, which runs it once
@@ -93,7 +93,7 @@ def trace(steps, budget):
     return header(1, 0, budget) + struct.pack("<QBII", steps, 1, 0, 0)
 
 
-def best_of_three(words, data, is_good):
+def best_of_five(words, data, is_good):
     best = None
     for _ in range(5):
         start = time.perf_counter()
@@ -107,12 +107,12 @@ def best_of_three(words, data, is_good):
 
 def in_session(code, steps):
     data = image(code).hex().encode() + b"\n" + trace(steps, steps + 10).hex().encode() + b"\n"
-    return best_of_three([IR], data, lambda out: out.startswith(b"ready\n"))
+    return best_of_five([IR], data, lambda out: out.startswith(b"ready\n"))
 
 
 def by_itself(mode, code, steps):
     data = mode + b"\n" + image(code).hex().encode() + b"\n"
-    return best_of_three([BENCH], data, lambda out: out == b"%d steps\n" % steps)
+    return best_of_five([BENCH], data, lambda out: out == b"%d steps\n" % steps)
 
 
 def speeds():
@@ -126,11 +126,11 @@ def speeds():
         print(f"{name:24}{steps:>12}{session:>10.0f}{run:>10.0f}{each:>12.0f}{run / each:>8.1f}")
 
 
-def entering(turns):
-    """131,072 times: a loop of 1 + 2 * turns private steps, then a write entry of object 0 and its leave."""
+def entering(turns, rounds=32):
+    """4096 times the rounds: a loop of 1 + 2 * turns private steps, then a write entry of object 0 and its leave."""
     inner = [addi(T1, 0, turns), addi(T1, T1, -1), branch(1, T1, 0, -4)]
     body = inner + [addi(A7, 0, 8), ECALL, addi(A7, 0, 9), ECALL]
-    return counted(body, 32, 1 + 2 * turns + 4)
+    return counted(body, rounds, 1 + 2 * turns + 4)
 
 
 def entering_its_own(turns):
@@ -171,17 +171,54 @@ def traces():
             with open(source, "wb") as f:
                 f.write(guest)
             words = [IR, "record", source, made, "--order", "0", "--budget", "1000000000"]
-            recorded = best_of_three(words, b"", lambda out: out.count(b" end 1 ") == threads)
+            recorded = best_of_five(words, b"", lambda out: out.count(b" end 1 ") == threads)
             with open(made, "rb") as f:
                 data = b"\n" + guest.hex().encode() + b"\n" + f.read().hex().encode() + b"\n"
             good = lambda out: out == b"%d steps\n" % steps
-            read, fitted, replayed = (best_of_three([BENCH], mode + data, good) for mode in (b"read", b"fit", b"replay"))
+            read, fitted, replayed = (best_of_five([BENCH], mode + data, good) for mode in (b"read", b"fit", b"replay"))
             return recorded, fitted - read, replayed - fitted
 
         for name, code, threads, objects, steps in threaded():
             first, fitted, replayed = all_three(code, threads, objects, steps)
             base, _, _ = all_three(empty, threads, objects, 2 * threads)
             print(f"{name:40}{steps:>12}{steps / (first - base) / 1e6:>10.0f}{steps / fitted / 1e6:>10.0f}{steps / replayed / 1e6:>10.0f}")
+
+
+def parallel():
+    """Guests of several threads: name, code, threads, objects, steps of all threads."""
+    private, few = counted([], 3050)
+    apart, alone = entering_its_own(46)
+    seldom, longer = entering(496, 4)
+    often, visits = entering(4)
+    yield "4 threads, private work only", private, 4, 0, 4 * few
+    yield "4 threads, an object each, an entry each 100 steps", apart, 4, 4, 4 * alone
+    yield "8 threads, one object, an entry each 999 steps", seldom, 8, 1, 8 * longer
+    yield "4 threads, one object, an entry each 15 steps", often, 4, 1, 4 * visits
+
+
+def by_threads():
+    """Recording and replay by real threads beside the same in order. A replay is from the start to the end, without the
+    fit before it; a recording is from an image to a trace in memory, without the start of the program."""
+    print("by real threads beside in order, millions of steps of all threads a second")
+    print(f"{'guest':52}{'steps':>12}{'record':>10}{'threads':>10}{'ratio':>8}{'replay':>10}{'threads':>10}{'ratio':>8}")
+    empty = image([addi(A7, 0, 1), ECALL])
+    base = best_of_five([BENCH], b"record\n" + empty.hex().encode() + b"\n", lambda out: True)
+    with tempfile.TemporaryDirectory() as folder:
+        source, made = os.path.join(folder, "image"), os.path.join(folder, "trace")
+        for name, code, threads, objects, steps in parallel():
+            guest = image(code, threads, objects)
+            with open(source, "wb") as f:
+                f.write(guest)
+            best_of_five([IR, "record", source, made, "--budget", "1000000000"], b"", lambda out: out.count(b" end 1 ") == threads)
+            data = b"\n" + guest.hex().encode() + b"\n"
+            with open(made, "rb") as f:
+                told = data + f.read().hex().encode() + b"\n"
+            good = lambda out: out == b"%d steps\n" % steps
+            times = [best_of_five([BENCH], mode + data, good) - base for mode in (b"record", b"record-threads")]
+            fitted = best_of_five([BENCH], b"fit" + told, good)
+            times += [best_of_five([BENCH], mode + told, good) - fitted for mode in (b"replay", b"replay-threads")]
+            a, b, c, d = (steps / t / 1e6 for t in times)
+            print(f"{name:52}{steps:>12}{a:>10.0f}{b:>10.0f}{b / a:>8.2f}{c:>10.0f}{d:>10.0f}{d / c:>8.2f}")
 
 
 def coherence():
@@ -191,7 +228,7 @@ def coherence():
     told = header(8, 1, 1000000) + b"".join(struct.pack("<QBII", 0, 1, 0, count) + log for log in logs)
     data = b"\n" + image([ECALL], 8, 1).hex().encode() + b"\n" + told.hex().encode() + b"\n"
     good = lambda out: out == b"0 steps\n"
-    took = best_of_three([BENCH], b"coherent" + data, good) - best_of_three([BENCH], b"read" + data, good)
+    took = best_of_five([BENCH], b"coherent" + data, good) - best_of_five([BENCH], b"read" + data, good)
     print(f"coherence of {8 * count} write entries: {took:.2f} seconds")
 
 
@@ -204,11 +241,10 @@ def assembling():
             with open(source, "w") as f:
                 for i in range(0, count, 4):
                     f.write(f"l{i}: addi a0, a0, 1\n  lw a1, 4(sp)\n  beq a0, a1, l{i}\n  sw a1, 4(sp)\n")
-            took = best_of_three([IR, "asm", source, made], b"", lambda out: out == b"")
+            took = best_of_five([IR, "asm", source, made], b"", lambda out: out == b"")
             print(f"{count:<24}{count // 4:>12}{took:>10.3f}{count / took:>12.0f}")
 
 
-speeds()
-traces()
-coherence()
-assembling()
+PARTS = {part.__name__: part for part in (speeds, traces, by_threads, coherence, assembling)}
+for part in sys.argv[3:] or PARTS:
+    PARTS[part]()

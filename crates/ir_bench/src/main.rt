@@ -10,12 +10,15 @@ use anyhow::{Context, Result, bail, ensure};
 use ir_cut::{Cut, consistent};
 use ir_fit::{Fitted, coherent, fit};
 use ir_image::{Image, read_image};
-use ir_record::record_in_order;
-use ir_replay::{State, advance_in_order};
+use ir_object::OpenGate;
+use ir_record::{record, record_in_order};
+use ir_replay::{State, advance, advance_in_order};
 use ir_thread::{Ask, Reply, Thread};
 use ir_trace::{Trace, read_trace};
 use std::alloc::Global;
 use std::io::{BufRead, BufReader, Lines};
+use std::sync::Wait;
+use std::thread::Threads;
 
 const BUDGET: u64 = 1_000_000_000;
 
@@ -40,12 +43,20 @@ fn alone(alloc: Global, image: &Image, one_by_one: bool) -> Result<u64> {
     Ok(thread.steps())
 }
 
-// How many steps all threads take that are recorded by rounds.
-fn recorded(alloc: Global, image: &Image) -> Result<u64> {
+// How many steps all threads take that are recorded, by rounds or each on a real thread.
+fn recorded<R: Threads + Wait + Sync>(
+    rt: &R,
+    alloc: Global,
+    image: &Image,
+    by_threads: bool,
+) -> Result<u64> {
     let worlds = quiet::worlds(alloc, image.entries().len())?;
-    let (trace, _) = record_in_order(alloc, image, &[], worlds, BUDGET)
-        .ok()
-        .context("a recording")?;
+    let recording = if by_threads {
+        record(rt, alloc, image, worlds, &OpenGate, BUDGET)
+    } else {
+        record_in_order(alloc, image, &[], worlds, BUDGET)
+    };
+    let (trace, _) = recording.ok().context("a recording")?;
     Ok(all_steps(&trace))
 }
 
@@ -72,24 +83,61 @@ fn fitted(alloc: Global, image: Image, trace: Trace) -> Result<u64> {
     Ok(all_steps(fitted.trace()))
 }
 
-// How many steps all threads take when a trace that fits is replayed, from the start to the end.
-fn replayed(alloc: Global, image: Image, trace: Trace) -> Result<u64> {
+// A guest, before its first step, with a trace that fits and the cut at its end.
+#[derive(Drop)]
+struct Replay {
+    fitted: Fitted,
+    target: Cut,
+}
+
+fn to_the_end(alloc: Global, image: Image, trace: Trace) -> Result<Replay> {
     let fitted = fit(alloc, image, trace).ok().context("a trace that fits")?;
-    let state = State::start(alloc, &fitted)?;
-    let mut last = Vec::with_capacity(alloc, state.threads().len())?;
+    let mut last = Vec::new(alloc);
     for thread in fitted.trace().threads() {
         last.push(thread.steps())?;
     }
-    let target = Cut::new(last);
-    if !is_cut(&fitted, &target) {
-        bail!("a consistent cut");
-    }
-    let state = advance_in_order(&fitted, state, &target, &[]);
+    Ok(Replay {
+        fitted,
+        target: Cut::new(last),
+    })
+}
+
+// How many steps the threads of a state have taken.
+fn steps_of(state: &State) -> u64 {
     let mut steps = 0u64;
     for thread in state.threads() {
         steps = steps.saturating_add(thread.steps());
     }
-    Ok(steps)
+    steps
+}
+
+// How many steps all threads take when a trace that fits is replayed, from the start to the end.
+fn replayed(alloc: Global, image: Image, trace: Trace) -> Result<u64> {
+    let replay = to_the_end(alloc, image, trace)?;
+    if !is_cut(&replay.fitted, &replay.target) {
+        bail!("a consistent cut");
+    }
+    let state = State::start(alloc, &replay.fitted)?;
+    let state = advance_in_order(&replay.fitted, state, &replay.target, &[]);
+    Ok(steps_of(&state))
+}
+
+// The same by threads.
+fn replayed_by_threads<R: Threads + Sync>(
+    rt: &R,
+    alloc: Global,
+    image: Image,
+    trace: Trace,
+) -> Result<u64> {
+    let replay = to_the_end(alloc, image, trace)?;
+    if !is_cut(&replay.fitted, &replay.target) {
+        bail!("a consistent cut");
+    }
+    let state = State::start(alloc, &replay.fitted)?;
+    match advance(rt, alloc, &replay.fitted, state, &replay.target, &OpenGate) {
+        Ok(state) => Ok(steps_of(&state)),
+        Err((_state, error)) => Err(error.into()),
+    }
 }
 
 // The same of a trace that is only read, or is seen to be coherent too.
@@ -108,8 +156,8 @@ fn next_bytes<R: BufRead + Drop>(alloc: Global, lines: &mut Lines<R>) -> Result<
         .context("hexadecimal digits")
 }
 
-// The first line is `run`, `steps`, `record`, `fit`, `replay`, `read` or `coherent`, the second an image in hexadecimal; the
-// last four have a trace in the third.
+// The first line is `run`, `steps`, `record`, `record-threads`, `fit`, `replay`, `replay-threads`, `read` or `coherent`, the second
+// an image in hexadecimal; the last five have a trace in the third.
 fn main(rt: HostRuntime) -> Result<()> {
     let alloc = rt.alloc();
     let mut lines = BufReader::new(alloc, rt.reader())?.lines(alloc);
@@ -121,13 +169,15 @@ fn main(rt: HostRuntime) -> Result<()> {
     let steps = match mode.as_str() {
         "run" => alone(alloc, &image, false)?,
         "steps" => alone(alloc, &image, true)?,
-        "record" => recorded(alloc, &image)?,
+        "record" => recorded(&rt, alloc, &image, false)?,
+        "record-threads" => recorded(&rt, alloc, &image, true)?,
         other => {
             let bytes = next_bytes(alloc, &mut lines)?;
             let trace = read_trace(alloc, bytes.as_slice()).ok().context("a trace")?;
             match other {
                 "fit" => fitted(alloc, image, trace)?,
                 "replay" => replayed(alloc, image, trace)?,
+                "replay-threads" => replayed_by_threads(&rt, alloc, image, trace)?,
                 "read" => told(alloc, &trace, false)?,
                 "coherent" => told(alloc, &trace, true)?,
                 _ => bail!("a mode"),

@@ -15,14 +15,14 @@ use Rattle.ir_cli.specs.Recording.{lines_of}
 use Rattle.ir_cli.specs.declared.order.OrderErr.{OrderErr}
 use Rattle.ir_cli.specs.declared.order.OrderErr.TheVariants as order_err
 use Rattle.ir_cli.specs.declared.record_fault.RecordFault.{RecordFault}
-use Rattle.ir_cli.specs.declared.record_fault.RecordFault.TheVariants.{Unordered, Image, Order, NoMem, World, Trace, Lines}
+use Rattle.ir_cli.specs.declared.record_fault.RecordFault.TheVariants.{Clock, Image, Order, NoMem, World, Trace, Lines}
 
 -- the exit status of a fault
 abbrev pub fault_status : RecordFault → ℕ
-fault_status Unordered = 2
 fault_status (Image e) = 3
 fault_status Order = 3
 fault_status NoMem = 1
+fault_status Clock = 1
 fault_status World = 1
 fault_status Trace = 1
 fault_status Lines = 1
@@ -46,12 +46,12 @@ abbrev pub of_recorder : {W : Type 0} → RecordErr W → RecordFault
 of_recorder record_err.NoMem = NoMem
 of_recorder (record_err.World thread worlds) = World
 
--- why nothing is recorded: no list, the image's first fault, or a list that spells no order; that memory ran out, or that
--- a world failed, says nothing of them
+-- why nothing is recorded: the image's first fault, a list that spells no order, or without a list a clock that can't be
+-- read; that memory ran out, or that a world failed, says nothing of them
 abbrev pub Refuses : RecordFault → List ℕ → Option (List ℕ) → Type 0
-Refuses Unordered image list = list ≡ None
 Refuses (Image e) image list = guest_at image ≡ Err e
 Refuses Order image list = (guest : Guest) × (guest_at image ≡ Ok guest) × (option_and_then (order_of (length guest.entries)) list ≡ None)
+Refuses Clock image list = list ≡ None
 Refuses NoMem image list = ⊤
 Refuses World image list = ⊤
 Refuses Trace image list = ⊥
@@ -75,7 +75,7 @@ Failed w text = AppendsFront w.before w.after text × (w.failed ≡ true)
 abbrev pub WriteFails : RecordFault → List ℕ → List ℕ → Writer → Writer → Type 0 → Type 0
 WriteFails Trace bytes lines trace out untouched = Failed trace bytes × untouched
 WriteFails Lines bytes lines trace out untouched = Took trace bytes × Failed out lines
-WriteFails Unordered bytes lines trace out untouched = ⊥
+WriteFails Clock bytes lines trace out untouched = ⊥
 WriteFails (Image e) bytes lines trace out untouched = ⊥
 WriteFails Order bytes lines trace out untouched = ⊥
 WriteFails NoMem bytes lines trace out untouched = ⊥

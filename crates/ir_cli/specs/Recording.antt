@@ -1,39 +1,48 @@
--- What recording a guest in a given order writes.
-use Rattle.std.specs.Prelude.{◌≡◌, ◌<◌, ℕ, ◌+◌, ◌%◌, ◌^◌, List, [], ◌∷◌, ◌++◌, length, map, replicate, codes, decimal, Option, Some, option_and_then, Ok}
+-- What recording a guest writes.
+use Rattle.std.specs.Prelude.{◌≡◌, ◌<◌, ℕ, ◌+◌, ◌%◌, ◌^◌, List, [], ◌∷◌, ◌++◌, length, map, replicate, codes, decimal, Bool, Option, Some, None, Ok}
 use Rattle.std.specs.List.{range_with_len, slice_index_or}
+use Rattle.std.specs.Option.{is_some}
 use Rattle.ir_image.specs.Guest.{Guest}
 use Rattle.ir_image.specs.Reading.{guest_at}
 use Rattle.ir_thread.specs.Ends.{end_number, end_code}
 use Rattle.ir_trace.specs.Recorded.{RecordedThread, Recorded}
-use Rattle.ir_record.specs.Recording.{IsRecording}
+use Rattle.ir_record.specs.Recording.{IsRecording, IsRecordingOfSome}
 use Rattle.ir_record.specs.Worlds.{Answered}
 use Rattle.ir_cli.specs.Order.{order_of}
-use Rattle.ir_cli.specs.Sources.{Source, source, Gave}
+use Rattle.ir_cli.specs.Sources.{MadeWith, IsTold}
 
 -- the seed of the random words of thread t
 abbrev pub seed_of : ℕ → ℕ → ℕ
 seed_of random t = (random + t) % 2 ^ 64
 
--- what the world of thread t is made with: the seed of its random words, and the file
-abbrev pub origin_of : ℕ → List ℕ → ℕ → ℕ × List ℕ
-origin_of random file t = (seed_of random t, file)
+-- what the world of thread t is made with
+abbrev pub origin_of : Bool → ℕ → List ℕ → ℕ → MadeWith
+origin_of counted random file t = record { counted = counted; seed = seed_of random t; file = file }
 
 -- the same of so many threads
-abbrev pub origins : ℕ → List ℕ → ℕ → List (ℕ × List ℕ)
-origins random file threads = map (origin_of random file) (range_with_len 0 threads)
+abbrev pub origins : Bool → ℕ → List ℕ → ℕ → List MadeWith
+origins counted random file threads = map (origin_of counted random file) (range_with_len 0 threads)
 
--- the trace is of the guest's run by the order that the list spells, whose threads were answered by a count, random words
--- and the file's bytes
+-- before the first step no world has answered
+abbrev pub unasked : Guest → List (List Answered)
+unasked guest = replicate (length guest.entries) []
+
+-- the trace, the outputs and the worlds' answers of one complete run of the guest: the one by the order that the list
+-- spells, or without a list some run
+abbrev pub IsRecordedBy : Option (List ℕ) → Guest → ℕ → Recorded → List (List ℕ) → List (List Answered) → Type 0
+IsRecordedBy (Some list) guest budget trace outputs answers = (order : List ℕ) × (order_of (length guest.entries) list ≡ Some order) × IsRecording guest budget order (unasked guest) trace outputs answers
+IsRecordedBy None guest budget trace outputs answers = IsRecordingOfSome guest budget (unasked guest) trace outputs answers
+
+-- the trace is of such a run of the image's guest, whose threads were answered by random words, the file's bytes and a
+-- count; without a list by a clock in the place of the count, of which nothing is said but that the answers are its own
 pub record IsRecordedOf (image : List ℕ) (list : Option (List ℕ)) (budget random : ℕ) (file : List ℕ) (trace : Recorded) : Type 0 where
   pub guest : Guest
   pub is : guest_at image ≡ Ok guest
-  pub order : List ℕ
-  pub spelled : option_and_then (order_of (length guest.entries)) list ≡ Some order
   pub outputs : List (List ℕ)
   pub answers : List (List Answered)
-  pub recorded : IsRecording guest budget order (replicate (length guest.entries) []) trace outputs answers
+  pub recorded : IsRecordedBy list guest budget trace outputs answers
   -- each thread was answered by its own sources
-  pub told : (t : ℕ) → t < length guest.entries → (left : Source) × Gave (source (seed_of random t) file) (slice_index_or answers t []) left
+  pub told : (t : ℕ) → t < length guest.entries → IsTold (origin_of (is_some list) random file t) (slice_index_or answers t [])
 
 -- a thread's line: its number, the number and the code of its end, its steps, how many events it logged
 abbrev pub line_by : ℕ → ℕ → ℕ → ℕ → ℕ → List ℕ

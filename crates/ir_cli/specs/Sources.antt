@@ -1,5 +1,5 @@
--- What answers a thread that is recorded in a given order: a count, a generator of random words, and the bytes of a file.
-use Rattle.std.specs.Prelude.{◌≡◌, ℕ, ◌+◌, List, [], ◌∷◌, drop}
+-- What answers a thread that is recorded: a count or a clock, a generator of random words, and the bytes of a file.
+use Rattle.std.specs.Prelude.{◌≡◌, ℕ, ◌+◌, List, [], ◌∷◌, drop, Bool, true, false}
 use Rattle.std.specs.List.{slice_index_or}
 use Rattle.std.specs.Coded.{×_prop}
 use Rattle.std.proofs.Props.{props}
@@ -9,6 +9,22 @@ use Rattle.rand_pcg.specs.Pcg.{pcg32, pcg32_of_seed}
 use Rattle.ir_thread.specs.declared.ask.EnvKind.{EnvKind}
 use Rattle.ir_thread.specs.declared.ask.EnvKind.TheVariants.{Clock, Random, Input}
 use Rattle.ir_record.specs.Worlds.{Answered}
+use Rattle.ir_cli.specs.declared.time.Time.{Time}
+use Rattle.ir_cli.specs.declared.time.Time.TheVariants.{Counted, Since}
+
+-- whether calls for the time are counted; else a clock answers them
+abbrev pub is_counted : Time → Bool
+is_counted Counted = true
+is_counted (Since start) = false
+
+-- what the world of a thread is made with: whether calls for the time are counted, the seed of its random words, the file
+pub record MadeWith : Type 0 where
+  pub counted : Bool
+  pub seed : ℕ
+  pub file : List ℕ
+
+abbrev pub made_with : Time → ℕ → List ℕ → MadeWith
+made_with time seed file = record { counted = is_counted time; seed = seed; file = file }
 
 pub record Source : Type 0 where
   -- how many calls for the time were answered
@@ -37,3 +53,19 @@ Gave s (answer ∷ answers) t = (answer.1 ≡ (given answer.0 s).0) × Gave (giv
 pub Gave-prop : (s : Source) (answers : List Answered) (t : Source) → IsProp (Gave s answers t)
 Gave-prop s [] t = hlevel props
 Gave-prop s (answer ∷ answers) t = ×_prop (hlevel props) (Gave-prop (given answer.0 s).1 answers t)
+
+-- the answers to calls for random words and input
+abbrev pub untimed : List Answered → List Answered
+untimed [] = []
+untimed ((Clock, value) ∷ answers) = untimed answers
+untimed ((Random, value) ∷ answers) = (Random, value) ∷ untimed answers
+untimed ((Input, value) ∷ answers) = (Input, value) ∷ untimed answers
+
+-- the answers that come from the sources: all where calls for the time are counted, else those that are no clock's
+abbrev pub from_sources : Bool → List Answered → List Answered
+from_sources true answers = answers
+from_sources false answers = untimed answers
+
+-- a world that was made so has given these answers, in turn those that come from its sources
+abbrev pub IsTold : MadeWith → List Answered → Type 0
+IsTold made answers = (left : Source) × Gave (source made.seed made.file) (from_sources made.counted answers) left

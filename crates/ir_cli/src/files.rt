@@ -80,6 +80,11 @@ impl<'a> NewFile<'a> {
             failed: false,
         }
     }
+
+    /// Whether the file was made.
+    pub fn is_made(&self) -> bool {
+        self.file.is_some()
+    }
 }
 
 impl Sink for NewFile<'_> {

@@ -13,6 +13,7 @@ mod line;
 mod numeral;
 mod order;
 mod program_world;
+mod progress;
 mod record_fault;
 #[cfg(test)]
 mod record_tests;
@@ -21,15 +22,24 @@ mod sources;
 mod telling;
 #[cfg(test)]
 mod tests;
+mod time;
+mod whole_file;
 mod words;
+#[cfg(test)]
+mod world_tests;
 
 use assembling::asm_run;
 use bundle::bundle;
 use files::{MOST_BYTES, MOST_INPUT, NewFile, read_file};
 use ir_debug::{FromStd, Sink};
+use progress::Progress;
 use recording::record_run;
-use std::io::{self, BufReader};
+use std::io::{self, BufReader, IsTerminal};
 use std::process::ExitCode;
+use std::sync::Wait;
+use std::thread::Threads;
+use std::time::Clock;
+use whole_file::WholeFile;
 use words::{Asked, RecordWords, read_words};
 
 const DONE: u8 = 0;
@@ -90,21 +100,32 @@ fn input_of(rt: &HostRuntime, words: &RecordWords) -> Option<Vec<u8>> {
     }
 }
 
-// Records a guest into a file.
-fn record_file(rt: &HostRuntime, words: &RecordWords) -> u8 {
+// Records a guest into a file. Its threads are those of the second handle.
+fn record_file<R: Threads + Wait + Sync + Clock + Eprint>(
+    rt: &HostRuntime,
+    threads: &R,
+    words: &RecordWords,
+) -> u8 {
     let Some(image) = bytes_of(rt, words.image.as_str(), MOST_BYTES) else {
         return FAULT;
     };
     let Some(input) = input_of(rt, words) else {
         return FAULT;
     };
-    let mut trace = NewFile::new(rt, words.trace.as_str());
+    let Ok(beside) = format!(in rt.alloc(); "{}.part", words.trace) else {
+        complain(rt, "memory ran out");
+        return FAULT;
+    };
+    let mut trace = WholeFile::new(rt, words.trace.as_str(), beside.as_str());
     let mut out = FromStd::new(io::writer(rt));
     let mut faults = FromStd::new(rt.stderr());
+    let progress = Progress::new(threads, rt.stderr().is_terminal());
     record_run(
+        threads,
         rt.alloc(),
+        &progress,
         image.as_slice(),
-        Some(words.order.as_str()),
+        words.order.as_ref().map(|list| list.as_str()),
         words.budget,
         words.random,
         input.as_slice(),
@@ -118,7 +139,7 @@ fn main(rt: HostRuntime) -> ExitCode {
     ExitCode::from(match read_words(&rt) {
         Asked::Session => serve(&rt),
         Asked::Assembling(source, image) => assemble_file(&rt, source.as_str(), image.as_str()),
-        Asked::Recording(words) => record_file(&rt, &words),
+        Asked::Recording(words) => record_file(&rt, &rt, &words),
         Asked::Help(text) => match rt.print(text) {
             Ok(()) => DONE,
             Err(_) => FAULT,

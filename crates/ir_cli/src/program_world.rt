@@ -1,19 +1,23 @@
-//! The world of a thread that is recorded in a given order.
+//! The world of a thread that is recorded.
 
-ghost use Rattle.std.specs.Prelude.{◌≡◌, ◌≤◌, ℕ, List, [], vec_len, vec_capacity, IfOk, false};
-ghost use Rattle.ir_cli.specs.Sources.{source, Gave, Gave-prop};
+ghost use Rattle.std.specs.Prelude.{◌≡◌, ◌≤◌, [], vec_len, vec_capacity, IfOk, false};
+ghost use Rattle.ir_cli.specs.Sources.{source, Gave, Gave-prop, MadeWith, made_with, is_counted, from_sources};
 
 use crate::sources::Sources;
+use crate::time::{Time, millis_since};
 use ir_record::{World, WorldErr};
 use ir_thread::EnvKind;
 use std::alloc::{AllocError, Global};
+use std::time::Clock;
 
 /// The most answers: as many as a thread may log.
 pub const MOST_ANSWERS: usize = 1_048_576;
 
 /// Answers one thread.
 #[derive(Drop)]
-pub struct ProgramWorld<'a> {
+pub struct ProgramWorld<'a, C> {
+    clock: &'a C,
+    time: Time,
     seed: u64,
     file: &'a [u8],
     sources: Sources<'a>,
@@ -21,15 +25,23 @@ pub struct ProgramWorld<'a> {
     failed: bool,
     ghost room: { 1048576 ≤ vec_capacity answers },
     ghost few: { sources.ticks ≤ vec_len answers },
-    ghost gave: { Gave (source seed file.now) answers.items sources } by { Gave-prop (source seed file.now) answers.items sources },
+    ghost gave: { Gave (source seed file.now) (from_sources (is_counted time) answers.items) sources } by { Gave-prop (source seed file.now) (from_sources (is_counted time) answers.items) sources },
 }
 
-impl<'a> ProgramWorld<'a> {
-    /// A world whose random words start from the seed, and whose input is the file.
+impl<'a, C> ProgramWorld<'a, C> {
+    /// A world whose time comes from where it is said, whose random words start from the seed, and whose input is the
+    /// file. The clock is read where the time is not counted.
     ///
     /// # Errors
     /// Want of memory, which is made for all answers; no answer takes any.
-    pub fn new(alloc: Global, seed: u64, file: &'a [u8]) -> Result<ProgramWorld<'a>, AllocError>
+    pub fn new(
+        alloc: Global,
+        clock: &'a C,
+        time: Time,
+        seed: u64,
+        file: &'a [u8],
+    ) -> Result<ProgramWorld<'a, C>, AllocError>
+        ensures time { IfOk result (λ w. w.time ≡ time) }
         ensures seed { IfOk result (λ w. w.seed ≡ seed) }
         ensures file { IfOk result (λ w. w.file.now ≡ file.now) }
         ensures fresh { IfOk result (λ w. w.answers.items ≡ []) }
@@ -37,6 +49,8 @@ impl<'a> ProgramWorld<'a> {
     {
         let answers = Vec::with_capacity(alloc, MOST_ANSWERS)?;
         Ok(ProgramWorld {
+            clock,
+            time,
             seed,
             file,
             sources: Sources::new(seed, file),
@@ -46,12 +60,12 @@ impl<'a> ProgramWorld<'a> {
     }
 }
 
-impl World for ProgramWorld<'_> {
+impl<C: Clock> World for ProgramWorld<'_, C> {
     ghost answers = { λ w. w.answers.items };
 
-    ghost Origin = { ℕ × List ℕ };
+    ghost Origin = { MadeWith };
 
-    ghost origin = { λ w. (w.seed, w.file.now) };
+    ghost origin = { λ w. made_with w.time w.seed w.file.now };
 
     ghost broken = { λ w. w.failed };
 
@@ -59,6 +73,14 @@ impl World for ProgramWorld<'_> {
         if self.answers.len() >= MOST_ANSWERS {
             self.failed = true;
             return Err(WorldErr);
+        }
+        if let (EnvKind::Clock, Time::Since(start)) = (kind, self.time) {
+            let Some(value) = millis_since(self.clock, start) else {
+                self.failed = true;
+                return Err(WorldErr);
+            };
+            self.answers.push_reserved((kind, value));
+            return Ok(value);
         }
         let value = self.sources.answer(kind);
         self.answers.push_reserved((kind, value));

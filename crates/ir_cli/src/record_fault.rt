@@ -10,15 +10,15 @@ use std::alloc::AllocError;
 /// Why a guest was not recorded, or its recording not written.
 #[derive(Debug, Drop)]
 pub enum RecordFault {
-    /// No order is given.
-    Unordered,
     /// The image is refused.
     Image(ImageErr),
     /// The list spells no order of the guest's threads.
     Order,
     /// Want of memory.
     NoMem,
-    /// A thread asked for more answers than may be logged.
+    /// The clock can't be read as the recording starts.
+    Clock,
+    /// A thread's call can't be answered: the clock can't be read any more.
     World,
     /// The trace can't be written.
     Trace,
@@ -34,9 +34,8 @@ impl RecordFault {
         ensures { result ≡ fault_status self.now }
     {
         match self {
-            RecordFault::Unordered => 2,
             RecordFault::Image(_) | RecordFault::Order => 3,
-            RecordFault::NoMem | RecordFault::World => 1,
+            RecordFault::NoMem | RecordFault::Clock | RecordFault::World => 1,
             RecordFault::Trace | RecordFault::Lines => 1,
         }
     }
@@ -46,11 +45,11 @@ impl RecordFault {
         ensures { length result.now ≤ 100 }
     {
         match self {
-            RecordFault::Unordered => "recording by threads isn't there yet: give an order",
             RecordFault::Image(why) => image_words(why),
             RecordFault::Order => "LIST is no order of this image's threads",
             RecordFault::NoMem => "memory ran out",
-            RecordFault::World => "a thread asked for more than can be logged",
+            RecordFault::Clock => "the clock can't be read",
+            RecordFault::World => "a thread's call of the environment can't be answered",
             RecordFault::Trace => "the trace can't be written",
             RecordFault::Lines => "standard output can't be written",
         }

@@ -5,6 +5,15 @@ ghost use Rattle.std.specs.Prelude.{◌≤◌};
 use crate::assembling::asm_run;
 use crate::recording::record_run;
 use crate::tests::{ENDLESS, Page, empty_page};
+use ir_log::Event;
+use ir_object::OpenGate;
+use ir_thread::EnvKind;
+use ir_trace::{Trace, read_trace};
+use std::alloc::AllocGlobal;
+use std::sync::Wait;
+use std::test::Fail;
+use std::thread::Threads;
+use std::time::Clock;
 
 // Two threads that add one each to a shared counter, inside for writing.
 const COUNT: &str = "
@@ -147,12 +156,18 @@ const HOW: How<'static> = How {
     out_calls: ENDLESS,
 };
 
-fn recorded(rt: &HostRuntime, image: &[u8], how: How<'_>) -> Run {
+fn recorded<R: Threads + Wait + Sync + Clock + AllocGlobal>(
+    rt: &R,
+    image: &[u8],
+    how: How<'_>,
+) -> Run {
     let mut trace = empty_page(rt, 7, how.trace_calls);
     let mut out = empty_page(rt, 7, how.out_calls);
     let mut faults = empty_page(rt, 7, ENDLESS);
     let status = record_run(
+        rt,
         rt.alloc(),
+        &OpenGate,
         image,
         how.order,
         how.budget as u64,
@@ -344,14 +359,6 @@ fn leading_zeros_are_taken(rt: HostRuntime) {
 }
 
 #[test]
-fn without_an_order_nothing_is_recorded(rt: HostRuntime) {
-    let run = recorded(&rt, b"IRI1", How { order: None, ..HOW });
-    assert_eq!(rt; run.status, 2);
-    assert!(rt; run.trace.bytes.is_empty() && run.out.bytes.is_empty());
-    assert!(rt; run.faults.bytes.ends_with(b"\n"));
-}
-
-#[test]
 fn a_refused_image_is_told(rt: HostRuntime) {
     let image = image(&rt, DOUBLE);
     for length in [0, 3, 14, 41] {
@@ -368,7 +375,8 @@ fn a_refused_image_is_told(rt: HostRuntime) {
 #[test]
 fn a_failing_trace_leaves_no_line(rt: HostRuntime) {
     let image = image(&rt, COUNT);
-    for trace_calls in 0..10 {
+    // Ten calls take all bytes; the next puts them in their place.
+    for trace_calls in 0..=10 {
         let how = How {
             trace_calls,
             ..with_order("1x18")
@@ -405,4 +413,166 @@ fn lines_that_fail_leave_the_trace(rt: HostRuntime) {
             b"ir: standard output can't be written\n".as_slice()
         );
     }
+}
+
+// Without an order: on real threads.
+const BY_THREADS: How<'static> = How { order: None, ..HOW };
+
+// Eight threads that add one each to a shared counter.
+const EIGHT: &str = "
+        .thread main
+        .thread main
+        .thread main
+        .thread main
+        .thread main
+        .thread main
+";
+
+// The guest whose eight threads count.
+fn eight(rt: &HostRuntime) -> Result<Vec<u8>, Fail> {
+    let mut source = String::from_str(rt.alloc(), EIGHT)?;
+    source.push_str(COUNT)?;
+    Ok(image(rt, source.as_str()))
+}
+
+// How often each version from 0 to 7 was entered for writing, and how many other events there are.
+fn versions(trace: &Trace) -> ([u32; 8], u32) {
+    let mut times = [0u32; 8];
+    let mut others = 0u32;
+    for thread in trace.threads() {
+        for event in thread.log().events() {
+            match *event {
+                Event::Write { version, .. } if version < 8 => {
+                    let place = version as usize;
+                    times[place] = times[place].saturating_add(1);
+                }
+                _ => others = others.saturating_add(1),
+            }
+        }
+    }
+    (times, others)
+}
+
+const EIGHT_LINES: &[u8] = b"thread 0 end 1 code 0 steps 18 events 1
+thread 1 end 1 code 0 steps 18 events 1
+thread 2 end 1 code 0 steps 18 events 1
+thread 3 end 1 code 0 steps 18 events 1
+thread 4 end 1 code 0 steps 18 events 1
+thread 5 end 1 code 0 steps 18 events 1
+thread 6 end 1 code 0 steps 18 events 1
+thread 7 end 1 code 0 steps 18 events 1
+";
+
+#[test]
+fn eight_threads_count_each_once(rt: HostRuntime) -> Result<(), Fail> {
+    let image = eight(&rt)?;
+    for _ in 0..20 {
+        let run = recorded(&rt, image.as_slice(), BY_THREADS);
+        assert_eq!(rt; run.status, 0);
+        assert!(rt; run.trace.whole);
+        assert_eq!(rt; run.out.bytes.as_slice(), EIGHT_LINES);
+        assert!(rt; run.faults.bytes.is_empty());
+        let trace = read_trace(rt.alloc(), run.trace.bytes.as_slice())?;
+        assert_eq!(rt; trace.threads().len(), 8);
+        assert_eq!(rt; versions(&trace), ([1; 8], 0));
+    }
+    Ok(())
+}
+
+// A guest whose threads share nothing has one recording, but for the time.
+#[test]
+fn what_is_not_shared_is_recorded_alike(rt: HostRuntime) {
+    for source in [
+        DOUBLE,
+        READ_THEN_WRITE,
+        HELD_AT_THE_END,
+        OUT_OF_ORDER,
+        RANDOM_WORDS,
+        BYTES,
+    ] {
+        let image = image(&rt, source);
+        for budget in [0, 2, 1000] {
+            let how = How {
+                budget,
+                random: 6,
+                input: b"A",
+                ..HOW
+            };
+            let in_order = recorded(&rt, image.as_slice(), how);
+            let by_threads = recorded(&rt, image.as_slice(), How { order: None, ..how });
+            assert_eq!(rt; by_threads.status, 0);
+            assert_eq!(rt;
+                by_threads.trace.bytes.as_slice(),
+                in_order.trace.bytes.as_slice()
+            );
+            assert_eq!(rt;
+                by_threads.out.bytes.as_slice(),
+                in_order.out.bytes.as_slice()
+            );
+        }
+    }
+}
+
+// The values of all events, thread by thread; all of them are the time.
+fn times(rt: &HostRuntime, trace: &[u8]) -> Result<Vec<u32>, Fail> {
+    let trace = read_trace(rt.alloc(), trace)?;
+    let mut values = Vec::new(rt.alloc());
+    for thread in trace.threads() {
+        for event in thread.log().events() {
+            match *event {
+                Event::Answer(EnvKind::Clock, value) => values.push(value)?,
+                _ => return Err(Fail::from("no time")),
+            }
+        }
+    }
+    Ok(values)
+}
+
+#[test]
+fn milliseconds_since_the_start_are_told(rt: HostRuntime) -> Result<(), Fail> {
+    let image = image(&rt, TWICE_THE_TIME);
+    let run = recorded(&rt, image.as_slice(), BY_THREADS);
+    assert_eq!(rt; run.status, 0);
+    match times(&rt, run.trace.bytes.as_slice())?.as_slice() {
+        [a, b, c, d] => {
+            assert!(rt; a <= b && c <= d);
+            assert!(rt; *b < 60_000 && *d < 60_000);
+        }
+        _ => panic!(rt; "two times of each of two threads"),
+    }
+    Ok(())
+}
+
+#[test]
+fn a_refused_image_runs_no_thread(rt: HostRuntime) {
+    let run = recorded(&rt, b"IRI1", BY_THREADS);
+    assert_eq!(rt; run.status, 3);
+    assert!(rt; run.trace.bytes.is_empty() && run.out.bytes.is_empty());
+    assert!(rt; run.faults.bytes.ends_with(b"\n"));
+}
+
+#[test]
+fn failing_writers_are_told_by_threads_too(rt: HostRuntime) -> Result<(), Fail> {
+    let image = eight(&rt)?;
+    let run = recorded(
+        &rt,
+        image.as_slice(),
+        How {
+            trace_calls: 3,
+            ..BY_THREADS
+        },
+    );
+    assert_eq!(rt; (run.status, run.trace.bytes.len()), (1, 21));
+    assert!(rt; run.out.bytes.is_empty() && !run.out.failed);
+    let run = recorded(
+        &rt,
+        image.as_slice(),
+        How {
+            out_calls: 3,
+            ..BY_THREADS
+        },
+    );
+    assert_eq!(rt; (run.status, run.out.bytes.len()), (1, 21));
+    assert_eq!(rt; run.trace.bytes.len(), 16 + 8 * 27);
+    Ok(())
 }

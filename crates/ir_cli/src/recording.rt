@@ -1,4 +1,4 @@
-//! An image in, the trace of its guest's run by an order and a line for each thread out.
+//! An image in, the trace of a run of its guest and a line for each thread out.
 
 ghost use Rattle.std.specs.Prelude.{◌≡◌, ◌≢◌, ◌<◌, ◌≤◌, ◌+◌, ℕ, List, Some, None, Ok, Err, true, false, IfOk, IfErr, OnOk, [], length, map, replicate, option_map};
 ghost use Rattle.std.specs.String.{string_bytes};
@@ -7,44 +7,53 @@ ghost use Rattle.ir_trace.specs.Recorded.{Recorded};
 ghost use Rattle.ir_trace.specs.Spelling.{spelling};
 ghost use Rattle.ir_record.specs.Worlds.{NoneFailed};
 ghost use Rattle.ir_cli.specs.Recording.{origins, IsRecordedOf, line_by, thread_line, lines_of};
+ghost use Rattle.ir_cli.specs.Sources.{made_with, is_counted};
 ghost use Rattle.ir_cli.specs.Faults.{fault_status, Refuses, WriteFails, Stops};
 ghost use Rattle.ir_cli.specs.declared.record_fault.RecordFault.{RecordFault};
-ghost use Rattle.ir_cli.specs.declared.record_fault.RecordFault.TheVariants as fault;
 
 use crate::order::read_order;
 use crate::program_world::ProgramWorld;
 use crate::record_fault::RecordFault;
 use crate::telling::tell;
+use crate::time::Time;
+use crate::whole_file::WholeSink;
 use ir_debug::Sink;
 use ir_image::read_image;
-use ir_record::record_in_order;
+use ir_object::Gate;
+use ir_record::{record, record_in_order};
 use ir_stream::write_all;
 use ir_trace::{ThreadTrace, Trace, write_trace};
 use std::alloc::{AllocError, Global};
+use std::sync::Wait;
+use std::thread::Threads;
+use std::time::{Clock, Instant};
 
 const DONE: u8 = 0;
 
 // The worlds of so many threads. Each has its own random words and its own copy of the file.
-fn worlds<'a>(
+fn worlds<'a, C>(
     alloc: Global,
+    clock: &'a C,
+    time: Time,
     threads: usize,
     random: u64,
     file: &'a [u8],
-) -> Result<Vec<ProgramWorld<'a>>, AllocError>
-    ensures origins { IfOk result (λ worlds. map (λ w. (w.seed, w.file.now)) worlds.items ≡ origins random file.now threads) }
+) -> Result<Vec<ProgramWorld<'a, C>>, AllocError>
+    ensures origins { IfOk result (λ worlds. map (λ w. made_with w.time w.seed w.file.now) worlds.items ≡ origins (is_counted time) random file.now threads) }
     ensures fresh { IfOk result (λ worlds. map (λ w. w.answers.items) worlds.items ≡ replicate threads []) }
     ensures works { IfOk result (λ worlds. NoneFailed (map (λ w. w.failed) worlds.items)) }
 {
     let mut worlds = Vec::with_capacity(alloc, threads)?;
     for thread in 0..threads {
         let seed = random.wrapping_add(thread as u64);
-        worlds.push(ProgramWorld::new(alloc, seed, file)?)?;
+        worlds.push(ProgramWorld::new(alloc, clock, time, seed, file)?)?;
     }
     Ok(worlds)
 }
 
-// The recording of the image's guest by the order that the list spells.
-fn recorded(
+// The recording of the image's guest by the order that the list spells, on one thread.
+fn recorded_in_order<C: Clock>(
+    clock: &C,
     alloc: Global,
     image: &[u8],
     list: &str,
@@ -59,9 +68,54 @@ fn recorded(
     let image = read_image(alloc, image)?;
     let threads = image.entries().len();
     let order = read_order(alloc, list, threads)?;
-    let worlds = worlds(alloc, threads, random, file)?;
+    let worlds = worlds(alloc, clock, Time::Counted, threads, random, file)?;
     let (trace, _) = record_in_order(alloc, &image, order.as_slice(), worlds, budget)?;
     Ok(trace)
+}
+
+// A recording of the image's guest by threads.
+fn recorded_by_threads<R: Threads + Wait + Sync + Clock, G: Gate + Sync>(
+    rt: &R,
+    alloc: Global,
+    gate: &G,
+    image: &[u8],
+    budget: u64,
+    random: u64,
+    file: &[u8],
+) -> Result<Trace, RecordFault>
+    requires { budget ≤ 1000000000000 }
+    ensures recorded { IfOk result (IsRecordedOf image.now None budget random file.now) }
+    ensures refused { IfErr result (λ e. Refuses e image.now None) }
+{
+    let image = read_image(alloc, image)?;
+    let threads = image.entries().len();
+    let Ok(start) = Instant::now(rt) else {
+        return Err(RecordFault::Clock);
+    };
+    let worlds = worlds(alloc, rt, Time::Since(start), threads, random, file)?;
+    let (trace, _) = record(rt, alloc, &image, worlds, gate, budget)?;
+    Ok(trace)
+}
+
+// The recording of the image's guest: by the order that the list spells, or by threads.
+fn recorded<R: Threads + Wait + Sync + Clock, G: Gate + Sync>(
+    rt: &R,
+    alloc: Global,
+    gate: &G,
+    image: &[u8],
+    order: Option<&str>,
+    budget: u64,
+    random: u64,
+    file: &[u8],
+) -> Result<Trace, RecordFault>
+    requires { budget ≤ 1000000000000 }
+    ensures recorded { IfOk result (IsRecordedOf image.now (option_map (λ s. s.now) order.entry) budget random file.now) }
+    ensures refused { IfErr result (λ e. Refuses e image.now (option_map (λ s. s.now) order.entry)) }
+{
+    match order {
+        Some(list) => recorded_in_order(rt, alloc, image, list, budget, random, file),
+        None => recorded_by_threads(rt, alloc, gate, image, budget, random, file),
+    }
 }
 
 fn line_by(
@@ -104,18 +158,19 @@ fn lines(alloc: Global, trace: &Trace) -> Result<String, AllocError>
     Ok(lines)
 }
 
-// Writes the trace, and then the lines.
-fn written<W: Sink, O: Sink>(
+// Writes the trace, which then stands in its place, and then the lines.
+fn written<W: WholeSink, O: Sink>(
     trace: &mut W,
     out: &mut O,
     bytes: &[u8],
     lines: &[u8],
 ) -> Result<(), RecordFault>
     ensures trace { OnOk result (Appends (W.written trace.old) (W.written trace.new) bytes.now) }
+    ensures whole { OnOk result (W.whole trace.new ≡ true) }
     ensures lines { OnOk result (Appends (O.written out.old) (O.written out.new) lines.now) }
     ensures failed { IfErr result (λ e. WriteFails e bytes.now lines.now (record { before = W.written trace.old; after = W.written trace.new; failed = W.broken trace.new }) (record { before = O.written out.old; after = O.written out.new; failed = O.broken out.new }) (out.new ≡ out.old)) }
 {
-    if write_all(trace, bytes).is_err() {
+    if write_all(trace, bytes).is_err() || trace.finish().is_err() {
         return Err(RecordFault::Trace);
     }
     if write_all(out, lines).is_err() {
@@ -125,8 +180,10 @@ fn written<W: Sink, O: Sink>(
 }
 
 // Records, and writes what was recorded.
-fn run<W: Sink, O: Sink>(
+fn run<R: Threads + Wait + Sync + Clock, G: Gate + Sync, W: WholeSink, O: Sink>(
+    rt: &R,
     alloc: Global,
+    gate: &G,
     image: &[u8],
     order: Option<&str>,
     budget: u64,
@@ -137,26 +194,28 @@ fn run<W: Sink, O: Sink>(
 ) -> Result<(), RecordFault>
     requires { budget ≤ 1000000000000 }
     ensures done { OnOk result ((recorded : Recorded) × IsRecordedOf image.now (option_map (λ s. s.now) order.entry) budget random input.now recorded × Appends (W.written trace.old) (W.written trace.new) (spelling recorded) × Appends (O.written out.old) (O.written out.new) (lines_of recorded)) }
+    ensures whole { OnOk result (W.whole trace.new ≡ true) }
     ensures stopped { IfErr result (λ e. Stops e image.now (option_map (λ s. s.now) order.entry) (IsRecordedOf image.now (option_map (λ s. s.now) order.entry) budget random input.now) (record { before = W.written trace.old; after = W.written trace.new; failed = W.broken trace.new }) (record { before = O.written out.old; after = O.written out.new; failed = O.broken out.new }) ((trace.new ≡ trace.old) × (out.new ≡ out.old)) (out.new ≡ out.old)) }
-    ensures unordered { order.entry ≡ None → result ≡ Err fault.Unordered }
 {
-    let Some(list) = order else {
-        return Err(RecordFault::Unordered);
-    };
-    let recorded = recorded(alloc, image, list, budget, random, input)?;
+    let recorded = recorded(rt, alloc, gate, image, order, budget, random, input)?;
     let bytes = write_trace(alloc, &recorded)?;
     let lines = lines(alloc, &recorded)?;
     written(trace, out, bytes.as_slice(), lines.as_bytes())
 }
 
-/// Records the guest of an image in the order that a list spells: writes its trace, and then a line
-/// `thread T end E code C steps S events N` for each thread. The budget is in steps, for each thread. RANDOM gives the
-/// words of PCG32, started for thread T by the number `random` plus T, modulo 2^64; CLOCK counts its own calls from 0, in
-/// each thread; each thread's INPUT gives all bytes of the input. The answer is the exit status: 0 where both were
-/// written, 2 where no order is given, 3 where the image is refused or the list spells no order of its threads, and 1
-/// where memory ran out or a writer failed. A fault is told in one line.
-pub fn record_run<W: Sink, O: Sink, E: Sink>(
+/// Records the guest of an image in the order that a list spells, on one thread; without a list on real threads. Writes
+/// the trace, and then a line `thread T end E code C steps S events N` for each thread. The budget is in steps, for each
+/// thread. RANDOM gives the words of PCG32, started for thread T by the number `random` plus T, modulo 2^64; CLOCK counts
+/// its own calls from 0, in each thread, and without a list gives the milliseconds since the start, modulo 2^32; each
+/// thread's INPUT gives all bytes of the input. Without a list it may wait for threads, and that it ends isn't promised;
+/// the gate is told of what they do.
+/// The answer is the exit status: 0 where both were written and the trace stands in its place, 3 where the image is
+/// refused or the list spells no order of its threads, and 1 where memory ran out, the clock can't be read or a writer
+/// failed. A fault is told in one line.
+pub fn record_run<R: Threads + Wait + Sync + Clock, G: Gate + Sync, W: WholeSink, O: Sink, E: Sink>(
+    rt: &R,
     alloc: Global,
+    gate: &G,
     image: &[u8],
     order: Option<&str>,
     budget: u64,
@@ -170,14 +229,16 @@ pub fn record_run<W: Sink, O: Sink, E: Sink>(
     requires writes { W.broken trace.old ≡ false }
     requires prints { O.broken out.old ≡ false }
     requires tells { E.broken faults.old ≡ false }
-    // The trace of the run by the order was written, and its lines, and no fault told.
+    // The trace of the run by the order, or of some complete run, was written, and its lines, and no fault told.
     ensures done { result ≡ 0 → (recorded : Recorded) × IsRecordedOf image.now (option_map (λ s. s.now) order.entry) budget random input.now recorded × Appends (W.written trace.old) (W.written trace.new) (spelling recorded) × Appends (O.written out.old) (O.written out.new) (lines_of recorded) }
+    ensures whole { result ≡ 0 → W.whole trace.new ≡ true }
     ensures quiet { result ≡ 0 → faults.new ≡ faults.old }
     // Else what stopped it, and what that left.
     ensures stopped { result ≢ 0 → (e : RecordFault) × (result ≡ fault_status e) × Stops e image.now (option_map (λ s. s.now) order.entry) (IsRecordedOf image.now (option_map (λ s. s.now) order.entry) budget random input.now) (record { before = W.written trace.old; after = W.written trace.new; failed = W.broken trace.new }) (record { before = O.written out.old; after = O.written out.new; failed = O.broken out.new }) ((trace.new ≡ trace.old) × (out.new ≡ out.old)) (out.new ≡ out.old) }
-    ensures unordered { order.entry ≡ None → result ≡ 2 }
 {
-    match run(alloc, image, order, budget, random, input, trace, out) {
+    match run(
+        rt, alloc, gate, image, order, budget, random, input, trace, out,
+    ) {
         Ok(()) => DONE,
         Err(why) => {
             tell(faults, why.words());

@@ -4,6 +4,7 @@ ghost use Rattle.std.specs.Prelude.{◌≡◌, false};
 
 use crate::bundle::{bundle, bundled};
 use crate::fault::BundleErr;
+use crate::whole_file::WholeSink;
 use ir_debug::{DeviceErr, Ended, SessionErr, Sink, Source, session_up_to};
 use std::test::Fail;
 
@@ -47,6 +48,7 @@ pub struct Page {
     most: usize,
     calls_left: u64,
     pub failed: bool,
+    pub whole: bool,
 }
 
 impl Sink for Page {
@@ -71,6 +73,21 @@ impl Sink for Page {
     }
 }
 
+// Putting the page in its place is a call too.
+impl WholeSink for Page {
+    ghost whole = { λ p. p.whole };
+
+    fn finish(&mut self) -> Result<(), DeviceErr> {
+        if self.calls_left == 0 {
+            self.failed = true;
+            return Err(DeviceErr);
+        }
+        self.calls_left -= 1;
+        self.whole = true;
+        Ok(())
+    }
+}
+
 const IMAGE: &[u8] = b"495249310100060000000000000000000100130580049308200073000000\
 3305a5009308100073000000";
 
@@ -91,7 +108,7 @@ at 6 end\n";
 
 pub const ENDLESS: u64 = 1_000_000;
 
-pub fn empty_page(rt: &HostRuntime, most: usize, calls_left: u64) -> Page
+pub fn empty_page(rt: &impl AllocGlobal, most: usize, calls_left: u64) -> Page
     ensures { result.failed ≡ false }
 {
     Page {
@@ -99,6 +116,7 @@ pub fn empty_page(rt: &HostRuntime, most: usize, calls_left: u64) -> Page
         most,
         calls_left,
         failed: false,
+        whole: false,
     }
 }
 

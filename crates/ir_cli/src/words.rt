@@ -61,14 +61,21 @@ const INPUT: &str = "input";
 
 const MOST_BUDGET: u64 = 1_000_000_000_000;
 
-const RECORD_ABOUT: &str = "Records a guest in a given order, and prints a line for each thread";
+const RECORD_ABOUT: &str = "Records a guest, and prints a line for each thread";
 
 const RECORD_AFTER: &str =
-    "LIST is items joined by commas: `T`, one step of thread T; or `TxN`, N steps of it, N from 1 to 1000000. An entry
-of a thread that is done or must wait takes no step. After the list, rounds over the threads from 0 on take one step of
-each that has one, until all are done. 1x18 lets thread 1 take 18 steps before thread 0 takes its first.
-CLOCK counts its own calls from 0, in each thread; RANDOM gives PCG32's words, started by S plus the thread's number;
-each thread reads its own copy of FILE, of at most 1048576 bytes, or nothing.
+    "Without LIST each thread of the guest runs on a thread of its own, and TRACE is of the run that came about. Recordings
+of one guest, with the same words, may differ in who enters an object first, in what CLOCK answers, and in what follows
+from these; else not. A thread that waits for an object takes no step, and the budget doesn't end it; it goes on once
+those inside have left or ended, which the budget sees to. At a terminal standard error shows the steps so far, once a
+second. Ctrl-C stops a recording, and TRACE stays as it was.
+With LIST all run on one thread, and recordings don't differ. LIST is items joined by commas: `T`, one step of thread T;
+or `TxN`, N steps of it, N from 1 to 1000000. An entry of a thread that is done or must wait takes no step. After the
+list, rounds over the threads from 0 on take one step of each that has one, until all are done. 1x18 lets thread 1 take
+18 steps before thread 0 takes its first.
+CLOCK gives milliseconds since the start, modulo 2^32; with LIST it counts its own calls from 0, in each thread.
+RANDOM gives PCG32's words, started by S plus the thread's number; each thread reads its own copy of FILE, of at most
+1048576 bytes, or nothing. TRACE is written as TRACE.part, which is renamed once it is whole.
 A line is `thread T end E code C steps S events N`; the ends E are
    1 END                   6 a bad load              11 an object that isn't held
    2 EBREAK                7 a bad store             12 too much output
@@ -85,8 +92,8 @@ pub struct RecordWords {
     pub image: String,
     /// The file that the trace is written to.
     pub trace: String,
-    /// The list that spells the order.
-    pub order: String,
+    /// The list that spells the order, if it is given.
+    pub order: Option<String>,
     /// The most steps of each thread.
     pub budget: u64,
     /// Where random words start.
@@ -134,11 +141,9 @@ fn record_command<'a>(alloc: Global) -> Result<Command<'a>, AllocError> {
     let trace = Arg::new(alloc, TRACE)
         .required(true)
         .help("The file that the trace is written to");
-    let order = Arg::new(alloc, ORDER)
-        .long(ORDER)
-        .value_name("LIST")
-        .required(true)
-        .help("Which thread takes each next step");
+    let order = Arg::new(alloc, ORDER).long(ORDER).value_name("LIST").help(
+        "Which thread takes each next step; without it the guest runs on real threads",
+    );
     Command::new(alloc, RECORD)
         .about(RECORD_ABOUT)
         .after_help(RECORD_AFTER)
@@ -201,9 +206,14 @@ fn text_of(alloc: Global, matches: &ArgMatches<'_>, name: &str) -> Result<String
     String::from_str(alloc, matches.get_str(name).unwrap_or_default())
 }
 
-fn input_of(alloc: Global, matches: &ArgMatches<'_>) -> Result<Option<String>, AllocError> {
-    match matches.get_str(INPUT) {
-        Some(path) => Ok(Some(String::from_str(alloc, path)?)),
+// The text of an option, if it is given.
+fn given_text(
+    alloc: Global,
+    matches: &ArgMatches<'_>,
+    name: &str,
+) -> Result<Option<String>, AllocError> {
+    match matches.get_str(name) {
+        Some(text) => Ok(Some(String::from_str(alloc, text)?)),
         None => Ok(None),
     }
 }
@@ -229,10 +239,10 @@ fn recording(alloc: Global, matches: &ArgMatches<'_>) -> Result<Asked, AllocErro
     Ok(Asked::Recording(RecordWords {
         image: text_of(alloc, matches, IMAGE)?,
         trace: text_of(alloc, matches, TRACE)?,
-        order: text_of(alloc, matches, ORDER)?,
+        order: given_text(alloc, matches, ORDER)?,
         budget,
         random,
-        input: input_of(alloc, matches)?,
+        input: given_text(alloc, matches, INPUT)?,
     }))
 }
 

@@ -13,12 +13,13 @@ use crate::fitted::Fitted;
 use crate::followed::followed;
 use crate::follower::Follower;
 use crate::header::same_header;
+use crate::places::Places;
 use crate::verdict::{ThreadVerdict, Verdict};
 use ir_image::Image;
 use ir_trace::Trace;
 use std::alloc::{AllocError, Global};
 
-impl Follower {
+impl Follower<'_> {
     // What is said of each thread, by their numbers.
     fn verdicts(&self, alloc: Global) -> Result<Vec<ThreadVerdict>, AllocError>
         requires sized { IsSized self.now }
@@ -32,6 +33,15 @@ impl Follower {
             verdicts.push(self.verdict(t))?;
         }
         Ok(verdicts)
+    }
+
+    // The trace, and where each thread's events and leaves stand.
+    fn into_parts(self) -> (Trace, Vec<Places>)
+        ensures trace { result.0 ≡ self.entry.trace }
+        ensures places { result.1.items ≡ self.entry.places.items }
+    {
+        let Follower { trace, places, .. } = self;
+        (trace, places)
     }
 }
 
@@ -69,6 +79,6 @@ pub fn fit(alloc: Global, image: Image, trace: Trace) -> Result<Fitted, FitErr>
     if !all_same(&verdicts) {
         return Err(FitErr::Refused(Verdict::Threads(verdicts)));
     }
-    let Follower { trace, places, .. } = follower;
+    let (trace, places) = follower.into_parts();
     Ok(Fitted::new(alloc, image, trace, places)?)
 }

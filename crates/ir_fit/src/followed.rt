@@ -30,7 +30,11 @@ fn rooms(alloc: Global, told: &[ThreadTrace]) -> Result<Vec<Places>, AllocError>
 }
 
 // The guest of the image, run along the trace as far as any run can that follows it.
-pub fn followed(alloc: Global, image: &Image, trace: Trace) -> Result<Follower, AllocError>
+pub fn followed<'a>(
+    alloc: Global,
+    image: &'a Image,
+    trace: Trace,
+) -> Result<Follower<'a>, AllocError>
     requires { length trace.threads ≡ length image.now.entries }
     ensures followed { IfOk result (λ f. IsFollowed image.now trace f.flat f.places.items) }
     ensures trace { IfOk result (λ f. f.trace ≡ trace) }
@@ -51,7 +55,7 @@ pub fn followed(alloc: Global, image: &Image, trace: Trace) -> Result<Follower, 
     Ok(follower)
 }
 
-impl Follower {
+impl Follower<'_> {
     // What is said of thread t, which has no further step that follows.
     pub fn verdict(&self, t: usize) -> ThreadVerdict
         requires sized { IsSized self.now }

@@ -15,14 +15,14 @@ use ir_trace::{ThreadTrace, Trace};
 
 // The threads and objects of a guest, the trace that they follow, and what is known of each thread.
 #[derive(Drop)]
-pub struct Follower {
-    pub flat: Flat,
+pub struct Follower<'a> {
+    pub flat: Flat<'a>,
     pub trace: Trace,
     pub ready: Vec<Readiness>,
     pub places: Vec<Places>,
 }
 
-impl Follower {
+impl Follower<'_> {
     pub fn thread(&self, t: usize) -> &Thread
         requires { t < length self.now.flat.threads }
         ensures thread { result.now ≡ thread_of self.now.flat t }

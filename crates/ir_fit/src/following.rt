@@ -8,7 +8,7 @@ use crate::follower::Follower;
 use crate::look::{Look, Move};
 use crate::readiness::Readiness;
 
-impl Follower {
+impl Follower<'_> {
     // Thread t goes on while its steps follow the trace.
     pub fn advance(&mut self, t: usize)
         requires sized { IsSized self.old }

@@ -51,7 +51,7 @@ fn wake(ready: &mut Vec<Readiness>, number: u8, object: &Object)
     }
 }
 
-impl Follower {
+impl Follower<'_> {
     // Notes what was seen of thread t.
     pub fn note(&mut self, t: usize, look: Look)
         requires sized { IsSized self.old }

@@ -12,7 +12,7 @@ ghost use Rattle.ir_trace.specs.Told.{recorded_thread};
 ghost use Rattle.ir_fit.specs.Ahead.{steps_ahead, IsOpen, EndsSo, IsOwn, IsSeen};
 
 use crate::follower::Follower;
-use ir_log::{Cursor, Disagree, Event};
+use ir_log::{Disagree, Event};
 use ir_object::Object;
 use ir_thread::{Access, Ask, End, EnvKind};
 
@@ -69,7 +69,7 @@ pub fn is_open(object: &Object, event: Event) -> bool
     }
 }
 
-impl Follower {
+impl Follower<'_> {
     // The next event that the trace tells of thread t, where it is one of what the thread asks.
     fn next_event(&self, t: usize, asked: Ask) -> Result<Event, Disagree>
         requires thread { t < length self.now.flat.threads }
@@ -80,8 +80,7 @@ impl Follower {
         ensures within { IsRecordedThread self.now.trace.objects (recorded_thread self.now.trace t) }
         ensures disagrees { OnErr result ((event : Event) → slice_get (recorded_thread self.now.trace t).events (thread_of self.now.flat t).events ≡ Some event → Suits asked event → ⊥) }
     {
-        let place = self.thread(t).events();
-        Cursor::at(place as usize).expect(self.told(t).log(), &asked)
+        self.trace.next_event(t, self.thread(t).events(), asked)
     }
 
     // Thread t, whose next step is a call of the environment.

@@ -242,7 +242,11 @@ fn go_on(flat: &mut Flat, trace: &Trace, t: usize) {
 }
 
 // The state after the next step of thread t and the private ones behind it, if the step follows the trace.
-fn after_step(flat: &Flat, trace: &Trace, t: usize) -> Result<Option<Flat>, AllocError> {
+fn after_step<'a>(
+    flat: &Flat<'a>,
+    trace: &Trace,
+    t: usize,
+) -> Result<Option<Flat<'a>>, AllocError> {
     let Some(place) = place_of(flat, trace, t) else {
         return Ok(None);
     };
@@ -258,7 +262,11 @@ fn after_step(flat: &Flat, trace: &Trace, t: usize) -> Result<Option<Flat>, Allo
 }
 
 // Adds each state that one step more leads to, and says whether there is one.
-fn add_next(open: &mut Vec<Flat>, flat: &Flat, trace: &Trace) -> Result<bool, AllocError> {
+fn add_next<'a>(
+    open: &mut Vec<Flat<'a>>,
+    flat: &Flat<'a>,
+    trace: &Trace,
+) -> Result<bool, AllocError> {
     let mut some = false;
     for t in 0..2 {
         if let Some(next) = after_step(flat, trace, t)? {

@@ -1,5 +1,5 @@
 -- What threads count along a run.
-use Rattle.std.proofs.Common.{◌≡◌, ◌≢◌, ℕ, zero, suc, ◌+◌, ◌<◌, ◌≤◌, List, [], ◌∷◌, length, replicate, refl, sym, ap, ◌∙◌, subst, arith, inl, inr, eq-eqb, ne_eqb}
+use Rattle.std.proofs.Common.{◌≡◌, ◌≢◌, ℕ, suc, ◌+◌, List, [], ◌∷◌, length, refl, sym, ap, ◌∙◌, subst, arith, inl, inr, eq-eqb, ne_eqb}
 use Rattle.std.proofs.lemmas.Bool.{cases_eq}
 use Rattle.ir_thread.specs.Calls.{ask_of, after_ask, after_reply}
 use Rattle.ir_thread.specs.Instance.{shared_ask, reply_of, thread_machine}
@@ -11,11 +11,10 @@ use Rattle.ir_thread.specs.declared.ask.Access.TheVariants.{Reading, Writing}
 use Rattle.ir_thread.specs.declared.ask.Ask.{Ask}
 use Rattle.ir_thread.specs.declared.ask.Ask.TheVariants.{Private, Env, Enter, Leave, Get, Put, Print, End, Done}
 use Rattle.ir_thread.specs.declared.ask.Reply.{Reply}
-use Rattle.ir_thread.proofs.Asked.{ask_permits}
 use Rattle.ir_object.specs.Object.{Object, target, reply, told, Admits}
-use Rattle.ir_object.proofs.Tables.{upd_same, upd_other, upd_elim}
+use Rattle.ir_object.proofs.Tables.{upd_same, upd_other}
 use Rattle.ir_flat.specs.Run.{State, Step, act, Can, after, mark, IsRun, end, join_if, trail, events, log, count}
-use Rattle.ir_flat.proofs.Kept.{added, events_added, held_length}
+use Rattle.ir_flat.proofs.Kept.{added, events_added}
 
 -- the thread of a step after it
 abbrev pub moved_thread : List ℕ → State thread.State → Step → thread.State

@@ -8,3 +8,5 @@ pub mod Runs
 pub mod Alone
 pub mod Append
 pub mod Counted
+pub mod Splice
+pub mod Lone

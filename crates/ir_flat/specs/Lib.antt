@@ -4,3 +4,4 @@ pub mod Flat
 pub mod Next
 pub mod Alone
 pub mod Laws
+pub mod Splice

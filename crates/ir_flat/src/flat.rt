@@ -21,13 +21,13 @@ use std::marker::Model;
 pub struct NotAdmitted;
 
 /// All threads and objects of a guest. In clauses two lists, which are read as tables: the threads,
-/// and the objects with who is inside them.
+/// and the objects with who is inside them. The code that the threads run is the image's.
 #[derive(Drop)]
-pub struct Flat {
-    parts: Parts,
+pub struct Flat<'a> {
+    parts: Parts<'a>,
 }
 
-impl Model for Flat {
+impl<'a> Model for Flat<'a> {
     ghost Value = { Flat };
 
     ghost view = { λ f. f.parts };
@@ -35,29 +35,47 @@ impl Model for Flat {
     ghost invariant = { λ f. IsFlat f.parts };
 }
 
-impl Flat {
+impl<'a> Flat<'a> {
     /// The guest before its first step. The budget is in steps, for each thread.
     ///
     /// # Errors
     /// Want of memory.
-    pub fn start(alloc: Global, image: &Image, budget: u64) -> Result<Flat, AllocError>
+    pub fn start(alloc: Global, image: &'a Image, budget: u64) -> Result<Flat<'a>, AllocError>
         requires { budget ≤ 1000000000000 }
         ensures { IfOk result (λ f. f ≡ start_flat image.now budget) }
     {
         let words = image.words();
         let threads = start::threads(alloc, image, budget)?;
         let objects = start::objects(alloc, words, words.len() / 8)?;
-        let code = start::code(alloc, image.code())?;
         Ok(Flat {
-            parts: Parts::new(code, threads, objects),
+            parts: Parts::new(image.code(), threads, objects),
         })
     }
 
-    /// An equal value with memory of its own.
+    /// These threads and objects of a guest with this code.
+    pub fn new(code: &'a Code, threads: Vec<Thread>, objects: Vec<Object>) -> Flat<'a>
+        requires { IsFlat (record { code = code.now; threads = threads.items; objects = objects.items }) }
+        ensures { result ≡ record { code = code.now; threads = threads.items; objects = objects.items } }
+    {
+        Flat {
+            parts: Parts::new(code, threads, objects),
+        }
+    }
+
+    /// The threads and the objects.
+    pub fn into_parts(self) -> (Vec<Thread>, Vec<Object>)
+        ensures threads { result.0.items ≡ self.entry.threads }
+        ensures objects { result.1.items ≡ self.entry.objects }
+        ensures within { IsFlat self.entry }
+    {
+        self.parts.into_parts()
+    }
+
+    /// An equal value with memory of its own for threads and objects.
     ///
     /// # Errors
     /// Want of memory.
-    pub fn copy(&self) -> Result<Flat, AllocError>
+    pub fn copy(&self) -> Result<Flat<'a>, AllocError>
         ensures { IfOk result (λ f. f ≡ self.now) }
     {
         Ok(Flat {
@@ -82,7 +100,7 @@ impl Flat {
     }
 
     /// The code that all threads run.
-    pub fn code(&self) -> &Code
+    pub fn code(&self) -> &'a Code
         ensures { result.now ≡ self.now.code }
     {
         self.parts.code()

@@ -9,4 +9,4 @@ mod start;
 mod tests;
 
 pub use flat::{Flat, NotAdmitted};
-pub use laws::{counts_fit, held_inside, nothing_stuck, writers_alone};
+pub use laws::{alone_is_lone, counts_fit, held_inside, nothing_stuck, splices, writers_alone};

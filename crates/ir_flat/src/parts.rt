@@ -9,7 +9,6 @@ ghost use Rattle.ir_thread.specs.Instance.{is_result};
 ghost use Rattle.ir_thread.specs.declared.ask.Ask.TheVariants.{Private};
 ghost use Rattle.std.specs.Prelude.{ℕ, ◌≡◌, ◌<◌, ◌≤◌, ◌≢◌, ◌↔◌, true, length, slice_index, slice_set, IsTrue, IfOk};
 
-use crate::start::code;
 use ir_image::Code;
 use ir_object::Object;
 use ir_thread::{Access, Ask, EnvKind, Reply, Thread};
@@ -18,16 +17,16 @@ use std::marker::Model;
 
 // The code that all threads run, the threads and the objects.
 #[derive(Drop)]
-pub struct Parts {
-    code: Code,
+pub struct Parts<'a> {
+    code: &'a Code,
     threads: Vec<Thread>,
     objects: Vec<Object>,
 }
 
-impl Model for Parts {
+impl<'a> Model for Parts<'a> {
     ghost Value = { Flat };
 
-    ghost view = { λ p. record { code = p.code; threads = p.threads.items; objects = p.objects.items } };
+    ghost view = { λ p. record { code = p.code.now; threads = p.threads.items; objects = p.objects.items } };
 }
 
 // Whether the result is one of such a call: for the input a byte or 0xFFFFFFFF.
@@ -37,9 +36,9 @@ fn suits(kind: EnvKind, r: u32) -> bool
     kind != EnvKind::Input || r < 0x100 || r == 0xffff_ffff
 }
 
-impl Parts {
-    pub fn new(code: Code, threads: Vec<Thread>, objects: Vec<Object>) -> Parts
-        ensures { result ≡ record { code = code; threads = threads.items; objects = objects.items } }
+impl<'a> Parts<'a> {
+    pub fn new(code: &'a Code, threads: Vec<Thread>, objects: Vec<Object>) -> Parts<'a>
+        ensures { result ≡ record { code = code.now; threads = threads.items; objects = objects.items } }
     {
         Parts {
             code,
@@ -48,10 +47,22 @@ impl Parts {
         }
     }
 
-    pub fn code(&self) -> &Code
+    pub fn into_parts(self) -> (Vec<Thread>, Vec<Object>)
+        ensures threads { result.0.items ≡ self.entry.threads }
+        ensures objects { result.1.items ≡ self.entry.objects }
+    {
+        let Parts {
+            threads,
+            objects,
+            ..
+        } = self;
+        (threads, objects)
+    }
+
+    pub fn code(&self) -> &'a Code
         ensures { result.now ≡ self.now.code }
     {
-        &self.code
+        self.code
     }
 
     pub fn threads(&self) -> &[Thread]
@@ -85,7 +96,7 @@ impl Parts {
         ensures value { result ≡ ask_of self.now.code (thread_of self.now t) }
         ensures permits { Permits (thread_of self.now t) result }
     {
-        self.thread(t).ask(&self.code)
+        self.thread(t).ask(self.code)
     }
 
     // Thread t takes the step that it asked.
@@ -96,7 +107,7 @@ impl Parts {
         requires suits { Suits asked reply }
         ensures { self.new ≡ answered self.old t asked reply }
     {
-        self.threads[t].take_asked(&self.code, asked, reply);
+        self.threads[t].take_asked(self.code, asked, reply);
     }
 
     // Thread t takes private steps, at most so many, and how many they are.
@@ -106,7 +117,7 @@ impl Parts {
         ensures each { (k : ℕ) → k < result → ask_of self.old.code (run_of self.old.code k (thread_of self.old t)) ≡ Private }
         ensures moved { self.new ≡ with_thread self.old t (run_of self.old.code result (thread_of self.old t)) }
     {
-        self.threads[t].run(&self.code, limit)
+        self.threads[t].run(self.code, limit)
     }
 
     // The same of instructions alone.
@@ -116,7 +127,7 @@ impl Parts {
         ensures each { (k : ℕ) → k < result → ask_of self.old.code (run_of self.old.code k (thread_of self.old t)) ≡ Private }
         ensures moved { self.new ≡ with_thread self.old t (run_of self.old.code result (thread_of self.old t)) }
     {
-        self.threads[t].run_instructions(&self.code, limit)
+        self.threads[t].run_instructions(self.code, limit)
     }
 
     fn enter(&mut self, o: u8, access: Access)
@@ -193,7 +204,7 @@ impl Parts {
         }
     }
 
-    pub fn copy(&self) -> Result<Parts, AllocError>
+    pub fn copy(&self) -> Result<Parts<'a>, AllocError>
         ensures { IfOk result (λ p. p ≡ self.now) }
     {
         let alloc = *self.threads.allocator();
@@ -203,7 +214,7 @@ impl Parts {
         }
         let objects = copies(alloc, self.objects.as_slice())?;
         Ok(Parts {
-            code: code(alloc, &self.code)?,
+            code: self.code,
             threads,
             objects,
         })

@@ -3,7 +3,7 @@
 ghost use Rattle.ir_flat.specs.Flat.{start_threads, start_cells};
 ghost use Rattle.std.specs.Prelude.{◌≡◌, ◌≤◌, ◌*◌, take, drop, length, IfOk};
 
-use ir_image::{Code, Image};
+use ir_image::Image;
 use ir_object::Object;
 use ir_thread::Thread;
 use std::alloc::{AllocError, Global};
@@ -40,11 +40,4 @@ pub fn objects(alloc: Global, words: &[u32], count: usize) -> Result<Vec<Object>
         objects.push(Object::new(eight(&words[WORDS_EACH * number..])))?;
     }
     Ok(objects)
-}
-
-// The same code once more.
-pub fn code(alloc: Global, code: &Code) -> Result<Code, AllocError>
-    ensures { IfOk result (λ copy. copy ≡ code.now) }
-{
-    Code::new(alloc, Vec::from_slice(alloc, code.words())?)
 }

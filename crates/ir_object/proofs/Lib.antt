@@ -1,2 +1,4 @@
 pub mod Tables
 pub mod Stands
+pub mod Order
+pub mod Words

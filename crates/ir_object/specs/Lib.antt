@@ -1,3 +1,5 @@
 pub mod Word
 pub mod Object
 pub mod Cell
+pub mod Order
+pub mod Layout

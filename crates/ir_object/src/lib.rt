@@ -2,13 +2,17 @@
 #![tactic(auto)]
 
 mod fields;
+mod gate;
 mod laws;
+mod layout;
 mod object;
 #[cfg(test)]
 mod tests;
 mod word;
 
 pub use fields::Fields;
+pub use gate::{Gate, OpenGate};
 pub use laws::{one_word_each, steps_of_words, words_stand};
+pub use layout::{APART, CONTENT_PLACE, WORD_PLACE};
 pub use object::Object;
 pub use word::Word;

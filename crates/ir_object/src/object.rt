@@ -36,6 +36,13 @@ impl Object {
         }
     }
 
+    /// The object of this word and these contents.
+    pub fn from_parts(word: Word, contents: [u32; 8]) -> Object
+        ensures { result ≡ record { fields = fields_of word.bits; words = contents } }
+    {
+        Object { word, contents }
+    }
+
     /// An equal object.
     pub fn copy(&self) -> Object
         ensures { result ≡ self.now }
@@ -73,15 +80,14 @@ impl Object {
     pub fn can_read(&self) -> bool
         ensures { IsTrue result ↔ Admitted Reading self.now.fields }
     {
-        !self.fields().writer
+        self.word.can_read()
     }
 
     /// Whether a writer may enter: nobody is inside.
     pub fn can_write(&self) -> bool
         ensures { IsTrue result ↔ Admitted Writing self.now.fields }
     {
-        let fields = self.fields();
-        !fields.writer && fields.inside == 0
+        self.word.can_write()
     }
 
     /// A thread enters.

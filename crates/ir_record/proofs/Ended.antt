@@ -1,5 +1,5 @@
 -- What was recorded once nobody has a step.
-use Rattle.std.proofs.Common.{◌≡◌, ◌≢◌, ℕ, ◌+◌, ◌<◌, Bool, List, [], ◌∷◌, ◌++◌, length, map, replicate, get_or, Option, Some, None, refl, sym, ap, ◌∙◌, subst, arith, inl, inr, ◌⊎◌}
+use Rattle.std.proofs.Common.{◌≡◌, ◌≢◌, ℕ, ◌<◌, Bool, List, [], ◌∷◌, ◌++◌, length, map, replicate, Some, None, refl, sym, ap, ◌∙◌, subst, arith, inl, inr, ◌⊎◌}
 use Rattle.std.proofs.lemmas.Bool.{cases_lt}
 use Rattle.std.proofs.lemmas.List.{get_or-replicate, length-replicate, length-map}
 use Rattle.std.proofs.lemmas.Option.{slice_get-get_or, slice_get-map}
@@ -10,25 +10,23 @@ use Rattle.ir_thread.specs.Calls.{ask_of, Permits, most_events}
 use Rattle.ir_thread.specs.Instance.{shared_ask, thread_machine}
 use Rattle.ir_thread.specs.Machine as machine
 use Rattle.ir_thread.specs.State as thread
-use Rattle.ir_thread.specs.Ends.{end_number, end_code}
-use Rattle.ir_thread.specs.declared.end.End as end
 use Rattle.ir_thread.proofs.Asked.{ask_permits}
 use Rattle.ir_object.specs.Object.{Admits, target}
 use Rattle.ir_flat.specs.Flat.{Flat, thread_of, tables, machine, idle, start_flat, start_threads}
-use Rattle.ir_flat.specs.Run.{State, Step, asked, Can, IsRun, end, log, count, IsDone}
-use Rattle.ir_flat.proofs.Fresh.{fresh, no_steps, threads_length, cells_length}
+use Rattle.ir_flat.specs.Run.{State, Step, asked, Can, IsRun, end, log, IsDone}
+use Rattle.ir_flat.proofs.Fresh.{fresh, threads_length, cells_length}
 use Rattle.ir_flat.proofs.Runs.{nothing_is_stuck, start_idle}
 use Rattle.ir_flat.proofs.Stuck.{run_idle}
 use Rattle.ir_log.specs.Logged.{Logged}
 use Rattle.ir_log.specs.Logging.{mark_of}
-use Rattle.ir_trace.specs.Recorded.{Recorded, RecordedThread, IsEvent}
-use Rattle.ir_trace.specs.Told.{absent}
+use Rattle.ir_trace.specs.Recorded.{Recorded, IsEvent}
 use Rattle.ir_record.specs.Gathered.{AreThreadTraces}
 use Rattle.ir_record.specs.InOrder.{HasNone, rounds}
 use Rattle.ir_record.specs.Progress.{Progress, Took, IsReady, log_at, answers_at, no_log}
-use Rattle.ir_record.specs.Recording.{IsTraceOf, AreOutputs, AreAnswers, IsRecording}
+use Rattle.ir_record.specs.Recording.{IsRecording}
 use Rattle.ir_record.specs.Worlds.{Answered, NoneFailed}
-use Rattle.ir_flat.proofs.Counted.{tally, really_done}
+use Rattle.ir_flat.proofs.Counted.{really_done}
+use Rattle.ir_record.proofs.Telling.{StandAtEnd, told_there, printed_there, answered_there}
 use Rattle.ir_record.proofs.Turns.{turns_run}
 
 -- ---- the start
@@ -111,57 +109,38 @@ pub ended_there : (guest : Guest) (budget : ℕ) (order : List ℕ) (before : Li
 ended_there guest budget order before b o t =
     has_ended guest.code (thread_of b.flat t) (ap (λ s. shared_ask (ask_of guest.code (s.now t))) o.took.ends ∙ done_there guest budget order before b o t)
 
--- the end that is told of a recorded thread
-ends_at : (rs : List RecordedThread) (t : ℕ) (x : Option end.End) → x ≡ Some (get_or rs t absent).end → ◌≡◌ {A = Option (ℕ × ℕ)} (Some (end_number (get_or rs t absent).end, end_code (get_or rs t absent).end)) (option_map (λ e. (end_number e, end_code e)) x)
-ends_at rs t x e = ap (option_map (λ k. (end_number k, end_code k))) (sym e)
-
-pub told_there : (guest : Guest) (budget : ℕ) (order : List ℕ) (before : List (List Answered)) (b : Progress) → (o : Over guest budget order before b) → (trace : Recorded) → IsReady b [] → trace.objects ≡ length b.flat.objects → trace.budget ≡ budget → AreThreadTraces b.flat b.logs trace.threads
-    → IsTraceOf guest budget o.took.run trace
-told_there guest budget order before b o trace ready objects limit threads =
-    let n : length b.flat.threads ≡ length guest.entries = threads_there guest budget order before b o in
-    let logs : length b.logs ≡ length guest.entries = ready.tape.one_each ∙ n in
-    let all : length trace.threads ≡ length guest.entries = threads.count ∙ logs in
+-- what is at hand at its end
+at_end : (guest : Guest) (budget : ℕ) (order : List ℕ) (before : List (List Answered)) (b : Progress) → (o : Over guest budget order before b) → StandAtEnd guest budget o.took.run before (thread_of b.flat) (log_at b.logs) (answers_at b.answers)
+at_end guest budget order before b o =
+    let n : length (start_threads guest budget 0 (length guest.entries)) ≡ length guest.entries = threads_length guest budget 0 (length guest.entries) in
     let f0 : Flat = start_flat guest budget in
     record {
-      objects = objects ∙ o.took.objects ∙ cells_length guest.words (object_count guest);
-      limit = limit;
-      threads = all;
-      steps = λ t l. (threads.each t (omega (arith, l, logs))).steps ∙ ap (λ s. (s.now t).steps) o.took.ends
-          ∙ (tally guest.code (tables f0) o.took.run (run_of_it guest budget order before b o) t).steps
-          ∙ ap (λ k. k + count (machine f0) (tables f0) o.took.run t) (no_steps guest budget 0 (length guest.entries) t) ∙ (let e : 0 + count (machine f0) (tables f0) o.took.run t ≡ count (machine f0) (tables f0) o.took.run t = omega arith in e);
-      logs = λ t l. ap (map mark_of) (threads.each t (omega (arith, l, logs))).events
-          ∙ o.took.logs t (let m = threads_length guest budget 0 (length guest.entries) in omega (arith, l, m)) ∙ ap (λ z. map mark_of z.events ++ log (machine f0) (tables f0) o.took.run t) (get_or-replicate (length guest.entries) t new_log no_log l);
-      ends = λ t l. ends_at trace.threads t (thread_of b.flat t).ended (threads.each t (omega (arith, l, logs))).end ∙ ap (λ s. (thread_machine guest.code).ended (s.now t)) o.took.ends;
-    }
-
-pub printed_there : (guest : Guest) (budget : ℕ) (order : List ℕ) (before : List (List Answered)) (b : Progress) → (o : Over guest budget order before b) → (outputs : List (List ℕ)) → outputs ≡ map (λ x. x.output) b.flat.threads → AreOutputs guest budget o.took.run outputs
-printed_there guest budget order before b o outputs e =
-    let n : length b.flat.threads ≡ length guest.entries = threads_there guest budget order before b o in
-    record {
-      threads = ap (λ z. length z) e ∙ length-map b.flat.threads (λ x. x.output) ∙ n;
-      each = λ t l. ap (λ z. slice_get z t) e ∙ slice_get-map (λ x. x.output) b.flat.threads t ∙ ap (option_map (λ x. x.output)) (slice_get-get_or b.flat.threads t idle (omega (arith, l, n))) ∙ ap (λ s. Some (s.now t).output) o.took.ends;
-    }
-
-pub answered_there : (guest : Guest) (budget : ℕ) (order : List ℕ) (before : List (List Answered)) (b : Progress) → (o : Over guest budget order before b) → (answers : List (List Answered)) → IsReady b [] → answers ≡ b.answers → AreAnswers guest budget o.took.run before answers
-answered_there guest budget order before b o answers ready e =
-    let n : length b.flat.threads ≡ length guest.entries = threads_there guest budget order before b o in
-    let size : length answers ≡ length guest.entries = ap (λ z. length z) e ∙ ready.worlds ∙ n in
-    record {
-      threads = size;
-      each = λ t l. slice_get-get_or answers t [] (omega (arith, l, size)) ∙ ap Some (ap (λ z. answers_at z t) e ∙ o.took.answers t (let m = threads_length guest budget 0 (length guest.entries) in omega (arith, l, m)));
+      runs = run_of_it guest budget order before b o;
+      threads = λ t l. ap (λ s. s.now t) o.took.ends;
+      logged = λ t l. o.took.logs t (omega (arith, l, n)) ∙ ap (λ z. map mark_of z.events ++ log (machine f0) (tables f0) o.took.run t) (get_or-replicate (length guest.entries) t new_log no_log l);
+      answered = λ t l. o.took.answers t (omega (arith, l, n));
     }
 
 pub recorded_there : (guest : Guest) (budget : ℕ) (order : List ℕ) (before : List (List Answered)) (b : Progress) → Over guest budget order before b → (failed : List Bool) → IsReady b failed
     → (trace : Recorded) → trace.objects ≡ length b.flat.objects → trace.budget ≡ budget → AreThreadTraces b.flat b.logs trace.threads → (outputs : List (List ℕ)) → outputs ≡ map (λ x. x.output) b.flat.threads
     → (answers : List (List Answered)) → answers ≡ b.answers → IsRecording guest budget order before trace outputs answers
-recorded_there guest budget order before b o failed ready trace objects limit threads outputs printed answers given =
-    let plain : IsReady b [] = record { tape = ready.tape; worlds = ready.worlds; works = λ t. refl } in
+recorded_there guest budget order before b o failed ready trace objects limit traces outputs printed answers given =
+    let n : length b.flat.threads ≡ length guest.entries = threads_there guest budget order before b o in
+    let logs : length b.logs ≡ length guest.entries = ready.tape.one_each ∙ n in
+    let size : length answers ≡ length guest.entries = ap (λ z. length z) given ∙ ready.worlds ∙ n in
+    let stand = at_end guest budget order before b o in
     record {
       run = o.took.run;
       by_order = record { count = o.count; turns = o.took.turns; done = done_there guest budget order before b o };
-      told = told_there guest budget order before b o trace plain objects limit threads;
-      printed = printed_there guest budget order before b o outputs printed;
-      answered = answered_there guest budget order before b o answers plain given;
+      of = record {
+        told = told_there guest budget o.took.run before (thread_of b.flat) (log_at b.logs) (answers_at b.answers) stand trace
+            (objects ∙ o.took.objects ∙ cells_length guest.words (object_count guest)) limit (traces.count ∙ logs) (λ t l. traces.each t (omega (arith, l, logs)));
+        printed = printed_there guest budget o.took.run before (thread_of b.flat) (log_at b.logs) (answers_at b.answers) stand outputs
+            (ap (λ z. length z) printed ∙ length-map b.flat.threads (λ x. x.output) ∙ n)
+            (λ t l. ap (λ z. slice_get z t) printed ∙ slice_get-map (λ x. x.output) b.flat.threads t ∙ ap (option_map (λ x. x.output)) (slice_get-get_or b.flat.threads t idle (omega (arith, l, n))));
+        answered = answered_there guest budget o.took.run before (thread_of b.flat) (log_at b.logs) (answers_at b.answers) stand answers size
+            (λ t l. slice_get-get_or answers t [] (omega (arith, l, size)) ∙ ap (λ z. Some (answers_at z t)) given);
+      };
     }
 
 -- the same, where it began with the recording that was made

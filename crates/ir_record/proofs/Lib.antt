@@ -15,4 +15,11 @@ pub mod Leading
 pub mod Going
 pub mod Skipping
 pub mod Passing
+pub mod Telling
 pub mod Ended
+pub mod Working
+pub mod WorkerSteps
+pub mod ByThreads
+pub mod Manning
+pub mod Crewed
+pub mod CallerLemmas

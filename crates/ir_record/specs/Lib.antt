@@ -5,3 +5,5 @@ pub mod Progress
 pub mod Gathered
 pub mod Ahead
 pub mod Noting
+pub mod Working
+pub mod Threads

@@ -2,7 +2,7 @@
 use Rattle.std.specs.Prelude.{◌≡◌, ℕ, ◌<◌, ◌++◌, List, length, map, slice_get, Some, Bool, ⊤}
 use Rattle.ir_image.specs.Guest.{Guest, object_count}
 use Rattle.ir_flat.specs.Flat.{start_flat, tables, machine}
-use Rattle.ir_flat.specs.Run.{Step, count, log, end}
+use Rattle.ir_flat.specs.Run.{Step, IsComplete, count, log, end}
 use Rattle.ir_trace.specs.Recorded.{Recorded}
 use Rattle.ir_trace.specs.Told.{trace_of}
 use Rattle.ir_record.specs.InOrder.{IsByOrder}
@@ -30,13 +30,23 @@ pub record AreAnswers (guest : Guest) (budget : ℕ) (run : List Step) (before a
   pub threads : length answers ≡ length guest.entries
   pub each : (t : ℕ) → t < length guest.entries → slice_get answers t ≡ Some (answers_at before t ++ answers_in (log (machine (start_flat guest budget)) (tables (start_flat guest budget)) run t))
 
--- the trace, the outputs and the worlds' answers of one run of the guest, which is by the order
-pub record IsRecording (guest : Guest) (budget : ℕ) (order : List ℕ) (before : List (List Answered)) (trace : Recorded) (outputs : List (List ℕ)) (answers : List (List Answered)) : Type 0 where
-  pub run : List Step
-  pub by_order : IsByOrder (machine (start_flat guest budget)) (tables (start_flat guest budget)) (length guest.entries) order run
+-- the trace, the outputs and the worlds' answers of this run of the guest
+pub record IsRecordingOf (guest : Guest) (budget : ℕ) (run : List Step) (before : List (List Answered)) (trace : Recorded) (outputs : List (List ℕ)) (answers : List (List Answered)) : Type 0 where
   pub told : IsTraceOf guest budget run trace
   pub printed : AreOutputs guest budget run outputs
   pub answered : AreAnswers guest budget run before answers
+
+-- the same of one run of the guest, which is complete
+pub record IsRecordingOfSome (guest : Guest) (budget : ℕ) (before : List (List Answered)) (trace : Recorded) (outputs : List (List ℕ)) (answers : List (List Answered)) : Type 0 where
+  pub run : List Step
+  pub complete : IsComplete (machine (start_flat guest budget)) (tables (start_flat guest budget)) run
+  pub of : IsRecordingOf guest budget run before trace outputs answers
+
+-- the same of the run of the guest by the order, which is complete too
+pub record IsRecording (guest : Guest) (budget : ℕ) (order : List ℕ) (before : List (List Answered)) (trace : Recorded) (outputs : List (List ℕ)) (answers : List (List Answered)) : Type 0 where
+  pub run : List Step
+  pub by_order : IsByOrder (machine (start_flat guest budget)) (tables (start_flat guest budget)) (length guest.entries) order run
+  pub of : IsRecordingOf guest budget run before trace outputs answers
 
 -- want of memory; or a world has failed, those of lower threads have not, and all worlds are there, with their answers
 abbrev pub IsFailure : {W : Type 0} → (W → List Answered) → (W → Bool) → List W → RecordErr W → Type 0

@@ -21,7 +21,7 @@ fn repeats(order: &[u8], entry: u8) -> usize
     order.len()
 }
 
-impl<W: World> Recorder<W> {
+impl<W: World> Recorder<'_, W> {
     // So many turns of thread t; none of them is a step where there is no such thread.
     fn turns(&mut self, t: usize, count: u64) -> Result<(), Failed>
         requires { IsReady (progress self.old.tape (map W.answers self.old.worlds.items)) (map W.broken self.old.worlds.items) }

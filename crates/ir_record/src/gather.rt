@@ -33,7 +33,7 @@ pub fn outputs<W: Drop>(
 }
 
 // What was recorded of a thread that has ended.
-fn thread_trace(thread: &Thread, log: Log) -> ThreadTrace
+pub fn thread_trace(thread: &Thread, log: Log) -> ThreadTrace
     requires { thread.now.ended ≢ None }
     ensures value { IsThreadTrace thread.now log result }
     ensures fits { (objects : ℕ) → AllByRecursion (IsEvent objects) log.events → IsRecordedThread objects result }
@@ -41,16 +41,16 @@ fn thread_trace(thread: &Thread, log: Log) -> ThreadTrace
     ThreadTrace::new(thread.steps(), thread.ended().unwrap(), log)
 }
 
-impl Tape {
+impl Tape<'_> {
     // The trace, once all threads have ended.
     pub fn into_trace(self, alloc: Global, budget: u64) -> Result<Trace, AllocError>
         requires tape { IsTape self.flat self.logs.items }
         requires some { 1 ≤ length self.flat.threads }
         requires budget { budget ≤ most_budget }
         requires ended { (t : ℕ) → t < length self.flat.threads → (thread_of self.flat t).ended ≢ None }
-        ensures objects { IfOk result (λ r. r.objects ≡ length self.flat.objects) }
+        ensures objects { IfOk result (λ r. r.objects ≡ length self.entry.flat.objects) }
         ensures limit { IfOk result (λ r. r.budget ≡ budget) }
-        ensures threads { IfOk result (λ r. AreThreadTraces self.flat self.logs.items r.threads) }
+        ensures threads { IfOk result (λ r. AreThreadTraces self.entry.flat self.entry.logs.items r.threads) }
     {
         let Tape { flat, logs } = self;
         let mut threads = Vec::with_capacity(alloc, logs.len())?;

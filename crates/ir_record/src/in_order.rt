@@ -18,7 +18,7 @@ use ir_image::Image;
 use ir_trace::Trace;
 use std::alloc::Global;
 
-impl<W: World> Recorder<W> {
+impl<W: World> Recorder<'_, W> {
     // A turn of each thread that the order names, and then rounds until no thread has a step.
     // `ahead` has a place for each thread, of which none is ahead.
     fn record(&mut self, order: &[u8], ahead: &mut Vec<u64>) -> Result<(), Failed>

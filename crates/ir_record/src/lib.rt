@@ -1,24 +1,33 @@
 //! Recording: runs of a guest, and their traces.
 #![tactic(auto)]
 
+mod by_threads;
 mod follow;
 mod gather;
+mod handing_back;
 mod in_order;
 mod outputs;
 mod pass;
 mod record_err;
 mod recorder;
+mod room;
 mod rounds;
 mod start;
 mod step;
 mod tape;
 #[cfg(test)]
 mod tests;
+#[cfg(test)]
+mod thread_tests;
 mod turn;
 #[cfg(test)]
 mod waiting_tests;
+mod worker;
+mod worker_steps;
+mod workers;
 mod world;
 
+pub use by_threads::record;
 pub use in_order::record_in_order;
 pub use outputs::{Output, Outputs};
 pub use record_err::RecordErr;

@@ -30,7 +30,7 @@ fn lower(ahead: &mut Vec<u64>, by: u64)
     }
 }
 
-impl<W: World> Recorder<W> {
+impl<W: World> Recorder<'_, W> {
     // A turn of thread t: one of the private steps that it is ahead; or its next step, if it has one, and then as many
     // private steps as there are.
     fn turn_ahead(&mut self, t: usize, ahead: &mut Vec<u64>) -> Result<Turned, Failed>

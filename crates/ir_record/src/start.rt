@@ -22,9 +22,9 @@ fn logs(alloc: Global, count: usize) -> Result<Vec<Log>, AllocError>
     Ok(logs)
 }
 
-impl Tape {
+impl<'a> Tape<'a> {
     // The guest of the image before its first step, with room for all that its threads may log.
-    pub fn start(alloc: Global, image: &Image, budget: u64) -> Result<Tape, AllocError>
+    pub fn start(alloc: Global, image: &'a Image, budget: u64) -> Result<Tape<'a>, AllocError>
         requires { budget ≤ 1000000000000 }
         ensures guest { OnOk result (IsGuest image.now) }
         ensures flat { IfOk result (λ tape. tape.flat ≡ start_flat image.now budget) }

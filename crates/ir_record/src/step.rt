@@ -18,7 +18,7 @@ use crate::tape::Tape;
 use ir_log::Event;
 use ir_thread::{Access, Ask, EnvKind};
 
-impl Tape {
+impl Tape<'_> {
     // What thread t asks.
     pub fn ask(&self, t: usize) -> Ask
         requires { t < length self.now.flat.threads }

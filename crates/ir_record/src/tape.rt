@@ -5,7 +5,7 @@ use ir_log::Log;
 
 // The threads and objects of a guest, and the threads' logs.
 #[derive(Drop)]
-pub struct Tape {
-    pub flat: Flat,
+pub struct Tape<'a> {
+    pub flat: Flat<'a>,
     pub logs: Vec<Log>,
 }

@@ -46,6 +46,13 @@ impl World for Script {
     }
 }
 
+impl Script {
+    // How many answers it gave.
+    pub fn answered(&self) -> usize {
+        self.told.len()
+    }
+}
+
 const ECALL: u32 = 0x73;
 
 // addi a0, zero, 0, and so on.
@@ -90,7 +97,7 @@ pub fn guest(alloc: Global, threads: u8, objects: u8, code: &[u32]) -> Result<Im
 }
 
 // So many worlds with these answers each, the last one first.
-fn worlds(alloc: Global, count: usize, answers: &[u32]) -> Result<Vec<Script>, AllocError>
+pub fn worlds(alloc: Global, count: usize, answers: &[u32]) -> Result<Vec<Script>, AllocError>
     ensures count { IfOk result (λ worlds. length worlds.items ≡ count) }
     ensures works { IfOk result (λ worlds. NoneFailed (map (λ w. w.failed) worlds.items)) }
 {

@@ -33,7 +33,7 @@ fn answer_to<W: World>(worlds: &mut Vec<W>, t: usize, kind: EnvKind) -> Result<u
     }
 }
 
-impl<W: World> Recorder<W> {
+impl<W: World> Recorder<'_, W> {
     // Thread t takes its next step, if it has one; and whether it had.
     pub fn turn(&mut self, t: usize) -> Result<bool, Failed>
         requires ready { IsReady (progress self.old.tape (map W.answers self.old.worlds.items)) (map W.broken self.old.worlds.items) }

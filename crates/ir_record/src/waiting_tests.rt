@@ -47,13 +47,13 @@ const BOTH: [u32; 2] = [0x0015_7e13, 0x007e_0e13];
 
 // A guest whose steps are taken one by one, and the entries of its threads.
 #[derive(Drop)]
-struct Plain {
-    flat: Flat,
+struct Plain<'a> {
+    flat: Flat<'a>,
     entries: Vec<Vec<Event>>,
 }
 
-impl Plain {
-    fn start(alloc: Global, image: &Image) -> Result<Plain, Fail> {
+impl<'a> Plain<'a> {
+    fn start(alloc: Global, image: &'a Image) -> Result<Plain<'a>, Fail> {
         let mut entries = Vec::new(alloc);
         for _ in image.entries() {
             entries.push(Vec::new(alloc))?;

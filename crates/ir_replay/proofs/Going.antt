@@ -1,52 +1,126 @@
--- A thread that goes on by private steps and then by another step.
-use Rattle.std.proofs.Common.{◌≡◌, ◌≢◌, ℕ, ◌-◌, ◌<◌, ◌≤◌, ltb, ltb-true, ltb-false, true, false, List, subst, sym, arith, inl, inr, ◌∙◌}
-use Rattle.std.proofs.lemmas.Bool.{cases_eq}
+-- A thread that goes on alone, and threads that do so one after the other.
+use Rattle.std.proofs.Common.{◌≡◌, ◌≢◌, refl, ℕ, ◌+◌, ◌-◌, ◌<◌, ◌≤◌, List, length, subst, sym, arith, inl, inr, ◌∙◌}
+use Rattle.std.proofs.lemmas.Bool.{cases_eq, cases_lt}
 use Rattle.ir_flat.specs.Alone.{WentAlone}
 use Rattle.ir_flat.specs.Flat.{Flat}
+use Rattle.ir_fit.specs.Fit.{FittedTrace}
+use Rattle.ir_fit.proofs.Tally.{sum_le, sum_less}
 use Rattle.ir_cut.specs.Positions.{cut_of}
-use Rattle.ir_replay.specs.States.{positions}
-use Rattle.ir_replay.specs.Stepping.{HasGone, IsSame}
-use Rattle.ir_replay.proofs.Onward.{alone_own, alone_others}
+use Rattle.ir_weave.specs.States.{positions}
+use Rattle.ir_weave.specs.Stepping.{IsTarget, IsUnder, HasGone, IsSame, Rests, steps_left}
+use Rattle.ir_weave.proofs.Onward.{alone_own, alone_others}
+use Rattle.ir_replay.specs.Passes.{IsPass}
+use Rattle.ir_replay.proofs.Reached.{rests_same, all_reached}
 
--- thread t is where it was or further, and the others are where they were
-pub record GoesOn (old new : Flat) (t : ℕ) : Type 0 where
-  pub own : positions old t ≤ positions new t
-  pub others : (u : ℕ) → u ≢ t → positions new u ≡ positions old u
+-- ---- one thread
+
+pub none_gone : (s : Flat) (t : ℕ) → HasGone s s t 0
+none_gone s t = record { own = omega arith; others = λ u ne. refl }
 
 -- by private steps
-pub alone_on : (old s new : Flat) (t n : ℕ) → positions old t ≤ positions s t → ((u : ℕ) → u ≢ t → positions s u ≡ positions old u) → WentAlone s new t n → GoesOn old new t
-alone_on old s new t n own others w = record {
-  own = let more = alone_own s new t n w in omega (arith, own, more);
-  others = λ u ne. alone_others s new t n w u ne ∙ others u ne;
+pub alone_on : (old s new : Flat) (t m n : ℕ) → HasGone old s t m → WentAlone s new t n → HasGone old new t (m + n)
+alone_on old s new t m n h w = record {
+  own = let a = h.own in let more = alone_own s new t n w in omega (arith, a, more);
+  others = λ u ne. alone_others s new t n w u ne ∙ h.others u ne;
 }
 
 -- and no step
-pub none_on : (old s new : Flat) (t : ℕ) → GoesOn old s t → IsSame s new → GoesOn old new t
-none_on old s new t goes same = record {
-  own = let a = goes.own in let b = same t in omega (arith, a, b);
-  others = λ u ne. same u ∙ goes.others u ne;
+pub none_on : (old s new : Flat) (t m : ℕ) → HasGone old s t m → IsSame s new → HasGone old new t m
+none_on old s new t m h same = record {
+  own = let a = h.own in let b = same t in omega (arith, a, b);
+  others = λ u ne. same u ∙ h.others u ne;
 }
 
 -- or a step
-pub step_on : (old s new : Flat) (t : ℕ) → GoesOn old s t → HasGone s new t → GoesOn old new t
-step_on old s new t goes gone = record {
-  own = let a = goes.own in let b = gone.own in omega (arith, a, b);
-  others = λ u ne. gone.others u ne ∙ goes.others u ne;
+pub step_on : (old s new : Flat) (t m : ℕ) → HasGone old s t m → HasGone s new t 1 → HasGone old new t (m + 1)
+step_on old s new t m h gone = record {
+  own = let a = h.own in let b = gone.own in omega (arith, a, b);
+  others = λ u ne. gone.others u ne ∙ h.others u ne;
 }
 
--- fewer steps are left after a step
-pub step_less : (target : List ℕ) (s mid new : Flat) (t n : ℕ) → WentAlone s mid t n → HasGone mid new t → positions new t ≤ cut_of target t → cut_of target t - positions new t < cut_of target t - positions s t
-step_less target s mid new t n w gone below = let a = alone_own s mid t n w in let b = gone.own in omega (arith, a, b, below)
+gone_above : (old new : Flat) (t n : ℕ) → HasGone old new t n → (u : ℕ) → positions old u ≤ positions new u
+gone_above old new t n h u = elim (cases_eq u t) [
+  | inl same ↦ subst (λ w. positions old w ≤ positions new w) (sym same) (let a = h.own in omega (arith, a))
+  | inr ne ↦ let a = h.others u ne in omega (arith, a)
+]
 
--- whether the thread has gone on is seen by how many steps are left to it
-pub less_gone : (target : List ℕ) (old new : Flat) (t before left : ℕ) → GoesOn old new t → before ≡ cut_of target t - positions old t → left ≡ cut_of target t - positions new t → ltb left before ≡ true → HasGone old new t
-less_gone target old new t before left goes was is less = record {
-  own = let a = ltb-true left before less in omega (arith, a, was, is);
-  others = goes.others;
+gone_same : (old new : Flat) (t n : ℕ) → HasGone old new t n → n ≡ 0 → IsSame old new
+gone_same old new t n h none u = elim (cases_eq u t) [
+  | inl same ↦ subst (λ w. positions new w ≡ positions old w) (sym same) (let a = h.own in omega (arith, a, none))
+  | inr ne ↦ h.others u ne
+]
+
+-- ---- how many steps are left
+
+pub left_above : (target : List ℕ) (old new : Flat) → ((t : ℕ) → positions old t ≤ positions new t) → steps_left target new ≤ steps_left target old
+left_above target old new above = sum_le (length target) (λ t. cut_of target t - positions new t) (λ t. cut_of target t - positions old t) (λ t. let a = above t in omega (arith, a))
+
+fewer_left : (target : List ℕ) (old new : Flat) (t n : ℕ) → t < length target → HasGone old new t n → 0 < n → positions new t ≤ cut_of target t → steps_left target new < steps_left target old
+fewer_left target old new t n l gone some below =
+    sum_less (length target) t (λ u. cut_of target u - positions new u) (λ u. cut_of target u - positions old u) l (let own = gone.own in omega (arith, own, some, below)) (λ u. let a = gone_above old new t n gone u in omega (arith, a))
+
+-- ---- a pass
+
+pub first_pass : (f : FittedTrace) (target : List ℕ) (s : Flat) (most : ℕ) → IsUnder f target s → IsPass f target s s 0 most 0
+first_pass f target s most under = record {
+  under = under;
+  above = λ t. omega arith;
+  fewer = λ l. absurd (omega (arith, l));
+  same = λ e u. refl;
+  rest = λ e some t l. absurd (omega (arith, l));
 }
 
-pub same_gone : (target : List ℕ) (old new : Flat) (t before left : ℕ) → GoesOn old new t → positions new t ≤ cut_of target t → before ≡ cut_of target t - positions old t → left ≡ cut_of target t - positions new t → ltb left before ≡ false → IsSame old new
-same_gone target old new t before left goes below was is more u = elim (cases_eq u t) [
-  | inl same ↦ subst (λ w. positions new w ≡ positions old w) (sym same) (let a = ltb-false left before more in let b = goes.own in omega (arith, a, b, was, is, below))
-  | inr ne ↦ goes.others u ne
+-- the next thread has gone on
+pub pass_on : (f : FittedTrace) (target : List ℕ) (old s new : Flat) (taken most t more : ℕ) → IsPass f target old s taken most t → t < length target → IsUnder f target new → HasGone s new t more → (more < most - taken → Rests f target new t) → IsPass f target old new (taken + more) most (t + 1)
+pass_on f target old s new taken most t more k l under gone rests = record {
+  under = under;
+  above = λ u. let a = k.above u in let b = gone_above s new t more gone u in omega (arith, a, b);
+  fewer = λ some. elim (cases_lt 0 more) [
+    | inl moved ↦ let a = fewer_left target s new t more l gone moved (under.below t) in let b = left_above target old s k.above in omega (arith, a, b)
+    | inr still ↦ let a = left_above target s new (gone_above s new t more gone) in let b = k.fewer (omega (arith, some, still)) in omega (arith, a, b)
+  ];
+  same = λ none u. gone_same s new t more gone (omega (arith, none)) u ∙ k.same (omega (arith, none)) u;
+  rest = λ none some u less. elim (cases_eq u t) [
+    | inl here ↦ subst (Rests f target new) (sym here) (rests (omega (arith, none, some)))
+    | inr ne ↦ rests_same f target s new u (gone_same s new t more gone (omega (arith, none))) (k.rest (omega (arith, none)) some u (omega (arith, less, ne)))
+  ];
+}
+
+-- ---- passes
+
+-- after passes that began at old, by at most so many steps, of which so many are left
+pub record ArePasses (f : FittedTrace) (target : List ℕ) (old s : Flat) (most left : ℕ) : Type 0 where
+  pub under : IsUnder f target s
+  pub above : (t : ℕ) → positions old t ≤ positions s t
+  pub within : left ≤ most
+  pub fewer : left < most → steps_left target s < steps_left target old
+  pub same : left ≡ most → IsSame old s
+
+pub no_passes : (f : FittedTrace) (target : List ℕ) (s : Flat) (most : ℕ) → IsUnder f target s → ArePasses f target s s most most
+no_passes f target s most under = record {
+  under = under;
+  above = λ t. omega arith;
+  within = omega arith;
+  fewer = λ l. absurd (omega (arith, l));
+  same = λ e u. refl;
+}
+
+pub passes_on : (f : FittedTrace) (target : List ℕ) (old s new : Flat) (most left taken n : ℕ) → ArePasses f target old s most left → IsPass f target s new taken left n → taken ≤ left → (taken ≡ 0 → ⊥) → ArePasses f target old new most (left - taken)
+passes_on f target old s new most left taken n k p few some = record {
+  under = p.under;
+  above = λ t. let a = k.above t in let b = p.above t in omega (arith, a, b);
+  within = let a = k.within in omega (arith, a);
+  fewer = λ l. let a = p.fewer (elim (cases_lt 0 taken) [ inl l ↦ l | inr none ↦ absurd (some (omega (arith, none))) ]) in let b = left_above target old s k.above in omega (arith, a, b);
+  same = λ e. let a = k.within in absurd (some (omega (arith, a, e, few)));
+}
+
+-- where a pass takes no step, none was left to those before, or these took some
+pub passes_done : (f : FittedTrace) (target : List ℕ) (old s new : Flat) (most left taken : ℕ) → IsTarget f target → ArePasses f target old s most left → IsPass f target s new taken left (length target) → taken ≡ 0 → 0 < left → (t : ℕ) → positions old t < cut_of target t → steps_left target new < steps_left target old
+passes_done f target old s new most left taken aim k p none some t less = elim (cases_lt left most) [
+  | inl l ↦ let a = k.fewer l in let b = left_above target s new p.above in omega (arith, a, b)
+  | inr all ↦
+      let at : positions new t ≡ cut_of target t = all_reached f target new aim p.under (p.rest none some) t in
+      let a = p.same none t in
+      let b = k.same (let w = k.within in omega (arith, all, w)) t in
+      absurd (omega (arith, at, a, b, less))
 ]

@@ -1,7 +1,7 @@
-pub mod Fronts
-pub mod Behind
-pub mod Onward
-pub mod Going
-pub mod Results
 pub mod Reached
-pub mod Unique
+pub mod Going
+pub mod Gathered
+pub mod Dealt
+pub mod Down
+pub mod Numbers
+pub mod AfterRound

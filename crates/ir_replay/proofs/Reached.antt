@@ -1,19 +1,21 @@
 -- Where threads rest, and that all are then at their targets.
-use Rattle.std.proofs.Common.{◌≡◌, ℕ, ◌+◌, ◌-◌, ◌<◌, ◌≤◌, Bool, true, false, List, length, refl, sym, ◌∙◌, subst, arith, inl, inr, ◌⊎◌}
-use Rattle.std.proofs.lemmas.Bool.{cases_eq, cases_lt}
+use Rattle.std.proofs.Common.{◌≡◌, ℕ, ◌-◌, ◌<◌, ◌≤◌, List, length, sym, refl, subst, arith, inl, inr, ◌⊎◌}
+use Rattle.std.proofs.Math.Path.{fun_ext}
+use Rattle.std.proofs.lemmas.Bool.{cases_lt}
 use Rattle.std.proofs.lemmas.List.{get_or_past}
-use Rattle.ir_flat.specs.Flat.{Flat}
+use Rattle.std.specs.List.{slice_index_or}
+use Rattle.ir_flat.specs.Flat.{Flat, IsFlat, idle}
 use Rattle.ir_flat.specs.Run.{Step}
 use Rattle.ir_fit.specs.Ahead.{steps_ahead}
 use Rattle.ir_fit.specs.Cuts.{Cut, Admitted}
 use Rattle.ir_fit.specs.Fit.{FittedTrace, HasRun, IsRunOf}
-use Rattle.ir_fit.proofs.Tally.{sum_less}
-use Rattle.ir_fit.specs.Coherent.{sum_below}
 use Rattle.ir_cut.specs.Positions.{machine_of, start_of, cut_of, IsConsistentCut}
 use Rattle.ir_cut.proofs.Order.{Progress, progress}
-use Rattle.ir_replay.specs.States.{IsAt, IsState, IsStateAt, positions}
-use Rattle.ir_replay.specs.Stepping.{LogsNext, IsTarget, IsUnder, HasGone, IsSame, IsRound, Rests, steps_left}
-use Rattle.ir_replay.proofs.Behind.{law, good, admitted_next}
+use Rattle.ir_weave.specs.Standing.{Standing, StandsAt, flat_in}
+use Rattle.ir_weave.specs.States.{IsAt, IsStateAt, positions}
+use Rattle.ir_weave.specs.Stepping.{LogsNext, IsTarget, IsUnder, IsSame, Rests, steps_left}
+use Rattle.ir_weave.proofs.Behind.{law, good, admitted_next}
+use Rattle.ir_replay.specs.Rounds.{IsBetween, Goes}
 
 -- a thread below its target is below its last step
 pub steps_there : (f : FittedTrace) (target : List ℕ) (s : Flat) (t n : ℕ) → IsTarget f target → t < length target → n ≡ cut_of target t - positions s t → 0 < n → 0 < steps_ahead f.recorded s t
@@ -55,56 +57,41 @@ all_reached f target s aim under rest t = elim (cases_lt (positions s t) (cut_of
 pub rests_same : (f : FittedTrace) (target : List ℕ) (old new : Flat) (t : ℕ) → IsSame old new → Rests f target old t → Rests f target new t
 rests_same f target old new t same rest = subst (λ (p : Cut). (cut_of target t ≤ p t) ⊎ ((run : List Step) → IsRunOf f.guest f.recorded run → Admitted (machine_of f) (start_of f) run p t → ⊥)) (λ i u. sym (same u) i) rest
 
--- ---- fewer steps are left
-
-pub fewer_left : (target : List ℕ) (old new : Flat) (t : ℕ) → t < length target → HasGone old new t → ((u : ℕ) → positions new u ≤ cut_of target u) → steps_left target new < steps_left target old
-fewer_left target old new t l gone below =
-    sum_less (length target) t (λ u. cut_of target u - positions new u) (λ u. cut_of target u - positions old u) l (let own = gone.own in let b = below t in omega (arith, own, b))
-    (λ u. elim (cases_eq u t) [
-      | inl same ↦ subst (λ w. cut_of target w - positions new w ≤ cut_of target w - positions old w) (sym same) (let own = gone.own in omega (arith, own))
-      | inr ne ↦ let e = gone.others u ne in omega (arith, e)
-    ])
-
-same_left : (target : List ℕ) (old new : Flat) → IsSame old new → steps_left target new ≡ steps_left target old
-same_left target old new same = λ i. sum_below (length target) (λ t. cut_of target t - same t i)
-
--- ---- rounds
-
-left_no_more : (f : FittedTrace) (target : List ℕ) (old s : Flat) (moved : Bool) (n : ℕ) → IsRound f target old s moved n → steps_left target s ≤ steps_left target old
-left_no_more f target old s true n k = let less = k.fewer refl in omega (arith, less)
-left_no_more f target old s false n k = let same = same_left target old s (k.same refl) in omega (arith, same)
-
--- the next thread has moved
-pub round_moved : (f : FittedTrace) (target : List ℕ) (old s new : Flat) (moved : Bool) (t : ℕ) → IsRound f target old s moved t → t < length target → IsUnder f target new → HasGone s new t → IsRound f target old new true (t + 1)
-round_moved f target old s new moved t k l under gone = record {
-  under = under;
-  fewer = λ e. let less = fewer_left target s new t l gone under.below in let before = left_no_more f target old s moved t k in omega (arith, less, before);
-  same = λ e. absurd (cc e);
-  rest = λ e. absurd (cc e);
-}
-
--- or hasn't
-pub round_still : (f : FittedTrace) (target : List ℕ) (old s new : Flat) (moved : Bool) (t : ℕ) → IsRound f target old s moved t → IsUnder f target new → IsSame s new → Rests f target new t → IsRound f target old new moved (t + 1)
-round_still f target old s new moved t k under same rest = record {
-  under = under;
-  fewer = λ e. let less = k.fewer e in let still = same_left target s new same in omega (arith, less, still);
-  same = λ e u. same u ∙ k.same e u;
-  rest = λ e u l. elim (cases_eq u t) [
-    | inl here ↦ subst (Rests f target new) (sym here) rest
-    | inr ne ↦ rests_same f target s new u same (k.rest e u (omega (arith, l, ne)))
-  ];
-}
-
 -- ---- before and behind all steps
 
-pub under_at : (f : FittedTrace) (target aim : List ℕ) (state s : Flat) → state ≡ s → aim ≡ target → IsState f state → ((t : ℕ) → positions state t ≤ cut_of target t) → IsUnder f aim s
-under_at f target aim state s is same h below = subst (IsUnder f aim) is (subst (λ z. IsUnder f z state) (sym same) (record {
-  state = subst (λ p. IsStateAt f p state) (λ i t. sym (h.1.steps t) i) h.1;
-  below = below;
-}))
+pub target_at : (f : FittedTrace) (target aim : List ℕ) → aim ≡ target → HasRun f → (length target ≡ length f.guest.entries) × IsConsistentCut f target → IsTarget f aim
+target_at f target aim same run h = subst (IsTarget f) (sym same) (record { run = run; size = h.0; consistent = h.1 })
 
-pub target_at : (f : FittedTrace) (target aim : List ℕ) → aim ≡ target → HasRun f → length target ≡ length f.guest.entries → IsConsistentCut f target → IsTarget f aim
-target_at f target aim same run size consistent = subst (IsTarget f) (sym same) (record { run = run; size = size; consistent = consistent })
+pub under_at : (f : FittedTrace) (target aim : List ℕ) (state : Standing) (s : Flat) → s ≡ flat_in f state → aim ≡ target → StandsAt f (positions (flat_in f state)) state → ((t : ℕ) → positions (flat_in f state) t ≤ cut_of target t) → IsUnder f aim s
+under_at f target aim state s is same stands below = subst (λ (z : List ℕ × Flat). IsUnder f z.0 z.1) (λ i. (sym same i, sym is i)) (record { state = stands.at; below = below })
 
-pub reached_at : (f : FittedTrace) (target aim : List ℕ) (s : Flat) → aim ≡ target → IsUnder f aim s → ((t : ℕ) → positions s t ≡ cut_of aim t) → IsStateAt f (cut_of target) s
-reached_at f target aim s same under reached = subst (λ z. IsStateAt f (cut_of z) s) same (subst (λ p. IsStateAt f p s) (λ i t. reached t i) under.state)
+-- a state of these threads and objects
+pub stands_from : (f : FittedTrace) (p : Cut) (s : Flat) (state : Standing) → state ≡ record { threads = s.threads; objects = s.objects } → IsFlat s → IsStateAt f p s → StandsAt f p state
+stands_from f p s state is flat at =
+    let same : s ≡ flat_in f (record { threads = s.threads; objects = s.objects }) = λ i. record { code = at.code i; threads = s.threads; objects = s.objects } in
+    subst (StandsAt f p) (sym is) (record { flat = subst IsFlat same flat; at = subst (IsStateAt f p) same at })
+
+pub reached_at : (f : FittedTrace) (target aim : List ℕ) (s : Flat) (state : Standing) → aim ≡ target → IsUnder f aim s → ((t : ℕ) → positions s t ≡ cut_of aim t) → state ≡ record { threads = s.threads; objects = s.objects } → IsFlat s → StandsAt f (cut_of target) state
+reached_at f target aim s state same under reached is flat =
+    stands_from f (cut_of target) s state is flat (subst (λ z. IsStateAt f (cut_of z) s) same (subst (λ p. IsStateAt f p s) (λ i t. reached t i) under.state))
+
+-- the state after steps from another
+pub between_at : (f : FittedTrace) (target aim : List ℕ) (old state : Standing) (first s : Flat) → first ≡ flat_in f old → aim ≡ target → IsUnder f aim s → ((t : ℕ) → positions first t ≤ positions s t) → state ≡ record { threads = s.threads; objects = s.objects } → IsFlat s → IsBetween f target old state
+between_at f target aim old state first s was same under above is flat =
+    subst (IsBetween f target old) (sym is) (record {
+      stands = stands_from f (positions s) s (record { threads = s.threads; objects = s.objects }) refl flat under.state;
+      above = λ t. subst (λ z. positions z t ≤ positions s t) was (above t);
+      below = λ t. subst (λ z. positions s t ≤ cut_of z t) same (under.below t);
+    })
+
+pub goes_at : (f : FittedTrace) (target aim : List ℕ) (old state : Standing) (first s : Flat) → first ≡ flat_in f old → aim ≡ target → ((t : ℕ) → positions first t < cut_of aim t → steps_left aim s < steps_left aim first) → state ≡ record { threads = s.threads; objects = s.objects } → Goes f target old state
+goes_at f target aim old state first s was same h is =
+    subst (Goes f target old) (sym is) (subst (λ (z : List ℕ × Flat). (t : ℕ) → positions z.1 t < cut_of z.0 t → steps_left z.0 s < steps_left z.0 z.1) (λ i. (same i, was i)) h)
+
+-- a state between whose threads are all at the target
+pub all_there : (f : FittedTrace) (target : List ℕ) (old s : Standing) → IsBetween f target old s → length target ≡ length f.guest.entries → ((t : ℕ) → t < length s.threads → cut_of target t ≤ (slice_index_or s.threads t idle).steps) → StandsAt f (cut_of target) s
+all_there f target old s b size there =
+    subst (λ (p : Cut). StandsAt f p s) (fun_ext (λ t. elim (cases_lt t (length s.threads)) [
+      | inl l ↦ let up = there t l in let below = b.below t in omega (arith, up, below)
+      | inr past ↦ let none : cut_of target t ≡ 0 = get_or_past target t 0 (let e = b.stands.at.threads in omega (arith, past, e, size)) in let below = b.below t in omega (arith, none, below)
+    ])) b.stands

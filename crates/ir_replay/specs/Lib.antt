@@ -1,3 +1,3 @@
-pub mod States
-pub mod Stepping
-pub mod Laws
+pub mod Passes
+pub mod Workers
+pub mod Rounds

@@ -2,14 +2,22 @@
 #![tactic(auto)]
 
 mod admission;
-mod advance;
-mod laws;
-mod rounds;
-mod state;
+#[cfg(test)]
+mod guests;
+mod moves;
+mod pace;
+mod passes;
+mod round;
+#[cfg(test)]
+mod seat_tests;
 mod stepping;
+mod stretch;
+mod telling;
 #[cfg(test)]
 mod tests;
+#[cfg(test)]
+mod waiting_tests;
+mod worker;
 
-pub use advance::advance_in_order;
-pub use laws::one_state_each;
-pub use state::State;
+pub use ir_weave::{State, one_state_each};
+pub use moves::{advance, advance_in_order};

@@ -1,16 +1,18 @@
 //! Steps of one thread towards its target.
 
-ghost use Rattle.std.specs.Prelude.{◌≡◌, ◌<◌, ◌-◌, true, false, length};
+ghost use Rattle.std.specs.Prelude.{◌≡◌, ◌<◌, ◌≤◌, ◌-◌, true, false, length};
 ghost use Rattle.ir_cut.specs.Positions.{cut_of};
-ghost use Rattle.ir_replay.specs.States.{positions};
-ghost use Rattle.ir_replay.specs.Stepping.{IsTarget, IsUnder, HasGone, IsSame, Rests};
+ghost use Rattle.ir_weave.specs.States.{positions};
+ghost use Rattle.ir_weave.specs.Stepping.{IsTarget, IsUnder, HasGone, IsSame, Rests};
 
 use crate::admission::next_result;
+use crate::telling::{tell_entry, tell_leave};
 use ir_fit::Fitted;
 use ir_flat::Flat;
+use ir_object::Gate;
 
 // How many steps thread t has to its target.
-fn left(target: &[u64], flat: &Flat, t: usize) -> u64
+fn left(target: &[u64], flat: &Flat<'_>, t: usize) -> u64
     requires target { t < length target.now }
     requires thread { t < length flat.now.threads }
     ensures { result ≡ cut_of target.now t - positions flat.now t }
@@ -19,12 +21,18 @@ fn left(target: &[u64], flat: &Flat, t: usize) -> u64
 }
 
 // Thread t takes its next step, where it is below its target and the step is admitted. Whether it took one.
-pub fn step(fitted: &Fitted, target: &[u64], flat: &mut Flat, t: usize) -> bool
+pub fn step<G: Gate>(
+    fitted: &Fitted,
+    target: &[u64],
+    flat: &mut Flat<'_>,
+    t: usize,
+    gate: &G,
+) -> bool
     requires target { IsTarget fitted.now target.now }
     requires under { IsUnder fitted.now target.now flat.old }
     requires thread { t < length target.now }
     ensures under { IsUnder fitted.now target.now flat.new }
-    ensures gone { result ≡ true → HasGone flat.old flat.new t }
+    ensures gone { result ≡ true → HasGone flat.old flat.new t 1 }
     ensures same { result ≡ false → IsSame flat.old flat.new }
     ensures rests { result ≡ false → Rests fitted.now target.now flat.new t }
 {
@@ -34,26 +42,44 @@ pub fn step(fitted: &Fitted, target: &[u64], flat: &mut Flat, t: usize) -> bool
     let asked = flat.ask(t);
     match next_result(fitted, flat, t, asked) {
         None => false,
-        Some(result) => flat.take(t, asked, result).is_ok(),
+        Some(result) => {
+            let number = flat.threads()[t].number();
+            tell_leave(gate, number, asked);
+            let taken = flat.take(t, asked, result).is_ok();
+            tell_entry(gate, number, asked);
+            taken
+        }
     }
 }
 
-// Thread t goes on until it is at its target or its next step isn't admitted. Whether it took a step.
-pub fn go(fitted: &Fitted, target: &[u64], flat: &mut Flat, t: usize) -> bool
+// Thread t goes on until it has taken so many steps, is at its target, or its next step isn't admitted. How many it took.
+pub fn go<G: Gate>(
+    fitted: &Fitted,
+    target: &[u64],
+    flat: &mut Flat<'_>,
+    t: usize,
+    most: u64,
+    gate: &G,
+) -> u64
     requires target { IsTarget fitted.now target.now }
     requires under { IsUnder fitted.now target.now flat.old }
     requires thread { t < length target.now }
     ensures under { IsUnder fitted.now target.now flat.new }
-    ensures gone { result ≡ true → HasGone flat.old flat.new t }
-    ensures same { result ≡ false → IsSame flat.old flat.new }
-    ensures rests { Rests fitted.now target.now flat.new t }
+    ensures within { result ≤ most }
+    ensures gone { HasGone flat.old flat.new t result }
+    ensures rests { result < most → Rests fitted.now target.now flat.new t }
 {
-    let before = left(target, flat, t);
-    'steps: loop {
-        let limit = left(target, flat, t);
-        flat.run_instructions(t, limit);
-        if !step(fitted, target, flat, t) {
-            return left(target, flat, t) < before;
+    let mut taken = 0;
+    'steps: while taken < most {
+        let limit = left(target, flat, t).min(most - taken);
+        taken += flat.run_instructions(t, limit);
+        if taken == most {
+            return taken;
         }
+        if !step(fitted, target, flat, t, gate) {
+            return taken;
+        }
+        taken += 1;
     }
+    taken
 }

@@ -1,48 +1,13 @@
 //! Guests of two threads with one object, brought to cuts by different orders.
 
-ghost use Rattle.std.specs.Prelude.{◌≡◌, true, length};
-ghost use Rattle.ir_cut.specs.Positions.{IsConsistentCut};
-
+use crate::guests::{ADD, ADDED, answer, is_cut};
 use crate::{State, advance_in_order};
-use ir_cut::{Cut, consistent};
-use ir_fit::{FitErr, Fitted, fit};
-use ir_image::read_image;
+use ir_cut::Cut;
+use ir_fit::Fitted;
 use ir_object::{Fields, Object};
 use ir_thread::{End, Thread};
-use ir_trace::read_trace;
 use std::alloc::Global;
 use std::test::Fail;
-
-// Each thread enters object 0 for writing (step 2), reads its first word (6), writes one more (11), leaves (14) and ends.
-const ADD: [u32; 18] = [
-    0x0000_0513,
-    0x0080_0893,
-    0x0000_0073,
-    0x0000_0513,
-    0x0000_0593,
-    0x00a0_0893,
-    0x0000_0073,
-    0x0015_0613,
-    0x0000_0513,
-    0x0000_0593,
-    0x00b0_0893,
-    0x0000_0073,
-    0x0000_0513,
-    0x0090_0893,
-    0x0000_0073,
-    0x0000_0513,
-    0x0010_0893,
-    0x0000_0073,
-];
-
-// Thread 1 writes version 0 and thread 0 then version 1, in 18 steps each.
-const ADDED: [u8; 70] = [
-    0x49, 0x52, 0x54, 0x31, 2, 1, 0, 0, 0xe8, 3, 0, 0, 0, 0, 0, 0, // header
-    18, 0, 0, 0, 0, 0, 0, 0, 1, 0, 0, 0, 0, 1, 0, 0, 0, // thread 0
-    5, 0, 1, 0, 0, 0, 0, 0, 0, 0, // its entry
-    18, 0, 0, 0, 0, 0, 0, 0, 1, 0, 0, 0, 0, 1, 0, 0, 0, // thread 1
-    5, 0, 0, 0, 0, 0, 0, 0, 0, 0, // its entry
-];
 
 // Each thread asks the clock (step 1), enters object 0 for reading (4) and leaves it (6), enters it for writing (8), puts
 // the answer of the clock (11), leaves (14) and ends (17).
@@ -75,20 +40,6 @@ const NOTED: [u8; 92] = [
     18, 0, 0, 0, 0, 0, 0, 0, 1, 0, 0, 0, 0, 3, 0, 0, 0, // thread 1
     1, 80, 0, 0, 0, 4, 0, 0, 0, 0, 0, 5, 0, 0, 0, 0, 0, 2, 0, 0, 0, // its answer and entries
 ];
-
-// What `fit` answers of the guest and its trace.
-fn answer(alloc: Global, code: &[u32], trace: &[u8]) -> Result<Result<Fitted, FitErr>, Fail> {
-    let mut bytes = Vec::new(alloc);
-    bytes.extend_from_slice(&[0x49, 0x52, 0x49, 0x31, 2, 1])?;
-    bytes.extend_from_slice(&[code.len().min(255) as u8, 0, 0, 0, 0, 0, 0, 0])?;
-    bytes.extend_from_slice(&[0, 0, 1, 0, 0, 0, 1, 0])?;
-    for word in code {
-        bytes.extend_from_slice(&word.to_le_bytes())?;
-    }
-    bytes.resize(bytes.len().min(1_000) + 32, 0)?;
-    let trace = read_trace(alloc, trace)?;
-    Ok(fit(alloc, read_image(alloc, &bytes)?, trace))
-}
 
 // What is seen of a thread.
 #[derive(Clone, Copy, Debug, PartialEq)]
@@ -147,14 +98,6 @@ fn seen(state: &State) -> Sight {
         ],
         object: state.objects().first().map(seen_object),
     }
-}
-
-// Whether the cut has a position for each thread, and is consistent.
-fn is_cut(fitted: &Fitted, cut: &Cut) -> bool
-    ensures size { result ≡ true → length cut.now ≡ length fitted.now.guest.entries }
-    ensures consistent { result ≡ true → IsConsistentCut fitted.now cut.now }
-{
-    cut.positions().len() == fitted.image().entries().len() && consistent(fitted, cut)
 }
 
 // The guest's state at the cut by way of the order; none where the cut isn't consistent.
@@ -231,7 +174,7 @@ const fn fields(version: u32, left: u32, inside: u8, writer: bool) -> Fields {
 
 #[test]
 fn each_order_leads_to_the_same_state(rt: HostRuntime) -> Result<(), Fail> {
-    let answer = answer(rt.alloc(), &ADD, &ADDED)?;
+    let answer = answer(rt.alloc(), 2, &ADD, &ADDED)?;
     let mut count = 0u64;
     if let Ok(fitted) = &answer {
         for at in [(18, 18), (3, 15), (0, 18), (2, 7)] {
@@ -244,7 +187,7 @@ fn each_order_leads_to_the_same_state(rt: HostRuntime) -> Result<(), Fail> {
 
 #[test]
 fn the_second_writer_adds_to_the_first(rt: HostRuntime) -> Result<(), Fail> {
-    let answer = answer(rt.alloc(), &ADD, &ADDED)?;
+    let answer = answer(rt.alloc(), 2, &ADD, &ADDED)?;
     let found = match &answer {
         Ok(fitted) => Some([
             short(rt.alloc(), fitted, (18, 18))?,
@@ -264,7 +207,7 @@ fn the_second_writer_adds_to_the_first(rt: HostRuntime) -> Result<(), Fail> {
 
 #[test]
 fn answers_and_readers_are_the_traces(rt: HostRuntime) -> Result<(), Fail> {
-    let answer = answer(rt.alloc(), &NOTE, &NOTED)?;
+    let answer = answer(rt.alloc(), 2, &NOTE, &NOTED)?;
     let mut count = 0u64;
     let mut found = None;
     if let Ok(fitted) = &answer {

@@ -1,9 +1,15 @@
 //! A trace in memory.
 
-ghost use Rattle.std.specs.Prelude.{◌≡◌, IfOk};
-ghost use Rattle.ir_trace.specs.Recorded.{Recorded, IsRecorded};
+ghost use Rattle.std.specs.Prelude.{◌≡◌, ◌<◌, ◌≤◌, length, slice_get, Some, IfOk, OnErr};
+ghost use Rattle.ir_log.specs.Logging.{Suits};
+ghost use Rattle.ir_log.specs.declared.event.Event.{Event};
+ghost use Rattle.ir_thread.specs.Calls.{most_events};
+ghost use Rattle.ir_trace.specs.Recorded.{Recorded, IsRecorded, IsRecordedThread};
+ghost use Rattle.ir_trace.specs.Told.{recorded_thread};
 
 use crate::thread_trace::ThreadTrace;
+use ir_log::{Cursor, Disagree, Event};
+use ir_thread::Ask;
 use std::alloc::AllocError;
 use std::marker::Model;
 
@@ -58,6 +64,21 @@ impl Trace {
         ensures within { IsRecorded self.now }
     {
         self.threads.as_slice()
+    }
+
+    /// The event of thread t that so many stand before, where it is one of what is asked.
+    ///
+    /// # Errors
+    /// `Disagree` where the thread has no such event, or it is none of what is asked.
+    pub fn next_event(&self, t: usize, before: u32, asked: Ask) -> Result<Event, Disagree>
+        requires thread { t < length self.now.threads }
+        requires before { before ≤ most_events }
+        ensures next { IfOk result (λ event. slice_get (recorded_thread self.now t).events before ≡ Some event) }
+        ensures suits { IfOk result (λ event. Suits asked event) }
+        ensures within { IsRecordedThread self.now.objects (recorded_thread self.now t) }
+        ensures disagrees { OnErr result ((event : Event) → slice_get (recorded_thread self.now t).events before ≡ Some event → Suits asked event → ⊥) }
+    {
+        Cursor::at(before as usize).expect(self.threads[t].log(), &asked)
     }
 
     /// An equal trace with memory of its own.

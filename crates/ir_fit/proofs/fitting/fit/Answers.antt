@@ -1,4 +1,4 @@
-use Rattle.std.proofs.Common.{◌≡◌, IfErr, List, length, slice_get, Some, sym, subst}
+use Rattle.std.proofs.Common.{◌≡◌, ◌∙◌, IfErr, List, length, slice_get, Some, sym, subst}
 use Rattle.std.proofs.lemmas.Result.{err_from_is_err_and}
 use Rattle.ir_trace.specs.Recorded.{Recorded, IsRecorded}
 use Rattle.ir_fit.specs.Coherent.{IsCoherent}
@@ -29,6 +29,6 @@ pub new-requires : goal.new-requires
 new-requires c =
     let vs : List ThreadVerdict = c.in_ok-verdicts.verdicts.items in
     let stand : AreStanding c.args.trace c.in_ok-follower.follower.flat c.in_ok-follower.follower.places.items vs = subst (λ z. AreStanding z c.in_ok-follower.follower.flat c.in_ok-follower.follower.places.items vs) c.in_ok-follower.ensures.trace c.in_ok-verdicts.ensures.stand in
-    subst (λ r. HasRun (record { guest = c.args.image; recorded = r; placed = c.in_ok-follower.follower.places.items })) (sym c.in_ok-follower.ensures.trace)
+    subst HasRun (λ i. record { guest = c.args.image; recorded = sym (c.into_parts-trace.ensures.trace ∙ c.in_ok-follower.ensures.trace) i; placed = sym c.into_parts-trace.ensures.places i })
     (threads_accept c.args.image c.args.trace c.in_default.ensures.same c.in_ok-follower.follower.flat c.in_ok-follower.follower.places.items c.in_ok-follower.ensures.followed c.in_ok-follower.ensures.sized.placed.each vs c.in_ok-verdicts.ensures.each stand
     (λ t v at. c.all_same.ensures.same c.if-not-all_same.false t v (subst (λ xs. slice_get xs t ≡ Some v) (sym c.deref.ensures.value) at)))

@@ -1,0 +1,110 @@
+//! Files that stand in their place only once they are whole.
+
+ghost use Rattle.std.specs.Prelude.{◌≡◌, Bool, OnOk, OnErr, None, false, true};
+
+use crate::files::NewFile;
+use ir_debug::{DeviceErr, Sink};
+use std::fs;
+
+/// A sink whose bytes may stand elsewhere until they are whole.
+pub trait WholeSink: Sink {
+    /// Whether they are whole and stand in their place.
+    ghost whole: { Self → Bool };
+
+    /// All bytes were written: from now on they stand in their place.
+    ///
+    /// # Errors
+    /// They can't be put there. The sink has failed.
+    fn finish(&mut self) -> Result<(), DeviceErr>
+        ensures kept { Self.written self.new ≡ Self.written self.old }
+        ensures whole { OnOk result (whole self.new ≡ true) }
+        ensures stays { OnOk result (Self.broken self.new ≡ Self.broken self.old) }
+        ensures err { OnErr result (Self.broken self.new ≡ true) };
+}
+
+/// A file that is written beside its place and then put there, over what stood there before. Where a write fails, or
+/// putting it there, nothing of it is left and its place is as it was. What stands there and is no file, as a device or a
+/// link, is written to as it is.
+#[derive(Drop)]
+pub struct WholeFile<'a> {
+    rt: &'a HostRuntime,
+    place: &'a str,
+    beside: Option<&'a str>,
+    file: NewFile<'a>,
+    failed: bool,
+    whole: bool,
+}
+
+// Whether something stands there that another file may not be put in the place of.
+fn is_kept(rt: &HostRuntime, place: &str) -> bool {
+    match fs::symlink_metadata(rt, place) {
+        Ok(found) => !found.is_file(),
+        Err(_) => false,
+    }
+}
+
+impl<'a> WholeFile<'a> {
+    /// The file of a place, to be written beside it first, to which nothing was written yet.
+    pub fn new(rt: &'a HostRuntime, place: &'a str, beside: &'a str) -> WholeFile<'a>
+        ensures { result.failed ≡ false }
+    {
+        let beside = if is_kept(rt, place) {
+            None
+        } else {
+            Some(beside)
+        };
+        WholeFile {
+            rt,
+            place,
+            beside,
+            file: NewFile::new(rt, beside.unwrap_or(place)),
+            failed: false,
+            whole: false,
+        }
+    }
+
+    // It failed, and what was written beside its place goes.
+    fn fail(&mut self) -> DeviceErr
+        ensures { self.new.failed ≡ true }
+    {
+        self.failed = true;
+        match self.beside {
+            Some(beside) if self.file.is_made() => {
+                let _ = fs::remove_file(self.rt, beside);
+            }
+            _ => {}
+        }
+        DeviceErr
+    }
+}
+
+impl Sink for WholeFile<'_> {
+    ghost written = { λ _. None };
+
+    ghost broken = { λ f. f.failed };
+
+    fn write(&mut self, bytes: &[u8]) -> Result<usize, DeviceErr> {
+        match self.file.write(bytes) {
+            Ok(count) => Ok(count),
+            Err(_) => Err(self.fail()),
+        }
+    }
+
+    fn failed(&self) -> bool {
+        self.failed
+    }
+}
+
+impl WholeSink for WholeFile<'_> {
+    ghost whole = { λ f. f.whole };
+
+    fn finish(&mut self) -> Result<(), DeviceErr> {
+        if let Some(beside) = self.beside {
+            if fs::rename(self.rt, beside, self.place).is_err() {
+                return Err(self.fail());
+            }
+        }
+        self.whole = true;
+        Ok(())
+    }
+}

@@ -1,0 +1,50 @@
+-- How the table is opened and closed.
+use Rattle.std.specs.Prelude.{◌≡◌, ℕ, suc, ◌+◌, ◌*◌, ◌/◌, ◌<◌, ◌≤◌, false, List, [], ◌∷◌, length, slice_index}
+use Rattle.std.specs.List.{slice_index_or}
+use mathlib.Core.Option.{some}
+use lib.ListN.{get_elem?}
+use Rattle.atomic_table.specs.Seated.{TableId}
+use Rattle.atomic_table.specs.declared.shared.Seat.{Seat}
+use Rattle.ir_image.specs.Guest.{Guest, object_count, object_words}
+use Rattle.ir_thread.specs.Calls.{most_events}
+use Rattle.ir_thread.specs.Instance.{thread_machine}
+use Rattle.ir_object.specs.Cell.{Cell, StandsFor}
+use Rattle.ir_object.specs.Layout.{word_place, content_place, table_length}
+use Rattle.ir_object.specs.Order.{Shared, of_thread, objects_after, IsLegal}
+use Rattle.ir_object.specs.Word.{fields_of}
+use Rattle.ir_crew.specs.Rule.{View, entries, start_objects, IsTrack}
+
+-- the object of no number
+abbrev pub empty : Cell
+empty = record { fields = record { version = 0; left = 0; inside = 0; writer = false }; words = [] }
+
+-- the seats of the threads from t on, in order, each with no step
+abbrev pub AreSeats : TableId → ℕ → List (Seat (Unit {0}) View) → Type 0
+AreSeats id t [] = Unit {0}
+AreSeats id t (x ∷ xs) = ((x.table_id ≡ id) × (x.me ≡ (record { thread = t; steps = [] } ∷ [], []))) × AreSeats id (suc t) xs
+
+-- each of these tracks has the object steps of its thread
+abbrev pub AreTracks : Guest → List (ℕ × Shared) → View → Type 0
+AreTracks g steps [] = Unit {0}
+AreTracks g steps (k ∷ ks) = IsTrack (length g.entries) (start_objects g) steps k × AreTracks g steps ks
+
+-- the threads have taken object steps in an order, each allowed after those before it, of which the view has those of its threads; these are the objects after them
+pub record IsEnd (g : Guest) (v : View) (objects : List Cell) : Type 0 where
+  pub steps : List (ℕ × Shared)
+  pub legal : IsLegal (thread_machine g.code) (length g.entries) (object_count g) (start_objects g) steps
+  pub few : (t : ℕ) → entries (of_thread t steps) ≤ most_events
+  pub tracks : AreTracks g steps v
+  pub stand : (o : ℕ) → o < object_count g → StandsFor (length g.entries) (slice_index_or objects o empty) (objects_after (start_objects g) steps o)
+
+-- what is laid out before the first step: the objects' words are 0, and their contents the first words of the guest
+pub record IsLaid (words laid : List ℕ) : Type 0 where
+  pub size : length laid ≡ table_length (length words / object_words)
+  pub free : (o : ℕ) → o < length words / object_words → slice_index laid (word_place o) ≡ 0
+  pub contents : (o i : ℕ) → i < object_words → object_words * o + i < length words → slice_index laid (content_place o i) ≡ slice_index words (object_words * o + i)
+
+-- the object of these words
+pub record IsObjectOf (words : List ℕ) (o : ℕ) (c : Cell) : Type 0 where
+  pub word : ℕ
+  pub head : get_elem? words (word_place o) ≡ some word
+  pub fields : c.fields ≡ fields_of word
+  pub contents : (i : ℕ) → i < object_words → get_elem? words (content_place o i) ≡ some (slice_index c.words i)

@@ -1,0 +1,102 @@
+-- The rule of the recording table: its words are the objects after the object steps that its seats have taken.
+use Rattle.std.specs.Prelude.{◌≡◌, ℕ, zero, suc, ◌+◌, ◌*◌, ◌<◌, ◌≤◌, List, [], ◌∷◌, map, length, take, drop, slice_index, None}
+use mathlib.Core.Option.{some}
+use lib.ListN.{get_elem?}
+use Rattle.atomic_table.specs.Table.{State}
+use Rattle.ir_image.specs.Guest.{Guest, IsGuest, object_count, object_words}
+use Rattle.ir_thread.specs.Calls.{most_events}
+use Rattle.ir_thread.specs.Instance.{thread_machine}
+use Rattle.ir_thread.specs.Machine.{Act, Silent, Result, Entry, Refusal, Exit, Load, Store, Never}
+use Rattle.ir_thread.specs.Marks.{Mark, Quiet, In, Out}
+use Rattle.ir_object.specs.Cell.{Counts}
+use Rattle.ir_object.specs.Layout.{word_place, content_place, table_length}
+use Rattle.ir_object.specs.Object.{Object}
+use Rattle.ir_object.specs.Order.{Shared, of_thread, objects_after, order_marks, IsLegal}
+use Rattle.ir_object.specs.Word.{fields_of}
+use Rattle.ir_object.specs.declared.fields.Fields.{Fields}
+use Rattle.ir_crew.specs.declared.deed.Deed.{Deed}
+use Rattle.ir_crew.specs.declared.deed.Deed.TheVariants.{Enter, Leave, Get, Put}
+use Rattle.ir_crew.specs.declared.deed.ObjectStep.{ObjectStep}
+use Rattle.ir_crew.specs.declared.deed.Track.{Track}
+
+-- what a seat knows: the object steps of its threads
+abbrev pub View : Type 0
+View = List Track
+
+-- what the deed does to object o, and its answer
+abbrev pub shared_by : ℕ → Deed → Shared
+shared_by o (Enter a v l) = (Entry o a 0, 0)
+shared_by o (Leave a v) = (Exit o a, 0)
+shared_by o (Get i w) = (Load o i, w)
+shared_by o (Put i w) = (Store o i w, 0)
+
+-- what it tells
+abbrev pub mark_by : ℕ → Deed → Mark
+mark_by o (Enter a v l) = In o a v l
+mark_by o (Leave a v) = Out o a v
+mark_by o (Get i w) = Quiet
+mark_by o (Put i w) = Quiet
+
+abbrev pub shared_of : ObjectStep → Shared
+shared_of e = shared_by e.object e.deed
+
+abbrev pub mark_of : ObjectStep → Mark
+mark_of e = mark_by e.object e.deed
+
+-- 1 for an entry
+abbrev pub one_if_entry : Act → ℕ
+one_if_entry Silent = 0
+one_if_entry (Result k v) = 0
+one_if_entry (Entry o a v) = 1
+one_if_entry (Refusal o) = 0
+one_if_entry (Exit o a) = 0
+one_if_entry (Load o i) = 0
+one_if_entry (Store o i w) = 0
+one_if_entry Never = 0
+
+-- how many of the object steps are entries
+abbrev pub entries : List Shared → ℕ
+entries [] = 0
+entries (x ∷ xs) = one_if_entry x.0 + entries xs
+
+-- the objects of a guest that nobody has entered
+abbrev pub start_objects : Guest → ℕ → Object
+start_objects g o = record { version = 0; left = 0; inside = λ t. None; words = slice_index (take object_words (drop (object_words * o) g.words)) }
+
+-- a word of n threads says this of the object
+pub record Tells (n : ℕ) (f : Fields) (b : Object) : Type 0 where
+  pub version : f.version ≡ b.version
+  pub left : f.left ≡ b.left
+  pub inside : Counts n f b.inside
+
+-- the words are those of so many objects
+pub record IsTable (n count : ℕ) (objects : ℕ → Object) (ws : List ℕ) : Type 0 where
+  pub size : length ws ≡ table_length count
+  pub words : (o : ℕ) → o < count → Tells n (fields_of (slice_index ws (word_place o))) (objects o)
+  pub contents : (o i : ℕ) → o < count → i < 8 → slice_index ws (content_place o i) ≡ (objects o).words i
+
+-- the track has the object steps of its thread, one of n, in the order of all, with what they were answered
+pub record IsTrack (n : ℕ) (f : ℕ → Object) (steps : List (ℕ × Shared)) (k : Track) : Type 0 where
+  pub thread : k.thread < n
+  pub steps_are : of_thread k.thread steps ≡ map shared_of k.steps
+  pub marks_are : of_thread k.thread (order_marks f steps) ≡ map mark_of k.steps
+
+-- the tracks of a seat are such, and it is the seat of their threads
+abbrev pub Fits : ℕ → (ℕ → Object) → List (ℕ × Shared) → (ℕ → ℕ) → ℕ → View → Type 0
+Fits n f steps seat id [] = Unit {0}
+Fits n f steps seat id (k ∷ ks) = (IsTrack n f steps k × (seat k.thread ≡ id)) × Fits n f steps seat id ks
+
+-- there is an order of object steps, each allowed after those before it, of which each seat has those of its threads, and the words are the objects after them; no thread has more entries than events
+pub record Kept (g : Guest) (x : State (Unit {0}) View) : Type 0 where
+  pub guest : IsGuest g
+  pub steps : List (ℕ × Shared)
+  pub seat : ℕ → ℕ
+  pub legal : IsLegal (thread_machine g.code) (length g.entries) (object_count g) (start_objects g) steps
+  pub few : (t : ℕ) → entries (of_thread t steps) ≤ most_events
+  pub fits : (id : ℕ) (v : View) → get_elem? x.views id ≡ some v → Fits (length g.entries) (start_objects g) steps seat id v
+  pub table : IsTable (length g.entries) (object_count g) (objects_after (start_objects g) steps) x.words
+
+-- the tracks of n threads from t on, with no step
+abbrev pub tracks_from : ℕ → ℕ → View
+tracks_from t zero = []
+tracks_from t (suc n) = record { thread = t; steps = [] } ∷ tracks_from (suc t) n

@@ -1,0 +1,119 @@
+//! How the table is opened and closed.
+
+ghost use Rattle.std.specs.Prelude.{◌≡◌, ◌<◌, ◌≤◌, ◌+◌, ◌*◌, ◌%◌, ◌^◌, ℕ, [], length, IfOk};
+ghost use Rattle.std.specs.Slots.{slots_items, slots_len, IsFull};
+ghost use mathlib.Core.Option.{some};
+ghost use lib.ListN.{get_elem?};
+ghost use Rattle.ir_image.specs.Guest.{object_count};
+ghost use Rattle.ir_object.specs.Layout.{content_place};
+ghost use Rattle.ir_crew.specs.Rule.{tracks_from};
+ghost use Rattle.ir_crew.specs.Ends.{AreSeats, IsEnd, IsLaid, IsObjectOf};
+
+use crate::plays::{Law, OffFirst};
+use crate::table::{Crew, CrewSeat};
+use atomic_table::{Closed, Table};
+use ir_image::Image;
+use ir_object::{APART, CONTENT_PLACE, Object, WORD_PLACE, Word};
+use std::alloc::{AllocError, Global};
+
+// The words of an object's contents.
+const EACH: usize = 8;
+
+// The words of the table before the first step: of each object its word, and its contents.
+fn lay(alloc: Global, words: &[u32]) -> Result<Vec<u64>, AllocError>
+    requires few { length words.now ≤ 128 }
+    requires whole { length words.now % 8 ≡ 0 }
+    ensures { IfOk result (λ v. IsLaid words.now v.items) }
+{
+    let mut laid = vec![in alloc; 0; WORD_PLACE + APART * (words.len() / EACH)]?;
+    for at in 0..words.len() {
+        laid[CONTENT_PLACE + APART * (at / EACH) + at % EACH] = u64::from(words[at]);
+    }
+    Ok(laid)
+}
+
+impl Crew {
+    /// The objects of the guest, which nobody has entered, and a seat for each of its threads.
+    ///
+    /// # Errors
+    /// Want of memory.
+    pub fn open(alloc: Global, image: &Image) -> Result<(Crew, Vec<CrewSeat>), AllocError>
+        ensures key { IfOk result (λ r. r.0.table.shared.key ≡ image.now) }
+        ensures seats { IfOk result (λ r. AreSeats r.0.table.shared.table_id 0 r.1.items × (length r.1.items ≡ length image.now.entries)) }
+    {
+        let words = lay(alloc, image.words())?;
+        let (table, seat) = Table::of_words(alloc, words.as_slice(), image)?;
+        let crew = Crew { table };
+        let seats = crew.deal(alloc, image.entries().len() as u8, seat)?;
+        Ok((crew, seats))
+    }
+
+    // A seat for each thread, of one for all.
+    fn deal(
+        &self,
+        alloc: Global,
+        threads: u8,
+        mut seat: CrewSeat,
+    ) -> Result<Vec<CrewSeat>, AllocError>
+        requires threads { 0 < threads }
+        requires seat { (seat.table_id ≡ self.now.table.shared.table_id) × (seat.me ≡ (tracks_from 0 threads, [])) }
+        ensures { IfOk result (λ v. AreSeats self.now.table.shared.table_id 0 v.items × (length v.items ≡ threads)) }
+    {
+        let mut seats = Vec::with_capacity(alloc, threads as usize)?;
+        for _thread in 1..threads {
+            seats.push(self.table.shared.split_seat::<OffFirst>(&mut seat))?;
+        }
+        seats.push(seat)?;
+        Ok(seats)
+    }
+}
+
+// What word i of object o says, once all steps are taken.
+fn content(closed: &Closed<(), Global>, o: usize, i: usize) -> u32
+    requires there { content_place o i < slots_len closed.now.words }
+    requires full { IsFull closed.now.words }
+    requires small { (word : ℕ) → get_elem? (slots_items closed.now.words) (content_place o i) ≡ some word → word < 2 ^ 32 }
+    ensures { get_elem? (slots_items closed.now.words) (content_place o i) ≡ some result }
+{
+    closed.word(CONTENT_PLACE + APART * o + i) as u32
+}
+
+// Object o, once all steps are taken.
+fn object(closed: &Closed<(), Global>, o: usize) -> Object
+    requires there { 32 + 24 * o ≤ slots_len closed.now.words }
+    requires full { IsFull closed.now.words }
+    requires small { (i word : ℕ) → i < 8 → get_elem? (slots_items closed.now.words) (content_place o i) ≡ some word → word < 2 ^ 32 }
+    ensures { IsObjectOf (slots_items closed.now.words) o result }
+{
+    Object::from_parts(
+        Word {
+            bits: closed.word(WORD_PLACE + APART * o),
+        },
+        [
+            content(closed, o, 0),
+            content(closed, o, 1),
+            content(closed, o, 2),
+            content(closed, o, 3),
+            content(closed, o, 4),
+            content(closed, o, 5),
+            content(closed, o, 6),
+            content(closed, o, 7),
+        ],
+    )
+}
+
+impl Crew {
+    /// Ends the table, once all seats are joined into this one, and writes the objects.
+    pub fn close(self, seat: CrewSeat, objects: &mut [Object])
+        requires seat { seat.table_id ≡ self.table.shared.table_id }
+        requires room { length objects.old ≡ object_count self.table.shared.key }
+        ensures { IsEnd self.table.shared.key seat.me.0 objects.new }
+    {
+        let Crew { table } = self;
+        let closed = table.close_with(seat);
+        for o in 0..objects.len() {
+            objects[o] = object(&closed, o);
+        }
+        closed.free();
+    }
+}

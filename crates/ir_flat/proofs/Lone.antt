@@ -1,0 +1,33 @@
+-- A thread with its replies is the thread run alone.
+use Rattle.std.proofs.Common.{◌≡◌, ℕ, List, [], ◌∷◌, Some, refl, ap, ◌∙◌}
+use Rattle.ir_thread.specs.Alone.{AllSuit, after_replies}
+use Rattle.ir_thread.specs.Calls.{ask_of, Suits}
+use Rattle.ir_thread.specs.Instance.{shared_ask, reply_of, thread_machine}
+use Rattle.ir_thread.specs.Machine.{act_of}
+use Rattle.ir_thread.specs.State as thread
+use Rattle.ir_thread.specs.declared.ask.Ask.{Ask}
+use Rattle.ir_thread.specs.declared.ask.Ask.TheVariants.{Private, Env, Enter, Leave, Get, Put, Print, End, Done}
+use Rattle.ir_thread.proofs.Alone.{alone}
+use Rattle.ir_flat.specs.Splice.{MayReply, MayRun, alone_after, replies_to, AloneIsLone}
+
+suits : (code : List ℕ) (q : Ask) (v : ℕ) → MayReply (thread_machine code) (act_of (shared_ask q) v) v → Suits q (reply_of q v)
+suits code Private v may = refl
+suits code (Env kind) v may = tt
+suits code (Enter object access) v may = refl
+suits code (Leave object access) v may = refl
+suits code (Get object index) v may = tt
+suits code (Put object index value) v may = refl
+suits code Print v may = refl
+suits code (End e) v may = refl
+suits code Done v may = absurd may
+
+all_suit : (code : List ℕ) (x : thread.State) (vs : List ℕ) → MayRun (thread_machine code) x vs → AllSuit code x (replies_to code x vs)
+all_suit code x [] may = tt
+all_suit code x (v ∷ vs) may = (suits code (ask_of code x) v may.0, all_suit code ((thread_machine code).take x v) vs may.1)
+
+same_end : (code : List ℕ) (x : thread.State) (vs : List ℕ) → after_replies code x (replies_to code x vs) ≡ alone_after (thread_machine code) x vs
+same_end code x [] = refl
+same_end code x (v ∷ vs) = same_end code ((thread_machine code).take x v) vs
+
+pub is_lone : AloneIsLone
+is_lone code x vs may = alone code x (replies_to code x vs) (all_suit code x vs may) ∙ ap (λ z. Some (record { thread = z; values = [] })) (same_end code x vs)

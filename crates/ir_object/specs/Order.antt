@@ -1,0 +1,95 @@
+-- Object steps of several threads in one order.
+use Rattle.std.specs.Prelude.{◌≡◌, ◌≢◌, ℕ, ◌^◌, ◌<◌, Bool, true, false, eqb, List, [], ◌∷◌, Option, Some, None}
+use Rattle.ir_thread.specs.Machine.{Act, Silent, Result, Entry, Refusal, Exit, Load, Store, Never, Machine, upd}
+use Rattle.ir_thread.specs.Marks.{Mark}
+use Rattle.ir_thread.specs.declared.ask.Access.{Access}
+use Rattle.ir_thread.specs.declared.ask.Access.TheVariants.{Writing}
+use Rattle.ir_object.specs.Object.{Object, target, Admits, acted, reply, told}
+
+-- whether the act is about an object
+abbrev pub is_shared : Act → Bool
+is_shared Silent = false
+is_shared (Result k v) = false
+is_shared (Entry o a v) = true
+is_shared (Refusal o) = false
+is_shared (Exit o a) = true
+is_shared (Load o i) = true
+is_shared (Store o i w) = true
+is_shared Never = false
+
+-- an object step: what is done, and the answer
+abbrev pub Shared : Type 0
+Shared = Act × ℕ
+
+-- xs, with x before it if b
+abbrev pub keep_if : {A : Type 0} → Bool → A → List A → List A
+keep_if true x xs = x ∷ xs
+keep_if false x xs = xs
+
+-- what thread t has in an order of all
+abbrev pub of_thread : {A : Type 0} → ℕ → List (ℕ × A) → List A
+of_thread t [] = []
+of_thread t (x ∷ xs) = keep_if (eqb t x.0) x.1 (of_thread t xs)
+
+-- the objects after an object step
+abbrev pub objects_then : (ℕ → Object) → ℕ × Shared → ℕ → Object
+objects_then f x = upd f (target x.1.0) (acted x.1.0 x.0 (f (target x.1.0)))
+
+-- the objects after object steps in this order
+abbrev pub objects_after : (ℕ → Object) → List (ℕ × Shared) → ℕ → Object
+objects_after f [] = f
+objects_after f (x ∷ xs) = objects_after (objects_then f x) xs
+
+-- each object step is allowed after those before it, and answers what it says
+abbrev pub IsAllowed : {T : Type 0} → Machine T → (ℕ → Object) → List (ℕ × Shared) → Type 0
+IsAllowed m f [] = Unit {0}
+IsAllowed m f (x ∷ xs) = Admits m x.1.0 (f (target x.1.0)) × (reply x.1.0 (f (target x.1.0)) ≡ x.1.1) × IsAllowed m (objects_then f x) xs
+
+-- what each object step of the order tells
+abbrev pub order_marks : (ℕ → Object) → List (ℕ × Shared) → List (ℕ × Mark)
+order_marks f [] = []
+order_marks f (x ∷ xs) = (x.0, told x.1.0 (f (target x.1.0))) ∷ order_marks (objects_then f x) xs
+
+-- how a thread is inside the object that it does this to
+abbrev pub Uses : Act → Option Access → Type 0
+Uses Silent i = ⊥
+Uses (Result k v) i = ⊥
+Uses (Entry o a v) i = i ≡ None
+Uses (Refusal o) i = ⊥
+Uses (Exit o a) i = i ≡ Some a
+Uses (Load o j) i = (j < 8) × (i ≢ None)
+Uses (Store o j w) i = (j < 8) × (w < 2 ^ 32) × (i ≡ Some Writing)
+Uses Never i = ⊥
+
+-- the object step is one of n threads' and of so many objects', its thread is inside as it has to be, it is admitted, and this is its answer
+pub record IsStep {T : Type 0} (m : Machine T) (n count : ℕ) (f : ℕ → Object) (x : ℕ × Shared) : Type 0 where
+  pub thread : x.0 < n
+  pub object : target x.1.0 < count
+  pub uses : Uses x.1.0 ((f (target x.1.0)).inside x.0)
+  pub admits : Admits m x.1.0 (f (target x.1.0))
+  pub answers : reply x.1.0 (f (target x.1.0)) ≡ x.1.1
+
+-- each object step is one after those before it
+abbrev pub IsLegal : {T : Type 0} → Machine T → ℕ → ℕ → (ℕ → Object) → List (ℕ × Shared) → Type 0
+IsLegal m n count f [] = Unit {0}
+IsLegal m n count f (x ∷ xs) = IsStep m n count f x × IsLegal m n count (objects_then f x) xs
+
+-- how a thread is inside an object after an act about it
+abbrev pub inside_then : Act → Option Access → Option Access
+inside_then Silent i = i
+inside_then (Result k v) i = i
+inside_then (Entry o a v) i = Some a
+inside_then (Refusal o) i = i
+inside_then (Exit o a) i = None
+inside_then (Load o j) i = i
+inside_then (Store o j w) i = i
+inside_then Never i = i
+
+abbrev pub inside_if : Bool → Act → Option Access → Option Access
+inside_if true q i = inside_then q i
+inside_if false q i = i
+
+-- how it is inside object o after these object steps of its own
+abbrev pub inside_after : ℕ → Option Access → List Shared → Option Access
+inside_after o i [] = i
+inside_after o i (x ∷ xs) = inside_after o (inside_if (eqb o (target x.0)) x.0 i) xs

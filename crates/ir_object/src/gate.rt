@@ -1,0 +1,26 @@
+//! What running threads tell of their entries, leaves and steps.
+
+use ir_thread::Access;
+
+/// Is told of entries and leaves by those who run threads: of an entry just after it, of a leave just before it.
+pub trait Gate {
+    /// The thread has just entered the object.
+    fn entered(&self, thread: u8, object: u8, access: Access);
+
+    /// The thread is about to leave the object.
+    fn leaving(&self, thread: u8, object: u8, access: Access);
+
+    /// The thread has taken so many private steps more. A recording tells it before each other step, and now and then where
+    /// there is none.
+    fn stepped(&self, _thread: u8, _steps: u64) {}
+}
+
+/// Does nothing.
+#[derive(Clone, Copy, Debug)]
+pub struct OpenGate;
+
+impl Gate for OpenGate {
+    fn entered(&self, _thread: u8, _object: u8, _access: Access) {}
+
+    fn leaving(&self, _thread: u8, _object: u8, _access: Access) {}
+}

@@ -1,0 +1,14 @@
+//! Where the objects of a guest stand in a table of 64-bit words that threads share: the word of object `o` at
+//! `WORD_PLACE + APART * o`, and word `i` of its contents at `CONTENT_PLACE + APART * o + i`.
+//!
+//! Place 0 is for joins. An object's word stands alone in a cache line of eight words, and its contents begin in the next, so
+//! that threads at different objects don't wait for each other's lines. There is room for sixteen words of contents.
+
+/// The place of object 0's word.
+pub const WORD_PLACE: usize = 8;
+
+/// The place of the first word of object 0's contents.
+pub const CONTENT_PLACE: usize = 16;
+
+/// The places from one object's to the next one's.
+pub const APART: usize = 24;

@@ -1,0 +1,204 @@
+-- One run made of what the workers did.
+use Rattle.std.proofs.Common.{◌≡◌, ℕ, zero, suc, ◌+◌, ◌*◌, ◌<◌, ◌≤◌, false, List, [], ◌∷◌, ◌++◌, map, length, get_or, take, drop, refl, sym, ap, ◌∙◌, subst, arith, inl, inr}
+use Rattle.std.proofs.Math.Path.{fun_ext}
+use Rattle.std.proofs.lemmas.Bool.{cases_lt}
+use Rattle.std.proofs.lemmas.List.{length-map, get_or_past}
+use Rattle.std.proofs.lemmas.Option.{slice_get-get_or, slice_get-map}
+use Rattle.std.specs.List.{slice_get}
+use Rattle.std.specs.Prelude.{option_map}
+use Rattle.ir_image.specs.Guest.{Guest, IsGuest, object_count, object_words}
+use Rattle.ir_thread.specs.Calls.{ask_of}
+use Rattle.ir_thread.specs.Instance.{shared_ask, thread_machine}
+use Rattle.ir_thread.specs.Machine as machine
+use Rattle.ir_thread.specs.Machine.{Machine}
+use Rattle.ir_thread.specs.State as thread
+use Rattle.ir_thread.specs.declared.ask.Ask.TheVariants as ask
+use Rattle.ir_object.specs.Cell.{Cell}
+use Rattle.ir_object.specs.Order.{Shared, of_thread, order_marks, IsAllowed}
+use Rattle.ir_object.proofs.Order.{allowed, none_beyond}
+use Rattle.ir_crew.specs.Ends.{AreTracks, IsEnd}
+use Rattle.ir_crew.specs.Plays.{M}
+use Rattle.ir_crew.specs.Rule.{View, IsTrack, start_objects}
+use Rattle.ir_flat.specs.Flat.{Flat, thread_of, cell_of, tables, idle, empty, start_flat, start_threads, start_cells}
+use Rattle.ir_flat.specs.Run.{State, Step, events, log}
+use Rattle.ir_flat.specs.Splice.{MayRun, alone_after, shared_steps, alone_trail, splice}
+use Rattle.ir_flat.proofs.Fresh.{start_none}
+use Rattle.ir_flat.proofs.Runs.{start_idle}
+use Rattle.ir_flat.proofs.Splice.{spliced}
+use Rattle.ir_log.specs.Logged.{Logged}
+use Rattle.ir_log.specs.Logging as logging
+use Rattle.ir_trace.specs.Recorded.{Recorded}
+use Rattle.ir_trace.specs.Told.{absent}
+use Rattle.ir_record.specs.Gathered.{IsThreadTrace}
+use Rattle.ir_record.specs.Progress.{no_log, answers_at}
+use Rattle.ir_record.specs.Recording.{IsRecordingOfSome}
+use Rattle.ir_record.specs.Working.{Work, IsWorking}
+use Rattle.ir_record.specs.Worlds.{Answered, answers_in}
+use Rattle.ir_record.proofs.Telling.{StandAtEnd, told_there, printed_there, answered_there}
+
+-- ---- the start
+
+thread_at : (g : Guest) (budget from n t : ℕ) → t < n → get_or (start_threads g budget from n) t idle ≡ thread.start_state g (from + t) budget
+thread_at g budget from zero t l = absurd (omega arith)
+thread_at g budget from (suc n) zero l = ap (λ z. thread.start_state g z budget) (let e : from ≡ from + 0 = omega arith in e)
+thread_at g budget from (suc n) (suc t) l = thread_at g budget (suc from) n t (omega (arith, l)) ∙ ap (λ z. thread.start_state g z budget) (let e : suc from + t ≡ from + suc t = omega arith in e)
+
+drop_nil : (k : ℕ) → drop {A = ℕ} k [] ≡ []
+drop_nil zero = refl
+drop_nil (suc k) = refl
+
+drop_twice : (a b : ℕ) (ws : List ℕ) → drop b (drop a ws) ≡ drop (a + b) ws
+drop_twice zero b ws = ap (λ k. drop k ws) (let e : b ≡ 0 + b = omega arith in e)
+drop_twice (suc a) b [] = drop_nil b ∙ sym (drop_nil (suc a + b))
+drop_twice (suc a) b (w ∷ ws) = drop_twice a b ws ∙ ap (λ k. drop k (w ∷ ws)) (let e : suc (a + b) ≡ suc a + b = omega arith in e)
+
+drop_all : (k : ℕ) (ws : List ℕ) → length ws ≤ k → drop k ws ≡ []
+drop_all zero [] l = refl
+drop_all zero (w ∷ ws) l = absurd (omega (arith, l))
+drop_all (suc k) [] l = refl
+drop_all (suc k) (w ∷ ws) l = drop_all k ws (omega (arith, l))
+
+words_at : (ws : List ℕ) (n o : ℕ) → o < n → (get_or (start_cells ws n) o empty).words ≡ take 8 (drop (8 * o) ws)
+words_at ws zero o l = absurd (omega arith)
+words_at ws (suc n) zero l = refl
+words_at ws (suc n) (suc o) l = words_at (drop 8 ws) n o (omega (arith, l)) ∙ ap (take 8) (drop_twice 8 (8 * o) ws ∙ ap (λ k. drop k ws) (let e : 8 + 8 * o ≡ 8 * suc o = omega arith in e))
+
+fields_none : (ws : List ℕ) (n o : ℕ) → (get_or (start_cells ws n) o empty).fields ≡ record { version = 0; left = 0; inside = 0; writer = false }
+fields_none ws zero o = refl
+fields_none ws (suc n) zero = refl
+fields_none ws (suc n) (suc o) = fields_none (drop 8 ws) n o
+
+cells_count : (ws : List ℕ) (n : ℕ) → length (start_cells ws n) ≡ n
+cells_count ws zero = refl
+cells_count ws (suc n) = let e = cells_count (drop 8 ws) n in omega (arith, e)
+
+objects_same : (g : Guest) (budget : ℕ) → IsGuest g → (tables (start_flat g budget)).objects ≡ start_objects g
+objects_same g budget guest = fun_ext (λ o. let c = cell_of (start_flat g budget) o in λ i. record {
+  version = ap (λ f. f.version) (fields_none g.words (object_count g) o) i;
+  left = ap (λ f. f.left) (fields_none g.words (object_count g) o) i;
+  inside = fun_ext (λ t. start_none g budget o t) i;
+  words = ap (λ ws. get_or-words ws) (contents o) i;
+})
+  where
+    get_or-words : List ℕ → ℕ → ℕ
+    get_or-words ws j = get_or ws j 0
+
+    contents : (o : ℕ) → (cell_of (start_flat g budget) o).words ≡ take object_words (drop (object_words * o) g.words)
+    contents o = elim (cases_lt o (object_count g)) [
+      | inl l ↦ words_at g.words (object_count g) o l
+      | inr past ↦ ap (λ c. c.words) (get_or_past (start_cells g.words (object_count g)) o empty (let n = cells_count g.words (object_count g) in omega (arith, n, past)))
+          ∙ sym (ap (take object_words) (drop_all (object_words * o) g.words (let whole = guest.whole_objects in omega (arith, whole, past))))
+    ]
+
+-- ---- the workers at the end
+
+abbrev pub no_work : Work
+no_work = record { me = ([], []); thread = idle; log = no_log; answers = [] }
+
+abbrev pub work_at : List Work → ℕ → Work
+work_at ws t = get_or ws t no_work
+
+-- the tracks of all
+abbrev pub tracks_of : List Work → View
+tracks_of [] = []
+tracks_of (w ∷ ws) = w.me.0 ++ tracks_of ws
+
+tracks_left : (g : Guest) (es : List (ℕ × Shared)) (v w : View) → AreTracks g es (v ++ w) → AreTracks g es v
+tracks_left g es [] w h = tt
+tracks_left g es (k ∷ v) w h = (h.0, tracks_left g es v w h.1)
+
+tracks_right : (g : Guest) (es : List (ℕ × Shared)) (v w : View) → AreTracks g es (v ++ w) → AreTracks g es w
+tracks_right g es [] w h = h
+tracks_right g es (k ∷ v) w h = tracks_right g es v w h.1
+
+tracks_at : (g : Guest) (es : List (ℕ × Shared)) (ws : List Work) (t : ℕ) → t < length ws → AreTracks g es (tracks_of ws) → AreTracks g es (work_at ws t).me.0
+tracks_at g es [] t l h = absurd (omega arith)
+tracks_at g es (w ∷ ws) zero l h = tracks_left g es w.me.0 (tracks_of ws) h
+tracks_at g es (w ∷ ws) (suc t) l h = tracks_at g es ws t (omega (arith, l)) (tracks_right g es w.me.0 (tracks_of ws) h)
+
+-- what the workers of all threads have done
+pub record AllOver (g : Guest) (budget : ℕ) (before : List (List Answered)) (ws : List Work) : Type 0 where
+  pub guest : IsGuest g
+  pub size : length ws ≡ length g.entries
+  pub working : (t : ℕ) → t < length g.entries → IsWorking g budget t (answers_at before t) (work_at ws t)
+  pub done : (t : ℕ) → t < length g.entries → ask_of g.code (work_at ws t).thread ≡ ask.Done
+
+-- the part of thread t in an order of all object steps
+record Part (g : Guest) (budget : ℕ) (ws : List Work) (es : List (ℕ × Shared)) (t : ℕ) : Type 0 where
+  replies : List ℕ
+  may : MayRun (thread_machine g.code) (thread_of (start_flat g budget) t) replies
+  steps_are : shared_steps (thread_machine g.code) (thread_of (start_flat g budget) t) replies ≡ of_thread t es
+  none : length g.entries ≤ t → replies ≡ []
+  done : shared_ask (ask_of g.code (alone_after (thread_machine g.code) (thread_of (start_flat g budget) t) replies)) ≡ machine.Done
+  threads_are : t < length g.entries → alone_after (thread_machine g.code) (thread_of (start_flat g budget) t) replies ≡ (work_at ws t).thread
+  logged : t < length g.entries → events (alone_trail (thread_machine g.code) (thread_of (start_flat g budget) t) replies (of_thread t (order_marks (start_objects g) es))) ≡ map logging.mark_of (work_at ws t).log.events
+
+part : (g : Guest) (budget : ℕ) (before : List (List Answered)) (ws : List Work) (v : View) (objects : List Cell) → AllOver g budget before ws → (e : IsEnd g v objects) → v ≡ tracks_of ws → (t : ℕ) → Part g budget ws e.steps t
+part g budget before ws v objects over e view t = elim (cases_lt t (length g.entries)) [
+  | inl l ↦
+      let i = over.working t l in
+      let x0 : thread_of (start_flat g budget) t ≡ thread.start_state g t budget = thread_at g budget 0 (length g.entries) t l ∙ ap (λ z. thread.start_state g z budget) (let z : 0 + t ≡ t = omega arith in z) in
+      let track : IsTrack (length g.entries) (start_objects g) e.steps (record { thread = t; steps = i.track }) =
+      (subst (AreTracks g e.steps) (ap (λ (z : M). z.0) i.view) (tracks_at g e.steps ws t (let n = over.size in omega (arith, n, l)) (subst (AreTracks g e.steps) view e.tracks))).0 in
+      let m = thread_machine g.code in
+      let w = i.worked in
+      record {
+        replies = w.replies;
+        may = subst (λ x. MayRun m x w.replies) (sym x0) w.may;
+        steps_are = ap (λ x. shared_steps m x w.replies) x0 ∙ w.steps_are ∙ sym track.steps_are;
+        none = λ past. absurd (omega (arith, past, l));
+        done = ap (λ x. shared_ask (ask_of g.code (alone_after m x w.replies))) x0 ∙ ap (λ x. shared_ask (ask_of g.code x)) w.now ∙ ap shared_ask (over.done t l);
+        threads_are = λ _. ap (λ x. alone_after m x w.replies) x0 ∙ w.now;
+        logged = λ _. ap (λ x. events (alone_trail m x w.replies (of_thread t (order_marks (start_objects g) e.steps)))) x0 ∙ ap (λ z. events (alone_trail m (thread.start_state g t budget) w.replies z)) track.marks_are ∙ w.logged;
+      }
+  | inr past ↦ record {
+    replies = [];
+    may = tt;
+    steps_are = sym (none_beyond (thread_machine g.code) (length g.entries) (object_count g) (start_objects g) e.steps e.legal t past);
+    none = λ _. refl;
+    done = start_idle g budget t past;
+    threads_are = λ l. absurd (omega (arith, past, l));
+    logged = λ l. absurd (omega (arith, past, l));
+  }
+]
+
+-- ---- the run
+
+pub recorded_of : (g : Guest) (budget : ℕ) (before : List (List Answered)) (ws : List Work) (v : View) (objects : List Cell) → AllOver g budget before ws → (e : IsEnd g v objects) → v ≡ tracks_of ws
+    → (trace : Recorded) → trace.objects ≡ object_count g → trace.budget ≡ budget → length trace.threads ≡ length g.entries → ((t : ℕ) → t < length g.entries → IsThreadTrace (work_at ws t).thread (work_at ws t).log (get_or trace.threads t absent))
+    → (outputs : List (List ℕ)) → outputs ≡ map (λ w. w.thread.output) ws → (answers : List (List Answered)) → answers ≡ map (λ w. w.answers) ws → IsRecordingOfSome g budget before trace outputs answers
+recorded_of g budget before ws v objects over e view trace counted limit all traces outputs printed answers given =
+    let m : Machine thread.State = thread_machine g.code in
+    let f : Flat = start_flat g budget in
+    let s : State thread.State = tables f in
+    let p : (t : ℕ) → Part g budget ws e.steps t = part g budget before ws v objects over e view in
+    let rs : ℕ → List ℕ = λ t. (p t).replies in
+    let same : s.objects ≡ start_objects g = objects_same g budget over.guest in
+    let run : List Step = splice m s.now rs (length g.entries) e.steps in
+    let k = spliced m s.now s.objects rs (length g.entries) e.steps (λ t l. (p t).none l) (λ t. (p t).may) (λ t. (p t).steps_are)
+    (subst (λ z. IsAllowed m z e.steps) (sym same) (allowed m (length g.entries) (object_count g) (start_objects g) e.steps e.legal)) in
+    let now : ℕ → thread.State = λ t. (work_at ws t).thread in
+    let logs : ℕ → Logged = λ t. (work_at ws t).log in
+    let told : ℕ → List Answered = λ t. (work_at ws t).answers in
+    let own_log : (t : ℕ) → t < length g.entries → map logging.mark_of (logs t).events ≡ log m s run t = λ t l.
+    sym (ap events (k.trails t) ∙ ap (λ z. events (alone_trail m (s.now t) (rs t) (of_thread t (order_marks z e.steps)))) same ∙ (p t).logged l) in
+    let stand : StandAtEnd g budget run before now logs told = record {
+      runs = k.ok;
+      threads = λ t l. sym (k.threads t ∙ (p t).threads_are l);
+      logged = own_log;
+      answered = λ t l. (over.working t l).answered ∙ ap (λ z. answers_at before t ++ answers_in z) (own_log t l);
+    } in
+    let size = over.size in
+    record {
+      run = run;
+      complete = (k.ok, λ t. ap (λ x. shared_ask (ask_of g.code x)) (k.threads t) ∙ (p t).done);
+      of = record {
+        told = told_there g budget run before now logs told stand trace counted limit all traces;
+        printed = printed_there g budget run before now logs told stand outputs
+            (ap (λ z. length z) printed ∙ length-map ws (λ w. w.thread.output) ∙ size)
+            (λ t l. ap (λ z. slice_get z t) printed ∙ slice_get-map (λ w. w.thread.output) ws t ∙ ap (option_map (λ w. w.thread.output)) (slice_get-get_or ws t no_work (omega (arith, l, size))));
+        answered = answered_there g budget run before now logs told stand answers
+            (ap (λ z. length z) given ∙ length-map ws (λ w. w.answers) ∙ size)
+            (λ t l. ap (λ z. slice_get z t) given ∙ slice_get-map (λ w. w.answers) ws t ∙ ap (option_map (λ w. w.answers)) (slice_get-get_or ws t no_work (omega (arith, l, size))));
+      };
+    }

@@ -1,0 +1,20 @@
+use Rattle.std.proofs.Common.{◌-◌, ℕ, ◌∙◌, arith}
+use Rattle.ir_crew.specs.declared.deed.Deed.TheVariants.{Leave}
+use Rattle.ir_record.proofs.WorkerSteps.{did_alone, did_elsewhere}
+use Rattle.ir_record.proofs.worker.Worker.give_back.Goals as goal
+
+pub loop-below-preserved-in-Some : goal.loop-below-preserved-in-Some
+loop-below-preserved-in-Some g c =
+    let i = c.loop-below.invariant in
+    let o : ℕ = c.loop-below.below - 1 in
+    let t = c.loop-below-test.true in
+    let e = c.leave.ensures.left in
+    let l = i.low in
+    record {
+      table = c.leave.ensures.seat.0 ∙ i.table;
+      world = i.world;
+      thread = i.thread;
+      alone = did_alone c.loop-below.self.seat.me c.leave.new.seat.me o (Leave c.in-Some.access e.0) e.1 i.alone;
+      low = omega (arith, t, l);
+      inside = λ p k. did_elsewhere c.loop-below.self.seat.me c.leave.new.seat.me o p (Leave c.in-Some.access e.0) e.1 i.alone (λ q. omega (arith, q, k, t)) ∙ i.inside p (omega (arith, k, t));
+    }

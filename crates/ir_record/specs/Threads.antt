@@ -1,0 +1,73 @@
+-- The workers of a recording by threads.
+use Rattle.std.specs.Prelude.{◌≡◌, ◌≢◌, ℕ, suc, ◌≤◌, List, [], ◌∷◌, ◌++◌, length, vec_capacity, None, ⊤}
+use Rattle.std.specs.Global.{Vec}
+use Rattle.std.specs.List.{AllByRecursion}
+use Rattle.atomic_table.specs.Seated.{TableId}
+use Rattle.atomic_table.specs.declared.shared.Seat.{Seat}
+use Rattle.ir_image.specs.Guest.{Guest}
+use Rattle.ir_thread.specs.Calls.{most_events, most_output}
+use Rattle.ir_thread.specs.State as thread
+use Rattle.ir_crew.specs.Rule.{View}
+use Rattle.ir_trace.specs.Recorded.{RecordedThread, IsEvent}
+use Rattle.ir_record.specs.Gathered.{IsThreadTrace}
+use Rattle.ir_record.specs.declared.room.Room.{Room}
+use Rattle.ir_record.specs.declared.worker.Worker.{Worker}
+
+-- the worker of thread t before its first step
+pub record IsNew {W : Type 0} (g : Guest) (budget : ℕ) (id : TableId) (t : ℕ) (w : Worker W) : Type 0 where
+  pub table : w.seat.table_id ≡ id
+  pub me : w.seat.me ≡ (record { thread = t; steps = [] } ∷ [], [])
+  pub thread : w.thread ≡ thread.start_state g t budget
+  pub log : w.log ≡ record { events = []; room = most_events }
+
+-- the workers of the threads from t on
+abbrev pub AreNew : {W : Type 0} → Guest → ℕ → TableId → ℕ → List (Worker W) → Type 0
+AreNew g budget id t [] = ⊤
+AreNew g budget id t (w ∷ ws) = IsNew g budget id t w × AreNew g budget id (suc t) ws
+
+-- a worker whose thread is done, of a guest with so many objects
+pub record IsOver {W : Type 0} (objects : ℕ) (w : Worker W) : Type 0 where
+  pub ended : w.thread.ended ≢ None
+  pub events_fit : AllByRecursion (IsEvent objects) w.log.events
+
+-- what was recorded of each worker's thread
+abbrev pub AreTraces : {W : Type 0} → List (Worker W) → List RecordedThread → Type 0
+AreTraces [] [] = ⊤
+AreTraces [] (r ∷ rs) = ⊥
+AreTraces (w ∷ ws) [] = ⊥
+AreTraces (w ∷ ws) (r ∷ rs) = IsThreadTrace w.thread w.log r × AreTraces ws rs
+
+-- an empty list with room for so many
+pub record IsEmptyFor {A : Type 0} (n : ℕ) (v : Vec A) : Type 0 where
+  pub empty : v.items ≡ []
+  pub room : n ≤ vec_capacity v
+
+-- so many, each with room for all that a thread may print
+pub record AreRooms (n : ℕ) (vs : List (Vec ℕ)) : Type 0 where
+  pub count : length vs ≡ n
+  pub each : AllByRecursion (IsEmptyFor most_output) vs
+
+-- room for what so many workers hand back
+pub record HasRoom {W : Type 0} (n : ℕ) (r : Room W) : Type 0 where
+  pub seats : IsEmptyFor n r.seats
+  pub traces : IsEmptyFor n r.traces
+  pub outputs : IsEmptyFor n r.outputs
+  pub bytes : AreRooms n r.bytes.items
+  pub worlds : IsEmptyFor n r.worlds
+
+-- a seat of this table that holds nothing else
+pub record IsSeatOf (id : TableId) (s : Seat (Unit {0}) View) : Type 0 where
+  pub table : s.table_id ≡ id
+  pub empty : s.me.1 ≡ []
+
+-- the tracks of all seats
+abbrev pub views_of : List (Seat (Unit {0}) View) → View
+views_of [] = []
+views_of (s ∷ ss) = s.me.0 ++ views_of ss
+
+-- the lists are as long, and each element is so to the one in its place
+abbrev pub Pairs : {A : Type 0} → (A → A → Type 0) → List A → List A → Type 0
+Pairs P [] [] = ⊤
+Pairs P [] (y ∷ ys) = ⊥
+Pairs P (x ∷ xs) [] = ⊥
+Pairs P (x ∷ xs) (y ∷ ys) = P x y × Pairs P xs ys

@@ -1,0 +1,131 @@
+-- A worker of a recording by threads: one thread of the guest, alone but for the table of the objects.
+use Rattle.std.specs.Prelude.{◌≡◌, ℕ, ◌≤◌, List, [], ◌∷◌, ◌++◌, length, map, All, Bool, true, false}
+use Rattle.std.specs.List.{AllByRecursion}
+use Rattle.atomic_table.specs.Seated.{TableId}
+use Rattle.ir_image.specs.Guest.{Guest, object_count}
+use Rattle.ir_thread.specs.Calls.{ask_of, most_events}
+use Rattle.ir_thread.specs.Held.{held_at}
+use Rattle.ir_thread.specs.Instance.{thread_machine}
+use Rattle.ir_thread.specs.Machine.{Machine}
+use Rattle.ir_thread.specs.Marks.{Mark}
+use Rattle.ir_thread.specs.State as thread
+use Rattle.ir_thread.specs.declared.ask.Ask.{Ask}
+use Rattle.ir_thread.specs.declared.ask.Ask.TheVariants as ask
+use Rattle.ir_object.specs.Order.{Shared}
+use Rattle.ir_crew.specs.Plays.{M, IsAlone, history, inside_by}
+use Rattle.ir_crew.specs.Rule as rule
+use Rattle.ir_crew.specs.Rule.{shared_of, entries}
+use Rattle.ir_crew.specs.declared.deed.ObjectStep.{ObjectStep}
+use Rattle.ir_crew.specs.declared.table.Crew.{Crew}
+use Rattle.ir_flat.specs.Run.{events}
+use Rattle.ir_flat.specs.Splice.{MayRun, alone_after, shared_steps, alone_trail}
+use Rattle.ir_log.specs.Logged.{Logged}
+use Rattle.ir_log.specs.Logging.{mark_of}
+use Rattle.ir_trace.specs.Recorded.{IsEvent}
+use Rattle.ir_record.specs.Worlds.{Answered, answers_in}
+use Rattle.ir_record.specs.declared.worker.Worker.{Worker}
+
+-- x alone, after some replies, is y; these are its object steps with what they told, and this is logged of its steps
+pub record Worked {T : Type 0} (m : Machine T) (x y : T) (steps : List Shared) (marks log : List Mark) : Type 0 where
+  pub replies : List ℕ
+  pub may : MayRun m x replies
+  pub now : alone_after m x replies ≡ y
+  pub steps_are : shared_steps m x replies ≡ steps
+  pub logged : events (alone_trail m x replies marks) ≡ log
+
+-- a worker apart from where it lies: its seat's view, its thread, its log, and what its world has answered
+pub record Work : Type 0 where
+  pub me : M
+  pub thread : thread.State
+  pub log : Logged
+  pub answers : List Answered
+
+abbrev pub work_of : {W : Type 0} → (W → List Answered) → Worker W → Work
+work_of answers w = record { me = w.seat.me; thread = w.thread; log = w.log; answers = answers w.world }
+
+-- the worker of thread t, whose world had answered so when it began
+pub record IsWorking (g : Guest) (budget t : ℕ) (before : List Answered) (w : Work) : Type 0 where
+  -- the object steps of the thread
+  pub track : List ObjectStep
+  pub view : w.me ≡ (record { thread = t; steps = track } ∷ [], [])
+  -- its thread has taken its own steps from the start; these are its object steps, and its log
+  pub worked : Worked (thread_machine g.code) (thread.start_state g t budget) w.thread (map shared_of track) (map rule.mark_of track) (map mark_of w.log.events)
+  -- it is inside what it holds
+  pub held : (o : ℕ) → inside_by o track ≡ held_at w.thread.held o
+  pub places : length w.thread.held ≡ object_count g
+  pub few : entries (map shared_of track) ≤ w.thread.events
+  pub room : w.log.room ≡ most_events
+  pub count : length w.log.events ≡ w.thread.events
+  pub events_fit : AllByRecursion (IsEvent (object_count g)) w.log.events
+  pub answered : w.answers ≡ before ++ answers_in (map mark_of w.log.events)
+
+-- the worker of some thread
+abbrev pub IsWorker : Guest → Work → Type 0
+IsWorker g w = (budget : ℕ) × (t : ℕ) × (before : List Answered) × IsWorking g budget t before w
+
+-- whichever thread's worker v is, w is that thread's
+abbrev pub StillWorks : Guest → Work → Work → Type 0
+StillWorks g v w = (budget t : ℕ) (before : List Answered) → IsWorking g budget t before v → IsWorking g budget t before w
+
+-- the step is nobody else's, and nothing is logged of it
+abbrev pub IsOwn : Ask → Type 0
+IsOwn ask.Private = Unit {0}
+IsOwn (ask.Env kind) = ⊥
+IsOwn (ask.Enter object access) = ⊥
+IsOwn (ask.Leave object access) = ⊥
+IsOwn (ask.Get object index) = ⊥
+IsOwn (ask.Put object index value) = ⊥
+IsOwn ask.Print = Unit {0}
+IsOwn (ask.End e) = Unit {0}
+IsOwn ask.Done = ⊥
+
+-- the seat's one thread is inside what this thread holds
+pub record IsInside (g : Guest) (me : M) (x : thread.State) : Type 0 where
+  pub alone : IsAlone me.0
+  pub places : length x.held ≡ object_count g
+  pub inside : (o : ℕ) → inside_by o (history me.0) ≡ held_at x.held o
+
+-- the worker of a thread of this guest, whose code this is, with a seat at this table
+pub record IsSeated {W : Type 0} (answers : W → List Answered) (g : Guest) (id : TableId) (code : List ℕ) (w : Worker W) : Type 0 where
+  pub seat : w.seat.table_id ≡ id
+  pub same_code : code ≡ g.code
+  pub worker : IsWorker g (work_of answers w)
+
+-- the same of the guest and the table that the objects are at
+abbrev pub IsAtWork : {W : Type 0} → (W → List Answered) → Crew → List ℕ → Worker W → Type 0
+IsAtWork answers crew code w = IsSeated answers crew.table.shared.key crew.table.shared.table_id code w
+
+-- it keeps its seat, and is still the worker of its thread
+pub record Stays {W : Type 0} (answers : W → List Answered) (g : Guest) (v w : Worker W) : Type 0 where
+  pub seat : w.seat.table_id ≡ v.seat.table_id
+  pub still : StillWorks g (work_of answers v) (work_of answers w)
+
+-- the same of the guest at the table
+abbrev pub StaysAtWork : {W : Type 0} → (W → List Answered) → Crew → Worker W → Worker W → Type 0
+StaysAtWork answers crew v w = Stays answers crew.table.shared.key v w
+
+-- the world has been asked, if at all, and is the one that it was
+pub record IsSameWorld {W O : Type 0} (answers : W → List Answered) (origin : W → O) (v w : W) : Type 0 where
+  pub more : (added : List Answered) × (answers w ≡ answers v ++ added)
+  pub same_origin : origin w ≡ origin v
+
+-- its world failed, and its thread took no step
+pub record IsStopped {W : Type 0} (broken : W → Bool) (v w : Worker W) : Type 0 where
+  pub failed : broken w.world ≡ true
+  pub seat : w.seat ≡ v.seat
+  pub thread : w.thread ≡ v.thread
+
+-- a worker whose world has not failed, before it runs
+pub record IsReadyWorker {W : Type 0} (answers : W → List Answered) (broken : W → Bool) (g : Guest) (id : TableId) (code : List ℕ) (w : Worker W) : Type 0 where
+  pub seated : IsSeated answers g id code w
+  pub works : broken w.world ≡ false
+
+-- each of these workers may run at the table
+abbrev pub AreReady : {W : Type 0} → (W → List Answered) → (W → Bool) → Crew → List ℕ → List (Worker W) → Type 0
+AreReady answers broken crew code ws = All (IsReadyWorker answers broken crew.table.shared.key crew.table.shared.table_id code) ws
+
+-- a worker that ran until its thread was done, unless its world has failed
+pub record RanToEnd {W O : Type 0} (answers : W → List Answered) (broken : W → Bool) (origin : W → O) (g : Guest) (v w : Worker W) : Type 0 where
+  pub stays : broken w.world ≡ false → Stays answers g v w
+  pub done : broken w.world ≡ false → ask_of g.code w.thread ≡ ask.Done
+  pub world : IsSameWorld answers origin v.world w.world

@@ -1,0 +1,81 @@
+//! Recording on real threads.
+
+ghost use Rattle.std.specs.Prelude.{◌≡◌, ◌≤◌, length, map, vec_len, IfOk, IfErr};
+ghost use Rattle.ir_record.specs.Recording.{IsRecordingOfSome, IsFailure};
+ghost use Rattle.ir_record.specs.Worlds.{NoneFailed};
+
+use crate::handing_back::{gathered, joined, room, worlds_of};
+use crate::outputs::Outputs;
+use crate::record_err::RecordErr;
+use crate::workers::{first_failed, new_workers, run_workers};
+use crate::world::World;
+use ir_crew::Crew;
+use ir_image::Image;
+use ir_object::{Gate, Object};
+use ir_trace::Trace;
+use std::alloc::{AllocError, Global};
+use std::sync::Wait;
+use std::thread::Threads;
+
+// So many objects, to be written over.
+fn blanks(alloc: Global, count: usize) -> Result<Vec<Object>, AllocError>
+    ensures { IfOk result (λ v. length v.items ≡ count) }
+{
+    let mut objects = Vec::with_capacity(alloc, count)?;
+    for _o in 0..count {
+        objects.push(Object::new([0; 8]))?;
+    }
+    Ok(objects)
+}
+
+/// Records the guest on real threads. Each of its threads runs on one of its own; where none can be started, the caller
+/// runs it, and several such one after another. The budget is in steps, for each thread of the guest. Which of the guest's
+/// runs is recorded is open.
+///
+/// The gate is told of each entry just after it, of each leave just before it, what a thread gives back at its end or after
+/// its world has failed among them, on the thread that enters or leaves, and of private steps. A gate that holds a thread up
+/// may hold up all.
+///
+/// It may wait for ever: a thread that waits for an object takes no step, so its budget doesn't end it, and a thread that
+/// the caller runs keeps those behind it waiting.
+///
+/// # Errors
+/// `RecordErr::NoMem` where memory is wanted: all is made before the first step, so none was taken. The worlds are dropped.
+/// `RecordErr::World` where a world has failed, once all threads have stopped: a thread whose world fails leaves what it
+/// holds and takes no further step, the others go on to their ends. It names the lowest of these threads and hands all
+/// worlds back.
+pub fn record<R: Threads + Wait + Sync, W: World + Drop + Send, G: Gate + Sync>(
+    rt: &R,
+    alloc: Global,
+    image: &Image,
+    worlds: Vec<W>,
+    gate: &G,
+    budget: u64,
+) -> Result<(Trace, Outputs<W>), RecordErr<W>>
+    requires budget { budget ≤ 1000000000000 }
+    requires each { vec_len worlds ≡ length image.now.entries }
+    requires works { NoneFailed (map W.broken worlds.items) }
+    // One complete run of the guest: its trace, what its threads printed, and what their worlds answered.
+    ensures recorded { IfOk result (λ r. IsRecordingOfSome image.now budget (map W.answers worlds.items) r.0 (map (λ o. o.bytes.items) r.1.each.items) (map (λ o. W.answers o.world) r.1.each.items)) }
+    ensures works { IfOk result (λ r. NoneFailed (map (λ o. W.broken o.world) r.1.each.items)) }
+    // The worlds are those that were handed in.
+    ensures origins { IfOk result (λ r. map (λ o. W.origin o.world) r.1.each.items ≡ map W.origin worlds.items) }
+    ensures failed { IfErr result (λ e. IsFailure W.answers W.broken worlds.items e) }
+{
+    let (crew, seats) = Crew::open(alloc, image)?;
+    let mut workers = new_workers(alloc, image, seats, worlds, budget)?;
+    let room = room(alloc, workers.len())?;
+    let mut objects = blanks(alloc, image.words().len() / 8)?;
+    // From here on nothing takes memory.
+    run_workers(rt, &crew, image.code(), gate, &mut workers);
+    if let Some(thread) = first_failed(workers.as_slice()) {
+        return Err(RecordErr::World {
+            thread: thread as u8,
+            worlds: worlds_of(room, workers),
+        });
+    }
+    let (seats, trace, outputs) = gathered(room, objects.len() as u8, budget, workers);
+    let seat = joined(&crew, seats);
+    crew.close(seat, objects.as_mut_slice());
+    Ok((trace, outputs))
+}

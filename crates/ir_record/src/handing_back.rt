@@ -1,0 +1,116 @@
+//! What workers that have run to their ends hand back.
+
+ghost use Rattle.std.specs.Prelude.{◌≡◌, ◌≤◌, length, map, vec_len, IfOk};
+ghost use Rattle.std.specs.List.{AllByRecursion};
+ghost use Rattle.ir_trace.specs.Recorded.{most_budget};
+ghost use Rattle.ir_record.specs.Threads.{IsEmptyFor, AreRooms, HasRoom, IsOver, AreTraces, IsSeatOf, views_of};
+
+use crate::gather::thread_trace;
+use crate::outputs::{Output, Outputs};
+use crate::room::Room;
+use crate::worker::Worker;
+use ir_crew::{Crew, CrewSeat};
+use ir_trace::Trace;
+use std::alloc::{AllocError, Global};
+
+// The most bytes that a thread prints.
+const MOST_PRINTED: usize = 65_536;
+
+// Room for what so many threads print.
+fn printed_room(alloc: Global, count: usize) -> Result<Vec<Vec<u8>>, AllocError>
+    ensures { IfOk result (λ v. AreRooms count v.items) }
+{
+    let mut rooms = Vec::with_capacity(alloc, count)?;
+    for number in 0..count {
+        rooms.push(Vec::with_capacity(alloc, MOST_PRINTED)?)?;
+    }
+    Ok(rooms)
+}
+
+// Room for what so many workers hand back.
+pub fn room<W: Drop>(alloc: Global, count: usize) -> Result<Room<W>, AllocError>
+    ensures { IfOk result (HasRoom count) }
+{
+    Ok(Room {
+        seats: Vec::with_capacity(alloc, count)?,
+        traces: Vec::with_capacity(alloc, count)?,
+        outputs: Vec::with_capacity(alloc, count)?,
+        bytes: printed_room(alloc, count)?,
+        worlds: Vec::with_capacity(alloc, count)?,
+    })
+}
+
+// The worlds of the workers.
+pub fn worlds_of<W: Drop>(room: Room<W>, workers: Vec<Worker<W>>) -> Vec<W>
+    requires { HasRoom (vec_len workers) room }
+    ensures { result.items ≡ map (λ w. w.world) workers.items }
+{
+    let mut worlds = room.worlds;
+    for worker in workers {
+        worlds.push_reserved(worker.world);
+    }
+    worlds
+}
+
+// The bytes, in a list that has room for them.
+fn filled(mut room: Vec<u8>, bytes: &[u8]) -> Vec<u8>
+    requires { IsEmptyFor (length bytes.now) room }
+    ensures { result.items ≡ bytes.now }
+{
+    room.extend_from_slice(bytes).unwrap();
+    room
+}
+
+// The seats, what was recorded of each thread, and what each printed, with its world.
+pub fn gathered<W: Drop>(
+    room: Room<W>,
+    objects: u8,
+    budget: u64,
+    workers: Vec<Worker<W>>,
+) -> (Vec<CrewSeat>, Trace, Outputs<W>)
+    requires room { HasRoom (vec_len workers) room }
+    requires over { AllByRecursion (IsOver objects) workers.items }
+    requires some { 1 ≤ vec_len workers }
+    requires few { vec_len workers ≤ 8 }
+    requires objects { objects ≤ 16 }
+    requires budget { budget ≤ most_budget }
+    ensures seats { result.0.items ≡ map (λ w. w.seat) workers.items }
+    ensures trace { (result.1.objects ≡ objects) × (result.1.budget ≡ budget) × AreTraces workers.items result.1.threads }
+    ensures bytes { map (λ o. o.bytes.items) result.2.each.items ≡ map (λ w. w.thread.output) workers.items }
+    ensures worlds { map (λ o. o.world) result.2.each.items ≡ map (λ w. w.world) workers.items }
+{
+    let Room {
+        mut seats,
+        mut traces,
+        outputs: mut each,
+        bytes: mut rooms,
+        ..
+    } = room;
+    for worker in workers {
+        let Worker {
+            seat,
+            thread,
+            log,
+            world,
+        } = worker;
+        let bytes = filled(rooms.pop().unwrap(), thread.output());
+        seats.push_reserved(seat);
+        traces.push_reserved(thread_trace(&thread, log));
+        each.push_reserved(Output { bytes, world });
+    }
+    (seats, Trace::new(objects, budget, traces), Outputs { each })
+}
+
+// One seat of all.
+pub fn joined(crew: &Crew, mut seats: Vec<CrewSeat>) -> CrewSeat
+    requires some { 1 ≤ vec_len seats }
+    requires seats { AllByRecursion (IsSeatOf crew.now.table.shared.table_id) seats.items }
+    ensures seat { IsSeatOf crew.now.table.shared.table_id result }
+    ensures views { result.me.0 ≡ views_of seats.items }
+{
+    let mut all = seats.pop().unwrap();
+    while let Some(seat) = seats.pop() {
+        all = crew.join(seat, all);
+    }
+    all
+}

@@ -1,0 +1,137 @@
+//! The state at a later cut.
+
+ghost use Rattle.std.specs.Prelude.{◌≡◌, ◌<◌, ◌≤◌, ℕ, true, false, length, slice_index_or, IfOk, IfErr};
+ghost use Rattle.ir_flat.specs.Flat.{idle};
+ghost use Rattle.ir_cut.specs.Positions.{IsConsistentCut, cut_of};
+ghost use Rattle.ir_weave.specs.Standing.{StandsAt, flat_in};
+ghost use Rattle.ir_weave.specs.States.{positions};
+ghost use Rattle.ir_weave.specs.Stepping.{steps_left};
+ghost use Rattle.ir_replay.specs.Rounds.{IsBetween, Goes};
+
+use crate::pace::Pace;
+use crate::passes::{finish, follow};
+use crate::round::round;
+use crate::stretch::{known, stretch, with_code, without_code};
+use ir_cut::Cut;
+use ir_fit::Fitted;
+use ir_object::Gate;
+use ir_thread::Thread;
+use ir_weave::State;
+use std::alloc::{AllocError, Global};
+use std::thread::Threads;
+
+/// Brings the threads and objects to the target, on this thread. Each entry of the order takes one step of that thread,
+/// or nothing where the guest has no such thread, or this one is at its target or its next step isn't admitted. After
+/// the order come passes over the threads from 0 upwards, in which each goes on as far as it can by itself, until all
+/// are at their targets. The state at the target doesn't depend on the order. Takes no memory, and time linear in the
+/// steps up to the target, the entries of the order and, for each pass, the threads.
+pub fn advance_in_order(fitted: &Fitted, state: State, target: &Cut, order: &[u8]) -> State
+    requires state { StandsAt fitted.now (positions (flat_in fitted.now state)) state }
+    requires size { length target.now ≡ length fitted.now.guest.entries }
+    requires consistent { IsConsistentCut fitted.now target.now }
+    requires below { (t : ℕ) → positions (flat_in fitted.now state) t ≤ cut_of target.now t }
+    ensures { StandsAt fitted.now (cut_of target.now) result }
+{
+    known(fitted);
+    let mut flat = with_code(fitted, state);
+    follow(fitted, target.positions(), &mut flat, order);
+    finish(fitted, target.positions(), &mut flat);
+    without_code(flat)
+}
+
+// Whether all threads are at their targets.
+fn is_there(threads: &[Thread], target: &Cut) -> bool
+    requires { length target.now ≡ length threads.now }
+    ensures there { result ≡ true → (t : ℕ) → t < length threads.now → cut_of target.now t ≤ (slice_index_or threads.now t idle).steps }
+    ensures below { result ≡ false → (t : ℕ) × (t < length threads.now) × ((slice_index_or threads.now t idle).steps < cut_of target.now t) }
+{
+    for t in 0..threads.len() {
+        if threads[t].steps() < target.position(t) {
+            return false;
+        }
+    }
+    true
+}
+
+// Whether at most one thread is below its target.
+fn is_alone(threads: &[Thread], target: &Cut) -> bool
+    requires { length target.now ≡ length threads.now }
+{
+    let mut below = 0u64;
+    for (t, thread) in threads.iter().enumerate() {
+        if thread.steps() < target.position(t) {
+            below = below.saturating_add(1);
+        }
+    }
+    below <= 1
+}
+
+// How many steps the threads have taken in all.
+fn steps_of(threads: &[Thread]) -> u64 {
+    let mut steps = 0u64;
+    for thread in threads {
+        steps = steps.saturating_add(thread.steps());
+    }
+    steps
+}
+
+// A round of workers; or a stretch on the caller, where the workers' last round took few steps, and where one thread
+// alone is below its target.
+fn turn<R: Threads + Sync, G: Gate + Sync>(
+    rt: &R,
+    alloc: Global,
+    fitted: &Fitted,
+    state: State,
+    target: &Cut,
+    gate: &G,
+    pace: &mut Pace,
+) -> Result<State, (State, AllocError)>
+    requires state { StandsAt fitted.now (positions (flat_in fitted.now state)) state }
+    requires target { (length target.now ≡ length fitted.now.guest.entries) × IsConsistentCut fitted.now target.now }
+    requires below { (t : ℕ) → positions (flat_in fitted.now state) t ≤ cut_of target.now t }
+    ensures ok { IfOk result (λ s. IsBetween fitted.now target.now state s) }
+    ensures goes { IfOk result (λ s. Goes fitted.now target.now state s) }
+    ensures err { IfErr result (λ e. e.0 ≡ state) }
+{
+    if is_alone(state.threads(), target) {
+        return Ok(stretch(fitted, state, target, u64::MAX, gate));
+    }
+    let most = pace.stretch();
+    if most > 0 {
+        pace.after_stretch();
+        return Ok(stretch(fitted, state, target, most, gate));
+    }
+    let before = steps_of(state.threads());
+    let state = round(rt, alloc, fitted, state, target, gate)?;
+    pace.after_round(steps_of(state.threads()).saturating_sub(before));
+    Ok(state)
+}
+
+/// Brings the threads and objects to the target by rounds of workers, one for each thread, over a table that they share.
+/// A worker whose next step isn't admitted looks again for a while, then ends its round. Where workers hinder each other,
+/// so that a round takes few steps, the caller takes a stretch of steps by itself before the next; where one thread alone
+/// has steps to take, it takes them all. The gate is told of each entry and leave.
+///
+/// # Errors
+/// Want of memory, with the state at a consistent cut between.
+pub fn advance<R: Threads + Sync, G: Gate + Sync>(
+    rt: &R,
+    alloc: Global,
+    fitted: &Fitted,
+    state: State,
+    target: &Cut,
+    gate: &G,
+) -> Result<State, (State, AllocError)>
+    requires state { StandsAt fitted.now (positions (flat_in fitted.now state)) state }
+    requires target { (length target.now ≡ length fitted.now.guest.entries) × IsConsistentCut fitted.now target.now }
+    requires below { (t : ℕ) → positions (flat_in fitted.now state) t ≤ cut_of target.now t }
+    ensures ok { IfOk result (λ s. StandsAt fitted.now (cut_of target.now) s) }
+    ensures err { IfErr result (λ e. IsBetween fitted.now target.now state e.0) }
+{
+    let mut state = state;
+    let mut pace = Pace::new();
+    'rounds: while !is_there(state.threads(), target) {
+        state = turn(rt, alloc, fitted, state, target, gate, &mut pace)?;
+    }
+    Ok(state)
+}

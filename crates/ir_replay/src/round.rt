@@ -1,0 +1,133 @@
+//! A round: each thread goes on by a worker of its own, over one table.
+
+ghost use Rattle.std.specs.Prelude.{◌≡◌, ◌<◌, ◌≤◌, ℕ, true, false, [], length, slice_index_or, vec_len, vec_capacity, IfOk, IfErr};
+ghost use Rattle.std.specs.List.{AllByRecursion};
+ghost use Rattle.ir_flat.specs.Flat.{idle};
+ghost use Rattle.ir_cut.specs.Positions.{IsConsistentCut, cut_of};
+ghost use Rattle.ir_weave.specs.Standing.{StandsAt, flat_in};
+ghost use Rattle.ir_weave.specs.States.{positions};
+ghost use Rattle.ir_weave.specs.Stepping.{steps_left};
+ghost use Rattle.ir_weave.specs.Woven.{IsFor, AreSeats};
+ghost use Rattle.ir_replay.specs.Rounds.{IsBetween, Goes, backwards, threads_of, seats_of, views_of, IsOfTable};
+ghost use Rattle.ir_replay.specs.Workers.{IsReady, HasWorked, Pairs};
+
+use crate::worker::{Worker, work_all};
+use ir_cut::Cut;
+use ir_fit::Fitted;
+use ir_object::Gate;
+use ir_thread::Thread;
+use ir_weave::{State, Weave, WeaveSeat};
+use std::alloc::{AllocError, Global};
+use std::thread::Threads;
+
+// A worker for each thread, at its seat, the last first.
+pub fn assign_seats(workers: &mut Vec<Worker>, threads: &mut Vec<Thread>, mut seats: Vec<WeaveSeat>)
+    requires counts { length seats.items ≡ length threads.old.items }
+    requires none { workers.old.items ≡ [] }
+    requires room { length threads.old.items ≤ vec_capacity workers.old }
+    ensures none { threads.new.items ≡ [] }
+    ensures room { vec_capacity threads.new ≡ vec_capacity threads.old }
+    ensures threads { backwards (threads_of workers.new.items) ≡ threads.old.items }
+    ensures seats { backwards (seats_of workers.new.items) ≡ seats.items }
+{
+    'threads: while let Some(thread) = threads.pop() {
+        if let Some(seat) = seats.pop() {
+            workers.push_reserved(Worker { seat, thread });
+        }
+    }
+}
+
+// All workers go on.
+fn run_all<R: Threads + Sync, G: Gate + Sync>(
+    rt: &R,
+    weave: &Weave,
+    workers: &mut Vec<Worker>,
+    fitted: &Fitted,
+    target: &Cut,
+    gate: &G,
+)
+    requires table { IsFor weave.now.table.shared.key fitted.now }
+    requires target { (length target.now ≡ length fitted.now.guest.entries) × IsConsistentCut fitted.now target.now }
+    requires ready { AllByRecursion (IsReady weave.now.table.shared.table_id weave.now.table.shared.key target.now) workers.old.items }
+    ensures { Pairs (HasWorked weave.now.table.shared.table_id weave.now.table.shared.key target.now) workers.old.items workers.new.items }
+{
+    work_all(rt, weave, workers.as_mut_slice(), fitted, target, gate);
+}
+
+// The threads again, the first first, and their seats joined to one.
+fn joined(weave: &Weave, workers: &mut Vec<Worker>, threads: &mut Vec<Thread>) -> WeaveSeat
+    requires some { 1 ≤ vec_len workers.old }
+    requires none { threads.old.items ≡ [] }
+    requires room { vec_len workers.old ≤ vec_capacity threads.old }
+    requires seats { AllByRecursion (IsOfTable weave.now.table.shared.table_id) workers.old.items }
+    ensures threads { threads.new.items ≡ backwards (threads_of workers.old.items) }
+    ensures table { result.table_id ≡ weave.now.table.shared.table_id }
+    ensures views { result.me.0 ≡ views_of workers.old.items }
+{
+    let first = workers.pop().unwrap();
+    threads.push_reserved(first.thread);
+    let mut all = first.seat;
+    'workers: while let Some(worker) = workers.pop() {
+        threads.push_reserved(worker.thread);
+        all = weave.join(all, worker.seat);
+    }
+    all
+}
+
+// A round over a table that is open, with room for its workers.
+fn run_at_table<R: Threads + Sync, G: Gate + Sync>(
+    rt: &R,
+    weave: Weave,
+    seats: Vec<WeaveSeat>,
+    mut workers: Vec<Worker>,
+    fitted: &Fitted,
+    state: State,
+    target: &Cut,
+    gate: &G,
+) -> State
+    requires table { IsFor weave.table.shared.key fitted.now }
+    requires opened { weave.table.shared.key.opened.value ≡ state }
+    requires seats { AreSeats weave.table.shared.table_id weave.table.shared.key 0 seats.items × (length seats.items ≡ length fitted.now.guest.entries) }
+    requires none { workers.items ≡ [] }
+    requires room { length seats.items ≤ vec_capacity workers }
+    requires state { StandsAt fitted.now (positions (flat_in fitted.now state)) state }
+    requires target { (length target.now ≡ length fitted.now.guest.entries) × IsConsistentCut fitted.now target.now }
+    requires below { (t : ℕ) → positions (flat_in fitted.now state) t ≤ cut_of target.now t }
+    ensures between { IsBetween fitted.now target.now state result }
+    ensures goes { Goes fitted.now target.now state result }
+{
+    fitted.image().code();
+    let (mut threads, mut objects) = state.parts();
+    assign_seats(&mut workers, &mut threads, seats);
+    run_all(rt, &weave, &mut workers, fitted, target, gate);
+    let seat = joined(&weave, &mut workers, &mut threads);
+    weave.close(seat, objects.as_mut_slice());
+    State::build(threads, objects)
+}
+
+// One round: each thread goes on until it is at its target or its next step isn't admitted for long.
+pub fn round<R: Threads + Sync, G: Gate + Sync>(
+    rt: &R,
+    alloc: Global,
+    fitted: &Fitted,
+    state: State,
+    target: &Cut,
+    gate: &G,
+) -> Result<State, (State, AllocError)>
+    requires state { StandsAt fitted.now (positions (flat_in fitted.now state)) state }
+    requires target { (length target.now ≡ length fitted.now.guest.entries) × IsConsistentCut fitted.now target.now }
+    requires below { (t : ℕ) → positions (flat_in fitted.now state) t ≤ cut_of target.now t }
+    ensures ok { IfOk result (λ s. IsBetween fitted.now target.now state s) }
+    ensures goes { IfOk result (λ s. Goes fitted.now target.now state s) }
+    ensures err { IfErr result (λ e. e.0 ≡ state) }
+{
+    let (weave, seats) = match Weave::open(alloc, fitted, &state) {
+        Ok(opened) => opened,
+        Err(error) => return Err((state, error)),
+    };
+    let workers = match Vec::with_capacity(alloc, seats.len()) {
+        Ok(workers) => workers,
+        Err(error) => return Err((state, error)),
+    };
+    Ok(run_at_table(rt, weave, seats, workers, fitted, state, target, gate))
+}

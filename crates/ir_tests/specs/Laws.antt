@@ -1,0 +1,28 @@
+-- What holds of a recording and of what is said of its trace.
+use Rattle.std.specs.Prelude.{◌≡◌, ℕ, List}
+use Rattle.ir_image.specs.Guest.{Guest}
+use Rattle.ir_flat.specs.Run.{Step}
+use Rattle.ir_trace.specs.Recorded.{Recorded}
+use Rattle.ir_record.specs.Recording.{IsRecordingOfSome, IsRecording}
+use Rattle.ir_record.specs.Worlds.{Answered}
+use Rattle.ir_fit.specs.Fit.{IsRunOf, IsRefused}
+use Rattle.ir_fit.specs.declared.fit_err.FitErr.{FitErr}
+use Rattle.ir_fit.specs.declared.fit_err.FitErr.TheVariants.{NoMem}
+
+-- a complete run of the guest has the trace, under the budget that the trace names
+abbrev pub HasTrace : Guest → Recorded → Type 0
+HasTrace guest trace = (run : List Step) × IsRunOf guest trace run
+
+-- what is recorded of some run is a run's trace
+abbrev pub RecordingsFit : Type 0
+RecordingsFit = (guest : Guest) (budget : ℕ) (before : List (List Answered)) (trace : Recorded) (outputs : List (List ℕ)) (answers : List (List Answered))
+    → IsRecordingOfSome guest budget before trace outputs answers → HasTrace guest trace
+
+-- so is what is recorded of the run by an order
+abbrev pub OrdersFit : Type 0
+OrdersFit = (guest : Guest) (budget : ℕ) (order : List ℕ) (before : List (List Answered)) (trace : Recorded) (outputs : List (List ℕ)) (answers : List (List Answered))
+    → IsRecording guest budget order before trace outputs answers → HasTrace guest trace
+
+-- where a run has the trace, judging it gives up for want of memory alone
+abbrev pub NoRefusal : Type 0
+NoRefusal = (guest : Guest) (trace : Recorded) (e : FitErr) → HasTrace guest trace → IsRefused guest trace e → e ≡ NoMem

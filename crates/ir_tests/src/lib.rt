@@ -1,0 +1,14 @@
+//! What holds of several parts of the debugger together: laws, and tests that record, judge and replay.
+#![tactic(auto)]
+
+#[cfg(test)]
+mod counting;
+mod laws;
+#[cfg(test)]
+mod recordings;
+#[cfg(test)]
+mod replays;
+#[cfg(test)]
+mod states;
+
+pub use laws::recordings_fit;

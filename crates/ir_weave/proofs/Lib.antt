@@ -1,0 +1,15 @@
+pub mod Behind
+pub mod Fronts
+pub mod Onward
+pub mod Results
+pub mod Unique
+pub mod Trails
+pub mod Forth
+pub mod Entries
+pub mod Words
+pub mod Moves
+pub mod Acts
+pub mod Lone
+pub mod Seats
+pub mod Steps
+pub mod Opening

@@ -1,0 +1,23 @@
+use Rattle.std.proofs.Common.{◌∙◌, ap}
+use Rattle.ir_flat.specs.Flat.{start_flat}
+use Rattle.ir_weave.specs.Standing.{Standing, StandsAt}
+use Rattle.ir_weave.proofs.Opening.{stands_first, stands_own, first_below}
+use Rattle.ir_weave.proofs.state.State.start.Goals as goal
+use Rattle.ir_weave.proofs.state.State.start.Goals.{After-into_parts-threads}
+
+abbrev made : After-into_parts-threads → Standing
+made c = record { threads = c.into_parts-threads.result.0.items; objects = c.into_parts-threads.result.1.items }
+
+first : (c : After-into_parts-threads) → StandsAt c.args.fitted.now (λ t. 0) (made c)
+first c =
+    stands_first c.args.fitted.now c.in_ok-flat.flat (made c) (c.in_ok-flat.ensures ∙ (λ i. start_flat (c.image.ensures.value i) ((c.budget.ensures.value ∙ ap (λ r. r.budget) c.trace.ensures.value) i)))
+    c.into_parts-threads.ensures.within c.into_parts-threads.ensures.threads c.into_parts-threads.ensures.objects
+
+pub returns-clause-start : goal.returns-clause-start
+returns-clause-start c = first c
+
+pub returns-clause-own : goal.returns-clause-own
+returns-clause-own c = stands_own c.args.fitted.now (made c) (first c)
+
+pub returns-clause-below : goal.returns-clause-below
+returns-clause-below c = first_below c.args.fitted.now (made c) (first c)

@@ -1,0 +1,70 @@
+-- Threads that have gone ahead by steps that touch no object.
+use Rattle.std.specs.Prelude.{◌≡◌, ◌<◌, ◌≤◌, ℕ, List, length, slice_get, Some, ⊤}
+use Rattle.ir_image.specs.Guest.{object_count}
+use Rattle.ir_thread.specs.Calls.{ask_of}
+use Rattle.ir_thread.specs.State as thread
+use Rattle.ir_thread.specs.declared.ask.Ask.{Ask}
+use Rattle.ir_thread.specs.declared.ask.Ask.TheVariants as ask
+use Rattle.ir_thread.specs.declared.ask.Access.{Access}
+use Rattle.ir_flat.specs.Run.{Step, count, th}
+use Rattle.ir_log.specs.Logging.{Suits}
+use Rattle.ir_log.specs.declared.event.Event.{Event}
+use Rattle.ir_trace.specs.Told.{recorded_thread}
+use Rattle.ir_fit.specs.Fit.{FittedTrace, HasRun}
+use Rattle.ir_cut.specs.Positions.{machine_of, start_of, EachRun}
+
+-- a step that touches no object
+abbrev pub IsAlone : Ask → Type 0
+IsAlone (ask.Enter object access) = ⊥
+IsAlone (ask.Leave object access) = ⊥
+IsAlone (ask.Get object index) = ⊥
+IsAlone (ask.Put object index value) = ⊥
+IsAlone ask.Done = ⊥
+IsAlone _ = ⊤
+
+-- thread t of the run after k of its steps
+abbrev pub thread_at : FittedTrace → List Step → ℕ → ℕ → thread.State
+thread_at f run t k = th (machine_of f) (start_of f) run t k
+
+-- what it asks then
+abbrev pub ask_at : FittedTrace → List Step → ℕ → ℕ → Ask
+ask_at f run t k = ask_of f.guest.code (thread_at f run t k)
+
+-- thread t has more than k steps
+abbrev pub HasStep : FittedTrace → ℕ → ℕ → Type 0
+HasStep f t k = EachRun f (λ run. k < count (machine_of f) (start_of f) run t)
+
+-- x is thread t after as many of its steps as it has taken
+abbrev pub IsThreadAt : FittedTrace → ℕ → thread.State → Type 0
+IsThreadAt f t x = EachRun f (λ run. (x.steps ≤ count (machine_of f) (start_of f) run t) × (x ≡ thread_at f run t x.steps))
+
+-- the steps of thread t from i on, before step k, touch no object
+abbrev pub AreAlone : FittedTrace → ℕ → ℕ → ℕ → Type 0
+AreAlone f t i k = EachRun f (λ run. (j : ℕ) → i ≤ j → j < k → IsAlone (ask_at f run t j))
+
+-- step k is the first step of thread t from i on that touches an object
+pub record IsNextObject (f : FittedTrace) (t i k : ℕ) : Type 0 where
+  pub past : i ≤ k
+  pub alone : AreAlone f t i k
+  pub touches : EachRun f (λ run. IsAlone (ask_at f run t k) → ⊥)
+
+-- x is thread t, ahead of position i by steps that touch no object
+pub record IsAhead (f : FittedTrace) (t i : ℕ) (x : thread.State) : Type 0 where
+  pub run : HasRun f
+  pub there : t < length f.guest.entries
+  pub number : x.number ≡ t
+  pub held : length x.held ≡ object_count f.guest
+  pub past : i ≤ x.steps
+  pub at : IsThreadAt f t x
+  pub alone : AreAlone f t i x.steps
+
+-- the next step of the thread x asks so, and the trace has it
+pub record IsAsking (f : FittedTrace) (x : thread.State) (q : Ask) : Type 0 where
+  pub asks : ask_of f.guest.code x ≡ q
+  pub has : HasStep f x.number x.steps
+
+-- it is an entry, and this is the next event that the trace tells of the thread
+pub record IsEntering (f : FittedTrace) (x : thread.State) (o : ℕ) (a : Access) (e : Event) : Type 0 where
+  pub asking : IsAsking f x (ask.Enter o a)
+  pub event : slice_get (recorded_thread f.recorded x.number).events x.events ≡ Some e
+  pub suits : Suits (ask.Enter o a) e

@@ -1,0 +1,10 @@
+-- What holds of the states at consistent cuts.
+use Rattle.std.specs.Prelude.{◌≡◌}
+use Rattle.ir_flat.specs.Flat.{Flat, IsFlat}
+use Rattle.ir_fit.specs.Cuts.{Cut}
+use Rattle.ir_fit.specs.Fit.{FittedTrace, HasRun}
+use Rattle.ir_weave.specs.States.{IsStateAt}
+
+-- a guest with a trace has one state at each cut
+abbrev pub OneStateEach : Type 0
+OneStateEach = (f : FittedTrace) (p : Cut) (s r : Flat) → HasRun f → IsFlat s → IsFlat r → IsStateAt f p s → IsStateAt f p r → s ≡ r

@@ -1,0 +1,7 @@
+pub mod States
+pub mod Stepping
+pub mod Laws
+pub mod Standing
+pub mod Ahead
+pub mod Table
+pub mod Woven

@@ -1,0 +1,205 @@
+-- The rule of the table of a replay.
+use Rattle.std.specs.Prelude.{◌≡◌, ℕ, suc, zero, ◌+◌, ◌/◌, ◌^◌, ◌<◌, ◌≤◌, Bool, true, false, List, [], ◌∷◌, length, slice_get, slice_index, Some}
+use mathlib.Core.Option.{some}
+use lib.ListN.{get_elem?}
+use Rattle.atomic_table.specs.Table.{State, Me, Step}
+use Rattle.atomic_table.specs.Seated.{TableId}
+use Rattle.atomic_table.specs.declared.shared.Seat.{Seat}
+use Rattle.ir_thread.specs.Calls.{after_ask}
+use Rattle.ir_thread.specs.Marks.{Out}
+use Rattle.ir_thread.specs.State as thread
+use Rattle.ir_thread.specs.declared.ask.Access.TheVariants.{Writing}
+use Rattle.ir_thread.specs.declared.ask.Ask.TheVariants as ask
+use Rattle.ir_thread.specs.declared.ask.Reply.TheVariants.{Value}
+use Rattle.ir_object.specs.Cell.{Cell}
+use Rattle.ir_object.specs.Word.{fields_of, word_of}
+use Rattle.ir_flat.specs.Flat.{Flat, IsFlat}
+use Rattle.ir_log.specs.declared.event.Event.{Event}
+use Rattle.ir_trace.specs.Told.{recorded_thread}
+use Rattle.ir_fit.specs.Ahead.{IsOpen}
+use Rattle.ir_fit.specs.Cuts.{Cut, IsCut, Consistent, Admitted, Tells}
+use Rattle.ir_fit.specs.Fit.{FittedTrace, HasRun}
+use Rattle.ir_cut.specs.Positions.{machine_of, start_of, EachRun}
+use Rattle.ir_weave.specs.Ahead.{thread_at, ask_at, IsNextObject, IsAhead}
+use Rattle.ir_weave.specs.States.{IsStateAt, positions}
+use Rattle.ir_weave.specs.Standing.{flat_in}
+use Rattle.ir_object.specs.Layout.{word_place}
+use Rattle.ir_weave.specs.Table.{IsTable, object_in}
+use Rattle.ir_weave.specs.declared.plan.Plan.{Plan}
+use Rattle.ir_weave.specs.declared.plan.Progress.{Progress}
+
+-- what a seat knows: of each of its threads where it is
+abbrev pub View : Type 0
+View = List Progress
+
+abbrev pub M : Type 0
+M = Me (Unit {0}) View
+
+-- the guest with its trace
+abbrev pub trace_in : Plan → FittedTrace
+trace_in k = k.fitted.value
+
+-- its threads and objects when the table was opened
+abbrev pub opened_in : Plan → Flat
+opened_in k = flat_in (trace_in k) k.opened.value
+
+-- where its threads stood then
+abbrev pub opened_at : Plan → Cut
+opened_at k = positions (opened_in k)
+
+abbrev pub progress : Plan → ℕ → ℕ → Bool → Progress
+progress k t i g = record { plan = k; thread = t; position = i; granted = g }
+
+-- thread t is admitted at the cut p of each run
+abbrev pub AdmittedAt : FittedTrace → Cut → ℕ → Type 0
+AdmittedAt f p t = EachRun f (λ run. Admitted (machine_of f) (start_of f) run p t)
+
+-- the thread is where the view says, it is this seat's, and where it was granted its next step it is admitted
+pub record IsTrack (k : Plan) (s : Flat) (seat : ℕ → ℕ) (id : ℕ) (q : Progress) : Type 0 where
+  pub plan : q.plan ≡ k
+  pub there : q.thread < length s.threads
+  pub mine : seat q.thread ≡ id
+  pub position : positions s q.thread ≡ q.position
+  pub granted : q.granted ≡ true → AdmittedAt (trace_in k) (positions s) q.thread
+
+abbrev pub AreTracks : Plan → Flat → (ℕ → ℕ) → ℕ → View → Type 0
+AreTracks k s seat id [] = Unit {0}
+AreTracks k s seat id (q ∷ qs) = IsTrack k s seat id q × AreTracks k s seat id qs
+
+-- whichever run with the trace it is: the positions in the views are a consistent cut, at or above the one at which the table was opened; the words are each object's packed word and contents at this cut; and a view that is granted has its thread admitted there
+pub record Woven (k : Plan) (x : State (Unit {0}) View) : Type 0 where
+  pub run : HasRun (trace_in k)
+  -- the threads and objects at the positions in the views
+  pub state : Flat
+  pub flat : IsFlat state
+  pub at : IsStateAt (trace_in k) (positions state) state
+  pub above : (t : ℕ) → opened_at k t ≤ positions state t
+  -- which seat has each thread
+  pub seat : ℕ → ℕ
+  pub tracks : (id : ℕ) (v : View) → get_elem? x.views id ≡ some v → AreTracks k state seat id v
+  pub table : IsTable state.objects x.words
+
+-- at some consistent cut of each run, at or above the one at which the table was opened, with thread t at k, it wasn't admitted
+pub record WasStopped (k : Plan) (t i : ℕ) : Type 0 where
+  pub cut : Cut
+  pub is_cut : EachRun (trace_in k) (λ run. IsCut (machine_of (trace_in k)) (start_of (trace_in k)) run cut)
+  pub consistent : EachRun (trace_in k) (λ run. Consistent (machine_of (trace_in k)) (start_of (trace_in k)) run cut)
+  pub above : (u : ℕ) → opened_at k u ≤ cut u
+  pub here : cut t ≡ i
+  pub stopped : EachRun (trace_in k) (λ run. Admitted (machine_of (trace_in k)) (start_of (trace_in k)) run cut t → ⊥)
+
+-- the next event that the trace tells of thread t after k of its steps
+abbrev pub IsEventAt : FittedTrace → ℕ → ℕ → Event → Type 0
+IsEventAt f t k e = EachRun f (λ run. slice_get (recorded_thread f.recorded t).events (thread_at f run t k).events ≡ Some e)
+
+-- an object with this word can be entered as the event says
+abbrev pub Opens : ℕ → Event → Type 0
+Opens n e = IsOpen (record { fields = fields_of n; words = [] }) e
+
+-- where the value that was found is that of the word that step k of thread t asks for, it is what the thread is answered
+abbrev pub Answers : FittedTrace → ℕ → ℕ → ℕ → Type 0
+Answers f t k n = EachRun f (λ run. (o i : ℕ) → ask_at f run t k ≡ ask.Get o i → (n < 2 ^ 32) × (thread_at f run t (suc k) ≡ after_ask f.guest.code (thread_at f run t k) (ask.Get o i) (Value n)))
+
+-- where step k of thread t is a writer's leave of the object with this word, this is the version that it leaves
+abbrev pub Leaves : FittedTrace → ℕ → ℕ → ℕ → ℕ → Type 0
+Leaves f t k word v = EachRun f (λ run. (o : ℕ) → word ≡ word_place o → ask_at f run t k ≡ ask.Leave o Writing → Tells (machine_of f) (start_of f) run t k (Out o Writing v))
+
+-- what a load before an entry tells: the position is that of the entry; the thread is granted it where the word is open to its event, and else it wasn't admitted
+abbrev pub looked : Step (Unit {0}) → M → ℕ → M → Type 0
+looked s ([], c) n w = ⊥
+looked s (q ∷ r ∷ qs, c) n w = ⊥
+looked s (q ∷ [], c) n w = (i : ℕ) × (e : Event) × IsNextObject (trace_in q.plan) q.thread q.position i × IsEventAt (trace_in q.plan) q.thread i e
+    × (Opens n e → w ≡ (progress q.plan q.thread i true ∷ [], c))
+    × ((Opens n e → ⊥) → (w ≡ (progress q.plan q.thread i false ∷ [], c)) × WasStopped q.plan q.thread i)
+
+-- what a step on an object tells: it is the thread's next such, and what was found where it is a load
+abbrev pub stepped_on : Step (Unit {0}) → M → ℕ → M → Type 0
+stepped_on s ([], c) n w = ⊥
+stepped_on s (q ∷ r ∷ qs, c) n w = ⊥
+stepped_on s (q ∷ [], c) n w = (i : ℕ) × IsNextObject (trace_in q.plan) q.thread q.position i × (w ≡ (progress q.plan q.thread (suc i) false ∷ [], c)) × Answers (trace_in q.plan) q.thread i n
+
+-- what a load before a writer's leave tells: the version that is left
+abbrev pub read_version : Step (Unit {0}) → M → ℕ → M → Type 0
+read_version s ([], c) n w = ⊥
+read_version s (q ∷ r ∷ qs, c) n w = ⊥
+read_version s (q ∷ [], c) n w = (i : ℕ) × IsNextObject (trace_in q.plan) q.thread q.position i × (w ≡ (q ∷ [], c)) × (n < 2 ^ 63) × Leaves (trace_in q.plan) q.thread i s.word (n / 2 ^ 32)
+
+-- the tracks of n threads from t on, at these positions
+abbrev pub tracks_from : Plan → ℕ → ℕ → View
+tracks_from k t zero = []
+tracks_from k t (suc n) = progress k t (opened_at k t) false ∷ tracks_from k (suc t) n
+
+abbrev pub all_but_first : View → View
+all_but_first [] = []
+all_but_first (q ∷ qs) = qs
+
+abbrev pub first_alone : View → View
+first_alone [] = []
+first_alone (q ∷ qs) = q ∷ []
+
+-- the thread x and a seat of its own
+abbrev pub IsSeated : Plan → View → thread.State → Type 0
+IsSeated k [] x = ⊥
+IsSeated k (q ∷ r ∷ qs) x = ⊥
+IsSeated k (q ∷ []) x = (q.plan ≡ k) × IsAhead (trace_in q.plan) q.thread q.position x
+
+-- the seat was granted the step that its thread asks
+pub record IsGranted (k : Plan) (v : View) (x : thread.State) : Type 0 where
+  pub seated : IsSeated k v x
+  pub view : v ≡ progress k x.number x.steps true ∷ []
+
+-- the table is of this guest and trace
+abbrev pub IsFor : Plan → FittedTrace → Type 0
+IsFor k f = trace_in k ≡ f
+
+-- the thread x has taken a step, and is x' now
+pub record HasStepped (k : Plan) (me me' : M) (x x' : thread.State) : Type 0 where
+  pub seated : IsSeated k me'.0 x'
+  pub slots : me'.1 ≡ me.1
+  pub steps : x'.steps ≡ x.steps + 1
+  pub number : x'.number ≡ x.number
+
+-- the thread x has taken none, and wasn't admitted to its next at some consistent cut, at or above the one at which the table was opened
+pub record HasWaited (k : Plan) (me me' : M) (x x' : thread.State) : Type 0 where
+  pub seated : IsSeated k me'.0 x'
+  pub slots : me'.1 ≡ me.1
+  pub same : x' ≡ x
+  pub stopped : WasStopped k x.number x.steps
+
+-- the thread has gone on by n private steps
+pub record HasRunOn (k : Plan) (v : View) (x y : thread.State) (n : ℕ) : Type 0 where
+  pub seated : IsSeated k v y
+  pub steps : y.steps ≡ x.steps + n
+  pub number : y.number ≡ x.number
+
+-- seats of the threads from t on, one for each, where they stood when the table was opened
+abbrev pub AreSeats : TableId → Plan → ℕ → List (Seat (Unit {0}) View) → Type 0
+AreSeats id k t [] = Unit {0}
+AreSeats id k t (x ∷ xs) = ((x.table_id ≡ id) × (x.me ≡ (progress k t (opened_at k t) false ∷ [], []))) × AreSeats id k (suc t) xs
+
+-- at what cut the threads of a view stand
+abbrev pub AreAt : Cut → View → Type 0
+AreAt p [] = Unit {0}
+AreAt p (q ∷ qs) = (p q.thread ≡ q.position) × AreAt p qs
+
+-- the objects of the guest at a consistent cut of each run, at or above the one at which the table was opened, in which the threads of the view stand where it says
+pub record IsClosed (k : Plan) (v : View) (cells : List Cell) : Type 0 where
+  pub state : Flat
+  pub flat : IsFlat state
+  pub at : IsStateAt (trace_in k) (positions state) state
+  pub above : (t : ℕ) → opened_at k t ≤ positions state t
+  pub view : AreAt (positions state) v
+  pub objects : cells ≡ state.objects
+
+-- where the table stands at its end
+pub record IsEnd (k : Plan) (v : View) (ws : List ℕ) : Type 0 where
+  pub cells : List Cell
+  pub table : IsTable cells ws
+  pub eight : (o : ℕ) → o < length cells → length (object_in cells o).words ≡ 8
+  pub fits : (o : ℕ) → o < length cells → fields_of (word_of (object_in cells o).fields) ≡ (object_in cells o).fields
+  pub closed : IsClosed k v cells
+
+-- the first n of these are the words from a content_place on
+pub record AreRead (ws : List ℕ) (from : ℕ) (xs : List ℕ) (n : ℕ) : Type 0 where
+  pub size : length xs ≡ 8
+  pub each : (i : ℕ) → i < n → slice_index xs i ≡ slice_index ws (from + i)

@@ -1,0 +1,75 @@
+//! The threads and objects of a guest at a consistent cut.
+
+ghost use Rattle.std.specs.Prelude.{◌≡◌};
+ghost use Rattle.ir_weave.specs.Standing.{Standing};
+
+use ir_fit::Fitted;
+use ir_flat::Flat;
+use ir_object::Object;
+use ir_thread::Thread;
+use std::alloc::{AllocError, Global};
+use std::marker::Model;
+
+/// The threads and objects of a guest at a consistent cut of its runs with a trace. In clauses two lists.
+#[derive(Drop)]
+pub struct State {
+    threads: Vec<Thread>,
+    objects: Vec<Object>,
+}
+
+impl Model for State {
+    ghost Value = { Standing };
+
+    ghost view = { λ s. record { threads = s.threads.items; objects = s.objects.items } };
+}
+
+impl State {
+    ghost use Rattle.std.specs.Prelude.{◌≤◌, ℕ, IfOk};
+    ghost use Rattle.ir_weave.specs.Standing.{StandsAt, flat_in};
+    ghost use Rattle.ir_weave.specs.States.{positions};
+
+    /// The guest before its first step.
+    ///
+    /// # Errors
+    /// Want of memory.
+    pub fn start(alloc: Global, fitted: &Fitted) -> Result<State, AllocError>
+        ensures start { IfOk result (StandsAt fitted.now (λ t. 0)) }
+        // The same by its own positions, which are below all others.
+        ensures own { IfOk result (λ s. StandsAt fitted.now (positions (flat_in fitted.now s)) s) }
+        ensures below { IfOk result (λ s. (p : ℕ → ℕ) (t : ℕ) → positions (flat_in fitted.now s) t ≤ p t) }
+    {
+        let flat = Flat::start(alloc, fitted.image(), fitted.trace().budget())?;
+        let (threads, objects) = flat.into_parts();
+        Ok(State { threads, objects })
+    }
+
+    /// The state of these threads and objects.
+    pub fn build(threads: Vec<Thread>, objects: Vec<Object>) -> State
+        ensures { result ≡ record { threads = threads.items; objects = objects.items } }
+    {
+        State { threads, objects }
+    }
+
+    /// The threads and the objects.
+    pub fn parts(self) -> (Vec<Thread>, Vec<Object>)
+        ensures threads { result.0.items ≡ self.threads }
+        ensures objects { result.1.items ≡ self.objects }
+    {
+        let State { threads, objects } = self;
+        (threads, objects)
+    }
+
+    /// The threads, by their numbers.
+    pub fn threads(&self) -> &[Thread]
+        ensures { result.now ≡ self.now.threads }
+    {
+        self.threads.as_slice()
+    }
+
+    /// The objects, by their numbers.
+    pub fn objects(&self) -> &[Object]
+        ensures { result.now ≡ self.now.objects }
+    {
+        self.objects.as_slice()
+    }
+}
