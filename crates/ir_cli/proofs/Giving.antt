@@ -5,8 +5,8 @@ use Rattle.ir_cli.specs.Sources.{Source, given, Gave, untimed, from_sources, is_
 use Rattle.ir_cli.specs.declared.time.Time.{Time}
 use Rattle.ir_cli.specs.declared.time.Time.TheVariants.{Since}
 use Rattle.ir_record.specs.Worlds.{Answered}
-use Rattle.ir_thread.specs.declared.ask.EnvKind.{EnvKind}
-use Rattle.ir_thread.specs.declared.ask.EnvKind.TheVariants.{Clock, Random, Input}
+use Rattle.ir_runs.specs.declared.env_kind.EnvKind.{EnvKind}
+use Rattle.ir_runs.specs.declared.env_kind.EnvKind.TheVariants.{Clock, Random, Input}
 
 -- one answer more
 pub gave_more : (s t u : Source) (answers : List Answered) (kind : EnvKind) (value : ℕ) → Gave s answers t → ◌≡◌ {A = ℕ × Source} (value, u) (given kind t) → Gave s (answers ++ (kind, value) ∷ []) u

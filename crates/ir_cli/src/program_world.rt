@@ -6,7 +6,7 @@ ghost use Rattle.ir_cli.specs.Sources.{source, Gave, Gave-prop, MadeWith, made_w
 use crate::sources::Sources;
 use crate::time::{Time, millis_since};
 use ir_record::{World, WorldErr};
-use ir_thread::EnvKind;
+use ir_runs::EnvKind;
 use std::alloc::{AllocError, Global};
 use std::time::Clock;
 

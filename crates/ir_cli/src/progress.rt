@@ -3,7 +3,7 @@
 use crate::time::millis_since;
 use crossbeam_utils::CachePadded;
 use ir_object::Gate;
-use ir_thread::Access;
+use ir_runs::Access;
 use std::sync::atomic::{AtomicU32, AtomicU64, Ordering};
 use std::time::{Clock, Instant};
 

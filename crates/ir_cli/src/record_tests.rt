@@ -7,7 +7,7 @@ use crate::recording::record_run;
 use crate::tests::{ENDLESS, Page, empty_page};
 use ir_log::Event;
 use ir_object::OpenGate;
-use ir_thread::EnvKind;
+use ir_runs::EnvKind;
 use ir_trace::{Trace, read_trace};
 use std::alloc::AllocGlobal;
 use std::sync::Wait;

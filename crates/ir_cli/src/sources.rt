@@ -3,9 +3,9 @@
 ghost use Rattle.std.specs.Prelude.{◌≡◌, ◌<◌, ◌+◌, ◌^◌, true, false};
 ghost use Rattle.ir_cli.specs.Sources.{Source, source, given};
 ghost use Rattle.ir_thread.specs.Instance.{is_result};
-ghost use Rattle.ir_thread.specs.declared.ask.EnvKind.TheVariants.{Clock, Random, Input};
+ghost use Rattle.ir_runs.specs.declared.env_kind.EnvKind.TheVariants.{Clock, Random, Input};
 
-use ir_thread::EnvKind;
+use ir_runs::EnvKind;
 use rand_core::SeedableRng;
 use rand_core::utils::NextWord;
 use rand_pcg::Pcg32;

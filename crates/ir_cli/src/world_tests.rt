@@ -3,7 +3,7 @@
 use crate::program_world::ProgramWorld;
 use crate::time::Time;
 use ir_record::{World, WorldErr};
-use ir_thread::EnvKind;
+use ir_runs::EnvKind;
 use std::io;
 use std::test::Fail;
 use std::time::{Clock, Duration, Instant};

@@ -8,7 +8,7 @@ use Rattle.atomic_table.specs.Table.{Final, Seen}
 use Rattle.atomic_table.specs.declared.shared.Seat.{Seat}
 use Rattle.ir_image.specs.Guest.{Guest, IsGuest, object_count, object_words}
 use Rattle.ir_object.specs.Cell.{Cell, StandsFor}
-use Rattle.ir_object.specs.Object.{Object}
+use Rattle.ir_runs.specs.Object.{Object}
 use Rattle.ir_object.specs.Layout.{word_place, content_place, table_length}
 use Rattle.ir_object.specs.Order.{Shared, objects_after}
 use Rattle.ir_object.specs.Word.{fields_of}

@@ -7,18 +7,18 @@ use lib.ListN.{get_elem?}
 use Rattle.atomic_table.specs.Table as table
 use Rattle.ir_image.specs.Guest.{Guest, IsGuest, IsWord, object_count, object_words}
 use Rattle.ir_thread.specs.Instance.{thread_machine}
-use Rattle.ir_thread.specs.Machine.{Act, Silent, Result, Entry, Refusal, Exit, Load, Store, Never, Machine}
-use Rattle.ir_thread.specs.declared.ask.Access.{Access}
-use Rattle.ir_thread.specs.declared.ask.Access.TheVariants.{Reading, Writing}
+use Rattle.ir_runs.specs.Machine.{Act, Silent, Result, Entry, Refusal, Exit, Load, Store, Never, Machine}
+use Rattle.ir_runs.specs.declared.access.Access.{Access}
+use Rattle.ir_runs.specs.declared.access.Access.TheVariants.{Reading, Writing}
 use Rattle.ir_object.specs.Cell.{one_if_reading, readers, has_writer}
-use Rattle.ir_object.specs.Object.{Object, target, Admits, acted, told}
+use Rattle.ir_runs.specs.Object.{Object, target, Admits, acted, told}
 use Rattle.ir_object.specs.Layout.{word_place}
 use Rattle.ir_object.specs.Order.{Shared, keep_if, of_thread, objects_then, objects_after, order_marks, Uses, IsStep, IsLegal, inside_after}
 use Rattle.ir_object.specs.Word.{bit_of, fields_of, entered, left_by}
 use Rattle.ir_object.specs.declared.fields.Fields.{Fields}
 use Rattle.ir_object.proofs.Order.{then_same, then_other, alone_acted, Alone, inside_run}
 use Rattle.ir_object.proofs.Stands.{entry_counts, leave_counts, can_leave, writer_admitted}
-use Rattle.ir_object.proofs.Tables.{upd_same, upd_other, upd_elim}
+use Rattle.ir_runs.proofs.CallerLemmas.{upd_same, upd_other, upd_elim}
 use Rattle.ir_crew.specs.Plays.{inside_by, version_if, version_then, entered_at}
 use Rattle.ir_crew.specs.Rule.{View, one_if_entry, entries, mark_of, start_objects, Tells, Kept}
 use Rattle.ir_crew.specs.declared.deed.ObjectStep.{ObjectStep}

@@ -5,7 +5,7 @@ use lib.ListN.{get_elem?}
 use Rattle.atomic_table.specs.Table.{Splits, Joins, opening}
 use Rattle.atomic_table.proofs.Lists.{at_set}
 use Rattle.ir_image.specs.Guest.{Guest, IsGuest, object_count}
-use Rattle.ir_object.specs.Object.{Object}
+use Rattle.ir_runs.specs.Object.{Object}
 use Rattle.ir_object.specs.Order.{Shared}
 use Rattle.ir_crew.specs.Plays.{all_but_first, first_alone}
 use Rattle.ir_crew.specs.Rule.{View, start_objects, IsTable, Fits, Kept, tracks_from}

@@ -11,18 +11,18 @@ use Rattle.atomic_table.proofs.Lists.{at_set, set_again}
 use Rattle.ir_image.specs.Guest.{Guest, object_count}
 use Rattle.ir_thread.specs.Calls.{most_events}
 use Rattle.ir_thread.specs.Instance.{thread_machine}
-use Rattle.ir_thread.specs.Machine.{Entry, Exit, Store, upd}
-use Rattle.ir_thread.specs.Marks.{Mark}
-use Rattle.ir_thread.specs.declared.ask.Access.TheVariants.{Reading, Writing}
+use Rattle.ir_runs.specs.Machine.{Entry, Exit, Store, upd}
+use Rattle.ir_runs.specs.Marks.{Mark}
+use Rattle.ir_runs.specs.declared.access.Access.TheVariants.{Reading, Writing}
 use Rattle.ir_object.specs.Cell.{Admitted}
-use Rattle.ir_object.specs.Object.{Object, target, Admits, acted, reply, told}
+use Rattle.ir_runs.specs.Object.{Object, target, Admits, acted, reply, told}
 use Rattle.ir_object.specs.Layout.{word_place, content_place}
 use Rattle.ir_object.specs.Order.{Shared, of_thread, objects_after, order_marks, Uses}
 use Rattle.ir_object.specs.Word.{fields_of}
 use Rattle.ir_object.proofs.Order.{of_own, of_other, after_more, marks_more, legal_more}
 use Rattle.ir_object.proofs.Stands.{entry_counts, leave_counts, can_leave, admits_reader, admits_writer}
 use Rattle.ir_object.proofs.Words.{read_entry_word, write_entry_word, read_leave_word, version_word}
-use Rattle.ir_object.proofs.Tables.{upd_same, upd_other, upd_id}
+use Rattle.ir_runs.proofs.CallerLemmas.{upd_same, upd_other, upd_id}
 use Rattle.ir_crew.specs.Plays.{IsAlone, history, did, inside_by, entered_at, M, object_of, index_of, IsSight, looked, tried, read_entry, write_entry, entered_read, entered_write, left_reading, left_writing, got, wrote}
 use Rattle.ir_crew.specs.Rule.{View, shared_by, mark_by, shared_of, mark_of, one_if_entry, entries, start_objects, Tells, IsTable, IsTrack, Fits, Kept}
 use Rattle.ir_crew.specs.declared.deed.Deed.{Deed}
@@ -242,7 +242,7 @@ enters_read g slots id o old me alone lt room outside free = tries g slots id o 
         uses = out;
         admits = admits_reader n (fields_of old) b.inside a.tells.inside free;
         answers = refl;
-        tells = λ i. Rattle.ir_thread.specs.Marks.In o Reading (sym a.tells.version i) 0;
+        tells = λ i. Rattle.ir_runs.specs.Marks.In o Reading (sym a.tells.version i) 0;
       };
       tells = subst (λ f. Tells n f (acted (Entry o Reading 0) t b)) (sym (read_entry_word old free (let few = a.narrow in omega (arith, few))))
           (record { version = a.tells.version; left = a.tells.left; inside = entry_counts n (fields_of old) b.inside t Reading a.thread out a.tells.inside });
@@ -258,7 +258,7 @@ enters_write g slots id o old me alone lt room free = tries g slots id o old (ol
         uses = nobody t;
         admits = nobody;
         answers = refl;
-        tells = λ i. Rattle.ir_thread.specs.Marks.In o Writing (sym a.tells.version i) (sym a.tells.left i);
+        tells = λ i. Rattle.ir_runs.specs.Marks.In o Writing (sym a.tells.version i) (sym a.tells.left i);
       };
       tells = subst (λ f. Tells n f (acted (Entry o Writing 0) t b)) (sym (write_entry_word old free))
           (record { version = a.tells.version; left = a.tells.left; inside = entry_counts n (fields_of old) b.inside t Writing a.thread (nobody t) a.tells.inside });

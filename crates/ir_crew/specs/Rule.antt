@@ -6,11 +6,11 @@ use Rattle.atomic_table.specs.Table.{State}
 use Rattle.ir_image.specs.Guest.{Guest, IsGuest, object_count, object_words}
 use Rattle.ir_thread.specs.Calls.{most_events}
 use Rattle.ir_thread.specs.Instance.{thread_machine}
-use Rattle.ir_thread.specs.Machine.{Act, Silent, Result, Entry, Refusal, Exit, Load, Store, Never}
-use Rattle.ir_thread.specs.Marks.{Mark, Quiet, In, Out}
+use Rattle.ir_runs.specs.Machine.{Act, Silent, Result, Entry, Refusal, Exit, Load, Store, Never}
+use Rattle.ir_runs.specs.Marks.{Mark, Quiet, In, Out}
 use Rattle.ir_object.specs.Cell.{Counts}
 use Rattle.ir_object.specs.Layout.{word_place, content_place, table_length}
-use Rattle.ir_object.specs.Object.{Object}
+use Rattle.ir_runs.specs.Object.{Object}
 use Rattle.ir_object.specs.Order.{Shared, of_thread, objects_after, order_marks, IsLegal}
 use Rattle.ir_object.specs.Word.{fields_of}
 use Rattle.ir_object.specs.declared.fields.Fields.{Fields}

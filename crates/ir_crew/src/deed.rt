@@ -1,6 +1,6 @@
 //! What a seat's view is made of. No value of these types is made.
 
-use ir_thread::Access;
+use ir_runs::Access;
 use std::collections::LinkedList;
 
 /// What one atomic step does to an object: an entry with the version and, for writing, the readers that left it; a leave, with

@@ -2,7 +2,7 @@
 
 ghost use Rattle.std.specs.Prelude.{◌≡◌, ◌≢◌, ◌+◌, ◌*◌, ◌<◌, ℕ, [], ◌++◌, Some, None};
 ghost use Rattle.ir_image.specs.Guest.{object_count};
-ghost use Rattle.ir_thread.specs.declared.ask.Access.TheVariants.{Writing};
+ghost use Rattle.ir_runs.specs.declared.access.Access.TheVariants.{Writing};
 ghost use Rattle.ir_object.specs.Layout.{table_length};
 ghost use Rattle.ir_crew.specs.Plays.{IsAlone, history, did, inside_by};
 ghost use Rattle.ir_crew.specs.declared.deed.Deed.TheVariants.{Leave as Left, Get as Got, Put as Wrote};
@@ -12,7 +12,7 @@ use crate::plays::{Both, Get, Law, LeaveRead, LeaveWrite, Look, Put};
 use atomic_table::{Seat, Table};
 use ir_image::Image;
 use ir_object::{APART, CONTENT_PLACE, WORD_PLACE, Word};
-use ir_thread::Access;
+use ir_runs::Access;
 use std::alloc::Global;
 use std::collections::LinkedList;
 

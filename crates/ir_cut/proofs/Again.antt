@@ -1,11 +1,11 @@
 -- A guest with a trace has one run, up to the order of the steps.
 use Rattle.std.proofs.Common.{◌≡◌, ℕ, zero, suc, ◌<◌, ◌≤◌, ◌^◌, List, [], ◌∷◌, length, sym, ap, ◌∙◌, subst, arith, inl, inr}
 use Rattle.std.proofs.lemmas.Bool.{cases_lt}
-use Rattle.ir_thread.specs.Marks.{Mark, Quiet, Answer, In, Refused, Out}
-use Rattle.ir_thread.specs.declared.ask.Access.{Access}
+use Rattle.ir_runs.specs.Marks.{Mark, Quiet, Answer, In, Refused, Out}
+use Rattle.ir_runs.specs.declared.access.Access.{Access}
 use Rattle.ir_thread.proofs.Lawful.{lawful}
-use Rattle.ir_flat.specs.Run.{Step, trail, count, events}
-use Rattle.ir_flat.proofs.Good.{start_good}
+use Rattle.ir_runs.specs.Run.{Step, trail, count, events}
+use Rattle.ir_runs.proofs.CallerLemmas.{start_good, alike}
 use Rattle.ir_flat.proofs.Runs.{start_idle}
 use Rattle.ir_log.specs.Logging.{mark_of}
 use Rattle.ir_log.specs.declared.event.Event.{Event}
@@ -13,13 +13,12 @@ use Rattle.ir_log.specs.declared.event.Event.TheVariants.{Answer as Result, Read
 use Rattle.ir_trace.specs.Recorded.{IsRecorded, IsEvent}
 use Rattle.std.specs.List.{AllByRecursion, slice_index_or}
 use Rattle.ir_trace.specs.Told.{recorded_thread}
-use Rattle.ir_fit.specs.Cuts.{At, Tells}
+use Rattle.ir_runs.specs.Cuts.{At, Tells}
 use Rattle.ir_fit.specs.Fit.{FittedTrace, HasRun, IsRunOf}
 use Rattle.ir_fit.specs.Places.{places_of, leaves_of}
 use Rattle.ir_fit.proofs.Breaks.{thread_fits}
 use Rattle.ir_fit.proofs.Guests.{starts}
 use Rattle.ir_fit.proofs.Listed.{idle_trail, tells_below, get_at, at_get, entry_of}
-use Rattle.ir_fit.proofs.Same.{alike}
 use Rattle.ir_cut.specs.Positions.{machine_of, start_of}
 
 pub no_trail : (f : FittedTrace) (run : List Step) → IsRunOf f.guest f.recorded run → (t : ℕ) → length f.guest.entries ≤ t → trail (machine_of f) (start_of f) run t ≡ []

@@ -1,8 +1,3 @@
-pub mod Early
-pub mod Order
-pub mod Admit
-pub mod Exist
-pub mod Highest
 pub mod Moved
 pub mod Again
 pub mod Sought

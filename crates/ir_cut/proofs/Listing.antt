@@ -9,13 +9,13 @@ use Rattle.ir_fit.proofs.Listed as kept
 use Rattle.ir_fit.proofs.Listed.{tells_below, entries_long, entry_tells, entry_of, leave_tells, leave_of}
 use Rattle.ir_cut.proofs.Again.{again}
 use Rattle.std.specs.Prelude.{slice_get}
-use Rattle.ir_thread.specs.Marks.{In, Out}
-use Rattle.ir_thread.specs.declared.ask.Access.{Access}
-use Rattle.ir_flat.specs.Run.{Step}
+use Rattle.ir_runs.specs.Marks.{In, Out}
+use Rattle.ir_runs.specs.declared.access.Access.{Access}
+use Rattle.ir_runs.specs.Run.{Step}
 use Rattle.ir_log.specs.Logging.{mark_of}
 use Rattle.ir_log.specs.declared.event.Event.{Event}
 use Rattle.ir_trace.specs.Told.{recorded_thread}
-use Rattle.ir_fit.specs.Cuts.{Tells}
+use Rattle.ir_runs.specs.Cuts.{Tells}
 use Rattle.ir_fit.specs.Fit.{FittedTrace, HasRun, IsRunOf}
 use Rattle.ir_fit.specs.Places.{placed_at, none_placed}
 use Rattle.ir_fit.specs.declared.leave.Leave.{Leave}

@@ -3,11 +3,11 @@ use Rattle.std.proofs.Common.{◌≡◌, ℕ, ◌<◌, ◌⊎◌, ◌↔◌, Lis
 use Rattle.std.specs.Prelude.{slice_get}
 use Rattle.std.specs.List.{Contains}
 use Rattle.std.proofs.lemmas.Option.{slice_get_read, slice_get_within, get_or_from_slice_get}
-use Rattle.ir_thread.specs.Marks.{Mark, In, Out}
-use Rattle.ir_thread.specs.declared.ask.Access.{Access}
-use Rattle.ir_flat.specs.Run.{Step, count}
+use Rattle.ir_runs.specs.Marks.{Mark, In, Out}
+use Rattle.ir_runs.specs.declared.access.Access.{Access}
+use Rattle.ir_runs.specs.Run.{Step, count}
 use Rattle.ir_trace.specs.Recorded.{IsRecorded}
-use Rattle.ir_fit.specs.Cuts.{Tells, Cut}
+use Rattle.ir_runs.specs.Cuts.{Tells, Cut}
 use Rattle.ir_fit.specs.Fit.{FittedTrace, HasRun, IsRunOf}
 use Rattle.ir_fit.proofs.Breaks.{thread_fits}
 use Rattle.ir_cut.specs.Moving.{ArePlaced, EachPlace, IsRaised, IsLowered}

@@ -11,11 +11,11 @@ use Rattle.ir_trace.specs.Recorded.{Recorded, RecordedThread, IsRecorded}
 use Rattle.ir_trace.specs.Told.{absent, recorded_thread}
 use Rattle.std.specs.List.Sorted.{IsNonDecreasingBy, IsPartitionPoint}
 use Rattle.std.proofs.lemmas.List.{get_or_default}
-use Rattle.ir_fit.specs.Coherent.{sum_below}
+use Rattle.ir_runs.specs.Coherent.{sum_below}
 use Rattle.ir_fit.specs.Fit.{FittedTrace, HasRun}
 use Rattle.ir_fit.specs.Places.{placed_at}
 use Rattle.ir_fit.specs.declared.leave.Leave.{Leave}
-use Rattle.ir_fit.proofs.Tally.{sum_less}
+use Rattle.ir_runs.proofs.CallerLemmas.{sum_less}
 use Rattle.ir_cut.specs.Positions.{EachRun, cut_of}
 use Rattle.ir_cut.specs.Searching.{IsFitted, RaisedFor, LoweredFor, NeededBy, Needing, Rising, Falling, NoneAbove, HasBelow, HasAbove, AreLeaves, events_left, leaves_left}
 use Rattle.ir_cut.proofs.Listing.{Listed, listed}

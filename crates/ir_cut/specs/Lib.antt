@@ -1,4 +1,3 @@
-pub mod Extremes
 pub mod Laws
 pub mod Positions
 pub mod Moving

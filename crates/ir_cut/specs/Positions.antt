@@ -1,13 +1,13 @@
 -- Positions of the threads of a guest with the trace of one of its runs.
 use Rattle.std.specs.Prelude.{◌≡◌, ℕ, List, length}
 use Rattle.std.specs.List.{slice_index_or}
-use Rattle.ir_thread.specs.Machine.{Machine}
+use Rattle.ir_runs.specs.Machine.{Machine}
 use Rattle.ir_thread.specs.State as thread
 use Rattle.ir_flat.specs.Flat.{start_flat, tables, machine}
-use Rattle.ir_flat.specs.Run.{State, Step}
-use Rattle.ir_fit.specs.Cuts.{Cut, IsCut, Consistent}
+use Rattle.ir_runs.specs.Run.{State, Step}
+use Rattle.ir_runs.specs.Cuts.{Cut, IsCut, Consistent}
 use Rattle.ir_fit.specs.Fit.{FittedTrace, IsRunOf}
-use Rattle.ir_cut.specs.Extremes.{IsLeast, IsGreatest}
+use Rattle.ir_runs.specs.Extremes.{IsLeast, IsGreatest}
 
 -- what the guest's threads do
 abbrev pub machine_of : FittedTrace → Machine thread.State

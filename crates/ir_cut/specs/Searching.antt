@@ -1,14 +1,14 @@
 -- Positions on the way to the least and the greatest consistent cut.
 use Rattle.std.specs.Prelude.{◌≡◌, ℕ, suc, ◌-◌, ◌<◌, ◌≤◌, List, length, slice_get, Some}
-use Rattle.ir_thread.specs.Marks.{Mark, In, Out}
-use Rattle.ir_thread.specs.declared.ask.Access.{Access}
-use Rattle.ir_flat.specs.Run.{Step}
+use Rattle.ir_runs.specs.Marks.{Mark, In, Out}
+use Rattle.ir_runs.specs.declared.access.Access.{Access}
+use Rattle.ir_runs.specs.Run.{Step}
 use Rattle.ir_log.specs.Logging.{mark_of}
 use Rattle.ir_log.specs.declared.event.Event.{Event}
 use Rattle.ir_trace.specs.Recorded.{IsRecorded}
 use Rattle.ir_trace.specs.Told.{recorded_thread}
-use Rattle.ir_fit.specs.Coherent.{sum_below}
-use Rattle.ir_fit.specs.Cuts.{Tells, Needs, Cut, IsCut, Consistent}
+use Rattle.ir_runs.specs.Coherent.{sum_below}
+use Rattle.ir_runs.specs.Cuts.{Tells, Needs, Cut, IsCut, Consistent}
 use Rattle.ir_fit.specs.Fit.{FittedTrace, HasRun}
 use Rattle.ir_fit.specs.Places.{placed_at}
 use Rattle.ir_fit.specs.declared.leave.Leave.{Leave}

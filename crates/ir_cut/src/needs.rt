@@ -1,8 +1,8 @@
 //! What the entries of a cut need, and what needs its leaves.
 
 ghost use Rattle.std.specs.Prelude.{◌≡◌, ◌<◌, ℕ, length, IsTrue, ◌↔◌};
-ghost use Rattle.ir_thread.specs.Marks.{In};
-ghost use Rattle.ir_thread.specs.declared.ask.Access.TheVariants.{Reading};
+ghost use Rattle.ir_runs.specs.Marks.{In};
+ghost use Rattle.ir_runs.specs.declared.access.Access.TheVariants.{Reading};
 ghost use Rattle.ir_log.specs.Logging.{mark_of};
 ghost use Rattle.ir_cut.specs.Positions.{EachRun, cut_of};
 ghost use Rattle.ir_cut.specs.Searching.{AreInside, IsEntryAt, IsFitted, NeededBy, Needing, RaisedFor, LoweredFor};
@@ -10,7 +10,7 @@ ghost use Rattle.ir_cut.specs.Searching.{AreInside, IsEntryAt, IsFitted, NeededB
 use crate::moving::{are_inside, lower, raise};
 use ir_fit::{Fitted, Leave};
 use ir_log::Event;
-use ir_thread::Access;
+use ir_runs::Access;
 
 // Whether the leave that made the version is inside. Nobody made the first.
 fn is_made(fitted: &Fitted, positions: &[u64], object: u8, version: u32) -> bool

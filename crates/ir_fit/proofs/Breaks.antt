@@ -4,15 +4,15 @@ use Rattle.std.specs.Prelude.{slice_get}
 use Rattle.std.specs.List.{AllByRecursion}
 use Rattle.std.proofs.lemmas.Option.{same_Some}
 use Rattle.std.proofs.lemmas.List.{length-map}
-use Rattle.ir_thread.specs.Marks.{Mark, In, Trace}
-use Rattle.ir_thread.specs.declared.ask.Access.TheVariants.{Writing}
+use Rattle.ir_runs.specs.Marks.{Mark, In, Trace}
+use Rattle.ir_runs.specs.declared.access.Access.TheVariants.{Writing}
 use Rattle.ir_log.specs.Logging.{mark_of}
 use Rattle.ir_log.specs.declared.event.Event.{Event}
 use Rattle.ir_trace.specs.Recorded.{Recorded, RecordedThread, IsRecorded, IsRecordedThread}
 use Rattle.ir_trace.specs.Told.{absent, recorded_thread, trace_of}
-use Rattle.ir_fit.specs.Coherent.{reads, IsCoherent}
+use Rattle.ir_runs.specs.Coherent.{reads, IsCoherent}
 use Rattle.ir_fit.specs.Counting.{writes, reads_in, writes_in, reads_of, writes_of, cause_by, CountsMore, CountsAll, HasRoom, FirstCause, NoCause}
-use Rattle.ir_fit.specs.Cuts.{At}
+use Rattle.ir_runs.specs.Cuts.{At}
 use Rattle.ir_fit.specs.Breaking.{HasCause, IsBefore, IsFirstBreak}
 use Rattle.ir_fit.specs.declared.cause.Cause.{Cause}
 use Rattle.ir_fit.specs.declared.cause.Cause.TheVariants.{Unmade, Twice, Readers}

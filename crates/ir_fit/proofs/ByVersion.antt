@@ -5,10 +5,10 @@ use Rattle.std.specs.List.Sorted.{IsPermutation, IsNonDecreasingBy, IsPartitionP
 use Rattle.std.proofs.lemmas.Bool.{cases_lt, cases_eq}
 use Rattle.std.proofs.lemmas.List.{length-drop, length-take-le, length-set, length-replicate, take_all, get_or-take, get_or-drop, get_or-set_same, get_or-set_other, get_or-replicate, get_or_past, get_or_default, get_or_read, map_more}
 use Rattle.std.proofs.lemmas.List.Sorted.{IsPermutation-refl}
-use Rattle.ir_thread.specs.declared.ask.Access.{Access}
-use Rattle.ir_thread.specs.declared.ask.Access.TheVariants.{Reading, Writing}
-use Rattle.ir_flat.specs.Run.{join_if}
-use Rattle.ir_flat.proofs.Append.{join_append}
+use Rattle.ir_runs.specs.declared.access.Access.{Access}
+use Rattle.ir_runs.specs.declared.access.Access.TheVariants.{Reading, Writing}
+use Rattle.ir_runs.specs.Run.{join_if}
+use Rattle.ir_runs.proofs.CallerLemmas.{join_append}
 use Rattle.ir_log.specs.declared.event.Event.{Event}
 use Rattle.ir_log.specs.declared.event.Event.TheVariants.{Answer, Read, Write}
 use Rattle.ir_fit.specs.Visits.{Visit, left_by, of_threads, enter_if, entered_by, same_access, picked, Listing, HasLists, listed, added, AddsAll, AreSorted, IsInOrder, none_listed, IsListing}

@@ -4,16 +4,16 @@ use Rattle.std.specs.List.{Contains}
 use Rattle.std.proofs.lemmas.Bool.{cases_eq}
 use Rattle.std.proofs.lemmas.List.Elements.{Contains-append_left, Contains-append_right, Contains-append_cases}
 use Rattle.std.proofs.lemmas.List.Sorted.{Contains-permutation, IsPermutation-sym}
-use Rattle.ir_thread.specs.Marks.{Mark, In, Out}
-use Rattle.ir_thread.specs.declared.ask.Access.{Access}
-use Rattle.ir_thread.specs.declared.ask.Access.TheVariants.{Reading, Writing}
-use Rattle.ir_flat.specs.Run.{join_if}
+use Rattle.ir_runs.specs.Marks.{Mark, In, Out}
+use Rattle.ir_runs.specs.declared.access.Access.{Access}
+use Rattle.ir_runs.specs.declared.access.Access.TheVariants.{Reading, Writing}
+use Rattle.ir_runs.specs.Run.{join_if}
 use Rattle.ir_log.specs.Logging.{mark_of}
 use Rattle.ir_log.specs.declared.event.Event.{Event}
 use Rattle.ir_log.specs.declared.event.Event.TheVariants.{Answer, Read, Write}
 use Rattle.ir_trace.specs.Told.{recorded_thread}
 use Rattle.ir_fit.proofs.Listed.{at_get, get_at, tells_below, entries_long, entry_tells, entry_of, leave_tells, leave_of}
-use Rattle.ir_fit.specs.Cuts.{At}
+use Rattle.ir_runs.specs.Cuts.{At}
 use Rattle.ir_fit.specs.Fit.{FittedTrace}
 use Rattle.ir_fit.specs.Places.{placed_at}
 use Rattle.ir_fit.specs.Visits.{TellsIn, OnlyLeaves, AllLeaves, OnlyEntries, AllEntries, Visit, left_by, entered_by, of_threads, all_left, all_entered, same_access, picked, Listing, listed, IsListing}

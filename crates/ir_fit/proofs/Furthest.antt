@@ -6,13 +6,13 @@ use Rattle.std.proofs.lemmas.Bool.{cases_lt}
 use Rattle.std.proofs.lemmas.Bool.Decides.{nat_tests}
 use Rattle.ir_image.specs.Guest.{Guest}
 use Rattle.ir_thread.specs.Instance.{thread_machine, is_result}
-use Rattle.ir_thread.specs.Marks.{Mark}
-use Rattle.ir_thread.specs.declared.ask.EnvKind.{EnvKind}
-use Rattle.ir_thread.specs.declared.ask.EnvKind.TheVariants.{Clock, Random, Input}
+use Rattle.ir_runs.specs.Marks.{Mark}
+use Rattle.ir_runs.specs.declared.env_kind.EnvKind.{EnvKind}
+use Rattle.ir_runs.specs.declared.env_kind.EnvKind.TheVariants.{Clock, Random, Input}
 use Rattle.ir_thread.proofs.Lawful.{lawful, closing}
 use Rattle.ir_flat.specs.Flat.{Flat, start_flat, tables}
-use Rattle.ir_flat.specs.Run.{Step, log, trace}
-use Rattle.ir_flat.proofs.Good.{start_good}
+use Rattle.ir_runs.specs.Run.{Step, log, trace}
+use Rattle.ir_runs.proofs.CallerLemmas.{start_good, one_maximal, Over, over, all_same, whole_same, same_verdict, own_coherent, settled, verdict_at, goes_on, all_done}
 use Rattle.ir_flat.proofs.Runs.{start_idle}
 use Rattle.ir_log.specs.Logging.{mark_of}
 use Rattle.ir_log.specs.declared.event.Event.{Event}
@@ -20,26 +20,21 @@ use Rattle.ir_log.specs.declared.event.Event.TheVariants.{Answer, Read, Write}
 use Rattle.ir_trace.specs.Recorded.{Recorded, RecordedThread, IsRecorded, IsRecordedThread, IsEvent, IsResult}
 use Rattle.ir_trace.specs.Told.{absent, trace_of}
 use Rattle.ir_fit.proofs.Causes.{coherent_unbroken}
-use Rattle.ir_fit.proofs.Confluent.{one_maximal}
-use Rattle.ir_fit.proofs.Ending.{Over, over}
 use Rattle.ir_fit.proofs.Guests.{starts, lives}
-use Rattle.ir_fit.proofs.Judge.{all_same, whole_same, same_verdict}
-use Rattle.ir_fit.proofs.Own.{own_coherent}
-use Rattle.ir_fit.proofs.Settled.{settled, verdict_at, goes_on, all_done}
 use Rattle.ir_fit.specs.Breaking.{BreaksBy, IsFirstBreak}
-use Rattle.ir_fit.specs.Coherent.{IsCoherent}
-use Rattle.ir_fit.specs.Cuts.{At}
+use Rattle.ir_runs.specs.Coherent.{IsCoherent}
+use Rattle.ir_runs.specs.Cuts.{At}
 use Rattle.ir_fit.specs.Fit.{HasHeader, IsRunOf, HasRun, GoesFurthest, AreVerdicts, IsRefused}
 use Rattle.ir_fit.specs.Follower.{IsFollowed, AreStanding}
-use Rattle.ir_fit.specs.Following as following
+use Rattle.ir_runs.specs.Following as following
 use Rattle.ir_fit.specs.Places.{Placed}
-use Rattle.ir_fit.specs.Standing.{StandsAs}
-use Rattle.ir_fit.specs.Verdicts as verdicts
-use Rattle.ir_fit.specs.Verdicts.{HoldsEvents, IsWhole}
+use Rattle.ir_runs.specs.Standing.{StandsAs}
+use Rattle.ir_runs.specs.Verdicts as verdicts
+use Rattle.ir_runs.specs.Verdicts.{HoldsEvents, IsWhole}
 use Rattle.ir_fit.specs.declared.fit_err.FitErr.{FitErr}
 use Rattle.ir_fit.specs.declared.fit_err.FitErr.TheVariants.{NoMem, Refused}
-use Rattle.ir_fit.specs.declared.verdict.ThreadVerdict.{ThreadVerdict}
-use Rattle.ir_fit.specs.declared.verdict.ThreadVerdict.TheVariants.{Same}
+use Rattle.ir_runs.specs.declared.thread_verdict.ThreadVerdict.{ThreadVerdict}
+use Rattle.ir_runs.specs.declared.thread_verdict.ThreadVerdict.TheVariants.{Same}
 use Rattle.ir_fit.specs.declared.verdict.Verdict.TheVariants as verdict
 
 -- ---- what a trace within its limits holds

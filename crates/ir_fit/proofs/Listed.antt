@@ -3,22 +3,21 @@ use Rattle.std.proofs.Common.{◌≡◌, ℕ, suc, zero, ◌+◌, ◌<◌, ◌�
 use Rattle.std.proofs.lemmas.Bool.{cases_lt}
 use Rattle.std.proofs.lemmas.List.{length-map, get_or-map}
 use Rattle.ir_thread.specs.Instance.{thread_machine}
-use Rattle.ir_thread.specs.Machine.{Machine}
-use Rattle.ir_thread.specs.Marks.{Mark, Quiet, Answer, In, Refused, Out, logged}
+use Rattle.ir_runs.specs.Machine.{Machine}
+use Rattle.ir_runs.specs.Marks.{Mark, Quiet, Answer, In, Refused, Out, logged}
 use Rattle.ir_thread.specs.State as thread
-use Rattle.ir_thread.specs.declared.ask.Access.{Access}
-use Rattle.ir_thread.specs.declared.ask.EnvKind.{EnvKind}
-use Rattle.ir_thread.specs.declared.ask.EnvKind.TheVariants.{Clock}
+use Rattle.ir_runs.specs.declared.access.Access.{Access}
+use Rattle.ir_runs.specs.declared.env_kind.EnvKind.{EnvKind}
+use Rattle.ir_runs.specs.declared.env_kind.EnvKind.TheVariants.{Clock}
 use Rattle.ir_flat.specs.Flat.{start_flat, tables, machine}
-use Rattle.ir_flat.specs.Run.{State, Step, after, IsRun, IsIdle, trail, count, events}
+use Rattle.ir_runs.specs.Run.{State, Step, after, IsRun, IsIdle, trail, count, events}
 use Rattle.ir_flat.proofs.Runs.{start_idle}
 use Rattle.ir_log.specs.Logging.{mark_of}
 use Rattle.ir_log.specs.declared.event.Event.{Event}
 use Rattle.ir_log.specs.declared.event.Event.TheVariants as logged_event
 use Rattle.ir_trace.specs.Told.{recorded_thread}
-use Rattle.ir_fit.proofs.Ending.{trail_other}
-use Rattle.ir_fit.proofs.Own.{stays_idle}
-use Rattle.ir_fit.specs.Cuts.{At}
+use Rattle.ir_runs.proofs.CallerLemmas.{trail_other, below_idle}
+use Rattle.ir_runs.specs.Cuts.{At}
 use Rattle.ir_fit.specs.Fit.{FittedTrace, HasRun}
 use Rattle.ir_fit.specs.Places.{placed_at, place_if, places_from, leave_if, leaves_from}
 use Rattle.ir_fit.specs.Visits.{TellsIn}
@@ -190,7 +189,7 @@ trail_in f h t = trail (machine (start_flat f.guest f.recorded.budget)) (tables 
 pub idle_trail : {T : Type 0} (m : Machine T) (s : State T) (n : ℕ) → IsIdle m s n → (run : List Step) → IsRun m s run → (t : ℕ) → n ≤ t → trail m s run t ≡ []
 idle_trail m s n idle [] ok t l = refl
 idle_trail m s n idle (e ∷ run) ok t l =
-    let g = stays_idle m s n idle e ok.0 in
+    let g = below_idle m s n idle e ok.0 in
     trail_other m s e run t (λ q. absurd (omega (arith, q, l, g.0))) ∙ idle_trail m (after m s e) n g.1 run ok.1 t l
 
 -- only the guest's threads take steps

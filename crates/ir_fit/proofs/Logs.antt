@@ -1,11 +1,11 @@
 -- Counts of the events of logs.
 use Rattle.std.proofs.Common.{◌≡◌, ℕ, suc, zero, ◌+◌, ◌*◌, ◌<◌, ◌≤◌, Bool, true, false, cond, eqb, List, [], ◌∷◌, ◌++◌, length, map, take, get_or, refl, sym, ap, ◌∙◌, subst, arith, add-one}
 use Rattle.std.proofs.lemmas.List.{take_more, map-append}
-use Rattle.ir_thread.specs.Marks.{Mark, Quiet, Answer, In, Refused, Out}
-use Rattle.ir_thread.specs.declared.ask.Access.TheVariants.{Reading, Writing}
+use Rattle.ir_runs.specs.Marks.{Mark, Quiet, Answer, In, Refused, Out}
+use Rattle.ir_runs.specs.declared.access.Access.TheVariants.{Reading, Writing}
 use Rattle.ir_log.specs.Logging.{mark_of}
 use Rattle.ir_log.specs.declared.event.Event.{Event}
-use Rattle.ir_fit.specs.Coherent.{reads_one, reads, sum_below}
+use Rattle.ir_runs.specs.Coherent.{reads_one, reads, sum_below}
 use Rattle.ir_fit.specs.Counting.{writes_one, writes, CountsMore, HasRoom}
 use Rattle.ir_fit.specs.declared.entry_counts.EntryCounts.{EntryCounts}
 

@@ -8,43 +8,37 @@ use Rattle.ir_image.specs.Guest.{Guest, object_count}
 use Rattle.ir_thread.specs.Calls.{ask_of, after_ask}
 use Rattle.ir_thread.specs.Held.{held_count, one_if_held}
 use Rattle.ir_thread.proofs.Asked.{ask_permits}
-use Rattle.ir_object.proofs.Tables.{upd_same, upd_other, upd_elim}
+use Rattle.ir_runs.proofs.CallerLemmas.{upd_same, upd_other, upd_elim, trail_append, end_append, trail_same, trail_other, run_last, fits_front, goes_further, is_done, agrees, fits_last, sum_le, sum_less}
 use Rattle.ir_thread.specs.Instance.{shared_ask, reply_of, thread_machine}
-use Rattle.ir_thread.specs.Machine as machine
-use Rattle.ir_thread.specs.Machine.{Machine, act_of}
-use Rattle.ir_thread.specs.Marks.{Mark, logged, Trace}
+use Rattle.ir_runs.specs.Machine as machine
+use Rattle.ir_runs.specs.Machine.{Machine, act_of}
+use Rattle.ir_runs.specs.Marks.{Mark, logged, Trace}
 use Rattle.ir_thread.specs.State as thread
 use Rattle.ir_thread.specs.Calls.{Permits}
 use Rattle.ir_thread.proofs.Highest.{one_fewer}
-use Rattle.ir_thread.specs.declared.ask.Access.{Access}
+use Rattle.ir_runs.specs.declared.access.Access.{Access}
 use Rattle.ir_thread.specs.declared.ask.Ask.TheVariants.{Private, Done, Leave as Leaves}
-use Rattle.ir_object.specs.Object.{target, told, reply, Admits}
+use Rattle.ir_runs.specs.Object.{target, told, reply, Admits}
 use Rattle.ir_flat.specs.Alone.{WentAlone}
 use Rattle.ir_flat.specs.Flat.{Flat, thread_of, tables, machine as machine_of, start_flat, start_threads, idle, IsFlat}
-use Rattle.ir_flat.specs.Run.{State, Step, act, asked, Can, after, mark, end, trail, events, log, count}
-use Rattle.ir_flat.proofs.Append.{trail_append, end_append}
+use Rattle.ir_runs.specs.Run.{State, Step, act, asked, Can, after, mark, end, trail, events, log, count}
 use Rattle.ir_flat.proofs.Counted.{tally, really_done, moved_thread, now_after}
 use Rattle.ir_flat.proofs.Fresh.{fresh, no_steps, threads_length, cells_length}
 use Rattle.ir_log.specs.Logging.{mark_of}
 use Rattle.ir_trace.specs.Recorded.{Recorded, RecordedThread}
 use Rattle.ir_trace.specs.Told.{recorded_thread, absent, trace_of}
 use Rattle.ir_fit.specs.Ahead.{steps_ahead, log_ahead, StepFollows, CanFollow, IsStopped, AgreesAhead, IsMove}
-use Rattle.ir_fit.specs.Coherent.{sum_below}
+use Rattle.ir_runs.specs.Coherent.{sum_below}
 use Rattle.ir_fit.specs.Follower.{IsFollower, IsFollowed, IsPlaced, GoesOn, all_ahead}
 use Rattle.ir_fit.specs.Places.{Placed, placed_at, placed_by, placed_more, none_placed, place_if, leave_if, places_of, leaves_of}
-use Rattle.ir_fit.specs.Following.{Check, unlogged, left_log, left_steps, Fits, Follows, Meets, closing}
-use Rattle.ir_fit.specs.Standing.{StandsAs}
-use Rattle.ir_fit.specs.Verdicts.{Agrees}
-use Rattle.ir_fit.specs.declared.verdict.ThreadVerdict.{ThreadVerdict}
-use Rattle.ir_fit.specs.declared.verdict.ThreadVerdict.TheVariants.{Same, Disagrees, Starves}
+use Rattle.ir_runs.specs.Following.{Check, unlogged, left_log, left_steps, Fits, Follows, Meets, closing}
+use Rattle.ir_runs.specs.Standing.{StandsAs}
+use Rattle.ir_runs.specs.Verdicts.{Agrees}
+use Rattle.ir_runs.specs.declared.thread_verdict.ThreadVerdict.{ThreadVerdict}
+use Rattle.ir_runs.specs.declared.thread_verdict.ThreadVerdict.TheVariants.{Same, Disagrees, Starves}
 use Rattle.ir_fit.specs.declared.look.Move.{Move}
-use Rattle.ir_fit.proofs.Ending.{trail_same, trail_other, run_last}
-use Rattle.ir_fit.proofs.Follow.{fits_front}
-use Rattle.ir_fit.proofs.Judge.{goes_further, is_done, agrees}
-use Rattle.ir_fit.proofs.OneResult.{fits_last}
 use Rattle.ir_fit.proofs.Placed.{AllQuiet, quiet_join, quiet_places, quiet_leaves, places_append, leaves_append, placed_entries, placed_leaves, placed_room, placed_count, placed_fewer}
 use Rattle.ir_fit.proofs.Seen.{end_asked, ends_asked, tells, events_within}
-use Rattle.ir_fit.proofs.Tally.{sum_le, sum_less}
 
 -- ---- what is left
 

@@ -4,16 +4,16 @@ use Rattle.std.proofs.lemmas.List.Sums.{sum_by-set}
 use Rattle.ir_thread.specs.Calls.{after_ask, Permits}
 use Rattle.ir_thread.specs.Held.{held_at, held_count, one_if_held}
 use Rattle.ir_thread.specs.State as thread
-use Rattle.ir_thread.specs.declared.ask.Access.{Access}
-use Rattle.ir_thread.specs.declared.ask.Access.TheVariants.{Reading, Writing}
+use Rattle.ir_runs.specs.declared.access.Access.{Access}
+use Rattle.ir_runs.specs.declared.access.Access.TheVariants.{Reading, Writing}
 use Rattle.ir_thread.specs.declared.ask.Ask.{Ask}
 use Rattle.ir_thread.specs.declared.ask.Ask.TheVariants.{Private, Env, Enter, Leave as Leaves, Get, Put, Print, End, Done}
 use Rattle.ir_thread.specs.declared.ask.Reply.{Reply}
 use Rattle.ir_thread.proofs.Highest.{one_fewer}
 use Rattle.ir_flat.specs.Flat.{Flat, thread_of}
 use Rattle.ir_fit.proofs.Seen.{tells}
-use Rattle.ir_thread.specs.Marks.{Mark, Quiet, Answer, In, Refused, Out}
-use Rattle.ir_flat.specs.Run.{join_if}
+use Rattle.ir_runs.specs.Marks.{Mark, Quiet, Answer, In, Refused, Out}
+use Rattle.ir_runs.specs.Run.{join_if}
 use Rattle.ir_fit.specs.Places.{Placed, placed_by, place_if, places_from, leave_if, leaves_from}
 use Rattle.ir_fit.specs.declared.leave.Leave.{Leave}
 

@@ -7,23 +7,23 @@ use Rattle.ir_thread.specs.Calls.{ask_of, after_ask, after_reply, Permits}
 use Rattle.ir_thread.specs.Ends.{end_number, end_code}
 use Rattle.ir_thread.specs.Held.{held_count}
 use Rattle.ir_thread.specs.Instance.{shared_ask, reply_of, is_result, thread_machine}
-use Rattle.ir_thread.specs.Machine as machine
-use Rattle.ir_thread.specs.Machine.{act_of}
-use Rattle.ir_thread.specs.Marks as marks
-use Rattle.ir_thread.specs.Marks.{Mark, logged}
+use Rattle.ir_runs.specs.Machine as machine
+use Rattle.ir_runs.specs.Machine.{act_of}
+use Rattle.ir_runs.specs.Marks as marks
+use Rattle.ir_runs.specs.Marks.{Mark, logged}
 use Rattle.ir_thread.specs.State as thread
-use Rattle.ir_thread.specs.declared.ask.Access.{Access}
-use Rattle.ir_thread.specs.declared.ask.Access.TheVariants.{Reading, Writing}
+use Rattle.ir_runs.specs.declared.access.Access.{Access}
+use Rattle.ir_runs.specs.declared.access.Access.TheVariants.{Reading, Writing}
 use Rattle.ir_thread.specs.declared.ask.Ask.{Ask}
 use Rattle.ir_thread.specs.declared.ask.Ask.TheVariants.{Private, Env, Enter, Leave, Get, Put, Print, End, Done}
-use Rattle.ir_thread.specs.declared.ask.EnvKind.{EnvKind}
-use Rattle.ir_thread.specs.declared.ask.EnvKind.TheVariants.{Clock, Random, Input}
+use Rattle.ir_runs.specs.declared.env_kind.EnvKind.{EnvKind}
+use Rattle.ir_runs.specs.declared.env_kind.EnvKind.TheVariants.{Clock, Random, Input}
 use Rattle.ir_thread.specs.declared.ask.Reply.{Reply}
 use Rattle.ir_thread.specs.declared.end.End as end
 use Rattle.ir_thread.proofs.Asked.{ask_permits}
 use Rattle.ir_thread.proofs.Lawful.{over}
 use Rattle.ir_object.specs.Cell.{Cell, Admitted}
-use Rattle.ir_object.specs.Object.{target, Admits, told}
+use Rattle.ir_runs.specs.Object.{target, Admits, told}
 use Rattle.ir_flat.specs.Flat.{Flat, thread_of, cell_of, tables, machine, IsFlat}
 use Rattle.ir_flat.proofs.Keeps.{may_admits}
 use Rattle.ir_flat.proofs.Kept.{added}
@@ -37,8 +37,8 @@ use Rattle.ir_fit.specs.Ahead.{steps_ahead, log_ahead, CanFollow, IsStopped, Agr
 use Rattle.ir_fit.specs.declared.look.Look.{Look}
 use Rattle.ir_fit.specs.declared.look.Look.TheVariants as look
 use Rattle.ir_fit.specs.declared.look.Move.{Move}
-use Rattle.ir_fit.specs.Following.{unlogged, ends_at, ends_now, Meets}
-use Rattle.ir_fit.specs.Verdicts as verdicts
+use Rattle.ir_runs.specs.Following.{unlogged, ends_at, ends_now, Meets}
+use Rattle.ir_runs.specs.Verdicts as verdicts
 
 -- ---- the end that a step asks for
 

@@ -1,11 +1,11 @@
 -- Counts of write entries, and the entries themselves.
 use Rattle.std.proofs.Common.{◌≡◌, ℕ, suc, zero, ◌+◌, ◌<◌, ◌≤◌, ◌⊎◌, inl, inr, Bool, true, false, cond, eqb, List, [], ◌∷◌, refl, sym, ap, ◌∙◌, subst, arith, eq-eqb, ne_eqb}
 use Rattle.std.proofs.lemmas.Bool.{cases_eq, cases_lt}
-use Rattle.ir_thread.specs.Marks.{Mark, Quiet, Answer, In, Refused, Out, Trace}
-use Rattle.ir_thread.specs.declared.ask.Access.TheVariants.{Reading, Writing}
-use Rattle.ir_fit.specs.Coherent.{sum_below}
+use Rattle.ir_runs.specs.Marks.{Mark, Quiet, Answer, In, Refused, Out, Trace}
+use Rattle.ir_runs.specs.declared.access.Access.TheVariants.{Reading, Writing}
+use Rattle.ir_runs.specs.Coherent.{sum_below}
 use Rattle.ir_fit.specs.Counting.{writes_one, writes, writes_in}
-use Rattle.ir_fit.specs.Cuts.{At}
+use Rattle.ir_runs.specs.Cuts.{At}
 
 -- one thing stands at a place
 pub at_same : {A : Type 0} (xs : List A) (i : ℕ) (x y : A) → At xs i x → At xs i y → x ≡ y

@@ -3,23 +3,23 @@ use Rattle.std.specs.Prelude.{◌≡◌, ◌≢◌, ℕ, suc, ◌-◌, ◌<◌, 
 use Rattle.ir_thread.specs.Calls.{ask_of}
 use Rattle.ir_thread.specs.Ends.{end_number, end_code}
 use Rattle.ir_thread.specs.Held.{held_count}
-use Rattle.ir_thread.specs.Machine.{Machine}
-use Rattle.ir_thread.specs.Marks.{Mark, logged, Trace}
-use Rattle.ir_thread.specs.declared.ask.Access.{Access}
-use Rattle.ir_thread.specs.declared.ask.Access.TheVariants.{Reading, Writing}
+use Rattle.ir_runs.specs.Machine.{Machine}
+use Rattle.ir_runs.specs.Marks.{Mark, logged, Trace}
+use Rattle.ir_runs.specs.declared.access.Access.{Access}
+use Rattle.ir_runs.specs.declared.access.Access.TheVariants.{Reading, Writing}
 use Rattle.ir_thread.specs.declared.ask.Ask as ask
 use Rattle.ir_thread.specs.declared.ask.Ask.TheVariants as asks
 use Rattle.ir_thread.specs.declared.end.End.{End}
 use Rattle.ir_object.specs.Cell.{Cell, Admitted}
 use Rattle.ir_flat.specs.Flat.{Flat, thread_of, tables, machine}
-use Rattle.ir_flat.specs.Run.{State, Can, mark}
+use Rattle.ir_runs.specs.Run.{State, Can, mark}
 use Rattle.ir_log.specs.Logging.{mark_of}
 use Rattle.ir_log.specs.declared.event.Event.{Event}
 use Rattle.ir_log.specs.declared.event.Event.TheVariants.{Answer, Read, Write}
 use Rattle.ir_trace.specs.Recorded.{Recorded}
 use Rattle.ir_trace.specs.Told.{recorded_thread, trace_of}
-use Rattle.ir_fit.specs.Following.{unlogged, closing}
-use Rattle.ir_fit.specs.Verdicts.{Agrees}
+use Rattle.ir_runs.specs.Following.{unlogged, closing}
+use Rattle.ir_runs.specs.Verdicts.{Agrees}
 use Rattle.ir_fit.specs.declared.look.Look.{Look}
 use Rattle.ir_fit.specs.declared.look.Look.TheVariants.{Done, Disagrees, Waits, Goes}
 use Rattle.ir_fit.specs.declared.look.Move.{Move}

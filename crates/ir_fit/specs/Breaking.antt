@@ -1,12 +1,12 @@
 -- The events of a trace that break its coherence.
 use Rattle.std.specs.Prelude.{◌≡◌, ◌≢◌, ℕ, suc, ◌<◌, ◌≤◌, ◌⊎◌, [], length}
-use Rattle.ir_thread.specs.Marks.{In, Trace}
-use Rattle.ir_thread.specs.declared.ask.Access.{Access}
-use Rattle.ir_thread.specs.declared.ask.Access.TheVariants.{Writing}
+use Rattle.ir_runs.specs.Marks.{In, Trace}
+use Rattle.ir_runs.specs.declared.access.Access.{Access}
+use Rattle.ir_runs.specs.declared.access.Access.TheVariants.{Writing}
 use Rattle.ir_trace.specs.Recorded.{Recorded}
 use Rattle.ir_trace.specs.Told.{trace_of}
-use Rattle.ir_fit.specs.Coherent.{IsCoherent, reads, sum_below}
-use Rattle.ir_fit.specs.Cuts.{At}
+use Rattle.ir_runs.specs.Coherent.{IsCoherent, reads, sum_below}
+use Rattle.ir_runs.specs.Cuts.{At}
 use Rattle.ir_fit.specs.declared.cause.Cause.{Cause}
 use Rattle.ir_fit.specs.declared.cause.Cause.TheVariants.{Unmade, Twice, Readers}
 use Rattle.ir_fit.specs.declared.verdict.Verdict.{Verdict}

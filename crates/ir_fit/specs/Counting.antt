@@ -3,11 +3,11 @@ use Rattle.std.specs.Prelude.{◌≡◌, ℕ, ◌+◌, ◌-◌, ◌^◌, ◌<◌
 use Rattle.std.specs.Option.{option_map_or}
 use Rattle.std.specs.List.{sum_by}
 use Rattle.std.specs.List.Sorted.{IsNonDecreasing}
-use Rattle.ir_thread.specs.Marks.{Mark, Quiet, Answer, In, Refused, Out, Trace}
-use Rattle.ir_thread.specs.declared.ask.Access.TheVariants.{Reading, Writing}
+use Rattle.ir_runs.specs.Marks.{Mark, Quiet, Answer, In, Refused, Out, Trace}
+use Rattle.ir_runs.specs.declared.access.Access.TheVariants.{Reading, Writing}
 use Rattle.ir_log.specs.Logging.{mark_of}
 use Rattle.ir_log.specs.declared.event.Event.{Event}
-use Rattle.ir_fit.specs.Coherent.{reads, sum_below}
+use Rattle.ir_runs.specs.Coherent.{reads, sum_below}
 use Rattle.ir_fit.specs.declared.cause.Cause.{Cause}
 use Rattle.ir_fit.specs.declared.cause.Cause.TheVariants.{Unmade, Twice, Readers}
 use Rattle.ir_fit.specs.declared.version_counts.VersionCounts.{VersionCounts}

@@ -2,19 +2,19 @@
 use Rattle.std.specs.Prelude.{◌≡◌, ◌≢◌, ◌<◌, ℕ, List, length, slice_get, Some, ⊤}
 use Rattle.ir_image.specs.Guest.{Guest, object_count}
 use Rattle.ir_flat.specs.Flat.{start_flat, tables, machine}
-use Rattle.ir_flat.specs.Run.{Step, trail}
+use Rattle.ir_runs.specs.Run.{Step, trail}
 use Rattle.ir_trace.specs.Recorded.{Recorded}
 use Rattle.ir_trace.specs.Told.{trace_of}
 use Rattle.ir_fit.specs.Breaking.{IsFirstBreak}
-use Rattle.ir_fit.specs.Coherent.{IsCoherent}
-use Rattle.ir_fit.specs.Following.{Follows, IsMaximal, closing}
+use Rattle.ir_runs.specs.Coherent.{IsCoherent}
+use Rattle.ir_runs.specs.Following.{Follows, IsMaximal, closing}
 use Rattle.ir_fit.specs.Places.{Placed, placed_at, places_of, leaves_of}
-use Rattle.ir_fit.specs.Verdicts.{IsVerdict, IsWhole}
+use Rattle.ir_runs.specs.Verdicts.{IsVerdict, IsWhole}
 use Rattle.ir_fit.specs.declared.cause.HeaderCause.{HeaderCause}
 use Rattle.ir_fit.specs.declared.cause.HeaderCause.TheVariants.{Threads, Objects}
 use Rattle.ir_fit.specs.declared.fit_err.FitErr.{FitErr}
 use Rattle.ir_fit.specs.declared.fit_err.FitErr.TheVariants.{NoMem, Refused}
-use Rattle.ir_fit.specs.declared.verdict.ThreadVerdict.{ThreadVerdict}
+use Rattle.ir_runs.specs.declared.thread_verdict.ThreadVerdict.{ThreadVerdict}
 use Rattle.ir_fit.specs.declared.verdict.Verdict.{Verdict}
 use Rattle.ir_fit.specs.declared.verdict.Verdict.TheVariants.{Header, Incoherent}
 use Rattle.ir_fit.specs.declared.verdict.Verdict.TheVariants as verdict

@@ -3,16 +3,16 @@ use Rattle.std.specs.Prelude.{◌≡◌, ◌<◌, ◌≤◌, ◌+◌, ℕ, List,
 use Rattle.ir_image.specs.Guest.{Guest, object_count}
 use Rattle.ir_thread.specs.Held.{held_count}
 use Rattle.ir_flat.specs.Flat.{Flat, thread_of, tables, machine, start_flat}
-use Rattle.ir_flat.specs.Run.{Step, end, trail, log, count}
+use Rattle.ir_runs.specs.Run.{Step, end, trail, log, count}
 use Rattle.ir_trace.specs.Recorded.{Recorded}
 use Rattle.ir_trace.specs.Told.{recorded_thread, trace_of}
 use Rattle.ir_fit.specs.Ahead.{steps_ahead, IsStopped}
-use Rattle.ir_fit.specs.Coherent.{sum_below}
-use Rattle.ir_fit.specs.Following.{Follows, closing}
+use Rattle.ir_runs.specs.Coherent.{sum_below}
+use Rattle.ir_runs.specs.Following.{Follows, closing}
 use Rattle.ir_fit.specs.Places.{Placed, placed_at, places_of, leaves_of}
-use Rattle.ir_fit.specs.Standing.{StandsAs}
+use Rattle.ir_runs.specs.Standing.{StandsAs}
 use Rattle.ir_fit.specs.declared.follower.Follower.{Follower}
-use Rattle.ir_fit.specs.declared.verdict.ThreadVerdict.{ThreadVerdict}
+use Rattle.ir_runs.specs.declared.thread_verdict.ThreadVerdict.{ThreadVerdict}
 
 -- the guest's threads and objects after a run that follows the trace
 pub record IsFollower (guest : Guest) (r : Recorded) (f : Flat) (ps : List Placed) : Type 0 where

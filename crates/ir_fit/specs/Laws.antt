@@ -1,16 +1,16 @@
 -- What holds of all runs of a guest, and of traces and the runs that follow them.
 use Rattle.std.specs.Prelude.{◌≡◌, ◌↔◌, ℕ, List, [], ◌∷◌, ◌++◌, length}
 use Rattle.ir_image.specs.Guest.{Guest}
-use Rattle.ir_thread.specs.Marks.{Trace}
+use Rattle.ir_runs.specs.Marks.{Trace}
 use Rattle.ir_flat.specs.Flat.{start_flat, tables, machine}
-use Rattle.ir_flat.specs.Run.{Step, IsRun, IsComplete, trace, asked, end, trail}
-use Rattle.ir_fit.specs.Alike.{SameTrace, SameRun, Reaches}
-use Rattle.ir_fit.specs.Coherent.{IsCoherent}
-use Rattle.ir_fit.specs.Cuts.{Cut, IsCut, Consistent, AtCut}
-use Rattle.ir_fit.specs.Following.{Follows, IsMaximal, closing, left_log}
-use Rattle.ir_fit.specs.declared.verdict.ThreadVerdict.{ThreadVerdict}
-use Rattle.ir_fit.specs.declared.verdict.ThreadVerdict.TheVariants.{Same}
-use Rattle.ir_fit.specs.Verdicts.{IsVerdict, HoldsEvents, IsWhole, result_of}
+use Rattle.ir_runs.specs.Run.{Step, IsRun, IsComplete, trace, asked, end, trail}
+use Rattle.ir_runs.specs.Alike.{SameTrace, SameRun, Reaches}
+use Rattle.ir_runs.specs.Coherent.{IsCoherent}
+use Rattle.ir_runs.specs.Cuts.{Cut, IsCut, Consistent, AtCut}
+use Rattle.ir_runs.specs.Following.{Follows, IsMaximal, closing, left_log}
+use Rattle.ir_runs.specs.declared.thread_verdict.ThreadVerdict.{ThreadVerdict}
+use Rattle.ir_runs.specs.declared.thread_verdict.ThreadVerdict.TheVariants.{Same}
+use Rattle.ir_runs.specs.Verdicts.{IsVerdict, HoldsEvents, IsWhole, result_of}
 
 -- runs with one trace have the same threads, consistent cuts and objects
 abbrev pub TraceDetermines : Type 0

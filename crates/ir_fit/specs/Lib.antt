@@ -1,10 +1,4 @@
-pub mod Cuts
-pub mod Following
-pub mod Coherent
-pub mod Alike
-pub mod Verdicts
 pub mod Laws
-pub mod Standing
 pub mod Fit
 pub mod Numbers
 pub mod Breaking

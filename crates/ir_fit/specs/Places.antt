@@ -4,7 +4,7 @@ use Rattle.std.specs.List.{slice_index_or}
 use Rattle.ir_thread.specs.declared.ask.Ask.{Ask}
 use Rattle.ir_thread.specs.declared.ask.Ask.TheVariants.{Env, Enter, Leave as Leaves}
 use Rattle.ir_flat.specs.Flat.{Flat, thread_of, cell_of}
-use Rattle.ir_thread.specs.Marks.{Mark, Quiet, Answer, In, Refused, Out}
+use Rattle.ir_runs.specs.Marks.{Mark, Quiet, Answer, In, Refused, Out}
 use Rattle.ir_fit.specs.declared.leave.Leave.{Leave}
 
 -- the position of a step that is logged, and those behind it

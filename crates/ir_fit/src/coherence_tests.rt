@@ -1,6 +1,6 @@
 use crate::{Cause, FitErr, HeaderCause, Verdict, coherent};
 use ir_log::Event;
-use ir_thread::EnvKind;
+use ir_runs::EnvKind;
 use ir_trace::{Trace, read_trace};
 use std::alloc::{AllocError, Global};
 use std::test::Fail;

@@ -1,8 +1,8 @@
 //! Guests of a few instructions, run along traces that are theirs, and along others.
 
-use crate::{Cause, FitErr, Fitted, HeaderCause, Leave, ThreadVerdict, Verdict, fit};
+use crate::{Cause, FitErr, Fitted, HeaderCause, Leave, Verdict, fit};
 use ir_image::{Image, read_image};
-use ir_thread::Access;
+use ir_runs::{Access, ThreadVerdict};
 use ir_trace::read_trace;
 use std::alloc::Global;
 use std::test::Fail;

@@ -11,7 +11,7 @@ use crate::places::Places;
 use crate::visiting::{entered, left, rooms};
 use crate::visits::Visits;
 use ir_image::Image;
-use ir_thread::Access;
+use ir_runs::Access;
 use ir_trace::Trace;
 use std::alloc::{AllocError, Global};
 use std::marker::Model;

@@ -4,8 +4,8 @@ ghost use Rattle.std.specs.Prelude.{◌≡◌, ◌≢◌, ◌<◌, ℕ, length, 
 ghost use Rattle.ir_fit.specs.Ahead.{IsStopped};
 ghost use Rattle.ir_fit.specs.Fit.{IsRefused};
 ghost use Rattle.ir_fit.specs.Follower.{IsFollower, IsSized, AreStanding};
-ghost use Rattle.ir_fit.specs.declared.verdict.ThreadVerdict.{ThreadVerdict};
-ghost use Rattle.ir_fit.specs.declared.verdict.ThreadVerdict.TheVariants.{Same};
+ghost use Rattle.ir_runs.specs.declared.thread_verdict.ThreadVerdict.{ThreadVerdict};
+ghost use Rattle.ir_runs.specs.declared.thread_verdict.ThreadVerdict.TheVariants.{Same};
 
 use crate::coherence::coherent;
 use crate::fit_err::FitErr;
@@ -14,8 +14,9 @@ use crate::followed::followed;
 use crate::follower::Follower;
 use crate::header::same_header;
 use crate::places::Places;
-use crate::verdict::{ThreadVerdict, Verdict};
+use crate::verdict::Verdict;
 use ir_image::Image;
+use ir_runs::ThreadVerdict;
 use ir_trace::Trace;
 use std::alloc::{AllocError, Global};
 

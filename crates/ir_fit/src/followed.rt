@@ -6,15 +6,15 @@ ghost use Rattle.ir_flat.specs.Flat.{start_flat, tables, machine};
 ghost use Rattle.ir_trace.specs.Told.{trace_of};
 ghost use Rattle.ir_fit.specs.Ahead.{IsStopped};
 ghost use Rattle.ir_fit.specs.Follower.{IsFollower, IsFollowed, IsSized};
-ghost use Rattle.ir_fit.specs.Standing.{StandsAs};
+ghost use Rattle.ir_runs.specs.Standing.{StandsAs};
 
 use crate::follower::Follower;
 use crate::look::Look;
 use crate::places::Places;
 use crate::readiness::Readiness;
-use crate::verdict::ThreadVerdict;
 use ir_flat::Flat;
 use ir_image::Image;
+use ir_runs::ThreadVerdict;
 use ir_trace::{ThreadTrace, Trace};
 use std::alloc::{AllocError, Global};
 

@@ -1,6 +1,6 @@
 //! A leave of an object.
 
-use ir_thread::Access;
+use ir_runs::Access;
 
 /// A leave of an object by a thread, by a call or after its end.
 #[derive(Clone, Copy, Debug, PartialEq, Eq)]

@@ -51,4 +51,4 @@ pub use laws::{
 pub use leave::Leave;
 pub use look::is_open;
 pub use place::Place;
-pub use verdict::{ThreadVerdict, Verdict};
+pub use verdict::Verdict;

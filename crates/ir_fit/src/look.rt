@@ -14,7 +14,8 @@ ghost use Rattle.ir_fit.specs.Ahead.{steps_ahead, IsOpen, EndsSo, IsOwn, IsSeen}
 use crate::follower::Follower;
 use ir_log::{Disagree, Event};
 use ir_object::Object;
-use ir_thread::{Access, Ask, End, EnvKind};
+use ir_runs::{Access, EnvKind};
+use ir_thread::{Ask, End};
 
 // A step that follows the trace: its thread, what the thread asks, and the result of the step.
 #[derive(Clone, Copy)]

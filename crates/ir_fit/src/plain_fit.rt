@@ -1,11 +1,12 @@
 //! What `fit` answers of a trace of two threads, found by looking at all events and by trying all orders of the steps.
 //! Slow, and nothing of `fit` is used.
 
-use crate::{Cause, ThreadVerdict};
+use crate::Cause;
 use ir_flat::Flat;
 use ir_log::Event;
 use ir_object::Object;
-use ir_thread::{Access, Ask, End};
+use ir_runs::{Access, ThreadVerdict};
+use ir_thread::{Ask, End};
 use ir_trace::Trace;
 use std::alloc::{AllocError, Global};
 

@@ -3,10 +3,10 @@
 use crate::coherence_tests::put;
 use crate::fit_tests::guest;
 use crate::plain_fit::{Answer, broken, standing};
-use crate::{Cause, FitErr, ThreadVerdict, Verdict, fit};
+use crate::{Cause, FitErr, Verdict, fit};
 use ir_flat::Flat;
 use ir_log::Event;
-use ir_thread::EnvKind;
+use ir_runs::{EnvKind, ThreadVerdict};
 use ir_trace::{Trace, read_trace};
 use std::alloc::{AllocError, Global};
 use std::test::Fail;

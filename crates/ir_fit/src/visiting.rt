@@ -10,7 +10,7 @@ use crate::place::Place;
 use crate::places::Places;
 use crate::visits::{Rooms, Visits};
 use ir_log::Event;
-use ir_thread::Access;
+use ir_runs::Access;
 use ir_trace::Trace;
 use std::alloc::{AllocError, Global};
 

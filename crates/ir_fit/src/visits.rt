@@ -8,7 +8,7 @@ ghost use Rattle.ir_fit.specs.declared.place.Place.{Place};
 
 use crate::object_places::ObjectPlaces;
 use crate::place::Place;
-use ir_thread::Access;
+use ir_runs::Access;
 use std::alloc::{AllocError, Global};
 use std::marker::Model;
 

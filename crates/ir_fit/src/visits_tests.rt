@@ -3,7 +3,7 @@
 use crate::fit_tests::{CROSSED, READ_AND_WRITE, crossed_trace, guest};
 use crate::{Fitted, Place, fit};
 use ir_image::Image;
-use ir_thread::Access;
+use ir_runs::Access;
 use ir_trace::read_trace;
 use std::alloc::Global;
 use std::test::Fail;

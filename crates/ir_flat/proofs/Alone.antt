@@ -2,19 +2,19 @@
 use Rattle.std.proofs.Common.{◌≡◌, ℕ, zero, suc, ◌<◌, Bool, true, false, eqb, List, ◌∷◌, length, set, replicate, refl, sym, ap, ◌∙◌, subst, arith, get_or-set_same, length-set}
 use Rattle.std.proofs.lemmas.List.{set-get_or, set-set}
 use Rattle.ir_thread.specs.Calls.{Permits, ask_of, after_ask, after_reply, step_of, run_of}
-use Rattle.ir_thread.specs.Marks.{Mark, Quiet}
+use Rattle.ir_runs.specs.Marks.{Mark, Quiet}
 use Rattle.ir_thread.specs.Private.{PrivateSteps}
 use Rattle.ir_thread.specs.State as thread
 use Rattle.ir_thread.specs.declared.ask.Ask.TheVariants.{Private}
 use Rattle.ir_thread.specs.declared.ask.Reply.TheVariants.{Go}
 use Rattle.ir_thread.proofs.Asked.{ask_permits}
-use Rattle.ir_object.specs.Object.{target, told}
-use Rattle.ir_thread.specs.Machine.{act_of}
+use Rattle.ir_runs.specs.Object.{target, told}
+use Rattle.ir_runs.specs.Machine.{act_of}
 use Rattle.ir_thread.specs.Instance.{shared_ask}
 use Rattle.ir_flat.specs.Alone.{WentAlone}
 use Rattle.ir_flat.specs.Flat.{Flat, idle, thread_of, tables, machine, IsFlat}
 use Rattle.ir_flat.specs.Next.{with_thread, MayStep}
-use Rattle.ir_flat.specs.Run.{after, mark, IsRun, end, join_if, trail, events, log}
+use Rattle.ir_runs.specs.Run.{after, mark, IsRun, end, join_if, trail, events, log}
 use Rattle.ir_flat.proofs.Keeps.{may_can, next_flat}
 use Rattle.ir_flat.proofs.Next.{next_after}
 

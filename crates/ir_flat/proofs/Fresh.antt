@@ -5,7 +5,7 @@ use Rattle.std.proofs.lemmas.Bool.{cases_lt}
 use Rattle.ir_image.specs.Guest.{Guest, IsGuest, object_count}
 use Rattle.ir_thread.specs.Held.{held_at}
 use Rattle.ir_thread.specs.State as thread
-use Rattle.ir_thread.specs.declared.ask.Access.{Access}
+use Rattle.ir_runs.specs.declared.access.Access.{Access}
 use Rattle.ir_object.specs.Cell.{Cell, Counts, readers, has_writer}
 use Rattle.ir_object.specs.declared.fields.Fields.{Fields}
 use Rattle.ir_object.specs.Word.{bit_of}

@@ -4,24 +4,24 @@ use Rattle.std.specs.Prelude.{slice_index, IsTrue}
 use Rattle.ir_thread.specs.Calls.{ask_of, Permits, most_events}
 use Rattle.ir_thread.specs.Held.{held_at}
 use Rattle.ir_thread.specs.Instance.{shared_ask}
-use Rattle.ir_thread.specs.Machine.{act_of, upd}
+use Rattle.ir_runs.specs.Machine.{act_of, upd}
 use Rattle.ir_thread.specs.State as thread
-use Rattle.ir_thread.specs.declared.ask.Access.{Access}
-use Rattle.ir_thread.specs.declared.ask.Access.TheVariants.{Reading, Writing}
+use Rattle.ir_runs.specs.declared.access.Access.{Access}
+use Rattle.ir_runs.specs.declared.access.Access.TheVariants.{Reading, Writing}
 use Rattle.ir_thread.specs.declared.ask.Ask.{Ask}
 use Rattle.ir_thread.specs.declared.ask.Ask.TheVariants.{Private, Env, Enter, Leave, Get, Put, Print, End, Done}
 use Rattle.ir_thread.specs.declared.ask.Reply.TheVariants.{Go, Value}
 use Rattle.ir_thread.proofs.Asked.{ask_permits}
 use Rattle.ir_thread.proofs.Highest.{above_held}
 use Rattle.ir_object.specs.Cell.{Cell, CanLeave, Counts, readers, one_if_reading}
-use Rattle.ir_object.specs.Object.{target, Admits}
+use Rattle.ir_runs.specs.Object.{target, Admits}
 use Rattle.ir_object.specs.Word.{IsFields, entered, left_by, bit_of}
 use Rattle.ir_object.proofs.Stands.{admits_reader, reader_admitted, admits_writer, writer_admitted, entry_counts, can_leave, leave_counts}
-use Rattle.ir_object.proofs.Tables.{upd_elim, upd_id}
+use Rattle.ir_runs.proofs.CallerLemmas.{upd_elim, upd_id}
 use Rattle.ir_flat.specs.Flat.{Flat, idle, empty, thread_of, cell_of, inside_of, tables, machine, IsShared, IsFlat}
 use Rattle.ir_flat.specs.Kept.{IsKept}
 use Rattle.ir_flat.specs.Next.{with_thread, with_object, next, MayStep}
-use Rattle.ir_flat.specs.Run.{Can, after}
+use Rattle.ir_runs.specs.Run.{Can, after}
 use Rattle.ir_flat.proofs.Kept.{held_length, stays_kept, events_most}
 use Rattle.ir_flat.proofs.Next.{table-set, inside-set, still, next_after}
 

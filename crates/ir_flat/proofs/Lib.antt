@@ -1,12 +1,9 @@
-pub mod Good
-pub mod Stuck
 pub mod Kept
 pub mod Next
 pub mod Keeps
 pub mod Fresh
 pub mod Runs
 pub mod Alone
-pub mod Append
 pub mod Counted
 pub mod Splice
 pub mod Lone

@@ -3,7 +3,7 @@ use Rattle.std.proofs.Common.{◌≡◌, ℕ, List, [], ◌∷◌, Some, refl, a
 use Rattle.ir_thread.specs.Alone.{AllSuit, after_replies}
 use Rattle.ir_thread.specs.Calls.{ask_of, Suits}
 use Rattle.ir_thread.specs.Instance.{shared_ask, reply_of, thread_machine}
-use Rattle.ir_thread.specs.Machine.{act_of}
+use Rattle.ir_runs.specs.Machine.{act_of}
 use Rattle.ir_thread.specs.State as thread
 use Rattle.ir_thread.specs.declared.ask.Ask.{Ask}
 use Rattle.ir_thread.specs.declared.ask.Ask.TheVariants.{Private, Env, Enter, Leave, Get, Put, Print, End, Done}

@@ -6,20 +6,20 @@ use Rattle.std.proofs.lemmas.Bool.{cases_eq}
 use Rattle.ir_thread.specs.Calls.{ask_of, Permits, after_ask, after_reply}
 use Rattle.ir_thread.specs.Held.{held_at}
 use Rattle.ir_thread.specs.Instance.{shared_ask, reply_of}
-use Rattle.ir_thread.specs.Machine.{act_of, upd, Exit, Store}
+use Rattle.ir_runs.specs.Machine.{act_of, upd, Exit, Store}
 use Rattle.ir_thread.specs.State as thread
-use Rattle.ir_thread.specs.declared.ask.Access.{Access}
-use Rattle.ir_thread.specs.declared.ask.Access.TheVariants.{Reading, Writing}
+use Rattle.ir_runs.specs.declared.access.Access.{Access}
+use Rattle.ir_runs.specs.declared.access.Access.TheVariants.{Reading, Writing}
 use Rattle.ir_thread.specs.declared.ask.Ask.{Ask}
 use Rattle.ir_thread.specs.declared.ask.Ask.TheVariants.{Private, Env, Enter, Leave, Get, Put, Print, End, Done}
 use Rattle.ir_thread.specs.declared.ask.Reply.TheVariants.{Go}
 use Rattle.ir_object.specs.Cell.{Cell}
-use Rattle.ir_object.specs.Object.{Object, target, acted, reply}
+use Rattle.ir_runs.specs.Object.{Object, target, acted, reply}
 use Rattle.ir_object.specs.Word.{entered, left_by}
-use Rattle.ir_object.proofs.Tables.{upd_same, upd_other, upd_elim, upd_id}
+use Rattle.ir_runs.proofs.CallerLemmas.{upd_same, upd_other, upd_elim, upd_id}
 use Rattle.ir_flat.specs.Flat.{Flat, idle, empty, thread_of, cell_of, inside_of, object_with, tables, machine, IsFlat}
 use Rattle.ir_flat.specs.Next.{with_thread, with_object, next, MayStep}
-use Rattle.ir_flat.specs.Run.{State, after}
+use Rattle.ir_runs.specs.Run.{State, after}
 
 -- a write to a list is a change of its table
 pub table-set : {A : Type 0} (xs : List A) (i : ℕ) (v d : A) → i < length xs → (λ j. get_or (set xs i v) j d) ≡ upd (λ j. get_or xs j d) i v

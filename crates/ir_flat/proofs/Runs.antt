@@ -5,26 +5,25 @@ use Rattle.std.proofs.lemmas.List.{get_or_past}
 use Rattle.ir_image.specs.Guest.{Guest, object_count}
 use Rattle.ir_thread.specs.Calls.{ask_of, after_ask, after_reply, Permits}
 use Rattle.ir_thread.specs.Instance.{shared_ask, reply_of, is_result, thread_machine}
-use Rattle.ir_thread.specs.Machine as machine
-use Rattle.ir_thread.specs.Machine.{upd}
+use Rattle.ir_runs.specs.Machine as machine
+use Rattle.ir_runs.specs.Machine.{upd}
 use Rattle.ir_thread.specs.State as thread
-use Rattle.ir_thread.specs.declared.ask.Access.{Access}
+use Rattle.ir_runs.specs.declared.access.Access.{Access}
 use Rattle.ir_thread.specs.declared.ask.Ask.{Ask}
 use Rattle.ir_thread.specs.declared.ask.Ask.TheVariants.{Private, Env, Enter, Leave, Get, Put, Print, End, Done}
-use Rattle.ir_thread.specs.declared.ask.EnvKind.{EnvKind}
-use Rattle.ir_thread.specs.declared.ask.EnvKind.TheVariants.{Clock, Random, Input}
+use Rattle.ir_runs.specs.declared.env_kind.EnvKind.{EnvKind}
+use Rattle.ir_runs.specs.declared.env_kind.EnvKind.TheVariants.{Clock, Random, Input}
 use Rattle.ir_thread.proofs.Asked.{ask_permits}
 use Rattle.ir_thread.proofs.Lawful.{lawful}
-use Rattle.ir_object.specs.Object.{target, Admits, reply}
-use Rattle.ir_object.proofs.Tables.{upd_elim}
+use Rattle.ir_runs.specs.Object.{target, Admits, reply}
+use Rattle.ir_runs.proofs.CallerLemmas.{upd_elim, run_idle, stays_idle, some_step}
 use Rattle.ir_flat.specs.Flat.{idle, thread_of, tables, start_threads, start_flat}
 use Rattle.ir_flat.specs.Kept.{IsKept}
 use Rattle.ir_flat.specs.Laws.{NothingStuck, WritersAlone, HeldInside, CountsFit}
-use Rattle.ir_flat.specs.Run.{State, Step, act, Can, after, IsRun, end, IsIdle, IsBounded}
+use Rattle.ir_runs.specs.Run.{State, Step, act, Can, after, IsRun, end, IsIdle, IsBounded}
 use Rattle.ir_flat.proofs.Kept.{held_length, stays_kept, events_most, as_good}
 use Rattle.ir_flat.proofs.Keeps.{readers_le}
 use Rattle.ir_flat.proofs.Fresh.{start_kept, threads_length, places_at}
-use Rattle.ir_flat.proofs.Stuck.{run_idle, stays_idle, some_step}
 
 -- who steps is one of the threads
 steps_below : (code : List ℕ) (n : ℕ) (s : State thread.State) (e : Step) → IsIdle (thread_machine code) s n → Can (thread_machine code) s e → e.0 < n

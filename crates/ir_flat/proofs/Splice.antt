@@ -2,14 +2,13 @@
 use Rattle.std.proofs.Common.{◌≡◌, ◌≢◌, ℕ, suc, zero, ◌<◌, ◌≤◌, Bool, true, false, cond, eqb, ltb, List, [], ◌∷◌, ◌++◌, map, refl, sym, ap, ◌∙◌, subst, arith, inl, inr, eq-eqb, ne_eqb, append-nil}
 use Rattle.std.proofs.Math.Path.{fun_ext}
 use Rattle.std.proofs.lemmas.Bool.{cases_eq, cases_lt, lt-ltb, le-ltb, eqb-true}
-use Rattle.ir_thread.specs.Machine.{Ask, Private, Env, Enter, Try, Leave, Get, Put, Done, Act, act_of, Silent, Result, Entry, Refusal, Exit, Load, Store, Never, Machine, upd}
-use Rattle.ir_thread.specs.Marks.{Mark}
-use Rattle.ir_object.specs.Object.{Object, target, Admits, acted, reply, told}
+use Rattle.ir_runs.specs.Machine.{Ask, Private, Env, Enter, Try, Leave, Get, Put, Done, Act, act_of, Silent, Result, Entry, Refusal, Exit, Load, Store, Never, Machine, upd}
+use Rattle.ir_runs.specs.Marks.{Mark}
+use Rattle.ir_runs.specs.Object.{Object, target, Admits, acted, reply, told}
 use Rattle.ir_object.specs.Order.{is_shared, Shared, keep_if, of_thread, IsAllowed, objects_after, order_marks}
-use Rattle.ir_object.proofs.Tables.{upd_same, upd_other, upd_id}
-use Rattle.ir_flat.specs.Run.{State, Step, moved, Can, after, IsRun, end, trail, join_if, mark}
+use Rattle.ir_runs.proofs.CallerLemmas.{upd_same, upd_other, upd_id, run_append, trail_append, end_append}
+use Rattle.ir_runs.specs.Run.{State, Step, moved, Can, after, IsRun, end, trail, join_if, mark}
 use Rattle.ir_flat.specs.Splice.{MayReply, MayRun, alone_after, shared_steps, lead, led, remain, tail_of, last_steps, splice, alone_mark, marks_left, alone_trail}
-use Rattle.ir_flat.proofs.Append.{run_append, trail_append, end_append}
 
 upd_upd : {A : Type 0} (f : ℕ → A) (i : ℕ) (v w : A) → upd (upd f i v) i w ≡ upd f i w
 upd_upd f i v w = fun_ext (λ j. elim (cases_eq j i) [

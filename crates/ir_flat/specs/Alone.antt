@@ -3,7 +3,7 @@ use Rattle.std.specs.Prelude.{◌≡◌, ◌<◌, ℕ, [], length, replicate}
 use Rattle.ir_thread.specs.Calls.{ask_of}
 use Rattle.ir_thread.specs.declared.ask.Ask.TheVariants as ask
 use Rattle.ir_flat.specs.Flat.{Flat, tables, machine}
-use Rattle.ir_flat.specs.Run.{IsRun, end, log}
+use Rattle.ir_runs.specs.Run.{IsRun, end, log}
 
 -- g is f after so many steps of thread t, each of them private
 pub record WentAlone (f g : Flat) (t count : ℕ) : Type 0 where

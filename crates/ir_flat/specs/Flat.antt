@@ -4,14 +4,14 @@ use Rattle.std.specs.List.{slice_index_or}
 use Rattle.ir_image.specs.Guest.{Guest, object_count, object_words}
 use Rattle.ir_thread.specs.Held.{held_at}
 use Rattle.ir_thread.specs.Instance.{thread_machine}
-use Rattle.ir_thread.specs.Machine.{Machine}
+use Rattle.ir_runs.specs.Machine.{Machine}
 use Rattle.ir_thread.specs.State.{State, start_state}
-use Rattle.ir_thread.specs.declared.ask.Access.{Access}
+use Rattle.ir_runs.specs.declared.access.Access.{Access}
 use Rattle.ir_thread.specs.declared.end.End.TheVariants.{Breakpoint}
 use Rattle.ir_object.specs.Cell.{Cell, Counts}
-use Rattle.ir_object.specs.Object.{Object}
+use Rattle.ir_runs.specs.Object.{Object}
 use Rattle.ir_flat.specs.Kept.{IsKept}
-use Rattle.ir_flat.specs.Run as run
+use Rattle.ir_runs.specs.Run as run
 
 -- the lists that the code keeps
 pub record Flat : Type 0 where

@@ -3,11 +3,11 @@ use Rattle.std.specs.Prelude.{◌≡◌, ◌≢◌, ◌+◌, ◌<◌, ◌≤◌,
 use Rattle.ir_thread.specs.Calls.{most_events}
 use Rattle.ir_thread.specs.Held.{held_at}
 use Rattle.ir_thread.specs.State as thread
-use Rattle.ir_thread.specs.declared.ask.Access.TheVariants.{Writing}
+use Rattle.ir_runs.specs.declared.access.Access.TheVariants.{Writing}
 use Rattle.ir_object.specs.Cell.{readers, has_writer}
-use Rattle.ir_object.specs.Object.{Object}
+use Rattle.ir_runs.specs.Object.{Object}
 use Rattle.ir_object.specs.Word.{bit_of}
-use Rattle.ir_flat.specs.Run.{State}
+use Rattle.ir_runs.specs.Run.{State}
 
 -- how many events the first n threads have logged
 abbrev pub events_below : ℕ → (ℕ → thread.State) → ℕ

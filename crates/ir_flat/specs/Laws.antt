@@ -1,12 +1,12 @@
 -- What holds in each state that a run reaches.
 use Rattle.std.specs.Prelude.{◌≡◌, ◌≢◌, ℕ, ◌^◌, ◌<◌, ◌≤◌, List, length, Some, None}
 use Rattle.ir_image.specs.Guest.{Guest}
-use Rattle.ir_thread.specs.Machine.{Done}
-use Rattle.ir_thread.specs.declared.ask.Access.TheVariants.{Writing}
+use Rattle.ir_runs.specs.Machine.{Done}
+use Rattle.ir_runs.specs.declared.access.Access.TheVariants.{Writing}
 use Rattle.ir_object.specs.Cell.{readers}
-use Rattle.ir_object.specs.Object.{Object}
+use Rattle.ir_runs.specs.Object.{Object}
 use Rattle.ir_flat.specs.Flat.{start_flat, tables, machine}
-use Rattle.ir_flat.specs.Run.{Step, IsRun, end, asked, Can}
+use Rattle.ir_runs.specs.Run.{Step, IsRun, end, asked, Can}
 
 -- in each state that a run reaches and in which a thread isn't done, some thread has a step with result 0
 abbrev pub NothingStuck : Type 0

@@ -1,4 +1,3 @@
-pub mod Run
 pub mod Kept
 pub mod Flat
 pub mod Next

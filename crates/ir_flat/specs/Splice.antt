@@ -5,10 +5,10 @@ use Rattle.ir_thread.specs.Calls.{ask_of}
 use Rattle.ir_thread.specs.Instance.{reply_of, thread_machine}
 use Rattle.ir_thread.specs.State as thread
 use Rattle.ir_thread.specs.declared.ask.Reply.{Reply}
-use Rattle.ir_thread.specs.Machine.{Act, act_of, Silent, Result, Entry, Refusal, Exit, Load, Store, Never, Done, Machine, upd}
-use Rattle.ir_thread.specs.Marks.{Mark, Quiet, Answer, Refused}
+use Rattle.ir_runs.specs.Machine.{Act, act_of, Silent, Result, Entry, Refusal, Exit, Load, Store, Never, Done, Machine, upd}
+use Rattle.ir_runs.specs.Marks.{Mark, Quiet, Answer, Refused}
 use Rattle.ir_object.specs.Order.{is_shared, Shared, keep_if, of_thread, IsAllowed, objects_after, order_marks}
-use Rattle.ir_flat.specs.Run.{State, Step, IsRun, IsDone, end, trail}
+use Rattle.ir_runs.specs.Run.{State, Step, IsRun, IsDone, end, trail}
 
 -- what may be answered to a thread that runs alone
 abbrev pub MayReply : {T : Type 0} → Machine T → Act → ℕ → Type 0

@@ -2,7 +2,7 @@
 
 ghost use Rattle.ir_flat.specs.Alone.{WentAlone};
 ghost use Rattle.ir_flat.specs.Flat.{Flat, IsFlat, start_flat, thread_of, cell_of, tables, machine};
-ghost use Rattle.ir_flat.specs.Run.{Can, after};
+ghost use Rattle.ir_runs.specs.Run.{Can, after};
 ghost use Rattle.ir_flat.specs.Next.{next, MayStep};
 ghost use Rattle.ir_image.specs.Guest.{object_count};
 ghost use Rattle.ir_thread.specs.Calls.{ask_of, Permits};

@@ -11,7 +11,8 @@ ghost use Rattle.std.specs.Prelude.{ℕ, ◌≡◌, ◌<◌, ◌≤◌, ◌≢�
 
 use ir_image::Code;
 use ir_object::Object;
-use ir_thread::{Access, Ask, EnvKind, Reply, Thread};
+use ir_runs::{Access, EnvKind};
+use ir_thread::{Ask, Reply, Thread};
 use std::alloc::{AllocError, Global};
 use std::marker::Model;
 

@@ -1,8 +1,8 @@
 -- What an event tells of a step.
 use Rattle.std.specs.Prelude.{◌≡◌}
-use Rattle.ir_thread.specs.Marks.{Mark}
-use Rattle.ir_thread.specs.Marks as marks
-use Rattle.ir_thread.specs.declared.ask.Access.TheVariants.{Reading, Writing}
+use Rattle.ir_runs.specs.Marks.{Mark}
+use Rattle.ir_runs.specs.Marks as marks
+use Rattle.ir_runs.specs.declared.access.Access.TheVariants.{Reading, Writing}
 use Rattle.ir_thread.specs.declared.ask.Ask.{Ask}
 use Rattle.ir_thread.specs.declared.ask.Ask.TheVariants.{Env, Enter}
 use Rattle.ir_log.specs.declared.event.Event.{Event}

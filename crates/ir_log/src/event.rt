@@ -1,6 +1,7 @@
 //! What a thread logs of a step.
 
-use ir_thread::{Access, Ask, EnvKind};
+use ir_runs::{Access, EnvKind};
+use ir_thread::Ask;
 use std::mem::size_of;
 
 /// What a thread logs of one step that others decide.

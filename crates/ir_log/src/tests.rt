@@ -1,5 +1,6 @@
 use crate::{Cursor, Disagree, Event, Log, MOST_EVENTS};
-use ir_thread::{Access, Ask, EnvKind};
+use ir_runs::{Access, EnvKind};
+use ir_thread::Ask;
 use std::alloc::{AllocError, Global};
 use std::test::Fail;
 

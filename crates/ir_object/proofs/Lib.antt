@@ -1,4 +1,3 @@
-pub mod Tables
 pub mod Stands
 pub mod Order
 pub mod Words

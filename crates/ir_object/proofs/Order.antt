@@ -2,13 +2,13 @@
 use Rattle.std.proofs.Common.{◌≡◌, ◌≢◌, ℕ, zero, suc, ◌+◌, ◌*◌, ◌<◌, ◌≤◌, Bool, true, false, eqb, List, [], ◌∷◌, ◌++◌, map, Option, Some, None, refl, sym, ap, ◌∙◌, subst, arith, inl, inr, eq-eqb, ne_eqb}
 use Rattle.std.proofs.Math.Path.{fun_ext}
 use Rattle.std.proofs.lemmas.Bool.{cases_eq, cases_lt}
-use Rattle.ir_thread.specs.Machine.{Act, Silent, Result, Entry, Refusal, Exit, Load, Store, Never, Machine, upd}
-use Rattle.ir_thread.specs.Marks.{Mark}
-use Rattle.ir_thread.specs.declared.ask.Access.{Access}
-use Rattle.ir_thread.specs.declared.ask.Access.TheVariants.{Reading, Writing}
-use Rattle.ir_object.specs.Object.{Object, target, Admits, acted, reply, told}
+use Rattle.ir_runs.specs.Machine.{Act, Silent, Result, Entry, Refusal, Exit, Load, Store, Never, Machine, upd}
+use Rattle.ir_runs.specs.Marks.{Mark}
+use Rattle.ir_runs.specs.declared.access.Access.{Access}
+use Rattle.ir_runs.specs.declared.access.Access.TheVariants.{Reading, Writing}
+use Rattle.ir_runs.specs.Object.{Object, target, Admits, acted, reply, told}
 use Rattle.ir_object.specs.Order.{is_shared, Shared, keep_if, of_thread, objects_then, objects_after, IsAllowed, order_marks, Uses, IsStep, IsLegal, inside_then, inside_if, inside_after}
-use Rattle.ir_object.proofs.Tables.{upd_same, upd_other, upd_elim}
+use Rattle.ir_runs.proofs.CallerLemmas.{upd_same, upd_other, upd_elim}
 
 -- ---- one step more
 

@@ -2,15 +2,15 @@
 use Rattle.std.proofs.Common.{◌≡◌, ◌≢◌, ℕ, zero, suc, ◌+◌, ◌<◌, ◌≤◌, Bool, true, false, length, Option, Some, None, refl, sym, ap, ◌∙◌, subst, arith, inl, inr, get_or-set_same, get_or-set_other}
 use Rattle.std.specs.Prelude.{◌||◌, slice_index, slice_set}
 use Rattle.std.proofs.lemmas.Bool.{cases_eq, cases_lt}
-use Rattle.ir_thread.specs.Machine.{upd}
-use Rattle.ir_thread.specs.declared.ask.Access.{Access}
-use Rattle.ir_thread.specs.declared.ask.Access.TheVariants.{Reading, Writing}
+use Rattle.ir_runs.specs.Machine.{upd}
+use Rattle.ir_runs.specs.declared.access.Access.{Access}
+use Rattle.ir_runs.specs.declared.access.Access.TheVariants.{Reading, Writing}
 use Rattle.ir_object.specs.declared.fields.Fields.{Fields}
 use Rattle.ir_object.specs.Cell.{Cell, Admitted, CanLeave, one_if_reading, is_writing, readers, has_writer, Counts, StandsFor, WordsStand}
 use Rattle.ir_object.specs.Word.{entered, left_by}
-use Rattle.ir_object.specs.Object.{Object, acted}
-use Rattle.ir_thread.specs.Machine.{Entry, Exit, Store}
-use Rattle.ir_object.proofs.Tables.{upd_same, upd_other, upd_elim}
+use Rattle.ir_runs.specs.Object.{Object, acted}
+use Rattle.ir_runs.specs.Machine.{Entry, Exit, Store}
+use Rattle.ir_runs.proofs.CallerLemmas.{upd_same, upd_other, upd_elim}
 
 or_false : (a b : Bool) → (a || b) ≡ false → (a ≡ false) × (b ≡ false)
 or_false false b e = (refl, e)

@@ -1,7 +1,7 @@
 -- What a step of a thread makes of the word that it finds.
 use Rattle.std.proofs.Common.{◌≡◌, ℕ, ◌+◌, ◌-◌, ◌*◌, ◌/◌, ◌%◌, ◌^◌, ◌==◌, ◌<◌, false, sym, ◌∙◌, arith, inl, inr, eq-eqb}
 use Rattle.std.proofs.lemmas.Bool.{cases_eq}
-use Rattle.ir_thread.specs.declared.ask.Access.TheVariants.{Reading, Writing}
+use Rattle.ir_runs.specs.declared.access.Access.TheVariants.{Reading, Writing}
 use Rattle.ir_object.specs.Cell.{Admitted}
 use Rattle.ir_object.specs.Word.{fields_of, entered, left_by}
 use Rattle.ir_object.specs.declared.fields.Fields.{Fields}

@@ -1,10 +1,10 @@
 -- An object as the code keeps it, and the objects that it stands for.
 use Rattle.std.specs.Prelude.{◌≡◌, ◌≢◌, ◌↔◌, ◌+◌, ◌<◌, ◌≤◌, ℕ, zero, suc, Bool, true, false, ◌||◌, List, length, slice_index, slice_set, Option, Some, None}
-use Rattle.ir_thread.specs.declared.ask.Access.{Access}
-use Rattle.ir_thread.specs.declared.ask.Access.TheVariants.{Reading, Writing}
+use Rattle.ir_runs.specs.declared.access.Access.{Access}
+use Rattle.ir_runs.specs.declared.access.Access.TheVariants.{Reading, Writing}
 use Rattle.ir_object.specs.declared.fields.Fields.{Fields}
-use Rattle.ir_object.specs.Object.{Object, acted}
-use Rattle.ir_thread.specs.Machine.{Entry, Exit, Store}
+use Rattle.ir_runs.specs.Object.{Object, acted}
+use Rattle.ir_runs.specs.Machine.{Entry, Exit, Store}
 use Rattle.ir_object.specs.Word.{entered, left_by}
 
 -- an object of the code

@@ -1,10 +1,10 @@
 -- Object steps of several threads in one order.
 use Rattle.std.specs.Prelude.{◌≡◌, ◌≢◌, ℕ, ◌^◌, ◌<◌, Bool, true, false, eqb, List, [], ◌∷◌, Option, Some, None}
-use Rattle.ir_thread.specs.Machine.{Act, Silent, Result, Entry, Refusal, Exit, Load, Store, Never, Machine, upd}
-use Rattle.ir_thread.specs.Marks.{Mark}
-use Rattle.ir_thread.specs.declared.ask.Access.{Access}
-use Rattle.ir_thread.specs.declared.ask.Access.TheVariants.{Writing}
-use Rattle.ir_object.specs.Object.{Object, target, Admits, acted, reply, told}
+use Rattle.ir_runs.specs.Machine.{Act, Silent, Result, Entry, Refusal, Exit, Load, Store, Never, Machine, upd}
+use Rattle.ir_runs.specs.Marks.{Mark}
+use Rattle.ir_runs.specs.declared.access.Access.{Access}
+use Rattle.ir_runs.specs.declared.access.Access.TheVariants.{Writing}
+use Rattle.ir_runs.specs.Object.{Object, target, Admits, acted, reply, told}
 
 -- whether the act is about an object
 abbrev pub is_shared : Act → Bool

@@ -1,6 +1,6 @@
 //! What running threads tell of their entries, leaves and steps.
 
-use ir_thread::Access;
+use ir_runs::Access;
 
 /// Is told of entries and leaves by those who run threads: of an entry just after it, of a leave just before it.
 pub trait Gate {

@@ -1,15 +1,15 @@
 //! An object: its word and its eight words of contents.
 
 ghost use Rattle.ir_object.specs.Cell.{Cell, Admitted, CanLeave, StandsFor};
-ghost use Rattle.ir_object.specs.Object.{Object, acted};
+ghost use Rattle.ir_runs.specs.Object.{Object, acted};
 ghost use Rattle.ir_object.specs.Word.{IsFields, fields_of, entered, left_by};
-ghost use Rattle.ir_thread.specs.Machine.{Entry, Exit, Store};
-ghost use Rattle.ir_thread.specs.declared.ask.Access.TheVariants.{Reading, Writing};
+ghost use Rattle.ir_runs.specs.Machine.{Entry, Exit, Store};
+ghost use Rattle.ir_runs.specs.declared.access.Access.TheVariants.{Reading, Writing};
 ghost use Rattle.std.specs.Prelude.{◌≡◌, ◌<◌, ◌≢◌, ◌↔◌, ℕ, false, length, slice_index, slice_set, IsTrue, Some, None};
 
 use crate::fields::Fields;
 use crate::word::Word;
-use ir_thread::Access;
+use ir_runs::Access;
 use std::marker::Model;
 
 /// An object: a word that says who is inside and which version it has, and eight words of contents.

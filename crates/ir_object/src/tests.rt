@@ -1,7 +1,7 @@
 //! The word beside a list of readers and a writer.
 
 use crate::{Object, Word};
-use ir_thread::Access;
+use ir_runs::Access;
 use std::test::Fail;
 
 // The slow way: the numbers of the readers inside, and the writer's.

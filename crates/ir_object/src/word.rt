@@ -2,7 +2,7 @@
 
 ghost use Rattle.ir_object.specs.Cell.{Admitted};
 ghost use Rattle.ir_object.specs.Word.{IsFields, word_of, fields_of, left_by};
-ghost use Rattle.ir_thread.specs.declared.ask.Access.TheVariants.{Reading, Writing};
+ghost use Rattle.ir_runs.specs.declared.access.Access.TheVariants.{Reading, Writing};
 ghost use Rattle.std.specs.Prelude.{◌≡◌, ◌↔◌, ◌+◌, ◌<◌, ◌^◌, IsTrue};
 
 use crate::fields::Fields;

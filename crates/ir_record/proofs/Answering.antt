@@ -2,14 +2,14 @@
 use Rattle.std.proofs.Common.{◌≡◌, ℕ, ◌<◌, true, List, [], ◌∷◌, ◌++◌, length, set, sym, ap, ◌∙◌, subst, arith, get_or-set_same, get_or-set_other}
 use Rattle.ir_thread.specs.Calls.{ask_of, Permits, most_events}
 use Rattle.ir_thread.specs.Instance.{shared_ask, is_result}
-use Rattle.ir_thread.specs.Machine.{act_of}
-use Rattle.ir_thread.specs.Marks.{Answer}
+use Rattle.ir_runs.specs.Machine.{act_of}
+use Rattle.ir_runs.specs.Marks.{Answer}
 use Rattle.ir_thread.specs.declared.ask.Ask.TheVariants.{Env}
-use Rattle.ir_thread.specs.declared.ask.EnvKind.{EnvKind}
+use Rattle.ir_runs.specs.declared.env_kind.EnvKind.{EnvKind}
 use Rattle.ir_thread.proofs.Asked.{ask_permits}
-use Rattle.ir_object.specs.Object.{target, told, Admits}
+use Rattle.ir_runs.specs.Object.{target, told, Admits}
 use Rattle.ir_flat.specs.Flat.{Flat, thread_of, tables, machine, IsFlat}
-use Rattle.ir_flat.specs.Run.{Can, after}
+use Rattle.ir_runs.specs.Run.{Can, after}
 use Rattle.ir_flat.proofs.Kept.{added}
 use Rattle.ir_log.specs.Logged.{Logged}
 use Rattle.ir_log.specs.declared.event.Event.TheVariants as event

@@ -1,13 +1,13 @@
 -- What callers cite.
 use Rattle.std.specs.Prelude.{ℕ, List}
 use Rattle.ir_image.specs.Guest.{Guest}
-use Rattle.ir_thread.specs.Machine.{Machine}
-use Rattle.ir_flat.specs.Run.{State, Step, IsComplete}
+use Rattle.ir_runs.specs.Machine.{Machine}
+use Rattle.ir_runs.specs.Run.{State, Step, IsComplete}
 use Rattle.ir_trace.specs.Recorded.{Recorded}
-use Rattle.ir_record.specs.InOrder.{IsByOrder, rounds}
+use Rattle.ir_runs.specs.InOrder.{IsByOrder, rounds}
 use Rattle.ir_record.specs.Recording.{IsRecordingOfSome, IsRecording}
 use Rattle.ir_record.specs.Worlds.{Answered}
-use Rattle.ir_record.proofs.Turns.{turns_run}
+use Rattle.ir_runs.proofs.CallerLemmas.{turns_run}
 use Rattle.std.proofs.Common.{◌++◌, length}
 use Rattle.ir_flat.specs.Flat.{start_flat, tables, machine}
 

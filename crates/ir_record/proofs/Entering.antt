@@ -2,23 +2,23 @@
 use Rattle.std.proofs.Common.{◌≡◌, ℕ, ◌<◌, true, false, Bool, List, [], ◌∷◌, ◌++◌, length, set, Result, Ok, Err, OnOk, OnErr, is_ok, is_err, refl, sym, ap, ◌∙◌, subst, arith, append-nil}
 use Rattle.ir_thread.specs.Calls.{ask_of, Permits, most_events}
 use Rattle.ir_thread.specs.Instance.{shared_ask}
-use Rattle.ir_thread.specs.Machine as machine
-use Rattle.ir_thread.specs.Machine.{act_of}
-use Rattle.ir_thread.specs.Marks.{Mark, logged}
-use Rattle.ir_thread.specs.declared.ask.Access.{Access}
-use Rattle.ir_thread.specs.declared.ask.Access.TheVariants.{Reading, Writing}
+use Rattle.ir_runs.specs.Machine as machine
+use Rattle.ir_runs.specs.Machine.{act_of}
+use Rattle.ir_runs.specs.Marks.{Mark, logged}
+use Rattle.ir_runs.specs.declared.access.Access.{Access}
+use Rattle.ir_runs.specs.declared.access.Access.TheVariants.{Reading, Writing}
 use Rattle.ir_thread.specs.declared.ask.Ask.{Ask}
 use Rattle.ir_thread.specs.declared.ask.Ask.TheVariants.{Private, Env, Enter, Leave, Get, Put, Print, End, Done}
 use Rattle.ir_thread.proofs.Asked.{ask_permits}
-use Rattle.ir_object.specs.Object.{Object, target, told, Admits}
+use Rattle.ir_runs.specs.Object.{Object, target, told, Admits}
 use Rattle.ir_flat.specs.Flat.{Flat, thread_of, tables, machine, IsFlat}
-use Rattle.ir_flat.specs.Run.{Can, after, mark}
+use Rattle.ir_runs.specs.Run.{Can, after, mark}
 use Rattle.ir_flat.proofs.Kept.{added}
 use Rattle.ir_log.specs.Logged.{Logged}
 use Rattle.ir_log.specs.Logging.{mark_of}
 use Rattle.ir_log.specs.declared.event.Event.{Event}
 use Rattle.ir_trace.specs.Recorded.{IsEvent}
-use Rattle.ir_record.specs.InOrder.{HasNone}
+use Rattle.ir_runs.specs.InOrder.{HasNone}
 use Rattle.ir_record.specs.Progress.{TookIf, IsTape, IsQuiet, log_at, marks_at, answers_at}
 use Rattle.ir_record.specs.Worlds.{Answered, answers_in}
 use Rattle.ir_record.proofs.Steps.{took_one, took_none}

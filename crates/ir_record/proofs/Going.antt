@@ -4,15 +4,15 @@ use Rattle.std.proofs.lemmas.Bool.{cases_eq, cases_lt}
 use Rattle.std.proofs.lemmas.List.{get_or-replicate, get_or_past, length-replicate}
 use Rattle.std.specs.List.{range_with_len}
 use Rattle.ir_thread.specs.Instance.{shared_ask, thread_machine}
-use Rattle.ir_thread.specs.Machine.{Machine, Private}
-use Rattle.ir_thread.specs.Marks.{Quiet}
+use Rattle.ir_runs.specs.Machine.{Machine, Private}
+use Rattle.ir_runs.specs.Marks.{Quiet}
 use Rattle.ir_thread.specs.State as thread
 use Rattle.ir_flat.specs.Alone.{WentAlone}
 use Rattle.ir_flat.specs.Flat.{Flat, tables, machine, IsFlat}
-use Rattle.ir_flat.specs.Run.{State, Step, Can, after, mark, end, join_if, events, log}
-use Rattle.ir_flat.proofs.Append.{log_append, end_append}
+use Rattle.ir_runs.specs.Run.{State, Step, Can, after, mark, end, join_if, events, log}
+use Rattle.ir_runs.proofs.CallerLemmas.{log_append, end_append, turns_append}
 use Rattle.ir_record.specs.Ahead.{lead, IsAhead, all_ahead, NoneAhead, Went, WentIf}
-use Rattle.ir_record.specs.InOrder.{HasNone, InTurn, rounds}
+use Rattle.ir_runs.specs.InOrder.{HasNone, InTurn, rounds}
 use Rattle.ir_record.specs.Progress.{Progress, Took, TookIf, all_left, marks_at, answers_at}
 use Rattle.ir_record.specs.Worlds.{answers_in}
 use Rattle.ir_record.proofs.Joining.{range_more, rounds_more, some_run, some_after, none_in_turn}
@@ -20,7 +20,6 @@ use Rattle.ir_record.proofs.Leading.{can_alone, quiet_alone, spent, can_there, n
 use Rattle.ir_record.proofs.Running.{flat_few}
 use Rattle.ir_record.proofs.Steps.{answers_append}
 use Rattle.ir_record.proofs.Tally.{alone_less}
-use Rattle.ir_record.proofs.Turns.{turns_append}
 
 -- ---- how many steps all are ahead
 

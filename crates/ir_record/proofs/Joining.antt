@@ -2,9 +2,9 @@
 use Rattle.std.proofs.Common.{◌≡◌, ℕ, zero, suc, ◌+◌, ◌<◌, ◌≤◌, Bool, List, [], ◌∷◌, ◌++◌, length, sym, ap, ◌∙◌, subst, arith, inl, inr, length-append, append-nil, append_assoc}
 use Rattle.std.proofs.lemmas.Bool.{cases_eq}
 use Rattle.std.specs.List.{range_with_len}
-use Rattle.ir_thread.specs.Machine.{Machine}
-use Rattle.ir_flat.specs.Run.{State}
-use Rattle.ir_record.specs.InOrder.{HasNone, InTurn, rounds}
+use Rattle.ir_runs.specs.Machine.{Machine}
+use Rattle.ir_runs.specs.Run.{State}
+use Rattle.ir_runs.specs.InOrder.{HasNone, InTurn, rounds}
 use Rattle.ir_record.specs.Progress.{Progress, Took, IsReady, IsTape}
 
 pub some_run : {X : Type 0} (xs ys : List X) → 0 < length xs → 0 < length (xs ++ ys)

@@ -2,13 +2,13 @@
 use Rattle.std.proofs.Common.{◌≡◌, ◌≢◌, ℕ, zero, suc, ◌<◌, List, length, set, replicate, refl, sym, ap, ◌∙◌, subst, arith, inl, inr, get_or-set_same, get_or-set_other}
 use Rattle.std.proofs.Math.Path.{fun_ext}
 use Rattle.std.proofs.lemmas.Bool.{cases_eq}
-use Rattle.ir_thread.specs.Machine.{Machine, Private, act_of, upd}
-use Rattle.ir_thread.specs.Marks.{Quiet}
-use Rattle.ir_object.specs.Object.{Object, target, Admits, acted, reply, told}
-use Rattle.ir_object.proofs.Tables.{upd_same, upd_other, upd_id}
-use Rattle.ir_flat.specs.Run.{State, Can, after, mark, end}
+use Rattle.ir_runs.specs.Machine.{Machine, Private, act_of, upd}
+use Rattle.ir_runs.specs.Marks.{Quiet}
+use Rattle.ir_runs.specs.Object.{Object, target, Admits, acted, reply, told}
+use Rattle.ir_runs.proofs.CallerLemmas.{upd_same, upd_other, upd_id}
+use Rattle.ir_runs.specs.Run.{State, Can, after, mark, end}
 use Rattle.ir_record.specs.Ahead.{alone, lead, IsAhead}
-use Rattle.ir_record.specs.InOrder.{HasNone}
+use Rattle.ir_runs.specs.InOrder.{HasNone}
 
 -- ---- a private step
 

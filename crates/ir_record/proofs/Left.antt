@@ -3,14 +3,14 @@ use Rattle.std.proofs.Common.{◌≡◌, ◌≢◌, ℕ, zero, suc, ◌+◌, ◌
 use Rattle.std.proofs.lemmas.Bool.{cases_eq}
 use Rattle.ir_thread.specs.Calls.{Permits, after_ask}
 use Rattle.ir_thread.specs.Held.{held_at, held_count}
-use Rattle.ir_thread.specs.Machine.{upd}
+use Rattle.ir_runs.specs.Machine.{upd}
 use Rattle.ir_thread.specs.State as thread
 use Rattle.ir_thread.specs.declared.ask.Ask.{Ask}
 use Rattle.ir_thread.specs.declared.ask.Ask.TheVariants.{Private, Env, Enter, Leave, Get, Put, Print, End, Done}
 use Rattle.ir_thread.specs.declared.ask.Reply.{Reply}
 use Rattle.ir_thread.specs.declared.end.End as end
 use Rattle.ir_thread.proofs.Highest.{one_fewer, count_le_length}
-use Rattle.ir_object.proofs.Tables.{upd_same, upd_other}
+use Rattle.ir_runs.proofs.CallerLemmas.{upd_same, upd_other}
 use Rattle.ir_record.specs.Progress.{steps_left, all_left}
 
 -- a step of a thread that has not ended and goes on

@@ -3,13 +3,13 @@ use Rattle.std.proofs.Common.{◌≡◌, ℕ, zero, suc, ◌+◌, ◌<◌, List,
 use Rattle.std.proofs.lemmas.Bool.{cases_lt}
 use Rattle.std.proofs.lemmas.List.{get_or_past, length-replicate}
 use Rattle.std.specs.List.{AllByRecursion}
-use Rattle.ir_thread.specs.Machine.{Machine}
+use Rattle.ir_runs.specs.Machine.{Machine}
 use Rattle.ir_flat.specs.Alone.{WentAlone}
 use Rattle.ir_flat.specs.Flat.{Flat, thread_of, tables, machine, idle, IsFlat}
-use Rattle.ir_flat.specs.Run.{State, Step, after, IsRun, end}
+use Rattle.ir_runs.specs.Run.{State, Step, after, IsRun, end}
 use Rattle.ir_log.specs.Logged.{Logged}
 use Rattle.ir_trace.specs.Recorded.{IsEvent}
-use Rattle.ir_record.specs.InOrder.{InTurn}
+use Rattle.ir_runs.specs.InOrder.{InTurn}
 use Rattle.ir_record.specs.Progress.{Took, IsTape, log_at, marks_at, answers_at, all_left}
 use Rattle.ir_record.specs.Worlds.{Answered, answers_in}
 use Rattle.ir_flat.proofs.Counted.{tally}

@@ -5,10 +5,10 @@ use Rattle.std.proofs.lemmas.List.{set-get_or}
 use Rattle.std.specs.List.{range_with_len}
 use Rattle.ir_thread.specs.State as thread
 use Rattle.ir_flat.specs.Flat.{tables, machine}
-use Rattle.ir_thread.specs.Machine.{Machine}
-use Rattle.ir_flat.specs.Run.{State}
+use Rattle.ir_runs.specs.Machine.{Machine}
+use Rattle.ir_runs.specs.Run.{State}
 use Rattle.ir_record.specs.Ahead.{lead, IsAhead, CanSkip, all_ahead, Went}
-use Rattle.ir_record.specs.InOrder.{HasNone, rounds}
+use Rattle.ir_runs.specs.InOrder.{HasNone, rounds}
 use Rattle.ir_record.specs.Progress.{Progress}
 use Rattle.ir_record.proofs.Going.{range_last, went_nothing, went_both, turn_spent, turn_stays, ahead_there, reached, Rounding}
 use Rattle.ir_record.proofs.Joining.{rounds_both}

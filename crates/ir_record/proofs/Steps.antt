@@ -2,15 +2,14 @@
 use Rattle.std.proofs.Common.{◌≡◌, ◌≢◌, ℕ, zero, suc, ◌+◌, ◌<◌, ◌≤◌, true, false, List, [], ◌∷◌, ◌++◌, length, refl, sym, ap, ◌∙◌, subst, arith, inl, inr, eq-eqb, ne_eqb, append-nil, append_assoc, length-append}
 use Rattle.std.proofs.lemmas.Bool.{cases_eq}
 use Rattle.ir_thread.specs.Instance.{thread_machine}
-use Rattle.ir_thread.specs.Marks.{Mark, Quiet, Answer, In, Out, Refused, logged}
+use Rattle.ir_runs.specs.Marks.{Mark, Quiet, Answer, In, Out, Refused, logged}
 use Rattle.ir_flat.specs.Flat.{Flat, thread_of, tables, machine}
-use Rattle.ir_flat.specs.Run.{Step, Can, after, mark, end, join_if, events, log}
-use Rattle.ir_flat.proofs.Append.{log_append, end_append}
-use Rattle.ir_record.specs.InOrder.{HasNone, InTurn}
+use Rattle.ir_runs.specs.Run.{Step, Can, after, mark, end, join_if, events, log}
+use Rattle.ir_runs.proofs.CallerLemmas.{log_append, end_append, turns_append}
+use Rattle.ir_runs.specs.InOrder.{HasNone, InTurn}
 use Rattle.ir_record.specs.Progress.{Progress, Took, TookIf, all_left, marks_at, answers_at}
 use Rattle.ir_record.specs.Worlds.{answers_in}
 use Rattle.ir_record.proofs.Tally.{Few, step_less}
-use Rattle.ir_record.proofs.Turns.{turns_append}
 
 -- ---- what a step logs
 

@@ -7,16 +7,16 @@ use Rattle.ir_image.specs.Guest.{Guest, object_count}
 use Rattle.ir_thread.specs.Calls.{ask_of, after_ask, after_reply, run_of, step_of, Permits}
 use Rattle.ir_thread.specs.Held.{held_at}
 use Rattle.ir_thread.specs.Instance.{shared_ask, reply_of, is_result, thread_machine}
-use Rattle.ir_thread.specs.Machine as machine
-use Rattle.ir_thread.specs.Machine.{Act, act_of, Silent, Result, Entry, Refusal, Exit, Load, Store, Never, Machine, IsLawful, held_after}
-use Rattle.ir_thread.specs.Marks.{Mark, Quiet, Answer, In, Out, logged}
+use Rattle.ir_runs.specs.Machine as machine
+use Rattle.ir_runs.specs.Machine.{Act, act_of, Silent, Result, Entry, Refusal, Exit, Load, Store, Never, Machine, IsLawful, held_after}
+use Rattle.ir_runs.specs.Marks.{Mark, Quiet, Answer, In, Out, logged}
 use Rattle.ir_thread.specs.Private.{PrivateSteps}
 use Rattle.ir_thread.specs.State as thread
-use Rattle.ir_thread.specs.declared.ask.Access.{Access}
-use Rattle.ir_thread.specs.declared.ask.Access.TheVariants.{Reading, Writing}
+use Rattle.ir_runs.specs.declared.access.Access.{Access}
+use Rattle.ir_runs.specs.declared.access.Access.TheVariants.{Reading, Writing}
 use Rattle.ir_thread.specs.declared.ask.Ask.{Ask}
 use Rattle.ir_thread.specs.declared.ask.Ask.TheVariants as ask
-use Rattle.ir_thread.specs.declared.ask.EnvKind.{EnvKind}
+use Rattle.ir_runs.specs.declared.env_kind.EnvKind.{EnvKind}
 use Rattle.ir_thread.specs.declared.ask.Reply.TheVariants.{Go, Value}
 use Rattle.ir_thread.proofs.Asked.{ask_permits}
 use Rattle.ir_thread.proofs.Lawful.{lawful}
@@ -51,7 +51,7 @@ answers_join [] ys = refl
 answers_join (Quiet ∷ xs) ys = answers_join xs ys
 answers_join (Answer k v ∷ xs) ys = ap (λ z. (k, v) ∷ z) (answers_join xs ys)
 answers_join (In o a v l ∷ xs) ys = answers_join xs ys
-answers_join (Rattle.ir_thread.specs.Marks.Refused o ∷ xs) ys = answers_join xs ys
+answers_join (Rattle.ir_runs.specs.Marks.Refused o ∷ xs) ys = answers_join xs ys
 answers_join (Out o a v ∷ xs) ys = answers_join xs ys
 
 all_join : {X : Type 0} (P : X → Type 0) (xs ys : List X) → AllByRecursion P xs → AllByRecursion P ys → AllByRecursion P (xs ++ ys)
@@ -61,7 +61,7 @@ all_join P (x ∷ xs) ys p q = (p.0, all_join P xs ys p.1 q)
 -- how a thread is inside an object after a step, which is an object step if b
 inside_keep : (q : Act) (v o : ℕ) (h : ℕ → Option Access) (xs : List Shared) (b : Bool) → is_shared q ≡ b → inside_after o None xs ≡ h o → inside_after o None (xs ++ keep_if b (q, v) []) ≡ held_after q h o
 inside_keep q v o h xs false is e = ap (inside_after o None) (append-nil xs) ∙ e ∙ sym (held_own q h o is)
-inside_keep q v o h xs true is e = inside_more o None xs (q, v) ∙ ap (inside_if (eqb o (Rattle.ir_object.specs.Object.target q)) q) e ∙ sym (held_inside q h o is)
+inside_keep q v o h xs true is e = inside_more o None xs (q, v) ∙ ap (inside_if (eqb o (Rattle.ir_runs.specs.Object.target q)) q) e ∙ sym (held_inside q h o is)
 
 entries_keep : (q : Act) (v : ℕ) (xs : List Shared) (b : Bool) → entries (xs ++ keep_if b (q, v) []) ≤ entries xs + one_if_entry q
 entries_keep q v xs false = let e = ap entries (append-nil xs) in omega (arith, e)
@@ -116,7 +116,7 @@ works_on g budget t before w w' q v es evs i s view =
         may = more.may;
         now = more.now ∙ next;
         steps_are = more.steps_are ∙ ap (λ z. map shared_of i.track ++ keep_if (is_shared z) (z, v) []) is ∙ sym steps;
-        logged = ap (λ z. Rattle.ir_flat.specs.Run.events (Rattle.ir_flat.specs.Splice.alone_trail m (thread.start_state g t budget) more.replies z)) (map_join mark_of i.track es)
+        logged = ap (λ z. Rattle.ir_runs.specs.Run.events (Rattle.ir_flat.specs.Splice.alone_trail m (thread.start_state g t budget) more.replies z)) (map_join mark_of i.track es)
             ∙ more.logged ∙ ap (λ z. map logging.mark_of w.log.events ++ logged (alone_mark z (map mark_of es)) []) is ∙ ap (λ z. map logging.mark_of w.log.events ++ z) (sym s.logs) ∙ sym marks;
       };
       held = λ o. ap (inside_after o None) steps ∙ inside_keep a v o (held_at w.thread.held) (map shared_of i.track) (is_shared a) refl (i.held o)

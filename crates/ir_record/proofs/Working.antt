@@ -1,13 +1,13 @@
 -- A thread alone, with one step more.
 use Rattle.std.proofs.Common.{◌≡◌, ℕ, Bool, true, false, cond, eqb, List, [], ◌∷◌, ◌++◌, length, Option, Some, None, refl, sym, ap, ◌∙◌, subst, arith}
-use Rattle.ir_thread.specs.Machine.{Act, act_of, Silent, Result, Entry, Refusal, Exit, Load, Store, Never, Machine, upd, held_after}
-use Rattle.ir_thread.specs.Marks.{Mark, logged}
-use Rattle.ir_thread.specs.declared.ask.Access.{Access}
-use Rattle.ir_object.specs.Object.{target}
+use Rattle.ir_runs.specs.Machine.{Act, act_of, Silent, Result, Entry, Refusal, Exit, Load, Store, Never, Machine, upd, held_after}
+use Rattle.ir_runs.specs.Marks.{Mark, logged}
+use Rattle.ir_runs.specs.declared.access.Access.{Access}
+use Rattle.ir_runs.specs.Object.{target}
 use Rattle.ir_object.specs.Order.{is_shared, Shared, keep_if, inside_then, inside_if}
-use Rattle.ir_flat.specs.Run.{events}
+use Rattle.ir_runs.specs.Run.{events}
 use Rattle.ir_flat.specs.Splice.{MayReply, MayRun, alone_after, shared_steps, alone_mark, marks_left, alone_trail}
-use Rattle.ir_flat.proofs.Append.{events_append}
+use Rattle.ir_runs.proofs.CallerLemmas.{events_append}
 use Rattle.ir_record.specs.Working.{Worked}
 
 may_more : {T : Type 0} (m : Machine T) (x : T) (vs : List ℕ) (v : ℕ) → MayRun m x vs → MayReply m (act_of (m.ask (alone_after m x vs)) v) v → MayRun m x (vs ++ v ∷ [])

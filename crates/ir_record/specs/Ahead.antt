@@ -1,11 +1,11 @@
 -- Private steps that threads take before their turns come.
 use Rattle.std.specs.Prelude.{◌≡◌, ◌<◌, ◌≤◌, ◌+◌, ℕ, zero, suc, List, [], ◌∷◌, ◌++◌, length, ◌⊎◌, Bool, true, false}
 use Rattle.std.specs.List.{slice_index_or}
-use Rattle.ir_thread.specs.Machine.{Machine, Private}
+use Rattle.ir_runs.specs.Machine.{Machine, Private}
 use Rattle.ir_thread.specs.State as thread
 use Rattle.ir_flat.specs.Flat.{tables, machine}
-use Rattle.ir_flat.specs.Run.{State, Step, end, log}
-use Rattle.ir_record.specs.InOrder.{HasNone, InTurn}
+use Rattle.ir_runs.specs.Run.{State, Step, end, log}
+use Rattle.ir_runs.specs.InOrder.{HasNone, InTurn}
 use Rattle.ir_record.specs.Progress.{Progress, all_left, marks_at, answers_at}
 use Rattle.ir_record.specs.Worlds.{answers_in}
 

@@ -1,5 +1,4 @@
 pub mod Worlds
-pub mod InOrder
 pub mod Recording
 pub mod Progress
 pub mod Gathered

@@ -3,17 +3,17 @@ use Rattle.std.specs.Prelude.{◌≡◌, ◌<◌, ◌≤◌, ◌+◌, ◌-◌, �
 use Rattle.std.specs.List.{slice_index_or, AllByRecursion}
 use Rattle.ir_thread.specs.Calls.{most_events}
 use Rattle.ir_thread.specs.Held.{held_count}
-use Rattle.ir_thread.specs.Marks.{Mark}
+use Rattle.ir_runs.specs.Marks.{Mark}
 use Rattle.ir_thread.specs.State as thread
 use Rattle.ir_thread.specs.declared.end.End.{End}
 use Rattle.ir_thread.specs.declared.ask.Ask as ask
 use Rattle.ir_thread.specs.declared.ask.Ask.TheVariants as asks
 use Rattle.ir_flat.specs.Flat.{Flat, thread_of, tables, machine}
-use Rattle.ir_flat.specs.Run.{Step, end, log}
+use Rattle.ir_runs.specs.Run.{Step, end, log}
 use Rattle.ir_log.specs.Logged.{Logged}
 use Rattle.ir_log.specs.Logging.{mark_of}
 use Rattle.ir_trace.specs.Recorded.{IsEvent}
-use Rattle.ir_record.specs.InOrder.{InTurn}
+use Rattle.ir_runs.specs.InOrder.{InTurn}
 use Rattle.ir_record.specs.Worlds.{Answered, answers_in, NoneFailed}
 use Rattle.ir_record.specs.declared.tape.Tape.{Tape}
 

@@ -2,10 +2,10 @@
 use Rattle.std.specs.Prelude.{◌≡◌, ℕ, ◌<◌, ◌++◌, List, length, map, slice_get, Some, Bool, ⊤}
 use Rattle.ir_image.specs.Guest.{Guest, object_count}
 use Rattle.ir_flat.specs.Flat.{start_flat, tables, machine}
-use Rattle.ir_flat.specs.Run.{Step, IsComplete, count, log, end}
+use Rattle.ir_runs.specs.Run.{Step, IsComplete, count, log, end}
 use Rattle.ir_trace.specs.Recorded.{Recorded}
 use Rattle.ir_trace.specs.Told.{trace_of}
-use Rattle.ir_record.specs.InOrder.{IsByOrder}
+use Rattle.ir_runs.specs.InOrder.{IsByOrder}
 use Rattle.ir_record.specs.Progress.{answers_at}
 use Rattle.ir_record.specs.Worlds.{Answered, answers_in, IsFirstFailed, Extends}
 use Rattle.ir_record.specs.declared.record_err.RecordErr.{RecordErr}

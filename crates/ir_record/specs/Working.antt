@@ -6,8 +6,8 @@ use Rattle.ir_image.specs.Guest.{Guest, object_count}
 use Rattle.ir_thread.specs.Calls.{ask_of, most_events}
 use Rattle.ir_thread.specs.Held.{held_at}
 use Rattle.ir_thread.specs.Instance.{thread_machine}
-use Rattle.ir_thread.specs.Machine.{Machine}
-use Rattle.ir_thread.specs.Marks.{Mark}
+use Rattle.ir_runs.specs.Machine.{Machine}
+use Rattle.ir_runs.specs.Marks.{Mark}
 use Rattle.ir_thread.specs.State as thread
 use Rattle.ir_thread.specs.declared.ask.Ask.{Ask}
 use Rattle.ir_thread.specs.declared.ask.Ask.TheVariants as ask
@@ -17,7 +17,7 @@ use Rattle.ir_crew.specs.Rule as rule
 use Rattle.ir_crew.specs.Rule.{shared_of, entries}
 use Rattle.ir_crew.specs.declared.deed.ObjectStep.{ObjectStep}
 use Rattle.ir_crew.specs.declared.table.Crew.{Crew}
-use Rattle.ir_flat.specs.Run.{events}
+use Rattle.ir_runs.specs.Run.{events}
 use Rattle.ir_flat.specs.Splice.{MayRun, alone_after, shared_steps, alone_trail}
 use Rattle.ir_log.specs.Logged.{Logged}
 use Rattle.ir_log.specs.Logging.{mark_of}

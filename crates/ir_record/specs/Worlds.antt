@@ -1,8 +1,8 @@
 -- What the world outside has answered.
 use Rattle.std.specs.Prelude.{◌≡◌, ◌<◌, ℕ, List, [], ◌∷◌, ◌++◌, length, Bool, true, false}
 use Rattle.std.specs.List.{slice_index_or}
-use Rattle.ir_thread.specs.Marks.{Mark, Answer}
-use Rattle.ir_thread.specs.declared.ask.EnvKind.{EnvKind}
+use Rattle.ir_runs.specs.Marks.{Mark, Answer}
+use Rattle.ir_runs.specs.declared.env_kind.EnvKind.{EnvKind}
 
 -- a call of the environment, and what it was answered
 abbrev pub Answered : Type 0

@@ -2,7 +2,7 @@
 
 ghost use Rattle.std.specs.Prelude.{◌≡◌, ◌<◌, ◌≤◌, ◌++◌, ℕ, length, map, replicate, vec_len, IfOk, OnOk, IfErr};
 ghost use Rattle.ir_flat.specs.Flat.{tables, machine};
-ghost use Rattle.ir_record.specs.InOrder.{HasNone, rounds};
+ghost use Rattle.ir_runs.specs.InOrder.{HasNone, rounds};
 ghost use Rattle.ir_record.specs.Progress.{progress, Took, IsReady};
 ghost use Rattle.ir_record.specs.Recording.{IsRecording, IsFailure};
 ghost use Rattle.ir_record.specs.Worlds.{NoneFailed, IsFirstFailed, Extends};

@@ -4,9 +4,9 @@ ghost use Rattle.std.specs.Prelude.{◌≡◌, ◌≢◌, ◌<◌, ◌≤◌, �
 ghost use Rattle.std.specs.List.{range_with_len};
 ghost use Rattle.ir_thread.specs.State as thread;
 ghost use Rattle.ir_flat.specs.Flat.{tables, machine};
-ghost use Rattle.ir_flat.specs.Run.{State};
+ghost use Rattle.ir_runs.specs.Run.{State};
 ghost use Rattle.ir_record.specs.Ahead.{lead, IsAhead, CanSkip, WentIf};
-ghost use Rattle.ir_record.specs.InOrder.{HasNone, rounds};
+ghost use Rattle.ir_runs.specs.InOrder.{HasNone, rounds};
 ghost use Rattle.ir_record.specs.Noting.{has_moved};
 ghost use Rattle.ir_record.specs.Progress.{progress, Took, IsReady};
 ghost use Rattle.ir_record.specs.declared.pass.Turned.TheVariants.{Stepped, Waited};

@@ -8,15 +8,16 @@ ghost use Rattle.ir_thread.specs.Instance.{is_result};
 ghost use Rattle.ir_thread.specs.declared.ask.Ask.TheVariants.{Env, Enter};
 ghost use Rattle.ir_flat.specs.Flat.{tables};
 ghost use Rattle.ir_log.specs.Logging.{mark_of};
-ghost use Rattle.ir_object.specs.Object.{told};
-ghost use Rattle.ir_thread.specs.Machine as act;
+ghost use Rattle.ir_runs.specs.Object.{told};
+ghost use Rattle.ir_runs.specs.Machine as act;
 ghost use Rattle.ir_trace.specs.Recorded.{IsEvent};
 ghost use Rattle.ir_record.specs.Progress.{progress, Took, TookIf, IsTape, IsQuiet, answers_at};
 ghost use Rattle.ir_record.specs.Worlds.{Answered};
 
 use crate::tape::Tape;
 use ir_log::Event;
-use ir_thread::{Access, Ask, EnvKind};
+use ir_runs::{Access, EnvKind};
+use ir_thread::Ask;
 
 impl Tape<'_> {
     // What thread t asks.

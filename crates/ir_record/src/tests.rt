@@ -6,7 +6,7 @@ ghost use Rattle.ir_record.specs.Worlds.{NoneFailed};
 use crate::{Outputs, RecordErr, World, WorldErr, record_in_order};
 use ir_image::{Image, read_image};
 use ir_log::Event;
-use ir_thread::EnvKind;
+use ir_runs::EnvKind;
 use ir_trace::{Trace, write_trace};
 use std::alloc::{AllocError, Global};
 use std::test::Fail;

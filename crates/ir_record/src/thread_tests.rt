@@ -5,7 +5,7 @@ use crate::{Outputs, RecordErr, record};
 use ir_image::Image;
 use ir_log::Event;
 use ir_object::{Gate, OpenGate};
-use ir_thread::Access;
+use ir_runs::Access;
 use ir_trace::Trace;
 use std::alloc::Global;
 use std::sync::Wait;

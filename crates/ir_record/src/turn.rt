@@ -7,7 +7,8 @@ ghost use Rattle.ir_record.specs.Worlds.{NoneFailed, IsFirstFailed, Extends};
 
 use crate::recorder::Recorder;
 use crate::world::World;
-use ir_thread::{Ask, EnvKind};
+use ir_runs::EnvKind;
+use ir_thread::Ask;
 
 // The world of this thread failed.
 #[derive(Clone, Copy)]

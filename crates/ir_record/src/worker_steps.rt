@@ -2,7 +2,7 @@
 
 ghost use Rattle.std.specs.Prelude.{◌≡◌, ◌≢◌, ◌++◌, false, OnOk, OnErr};
 ghost use Rattle.ir_thread.specs.Calls.{ask_of};
-ghost use Rattle.ir_thread.specs.declared.ask.Access.TheVariants.{Reading, Writing};
+ghost use Rattle.ir_runs.specs.declared.access.Access.TheVariants.{Reading, Writing};
 ghost use Rattle.ir_thread.specs.declared.ask.Ask.TheVariants as ask;
 ghost use Rattle.ir_record.specs.Working.{IsAtWork, StaysAtWork, IsSameWorld, IsStopped, IsReadyWorker, RanToEnd, IsOwn, IsInside};
 
@@ -12,7 +12,8 @@ use ir_crew::Crew;
 use ir_image::Code;
 use ir_log::Event;
 use ir_object::Gate;
-use ir_thread::{Access, Ask, EnvKind, Reply};
+use ir_runs::{Access, EnvKind};
+use ir_thread::{Ask, Reply};
 use std::sync::Wait;
 
 // The most private steps that a thread takes before the gate is told: some hundredths of a second.

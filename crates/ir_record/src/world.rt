@@ -4,7 +4,7 @@ ghost use Rattle.ir_record.specs.Worlds.{Answered};
 ghost use Rattle.ir_thread.specs.Instance.{is_result};
 ghost use Rattle.std.specs.Prelude.{◌≡◌, ◌++◌, [], ◌∷◌, List, Bool, true, false, IfOk, OnOk, OnErr};
 
-use ir_thread::EnvKind;
+use ir_runs::EnvKind;
 
 /// The world could not answer. It has failed, and stays so.
 #[derive(Clone, Copy, Debug, PartialEq, Eq)]

@@ -8,9 +8,9 @@ use Rattle.atomic_table.specs.declared.shared.Seat.{Seat}
 use Rattle.ir_thread.specs.State as thread
 use Rattle.ir_object.specs.Cell.{Cell}
 use Rattle.ir_flat.specs.Flat.{Flat, idle}
-use Rattle.ir_fit.specs.Cuts.{Cut}
+use Rattle.ir_runs.specs.Cuts.{Cut}
 use Rattle.ir_fit.specs.Fit.{FittedTrace, HasRun}
-use Rattle.ir_fit.proofs.Tally.{sum_less}
+use Rattle.ir_runs.proofs.CallerLemmas.{sum_less}
 use Rattle.ir_cut.specs.Positions.{cut_of, IsConsistentCut}
 use Rattle.ir_weave.specs.Ahead.{IsAhead}
 use Rattle.ir_weave.specs.Standing.{Standing, StandsAt, flat_in}

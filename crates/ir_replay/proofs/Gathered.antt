@@ -6,10 +6,10 @@ use Rattle.std.specs.List.{slice_index_or}
 use Rattle.ir_thread.specs.State as thread
 use Rattle.ir_object.specs.Cell.{Cell}
 use Rattle.ir_flat.specs.Flat.{Flat, IsFlat, idle, thread_of}
-use Rattle.ir_flat.specs.Run.{Step}
+use Rattle.ir_runs.specs.Run.{Step}
 use Rattle.ir_fit.specs.Fit.{FittedTrace, HasRun, IsRunOf}
 use Rattle.ir_cut.specs.Positions.{machine_of, start_of, cut_of, IsConsistentCut}
-use Rattle.ir_cut.proofs.Order.{Progress, progress, persists}
+use Rattle.ir_runs.proofs.CallerLemmas.{Progress, progress, persists}
 use Rattle.ir_weave.specs.Ahead.{IsAhead, AreAlone, thread_at}
 use Rattle.ir_weave.specs.Standing.{StandsAt, flat_in}
 use Rattle.ir_weave.specs.States.{IsStateAt, positions}

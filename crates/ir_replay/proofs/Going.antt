@@ -4,7 +4,7 @@ use Rattle.std.proofs.lemmas.Bool.{cases_eq, cases_lt}
 use Rattle.ir_flat.specs.Alone.{WentAlone}
 use Rattle.ir_flat.specs.Flat.{Flat}
 use Rattle.ir_fit.specs.Fit.{FittedTrace}
-use Rattle.ir_fit.proofs.Tally.{sum_le, sum_less}
+use Rattle.ir_runs.proofs.CallerLemmas.{sum_le, sum_less}
 use Rattle.ir_cut.specs.Positions.{cut_of}
 use Rattle.ir_weave.specs.States.{positions}
 use Rattle.ir_weave.specs.Stepping.{IsTarget, IsUnder, HasGone, IsSame, Rests, steps_left}

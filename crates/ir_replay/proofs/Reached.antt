@@ -5,12 +5,12 @@ use Rattle.std.proofs.lemmas.Bool.{cases_lt}
 use Rattle.std.proofs.lemmas.List.{get_or_past}
 use Rattle.std.specs.List.{slice_index_or}
 use Rattle.ir_flat.specs.Flat.{Flat, IsFlat, idle}
-use Rattle.ir_flat.specs.Run.{Step}
+use Rattle.ir_runs.specs.Run.{Step}
 use Rattle.ir_fit.specs.Ahead.{steps_ahead}
-use Rattle.ir_fit.specs.Cuts.{Cut, Admitted}
+use Rattle.ir_runs.specs.Cuts.{Cut, Admitted}
 use Rattle.ir_fit.specs.Fit.{FittedTrace, HasRun, IsRunOf}
 use Rattle.ir_cut.specs.Positions.{machine_of, start_of, cut_of, IsConsistentCut}
-use Rattle.ir_cut.proofs.Order.{Progress, progress}
+use Rattle.ir_runs.proofs.CallerLemmas.{Progress, progress}
 use Rattle.ir_weave.specs.Standing.{Standing, StandsAt, flat_in}
 use Rattle.ir_weave.specs.States.{IsAt, IsStateAt, positions}
 use Rattle.ir_weave.specs.Stepping.{LogsNext, IsTarget, IsUnder, IsSame, Rests, steps_left}

@@ -10,7 +10,8 @@ ghost use Rattle.ir_weave.specs.Stepping.{IsNext};
 use ir_fit::{Fitted, is_open};
 use ir_flat::Flat;
 use ir_log::Event;
-use ir_thread::{Access, Ask, EnvKind};
+use ir_runs::{Access, EnvKind};
+use ir_thread::Ask;
 
 // How many events thread t has logged.
 fn events_of(flat: &Flat<'_>, t: usize) -> u32

@@ -5,7 +5,7 @@ use crate::{State, advance};
 use ir_cut::Cut;
 use ir_fit::Fitted;
 use ir_object::Gate;
-use ir_thread::Access;
+use ir_runs::Access;
 use std::alloc::Global;
 use std::sync::atomic::{AtomicBool, AtomicUsize, Ordering};
 use std::test::Fail;

@@ -2,12 +2,12 @@
 use Rattle.std.proofs.Common.{◌≡◌, ℕ, List, length, sym, subst}
 use Rattle.ir_image.specs.Guest.{Guest}
 use Rattle.ir_flat.specs.Flat.{start_flat, tables, machine}
-use Rattle.ir_flat.specs.Run.{Step, IsComplete}
+use Rattle.ir_runs.specs.Run.{Step, IsComplete}
 use Rattle.ir_trace.specs.Recorded.{Recorded}
 use Rattle.ir_trace.specs.Told.{trace_of}
 use Rattle.ir_record.specs.Recording.{IsTraceOf}
 use Rattle.ir_fit.specs.Fit.{IsRunOf}
-use Rattle.ir_fit.specs.Verdicts.{IsWhole}
+use Rattle.ir_runs.specs.Verdicts.{IsWhole}
 
 -- what is told of a complete run is its trace, under the budget that is told
 pub told_whole : (guest : Guest) (budget : ℕ) (run : List Step) (trace : Recorded) → IsComplete (machine (start_flat guest budget)) (tables (start_flat guest budget)) run → IsTraceOf guest budget run trace → IsRunOf guest trace run

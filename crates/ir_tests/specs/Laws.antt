@@ -1,7 +1,7 @@
 -- What holds of a recording and of what is said of its trace.
 use Rattle.std.specs.Prelude.{◌≡◌, ℕ, List}
 use Rattle.ir_image.specs.Guest.{Guest}
-use Rattle.ir_flat.specs.Run.{Step}
+use Rattle.ir_runs.specs.Run.{Step}
 use Rattle.ir_trace.specs.Recorded.{Recorded}
 use Rattle.ir_record.specs.Recording.{IsRecordingOfSome, IsRecording}
 use Rattle.ir_record.specs.Worlds.{Answered}

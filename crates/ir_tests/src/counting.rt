@@ -4,7 +4,7 @@ ghost use Rattle.std.specs.Prelude.{◌≡◌, length, map, IfOk};
 ghost use Rattle.ir_record.specs.Worlds.{NoneFailed};
 
 use ir_record::{World, WorldErr};
-use ir_thread::EnvKind;
+use ir_runs::EnvKind;
 use std::alloc::{AllocError, Global};
 
 // Answers 0, 1, 2 and so on up to 255, and again from 0.

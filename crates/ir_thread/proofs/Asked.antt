@@ -8,8 +8,8 @@ use Rattle.ir_mach.specs.Execution.{outcome_of}
 use Rattle.ir_thread.specs.Calls.{a0, a1, a2, call_at, byte_text, number_text, printed, printed_by, print_ask, logged_ask, is_object, has_word, enter_ask, leave_ask, leave_held, get_ask, get_held, put_ask, put_held, call_ask, outcome_ask, running_ask, give_back, ask_by, ask_of, IsRunning, CanLog, Permits, most_output, most_events, words_each}
 use Rattle.ir_thread.specs.Held.{held_at, highest, is_above}
 use Rattle.ir_thread.specs.State.{State}
-use Rattle.ir_thread.specs.declared.ask.Access.{Access}
-use Rattle.ir_thread.specs.declared.ask.Access.TheVariants.{Reading, Writing}
+use Rattle.ir_runs.specs.declared.access.Access.{Access}
+use Rattle.ir_runs.specs.declared.access.Access.TheVariants.{Reading, Writing}
 use Rattle.ir_thread.specs.declared.ask.Ask.{Ask}
 use Rattle.ir_thread.specs.declared.ask.Ask.TheVariants as ask
 use Rattle.ir_thread.specs.declared.call.Call.{Call}

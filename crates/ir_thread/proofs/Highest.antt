@@ -4,7 +4,7 @@ use Rattle.std.proofs.lemmas.Bool.Decides.{nat_tests}
 use Rattle.std.proofs.lemmas.List.Sums.{sum_by-set, sum_by-cons}
 use Rattle.std.specs.List.{sum_by}
 use Rattle.ir_thread.specs.Held.{held_at, higher_of, highest, is_above, one_if_held, held_count}
-use Rattle.ir_thread.specs.declared.ask.Access.{Access}
+use Rattle.ir_runs.specs.declared.access.Access.{Access}
 
 -- the greatest once one more place is looked at
 abbrev pub last_of : ℕ → Option Access → Option (ℕ × Access) → Option (ℕ × Access)

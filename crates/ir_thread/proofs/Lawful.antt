@@ -6,10 +6,10 @@ use Rattle.ir_thread.specs.Calls.{ask_of, Permits, after_ask, after_reply}
 use Rattle.ir_thread.specs.Ends.{end_number, end_code}
 use Rattle.ir_thread.specs.Held.{held_at, highest, held_count}
 use Rattle.ir_thread.specs.Instance.{shared_ask, reply_of, thread_machine}
-use Rattle.ir_thread.specs.Machine.{Machine, act_of, upd, held_after, Holds, IsLawful, IsClosing}
-use Rattle.ir_thread.specs.Machine as machine
+use Rattle.ir_runs.specs.Machine.{Machine, act_of, upd, held_after, Holds, IsLawful, IsClosing}
+use Rattle.ir_runs.specs.Machine as machine
 use Rattle.ir_thread.specs.State.{State}
-use Rattle.ir_thread.specs.declared.ask.Access.{Access}
+use Rattle.ir_runs.specs.declared.access.Access.{Access}
 use Rattle.ir_thread.specs.declared.ask.Ask.{Ask}
 use Rattle.ir_thread.specs.declared.ask.Ask.TheVariants.{Private, Env, Enter, Leave, Get, Put, Print, End, Done}
 use Rattle.ir_thread.specs.declared.ask.Reply.{Reply}

@@ -1,7 +1,7 @@
 -- What a thread holds: for each object of the guest, what it is inside for, if it is inside.
 use Rattle.std.specs.Prelude.{◌≡◌, ℕ, suc, Bool, true, List, [], ◌∷◌, Option, Some, None, nat_lt}
 use Rattle.std.specs.List.{slice_index_or, sum_by}
-use Rattle.ir_thread.specs.declared.ask.Access.{Access}
+use Rattle.ir_runs.specs.declared.access.Access.{Access}
 
 -- how an object is held, if it is
 abbrev pub held_at : List (Option Access) → ℕ → Option Access

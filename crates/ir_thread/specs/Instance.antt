@@ -3,13 +3,13 @@ use Rattle.std.specs.Prelude.{ℕ, ◌^◌, ◌==◌, Bool, ◌||◌, List, Opti
 use Rattle.ir_thread.specs.Calls.{ask_of, after_reply}
 use Rattle.ir_thread.specs.Ends.{end_number, end_code}
 use Rattle.ir_thread.specs.Held.{held_at, held_count}
-use Rattle.ir_thread.specs.Machine.{Machine, IsLawful, IsClosing}
-use Rattle.ir_thread.specs.Machine as machine
+use Rattle.ir_runs.specs.Machine.{Machine, IsLawful, IsClosing}
+use Rattle.ir_runs.specs.Machine as machine
 use Rattle.ir_thread.specs.State.{State}
 use Rattle.ir_thread.specs.declared.ask.Ask.{Ask}
 use Rattle.ir_thread.specs.declared.ask.Ask.TheVariants as ask
-use Rattle.ir_thread.specs.declared.ask.EnvKind.{EnvKind}
-use Rattle.ir_thread.specs.declared.ask.EnvKind.TheVariants.{Clock, Random, Input}
+use Rattle.ir_runs.specs.declared.env_kind.EnvKind.{EnvKind}
+use Rattle.ir_runs.specs.declared.env_kind.EnvKind.TheVariants.{Clock, Random, Input}
 use Rattle.ir_thread.specs.declared.ask.Reply.{Reply}
 use Rattle.ir_thread.specs.declared.ask.Reply.TheVariants.{Go, Value}
 

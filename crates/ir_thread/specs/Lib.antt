@@ -2,8 +2,6 @@ pub mod Ends
 pub mod Held
 pub mod State
 pub mod Calls
-pub mod Marks
-pub mod Machine
 pub mod Instance
 pub mod Alone
 pub mod Private

@@ -2,7 +2,7 @@
 use Rattle.std.specs.Prelude.{◌≡◌, ℕ, ◌+◌, ◌<◌, ◌≤◌, List, [], length, replicate, Option, None}
 use Rattle.ir_image.specs.Guest.{Guest, object_count}
 use Rattle.ir_mach.specs.Core.{Core, start_core}
-use Rattle.ir_thread.specs.declared.ask.Access.{Access}
+use Rattle.ir_runs.specs.declared.access.Access.{Access}
 use Rattle.ir_thread.specs.declared.end.End.{End}
 
 -- a thread at one moment

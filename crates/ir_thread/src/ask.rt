@@ -1,26 +1,7 @@
 //! What a thread asks for, and what it is answered.
 
 use crate::end::End;
-
-/// What an object is entered for.
-#[derive(Clone, Copy, Debug, PartialEq, Eq)]
-pub enum Access {
-    /// Together with others who read.
-    Reading,
-    /// Alone.
-    Writing,
-}
-
-/// What a call of the environment wants to know.
-#[derive(Clone, Copy, Debug, PartialEq, Eq)]
-pub enum EnvKind {
-    /// The time.
-    Clock,
-    /// A random word.
-    Random,
-    /// The next byte of the input, or 0xFFFFFFFF at its end.
-    Input,
-}
+use ir_runs::{Access, EnvKind};
 
 /// What a thread's next step is. Objects and their words are given by their numbers, from 0.
 #[derive(Clone, Copy, Debug, PartialEq, Eq)]

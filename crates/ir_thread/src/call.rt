@@ -3,7 +3,7 @@
 ghost use Rattle.ir_thread.specs.Calls.{call_of};
 ghost use Rattle.std.specs.Prelude.{◌≡◌};
 
-use crate::ask::{Access, EnvKind};
+use ir_runs::{Access, EnvKind};
 
 /// A system call, by its number in a7. Its arguments are in a0, a1 and a2, its answer in a0.
 #[derive(Clone, Copy, Debug, PartialEq, Eq)]

@@ -3,7 +3,7 @@
 ghost use Rattle.ir_thread.specs.Held.{highest};
 ghost use Rattle.std.specs.Prelude.{◌≡◌, ◌≤◌, length};
 
-use crate::ask::Access;
+use ir_runs::Access;
 
 // The greatest object that is held, and how.
 pub fn highest(held: &[Option<Access>]) -> Option<(u8, Access)>

@@ -10,7 +10,7 @@ mod laws;
 mod tests;
 mod thread;
 
-pub use ask::{Access, Ask, EnvKind, Reply};
+pub use ask::{Ask, Reply};
 pub use call::Call;
 pub use end::End;
 pub use laws::{closes, runs_alone};

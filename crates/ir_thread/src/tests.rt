@@ -1,7 +1,8 @@
 //! Threads answered by hand.
 
-use crate::{Access, Ask, End, EnvKind, Reply, Thread};
+use crate::{Ask, End, Reply, Thread};
 use ir_image::{Code, read_image};
+use ir_runs::{Access, EnvKind};
 use std::alloc::Global;
 use std::test::Fail;
 

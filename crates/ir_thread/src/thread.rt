@@ -5,10 +5,10 @@ ghost use Rattle.ir_image.specs.Guest.{object_count};
 ghost use Rattle.ir_thread.specs.Held.{held_count};
 ghost use Rattle.ir_thread.specs.State.{State, start_state};
 
-use crate::ask::Access;
 use crate::end::End;
 use ir_image::Image;
 use ir_mach::Mach;
+use ir_runs::Access;
 use std::alloc::{AllocError, Global};
 use std::marker::Model;
 

@@ -3,7 +3,7 @@ use Rattle.std.proofs.Common.{◌≡◌, ℕ, zero, suc, List, [], ◌∷◌, le
 use Rattle.std.specs.List.{slice_index_or}
 use Rattle.ir_thread.specs.Ends.{end_number, end_code, end_of}
 use Rattle.ir_thread.specs.declared.end.End.{End}
-use Rattle.ir_thread.specs.Marks.{Mark, Trace}
+use Rattle.ir_runs.specs.Marks.{Mark, Trace}
 use Rattle.ir_log.specs.Logging.{mark_of}
 use Rattle.ir_log.specs.declared.event.Event.{Event}
 use Rattle.ir_trace.specs.Recorded.{RecordedThread, Recorded}

@@ -2,7 +2,7 @@
 use Rattle.std.specs.Prelude.{ℕ, [], map, Some}
 use Rattle.std.specs.List.{slice_index_or}
 use Rattle.ir_thread.specs.Ends.{end_number, end_code}
-use Rattle.ir_thread.specs.Marks.{Trace}
+use Rattle.ir_runs.specs.Marks.{Trace}
 use Rattle.ir_thread.specs.declared.end.End.TheVariants.{Breakpoint}
 use Rattle.ir_log.specs.Logging.{mark_of}
 use Rattle.ir_trace.specs.Recorded.{RecordedThread, Recorded}

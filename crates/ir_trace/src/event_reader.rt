@@ -8,7 +8,7 @@ use crate::fields::{byte, word};
 use crate::layout::{INPUT_END, SHORTEST_EVENT};
 use crate::trace_err::TraceErr;
 use ir_log::{Event, Log};
-use ir_thread::EnvKind;
+use ir_runs::EnvKind;
 use std::alloc::Global;
 
 #[tactic(auto, unfolding(crate::specs::Reading::answer_at))]

@@ -1,6 +1,7 @@
 use crate::{Trace, TraceErr, read_trace, write_trace};
 use ir_log::Event;
-use ir_thread::{End, EnvKind};
+use ir_runs::EnvKind;
+use ir_thread::End;
 use std::alloc::{AllocError, Global};
 use std::test::Fail;
 

@@ -12,7 +12,8 @@ use crate::thread_trace::ThreadTrace;
 use crate::trace::Trace;
 use byteorder::{ByteOrder, LittleEndian};
 use ir_log::Event;
-use ir_thread::{End, EnvKind};
+use ir_runs::EnvKind;
+use ir_thread::End;
 use std::alloc::{AllocError, Global};
 
 fn put_word(out: &mut Vec<u8>, word: u32) -> Result<(), AllocError>

@@ -10,28 +10,28 @@ use Rattle.ir_image.specs.Guest.{object_count}
 use Rattle.ir_thread.specs.Calls.{ask_of, after_ask, Permits}
 use Rattle.ir_thread.proofs.Asked.{ask_permits}
 use Rattle.ir_thread.specs.Instance.{shared_ask}
-use Rattle.ir_thread.specs.Machine.{act_of}
-use Rattle.ir_thread.specs.Marks.{Out}
+use Rattle.ir_runs.specs.Machine.{act_of}
+use Rattle.ir_runs.specs.Marks.{Out}
 use Rattle.ir_thread.specs.State as thread
-use Rattle.ir_thread.specs.declared.ask.Access.{Access}
-use Rattle.ir_thread.specs.declared.ask.Access.TheVariants.{Reading, Writing}
+use Rattle.ir_runs.specs.declared.access.Access.{Access}
+use Rattle.ir_runs.specs.declared.access.Access.TheVariants.{Reading, Writing}
 use Rattle.ir_thread.specs.declared.ask.Ask.{Ask}
 use Rattle.ir_thread.specs.declared.ask.Ask.TheVariants.{Enter, Leave, Get, Put}
 use Rattle.ir_thread.specs.declared.ask.Reply.TheVariants.{Value}
 use Rattle.ir_object.specs.Cell.{Cell, Admitted as Enters}
-use Rattle.ir_object.specs.Object.{target, told}
+use Rattle.ir_runs.specs.Object.{target, told}
 use Rattle.ir_object.specs.declared.fields.Fields.{Fields}
 use Rattle.ir_object.specs.Word.{IsFields, word_of, fields_of, entered, left_by, bit_of}
 use Rattle.ir_flat.specs.Flat.{Flat, IsFlat, idle, thread_of, cell_of, inside_of, tables}
 use Rattle.ir_flat.specs.Next.{next}
-use Rattle.ir_flat.specs.Run.{count, mark, end, trail}
+use Rattle.ir_runs.specs.Run.{count, mark, end, trail}
 use Rattle.ir_flat.proofs.Keeps.{logged_fits, few_inside, enter_fits, leave_fits, leave_allowed, thread_count}
 use Rattle.ir_log.specs.declared.event.Event.{Event}
 use Rattle.ir_trace.specs.Told.{recorded_thread}
-use Rattle.ir_fit.specs.Cuts.{At, Tells, part}
+use Rattle.ir_runs.specs.Cuts.{At, Tells, part}
 use Rattle.ir_fit.specs.Fit.{FittedTrace}
 use Rattle.ir_cut.specs.Positions.{machine_of, start_of, EachRun}
-use Rattle.ir_cut.proofs.Order.{persists}
+use Rattle.ir_runs.proofs.CallerLemmas.{persists}
 use Rattle.ir_weave.specs.Ahead.{IsAlone, HasStep, IsAhead, IsEntering, IsNextObject, thread_at, AreAlone}
 use Rattle.ir_weave.specs.States.{IsStateAt, positions}
 use Rattle.ir_object.specs.Layout.{word_place, content_place}

@@ -2,27 +2,24 @@
 use Rattle.std.proofs.Common.{◌≡◌, ℕ, suc, zero, ◌+◌, ◌<◌, List, [], ◌∷◌, ◌++◌, length, map, take, drop, refl, sym, ap, ◌∙◌, subst, arith, take-append-drop}
 use Rattle.std.proofs.Math.Path.{fun_ext}
 use Rattle.std.proofs.Math.Seq.{drop-append_seam}
-use Rattle.ir_thread.specs.Machine.{Machine, IsLawful}
+use Rattle.ir_runs.specs.Machine.{Machine, IsLawful}
 use Rattle.ir_thread.specs.Instance.{thread_machine}
-use Rattle.ir_thread.specs.Marks.{Mark, Quiet, Answer, In, Refused, Out, logged}
+use Rattle.ir_runs.specs.Marks.{Mark, Quiet, Answer, In, Refused, Out, logged}
 use Rattle.ir_thread.specs.State as thread
 use Rattle.ir_thread.proofs.Lawful.{lawful}
 use Rattle.ir_flat.specs.Flat.{Flat, tables, machine}
-use Rattle.ir_flat.specs.Run.{State, Step, Can, mark, IsRun, end, trail, events, log, count}
-use Rattle.ir_flat.proofs.Append.{events_append}
+use Rattle.ir_runs.specs.Run.{State, Step, Can, mark, IsRun, end, trail, events, log, count}
+use Rattle.ir_runs.proofs.CallerLemmas.{events_append, Good, start_good, at_cut, Sorted, sort}
 use Rattle.ir_flat.proofs.Counted.{tally}
 use Rattle.ir_flat.proofs.Fresh.{fresh, no_steps}
-use Rattle.ir_flat.proofs.Good.{Good, start_good}
 use Rattle.ir_flat.proofs.Next.{state_eq}
 use Rattle.ir_log.specs.Logging.{mark_of}
 use Rattle.ir_trace.specs.Told.{recorded_thread}
 use Rattle.ir_fit.specs.Ahead.{log_ahead}
-use Rattle.ir_fit.specs.Cuts.{Cut, AtCut, At, IsCut, Consistent, Admitted, part}
+use Rattle.ir_runs.specs.Cuts.{Cut, AtCut, At, IsCut, Consistent, Admitted, part}
 use Rattle.ir_fit.specs.Fit.{FittedTrace, IsRunOf}
-use Rattle.ir_fit.specs.Following.{unlogged}
-use Rattle.ir_fit.proofs.Determined.{at_cut}
+use Rattle.ir_runs.specs.Following.{unlogged}
 use Rattle.ir_fit.proofs.Guests.{starts}
-use Rattle.ir_fit.proofs.Sort.{Sorted, sort}
 use Rattle.ir_cut.specs.Positions.{machine_of, start_of}
 use Rattle.ir_weave.specs.States.{IsAt, IsStateAt, positions}
 use Rattle.ir_weave.specs.Stepping.{LogsNext}

@@ -3,7 +3,7 @@ use Rattle.std.proofs.Common.{◌≡◌, ℕ, ◌<◌, Bool, true, false, ◌⊎
 use Rattle.std.proofs.lemmas.Bool.{cases_eq}
 use Rattle.std.specs.Prelude.{slice_get}
 use Rattle.ir_thread.specs.Calls.{ask_of}
-use Rattle.ir_thread.specs.declared.ask.Access.{Access}
+use Rattle.ir_runs.specs.declared.access.Access.{Access}
 use Rattle.ir_thread.specs.declared.ask.Ask.TheVariants.{Enter}
 use Rattle.ir_object.specs.Cell.{Cell}
 use Rattle.ir_flat.specs.Flat.{Flat, IsFlat, thread_of, cell_of}
@@ -13,10 +13,10 @@ use Rattle.ir_log.specs.declared.event.Event.{Event}
 use Rattle.ir_log.specs.declared.event.Event.TheVariants.{Answer, Read, Write}
 use Rattle.ir_trace.specs.Told.{recorded_thread}
 use Rattle.ir_fit.specs.Ahead.{steps_ahead, IsOpen}
-use Rattle.ir_fit.specs.Cuts.{Admitted, further}
+use Rattle.ir_runs.specs.Cuts.{Admitted, further}
 use Rattle.ir_fit.specs.Fit.{FittedTrace, HasRun}
 use Rattle.ir_cut.specs.Positions.{machine_of, start_of, EachRun}
-use Rattle.ir_cut.proofs.Order.{consistent_same}
+use Rattle.ir_runs.proofs.CallerLemmas.{consistent_same}
 use Rattle.ir_weave.specs.Ahead.{HasStep}
 use Rattle.ir_weave.specs.States.{IsStateAt, positions}
 use Rattle.ir_weave.specs.Woven.{AdmittedAt}

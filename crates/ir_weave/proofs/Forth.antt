@@ -3,20 +3,20 @@ use Rattle.std.proofs.Common.{◌≡◌, ◌≢◌, ℕ, suc, zero, ◌+◌, ◌
 use Rattle.std.proofs.lemmas.Bool.{cases_eq, cases_lt}
 use Rattle.ir_thread.specs.Calls.{ask_of}
 use Rattle.ir_thread.specs.Instance.{shared_ask}
-use Rattle.ir_thread.specs.Machine.{act_of}
-use Rattle.ir_thread.specs.Machine as machine
-use Rattle.ir_thread.specs.Marks.{Mark, logged}
+use Rattle.ir_runs.specs.Machine.{act_of}
+use Rattle.ir_runs.specs.Machine as machine
+use Rattle.ir_runs.specs.Marks.{Mark, logged}
 use Rattle.ir_thread.specs.State as thread
-use Rattle.ir_thread.specs.declared.ask.Access.{Access}
+use Rattle.ir_runs.specs.declared.access.Access.{Access}
 use Rattle.ir_thread.specs.declared.ask.Ask.{Ask}
 use Rattle.ir_thread.specs.declared.ask.Ask.TheVariants.{Private, Env, Enter, Leave, Get, Put, Print, End, Done}
 use Rattle.ir_flat.specs.Flat.{Flat, IsFlat, thread_of, tables, machine as machine_in}
 use Rattle.ir_flat.specs.Next.{next, MayStep}
-use Rattle.ir_flat.specs.Run.{Step, after, mark, count, th}
+use Rattle.ir_runs.specs.Run.{Step, after, mark, count, th}
 use Rattle.ir_flat.proofs.Keeps.{can_by_may, taken_by, next_flat, thread_count, object_count}
-use Rattle.ir_fit.specs.Cuts.{Tells, Needs, Cut, further}
+use Rattle.ir_runs.specs.Cuts.{Tells, Needs, Cut, further}
 use Rattle.ir_fit.specs.Fit.{FittedTrace, HasRun, IsRunOf}
-use Rattle.ir_fit.specs.Following.{unlogged}
+use Rattle.ir_runs.specs.Following.{unlogged}
 use Rattle.ir_cut.specs.Positions.{machine_of, start_of}
 use Rattle.ir_weave.specs.Ahead.{IsAlone, HasStep, ask_at, thread_at, IsThreadAt, AreAlone}
 use Rattle.ir_weave.specs.States.{IsStateAt, positions}

@@ -1,5 +1,4 @@
 pub mod Behind
-pub mod Fronts
 pub mod Onward
 pub mod Results
 pub mod Unique

@@ -5,25 +5,25 @@ use Rattle.std.proofs.Math.Seq.{drop-append_seam}
 use Rattle.std.specs.Prelude.{slice_get}
 use Rattle.ir_thread.specs.Calls.{ask_of, after_ask, after_reply}
 use Rattle.ir_thread.specs.Instance.{shared_ask, reply_of, thread_machine}
-use Rattle.ir_thread.specs.Machine.{act_of}
-use Rattle.ir_thread.specs.Marks.{Mark, Answer, logged}
+use Rattle.ir_runs.specs.Machine.{act_of}
+use Rattle.ir_runs.specs.Marks.{Mark, Answer, logged}
 use Rattle.ir_thread.specs.State as thread
-use Rattle.ir_thread.specs.declared.ask.Access.TheVariants.{Reading, Writing}
+use Rattle.ir_runs.specs.declared.access.Access.TheVariants.{Reading, Writing}
 use Rattle.ir_thread.specs.declared.ask.Ask.{Ask}
 use Rattle.ir_thread.specs.declared.ask.Ask.TheVariants.{Private, Env, Enter, Leave, Get, Put, Print, End, Done}
-use Rattle.ir_thread.specs.declared.ask.EnvKind.{EnvKind}
+use Rattle.ir_runs.specs.declared.env_kind.EnvKind.{EnvKind}
 use Rattle.ir_thread.specs.declared.ask.Reply.{Reply}
 use Rattle.ir_thread.specs.declared.ask.Reply.TheVariants.{Go, Value}
-use Rattle.ir_object.specs.Object.{Object, reply, told, Admits}
-use Rattle.ir_flat.specs.Run.{Step, trail, events, count}
-use Rattle.ir_flat.proofs.Append.{events_append}
+use Rattle.ir_runs.specs.Object.{Object, reply, told, Admits}
+use Rattle.ir_runs.specs.Run.{Step, trail, events, count}
+use Rattle.ir_runs.proofs.CallerLemmas.{events_append}
 use Rattle.ir_flat.proofs.Fresh.{fresh}
 use Rattle.ir_flat.proofs.Kept.{added, events_added, held_length}
 use Rattle.ir_log.specs.Logging.{mark_of}
 use Rattle.ir_log.specs.declared.event.Event.{Event}
 use Rattle.ir_log.specs.declared.event.Event.TheVariants.{Answer as Answered}
 use Rattle.ir_trace.specs.Told.{recorded_thread}
-use Rattle.ir_fit.specs.Cuts.{At, Tells}
+use Rattle.ir_runs.specs.Cuts.{At, Tells}
 use Rattle.ir_fit.specs.Fit.{FittedTrace, IsRunOf}
 use Rattle.ir_cut.specs.Positions.{machine_of, start_of, EachRun}
 use Rattle.ir_weave.specs.Ahead.{IsAlone, HasStep, IsThreadAt, IsAhead, ask_at, thread_at}

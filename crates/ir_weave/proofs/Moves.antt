@@ -7,7 +7,7 @@ use Rattle.atomic_table.specs.Table.{State}
 use Rattle.atomic_table.proofs.Lists.{at_set}
 use Rattle.ir_flat.specs.Flat.{Flat, IsFlat}
 use Rattle.ir_cut.specs.Positions.{machine_of, start_of}
-use Rattle.ir_cut.proofs.Order.{persists}
+use Rattle.ir_runs.proofs.CallerLemmas.{persists}
 use Rattle.ir_fit.specs.Fit.{FittedTrace}
 use Rattle.ir_weave.specs.States.{IsStateAt, positions}
 use Rattle.ir_weave.specs.Table.{IsTable}

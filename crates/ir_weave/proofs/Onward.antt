@@ -2,24 +2,22 @@
 use Rattle.std.proofs.Common.{◌≡◌, ◌≢◌, ℕ, suc, zero, ◌+◌, ◌-◌, ◌<◌, ◌≤◌, List, [], ◌∷◌, ◌++◌, length, replicate, Result, Ok, Err, OnOk, OnErr, refl, sym, ap, ◌∙◌, subst, arith, inl, inr, append_assoc}
 use Rattle.std.proofs.lemmas.Bool.{cases_eq}
 use Rattle.ir_image.specs.Guest.{object_count}
-use Rattle.ir_thread.specs.Machine.{Machine}
-use Rattle.ir_thread.specs.Marks.{Mark, Quiet, Answer, In, Refused, Out, logged}
+use Rattle.ir_runs.specs.Machine.{Machine}
+use Rattle.ir_runs.specs.Marks.{Mark, Quiet, Answer, In, Refused, Out, logged}
 use Rattle.ir_thread.specs.State as thread
 use Rattle.ir_flat.specs.Alone.{WentAlone}
 use Rattle.ir_flat.specs.Flat.{Flat, tables, machine, start_flat}
-use Rattle.ir_flat.specs.Run.{State, Step, Can, after, mark, IsRun, end, events, log, count}
-use Rattle.ir_flat.proofs.Append.{run_append, end_append, log_append}
+use Rattle.ir_runs.specs.Run.{State, Step, Can, after, mark, IsRun, end, events, log, count}
+use Rattle.ir_runs.proofs.CallerLemmas.{run_append, end_append, log_append, trail_same, trail_other, IsFront, front_at}
 use Rattle.ir_flat.proofs.Counted.{tally}
 use Rattle.ir_flat.proofs.Fresh.{threads_length, cells_length, no_steps}
-use Rattle.ir_fit.specs.Cuts.{part}
+use Rattle.ir_runs.specs.Cuts.{part}
 use Rattle.ir_fit.specs.Fit.{FittedTrace, IsRunOf}
-use Rattle.ir_fit.specs.Following.{unlogged}
-use Rattle.ir_fit.proofs.Ending.{trail_same, trail_other}
+use Rattle.ir_runs.specs.Following.{unlogged}
 use Rattle.ir_cut.specs.Positions.{machine_of, start_of, cut_of}
 use Rattle.ir_weave.specs.States.{IsAt, IsStateAt, positions}
 use Rattle.ir_weave.specs.Stepping.{LogsNext, IsTarget, IsUnder, HasGone}
 use Rattle.ir_weave.proofs.Behind.{law, good, sorted, at_tables, steps_counted, behind, log_parts, log_behind, there}
-use Rattle.ir_weave.proofs.Fronts.{IsFront, front_at}
 
 -- ---- the end of a front
 

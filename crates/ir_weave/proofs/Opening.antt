@@ -15,7 +15,7 @@ use Rattle.ir_object.specs.Cell.{Cell}
 use Rattle.ir_object.specs.Word.{word_of, fields_of}
 use Rattle.ir_flat.specs.Flat.{Flat, IsFlat, empty, start_flat}
 use Rattle.ir_weave.proofs.Onward.{starts_at}
-use Rattle.ir_fit.specs.Cuts.{Cut}
+use Rattle.ir_runs.specs.Cuts.{Cut}
 use Rattle.ir_fit.specs.Fit.{FittedTrace, HasRun}
 use Rattle.ir_weave.specs.Standing.{Standing, StandsAt, flat_in}
 use Rattle.ir_weave.specs.States.{IsStateAt, positions}

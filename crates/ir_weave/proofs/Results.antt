@@ -3,10 +3,10 @@ use Rattle.std.proofs.Common.{◌≡◌, ℕ, ◌<◌, List, length, None, Some,
 use Rattle.std.specs.Prelude.{slice_get}
 use Rattle.ir_thread.specs.Calls.{ask_of}
 use Rattle.ir_thread.specs.Held.{held_count}
-use Rattle.ir_thread.specs.declared.ask.Access.{Access}
+use Rattle.ir_runs.specs.declared.access.Access.{Access}
 use Rattle.ir_thread.specs.declared.ask.Ask.{Ask}
 use Rattle.ir_thread.specs.declared.ask.Ask.TheVariants.{Env, Enter}
-use Rattle.ir_thread.specs.declared.ask.EnvKind.{EnvKind}
+use Rattle.ir_runs.specs.declared.env_kind.EnvKind.{EnvKind}
 use Rattle.std.specs.List.{slice_index_or}
 use Rattle.std.proofs.lemmas.List.{get_or_default}
 use Rattle.ir_object.specs.Cell.{Cell}
@@ -18,7 +18,7 @@ use Rattle.ir_log.specs.declared.event.Event.TheVariants.{Answer}
 use Rattle.ir_trace.specs.Recorded.{Recorded, IsRecordedThread}
 use Rattle.ir_trace.specs.Told.{recorded_thread, trace_of}
 use Rattle.ir_fit.specs.Ahead.{steps_ahead, log_ahead, CanFollow, IsOpen}
-use Rattle.ir_fit.specs.Following.{Meets}
+use Rattle.ir_runs.specs.Following.{Meets}
 use Rattle.ir_fit.specs.declared.look.Look.TheVariants as look
 use Rattle.ir_fit.proofs.Seen.{end_asked, ends_asked, asks_env, call_follows, call_disagrees, entry_follows, entry_waits, entry_disagrees, asks_entry, seen_stops}
 use Rattle.ir_weave.specs.Stepping.{LogsNext}

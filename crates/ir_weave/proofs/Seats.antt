@@ -6,16 +6,16 @@ use mathlib.Core.Option.{none}
 use Rattle.atomic_table.specs.Table.{Step as TableStep, step, Allows}
 use Rattle.ir_image.specs.Guest.{object_count}
 use Rattle.ir_thread.specs.Calls.{ask_of, Permits}
-use Rattle.ir_thread.specs.Marks.{Out}
+use Rattle.ir_runs.specs.Marks.{Out}
 use Rattle.ir_thread.specs.State as thread
-use Rattle.ir_thread.specs.declared.ask.Access.{Access}
-use Rattle.ir_thread.specs.declared.ask.Access.TheVariants.{Reading, Writing}
+use Rattle.ir_runs.specs.declared.access.Access.{Access}
+use Rattle.ir_runs.specs.declared.access.Access.TheVariants.{Reading, Writing}
 use Rattle.ir_thread.specs.declared.ask.Ask.{Ask}
 use Rattle.ir_thread.specs.declared.ask.Ask.TheVariants.{Enter, Leave, Get, Put}
 use Rattle.ir_thread.proofs.Asked.{ask_permits}
 use Rattle.ir_log.specs.declared.event.Event.{Event}
 use Rattle.ir_trace.specs.Told.{recorded_thread}
-use Rattle.ir_fit.specs.Cuts.{Tells}
+use Rattle.ir_runs.specs.Cuts.{Tells}
 use Rattle.ir_fit.specs.Fit.{FittedTrace, HasRun}
 use Rattle.ir_cut.specs.Positions.{machine_of, start_of, EachRun}
 use Rattle.ir_weave.specs.Ahead.{IsAlone, HasStep, IsAhead, IsAsking, IsEntering, IsNextObject, ask_at, thread_at}

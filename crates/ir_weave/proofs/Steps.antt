@@ -3,19 +3,19 @@ use Rattle.std.proofs.Common.{◌≡◌, ℕ, suc, zero, ◌+◌, ◌<◌, ◌�
 use Rattle.std.specs.Prelude.{slice_get}
 use Rattle.ir_thread.specs.Calls.{ask_of, after_ask, after_reply, step_of, run_of}
 use Rattle.ir_thread.specs.Instance.{shared_ask}
-use Rattle.ir_thread.specs.Machine.{act_of}
+use Rattle.ir_runs.specs.Machine.{act_of}
 use Rattle.ir_thread.specs.Private.{PrivateSteps}
 use Rattle.ir_thread.specs.State as thread
 use Rattle.ir_thread.specs.declared.end.End as end
-use Rattle.ir_thread.specs.declared.ask.Access.{Access}
-use Rattle.ir_thread.specs.declared.ask.Access.TheVariants.{Reading, Writing}
+use Rattle.ir_runs.specs.declared.access.Access.{Access}
+use Rattle.ir_runs.specs.declared.access.Access.TheVariants.{Reading, Writing}
 use Rattle.ir_thread.specs.declared.ask.Ask.{Ask}
 use Rattle.ir_thread.specs.declared.ask.Ask.TheVariants.{Private, Env, Enter, Leave, Get, Put, Print, End, Done}
-use Rattle.ir_thread.specs.declared.ask.EnvKind.{EnvKind}
+use Rattle.ir_runs.specs.declared.env_kind.EnvKind.{EnvKind}
 use Rattle.ir_thread.specs.declared.ask.Reply.{Reply}
 use Rattle.ir_thread.specs.declared.ask.Reply.TheVariants.{Go, Value}
-use Rattle.ir_object.specs.Object.{Object, told}
-use Rattle.ir_flat.specs.Run.{Step, count}
+use Rattle.ir_runs.specs.Object.{Object, told}
+use Rattle.ir_runs.specs.Run.{Step, count}
 use Rattle.ir_flat.proofs.Kept.{added}
 use Rattle.ir_log.specs.Logging.{mark_of, Suits}
 use Rattle.ir_log.specs.declared.event.Event.{Event}

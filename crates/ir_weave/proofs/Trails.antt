@@ -1,16 +1,15 @@
 -- What a step of a thread in a run tells, and the thread after it, by the thread before it.
 use Rattle.std.proofs.Common.{◌≡◌, ◌≢◌, ℕ, suc, zero, List, [], ◌∷◌, refl, sym, ap, ◌∙◌, subst, inl, inr, eq-eqb, ne_eqb}
 use Rattle.std.proofs.lemmas.Bool.{cases_eq}
-use Rattle.ir_thread.specs.Machine.{Machine, Ask, act_of, upd}
-use Rattle.ir_thread.specs.Machine as machine
-use Rattle.ir_thread.specs.Marks.{Mark, Quiet, Answer, In, Refused, Out}
-use Rattle.ir_thread.specs.declared.ask.Access.{Access}
-use Rattle.ir_thread.specs.declared.ask.Access.TheVariants.{Reading, Writing}
-use Rattle.ir_object.specs.Object.{Object, target, reply, told, Admits}
-use Rattle.ir_object.proofs.Tables.{upd_same}
-use Rattle.ir_flat.specs.Run.{State, Step, act, Can, IsRun, after, mark, end, join_if, trail, thread_in, th}
-use Rattle.ir_fit.specs.Cuts.{At, Tells, Needs}
-use Rattle.ir_fit.proofs.Same.{now_other}
+use Rattle.ir_runs.specs.Machine.{Machine, Ask, act_of, upd}
+use Rattle.ir_runs.specs.Machine as machine
+use Rattle.ir_runs.specs.Marks.{Mark, Quiet, Answer, In, Refused, Out}
+use Rattle.ir_runs.specs.declared.access.Access.{Access}
+use Rattle.ir_runs.specs.declared.access.Access.TheVariants.{Reading, Writing}
+use Rattle.ir_runs.specs.Object.{Object, target, reply, told, Admits}
+use Rattle.ir_runs.proofs.CallerLemmas.{upd_same, now_other}
+use Rattle.ir_runs.specs.Run.{State, Step, act, Can, IsRun, after, mark, end, join_if, trail, thread_in, th}
+use Rattle.ir_runs.specs.Cuts.{At, Tells, Needs}
 
 pub record StepOf {T : Type 0} (m : Machine T) (x y : T) (a : Mark) : Type 0 where
   pub result : ℕ

@@ -5,8 +5,8 @@ use Rattle.ir_thread.specs.Calls.{ask_of}
 use Rattle.ir_thread.specs.State as thread
 use Rattle.ir_thread.specs.declared.ask.Ask.{Ask}
 use Rattle.ir_thread.specs.declared.ask.Ask.TheVariants as ask
-use Rattle.ir_thread.specs.declared.ask.Access.{Access}
-use Rattle.ir_flat.specs.Run.{Step, count, th}
+use Rattle.ir_runs.specs.declared.access.Access.{Access}
+use Rattle.ir_runs.specs.Run.{Step, count, th}
 use Rattle.ir_log.specs.Logging.{Suits}
 use Rattle.ir_log.specs.declared.event.Event.{Event}
 use Rattle.ir_trace.specs.Told.{recorded_thread}

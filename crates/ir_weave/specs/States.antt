@@ -2,8 +2,8 @@
 use Rattle.std.specs.Prelude.{◌≡◌, ℕ, List, length}
 use Rattle.ir_image.specs.Guest.{object_count}
 use Rattle.ir_flat.specs.Flat.{Flat, thread_of, tables}
-use Rattle.ir_flat.specs.Run.{Step, th}
-use Rattle.ir_fit.specs.Cuts.{Cut, IsCut, Consistent, object_at}
+use Rattle.ir_runs.specs.Run.{Step, th}
+use Rattle.ir_runs.specs.Cuts.{Cut, IsCut, Consistent, object_at}
 use Rattle.ir_fit.specs.Fit.{FittedTrace}
 use Rattle.ir_cut.specs.Positions.{machine_of, start_of, EachRun}
 

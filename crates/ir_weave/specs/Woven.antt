@@ -6,9 +6,9 @@ use Rattle.atomic_table.specs.Table.{State, Me, Step}
 use Rattle.atomic_table.specs.Seated.{TableId}
 use Rattle.atomic_table.specs.declared.shared.Seat.{Seat}
 use Rattle.ir_thread.specs.Calls.{after_ask}
-use Rattle.ir_thread.specs.Marks.{Out}
+use Rattle.ir_runs.specs.Marks.{Out}
 use Rattle.ir_thread.specs.State as thread
-use Rattle.ir_thread.specs.declared.ask.Access.TheVariants.{Writing}
+use Rattle.ir_runs.specs.declared.access.Access.TheVariants.{Writing}
 use Rattle.ir_thread.specs.declared.ask.Ask.TheVariants as ask
 use Rattle.ir_thread.specs.declared.ask.Reply.TheVariants.{Value}
 use Rattle.ir_object.specs.Cell.{Cell}
@@ -17,7 +17,7 @@ use Rattle.ir_flat.specs.Flat.{Flat, IsFlat}
 use Rattle.ir_log.specs.declared.event.Event.{Event}
 use Rattle.ir_trace.specs.Told.{recorded_thread}
 use Rattle.ir_fit.specs.Ahead.{IsOpen}
-use Rattle.ir_fit.specs.Cuts.{Cut, IsCut, Consistent, Admitted, Tells}
+use Rattle.ir_runs.specs.Cuts.{Cut, IsCut, Consistent, Admitted, Tells}
 use Rattle.ir_fit.specs.Fit.{FittedTrace, HasRun}
 use Rattle.ir_cut.specs.Positions.{machine_of, start_of, EachRun}
 use Rattle.ir_weave.specs.Ahead.{thread_at, ask_at, IsNextObject, IsAhead}

@@ -12,7 +12,8 @@ use crate::weave::{Weave, WeaveSeat};
 use ir_cut::Cut;
 use ir_fit::Fitted;
 use ir_log::Event;
-use ir_thread::{Access, Ask, EnvKind, Reply, Thread};
+use ir_runs::{Access, EnvKind};
+use ir_thread::{Ask, Reply, Thread};
 
 /// What came of a try to take a step.
 #[derive(Clone, Copy, Debug, PartialEq, Eq)]

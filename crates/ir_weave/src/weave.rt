@@ -8,9 +8,9 @@ ghost use Rattle.ir_fit.specs.Ahead.{IsOpen};
 ghost use Rattle.ir_weave.specs.Ahead.{IsAsking, IsEntering};
 ghost use Rattle.ir_object.specs.Layout.{table_length};
 ghost use Rattle.ir_weave.specs.Woven.{trace_in, progress, IsSeated, IsGranted, WasStopped, Opens, Answers};
-ghost use Rattle.ir_thread.specs.Marks.{Out};
-ghost use Rattle.ir_thread.specs.declared.ask.Access.TheVariants.{Writing};
-ghost use Rattle.ir_fit.specs.Cuts.{Tells};
+ghost use Rattle.ir_runs.specs.Marks.{Out};
+ghost use Rattle.ir_runs.specs.declared.access.Access.TheVariants.{Writing};
+ghost use Rattle.ir_runs.specs.Cuts.{Tells};
 ghost use Rattle.ir_cut.specs.Positions.{machine_of, start_of, EachRun};
 
 use crate::plan::{Plan, Progress};
@@ -18,7 +18,8 @@ use crate::plays::{Law, Look, ReadVersion, StepOn};
 use atomic_table::{Seat, Table};
 use ir_log::Event;
 use ir_object::{APART, CONTENT_PLACE, WORD_PLACE, Word};
-use ir_thread::{Access, Thread};
+use ir_runs::Access;
+use ir_thread::Thread;
 use std::alloc::Global;
 use std::collections::LinkedList;
 

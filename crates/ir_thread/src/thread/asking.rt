@@ -2,13 +2,14 @@
 
 ghost use Rattle.std.specs.Prelude.{◌≡◌, ◌+◌, ◌<◌, length, if◌then◌else◌, Some, None};
 
-use crate::ask::{Access, Ask};
+use crate::ask::Ask;
 use crate::call::Call;
 use crate::end::End;
 use crate::holding::highest;
 use crate::thread::{MOST_OUTPUT, Thread, WORDS_EACH};
 use ir_image::Code;
 use ir_mach::Ran;
+use ir_runs::Access;
 use itoa::Buffer;
 
 const MOST_EVENTS: u32 = 1_048_576;

@@ -3,12 +3,13 @@
 ghost use Rattle.std.specs.Prelude.{◌≡◌, ◌≢◌, ◌+◌, ◌<◌, ◌≤◌, [], ◌∷◌, ◌++◌, length, slice_set, Some, None};
 ghost use Rattle.std.specs.Fmt.{signed_decimal};
 
-use crate::ask::{Access, Ask, Reply};
+use crate::ask::{Ask, Reply};
 use crate::call::Call;
 use crate::end::End;
 use crate::thread::Thread;
 use ir_image::Code;
 use ir_mach::Ran;
+use ir_runs::Access;
 use itoa::Buffer;
 
 const A0: u8 = 10;

@@ -1,6 +1,6 @@
 use Rattle.ir_thread.specs.Instance.{thread_machine}
 use Rattle.ir_flat.specs.Flat.{tables, start_flat}
-use Rattle.ir_cut.proofs.Order.{consistent_max, consistent_min}
+use Rattle.ir_runs.proofs.CallerLemmas.{consistent_max, consistent_min}
 use Rattle.ir_cut.proofs.laws.lattice.Goals as goal
 
 pub returns : goal.returns

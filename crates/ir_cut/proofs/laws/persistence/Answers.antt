@@ -1,6 +1,6 @@
 use Rattle.ir_thread.specs.Instance.{thread_machine}
 use Rattle.ir_flat.specs.Flat.{tables, start_flat}
-use Rattle.ir_cut.proofs.Order.{persists}
+use Rattle.ir_runs.proofs.CallerLemmas.{persists}
 use Rattle.ir_cut.proofs.laws.persistence.Goals as goal
 
 pub returns : goal.returns

@@ -1,4 +1,4 @@
-use Rattle.ir_thread.specs.declared.ask.Access.TheVariants.{Reading}
+use Rattle.ir_runs.specs.declared.access.Access.TheVariants.{Reading}
 use Rattle.ir_cut.proofs.Needed.{read_inside, write_inside, unmade_inside}
 use Rattle.ir_cut.proofs.Sought.{leaves_placed}
 use Rattle.ir_cut.proofs.needs.are_met.Goals as goal

@@ -1,4 +1,4 @@
-use Rattle.ir_thread.specs.declared.ask.Access.TheVariants.{Writing}
+use Rattle.ir_runs.specs.declared.access.Access.TheVariants.{Writing}
 use Rattle.ir_cut.proofs.Needed.{made_inside}
 use Rattle.ir_cut.proofs.Sought.{leaves_placed}
 use Rattle.ir_cut.proofs.needs.is_made.Goals as goal

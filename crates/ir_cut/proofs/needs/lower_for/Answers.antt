@@ -1,4 +1,4 @@
-use Rattle.ir_thread.specs.declared.ask.Access.TheVariants.{Writing}
+use Rattle.ir_runs.specs.declared.access.Access.TheVariants.{Writing}
 use Rattle.ir_cut.proofs.Needed.{reader_lowered, writer_lowered, last_lowered}
 use Rattle.ir_cut.proofs.Sought.{entries_placed}
 use Rattle.ir_cut.proofs.needs.lower_for.Goals as goal

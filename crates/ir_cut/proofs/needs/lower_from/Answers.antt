@@ -1,4 +1,4 @@
-use Rattle.ir_thread.specs.declared.ask.Access.TheVariants.{Reading, Writing}
+use Rattle.ir_runs.specs.declared.access.Access.TheVariants.{Reading, Writing}
 use Rattle.ir_cut.proofs.Needed.{both_lowered}
 use Rattle.ir_cut.proofs.Sought.{entries_placed}
 use Rattle.std.proofs.Common.{◌∙◌}

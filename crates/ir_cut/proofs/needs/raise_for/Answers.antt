@@ -1,4 +1,4 @@
-use Rattle.ir_thread.specs.declared.ask.Access.TheVariants.{Reading}
+use Rattle.ir_runs.specs.declared.access.Access.TheVariants.{Reading}
 use Rattle.ir_cut.proofs.Needed.{write_raised}
 use Rattle.ir_cut.proofs.Sought.{leaves_placed}
 use Rattle.std.proofs.Common.{◌∙◌}

@@ -1,11 +1,9 @@
 use Rattle.ir_thread.specs.Instance.{thread_machine}
 use Rattle.ir_thread.proofs.Lawful.{lawful, closing as closes}
 use Rattle.ir_flat.specs.Flat.{tables, start_flat}
-use Rattle.ir_flat.specs.Run.{trace}
-use Rattle.ir_flat.proofs.Good.{start_good}
-use Rattle.ir_fit.specs.Following.{closing}
-use Rattle.ir_fit.proofs.Follow.{own_fits}
-use Rattle.ir_fit.proofs.Ending.{own_closing}
+use Rattle.ir_runs.specs.Run.{trace}
+use Rattle.ir_runs.proofs.CallerLemmas.{start_good, own_fits, own_closing}
+use Rattle.ir_runs.specs.Following.{closing}
 use Rattle.ir_fit.proofs.Guests.{starts}
 use Rattle.ir_fit.proofs.laws.complete_fits.Goals as goal
 

@@ -1,6 +1,6 @@
 use Rattle.ir_thread.specs.Instance.{thread_machine}
 use Rattle.ir_flat.specs.Flat.{tables, start_flat}
-use Rattle.ir_fit.proofs.OneResult.{one_step_each}
+use Rattle.ir_runs.proofs.CallerLemmas.{one_step_each}
 use Rattle.ir_fit.proofs.laws.one_step_each.Goals as goal
 
 pub returns : goal.returns

@@ -1,8 +1,7 @@
 use Rattle.ir_thread.specs.Instance.{thread_machine}
 use Rattle.ir_thread.proofs.Lawful.{lawful}
 use Rattle.ir_flat.specs.Flat.{tables, start_flat}
-use Rattle.ir_flat.proofs.Good.{start_good}
-use Rattle.ir_fit.proofs.Determined.{determined}
+use Rattle.ir_runs.proofs.CallerLemmas.{start_good, determined}
 use Rattle.ir_fit.proofs.Guests.{starts}
 use Rattle.ir_fit.proofs.laws.trace_determines.Goals as goal
 

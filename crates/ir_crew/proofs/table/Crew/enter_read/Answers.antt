@@ -1,6 +1,6 @@
 use Rattle.std.proofs.Common.{◌≡◌, ◌+◌, ◌<◌, None, map, subst, sym, ◌∙◌, ap, arith}
 use Rattle.ir_thread.specs.Calls.{most_events}
-use Rattle.ir_thread.specs.declared.ask.Access.TheVariants.{Reading}
+use Rattle.ir_runs.specs.declared.access.Access.TheVariants.{Reading}
 use Rattle.ir_crew.specs.Plays.{M, history, inside_by, did, read_entry}
 use Rattle.ir_crew.specs.declared.deed.Deed.TheVariants.{Enter}
 use Rattle.ir_crew.specs.Rule.{entries, shared_of}

@@ -1,5 +1,5 @@
 use Rattle.std.proofs.Common.{◌≡◌, ℕ, ◌∙◌, ◌/◌, ◌^◌, ap, sym, subst, arith, Some}
-use Rattle.ir_thread.specs.declared.ask.Access.TheVariants.{Writing}
+use Rattle.ir_runs.specs.declared.access.Access.TheVariants.{Writing}
 use Rattle.ir_crew.specs.Plays.{M, history, inside_by}
 use Rattle.ir_crew.proofs.Steps.{looks, leaves_read, leaves_write_by, seen_version, alone_as}
 use Rattle.ir_crew.proofs.table.Crew.leave.Goals as goal

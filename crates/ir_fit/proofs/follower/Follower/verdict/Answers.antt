@@ -1,6 +1,6 @@
 use Rattle.std.proofs.Common.{◌≡◌, sym, ap, subst, ◌∙◌}
 use Rattle.ir_flat.specs.Flat.{thread_of}
-use Rattle.ir_fit.specs.declared.verdict.ThreadVerdict.TheVariants.{Disagrees, Starves}
+use Rattle.ir_runs.specs.declared.thread_verdict.ThreadVerdict.TheVariants.{Disagrees, Starves}
 use Rattle.ir_fit.proofs.Moves.{Stands, stands_disagrees, stands_starves}
 use Rattle.ir_fit.proofs.Seen.{asks_entry, seen_other}
 use Rattle.ir_fit.proofs.follower.Follower.verdict.Goals as goal

@@ -1,5 +1,5 @@
 use Rattle.std.proofs.Common.{length, map, replicate, sym, ap, ◌∙◌, subst}
-use Rattle.ir_record.specs.InOrder.{rounds}
+use Rattle.ir_runs.specs.InOrder.{rounds}
 use Rattle.ir_record.specs.Progress.{progress, Took}
 use Rattle.ir_record.proofs.Steps.{took_both}
 use Rattle.ir_record.proofs.Asking.{extends_both}

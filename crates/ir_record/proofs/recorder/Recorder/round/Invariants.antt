@@ -2,7 +2,7 @@ use Rattle.std.proofs.Common.{◌≡◌, length, map}
 use Rattle.std.specs.List.{range_with_len}
 use Rattle.ir_thread.specs.State as thread
 use Rattle.ir_flat.specs.Flat.{tables, machine}
-use Rattle.ir_flat.specs.Run.{State}
+use Rattle.ir_runs.specs.Run.{State}
 use Rattle.ir_record.specs.Ahead.{IsAhead, WentIf}
 use Rattle.ir_record.specs.Progress.{progress, IsReady}
 use Rattle.ir_record.specs.Worlds.{Extends}

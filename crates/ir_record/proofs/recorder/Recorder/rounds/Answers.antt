@@ -4,7 +4,7 @@ use Rattle.std.proofs.lemmas.List.{length-replicate}
 use Rattle.std.specs.List.{range_with_len}
 use Rattle.ir_flat.specs.Flat.{tables, machine}
 use Rattle.ir_record.specs.Ahead.{lead, CanSkip, all_ahead, WentIf}
-use Rattle.ir_record.specs.InOrder.{rounds}
+use Rattle.ir_runs.specs.InOrder.{rounds}
 use Rattle.ir_record.specs.Progress.{Progress, progress, all_left}
 use Rattle.ir_record.proofs.Asking.{extends_same, extends_both}
 use Rattle.ir_record.proofs.Going.{Rounding, first_round, round_more, reached, ahead_there, none_ahead, caught, all_over, fewer_left}

@@ -1,6 +1,6 @@
 use Rattle.std.proofs.Common.{ap, ◌∙◌, refl, [], ◌∷◌, ◌++◌, set}
 use Rattle.ir_flat.specs.Flat.{tables, machine}
-use Rattle.ir_flat.specs.Run.{Can}
+use Rattle.ir_runs.specs.Run.{Can}
 use Rattle.ir_log.specs.Logged.{Logged}
 use Rattle.ir_log.specs.declared.event.Event.TheVariants as event
 use Rattle.ir_record.proofs.Logs.{stepped, has_room, log_found}

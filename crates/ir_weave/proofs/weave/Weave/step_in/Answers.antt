@@ -1,5 +1,5 @@
 use Rattle.std.proofs.Common.{refl, subst}
-use Rattle.ir_thread.specs.declared.ask.Access.TheVariants.{Reading, Writing}
+use Rattle.ir_runs.specs.declared.access.Access.TheVariants.{Reading, Writing}
 use Rattle.ir_thread.specs.declared.ask.Ask.TheVariants.{Enter}
 use Rattle.ir_weave.specs.Ahead.{IsAsking}
 use Rattle.ir_weave.specs.Woven.{trace_in}

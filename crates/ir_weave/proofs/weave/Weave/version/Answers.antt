@@ -1,6 +1,6 @@
 use Rattle.std.proofs.Common.{arith}
 use Rattle.ir_weave.proofs.Seats.{WasSeen, version_allows, version_told, left_there}
-use Rattle.ir_thread.specs.declared.ask.Access.TheVariants.{Writing}
+use Rattle.ir_runs.specs.declared.access.Access.TheVariants.{Writing}
 use Rattle.ir_weave.proofs.weave.Weave.version.Goals as goal
 use Rattle.ir_weave.proofs.weave.Weave.version.Goals.{After-load}
 

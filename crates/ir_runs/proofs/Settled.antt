@@ -1,0 +1,96 @@
+-- What follows from where the threads stand at the end of a run.
+use Rattle.std.proofs.Common.{◌≡◌, ◌≢◌, ℕ, suc, zero, ◌<◌, List, [], ◌∷◌, refl, inl, inr}
+use Rattle.std.proofs.lemmas.Bool.{cases_lt}
+use Rattle.ir_runs.specs.Machine.{Ask, Private, Env, Enter, Try, Leave, Get, Put, Done, act_of, Machine, IsLawful}
+use Rattle.ir_runs.specs.Marks.{Mark, Quiet, Answer, In, Refused, Out, logged, Trace}
+use Rattle.ir_runs.specs.declared.access.Access.TheVariants.{Reading, Writing}
+use Rattle.ir_runs.specs.Object.{Object, target, Admits, told}
+use Rattle.ir_runs.specs.Run.{State, Step, asked, end, IsStart, IsIdle, IsDone}
+use Rattle.ir_runs.proofs.Good.{Good}
+use Rattle.ir_runs.proofs.Stuck.{run_idle}
+use Rattle.ir_runs.proofs.Ending.{not_done}
+use Rattle.ir_runs.proofs.Judge.{judged}
+use Rattle.ir_runs.proofs.OneResult.{Last, last_of, one_step_each}
+use Rattle.ir_runs.specs.Coherent.{IsCoherent}
+use Rattle.ir_runs.specs.Following.{unlogged, Follows, IsMaximal, closing}
+use Rattle.ir_runs.specs.Standing.{GoesOn, AgreesNow, StandsAs}
+use Rattle.ir_runs.specs.Verdicts.{Suits, IsVerdict, HoldsEvents}
+use Rattle.ir_runs.specs.declared.thread_verdict.ThreadVerdict.{ThreadVerdict}
+use Rattle.ir_runs.specs.declared.thread_verdict.ThreadVerdict.TheVariants.{Same, Disagrees, Starves}
+
+-- what is logged of a step that follows suits what was asked
+suits_of : {T : Type 0} (m : Machine T) (q : Ask) (r : ℕ) (b : Object) (es : List Mark) → Admits m (act_of q r) b → logged (told (act_of q r) b) (unlogged (told (act_of q r) b) es) ≡ es → Suits q es
+suits_of m Private r b es can h = tt
+suits_of m (Env k) r b [] can h = absurd (cc h)
+suits_of m (Env k) r b (Quiet ∷ es) can h = absurd (cc h)
+suits_of m (Env k) r b (Answer j v ∷ es) can h = cc h
+suits_of m (Env k) r b (In p c v l ∷ es) can h = absurd (cc h)
+suits_of m (Env k) r b (Refused p ∷ es) can h = absurd (cc h)
+suits_of m (Env k) r b (Out p c v ∷ es) can h = absurd (cc h)
+suits_of m (Enter o Reading) r b [] can h = absurd (cc h)
+suits_of m (Enter o Reading) r b (Quiet ∷ es) can h = absurd (cc h)
+suits_of m (Enter o Reading) r b (Answer j v ∷ es) can h = absurd (cc h)
+suits_of m (Enter o Reading) r b (In p c v l ∷ es) can h = (cc h, cc h)
+suits_of m (Enter o Reading) r b (Refused p ∷ es) can h = absurd (cc h)
+suits_of m (Enter o Reading) r b (Out p c v ∷ es) can h = absurd (cc h)
+suits_of m (Enter o Writing) r b [] can h = absurd (cc h)
+suits_of m (Enter o Writing) r b (Quiet ∷ es) can h = absurd (cc h)
+suits_of m (Enter o Writing) r b (Answer j v ∷ es) can h = absurd (cc h)
+suits_of m (Enter o Writing) r b (In p c v l ∷ es) can h = (cc h, cc h)
+suits_of m (Enter o Writing) r b (Refused p ∷ es) can h = absurd (cc h)
+suits_of m (Enter o Writing) r b (Out p c v ∷ es) can h = absurd (cc h)
+suits_of m (Try o) zero b [] can h = absurd (cc h)
+suits_of m (Try o) zero b (Quiet ∷ es) can h = absurd (cc h)
+suits_of m (Try o) zero b (Answer j v ∷ es) can h = absurd (cc h)
+suits_of m (Try o) zero b (In p c v l ∷ es) can h = absurd (cc h)
+suits_of m (Try o) zero b (Refused p ∷ es) can h = cc h
+suits_of m (Try o) zero b (Out p c v ∷ es) can h = absurd (cc h)
+suits_of m (Try o) (suc zero) b [] can h = absurd (cc h)
+suits_of m (Try o) (suc zero) b (Quiet ∷ es) can h = absurd (cc h)
+suits_of m (Try o) (suc zero) b (Answer j v ∷ es) can h = absurd (cc h)
+suits_of m (Try o) (suc zero) b (In p c v l ∷ es) can h = (cc h, cc h)
+suits_of m (Try o) (suc zero) b (Refused p ∷ es) can h = absurd (cc h)
+suits_of m (Try o) (suc zero) b (Out p c v ∷ es) can h = absurd (cc h)
+suits_of m (Try o) (suc (suc r)) b es can h = absurd can
+suits_of m (Leave o a) r b es can h = tt
+suits_of m (Get o i) r b es can h = tt
+suits_of m (Put o i w) r b es can h = tt
+suits_of m Done r b es can h = tt
+
+-- a step that follows is the trace's
+pub agrees_last : {T : Type 0} (m : Machine T) (s : State T) (tr : Trace) (run : List Step) (e : Step) → Last m s tr run e → AgreesNow m s tr run e.0
+agrees_last m s tr run e last = (last.left, suits_of m (asked m (end m s run) e.0) e.1 ((end m s run).objects (target (act_of (asked m (end m s run) e.0) e.1))) _ last.can last.logs, last.closes)
+
+stops : {T : Type 0} (m : Machine T) (s : State T) (tr : Trace) (run : List Step) (t : ℕ) (v : ThreadVerdict) → StandsAs m s tr run t v → GoesOn m s tr run t → ⊥
+stops m s tr run t Same h g = not_done m (end m s run) _ (last_of m tr s run _ g).can h
+stops m s tr run t (Disagrees j k) h g = h.1 (agrees_last m s tr run _ (last_of m tr s run _ g))
+stops m s tr run t (Starves j) h g = h.2 g
+
+-- a run has gone as far as any can where each thread stands so
+pub settled : {T : Type 0} (n : ℕ) (m : Machine T) (s : State T) → IsIdle m s n → (tr : Trace) (run : List Step) → Follows (closing m tr) m s tr run → ((t : ℕ) → t < n → (v : ThreadVerdict) × StandsAs m s tr run t v) → IsMaximal (closing m tr) m s tr run
+settled n m s im tr run f stands = one_step_each m tr s run (λ t g. elim (cases_lt t n) [
+  | inl l ↦ stops m s tr run t (stands t l).0 (stands t l).1 g
+  | inr le ↦ not_done m (end m s run) _ (last_of m tr s run _ g).can (run_idle m s n im run f.0 t le)
+])
+
+-- then what is said of a thread is how it stands
+pub verdict_at : {T : Type 0} (n : ℕ) (m : Machine T) → IsLawful m → (tr : Trace) → IsCoherent n tr → HoldsEvents m tr → (s : State T) → Good m s → IsStart m s → IsIdle m s n → (run : List Step) → Follows (closing m tr) m s tr run → IsMaximal (closing m tr) m s tr run
+    → (t : ℕ) (v : ThreadVerdict) → StandsAs m s tr run t v → IsVerdict m s tr run t v
+verdict_at n m law tr co ev s good st im run f top t Same h = h
+verdict_at n m law tr co ev s good st im run f top t (Disagrees j k) h = h
+verdict_at n m law tr co ev s good st im run f top t (Starves j) h = starving (judged n m law tr co ev s good st im run f top t).0 (judged n m law tr co ev s good st im run f top t).1
+  where
+    starving : (v : ThreadVerdict) → IsVerdict m s tr run t v → IsVerdict m s tr run t (Starves j)
+    starving Same g = absurd (h.0 g)
+    starving (Disagrees i k) g = absurd (g.1 h.1)
+    starving (Starves i) g = (h.0, h.1, g.2, g.3, h.3)
+
+-- a thread that isn't the same has a step left
+pub goes_on : {T : Type 0} (m : Machine T) (s : State T) (tr : Trace) (run : List Step) (t : ℕ) (v : ThreadVerdict) → StandsAs m s tr run t v → v ≢ Same → asked m (end m s run) t ≢ Done
+goes_on m s tr run t Same h ne = absurd (ne refl)
+goes_on m s tr run t (Disagrees j k) h ne = h.0
+goes_on m s tr run t (Starves j) h ne = h.0
+
+-- where each of the n threads is the same, all are done
+pub all_done : {T : Type 0} (n : ℕ) (m : Machine T) (s : State T) → IsIdle m s n → (tr : Trace) (run : List Step) → Follows (closing m tr) m s tr run → ((t : ℕ) → t < n → StandsAs m s tr run t Same) → IsDone m (end m s run)
+all_done n m s im tr run f same t = elim (cases_lt t n) [ inl l ↦ same t l | inr le ↦ run_idle m s n im run f.0 t le ]

@@ -1,0 +1,64 @@
+-- Cuts of a run: a position for each thread.
+use Rattle.std.specs.Prelude.{◌≡◌, ℕ, suc, zero, pred, ◌<◌, ◌≤◌, cond, eqb, ltb, List, [], ◌∷◌}
+use Rattle.ir_runs.specs.Machine.{Machine}
+use Rattle.ir_runs.specs.Marks.{Mark, In, Out}
+use Rattle.ir_runs.specs.declared.access.Access.TheVariants.{Reading, Writing}
+use Rattle.ir_runs.specs.Object.{Object}
+use Rattle.ir_runs.specs.Run.{State, Step, Can, after, mark, IsRun, end, join_if, trail, count, th}
+
+-- x stands at place k of the list
+abbrev pub At : {A : Type 0} → List A → ℕ → A → Type 0
+At [] k x = ⊥
+At (y ∷ ys) zero x = y ≡ x
+At (y ∷ ys) (suc k) x = At ys k x
+
+-- step k of thread t tells this
+abbrev pub Tells : {T : Type 0} → Machine T → State T → List Step → ℕ → ℕ → Mark → Type 0
+Tells {T} m s run t k told = (x : T) × At (trail m s run t) k (x, told)
+
+-- what tells the second needs what tells the first: an entry needs the writer's leave that made its version, an entry for writing each reader's leave of its version
+abbrev pub Needs : Mark → Mark → Type 0
+Needs (Out o Writing w) (In p a v l) = (o ≡ p) × (v ≡ suc w)
+Needs (Out o Reading w) (In p Writing v l) = (o ≡ p) × (v ≡ w)
+Needs (Out o Reading w) _ = ⊥
+Needs _ _ = ⊥
+
+-- a position for each thread
+abbrev pub Cut : Type 0
+Cut = ℕ → ℕ
+
+-- no position is past the thread's last
+abbrev pub IsCut : {T : Type 0} → Machine T → State T → List Step → Cut → Type 0
+IsCut m s run p = (t : ℕ) → p t ≤ count m s run t
+
+-- what a step of the cut needs is in the cut
+abbrev pub Consistent : {T : Type 0} → Machine T → State T → List Step → Cut → Type 0
+Consistent m s run p = (t k u j : ℕ) (a b : Mark) → Tells m s run t k a → Tells m s run u j b → Needs b a → k < p t → j < p u
+
+-- the positions that are left after a step of thread t
+abbrev pub lower : Cut → ℕ → Cut
+lower p t u = cond (eqb u t) (pred (p u)) (p u)
+
+-- the steps of the run that are in the cut, in the run's order
+abbrev pub part : List Step → Cut → List Step
+part [] p = []
+part (e ∷ run) p = join_if (ltb 0 (p e.0)) e (part run (lower p e.0))
+
+-- the object at the cut
+abbrev pub object_at : {T : Type 0} → Machine T → State T → List Step → Cut → ℕ → Object
+object_at m s run p o = (end m s (part run p)).objects o
+
+-- p, and one more step of thread t
+abbrev pub further : Cut → ℕ → Cut
+further p t u = cond (eqb u t) (suc (p u)) (p u)
+
+-- thread t has a step left, and what that step needs is in the cut
+abbrev pub Admitted : {T : Type 0} → Machine T → State T → List Step → Cut → ℕ → Type 0
+Admitted m s run p t = (p t < count m s run t) × Consistent m s run (further p t)
+
+-- the part of the run in a consistent cut is a run, at whose end each thread is as it was at its position, and a step of a thread that is admitted leads to the cut one further
+pub record AtCut {T : Type 0} (m : Machine T) (s : State T) (run : List Step) (p : Cut) : Type 0 where
+  pub runs : IsRun m s (part run p)
+  pub threads : (t : ℕ) → (end m s (part run p)).now t ≡ th m s run t (p t)
+  pub steps : (t : ℕ) → Admitted m s run p t → (r : ℕ) × Can m (end m s (part run p)) (t, r) × (after m (end m s (part run p)) (t, r) ≡ end m s (part run (further p t)))
+      × Tells m s run t (p t) (mark m (end m s (part run p)) (t, r))

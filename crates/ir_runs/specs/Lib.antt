@@ -1,0 +1,12 @@
+pub mod Machine
+pub mod Marks
+pub mod Object
+pub mod Run
+pub mod Cuts
+pub mod Coherent
+pub mod Following
+pub mod Alike
+pub mod Verdicts
+pub mod Standing
+pub mod Extremes
+pub mod InOrder

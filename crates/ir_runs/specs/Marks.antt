@@ -1,0 +1,26 @@
+-- What a step tells others of, beside the thread that takes it.
+use Rattle.std.specs.Prelude.{ℕ, List, [], ◌∷◌, Option}
+use Rattle.ir_runs.specs.declared.access.Access.{Access}
+use Rattle.ir_runs.specs.declared.env_kind.EnvKind.{EnvKind}
+
+-- what a step tells: nothing, the result of a call of the environment, an entry, a refused try, or a leave
+pub data Mark : Type 0 where
+  Quiet : Mark
+  Answer : (kind : EnvKind) → (value : ℕ) → Mark
+  In : (object : ℕ) → (access : Access) → (version left : ℕ) → Mark
+  Refused : (object : ℕ) → Mark
+  Out : (object : ℕ) → (access : Access) → (version : ℕ) → Mark
+
+-- es, with what is logged of the mark before it: results, entries and refused tries
+abbrev pub logged : Mark → List Mark → List Mark
+logged Quiet es = es
+logged (Answer k v) es = Answer k v ∷ es
+logged (In o a v l) es = In o a v l ∷ es
+logged (Refused o) es = Refused o ∷ es
+logged (Out o a v) es = es
+
+-- what is told of a run: of each thread how many steps it takes, its log, and its end and code
+pub record Trace : Type 0 where
+  pub steps : ℕ → ℕ
+  pub logs : ℕ → List Mark
+  pub ends : ℕ → Option (ℕ × ℕ)

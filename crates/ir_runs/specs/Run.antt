@@ -1,0 +1,112 @@
+-- Threads and objects, one step at a time.
+use Rattle.std.specs.Prelude.{◌≡◌, ℕ, zero, suc, ◌<◌, ◌≤◌, Bool, true, false, eqb, List, [], ◌∷◌, length, None}
+use Rattle.ir_runs.specs.Machine.{Ask, Done, Enter, Act, act_of, Machine, upd}
+use Rattle.ir_runs.specs.declared.access.Access.{Access}
+use Rattle.ir_runs.specs.Marks.{Mark, logged, Trace}
+use Rattle.ir_runs.specs.Object.{Object, target, Admits, acted, reply, told}
+
+-- all threads, of any kind, and all objects at one moment
+pub record State (T : Type 0) : Type 0 where
+  pub now : ℕ → T
+  pub objects : ℕ → Object
+
+-- a step is a thread, and the result of its call of the environment or try, if it makes one
+abbrev pub Step : Type 0
+Step = ℕ × ℕ
+
+-- what thread t asks
+abbrev pub asked : {T : Type 0} → Machine T → State T → ℕ → Ask
+asked m s t = m.ask (s.now t)
+
+-- what the step does
+abbrev pub act : {T : Type 0} → Machine T → State T → Step → Act
+act m s e = act_of (asked m s e.0) e.1
+
+-- whether there is such a step
+abbrev pub Can : {T : Type 0} → Machine T → State T → Step → Type 0
+Can m s e = Admits m (act m s e) (s.objects (target (act m s e)))
+
+-- thread t, which is x, does this
+abbrev pub moved : {T : Type 0} → Machine T → State T → ℕ → T → Act → State T
+moved m s t x q = record {
+  now = upd s.now t (m.take x (reply q (s.objects (target q))));
+  objects = upd s.objects (target q) (acted q t (s.objects (target q)));
+}
+
+-- the state after the step
+unfoldable pub after : {T : Type 0} → Machine T → State T → Step → State T
+after m s e = moved m s e.0 (s.now e.0) (act m s e)
+
+-- what the step tells
+abbrev pub mark : {T : Type 0} → Machine T → State T → Step → Mark
+mark m s e = told (act m s e) (s.objects (target (act m s e)))
+
+-- there is each step of the run, after those before it
+abbrev pub IsRun : {T : Type 0} → Machine T → State T → List Step → Type 0
+IsRun m s [] = Unit {0}
+IsRun m s (e ∷ run) = Can m s e × IsRun m (after m s e) run
+
+-- the state at a run's end
+abbrev pub end : {T : Type 0} → Machine T → State T → List Step → State T
+end m s [] = s
+end m s (e ∷ run) = end m (after m s e) run
+
+-- xs, with x before it if b
+abbrev pub join_if : {A : Type 0} → Bool → A → List A → List A
+join_if true x xs = x ∷ xs
+join_if false x xs = xs
+
+-- the steps of thread t in the run, each with the thread before it and what it tells
+abbrev pub trail : {T : Type 0} → Machine T → State T → List Step → ℕ → List (T × Mark)
+trail m s [] t = []
+trail m s (e ∷ run) t = join_if (eqb t e.0) (s.now t, mark m s e) (trail m (after m s e) run t)
+
+-- what is logged of a thread's steps
+abbrev pub events : {T : Type 0} → List (T × Mark) → List Mark
+events [] = []
+events (x ∷ xs) = logged x.1 (events xs)
+
+-- the log of thread t
+abbrev pub log : {T : Type 0} → Machine T → State T → List Step → ℕ → List Mark
+log m s run t = events (trail m s run t)
+
+-- how many steps thread t takes
+abbrev pub count : {T : Type 0} → Machine T → State T → List Step → ℕ → ℕ
+count m s run t = length (trail m s run t)
+
+-- the thread before step k, or after the last step
+abbrev pub thread_in : {T : Type 0} → List (T × Mark) → ℕ → T → T
+thread_in [] k last = last
+thread_in (x ∷ xs) zero last = x.0
+thread_in (x ∷ xs) (suc k) last = thread_in xs k last
+
+-- what is told of the run
+abbrev pub trace : {T : Type 0} → Machine T → State T → List Step → Trace
+trace m s run = record { steps = count m s run; logs = log m s run; ends = λ t. m.ended ((end m s run).now t) }
+
+-- thread t just after its k-th own step
+abbrev pub th : {T : Type 0} → Machine T → State T → List Step → ℕ → ℕ → T
+th m s run t k = thread_in (trail m s run t) k ((end m s run).now t)
+
+-- nobody is inside, and nothing has happened
+pub record IsStart {T : Type 0} (m : Machine T) (s : State T) : Type 0 where
+  pub version : (o : ℕ) → (s.objects o).version ≡ 0
+  pub left : (o : ℕ) → (s.objects o).left ≡ 0
+  pub inside : (o t : ℕ) → (s.objects o).inside t ≡ None
+  pub held : (t o : ℕ) → m.held (s.now t) o ≡ None
+
+-- every thread is done
+abbrev pub IsDone : {T : Type 0} → Machine T → State T → Type 0
+IsDone m s = (t : ℕ) → asked m s t ≡ Done
+
+-- a run after which every thread is done
+abbrev pub IsComplete : {T : Type 0} → Machine T → State T → List Step → Type 0
+IsComplete m s run = IsRun m s run × IsDone m (end m s run)
+
+-- the threads from n on are done
+abbrev pub IsIdle : {T : Type 0} → Machine T → State T → ℕ → Type 0
+IsIdle m s n = (t : ℕ) → n ≤ t → asked m s t ≡ Done
+
+-- the threads enter objects below the count
+abbrev pub IsBounded : {T : Type 0} → Machine T → State T → ℕ → Type 0
+IsBounded m s count = (t o : ℕ) (a : Access) → asked m s t ≡ Enter o a → o < count
