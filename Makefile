@@ -16,8 +16,9 @@ FORCE:
 run: ir
 	./ir < crates/ir_cli/stdin
 
-# The merge gate: every proof from nothing, must-fail edits, tests, programs.
+# The merge gate: the rooms of the crates, and then every proof from nothing, must-fail edits, tests, programs.
 test:
+	python3 scripts/rooms.py
 	rt ci
 
 # Millions of instructions per second, and the assembler's lines.

@@ -1,23 +1,23 @@
-pub mod Defined
-pub mod Passing
-pub mod Steps
-pub mod Kept
-pub mod Sound
-pub mod Lines
-pub mod Firsts
-pub mod Texts
-pub mod Tables
-pub mod Numerals
-pub mod Cuts
-pub mod Digits
-pub mod Pieces
-pub mod Numbers
-pub mod Statements
-pub mod Formats
-pub mod Branches
-pub mod Pairs
-pub mod Addresses
-pub mod Uppers
-pub mod Law
-pub mod RowTests
-pub mod LabelValues
+mod Defined
+mod Passing
+mod Steps
+mod Kept
+mod Sound
+mod Lines
+mod Firsts
+mod Texts
+mod Tables
+mod Numerals
+mod Cuts
+mod Digits
+mod Pieces
+mod Numbers
+mod Statements
+mod Formats
+mod Branches
+mod Pairs
+mod Addresses
+mod Uppers
+mod Law
+mod RowTests
+mod LabelValues

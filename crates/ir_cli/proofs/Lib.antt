@@ -1,8 +1,8 @@
-pub mod TakenLines
-pub mod ReadFiles
-pub mod Numerals
-pub mod Parts
-pub mod Items
-pub mod Giving
-pub mod Fresh
-pub mod Printed
+mod TakenLines
+mod ReadFiles
+mod Numerals
+mod Parts
+mod Items
+mod Giving
+mod Fresh
+mod Printed

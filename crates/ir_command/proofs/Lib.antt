@@ -1,2 +1,2 @@
-pub mod FirstWord
-pub mod Values
+mod FirstWord
+mod Values

@@ -16,8 +16,7 @@ use Rattle.ir_object.specs.Layout.{word_place}
 use Rattle.ir_object.specs.Order.{Shared, keep_if, of_thread, objects_then, objects_after, order_marks, Uses, IsStep, IsLegal, inside_after}
 use Rattle.ir_object.specs.Word.{bit_of, fields_of, entered, left_by}
 use Rattle.ir_object.specs.declared.fields.Fields.{Fields}
-use Rattle.ir_object.proofs.Order.{then_same, then_other, alone_acted, Alone, inside_run}
-use Rattle.ir_object.proofs.Stands.{entry_counts, leave_counts, can_leave, writer_admitted}
+use Rattle.ir_object.proofs.CallerLemmas.{then_same, then_other, alone_acted, Alone, inside_run, entry_counts, leave_counts, can_leave, writer_admitted}
 use Rattle.ir_runs.proofs.CallerLemmas.{upd_same, upd_other, upd_elim}
 use Rattle.ir_crew.specs.Plays.{inside_by, version_if, version_then, entered_at}
 use Rattle.ir_crew.specs.Rule.{View, one_if_entry, entries, mark_of, start_objects, Tells, Kept}

@@ -1,5 +1,6 @@
-pub mod Counting
-pub mod Known
-pub mod Steps
-pub mod Seats
-pub mod Ending
+mod Counting
+mod Known
+mod Steps
+mod Seats
+mod Ending
+pub mod CallerLemmas

@@ -19,9 +19,7 @@ use Rattle.ir_runs.specs.Object.{Object, target, Admits, acted, reply, told}
 use Rattle.ir_object.specs.Layout.{word_place, content_place}
 use Rattle.ir_object.specs.Order.{Shared, of_thread, objects_after, order_marks, Uses}
 use Rattle.ir_object.specs.Word.{fields_of}
-use Rattle.ir_object.proofs.Order.{of_own, of_other, after_more, marks_more, legal_more}
-use Rattle.ir_object.proofs.Stands.{entry_counts, leave_counts, can_leave, admits_reader, admits_writer}
-use Rattle.ir_object.proofs.Words.{read_entry_word, write_entry_word, read_leave_word, version_word}
+use Rattle.ir_object.proofs.CallerLemmas.{of_own, of_other, after_more, marks_more, legal_more, entry_counts, leave_counts, can_leave, admits_reader, admits_writer, read_entry_word, write_entry_word, read_leave_word, version_word}
 use Rattle.ir_runs.proofs.CallerLemmas.{upd_same, upd_other, upd_id}
 use Rattle.ir_crew.specs.Plays.{IsAlone, history, did, inside_by, entered_at, M, object_of, index_of, IsSight, looked, tried, read_entry, write_entry, entered_read, entered_write, left_reading, left_writing, got, wrote}
 use Rattle.ir_crew.specs.Rule.{View, shared_by, mark_by, shared_of, mark_of, one_if_entry, entries, start_objects, Tells, IsTable, IsTrack, Fits, Kept}

@@ -3,10 +3,10 @@ use Rattle.std.proofs.Common.{◌≡◌, ℕ, zero, suc, ◌<◌, ◌≤◌, ◌
 use Rattle.std.proofs.lemmas.Bool.{cases_lt}
 use Rattle.ir_runs.specs.Marks.{Mark, Quiet, Answer, In, Refused, Out}
 use Rattle.ir_runs.specs.declared.access.Access.{Access}
-use Rattle.ir_thread.proofs.Lawful.{lawful}
+use Rattle.ir_thread.proofs.CallerLemmas.{lawful}
 use Rattle.ir_runs.specs.Run.{Step, trail, count, events}
 use Rattle.ir_runs.proofs.CallerLemmas.{start_good, alike}
-use Rattle.ir_flat.proofs.Runs.{start_idle}
+use Rattle.ir_flat.proofs.CallerLemmas.{start_idle}
 use Rattle.ir_log.specs.Logging.{mark_of}
 use Rattle.ir_log.specs.declared.event.Event.{Event}
 use Rattle.ir_log.specs.declared.event.Event.TheVariants.{Answer as Result, Read, Write}
@@ -16,9 +16,7 @@ use Rattle.ir_trace.specs.Told.{recorded_thread}
 use Rattle.ir_runs.specs.Cuts.{At, Tells}
 use Rattle.ir_fit.specs.Fit.{FittedTrace, HasRun, IsRunOf}
 use Rattle.ir_fit.specs.Places.{places_of, leaves_of}
-use Rattle.ir_fit.proofs.Breaks.{thread_fits}
-use Rattle.ir_fit.proofs.Guests.{starts}
-use Rattle.ir_fit.proofs.Listed.{idle_trail, tells_below, get_at, at_get, entry_of}
+use Rattle.ir_fit.proofs.CallerLemmas.{thread_fits, starts, idle_trail, tells_below, get_at, at_get, entry_of}
 use Rattle.ir_cut.specs.Positions.{machine_of, start_of}
 
 pub no_trail : (f : FittedTrace) (run : List Step) → IsRunOf f.guest f.recorded run → (t : ℕ) → length f.guest.entries ≤ t → trail (machine_of f) (start_of f) run t ≡ []

@@ -1,9 +1,9 @@
-pub mod Moved
-pub mod Again
-pub mod Sought
-pub mod Needed
-pub mod Listing
-pub mod Searched
-pub mod Stepping
-pub mod Closed
-pub mod Found
+mod Moved
+mod Again
+mod Sought
+mod Needed
+mod Listing
+mod Searched
+mod Stepping
+mod Closed
+mod Found

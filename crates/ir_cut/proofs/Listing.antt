@@ -5,8 +5,8 @@ use Rattle.std.specs.List.{slice_index_or}
 use Rattle.std.proofs.lemmas.List.{get_or_past}
 use Rattle.std.proofs.lemmas.Option.{slice_get_within, slice_get-get_or, get_or_from_slice_get}
 use Rattle.ir_log.specs.declared.event.Event.TheVariants.{Read}
-use Rattle.ir_fit.proofs.Listed as kept
-use Rattle.ir_fit.proofs.Listed.{tells_below, entries_long, entry_tells, entry_of, leave_tells, leave_of}
+use Rattle.ir_fit.proofs.CallerLemmas as kept
+use Rattle.ir_fit.proofs.CallerLemmas.{tells_below, entries_long, entry_tells, entry_of, leave_tells, leave_of}
 use Rattle.ir_cut.proofs.Again.{again}
 use Rattle.std.specs.Prelude.{slice_get}
 use Rattle.ir_runs.specs.Marks.{In, Out}

@@ -1,3 +1,3 @@
-pub mod Runs
-pub mod RegisterNames
-pub mod Opened
+mod Runs
+mod RegisterNames
+mod Opened

@@ -9,11 +9,11 @@ use Rattle.ir_thread.specs.Instance.{thread_machine, is_result}
 use Rattle.ir_runs.specs.Marks.{Mark}
 use Rattle.ir_runs.specs.declared.env_kind.EnvKind.{EnvKind}
 use Rattle.ir_runs.specs.declared.env_kind.EnvKind.TheVariants.{Clock, Random, Input}
-use Rattle.ir_thread.proofs.Lawful.{lawful, closing}
+use Rattle.ir_thread.proofs.CallerLemmas.{lawful, closing}
 use Rattle.ir_flat.specs.Flat.{Flat, start_flat, tables}
 use Rattle.ir_runs.specs.Run.{Step, log, trace}
 use Rattle.ir_runs.proofs.CallerLemmas.{start_good, one_maximal, Over, over, all_same, whole_same, same_verdict, own_coherent, settled, verdict_at, goes_on, all_done}
-use Rattle.ir_flat.proofs.Runs.{start_idle}
+use Rattle.ir_flat.proofs.CallerLemmas.{start_idle}
 use Rattle.ir_log.specs.Logging.{mark_of}
 use Rattle.ir_log.specs.declared.event.Event.{Event}
 use Rattle.ir_log.specs.declared.event.Event.TheVariants.{Answer, Read, Write}

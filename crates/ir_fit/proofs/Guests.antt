@@ -6,7 +6,7 @@ use Rattle.ir_thread.specs.Ends.{end_number, end_code}
 use Rattle.ir_thread.specs.Instance.{thread_machine}
 use Rattle.ir_flat.specs.Flat.{idle, tables, start_threads, start_flat}
 use Rattle.ir_runs.specs.Run.{IsStart}
-use Rattle.ir_flat.proofs.Fresh.{fresh, fields_at}
+use Rattle.ir_flat.proofs.CallerLemmas.{fresh, fields_at}
 use Rattle.ir_runs.specs.Verdicts.{IsLive}
 
 pub starts : (g : Guest) (budget : ℕ) → IsStart (thread_machine g.code) (tables (start_flat g budget))

@@ -1,14 +1,15 @@
-pub mod Guests
-pub mod Furthest
-pub mod Writes
-pub mod Causes
-pub mod Tables
-pub mod Logs
-pub mod Far
-pub mod Breaks
-pub mod Seen
-pub mod Placed
-pub mod Moves
-pub mod ByVersion
-pub mod Listed
-pub mod Found
+mod Guests
+mod Furthest
+mod Writes
+mod Causes
+mod Tables
+mod Logs
+mod Far
+mod Breaks
+mod Seen
+mod Placed
+mod Moves
+mod ByVersion
+mod Listed
+mod Found
+pub mod CallerLemmas

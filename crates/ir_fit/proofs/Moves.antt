@@ -7,7 +7,7 @@ use Rattle.std.proofs.Math.Seq.{drop-append_seam}
 use Rattle.ir_image.specs.Guest.{Guest, object_count}
 use Rattle.ir_thread.specs.Calls.{ask_of, after_ask}
 use Rattle.ir_thread.specs.Held.{held_count, one_if_held}
-use Rattle.ir_thread.proofs.Asked.{ask_permits}
+use Rattle.ir_thread.proofs.CallerLemmas.{ask_permits, one_fewer}
 use Rattle.ir_runs.proofs.CallerLemmas.{upd_same, upd_other, upd_elim, trail_append, end_append, trail_same, trail_other, run_last, fits_front, goes_further, is_done, agrees, fits_last, sum_le, sum_less}
 use Rattle.ir_thread.specs.Instance.{shared_ask, reply_of, thread_machine}
 use Rattle.ir_runs.specs.Machine as machine
@@ -15,15 +15,13 @@ use Rattle.ir_runs.specs.Machine.{Machine, act_of}
 use Rattle.ir_runs.specs.Marks.{Mark, logged, Trace}
 use Rattle.ir_thread.specs.State as thread
 use Rattle.ir_thread.specs.Calls.{Permits}
-use Rattle.ir_thread.proofs.Highest.{one_fewer}
 use Rattle.ir_runs.specs.declared.access.Access.{Access}
 use Rattle.ir_thread.specs.declared.ask.Ask.TheVariants.{Private, Done, Leave as Leaves}
 use Rattle.ir_runs.specs.Object.{target, told, reply, Admits}
 use Rattle.ir_flat.specs.Alone.{WentAlone}
 use Rattle.ir_flat.specs.Flat.{Flat, thread_of, tables, machine as machine_of, start_flat, start_threads, idle, IsFlat}
 use Rattle.ir_runs.specs.Run.{State, Step, act, asked, Can, after, mark, end, trail, events, log, count}
-use Rattle.ir_flat.proofs.Counted.{tally, really_done, moved_thread, now_after}
-use Rattle.ir_flat.proofs.Fresh.{fresh, no_steps, threads_length, cells_length}
+use Rattle.ir_flat.proofs.CallerLemmas.{tally, really_done, moved_thread, now_after, fresh, no_steps, threads_length, cells_length}
 use Rattle.ir_log.specs.Logging.{mark_of}
 use Rattle.ir_trace.specs.Recorded.{Recorded, RecordedThread}
 use Rattle.ir_trace.specs.Told.{recorded_thread, absent, trace_of}

@@ -9,7 +9,7 @@ use Rattle.ir_runs.specs.declared.access.Access.TheVariants.{Reading, Writing}
 use Rattle.ir_thread.specs.declared.ask.Ask.{Ask}
 use Rattle.ir_thread.specs.declared.ask.Ask.TheVariants.{Private, Env, Enter, Leave as Leaves, Get, Put, Print, End, Done}
 use Rattle.ir_thread.specs.declared.ask.Reply.{Reply}
-use Rattle.ir_thread.proofs.Highest.{one_fewer}
+use Rattle.ir_thread.proofs.CallerLemmas.{one_fewer}
 use Rattle.ir_flat.specs.Flat.{Flat, thread_of}
 use Rattle.ir_fit.proofs.Seen.{tells}
 use Rattle.ir_runs.specs.Marks.{Mark, Quiet, Answer, In, Refused, Out}

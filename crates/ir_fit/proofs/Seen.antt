@@ -20,13 +20,11 @@ use Rattle.ir_runs.specs.declared.env_kind.EnvKind.{EnvKind}
 use Rattle.ir_runs.specs.declared.env_kind.EnvKind.TheVariants.{Clock, Random, Input}
 use Rattle.ir_thread.specs.declared.ask.Reply.{Reply}
 use Rattle.ir_thread.specs.declared.end.End as end
-use Rattle.ir_thread.proofs.Asked.{ask_permits}
-use Rattle.ir_thread.proofs.Lawful.{over}
+use Rattle.ir_thread.proofs.CallerLemmas.{ask_permits, over}
 use Rattle.ir_object.specs.Cell.{Cell, Admitted}
 use Rattle.ir_runs.specs.Object.{target, Admits, told}
 use Rattle.ir_flat.specs.Flat.{Flat, thread_of, cell_of, tables, machine, IsFlat}
-use Rattle.ir_flat.proofs.Keeps.{may_admits}
-use Rattle.ir_flat.proofs.Kept.{added}
+use Rattle.ir_flat.proofs.CallerLemmas.{may_admits, added}
 use Rattle.std.proofs.lemmas.Option.{slice_get_within}
 use Rattle.ir_log.specs.Logging.{mark_of, Suits}
 use Rattle.ir_log.specs.declared.event.Event.{Event}

@@ -7,7 +7,7 @@ use Rattle.ir_thread.specs.Private.{PrivateSteps}
 use Rattle.ir_thread.specs.State as thread
 use Rattle.ir_thread.specs.declared.ask.Ask.TheVariants.{Private}
 use Rattle.ir_thread.specs.declared.ask.Reply.TheVariants.{Go}
-use Rattle.ir_thread.proofs.Asked.{ask_permits}
+use Rattle.ir_thread.proofs.CallerLemmas.{ask_permits}
 use Rattle.ir_runs.specs.Object.{target, told}
 use Rattle.ir_runs.specs.Machine.{act_of}
 use Rattle.ir_thread.specs.Instance.{shared_ask}

@@ -9,7 +9,7 @@ use Rattle.ir_runs.specs.declared.access.Access.{Access}
 use Rattle.ir_object.specs.Cell.{Cell, Counts, readers, has_writer}
 use Rattle.ir_object.specs.declared.fields.Fields.{Fields}
 use Rattle.ir_object.specs.Word.{bit_of}
-use Rattle.ir_object.proofs.Stands.{none_read, none_write}
+use Rattle.ir_object.proofs.CallerLemmas.{none_read, none_write}
 use Rattle.ir_flat.specs.Flat.{Flat, idle, empty, cell_of, inside_of, tables, start_threads, start_cell, start_cells, start_flat, IsFlat}
 use Rattle.ir_flat.specs.Kept.{IsKept}
 

@@ -11,12 +11,11 @@ use Rattle.ir_runs.specs.declared.access.Access.TheVariants.{Reading, Writing}
 use Rattle.ir_thread.specs.declared.ask.Ask.{Ask}
 use Rattle.ir_thread.specs.declared.ask.Ask.TheVariants.{Private, Env, Enter, Leave, Get, Put, Print, End, Done}
 use Rattle.ir_thread.specs.declared.ask.Reply.TheVariants.{Go, Value}
-use Rattle.ir_thread.proofs.Asked.{ask_permits}
-use Rattle.ir_thread.proofs.Highest.{above_held}
+use Rattle.ir_thread.proofs.CallerLemmas.{ask_permits, above_held}
 use Rattle.ir_object.specs.Cell.{Cell, CanLeave, Counts, readers, one_if_reading}
 use Rattle.ir_runs.specs.Object.{target, Admits}
 use Rattle.ir_object.specs.Word.{IsFields, entered, left_by, bit_of}
-use Rattle.ir_object.proofs.Stands.{admits_reader, reader_admitted, admits_writer, writer_admitted, entry_counts, can_leave, leave_counts}
+use Rattle.ir_object.proofs.CallerLemmas.{admits_reader, reader_admitted, admits_writer, writer_admitted, entry_counts, can_leave, leave_counts}
 use Rattle.ir_runs.proofs.CallerLemmas.{upd_elim, upd_id}
 use Rattle.ir_flat.specs.Flat.{Flat, idle, empty, thread_of, cell_of, inside_of, tables, machine, IsShared, IsFlat}
 use Rattle.ir_flat.specs.Kept.{IsKept}

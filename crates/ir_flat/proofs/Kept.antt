@@ -10,14 +10,12 @@ use Rattle.ir_runs.specs.declared.access.Access.TheVariants.{Reading, Writing}
 use Rattle.ir_thread.specs.declared.ask.Ask.{Ask}
 use Rattle.ir_thread.specs.declared.ask.Ask.TheVariants.{Private, Env, Enter, Leave, Get, Put, Print, End, Done}
 use Rattle.ir_thread.specs.declared.ask.Reply.{Reply}
-use Rattle.ir_thread.proofs.Asked.{ask_permits}
-use Rattle.ir_thread.proofs.Lawful.{lawful}
-use Rattle.ir_thread.proofs.Highest.{above_held}
+use Rattle.ir_thread.proofs.CallerLemmas.{ask_permits, lawful, above_held}
 use Rattle.ir_object.specs.Cell.{has_writer, one_if_reading, is_writing}
 use Rattle.ir_runs.specs.Object.{Object, target, Admits, acted, reply}
 use Rattle.ir_object.specs.Word.{bit_of}
 use Rattle.ir_runs.proofs.CallerLemmas.{upd_same, upd_other, upd_elim, Good, stays_good}
-use Rattle.ir_object.proofs.Stands.{readers_upd, none_write, one_writes, writer_upd}
+use Rattle.ir_object.proofs.CallerLemmas.{readers_upd, none_write, one_writes, writer_upd}
 use Rattle.ir_flat.specs.Kept.{IsKept, events_below, entries_seen}
 use Rattle.ir_runs.specs.Run.{State, Step, act, Can, after}
 

@@ -1,9 +1,10 @@
-pub mod Kept
-pub mod Next
-pub mod Keeps
-pub mod Fresh
-pub mod Runs
-pub mod Alone
-pub mod Counted
-pub mod Splice
-pub mod Lone
+mod Kept
+mod Next
+mod Keeps
+mod Fresh
+mod Runs
+mod Alone
+mod Counted
+mod Splice
+mod Lone
+pub mod CallerLemmas

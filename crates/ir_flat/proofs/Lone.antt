@@ -7,7 +7,7 @@ use Rattle.ir_runs.specs.Machine.{act_of}
 use Rattle.ir_thread.specs.State as thread
 use Rattle.ir_thread.specs.declared.ask.Ask.{Ask}
 use Rattle.ir_thread.specs.declared.ask.Ask.TheVariants.{Private, Env, Enter, Leave, Get, Put, Print, End, Done}
-use Rattle.ir_thread.proofs.Alone.{alone}
+use Rattle.ir_thread.proofs.CallerLemmas.{alone}
 use Rattle.ir_flat.specs.Splice.{MayReply, MayRun, alone_after, replies_to, AloneIsLone}
 
 suits : (code : List ℕ) (q : Ask) (v : ℕ) → MayReply (thread_machine code) (act_of (shared_ask q) v) v → Suits q (reply_of q v)

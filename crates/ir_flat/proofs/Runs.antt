@@ -13,8 +13,7 @@ use Rattle.ir_thread.specs.declared.ask.Ask.{Ask}
 use Rattle.ir_thread.specs.declared.ask.Ask.TheVariants.{Private, Env, Enter, Leave, Get, Put, Print, End, Done}
 use Rattle.ir_runs.specs.declared.env_kind.EnvKind.{EnvKind}
 use Rattle.ir_runs.specs.declared.env_kind.EnvKind.TheVariants.{Clock, Random, Input}
-use Rattle.ir_thread.proofs.Asked.{ask_permits}
-use Rattle.ir_thread.proofs.Lawful.{lawful}
+use Rattle.ir_thread.proofs.CallerLemmas.{ask_permits, lawful}
 use Rattle.ir_runs.specs.Object.{target, Admits, reply}
 use Rattle.ir_runs.proofs.CallerLemmas.{upd_elim, run_idle, stays_idle, some_step}
 use Rattle.ir_flat.specs.Flat.{idle, thread_of, tables, start_threads, start_flat}

@@ -1,6 +1,6 @@
-pub mod Steps
-pub mod Fields
-pub mod Block
-pub mod Loop
-pub mod Whole
-pub mod Lowered
+mod Steps
+mod Fields
+mod Block
+mod Loop
+mod Whole
+mod Lowered

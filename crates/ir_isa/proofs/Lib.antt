@@ -1,6 +1,6 @@
-pub mod Same
-pub mod Split
-pub mod RowLaws
-pub mod Unique
-pub mod DecodedLaws
-pub mod WordLaws
+mod Same
+mod Split
+mod RowLaws
+mod Unique
+mod DecodedLaws
+mod WordLaws

@@ -1,5 +1,5 @@
-pub mod Lists
-pub mod Guests
-pub mod Runs
-pub mod Operations
-pub mod Meaning
+mod Lists
+mod Guests
+mod Runs
+mod Operations
+mod Meaning

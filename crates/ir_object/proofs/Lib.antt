@@ -1,3 +1,4 @@
-pub mod Stands
-pub mod Order
-pub mod Words
+mod Stands
+mod Order
+mod Words
+pub mod CallerLemmas

@@ -6,11 +6,11 @@ use Rattle.ir_runs.specs.Machine.{act_of}
 use Rattle.ir_runs.specs.Marks.{Answer}
 use Rattle.ir_thread.specs.declared.ask.Ask.TheVariants.{Env}
 use Rattle.ir_runs.specs.declared.env_kind.EnvKind.{EnvKind}
-use Rattle.ir_thread.proofs.Asked.{ask_permits}
+use Rattle.ir_thread.proofs.CallerLemmas.{ask_permits}
 use Rattle.ir_runs.specs.Object.{target, told, Admits}
 use Rattle.ir_flat.specs.Flat.{Flat, thread_of, tables, machine, IsFlat}
 use Rattle.ir_runs.specs.Run.{Can, after}
-use Rattle.ir_flat.proofs.Kept.{added}
+use Rattle.ir_flat.proofs.CallerLemmas.{added}
 use Rattle.ir_log.specs.Logged.{Logged}
 use Rattle.ir_log.specs.declared.event.Event.TheVariants as event
 use Rattle.ir_record.specs.Progress.{TookIf, IsTape, log_at, answers_at, marks_at}

@@ -15,16 +15,14 @@ use Rattle.ir_thread.specs.State as thread
 use Rattle.ir_thread.specs.declared.ask.Ask.TheVariants as ask
 use Rattle.ir_object.specs.Cell.{Cell}
 use Rattle.ir_object.specs.Order.{Shared, of_thread, order_marks, IsAllowed}
-use Rattle.ir_object.proofs.Order.{allowed, none_beyond}
+use Rattle.ir_object.proofs.CallerLemmas.{allowed, none_beyond}
 use Rattle.ir_crew.specs.Ends.{AreTracks, IsEnd}
 use Rattle.ir_crew.specs.Plays.{M}
 use Rattle.ir_crew.specs.Rule.{View, IsTrack, start_objects}
 use Rattle.ir_flat.specs.Flat.{Flat, thread_of, cell_of, tables, idle, empty, start_flat, start_threads, start_cells}
 use Rattle.ir_runs.specs.Run.{State, Step, events, log}
 use Rattle.ir_flat.specs.Splice.{MayRun, alone_after, shared_steps, alone_trail, splice}
-use Rattle.ir_flat.proofs.Fresh.{start_none}
-use Rattle.ir_flat.proofs.Runs.{start_idle}
-use Rattle.ir_flat.proofs.Splice.{spliced}
+use Rattle.ir_flat.proofs.CallerLemmas.{start_none, start_idle, spliced}
 use Rattle.ir_log.specs.Logged.{Logged}
 use Rattle.ir_log.specs.Logging as logging
 use Rattle.ir_trace.specs.Recorded.{Recorded}

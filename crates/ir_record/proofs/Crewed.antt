@@ -9,7 +9,7 @@ use Rattle.ir_thread.specs.Held.{held_at}
 use Rattle.ir_thread.specs.Instance.{thread_machine}
 use Rattle.ir_thread.specs.State as thread
 use Rattle.ir_thread.specs.declared.ask.Ask.TheVariants as ask
-use Rattle.ir_thread.proofs.Asked.{ask_permits}
+use Rattle.ir_thread.proofs.CallerLemmas.{ask_permits}
 use Rattle.ir_crew.specs.Plays.{M}
 use Rattle.ir_log.specs.Logged.{Logged}
 use Rattle.ir_trace.specs.Recorded.{RecordedThread}

@@ -10,12 +10,11 @@ use Rattle.ir_thread.specs.Calls.{ask_of, Permits, most_events}
 use Rattle.ir_thread.specs.Instance.{shared_ask, thread_machine}
 use Rattle.ir_runs.specs.Machine as machine
 use Rattle.ir_thread.specs.State as thread
-use Rattle.ir_thread.proofs.Asked.{ask_permits}
+use Rattle.ir_thread.proofs.CallerLemmas.{ask_permits}
 use Rattle.ir_runs.specs.Object.{Admits, target}
 use Rattle.ir_flat.specs.Flat.{Flat, thread_of, tables, machine, idle, start_flat, start_threads}
 use Rattle.ir_runs.specs.Run.{State, Step, asked, Can, IsRun, end, log, IsDone}
-use Rattle.ir_flat.proofs.Fresh.{fresh, threads_length, cells_length}
-use Rattle.ir_flat.proofs.Runs.{nothing_is_stuck, start_idle}
+use Rattle.ir_flat.proofs.CallerLemmas.{fresh, threads_length, cells_length, nothing_is_stuck, start_idle, really_done}
 use Rattle.ir_runs.proofs.CallerLemmas.{run_idle, turns_run}
 use Rattle.ir_log.specs.Logged.{Logged}
 use Rattle.ir_log.specs.Logging.{mark_of}
@@ -25,7 +24,6 @@ use Rattle.ir_runs.specs.InOrder.{HasNone, rounds}
 use Rattle.ir_record.specs.Progress.{Progress, Took, IsReady, log_at, answers_at, no_log}
 use Rattle.ir_record.specs.Recording.{IsRecording}
 use Rattle.ir_record.specs.Worlds.{Answered, NoneFailed}
-use Rattle.ir_flat.proofs.Counted.{really_done}
 use Rattle.ir_record.proofs.Telling.{StandAtEnd, told_there, printed_there, answered_there}
 
 -- ---- the start

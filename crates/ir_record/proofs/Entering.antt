@@ -9,11 +9,11 @@ use Rattle.ir_runs.specs.declared.access.Access.{Access}
 use Rattle.ir_runs.specs.declared.access.Access.TheVariants.{Reading, Writing}
 use Rattle.ir_thread.specs.declared.ask.Ask.{Ask}
 use Rattle.ir_thread.specs.declared.ask.Ask.TheVariants.{Private, Env, Enter, Leave, Get, Put, Print, End, Done}
-use Rattle.ir_thread.proofs.Asked.{ask_permits}
+use Rattle.ir_thread.proofs.CallerLemmas.{ask_permits}
 use Rattle.ir_runs.specs.Object.{Object, target, told, Admits}
 use Rattle.ir_flat.specs.Flat.{Flat, thread_of, tables, machine, IsFlat}
 use Rattle.ir_runs.specs.Run.{Can, after, mark}
-use Rattle.ir_flat.proofs.Kept.{added}
+use Rattle.ir_flat.proofs.CallerLemmas.{added}
 use Rattle.ir_log.specs.Logged.{Logged}
 use Rattle.ir_log.specs.Logging.{mark_of}
 use Rattle.ir_log.specs.declared.event.Event.{Event}

@@ -9,7 +9,7 @@ use Rattle.ir_thread.specs.declared.ask.Ask.{Ask}
 use Rattle.ir_thread.specs.declared.ask.Ask.TheVariants.{Private, Env, Enter, Leave, Get, Put, Print, End, Done}
 use Rattle.ir_thread.specs.declared.ask.Reply.{Reply}
 use Rattle.ir_thread.specs.declared.end.End as end
-use Rattle.ir_thread.proofs.Highest.{one_fewer, count_le_length}
+use Rattle.ir_thread.proofs.CallerLemmas.{one_fewer, count_le_length}
 use Rattle.ir_runs.proofs.CallerLemmas.{upd_same, upd_other}
 use Rattle.ir_record.specs.Progress.{steps_left, all_left}
 

@@ -1,24 +1,25 @@
-pub mod Left
-pub mod Steps
-pub mod Logs
-pub mod Answering
-pub mod Entering
-pub mod Asking
-pub mod Ready
-pub mod Tally
-pub mod Running
-pub mod Joining
-pub mod Following
-pub mod Gathering
-pub mod Leading
-pub mod Going
-pub mod Skipping
-pub mod Passing
-pub mod Telling
-pub mod Ended
-pub mod Working
-pub mod WorkerSteps
-pub mod ByThreads
-pub mod Manning
-pub mod Crewed
+mod Left
+mod Steps
+mod Logs
+mod Answering
+mod Entering
+mod Asking
+mod Ready
+mod Tally
+mod Running
+mod Joining
+mod Following
+mod Gathering
+mod Leading
+mod Going
+mod Skipping
+mod Passing
+mod Telling
+mod Ended
+mod Working
+mod WorkerSteps
+mod ByThreads
+mod Manning
+mod Crewed
+mod ByOrder
 pub mod CallerLemmas

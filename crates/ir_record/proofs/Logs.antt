@@ -12,13 +12,12 @@ use Rattle.ir_runs.specs.declared.env_kind.EnvKind.TheVariants.{Clock, Random, I
 use Rattle.ir_runs.proofs.CallerLemmas.{upd_same, upd_other}
 use Rattle.ir_flat.specs.Flat.{Flat, thread_of, tables, machine}
 use Rattle.ir_runs.specs.Run.{after}
-use Rattle.ir_flat.proofs.Kept.{added, events_added}
+use Rattle.ir_flat.proofs.CallerLemmas.{added, events_added, moved_thread, now_after}
 use Rattle.ir_log.specs.Logged.{Logged}
 use Rattle.ir_log.specs.Logging.{mark_of}
 use Rattle.ir_log.specs.declared.event.Event.{Event}
 use Rattle.ir_trace.specs.Recorded.{IsEvent, IsResult}
 use Rattle.ir_record.specs.Progress.{IsTape, no_log, log_at, marks_at}
-use Rattle.ir_flat.proofs.Counted.{moved_thread, now_after}
 
 -- a step that there is, is taken
 pub stepped : {X E : Type 0} (result : Result X E) (P Q : Type 0) → P → OnErr result (P → ⊥) → OnOk result Q → Q

@@ -12,7 +12,7 @@ use Rattle.ir_trace.specs.Recorded.{IsEvent}
 use Rattle.ir_runs.specs.InOrder.{InTurn}
 use Rattle.ir_record.specs.Progress.{Took, IsTape, log_at, marks_at, answers_at, all_left}
 use Rattle.ir_record.specs.Worlds.{Answered, answers_in}
-use Rattle.ir_flat.proofs.Counted.{tally}
+use Rattle.ir_flat.proofs.CallerLemmas.{tally}
 use Rattle.ir_record.proofs.Tally.{Few, alone_less}
 
 -- steps of one thread are its turns

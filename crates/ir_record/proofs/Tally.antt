@@ -3,12 +3,11 @@ use Rattle.std.proofs.Common.{ℕ, zero, suc, ◌+◌, ◌<◌, ◌≤◌, List,
 use Rattle.ir_thread.specs.Calls.{ask_of}
 use Rattle.ir_thread.specs.Instance.{reply_of, thread_machine}
 use Rattle.ir_thread.specs.State as thread
-use Rattle.ir_thread.proofs.Asked.{ask_permits}
+use Rattle.ir_thread.proofs.CallerLemmas.{ask_permits}
 use Rattle.ir_runs.specs.Object.{target, reply}
 use Rattle.ir_runs.proofs.CallerLemmas.{upd_elim}
 use Rattle.ir_runs.specs.Run.{State, Step, act, Can, after, IsRun, end}
-use Rattle.ir_flat.proofs.Counted.{moved_thread, now_after, never_done}
-use Rattle.ir_flat.proofs.Kept.{held_length}
+use Rattle.ir_flat.proofs.CallerLemmas.{moved_thread, now_after, never_done, held_length}
 use Rattle.ir_record.specs.Progress.{all_left}
 use Rattle.ir_record.proofs.Left.{one_less, all_less}
 

@@ -9,8 +9,7 @@ use Rattle.ir_thread.specs.State as thread
 use Rattle.ir_thread.specs.declared.end.End as end
 use Rattle.ir_flat.specs.Flat.{start_flat, tables}
 use Rattle.ir_runs.specs.Run.{Step, IsRun, end, log, count}
-use Rattle.ir_flat.proofs.Counted.{tally}
-use Rattle.ir_flat.proofs.Fresh.{no_steps}
+use Rattle.ir_flat.proofs.CallerLemmas.{tally, no_steps}
 use Rattle.ir_log.specs.Logged.{Logged}
 use Rattle.ir_log.specs.Logging.{mark_of}
 use Rattle.ir_trace.specs.Recorded.{Recorded, RecordedThread}

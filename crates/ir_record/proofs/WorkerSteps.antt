@@ -18,12 +18,11 @@ use Rattle.ir_thread.specs.declared.ask.Ask.{Ask}
 use Rattle.ir_thread.specs.declared.ask.Ask.TheVariants as ask
 use Rattle.ir_runs.specs.declared.env_kind.EnvKind.{EnvKind}
 use Rattle.ir_thread.specs.declared.ask.Reply.TheVariants.{Go, Value}
-use Rattle.ir_thread.proofs.Asked.{ask_permits}
-use Rattle.ir_thread.proofs.Lawful.{lawful}
+use Rattle.ir_thread.proofs.CallerLemmas.{ask_permits, lawful}
 use Rattle.ir_object.specs.Order.{is_shared, Shared, keep_if, inside_if, inside_after}
-use Rattle.ir_object.proofs.Order.{inside_more}
+use Rattle.ir_object.proofs.CallerLemmas.{inside_more}
 use Rattle.ir_flat.specs.Splice.{MayReply, alone_mark}
-use Rattle.ir_flat.proofs.Kept.{added, events_added, held_length}
+use Rattle.ir_flat.proofs.CallerLemmas.{added, events_added, held_length}
 use Rattle.ir_log.specs.Logged.{Logged}
 use Rattle.ir_log.specs.Logging as logging
 use Rattle.ir_log.specs.declared.event.Event.{Event}
@@ -34,8 +33,7 @@ use Rattle.ir_crew.specs.Rule.{shared_by, shared_of, mark_of, one_if_entry, entr
 use Rattle.ir_crew.specs.declared.deed.Deed.{Deed}
 use Rattle.ir_crew.specs.declared.deed.Deed.TheVariants.{Enter, Leave, Get, Put}
 use Rattle.ir_crew.specs.declared.deed.ObjectStep.{ObjectStep}
-use Rattle.ir_crew.proofs.Counting.{entries_more}
-use Rattle.ir_crew.proofs.Steps.{track, act, target_by}
+use Rattle.ir_crew.proofs.CallerLemmas.{entries_more, track, act, target_by}
 use Rattle.ir_record.specs.Worlds.{Answered, answers_in}
 use Rattle.ir_record.specs.declared.worker.Worker.{Worker}
 use Rattle.ir_record.specs.Working.{Work, IsWorking, work_of, IsWorker, StillWorks, IsOwn, IsInside, IsSeated, Stays, IsSameWorld}

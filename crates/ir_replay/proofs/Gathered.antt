@@ -15,8 +15,7 @@ use Rattle.ir_weave.specs.Standing.{StandsAt, flat_in}
 use Rattle.ir_weave.specs.States.{IsStateAt, positions}
 use Rattle.ir_weave.specs.Woven.{trace_in, opened_in, opened_at, WasStopped}
 use Rattle.ir_weave.specs.declared.plan.Plan.{Plan}
-use Rattle.ir_weave.proofs.Behind.{law, good}
-use Rattle.ir_weave.proofs.Forth.{CaughtUp, catch_up}
+use Rattle.ir_weave.proofs.CallerLemmas.{law, good, CaughtUp, catch_up}
 
 -- ---- threads that are ahead of the table's views by steps of their own
 

@@ -8,7 +8,7 @@ use Rattle.ir_runs.proofs.CallerLemmas.{sum_le, sum_less}
 use Rattle.ir_cut.specs.Positions.{cut_of}
 use Rattle.ir_weave.specs.States.{positions}
 use Rattle.ir_weave.specs.Stepping.{IsTarget, IsUnder, HasGone, IsSame, Rests, steps_left}
-use Rattle.ir_weave.proofs.Onward.{alone_own, alone_others}
+use Rattle.ir_weave.proofs.CallerLemmas.{alone_own, alone_others}
 use Rattle.ir_replay.specs.Passes.{IsPass}
 use Rattle.ir_replay.proofs.Reached.{rests_same, all_reached}
 

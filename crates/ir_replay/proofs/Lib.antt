@@ -1,7 +1,7 @@
-pub mod Reached
-pub mod Going
-pub mod Gathered
-pub mod Dealt
-pub mod Down
-pub mod Numbers
-pub mod AfterRound
+mod Reached
+mod Going
+mod Gathered
+mod Dealt
+mod Down
+mod Numbers
+mod AfterRound

@@ -14,7 +14,7 @@ use Rattle.ir_runs.proofs.CallerLemmas.{Progress, progress}
 use Rattle.ir_weave.specs.Standing.{Standing, StandsAt, flat_in}
 use Rattle.ir_weave.specs.States.{IsAt, IsStateAt, positions}
 use Rattle.ir_weave.specs.Stepping.{LogsNext, IsTarget, IsUnder, IsSame, Rests, steps_left}
-use Rattle.ir_weave.proofs.Behind.{law, good, admitted_next}
+use Rattle.ir_weave.proofs.CallerLemmas.{law, good, admitted_next}
 use Rattle.ir_replay.specs.Rounds.{IsBetween, Goes}
 
 -- a thread below its target is below its last step

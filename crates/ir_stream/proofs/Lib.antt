@@ -1,4 +1,4 @@
-pub mod Cuts
-pub mod Replies
-pub mod Hearing
-pub mod Exits
+mod Cuts
+mod Replies
+mod Hearing
+mod Exits

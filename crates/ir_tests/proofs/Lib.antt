@@ -1,1 +1,1 @@
-pub mod Fits
+mod Fits

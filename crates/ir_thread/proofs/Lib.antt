@@ -1,5 +1,6 @@
-pub mod Highest
-pub mod Asked
-pub mod Lawful
-pub mod Alone
-pub mod PrivateRuns
+mod Highest
+mod Asked
+mod Lawful
+mod Alone
+mod PrivateRuns
+pub mod CallerLemmas

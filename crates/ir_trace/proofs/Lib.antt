@@ -1,8 +1,8 @@
-pub mod Steps
-pub mod Loop
-pub mod Joined
-pub mod Numbers
-pub mod Taken
-pub mod EventLaws
-pub mod Whole
-pub mod Telling
+mod Steps
+mod Loop
+mod Joined
+mod Numbers
+mod Taken
+mod EventLaws
+mod Whole
+mod Telling

@@ -8,7 +8,7 @@ use Rattle.atomic_table.specs.Table.{State, step, keeps, Allows}
 use Rattle.atomic_table.proofs.Lists.{set_again}
 use Rattle.ir_image.specs.Guest.{object_count}
 use Rattle.ir_thread.specs.Calls.{ask_of, after_ask, Permits}
-use Rattle.ir_thread.proofs.Asked.{ask_permits}
+use Rattle.ir_thread.proofs.CallerLemmas.{ask_permits}
 use Rattle.ir_thread.specs.Instance.{shared_ask}
 use Rattle.ir_runs.specs.Machine.{act_of}
 use Rattle.ir_runs.specs.Marks.{Out}
@@ -25,7 +25,7 @@ use Rattle.ir_object.specs.Word.{IsFields, word_of, fields_of, entered, left_by,
 use Rattle.ir_flat.specs.Flat.{Flat, IsFlat, idle, thread_of, cell_of, inside_of, tables}
 use Rattle.ir_flat.specs.Next.{next}
 use Rattle.ir_runs.specs.Run.{count, mark, end, trail}
-use Rattle.ir_flat.proofs.Keeps.{logged_fits, few_inside, enter_fits, leave_fits, leave_allowed, thread_count}
+use Rattle.ir_flat.proofs.CallerLemmas.{logged_fits, few_inside, enter_fits, leave_fits, leave_allowed, thread_count}
 use Rattle.ir_log.specs.declared.event.Event.{Event}
 use Rattle.ir_trace.specs.Told.{recorded_thread}
 use Rattle.ir_runs.specs.Cuts.{At, Tells, part}

@@ -6,20 +6,18 @@ use Rattle.ir_runs.specs.Machine.{Machine, IsLawful}
 use Rattle.ir_thread.specs.Instance.{thread_machine}
 use Rattle.ir_runs.specs.Marks.{Mark, Quiet, Answer, In, Refused, Out, logged}
 use Rattle.ir_thread.specs.State as thread
-use Rattle.ir_thread.proofs.Lawful.{lawful}
+use Rattle.ir_thread.proofs.CallerLemmas.{lawful}
 use Rattle.ir_flat.specs.Flat.{Flat, tables, machine}
 use Rattle.ir_runs.specs.Run.{State, Step, Can, mark, IsRun, end, trail, events, log, count}
 use Rattle.ir_runs.proofs.CallerLemmas.{events_append, Good, start_good, at_cut, Sorted, sort}
-use Rattle.ir_flat.proofs.Counted.{tally}
-use Rattle.ir_flat.proofs.Fresh.{fresh, no_steps}
-use Rattle.ir_flat.proofs.Next.{state_eq}
+use Rattle.ir_flat.proofs.CallerLemmas.{tally, fresh, no_steps, state_eq}
 use Rattle.ir_log.specs.Logging.{mark_of}
 use Rattle.ir_trace.specs.Told.{recorded_thread}
 use Rattle.ir_fit.specs.Ahead.{log_ahead}
 use Rattle.ir_runs.specs.Cuts.{Cut, AtCut, At, IsCut, Consistent, Admitted, part}
 use Rattle.ir_fit.specs.Fit.{FittedTrace, IsRunOf}
 use Rattle.ir_runs.specs.Following.{unlogged}
-use Rattle.ir_fit.proofs.Guests.{starts}
+use Rattle.ir_fit.proofs.CallerLemmas.{starts}
 use Rattle.ir_cut.specs.Positions.{machine_of, start_of}
 use Rattle.ir_weave.specs.States.{IsAt, IsStateAt, positions}
 use Rattle.ir_weave.specs.Stepping.{LogsNext}

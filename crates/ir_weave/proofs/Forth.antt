@@ -13,7 +13,7 @@ use Rattle.ir_thread.specs.declared.ask.Ask.TheVariants.{Private, Env, Enter, Le
 use Rattle.ir_flat.specs.Flat.{Flat, IsFlat, thread_of, tables, machine as machine_in}
 use Rattle.ir_flat.specs.Next.{next, MayStep}
 use Rattle.ir_runs.specs.Run.{Step, after, mark, count, th}
-use Rattle.ir_flat.proofs.Keeps.{can_by_may, taken_by, next_flat, thread_count, object_count}
+use Rattle.ir_flat.proofs.CallerLemmas.{can_by_may, taken_by, next_flat, thread_count, object_count}
 use Rattle.ir_runs.specs.Cuts.{Tells, Needs, Cut, further}
 use Rattle.ir_fit.specs.Fit.{FittedTrace, HasRun, IsRunOf}
 use Rattle.ir_runs.specs.Following.{unlogged}

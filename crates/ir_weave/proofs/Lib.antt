@@ -1,14 +1,15 @@
-pub mod Behind
-pub mod Onward
-pub mod Results
-pub mod Unique
-pub mod Trails
-pub mod Forth
-pub mod Entries
-pub mod Words
-pub mod Moves
-pub mod Acts
-pub mod Lone
-pub mod Seats
-pub mod Steps
-pub mod Opening
+mod Behind
+mod Onward
+mod Results
+mod Unique
+mod Trails
+mod Forth
+mod Entries
+mod Words
+mod Moves
+mod Acts
+mod Lone
+mod Seats
+mod Steps
+mod Opening
+pub mod CallerLemmas

@@ -17,8 +17,7 @@ use Rattle.ir_thread.specs.declared.ask.Reply.TheVariants.{Go, Value}
 use Rattle.ir_runs.specs.Object.{Object, reply, told, Admits}
 use Rattle.ir_runs.specs.Run.{Step, trail, events, count}
 use Rattle.ir_runs.proofs.CallerLemmas.{events_append}
-use Rattle.ir_flat.proofs.Fresh.{fresh}
-use Rattle.ir_flat.proofs.Kept.{added, events_added, held_length}
+use Rattle.ir_flat.proofs.CallerLemmas.{fresh, added, events_added, held_length}
 use Rattle.ir_log.specs.Logging.{mark_of}
 use Rattle.ir_log.specs.declared.event.Event.{Event}
 use Rattle.ir_log.specs.declared.event.Event.TheVariants.{Answer as Answered}

@@ -9,8 +9,7 @@ use Rattle.ir_flat.specs.Alone.{WentAlone}
 use Rattle.ir_flat.specs.Flat.{Flat, tables, machine, start_flat}
 use Rattle.ir_runs.specs.Run.{State, Step, Can, after, mark, IsRun, end, events, log, count}
 use Rattle.ir_runs.proofs.CallerLemmas.{run_append, end_append, log_append, trail_same, trail_other, IsFront, front_at}
-use Rattle.ir_flat.proofs.Counted.{tally}
-use Rattle.ir_flat.proofs.Fresh.{threads_length, cells_length, no_steps}
+use Rattle.ir_flat.proofs.CallerLemmas.{tally, threads_length, cells_length, no_steps}
 use Rattle.ir_runs.specs.Cuts.{part}
 use Rattle.ir_fit.specs.Fit.{FittedTrace, IsRunOf}
 use Rattle.ir_runs.specs.Following.{unlogged}

@@ -11,7 +11,7 @@ use Rattle.std.specs.List.{slice_index_or}
 use Rattle.std.proofs.lemmas.List.{get_or_default}
 use Rattle.ir_object.specs.Cell.{Cell}
 use Rattle.ir_flat.specs.Flat.{Flat, thread_of, cell_of, empty, IsFlat}
-use Rattle.ir_flat.proofs.Keeps.{enter_object}
+use Rattle.ir_flat.proofs.CallerLemmas.{enter_object}
 use Rattle.ir_log.specs.Logging.{Suits}
 use Rattle.ir_log.specs.declared.event.Event.{Event}
 use Rattle.ir_log.specs.declared.event.Event.TheVariants.{Answer}
@@ -20,7 +20,7 @@ use Rattle.ir_trace.specs.Told.{recorded_thread, trace_of}
 use Rattle.ir_fit.specs.Ahead.{steps_ahead, log_ahead, CanFollow, IsOpen}
 use Rattle.ir_runs.specs.Following.{Meets}
 use Rattle.ir_fit.specs.declared.look.Look.TheVariants as look
-use Rattle.ir_fit.proofs.Seen.{end_asked, ends_asked, asks_env, call_follows, call_disagrees, entry_follows, entry_waits, entry_disagrees, asks_entry, seen_stops}
+use Rattle.ir_fit.proofs.CallerLemmas.{end_asked, ends_asked, asks_env, call_follows, call_disagrees, entry_follows, entry_waits, entry_disagrees, asks_entry, seen_stops}
 use Rattle.ir_weave.specs.Stepping.{LogsNext}
 
 -- a step that follows the trace logs what comes next

@@ -12,7 +12,7 @@ use Rattle.ir_runs.specs.declared.access.Access.{Access}
 use Rattle.ir_runs.specs.declared.access.Access.TheVariants.{Reading, Writing}
 use Rattle.ir_thread.specs.declared.ask.Ask.{Ask}
 use Rattle.ir_thread.specs.declared.ask.Ask.TheVariants.{Enter, Leave, Get, Put}
-use Rattle.ir_thread.proofs.Asked.{ask_permits}
+use Rattle.ir_thread.proofs.CallerLemmas.{ask_permits}
 use Rattle.ir_log.specs.declared.event.Event.{Event}
 use Rattle.ir_trace.specs.Told.{recorded_thread}
 use Rattle.ir_runs.specs.Cuts.{Tells}

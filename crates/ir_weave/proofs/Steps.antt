@@ -16,7 +16,7 @@ use Rattle.ir_thread.specs.declared.ask.Reply.{Reply}
 use Rattle.ir_thread.specs.declared.ask.Reply.TheVariants.{Go, Value}
 use Rattle.ir_runs.specs.Object.{Object, told}
 use Rattle.ir_runs.specs.Run.{Step, count}
-use Rattle.ir_flat.proofs.Kept.{added}
+use Rattle.ir_flat.proofs.CallerLemmas.{added}
 use Rattle.ir_log.specs.Logging.{mark_of, Suits}
 use Rattle.ir_log.specs.declared.event.Event.{Event}
 use Rattle.ir_log.specs.declared.event.Event.TheVariants.{Answer as Answered, Read, Write}

@@ -1,4 +1,4 @@
-use Rattle.ir_record.proofs.Asking.{one_more_works}
+use Rattle.ir_record.proofs.CallerLemmas.{one_more_works}
 use Rattle.ir_cli.specs.Sources.{made_with, is_counted}
 use Rattle.ir_cli.proofs.Fresh.{origins_more, made_by, fresh_more}
 use Rattle.ir_cli.proofs.recording.worlds.Goals as goal

@@ -1,8 +1,8 @@
 use Rattle.ir_thread.specs.Instance.{thread_machine}
-use Rattle.ir_thread.proofs.Lawful.{lawful}
+use Rattle.ir_thread.proofs.CallerLemmas.{lawful}
 use Rattle.ir_flat.specs.Flat.{tables, start_flat}
 use Rattle.ir_runs.proofs.CallerLemmas.{start_good}
-use Rattle.ir_fit.proofs.Guests.{starts}
+use Rattle.ir_fit.proofs.CallerLemmas.{starts}
 use Rattle.ir_runs.proofs.CallerLemmas as exist
 use Rattle.ir_cut.proofs.laws.least_exists.Goals as goal
 

@@ -1,6 +1,6 @@
 use Rattle.std.proofs.Common.{◌≡◌, sym, ap, subst, ◌∙◌, length, map, arith}
 use Rattle.ir_flat.specs.Flat.{start_flat}
-use Rattle.ir_flat.proofs.Fresh.{threads_length}
+use Rattle.ir_flat.proofs.CallerLemmas.{threads_length}
 use Rattle.ir_fit.specs.Ahead.{IsStopped}
 use Rattle.ir_fit.proofs.Moves.{followed_there, start_placed, start_none, room_for}
 use Rattle.ir_fit.proofs.followed.followed.Goals as goal

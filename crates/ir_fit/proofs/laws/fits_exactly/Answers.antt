@@ -1,9 +1,9 @@
 use Rattle.std.proofs.Common.{length}
 use Rattle.ir_thread.specs.Instance.{thread_machine}
-use Rattle.ir_thread.proofs.Lawful.{lawful, closing}
+use Rattle.ir_thread.proofs.CallerLemmas.{lawful, closing}
 use Rattle.ir_flat.specs.Flat.{tables, start_flat}
 use Rattle.ir_runs.proofs.CallerLemmas.{start_good, all_same, whole_same}
-use Rattle.ir_flat.proofs.Runs.{start_idle}
+use Rattle.ir_flat.proofs.CallerLemmas.{start_idle}
 use Rattle.ir_fit.proofs.Guests.{starts, lives}
 use Rattle.ir_fit.proofs.laws.fits_exactly.Goals as goal
 

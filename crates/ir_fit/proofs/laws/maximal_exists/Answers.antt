@@ -1,9 +1,9 @@
 use Rattle.std.proofs.Common.{suc, arith, length}
 use Rattle.ir_thread.specs.Instance.{thread_machine}
-use Rattle.ir_thread.proofs.Lawful.{lawful}
+use Rattle.ir_thread.proofs.CallerLemmas.{lawful}
 use Rattle.ir_flat.specs.Flat.{tables, start_flat}
 use Rattle.ir_runs.proofs.CallerLemmas.{start_good, Built, build}
-use Rattle.ir_flat.proofs.Runs.{start_idle}
+use Rattle.ir_flat.proofs.CallerLemmas.{start_idle}
 use Rattle.ir_runs.specs.Coherent.{sum_below}
 use Rattle.ir_fit.proofs.Guests.{starts}
 use Rattle.ir_fit.proofs.laws.maximal_exists.Goals as goal

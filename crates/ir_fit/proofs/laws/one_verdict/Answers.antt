@@ -1,10 +1,10 @@
 use Rattle.std.proofs.Common.{length}
 use Rattle.ir_thread.specs.Instance.{thread_machine}
-use Rattle.ir_thread.proofs.Lawful.{lawful}
+use Rattle.ir_thread.proofs.CallerLemmas.{lawful}
 use Rattle.ir_flat.specs.Flat.{tables, start_flat}
 use Rattle.ir_runs.specs.Run.{end, trail, log, count}
 use Rattle.ir_runs.proofs.CallerLemmas.{start_good, one_maximal, judged, one_verdict, same_verdict}
-use Rattle.ir_flat.proofs.Runs.{start_idle}
+use Rattle.ir_flat.proofs.CallerLemmas.{start_idle}
 use Rattle.ir_runs.specs.Following.{closing, left_log, left_steps}
 use Rattle.ir_runs.specs.Verdicts.{NoneTakes}
 use Rattle.ir_fit.proofs.Guests.{starts}

@@ -1,9 +1,9 @@
 use Rattle.std.proofs.Common.{length}
 use Rattle.ir_thread.specs.Instance.{thread_machine}
-use Rattle.ir_thread.proofs.Lawful.{lawful}
+use Rattle.ir_thread.proofs.CallerLemmas.{lawful}
 use Rattle.ir_flat.specs.Flat.{tables, start_flat}
 use Rattle.ir_runs.proofs.CallerLemmas.{start_good, own_coherent}
-use Rattle.ir_flat.proofs.Runs.{start_idle}
+use Rattle.ir_flat.proofs.CallerLemmas.{start_idle}
 use Rattle.ir_fit.proofs.Guests.{starts}
 use Rattle.ir_fit.proofs.laws.own_trace_coherent.Goals as goal
 

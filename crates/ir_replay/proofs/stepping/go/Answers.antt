@@ -1,5 +1,5 @@
 use Rattle.std.proofs.Common.{arith}
-use Rattle.ir_weave.proofs.Onward.{alone_under}
+use Rattle.ir_weave.proofs.CallerLemmas.{alone_under}
 use Rattle.ir_replay.proofs.Going.{alone_on, none_on, step_on}
 use Rattle.ir_replay.proofs.stepping.go.Goals as goal
 

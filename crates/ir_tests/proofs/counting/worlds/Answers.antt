@@ -1,5 +1,5 @@
 use Rattle.std.proofs.Common.{refl}
-use Rattle.ir_record.proofs.Asking.{one_more_works, one_more_long}
+use Rattle.ir_record.proofs.CallerLemmas.{one_more_works, one_more_long}
 use Rattle.ir_tests.proofs.counting.worlds.Goals as goal
 
 pub loop-number-preserved : goal.loop-number-preserved

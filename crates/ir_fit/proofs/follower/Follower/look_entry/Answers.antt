@@ -1,6 +1,6 @@
 use Rattle.std.proofs.Common.{refl, sym}
 use Rattle.ir_flat.specs.Flat.{cell_of}
-use Rattle.ir_flat.proofs.Keeps.{enter_object}
+use Rattle.ir_flat.proofs.CallerLemmas.{enter_object}
 use Rattle.ir_fit.proofs.Seen.{entry_follows, entry_waits, entry_agrees, entry_disagrees, asks_entry, found_open, found_shut}
 use Rattle.ir_fit.proofs.follower.Follower.look_entry.Goals as goal
 

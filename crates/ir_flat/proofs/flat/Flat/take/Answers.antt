@@ -1,7 +1,7 @@
 use Rattle.std.proofs.Common.{◌≡◌, ℕ, sym, subst}
 use Rattle.ir_thread.specs.Calls.{ask_of, Permits}
 use Rattle.ir_thread.specs.declared.ask.Ask.{Ask}
-use Rattle.ir_thread.proofs.Asked.{ask_permits}
+use Rattle.ir_thread.proofs.CallerLemmas.{ask_permits}
 use Rattle.ir_flat.specs.Flat.{Flat, thread_of}
 use Rattle.ir_flat.proofs.Keeps.{step_can, step_refused, step_flat, step_taken}
 use Rattle.ir_flat.proofs.flat.Flat.take.Goals as goal

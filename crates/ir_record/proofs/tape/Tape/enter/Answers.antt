@@ -1,5 +1,5 @@
 use Rattle.std.proofs.Common.{ap, ◌∙◌, refl, [], ◌∷◌, ◌++◌, set}
-use Rattle.ir_flat.proofs.Keeps.{enter_object}
+use Rattle.ir_flat.proofs.CallerLemmas.{enter_object}
 use Rattle.ir_log.specs.Logged.{Logged}
 use Rattle.ir_record.proofs.Logs.{has_room, log_found}
 use Rattle.ir_record.proofs.Entering.{Entering, accepted, refused, enter_none, enter_took, enter_tape, enter_room, waits_took, waits_tape}

@@ -1,0 +1,5 @@
+-- What callers may cite of the table of a recording.
+-- how many entries the threads have made
+pub use Rattle.ir_crew.proofs.Counting.{entries_more}
+-- each step of the table keeps its rule
+pub use Rattle.ir_crew.proofs.Steps.{track, act, target_by}

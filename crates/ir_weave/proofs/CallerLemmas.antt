@@ -1,0 +1,13 @@
+-- What callers may cite of the table of a replay.
+-- what the trace leaves to the threads at a cut is the log of the steps behind it
+pub use Rattle.ir_weave.proofs.Behind.{law, good, admitted_next}
+-- a state that goes on along the trace is a state at a later cut
+pub use Rattle.ir_weave.proofs.Onward.{step_taken, alone_own, alone_others, alone_under}
+-- the result with which a thread takes its next step, by what it asks
+pub use Rattle.ir_weave.proofs.Results.{call_next, call_none, entry_next, entry_shut, entry_none, object_there, object_found}
+-- what a step of a thread in a run tells, and the thread after it, by the thread before it
+pub use Rattle.ir_weave.proofs.Trails.{StepOf, first_thread, step_at}
+-- a state goes on by a step of a thread that is admitted
+pub use Rattle.ir_weave.proofs.Forth.{CaughtUp, catch_up}
+-- a thread that goes on by itself beside its trace
+pub use Rattle.ir_weave.proofs.Lone.{step_there, same_number}
