@@ -19,12 +19,12 @@ use Rattle.ir_log.specs.declared.event.Event.{Event}
 use Rattle.ir_log.specs.declared.event.Event.TheVariants.{Answer, Read, Write}
 use Rattle.ir_trace.specs.Recorded.{Recorded, RecordedThread, IsRecorded, IsRecordedThread, IsEvent, IsResult}
 use Rattle.ir_trace.specs.Told.{absent, trace_of}
-use Rattle.ir_fit.proofs.Causes.{coherent_unbroken}
+use Rattle.ir_coherence.proofs.CallerLemmas.{coherent_unbroken}
 use Rattle.ir_fit.proofs.Guests.{starts, lives}
-use Rattle.ir_fit.specs.Breaking.{BreaksBy, IsFirstBreak}
+use Rattle.ir_coherence.specs.Breaking.{IsFirstBreak}
 use Rattle.ir_runs.specs.Coherent.{IsCoherent}
 use Rattle.ir_runs.specs.Cuts.{At}
-use Rattle.ir_fit.specs.Fit.{HasHeader, IsRunOf, HasRun, GoesFurthest, AreVerdicts, IsRefused}
+use Rattle.ir_fit.specs.Fit.{HasHeader, IsRunOf, HasRun, GoesFurthest, AreVerdicts, IsRefused, BreaksBy}
 use Rattle.ir_fit.specs.Follower.{IsFollowed, AreStanding}
 use Rattle.ir_runs.specs.Following as following
 use Rattle.ir_fit.specs.Places.{Placed}

@@ -1,11 +1,5 @@
 mod Guests
 mod Furthest
-mod Writes
-mod Causes
-mod Tables
-mod Logs
-mod Far
-mod Breaks
 mod Seen
 mod Placed
 mod Moves

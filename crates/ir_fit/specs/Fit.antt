@@ -1,17 +1,17 @@
 -- Whether a recorded trace is that of a run of a guest's.
-use Rattle.std.specs.Prelude.{◌≡◌, ◌≢◌, ◌<◌, ℕ, List, length, slice_get, Some, ⊤}
+use Rattle.std.specs.Prelude.{◌≡◌, ◌≢◌, ◌<◌, ℕ, List, length, slice_get, Some, ⊤, ⊥}
 use Rattle.ir_image.specs.Guest.{Guest, object_count}
 use Rattle.ir_flat.specs.Flat.{start_flat, tables, machine}
 use Rattle.ir_runs.specs.Run.{Step, trail}
 use Rattle.ir_trace.specs.Recorded.{Recorded}
 use Rattle.ir_trace.specs.Told.{trace_of}
-use Rattle.ir_fit.specs.Breaking.{IsFirstBreak}
+use Rattle.ir_coherence.specs.Breaking.{IsFirstBreak}
 use Rattle.ir_runs.specs.Coherent.{IsCoherent}
 use Rattle.ir_runs.specs.Following.{Follows, IsMaximal, closing}
 use Rattle.ir_fit.specs.Places.{Placed, placed_at, places_of, leaves_of}
 use Rattle.ir_runs.specs.Verdicts.{IsVerdict, IsWhole}
-use Rattle.ir_fit.specs.declared.cause.HeaderCause.{HeaderCause}
-use Rattle.ir_fit.specs.declared.cause.HeaderCause.TheVariants.{Threads, Objects}
+use Rattle.ir_fit.specs.declared.header_cause.HeaderCause.{HeaderCause}
+use Rattle.ir_fit.specs.declared.header_cause.HeaderCause.TheVariants.{Threads, Objects}
 use Rattle.ir_fit.specs.declared.fit_err.FitErr.{FitErr}
 use Rattle.ir_fit.specs.declared.fit_err.FitErr.TheVariants.{NoMem, Refused}
 use Rattle.ir_runs.specs.declared.thread_verdict.ThreadVerdict.{ThreadVerdict}
@@ -31,6 +31,17 @@ IsRunOf guest r run = let f = start_flat guest r.budget in HasHeader guest r × 
 -- a run of the guest that follows the trace as far as any can
 abbrev pub GoesFurthest : Guest → Recorded → List Step → Type 0
 GoesFurthest guest r run = let f = start_flat guest r.budget in Follows (closing (machine f) (trace_of r)) (machine f) (tables f) (trace_of r) run × IsMaximal (closing (machine f) (trace_of r)) (machine f) (tables f) (trace_of r) run
+
+-- the verdict names the first event that breaks coherence, and its first cause
+abbrev pub NamesBreak : Recorded → Verdict → Type 0
+NamesBreak r (Incoherent t i c) = IsFirstBreak (length r.threads) (trace_of r) t i c
+NamesBreak r (Header c) = ⊥
+NamesBreak r (verdict.Threads vs) = ⊥
+
+-- want of memory, or such a verdict
+abbrev pub BreaksBy : Recorded → FitErr → Type 0
+BreaksBy r NoMem = ⊤
+BreaksBy r (Refused v) = NamesBreak r v
 
 -- a verdict for each thread, read off any such run
 abbrev pub AreVerdicts : Guest → Recorded → List ThreadVerdict → Type 0

@@ -1,8 +1,6 @@
 pub mod Laws
 pub mod Fit
 pub mod Numbers
-pub mod Breaking
-pub mod Counting
 pub mod Ahead
 pub mod Places
 pub mod Follower

@@ -3,7 +3,7 @@
 ghost use Rattle.std.specs.Prelude.{◌≡◌, ◌≢◌, length, OnOk, IfErr};
 ghost use Rattle.ir_fit.specs.Fit.{HasHeader, IsOther};
 
-use crate::cause::HeaderCause;
+use crate::header_cause::HeaderCause;
 use ir_image::Image;
 use ir_trace::Trace;
 

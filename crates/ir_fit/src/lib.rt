@@ -2,14 +2,9 @@
 //! stops following it.
 #![tactic(auto)]
 
-mod cause;
 mod coherence;
-mod coherence_laws;
 #[cfg(test)]
 mod coherence_tests;
-mod counting;
-mod entry_counts;
-mod far_versions;
 mod fit_err;
 #[cfg(test)]
 mod fit_tests;
@@ -20,6 +15,7 @@ mod follower;
 mod following;
 mod going;
 mod header;
+mod header_cause;
 mod laws;
 mod leave;
 mod look;
@@ -32,18 +28,17 @@ mod plain_fit;
 mod plain_tests;
 mod readiness;
 mod verdict;
-mod version_counts;
 mod visiting;
 mod visits;
 #[cfg(test)]
 mod visits_tests;
 
-pub use cause::{Cause, HeaderCause};
 pub use coherence::coherent;
-pub use coherence_laws::{coherent_unbroken, one_cause, unbroken_coherent};
 pub use fit_err::FitErr;
 pub use fitted::Fitted;
 pub use fitting::fit;
+pub use header_cause::HeaderCause;
+pub use ir_coherence::Cause;
 pub use laws::{
     complete_fits, cuts_are_runs, fits_exactly, maximal_exists, one_step_each, one_verdict,
     own_trace_coherent, trace_determines,

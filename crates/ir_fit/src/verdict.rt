@@ -1,6 +1,7 @@
 //! What is said of a trace that is no run's.
 
-use crate::cause::{Cause, HeaderCause};
+use crate::header_cause::HeaderCause;
+use ir_coherence::Cause;
 use ir_runs::ThreadVerdict;
 
 /// Why no run of a guest has a trace.

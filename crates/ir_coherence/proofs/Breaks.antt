@@ -1,0 +1,109 @@
+-- What the counts of a recorded trace tell of its events.
+use Rattle.std.proofs.Common.{◌≡◌, ℕ, suc, zero, ◌+◌, ◌<◌, ◌≤◌, inl, inr, Some, None, List, [], ◌∷◌, length, map, get_or, vec_len, refl, sym, ap, ◌∙◌, subst, arith}
+use Rattle.std.specs.Prelude.{slice_get}
+use Rattle.std.specs.List.{AllByRecursion}
+use Rattle.std.proofs.lemmas.Option.{same_Some}
+use Rattle.std.proofs.lemmas.List.{length-map}
+use Rattle.ir_runs.specs.Marks.{Mark, In, Trace}
+use Rattle.ir_runs.specs.declared.access.Access.TheVariants.{Writing}
+use Rattle.ir_log.specs.Logging.{mark_of}
+use Rattle.ir_log.specs.declared.event.Event.{Event}
+use Rattle.ir_trace.specs.Recorded.{Recorded, RecordedThread, IsRecorded, IsRecordedThread}
+use Rattle.ir_trace.specs.Told.{absent, recorded_thread, trace_of}
+use Rattle.ir_runs.specs.Coherent.{reads, IsCoherent}
+use Rattle.ir_coherence.specs.Counting.{writes, reads_in, writes_in, reads_of, writes_of, cause_by, CountsMore, CountsAll, HasRoom, FirstCause, NoCause}
+use Rattle.ir_runs.specs.Cuts.{At}
+use Rattle.ir_coherence.specs.Breaking.{HasCause, IsBefore, IsFirstBreak}
+use Rattle.ir_coherence.specs.declared.cause.Cause.{Cause}
+use Rattle.ir_coherence.specs.declared.cause.Cause.TheVariants.{Unmade, Twice, Readers}
+use Rattle.ir_coherence.specs.declared.entry_counts.EntryCounts.{EntryCounts}
+use Rattle.ir_coherence.proofs.Writes.{IsOf, is_thread}
+use Rattle.ir_coherence.proofs.Causes.{named, unnamed, silent_coherent}
+use Rattle.ir_coherence.proofs.Logs.{reads_le, writes_le, sum_bound, sum_next}
+
+-- the entries of the first n threads are counted
+pub record CountsFirst (r : Recorded) (n : ℕ) (c : EntryCounts) : Type 0 where
+  pub objects : vec_len c.objects ≡ r.objects
+  pub reads : (o v : ℕ) → reads_of c o v ≡ reads_in n (trace_of r) o v
+  pub writes : (o v : ℕ) → writes_of c o v ≡ writes_in n (trace_of r) o v
+
+each : {X : Type 0} (P : X → Type 0) (xs : List X) (i : ℕ) (d : X) → AllByRecursion P xs → i < length xs → P (get_or xs i d)
+each P [] i d all l = absurd (omega arith)
+each P (x ∷ xs) zero d all l = all.0
+each P (x ∷ xs) (suc i) d all l = each P xs i d all.1 (omega arith)
+
+past : {X : Type 0} (xs : List X) (i : ℕ) (d : X) → length xs ≤ i → get_or xs i d ≡ d
+past [] i d l = refl
+past (x ∷ xs) zero d l = absurd (omega arith)
+past (x ∷ xs) (suc i) d l = past xs i d (omega arith)
+
+pub thread_fits : (r : Recorded) → IsRecorded r → (i : ℕ) → i < length r.threads → IsRecordedThread r.objects (recorded_thread r i)
+thread_fits r fits i l = each (IsRecordedThread r.objects) r.threads i absent fits.threads_fit l
+
+is_of : (r : Recorded) → IsOf (length r.threads) (trace_of r)
+is_of r t l = ap (λ (x : RecordedThread). map mark_of x.events) (past r.threads t absent l)
+
+pub thread_room : (r : Recorded) → IsRecorded r → (i : ℕ) (c : EntryCounts) → i < length r.threads → CountsFirst r i c → HasRoom c (length (recorded_thread r i).events)
+thread_room r fits i c l first = record {
+  reads = λ o v. omega (arith, first.reads o v, sum_bound i (λ u. reads o v ((trace_of r).logs u)) (λ u less. omega (arith, reads_le o v ((trace_of r).logs u), of_thread u (omega arith))), (thread_fits r fits i l).few_events, fits.few_threads);
+  writes = λ o v. omega (arith, first.writes o v, sum_bound i (λ u. writes o v ((trace_of r).logs u)) (λ u less. omega (arith, writes_le o v ((trace_of r).logs u), of_thread u (omega arith))), (thread_fits r fits i l).few_events, fits.few_threads);
+}
+  where
+    of_thread : (u : ℕ) → u < length r.threads → length ((trace_of r).logs u) ≤ 1048576
+    of_thread u less = omega (arith, length-map (recorded_thread r u).events mark_of, (thread_fits r fits u less).few_events)
+
+pub thread_counted : (r : Recorded) (i : ℕ) (a b : EntryCounts) → CountsFirst r i a → CountsMore a b (map mark_of (recorded_thread r i).events) → CountsFirst r (i + 1) b
+thread_counted r i a b first more = record {
+  objects = more.objects ∙ first.objects;
+  reads = λ o v. omega (arith, more.reads o v, first.reads o v, sum_next i (λ u. reads o v ((trace_of r).logs u)));
+  writes = λ o v. omega (arith, more.writes o v, first.writes o v, sum_next i (λ u. writes o v ((trace_of r).logs u)));
+}
+
+at_event : (es : List Event) (i : ℕ) (e : Event) → slice_get es i ≡ Some e → At (map mark_of es) i (mark_of e)
+at_event [] i e is = absurd (let bad : None ≡ Some e = is in cc)
+at_event (x ∷ xs) zero e is = ap mark_of (same_Some x e is)
+at_event (x ∷ xs) (suc i) e is = at_event xs i e is
+
+event_at : (es : List Event) (i : ℕ) (m : Mark) → At (map mark_of es) i m → (e : Event) × (slice_get es i ≡ Some e) × (mark_of e ≡ m)
+event_at [] i m at = absurd at
+event_at (x ∷ xs) zero m at = (x, refl, at)
+event_at (x ∷ xs) (suc i) m at = event_at xs i m at
+
+-- the tables' counts name what the trace's counts name
+as_counted : (n : ℕ) (told : Trace) (c : EntryCounts) → CountsAll n told c → (m : Mark) → cause_by (reads_of c) (writes_of c) m ≡ cause_by (reads_in n told) (writes_in n told) m
+as_counted n told c all m = λ i. cause_by (λ o v. all.reads o v i) (λ o v. all.writes o v i) m
+
+-- what has a cause stands in the trace
+entry_of : (n : ℕ) (told : Trace) (t i : ℕ) (d : Cause) → HasCause n told t i d → (m : Mark) × At (told.logs t) i m
+entry_of n told t i Unmade has = (In has.object has.access (suc has.version) has.left, has.entry)
+entry_of n told t i Twice has = (In has.1.object Writing has.1.version has.1.left, has.1.entry)
+entry_of n told t i Readers has = (In has.2.object Writing has.2.version has.2.left, has.2.entry)
+
+silent : (r : Recorded) (c : EntryCounts) → CountsAll (length r.threads) (trace_of r) c → (t i : ℕ) (m : Mark) → At ((trace_of r).logs t) i m → ((e : Event) → slice_get (recorded_thread r t).events i ≡ Some e → cause_by (reads_of c) (writes_of c) (mark_of e) ≡ None)
+    → cause_by (reads_in (length r.threads) (trace_of r)) (writes_in (length r.threads) (trace_of r)) m ≡ None
+silent r c all t i m at none =
+    let e = event_at (recorded_thread r t).events i m at in
+    sym (as_counted (length r.threads) (trace_of r) c all m) ∙ ap (cause_by (reads_of c) (writes_of c)) (sym e.2) ∙ none e.0 e.1
+
+unbroken : (r : Recorded) (c : EntryCounts) → CountsAll (length r.threads) (trace_of r) c → (t i : ℕ) → ((e : Event) → slice_get (recorded_thread r t).events i ≡ Some e → cause_by (reads_of c) (writes_of c) (mark_of e) ≡ None)
+    → (d : Cause) → HasCause (length r.threads) (trace_of r) t i d → ⊥
+unbroken r c all t i none d has =
+    let m = entry_of (length r.threads) (trace_of r) t i d has in
+    unnamed (length r.threads) (trace_of r) (is_of r) t i m.0 m.1 (silent r c all t i m.0 m.1 none) d has
+
+-- where no thread's log has an event with a cause
+pub all_silent : (r : Recorded) (c : EntryCounts) → CountsAll (length r.threads) (trace_of r) c → ((t : ℕ) → t < length r.threads → NoCause (reads_of c) (writes_of c) (recorded_thread r t).events) → IsCoherent (length r.threads) (trace_of r)
+all_silent r c all none = silent_coherent (length r.threads) (trace_of r) (is_of r) (λ t i m at. silent r c all t i m at (none t (is_thread (length r.threads) (trace_of r) (is_of r) t i m at) i))
+
+-- the first event with a cause
+pub first_named : (r : Recorded) (c : EntryCounts) → CountsAll (length r.threads) (trace_of r) c → (t i : ℕ) (cause : Cause) → ((u : ℕ) → u < t → NoCause (reads_of c) (writes_of c) (recorded_thread r u).events)
+    → FirstCause (reads_of c) (writes_of c) (recorded_thread r t).events i cause → IsFirstBreak (length r.threads) (trace_of r) t i cause
+first_named r c all t i cause none found = record {
+  breaks = named (length r.threads) (trace_of r) (is_of r) t i (mark_of found.event) cause (at_event (recorded_thread r t).events i found.event found.stands)
+      (sym (as_counted (length r.threads) (trace_of r) c all (mark_of found.event)) ∙ found.cause);
+  first = λ u j d before has. earlier u j d before has;
+}
+  where
+    earlier : (u j : ℕ) (d : Cause) → IsBefore u j t i → HasCause (length r.threads) (trace_of r) u j d → ⊥
+    earlier u j d (inl less) has = unbroken r c all u j (none u less j) d has
+    earlier u j d (inr here) has = unbroken r c all u j (λ e is. found.first j e here.1 (subst (λ z. slice_get (recorded_thread r z).events j ≡ Some e) here.0 is)) d has

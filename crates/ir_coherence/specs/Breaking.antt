@@ -1,0 +1,65 @@
+-- The events of a trace that break its coherence.
+use Rattle.std.specs.Prelude.{◌≡◌, ◌≢◌, ℕ, suc, ◌<◌, ◌≤◌, ◌⊎◌, [], length}
+use Rattle.ir_runs.specs.Marks.{In, Trace}
+use Rattle.ir_runs.specs.declared.access.Access.{Access}
+use Rattle.ir_runs.specs.declared.access.Access.TheVariants.{Writing}
+use Rattle.ir_runs.specs.Coherent.{IsCoherent, reads, sum_below}
+use Rattle.ir_runs.specs.Cuts.{At}
+use Rattle.ir_coherence.specs.declared.cause.Cause.{Cause}
+use Rattle.ir_coherence.specs.declared.cause.Cause.TheVariants.{Unmade, Twice, Readers}
+
+-- event i of thread t is an entry at a version after the first, and no write entry of the trace stands at the version before
+pub record IsUnmade (tr : Trace) (t i : ℕ) : Type 0 where
+  pub object : ℕ
+  pub access : Access
+  pub version : ℕ
+  pub left : ℕ
+  pub entry : At (tr.logs t) i (In object access (suc version) left)
+  pub unmade : (u j k : ℕ) → At (tr.logs u) j (In object Writing version k) → ⊥
+
+-- event i of thread t is a write entry, and another write entry of the trace stands at its version
+pub record IsTwice (tr : Trace) (t i : ℕ) : Type 0 where
+  pub object : ℕ
+  pub version : ℕ
+  pub left : ℕ
+  pub entry : At (tr.logs t) i (In object Writing version left)
+  pub thread : ℕ
+  pub event : ℕ
+  pub readers : ℕ
+  pub another : At (tr.logs thread) event (In object Writing version readers)
+  pub apart : t ≡ thread → i ≡ event → ⊥
+
+-- event i of thread t is a write entry with another number of readers than read entries of its version stand in the logs of the n threads
+pub record IsMiscounted (n : ℕ) (tr : Trace) (t i : ℕ) : Type 0 where
+  pub object : ℕ
+  pub version : ℕ
+  pub left : ℕ
+  pub entry : At (tr.logs t) i (In object Writing version left)
+  pub other : left ≢ sum_below n (λ u. reads object version (tr.logs u))
+
+-- the first cause for which event i of thread t breaks coherence
+abbrev pub HasCause : ℕ → Trace → ℕ → ℕ → Cause → Type 0
+HasCause n tr t i Unmade = IsUnmade tr t i
+HasCause n tr t i Twice = (IsUnmade tr t i → ⊥) × IsTwice tr t i
+HasCause n tr t i Readers = (IsUnmade tr t i → ⊥) × (IsTwice tr t i → ⊥) × IsMiscounted n tr t i
+
+-- event j of thread u stands before event i of thread t
+abbrev pub IsBefore : ℕ → ℕ → ℕ → ℕ → Type 0
+IsBefore u j t i = (u < t) ⊎ ((u ≡ t) × (j < i))
+
+-- event i of thread t breaks coherence for this cause, and none before it breaks it
+pub record IsFirstBreak (n : ℕ) (tr : Trace) (t i : ℕ) (c : Cause) : Type 0 where
+  pub breaks : HasCause n tr t i c
+  pub first : (u j : ℕ) (d : Cause) → IsBefore u j t i → HasCause n tr u j d → ⊥
+
+-- no event of a coherent trace breaks coherence
+abbrev pub CoherentUnbroken : Type 0
+CoherentUnbroken = (n : ℕ) (tr : Trace) → IsCoherent n tr → (t i : ℕ) (c : Cause) → HasCause n tr t i c → ⊥
+
+-- a trace of n threads is coherent where no event breaks coherence
+abbrev pub UnbrokenCoherent : Type 0
+UnbrokenCoherent = (n : ℕ) (tr : Trace) → ((t : ℕ) → n ≤ t → tr.logs t ≡ []) → ((t i : ℕ) (c : Cause) → HasCause n tr t i c → ⊥) → IsCoherent n tr
+
+-- an event has one first cause at most
+abbrev pub OneCause : Type 0
+OneCause = (n : ℕ) (tr : Trace) (t i : ℕ) (c d : Cause) → HasCause n tr t i c → HasCause n tr t i d → c ≡ d

@@ -1,0 +1,16 @@
+//! Whether the entries of a recorded trace can stand beside each other, whatever the guest: by counting them.
+#![tactic(auto)]
+
+mod cause;
+mod coherence;
+mod counting;
+mod entry_counts;
+mod far_versions;
+mod incoherence;
+mod laws;
+mod version_counts;
+
+pub use cause::Cause;
+pub use coherence::first_incoherence;
+pub use incoherence::Incoherence;
+pub use laws::{coherent_unbroken, one_cause, unbroken_coherent};
