@@ -19,6 +19,7 @@ use std::alloc::Global;
 use std::io::{BufRead, BufReader, Lines};
 use std::sync::Wait;
 use std::thread::Threads;
+use std::time::Clock;
 
 const BUDGET: u64 = 1_000_000_000;
 
@@ -123,7 +124,7 @@ fn replayed(alloc: Global, image: Image, trace: Trace) -> Result<u64> {
 }
 
 // The same by threads.
-fn replayed_by_threads<R: Threads + Sync>(
+fn replayed_by_threads<R: Threads + Clock + Sync>(
     rt: &R,
     alloc: Global,
     image: Image,

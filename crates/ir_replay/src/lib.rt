@@ -7,6 +7,7 @@ mod guests;
 mod moves;
 mod pace;
 mod passes;
+mod patience;
 mod round;
 #[cfg(test)]
 mod seat_tests;

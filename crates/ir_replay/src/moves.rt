@@ -19,6 +19,7 @@ use ir_thread::Thread;
 use ir_weave::State;
 use std::alloc::{AllocError, Global};
 use std::thread::Threads;
+use std::time::Clock;
 
 /// Brings the threads and objects to the target, on this thread. Each entry of the order takes one step of that thread,
 /// or nothing where the guest has no such thread, or this one is at its target or its next step isn't admitted. After
@@ -77,7 +78,7 @@ fn steps_of(threads: &[Thread]) -> u64 {
 
 // A round of workers; or a stretch on the caller, where the workers' last round took few steps, and where one thread
 // alone is below its target.
-fn turn<R: Threads + Sync, G: Gate + Sync>(
+fn turn<R: Threads + Clock + Sync, G: Gate + Sync>(
     rt: &R,
     alloc: Global,
     fitted: &Fitted,
@@ -114,7 +115,7 @@ fn turn<R: Threads + Sync, G: Gate + Sync>(
 ///
 /// # Errors
 /// Want of memory, with the state at a consistent cut between.
-pub fn advance<R: Threads + Sync, G: Gate + Sync>(
+pub fn advance<R: Threads + Clock + Sync, G: Gate + Sync>(
     rt: &R,
     alloc: Global,
     fitted: &Fitted,

@@ -12,6 +12,7 @@ ghost use Rattle.ir_replay.specs.Rounds.{IsBetween, Goes, backwards, threads_of,
 ghost use Rattle.ir_replay.specs.Workers.{IsReady, HasWorked, Pairs};
 
 use crate::worker::{Worker, work_all};
+use crossbeam_utils::CachePadded;
 use ir_cut::Cut;
 use ir_fit::Fitted;
 use ir_object::Gate;
@@ -19,6 +20,7 @@ use ir_thread::Thread;
 use ir_weave::{State, Weave, WeaveSeat};
 use std::alloc::{AllocError, Global};
 use std::thread::Threads;
+use std::time::Clock;
 
 // A worker for each thread, at its seat, the last first.
 pub fn assign_seats(workers: &mut Vec<Worker>, threads: &mut Vec<Thread>, mut seats: Vec<WeaveSeat>)
@@ -32,13 +34,17 @@ pub fn assign_seats(workers: &mut Vec<Worker>, threads: &mut Vec<Thread>, mut se
 {
     'threads: while let Some(thread) = threads.pop() {
         if let Some(seat) = seats.pop() {
-            workers.push_reserved(Worker { seat, thread });
+            workers.push_reserved(Worker {
+                seat,
+                thread,
+                apart: CachePadded::new(()),
+            });
         }
     }
 }
 
 // All workers go on.
-fn run_all<R: Threads + Sync, G: Gate + Sync>(
+fn run_all<R: Threads + Clock + Sync, G: Gate + Sync>(
     rt: &R,
     weave: &Weave,
     workers: &mut Vec<Worker>,
@@ -75,7 +81,7 @@ fn joined(weave: &Weave, workers: &mut Vec<Worker>, threads: &mut Vec<Thread>) -
 }
 
 // A round over a table that is open, with room for its workers.
-fn run_at_table<R: Threads + Sync, G: Gate + Sync>(
+fn run_at_table<R: Threads + Clock + Sync, G: Gate + Sync>(
     rt: &R,
     weave: Weave,
     seats: Vec<WeaveSeat>,
@@ -106,7 +112,7 @@ fn run_at_table<R: Threads + Sync, G: Gate + Sync>(
 }
 
 // One round: each thread goes on until it is at its target or its next step isn't admitted for long.
-pub fn round<R: Threads + Sync, G: Gate + Sync>(
+pub fn round<R: Threads + Clock + Sync, G: Gate + Sync>(
     rt: &R,
     alloc: Global,
     fitted: &Fitted,

@@ -10,9 +10,10 @@ use std::alloc::Global;
 use std::sync::atomic::{AtomicBool, AtomicUsize, Ordering};
 use std::test::Fail;
 use std::thread::{Threads, yield_now};
+use std::time::Clock;
 
 // The state at the cut, by workers; none where it isn't consistent.
-fn by_workers<R: Threads + Sync, G: Gate + Sync>(
+fn by_workers<R: Threads + Clock + Sync, G: Gate + Sync>(
     rt: &R,
     alloc: Global,
     fitted: &Fitted,

@@ -6,36 +6,36 @@ ghost use Rattle.ir_weave.specs.Woven.{IsFor, WasStopped};
 ghost use Rattle.ir_weave.specs.declared.stepping.Tried.TheVariants.{Stepped, NotNow, AtTarget};
 ghost use Rattle.ir_replay.specs.Workers.{IsReady, IsOnWay, HasWorked};
 
+use crate::patience::Patience;
 use crate::telling::{tell_entry, tell_leave};
-use crossbeam_utils::Backoff;
+use crossbeam_utils::{Backoff, CachePadded};
 use ir_cut::Cut;
 use ir_fit::Fitted;
 use ir_object::Gate;
 use ir_thread::Thread;
 use ir_weave::{Tried, Weave, WeaveSeat};
+use std::sync::atomic::AtomicBool;
 use std::thread;
 use std::thread::Threads;
+use std::time::Clock;
 
 // A thread with its seat.
 #[derive(Drop)]
 pub struct Worker {
     pub seat: WeaveSeat,
     pub thread: Thread,
+    // Keeps workers of a list on cache lines of their own.
+    pub apart: CachePadded<()>,
 }
 
-// How often a worker may look again in a round for steps that aren't admitted, before it ends the round.
-const FIRST_LOOKS: u64 = 500;
-
-// The private steps for which it may look once more, so that it waits no longer than it works.
-const STEPS_FOR_A_LOOK: u64 = 8;
-
-// The thread takes its next step, if it is admitted now or within these looks more. Those it didn't need are left.
+// The thread takes its next step, if it is admitted now or while the worker waits.
 fn try_again(
+    clock: &impl Clock,
     weave: &Weave,
     worker: &mut Worker,
     fitted: &Fitted,
     target: &Cut,
-    looks: &mut u64,
+    patience: &mut Patience<'_>,
 ) -> Tried
     requires table { IsFor weave.now.table.shared.key fitted.now }
     requires target { (length target.now ≡ length fitted.now.guest.entries) × IsConsistentCut fitted.now target.now }
@@ -46,34 +46,41 @@ fn try_again(
     ensures reached { result ≡ AtTarget → worker.new.thread.steps ≡ cut_of target.now worker.new.thread.number }
 {
     let backoff = Backoff::new();
+    let mut looked = 0u64;
     'looks: loop {
         let tried = weave.try_step(&mut worker.seat, &mut worker.thread, fitted, target);
-        if tried != Tried::NotNow || *looks == 0 {
+        if tried != Tried::NotNow || !patience.wait(clock, &backoff, looked) {
             return tried;
         }
-        *looks -= 1;
-        backoff.snooze();
+        looked = looked.saturating_add(1);
     }
 }
 
 // The thread goes on until it is at its target or its next step isn't admitted for long.
-fn work<G: Gate>(weave: &Weave, worker: &mut Worker, fitted: &Fitted, target: &Cut, gate: &G)
+fn work<G: Gate>(
+    clock: &impl Clock,
+    weave: &Weave,
+    worker: &mut Worker,
+    fitted: &Fitted,
+    target: &Cut,
+    gate: &G,
+    patience: &mut Patience<'_>,
+)
     requires table { IsFor weave.now.table.shared.key fitted.now }
     requires target { (length target.now ≡ length fitted.now.guest.entries) × IsConsistentCut fitted.now target.now }
     requires ready { IsReady weave.now.table.shared.table_id weave.now.table.shared.key target.now worker.old }
     ensures { HasWorked weave.now.table.shared.table_id weave.now.table.shared.key target.now worker.old worker.new }
 {
-    let mut looks = FIRST_LOOKS;
     'steps: loop {
         let ran = weave.run(&worker.seat, &mut worker.thread, fitted, target);
-        looks = looks.saturating_add(ran / STEPS_FOR_A_LOOK);
+        patience.grow(ran);
         let number = worker.thread.number();
         if worker.thread.steps() >= target.position(number as usize) {
             return;
         }
         let asked = worker.thread.ask(fitted.image().code());
         tell_leave(gate, number, asked);
-        match try_again(weave, worker, fitted, target, &mut looks) {
+        match try_again(clock, weave, worker, fitted, target, patience) {
             Tried::Stepped => tell_entry(gate, number, asked),
             Tried::NotNow | Tried::AtTarget => return,
         }
@@ -81,7 +88,7 @@ fn work<G: Gate>(weave: &Weave, worker: &mut Worker, fitted: &Fitted, target: &C
 }
 
 // Each worker goes on in a thread of its own, where one can be made, and else on the caller's.
-pub fn work_all<R: Threads + Sync, G: Gate + Sync>(
+pub fn work_all<R: Threads + Clock + Sync, G: Gate + Sync>(
     rt: &R,
     weave: &Weave,
     workers: &mut [Worker],
@@ -98,10 +105,19 @@ pub fn work_all<R: Threads + Sync, G: Gate + Sync>(
         return;
     }
     let count = workers.len();
+    let ended = AtomicBool::new(false);
     thread::for_each_mut(
         rt,
         workers,
         count,
-        &|_, worker| work(weave, worker, fitted, target, gate),
+        &|_, worker| work(
+            rt,
+            weave,
+            worker,
+            fitted,
+            target,
+            gate,
+            &mut Patience::new(&ended),
+        ),
     );
 }

@@ -10,6 +10,7 @@ use std::alloc::Global;
 use std::sync::Wait;
 use std::test::Fail;
 use std::thread::Threads;
+use std::time::Clock;
 
 const BUDGET: u64 = 1_000_000;
 
@@ -163,7 +164,11 @@ fn prints_the_same(
 }
 
 // Whether both ways of replay lead to one state at five cuts, each the least with a thread some sixths on its way.
-fn replays_alike<R: Threads + Sync>(rt: &R, alloc: Global, fitted: &Fitted) -> Result<bool, Fail> {
+fn replays_alike<R: Threads + Clock + Sync>(
+    rt: &R,
+    alloc: Global,
+    fitted: &Fitted,
+) -> Result<bool, Fail> {
     for (t, sixths) in [(0, 1), (1, 2), (2, 3), (3, 4), (0, 5)] {
         let Some(thread) = fitted.trace().threads().get(t) else {
             return Ok(false);

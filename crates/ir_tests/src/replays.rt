@@ -11,6 +11,7 @@ use ir_replay::{State, advance, advance_in_order};
 use std::alloc::Global;
 use std::test::Fail;
 use std::thread::Threads;
+use std::time::Clock;
 
 // Whether the cut has a position for each thread, and is consistent.
 fn is_cut(fitted: &Fitted, cut: &Cut) -> bool
@@ -60,7 +61,7 @@ pub fn in_order(alloc: Global, fitted: &Fitted, target: &Cut) -> Result<Option<S
 }
 
 // The same by real threads.
-pub fn by_threads<R: Threads + Sync>(
+pub fn by_threads<R: Threads + Clock + Sync>(
     rt: &R,
     alloc: Global,
     fitted: &Fitted,
@@ -77,7 +78,7 @@ pub fn by_threads<R: Threads + Sync>(
 }
 
 // Whether both ways lead to one state at the cut.
-pub fn is_same<R: Threads + Sync>(
+pub fn is_same<R: Threads + Clock + Sync>(
     rt: &R,
     alloc: Global,
     fitted: &Fitted,

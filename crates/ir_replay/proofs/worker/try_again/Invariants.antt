@@ -9,4 +9,4 @@ invariant-looks l = record {
 }
 
 abbrev pub decreases-looks : goal.decreases-looks
-decreases-looks l = l.looks
+decreases-looks l = l.patience.looks

@@ -1,0 +1,64 @@
+//! How long a worker waits for steps that aren't admitted.
+
+ghost use Rattle.std.specs.Prelude.{◌≡◌, ◌<◌, true};
+
+use crossbeam_utils::Backoff;
+use std::sync::atomic::{AtomicBool, Ordering};
+use std::thread;
+use std::time::{Clock, Duration};
+
+// How often a worker may look again in a round, before it has taken a step.
+const FIRST_LOOKS: u64 = 500;
+
+// The steps for which it may look once more, so that it waits no longer than it works.
+const STEPS_FOR_A_LOOK: u64 = 8;
+
+// How often it looks for one step before it sleeps between looks: by then it has waited longer than a sleep takes, so
+// that sleeping at most doubles its wait.
+const LOOKS_AWAKE: u64 = 200;
+
+const SLEEP: Duration = Duration::from_micros(50);
+
+// How often it looks for one step once another worker has ended its round: what it waits for may then not come.
+const LAST_LOOKS: u64 = 64;
+
+/// How often a worker may still look for steps that aren't admitted.
+#[derive(Drop)]
+pub struct Patience<'a> {
+    pub looks: u64,
+    // Whether a worker of the round ended it below its target.
+    ended: &'a AtomicBool,
+}
+
+impl<'a> Patience<'a> {
+    // Of a worker that hasn't begun, beside others who tell each other that one has ended.
+    pub fn new(ended: &'a AtomicBool) -> Patience<'a> {
+        Patience {
+            looks: FIRST_LOOKS,
+            ended,
+        }
+    }
+
+    // More, for so many steps that were taken.
+    pub fn grow(&mut self, steps: u64) {
+        self.looks = self.looks.saturating_add(steps / STEPS_FOR_A_LOOK);
+    }
+
+    // Waits a moment after so many looks for one step; or says that there is no time for another.
+    pub fn wait(&mut self, clock: &impl Clock, backoff: &Backoff, looked: u64) -> bool
+        ensures { result ≡ true → self.new.looks < self.old.looks }
+    {
+        let is_alone = looked >= LAST_LOOKS && self.ended.load(Ordering::Relaxed);
+        if self.looks == 0 || is_alone {
+            self.ended.store(true, Ordering::Relaxed);
+            return false;
+        }
+        self.looks -= 1;
+        if looked < LOOKS_AWAKE {
+            backoff.snooze();
+        } else {
+            thread::sleep(clock, SLEEP);
+        }
+        true
+    }
+}
