@@ -1,16 +1,17 @@
-# The commands of the repository. Each needs the Rattle kit's `rt` and nothing else.
+# The commands of the repository. Each needs the Rattle kit's `rt` and Python 3, and nothing else.
 
 .PHONY: all run test bench
 
 all: ir
 
-# Proves and builds the program.
-ir: FORCE
+SOURCES := crates.txt $(shell find crates -name out -prune -o -type f -name '*.rt' -print -o -type f -name '*.antt' -print)
+
+# Proves and builds the program, where it isn't built of these sources yet.
+ir: $(SOURCES)
+	python3 scripts/prove.py ir_cli
 	cd crates/ir_cli && rt run < stdin > out.txt && cmp out.txt stdout && rm out.txt
 	cp crates/ir_cli/out/ir_cli ir
 	@echo "The program is ./ir"
-
-FORCE:
 
 # The first session of the README.
 run: ir
@@ -23,5 +24,6 @@ test:
 
 # Millions of instructions per second, and the assembler's lines.
 bench: ir
+	python3 scripts/prove.py ir_bench
 	cd crates/ir_bench && rt run < stdin > out.txt && rm out.txt
 	python3 scripts/bench.py ./ir crates/ir_bench/out/ir_bench

@@ -16,7 +16,8 @@ use Rattle.ir_trace.specs.Told.{recorded_thread}
 use Rattle.ir_runs.specs.Cuts.{At, Tells}
 use Rattle.ir_fit.specs.Fit.{FittedTrace, HasRun, IsRunOf}
 use Rattle.ir_fit.specs.Places.{places_of, leaves_of}
-use Rattle.ir_fit.proofs.CallerLemmas.{thread_fits, starts, idle_trail, tells_below, get_at, at_get, entry_of}
+use Rattle.ir_fit.proofs.CallerLemmas.{starts, idle_trail, tells_below, get_at, at_get, entry_of}
+use Rattle.ir_coherence.proofs.CallerLemmas.{thread_fits}
 use Rattle.ir_cut.specs.Positions.{machine_of, start_of}
 
 pub no_trail : (f : FittedTrace) (run : List Step) → IsRunOf f.guest f.recorded run → (t : ℕ) → length f.guest.entries ≤ t → trail (machine_of f) (start_of f) run t ≡ []

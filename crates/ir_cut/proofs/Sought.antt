@@ -9,7 +9,7 @@ use Rattle.ir_runs.specs.Run.{Step, count}
 use Rattle.ir_trace.specs.Recorded.{IsRecorded}
 use Rattle.ir_runs.specs.Cuts.{Tells, Cut}
 use Rattle.ir_fit.specs.Fit.{FittedTrace, HasRun, IsRunOf}
-use Rattle.ir_fit.proofs.CallerLemmas.{thread_fits}
+use Rattle.ir_coherence.proofs.CallerLemmas.{thread_fits}
 use Rattle.ir_cut.specs.Moving.{ArePlaced, EachPlace, IsRaised, IsLowered}
 use Rattle.ir_cut.specs.Positions.{machine_of, start_of, cut_of, EachRun}
 use Rattle.ir_cut.specs.Searching.{IsFitted, AreInside, RaisedFor, LoweredFor}

@@ -1,8 +1,6 @@
 -- What callers may cite of traces that fit.
 -- a guest's threads and objects at the start
 pub use Rattle.ir_fit.proofs.Guests.{starts}
--- what the counts of a recorded trace tell of its events
-pub use Rattle.ir_coherence.proofs.Breaks.{thread_fits}
 -- what is seen of a thread's next step, by what the thread asks
 pub use Rattle.ir_fit.proofs.Seen.{end_asked, ends_asked, call_follows, found_open, found_shut, entry_follows, entry_waits, asks_env, asks_entry, call_disagrees, entry_disagrees, seen_stops}
 -- where the entries and leaves of a run stand: the positions that are kept, against what the steps tell

@@ -1,5 +1,5 @@
 -- Whether a recorded trace is that of a run of a guest's.
-use Rattle.std.specs.Prelude.{◌≡◌, ◌≢◌, ◌<◌, ℕ, List, length, slice_get, Some, ⊤, ⊥}
+use Rattle.std.specs.Prelude.{◌≡◌, ◌≢◌, ◌<◌, ℕ, List, length, slice_get, Some, ⊤}
 use Rattle.ir_image.specs.Guest.{Guest, object_count}
 use Rattle.ir_flat.specs.Flat.{start_flat, tables, machine}
 use Rattle.ir_runs.specs.Run.{Step, trail}
