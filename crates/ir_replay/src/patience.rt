@@ -17,7 +17,7 @@ const STEPS_FOR_A_LOOK: u64 = 8;
 // that sleeping at most doubles its wait.
 const LOOKS_AWAKE: u64 = 200;
 
-const SLEEP: Duration = Duration::from_micros(50);
+const SLEEP_MICROS: u64 = 50;
 
 // How often it looks for one step once another worker has ended its round: what it waits for may then not come.
 const LAST_LOOKS: u64 = 64;
@@ -48,8 +48,8 @@ impl<'a> Patience<'a> {
     pub fn wait(&mut self, clock: &impl Clock, backoff: &Backoff, looked: u64) -> bool
         ensures { result ≡ true → self.new.looks < self.old.looks }
     {
-        let is_alone = looked >= LAST_LOOKS && self.ended.load(Ordering::Relaxed);
-        if self.looks == 0 || is_alone {
+        let is_over = looked >= LAST_LOOKS && self.ended.load(Ordering::Relaxed);
+        if self.looks == 0 || is_over {
             self.ended.store(true, Ordering::Relaxed);
             return false;
         }
@@ -57,7 +57,7 @@ impl<'a> Patience<'a> {
         if looked < LOOKS_AWAKE {
             backoff.snooze();
         } else {
-            thread::sleep(clock, SLEEP);
+            thread::sleep(clock, Duration::from_micros(SLEEP_MICROS));
         }
         true
     }

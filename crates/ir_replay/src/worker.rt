@@ -64,13 +64,14 @@ fn work<G: Gate>(
     fitted: &Fitted,
     target: &Cut,
     gate: &G,
-    patience: &mut Patience<'_>,
+    ended: &AtomicBool,
 )
     requires table { IsFor weave.now.table.shared.key fitted.now }
     requires target { (length target.now ≡ length fitted.now.guest.entries) × IsConsistentCut fitted.now target.now }
     requires ready { IsReady weave.now.table.shared.table_id weave.now.table.shared.key target.now worker.old }
     ensures { HasWorked weave.now.table.shared.table_id weave.now.table.shared.key target.now worker.old worker.new }
 {
+    let mut patience = Patience::new(ended);
     'steps: loop {
         let ran = weave.run(&worker.seat, &mut worker.thread, fitted, target);
         patience.grow(ran);
@@ -80,7 +81,7 @@ fn work<G: Gate>(
         }
         let asked = worker.thread.ask(fitted.image().code());
         tell_leave(gate, number, asked);
-        match try_again(clock, weave, worker, fitted, target, patience) {
+        match try_again(clock, weave, worker, fitted, target, &mut patience) {
             Tried::Stepped => tell_entry(gate, number, asked),
             Tried::NotNow | Tried::AtTarget => return,
         }
@@ -110,14 +111,6 @@ pub fn work_all<R: Threads + Clock + Sync, G: Gate + Sync>(
         rt,
         workers,
         count,
-        &|_, worker| work(
-            rt,
-            weave,
-            worker,
-            fitted,
-            target,
-            gate,
-            &mut Patience::new(&ended),
-        ),
+        &|_, worker| work(rt, weave, worker, fitted, target, gate, &ended),
     );
 }
