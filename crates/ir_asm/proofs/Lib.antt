@@ -13,6 +13,7 @@ mod Digits
 mod Pieces
 mod Numbers
 mod Statements
+mod FieldLaws
 mod Formats
 mod Branches
 mod Pairs

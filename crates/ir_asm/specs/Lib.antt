@@ -4,6 +4,7 @@ pub mod Text
 pub mod Names
 pub mod Forms
 pub mod Operands
+pub mod Fields
 pub mod Items
 pub mod Source
 pub mod Passes

@@ -5,6 +5,7 @@ mod asm_err;
 mod assembler;
 mod cause;
 mod disassembler;
+mod fields;
 mod first_pass;
 mod form;
 mod item;
@@ -28,7 +29,6 @@ mod table;
 #[cfg(test)]
 mod tests;
 mod text;
-mod words;
 
 pub use asm_err::AsmErr;
 pub use assembler::assemble;
