@@ -14,12 +14,12 @@ use Rattle.ir_isa.specs.declared.inst.Register.{Register}
 use Rattle.ir_isa.specs.declared.inst.Immediate.{Immediate}
 use Rattle.ir_asm.specs.declared.form.Form.TheVariants.{Loads, JumpsTo, Stores}
 use Rattle.ir_asm.specs.declared.item.Operand.TheVariants.{Index, Offset}
-use Rattle.ir_asm.specs.Names.{load_name, store_name}
+use Rattle.ir_disasm.specs.Names.{load_name, store_name}
 use Rattle.ir_asm.specs.Forms.{form_named}
 use Rattle.ir_asm.specs.Operands.{operands_of, at_address, address as address_of}
 use Rattle.ir_asm.specs.Items.{instruction}
 use Rattle.ir_asm.specs.Passes.{assembled, IsWordGuest}
-use Rattle.ir_asm.specs.Printed.{printed, address}
+use Rattle.ir_disasm.specs.Printed.{printed, address}
 use Rattle.ir_asm.proofs.Pieces.{all_append, clean, IsPiece, not_nil, split_at, split_one, trim_clean}
 use Rattle.ir_asm.proofs.Numbers.{register_again, register_piece, signed_again, signed_piece, signed_plain, register_plain, plain_open, plain_close}
 use Rattle.ir_asm.proofs.FieldLaws.{immediate_kept}

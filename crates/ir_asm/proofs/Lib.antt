@@ -9,7 +9,6 @@ mod Texts
 mod Tables
 mod Numerals
 mod Cuts
-mod Digits
 mod Pieces
 mod Numbers
 mod Statements

@@ -13,7 +13,7 @@ use Rattle.ir_isa.specs.Names.{register_name}
 use Rattle.ir_isa.specs.declared.inst.Register.{Register}
 use Rattle.ir_asm.specs.Fields.{register_of}
 use Rattle.ir_asm.specs.Names.{named, register_rows, register}
-use Rattle.ir_asm.specs.Printed.{hex}
+use Rattle.ir_disasm.specs.Printed.{hex}
 use Rattle.ir_asm.proofs.Pieces.{clean, IsPiece, not_true}
 use Rattle.ir_asm.proofs.FieldLaws.{register_kept}
 

@@ -20,7 +20,7 @@ use Rattle.ir_asm.specs.Operands.{operands_of, int_le, distance_in}
 use Rattle.ir_asm.specs.Items.{instruction, item_of}
 use Rattle.ir_asm.specs.Source.{operand_texts, texts_of, is_source_byte, may_stand}
 use Rattle.ir_asm.specs.Passes.{assembled, IsWordGuest}
-use Rattle.ir_asm.specs.Printed.{two, far, distance, printed}
+use Rattle.ir_disasm.specs.Printed.{two, far, distance, printed}
 use Rattle.ir_asm.proofs.Pieces.{all_append, IsPiece, start_kept, not_nil, name_before, name_after, split_at, split_one, clean_lacks, trim_clean, end_clean}
 use Rattle.ir_asm.proofs.Numbers.{register_again, register_piece}
 use Rattle.ir_asm.proofs.FieldLaws.{jump_offset_kept}

@@ -14,7 +14,7 @@ use Rattle.ir_asm.specs.Fields.{fits_12}
 use Rattle.ir_asm.specs.Items.{instruction}
 use Rattle.ir_asm.specs.Operands.{operands_of}
 use Rattle.ir_asm.specs.Passes.{assembled, IsWordGuest}
-use Rattle.ir_asm.specs.Printed.{hex, printed}
+use Rattle.ir_disasm.specs.Printed.{hex, printed}
 use Rattle.ir_asm.proofs.Pieces.{IsPiece}
 use Rattle.ir_asm.proofs.Numbers.{register_again, register_piece, decimal_piece, hex_clean, natural_number, hex_again_five}
 use Rattle.ir_asm.proofs.FieldLaws.{upper_kept, low_bits_kept}

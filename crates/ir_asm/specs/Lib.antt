@@ -10,5 +10,4 @@ pub mod Source
 pub mod Passes
 pub mod Answered
 pub mod Bounds
-pub mod Printed
 pub mod Standing

@@ -5,7 +5,7 @@ ghost use Rattle.std.specs.List.{list_any};
 ghost use Rattle.ir_asm.specs.Names.{named};
 ghost use Rattle.ir_asm.specs.Standing.{place_after};
 ghost use Rattle.ir_asm.specs.declared.form.Section.TheVariants.{Text};
-ghost use Rattle.ir_asm.specs.Printed.{text_of};
+ghost use Rattle.ir_disasm.specs.Printed.{text_of};
 ghost use Rattle.ir_asm.specs.Source.{Seen, nothing_seen, line_of, with_line, first_pass};
 ghost use Rattle.ir_asm.specs.Passes.{assembled, assembled_lines, IsWordGuest};
 ghost use Rattle.ir_asm.specs.declared.cause.Cause.{Cause};

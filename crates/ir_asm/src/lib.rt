@@ -1,10 +1,9 @@
-//! The assembler and the disassembler.
+//! The assembler.
 #![tactic(auto)]
 
 mod asm_err;
 mod assembler;
 mod cause;
-mod disassembler;
 mod fields;
 mod first_pass;
 mod form;
@@ -13,7 +12,6 @@ mod items;
 mod labels;
 mod laws;
 mod line;
-mod names;
 mod number;
 mod operand;
 mod operands;
@@ -33,5 +31,5 @@ mod text;
 pub use asm_err::AsmErr;
 pub use assembler::assemble;
 pub use cause::Cause;
-pub use disassembler::disassemble;
+pub use ir_disasm::disassemble;
 pub use laws::{examples, first_fault, label_value, word_law};
