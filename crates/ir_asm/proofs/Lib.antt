@@ -5,6 +5,8 @@ mod Kept
 mod Sound
 mod Lines
 mod Firsts
+mod PlacingLaws
+mod OrderLaws
 mod Texts
 mod Tables
 mod Numerals

@@ -10,4 +10,5 @@ pub mod Source
 pub mod Passes
 pub mod Answered
 pub mod Bounds
+pub mod Placing
 pub mod Standing

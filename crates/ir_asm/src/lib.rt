@@ -32,4 +32,4 @@ pub use asm_err::AsmErr;
 pub use assembler::assemble;
 pub use cause::Cause;
 pub use ir_disasm::disassemble;
-pub use laws::{examples, first_fault, label_value, word_law};
+pub use laws::{examples, first_fault, label_value, second_fault, word_law};
