@@ -29,7 +29,8 @@ pub fn first_fault()
 {}
 
 /// Where the first pass has no fault and there is code, the fault of a source is that of the first of its placed
-/// statements, in the order of their lines, that has one: whose label or object isn't there or can't be reached.
+/// statements, in the order of their lines, that has one: whose label is missing, in the wrong section or too far away,
+/// or whose object isn't there.
 #[tactic(auto, using(crate::proofs::OrderLaws::in_order))]
 pub fn second_fault()
     ensures order { (lines : List (List ℕ)) (s : Seen) → first_pass 1 lines nothing_seen ≡ Ok s → AreInOrder 1 s.placed }
