@@ -5,10 +5,9 @@ use Rattle.std.specs.List.{list_all}
 use Rattle.std.proofs.lemmas.Bool.{and_parts, le-leb}
 use Rattle.std.proofs.lemmas.Grind.{common_steps}
 use Rattle.ir_isa.specs.Fields.{IsEven}
-use Rattle.ir_isa.specs.Code.{shift_functs}
 use Rattle.ir_isa.specs.Names.{register_name}
-use Rattle.ir_isa.specs.Words.{word_of, low_bits, r_word}
-use Rattle.ir_isa.specs.declared.inst.Inst.TheVariants.{Branch, Shift, Ecall}
+use Rattle.ir_isa.specs.Words.{word_of, low_bits}
+use Rattle.ir_isa.specs.declared.inst.Inst.TheVariants.{Branch, Shift}
 use Rattle.ir_isa.specs.declared.inst.BranchOp.{BranchOp}
 use Rattle.ir_isa.specs.declared.inst.ShiftOp.{ShiftOp}
 use Rattle.ir_isa.specs.declared.inst.ShiftOp.TheVariants.{Slli, Srli, Srai}
@@ -19,14 +18,16 @@ use Rattle.ir_asm.specs.declared.form.Form.TheVariants.{Shifts, Branches, Words}
 use Rattle.ir_asm.specs.declared.item.Operand.TheVariants.{Index, Integer}
 use Rattle.ir_asm.specs.declared.item.Item.TheVariants.{Code}
 use Rattle.ir_asm.specs.Text.{trim, trim_end}
-use Rattle.ir_asm.specs.Names.{branch_name, shift_name}
+use Rattle.ir_disasm.specs.Names.{branch_name, shift_name}
 use Rattle.ir_asm.specs.Forms.{form_named}
 use Rattle.ir_asm.specs.Operands.{operands_of, int_le, is_even, distance_in, distance_text}
+use Rattle.ir_asm.specs.Items.{instruction}
 use Rattle.ir_asm.specs.Source.{texts_of, is_source_byte}
 use Rattle.ir_asm.specs.Passes.{assembled, IsWordGuest}
-use Rattle.ir_asm.specs.Printed.{one, far, distance, hex, printed}
+use Rattle.ir_disasm.specs.Printed.{one, far, distance, hex, printed}
 use Rattle.ir_asm.proofs.Pieces.{all_append, clean, IsPiece, split_one, clean_lacks, trim_clean, end_clean, before_none, no_blank}
 use Rattle.ir_asm.proofs.Numbers.{register_again, register_piece, decimal_again, decimal_piece, hex_again, hex_clean, natural_number}
+use Rattle.ir_asm.proofs.FieldLaws.{branch_offset_kept, amount_kept}
 use Rattle.ir_asm.proofs.Statements.{Says, one_statement}
 use Rattle.ir_asm.proofs.Formats.{Ends, plain_end, three_says, trim_under, before_under, lacks_before, weaken, clean_source, branch_named, branch_piece}
 
@@ -64,13 +65,13 @@ off_small : (z : ℤ) → negsuc 4095 ≤ℤ z → z ≤ℤ pos 4094 → nat_abs
 off_small (pos n) h k = grind (arith, common_steps)
 off_small (negsuc n) h k = grind (arith, common_steps)
 
-off_even : (z : ℤ) → IsEven z → is_even z ≡ true
+pub off_even : (z : ℤ) → IsEven z → is_even z ≡ true
 off_even (pos n) h = grind (arith, common_steps)
 off_even (negsuc n) h = grind (arith, common_steps)
 
-reads_target : (op : BranchOp) (a b : ℕ) (z : ℤ) → a < 32 → b < 32 → distance_in (negsuc 4095) (pos 4094) (distance z) ≡ Ok z → operands_of (Branches op) (register_name a ∷ register_name b ∷ distance z ∷ []) ≡ Ok (Index a ∷ Index b ∷ Integer z ∷ [])
-reads_target op a b (pos n) h k e = rw ((register_piece a h).some, (register_piece b k).some) (rw (register_again a h, register_again b k, e) refl)
-reads_target op a b (negsuc n) h k e = rw ((register_piece a h).some, (register_piece b k).some) (rw (register_again a h, register_again b k, e) refl)
+reads_target : (op : BranchOp) (a b : Register) (z : ℤ) → distance_in (negsuc 4095) (pos 4094) (distance z) ≡ Ok z → operands_of (Branches op) (register_name a.number ∷ register_name b.number ∷ distance z ∷ []) ≡ Ok (Index a ∷ Index b ∷ Integer z ∷ [])
+reads_target op a b (pos n) e = rw ((register_piece a).some, (register_piece b).some) (rw (register_again a, register_again b, e) refl)
+reads_target op a b (negsuc n) e = rw ((register_piece a).some, (register_piece b).some) (rw (register_again a, register_again b, e) refl)
 
 reads_distance : (i : BranchOffset) → distance_in (negsuc 4095) (pos 4094) (distance i.value) ≡ Ok i.value
 reads_distance i =
@@ -80,12 +81,9 @@ reads_distance i =
 pub branch_law : (pc : ℕ) (op : BranchOp) (rs1 rs2 : Register) (i : BranchOffset) → IsWordGuest (assembled (printed pc (Branch op rs1 rs2 i))) (word_of (Branch op rs1 rs2 i))
 branch_law pc op rs1 rs2 i =
     let small = off_small i.value i.low i.high in
-    one_statement _ _ _ (three_says (branch_name op) (register_name rs1.number) (register_name rs2.number) (far pc i.value) (distance i.value) (word_of (Branch op rs1 rs2 i)) (Branches op) (Index rs1.number ∷ Index rs2.number ∷ Integer i.value ∷ [])
-    (branch_piece op) (register_piece rs1.number rs1.in_range) (register_piece rs2.number rs2.in_range) (far_end pc i.value (omega (arith, small)))
-    (branch_named op) refl (reads_target op rs1.number rs2.number i.value rs1.in_range rs2.in_range (reads_distance i)) refl)
-
-pub ecall_law : (pc : ℕ) → IsWordGuest (assembled (printed pc Ecall)) (word_of Ecall)
-ecall_law pc = refl
+    one_statement _ _ _ (three_says (branch_name op) (register_name rs1.number) (register_name rs2.number) (far pc i.value) (distance i.value) (word_of (Branch op rs1 rs2 i)) (Branches op) (Index rs1 ∷ Index rs2 ∷ Integer i.value ∷ [])
+    (branch_piece op) (register_piece rs1) (register_piece rs2) (far_end pc i.value (omega (arith, small)))
+    (branch_named op) refl (reads_target op rs1 rs2 i.value (reads_distance i)) (ap (λ (x : BranchOffset). instruction (Branch op rs1 rs2 x)) (branch_offset_kept i)))
 
 -- ---- .word
 
@@ -139,18 +137,14 @@ shift_piece Slli = record { some = refl; all = refl }
 shift_piece Srli = record { some = refl; all = refl }
 shift_piece Srai = record { some = refl; all = refl }
 
-reads_shift : (op : ShiftOp) (a b n : ℕ) → a < 32 → b < 32 → n < 32 → operands_of (Shifts op) (register_name a ∷ register_name b ∷ decimal n ∷ []) ≡ Ok (Index a ∷ Index b ∷ Integer (pos n) ∷ [])
-reads_shift op a b n h k l =
-    rw ((register_piece a h).some, (register_piece b k).some, (decimal_piece n (omega (arith, l))).some)
-    (rw (register_again a h, register_again b k, natural_number n (omega (arith, l)))
+reads_shift : (op : ShiftOp) (a b : Register) (n : ℕ) → n < 32 → operands_of (Shifts op) (register_name a.number ∷ register_name b.number ∷ decimal n ∷ []) ≡ Ok (Index a ∷ Index b ∷ Integer (pos n) ∷ [])
+reads_shift op a b n l =
+    rw ((register_piece a).some, (register_piece b).some, (decimal_piece n (omega (arith, l))).some)
+    (rw (register_again a, register_again b, natural_number n (omega (arith, l)))
     (rw (le-leb 0 n (omega arith), le-leb n 31 (omega (arith, l))) refl))
-
-low_5 : (n : ℕ) → n < 32 → n % 2 ^ 5 ≡ n
-low_5 n h = omega (arith, h)
 
 pub shift_law : (pc : ℕ) (op : ShiftOp) (rd rs1 : Register) (a : ShiftAmount) → IsWordGuest (assembled (printed pc (Shift op rd rs1 a))) (word_of (Shift op rd rs1 a))
 shift_law pc op rd rs1 a =
-    one_statement _ _ _ (three_says (shift_name op) (register_name rd.number) (register_name rs1.number) (decimal a.bits) (decimal a.bits) (word_of (Shift op rd rs1 a)) (Shifts op) (Index rd.number ∷ Index rs1.number ∷ Integer (pos a.bits) ∷ [])
-    (shift_piece op) (register_piece rd.number rd.in_range) (register_piece rs1.number rs1.in_range) (plain_end (decimal a.bits) (decimal_piece a.bits (omega (arith, a.in_range))))
-    (shift_named op) refl (reads_shift op rd.number rs1.number a.bits rd.in_range rs1.in_range a.in_range)
-    (ap (λ (n : ℕ). Code (r_word (shift_functs op).seven n rs1.number (shift_functs op).three rd.number 0b0010011 ∷ [])) (low_5 a.bits a.in_range)))
+    one_statement _ _ _ (three_says (shift_name op) (register_name rd.number) (register_name rs1.number) (decimal a.bits) (decimal a.bits) (word_of (Shift op rd rs1 a)) (Shifts op) (Index rd ∷ Index rs1 ∷ Integer (pos a.bits) ∷ [])
+    (shift_piece op) (register_piece rd) (register_piece rs1) (plain_end (decimal a.bits) (decimal_piece a.bits (omega (arith, a.in_range))))
+    (shift_named op) refl (reads_shift op rd rs1 a.bits a.in_range) (ap (λ (x : ShiftAmount). instruction (Shift op rd rs1 x)) (amount_kept a)))

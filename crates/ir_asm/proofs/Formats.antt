@@ -23,15 +23,16 @@ use Rattle.ir_asm.specs.declared.item.Operand.{Operand}
 use Rattle.ir_asm.specs.declared.item.Operand.TheVariants.{Index, Integer}
 use Rattle.ir_asm.specs.declared.item.Item.TheVariants.{Code}
 use Rattle.ir_asm.specs.Text.{before, trim, trim_end, is_blank, is_nil}
-use Rattle.ir_asm.specs.Names.{branch_name, immediate_name, operation_name}
+use Rattle.ir_disasm.specs.Names.{branch_name, immediate_name, operation_name}
 use Rattle.ir_asm.specs.Forms.{form_named, stands_in}
 use Rattle.ir_asm.specs.Operands.{operands_of, int_le}
-use Rattle.ir_asm.specs.Items.{item_of}
+use Rattle.ir_asm.specs.Items.{instruction, item_of}
 use Rattle.ir_asm.specs.Source.{operand_texts, texts_of, is_source_byte, may_stand}
 use Rattle.ir_asm.specs.Passes.{assembled, IsWordGuest}
-use Rattle.ir_asm.specs.Printed.{three, printed}
+use Rattle.ir_disasm.specs.Printed.{three, printed}
 use Rattle.ir_asm.proofs.Pieces.{lacks, all_append, clean, IsPiece, start_kept, not_nil, name_before, name_after, split_at, split_one, clean_lacks, trim_clean, end_clean, parts, before_none}
 use Rattle.ir_asm.proofs.Numbers.{register_again, register_piece, signed_again, signed_piece}
+use Rattle.ir_asm.proofs.FieldLaws.{immediate_kept}
 use Rattle.ir_asm.proofs.Statements.{Says, one_statement}
 
 -- ---- tails
@@ -213,13 +214,13 @@ reg_piece Divu = record { some = refl; all = refl }
 reg_piece Rem = record { some = refl; all = refl }
 reg_piece Remu = record { some = refl; all = refl }
 
-reads_regs : (op : RegisterOp) (a b c : ℕ) → a < 32 → b < 32 → c < 32 → operands_of (Registers op) (register_name a ∷ register_name b ∷ register_name c ∷ []) ≡ Ok (Index a ∷ Index b ∷ Index c ∷ [])
-reads_regs op a b c h i j = rw ((register_piece a h).some, (register_piece b i).some, (register_piece c j).some) (rw (register_again a h, register_again b i, register_again c j) refl)
+reads_regs : (op : RegisterOp) (a b c : Register) → operands_of (Registers op) (register_name a.number ∷ register_name b.number ∷ register_name c.number ∷ []) ≡ Ok (Index a ∷ Index b ∷ Index c ∷ [])
+reads_regs op a b c = rw ((register_piece a).some, (register_piece b).some, (register_piece c).some) (rw (register_again a, register_again b, register_again c) refl)
 
 pub reg_law : (pc : ℕ) (op : RegisterOp) (rd rs1 rs2 : Register) → IsWordGuest (assembled (printed pc (Op op rd rs1 rs2))) (word_of (Op op rd rs1 rs2))
-reg_law pc op rd rs1 rs2 = one_statement _ _ _ (three_says (operation_name op) (register_name rd.number) (register_name rs1.number) (register_name rs2.number) (register_name rs2.number) (word_of (Op op rd rs1 rs2)) (Registers op) (Index rd.number ∷ Index rs1.number ∷ Index rs2.number ∷ [])
-    (reg_piece op) (register_piece rd.number rd.in_range) (register_piece rs1.number rs1.in_range) (plain_end (register_name rs2.number) (register_piece rs2.number rs2.in_range))
-    (reg_named op) refl (reads_regs op rd.number rs1.number rs2.number rd.in_range rs1.in_range rs2.in_range) refl)
+reg_law pc op rd rs1 rs2 = one_statement _ _ _ (three_says (operation_name op) (register_name rd.number) (register_name rs1.number) (register_name rs2.number) (register_name rs2.number) (word_of (Op op rd rs1 rs2)) (Registers op) (Index rd ∷ Index rs1 ∷ Index rs2 ∷ [])
+    (reg_piece op) (register_piece rd) (register_piece rs1) (plain_end (register_name rs2.number) (register_piece rs2))
+    (reg_named op) refl (reads_regs op rd rs1 rs2) refl)
 
 -- ---- a signed immediate
 
@@ -231,16 +232,16 @@ pub imm_small : (z : ℤ) → negsuc 2047 ≤ℤ z → z ≤ℤ pos 2047 → nat
 imm_small (pos n) h k = grind (arith, common_steps)
 imm_small (negsuc n) h k = grind (arith, common_steps)
 
-reads_imm : (op : ImmediateOp) (a b : ℕ) (i : Immediate) → a < 32 → b < 32 → operands_of (Immediates op) (register_name a ∷ register_name b ∷ signed_decimal i.value ∷ []) ≡ Ok (Index a ∷ Index b ∷ Integer i.value ∷ [])
-reads_imm op a b i h k =
+reads_imm : (op : ImmediateOp) (a b : Register) (i : Immediate) → operands_of (Immediates op) (register_name a.number ∷ register_name b.number ∷ signed_decimal i.value ∷ []) ≡ Ok (Index a ∷ Index b ∷ Integer i.value ∷ [])
+reads_imm op a b i =
     let small = imm_small i.value i.low i.high in
-    rw ((register_piece a h).some, (register_piece b k).some, (signed_piece i.value (omega (arith, small))).some)
-    (rw (register_again a h, register_again b k, signed_again i.value (omega (arith, small)))
+    rw ((register_piece a).some, (register_piece b).some, (signed_piece i.value (omega (arith, small))).some)
+    (rw (register_again a, register_again b, signed_again i.value (omega (arith, small)))
     (rw (imm_within i.value i.low i.high) refl))
 
 pub imm_law : (pc : ℕ) (op : ImmediateOp) (rd rs1 : Register) (i : Immediate) → IsWordGuest (assembled (printed pc (OpImm op rd rs1 i))) (word_of (OpImm op rd rs1 i))
 imm_law pc op rd rs1 i =
     let small = imm_small i.value i.low i.high in
-    one_statement _ _ _ (three_says (immediate_name op) (register_name rd.number) (register_name rs1.number) (signed_decimal i.value) (signed_decimal i.value) (word_of (OpImm op rd rs1 i)) (Immediates op) (Index rd.number ∷ Index rs1.number ∷ Integer i.value ∷ [])
-    (imm_piece op) (register_piece rd.number rd.in_range) (register_piece rs1.number rs1.in_range) (plain_end (signed_decimal i.value) (signed_piece i.value (omega (arith, small))))
-    (imm_named op) refl (reads_imm op rd.number rs1.number i rd.in_range rs1.in_range) refl)
+    one_statement _ _ _ (three_says (immediate_name op) (register_name rd.number) (register_name rs1.number) (signed_decimal i.value) (signed_decimal i.value) (word_of (OpImm op rd rs1 i)) (Immediates op) (Index rd ∷ Index rs1 ∷ Integer i.value ∷ [])
+    (imm_piece op) (register_piece rd) (register_piece rs1) (plain_end (signed_decimal i.value) (signed_piece i.value (omega (arith, small))))
+    (imm_named op) refl (reads_imm op rd rs1 i) (ap (λ (x : Immediate). instruction (OpImm op rd rs1 x)) (immediate_kept i)))

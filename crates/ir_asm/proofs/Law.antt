@@ -4,7 +4,7 @@ use Rattle.ir_isa.specs.Words.{word_of}
 use Rattle.ir_isa.specs.Decoded.{instruction_of}
 use Rattle.ir_isa.specs.declared.inst.Inst.{Inst}
 use Rattle.ir_isa.specs.declared.inst.Inst.TheVariants.{Lui, Auipc, Jal, Jalr, Branch, Load, Store, OpImm, Shift, Op, Fence, Ecall, Ebreak}
-use Rattle.ir_asm.specs.Printed.{printed, text_by, text_of}
+use Rattle.ir_disasm.specs.Printed.{printed, text_by, text_of}
 use Rattle.ir_asm.specs.Passes.{assembled, IsWordGuest}
 use Rattle.ir_asm.proofs.Formats.{reg_law, imm_law}
 use Rattle.ir_asm.proofs.Branches.{shift_law, branch_law, word_law_illegal}

@@ -5,14 +5,16 @@ mod Kept
 mod Sound
 mod Lines
 mod Firsts
+mod PlacingLaws
+mod OrderLaws
 mod Texts
 mod Tables
 mod Numerals
 mod Cuts
-mod Digits
 mod Pieces
 mod Numbers
 mod Statements
+mod FieldLaws
 mod Formats
 mod Branches
 mod Pairs

@@ -1,88 +1,56 @@
 -- Numbers and registers are read as they are printed.
-use Rattle.std.proofs.Common.{◌≡◌, ◌+◌, ◌*◌, ◌/◌, ◌%◌, ◌<◌, ◌≤◌, ◌^◌, ℕ, zero, suc, Bool, true, false, List, [], ◌∷◌, ◌++◌, length, Some, refl, ap, ◌∙◌, arith}
-use Rattle.std.specs.Prelude.{◌&&◌, not, nat_lt, ◌==◌, decimal, codes, ℤ, pos, negsuc, nat_abs}
-use Rattle.std.specs.List.{list_all}
+use Rattle.std.proofs.Common.{◌≡◌, ◌+◌, ◌*◌, ◌/◌, ◌%◌, ◌<◌, ◌≤◌, ◌^◌, ℕ, zero, suc, Bool, true, false, List, [], ◌∷◌, ◌++◌, length, Option, Some, None, refl, sym, subst, ap, ◌∙◌, arith}
+use Rattle.std.specs.Prelude.{◌&&◌, not, nat_lt, ◌==◌, decimal, codes, ℤ, pos, negsuc, nat_abs, option_map}
+use Rattle.std.specs.List.{list_all, range_with_len}
 use Rattle.std.specs.Char.{digit_value, digit_char}
 use Rattle.std.specs.Fmt.{signed_decimal}
 use Rattle.std.specs.Str.Parse.{IsNumeral, AllDigits, digits_value}
 use Rattle.std.proofs.lemmas.Fmt.{decimal_is_IsNumeral, length-decimal-le}
-use Rattle.std.proofs.lemmas.Bool.{and_parts, lt-ltb, le-leb}
+use Rattle.std.proofs.lemmas.Bool.{and_parts, lt-ltb, le-leb, eqb-true, eqb-false}
 use Rattle.std.proofs.lemmas.Grind.{common_steps}
 use Rattle.ir_asm.specs.Text.{is_nil, numeral, natural, number, starts_hex, first_byte}
 use Rattle.ir_isa.specs.Names.{register_name}
-use Rattle.ir_asm.specs.Names.{register}
-use Rattle.ir_asm.specs.Printed.{hex}
-use Rattle.ir_asm.proofs.Pieces.{clean, IsPiece}
+use Rattle.ir_isa.specs.declared.inst.Register.{Register}
+use Rattle.ir_asm.specs.Fields.{register_of}
+use Rattle.ir_asm.specs.Names.{named, register_rows, register}
+use Rattle.ir_disasm.specs.Printed.{hex}
+use Rattle.ir_asm.proofs.Pieces.{clean, IsPiece, not_true}
+use Rattle.ir_asm.proofs.FieldLaws.{register_kept}
 
-pub register_again : (n : ℕ) → n < 32 → register (register_name n) ≡ Some n
-register_again zero h = refl
-register_again (suc zero) h = refl
-register_again (suc (suc zero)) h = refl
-register_again (suc (suc (suc zero))) h = refl
-register_again (suc (suc (suc (suc zero)))) h = refl
-register_again (suc (suc (suc (suc (suc zero))))) h = refl
-register_again (suc (suc (suc (suc (suc (suc zero)))))) h = refl
-register_again (suc (suc (suc (suc (suc (suc (suc zero))))))) h = refl
-register_again (suc (suc (suc (suc (suc (suc (suc (suc zero)))))))) h = refl
-register_again (suc (suc (suc (suc (suc (suc (suc (suc (suc zero))))))))) h = refl
-register_again (suc (suc (suc (suc (suc (suc (suc (suc (suc (suc zero)))))))))) h = refl
-register_again (suc (suc (suc (suc (suc (suc (suc (suc (suc (suc (suc zero))))))))))) h = refl
-register_again (suc (suc (suc (suc (suc (suc (suc (suc (suc (suc (suc (suc zero)))))))))))) h = refl
-register_again (suc (suc (suc (suc (suc (suc (suc (suc (suc (suc (suc (suc (suc zero))))))))))))) h = refl
-register_again (suc (suc (suc (suc (suc (suc (suc (suc (suc (suc (suc (suc (suc (suc zero)))))))))))))) h = refl
-register_again (suc (suc (suc (suc (suc (suc (suc (suc (suc (suc (suc (suc (suc (suc (suc zero))))))))))))))) h = refl
-register_again (suc (suc (suc (suc (suc (suc (suc (suc (suc (suc (suc (suc (suc (suc (suc (suc zero)))))))))))))))) h = refl
-register_again (suc (suc (suc (suc (suc (suc (suc (suc (suc (suc (suc (suc (suc (suc (suc (suc (suc zero))))))))))))))))) h = refl
-register_again (suc (suc (suc (suc (suc (suc (suc (suc (suc (suc (suc (suc (suc (suc (suc (suc (suc (suc zero)))))))))))))))))) h = refl
-register_again (suc (suc (suc (suc (suc (suc (suc (suc (suc (suc (suc (suc (suc (suc (suc (suc (suc (suc (suc zero))))))))))))))))))) h = refl
-register_again (suc (suc (suc (suc (suc (suc (suc (suc (suc (suc (suc (suc (suc (suc (suc (suc (suc (suc (suc (suc zero)))))))))))))))))))) h = refl
-register_again (suc (suc (suc (suc (suc (suc (suc (suc (suc (suc (suc (suc (suc (suc (suc (suc (suc (suc (suc (suc (suc zero))))))))))))))))))))) h = refl
-register_again (suc (suc (suc (suc (suc (suc (suc (suc (suc (suc (suc (suc (suc (suc (suc (suc (suc (suc (suc (suc (suc (suc zero)))))))))))))))))))))) h = refl
-register_again (suc (suc (suc (suc (suc (suc (suc (suc (suc (suc (suc (suc (suc (suc (suc (suc (suc (suc (suc (suc (suc (suc (suc zero))))))))))))))))))))))) h = refl
-register_again (suc (suc (suc (suc (suc (suc (suc (suc (suc (suc (suc (suc (suc (suc (suc (suc (suc (suc (suc (suc (suc (suc (suc (suc zero)))))))))))))))))))))))) h = refl
-register_again (suc (suc (suc (suc (suc (suc (suc (suc (suc (suc (suc (suc (suc (suc (suc (suc (suc (suc (suc (suc (suc (suc (suc (suc (suc zero))))))))))))))))))))))))) h = refl
-register_again (suc (suc (suc (suc (suc (suc (suc (suc (suc (suc (suc (suc (suc (suc (suc (suc (suc (suc (suc (suc (suc (suc (suc (suc (suc (suc zero)))))))))))))))))))))))))) h = refl
-register_again (suc (suc (suc (suc (suc (suc (suc (suc (suc (suc (suc (suc (suc (suc (suc (suc (suc (suc (suc (suc (suc (suc (suc (suc (suc (suc (suc zero))))))))))))))))))))))))))) h = refl
-register_again (suc (suc (suc (suc (suc (suc (suc (suc (suc (suc (suc (suc (suc (suc (suc (suc (suc (suc (suc (suc (suc (suc (suc (suc (suc (suc (suc (suc zero)))))))))))))))))))))))))))) h = refl
-register_again (suc (suc (suc (suc (suc (suc (suc (suc (suc (suc (suc (suc (suc (suc (suc (suc (suc (suc (suc (suc (suc (suc (suc (suc (suc (suc (suc (suc (suc zero))))))))))))))))))))))))))))) h = refl
-register_again (suc (suc (suc (suc (suc (suc (suc (suc (suc (suc (suc (suc (suc (suc (suc (suc (suc (suc (suc (suc (suc (suc (suc (suc (suc (suc (suc (suc (suc (suc zero)))))))))))))))))))))))))))))) h = refl
-register_again (suc (suc (suc (suc (suc (suc (suc (suc (suc (suc (suc (suc (suc (suc (suc (suc (suc (suc (suc (suc (suc (suc (suc (suc (suc (suc (suc (suc (suc (suc (suc zero))))))))))))))))))))))))))))))) h = refl
-register_again (suc (suc (suc (suc (suc (suc (suc (suc (suc (suc (suc (suc (suc (suc (suc (suc (suc (suc (suc (suc (suc (suc (suc (suc (suc (suc (suc (suc (suc (suc (suc (suc n)))))))))))))))))))))))))))))))) h = absurd (omega (arith, h))
+-- a test that each number of a list passes, which counts on from a number
+from_on : (p : ℕ → Bool) (low count : ℕ) → list_all p (range_with_len low count) ≡ true → (n : ℕ) → low ≤ n → n < low + count → p n ≡ true
+from_on p low zero h n l k = absurd (omega (arith, l, k))
+from_on p low (suc count) h n l k =
+    let both = and_parts (p low) (list_all p (range_with_len (low + 1) count)) h in
+    by_test (n == low) refl both.0 (λ m. from_on p (low + 1) count both.1 n m (omega (arith, k)))
+  where
+    by_test : (b : Bool) → (n == low) ≡ b → p low ≡ true → (low + 1 ≤ n → p n ≡ true) → p n ≡ true
+    by_test true e first rest = subst (λ m. p m ≡ true) (sym (eqb-true n low e)) first
+    by_test false e first rest = let other = eqb-false n low e in rest (omega (arith, l, other))
 
-pub register_piece : (n : ℕ) → n < 32 → IsPiece (register_name n)
-register_piece zero h = record { some = refl; all = refl }
-register_piece (suc zero) h = record { some = refl; all = refl }
-register_piece (suc (suc zero)) h = record { some = refl; all = refl }
-register_piece (suc (suc (suc zero))) h = record { some = refl; all = refl }
-register_piece (suc (suc (suc (suc zero)))) h = record { some = refl; all = refl }
-register_piece (suc (suc (suc (suc (suc zero))))) h = record { some = refl; all = refl }
-register_piece (suc (suc (suc (suc (suc (suc zero)))))) h = record { some = refl; all = refl }
-register_piece (suc (suc (suc (suc (suc (suc (suc zero))))))) h = record { some = refl; all = refl }
-register_piece (suc (suc (suc (suc (suc (suc (suc (suc zero)))))))) h = record { some = refl; all = refl }
-register_piece (suc (suc (suc (suc (suc (suc (suc (suc (suc zero))))))))) h = record { some = refl; all = refl }
-register_piece (suc (suc (suc (suc (suc (suc (suc (suc (suc (suc zero)))))))))) h = record { some = refl; all = refl }
-register_piece (suc (suc (suc (suc (suc (suc (suc (suc (suc (suc (suc zero))))))))))) h = record { some = refl; all = refl }
-register_piece (suc (suc (suc (suc (suc (suc (suc (suc (suc (suc (suc (suc zero)))))))))))) h = record { some = refl; all = refl }
-register_piece (suc (suc (suc (suc (suc (suc (suc (suc (suc (suc (suc (suc (suc zero))))))))))))) h = record { some = refl; all = refl }
-register_piece (suc (suc (suc (suc (suc (suc (suc (suc (suc (suc (suc (suc (suc (suc zero)))))))))))))) h = record { some = refl; all = refl }
-register_piece (suc (suc (suc (suc (suc (suc (suc (suc (suc (suc (suc (suc (suc (suc (suc zero))))))))))))))) h = record { some = refl; all = refl }
-register_piece (suc (suc (suc (suc (suc (suc (suc (suc (suc (suc (suc (suc (suc (suc (suc (suc zero)))))))))))))))) h = record { some = refl; all = refl }
-register_piece (suc (suc (suc (suc (suc (suc (suc (suc (suc (suc (suc (suc (suc (suc (suc (suc (suc zero))))))))))))))))) h = record { some = refl; all = refl }
-register_piece (suc (suc (suc (suc (suc (suc (suc (suc (suc (suc (suc (suc (suc (suc (suc (suc (suc (suc zero)))))))))))))))))) h = record { some = refl; all = refl }
-register_piece (suc (suc (suc (suc (suc (suc (suc (suc (suc (suc (suc (suc (suc (suc (suc (suc (suc (suc (suc zero))))))))))))))))))) h = record { some = refl; all = refl }
-register_piece (suc (suc (suc (suc (suc (suc (suc (suc (suc (suc (suc (suc (suc (suc (suc (suc (suc (suc (suc (suc zero)))))))))))))))))))) h = record { some = refl; all = refl }
-register_piece (suc (suc (suc (suc (suc (suc (suc (suc (suc (suc (suc (suc (suc (suc (suc (suc (suc (suc (suc (suc (suc zero))))))))))))))))))))) h = record { some = refl; all = refl }
-register_piece (suc (suc (suc (suc (suc (suc (suc (suc (suc (suc (suc (suc (suc (suc (suc (suc (suc (suc (suc (suc (suc (suc zero)))))))))))))))))))))) h = record { some = refl; all = refl }
-register_piece (suc (suc (suc (suc (suc (suc (suc (suc (suc (suc (suc (suc (suc (suc (suc (suc (suc (suc (suc (suc (suc (suc (suc zero))))))))))))))))))))))) h = record { some = refl; all = refl }
-register_piece (suc (suc (suc (suc (suc (suc (suc (suc (suc (suc (suc (suc (suc (suc (suc (suc (suc (suc (suc (suc (suc (suc (suc (suc zero)))))))))))))))))))))))) h = record { some = refl; all = refl }
-register_piece (suc (suc (suc (suc (suc (suc (suc (suc (suc (suc (suc (suc (suc (suc (suc (suc (suc (suc (suc (suc (suc (suc (suc (suc (suc zero))))))))))))))))))))))))) h = record { some = refl; all = refl }
-register_piece (suc (suc (suc (suc (suc (suc (suc (suc (suc (suc (suc (suc (suc (suc (suc (suc (suc (suc (suc (suc (suc (suc (suc (suc (suc (suc zero)))))))))))))))))))))))))) h = record { some = refl; all = refl }
-register_piece (suc (suc (suc (suc (suc (suc (suc (suc (suc (suc (suc (suc (suc (suc (suc (suc (suc (suc (suc (suc (suc (suc (suc (suc (suc (suc (suc zero))))))))))))))))))))))))))) h = record { some = refl; all = refl }
-register_piece (suc (suc (suc (suc (suc (suc (suc (suc (suc (suc (suc (suc (suc (suc (suc (suc (suc (suc (suc (suc (suc (suc (suc (suc (suc (suc (suc (suc zero)))))))))))))))))))))))))))) h = record { some = refl; all = refl }
-register_piece (suc (suc (suc (suc (suc (suc (suc (suc (suc (suc (suc (suc (suc (suc (suc (suc (suc (suc (suc (suc (suc (suc (suc (suc (suc (suc (suc (suc (suc zero))))))))))))))))))))))))))))) h = record { some = refl; all = refl }
-register_piece (suc (suc (suc (suc (suc (suc (suc (suc (suc (suc (suc (suc (suc (suc (suc (suc (suc (suc (suc (suc (suc (suc (suc (suc (suc (suc (suc (suc (suc (suc zero)))))))))))))))))))))))))))))) h = record { some = refl; all = refl }
-register_piece (suc (suc (suc (suc (suc (suc (suc (suc (suc (suc (suc (suc (suc (suc (suc (suc (suc (suc (suc (suc (suc (suc (suc (suc (suc (suc (suc (suc (suc (suc (suc zero))))))))))))))))))))))))))))))) h = record { some = refl; all = refl }
-register_piece (suc (suc (suc (suc (suc (suc (suc (suc (suc (suc (suc (suc (suc (suc (suc (suc (suc (suc (suc (suc (suc (suc (suc (suc (suc (suc (suc (suc (suc (suc (suc (suc n)))))))))))))))))))))))))))))))) h = absurd (omega (arith, h))
+-- a test that each number of a register passes
+each_passes : (p : ℕ → Bool) → list_all p (range_with_len 0 32) ≡ true → (r : Register) → p r.number ≡ true
+each_passes p h r = from_on p 0 32 h r.number (omega arith) (omega (arith, r.in_range))
+
+-- this very number stands there
+abbrev is_there : ℕ → Option ℕ → Bool
+is_there n (Some m) = m == n
+is_there n None = false
+
+there_is : (n : ℕ) (o : Option ℕ) → is_there n o ≡ true → o ≡ Some n
+there_is n (Some m) e = ap (λ (k : ℕ). Some k) (eqb-true m n e)
+there_is n None e = absurd (cc e)
+
+pub register_again : (r : Register) → register (register_name r.number) ≡ Some r
+register_again r =
+    let found = there_is r.number (named register_rows (register_name r.number)) (each_passes (λ n. is_there n (named register_rows (register_name n))) refl r) in
+    ap (option_map register_of) found ∙ ap (λ (x : Register). Some x) (register_kept r)
+
+pub register_piece : (r : Register) → IsPiece (register_name r.number)
+register_piece r = record {
+  some = not_true (is_nil (register_name r.number)) (each_passes (λ n. not (is_nil (register_name n))) refl r);
+  all = each_passes (λ n. list_all clean (register_name n)) refl r;
+}
 
 no_x : (b : ℕ) → digit_value b < 10 → (b == 120) ≡ false
 no_x b h = grind (arith, common_steps)
@@ -198,40 +166,8 @@ pub signed_plain : (z : ℤ) → nat_abs z < 2 ^ 64 → list_all plain (signed_d
 signed_plain (pos n) h = digits_plain (decimal n) (decimal_is_IsNumeral n h).0.1
 signed_plain (negsuc n) h = digits_plain (decimal (suc n)) (decimal_is_IsNumeral (suc n) h).0.1
 
-pub register_plain : (n : ℕ) → n < 32 → list_all plain (register_name n) ≡ true
-register_plain zero h = refl
-register_plain (suc zero) h = refl
-register_plain (suc (suc zero)) h = refl
-register_plain (suc (suc (suc zero))) h = refl
-register_plain (suc (suc (suc (suc zero)))) h = refl
-register_plain (suc (suc (suc (suc (suc zero))))) h = refl
-register_plain (suc (suc (suc (suc (suc (suc zero)))))) h = refl
-register_plain (suc (suc (suc (suc (suc (suc (suc zero))))))) h = refl
-register_plain (suc (suc (suc (suc (suc (suc (suc (suc zero)))))))) h = refl
-register_plain (suc (suc (suc (suc (suc (suc (suc (suc (suc zero))))))))) h = refl
-register_plain (suc (suc (suc (suc (suc (suc (suc (suc (suc (suc zero)))))))))) h = refl
-register_plain (suc (suc (suc (suc (suc (suc (suc (suc (suc (suc (suc zero))))))))))) h = refl
-register_plain (suc (suc (suc (suc (suc (suc (suc (suc (suc (suc (suc (suc zero)))))))))))) h = refl
-register_plain (suc (suc (suc (suc (suc (suc (suc (suc (suc (suc (suc (suc (suc zero))))))))))))) h = refl
-register_plain (suc (suc (suc (suc (suc (suc (suc (suc (suc (suc (suc (suc (suc (suc zero)))))))))))))) h = refl
-register_plain (suc (suc (suc (suc (suc (suc (suc (suc (suc (suc (suc (suc (suc (suc (suc zero))))))))))))))) h = refl
-register_plain (suc (suc (suc (suc (suc (suc (suc (suc (suc (suc (suc (suc (suc (suc (suc (suc zero)))))))))))))))) h = refl
-register_plain (suc (suc (suc (suc (suc (suc (suc (suc (suc (suc (suc (suc (suc (suc (suc (suc (suc zero))))))))))))))))) h = refl
-register_plain (suc (suc (suc (suc (suc (suc (suc (suc (suc (suc (suc (suc (suc (suc (suc (suc (suc (suc zero)))))))))))))))))) h = refl
-register_plain (suc (suc (suc (suc (suc (suc (suc (suc (suc (suc (suc (suc (suc (suc (suc (suc (suc (suc (suc zero))))))))))))))))))) h = refl
-register_plain (suc (suc (suc (suc (suc (suc (suc (suc (suc (suc (suc (suc (suc (suc (suc (suc (suc (suc (suc (suc zero)))))))))))))))))))) h = refl
-register_plain (suc (suc (suc (suc (suc (suc (suc (suc (suc (suc (suc (suc (suc (suc (suc (suc (suc (suc (suc (suc (suc zero))))))))))))))))))))) h = refl
-register_plain (suc (suc (suc (suc (suc (suc (suc (suc (suc (suc (suc (suc (suc (suc (suc (suc (suc (suc (suc (suc (suc (suc zero)))))))))))))))))))))) h = refl
-register_plain (suc (suc (suc (suc (suc (suc (suc (suc (suc (suc (suc (suc (suc (suc (suc (suc (suc (suc (suc (suc (suc (suc (suc zero))))))))))))))))))))))) h = refl
-register_plain (suc (suc (suc (suc (suc (suc (suc (suc (suc (suc (suc (suc (suc (suc (suc (suc (suc (suc (suc (suc (suc (suc (suc (suc zero)))))))))))))))))))))))) h = refl
-register_plain (suc (suc (suc (suc (suc (suc (suc (suc (suc (suc (suc (suc (suc (suc (suc (suc (suc (suc (suc (suc (suc (suc (suc (suc (suc zero))))))))))))))))))))))))) h = refl
-register_plain (suc (suc (suc (suc (suc (suc (suc (suc (suc (suc (suc (suc (suc (suc (suc (suc (suc (suc (suc (suc (suc (suc (suc (suc (suc (suc zero)))))))))))))))))))))))))) h = refl
-register_plain (suc (suc (suc (suc (suc (suc (suc (suc (suc (suc (suc (suc (suc (suc (suc (suc (suc (suc (suc (suc (suc (suc (suc (suc (suc (suc (suc zero))))))))))))))))))))))))))) h = refl
-register_plain (suc (suc (suc (suc (suc (suc (suc (suc (suc (suc (suc (suc (suc (suc (suc (suc (suc (suc (suc (suc (suc (suc (suc (suc (suc (suc (suc (suc zero)))))))))))))))))))))))))))) h = refl
-register_plain (suc (suc (suc (suc (suc (suc (suc (suc (suc (suc (suc (suc (suc (suc (suc (suc (suc (suc (suc (suc (suc (suc (suc (suc (suc (suc (suc (suc (suc zero))))))))))))))))))))))))))))) h = refl
-register_plain (suc (suc (suc (suc (suc (suc (suc (suc (suc (suc (suc (suc (suc (suc (suc (suc (suc (suc (suc (suc (suc (suc (suc (suc (suc (suc (suc (suc (suc (suc zero)))))))))))))))))))))))))))))) h = refl
-register_plain (suc (suc (suc (suc (suc (suc (suc (suc (suc (suc (suc (suc (suc (suc (suc (suc (suc (suc (suc (suc (suc (suc (suc (suc (suc (suc (suc (suc (suc (suc (suc zero))))))))))))))))))))))))))))))) h = refl
-register_plain (suc (suc (suc (suc (suc (suc (suc (suc (suc (suc (suc (suc (suc (suc (suc (suc (suc (suc (suc (suc (suc (suc (suc (suc (suc (suc (suc (suc (suc (suc (suc (suc n)))))))))))))))))))))))))))))))) h = absurd (omega (arith, h))
+pub register_plain : (r : Register) → list_all plain (register_name r.number) ≡ true
+register_plain r = each_passes (λ n. list_all plain (register_name n)) refl r
 
 pub plain_open : (a : List ℕ) → list_all plain a ≡ true → list_all (λ b. not (b == 40)) a ≡ true
 plain_open [] h = refl

@@ -3,7 +3,6 @@ use Rattle.std.proofs.Common.{◌≡◌, ◌<◌, ◌^◌, ℕ, Bool, true, List
 use Rattle.std.specs.Prelude.{◌&&◌, not, ◌==◌, codes, ℤ, pos, negsuc, nat_abs, ◌≤ℤ◌}
 use Rattle.std.specs.List.{list_all}
 use Rattle.std.proofs.lemmas.Grind.{common_steps}
-use Rattle.ir_isa.specs.Fields.{IsEven}
 use Rattle.ir_isa.specs.Names.{register_name}
 use Rattle.ir_isa.specs.Words.{word_of}
 use Rattle.ir_isa.specs.declared.inst.Inst.TheVariants.{Jal}
@@ -17,16 +16,17 @@ use Rattle.ir_asm.specs.declared.item.Operand.TheVariants.{Index, Integer}
 use Rattle.ir_asm.specs.declared.item.Item.TheVariants.{Code}
 use Rattle.ir_asm.specs.Text.{before, trim, trim_end}
 use Rattle.ir_asm.specs.Forms.{form_named, stands_in}
-use Rattle.ir_asm.specs.Operands.{operands_of, int_le, is_even, distance_in}
-use Rattle.ir_asm.specs.Items.{item_of}
+use Rattle.ir_asm.specs.Operands.{operands_of, int_le, distance_in}
+use Rattle.ir_asm.specs.Items.{instruction, item_of}
 use Rattle.ir_asm.specs.Source.{operand_texts, texts_of, is_source_byte, may_stand}
 use Rattle.ir_asm.specs.Passes.{assembled, IsWordGuest}
-use Rattle.ir_asm.specs.Printed.{two, far, distance, printed}
+use Rattle.ir_disasm.specs.Printed.{two, far, distance, printed}
 use Rattle.ir_asm.proofs.Pieces.{all_append, IsPiece, start_kept, not_nil, name_before, name_after, split_at, split_one, clean_lacks, trim_clean, end_clean}
 use Rattle.ir_asm.proofs.Numbers.{register_again, register_piece}
+use Rattle.ir_asm.proofs.FieldLaws.{jump_offset_kept}
 use Rattle.ir_asm.proofs.Statements.{Says, one_statement}
 use Rattle.ir_asm.proofs.Formats.{Ends, trim_under, before_under, lacks_before, weaken, clean_source}
-use Rattle.ir_asm.proofs.Branches.{far_end, distance_again}
+use Rattle.ir_asm.proofs.Branches.{far_end, distance_again, off_even}
 
 all_two : (p : ℕ → Bool) → p 32 ≡ true → p 44 ≡ true → (name a c : List ℕ) → list_all p name ≡ true → list_all p a ≡ true → list_all p c ≡ true → list_all p (two name a c) ≡ true
 all_two p s t name a c h i k =
@@ -82,22 +82,18 @@ jump_small : (z : ℤ) → negsuc 1048575 ≤ℤ z → z ≤ℤ pos 1048574 → 
 jump_small (pos n) h k = grind (arith, common_steps)
 jump_small (negsuc n) h k = grind (arith, common_steps)
 
-jump_even : (z : ℤ) → IsEven z → is_even z ≡ true
-jump_even (pos n) h = grind (arith, common_steps)
-jump_even (negsuc n) h = grind (arith, common_steps)
-
-reads_jump_at : (a : ℕ) (z : ℤ) → a < 32 → distance_in (negsuc 1048575) (pos 1048574) (distance z) ≡ Ok z → operands_of Jumps (register_name a ∷ distance z ∷ []) ≡ Ok (Index a ∷ Integer z ∷ [])
-reads_jump_at a (pos n) h e = rw ((register_piece a h).some) (rw (register_again a h, e) refl)
-reads_jump_at a (negsuc n) h e = rw ((register_piece a h).some) (rw (register_again a h, e) refl)
+reads_jump_at : (a : Register) (z : ℤ) → distance_in (negsuc 1048575) (pos 1048574) (distance z) ≡ Ok z → operands_of Jumps (register_name a.number ∷ distance z ∷ []) ≡ Ok (Index a ∷ Integer z ∷ [])
+reads_jump_at a (pos n) e = rw ((register_piece a).some) (rw (register_again a, e) refl)
+reads_jump_at a (negsuc n) e = rw ((register_piece a).some) (rw (register_again a, e) refl)
 
 reads_jump : (i : JumpOffset) → distance_in (negsuc 1048575) (pos 1048574) (distance i.value) ≡ Ok i.value
 reads_jump i =
     let small = jump_small i.value i.low i.high in
-    rw (distance_again i.value (omega (arith, small))) (rw (jump_even i.value i.even, jump_within i.value i.low i.high) refl)
+    rw (distance_again i.value (omega (arith, small))) (rw (off_even i.value i.even, jump_within i.value i.low i.high) refl)
 
 pub jump_law : (pc : ℕ) (rd : Register) (i : JumpOffset) → IsWordGuest (assembled (printed pc (Jal rd i))) (word_of (Jal rd i))
 jump_law pc rd i =
     let small = jump_small i.value i.low i.high in
-    one_statement _ _ _ (two_says (codes "jal") (register_name rd.number) (far pc i.value) (distance i.value) (word_of (Jal rd i)) Jumps (Index rd.number ∷ Integer i.value ∷ [])
-    (record { some = refl; all = refl }) (register_piece rd.number rd.in_range) (far_end pc i.value (omega (arith, small)))
-    refl refl (reads_jump_at rd.number i.value rd.in_range (reads_jump i)) refl)
+    one_statement _ _ _ (two_says (codes "jal") (register_name rd.number) (far pc i.value) (distance i.value) (word_of (Jal rd i)) Jumps (Index rd ∷ Integer i.value ∷ [])
+    (record { some = refl; all = refl }) (register_piece rd) (far_end pc i.value (omega (arith, small)))
+    refl refl (reads_jump_at rd i.value (reads_jump i)) (ap (λ (x : JumpOffset). instruction (Jal rd x)) (jump_offset_kept i)))

@@ -35,7 +35,7 @@ clean_lacks c (x ∷ a) k h =
 self : (c : ℕ) → (c == c) ≡ true
 self c = grind (arith, common_steps)
 
-not_true : (b : Bool) → not b ≡ true → b ≡ false
+pub not_true : (b : Bool) → not b ≡ true → b ≡ false
 not_true true h = sym h
 not_true false h = refl
 

@@ -4,10 +4,11 @@ pub mod Text
 pub mod Names
 pub mod Forms
 pub mod Operands
+pub mod Fields
 pub mod Items
 pub mod Source
 pub mod Passes
 pub mod Answered
 pub mod Bounds
-pub mod Printed
+pub mod Placing
 pub mod Standing

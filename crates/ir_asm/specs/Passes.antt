@@ -1,7 +1,7 @@
 -- The second pass, which puts what was placed into a guest, and the whole.
 use Rattle.std.specs.Prelude.{◌≡◌, ◌==◌, ◌&&◌, ℕ, ◌+◌, ◌-◌, ◌*◌, nat_le, nat_lt, List, [], ◌∷◌, ◌++◌, length, take, drop, if◌then◌else◌, ℤ, pos, negsuc, neg_ℤ, Result, Ok, Err, replicate}
-use Rattle.ir_isa.specs.Code.{branch_funct}
-use Rattle.ir_isa.specs.Words.{b_word, j_word}
+use Rattle.ir_isa.specs.Words.{word_of}
+use Rattle.ir_isa.specs.declared.inst.Inst.TheVariants.{Jal, Branch}
 use Rattle.ir_image.specs.Guest.{Guest, code_start, object_words}
 use Rattle.ir_asm.specs.declared.cause.Cause.{Cause}
 use Rattle.ir_asm.specs.declared.cause.Cause.TheVariants.{LabelMissing, TooFar, WrongSection, BadSize, BadCount}
@@ -13,6 +13,7 @@ use Rattle.ir_asm.specs.declared.item.Placed.{Placed}
 use Rattle.ir_asm.specs.Faults.{◌>>=◌, or_cause, unless}
 use Rattle.ir_asm.specs.Names.{named}
 use Rattle.ir_asm.specs.Operands.{int_le}
+use Rattle.ir_asm.specs.Fields.{branch_offset_of, jump_offset_of}
 use Rattle.ir_asm.specs.Items.{li_words}
 use Rattle.ir_asm.specs.Source.{Seen, Fault, nothing_seen, same_section, at_line, first_pass, lines_of}
 
@@ -51,8 +52,8 @@ with_object g object words = record g { words = take (object_words * object) g.w
 -- after an item
 abbrev pub put : Seen → ℕ → Item → Guest → Result Guest Cause
 put s address (Code words) g = Ok (with_code g words)
-put s address (BranchTo op rs1 rs2 label) g = distance_to s (negsuc 4095) (pos 4094) address label >>= λ z. Ok (with_code g (b_word z rs2 rs1 (branch_funct op) 0b1100011 ∷ []))
-put s address (JumpTo rd label) g = distance_to s (negsuc 1048575) (pos 1048574) address label >>= λ z. Ok (with_code g (j_word z rd 0b1101111 ∷ []))
+put s address (BranchTo op rs1 rs2 label) g = distance_to s (negsuc 4095) (pos 4094) address label >>= λ z. Ok (with_code g (word_of (Branch op rs1 rs2 (branch_offset_of z)) ∷ []))
+put s address (JumpTo rd label) g = distance_to s (negsuc 1048575) (pos 1048574) address label >>= λ z. Ok (with_code g (word_of (Jal rd (jump_offset_of z)) ∷ []))
 put s address (LoadAddress rd label) g = value_of s label >>= λ place. Ok (with_code g (li_words rd place.address))
 put s address (Filled bytes) g = Ok (record g { bytes = g.bytes ++ bytes })
 put s address (Entry label) g = text_address s label >>= λ a. unless (nat_lt a (code_start + s.code)) WrongSection (Ok (record g { entries = g.entries ++ a ∷ [] }))

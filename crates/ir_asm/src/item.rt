@@ -1,9 +1,9 @@
 //! What statements place.
 
-ghost use Rattle.std.specs.Prelude.{ℕ, List, ◌<◌, ◌≡◌, IfOk};
+ghost use Rattle.std.specs.Prelude.{ℕ, List};
 
 use crate::form::Section;
-use ir_isa::BranchOp;
+use ir_isa::{BranchOp, Register};
 use std::marker::Model;
 
 /// The name of a label; in clauses its bytes.
@@ -42,28 +42,12 @@ impl Model for ByteList {
     ghost view = { λ b. b.bytes.items };
 }
 
-/// The number of a register, below 32.
-#[derive(Clone, Copy)]
-pub struct RegisterNumber {
-    pub number: u8,
-}
-
-impl Model for RegisterNumber {
-    ghost Value = { ℕ };
-
-    ghost view = { λ r. r.number };
-
-    ghost inverse = { λ n. record { number = n } };
-
-    ghost invariant = { λ r. r.number < 32 };
-}
-
 /// An operand that was read: a register, a number, an address `number(register)` or a name.
 #[derive(Drop)]
 pub enum Operand {
-    Index(RegisterNumber),
+    Index(Register),
     Integer(i64),
-    Offset(i64, RegisterNumber),
+    Offset(i64, Register),
     Symbol(Name),
 }
 
@@ -71,9 +55,9 @@ pub enum Operand {
 #[derive(Drop)]
 pub enum Item {
     Code(WordList),
-    BranchTo(BranchOp, RegisterNumber, RegisterNumber, Name),
-    JumpTo(RegisterNumber, Name),
-    LoadAddress(RegisterNumber, Name),
+    BranchTo(BranchOp, Register, Register, Name),
+    JumpTo(Register, Name),
+    LoadAddress(Register, Name),
     Filled(ByteList),
     Within(Section),
     Entry(Name),

@@ -1,85 +1,22 @@
 //! What a statement places.
 
-ghost use Rattle.std.specs.Prelude.{◌≡◌, ◌<◌, ◌==◌, [], ◌∷◌, length, if◌then◌else◌, IfOk};
-ghost use Rattle.ir_isa.specs.Code.{branch_funct, load_funct, store_funct, imm_funct};
+ghost use Rattle.std.specs.Prelude.{◌≡◌, ◌==◌, length, if◌then◌else◌, IfOk};
 ghost use Rattle.ir_isa.specs.Words.{low_bits};
-ghost use Rattle.ir_asm.specs.Items.{li_words, values, item_of};
-ghost use Rattle.ir_asm.specs.declared.form.Form.TheVariants.{Registers, Immediates, Shifts, Loads, JumpsTo, Stores, Branches, Jumps, LoadsUpper, AddsUpper, Fences, LoadsValue, Sections, Space, Thread, Objects, Object};
-ghost use Rattle.ir_asm.specs.declared.item.Item.TheVariants.{Code, Nothing};
+ghost use Rattle.ir_asm.specs.Items.{instruction, li_words, values, item_of};
+ghost use Rattle.ir_asm.specs.declared.form.Form.TheVariants.{Registers, Immediates, Shifts, Loads, JumpsTo, Stores, Branches, Jumps, LoadsUpper, AddsUpper, Fences, DoesNothing, LoadsValue, Sections, Space, Thread, Objects, Object};
+ghost use Rattle.ir_asm.specs.declared.item.Item.TheVariants.{Nothing};
 
+use crate::fields::{amount, branch_offset, immediate, jump_offset, low_bits, register, upper};
 use crate::form::{Form, Section};
-use crate::item::{ByteList, Item, Name, Operand, RegisterNumber, WordList};
-use crate::words::{b_word, i_word, j_word, low_bits, s_word, u_word};
-use ir_isa::{
-    BranchOp, ImmediateOp, Inst, LoadOp, Register, RegisterOp, ShiftAmount, ShiftOp, StoreOp,
-    encode,
-};
+use crate::item::{ByteList, Item, Name, Operand, WordList};
+use ir_isa::{BranchOp, ImmediateOp, Inst, LoadOp, Register, RegisterOp, ShiftOp, StoreOp, encode};
 use std::alloc::{AllocError, Global};
 
-pub fn branch_funct(op: BranchOp) -> u32
-    ensures exact { result ≡ branch_funct op }
-    ensures small { result < 8 }
+// The code of one instruction.
+fn instruction(alloc: Global, inst: Inst) -> Result<Item, AllocError>
+    ensures { IfOk result (λ i. i ≡ instruction inst) }
 {
-    match op {
-        BranchOp::Beq => 0b000,
-        BranchOp::Bne => 0b001,
-        BranchOp::Blt => 0b100,
-        BranchOp::Bge => 0b101,
-        BranchOp::Bltu => 0b110,
-        BranchOp::Bgeu => 0b111,
-    }
-}
-
-fn load_funct(op: LoadOp) -> u32
-    ensures exact { result ≡ load_funct op }
-    ensures small { result < 8 }
-{
-    match op {
-        LoadOp::Lb => 0b000,
-        LoadOp::Lh => 0b001,
-        LoadOp::Lw => 0b010,
-        LoadOp::Lbu => 0b100,
-        LoadOp::Lhu => 0b101,
-    }
-}
-
-fn store_funct(op: StoreOp) -> u32
-    ensures exact { result ≡ store_funct op }
-    ensures small { result < 8 }
-{
-    match op {
-        StoreOp::Sb => 0b000,
-        StoreOp::Sh => 0b001,
-        StoreOp::Sw => 0b010,
-    }
-}
-
-fn immediate_funct(op: ImmediateOp) -> u32
-    ensures exact { result ≡ imm_funct op }
-    ensures small { result < 8 }
-{
-    match op {
-        ImmediateOp::Addi => 0b000,
-        ImmediateOp::Slti => 0b010,
-        ImmediateOp::Sltiu => 0b011,
-        ImmediateOp::Xori => 0b100,
-        ImmediateOp::Ori => 0b110,
-        ImmediateOp::Andi => 0b111,
-    }
-}
-
-fn register(index: RegisterNumber) -> Register
-    ensures { result.number ≡ index }
-{
-    Register {
-        number: index.number,
-    }
-}
-
-fn word(alloc: Global, word: u32) -> Result<Item, AllocError>
-    ensures { IfOk result (λ i. i ≡ Code (word ∷ [])) }
-{
-    let words = Vec::from_slice(alloc, &[word])?;
+    let words = Vec::from_slice(alloc, &[encode(&inst)])?;
     Ok(Item::Code(WordList { words }))
 }
 
@@ -95,8 +32,8 @@ fn registers_item(alloc: Global, op: RegisterOp, operands: &[Operand]) -> Result
 {
     match operands {
         [Operand::Index(rd), Operand::Index(rs1), Operand::Index(rs2)] => {
-            let (rd, rs1, rs2) = (register(*rd), register(*rs1), register(*rs2));
-            word(alloc, encode(&Inst::Op { op, rd, rs1, rs2 }))
+            let (rd, rs1, rs2) = (*rd, *rs1, *rs2);
+            instruction(alloc, Inst::Op { op, rd, rs1, rs2 })
         }
         _ => Ok(Item::Nothing),
     }
@@ -111,10 +48,8 @@ fn immediates_item(alloc: Global, op: ImmediateOp, operands: &[Operand]) -> Resu
             Operand::Index(rs1),
             Operand::Integer(imm),
         ] => {
-            word(
-                alloc,
-                i_word(*imm, *rs1, immediate_funct(op), *rd, 0b0010011),
-            )
+            let (rd, rs1, imm) = (*rd, *rs1, immediate(*imm));
+            instruction(alloc, Inst::OpImm { op, rd, rs1, imm })
         }
         _ => Ok(Item::Nothing),
     }
@@ -129,18 +64,15 @@ fn shifts_item(alloc: Global, op: ShiftOp, operands: &[Operand]) -> Result<Item,
             Operand::Index(rs1),
             Operand::Integer(count),
         ] => {
-            let (rd, rs1) = (register(*rd), register(*rs1));
-            let amount = ShiftAmount {
-                bits: low_bits(5, *count) as u8,
-            };
-            word(
+            let (rd, rs1, amount) = (*rd, *rs1, amount(*count));
+            instruction(
                 alloc,
-                encode(&Inst::Shift {
+                Inst::Shift {
                     op,
                     rd,
                     rs1,
                     amount,
-                }),
+                },
             )
         }
         _ => Ok(Item::Nothing),
@@ -152,7 +84,8 @@ fn loads_item(alloc: Global, op: LoadOp, operands: &[Operand]) -> Result<Item, A
 {
     match operands {
         [Operand::Index(rd), Operand::Offset(imm, rs1)] => {
-            word(alloc, i_word(*imm, *rs1, load_funct(op), *rd, 0b0000011))
+            let (rd, rs1, imm) = (*rd, *rs1, immediate(*imm));
+            instruction(alloc, Inst::Load { op, rd, rs1, imm })
         }
         _ => Ok(Item::Nothing),
     }
@@ -163,7 +96,8 @@ fn jumps_to_item(alloc: Global, operands: &[Operand]) -> Result<Item, AllocError
 {
     match operands {
         [Operand::Index(rd), Operand::Offset(imm, rs1)] => {
-            word(alloc, i_word(*imm, *rs1, 0b000, *rd, 0b1100111))
+            let (rd, rs1, imm) = (*rd, *rs1, immediate(*imm));
+            instruction(alloc, Inst::Jalr { rd, rs1, imm })
         }
         _ => Ok(Item::Nothing),
     }
@@ -174,7 +108,8 @@ fn stores_item(alloc: Global, op: StoreOp, operands: &[Operand]) -> Result<Item,
 {
     match operands {
         [Operand::Index(rs2), Operand::Offset(imm, rs1)] => {
-            word(alloc, s_word(*imm, *rs2, *rs1, store_funct(op)))
+            let (rs1, rs2, imm) = (*rs1, *rs2, immediate(*imm));
+            instruction(alloc, Inst::Store { op, rs1, rs2, imm })
         }
         _ => Ok(Item::Nothing),
     }
@@ -188,7 +123,18 @@ fn branches_item(alloc: Global, op: BranchOp, operands: &[Operand]) -> Result<It
             Operand::Index(rs1),
             Operand::Index(rs2),
             Operand::Integer(distance),
-        ] => { word(alloc, b_word(*distance, *rs2, *rs1, branch_funct(op))) }
+        ] => {
+            let (rs1, rs2, offset) = (*rs1, *rs2, branch_offset(*distance));
+            instruction(
+                alloc,
+                Inst::Branch {
+                    op,
+                    rs1,
+                    rs2,
+                    offset,
+                },
+            )
+        }
         [
             Operand::Index(rs1),
             Operand::Index(rs2),
@@ -202,7 +148,10 @@ fn jumps_item(alloc: Global, operands: &[Operand]) -> Result<Item, AllocError>
     ensures { IfOk result (λ i. i ≡ item_of Jumps operands.now) }
 {
     match operands {
-        [Operand::Index(rd), Operand::Integer(distance)] => word(alloc, j_word(*distance, *rd)),
+        [Operand::Index(rd), Operand::Integer(distance)] => {
+            let (rd, offset) = (*rd, jump_offset(*distance));
+            instruction(alloc, Inst::Jal { rd, offset })
+        }
         [Operand::Index(rd), Operand::Symbol(label)] => {
             Ok(Item::JumpTo(*rd, copy_name(alloc, label)?))
         }
@@ -214,8 +163,9 @@ fn loads_upper_item(alloc: Global, operands: &[Operand]) -> Result<Item, AllocEr
     ensures { IfOk result (λ i. i ≡ item_of LoadsUpper operands.now) }
 {
     match operands {
-        [Operand::Index(rd), Operand::Integer(upper)] => {
-            word(alloc, u_word(low_bits(20, *upper), *rd, 0b0110111))
+        [Operand::Index(rd), Operand::Integer(number)] => {
+            let (rd, imm) = (*rd, upper(*number));
+            instruction(alloc, Inst::Lui { rd, imm })
         }
         _ => Ok(Item::Nothing),
     }
@@ -225,8 +175,9 @@ fn adds_upper_item(alloc: Global, operands: &[Operand]) -> Result<Item, AllocErr
     ensures { IfOk result (λ i. i ≡ item_of AddsUpper operands.now) }
 {
     match operands {
-        [Operand::Index(rd), Operand::Integer(upper)] => {
-            word(alloc, u_word(low_bits(20, *upper), *rd, 0b0010111))
+        [Operand::Index(rd), Operand::Integer(number)] => {
+            let (rd, imm) = (*rd, upper(*number));
+            instruction(alloc, Inst::Auipc { rd, imm })
         }
         _ => Ok(Item::Nothing),
     }
@@ -236,28 +187,45 @@ fn fences_item(alloc: Global, operands: &[Operand]) -> Result<Item, AllocError>
     ensures { IfOk result (λ i. i ≡ item_of Fences operands.now) }
 {
     match operands {
-        [] => word(alloc, 0x0ff0_000f),
+        [] => {
+            let (rd, rs1, imm) = (register(0), register(0), immediate(0x0ff));
+            instruction(alloc, Inst::Fence { rd, rs1, imm })
+        }
         [
             Operand::Index(rd),
             Operand::Index(rs1),
             Operand::Integer(imm),
-        ] => { word(alloc, i_word(*imm, *rs1, 0b000, *rd, 0b0001111)) }
+        ] => {
+            let (rd, rs1, imm) = (*rd, *rs1, immediate(*imm));
+            instruction(alloc, Inst::Fence { rd, rs1, imm })
+        }
         _ => Ok(Item::Nothing),
     }
 }
 
+fn does_nothing_item(alloc: Global, operands: &[Operand]) -> Result<Item, AllocError>
+    ensures { IfOk result (λ i. i ≡ item_of DoesNothing operands.now) }
+{
+    let (op, rd, rs1, imm) = (ImmediateOp::Addi, register(0), register(0), immediate(0));
+    fixed_item(alloc, Inst::OpImm { op, rd, rs1, imm }, operands)
+}
+
 /// The two words of li: the upper twenty bits, rounded so that the signed lower twelve make up the rest.
-pub fn load_words(alloc: Global, rd: RegisterNumber, value: u32) -> Result<Vec<u32>, AllocError>
+pub fn load_words(alloc: Global, rd: Register, value: u32) -> Result<Vec<u32>, AllocError>
     ensures { IfOk result (λ v. v.items ≡ li_words rd value) }
 {
-    let upper = (value as u64 + 0x800) >> 12 & 0xf_ffff;
-    let low = value as i64 & 0xfff;
-    let signed = if low < 0x800 { low } else { low - 0x1000 };
-    let words = [
-        u_word(upper as u32, rd, 0b0110111),
-        i_word(signed, rd, 0b000, rd, 0b0010011),
-    ];
-    Vec::from_slice(alloc, &words)
+    let rounded = (value as u64 + 0x800) >> 12;
+    let first = Inst::Lui {
+        rd,
+        imm: upper(rounded as i64),
+    };
+    let second = Inst::OpImm {
+        op: ImmediateOp::Addi,
+        rd,
+        rs1: rd,
+        imm: immediate(value as i64),
+    };
+    Vec::from_slice(alloc, &[encode(&first), encode(&second)])
 }
 
 fn loads_value_item(alloc: Global, operands: &[Operand]) -> Result<Item, AllocError>
@@ -340,11 +308,12 @@ fn object_item(alloc: Global, operands: &[Operand]) -> Result<Item, AllocError>
     }
 }
 
-fn fixed_item(alloc: Global, code: u32, operands: &[Operand]) -> Result<Item, AllocError>
-    ensures { IfOk result (λ i. i ≡ (if length operands.now == 0 then Code (code ∷ []) else Nothing)) }
+// An instruction that takes no operands.
+fn fixed_item(alloc: Global, inst: Inst, operands: &[Operand]) -> Result<Item, AllocError>
+    ensures { IfOk result (λ i. i ≡ (if length operands.now == 0 then instruction inst else Nothing)) }
 {
     if operands.is_empty() {
-        word(alloc, code)
+        instruction(alloc, inst)
     } else {
         Ok(Item::Nothing)
     }
@@ -375,9 +344,9 @@ pub fn item_of(alloc: Global, form: Form, operands: &[Operand]) -> Result<Item, 
         Form::LoadsUpper => loads_upper_item(alloc, operands),
         Form::AddsUpper => adds_upper_item(alloc, operands),
         Form::Fences => fences_item(alloc, operands),
-        Form::Calls => fixed_item(alloc, 0x0000_0073, operands),
-        Form::Breaks => fixed_item(alloc, 0x0010_0073, operands),
-        Form::DoesNothing => fixed_item(alloc, 0x0000_0013, operands),
+        Form::Calls => fixed_item(alloc, Inst::Ecall, operands),
+        Form::Breaks => fixed_item(alloc, Inst::Ebreak, operands),
+        Form::DoesNothing => does_nothing_item(alloc, operands),
         Form::LoadsValue => loads_value_item(alloc, operands),
         Form::Sections(section) => Ok(section_item(section, operands)),
         Form::Words => Ok(Item::Code(words_of(alloc, operands)?)),

@@ -1,12 +1,13 @@
 //! Laws of sources and of the texts of words.
 
-ghost use Rattle.std.specs.Prelude.{◌≡◌, ℕ, List, [], ◌∷◌, ◌++◌, ◌<◌, ◌+◌, ◌^◌, codes, length, Ok, Err, Some, true, bytes_eq};
+ghost use Rattle.std.specs.Prelude.{◌≡◌, ℕ, List, [], ◌∷◌, ◌++◌, ◌<◌, ◌+◌, ◌↔◌, ◌^◌, codes, length, Ok, Err, Some, true, bytes_eq};
 ghost use Rattle.std.specs.List.{list_any};
 ghost use Rattle.ir_asm.specs.Names.{named};
 ghost use Rattle.ir_asm.specs.Standing.{place_after};
 ghost use Rattle.ir_asm.specs.declared.form.Section.TheVariants.{Text};
-ghost use Rattle.ir_asm.specs.Printed.{text_of};
-ghost use Rattle.ir_asm.specs.Source.{Seen, nothing_seen, line_of, with_line, first_pass};
+ghost use Rattle.ir_disasm.specs.Printed.{text_of};
+ghost use Rattle.ir_asm.specs.Placing.{AreInOrder, IsFirstFault};
+ghost use Rattle.ir_asm.specs.Source.{Seen, Fault, nothing_seen, line_of, with_line, first_pass};
 ghost use Rattle.ir_asm.specs.Passes.{assembled, assembled_lines, IsWordGuest};
 ghost use Rattle.ir_asm.specs.declared.cause.Cause.{Cause};
 ghost use Rattle.ir_asm.specs.declared.cause.Cause.TheVariants.{UnknownStatement, UnknownRegister, BadNumber, LabelTwice, LabelMissing, WrongSection, BadSize};
@@ -25,6 +26,18 @@ pub fn first_fault()
         first_pass 1 before nothing_seen ≡ Ok s →
         with_line (1 + length before) (line_of line) s ≡ Err cause →
         assembled_lines (before ++ line ∷ after) ≡ Err (record { line = 1 + length before; cause = cause }) }
+{}
+
+/// Where the first pass has no fault and there is code, the fault of a source is that of the first of its placed
+/// statements, in the order of their lines, that has one: whose label is missing, in the wrong section or too far away,
+/// or whose object isn't there.
+#[tactic(auto, using(crate::proofs::OrderLaws::in_order))]
+pub fn second_fault()
+    ensures order { (lines : List (List ℕ)) (s : Seen) → first_pass 1 lines nothing_seen ≡ Ok s → AreInOrder 1 s.placed }
+    ensures exact { (lines : List (List ℕ)) (s : Seen) (fault : Fault) →
+        first_pass 1 lines nothing_seen ≡ Ok s →
+        0 < s.code →
+        (assembled_lines lines ≡ Err fault) ↔ IsFirstFault s s.placed fault }
 {}
 
 /// A label stands after what was placed before it: its value is the start of its section plus the sizes of what stands

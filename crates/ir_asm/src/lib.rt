@@ -1,10 +1,10 @@
-//! The assembler and the disassembler.
+//! The assembler.
 #![tactic(auto)]
 
 mod asm_err;
 mod assembler;
 mod cause;
-mod disassembler;
+mod fields;
 mod first_pass;
 mod form;
 mod item;
@@ -12,7 +12,6 @@ mod items;
 mod labels;
 mod laws;
 mod line;
-mod names;
 mod number;
 mod operand;
 mod operands;
@@ -28,10 +27,9 @@ mod table;
 #[cfg(test)]
 mod tests;
 mod text;
-mod words;
 
 pub use asm_err::AsmErr;
 pub use assembler::assemble;
 pub use cause::Cause;
-pub use disassembler::disassemble;
-pub use laws::{examples, first_fault, label_value, word_law};
+pub use ir_disasm::disassemble;
+pub use laws::{examples, first_fault, label_value, second_fault, word_law};

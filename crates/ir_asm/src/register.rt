@@ -1,12 +1,13 @@
 //! The registers by their names.
 
 ghost use Rattle.std.specs.Prelude.{◌≡◌, ◌<◌, IfSome};
-ghost use Rattle.ir_asm.specs.Names.{named, abi_rows, x_rows, register};
+ghost use Rattle.ir_asm.specs.Names.{named, abi_rows, x_rows, register_rows, register};
 ghost use Rattle.ir_asm.specs.Faults.{or_cause};
 ghost use Rattle.ir_asm.specs.declared.cause.Cause.TheVariants.{UnknownRegister};
 
 use crate::cause::Cause;
-use crate::item::RegisterNumber;
+use crate::fields::register as numbered_register;
+use ir_isa::Register;
 
 fn abi(name: &[u8]) -> Option<u8>
     ensures exact { result ≡ named abi_rows name.now }
@@ -92,7 +93,7 @@ fn numbered(name: &[u8]) -> Option<u8>
 }
 
 fn number_of(name: &[u8]) -> Option<u8>
-    ensures exact { result ≡ register name.now }
+    ensures exact { result ≡ named register_rows name.now }
     ensures small { IfSome result (λ n. n < 32) }
 {
     match abi(name) {
@@ -102,11 +103,11 @@ fn number_of(name: &[u8]) -> Option<u8>
 }
 
 /// The register of a name.
-pub fn register(name: &[u8]) -> Result<RegisterNumber, Cause>
+pub fn register(name: &[u8]) -> Result<Register, Cause>
     ensures { result ≡ or_cause UnknownRegister (register name.now) }
 {
     match number_of(name) {
-        Some(number) => Ok(RegisterNumber { number }),
+        Some(number) => Ok(numbered_register(number)),
         None => Err(Cause::UnknownRegister),
     }
 }

@@ -10,15 +10,15 @@ ghost use Rattle.ir_asm.specs.declared.item.Item.TheVariants.{BranchTo, JumpTo, 
 
 use crate::asm_err::{AsmErr, at_line};
 use crate::cause::Cause;
+use crate::fields::{branch_offset, jump_offset};
 use crate::form::Section;
-use crate::item::{Item, Name, Place, Placed, RegisterNumber};
-use crate::items::{branch_funct, load_words};
+use crate::item::{Item, Name, Place, Placed};
+use crate::items::load_words;
 use crate::parts::{CODE_START, Parts};
 use crate::refusal::Refusal;
 use crate::scan::Scan;
 use crate::statement::same_section;
-use crate::words::{b_word, j_word};
-use ir_isa::BranchOp;
+use ir_isa::{BranchOp, Inst, Register, encode};
 use std::alloc::Global;
 
 // Where a label stands.
@@ -59,14 +59,20 @@ fn put_branch(
     parts: &mut Parts,
     address: u32,
     op: BranchOp,
-    rs1: RegisterNumber,
-    rs2: RegisterNumber,
+    rs1: Register,
+    rs2: Register,
     label: &Name,
 ) -> Result<(), Refusal>
     ensures { Makes parts.new result (put scan.now address (BranchTo op rs1 rs2 label.now) parts.old) }
 {
     let distance = distance_to(scan, -4096, 4094, address, label)?;
-    parts.add_code(&[b_word(distance, rs2, rs1, branch_funct(op))])?;
+    let offset = branch_offset(distance);
+    parts.add_code(&[encode(&Inst::Branch {
+        op,
+        rs1,
+        rs2,
+        offset,
+    })])?;
     Ok(())
 }
 
@@ -74,13 +80,14 @@ fn put_jump(
     scan: &Scan,
     parts: &mut Parts,
     address: u32,
-    rd: RegisterNumber,
+    rd: Register,
     label: &Name,
 ) -> Result<(), Refusal>
     ensures { Makes parts.new result (put scan.now address (JumpTo rd label.now) parts.old) }
 {
     let distance = distance_to(scan, -1_048_576, 1_048_574, address, label)?;
-    parts.add_code(&[j_word(distance, rd)])?;
+    let offset = jump_offset(distance);
+    parts.add_code(&[encode(&Inst::Jal { rd, offset })])?;
     Ok(())
 }
 
@@ -88,7 +95,7 @@ fn put_address(
     alloc: Global,
     scan: &Scan,
     parts: &mut Parts,
-    rd: RegisterNumber,
+    rd: Register,
     label: &Name,
 ) -> Result<(), Refusal>
     ensures { Makes parts.new result (put scan.now 0 (LoadAddress rd label.now) parts.old) }

@@ -6,7 +6,7 @@ ghost use Rattle.std.specs.Fmt.{signed_decimal};
 ghost use Rattle.std.specs.Char.{digit_char};
 ghost use Rattle.ir_isa.specs.Names.{register_name};
 ghost use Rattle.ir_isa.specs.Words.{low_bits};
-ghost use Rattle.ir_asm.specs.Printed.{hex, two, three, distance, far, address, printed, text_of};
+ghost use Rattle.ir_disasm.specs.Printed.{hex, two, three, distance, far, address, printed, text_of};
 
 use crate::names::{
     branch_name, immediate_name, load_name, operation_name, shift_name, store_name,

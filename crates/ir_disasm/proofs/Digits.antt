@@ -3,7 +3,7 @@ use Rattle.std.proofs.Common.{◌≡◌, ◌<◌, ◌+◌, ◌-◌, ◌/◌, ◌
 use Rattle.std.specs.Prelude.{codes, ℤ}
 use Rattle.ir_isa.specs.Words.{low_bits}
 use Rattle.std.specs.Char.{digit_char}
-use Rattle.ir_asm.specs.Printed.{hex, distance, far}
+use Rattle.ir_disasm.specs.Printed.{hex, distance, far}
 
 pub sixteen : (p : ℕ) → p < 8 → (0 < 16 ^ p) × (16 ^ p < 4294967296)
 sixteen zero h = (omega arith, omega arith)

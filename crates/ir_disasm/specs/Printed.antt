@@ -7,7 +7,7 @@ use Rattle.ir_isa.specs.Words.{low_bits}
 use Rattle.ir_isa.specs.declared.inst.Inst.{Inst}
 use Rattle.ir_isa.specs.declared.inst.Inst.TheVariants.{Lui, Auipc, Jal, Jalr, Branch, Load, Store, OpImm, Shift, Op, Fence, Ecall, Ebreak}
 use Rattle.ir_isa.specs.Names.{register_name}
-use Rattle.ir_asm.specs.Names.{branch_name, load_name, store_name, immediate_name, shift_name, operation_name}
+use Rattle.ir_disasm.specs.Names.{branch_name, load_name, store_name, immediate_name, shift_name, operation_name}
 
 -- the digits of n to the base 16, from the one of 16 ^ (k - 1) down
 abbrev pub hex : ℕ → ℕ → List ℕ

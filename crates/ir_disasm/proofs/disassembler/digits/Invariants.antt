@@ -1,7 +1,7 @@
 use Rattle.std.proofs.Common.{◌≡◌, ◌≤◌, ◌++◌}
 use Rattle.std.specs.String.{string_bytes}
-use Rattle.ir_asm.specs.Printed.{hex}
-use Rattle.ir_asm.proofs.disassembler.digits.Given as goal
+use Rattle.ir_disasm.specs.Printed.{hex}
+use Rattle.ir_disasm.proofs.disassembler.digits.Given as goal
 
 -- the digits so far, and those that are left
 abbrev pub invariant-loop-left : goal.invariant-loop-left

@@ -1,8 +1,8 @@
 use Rattle.std.proofs.Common.{◌∙◌, ap, ℤ, w32, rules}
 use Rattle.std.proofs.lemmas.Int.{to_z-of_z}
-use Rattle.ir_asm.specs.Printed.{far}
-use Rattle.ir_asm.proofs.Digits.{far_from}
-use Rattle.ir_asm.proofs.disassembler.far.Goals as goal
+use Rattle.ir_disasm.specs.Printed.{far}
+use Rattle.ir_disasm.proofs.Digits.{far_from}
+use Rattle.ir_disasm.proofs.disassembler.far.Goals as goal
 
 pub returns : goal.returns
 returns c =

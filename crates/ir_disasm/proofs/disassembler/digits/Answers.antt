@@ -1,8 +1,8 @@
 use Rattle.std.proofs.Common.{◌++◌, ℕ, ◌-◌, List, ap, sym, ◌∙◌, append_assoc, arith}
 use Rattle.std.specs.String.{string_bytes}
-use Rattle.ir_asm.specs.Printed.{hex}
-use Rattle.ir_asm.proofs.Digits.{hex_step}
-use Rattle.ir_asm.proofs.disassembler.digits.Goals as goal
+use Rattle.ir_disasm.specs.Printed.{hex}
+use Rattle.ir_disasm.proofs.Digits.{hex_step}
+use Rattle.ir_disasm.proofs.disassembler.digits.Goals as goal
 
 pub loop-left-preserved : goal.loop-left-preserved
 loop-left-preserved c =
