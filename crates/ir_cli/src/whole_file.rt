@@ -63,6 +63,11 @@ impl<'a> WholeFile<'a> {
         }
     }
 
+    /// The path of the file that its bytes are written to first.
+    pub fn first_place(&self) -> &'a str {
+        self.beside.unwrap_or(self.place)
+    }
+
     // It failed, and what was written beside its place goes.
     fn fail(&mut self) -> DeviceErr
         ensures { self.new.failed ≡ true }
