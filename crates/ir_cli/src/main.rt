@@ -17,6 +17,7 @@ mod places;
 mod places_tests;
 mod program_world;
 mod progress;
+mod reason;
 mod record_fault;
 #[cfg(test)]
 mod record_tests;
@@ -29,6 +30,8 @@ mod tests;
 mod time;
 mod whole_file;
 mod words;
+#[cfg(test)]
+mod words_tests;
 #[cfg(test)]
 mod world_tests;
 
@@ -105,7 +108,7 @@ fn assemble_file(rt: &HostRuntime, source: &str, image: &str) -> u8 {
     let mut faults = FromStd::new(rt.stderr());
     let status = asm_run(rt.alloc(), bytes.as_slice(), &mut file, &mut faults);
     if status == FAULT && file.failed() {
-        let _ = rt.eprintln(format_args!("ir: {image} can't be written"));
+        let _ = rt.eprintln(format_args!("ir: {image} can't be written: {}", file.why()));
     } else if status == FAULT {
         let _ = rt.eprintln(format_args!("ir: {source}: memory ran out"));
     }
