@@ -6,3 +6,4 @@ pub mod Order
 pub mod Sources
 pub mod Recording
 pub mod Faults
+pub mod Places

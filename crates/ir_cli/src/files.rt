@@ -1,12 +1,13 @@
 //! The files that the words name.
 
-ghost use Rattle.std.specs.Prelude.{◌≡◌, ◌≤◌, length, false, IfOk, IfSome, None};
+ghost use Rattle.std.specs.Prelude.{◌≡◌, ◌≤◌, [], length, false, true, IfOk, IfSome, Ok, None};
 ghost use Rattle.ir_cli.specs.declared.files.FileErr.TheVariants.{NoMem};
 
-use ir_debug::{DeviceErr, FromStd, Sink};
+use crate::reason::reason;
+use ir_debug::{DeviceErr, Sink};
 use std::alloc::{AllocError, Global};
 use std::fs::File;
-use std::io::{ErrorKind, Read};
+use std::io::{ErrorKind, Read, Write};
 use thiserror::Error;
 
 /// The most bytes of a source or an image.
@@ -18,8 +19,8 @@ pub const MOST_INPUT: u32 = 1_048_576;
 /// Why a file was not read.
 #[derive(Debug, Drop, Error)]
 pub enum FileErr {
-    #[error("can't be read")]
-    Unreadable,
+    #[error("can't be read: {0}")]
+    Unreadable(&'static str),
     #[error("is over {0} bytes")]
     TooLong(u32),
     #[error("doesn't fit into memory")]
@@ -44,7 +45,7 @@ pub fn read_all<R: Read + Drop>(alloc: Global, reader: R, most: u32) -> Result<V
         Ok(_) if bytes.len() > most as usize => Err(FileErr::TooLong(most)),
         Ok(_) => Ok(bytes),
         Err(error) if error.kind() == ErrorKind::OutOfMemory => Err(FileErr::NoMem),
-        Err(_) => Err(FileErr::Unreadable),
+        Err(error) => Err(FileErr::Unreadable(reason(error.kind()))),
     }
 }
 
@@ -55,8 +56,27 @@ pub fn read_all<R: Read + Drop>(alloc: Global, reader: R, most: u32) -> Result<V
 pub fn read_file(rt: &HostRuntime, path: &str, most: u32) -> Result<Vec<u8>, FileErr> {
     match File::open(rt, path) {
         Ok(file) => read_all(rt.alloc(), file, most),
-        Err(_) => Err(FileErr::Unreadable),
+        Err(error) => Err(FileErr::Unreadable(reason(error.kind()))),
     }
+}
+
+// Writes some bytes from the front, again where a signal interrupts it.
+fn put(file: &mut File, bytes: &[u8]) -> Result<usize, ErrorKind>
+    ensures count { IfOk result (λ n. n ≤ length bytes.now) }
+    ensures some { result ≡ Ok 0 → bytes.now ≡ [] }
+{
+    for _ in 0..u64::MAX {
+        match file.write(bytes) {
+            Ok(n) if n > 0 || bytes.is_empty() => return Ok(n),
+            Ok(_) => return Err(ErrorKind::WriteZero),
+            Err(error) => {
+                if error.kind() != ErrorKind::Interrupted {
+                    return Err(error.kind());
+                }
+            }
+        }
+    }
+    Err(ErrorKind::Interrupted)
 }
 
 /// A file that is made, or emptied, as the first bytes are written to it.
@@ -64,8 +84,9 @@ pub fn read_file(rt: &HostRuntime, path: &str, most: u32) -> Result<Vec<u8>, Fil
 pub struct NewFile<'a> {
     rt: &'a HostRuntime,
     path: &'a str,
-    file: Option<FromStd<File>>,
+    file: Option<File>,
     failed: bool,
+    why: &'static str,
 }
 
 impl<'a> NewFile<'a> {
@@ -78,12 +99,27 @@ impl<'a> NewFile<'a> {
             path,
             file: None,
             failed: false,
+            why: "",
         }
     }
 
     /// Whether the file was made.
     pub fn is_made(&self) -> bool {
         self.file.is_some()
+    }
+
+    /// Why it failed, if it did.
+    pub fn why(&self) -> &'static str {
+        self.why
+    }
+
+    // It failed, for this reason.
+    fn fail(&mut self, kind: ErrorKind) -> DeviceErr
+        ensures { self.new.failed ≡ true }
+    {
+        self.failed = true;
+        self.why = reason(kind);
+        DeviceErr
     }
 }
 
@@ -95,25 +131,17 @@ impl Sink for NewFile<'_> {
     fn write(&mut self, bytes: &[u8]) -> Result<usize, DeviceErr> {
         if self.file.is_none() {
             match File::create(self.rt, self.path) {
-                Ok(file) => self.file = Some(FromStd::new(file)),
-                Err(_) => {
-                    self.failed = true;
-                    return Err(DeviceErr);
-                }
+                Ok(file) => self.file = Some(file),
+                Err(error) => return Err(self.fail(error.kind())),
             }
         }
-        match &mut self.file {
-            Some(file) => match file.write(bytes) {
-                Ok(count) => Ok(count),
-                Err(error) => {
-                    self.failed = true;
-                    Err(error)
-                }
-            },
-            None => {
-                self.failed = true;
-                Err(DeviceErr)
-            }
+        let count = match &mut self.file {
+            Some(file) => put(file, bytes),
+            None => Err(ErrorKind::NotFound),
+        };
+        match count {
+            Ok(count) => Ok(count),
+            Err(kind) => Err(self.fail(kind)),
         }
     }
 

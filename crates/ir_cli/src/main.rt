@@ -12,13 +12,18 @@ mod files;
 mod line;
 mod numeral;
 mod order;
+mod places;
+#[cfg(test)]
+mod places_tests;
 mod program_world;
 mod progress;
+mod reason;
 mod record_fault;
 #[cfg(test)]
 mod record_tests;
 mod recording;
 mod sources;
+mod standard;
 mod telling;
 #[cfg(test)]
 mod tests;
@@ -26,14 +31,18 @@ mod time;
 mod whole_file;
 mod words;
 #[cfg(test)]
+mod words_tests;
+#[cfg(test)]
 mod world_tests;
 
 use assembling::asm_run;
 use bundle::bundle;
 use files::{MOST_BYTES, MOST_INPUT, NewFile, read_file};
 use ir_debug::{FromStd, Sink};
+use places::{found_at, loses};
 use progress::Progress;
 use recording::record_run;
+use standard::stand_ins;
 use std::io::{self, BufReader, IsTerminal};
 use std::process::ExitCode;
 use std::sync::Wait;
@@ -76,8 +85,22 @@ fn bytes_of(rt: &HostRuntime, path: &str, most: u32) -> Option<Vec<u8>> {
     }
 }
 
+// Whether the file that is read would be lost by writing to a path, which is told.
+fn is_lost(rt: &HostRuntime, role: &str, read: &str, written_role: &str, written: &str) -> bool {
+    let is_lost = loses(written, found_at(rt, written), read, found_at(rt, read));
+    if is_lost {
+        let _ = rt.eprintln(format_args!(
+            "ir: {written}: {written_role} would be written over {role}"
+        ));
+    }
+    is_lost
+}
+
 // Assembles a file into another.
 fn assemble_file(rt: &HostRuntime, source: &str, image: &str) -> u8 {
+    if is_lost(rt, "SOURCE", source, "IMAGE", image) {
+        return BAD_WORDS;
+    }
     let Some(bytes) = bytes_of(rt, source, MOST_BYTES) else {
         return FAULT;
     };
@@ -85,7 +108,7 @@ fn assemble_file(rt: &HostRuntime, source: &str, image: &str) -> u8 {
     let mut faults = FromStd::new(rt.stderr());
     let status = asm_run(rt.alloc(), bytes.as_slice(), &mut file, &mut faults);
     if status == FAULT && file.failed() {
-        let _ = rt.eprintln(format_args!("ir: {image} can't be written"));
+        let _ = rt.eprintln(format_args!("ir: {image} can't be written: {}", file.why()));
     } else if status == FAULT {
         let _ = rt.eprintln(format_args!("ir: {source}: memory ran out"));
     }
@@ -100,23 +123,37 @@ fn input_of(rt: &HostRuntime, words: &RecordWords) -> Option<Vec<u8>> {
     }
 }
 
+// Whether one of the files that a recording reads would be lost by writing to a path.
+fn loses_input(rt: &HostRuntime, words: &RecordWords, role: &str, written: &str) -> bool {
+    is_lost(rt, "IMAGE", words.image.as_str(), role, written)
+        || match &words.input {
+            Some(file) => is_lost(rt, "FILE", file.as_str(), role, written),
+            None => false,
+        }
+}
+
 // Records a guest into a file. Its threads are those of the second handle.
 fn record_file<R: Threads + Wait + Sync + Clock + Eprint>(
     rt: &HostRuntime,
     threads: &R,
     words: &RecordWords,
 ) -> u8 {
+    let Ok(beside) = format!(in rt.alloc(); "{}.part", words.trace) else {
+        complain(rt, "memory ran out");
+        return FAULT;
+    };
+    let mut trace = WholeFile::new(rt, words.trace.as_str(), beside.as_str());
+    if loses_input(rt, words, "TRACE", words.trace.as_str())
+        || loses_input(rt, words, "TRACE.part", trace.first_place())
+    {
+        return BAD_WORDS;
+    }
     let Some(image) = bytes_of(rt, words.image.as_str(), MOST_BYTES) else {
         return FAULT;
     };
     let Some(input) = input_of(rt, words) else {
         return FAULT;
     };
-    let Ok(beside) = format!(in rt.alloc(); "{}.part", words.trace) else {
-        complain(rt, "memory ran out");
-        return FAULT;
-    };
-    let mut trace = WholeFile::new(rt, words.trace.as_str(), beside.as_str());
     let mut out = FromStd::new(io::writer(rt));
     let mut faults = FromStd::new(rt.stderr());
     let progress = Progress::new(threads, rt.stderr().is_terminal());
@@ -135,21 +172,39 @@ fn record_file<R: Threads + Wait + Sync + Clock + Eprint>(
     )
 }
 
-fn main(rt: HostRuntime) -> ExitCode {
-    ExitCode::from(match read_words(&rt) {
-        Asked::Session => serve(&rt),
-        Asked::Assembling(source, image) => assemble_file(&rt, source.as_str(), image.as_str()),
-        Asked::Recording(words) => record_file(&rt, &rt, &words),
+// Does what the words ask for; the exit status. A recording's threads are those of the second handle.
+fn run<R: Threads + Wait + Sync + Clock + Eprint>(rt: &HostRuntime, threads: &R) -> u8 {
+    match read_words(rt) {
+        Asked::Session => serve(rt),
+        Asked::Assembling(source, image) => assemble_file(rt, source.as_str(), image.as_str()),
+        Asked::Recording(words) => record_file(rt, threads, &words),
         Asked::Help(text) => match rt.print(text) {
             Ok(()) => DONE,
-            Err(_) => FAULT,
+            Err(_) => {
+                complain(rt, "standard output can't be written");
+                FAULT
+            }
         },
         Asked::Nothing(why) => {
-            complain(&rt, why.as_str());
+            complain(rt, why.as_str());
             BAD_WORDS
         }
         Asked::NoMem => {
-            complain(&rt, "memory ran out");
+            complain(rt, "memory ran out");
+            FAULT
+        }
+    }
+}
+
+fn main(rt: HostRuntime) -> ExitCode {
+    ExitCode::from(match stand_ins(&rt) {
+        // They stand in until all is done.
+        Ok(_kept) => run(&rt, &rt),
+        Err(_) => {
+            complain(
+                &rt,
+                "a standard stream is closed, and /dev/null can't be opened",
+            );
             FAULT
         }
     })

@@ -78,6 +78,43 @@ fn turns_of(item: &str, threads: usize) -> Option<Turns>
     }
 }
 
+// Whether a text is decimal digits.
+fn is_digits(text: &str) -> bool {
+    !text.is_empty() && text.bytes().all(|byte| byte.is_ascii_digit())
+}
+
+// Why an item spells no steps, in words, where it spells none.
+fn item_fault(item: &str, threads: usize) -> Option<&'static str>
+    requires some { 1 ≤ threads }
+    requires few { threads ≤ 8 }
+    ensures bad { IfSome result (λ _. item_of threads item.now ≡ None) }
+{
+    if turns_of(item, threads).is_some() {
+        return None;
+    }
+    let (thread, count) = first_part(item, 'x');
+    if !is_digits(thread) || !is_digits(count.unwrap_or("1")) {
+        Some("is neither T nor TxN")
+    } else if thread_of(thread, threads).is_none() {
+        Some("names no thread of the image")
+    } else {
+        Some("has an N that is not from 1 to 1000000")
+    }
+}
+
+/// The first item of a list that spells no steps, and why, in words.
+pub fn bad_item(list: &str, threads: usize) -> Option<(&str, &'static str)>
+    requires some { 1 ≤ threads }
+    requires few { threads ≤ 8 }
+{
+    for item in list.split(',') {
+        if let Some(why) = item_fault(item, threads) {
+            return Some((item, why));
+        }
+    }
+    None
+}
+
 /// The threads in the order that a list spells; the guest has so many threads. It takes memory for each entry.
 ///
 /// # Errors

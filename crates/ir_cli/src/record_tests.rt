@@ -391,7 +391,7 @@ fn a_failing_trace_leaves_no_line(rt: HostRuntime) {
         assert!(rt; run.out.bytes.is_empty() && !run.out.failed);
         assert_eq!(rt;
             run.faults.bytes.as_slice(),
-            b"ir: the trace can't be written\n".as_slice()
+            b"ir: page can't be written: its calls are used up\n".as_slice()
         );
     }
 }

@@ -11,10 +11,10 @@ ghost use Rattle.ir_cli.specs.Sources.{made_with, is_counted};
 ghost use Rattle.ir_cli.specs.Faults.{fault_status, Refuses, WriteFails, Stops};
 ghost use Rattle.ir_cli.specs.declared.record_fault.RecordFault.{RecordFault};
 
-use crate::order::read_order;
+use crate::order::{bad_item, read_order};
 use crate::program_world::ProgramWorld;
 use crate::record_fault::RecordFault;
-use crate::telling::tell;
+use crate::telling::{tell, tell_of};
 use crate::time::Time;
 use crate::whole_file::WholeSink;
 use ir_debug::Sink;
@@ -203,6 +203,39 @@ fn run<R: Threads + Wait + Sync + Clock, G: Gate + Sync, W: WholeSink, O: Sink>(
     written(trace, out, bytes.as_slice(), lines.as_bytes())
 }
 
+// Tells that a list spells no order of an image's threads: which item doesn't, and why.
+fn tell_order<E: Sink>(alloc: Global, faults: &mut E, image: &[u8], list: &str)
+    requires { E.broken faults.old ≡ false }
+{
+    if let Ok(image) = read_image(alloc, image) {
+        if let Some((item, why)) = bad_item(list, image.entries().len()) {
+            tell_of(faults, "LIST: the item '", item, "' ", why);
+            return;
+        }
+    }
+    tell(faults, RecordFault::Order.words());
+}
+
+// Tells why nothing was recorded, or not all of it written.
+fn tell_fault<W: WholeSink, E: Sink>(
+    alloc: Global,
+    faults: &mut E,
+    why: &RecordFault,
+    image: &[u8],
+    order: Option<&str>,
+    trace: &W,
+)
+    requires { E.broken faults.old ≡ false }
+{
+    match (why, order) {
+        (RecordFault::Order, Some(list)) => tell_order(alloc, faults, image, list),
+        (RecordFault::Trace, _) => {
+            tell_of(faults, "", trace.name(), " can't be written: ", trace.why())
+        }
+        _ => tell(faults, why.words()),
+    }
+}
+
 /// Records the guest of an image in the order that a list spells, on one thread; without a list on real threads. Writes
 /// the trace, and then a line `thread T end E code C steps S events N` for each thread. The budget is in steps, for each
 /// thread. RANDOM gives the words of PCG32, started for thread T by the number `random` plus T, modulo 2^64; CLOCK counts
@@ -241,7 +274,7 @@ pub fn record_run<R: Threads + Wait + Sync + Clock, G: Gate + Sync, W: WholeSink
     ) {
         Ok(()) => DONE,
         Err(why) => {
-            tell(faults, why.words());
+            tell_fault(alloc, faults, &why, image, order, trace);
             why.status()
         }
     }

@@ -1,22 +1,36 @@
 //! Faults, told in one line.
 
-ghost use Rattle.std.specs.Prelude.{◌≡◌, ◌≤◌, length, false};
+ghost use Rattle.std.specs.Prelude.{◌≡◌, false};
 
-use arrayvec::ArrayVec;
-use ir_debug::Sink;
-use ir_stream::{append, write_all};
+use ir_debug::{DeviceErr, Sink};
+use ir_stream::write_all;
 
-// The most bytes of a line that tells a fault.
-const MOST_WORDS: usize = 128;
+// Writes one line that says what failed, or is wrong, and why.
+fn told<E: Sink>(
+    faults: &mut E,
+    before: &str,
+    name: &str,
+    what: &str,
+    why: &str,
+) -> Result<(), DeviceErr> {
+    write_all(faults, b"ir: ")?;
+    write_all(faults, before.as_bytes())?;
+    write_all(faults, name.as_bytes())?;
+    write_all(faults, what.as_bytes())?;
+    write_all(faults, why.as_bytes())?;
+    write_all(faults, b"\n")
+}
 
-/// Tells a fault in one line. Nobody is left to tell where that fails.
+/// Tells a fault of a named thing in one line, for which no memory is taken. Nobody is left to tell where that fails.
+pub fn tell_of<E: Sink>(faults: &mut E, before: &str, name: &str, what: &str, why: &str)
+    requires works { E.broken faults.old ≡ false }
+{
+    let _ = told(faults, before, name, what, why);
+}
+
+/// Tells a fault in one line, for which no memory is taken. Nobody is left to tell where that fails.
 pub fn tell<E: Sink>(faults: &mut E, words: &str)
     requires works { E.broken faults.old ≡ false }
-    requires short { length words.now ≤ 100 }
 {
-    let mut text: ArrayVec<u8, MOST_WORDS> = ArrayVec::new();
-    append(&mut text, b"ir: ");
-    append(&mut text, words.as_bytes());
-    append(&mut text, b"\n");
-    let _ = write_all(faults, text.as_slice());
+    let _ = told(faults, words, "", "", "");
 }

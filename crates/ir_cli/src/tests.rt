@@ -86,6 +86,14 @@ impl WholeSink for Page {
         self.whole = true;
         Ok(())
     }
+
+    fn name(&self) -> &str {
+        "page"
+    }
+
+    fn why(&self) -> &str {
+        "its calls are used up"
+    }
 }
 
 const IMAGE: &[u8] = b"495249310100060000000000000000000100130580049308200073000000\

@@ -3,6 +3,7 @@
 ghost use Rattle.std.specs.Prelude.{◌≡◌, Bool, OnOk, OnErr, None, false, true};
 
 use crate::files::NewFile;
+use crate::reason::reason;
 use ir_debug::{DeviceErr, Sink};
 use std::fs;
 
@@ -20,6 +21,12 @@ pub trait WholeSink: Sink {
         ensures whole { OnOk result (whole self.new ≡ true) }
         ensures stays { OnOk result (Self.broken self.new ≡ Self.broken self.old) }
         ensures err { OnErr result (Self.broken self.new ≡ true) };
+
+    /// What messages call it.
+    fn name(&self) -> &str;
+
+    /// Why it failed, if it did.
+    fn why(&self) -> &str;
 }
 
 /// A file that is written beside its place and then put there, over what stood there before. Where a write fails, or
@@ -32,6 +39,7 @@ pub struct WholeFile<'a> {
     beside: Option<&'a str>,
     file: NewFile<'a>,
     failed: bool,
+    why: &'static str,
     whole: bool,
 }
 
@@ -59,15 +67,22 @@ impl<'a> WholeFile<'a> {
             beside,
             file: NewFile::new(rt, beside.unwrap_or(place)),
             failed: false,
+            why: "",
             whole: false,
         }
     }
 
-    // It failed, and what was written beside its place goes.
-    fn fail(&mut self) -> DeviceErr
+    /// The path of the file that its bytes are written to first.
+    pub fn first_place(&self) -> &'a str {
+        self.beside.unwrap_or(self.place)
+    }
+
+    // It failed, for this reason, and what was written beside its place goes.
+    fn fail(&mut self, why: &'static str) -> DeviceErr
         ensures { self.new.failed ≡ true }
     {
         self.failed = true;
+        self.why = why;
         match self.beside {
             Some(beside) if self.file.is_made() => {
                 let _ = fs::remove_file(self.rt, beside);
@@ -86,7 +101,10 @@ impl Sink for WholeFile<'_> {
     fn write(&mut self, bytes: &[u8]) -> Result<usize, DeviceErr> {
         match self.file.write(bytes) {
             Ok(count) => Ok(count),
-            Err(_) => Err(self.fail()),
+            Err(_) => {
+                let why = self.file.why();
+                Err(self.fail(why))
+            }
         }
     }
 
@@ -100,11 +118,19 @@ impl WholeSink for WholeFile<'_> {
 
     fn finish(&mut self) -> Result<(), DeviceErr> {
         if let Some(beside) = self.beside {
-            if fs::rename(self.rt, beside, self.place).is_err() {
-                return Err(self.fail());
+            if let Err(error) = fs::rename(self.rt, beside, self.place) {
+                return Err(self.fail(reason(error.kind())));
             }
         }
         self.whole = true;
         Ok(())
+    }
+
+    fn name(&self) -> &str {
+        self.place
+    }
+
+    fn why(&self) -> &str {
+        self.why
     }
 }

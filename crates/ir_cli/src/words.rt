@@ -15,6 +15,10 @@ a line with its trace in hexadecimal, and then commands, a line each:
   step T N   move thread T forward by N steps
   regs T     show pc and registers of thread T
   quit       end the session
+A session of a source of your own, with xxd for the hexadecimal:
+  ir asm guest.s guest.img
+  ir record guest.img guest.trc
+  { for file in guest.img guest.trc; do xxd -p $file | tr -d '\\n'; echo; done; echo step 0 9; echo regs 0; } | ir
 Exit status: 0 done, 1 a fault, 2 bad words, 3 a refused image or trace, 4 a trace that doesn't fit.
 ";
 
@@ -26,7 +30,8 @@ const IMAGE: &str = "IMAGE";
 
 const ASM_ABOUT: &str = "Assembles a guest's source into an image";
 
-const ASM_AFTER: &str =
+/// What follows the help of `ir asm`.
+pub const ASM_AFTER: &str =
     "A source is lines: labels `name:`, then an instruction of RV32IM or a directive, then a comment from `#` on.
 Directives:
   .text, .data       the section from here on; a source begins in text
@@ -36,7 +41,32 @@ Directives:
   .thread LABEL      the next thread's entry; without any there is one thread, at the start of the text
   .objects N         the number of shared objects, at most 16
   .object O, V, ..   the first words of object O, at most 8
-`nop` and `li REGISTER, VALUE-OR-LABEL` are taken too; a target is a label, `.+N` or `.-N`.
+Instructions, a form a line; TARGET is a label, `.+N` or `.-N`, and V a number, decimal or `0x` and hexadecimal digits:
+  add rd, rs1, rs2       so sub, sll, slt, sltu, xor, srl, sra, or, and, mul, mulh, mulhsu, mulhu, div, divu, rem, remu
+  addi rd, rs1, V        so slti, sltiu, xori, ori, andi; V from -2048 to 2047
+  slli rd, rs1, V        so srli, srai; V from 0 to 31
+  lw rd, V(rs1)          so lb, lbu, lh, lhu, jalr; V from -2048 to 2047
+  sw rs2, V(rs1)         so sb, sh; V from -2048 to 2047
+  beq rs1, rs2, TARGET   so bne, blt, bge, bltu, bgeu; a distance from -4096 to 4094, even
+  jal rd, TARGET         a distance from -1048576 to 1048574, even
+  lui rd, V              so auipc; V, the upper 20 bits, from 0 to 1048575
+  li rd, V               two instructions, LUI and ADDI; V from -2147483648 to 4294967295, or a label
+  fence rd, rs1, V       or `fence` alone; V from 0 to 4095
+  ecall                  so ebreak, nop
+Registers are x0 to x31, or zero, ra, sp, gp, tp, t0 to t6, s0 (fp) to s11, a0 to a7.
+Calls, made by `ecall` with the number in a7; one without an answer keeps all registers:
+   1  END          a0 code                        the thread ends
+   2  PUTC         a0                             its low byte is put out
+   3  PUTN         a0                             put out in decimal, with its sign, and a line feed
+   4  CLOCK                                       answers the time in a0
+   5  RANDOM                                      answers a random word in a0
+   6  INPUT                                       answers the next byte in a0, 0xFFFFFFFF at the end
+   7  ENTER_READ   a0 object                      waits while another is inside for writing
+   8  ENTER_WRITE  a0 object                      waits while another is inside
+   9  LEAVE        a0 object                      the thread is no longer inside
+  10  GET          a0 object, a1 index            answers the object's word in a0
+  11  PUT          a0 object, a1 index, a2 word   writes the object's word
+  12  SELF                                        answers the thread's number in a0
 A fault is told on standard error as `line L error C`, C being
    1 a byte that a source may not hold        7 an undefined label
    2 an unknown instruction or directive      8 a label that is too far away
@@ -141,9 +171,11 @@ fn record_command<'a>(alloc: Global) -> Result<Command<'a>, AllocError> {
     let trace = Arg::new(alloc, TRACE)
         .required(true)
         .help("The file that the trace is written to");
-    let order = Arg::new(alloc, ORDER).long(ORDER).value_name("LIST").help(
-        "Which thread takes each next step; without it the guest runs on real threads",
-    );
+    let order = Arg::new(alloc, ORDER)
+        .long(ORDER)
+        .value_name("LIST")
+        .allow_hyphen_values(true)
+        .help("Which thread takes each next step; without it the guest runs on real threads");
     Command::new(alloc, RECORD)
         .about(RECORD_ABOUT)
         .after_help(RECORD_AFTER)
@@ -160,6 +192,7 @@ fn budget_arg<'a>(alloc: Global) -> Arg<'a> {
         .long(BUDGET)
         .value_name("B")
         .default_value("1000000")
+        .allow_negative_numbers(true)
         .help("The most steps of each thread, at most 1000000000000")
 }
 
@@ -168,6 +201,7 @@ fn random_arg<'a>(alloc: Global) -> Arg<'a> {
         .long(RANDOM)
         .value_name("S")
         .default_value("0")
+        .allow_negative_numbers(true)
         .help("Where random words start, at most 18446744073709551615")
 }
 
@@ -188,15 +222,26 @@ fn command<'a>(alloc: Global) -> Result<Command<'a>, AllocError> {
         .bin_name("ir")
 }
 
-fn first_line(alloc: Global, error: &Error) -> Result<String, AllocError> {
+// What an error says before its first empty line, in one line.
+fn in_one_line(alloc: Global, error: &Error) -> Result<String, AllocError> {
     let text = error.to_string(alloc)?;
-    let line = text.lines().next().unwrap_or("the words can't be read");
-    String::from_str(alloc, line)
+    let text = text.as_str();
+    let mut line = String::new(alloc);
+    for part in text.strip_prefix("error: ").unwrap_or(text).lines() {
+        if part.is_empty() {
+            break;
+        }
+        if !line.is_empty() {
+            line.push(' ')?;
+        }
+        line.push_str(part.trim())?;
+    }
+    Ok(line)
 }
 
 fn asked_for(alloc: Global, error: &Error) -> Result<Asked, AllocError> {
     if error.use_stderr() {
-        Ok(Asked::Nothing(first_line(alloc, error)?))
+        Ok(Asked::Nothing(in_one_line(alloc, error)?))
     } else {
         Ok(Asked::Help(error.to_string(alloc)?))
     }
@@ -225,23 +270,26 @@ fn assembling(alloc: Global, matches: &ArgMatches<'_>) -> Result<Asked, AllocErr
     ))
 }
 
+// That the value of an option is no number up to the most.
+fn no_number(alloc: Global, option: &str, value: &str, most: u64) -> Result<String, AllocError> {
+    format!(in alloc; "--{option}: '{value}' is no number up to {most}")
+}
+
 fn recording(alloc: Global, matches: &ArgMatches<'_>) -> Result<Asked, AllocError> {
     let budget = matches.get_str(BUDGET).unwrap_or_default();
-    let Some(budget) = number_within(0, MOST_BUDGET, budget) else {
-        let why = "the budget is no number up to 1000000000000";
-        return Ok(Asked::Nothing(String::from_str(alloc, why)?));
+    let Some(most) = number_within(0, MOST_BUDGET, budget) else {
+        return Ok(Asked::Nothing(no_number(alloc, BUDGET, budget, MOST_BUDGET)?));
     };
     let random = matches.get_str(RANDOM).unwrap_or_default();
-    let Some(random) = number_within(0, u64::MAX, random) else {
-        let why = "the start of random words is no number up to 18446744073709551615";
-        return Ok(Asked::Nothing(String::from_str(alloc, why)?));
+    let Some(start) = number_within(0, u64::MAX, random) else {
+        return Ok(Asked::Nothing(no_number(alloc, RANDOM, random, u64::MAX)?));
     };
     Ok(Asked::Recording(RecordWords {
         image: text_of(alloc, matches, IMAGE)?,
         trace: text_of(alloc, matches, TRACE)?,
         order: given_text(alloc, matches, ORDER)?,
-        budget,
-        random,
+        budget: most,
+        random: start,
         input: given_text(alloc, matches, INPUT)?,
     }))
 }
@@ -254,7 +302,8 @@ fn by_subcommand(alloc: Global, matches: &ArgMatches<'_>) -> Result<Asked, Alloc
     }
 }
 
-fn parsed(alloc: Global, words: &[String]) -> Asked {
+/// What the words ask for, of which the first is the program's name.
+pub fn parsed(alloc: Global, words: &[String]) -> Asked {
     let Ok(command) = command(alloc) else {
         return Asked::NoMem;
     };
