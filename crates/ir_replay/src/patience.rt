@@ -19,8 +19,9 @@ const LOOKS_AWAKE: u64 = 200;
 
 const SLEEP_MICROS: u64 = 50;
 
-// How often it looks for one step once another worker has ended its round: what it waits for may then not come.
-const LAST_LOOKS: u64 = 64;
+// How often it looks for one step once another worker has ended its round: what it waits for may then not come. Some two
+// milliseconds, where a worker that ends has waited for more than ten times as long.
+const LAST_LOOKS: u64 = LOOKS_AWAKE + 20;
 
 /// How often a worker may still look for steps that aren't admitted.
 #[derive(Drop)]
