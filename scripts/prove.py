@@ -3,14 +3,13 @@
 
 python3 scripts/prove.py CRATE [JOBS]
 
-Prints a line for each crate. JOBS is how many are proved at once: else as many as there are processors, and 4 GiB of
-memory for each. What is proved already is kept in the crates' out/ and only looked at.
+Prints a line as each crate ends, with the seconds so far, and all that `rt all check` said of one that isn't proved. JOBS is how many are proved at
+once: else as many as there are processors with 4 GiB of memory each. What is proved already is only looked at.
 """
 import os
 import subprocess
 import sys
 import time
-from concurrent.futures import FIRST_COMPLETED, ThreadPoolExecutor, wait
 from pathlib import Path
 
 TOP = Path(__file__).resolve().parent.parent
@@ -42,43 +41,34 @@ def default_jobs():
     return max(1, min(len(os.sched_getaffinity(0)), memory // (GIB_EACH << 30)))
 
 
-def proved(crate):
-    """Proves one crate whose libraries stand. Answers the seconds, the exit status and what was printed."""
-    start = time.monotonic()
-    run = subprocess.run(["rt", "check", "--jobs", "1"], cwd=TOP / "crates" / crate, text=True,
-                         stdout=subprocess.PIPE, stderr=subprocess.STDOUT, check=False)
-    return time.monotonic() - start, run.returncode, run.stdout
-
-
-def prove_all(crates, below, jobs):
-    """Proves each crate once all below it are. Answers the first that failed, with what was printed."""
-    done, running = set(), {}
-    with ThreadPoolExecutor(jobs) as pool:
-        while len(done) < len(crates):
-            for crate in sorted(crates - done - set(running.values())):
-                if done.issuperset(below[crate]):
-                    running[pool.submit(proved, crate)] = crate
-            ready, _ = wait(running, return_when=FIRST_COMPLETED)
-            for future in ready:
-                crate = running.pop(future)
-                seconds, status, output = future.result()
-                if status != 0:
-                    pool.shutdown(cancel_futures=True)
-                    return crate, output
-                done.add(crate)
-                print(f"{crate}: proved, {seconds:.0f} s ({len(done)} of {len(crates)})", flush=True)
-    return None
+def proved(crate, jobs, count):
+    """Proves the crate and those below it, and prints a line as each ends. Answers the exit status and what was said."""
+    start, sections, name = time.monotonic(), {"": []}, ""
+    words = ["rt", "all", "check", "--jobs", jobs]
+    with subprocess.Popen(words, cwd=TOP / "crates" / crate, text=True, errors="replace",
+                          stdout=subprocess.PIPE, stderr=subprocess.STDOUT) as run:
+        for line in run.stdout:
+            if line.startswith("== "):
+                name = line[3:].strip()
+                sections[name] = []
+                if name != "summary":
+                    print(f"{name} ({len(sections) - 1} of {count}), {time.monotonic() - start:.0f} s", flush=True)
+            else:
+                sections[name].append(line)
+    return run.returncode, sections
 
 
 def main():
     below = listed()
     if len(sys.argv) not in (2, 3) or sys.argv[1] not in below:
         sys.exit("usage: python3 scripts/prove.py CRATE [JOBS]")
-    jobs = int(sys.argv[2]) if len(sys.argv) == 3 else default_jobs()
-    failed = prove_all(needed(sys.argv[1], below), below, jobs)
-    if failed:
-        crate, output = failed
-        print(output, end="")
+    crate = sys.argv[1]
+    jobs = sys.argv[2] if len(sys.argv) == 3 else str(default_jobs())
+    status, sections = proved(crate, jobs, len(needed(crate, below)))
+    if status != 0:
+        summary = sections.get("summary", [])
+        good = {line.split(":")[0] for line in summary if line.endswith(": ok\n")}
+        print("".join(line for name, lines in sections.items() if name not in good for line in lines), end="")
         sys.exit(f"{crate}: not proved")
 
 
