@@ -9,10 +9,10 @@ use Rattle.ir_log.specs.Logging.{mark_of}
 use Rattle.ir_log.specs.declared.event.Event.{Event}
 use Rattle.ir_trace.specs.Told.{recorded_thread}
 use Rattle.ir_runs.specs.Cuts.{Tells, Needs}
-use Rattle.ir_fit.specs.Fit.{FittedTrace, HasRun}
+use Rattle.ir_fit.specs.Fit.{FittedTrace, HasRun, IsFitted}
 use Rattle.ir_fit.specs.Places.{placed_at}
 use Rattle.ir_cut.specs.Positions.{machine_of, start_of, cut_of, EachRun, IsConsistentCut}
-use Rattle.ir_cut.specs.Searching.{IsFitted, AreInside, NeededBy, IsClosed}
+use Rattle.ir_cut.specs.Searching.{AreInside, NeededBy, IsClosed}
 use Rattle.ir_cut.proofs.Again.{teller}
 use Rattle.ir_cut.proofs.Listing.{listed}
 use Rattle.ir_cut.proofs.Searched.{entered, same_element}

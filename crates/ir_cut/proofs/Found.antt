@@ -2,12 +2,12 @@
 use Rattle.std.proofs.Common.{◌≡◌, ◌≢◌, ℕ, max, min, ◌<◌, ◌≤◌, List, length, set, sym, ap, ◌∙◌, subst, arith, length-set}
 use Rattle.std.specs.List.{slice_index_or}
 use Rattle.ir_trace.specs.Told.{recorded_thread}
-use Rattle.ir_fit.specs.Fit.{FittedTrace}
+use Rattle.ir_fit.specs.Fit.{FittedTrace, IsFitted}
 use Rattle.ir_thread.proofs.CallerLemmas.{lawful}
 use Rattle.ir_runs.proofs.CallerLemmas.{start_good, least_exact, greatest_exact}
 use Rattle.ir_fit.proofs.CallerLemmas.{starts}
 use Rattle.ir_cut.specs.Positions.{machine_of, start_of, cut_of, EachRun, IsConsistentCut, IsLeastCut, IsGreatestCut}
-use Rattle.ir_cut.specs.Searching.{IsFitted, Rising, Falling, NoneBelow, NoneAbove, AreFirst, AreRest}
+use Rattle.ir_cut.specs.Searching.{Rising, Falling, NoneBelow, NoneAbove, AreFirst, AreRest}
 use Rattle.ir_cut.proofs.Listing.{listed, no_leaves}
 use Rattle.ir_cut.proofs.Searched.{rising_start, rising_over, falling_start, falling_over}
 use Rattle.ir_cut.proofs.Stepping.{read_number, own_number, other_number}

@@ -7,11 +7,11 @@ use Rattle.ir_log.specs.Logging.{mark_of}
 use Rattle.ir_log.specs.declared.event.Event.{Event}
 use Rattle.ir_log.specs.declared.event.Event.TheVariants.{Read, Write}
 use Rattle.ir_runs.specs.Cuts.{Tells, Needs, Cut}
-use Rattle.ir_fit.specs.Fit.{FittedTrace}
+use Rattle.ir_fit.specs.Fit.{FittedTrace, IsFitted}
 use Rattle.ir_fit.specs.declared.leave.Leave.{Leave}
 use Rattle.ir_cut.specs.Moving.{EachPlace, IsRaised, IsLowered}
 use Rattle.ir_cut.specs.Positions.{machine_of, start_of, cut_of, EachRun}
-use Rattle.ir_cut.specs.Searching.{IsFitted, AreInside, RaisedFor, LoweredFor, NeededBy, Needing, IsEntryAt}
+use Rattle.ir_cut.specs.Searching.{AreInside, RaisedFor, LoweredFor, NeededBy, Needing, IsEntryAt}
 use Rattle.ir_fit.specs.Visits.{OnlyLeaves, AllLeaves, OnlyEntries, AllEntries}
 use Rattle.ir_fit.specs.declared.place.Place.{Place}
 use Rattle.ir_cut.proofs.Sought.{leaves_inside, leaves_raised, entries_lowered, raised_both, raised_same, raised_nothing, lowered_both, lowered_same, lowered_nothing}

@@ -8,11 +8,11 @@ use Rattle.ir_runs.specs.declared.access.Access.{Access}
 use Rattle.ir_runs.specs.Run.{Step, count}
 use Rattle.ir_trace.specs.Recorded.{IsRecorded}
 use Rattle.ir_runs.specs.Cuts.{Tells, Cut}
-use Rattle.ir_fit.specs.Fit.{FittedTrace, HasRun, IsRunOf}
+use Rattle.ir_fit.specs.Fit.{FittedTrace, HasRun, IsRunOf, IsFitted}
 use Rattle.ir_coherence.proofs.CallerLemmas.{thread_fits}
 use Rattle.ir_cut.specs.Moving.{ArePlaced, EachPlace, IsRaised, IsLowered}
 use Rattle.ir_cut.specs.Positions.{machine_of, start_of, cut_of, EachRun}
-use Rattle.ir_cut.specs.Searching.{IsFitted, AreInside, RaisedFor, LoweredFor}
+use Rattle.ir_cut.specs.Searching.{AreInside, RaisedFor, LoweredFor}
 use Rattle.ir_fit.specs.Visits.{OnlyLeaves, AllLeaves, OnlyEntries, AllEntries}
 use Rattle.ir_fit.specs.declared.place.Place.{Place}
 use Rattle.ir_cut.proofs.Again.{again, teller, place_within}

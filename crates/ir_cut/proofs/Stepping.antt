@@ -12,12 +12,12 @@ use Rattle.ir_trace.specs.Told.{absent, recorded_thread}
 use Rattle.std.specs.List.Sorted.{IsNonDecreasingBy, IsPartitionPoint}
 use Rattle.std.proofs.lemmas.List.{get_or_default}
 use Rattle.ir_runs.specs.Coherent.{sum_below}
-use Rattle.ir_fit.specs.Fit.{FittedTrace, HasRun}
+use Rattle.ir_fit.specs.Fit.{FittedTrace, HasRun, IsFitted}
 use Rattle.ir_fit.specs.Places.{placed_at}
 use Rattle.ir_fit.specs.declared.leave.Leave.{Leave}
 use Rattle.ir_runs.proofs.CallerLemmas.{sum_less}
 use Rattle.ir_cut.specs.Positions.{EachRun, cut_of}
-use Rattle.ir_cut.specs.Searching.{IsFitted, RaisedFor, LoweredFor, NeededBy, Needing, Rising, Falling, NoneAbove, HasBelow, HasAbove, AreLeaves, events_left, leaves_left}
+use Rattle.ir_cut.specs.Searching.{RaisedFor, LoweredFor, NeededBy, Needing, Rising, Falling, NoneAbove, HasBelow, HasAbove, AreLeaves, events_left, leaves_left}
 use Rattle.ir_cut.proofs.Listing.{Listed, listed}
 use Rattle.ir_cut.proofs.Searched.{rising_more, falling_more, same_element}
 
@@ -116,9 +116,6 @@ all_below f fit qs next t last x there at is_leave below e l less says =
 
 pub logged_sizes : (f : FittedTrace) → IsFitted f → (t : ℕ) (es : List Event) → t < length f.guest.entries → es ≡ (recorded_thread f.recorded t).events → length es ≡ length (placed_at f.placed t).entries
 logged_sizes f fit t es there log = ap length log ∙ sym ((listed f fit.run fit.run.run fit.run.whole).sizes t there)
-
-pub is_fitted : (f : FittedTrace) → HasRun f → (r : Recorded) → r ≡ f.recorded → IsRecorded r → IsFitted f
-is_fitted f h r same within = record { run = h; within = subst IsRecorded same within }
 
 -- there are as many threads in the trace
 pub as_many : (f : FittedTrace) → HasRun f → (r : Recorded) (ts : List RecordedThread) (t : ℕ) → r ≡ f.recorded → ts ≡ r.threads → t < length f.guest.entries → t < length ts

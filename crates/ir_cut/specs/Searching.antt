@@ -5,19 +5,13 @@ use Rattle.ir_runs.specs.declared.access.Access.{Access}
 use Rattle.ir_runs.specs.Run.{Step}
 use Rattle.ir_log.specs.Logging.{mark_of}
 use Rattle.ir_log.specs.declared.event.Event.{Event}
-use Rattle.ir_trace.specs.Recorded.{IsRecorded}
 use Rattle.ir_trace.specs.Told.{recorded_thread}
 use Rattle.ir_runs.specs.Coherent.{sum_below}
 use Rattle.ir_runs.specs.Cuts.{Tells, Needs, Cut, IsCut, Consistent}
-use Rattle.ir_fit.specs.Fit.{FittedTrace, HasRun}
+use Rattle.ir_fit.specs.Fit.{FittedTrace}
 use Rattle.ir_fit.specs.Places.{placed_at}
 use Rattle.ir_fit.specs.declared.leave.Leave.{Leave}
 use Rattle.ir_cut.specs.Positions.{machine_of, start_of, cut_of}
-
--- there is a run with the trace, and the trace is within its limits
-pub record IsFitted (f : FittedTrace) : Type 0 where
-  pub run : HasRun f
-  pub within : IsRecorded f.recorded
 
 -- the steps that tell so are inside the cut
 abbrev pub AreInside : FittedTrace → List Step → (Mark → Type 0) → Cut → Type 0

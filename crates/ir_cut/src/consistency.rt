@@ -3,10 +3,11 @@
 ghost use Rattle.std.specs.Prelude.{◌≡◌, ◌<◌, ◌≤◌, ℕ, length, IsTrue, ◌↔◌};
 ghost use Rattle.ir_trace.specs.Told.{recorded_thread};
 ghost use Rattle.ir_cut.specs.Positions.{EachRun, IsConsistentCut, cut_of};
-ghost use Rattle.ir_cut.specs.Searching.{IsClosed, IsFitted};
+ghost use Rattle.ir_fit.specs.Fit.{IsFitted};
+ghost use Rattle.ir_cut.specs.Searching.{IsClosed};
 
 use crate::cut::Cut;
-use crate::logs::{known, log_of, steps_of};
+use crate::logs::{log_of, steps_of};
 use crate::needs::are_met;
 use ir_fit::Fitted;
 
@@ -61,6 +62,6 @@ pub fn consistent(fitted: &Fitted, cut: &Cut) -> bool
     requires { length cut.now ≡ length fitted.now.guest.entries }
     ensures { IsTrue result ↔ IsConsistentCut fitted.now cut.now }
 {
-    known(fitted);
+    fitted.known();
     are_within(fitted, cut.positions())
 }

@@ -4,10 +4,10 @@ ghost use Rattle.std.specs.Prelude.{◌≡◌, ◌<◌, ◌≤◌, true, false, 
 ghost use Rattle.std.specs.List.Sorted.{IsNonDecreasingBy};
 ghost use Rattle.ir_fit.specs.declared.leave.Leave.{Leave};
 ghost use Rattle.ir_cut.specs.Positions.{EachRun, IsConsistentCut, IsGreatestCut, cut_of};
-ghost use Rattle.ir_cut.specs.Searching.{AreLeaves, AreRest, Falling, HasAbove, IsFitted, NoneAbove, leaves_left};
+ghost use Rattle.ir_fit.specs.Fit.{IsFitted};
+ghost use Rattle.ir_cut.specs.Searching.{AreLeaves, AreRest, Falling, HasAbove, NoneAbove, leaves_left};
 
 use crate::cut::Cut;
-use crate::logs::known;
 use crate::needs::lower_for;
 use ir_fit::{Fitted, Leave};
 use std::alloc::{AllocError, Global};
@@ -119,9 +119,12 @@ pub fn greatest(
     requires consistent { IsConsistentCut fitted.now cut.now }
     requires thread { t < length fitted.now.guest.entries }
     ensures greatest { IfOk result (λ c. IsGreatestCut fitted.now cut.now t k c) }
+    // What holds whatever run has the trace.
+    ensures below { IfOk result (λ c. (u : ℕ) → cut_of c u ≤ cut_of cut.now u) }
+    ensures consistent { IfOk result (λ c. IsConsistentCut fitted.now c) }
     ensures exact { IfOk result (λ c. k ≤ cut_of cut.now t → cut_of c t ≡ k) }
 {
-    known(fitted);
+    fitted.known();
     let mut next = leaves_inside(alloc, fitted, cut.positions())?;
     let mut positions = Vec::from_slice(alloc, cut.positions())?;
     positions[t] = positions[t].min(k);

@@ -3,7 +3,7 @@
 ghost use Rattle.std.specs.Prelude.{◌≡◌, ◌<◌, length};
 ghost use Rattle.ir_trace.specs.Told.{recorded_thread};
 ghost use Rattle.ir_fit.specs.Places.{placed_at};
-ghost use Rattle.ir_cut.specs.Searching.{IsFitted};
+ghost use Rattle.ir_fit.specs.Fit.{IsFitted};
 
 use ir_fit::Fitted;
 use ir_log::Event;
@@ -15,6 +15,7 @@ pub fn log_of(fitted: &Fitted, t: usize) -> &[Event]
     ensures size { length result.now ≡ length (placed_at fitted.now.placed t).entries }
     ensures fitted { IsFitted fitted.now }
 {
+    fitted.known();
     fitted.trace().threads()[t].log().events()
 }
 
@@ -23,12 +24,6 @@ pub fn steps_of(fitted: &Fitted, t: usize) -> u64
     requires { t < length fitted.now.guest.entries }
     ensures { result ≡ (recorded_thread fitted.now.recorded t).steps }
 {
+    fitted.known();
     fitted.trace().threads()[t].steps()
-}
-
-// There is a run with the trace, and the trace is within its limits.
-pub fn known(fitted: &Fitted)
-    ensures { IsFitted fitted.now }
-{
-    fitted.trace().threads();
 }

@@ -5,7 +5,8 @@ ghost use Rattle.ir_runs.specs.Marks.{In};
 ghost use Rattle.ir_runs.specs.declared.access.Access.TheVariants.{Reading};
 ghost use Rattle.ir_log.specs.Logging.{mark_of};
 ghost use Rattle.ir_cut.specs.Positions.{EachRun, cut_of};
-ghost use Rattle.ir_cut.specs.Searching.{AreInside, IsEntryAt, IsFitted, NeededBy, Needing, RaisedFor, LoweredFor};
+ghost use Rattle.ir_fit.specs.Fit.{IsFitted};
+ghost use Rattle.ir_cut.specs.Searching.{AreInside, IsEntryAt, NeededBy, Needing, RaisedFor, LoweredFor};
 
 use crate::moving::{are_inside, lower, raise};
 use ir_fit::{Fitted, Leave};

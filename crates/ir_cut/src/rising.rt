@@ -4,10 +4,11 @@ ghost use Rattle.std.specs.Prelude.{◌≡◌, ◌<◌, ◌≤◌, ℕ, List, le
 ghost use Rattle.std.specs.List.Sorted.{IsNonDecreasingBy};
 ghost use Rattle.ir_trace.specs.Told.{recorded_thread};
 ghost use Rattle.ir_cut.specs.Positions.{EachRun, IsConsistentCut, IsLeastCut, cut_of};
-ghost use Rattle.ir_cut.specs.Searching.{AreFirst, HasBelow, IsFitted, NoneBelow, Rising, events_left};
+ghost use Rattle.ir_fit.specs.Fit.{IsFitted};
+ghost use Rattle.ir_cut.specs.Searching.{AreFirst, HasBelow, NoneBelow, Rising, events_left};
 
 use crate::cut::Cut;
-use crate::logs::{known, log_of};
+use crate::logs::log_of;
 use crate::needs::raise_for;
 use ir_fit::Fitted;
 use std::alloc::{AllocError, Global};
@@ -99,9 +100,12 @@ pub fn least(alloc: Global, fitted: &Fitted, cut: &Cut, t: usize, k: u64) -> Res
     requires thread { t < length fitted.now.guest.entries }
     requires steps { k ≤ (recorded_thread fitted.now.recorded t).steps }
     ensures least { IfOk result (λ c. IsLeastCut fitted.now cut.now t k c) }
+    // What holds whatever run has the trace.
+    ensures above { IfOk result (λ c. (u : ℕ) → cut_of cut.now u ≤ cut_of c u) }
+    ensures consistent { IfOk result (λ c. IsConsistentCut fitted.now c) }
     ensures exact { IfOk result (λ c. cut_of cut.now t ≤ k → cut_of c t ≡ k) }
 {
-    known(fitted);
+    fitted.known();
     let mut next = events_inside(alloc, fitted, cut.positions())?;
     let mut positions = Vec::from_slice(alloc, cut.positions())?;
     positions[t] = positions[t].max(k);

@@ -34,7 +34,7 @@ use Rattle.ir_runs.specs.Standing.{StandsAs}
 use Rattle.ir_runs.specs.Verdicts.{Agrees}
 use Rattle.ir_runs.specs.declared.thread_verdict.ThreadVerdict.{ThreadVerdict}
 use Rattle.ir_runs.specs.declared.thread_verdict.ThreadVerdict.TheVariants.{Same, Disagrees, Starves}
-use Rattle.ir_fit.specs.declared.look.Move.{Move}
+use Rattle.ir_fit.specs.declared.follower.look.Move.{Move}
 use Rattle.ir_fit.proofs.Placed.{AllQuiet, quiet_join, quiet_places, quiet_leaves, places_append, leaves_append, placed_entries, placed_leaves, placed_room, placed_count, placed_fewer}
 use Rattle.ir_fit.proofs.Seen.{end_asked, ends_asked, tells, events_within}
 

@@ -32,9 +32,9 @@ use Rattle.ir_log.specs.declared.event.Event.TheVariants.{Answer, Read, Write}
 use Rattle.ir_trace.specs.Recorded.{Recorded, IsResult, IsEvent, IsRecordedThread}
 use Rattle.ir_trace.specs.Told.{recorded_thread, trace_of}
 use Rattle.ir_fit.specs.Ahead.{steps_ahead, log_ahead, CanFollow, IsStopped, AgreesAhead, IsOpen, IsOwn, EndsSo, IsSeen}
-use Rattle.ir_fit.specs.declared.look.Look.{Look}
-use Rattle.ir_fit.specs.declared.look.Look.TheVariants as look
-use Rattle.ir_fit.specs.declared.look.Move.{Move}
+use Rattle.ir_fit.specs.declared.follower.look.Look.{Look}
+use Rattle.ir_fit.specs.declared.follower.look.Look.TheVariants as look
+use Rattle.ir_fit.specs.declared.follower.look.Move.{Move}
 use Rattle.ir_runs.specs.Following.{unlogged, ends_at, ends_now, Meets}
 use Rattle.ir_runs.specs.Verdicts as verdicts
 

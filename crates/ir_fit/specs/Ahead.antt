@@ -20,9 +20,9 @@ use Rattle.ir_trace.specs.Recorded.{Recorded}
 use Rattle.ir_trace.specs.Told.{recorded_thread, trace_of}
 use Rattle.ir_runs.specs.Following.{unlogged, closing}
 use Rattle.ir_runs.specs.Verdicts.{Agrees}
-use Rattle.ir_fit.specs.declared.look.Look.{Look}
-use Rattle.ir_fit.specs.declared.look.Look.TheVariants.{Done, Disagrees, Waits, Goes}
-use Rattle.ir_fit.specs.declared.look.Move.{Move}
+use Rattle.ir_fit.specs.declared.follower.look.Look.{Look}
+use Rattle.ir_fit.specs.declared.follower.look.Look.TheVariants.{Done, Disagrees, Waits, Goes}
+use Rattle.ir_fit.specs.declared.follower.look.Move.{Move}
 
 -- how many steps the trace leaves to thread t, where the guest stands so
 abbrev pub steps_ahead : Recorded → Flat → ℕ → ℕ

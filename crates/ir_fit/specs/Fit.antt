@@ -3,7 +3,7 @@ use Rattle.std.specs.Prelude.{◌≡◌, ◌≢◌, ◌<◌, ℕ, List, length, 
 use Rattle.ir_image.specs.Guest.{Guest, object_count}
 use Rattle.ir_flat.specs.Flat.{start_flat, tables, machine}
 use Rattle.ir_runs.specs.Run.{Step, trail}
-use Rattle.ir_trace.specs.Recorded.{Recorded}
+use Rattle.ir_trace.specs.Recorded.{Recorded, IsRecorded}
 use Rattle.ir_trace.specs.Told.{trace_of}
 use Rattle.ir_coherence.specs.Breaking.{IsFirstBreak}
 use Rattle.ir_runs.specs.Coherent.{IsCoherent}
@@ -61,6 +61,11 @@ pub record HasRun (f : FittedTrace) : Type 0 where
   pub each : length f.placed ≡ length f.guest.entries
   pub entries : (t : ℕ) → t < length f.guest.entries → (placed_at f.placed t).entries ≡ places_of (trail (machine (start_flat f.guest f.recorded.budget)) (tables (start_flat f.guest f.recorded.budget)) run t)
   pub leaves : (t : ℕ) → t < length f.guest.entries → (placed_at f.placed t).leaves ≡ leaves_of (trail (machine (start_flat f.guest f.recorded.budget)) (tables (start_flat f.guest f.recorded.budget)) run t)
+
+-- there is a run with the trace, and the trace is within its limits
+pub record IsFitted (f : FittedTrace) : Type 0 where
+  pub run : HasRun f
+  pub within : IsRecorded f.recorded
 
 -- the trace has another number of threads than the guest; or as many, and another number of objects
 abbrev pub IsOther : Guest → Recorded → HeaderCause → Type 0

@@ -11,11 +11,18 @@ use Rattle.ir_runs.specs.Following.{Follows, IsMaximal, closing, left_log}
 use Rattle.ir_runs.specs.declared.thread_verdict.ThreadVerdict.{ThreadVerdict}
 use Rattle.ir_runs.specs.declared.thread_verdict.ThreadVerdict.TheVariants.{Same}
 use Rattle.ir_runs.specs.Verdicts.{IsVerdict, HoldsEvents, IsWhole, result_of}
+use Rattle.ir_trace.specs.Recorded.{Recorded}
+use Rattle.ir_fit.specs.Fit.{IsRunOf}
 
 -- runs with one trace have the same threads, consistent cuts and objects
 abbrev pub TraceDetermines : Type 0
 TraceDetermines = (guest : Guest) (budget : ℕ) (run run' : List Step) → let f = start_flat guest budget in IsRun (machine f) (tables f) run → IsRun (machine f) (tables f) run'
     → SameTrace (machine f) (tables f) run run' → SameRun (machine f) (tables f) run run'
+
+-- so have complete runs of a guest with one recorded trace
+abbrev pub RecordedDetermines : Type 0
+RecordedDetermines = (guest : Guest) (recorded : Recorded) (run run' : List Step) → IsRunOf guest recorded run → IsRunOf guest recorded run'
+    → let f = start_flat guest recorded.budget in SameRun (machine f) (tables f) run run'
 
 -- at a consistent cut of a run, the steps in it are a run
 abbrev pub CutsAreRuns : Type 0

@@ -1,7 +1,7 @@
 //! A guest with the trace of one of its runs.
 
 ghost use Rattle.std.specs.Prelude.{◌≡◌, ◌<◌, length, IfOk};
-ghost use Rattle.ir_fit.specs.Fit.{FittedTrace, HasRun};
+ghost use Rattle.ir_fit.specs.Fit.{FittedTrace, HasRun, IsFitted};
 ghost use Rattle.ir_fit.specs.Places.{placed_at};
 ghost use Rattle.ir_fit.specs.Visits.{IsListing, all_entered, all_left, OnlyEntries, AllEntries, OnlyLeaves, AllLeaves};
 
@@ -36,7 +36,7 @@ impl Model for Fitted {
 
 impl Fitted {
     // The guest, the trace that one of its runs has, and the positions in this run.
-    pub fn new(
+    pub(crate) fn new(
         alloc: Global,
         image: Image,
         trace: Trace,
@@ -55,6 +55,13 @@ impl Fitted {
             entered,
             left,
         })
+    }
+
+    /// Does nothing. For proofs: there is a complete run of the guest with the trace, which is within its limits.
+    pub fn known(&self)
+        ensures { IsFitted self.now }
+    {
+        self.trace.threads();
     }
 
     /// The guest.
@@ -76,8 +83,7 @@ impl Fitted {
     /// For each event of thread t, in order, how many steps the thread took before it.
     pub fn entries(&self, t: usize) -> &[u64]
         requires { t < length self.now.guest.entries }
-        ensures value { result.now ≡ (placed_at self.now.placed t).entries }
-        ensures within { HasRun self.now }
+        ensures { result.now ≡ (placed_at self.now.placed t).entries }
     {
         self.places[t].entries()
     }
@@ -85,8 +91,7 @@ impl Fitted {
     /// The leaves of thread t, in order; those after its end are among them.
     pub fn leaves(&self, t: usize) -> &[Leave]
         requires { t < length self.now.guest.entries }
-        ensures value { result.now ≡ (placed_at self.now.placed t).leaves }
-        ensures within { HasRun self.now }
+        ensures { result.now ≡ (placed_at self.now.placed t).leaves }
     {
         self.places[t].leaves()
     }
@@ -97,7 +102,6 @@ impl Fitted {
     pub fn entries_at(&self, object: u8, access: Access, version: u32) -> &[Place]
         ensures only { OnlyEntries self.now object access version result.now }
         ensures all { AllEntries self.now object access version result.now }
-        ensures within { HasRun self.now }
     {
         self.entered.at(object, access, version)
     }
@@ -108,7 +112,6 @@ impl Fitted {
     pub fn leaves_at(&self, object: u8, access: Access, version: u32) -> &[Place]
         ensures only { OnlyLeaves self.now object access version result.now }
         ensures all { AllLeaves self.now object access version result.now }
-        ensures within { HasRun self.now }
     {
         self.left.at(object, access, version)
     }

@@ -7,11 +7,17 @@ ghost use Rattle.ir_trace.specs.Told.{recorded_thread};
 ghost use Rattle.ir_fit.specs.Ahead.{steps_ahead};
 
 use crate::places::Places;
-use crate::readiness::Readiness;
+use crate::follower::readiness::Readiness;
 use ir_flat::Flat;
 use ir_object::Object;
 use ir_thread::Thread;
 use ir_trace::{ThreadTrace, Trace};
+
+pub mod ending;
+pub mod look;
+mod readiness;
+mod running;
+mod stepping;
 
 // The threads and objects of a guest, the trace that they follow, and what is known of each thread.
 #[derive(Drop)]

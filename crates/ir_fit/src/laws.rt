@@ -1,10 +1,12 @@
 //! What holds of all runs of a guest and of all traces. The functions do nothing: their contracts are the laws.
 
-ghost use Rattle.ir_fit.specs.Laws.{TraceDetermines, CutsAreRuns, OwnTraceCoherent, CompleteFits, MaximalExists, OneVerdict, FitsExactly, OneStepEach};
+ghost use Rattle.ir_fit.specs.Laws.{TraceDetermines, RecordedDetermines, CutsAreRuns, OwnTraceCoherent, CompleteFits, MaximalExists, OneVerdict, FitsExactly, OneStepEach};
 
-/// Runs with one trace have the same threads at each position, the same consistent cuts and at these the same objects.
+/// Runs with one trace have the same threads at each position, the same consistent cuts and at these the same objects;
+/// so have any two complete runs of a guest with one recorded trace.
 pub fn trace_determines()
-    ensures { TraceDetermines }
+    ensures runs { TraceDetermines }
+    ensures recorded { RecordedDetermines }
 {}
 
 /// At a consistent cut of a run the steps in it are a run, which leads to the threads at their positions.

@@ -5,20 +5,16 @@
 mod coherence;
 #[cfg(test)]
 mod coherence_tests;
+mod fit;
 mod fit_err;
 #[cfg(test)]
 mod fit_tests;
 mod fitted;
-mod fitting;
-mod followed;
 mod follower;
-mod following;
-mod going;
 mod header;
 mod header_cause;
 mod laws;
 mod leave;
-mod look;
 mod object_places;
 mod place;
 mod places;
@@ -26,7 +22,6 @@ mod places;
 mod plain_fit;
 #[cfg(test)]
 mod plain_tests;
-mod readiness;
 mod verdict;
 mod visiting;
 mod visits;
@@ -36,7 +31,7 @@ mod visits_tests;
 pub use coherence::coherent;
 pub use fit_err::FitErr;
 pub use fitted::Fitted;
-pub use fitting::fit;
+pub use fit::fit;
 pub use header_cause::HeaderCause;
 pub use ir_coherence::Cause;
 pub use laws::{
@@ -44,6 +39,6 @@ pub use laws::{
     own_trace_coherent, trace_determines,
 };
 pub use leave::Leave;
-pub use look::is_open;
+pub use follower::look::is_open;
 pub use place::Place;
 pub use verdict::Verdict;

@@ -6,6 +6,7 @@ ghost use Rattle.ir_runs.specs.Run.{Can, after};
 ghost use Rattle.ir_flat.specs.Next.{next, MayStep};
 ghost use Rattle.ir_image.specs.Guest.{object_count};
 ghost use Rattle.ir_thread.specs.Calls.{ask_of, Permits};
+ghost use Rattle.ir_thread.specs.Private.{NoInstruction};
 ghost use Rattle.std.specs.Prelude.{◌≡◌, ◌<◌, ◌≤◌, ◌↔◌, length, IfOk, OnOk, OnErr, IsTrue};
 
 use crate::parts::Parts;
@@ -115,24 +116,14 @@ impl<'a> Flat<'a> {
         self.parts.may(t, 0, asked)
     }
 
-    /// Thread t takes private steps, instructions and calls that need nobody else, until its next
-    /// step is another or `limit` are taken, and how many they are. They log nothing.
-    pub fn run(&mut self, t: usize, limit: u64) -> u64
-        requires { t < length self.old.threads }
-        ensures within { result ≤ limit }
-        ensures flat { IsFlat self.old }
-        ensures went { WentAlone self.old self.new t result }
-    {
-        self.parts.run(t, limit)
-    }
-
-    /// Thread t takes instructions, at most `limit`, and how many they are. They are private steps,
-    /// and where they end the thread may have more of these.
+    /// Thread t takes instructions, at most `limit`, and how many they are: private steps, which log nothing, but no call.
+    /// It stops below the limit only where the next step is no instruction.
     pub fn run_instructions(&mut self, t: usize, limit: u64) -> u64
         requires { t < length self.old.threads }
         ensures within { result ≤ limit }
         ensures flat { IsFlat self.old }
         ensures went { WentAlone self.old self.new t result }
+        ensures stops { result < limit → NoInstruction self.new.code (thread_of self.new t) }
     {
         self.parts.run_instructions(t, limit)
     }

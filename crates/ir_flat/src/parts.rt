@@ -6,6 +6,7 @@ ghost use Rattle.ir_object.specs.Cell.{Admitted, CanLeave};
 ghost use Rattle.ir_object.specs.Word.{IsFields, entered, left_by};
 ghost use Rattle.ir_thread.specs.Calls.{ask_of, run_of, after_reply, Permits, Suits};
 ghost use Rattle.ir_thread.specs.Instance.{is_result};
+ghost use Rattle.ir_thread.specs.Private.{NoInstruction};
 ghost use Rattle.ir_thread.specs.declared.ask.Ask.TheVariants.{Private};
 ghost use Rattle.std.specs.Prelude.{ℕ, ◌≡◌, ◌<◌, ◌≤◌, ◌≢◌, ◌↔◌, true, length, slice_index, slice_set, IsTrue, IfOk};
 
@@ -111,22 +112,13 @@ impl<'a> Parts<'a> {
         self.threads[t].take_asked(self.code, asked, reply);
     }
 
-    // Thread t takes private steps, at most so many, and how many they are.
-    pub fn run(&mut self, t: usize, limit: u64) -> u64
-        requires { t < length self.old.threads }
-        ensures within { result ≤ limit }
-        ensures each { (k : ℕ) → k < result → ask_of self.old.code (run_of self.old.code k (thread_of self.old t)) ≡ Private }
-        ensures moved { self.new ≡ with_thread self.old t (run_of self.old.code result (thread_of self.old t)) }
-    {
-        self.threads[t].run(self.code, limit)
-    }
-
-    // The same of instructions alone.
+    // Thread t takes instructions, at most so many, and how many they are: private steps, but no call.
     pub fn run_instructions(&mut self, t: usize, limit: u64) -> u64
         requires { t < length self.old.threads }
         ensures within { result ≤ limit }
         ensures each { (k : ℕ) → k < result → ask_of self.old.code (run_of self.old.code k (thread_of self.old t)) ≡ Private }
         ensures moved { self.new ≡ with_thread self.old t (run_of self.old.code result (thread_of self.old t)) }
+        ensures stops { result < limit → NoInstruction self.new.code (thread_of self.new t) }
     {
         self.threads[t].run_instructions(self.code, limit)
     }

@@ -246,7 +246,7 @@ fn together(flat: &mut Flat, limit: u64) -> u64 {
     if flat.threads().is_empty() {
         0
     } else {
-        flat.run(0, limit)
+        flat.run_instructions(0, limit)
     }
 }
 
@@ -260,5 +260,35 @@ fn private_steps_are_taken_together(rt: HostRuntime) -> Result<(), Fail> {
     assert_eq!(rt; together(&mut flat, 9), 3);
     run(&mut flat, 0, 3, 0)?;
     assert_eq!(rt; end_of(&flat), Some((2, 9, 1)));
+    Ok(())
+}
+
+fn can_step(flat: &Flat, thread: usize) -> bool {
+    thread < flat.threads().len() && flat.can_step(thread)
+}
+
+#[test]
+fn who_waits_or_is_done_has_no_step(rt: HostRuntime) -> Result<(), Fail> {
+    let image = guest(rt.alloc(), 2, 1, &PUT_AND_BREAK)?;
+    let mut flat = Flat::start(rt.alloc(), &image, 1000)?;
+    assert_eq!(rt; (can_step(&flat, 0), can_step(&flat, 1)), (true, true));
+    run(&mut flat, 0, 3, 0)?;
+    run(&mut flat, 1, 2, 0)?;
+    // Thread 0 is inside for writing, and thread 1 wants to enter.
+    assert_eq!(rt; (can_step(&flat, 0), can_step(&flat, 1)), (true, false));
+    assert_eq!(rt; run(&mut flat, 1, 1, 0), Err(NotAdmitted));
+    run(&mut flat, 0, 6, 0)?;
+    assert_eq!(rt; (can_step(&flat, 0), can_step(&flat, 1)), (false, true));
+    run(&mut flat, 1, 1, 0)?;
+    assert_eq!(rt; can_step(&flat, 1), true);
+    Ok(())
+}
+
+#[test]
+fn a_call_of_the_environment_is_a_step(rt: HostRuntime) -> Result<(), Fail> {
+    let image = guest(rt.alloc(), 1, 0, &[INPUT, ECALL, ECALL])?;
+    let mut flat = Flat::start(rt.alloc(), &image, 1000)?;
+    run(&mut flat, 0, 1, 0)?;
+    assert_eq!(rt; can_step(&flat, 0), true);
     Ok(())
 }

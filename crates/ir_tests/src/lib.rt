@@ -3,6 +3,8 @@
 
 #[cfg(test)]
 mod counting;
+#[cfg(test)]
+mod ends;
 mod laws;
 #[cfg(test)]
 mod recordings;

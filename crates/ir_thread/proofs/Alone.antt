@@ -1,7 +1,7 @@
 -- Whoever answers a thread, it is the thread run alone.
 use Rattle.std.proofs.Common.{◌≡◌, ℕ, List, [], ◌∷◌, length, Option, Some, refl, ap, ◌∙◌}
 use Rattle.std.specs.Prelude.{option_and_then}
-use Rattle.ir_thread.specs.Alone.{Lone, lone_reply, lone_after, lone_run, AllSuit, after_replies, value_before, values_of}
+use Rattle.ir_thread.specs.Alone.{lone_reply, lone_after, lone_run, AllSuit, after_replies, value_before, values_of}
 use Rattle.ir_thread.specs.Calls.{ask_of, after_reply, Suits}
 use Rattle.ir_thread.specs.State.{State}
 use Rattle.ir_thread.specs.declared.ask.Ask.{Ask}

@@ -1,11 +1,11 @@
 -- What is known of a thread where it asks something.
-use Rattle.std.proofs.Common.{◌≡◌, ◌≢◌, ℕ, ◌+◌, ◌<◌, ◌≤◌, List, length, Bool, true, false, cond, Option, Some, None, refl, sym, ap, ◌∙◌, subst, arith, nat_lt}
+use Rattle.std.proofs.Common.{◌≡◌, ◌≢◌, ℕ, ◌+◌, ◌<◌, ◌≤◌, List, length, Bool, true, false, cond, Option, Some, None, refl, sym, ap, subst, arith, nat_lt}
 use Rattle.std.proofs.lemmas.Bool.{cond_both}
 use Rattle.std.proofs.lemmas.Bool.Decides.{nat_tests}
 use Rattle.std.specs.Prelude.{nat_le, ◌&&◌}
 use Rattle.ir_mach.specs.Core.{Outcome, Goes, Calls, Ends}
 use Rattle.ir_mach.specs.Execution.{outcome_of}
-use Rattle.ir_thread.specs.Calls.{a0, a1, a2, call_at, byte_text, number_text, printed, printed_by, print_ask, logged_ask, is_object, has_word, enter_ask, leave_ask, leave_held, get_ask, get_held, put_ask, put_held, call_ask, outcome_ask, running_ask, give_back, ask_by, ask_of, IsRunning, CanLog, Permits, most_output, most_events, words_each}
+use Rattle.ir_thread.specs.Calls.{a0, a1, a2, call_at, byte_text, number_text, printed, printed_by, print_ask, logged_ask, is_object, has_word, enter_ask, leave_ask, leave_held, get_ask, get_held, put_ask, put_held, call_ask, outcome_ask, give_back, ask_by, ask_of, IsRunning, CanLog, Permits, most_output, most_events, words_each}
 use Rattle.ir_thread.specs.Held.{held_at, highest, is_above}
 use Rattle.ir_thread.specs.State.{State}
 use Rattle.ir_runs.specs.declared.access.Access.{Access}
@@ -16,7 +16,7 @@ use Rattle.ir_thread.specs.declared.call.Call.{Call}
 use Rattle.ir_thread.specs.declared.call.Call.TheVariants as call
 use Rattle.ir_thread.specs.declared.end.End.{End}
 use Rattle.ir_thread.specs.declared.end.End.TheVariants as end
-use Rattle.ir_thread.proofs.Highest.{IsTop, top_held}
+use Rattle.ir_thread.proofs.Highest.{top_held}
 
 -- where a test fails the thread ends, else it asks so
 tested : (s : State) (b : Bool) (q : Ask) (e : End) → s.ended ≡ None → (b ≡ true → Permits s q) → Permits s (cond b q (ask.End e))

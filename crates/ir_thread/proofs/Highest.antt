@@ -1,8 +1,7 @@
 -- The greatest object that is held.
-use Rattle.std.proofs.Common.{◌≡◌, ◌≢◌, ℕ, zero, suc, ◌+◌, ◌<◌, ◌≤◌, List, [], ◌∷◌, length, get_or, set, take, Option, Some, None, refl, sym, ap, ◌∙◌, subst, arith, true, false}
+use Rattle.std.proofs.Common.{◌≡◌, ◌≢◌, ℕ, zero, suc, ◌+◌, ◌<◌, ◌≤◌, List, [], ◌∷◌, length, get_or, set, take, Option, Some, None, refl, ap, ◌∙◌, subst, arith, true}
 use Rattle.std.proofs.lemmas.Bool.Decides.{nat_tests}
 use Rattle.std.proofs.lemmas.List.Sums.{sum_by-set, sum_by-cons}
-use Rattle.std.specs.List.{sum_by}
 use Rattle.ir_thread.specs.Held.{held_at, higher_of, highest, is_above, one_if_held, held_count}
 use Rattle.ir_runs.specs.declared.access.Access.{Access}
 

@@ -4,7 +4,7 @@ use Rattle.std.proofs.lemmas.Bool.{cases_eq}
 use Rattle.std.specs.Prelude.{option_map}
 use Rattle.ir_thread.specs.Calls.{ask_of, Permits, after_ask, after_reply}
 use Rattle.ir_thread.specs.Ends.{end_number, end_code}
-use Rattle.ir_thread.specs.Held.{held_at, highest, held_count}
+use Rattle.ir_thread.specs.Held.{held_at, held_count}
 use Rattle.ir_thread.specs.Instance.{shared_ask, reply_of, thread_machine}
 use Rattle.ir_runs.specs.Machine.{Machine, act_of, upd, held_after, Holds, IsLawful, IsClosing}
 use Rattle.ir_runs.specs.Machine as machine

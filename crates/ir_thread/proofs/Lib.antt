@@ -3,4 +3,5 @@ mod Asked
 mod Lawful
 mod Alone
 mod PrivateRuns
+mod Conditions
 pub mod CallerLemmas

@@ -1,5 +1,5 @@
 -- A thread run alone: its environment and its objects are a list of values.
-use Rattle.std.specs.Prelude.{◌≡◌, ℕ, zero, suc, List, [], ◌∷◌, ◌++◌, length, Option, Some, None, option_map, option_and_then, ⊤}
+use Rattle.std.specs.Prelude.{◌≡◌, ℕ, zero, suc, List, [], ◌∷◌, length, Option, Some, None, option_and_then, ⊤}
 use Rattle.ir_thread.specs.Calls.{ask_of, after_reply, Suits}
 use Rattle.ir_thread.specs.State.{State}
 use Rattle.ir_thread.specs.declared.ask.Ask.{Ask}

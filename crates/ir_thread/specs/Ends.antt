@@ -1,5 +1,5 @@
 -- The numbers of the ends.
-use Rattle.std.specs.Prelude.{ℕ, ◌==◌, ◌&&◌, not, List, [], ◌∷◌, find, Option, Some, None, if◌then◌else◌}
+use Rattle.std.specs.Prelude.{ℕ, ◌==◌, ◌&&◌, List, [], ◌∷◌, find, Option}
 use Rattle.ir_mach.specs.declared.outcome.Fault.{Fault}
 use Rattle.ir_mach.specs.declared.outcome.Fault.TheVariants as fault
 use Rattle.ir_thread.specs.declared.end.End.{End}

@@ -1,5 +1,5 @@
 -- What a thread holds: for each object of the guest, what it is inside for, if it is inside.
-use Rattle.std.specs.Prelude.{◌≡◌, ℕ, suc, Bool, true, List, [], ◌∷◌, Option, Some, None, nat_lt}
+use Rattle.std.specs.Prelude.{ℕ, suc, Bool, true, List, [], ◌∷◌, Option, Some, None, nat_lt}
 use Rattle.std.specs.List.{slice_index_or, sum_by}
 use Rattle.ir_runs.specs.declared.access.Access.{Access}
 

@@ -1,5 +1,5 @@
 -- The thread of a guest as a machine that asks and is answered.
-use Rattle.std.specs.Prelude.{ℕ, ◌^◌, ◌==◌, Bool, ◌||◌, List, Option, nat_lt, option_map}
+use Rattle.std.specs.Prelude.{ℕ, ◌^◌, ◌==◌, Bool, ◌||◌, List, nat_lt, option_map}
 use Rattle.ir_thread.specs.Calls.{ask_of, after_reply}
 use Rattle.ir_thread.specs.Ends.{end_number, end_code}
 use Rattle.ir_thread.specs.Held.{held_at, held_count}

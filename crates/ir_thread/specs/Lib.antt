@@ -5,3 +5,4 @@ pub mod Calls
 pub mod Instance
 pub mod Alone
 pub mod Private
+pub mod Conditions

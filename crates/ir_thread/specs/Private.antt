@@ -1,5 +1,7 @@
 -- Steps of a thread that are its own alone.
-use Rattle.std.specs.Prelude.{◌≡◌, ℕ, ◌<◌, List}
+use Rattle.std.specs.Prelude.{◌≡◌, ◌≢◌, ℕ, ◌<◌, List, None}
+use Rattle.ir_mach.specs.Execution.{outcome_of, ran_of}
+use Rattle.ir_mach.specs.declared.outcome.Ran.TheVariants as ran
 use Rattle.ir_thread.specs.State.{State}
 use Rattle.ir_thread.specs.Calls.{ask_of, run_of}
 use Rattle.ir_thread.specs.declared.ask.Ask.TheVariants as ask
@@ -8,3 +10,7 @@ use Rattle.ir_thread.specs.declared.ask.Ask.TheVariants as ask
 pub record PrivateSteps (code : List ℕ) (count : ℕ) (old new : State) : Type 0 where
   pub steps : new ≡ run_of code count old
   pub each : (k : ℕ) → k < count → ask_of code (run_of code k old) ≡ ask.Private
+
+-- the thread's next step is no instruction that is carried out: it has ended, or has no step left, or stands at a call or before an end
+abbrev pub NoInstruction : List ℕ → State → Type 0
+NoInstruction code s = s.ended ≡ None → s.steps < s.budget → ran_of (outcome_of code s.core) ≢ ran.Ran

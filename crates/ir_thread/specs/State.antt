@@ -1,5 +1,5 @@
 -- A thread apart from where it lies in memory.
-use Rattle.std.specs.Prelude.{◌≡◌, ℕ, ◌+◌, ◌<◌, ◌≤◌, List, [], length, replicate, Option, None}
+use Rattle.std.specs.Prelude.{ℕ, List, [], replicate, Option, None}
 use Rattle.ir_image.specs.Guest.{Guest, object_count}
 use Rattle.ir_mach.specs.Core.{Core, start_core}
 use Rattle.ir_runs.specs.declared.access.Access.{Access}

@@ -13,5 +13,5 @@ mod thread;
 pub use ask::{Ask, Reply};
 pub use call::Call;
 pub use end::End;
-pub use laws::{closes, runs_alone};
+pub use laws::{closes, ends_by_the_first, runs_alone};
 pub use thread::Thread;

@@ -19,7 +19,7 @@ use Rattle.ir_trace.specs.Recorded.{Recorded, IsRecordedThread}
 use Rattle.ir_trace.specs.Told.{recorded_thread, trace_of}
 use Rattle.ir_fit.specs.Ahead.{steps_ahead, log_ahead, CanFollow, IsOpen}
 use Rattle.ir_runs.specs.Following.{Meets}
-use Rattle.ir_fit.specs.declared.look.Look.TheVariants as look
+use Rattle.ir_fit.specs.declared.follower.look.Look.TheVariants as look
 use Rattle.ir_fit.proofs.CallerLemmas.{end_asked, ends_asked, asks_env, call_follows, call_disagrees, entry_follows, entry_waits, entry_disagrees, asks_entry, seen_stops}
 use Rattle.ir_weave.specs.Stepping.{LogsNext}
 

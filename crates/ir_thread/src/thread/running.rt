@@ -2,7 +2,7 @@
 
 ghost use Rattle.std.specs.Prelude.{◌≢◌, ◌<◌, ◌≤◌};
 ghost use Rattle.ir_thread.specs.Calls.{ask_of};
-ghost use Rattle.ir_thread.specs.Private.{PrivateSteps};
+ghost use Rattle.ir_thread.specs.Private.{PrivateSteps, NoInstruction};
 ghost use Rattle.ir_thread.specs.declared.ask.Ask.TheVariants as ask;
 
 use crate::ask::{Ask, Reply};
@@ -10,10 +10,13 @@ use crate::thread::Thread;
 use ir_image::Code;
 
 impl Thread {
-    /// Takes instructions, at most `limit`, and says how many they were: private steps, but no call.
+    /// Takes instructions, at most `limit`, and says how many they were: private steps, but no call. It stops below the limit
+    /// only where the next step is no instruction.
     pub fn run_instructions(&mut self, code: &Code, limit: u64) -> u64
         ensures within { result ≤ limit }
         ensures steps { PrivateSteps code.now result self.old self.new }
+        // Why it stopped.
+        ensures stops { result < limit → NoInstruction code.now self.new }
     {
         if self.ended.is_some() {
             return 0;

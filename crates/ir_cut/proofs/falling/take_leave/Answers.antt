@@ -9,4 +9,4 @@ returns-clause-fewer c = fewer_leaves c.args.fitted.now c.args.positions.now.ite
 
 pub returns-clause-falls : goal.returns-clause-falls
 returns-clause-falls c = leave_taken c.args.fitted.now c.requires.fitted c.args.positions.now.items c.lower_for.new.positions.items c.args.next.now.items c.args.t c.index.result.now c.leaves.result.now _ c.requires.each c.requires.thread c.requires.above c.index.ensures
-    c.leaves.ensures.value c.lower_for.ensures.lowered
+    c.leaves.ensures c.lower_for.ensures.lowered

@@ -16,3 +16,9 @@ returns-clause-least c = found c
 
 pub returns-clause-exact : goal.returns-clause-exact
 returns-clause-exact c = least_at c.args.fitted.now c.known.ensures c.args.cut.now c.new.result c.args.t c.args.k c.requires.consistent c.requires.thread c.requires.steps (found c)
+
+pub returns-clause-above : goal.returns-clause-above
+returns-clause-above c = let k = c.known.ensures.run in ((found c).1 k.run k.whole).above
+
+pub returns-clause-consistent : goal.returns-clause-consistent
+returns-clause-consistent c = λ run whole. let l = (found c).1 run whole in (l.cut, l.consistent)

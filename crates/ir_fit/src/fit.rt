@@ -2,7 +2,7 @@
 
 ghost use Rattle.std.specs.Prelude.{◌≡◌, ◌≢◌, ◌<◌, ℕ, length, slice_get, Some, true, false, IfOk, IfErr};
 ghost use Rattle.ir_fit.specs.Ahead.{IsStopped};
-ghost use Rattle.ir_fit.specs.Fit.{IsRefused};
+ghost use Rattle.ir_fit.specs.Fit.{HasRun, IsRefused};
 ghost use Rattle.ir_fit.specs.Follower.{IsFollower, IsSized, AreStanding};
 ghost use Rattle.ir_runs.specs.declared.thread_verdict.ThreadVerdict.{ThreadVerdict};
 ghost use Rattle.ir_runs.specs.declared.thread_verdict.ThreadVerdict.TheVariants.{Same};
@@ -10,7 +10,7 @@ ghost use Rattle.ir_runs.specs.declared.thread_verdict.ThreadVerdict.TheVariants
 use crate::coherence::coherent;
 use crate::fit_err::FitErr;
 use crate::fitted::Fitted;
-use crate::followed::followed;
+use crate::follower::ending::followed;
 use crate::follower::Follower;
 use crate::header::same_header;
 use crate::places::Places;
@@ -69,6 +69,8 @@ fn all_same(verdicts: &[ThreadVerdict]) -> bool
 /// and trace are dropped.
 pub fn fit(alloc: Global, image: Image, trace: Trace) -> Result<Fitted, FitErr>
     ensures fits { IfOk result (λ f. (f.guest ≡ image) × (f.recorded ≡ trace)) }
+    // A complete run of the guest has the trace.
+    ensures run { IfOk result HasRun }
     ensures refused { IfErr result (IsRefused image trace) }
 {
     if let Err(cause) = same_header(&image, &trace) {

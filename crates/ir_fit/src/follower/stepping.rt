@@ -8,8 +8,8 @@ ghost use Rattle.ir_fit.specs.Places.{placed_more};
 
 use crate::follower::Follower;
 use crate::leave::Leave;
-use crate::look::{Look, Move, is_open};
-use crate::readiness::Readiness;
+use crate::follower::look::{Look, Move, is_open};
+use crate::follower::readiness::Readiness;
 use ir_log::Event;
 use ir_object::Object;
 use ir_thread::Ask;

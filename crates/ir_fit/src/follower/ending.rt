@@ -9,9 +9,9 @@ ghost use Rattle.ir_fit.specs.Follower.{IsFollower, IsFollowed, IsSized};
 ghost use Rattle.ir_runs.specs.Standing.{StandsAs};
 
 use crate::follower::Follower;
-use crate::look::Look;
+use crate::follower::look::Look;
 use crate::places::Places;
-use crate::readiness::Readiness;
+use crate::follower::readiness::Readiness;
 use ir_flat::Flat;
 use ir_image::Image;
 use ir_runs::ThreadVerdict;

@@ -5,8 +5,8 @@ ghost use Rattle.ir_fit.specs.Ahead.{IsMove, IsStopped};
 ghost use Rattle.ir_fit.specs.Follower.{GoesOn, IsSized};
 
 use crate::follower::Follower;
-use crate::look::{Look, Move};
-use crate::readiness::Readiness;
+use crate::follower::look::{Look, Move};
+use crate::follower::readiness::Readiness;
 
 impl Follower<'_> {
     // Thread t goes on while its steps follow the trace.

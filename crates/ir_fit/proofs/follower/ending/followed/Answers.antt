@@ -3,7 +3,7 @@ use Rattle.ir_flat.specs.Flat.{start_flat}
 use Rattle.ir_flat.proofs.CallerLemmas.{threads_length}
 use Rattle.ir_fit.specs.Ahead.{IsStopped}
 use Rattle.ir_fit.proofs.Moves.{followed_there, start_placed, start_none, room_for}
-use Rattle.ir_fit.proofs.followed.followed.Goals as goal
+use Rattle.ir_fit.proofs.follower.ending.followed.Goals as goal
 
 pub follow-requires : goal.follow-requires
 follow-requires c =
