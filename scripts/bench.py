@@ -105,6 +105,19 @@ def best_of_five(words, data, is_good):
     return best
 
 
+def best_replay(mode, data, steps):
+    """The seconds of the replay alone, the best of five."""
+    best = None
+    for _ in range(5):
+        p = subprocess.run([BENCH], input=mode + data, stdout=subprocess.PIPE)
+        lines = p.stdout.split(b"\n")
+        if p.returncode != 0 or lines[1:] != [b"%d steps" % steps, b""] or not lines[0].endswith(b" microseconds"):
+            sys.exit(f"{mode}: status {p.returncode}, {p.stdout!r}")
+        took = int(lines[0].split()[0]) / 1e6
+        best = took if best is None else min(best, took)
+    return best
+
+
 def in_session(code, steps):
     data = image(code).hex().encode() + b"\n" + trace(steps, steps + 10).hex().encode() + b"\n"
     return best_of_five([IR], data, lambda out: out.startswith(b"ready\n"))
@@ -175,8 +188,8 @@ def traces():
             with open(made, "rb") as f:
                 data = b"\n" + guest.hex().encode() + b"\n" + f.read().hex().encode() + b"\n"
             good = lambda out: out == b"%d steps\n" % steps
-            read, fitted, replayed = (best_of_five([BENCH], mode + data, good) for mode in (b"read", b"fit", b"replay"))
-            return recorded, fitted - read, replayed - fitted
+            read, fitted = (best_of_five([BENCH], mode + data, good) for mode in (b"read", b"fit"))
+            return recorded, fitted - read, best_replay(b"replay", data, steps)
 
         for name, code, threads, objects, steps in threaded():
             first, fitted, replayed = all_three(code, threads, objects, steps)
@@ -215,8 +228,7 @@ def by_threads():
                 told = data + f.read().hex().encode() + b"\n"
             good = lambda out: out == b"%d steps\n" % steps
             times = [best_of_five([BENCH], mode + data, good) - base for mode in (b"record", b"record-threads")]
-            fitted = best_of_five([BENCH], b"fit" + told, good)
-            times += [best_of_five([BENCH], mode + told, good) - fitted for mode in (b"replay", b"replay-threads")]
+            times += [best_replay(mode, told, steps) for mode in (b"replay", b"replay-threads")]
             a, b, c, d = (steps / t / 1e6 for t in times)
             print(f"{name:52}{steps:>12}{a:>10.0f}{b:>10.0f}{b / a:>8.2f}{c:>10.0f}{d:>10.0f}{d / c:>8.2f}")
 

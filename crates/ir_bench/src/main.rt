@@ -19,7 +19,7 @@ use std::alloc::Global;
 use std::io::{BufRead, BufReader, Lines};
 use std::sync::Wait;
 use std::thread::Threads;
-use std::time::Clock;
+use std::time::{Clock, Instant};
 
 const BUDGET: u64 = 1_000_000_000;
 
@@ -112,19 +112,27 @@ fn steps_of(state: &State) -> u64 {
     steps
 }
 
-// How many steps all threads take when a trace that fits is replayed, from the start to the end.
-fn replayed(alloc: Global, image: Image, trace: Trace) -> Result<u64> {
+// The microseconds since a time, of the last hour.
+fn micros_since(clock: &impl Clock, start: Instant) -> Result<u32> {
+    Ok((start.elapsed(clock)?.as_micros() % 3_600_000_000) as u32)
+}
+
+// How many steps all threads take when a trace that fits is replayed, from the start to the end. Prints the microseconds of
+// the replay alone.
+fn replayed<R: Clock + Print>(rt: &R, alloc: Global, image: Image, trace: Trace) -> Result<u64> {
     let replay = to_the_end(alloc, image, trace)?;
     if !is_cut(&replay.fitted, &replay.target) {
         bail!("a consistent cut");
     }
     let state = State::start(alloc, &replay.fitted)?;
+    let start = Instant::now(rt)?;
     let state = advance_in_order(&replay.fitted, state, &replay.target, &[]);
+    println!(rt; "{} microseconds", micros_since(rt, start)?)?;
     Ok(steps_of(&state))
 }
 
 // The same by threads.
-fn replayed_by_threads<R: Threads + Clock + Sync>(
+fn replayed_by_threads<R: Threads + Clock + Print + Sync>(
     rt: &R,
     alloc: Global,
     image: Image,
@@ -135,7 +143,10 @@ fn replayed_by_threads<R: Threads + Clock + Sync>(
         bail!("a consistent cut");
     }
     let state = State::start(alloc, &replay.fitted)?;
-    match advance(rt, alloc, &replay.fitted, state, &replay.target, &OpenGate) {
+    let start = Instant::now(rt)?;
+    let result = advance(rt, alloc, &replay.fitted, state, &replay.target, &OpenGate);
+    println!(rt; "{} microseconds", micros_since(rt, start)?)?;
+    match result {
         Ok(state) => Ok(steps_of(&state)),
         Err((_state, error)) => Err(error.into()),
     }
@@ -177,7 +188,7 @@ fn main(rt: HostRuntime) -> Result<()> {
             let trace = read_trace(alloc, bytes.as_slice()).ok().context("a trace")?;
             match other {
                 "fit" => fitted(alloc, image, trace)?,
-                "replay" => replayed(alloc, image, trace)?,
+                "replay" => replayed(&rt, alloc, image, trace)?,
                 "replay-threads" => replayed_by_threads(&rt, alloc, image, trace)?,
                 "read" => told(alloc, &trace, false)?,
                 "coherent" => told(alloc, &trace, true)?,

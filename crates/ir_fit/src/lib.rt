@@ -5,11 +5,11 @@
 mod coherence;
 #[cfg(test)]
 mod coherence_tests;
-mod fit;
 mod fit_err;
 #[cfg(test)]
 mod fit_tests;
 mod fitted;
+mod fitting;
 mod follower;
 mod header;
 mod header_cause;
@@ -31,7 +31,7 @@ mod visits_tests;
 pub use coherence::coherent;
 pub use fit_err::FitErr;
 pub use fitted::Fitted;
-pub use fit::fit;
+pub use fitting::fit;
 pub use header_cause::HeaderCause;
 pub use ir_coherence::Cause;
 pub use laws::{

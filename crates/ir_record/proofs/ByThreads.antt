@@ -189,9 +189,8 @@ recorded_of g budget before ws v objects over e view trace counted limit all tra
     let size = over.size in
     record {
       run = run;
-      complete = (k.ok, λ t. ap (λ x. shared_ask (ask_of g.code x)) (k.threads t) ∙ (p t).done);
       of = record {
-        told = told_there g budget run before now logs told stand trace counted limit all traces;
+        told = told_there g budget run before now logs told stand (λ t. ap (λ x. shared_ask (ask_of g.code x)) (k.threads t) ∙ (p t).done) trace counted limit all traces;
         printed = printed_there g budget run before now logs told stand outputs
             (ap (λ z. length z) printed ∙ length-map ws (λ w. w.thread.output) ∙ size)
             (λ t l. ap (λ z. slice_get z t) printed ∙ slice_get-map (λ w. w.thread.output) ws t ∙ ap (option_map (λ w. w.thread.output)) (slice_get-get_or ws t no_work (omega (arith, l, size))));

@@ -130,7 +130,7 @@ recorded_there guest budget order before b o failed ready trace objects limit tr
       run = o.took.run;
       by_order = record { count = o.count; turns = o.took.turns; done = done_there guest budget order before b o };
       of = record {
-        told = told_there guest budget o.took.run before (thread_of b.flat) (log_at b.logs) (answers_at b.answers) stand trace
+        told = told_there guest budget o.took.run before (thread_of b.flat) (log_at b.logs) (answers_at b.answers) stand (done_there guest budget order before b o) trace
             (objects ∙ o.took.objects ∙ cells_length guest.words (object_count guest)) limit (traces.count ∙ logs) (λ t l. traces.each t (omega (arith, l, logs)));
         printed = printed_there guest budget o.took.run before (thread_of b.flat) (log_at b.logs) (answers_at b.answers) stand outputs
             (ap (λ z. length z) printed ∙ length-map b.flat.threads (λ x. x.output) ∙ n)

@@ -8,7 +8,7 @@ use Rattle.ir_thread.specs.Instance.{thread_machine}
 use Rattle.ir_thread.specs.State as thread
 use Rattle.ir_thread.specs.declared.end.End as end
 use Rattle.ir_flat.specs.Flat.{start_flat, tables}
-use Rattle.ir_runs.specs.Run.{Step, IsRun, end, log, count}
+use Rattle.ir_runs.specs.Run.{Step, IsRun, IsDone, end, log, count}
 use Rattle.ir_flat.proofs.CallerLemmas.{tally, no_steps}
 use Rattle.ir_log.specs.Logged.{Logged}
 use Rattle.ir_log.specs.Logging.{mark_of}
@@ -31,17 +31,21 @@ ends_by : (r : RecordedThread) (x : Option end.End) → x ≡ Some r.end → ◌
 ends_by r x e = ap (option_map (λ k. (end_number k, end_code k))) (sym e)
 
 module _ (guest : Guest) (budget : ℕ) (run : List Step) (before : List (List Answered)) (now : ℕ → thread.State) (logs : ℕ → Logged) (given : ℕ → List Answered) where
-  pub told_there : StandAtEnd guest budget run before now logs given → (trace : Recorded) → trace.objects ≡ object_count guest → trace.budget ≡ budget → length trace.threads ≡ length guest.entries
+  pub told_there : StandAtEnd guest budget run before now logs given → IsDone (thread_machine guest.code) (end (thread_machine guest.code) (tables (start_flat guest budget)) run) → (trace : Recorded) → trace.objects ≡ object_count guest → trace.budget ≡ budget → length trace.threads ≡ length guest.entries
       → ((t : ℕ) → t < length guest.entries → IsThreadTrace (now t) (logs t) (get_or trace.threads t absent)) → IsTraceOf guest budget run trace
-  told_there s trace objects limit all each = record {
+  told_there s done trace objects limit all each = record {
     objects = objects;
     limit = limit;
     threads = all;
-    steps = λ t l. (each t l).steps ∙ ap (λ x. x.steps) (s.threads t l) ∙ (tally guest.code (tables (start_flat guest budget)) run s.runs t).steps
+    whole = record {
+      runs = s.runs;
+      done = done;
+      steps = λ t l. sym ((each t l).steps ∙ ap (λ x. x.steps) (s.threads t l) ∙ (tally guest.code (tables (start_flat guest budget)) run s.runs t).steps
         ∙ ap (λ k. k + count (thread_machine guest.code) (tables (start_flat guest budget)) run t) (no_steps guest budget 0 (length guest.entries) t)
-        ∙ (let e : 0 + count (thread_machine guest.code) (tables (start_flat guest budget)) run t ≡ count (thread_machine guest.code) (tables (start_flat guest budget)) run t = omega arith in e);
-    logs = λ t l. ap (map mark_of) (each t l).events ∙ s.logged t l;
-    ends = λ t l. ends_by (get_or trace.threads t absent) (now t).ended (each t l).end ∙ ap (thread_machine guest.code).ended (s.threads t l);
+        ∙ (let e : 0 + count (thread_machine guest.code) (tables (start_flat guest budget)) run t ≡ count (thread_machine guest.code) (tables (start_flat guest budget)) run t = omega arith in e));
+      logs = λ t l. sym (ap (map mark_of) (each t l).events ∙ s.logged t l);
+      ends = λ t l. sym (ends_by (get_or trace.threads t absent) (now t).ended (each t l).end ∙ ap (thread_machine guest.code).ended (s.threads t l));
+    };
   }
 
   pub printed_there : StandAtEnd guest budget run before now logs given → (outputs : List (List ℕ)) → length outputs ≡ length guest.entries → ((t : ℕ) → t < length guest.entries → slice_get outputs t ≡ Some (now t).output) → AreOutputs guest budget run outputs

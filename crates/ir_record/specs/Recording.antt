@@ -2,7 +2,8 @@
 use Rattle.std.specs.Prelude.{◌≡◌, ℕ, ◌<◌, ◌++◌, List, length, map, slice_get, Some, Bool, ⊤}
 use Rattle.ir_image.specs.Guest.{Guest, object_count}
 use Rattle.ir_flat.specs.Flat.{start_flat, tables, machine}
-use Rattle.ir_runs.specs.Run.{Step, IsComplete, count, log, end}
+use Rattle.ir_runs.specs.Run.{Step, log, end}
+use Rattle.ir_runs.specs.Verdicts.{IsWhole}
 use Rattle.ir_trace.specs.Recorded.{Recorded}
 use Rattle.ir_trace.specs.Told.{trace_of}
 use Rattle.ir_runs.specs.InOrder.{IsByOrder}
@@ -11,14 +12,12 @@ use Rattle.ir_record.specs.Worlds.{Answered, answers_in, IsFirstFailed, Extends}
 use Rattle.ir_record.specs.declared.record_err.RecordErr.{RecordErr}
 use Rattle.ir_record.specs.declared.record_err.RecordErr.TheVariants.{NoMem, World}
 
--- the trace of a run of the guest: its header, and of each thread its steps, its log, its end and its code
+-- the trace of a complete run of the guest: its header, and of each thread its steps, its log, its end and its code
 pub record IsTraceOf (guest : Guest) (budget : ℕ) (run : List Step) (recorded : Recorded) : Type 0 where
   pub objects : recorded.objects ≡ object_count guest
   pub limit : recorded.budget ≡ budget
   pub threads : length recorded.threads ≡ length guest.entries
-  pub steps : (t : ℕ) → t < length guest.entries → (trace_of recorded).steps t ≡ count (machine (start_flat guest budget)) (tables (start_flat guest budget)) run t
-  pub logs : (t : ℕ) → t < length guest.entries → (trace_of recorded).logs t ≡ log (machine (start_flat guest budget)) (tables (start_flat guest budget)) run t
-  pub ends : (t : ℕ) → t < length guest.entries → (trace_of recorded).ends t ≡ (machine (start_flat guest budget)).ended ((end (machine (start_flat guest budget)) (tables (start_flat guest budget)) run).now t)
+  pub whole : IsWhole (machine (start_flat guest budget)) (tables (start_flat guest budget)) (length guest.entries) (trace_of recorded) run
 
 -- what each thread of the run printed
 pub record AreOutputs (guest : Guest) (budget : ℕ) (run : List Step) (outputs : List (List ℕ)) : Type 0 where
@@ -30,19 +29,18 @@ pub record AreAnswers (guest : Guest) (budget : ℕ) (run : List Step) (before a
   pub threads : length answers ≡ length guest.entries
   pub each : (t : ℕ) → t < length guest.entries → slice_get answers t ≡ Some (answers_at before t ++ answers_in (log (machine (start_flat guest budget)) (tables (start_flat guest budget)) run t))
 
--- the trace, the outputs and the worlds' answers of this run of the guest
+-- the trace, the outputs and the worlds' answers of this run of the guest, which is complete
 pub record IsRecordingOf (guest : Guest) (budget : ℕ) (run : List Step) (before : List (List Answered)) (trace : Recorded) (outputs : List (List ℕ)) (answers : List (List Answered)) : Type 0 where
   pub told : IsTraceOf guest budget run trace
   pub printed : AreOutputs guest budget run outputs
   pub answered : AreAnswers guest budget run before answers
 
--- the same of one run of the guest, which is complete
+-- the same of some run of the guest
 pub record IsRecordingOfSome (guest : Guest) (budget : ℕ) (before : List (List Answered)) (trace : Recorded) (outputs : List (List ℕ)) (answers : List (List Answered)) : Type 0 where
   pub run : List Step
-  pub complete : IsComplete (machine (start_flat guest budget)) (tables (start_flat guest budget)) run
   pub of : IsRecordingOf guest budget run before trace outputs answers
 
--- the same of the run of the guest by the order, which is complete too
+-- the same of the run of the guest by the order
 pub record IsRecording (guest : Guest) (budget : ℕ) (order : List ℕ) (before : List (List Answered)) (trace : Recorded) (outputs : List (List ℕ)) (answers : List (List Answered)) : Type 0 where
   pub run : List Step
   pub by_order : IsByOrder (machine (start_flat guest budget)) (tables (start_flat guest budget)) (length guest.entries) order run

@@ -2,22 +2,16 @@
 use Rattle.std.proofs.Common.{◌≡◌, ℕ, List, length, sym, subst}
 use Rattle.ir_image.specs.Guest.{Guest}
 use Rattle.ir_flat.specs.Flat.{start_flat, tables, machine}
-use Rattle.ir_runs.specs.Run.{Step, IsComplete}
+use Rattle.ir_runs.specs.Run.{Step}
 use Rattle.ir_trace.specs.Recorded.{Recorded}
 use Rattle.ir_trace.specs.Told.{trace_of}
 use Rattle.ir_record.specs.Recording.{IsTraceOf}
 use Rattle.ir_fit.specs.Fit.{IsRunOf}
 use Rattle.ir_runs.specs.Verdicts.{IsWhole}
 
--- what is told of a complete run is its trace, under the budget that is told
-pub told_whole : (guest : Guest) (budget : ℕ) (run : List Step) (trace : Recorded) → IsComplete (machine (start_flat guest budget)) (tables (start_flat guest budget)) run → IsTraceOf guest budget run trace → IsRunOf guest trace run
-told_whole guest budget run trace complete told = (
+-- what is told of a run is its trace, under the budget that is told
+pub told_whole : (guest : Guest) (budget : ℕ) (run : List Step) (trace : Recorded) → IsTraceOf guest budget run trace → IsRunOf guest trace run
+told_whole guest budget run trace told = (
   record { threads = told.threads; objects = told.objects },
-  subst (λ b. IsWhole (machine (start_flat guest b)) (tables (start_flat guest b)) (length guest.entries) (trace_of trace) run) (sym told.limit) (record {
-    runs = complete.0;
-    done = complete.1;
-    steps = λ t l. sym (told.steps t l);
-    logs = λ t l. sym (told.logs t l);
-    ends = λ t l. sym (told.ends t l);
-  }),
+  subst (λ b. IsWhole (machine (start_flat guest b)) (tables (start_flat guest b)) (length guest.entries) (trace_of trace) run) (sym told.limit) told.whole,
 )

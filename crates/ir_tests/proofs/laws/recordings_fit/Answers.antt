@@ -6,11 +6,11 @@ use Rattle.ir_tests.proofs.Fits.{told_whole}
 use Rattle.ir_tests.proofs.laws.recordings_fit.Goals as goal
 
 pub returns-clause-by_threads : goal.returns-clause-by_threads
-returns-clause-by_threads c = λ guest budget before trace outputs answers r. (r.run, told_whole guest budget r.run trace r.complete r.of.told)
+returns-clause-by_threads c = λ guest budget before trace outputs answers r. (r.run, told_whole guest budget r.run trace r.of.told)
 
 pub returns-clause-in_order : goal.returns-clause-in_order
 returns-clause-in_order c = λ guest budget order before trace outputs answers r.
-    let s = of_some guest budget order before trace outputs answers r in (s.run, told_whole guest budget s.run trace s.complete s.of.told)
+    let s = of_some guest budget order before trace outputs answers r in (s.run, told_whole guest budget s.run trace s.of.told)
 
 pub returns-clause-accepted : goal.returns-clause-accepted
 returns-clause-accepted c = accepted
