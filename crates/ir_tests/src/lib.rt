@@ -5,6 +5,8 @@
 mod counting;
 #[cfg(test)]
 mod ends;
+#[cfg(test)]
+mod guests;
 mod laws;
 #[cfg(test)]
 mod recordings;

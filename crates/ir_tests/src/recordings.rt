@@ -1,11 +1,12 @@
 //! Guests recorded on real threads, judged, and replayed in order and by real threads.
 
 use crate::counting::{Counting, worlds};
+use crate::guests::{COUNTER, GUESTS, SUMS};
 use crate::replays::{in_order, is_same, last, least_at};
 use ir_asm::assemble;
 use ir_fit::{Fitted, fit};
 use ir_object::OpenGate;
-use ir_record::{Outputs, record};
+use ir_record::{Outputs, record, record_in_order};
 use std::alloc::Global;
 use std::sync::Wait;
 use std::test::Fail;
@@ -25,38 +26,6 @@ fn recorded<R: Threads + Wait + Sync>(
     let (trace, outputs) = record(rt, alloc, &image, worlds, &OpenGate, BUDGET)?;
     Ok((fit(alloc, image, trace)?, outputs))
 }
-
-// Eight threads add one each to the first word of object 0, which they hold for writing.
-const COUNTER: &str = "
-        .objects 1
-        .thread main
-        .thread main
-        .thread main
-        .thread main
-        .thread main
-        .thread main
-        .thread main
-        .thread main
-
-main:   addi    a0, zero, 0
-        addi    a7, zero, 8             # ENTER_WRITE
-        ecall
-        addi    a0, zero, 0
-        addi    a1, zero, 0
-        addi    a7, zero, 10            # GET
-        ecall
-        addi    a2, a0, 1
-        addi    a0, zero, 0
-        addi    a1, zero, 0
-        addi    a7, zero, 11            # PUT
-        ecall
-        addi    a0, zero, 0
-        addi    a7, zero, 9             # LEAVE
-        ecall
-        addi    a0, zero, 0
-        addi    a7, zero, 1             # END
-        ecall
-";
 
 #[test]
 fn eight_threads_count_to_eight(rt: HostRuntime) -> Result<(), Fail> {
@@ -81,66 +50,6 @@ fn eight_threads_count_to_eight(rt: HostRuntime) -> Result<(), Fail> {
     }
     Ok(())
 }
-
-// Four threads make five rounds each. In a round each enters objects 0, 1 and 2, for reading or for writing by the sum
-// of its number, the round and the object; adds the first word of each to a sum; writes the sum, its number and one more
-// to each that it holds for writing, and leaves it. It prints the sum, with the clock's answer added.
-const SUMS: &str = "
-        .objects 3
-        .object 0, 1
-        .object 1, 20
-        .object 2, 300
-        .thread main
-        .thread main
-        .thread main
-        .thread main
-
-main:   addi    a7, zero, 12            # the thread's number
-        ecall
-        addi    s0, a0, 0
-        addi    s1, zero, 5             # rounds
-        addi    s3, zero, 0             # the sum
-round:  addi    s2, zero, 0
-enter:  add     t0, s0, s1
-        add     t0, t0, s2
-        andi    t0, t0, 1
-        addi    a7, t0, 7               # ENTER_READ or ENTER_WRITE
-        addi    a0, s2, 0
-        ecall
-        addi    s2, s2, 1
-        slti    t0, s2, 3
-        bne     t0, zero, enter
-        addi    s2, zero, 0
-use:    addi    a0, s2, 0
-        addi    a1, zero, 0
-        addi    a7, zero, 10            # GET
-        ecall
-        add     s3, s3, a0
-        add     t0, s0, s1
-        add     t0, t0, s2
-        andi    t0, t0, 1
-        beq     t0, zero, leave
-        add     a2, s3, s0
-        addi    a2, a2, 1
-        addi    a0, s2, 0
-        addi    a7, zero, 11            # PUT
-        ecall
-leave:  addi    a0, s2, 0
-        addi    a7, zero, 9             # LEAVE
-        ecall
-        addi    s2, s2, 1
-        slti    t0, s2, 3
-        bne     t0, zero, use
-        addi    a7, zero, 4             # CLOCK
-        ecall
-        add     a0, a0, s3
-        addi    a7, zero, 3             # PUTN
-        ecall
-        addi    s1, s1, -1
-        bne     s1, zero, round
-        addi    a7, zero, 1             # END
-        ecall
-";
 
 // Whether a replay to the end printed what the recorded threads printed, and each thread printed five lines.
 fn prints_the_same(
@@ -191,6 +100,29 @@ fn two_hundred_recordings_replay(rt: HostRuntime) -> Result<(), Fail> {
         assert_eq!(rt; outputs.each.len(), 4);
         assert!(rt; prints_the_same(rt.alloc(), &fitted, &outputs)?);
         assert!(rt; replays_alike(&rt, rt.alloc(), &fitted)?);
+    }
+    Ok(())
+}
+
+// The source's guest recorded in an order, whose trace fits.
+fn recorded_in_order(alloc: Global, source: &str, order: &[u8]) -> Result<Fitted, Fail> {
+    let image = assemble(alloc, source)?;
+    let worlds = worlds(alloc, image.entries().len())?;
+    let (trace, _outputs) = record_in_order(alloc, &image, order, worlds, BUDGET)?;
+    Ok(fit(alloc, image, trace)?)
+}
+
+#[test]
+fn a_recording_of_each_guest_fits_and_replays(rt: HostRuntime) -> Result<(), Fail> {
+    for guest in &GUESTS {
+        let (by_threads, _outputs) = recorded(&rt, rt.alloc(), guest.source)?;
+        let end = last(rt.alloc(), &by_threads)?;
+        assert!(rt; is_same(&rt, rt.alloc(), &by_threads, &end)?, "{}", guest.name);
+        for order in [[].as_slice(), [0, 1, 0, 1].as_slice(), [1, 1, 1, 0, 2, 7].as_slice()] {
+            let fitted = recorded_in_order(rt.alloc(), guest.source, order)?;
+            let end = last(rt.alloc(), &fitted)?;
+            assert!(rt; is_same(&rt, rt.alloc(), &fitted, &end)?, "{}", guest.name);
+        }
     }
     Ok(())
 }
