@@ -1,21 +1,24 @@
 -- Words that are read in one piece are those read one after the other.
-use Rattle.std.proofs.Common.{◌≡◌, ℕ, zero, suc, ◌*◌, ◌<◌, ◌≤◌, false, ltb, List, [], ◌∷◌, ◌++◌, length, slice_index, take, drop, Ok, Err, refl, sym, ap, subst, ◌∙◌, arith, length-take-le}
+use Rattle.std.proofs.Common.{◌≡◌, ℕ, zero, suc, ◌*◌, ◌<◌, false, ltb, List, [], ◌∷◌, ◌++◌, length, slice_index, take, drop, Ok, Err, refl, sym, ap, subst, ◌∙◌, arith, length-take-le}
 use Rattle.std.proofs.lemmas.Bool.{le-ltb}
 use Rattle.std.proofs.lemmas.List.{nil_from_length, take-append-drop}
 use Rattle.std.proofs.Math.Seq.{take-append_seam}
 use Rattle.byteorder.specs.Endian.{little_number, IsRead}
 use Rattle.ir_image.specs.declared.image_err.ImageErr.TheVariants.{Short}
-use Rattle.ir_image.specs.Reading.{word_at, fields_at}
+use Rattle.ir_bytes.specs.Reading.{number_at, bytes_at, fields_at}
+use Rattle.ir_bytes.proofs.CallerLemmas.{bytes_parts, bytes_short}
+use Rattle.ir_image.specs.declared.image_err.ImageErr.{ImageErr}
+use Rattle.ir_image.specs.Reading.{Fails, word_at}
 
 four_bytes : (a b c d : ℕ) (rest : List ℕ) → word_at (a ∷ b ∷ c ∷ d ∷ rest) ≡ Ok (little_number 4 (a ∷ b ∷ c ∷ d ∷ []), rest)
-unfolding word_at
+unfolding number_at
 four_bytes a b c d rest =
     let long : ltb (length (a ∷ b ∷ c ∷ d ∷ rest)) 4 ≡ false = le-ltb _ _ (omega arith) in
     rw long refl
 
 -- fewer bytes than the words need
-pub words_short : (n : ℕ) (bytes : List ℕ) → length bytes < 4 * n → fields_at word_at n bytes ≡ Err Short
-unfolding fields_at word_at
+words_short : (n : ℕ) (bytes : List ℕ) → length bytes < 4 * n → fields_at word_at n bytes ≡ Err Short
+unfolding fields_at number_at
 words_short zero bytes h = absurd (omega arith)
 words_short (suc n) [] h = refl
 words_short (suc n) (a ∷ []) h = refl
@@ -23,13 +26,20 @@ words_short (suc n) (a ∷ b ∷ []) h = refl
 words_short (suc n) (a ∷ b ∷ c ∷ []) h = refl
 words_short (suc n) (a ∷ b ∷ c ∷ d ∷ rest) h = rw (four_bytes a b c d rest, words_short n rest (omega arith)) refl
 
+pub words_refused : (n : ℕ) (bytes : List ℕ) (e : ImageErr) → bytes_at Short (4 * n) bytes ≡ Err e → Fails e (fields_at word_at n bytes)
+words_refused n bytes e h =
+    let g = bytes_short Short e (4 * n) bytes h in
+    subst (λ (x : ImageErr). Fails x (fields_at word_at n bytes)) g.1 (words_short n bytes g.0)
+
 -- the words of a piece but its first
-others : (w : ℕ) (ws : List ℕ) (a b c d : ℕ) (more : List ℕ) → IsRead little_number 4 (a ∷ b ∷ c ∷ d ∷ more) (w ∷ ws) → IsRead little_number 4 more ws
+others : (w : ℕ) (ws : List ℕ) (a b c d : ℕ) (more : List ℕ) → IsRead little_number 4 (a ∷ b ∷ c ∷ d ∷ more) (w ∷ ws)
+    → IsRead little_number 4 more ws
 others w ws a b c d more h k lt =
     let step : 4 * suc k ≡ suc (suc (suc (suc (4 * k)))) = omega arith in
     subst (λ (i : ℕ). slice_index ws k ≡ little_number 4 (drop i (a ∷ b ∷ c ∷ d ∷ more))) step (h (suc k) (omega arith))
 
-piece : (ws own rest : List ℕ) → length own ≡ 4 * length ws → IsRead little_number 4 own ws → fields_at word_at (length ws) (own ++ rest) ≡ Ok (ws, rest)
+piece : (ws own rest : List ℕ) → length own ≡ 4 * length ws → IsRead little_number 4 own ws
+    → fields_at word_at (length ws) (own ++ rest) ≡ Ok (ws, rest)
 unfolding fields_at
 piece [] own rest e h = rw (nil_from_length own e) refl
 piece (w ∷ ws) [] rest e h = absurd (omega arith)
@@ -45,10 +55,13 @@ piece (w ∷ ws) (a ∷ b ∷ c ∷ d ∷ more) rest e h =
 over : (dst items : List ℕ) (n : ℕ) → length dst ≡ n → take n (dst ++ drop (length dst) items) ≡ dst
 over dst items n e = ap (λ (k : ℕ). take k (dst ++ drop (length dst) items)) (sym e) ∙ take-append_seam dst (drop (length dst) items)
 
-pub words_whole : (n room : ℕ) (bytes own rest ws items : List ℕ) → own ≡ take (4 * n) bytes → rest ≡ drop (4 * n) bytes → length ws ≡ n → room ≡ n → 4 * n ≤ length bytes → IsRead little_number 4 own ws
+pub words_whole : (n room : ℕ) (bytes own rest ws items : List ℕ) → bytes_at Short (4 * n) bytes ≡ Ok (own, rest) → length ws ≡ n
+    → room ≡ n → IsRead little_number 4 own ws
     → fields_at word_at n bytes ≡ Ok (take room (ws ++ drop (length ws) items), rest)
-words_whole n room bytes own rest ws items front back count full long h =
-    let whole : bytes ≡ own ++ rest = sym (take-append-drop (4 * n) bytes) ∙ ap (λ (x : List ℕ). x ++ drop (4 * n) bytes) (sym front) ∙ ap (λ (x : List ℕ). own ++ x) (sym back) in
-    let size : length own ≡ 4 * length ws = omega (arith, ap length front, length-take-le (4 * n) bytes long) in
+words_whole n room bytes own rest ws items e count full h =
+    let p = bytes_parts Short (4 * n) bytes (own, rest) e in
+    let whole : bytes ≡ own ++ rest = sym (take-append-drop (4 * n) bytes) ∙ ap (λ (x : List ℕ). x ++ drop (4 * n) bytes) (sym p.front) ∙
+    ap (λ (x : List ℕ). own ++ x) (sym p.back) in
+    let size : length own ≡ 4 * length ws = omega (arith, ap length p.front, length-take-le (4 * n) bytes p.long) in
     ap (λ (k : ℕ). fields_at word_at k bytes) (sym count) ∙ ap (fields_at word_at (length ws)) whole ∙ piece ws own rest size h
     ∙ ap (λ (x : List ℕ). Ok (x, rest)) (sym (over ws items room (count ∙ sym full)))

@@ -1,6 +1,6 @@
-mod Steps
 mod Fields
 mod Block
 mod Loop
 mod Whole
+mod Refused
 mod Lowered

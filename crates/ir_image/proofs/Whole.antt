@@ -4,13 +4,15 @@ use Rattle.std.specs.List.{AllByRecursion}
 use Rattle.std.proofs.lemmas.Bool.{eqb-true}
 use Rattle.std.proofs.lemmas.List.{append-nil, nil_from_length}
 use Rattle.byteorder.specs.Endian.{little_bytes}
+use Rattle.ir_bytes.specs.Reading.{field_at, bytes_at, fields_at}
+use Rattle.ir_bytes.proofs.CallerLemmas.{two_ok, five_ok, six_ok, pass_ok, ok_is, within_ok, within_again, IsBytes, bytes_fit, Takes, Takes-then, TakesField, field_takes, field_again, byte_taken, byte_field_again, TakesBytes, bytes_take, bytes_again, TakesFields, fields_take, fields_again}
 use Rattle.ir_image.specs.declared.counts.Counts.{Counts}
-use Rattle.ir_image.specs.declared.image_err.ImageErr.TheVariants.{Trailing}
+use Rattle.ir_image.specs.declared.image_err.ImageErr.{ImageErr}
+use Rattle.ir_image.specs.declared.image_err.ImageErr.TheVariants.{Short, Count, Trailing}
 use Rattle.ir_image.specs.Guest.{Guest, IsGuest, IsPlace, IsWord, object_words, object_count}
 use Rattle.ir_image.specs.Spelling.{magic, counts_of, counts_spelling, words_spelling, body_spelling, spelling}
-use Rattle.ir_image.specs.Reading.{byte_at, word_at, bytes_at, count_at, magic_at, entry_at, fields_at, counts_at, body_at, guest_at}
-use Rattle.ir_image.proofs.Steps.{two_ok, five_ok, six_ok, pass_ok, ok_is, Counted, count_ok, count_again}
-use Rattle.ir_image.proofs.Fields.{IsBytes, bytes_fit, Takes, Takes-then, TakesBytes, TakesFields, byte_takes, byte_again, word_takes, word_again, bytes_take, bytes_again, magic_takes, magic_again, entry_takes, entry_again, fields_take, fields_again}
+use Rattle.ir_image.specs.Reading.{magic_field, threads_field, objects_field, words_field, bytes_field, word_at, entry_at, counts_at, body_at, guest_at}
+use Rattle.ir_image.proofs.Fields.{magic_takes, magic_again, word_takes, word_again, entry_takes, entry_again}
 
 -- ---- the counts
 
@@ -27,33 +29,43 @@ record TakesCounts (all : List ℕ) (x : Counts × List ℕ) : Type 0 where
   takes : Takes all (counts_spelling x.0) x.1
   within : IsWithin x.0
 
-counts_taken : (all after : List ℕ) (threads objects words bytes : ℕ × List ℕ) → IsBytes all → magic_at all ≡ Ok after
-    → Counted byte_at 1 8 after threads → Counted byte_at 0 16 threads.1 objects → Counted word_at 0 16384 objects.1 words → Counted word_at 0 65536 words.1 bytes
+counts_taken : (all : List ℕ) (first threads objects words bytes : ℕ × List ℕ) → Takes all magic first.1
+    → TakesField threads_field first.1 threads → TakesField objects_field threads.1 objects → TakesField words_field objects.1 words
+    → TakesField bytes_field words.1 bytes
     → TakesCounts all (record { threads = threads.0; objects = objects.0; words = words.0; bytes = bytes.0 }, bytes.1)
-counts_taken all after threads objects words bytes fits e n m c d =
-    let t0 = magic_takes all after fits e in
-    let t1 = byte_takes after threads t0.rest_fits n.read in
-    let t2 = byte_takes threads.1 objects t1.rest_fits m.read in
-    let t3 = word_takes objects.1 words t2.rest_fits c.read in
-    let t4 = word_takes words.1 bytes t3.0.rest_fits d.read in
-    let first = Takes-then all magic after (threads.0 ∷ []) threads.1 t0 t1 in
-    let second = Takes-then threads.1 (objects.0 ∷ []) objects.1 (little_bytes 4 words.0) words.1 t2 t3.0 in
-    let third = Takes-then threads.1 (objects.0 ∷ [] ++ little_bytes 4 words.0) words.1 (little_bytes 4 bytes.0) bytes.1 second t4.0 in
+counts_taken all first threads objects words bytes t0 t1 t2 t3 t4 =
+    let n = within_ok 1 8 threads.0 Count t1.passes in
+    let m = within_ok 0 16 objects.0 Count t2.passes in
+    let c = within_ok 0 16384 words.0 Count t3.passes in
+    let d = within_ok 0 65536 bytes.0 Count t4.passes in
+    let front = Takes-then all magic first.1 (threads.0 ∷ []) threads.1 t0 (byte_taken first.1 threads t1.takes t1.fits) in
+    let second = Takes-then threads.1 (objects.0 ∷ []) objects.1 (little_bytes 4 words.0) words.1
+    (byte_taken threads.1 objects t2.takes t2.fits) t3.takes in
+    let third = Takes-then threads.1 (objects.0 ∷ [] ++ little_bytes 4 words.0) words.1 (little_bytes 4 bytes.0) bytes.1 second t4.takes
+    in
     record {
-      takes = Takes-then all (magic ++ threads.0 ∷ []) threads.1 ((objects.0 ∷ [] ++ little_bytes 4 words.0) ++ little_bytes 4 bytes.0) bytes.1 first third;
-      within = record { some_thread = n.least; few_threads = n.most; few_objects = m.most; short_code = c.most; short_data = d.most };
+      takes = Takes-then all (magic ++ threads.0 ∷ []) threads.1 ((objects.0 ∷ [] ++ little_bytes 4 words.0) ++ little_bytes 4 bytes.0)
+          bytes.1 front third;
+      within = record { some_thread = n.0; few_threads = n.1; few_objects = m.1; short_code = c.1; short_data = d.1 };
     }
 
 counts_take : (all : List ℕ) (x : Counts × List ℕ) → IsBytes all → counts_at all ≡ Ok x → TakesCounts all x
 unfolding counts_at
 counts_take all x fits e =
-    six_ok (magic_at all) (λ after. count_at byte_at 1 8 after) (λ after threads. count_at byte_at 0 16 threads.1)
-    (λ after threads objects. count_at word_at 0 16384 objects.1) (λ after threads objects words. count_at word_at 0 65536 words.1)
-    (λ after threads objects words bytes. Ok (record { threads = threads.0; objects = objects.0; words = words.0; bytes = bytes.0 }, bytes.1)) x e
-    (λ after threads objects words bytes e0 e1 e2 e3 e4 e5.
-    subst (λ (y : Counts × List ℕ). TakesCounts all y) (ok_is (record { threads = threads.0; objects = objects.0; words = words.0; bytes = bytes.0 }, bytes.1) x e5)
-    (counts_taken all after threads objects words bytes fits e0 (count_ok byte_at 1 8 after threads e1) (count_ok byte_at 0 16 threads.1 objects e2)
-    (count_ok word_at 0 16384 objects.1 words e3) (count_ok word_at 0 65536 words.1 bytes e4)))
+    six_ok (field_at Short magic_field all) (λ first. field_at Short threads_field first.1)
+    (λ first threads. field_at Short objects_field threads.1)
+    (λ first threads objects. field_at Short words_field objects.1) (λ first threads objects words. field_at Short bytes_field words.1)
+    (λ first threads objects words bytes. Ok
+    (record { threads = threads.0; objects = objects.0; words = words.0; bytes = bytes.0 }, bytes.1)) x e
+    (λ first threads objects words bytes e0 e1 e2 e3 e4 e5.
+    let t0 = magic_takes all first fits e0 in
+    let t1 = field_takes Short threads_field first.1 threads t0.rest_fits e1 in
+    let t2 = field_takes Short objects_field threads.1 objects t1.takes.rest_fits e2 in
+    let t3 = field_takes Short words_field objects.1 words t2.takes.rest_fits e3 in
+    let t4 = field_takes Short bytes_field words.1 bytes t3.takes.rest_fits e4 in
+    subst (λ (y : Counts × List ℕ). TakesCounts all y)
+    (ok_is ImageErr (record { threads = threads.0; objects = objects.0; words = words.0; bytes = bytes.0 }, bytes.1) x e5)
+    (counts_taken all first threads objects words bytes t0 t1 t2 t3 t4))
 
 counts_again : (c : Counts) (rest : List ℕ) → IsWithin c → counts_at (counts_spelling c ++ rest) ≡ Ok (c, rest)
 unfolding counts_at
@@ -61,10 +73,14 @@ counts_again c rest within =
     let r3 = little_bytes 4 c.bytes ++ rest in
     let r2 = little_bytes 4 c.words ++ r3 in
     let e0 = magic_again (c.threads ∷ c.objects ∷ r2) in
-    let e1 = count_again byte_at 1 8 (c.threads ∷ c.objects ∷ r2) (c.threads, c.objects ∷ r2) (byte_again c.threads (c.objects ∷ r2)) within.some_thread within.few_threads in
-    let e2 = count_again byte_at 0 16 (c.objects ∷ r2) (c.objects, r2) (byte_again c.objects r2) (omega arith) within.few_objects in
-    let e3 = count_again word_at 0 16384 r2 (c.words, r3) (word_again c.words r3 (omega arith)) (omega arith) within.short_code in
-    let e4 = count_again word_at 0 65536 r3 (c.bytes, rest) (word_again c.bytes rest (omega arith)) (omega arith) within.short_data in
+    let e1 = byte_field_again Short threads_field c.threads (c.objects ∷ r2) refl
+    (within_again 1 8 c.threads Count within.some_thread within.few_threads) in
+    let e2 = byte_field_again Short objects_field c.objects r2 refl (within_again 0 16 c.objects Count (omega arith) within.few_objects)
+    in
+    let e3 = field_again Short words_field c.words r3 (omega arith) (within_again 0 16384 c.words Count (omega arith) within.short_code)
+    in
+    let e4 = field_again Short bytes_field c.bytes rest (omega arith)
+    (within_again 0 65536 c.bytes Count (omega arith) within.short_data) in
     rw (e0, e1, e2, e3, e4) refl
 
 -- ---- what stands after the counts
@@ -75,25 +91,29 @@ record TakesBody (c : Counts) (all : List ℕ) (g : Guest) : Type 0 where
   fits : IsGuest g
   parts : all ≡ body_spelling g
 
-same_counts : (g : Guest) (c : Counts) → length g.entries ≡ c.threads → object_count g ≡ c.objects → length g.code ≡ c.words → length g.bytes ≡ c.bytes → counts_of g ≡ c
+same_counts : (g : Guest) (c : Counts) → length g.entries ≡ c.threads → object_count g ≡ c.objects → length g.code ≡ c.words
+    → length g.bytes ≡ c.bytes → counts_of g ≡ c
 same_counts g c n m w d = λ i. record { threads = n i; objects = m i; words = w i; bytes = d i }
 
 regroup : (a b c d : List ℕ) → a ++ (b ++ (c ++ d)) ≡ a ++ b ++ c ++ d
 regroup a b c d = simp append_assoc
 
 -- four parts, and nothing after them
-joined : (all a r0 b r1 c r2 d r3 : List ℕ) → all ≡ a ++ r0 → r0 ≡ b ++ r1 → r1 ≡ c ++ r2 → r2 ≡ d ++ r3 → r3 ≡ [] → all ≡ a ++ b ++ c ++ d
+joined : (all a r0 b r1 c r2 d r3 : List ℕ) → all ≡ a ++ r0 → r0 ≡ b ++ r1 → r1 ≡ c ++ r2 → r2 ≡ d ++ r3 → r3 ≡ []
+    → all ≡ a ++ b ++ c ++ d
 joined all a r0 b r1 c r2 d r3 p0 p1 p2 p3 p4 =
     let last : r2 ≡ d = p3 ∙ ap (λ (x : List ℕ). d ++ x) p4 ∙ append-nil d in
     p0 ∙ ap (λ (x : List ℕ). a ++ x) (p1 ∙ ap (λ (x : List ℕ). b ++ x) (p2 ∙ ap (λ (x : List ℕ). c ++ x) last)) ∙ regroup a b c d
 
 body_taken : (c : Counts) (all : List ℕ) (entries code initial words : List ℕ × List ℕ) → IsWithin c
-    → TakesFields (IsPlace c.words) c.threads all entries → TakesFields IsWord c.words entries.1 code → TakesBytes c.bytes code.1 initial → TakesFields IsWord (object_words * c.objects) initial.1 words
+    → TakesFields (IsPlace c.words) (little_bytes 4) c.threads all entries → TakesFields IsWord (little_bytes 4) c.words entries.1 code
+    → TakesBytes c.bytes code.1 initial → TakesFields IsWord (little_bytes 4) (object_words * c.objects) initial.1 words
     → words.1 ≡ [] → TakesBody c all (record { entries = entries.0; code = code.0; bytes = initial.0; words = words.0 })
 body_taken c all entries code initial words within t0 t1 t2 t3 nothing =
     let objects : length words.0 / 8 ≡ c.objects = omega (arith, t3.count) in
     record {
-      counts = same_counts (record { entries = entries.0; code = code.0; bytes = initial.0; words = words.0 }) c t0.count objects t1.count t2.count;
+      counts = same_counts (record { entries = entries.0; code = code.0; bytes = initial.0; words = words.0 }) c t0.count objects
+          t1.count t2.count;
       fits = record {
         some_thread = omega (arith, t0.count);
         few_threads = omega (arith, t0.count);
@@ -106,21 +126,26 @@ body_taken c all entries code initial words within t0 t1 t2 t3 nothing =
         bytes_fit = t2.fit;
         words_fit = t3.fit;
       };
-      parts = joined all (words_spelling entries.0) entries.1 (words_spelling code.0) code.1 initial.0 initial.1 (words_spelling words.0) words.1 t0.takes.parts t1.takes.parts t2.takes.parts t3.takes.parts nothing;
+      parts = joined all (words_spelling entries.0) entries.1 (words_spelling code.0) code.1 initial.0 initial.1 (words_spelling words.0)
+          words.1 t0.takes.parts t1.takes.parts t2.takes.parts t3.takes.parts nothing;
     }
 
 body_take : (c : Counts) (all : List ℕ) (g : Guest) → IsBytes all → IsWithin c → body_at c all ≡ Ok g → TakesBody c all g
 unfolding body_at
 body_take c all g fits within e =
-    five_ok (fields_at (entry_at c.words) c.threads all) (λ entries. fields_at word_at c.words entries.1) (λ entries code. bytes_at c.bytes code.1) (λ entries code initial. fields_at word_at (object_words * c.objects) initial.1)
-    (λ entries code initial words. cond (eqb (length words.1) 0) (Ok (record { entries = entries.0; code = code.0; bytes = initial.0; words = words.0 })) (Err Trailing)) g e
+    five_ok (fields_at (entry_at c.words) c.threads all) (λ entries. fields_at word_at c.words entries.1)
+    (λ entries code. bytes_at Short c.bytes code.1) (λ entries code initial. fields_at word_at (object_words * c.objects) initial.1)
+    (λ entries code initial words. cond (eqb (length words.1) 0)
+    (Ok (record { entries = entries.0; code = code.0; bytes = initial.0; words = words.0 })) (Err Trailing)) g e
     (λ entries code initial words e0 e1 e2 e3 e4.
-    let t0 = fields_take (IsPlace c.words) (entry_at c.words) (entry_takes c.words) c.threads all entries fits e0 in
-    let t1 = fields_take IsWord word_at word_takes c.words entries.1 code t0.takes.rest_fits e1 in
-    let t2 = bytes_take c.bytes code.1 initial t1.takes.rest_fits e2 in
-    let t3 = fields_take IsWord word_at word_takes (object_words * c.objects) initial.1 words t2.takes.rest_fits e3 in
-    let p = pass_ok (eqb (length words.1) 0) Trailing (record { entries = entries.0; code = code.0; bytes = initial.0; words = words.0 }) g e4 in
-    subst (λ (y : Guest). TakesBody c all y) p.1 (body_taken c all entries code initial words within t0 t1 t2 t3 (nil_from_length words.1 (eqb-true (length words.1) 0 p.0))))
+    let t0 = fields_take (IsPlace c.words) (little_bytes 4) (entry_at c.words) (entry_takes c.words) c.threads all entries fits e0 in
+    let t1 = fields_take IsWord (little_bytes 4) word_at word_takes c.words entries.1 code t0.takes.rest_fits e1 in
+    let t2 = bytes_take Short c.bytes code.1 initial t1.takes.rest_fits e2 in
+    let t3 = fields_take IsWord (little_bytes 4) word_at word_takes (object_words * c.objects) initial.1 words t2.takes.rest_fits e3 in
+    let p = pass_ok (eqb (length words.1) 0) Trailing (record { entries = entries.0; code = code.0; bytes = initial.0; words = words.0 })
+    g e4 in
+    subst (λ (y : Guest). TakesBody c all y) p.1
+    (body_taken c all entries code initial words within t0 t1 t2 t3 (nil_from_length words.1 (eqb-true (length words.1) 0 p.0))))
 
 body_again : (g : Guest) → IsGuest g → body_at (counts_of g) (body_spelling g) ≡ Ok g
 unfolding body_at
@@ -128,19 +153,24 @@ body_again g fits =
     let r2 = words_spelling g.words in
     let r1 = g.bytes ++ r2 in
     let r0 = words_spelling g.code ++ r1 in
-    let e0 = fields_again (IsPlace (length g.code)) (entry_at (length g.code)) (λ n rest place. entry_again (length g.code) n rest fits.short_code place) g.entries r0 fits.entries_fit in
-    let e1 = fields_again IsWord word_at word_again g.code r1 fits.code_fits in
-    let e2 = bytes_again g.bytes r2 in
+    let e0 = fields_again (IsPlace (length g.code)) (little_bytes 4) (entry_at (length g.code))
+    (λ n rest place. entry_again (length g.code) n rest fits.short_code place) g.entries r0 fits.entries_fit in
+    let e1 = fields_again IsWord (little_bytes 4) word_at word_again g.code r1 fits.code_fits in
+    let e2 = bytes_again Short g.bytes r2 in
     let count : object_words * object_count g ≡ length g.words = omega arith in
     let e3 : fields_at word_at (object_words * object_count g) r2 ≡ Ok (g.words, []) =
-    ap (λ (k : ℕ). fields_at word_at k r2) count ∙ ap (fields_at word_at (length g.words)) (sym (append-nil r2)) ∙ fields_again IsWord word_at word_again g.words [] fits.words_fit in
+    ap (λ (k : ℕ). fields_at word_at k r2) count ∙ ap (fields_at word_at (length g.words)) (sym (append-nil r2)) ∙ fields_again IsWord
+    (little_bytes 4) word_at word_again g.words [] fits.words_fit in
     ap (body_at (counts_of g)) (sym (regroup (words_spelling g.entries) (words_spelling g.code) g.bytes r2)) ∙ rw (e0, e1, e2, e3) refl
 
 -- ---- the whole image
 
 whole_taken : (all : List ℕ) (x : Counts × List ℕ) (g : Guest) → TakesCounts all x → TakesBody x.0 x.1 g → IsGuest g × (all ≡ spelling g)
-whole_taken all x g t u =
-    (u.fits, t.takes.parts ∙ ap (λ (k : List ℕ). counts_spelling x.0 ++ k) u.parts ∙ ap (λ (c : Counts). counts_spelling c ++ body_spelling g) (sym u.counts))
+whole_taken all x g t u = (
+  u.fits,
+  t.takes.parts ∙ ap (λ (k : List ℕ). counts_spelling x.0 ++ k) u.parts ∙ ap
+      (λ (c : Counts). counts_spelling c ++ body_spelling g) (sym u.counts),
+)
 
 pub guest_takes : (all : List ℕ) (g : Guest) → IsBytes all → guest_at all ≡ Ok g → IsGuest g × (all ≡ spelling g)
 unfolding guest_at
@@ -150,14 +180,22 @@ guest_takes all g fits e =
     whole_taken all x g t (body_take x.0 x.1 g t.takes.rest_fits t.within e1))
 
 -- what the parts of an image say of it
-pub parts_take : (all : List ℕ) (c : Counts) (rest : List ℕ) (g h : Guest) → ((i : ℕ) → slice_index all i < 256) → counts_at all ≡ Ok (c, rest) → body_at c rest ≡ Ok g → g ≡ h → IsGuest h × (all ≡ spelling h)
+pub parts_take : (all : List ℕ) (c : Counts) (rest : List ℕ) (g h : Guest) → ((i : ℕ) → slice_index all i < 256)
+    → counts_at all ≡ Ok (c, rest) → body_at c rest ≡ Ok g → g ≡ h → IsGuest h × (all ≡ spelling h)
 parts_take all c rest g h bytes e0 e1 same =
     let fits = bytes_fit all bytes in
     let t = counts_take all (c, rest) fits e0 in
-    subst (λ (x : Guest). IsGuest x × (all ≡ spelling x)) same (whole_taken all (c, rest) g t (body_take c rest g t.takes.rest_fits t.within e1))
+    subst (λ (x : Guest). IsGuest x × (all ≡ spelling x)) same
+    (whole_taken all (c, rest) g t (body_take c rest g t.takes.rest_fits t.within e1))
 
 pub guest_again : (g : Guest) → IsGuest g → guest_at (spelling g) ≡ Ok g
 unfolding guest_at
 guest_again g fits =
-    let within : IsWithin (counts_of g) = record { some_thread = fits.some_thread; few_threads = fits.few_threads; few_objects = fits.few_objects; short_code = fits.short_code; short_data = fits.short_data } in
+    let within : IsWithin (counts_of g) = record {
+      some_thread = fits.some_thread;
+      few_threads = fits.few_threads;
+      few_objects = fits.few_objects;
+      short_code = fits.short_code;
+      short_data = fits.short_data;
+    } in
     rw (counts_again (counts_of g) (body_spelling g) within) (body_again g fits)

@@ -1,6 +1,7 @@
 -- A guest: what an image holds, apart from where it lies in memory.
-use Rattle.std.specs.Prelude.{◌≡◌, ℕ, ◌+◌, ◌*◌, ◌/◌, ◌%◌, ◌^◌, ◌<◌, ◌≤◌, List, length}
+use Rattle.std.specs.Prelude.{◌≡◌, ℕ, ◌+◌, ◌*◌, ◌/◌, ◌%◌, ◌<◌, ◌≤◌, List, length}
 use Rattle.std.specs.List.{AllByRecursion}
+pub use Rattle.ir_bytes.specs.Numbers.{IsWord, IsByte}
 
 pub record Guest : Type 0 where
   -- each thread's first pc
@@ -33,12 +34,6 @@ pub record IsPlace (words place : ℕ) : Type 0 where
   pub aligned : place % 4 ≡ 0
   pub low : code_start ≤ place
   pub high : place < code_start + 4 * words
-
-abbrev pub IsWord : ℕ → Type 0
-IsWord n = n < 2 ^ 32
-
-abbrev pub IsByte : ℕ → Type 0
-IsByte n = n < 2 ^ 8
 
 -- the limits of a guest
 pub record IsGuest (g : Guest) : Type 0 where

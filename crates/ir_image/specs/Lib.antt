@@ -4,3 +4,4 @@ pub mod Lowering
 pub mod Refusal
 pub mod Spelling
 pub mod Reading
+pub mod Fields

@@ -5,6 +5,8 @@ ghost use Rattle.std.specs.List.{AllByRecursion};
 ghost use Rattle.ir_image.specs.Guest.{Guest, IsGuest, IsByte};
 ghost use Rattle.ir_image.specs.Spelling.{spelling};
 ghost use Rattle.ir_image.specs.Reading.{guest_at};
+ghost use Rattle.ir_image.specs.Fields.{image_fault};
+ghost use Rattle.ir_bytes.specs.Format.{fault_of};
 
 /// The spelling of a guest within its limits is read as that guest, so no two guests are spelled alike.
 pub fn spelling_is_read()
@@ -14,4 +16,10 @@ pub fn spelling_is_read()
 /// Bytes that are read as a guest are the spelling of it, so no guest is spelled in two ways, and it is within its limits.
 pub fn read_is_spelled()
     ensures { (bytes : List ℕ) (g : Guest) → AllByRecursion IsByte bytes → guest_at bytes ≡ Ok g → IsGuest g × (bytes ≡ spelling g) }
+{}
+
+/// Bytes are refused exactly for the first of an image's fields, from the left, that isn't whole or holds what it may not, or
+/// else because bytes stand after the last; and for that field's fault. Bytes without such a field are read.
+pub fn first_fault_is_named()
+    ensures { (bytes : List ℕ) → fault_of (guest_at bytes) ≡ image_fault bytes }
 {}

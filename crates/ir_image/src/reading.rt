@@ -3,7 +3,9 @@
 ghost use Rattle.std.specs.Prelude.{◌≡◌, List, ℕ, length, IfOk, Ok, ◌<◌, ◌≤◌};
 ghost use Rattle.ir_image.specs.Guest.{Guest, IsGuest};
 ghost use Rattle.ir_image.specs.Spelling.{spelling};
-ghost use Rattle.ir_image.specs.Reading.{Gives, byte_at, word_at, bytes_at, fields_at, magic_at, count_at, entry_at, counts_at, body_at, guest_at};
+ghost use Rattle.ir_bytes.specs.Reading.{bytes_at, fields_at};
+ghost use Rattle.ir_image.specs.declared.image_err.ImageErr.TheVariants.{Short};
+ghost use Rattle.ir_image.specs.Reading.{Gives, word_at, entry_at, counts_at, body_at, guest_at};
 
 use crate::code::Code;
 use crate::counts::Counts;
@@ -13,6 +15,7 @@ use crate::layout::{
     CODE_START, MAGIC, MOST_BYTES, MOST_OBJECTS, MOST_THREADS, MOST_WORDS, OBJECT_WORDS,
 };
 use byteorder::{ByteOrder, LittleEndian};
+use ir_bytes::{byte_within, fixed_word, word, word_within};
 use std::alloc::Global;
 
 // What stands after the counts of an image.
@@ -24,71 +27,16 @@ struct Parts {
     words: Vec<u32>,
 }
 
-#[tactic(auto, unfolding(crate::specs::Reading::byte_at))]
-fn byte(bytes: &[u8]) -> Result<(u8, &[u8]), ImageErr>
-    ensures { Gives (λ x. (x.0, x.1.now)) result (byte_at bytes.now) }
-{
-    match bytes {
-        [] => Err(ImageErr::Short),
-        [b, rest @ ..] => Ok((*b, rest)),
-    }
-}
-
-#[tactic(auto, unfolding(crate::specs::Reading::word_at))]
-fn word(bytes: &[u8]) -> Result<(u32, &[u8]), ImageErr>
-    ensures { Gives (λ x. (x.0, x.1.now)) result (word_at bytes.now) }
-{
-    if bytes.len() < 4 {
-        return Err(ImageErr::Short);
-    }
-    Ok((LittleEndian::read_u32(bytes), &bytes[4..]))
-}
-
-#[tactic(auto, unfolding(crate::specs::Reading::magic_at))]
-fn after_magic(bytes: &[u8]) -> Result<&[u8], ImageErr>
-    ensures { Gives (λ x. x.now) result (magic_at bytes.now) }
-{
-    let (magic, rest) = word(bytes)?;
-    if magic == MAGIC {
-        Ok(rest)
-    } else {
-        Err(ImageErr::Magic)
-    }
-}
-
-#[tactic(auto, unfolding(crate::specs::Reading::count_at))]
-fn small_count(low: u8, high: u8, bytes: &[u8]) -> Result<(u8, &[u8]), ImageErr>
-    ensures { Gives (λ x. (x.0, x.1.now)) result (count_at byte_at low high bytes.now) }
-{
-    let (count, rest) = byte(bytes)?;
-    if count < low || count > high {
-        return Err(ImageErr::Count);
-    }
-    Ok((count, rest))
-}
-
-#[tactic(auto, unfolding(crate::specs::Reading::count_at))]
-fn large_count(high: u32, bytes: &[u8]) -> Result<(u32, &[u8]), ImageErr>
-    ensures exact { Gives (λ x. (x.0, x.1.now)) result (count_at word_at 0 high bytes.now) }
-    ensures within { IfOk result (λ x. x.0 ≤ high) }
-{
-    let (count, rest) = word(bytes)?;
-    if count > high {
-        return Err(ImageErr::Count);
-    }
-    Ok((count, rest))
-}
-
 #[tactic(auto, unfolding(crate::specs::Reading::counts_at))]
 fn counts(bytes: &[u8]) -> Result<(Counts, &[u8]), ImageErr>
     ensures exact { Gives (λ x. (x.0, x.1.now)) result (counts_at bytes.now) }
     ensures short_code { IfOk result (λ x. x.0.words ≤ 16384) }
 {
-    let rest = after_magic(bytes)?;
-    let (threads, rest) = small_count(1, MOST_THREADS, rest)?;
-    let (objects, rest) = small_count(0, MOST_OBJECTS, rest)?;
-    let (words, rest) = large_count(MOST_WORDS, rest)?;
-    let (bytes, rest) = large_count(MOST_BYTES, rest)?;
+    let rest = fixed_word(MAGIC, bytes, ImageErr::Short, ImageErr::Magic)?;
+    let (threads, rest) = byte_within(1, MOST_THREADS, rest, ImageErr::Short, ImageErr::Count)?;
+    let (objects, rest) = byte_within(0, MOST_OBJECTS, rest, ImageErr::Short, ImageErr::Count)?;
+    let (words, rest) = word_within(MOST_WORDS, rest, ImageErr::Short, ImageErr::Count)?;
+    let (bytes, rest) = word_within(MOST_BYTES, rest, ImageErr::Short, ImageErr::Count)?;
     Ok((
         Counts {
             threads,
@@ -100,12 +48,12 @@ fn counts(bytes: &[u8]) -> Result<(Counts, &[u8]), ImageErr>
     ))
 }
 
-#[tactic(auto, unfolding(crate::specs::Reading::entry_at))]
+#[tactic(auto, unfolding(ir_bytes::specs::Reading::field_at))]
 fn entry(words: u32, bytes: &[u8]) -> Result<(u32, &[u8]), ImageErr>
     requires { words ≤ 16384 }
     ensures { Gives (λ x. (x.0, x.1.now)) result (entry_at words bytes.now) }
 {
-    let (entry, rest) = word(bytes)?;
+    let (entry, rest) = word(bytes, ImageErr::Short)?;
     if entry % 4 == 0 && entry >= CODE_START && entry < CODE_START + 4 * words {
         Ok((entry, rest))
     } else {
@@ -137,23 +85,16 @@ fn words(alloc: Global, count: usize, bytes: &[u8]) -> Result<(Vec<u32>, &[u8]),
     requires { count ≤ 16384 }
     ensures { Gives (λ x. (x.0.items, x.1.now)) result (fields_at word_at count bytes.now) }
 {
-    if bytes.len() < 4 * count {
-        return Err(ImageErr::Short);
-    }
-    let (own, rest) = bytes.split_at(4 * count);
+    let (own, rest) = ir_bytes::bytes(4 * count, bytes, ImageErr::Short)?;
     let mut words = vec![in alloc; 0u32; count]?;
     LittleEndian::read_u32_into(own, &mut words);
     Ok((words, rest))
 }
 
-#[tactic(auto, unfolding(crate::specs::Reading::bytes_at))]
 fn data_bytes(alloc: Global, count: usize, bytes: &[u8]) -> Result<(Vec<u8>, &[u8]), ImageErr>
-    ensures { Gives (λ x. (x.0.items, x.1.now)) result (bytes_at count bytes.now) }
+    ensures { Gives (λ x. (x.0.items, x.1.now)) result (bytes_at Short count bytes.now) }
 {
-    if bytes.len() < count {
-        return Err(ImageErr::Short);
-    }
-    let (own, rest) = bytes.split_at(count);
+    let (own, rest) = ir_bytes::bytes(count, bytes, ImageErr::Short)?;
     let mut data = Vec::with_capacity(alloc, count)?;
     data.extend_from_slice(own)?;
     Ok((data, rest))

@@ -1,6 +1,6 @@
 use crate::{Code, Fetched, ImageErr, Kind, read_image, write_image};
 use ir_isa::Inst;
-use std::alloc::Global;
+use std::alloc::{AllocError, Global};
 use std::test::Fail;
 
 // `addi a0, zero, 72`, `addi a7, zero, 2`, `ecall`, `add a0, a0, a0`, `addi a7, zero, 1`, `ecall` for one thread.
@@ -137,6 +137,49 @@ fn threads_objects_and_data_stand_in_order(rt: HostRuntime) -> Result<(), Fail> 
         write_image(rt.alloc(), &image)?.as_slice(),
         bytes.as_slice()
     );
+    Ok(())
+}
+
+// Eight threads that begin at the last word, 16 objects, 16,384 words of code and 65,536 bytes of data: all the limits at once.
+fn largest(alloc: Global) -> Result<Vec<u8>, AllocError> {
+    let mut bytes = Vec::new(alloc);
+    bytes.extend_from_slice(&[0x49, 0x52, 0x49, 0x31, 8, 16, 0, 0x40, 0, 0, 0, 0, 1, 0])?;
+    for _ in 0..8 {
+        bytes.extend_from_slice(&[0xfc, 0xff, 1, 0])?;
+    }
+    for _ in 0..16_384 {
+        bytes.extend_from_slice(&[0x73, 0, 0, 0])?;
+    }
+    for _ in 0..16_384 {
+        bytes.extend_from_slice(&[7, 8, 9, 10])?;
+    }
+    for word in 0..128u8 {
+        bytes.extend_from_slice(&[word, 0, 0, 0xff])?;
+    }
+    Ok(bytes)
+}
+
+#[test]
+fn the_largest_image_is_read_and_written(rt: HostRuntime) -> Result<(), Fail> {
+    let mut bytes = largest(rt.alloc())?;
+    let image = read_image(rt.alloc(), &bytes)?;
+    assert_eq!(rt; image.entries(), [0x0001_fffc; 8].as_slice());
+    assert_eq!(rt; image.code().words().len(), 16_384);
+    assert_eq!(rt;
+        image.code().fetch(0x0001_fffc),
+        Fetched::Found(Inst::Ecall)
+    );
+    assert_eq!(rt; image.code().fetch(0x0002_0000), Fetched::Outside);
+    assert_eq!(rt; image.bytes().len(), 65_536);
+    assert_eq!(rt; image.bytes().last(), Some(&10));
+    assert_eq!(rt; image.words().len(), 128);
+    assert_eq!(rt; image.words().last(), Some(&0xff00_007f));
+    assert_eq!(rt;
+        write_image(rt.alloc(), &image)?.as_slice(),
+        bytes.as_slice()
+    );
+    bytes.push(0)?;
+    assert_eq!(rt; refusal(rt.alloc(), &bytes), Some(5));
     Ok(())
 }
 

@@ -1,8 +1,7 @@
-mod Steps
 mod Loop
 mod Joined
-mod Numbers
 mod Taken
 mod EventLaws
 mod Whole
+mod Refused
 mod Telling

@@ -1,6 +1,7 @@
 -- What was recorded of a run, apart from where it lies in memory.
 use Rattle.std.specs.Prelude.{◌≡◌, ℕ, ◌^◌, ◌<◌, ◌≤◌, ◌⊎◌, List, length}
 use Rattle.std.specs.List.{AllByRecursion}
+pub use Rattle.ir_bytes.specs.Numbers.{IsWord}
 use Rattle.ir_thread.specs.Calls.{most_events}
 use Rattle.ir_thread.specs.Ends.{end_code}
 use Rattle.ir_runs.specs.declared.env_kind.EnvKind.{EnvKind}
@@ -33,10 +34,6 @@ most_budget = 1000000000000
 -- what an input has at its end
 abbrev pub input_end : ℕ
 input_end = 0xFFFFFFFF
-
--- a number of four bytes
-abbrev pub IsWord : ℕ → Type 0
-IsWord n = n < 2 ^ 32
 
 -- the values that a call of the environment may have: an input gives a byte, or its end
 abbrev pub IsResult : EnvKind → ℕ → Type 0

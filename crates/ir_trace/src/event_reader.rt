@@ -1,12 +1,14 @@
 //! The reader of events.
 
 ghost use Rattle.std.specs.Prelude.{◌≡◌, ◌≤◌, ◌+◌, length, IfOk};
-ghost use Rattle.ir_trace.specs.Reading.{Gives, answer_at, input_at, object_at, read_at, write_at, event_by, event_at, fields_at};
+ghost use Rattle.ir_bytes.specs.Reading.{field_at, fields_at};
+ghost use Rattle.ir_trace.specs.declared.trace_err.TraceErr.TheVariants.{Short};
+ghost use Rattle.ir_trace.specs.Reading.{Gives, object_field, answer_at, input_at, read_at, write_at, event_by, event_at};
 ghost use Rattle.ir_thread.specs.Calls.{most_events};
 
-use crate::fields::{byte, word};
 use crate::layout::{INPUT_END, SHORTEST_EVENT};
 use crate::trace_err::TraceErr;
+use ir_bytes::{byte, word};
 use ir_log::{Event, Log};
 use ir_runs::EnvKind;
 use std::alloc::Global;
@@ -16,16 +18,16 @@ fn answer(kind: EnvKind, bytes: &[u8]) -> Result<(Event, &[u8]), TraceErr>
     ensures exact { Gives (λ x. (x.0, x.1.now)) result (answer_at kind bytes.now) }
     ensures taken { IfOk result (λ x. length x.1.now + 4 ≤ length bytes.now) }
 {
-    let (value, rest) = word(bytes)?;
+    let (value, rest) = word(bytes, TraceErr::Short)?;
     Ok((Event::Answer(kind, value), rest))
 }
 
-#[tactic(auto, unfolding(crate::specs::Reading::input_at))]
+#[tactic(auto, unfolding(crate::specs::Reading::input_at, ir_bytes::specs::Reading::field_at))]
 fn input(bytes: &[u8]) -> Result<(Event, &[u8]), TraceErr>
     ensures exact { Gives (λ x. (x.0, x.1.now)) result (input_at bytes.now) }
     ensures taken { IfOk result (λ x. length x.1.now + 4 ≤ length bytes.now) }
 {
-    let (value, rest) = word(bytes)?;
+    let (value, rest) = word(bytes, TraceErr::Short)?;
     if value < 256 || value == INPUT_END {
         Ok((Event::Answer(EnvKind::Input, value), rest))
     } else {
@@ -33,12 +35,12 @@ fn input(bytes: &[u8]) -> Result<(Event, &[u8]), TraceErr>
     }
 }
 
-#[tactic(auto, unfolding(crate::specs::Reading::object_at))]
+#[tactic(auto, unfolding(ir_bytes::specs::Reading::field_at))]
 fn object(objects: u8, bytes: &[u8]) -> Result<(u8, &[u8]), TraceErr>
-    ensures exact { Gives (λ x. (x.0, x.1.now)) result (object_at objects bytes.now) }
+    ensures exact { Gives (λ x. (x.0, x.1.now)) result (field_at Short (object_field objects) bytes.now) }
     ensures taken { IfOk result (λ x. length x.1.now + 1 ≡ length bytes.now) }
 {
-    let (object, rest) = byte(bytes)?;
+    let (object, rest) = byte(bytes, TraceErr::Short)?;
     if object < objects {
         Ok((object, rest))
     } else {
@@ -52,7 +54,7 @@ fn read_entry(objects: u8, bytes: &[u8]) -> Result<(Event, &[u8]), TraceErr>
     ensures taken { IfOk result (λ x. length x.1.now + 4 ≤ length bytes.now) }
 {
     let (object, rest) = object(objects, bytes)?;
-    let (version, rest) = word(rest)?;
+    let (version, rest) = word(rest, TraceErr::Short)?;
     Ok((Event::Read { object, version }, rest))
 }
 
@@ -62,8 +64,8 @@ fn write_entry(objects: u8, bytes: &[u8]) -> Result<(Event, &[u8]), TraceErr>
     ensures taken { IfOk result (λ x. length x.1.now + 4 ≤ length bytes.now) }
 {
     let (object, rest) = object(objects, bytes)?;
-    let (version, rest) = word(rest)?;
-    let (readers, rest) = word(rest)?;
+    let (version, rest) = word(rest, TraceErr::Short)?;
+    let (readers, rest) = word(rest, TraceErr::Short)?;
     Ok((
         Event::Write {
             object,
@@ -94,11 +96,12 @@ fn event(objects: u8, bytes: &[u8]) -> Result<(Event, &[u8]), TraceErr>
     ensures exact { Gives (λ x. (x.0, x.1.now)) result (event_at objects bytes.now) }
     ensures taken { IfOk result (λ x. length x.1.now + 5 ≤ length bytes.now) }
 {
-    let (tag, rest) = byte(bytes)?;
+    let (tag, rest) = byte(bytes, TraceErr::Short)?;
     tagged(tag, objects, rest)
 }
 
-/// So many events, each about an object below the number of objects, and the bytes after them. Room is taken for no more events than the bytes may hold.
+/// So many events, each about an object below the number of objects, and the bytes after them. Room is taken for no more
+/// events than the bytes may hold.
 ///
 /// # Errors
 /// The first fault from the left, or want of memory.

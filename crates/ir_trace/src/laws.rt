@@ -3,10 +3,12 @@
 ghost use Rattle.std.specs.Prelude.{◌≡◌, List, ℕ, length, Ok};
 ghost use Rattle.std.specs.List.{AllByRecursion};
 ghost use Rattle.byteorder.specs.Endian.{little_number, little_bytes};
-ghost use Rattle.ir_image.specs.Guest.{IsByte};
+ghost use Rattle.ir_bytes.specs.Numbers.{IsByte};
+ghost use Rattle.ir_bytes.specs.Format.{fault_of};
 ghost use Rattle.ir_trace.specs.Recorded.{Recorded, IsRecorded};
 ghost use Rattle.ir_trace.specs.Spelling.{spelling};
 ghost use Rattle.ir_trace.specs.Reading.{recorded_at};
+ghost use Rattle.ir_trace.specs.Fields.{trace_fault};
 ghost use Rattle.ir_trace.specs.Told.{trace_of};
 
 use ir_log::one_mark_each;
@@ -19,6 +21,12 @@ pub fn spelling_is_read()
 /// Bytes that are read as a recording are the spelling of it, so none is spelled in two ways, and it is within its limits.
 pub fn read_is_spelled()
     ensures { (bytes : List ℕ) (r : Recorded) → AllByRecursion IsByte bytes → recorded_at bytes ≡ Ok r → IsRecorded r × (bytes ≡ spelling r) }
+{}
+
+/// Bytes are refused exactly for the first of a trace's fields, from the left, that isn't whole or holds what it may not, or
+/// else because bytes stand after the last; and for that field's fault. Bytes without such a field are read.
+pub fn first_fault_is_named()
+    ensures { (bytes : List ℕ) → fault_of (recorded_at bytes) ≡ trace_fault bytes }
 {}
 
 /// Different bytes of one width are different numbers: the bytes are those of the number that they spell.

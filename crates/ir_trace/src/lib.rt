@@ -2,7 +2,6 @@
 #![tactic(auto)]
 
 mod event_reader;
-mod fields;
 mod header;
 mod laws;
 mod layout;
@@ -14,7 +13,9 @@ mod trace;
 mod trace_err;
 mod writer;
 
-pub use laws::{bytes_are_their_number, read_is_spelled, spelling_is_read, told_apart};
+pub use laws::{
+    bytes_are_their_number, first_fault_is_named, read_is_spelled, spelling_is_read, told_apart,
+};
 pub use reader::read_trace;
 pub use thread_trace::ThreadTrace;
 pub use trace::Trace;

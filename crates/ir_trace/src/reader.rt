@@ -1,89 +1,31 @@
 //! The reader of traces.
 
-ghost use Rattle.std.specs.Prelude.{◌≡◌, ◌≤◌, List, ℕ, length, IfOk, Ok};
-ghost use Rattle.ir_thread.specs.Calls.{most_events};
+ghost use Rattle.std.specs.Prelude.{◌≡◌, List, ℕ, IfOk, Ok};
 ghost use Rattle.ir_trace.specs.Recorded.{Recorded, IsRecorded};
 ghost use Rattle.ir_trace.specs.Spelling.{spelling};
-ghost use Rattle.ir_trace.specs.Reading.{Gives, byte_at, number_at, magic_at, count_at, reserved_at, header_at, end_at, event_at, fields_at, thread_at, recorded_at};
+ghost use Rattle.ir_bytes.specs.Reading.{fields_at};
+ghost use Rattle.ir_trace.specs.Reading.{Gives, header_at, end_at, thread_at, recorded_at};
 
 use crate::event_reader::events;
-use crate::fields::{byte, double, half, word};
 use crate::header::Header;
 use crate::layout::{MAGIC, MOST_BUDGET, MOST_OBJECTS, MOST_THREADS};
 use crate::thread_trace::ThreadTrace;
 use crate::trace::Trace;
 use crate::trace_err::TraceErr;
+use ir_bytes::{byte_within, double, double_within, fixed_half, fixed_word, word, word_within};
 use ir_log::MOST_EVENTS;
 use ir_thread::End;
 use std::alloc::Global;
-
-#[tactic(auto, unfolding(crate::specs::Reading::magic_at))]
-fn after_magic(bytes: &[u8]) -> Result<&[u8], TraceErr>
-    ensures { Gives (λ x. x.now) result (magic_at bytes.now) }
-{
-    let (magic, rest) = word(bytes)?;
-    if magic == MAGIC {
-        Ok(rest)
-    } else {
-        Err(TraceErr::Magic)
-    }
-}
-
-#[tactic(auto, unfolding(crate::specs::Reading::count_at))]
-fn small_count(low: u8, high: u8, bytes: &[u8]) -> Result<(u8, &[u8]), TraceErr>
-    ensures { Gives (λ x. (x.0, x.1.now)) result (count_at byte_at low high bytes.now) }
-{
-    let (count, rest) = byte(bytes)?;
-    if count < low || count > high {
-        return Err(TraceErr::Count);
-    }
-    Ok((count, rest))
-}
-
-#[tactic(auto, unfolding(crate::specs::Reading::reserved_at))]
-fn after_reserved(bytes: &[u8]) -> Result<&[u8], TraceErr>
-    ensures { Gives (λ x. x.now) result (reserved_at bytes.now) }
-{
-    let (reserved, rest) = half(bytes)?;
-    if reserved == 0 {
-        Ok(rest)
-    } else {
-        Err(TraceErr::Reserved)
-    }
-}
-
-#[tactic(auto, unfolding(crate::specs::Reading::count_at))]
-fn budget(bytes: &[u8]) -> Result<(u64, &[u8]), TraceErr>
-    ensures { Gives (λ x. (x.0, x.1.now)) result (count_at (number_at 8) 0 1000000000000 bytes.now) }
-{
-    let (budget, rest) = double(bytes)?;
-    if budget > MOST_BUDGET {
-        return Err(TraceErr::Count);
-    }
-    Ok((budget, rest))
-}
-
-#[tactic(auto, unfolding(crate::specs::Reading::count_at))]
-fn event_count(bytes: &[u8]) -> Result<(u32, &[u8]), TraceErr>
-    ensures exact { Gives (λ x. (x.0, x.1.now)) result (count_at (number_at 4) 0 most_events bytes.now) }
-    ensures within { IfOk result (λ x. x.0 ≤ most_events) }
-{
-    let (count, rest) = word(bytes)?;
-    if count as usize > MOST_EVENTS {
-        return Err(TraceErr::Count);
-    }
-    Ok((count, rest))
-}
 
 #[tactic(auto, unfolding(crate::specs::Reading::header_at))]
 fn header(bytes: &[u8]) -> Result<(Header, &[u8]), TraceErr>
     ensures { Gives (λ x. (x.0, x.1.now)) result (header_at bytes.now) }
 {
-    let rest = after_magic(bytes)?;
-    let (threads, rest) = small_count(1, MOST_THREADS, rest)?;
-    let (objects, rest) = small_count(0, MOST_OBJECTS, rest)?;
-    let rest = after_reserved(rest)?;
-    let (budget, rest) = budget(rest)?;
+    let rest = fixed_word(MAGIC, bytes, TraceErr::Short, TraceErr::Magic)?;
+    let (threads, rest) = byte_within(1, MOST_THREADS, rest, TraceErr::Short, TraceErr::Count)?;
+    let (objects, rest) = byte_within(0, MOST_OBJECTS, rest, TraceErr::Short, TraceErr::Count)?;
+    let rest = fixed_half(0, rest, TraceErr::Short, TraceErr::Reserved)?;
+    let (budget, rest) = double_within(MOST_BUDGET, rest, TraceErr::Short, TraceErr::Count)?;
     Ok((
         Header {
             threads,
@@ -98,11 +40,8 @@ fn header(bytes: &[u8]) -> Result<(Header, &[u8]), TraceErr>
 fn end(bytes: &[u8]) -> Result<(End, &[u8]), TraceErr>
     ensures { Gives (λ x. (x.0, x.1.now)) result (end_at bytes.now) }
 {
-    let (number, rest) = byte(bytes)?;
-    if number < 1 || number > 14 {
-        return Err(TraceErr::Range);
-    }
-    let (code, rest) = word(rest)?;
+    let (number, rest) = byte_within(1, 14, bytes, TraceErr::Short, TraceErr::Range)?;
+    let (code, rest) = word(rest, TraceErr::Short)?;
     match End::from_parts(number, code) {
         Some(end) => Ok((end, rest)),
         None => Err(TraceErr::Range),
@@ -113,9 +52,9 @@ fn end(bytes: &[u8]) -> Result<(End, &[u8]), TraceErr>
 fn thread(alloc: Global, objects: u8, bytes: &[u8]) -> Result<(ThreadTrace, &[u8]), TraceErr>
     ensures { Gives (λ x. (x.0, x.1.now)) result (thread_at objects bytes.now) }
 {
-    let (steps, rest) = double(bytes)?;
+    let (steps, rest) = double(bytes, TraceErr::Short)?;
     let (end, rest) = end(rest)?;
-    let (count, rest) = event_count(rest)?;
+    let (count, rest) = word_within(MOST_EVENTS as u32, rest, TraceErr::Short, TraceErr::Count)?;
     let (log, rest) = events(alloc, objects, count, rest)?;
     Ok((ThreadTrace::new(steps, end, log), rest))
 }

@@ -267,6 +267,49 @@ fn events_without_their_bytes_are_short(rt: HostRuntime) -> Result<(), Fail> {
     Ok(())
 }
 
+// Eight threads, 16 objects and a budget of 10^12; the first thread logged 1,048,576 events, and each took as many steps as can be said.
+fn largest(alloc: Global) -> Result<Vec<u8>, AllocError> {
+    let mut bytes = Vec::new(alloc);
+    bytes.extend_from_slice(&[0x49, 0x52, 0x54, 0x31, 8, 16, 0, 0])?;
+    bytes.extend_from_slice(&[0x00, 0x10, 0xa5, 0xd4, 0xe8, 0, 0, 0])?;
+    bytes.extend_from_slice(&[0xff; 8])?;
+    bytes.extend_from_slice(&[1, 0xff, 0xff, 0xff, 0xff, 0, 0, 0x10, 0])?;
+    for _ in 0..1_048_576 {
+        bytes.extend_from_slice(&[5, 15, 0xff, 0xff, 0xff, 0xff, 0xfe, 0xff, 0xff, 0xff])?;
+    }
+    for _ in 0..7 {
+        bytes.extend_from_slice(&[0xff; 8])?;
+        bytes.extend_from_slice(&[14, 0, 0, 0, 0, 0, 0, 0, 0])?;
+    }
+    Ok(bytes)
+}
+
+#[test]
+fn the_largest_counts_are_read_and_written(rt: HostRuntime) -> Result<(), Fail> {
+    let mut bytes = largest(rt.alloc())?;
+    let trace = read_trace(rt.alloc(), &bytes)?;
+    assert_eq!(rt; trace.objects(), 16);
+    assert_eq!(rt; trace.budget(), 1_000_000_000_000);
+    assert_eq!(rt; trace.threads().len(), 8);
+    for thread in trace.threads() {
+        assert_eq!(rt; thread.steps(), 0xffff_ffff_ffff_ffff);
+    }
+    let last = Event::Write {
+        object: 15,
+        version: 0xffff_ffff,
+        readers: 0xffff_fffe,
+    };
+    assert_eq!(rt; events(&trace, 0).len(), 1_048_576);
+    assert_eq!(rt; events(&trace, 0).last(), Some(&last));
+    assert_eq!(rt;
+        write_trace(rt.alloc(), &trace)?.as_slice(),
+        bytes.as_slice()
+    );
+    bytes.push(0)?;
+    assert_eq!(rt; refusal(rt.alloc(), &bytes), Some(7));
+    Ok(())
+}
+
 // Holds whichever allocation is refused.
 #[test]
 fn a_refused_allocation_is_want_of_memory(rt: HostRuntime) {

@@ -1,6 +1,8 @@
 use Rattle.std.proofs.lemmas.Result.{err_from_is_err_and}
-use Rattle.ir_image.specs.Reading.{fields_at, entry_at}
-use Rattle.ir_image.proofs.Loop.{goes_on, ends, is_done}
+use Rattle.ir_bytes.specs.Reading.{fields_at}
+use Rattle.ir_image.specs.Reading.{entry_at}
+use Rattle.ir_bytes.proofs.CallerLemmas.{goes_on, is_done}
+use Rattle.ir_image.proofs.Loop.{ends}
 use Rattle.ir_image.proofs.reading.entries.Goals as goal
 
 pub returns-in_err-one : goal.returns-in_err-one

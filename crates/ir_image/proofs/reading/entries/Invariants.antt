@@ -1,6 +1,7 @@
 use Rattle.std.proofs.Common.{◌≡◌, ◌-◌}
-use Rattle.ir_image.specs.Reading.{fields_at, entry_at}
-use Rattle.ir_image.proofs.Loop.{with_front}
+use Rattle.ir_bytes.specs.Reading.{fields_at}
+use Rattle.ir_image.specs.Reading.{entry_at}
+use Rattle.ir_bytes.proofs.CallerLemmas.{with_front}
 use Rattle.ir_image.proofs.reading.entries.Given as goal
 
 abbrev pub invariant-loop : goal.invariant-loop

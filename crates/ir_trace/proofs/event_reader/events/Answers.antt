@@ -1,8 +1,10 @@
 use Rattle.std.proofs.Common.{arith, ◌∙◌, ap, length, length-append, ◌∷◌, []}
 use Rattle.std.proofs.lemmas.Result.{err_from_is_err_and}
 use Rattle.ir_log.specs.Logged.{Logged}
-use Rattle.ir_trace.specs.Reading.{fields_at, event_at}
-use Rattle.ir_trace.proofs.Loop.{goes_on, ends, is_done}
+use Rattle.ir_bytes.specs.Reading.{fields_at}
+use Rattle.ir_trace.specs.Reading.{event_at}
+use Rattle.ir_bytes.proofs.CallerLemmas.{goes_on, is_done}
+use Rattle.ir_trace.proofs.Loop.{ends}
 use Rattle.ir_trace.proofs.event_reader.events.Goals as goal
 
 pub returns-in_err-one-clause-exact : goal.returns-in_err-one-clause-exact

@@ -1,6 +1,8 @@
 use Rattle.std.proofs.lemmas.Result.{err_from_is_err_and}
-use Rattle.ir_trace.specs.Reading.{fields_at, thread_at}
-use Rattle.ir_trace.proofs.Loop.{goes_on, ends, is_done}
+use Rattle.ir_bytes.specs.Reading.{fields_at}
+use Rattle.ir_trace.specs.Reading.{thread_at}
+use Rattle.ir_bytes.proofs.CallerLemmas.{goes_on, is_done}
+use Rattle.ir_trace.proofs.Loop.{ends}
 use Rattle.ir_trace.proofs.reader.threads.Goals as goal
 
 pub returns-in_err-one : goal.returns-in_err-one

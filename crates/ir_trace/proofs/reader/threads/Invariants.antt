@@ -1,6 +1,7 @@
 use Rattle.std.proofs.Common.{◌≡◌, ◌-◌}
-use Rattle.ir_trace.specs.Reading.{fields_at, thread_at}
-use Rattle.ir_trace.proofs.Loop.{with_front}
+use Rattle.ir_bytes.specs.Reading.{fields_at}
+use Rattle.ir_trace.specs.Reading.{thread_at}
+use Rattle.ir_bytes.proofs.CallerLemmas.{with_front}
 use Rattle.ir_trace.proofs.reader.threads.Given as goal
 
 abbrev pub invariant-loop : goal.invariant-loop

@@ -1,5 +1,5 @@
 -- The bytes of a number, and the number of bytes.
-use Rattle.std.proofs.Common.{◌≡◌, ℕ, zero, suc, ◌+◌, ◌*◌, ◌/◌, ◌^◌, ◌<◌, ◌≤◌, List, [], ◌∷◌, ◌++◌, length, slice_index, take, drop, sym, ap, ◌∙◌, arith, length-take-le}
+use Rattle.std.proofs.Common.{◌≡◌, ℕ, zero, suc, ◌+◌, ◌*◌, ◌/◌, ◌%◌, ◌^◌, ◌<◌, ◌≤◌, List, [], ◌∷◌, ◌++◌, length, slice_index, take, drop, sym, ap, ◌∙◌, arith, length-take-le}
 use Rattle.std.specs.Int.{byte_at, bytes_low_first}
 use Rattle.std.specs.List.{AllByRecursion}
 use Rattle.std.proofs.lemmas.List.{take-append-drop, append-nil, nil_from_length}
@@ -7,7 +7,7 @@ use Rattle.std.proofs.Math.Nat.{mod-lt}
 use Rattle.std.proofs.Math.Seq.{take-length}
 use Rattle.byteorder.specs.Endian.{little_bytes, little_number, little_from}
 use Rattle.byteorder.specs.Numbers.{little_from-cons, little_from-take, little_from-lt, little_number-reads_back, length-bytes_low_first}
-use Rattle.ir_image.specs.Guest.{IsByte}
+use Rattle.ir_bytes.specs.Numbers.{IsByte}
 
 abbrev pub IsBytes : List ℕ → Type 0
 IsBytes bytes = AllByRecursion IsByte bytes
@@ -26,7 +26,7 @@ drop_fits zero bytes h = h
 drop_fits (suc n) [] h = tt
 drop_fits (suc n) (b ∷ rest) h = drop_fits n rest h.1
 
-take_fits : (n : ℕ) (bytes : List ℕ) → IsBytes bytes → IsBytes (take n bytes)
+pub take_fits : (n : ℕ) (bytes : List ℕ) → IsBytes bytes → IsBytes (take n bytes)
 take_fits zero bytes h = tt
 take_fits (suc n) [] h = tt
 take_fits (suc n) (b ∷ rest) h = (h.0, take_fits n rest h.1)
@@ -35,7 +35,8 @@ both_bytes : (x y a b : ℕ) → x < 256 → y < 256 → x + 256 * a ≡ y + 256
 both_bytes x y a b p q e = (omega arith, omega arith)
 
 -- different bytes of one width are different numbers
-same_bytes : (n : ℕ) (xs ys : List ℕ) → IsBytes xs → IsBytes ys → length xs ≡ n → length ys ≡ n → little_number n xs ≡ little_number n ys → xs ≡ ys
+same_bytes : (n : ℕ) (xs ys : List ℕ) → IsBytes xs → IsBytes ys → length xs ≡ n → length ys ≡ n → little_number n xs ≡ little_number n ys
+    → xs ≡ ys
 same_bytes zero xs ys p q l m e = nil_from_length xs l ∙ sym (nil_from_length ys m)
 same_bytes (suc n) [] ys p q l m e = absurd (omega (arith, l))
 same_bytes (suc n) (x ∷ xs) [] p q l m e = absurd (omega (arith, m))
@@ -59,8 +60,10 @@ front_is n xs h long =
     let v = little_number n xs in
     let fits : v < 256 ^ n = little_from-lt 0 n xs (each_fits xs h) in
     let own : little_number n (take n xs) ≡ v = little_from-take 0 n n xs (omega arith) in
-    let back : little_number n (little_bytes n v) ≡ v = ap (λ (l : List ℕ). little_from 0 n l) (sym (append-nil (little_bytes n v))) ∙ little_number-reads_back n v [] fits in
-    same_bytes n (take n xs) (little_bytes n v) (take_fits n xs h) (low_bytes_fit 0 n v) (length-take-le n xs long) (length-bytes_low_first 0 n v) (own ∙ sym back)
+    let back : little_number n (little_bytes n v) ≡ v = ap (λ (l : List ℕ). little_from 0 n l) (sym (append-nil (little_bytes n v))) ∙
+    little_number-reads_back n v [] fits in
+    same_bytes n (take n xs) (little_bytes n v) (take_fits n xs h) (low_bytes_fit 0 n v) (length-take-le n xs long)
+    (length-bytes_low_first 0 n v) (own ∙ sym back)
 
 -- bytes whose front spells a number
 pub record IsSpelled (n : ℕ) (xs : List ℕ) : Type 0 where
@@ -75,3 +78,9 @@ number_parts n xs h long = record {
 
 pub number_whole : (xs : List ℕ) → IsBytes xs → xs ≡ little_bytes (length xs) (little_number (length xs) xs)
 number_whole xs h = sym (take-length xs) ∙ front_is (length xs) xs h (omega arith)
+
+-- a number below 256 is its one byte
+pub one_byte : (n : ℕ) → n < 256 → little_bytes 1 n ≡ n ∷ []
+one_byte n fits =
+    let same : n % 256 ≡ n = omega arith in
+    ap (λ (k : ℕ). k ∷ []) same

@@ -1,0 +1,99 @@
+-- What is known of the steps of a reading that met no fault.
+use Rattle.std.proofs.Common.{◌≡◌, ℕ, ◌≤◌, Bool, true, false, cond, leb, eqb, Option, Some, None, Result, Ok, Err, refl}
+use Rattle.std.specs.Prelude.{◌&&◌}
+use Rattle.std.proofs.lemmas.Bool.{leb-true, le-leb, eqb-true, eq-eqb, and_parts}
+use Rattle.ir_bytes.specs.Reading.{◌>>=◌, judged}
+
+-- each value of a chain is a variable of its own in what follows
+pub two_ok : {A Y P E : Type 0} (r : Result A E) (f : A → Result Y E) (y : Y) → (r >>= f) ≡ Ok y → ((a : A) → r ≡ Ok a → f a ≡ Ok y → P)
+    → P
+two_ok (Ok a) f y e go = go a refl e
+two_ok (Err x) f y e go = absurd cc
+
+pub three_ok : {A B Y P E : Type 0} (r : Result A E) (f : A → Result B E) (g : A → B → Result Y E) (y : Y)
+    → (r >>= λ a. f a >>= λ b. g a b) ≡ Ok y
+    → ((a : A) (b : B) → r ≡ Ok a → f a ≡ Ok b → g a b ≡ Ok y → P) → P
+three_ok (Ok a) f g y e go = two_ok (f a) (g a) y e (λ b. go a b refl)
+three_ok (Err x) f g y e go = absurd cc
+
+pub four_ok : {A B C Y P E : Type 0} (r : Result A E) (f : A → Result B E) (g : A → B → Result C E) (h : A → B → C → Result Y E) (y : Y)
+    → (r >>= λ a. f a >>= λ b. g a b >>= λ c. h a b c) ≡ Ok y
+    → ((a : A) (b : B) (c : C) → r ≡ Ok a → f a ≡ Ok b → g a b ≡ Ok c → h a b c ≡ Ok y → P) → P
+four_ok (Ok a) f g h y e go = three_ok (f a) (g a) (h a) y e (λ b c. go a b c refl)
+four_ok (Err x) f g h y e go = absurd cc
+
+pub five_ok : {A B C D Y P E : Type 0} (r : Result A E) (f : A → Result B E) (g : A → B → Result C E) (h : A → B → C → Result D E)
+    (k : A → B → C → D → Result Y E) (y : Y)
+    → (r >>= λ a. f a >>= λ b. g a b >>= λ c. h a b c >>= λ d. k a b c d) ≡ Ok y
+    → ((a : A) (b : B) (c : C) (d : D) → r ≡ Ok a → f a ≡ Ok b → g a b ≡ Ok c → h a b c ≡ Ok d → k a b c d ≡ Ok y → P) → P
+five_ok (Ok a) f g h k y e go = four_ok (f a) (g a) (h a) (k a) y e (λ b c d. go a b c d refl)
+five_ok (Err x) f g h k y e go = absurd cc
+
+pub six_ok : {A B C D F Y P E : Type 0} (r : Result A E) (f : A → Result B E) (g : A → B → Result C E) (h : A → B → C → Result D E)
+    (k : A → B → C → D → Result F E) (m : A → B → C → D → F → Result Y E) (y : Y)
+    → (r >>= λ a. f a >>= λ b. g a b >>= λ c. h a b c >>= λ d. k a b c d >>= λ x. m a b c d x) ≡ Ok y
+    → ((a : A) (b : B) (c : C) (d : D) (x : F) → r ≡ Ok a → f a ≡ Ok b → g a b ≡ Ok c → h a b c ≡ Ok d → k a b c d ≡ Ok x → m a b c d x ≡
+    Ok y → P) → P
+six_ok (Ok a) f g h k m y e go = five_ok (f a) (g a) (h a) (k a) (m a) y e (λ b c d x. go a b c d x refl)
+six_ok (Err x) f g h k m y e go = absurd cc
+
+-- a test that found no fault
+pub guard_ok : {A E : Type 0} (b : Bool) (d : E) (x : Result A E) (y : A) → cond b (Err d) x ≡ Ok y → (b ≡ false) × (x ≡ Ok y)
+guard_ok true d x y e = absurd cc
+guard_ok false d x y e = (refl, e)
+
+-- a test that was passed
+pub pass_ok : {A E : Type 0} (b : Bool) (d : E) (x y : A) → cond b (Ok x) (Err d) ≡ Ok y → (b ≡ true) × (x ≡ y)
+pass_ok true d x y e = (refl, cc)
+pass_ok false d x y e = absurd cc
+
+-- a test that found a fault
+pub refused_by : {A E : Type 0} (b : Bool) (d e : E) (x : A) → cond b (Err d) (Ok x) ≡ Err e → (b ≡ true) × (d ≡ e)
+refused_by true d e x h = (refl, cc)
+refused_by false d e x h = absurd cc
+
+-- no fault was found
+pub judged_ok : {A E : Type 0} (o : Option E) (x y : A) → judged o x ≡ Ok y → (o ≡ None) × (x ≡ y)
+judged_ok (Some d) x y e = absurd cc
+judged_ok None x y e = (refl, cc)
+
+-- which way a test went
+pub choose : {A P : Type 0} (b : Bool) (x y z : A) → cond b x y ≡ z → (b ≡ true → x ≡ z → P) → (b ≡ false → y ≡ z → P) → P
+choose true x y z e f g = f refl e
+choose false x y z e f g = g refl e
+
+abbrev pub done : (E : Type 0) {A : Type 0} → A → Result A E
+done E x = Ok x
+
+pub ok_is : {A : Type 0} (E : Type 0) (x y : A) → done E x ≡ done E y → x ≡ y
+ok_is E x y e = cc
+
+-- ---- tests of numbers
+
+abbrev pub no_fault : (E : Type 0) → Option E
+no_fault E = None
+
+-- a number that has no fault passed
+pub passed : {E : Type 0} (b : Bool) (e : E) → cond b (no_fault E) (Some e) ≡ None → b ≡ true
+passed true e h = refl
+passed false e h = absurd cc
+
+-- a number that passes has no fault
+pub passes : {E : Type 0} (b : Bool) (e : E) → b ≡ true → cond b (no_fault E) (Some e) ≡ None
+passes b e h = rw h refl
+
+pub fixed_ok : {E : Type 0} (number n : ℕ) (e : E) → cond (eqb n number) (no_fault E) (Some e) ≡ None → n ≡ number
+fixed_ok number n e h = eqb-true n number (passed (eqb n number) e h)
+
+pub fixed_again : {E : Type 0} (number : ℕ) (e : E) → cond (eqb number number) (no_fault E) (Some e) ≡ None
+fixed_again number e = passes (eqb number number) e (eq-eqb number number refl)
+
+pub within_ok : {E : Type 0} (low high n : ℕ) (e : E) → cond (leb low n && leb n high) (no_fault E) (Some e) ≡ None
+    → (low ≤ n) × (n ≤ high)
+within_ok low high n e h =
+    let both = and_parts (leb low n) (leb n high) (passed (leb low n && leb n high) e h) in
+    (leb-true low n both.0, leb-true n high both.1)
+
+pub within_again : {E : Type 0} (low high n : ℕ) (e : E) → low ≤ n → n ≤ high
+    → cond (leb low n && leb n high) (no_fault E) (Some e) ≡ None
+within_again low high n e a b = rw (le-leb low n a, le-leb n high b) refl

@@ -1,0 +1,36 @@
+-- A format as its fields in their order, and the first fault of bytes that aren't of it.
+use Rattle.std.specs.Prelude.{ℕ, zero, suc, List, length, drop, Option, Some, None, Result, Ok, Err, nat_lt, ◌==◌, if◌then◌else◌}
+use Rattle.byteorder.specs.Endian.{little_number}
+use Rattle.ir_bytes.specs.Reading.{Field}
+
+-- nothing more, or a field and what follows it, which may depend on the number that the field holds
+pub data Format (E : Type 0) : Type 0 where
+  finished : Format E
+  next : Field E → (ℕ → Format E) → Format E
+
+-- a field, and then fields that don't depend on it
+abbrev pub before : {E : Type 0} → Field E → Format E → Format E
+before f rest = next f (λ _. rest)
+
+-- so many of one kind, one after the other
+abbrev pub repeated : {E : Type 0} → ℕ → (Format E → Format E) → Format E → Format E
+repeated zero one rest = rest
+repeated (suc n) one rest = one (repeated n one rest)
+
+-- a fault, or else a later one
+abbrev pub or_later : {E : Type 0} → Option E → Option E → Option E
+or_later (Some e) later = Some e
+or_later None later = later
+
+-- the fault of the first field, from the left, that isn't whole or holds what it may not; or bytes stand after the last
+abbrev pub first_refused : {E : Type 0} → E → E → Format E → List ℕ → Option E
+first_refused short trailing finished bytes = if length bytes == 0 then None else Some trailing
+first_refused short trailing (next f after) bytes =
+    if nat_lt (length bytes) f.size then Some short else
+    or_later (f.fault (little_number f.size bytes))
+    (first_refused short trailing (after (little_number f.size bytes)) (drop f.size bytes))
+
+-- the fault of a reading
+abbrev pub fault_of : {X E : Type 0} → Result X E → Option E
+fault_of (Ok x) = None
+fault_of (Err e) = Some e

@@ -1,0 +1,213 @@
+-- The fault of a trace is the first of its fields'.
+use Rattle.std.proofs.Common.{◌≡◌, ℕ, zero, suc, ◌<◌, false, eqb, List, length, Option, Some, None, Result, Ok, Err, refl, ◌∙◌, arith}
+use Rattle.std.specs.Prelude.{◌==◌, if◌then◌else◌, is_some}
+use Rattle.std.proofs.lemmas.Bool.{le-leb, lt-leb, ne_eqb}
+use Rattle.ir_bytes.specs.Reading.{◌>>=◌, Reader, plain, judged, number_at, field_at, fields_at}
+use Rattle.ir_bytes.specs.Format.{Format, finished, next, before, repeated, first_refused, fault_of}
+use Rattle.ir_bytes.proofs.CallerLemmas.{after_reading, Follows, Begins, Refuses, field_follows, field_begins, number_begins, then_follows, then_begins, both_begin, then_refuses, before_refuses, end_refuses, fields_begin}
+use Rattle.ir_runs.specs.declared.env_kind.EnvKind.{EnvKind}
+use Rattle.ir_runs.specs.declared.env_kind.EnvKind.TheVariants.{Clock, Random, Input}
+use Rattle.ir_thread.specs.Ends.{end_of}
+use Rattle.ir_thread.specs.declared.end.End.{End}
+use Rattle.ir_log.specs.declared.event.Event.{Event}
+use Rattle.ir_log.specs.declared.event.Event.TheVariants.{Answer, Read, Write}
+use Rattle.ir_trace.specs.declared.header.Header.{Header}
+use Rattle.ir_trace.specs.declared.trace_err.TraceErr.{TraceErr}
+use Rattle.ir_trace.specs.declared.trace_err.TraceErr.TheVariants.{Short, Range, Trailing}
+use Rattle.ir_trace.specs.Recorded.{RecordedThread, Recorded}
+use Rattle.ir_trace.specs.Reading.{magic_field, threads_field, objects_field, reserved_field, budget_field, end_field, code_field, events_field, tag_field, input_field, object_field, header_at, end_by, end_at, answer_at, input_at, read_at, write_at, event_by, event_at, thread_at, recorded_at}
+use Rattle.ir_trace.specs.Fields.{tagged_fields, event_fields, thread_fields, trace_fault}
+
+-- ---- what stands before the threads
+
+abbrev headed : ℕ → ℕ → ℕ → Header
+headed n m b = record { threads = n; objects = m; budget = b }
+
+abbrev header_fields : (Header → Format TraceErr) → Format TraceErr
+header_fields after = before magic_field
+    (next threads_field λ n. next objects_field λ m. before reserved_field (next budget_field λ b. after (headed n m b)))
+
+header_follow : Follows Short Trailing header_at header_fields
+unfolding header_at
+header_follow =
+    then_follows Short Trailing (field_at Short magic_field) (next magic_field)
+    (λ _ b0. field_at Short threads_field b0 >>= λ n. field_at Short objects_field n.1 >>= λ m. field_at Short reserved_field m.1 >>=
+    λ r. field_at Short budget_field r.1 >>= λ b. Ok (headed n.0 m.0 b.0, b.1))
+    (λ _ after. next threads_field λ n. next objects_field λ m. before reserved_field (next budget_field λ b. after (headed n m b)))
+    (field_follows Short Trailing magic_field) (λ _.
+    then_follows Short Trailing (field_at Short threads_field) (next threads_field)
+    (λ n b1. field_at Short objects_field b1 >>= λ m. field_at Short reserved_field m.1 >>= λ r. field_at Short budget_field r.1 >>= λ b.
+    Ok (headed n m.0 b.0, b.1))
+    (λ n after. next objects_field λ m. before reserved_field (next budget_field λ b. after (headed n m b)))
+    (field_follows Short Trailing threads_field) (λ n.
+    then_follows Short Trailing (field_at Short objects_field) (next objects_field)
+    (λ m b2. field_at Short reserved_field b2 >>= λ r. field_at Short budget_field r.1 >>= λ b. Ok (headed n m b.0, b.1))
+    (λ m after. before reserved_field (next budget_field λ b. after (headed n m b)))
+    (field_follows Short Trailing objects_field) (λ m.
+    then_follows Short Trailing (field_at Short reserved_field) (next reserved_field)
+    (λ _ b3. field_at Short budget_field b3 >>= λ b. Ok (headed n m b.0, b.1))
+    (λ _ after. next budget_field λ b. after (headed n m b))
+    (field_follows Short Trailing reserved_field) (λ _.
+    then_follows Short Trailing (field_at Short budget_field) (next budget_field)
+    (λ b b4. Ok (headed n m b, b4))
+    (λ b after. after (headed n m b))
+    (field_follows Short Trailing budget_field) (λ b after b4. refl)))))
+
+-- ---- an end
+
+chosen_by : (o : Option End) (c : ℕ × List ℕ) (later : List ℕ → Option TraceErr)
+    → after_reading (judged (if is_some o then None else Some Range) c) (λ x. later x.1) ≡ after_reading (end_by o c.1) (λ x. later x.1)
+chosen_by (Some e) c later = refl
+chosen_by None c later = refl
+
+code_by : (n : ℕ) (r : Result (ℕ × List ℕ) TraceErr) (later : List ℕ → Option TraceErr)
+    → after_reading (r >>= λ c. judged ((code_field n).fault c.0) c) (λ x. later x.1)
+    ≡ after_reading (r >>= λ c. end_by (end_of n c.0) c.1) (λ x. later x.1)
+code_by n (Ok c) later = chosen_by (end_of n c.0) c later
+code_by n (Err e) later = refl
+
+abbrev code_at : ℕ → Reader End TraceErr
+code_at n bytes = number_at Short 4 bytes >>= λ code. end_by (end_of n code.0) code.1
+
+code_begin : (n : ℕ) → Begins Short Trailing (code_at n) (before (code_field n))
+unfolding field_at
+code_begin n rest bytes = field_begins Short Trailing (code_field n) rest bytes ∙ code_by n (number_at Short 4 bytes)
+    (first_refused Short Trailing rest)
+
+end_begin : Begins Short Trailing end_at (λ rest. next end_field λ n. before (code_field n) rest)
+unfolding end_at
+end_begin = then_begins Short Trailing (field_at Short end_field) (next end_field) code_at (λ n. before (code_field n))
+    (field_follows Short Trailing end_field) code_begin
+
+-- ---- an event
+
+-- a field, and nothing more is read
+last_begin : {X Y : Type 0} (r : Reader X TraceErr) (one : Format TraceErr → Format TraceErr) (make : X → Y)
+    → Begins Short Trailing r one → Begins Short Trailing (λ bytes. r bytes >>= λ x. Ok (make x.0, x.1)) one
+last_begin r one make p = both_begin Short Trailing r one (λ x bytes. Ok (make x, bytes)) (λ rest. rest) p (λ x rest bytes. refl)
+
+answer_begin : (kind : EnvKind) → Begins Short Trailing (answer_at kind) (before (plain 4))
+unfolding answer_at
+answer_begin kind = last_begin (number_at Short 4) (before (plain 4)) (Answer kind) (number_begins Short Trailing 4)
+
+input_begin : Begins Short Trailing input_at (before input_field)
+unfolding input_at
+input_begin = last_begin (field_at Short input_field) (before input_field) (Answer Input) (field_begins Short Trailing input_field)
+
+read_begin : (objects : ℕ) → Begins Short Trailing (read_at objects) (λ rest. before (object_field objects) (before (plain 4) rest))
+unfolding read_at
+read_begin objects =
+    both_begin Short Trailing (field_at Short (object_field objects)) (before (object_field objects))
+    (λ o bytes. number_at Short 4 bytes >>= λ v. Ok (Read o v.0, v.1)) (before (plain 4))
+    (field_begins Short Trailing (object_field objects))
+    (λ o. last_begin (number_at Short 4) (before (plain 4)) (Read o) (number_begins Short Trailing 4))
+
+write_begin : (objects : ℕ)
+    → Begins Short Trailing (write_at objects) (λ rest. before (object_field objects) (before (plain 4) (before (plain 4) rest)))
+unfolding write_at
+write_begin objects =
+    both_begin Short Trailing (field_at Short (object_field objects)) (before (object_field objects))
+    (λ o bytes. number_at Short 4 bytes >>= λ v. number_at Short 4 v.1 >>= λ n. Ok (Write o v.0 n.0, n.1))
+    (λ rest. before (plain 4) (before (plain 4) rest))
+    (field_begins Short Trailing (object_field objects)) (λ o.
+    both_begin Short Trailing (number_at Short 4) (before (plain 4))
+    (λ v bytes. number_at Short 4 bytes >>= λ n. Ok (Write o v n.0, n.1)) (before (plain 4))
+    (number_begins Short Trailing 4)
+    (λ v. last_begin (number_at Short 4) (before (plain 4)) (Write o v) (number_begins Short Trailing 4)))
+
+abbrev read : ℕ → List ℕ → ℕ × List ℕ
+read tag bytes = (tag, bytes)
+
+-- what follows a tag that was read is its fields, or it is none
+abbrev GoesOn : ℕ → ℕ → List ℕ → Format TraceErr → Type 0
+GoesOn objects tag bytes rest =
+    after_reading (judged (tag_field.fault tag) (read tag bytes)) (λ x. first_refused Short Trailing (tagged_fields objects x.0 rest) x.1)
+    ≡ after_reading (event_by tag objects bytes) (λ x. first_refused Short Trailing rest x.1)
+
+other : (tag k : ℕ) → k < tag → eqb tag k ≡ false
+other tag k lt = ne_eqb tag k (λ e. omega (arith, e))
+
+no_tag : (objects tag : ℕ) (bytes : List ℕ) (rest : Format TraceErr) → 5 < tag → GoesOn objects tag bytes rest
+unfolding event_by
+no_tag objects tag bytes rest h =
+    rw (
+      le-leb 1 tag (omega arith),
+      lt-leb tag 5 h,
+      other tag 1 (omega arith),
+      other tag 2 (omega arith),
+      other tag 3 (omega arith),
+      other tag 4 (omega arith),
+      other tag 5 h,
+    ) refl
+
+tag_by : (objects tag : ℕ) (bytes : List ℕ) (rest : Format TraceErr) → GoesOn objects tag bytes rest
+unfolding event_by
+tag_by objects zero bytes rest = refl
+tag_by objects (suc zero) bytes rest = answer_begin Clock rest bytes
+tag_by objects (suc (suc zero)) bytes rest = answer_begin Random rest bytes
+tag_by objects (suc (suc (suc zero))) bytes rest = input_begin rest bytes
+tag_by objects (suc (suc (suc (suc zero)))) bytes rest = read_begin objects rest bytes
+tag_by objects (suc (suc (suc (suc (suc zero))))) bytes rest = write_begin objects rest bytes
+tag_by objects (suc (suc (suc (suc (suc (suc tag)))))) bytes rest = no_tag objects (suc (suc (suc (suc (suc (suc tag)))))) bytes rest
+    (omega arith)
+
+tags_by : (objects : ℕ) (r : Result (ℕ × List ℕ) TraceErr) (rest : Format TraceErr)
+    → after_reading (r >>= λ n. judged (tag_field.fault n.0) n) (λ x. first_refused Short Trailing (tagged_fields objects x.0 rest) x.1)
+    ≡ after_reading (r >>= λ n. event_by n.0 objects n.1) (λ x. first_refused Short Trailing rest x.1)
+tags_by objects (Ok n) rest = tag_by objects n.0 n.1 rest
+tags_by objects (Err e) rest = refl
+
+event_begin : (objects : ℕ) → Begins Short Trailing (event_at objects) (event_fields objects)
+unfolding event_at field_at
+event_begin objects rest bytes = field_follows Short Trailing tag_field (λ tag. tagged_fields objects tag rest) bytes ∙ tags_by objects
+    (number_at Short 1 bytes) rest
+
+-- ---- a thread
+
+abbrev made : ℕ → End → List Event → RecordedThread
+made steps ended events = record { steps = steps; end = ended; events = events }
+
+thread_begin : (objects : ℕ) → Begins Short Trailing (thread_at objects) (thread_fields objects)
+unfolding thread_at
+thread_begin objects =
+    both_begin Short Trailing (number_at Short 8) (before (plain 8))
+    (λ steps b0. end_at b0 >>= λ ended. field_at Short events_field ended.1 >>= λ count. fields_at (event_at objects) count.0 count.1 >>=
+    λ events. Ok (made steps ended.0 events.0, events.1))
+    (λ rest. next end_field λ n. before (code_field n) (next events_field λ count. repeated count (event_fields objects) rest))
+    (number_begins Short Trailing 8) (λ steps.
+    both_begin Short Trailing end_at (λ rest. next end_field λ n. before (code_field n) rest)
+    (λ ended b1. field_at Short events_field b1 >>= λ count. fields_at (event_at objects) count.0 count.1 >>= λ events. Ok
+    (made steps ended events.0, events.1))
+    (λ rest. next events_field λ count. repeated count (event_fields objects) rest)
+    end_begin (λ ended.
+    then_begins Short Trailing (field_at Short events_field) (next events_field)
+    (λ count b2. fields_at (event_at objects) count b2 >>= λ events. Ok (made steps ended events.0, events.1))
+    (λ count. repeated count (event_fields objects))
+    (field_follows Short Trailing events_field) (λ count.
+    last_begin (fields_at (event_at objects) count) (repeated count (event_fields objects)) (made steps ended)
+    (fields_begin Short Trailing (event_at objects) (event_fields objects) count (event_begin objects)))))
+
+-- ---- the whole trace
+
+abbrev threads_fields : Header → Format TraceErr
+threads_fields h = repeated h.threads (thread_fields h.objects) finished
+
+abbrev recorded_by : Header → List RecordedThread → Recorded
+recorded_by h threads = record { objects = h.objects; budget = h.budget; threads = threads }
+
+threads_refuse : (h : Header)
+    → Refuses Short Trailing (λ bytes. fields_at (thread_at h.objects) h.threads bytes >>= λ threads. if length threads.1 == 0 then Ok
+    (recorded_by h threads.0) else Err Trailing) (threads_fields h)
+threads_refuse h =
+    before_refuses Short Trailing (fields_at (thread_at h.objects) h.threads) (repeated h.threads (thread_fields h.objects))
+    (λ threads rest. if length rest == 0 then Ok (recorded_by h threads) else Err Trailing) finished
+    (fields_begin Short Trailing (thread_at h.objects) (thread_fields h.objects) h.threads (thread_begin h.objects))
+    (λ threads rest. end_refuses Trailing (recorded_by h threads) (eqb (length rest) 0))
+
+pub named : (bytes : List ℕ) → fault_of (recorded_at bytes) ≡ trace_fault bytes
+unfolding recorded_at
+named =
+    then_refuses Short Trailing header_at header_fields
+    (λ h bytes. fields_at (thread_at h.objects) h.threads bytes >>= λ threads. if length threads.1 == 0 then Ok (recorded_by h threads.0)
+    else Err Trailing)
+    threads_fields header_follow threads_refuse

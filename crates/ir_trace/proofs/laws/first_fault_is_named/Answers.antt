@@ -1,0 +1,5 @@
+use Rattle.ir_trace.proofs.Refused.{named}
+use Rattle.ir_trace.proofs.laws.first_fault_is_named.Goals as goal
+
+pub returns : goal.returns
+returns c = named
