@@ -1,6 +1,6 @@
-# The commands of the repository. Each needs the Rattle kit's `rt` and Python 3, and nothing else.
+# The commands of the repository. Each needs the Rattle kit's `rt` and Python 3, and nothing else, but for `program-test`.
 
-.PHONY: all run test bench
+.PHONY: all run test program-test bench
 
 all: ir
 
@@ -21,6 +21,10 @@ run: ir
 test:
 	python3 scripts/rooms.py
 	rt ci
+
+# The program as a person runs it: devices, pipes, signals, the README's commands. Needs Linux, bash and xxd beside.
+program-test: ir
+	python3 scripts/program_test.py ./ir
 
 # Millions of instructions per second, and the assembler's lines.
 bench: ir

@@ -1,3 +1,4 @@
+mod InParts
 mod TakenLines
 mod ReadFiles
 mod Numerals

@@ -1,8 +1,8 @@
 -- Lines that are taken byte by byte.
-use Rattle.std.proofs.Common.{◌≡◌, ◌≤◌, ◌<◌, ◌+◌, ◌-◌, ℕ, false, List, [], ◌∷◌, ◌++◌, length, Option, Some, None, Result, Err, leb, refl, sym, ap, subst, ◌∙◌, arith}
-use Rattle.std.specs.Prelude.{IfSome}
-use Rattle.std.specs.List.{AllByRecursion}
-use Rattle.std.specs.Io.KnownBytes.{Consumes, IsAtEnd}
+use Rattle.std.proofs.Common.{◌≡◌, ◌≤◌, ◌<◌, ◌+◌, ◌-◌, ℕ, Bool, true, false, List, [], ◌∷◌, ◌++◌, length, Option, Some, None, Result, Ok, Err, leb, refl, sym, ap, subst, ◌∙◌, arith, inl, inr}
+use Rattle.std.specs.Prelude.{IfSome, IfErr}
+use Rattle.std.specs.Io.KnownBytes.{Consumes, IsAtEnd, Keeps}
+use Rattle.std.proofs.KnownBytes.{Consumes-kept}
 use Rattle.std.proofs.lemmas.List.{append-nil, length-append, length-take}
 use Rattle.std.proofs.lemmas.Bool.{lt-leb}
 use Rattle.ir_command.specs.Words.{without_return}
@@ -11,11 +11,12 @@ use Rattle.ir_debug.specs.Session.{Session, IfServed, opening_of}
 use Rattle.ir_debug.specs.declared.ended.Ended.{Ended}
 use Rattle.ir_debug.specs.declared.ended.SessionErr.{SessionErr}
 use Rattle.ir_debug.specs.declared.ended.SessionErr.TheVariants as err
-use Rattle.ir_cli.specs.Taking.{TakesLine, TakesBytes}
-
--- bytes without a line feed
-abbrev pub IsPlain : List ℕ → Type 0
-IsPlain bytes = AllByRecursion (λ b. is_feed b ≡ false) bytes
+use Rattle.ir_cli.specs.Taking.{IsPlain, Reader, reader_of, TakesLine, TakesBytes, IsInLine, GivesNone, LineFails}
+use Rattle.ir_cli.specs.Writers.{Writer}
+use Rattle.ir_cli.specs.Leaving.{Serves, Leaves}
+use Rattle.ir_cli.specs.declared.fault.BundleErr.{BundleErr}
+use Rattle.ir_cli.specs.declared.fault.BundleErr.TheVariants as fault
+use Rattle.ir_stream.specs.Devices.{Reads}
 
 line-plain : (line rest : List ℕ) → IsPlain line → line_of (line ++ rest) ≡ line ++ line_of rest
 unfolding line_of
@@ -96,6 +97,20 @@ pub refused_long : (a : Option (List ℕ)) → IfSome a (λ input. most_digits +
 refused_long None long = tt
 refused_long (Some xs) long = long_line (line_of xs) long
 
+-- nothing more was taken of a line
+pub in_line : (a b c : Option (List ℕ)) (line : List ℕ) → IsPlain line → Consumes a b line → Keeps b c → IsInLine a c
+in_line a b c line plain p kept = (line, plain, Consumes-kept a b c line p kept)
+
+-- a line that was taken and gives no bytes
+pub no_bytes : {A : Type 0} (r : Result A BundleErr) (a b : Option (List ℕ)) (line line' : List ℕ) (failed : Bool) → TakesLine a b line → line' ≡ line → failed ≡ false → IfErr r (λ e. GivesNone e line')
+    → IfErr r (λ e. LineFails e (reader_of a b failed))
+no_bytes (Ok bytes) a b line line' failed taken same works gives = tt
+no_bytes (Err fault.BadLine) a b line line' failed taken same works gives = (refused_line a b line taken (ap bytes_of_line (sym same) ∙ gives), works)
+no_bytes (Err fault.NoMem) a b line line' failed taken same works gives = works
+no_bytes (Err fault.Read) a b line line' failed taken same works gives = absurd gives
+no_bytes (Err fault.Write) a b line line' failed taken same works gives = absurd gives
+no_bytes (Err fault.TooLong) a b line line' failed taken same works gives = absurd gives
+
 -- ---- both lines
 
 no_image : (image trace : Option (List ℕ)) (commands : List ℕ) → image ≡ None → bundle_by image trace commands ≡ None
@@ -148,3 +163,34 @@ pub was_too_long : (result : Result Ended SessionErr) (c old new : Option (List 
 was_too_long result c old new image trace e served =
     let P : Result Ended SessionErr → Type 0 = λ r. IfServed r (IfSome c (Session (opening_of image trace) most_input r old new)) in
     subst P e served
+
+-- ---- what a fault leaves
+
+-- the line of the image gives no bytes
+pub image_failed : (e : BundleErr) (a b : Option (List ℕ)) (failed : Bool) (w : Writer) (Same : Type 0) → w.failed ≡ false → Same → LineFails e (reader_of a b failed) → Leaves e (reader_of a b failed) w Same
+image_failed fault.BadLine a b failed w Same works same h = (refused_image a h.0, h.1, same)
+image_failed fault.NoMem a b failed w Same works same h = (h, same)
+image_failed fault.Read a b failed w Same works same h = (h.0, works, inl (inl h.1, same))
+image_failed fault.Write a b failed w Same works same h = absurd h
+image_failed fault.TooLong a b failed w Same works same h = absurd h
+
+-- the line of the trace gives none
+pub trace_failed : (e : BundleErr) (a b c : Option (List ℕ)) (failed : Bool) (w : Writer) (Same : Type 0) (image : List ℕ) → w.failed ≡ false → Same → TakesBytes a b image → LineFails e (reader_of b c failed) → Leaves e (reader_of a c failed) w Same
+trace_failed fault.BadLine a b c failed w Same image works same taken h = (refused_trace a b image taken h.0, h.1, same)
+trace_failed fault.NoMem a b c failed w Same image works same taken h = (h, same)
+trace_failed fault.Read a b c failed w Same image works same taken h = (h.0, works, inl (inr (image, b, taken, h.1), same))
+trace_failed fault.Write a b c failed w Same image works same taken h = absurd h
+trace_failed fault.TooLong a b c failed w Same image works same taken h = absurd h
+
+-- both lines were taken, and this holds of slices of what they give
+pub serves : (a b c d : Option (List ℕ)) (image trace image' trace' : List ℕ) (P : List ℕ → List ℕ → List ℕ → Type 0) → TakesBytes a b image → TakesBytes b c trace → image' ≡ image → trace' ≡ trace
+    → Reads most_input c d (P image' trace') → Serves a d P
+serves a b c d image trace image' trace' P p q same_image same_trace reads = record {
+  image = image;
+  trace = trace;
+  after_image = b;
+  after_trace = c;
+  image_line = p;
+  trace_line = q;
+  commands = subst (λ (x : List ℕ). Reads most_input c d (P image x)) same_trace (subst (λ (x : List ℕ). Reads most_input c d (P x trace')) same_image reads);
+}

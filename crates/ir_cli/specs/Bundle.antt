@@ -1,5 +1,5 @@
 -- What the input of the program without a subcommand holds: an image and a trace in hexadecimal, each in a line, and then commands.
-use Rattle.std.specs.Prelude.{◌≡◌, ◌==◌, ℕ, nat_le, Bool, List, [], ◌∷◌, length, Option, Some, None, Result, Err, if◌then◌else◌, true, IfSome}
+use Rattle.std.specs.Prelude.{◌≡◌, ◌==◌, ℕ, nat_le, Bool, List, [], ◌∷◌, codes, length, Option, Some, None, Result, if◌then◌else◌}
 use Rattle.std.specs.Result.{result_ok}
 use Rattle.hex.specs.Hex.{decode_of}
 use Rattle.ir_command.specs.Words.{without_return}
@@ -7,7 +7,6 @@ use Rattle.ir_debug.specs.Session.{Session, opening_of}
 use Rattle.ir_debug.specs.declared.ended.Ended.{Ended}
 use Rattle.ir_debug.specs.declared.ended.Ended.TheVariants.{Quit, InputEnd, ImageRefused, TraceRefused, NotFit}
 use Rattle.ir_debug.specs.declared.ended.SessionErr.{SessionErr}
-use Rattle.ir_debug.specs.declared.ended.SessionErr.TheVariants as session
 use Rattle.ir_cli.specs.declared.fault.BundleErr.{BundleErr}
 use Rattle.ir_cli.specs.declared.fault.BundleErr.TheVariants.{BadLine, NoMem, Read, Write, TooLong}
 
@@ -67,10 +66,10 @@ status_of ImageRefused = 3
 status_of TraceRefused = 3
 status_of NotFit = 4
 
--- what a fault leaves, of the input, what was written before and after, whether the reader and the writer failed, and that the writer is as it was
-abbrev pub Leaves : BundleErr → Option (List ℕ) → Option (List ℕ) → Option (List ℕ) → Bool → Bool → Type 0 → Type 0
-Leaves BadLine left old new reader writer same = IfSome left (λ input. bundle_of input ≡ None) × same
-Leaves NoMem left old new reader writer same = same
-Leaves Read left old new reader writer same = reader ≡ true
-Leaves Write left old new reader writer same = writer ≡ true
-Leaves TooLong left old new reader writer same = IfSome left (Bundled (Err session.TooLong) old new)
+-- a fault in words
+abbrev pub fault_words : BundleErr → List ℕ
+fault_words BadLine = codes "a line of the image or the trace isn't whole bytes in at most 4194304 hexadecimal digits"
+fault_words NoMem = codes "memory ran out"
+fault_words Read = codes "standard input can't be read"
+fault_words Write = codes "standard output can't be written"
+fault_words TooLong = codes "1073741824 bytes of commands held no line of quit"

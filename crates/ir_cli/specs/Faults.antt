@@ -1,17 +1,16 @@
 -- Why there is no recording, and what that leaves.
-use Rattle.std.specs.Prelude.{◌≡◌, ℕ, Bool, true, List, length, ⊤, ◌⊎◌, Option, None, option_and_then, Ok, Err}
-use Rattle.std.specs.Io.KnownBytes.{Appends}
+use Rattle.std.specs.Prelude.{◌≡◌, ℕ, List, length, ⊤, ◌⊎◌, Option, None, option_and_then, Ok, Err}
 use Rattle.ir_image.specs.Guest.{Guest}
 use Rattle.ir_image.specs.Reading.{guest_at}
 use Rattle.ir_image.specs.declared.image_err.ImageErr.{ImageErr}
 use Rattle.ir_image.specs.declared.image_err.ImageErr.TheVariants as image
-use Rattle.ir_stream.specs.Devices.{AppendsFront}
 use Rattle.ir_trace.specs.Recorded.{Recorded}
 use Rattle.ir_trace.specs.Spelling.{spelling}
 use Rattle.ir_record.specs.declared.record_err.RecordErr.{RecordErr}
 use Rattle.ir_record.specs.declared.record_err.RecordErr.TheVariants as record_err
 use Rattle.ir_cli.specs.Order.{order_of}
 use Rattle.ir_cli.specs.Recording.{lines_of}
+use Rattle.ir_cli.specs.Writers.{Writer, Took, Failed}
 use Rattle.ir_cli.specs.declared.order.OrderErr.{OrderErr}
 use Rattle.ir_cli.specs.declared.order.OrderErr.TheVariants as order_err
 use Rattle.ir_cli.specs.declared.record_fault.RecordFault.{RecordFault}
@@ -56,20 +55,6 @@ Refuses NoMem image list = ⊤
 Refuses World image list = ⊤
 Refuses Trace image list = ⊥
 Refuses Lines image list = ⊥
-
--- a writer: what it took before and after, and whether it has failed
-pub record Writer : Type 0 where
-  pub before : Option (List ℕ)
-  pub after : Option (List ℕ)
-  pub failed : Bool
-
--- it took the text
-abbrev pub Took : Writer → List ℕ → Type 0
-Took w text = Appends w.before w.after text
-
--- it failed, and took no more than a front of the text
-abbrev pub Failed : Writer → List ℕ → Type 0
-Failed w text = AppendsFront w.before w.after text × (w.failed ≡ true)
 
 -- which of the writers of the trace and of the lines failed; the lines come after the whole trace
 abbrev pub WriteFails : RecordFault → List ℕ → List ℕ → Writer → Writer → Type 0 → Type 0

@@ -5,5 +5,7 @@ pub mod Numerals
 pub mod Order
 pub mod Sources
 pub mod Recording
+pub mod Writers
+pub mod Leaving
 pub mod Faults
 pub mod Places

@@ -1,13 +1,13 @@
 //! A source in, its image or its first fault out.
 
-ghost use Rattle.std.specs.Prelude.{◌≡◌, ◌⊎◌, ◌<◌, ℕ, List, false, true, map, IfOk, OnOk, OnErr, Ok, Err};
+ghost use Rattle.std.specs.Prelude.{◌≡◌, ◌⊎◌, ◌<◌, ℕ, List, false, map, IfOk, Ok, Err};
 ghost use Rattle.std.specs.String.{string_bytes};
 ghost use Rattle.std.specs.Io.KnownBytes.{Appends};
-ghost use Rattle.ir_stream.specs.Devices.{AppendsFront};
 ghost use Rattle.ir_asm.specs.Answered.{Answers};
 ghost use Rattle.ir_asm.specs.Source.{Fault};
 ghost use Rattle.ir_asm.specs.Passes.{assembled};
-ghost use Rattle.ir_cli.specs.Assembling.{masked, image_bytes, fault_line};
+ghost use Rattle.ir_cli.specs.Assembling.{masked, image_bytes, fault_line, Stops};
+ghost use Rattle.ir_cli.specs.Writers.{writer_of, Failed};
 
 use ir_asm::{AsmErr, Cause, assemble};
 use ir_debug::{DeviceErr, Sink};
@@ -55,11 +55,13 @@ fn fault_line(alloc: Global, line: usize, cause: Cause) -> Result<String, AllocE
     format!(in alloc; "line {line} error {number}\n")
 }
 
-// Tells a fault; the status.
-fn tell<E: Sink>(alloc: Global, faults: &mut E, line: usize, cause: Cause) -> u8
+// Tells a fault by its line and cause; the status.
+fn tell_place<E: Sink>(alloc: Global, faults: &mut E, line: usize, cause: Cause) -> u8
     requires { E.broken faults.old ≡ false }
     ensures status { (result ≡ 1) ⊎ (result ≡ 3) }
     ensures told { result ≡ 3 → Appends (E.written faults.old) (E.written faults.new) (fault_line (record { line = line; cause = cause })) }
+    ensures failed { result ≡ 1 → (faults.new ≡ faults.old)
+        ⊎ Failed (writer_of (E.written faults.old) (E.written faults.new) (E.broken faults.new)) (fault_line (record { line = line; cause = cause })) }
 {
     match fault_line(alloc, line, cause) {
         Ok(text) => match write_all(faults, text.as_bytes()) {
@@ -74,7 +76,7 @@ fn tell<E: Sink>(alloc: Global, faults: &mut E, line: usize, cause: Cause) -> u8
 fn put<W: Sink>(image: &mut W, bytes: &[u8]) -> u8
     ensures status { (result ≡ 0) ⊎ (result ≡ 1) }
     ensures done { result ≡ 0 → Appends (W.written image.old) (W.written image.new) bytes.now }
-    ensures front { result ≡ 1 → AppendsFront (W.written image.old) (W.written image.new) bytes.now × (W.broken image.new ≡ true) }
+    ensures failed { result ≡ 1 → Failed (writer_of (W.written image.old) (W.written image.new) (W.broken image.new)) bytes.now }
 {
     match write_all(image, bytes) {
         Ok(()) => DONE,
@@ -84,7 +86,7 @@ fn put<W: Sink>(image: &mut W, bytes: &[u8]) -> u8
 
 /// Assembles a source: writes its image, or tells its first fault as a line `line L error C`. The answer is the exit
 /// status: 0 where all of the image was written, 3 where the source has a fault, which was told and nothing written; 1
-/// where memory ran out or a writer failed. A byte of the source above 0x7E counts as the byte 1.
+/// where memory ran out, with nothing written, or a writer failed. A byte of the source above 0x7E counts as the byte 1.
 pub fn asm_run<W: Sink, E: Sink>(alloc: Global, source: &[u8], image: &mut W, faults: &mut E) -> u8
     requires writes { W.broken image.old ≡ false }
     requires tells { E.broken faults.old ≡ false }
@@ -95,10 +97,14 @@ pub fn asm_run<W: Sink, E: Sink>(alloc: Global, source: &[u8], image: &mut W, fa
     ensures refused { result ≡ 3 → (fault : Fault) × (image_bytes source.now ≡ Err fault) × Appends (E.written faults.old) (E.written faults.new) (fault_line fault) }
     // Of a source with a fault nothing is written.
     ensures unwritten { (fault : Fault) → image_bytes source.now ≡ Err fault → image.new ≡ image.old }
+    // Memory ran out and nothing was written or told, or a writer failed in what it was to take.
+    ensures stopped { result ≡ 1 → Stops source.now
+        (writer_of (W.written image.old) (W.written image.new) (W.broken image.new)) (image.new ≡ image.old)
+        (writer_of (E.written faults.old) (E.written faults.new) (E.broken faults.new)) (faults.new ≡ faults.old) }
 {
     match image_of(alloc, source) {
         Ok(bytes) => put(image, bytes.as_slice()),
-        Err(AsmErr::At { line, cause }) => tell(alloc, faults, line, cause),
+        Err(AsmErr::At { line, cause }) => tell_place(alloc, faults, line, cause),
         Err(AsmErr::NoMem) => FAULT,
     }
 }

@@ -1,10 +1,12 @@
 //! A session over one stream: an image and a trace in hexadecimal, each in a line, and then commands.
 
-ghost use Rattle.std.specs.Prelude.{◌≡◌, ◌≢◌, IfOk, IfSome, OnOk, Err, Ok, None, false, true};
-ghost use Rattle.ir_cli.specs.Bundle.{Bundled, Leaves, bundle_of, status_of, bytes_of_line, line_of};
+ghost use Rattle.std.specs.Prelude.{◌≡◌, ◌≢◌, IfOk, IfErr, OnOk, Ok, false};
+ghost use Rattle.ir_cli.specs.Bundle.{status_of, fault_words};
+ghost use Rattle.ir_cli.specs.Leaving.{Comes, Leaves};
+ghost use Rattle.ir_cli.specs.Writers.{writer_of, Tells, fault_text};
 ghost use Rattle.ir_cli.specs.declared.fault.BundleErr.{BundleErr};
 ghost use Rattle.ir_debug.specs.declared.ended.Ended.{Ended};
-ghost use Rattle.ir_cli.specs.Taking.{TakesBytes};
+ghost use Rattle.ir_cli.specs.Taking.{reader_of, TakesBytes, LineFails};
 
 use crate::fault::BundleErr;
 use crate::line::{bytes_of, read_line};
@@ -19,10 +21,7 @@ fn next_bytes<R: Source>(alloc: Global, reader: &mut R) -> Result<Vec<u8>, Bundl
     requires { R.broken reader.old ≡ false }
     ensures ok { IfOk result (λ bytes. TakesBytes (R.left reader.old) (R.left reader.new) bytes.items) }
     ensures stays { OnOk result (R.broken reader.new ≡ false) }
-    ensures read { result ≡ Err BundleErr.Read → R.broken reader.new ≡ true }
-    ensures bad { result ≡ Err BundleErr.BadLine → IfSome (R.left reader.old) (λ input. bytes_of_line (line_of input) ≡ None) }
-    ensures write { result ≡ Err BundleErr.Write → ⊥ }
-    ensures too_long { result ≡ Err BundleErr.TooLong → ⊥ }
+    ensures fails { IfErr result (λ e. LineFails e (reader_of (R.left reader.old) (R.left reader.new) (R.broken reader.new))) }
 {
     let line = read_line(alloc, reader)?;
     bytes_of(alloc, line.as_slice())
@@ -41,14 +40,14 @@ pub fn bundled<R: Source, W: Sink>(
 ) -> Result<Ended, BundleErr>
     requires reads { R.broken reader.old ≡ false }
     requires writes { W.broken writer.old ≡ false }
-    // The session's bytes, where the reader tells its own.
-    ensures ok { IfOk result (λ ended. IfSome (R.left reader.old) (Bundled (Ok ended) (W.written writer.old) (W.written writer.new))) }
-    ensures too_long { result ≡ Err BundleErr.TooLong → IfSome (R.left reader.old) (Bundled (Err SessionErr.TooLong) (W.written writer.old) (W.written writer.new)) }
-    // A line that is no text in hexadecimal is refused, with nothing written.
-    ensures bad_line { result ≡ Err BundleErr.BadLine → IfSome (R.left reader.old) (λ input. bundle_of input ≡ None) × (writer.new ≡ writer.old) }
-    ensures read { result ≡ Err BundleErr.Read → R.broken reader.new ≡ true }
-    ensures write { result ≡ Err BundleErr.Write → W.broken writer.new ≡ true }
-    ensures no_memory { result ≡ Err BundleErr.NoMem → writer.new ≡ writer.old }
+    // No device has failed, and the session of both lines read and wrote so.
+    ensures ok { IfOk result (λ ended. Comes (Ok ended)
+        (reader_of (R.left reader.old) (R.left reader.new) (R.broken reader.new))
+        (writer_of (W.written writer.old) (W.written writer.new) (W.broken writer.new))) }
+    // What a fault leaves: what was read before it, and what had been written by then.
+    ensures fault { IfErr result (λ e. Leaves e
+        (reader_of (R.left reader.old) (R.left reader.new) (R.broken reader.new))
+        (writer_of (W.written writer.old) (W.written writer.new) (W.broken writer.new)) (writer.new ≡ writer.old)) }
 {
     let image = next_bytes(alloc, reader)?;
     let trace = next_bytes(alloc, reader)?;
@@ -83,10 +82,15 @@ pub fn bundle<R: Source, W: Sink, E: Sink>(
     requires reads { R.broken reader.old ≡ false }
     requires writes { W.broken writer.old ≡ false }
     requires tells { E.broken faults.old ≡ false }
-    // The status of a session that ended, whose bytes were written.
-    ensures ended { result ≢ 1 → (e : Ended) × (result ≡ status_of e) × IfSome (R.left reader.old) (Bundled (Ok e) (W.written writer.old) (W.written writer.new)) }
-    // Else what stopped it.
-    ensures stopped { result ≡ 1 → (e : BundleErr) × Leaves e (R.left reader.old) (W.written writer.old) (W.written writer.new) (R.broken reader.new) (W.broken writer.new) (writer.new ≡ writer.old) }
+    // The status of a session that ended, whose bytes were written. No fault is told.
+    ensures ended { result ≢ 1 → (e : Ended) × (result ≡ status_of e) × Comes (Ok e)
+        (reader_of (R.left reader.old) (R.left reader.new) (R.broken reader.new))
+        (writer_of (W.written writer.old) (W.written writer.new) (W.broken writer.new)) × (faults.new ≡ faults.old) }
+    // Else what stopped it, what that leaves, and that it is told.
+    ensures stopped { result ≡ 1 → (e : BundleErr) × Leaves e
+        (reader_of (R.left reader.old) (R.left reader.new) (R.broken reader.new))
+        (writer_of (W.written writer.old) (W.written writer.new) (W.broken writer.new)) (writer.new ≡ writer.old)
+        × Tells (writer_of (E.written faults.old) (E.written faults.new) (E.broken faults.new)) (fault_text (fault_words e)) }
 {
     match bundled(alloc, reader, writer) {
         Ok(ended) => status(ended),

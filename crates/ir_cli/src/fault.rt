@@ -21,11 +21,11 @@ pub enum BundleErr {
 }
 
 impl BundleErr {
-    ghost use Rattle.std.specs.Prelude.{◌≤◌, length};
+    ghost use Rattle.ir_cli.specs.Bundle.{fault_words};
 
     /// The fault in words.
     pub fn words(self) -> &'static str
-        ensures { length result.now ≤ 100 }
+        ensures { result.now ≡ fault_words self }
     {
         match self {
             BundleErr::BadLine => {

@@ -1,8 +1,8 @@
 //! Lines of hexadecimal digits.
 
-ghost use Rattle.std.specs.Prelude.{◌≡◌, ◌<◌, ◌+◌, IfOk, IfSome, OnOk, OnErr, Err, Some, None, true, false, length};
-ghost use Rattle.ir_cli.specs.Bundle.{bytes_of_line, most_digits, line_of};
-ghost use Rattle.ir_cli.specs.Taking.{TakesLine};
+ghost use Rattle.std.specs.Prelude.{◌≡◌, IfOk, IfErr, OnOk, Some, false};
+ghost use Rattle.ir_cli.specs.Bundle.{bytes_of_line};
+ghost use Rattle.ir_cli.specs.Taking.{reader_of, TakesLine, LineFails, GivesNone};
 
 use crate::fault::BundleErr;
 use ir_command::without_return;
@@ -20,10 +20,7 @@ pub fn read_line<R: Source>(alloc: Global, reader: &mut R) -> Result<Vec<u8>, Bu
     requires { R.broken reader.old ≡ false }
     ensures ok { IfOk result (λ line. TakesLine (R.left reader.old) (R.left reader.new) line.items) }
     ensures stays { OnOk result (R.broken reader.new ≡ false) }
-    ensures read { result ≡ Err BundleErr.Read → R.broken reader.new ≡ true }
-    ensures long { result ≡ Err BundleErr.BadLine → IfSome (R.left reader.old) (λ input. most_digits + 1 < length (line_of input)) }
-    ensures write { result ≡ Err BundleErr.Write → ⊥ }
-    ensures too_long { result ≡ Err BundleErr.TooLong → ⊥ }
+    ensures fails { IfErr result (λ e. LineFails e (reader_of (R.left reader.old) (R.left reader.new) (R.broken reader.new))) }
 {
     let mut line = Vec::new(alloc);
     for _ in 0..=MOST_LINE {
@@ -45,10 +42,7 @@ pub fn read_line<R: Source>(alloc: Global, reader: &mut R) -> Result<Vec<u8>, Bu
 #[tactic(auto, unfolding(crate::specs::Bundle::bytes_of_line))]
 pub fn bytes_of(alloc: Global, line: &[u8]) -> Result<Vec<u8>, BundleErr>
     ensures ok { IfOk result (λ bytes. bytes_of_line line.now ≡ Some bytes.items) }
-    ensures bad { result ≡ Err BundleErr.BadLine → bytes_of_line line.now ≡ None }
-    ensures read { result ≡ Err BundleErr.Read → ⊥ }
-    ensures write { result ≡ Err BundleErr.Write → ⊥ }
-    ensures too_long { result ≡ Err BundleErr.TooLong → ⊥ }
+    ensures fails { IfErr result (λ e. GivesNone e line.now) }
 {
     let digits = without_return(line);
     if digits.len() > MOST_DIGITS {

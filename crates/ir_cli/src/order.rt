@@ -2,12 +2,14 @@
 
 ghost use Rattle.std.specs.Prelude.{◌≡◌, ◌<◌, ◌-◌, ◌≤◌, [], ◌∷◌, length, MatchOption, IfOk, IfSome, Some, None, Err, option_map, replicate, ◌==◌};
 ghost use Rattle.std.specs.List.{slice_split};
-ghost use Rattle.ir_cli.specs.Order.{item_of, order_of, most_turns};
+ghost use Rattle.ir_record.specs.Turns.{order_of_turns};
+ghost use Rattle.ir_cli.specs.Order.{item_of, order_of};
 ghost use Rattle.ir_cli.specs.Numerals.{number_within};
 ghost use Rattle.ir_cli.specs.declared.order.OrderErr.TheVariants.{Bad, NoMem};
 
 use crate::numeral::number_within;
-use std::alloc::{AllocError, Global};
+use ir_record::Turns;
+use std::alloc::{AllocError, AllocFailed, Global};
 
 /// The most steps of an item.
 const MOST_TURNS: u64 = 1_000_000;
@@ -29,11 +31,12 @@ impl From<AllocError> for OrderErr {
     }
 }
 
-// So many steps of one thread.
-#[derive(Clone, Copy)]
-struct Turns {
-    thread: u8,
-    count: usize,
+impl<T: Drop> From<AllocFailed<T>> for OrderErr {
+    ghost from_gives = { λ _ e. e ≡ NoMem };
+
+    fn from(_e: AllocFailed<T>) -> OrderErr {
+        OrderErr::NoMem
+    }
 }
 
 // The part of a text before the first such character, and what follows it, if it stands there.
@@ -64,14 +67,13 @@ fn thread_of(number: &str, threads: usize) -> Option<u8>
 fn turns_of(item: &str, threads: usize) -> Option<Turns>
     requires some { 1 ≤ threads }
     requires few { threads ≤ 8 }
-    ensures spelled { option_map (λ t. replicate t.count t.thread) result ≡ item_of threads item.now }
-    ensures few { IfSome result (λ t. t.count ≤ most_turns) }
+    ensures { option_map (λ t. replicate t.count t.thread) result ≡ item_of threads item.now }
 {
     let (thread, count) = first_part(item, 'x');
     let thread = thread_of(thread, threads)?;
     match count {
         Some(count) => {
-            let count = number_within(1, MOST_TURNS, count)? as usize;
+            let count = number_within(1, MOST_TURNS, count)?;
             Some(Turns { thread, count })
         }
         None => Some(Turns { thread, count: 1 }),
@@ -115,14 +117,14 @@ pub fn bad_item(list: &str, threads: usize) -> Option<(&str, &'static str)>
     None
 }
 
-/// The threads in the order that a list spells; the guest has so many threads. It takes memory for each entry.
+/// The turns that a list spells, item by item; the guest has so many threads. It takes memory for each item.
 ///
 /// # Errors
 /// `Bad` where the list spells none; want of memory.
-pub fn read_order(alloc: Global, list: &str, threads: usize) -> Result<Vec<u8>, OrderErr>
+pub fn read_order(alloc: Global, list: &str, threads: usize) -> Result<Vec<Turns>, OrderErr>
     requires some { 1 ≤ threads }
     requires few { threads ≤ 8 }
-    ensures spelled { IfOk result (λ order. order_of threads list.now ≡ Some order.items) }
+    ensures spelled { IfOk result (λ order. order_of threads list.now ≡ Some (order_of_turns order.items)) }
     ensures bad { result ≡ Err Bad → order_of threads list.now ≡ None }
 {
     let mut order = Vec::new(alloc);
@@ -130,7 +132,7 @@ pub fn read_order(alloc: Global, list: &str, threads: usize) -> Result<Vec<u8>, 
     'items: while let Some(text) = rest {
         let (item, others) = first_part(text, ',');
         let turns = turns_of(item, threads).ok_or(OrderErr::Bad)?;
-        order.resize(order.len() + turns.count, turns.thread)?;
+        order.push(turns)?;
         rest = others;
     }
     Ok(order)

@@ -13,7 +13,7 @@ use std::alloc::AllocGlobal;
 use std::sync::Wait;
 use std::test::Fail;
 use std::thread::Threads;
-use std::time::Clock;
+use std::time::{Clock, Instant};
 
 // Two threads that add one each to a shared counter, inside for writing.
 const COUNT: &str = "
@@ -356,6 +356,21 @@ fn leading_zeros_are_taken(rt: HostRuntime) {
     let image = image(&rt, COUNT);
     let run = recorded(&rt, image.as_slice(), with_order("001x0018,00x1000000"));
     assert_eq!(rt; run.trace.bytes.as_slice(), count_trace(1, 0).as_slice());
+}
+
+// An item of more steps than a thread has takes neither time nor memory for the others.
+#[test]
+fn large_items_end_at_once(rt: HostRuntime) -> Result<(), Fail> {
+    let image = image(&rt, COUNT);
+    let mut order = String::from_str(rt.alloc(), "1x1000000")?;
+    for _ in 1..1_500 {
+        order.push_str(",1x1000000")?;
+    }
+    let start = Instant::now(&rt)?;
+    let run = recorded(&rt, image.as_slice(), with_order(order.as_str()));
+    assert!(rt; start.elapsed(&rt)?.as_secs() < 5);
+    assert_eq!(rt; run.trace.bytes.as_slice(), count_trace(1, 0).as_slice());
+    Ok(())
 }
 
 #[test]

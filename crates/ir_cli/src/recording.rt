@@ -20,7 +20,7 @@ use crate::whole_file::WholeSink;
 use ir_debug::Sink;
 use ir_image::read_image;
 use ir_object::Gate;
-use ir_record::{record, record_in_order};
+use ir_record::{record, record_in_turns};
 use ir_stream::write_all;
 use ir_trace::{ThreadTrace, Trace, write_trace};
 use std::alloc::{AllocError, Global};
@@ -69,7 +69,7 @@ fn recorded_in_order<C: Clock>(
     let threads = image.entries().len();
     let order = read_order(alloc, list, threads)?;
     let worlds = worlds(alloc, clock, Time::Counted, threads, random, file)?;
-    let (trace, _) = record_in_order(alloc, &image, order.as_slice(), worlds, budget)?;
+    let (trace, _) = record_in_turns(alloc, &image, order.as_slice(), worlds, budget)?;
     Ok(trace)
 }
 

@@ -1,6 +1,9 @@
 //! Faults, told in one line.
 
-ghost use Rattle.std.specs.Prelude.{◌≡◌, false};
+ghost use Rattle.std.specs.Prelude.{◌≡◌, true, false, OnOk, OnErr};
+ghost use Rattle.std.specs.Io.KnownBytes.{Appends};
+ghost use Rattle.ir_stream.specs.Devices.{AppendsFront};
+ghost use Rattle.ir_cli.specs.Writers.{writer_of, Tells, fault_text};
 
 use ir_debug::{DeviceErr, Sink};
 use ir_stream::write_all;
@@ -28,9 +31,21 @@ pub fn tell_of<E: Sink>(faults: &mut E, before: &str, name: &str, what: &str, wh
     let _ = told(faults, before, name, what, why);
 }
 
+// Writes the line that tells a fault.
+fn put_line<E: Sink>(faults: &mut E, words: &str) -> Result<(), DeviceErr>
+    ensures ok { OnOk result (Appends (E.written faults.old) (E.written faults.new) (fault_text words.now)) }
+    ensures front { OnErr result (AppendsFront (E.written faults.old) (E.written faults.new) (fault_text words.now)) }
+    ensures err { OnErr result (E.broken faults.new ≡ true) }
+{
+    write_all(faults, b"ir: ")?;
+    write_all(faults, words.as_bytes())?;
+    write_all(faults, b"\n")
+}
+
 /// Tells a fault in one line, for which no memory is taken. Nobody is left to tell where that fails.
 pub fn tell<E: Sink>(faults: &mut E, words: &str)
     requires works { E.broken faults.old ≡ false }
+    ensures { Tells (writer_of (E.written faults.old) (E.written faults.new) (E.broken faults.new)) (fault_text words.now) }
 {
-    let _ = told(faults, words, "", "", "");
+    let _ = put_line(faults, words);
 }

@@ -1,6 +1,7 @@
 -- Turns of one thread, and by an order.
-use Rattle.std.proofs.Common.{◌≡◌, ℕ, zero, suc, ◌+◌, ◌-◌, ◌<◌, ◌≤◌, false, Bool, List, [], ◌∷◌, ◌++◌, length, take, drop, replicate, get_or, refl, sym, ap, ◌∙◌, subst, arith, inl, inr}
-use Rattle.std.proofs.lemmas.List.{get_or_past, replicate-append-replicate, take_all, length-drop}
+use Rattle.std.proofs.Common.{◌≡◌, ℕ, zero, suc, ◌+◌, ◌-◌, ◌<◌, ◌≤◌, false, Bool, List, [], ◌∷◌, ◌++◌, length, take, drop, replicate, get_or, refl, sym, ap, ◌∙◌, subst, arith, inl, inr, append-nil}
+use Rattle.std.proofs.lemmas.List.{get_or_past, replicate-append-replicate, take_all, take_more, length-drop}
+use Rattle.std.proofs.lemmas.List.Concat.{flat_map-append}
 use Rattle.ir_thread.specs.Calls.{ask_of}
 use Rattle.ir_thread.specs.Instance.{shared_ask}
 use Rattle.ir_runs.specs.Machine.{act_of}
@@ -9,6 +10,8 @@ use Rattle.ir_flat.specs.Flat.{Flat, tables, machine, idle}
 use Rattle.ir_runs.specs.Run.{end}
 use Rattle.ir_runs.specs.InOrder.{HasNone, InTurn}
 use Rattle.ir_record.specs.Progress.{Progress, Took, TookIf}
+use Rattle.ir_record.specs.Turns.{order_of_turns}
+use Rattle.ir_record.specs.declared.turns.Turns.{Turns}
 use Rattle.ir_record.proofs.Steps.{took_nothing, took_both, took_none}
 
 -- what is no thread has no step
@@ -48,25 +51,36 @@ turns_more t count left ran a b c d moved l some few p q r =
     turns_joined t (count - left + ran) 1 (count - (left - (ran + 1))) a c d (omega (arith, l, some, few)) both r.took
 
 -- the order up to an entry, that entry, and others that are the same
-take_more : (xs : List ℕ) (at more t : ℕ) → at < length xs → get_or xs at 0 ≡ t → take more (drop (suc at) xs) ≡ replicate more t → take at xs ++ replicate (suc more) t ≡ take (at + suc more) xs
-take_more [] at more t l first same = absurd (omega arith)
-take_more (x ∷ xs) zero more t l first same = ap (λ z. z ∷ replicate more t) (sym first) ∙ ap (λ z. x ∷ z) (sym same) ∙ ap (λ n. take n (x ∷ xs)) (let e : suc more ≡ 0 + suc more = omega arith in e)
-take_more (x ∷ xs) (suc at) more t l first same = ap (λ z. x ∷ z) (take_more xs at more t (omega arith) first same) ∙ ap (λ n. take n (x ∷ xs)) (let e : suc (at + suc more) ≡ suc at + suc more = omega arith in e)
+repeated : (xs : List ℕ) (at more t : ℕ) → at < length xs → get_or xs at 0 ≡ t → take more (drop (suc at) xs) ≡ replicate more t → take at xs ++ replicate (suc more) t ≡ take (at + suc more) xs
+repeated [] at more t l first same = absurd (omega arith)
+repeated (x ∷ xs) zero more t l first same = ap (λ z. z ∷ replicate more t) (sym first) ∙ ap (λ z. x ∷ z) (sym same) ∙ ap (λ n. take n (x ∷ xs)) (let e : suc more ≡ 0 + suc more = omega arith in e)
+repeated (x ∷ xs) (suc at) more t l first same = ap (λ z. x ∷ z) (repeated xs at more t (omega arith) first same) ∙ ap (λ n. take n (x ∷ xs)) (let e : suc (at + suc more) ≡ suc at + suc more = omega arith in e)
 
-pub followed_more : (order : List ℕ) (at more t : ℕ) (a b c : Progress) → at < length order → t ≡ get_or order at 0 → take more (take (length order - (at + 1)) (drop (at + 1) order)) ≡ replicate more t → Took (take at order) a b → Took (replicate (more + 1) t) b c → Took (take (at + (more + 1)) order) a c
-followed_more order at more t a b c l first same p q =
+-- these turns, and then those of one thread more
+turns_last : (turns : List Turns) (x : Turns) → order_of_turns (turns ++ x ∷ []) ≡ order_of_turns turns ++ replicate x.count x.thread
+turns_last turns x = flat_map-append (λ (t : Turns). replicate t.count t.thread) turns (x ∷ []) ∙ ap (λ (z : List ℕ). order_of_turns turns ++ z) (append-nil (replicate x.count x.thread))
+
+-- the turns of all entries that are the same
+pub written_more : (order : List ℕ) (at more t : ℕ) (turns new : List Turns) → at < length order → t ≡ get_or order at 0 → take more (take (length order - (at + 1)) (drop (at + 1) order)) ≡ replicate more t
+    → order_of_turns turns ≡ take at order → new ≡ turns ++ record { thread = t; count = more + 1 } ∷ [] → order_of_turns new ≡ take (at + (more + 1)) order
+written_more order at more t turns new l first same before e =
     let rest : take (length order - (at + 1)) (drop (at + 1) order) ≡ drop (suc at) order = take_all (length order - (at + 1)) (drop (at + 1) order) (let n = length-drop (at + 1) order in omega (arith, n)) ∙ ap (λ k. drop k order) (let e : at + 1 ≡ suc at = omega arith in e) in
-    subst (λ z. Took z a c) (ap (λ k. take at order ++ replicate k t) (let e : more + 1 ≡ suc more = omega arith in e) ∙ take_more order at more t l (sym first) (ap (take more) (sym rest) ∙ same) ∙ ap (λ k. take k order) (let e : at + suc more ≡ at + (more + 1) = omega arith in e))
-    (took_both (take at order) (replicate (more + 1) t) a b c p q)
+    ap order_of_turns e ∙ turns_last turns (record { thread = t; count = more + 1 }) ∙ ap (λ (z : List ℕ). z ++ replicate (more + 1) t) before ∙ ap (λ k. take at order ++ replicate k t) (let e : more + 1 ≡ suc more = omega arith in e)
+    ∙ repeated order at more t l (sym first) (ap (take more) (sym rest) ∙ same) ∙ ap (λ k. take k order) (let e : at + suc more ≡ at + (more + 1) = omega arith in e)
 
-pub followed_within : (order : List ℕ) (at more : ℕ) → at < length order → more ≤ length (take (length order - (at + 1)) (drop (at + 1) order)) → at + (more + 1) ≤ length order
-followed_within order at more l h =
+pub written_within : (order : List ℕ) (at more : ℕ) → at < length order → more ≤ length (take (length order - (at + 1)) (drop (at + 1) order)) → at + (more + 1) ≤ length order
+written_within order at more l h =
     let n = length-drop (at + 1) order in
     let rest : length (take (length order - (at + 1)) (drop (at + 1) order)) ≡ length (drop (at + 1) order) = ap (λ xs. length xs) (take_all (length order - (at + 1)) (drop (at + 1) order) (omega (arith, n))) in
     omega (arith, l, h, n, rest)
 
-pub followed_end : (order : List ℕ) (at : ℕ) (a b : Progress) → length order ≤ at → Took (take at order) a b → Took order a b
-followed_end order at a b l = subst (λ z. Took z a b) (take_all at order l)
+pub followed_more : (order : List Turns) (at : ℕ) (none : Turns) (a b c : Progress) → at < length order → Took (order_of_turns (take at order)) a b → Took (replicate (get_or order at none).count (get_or order at none).thread) b c → Took (order_of_turns (take (at + 1) order)) a c
+followed_more order at none a b c l p q =
+    let x : Turns = get_or order at none in
+    subst (λ z. Took z a c) (sym (ap order_of_turns (take_more order at none l) ∙ turns_last (take at order) x)) (took_both (order_of_turns (take at order)) (replicate x.count x.thread) a b c p q)
+
+pub followed_end : (order : List Turns) (at : ℕ) (a b : Progress) → length order ≤ at → Took (order_of_turns (take at order)) a b → Took (order_of_turns order) a b
+followed_end order at a b l = subst (λ z. Took (order_of_turns z) a b) (take_all at order l)
 
 -- one entry more that is the same
 pub repeats_more : (order : List ℕ) (index entry x : ℕ) → index < length order → x ≡ get_or order index x → x ≡ entry → take index order ≡ replicate index entry → take (index + 1) order ≡ replicate (index + 1) entry

@@ -6,3 +6,4 @@ pub mod Ahead
 pub mod Noting
 pub mod Working
 pub mod Threads
+pub mod Turns

@@ -5,6 +5,7 @@ ghost use Rattle.ir_flat.specs.Flat.{tables, machine};
 ghost use Rattle.ir_runs.specs.InOrder.{HasNone, rounds};
 ghost use Rattle.ir_record.specs.Progress.{progress, Took, IsReady};
 ghost use Rattle.ir_record.specs.Recording.{IsRecording, IsFailure};
+ghost use Rattle.ir_record.specs.Turns.{order_of_turns};
 ghost use Rattle.ir_record.specs.Worlds.{NoneFailed, IsFirstFailed, Extends};
 
 use crate::gather::outputs;
@@ -13,18 +14,19 @@ use crate::record_err::RecordErr;
 use crate::recorder::Recorder;
 use crate::tape::Tape;
 use crate::turn::Failed;
+use crate::turns::{Turns, turns_of};
 use crate::world::World;
 use ir_image::Image;
 use ir_trace::Trace;
 use std::alloc::Global;
 
 impl<W: World> Recorder<'_, W> {
-    // A turn of each thread that the order names, and then rounds until no thread has a step.
+    // The turns of the order, and then rounds until no thread has a step.
     // `ahead` has a place for each thread, of which none is ahead.
-    fn record(&mut self, order: &[u8], ahead: &mut Vec<u64>) -> Result<(), Failed>
+    fn record(&mut self, order: &[Turns], ahead: &mut Vec<u64>) -> Result<(), Failed>
         requires ready { IsReady (progress self.old.tape (map W.answers self.old.worlds.items)) (map W.broken self.old.worlds.items) }
         requires level { ahead.old.items ≡ replicate (length self.old.tape.flat.threads) 0 }
-        ensures took { OnOk result ((count : ℕ) × Took (order.now ++ rounds (length self.old.tape.flat.threads) count) (progress self.old.tape (map W.answers self.old.worlds.items)) (progress self.new.tape (map W.answers self.new.worlds.items))) }
+        ensures took { OnOk result ((count : ℕ) × Took (order_of_turns order.now ++ rounds (length self.old.tape.flat.threads) count) (progress self.old.tape (map W.answers self.old.worlds.items)) (progress self.new.tape (map W.answers self.new.worlds.items))) }
         ensures over { OnOk result ((t : ℕ) → t < length self.new.tape.flat.threads → HasNone (machine self.new.tape.flat) (tables self.new.tape.flat) t) }
         ensures ready { OnOk result (IsReady (progress self.new.tape (map W.answers self.new.worlds.items)) (map W.broken self.new.worlds.items)) }
         ensures failed { IfErr result (λ f. IsFirstFailed (map W.broken self.new.worlds.items) f.thread) }
@@ -35,6 +37,45 @@ impl<W: World> Recorder<'_, W> {
         self.rounds(ahead)?;
         Ok(())
     }
+}
+
+/// `record_in_order` by the order that these turns write out. It takes time for each step and each item of the order, and
+/// none for the turns of a thread that has no step.
+///
+/// # Errors
+/// As `record_in_order`.
+pub fn record_in_turns<W: World + Drop>(
+    alloc: Global,
+    image: &Image,
+    order: &[Turns],
+    worlds: Vec<W>,
+    budget: u64,
+) -> Result<(Trace, Outputs<W>), RecordErr<W>>
+    requires budget { budget ≤ 1000000000000 }
+    requires each { vec_len worlds ≡ length image.now.entries }
+    requires works { NoneFailed (map W.broken worlds.items) }
+    // The run by the order, which is complete: its trace, what its threads printed, and what their worlds answered.
+    ensures recorded { IfOk result (λ r. IsRecording image.now budget (order_of_turns order.now) (map W.answers worlds.items) r.0 (map (λ o. o.bytes.items) r.1.each.items) (map (λ o. W.answers o.world) r.1.each.items)) }
+    ensures works { IfOk result (λ r. NoneFailed (map (λ o. W.broken o.world) r.1.each.items)) }
+    // The worlds are those that were handed in.
+    ensures origins { IfOk result (λ r. map (λ o. W.origin o.world) r.1.each.items ≡ map W.origin worlds.items) }
+    ensures failed { IfErr result (λ e. IsFailure W.answers W.broken worlds.items e) }
+{
+    let mut recorder = Recorder {
+        tape: Tape::start(alloc, image, budget)?,
+        worlds,
+    };
+    let mut ahead = vec![in alloc; 0; recorder.tape.flat.threads().len()]?;
+    if let Err(Failed { thread }) = recorder.record(order, &mut ahead) {
+        return Err(RecordErr::World {
+            thread,
+            worlds: recorder.worlds,
+        });
+    }
+    let Recorder { tape, worlds } = recorder;
+    let outputs = outputs(alloc, tape.flat.threads(), worlds)?;
+    let trace = tape.into_trace(alloc, budget)?;
+    Ok((trace, outputs))
 }
 
 /// Records the guest on one thread. Each entry of the order takes one step of that thread, or none where it has none;
@@ -61,19 +102,6 @@ pub fn record_in_order<W: World + Drop>(
     ensures origins { IfOk result (λ r. map (λ o. W.origin o.world) r.1.each.items ≡ map W.origin worlds.items) }
     ensures failed { IfErr result (λ e. IsFailure W.answers W.broken worlds.items e) }
 {
-    let mut recorder = Recorder {
-        tape: Tape::start(alloc, image, budget)?,
-        worlds,
-    };
-    let mut ahead = vec![in alloc; 0; recorder.tape.flat.threads().len()]?;
-    if let Err(Failed { thread }) = recorder.record(order, &mut ahead) {
-        return Err(RecordErr::World {
-            thread,
-            worlds: recorder.worlds,
-        });
-    }
-    let Recorder { tape, worlds } = recorder;
-    let outputs = outputs(alloc, tape.flat.threads(), worlds)?;
-    let trace = tape.into_trace(alloc, budget)?;
-    Ok((trace, outputs))
+    let turns = turns_of(alloc, order)?;
+    record_in_turns(alloc, image, turns.as_slice(), worlds, budget)
 }

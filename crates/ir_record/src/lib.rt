@@ -20,6 +20,7 @@ mod tests;
 #[cfg(test)]
 mod thread_tests;
 mod turn;
+mod turns;
 #[cfg(test)]
 mod waiting_tests;
 mod worker;
@@ -28,7 +29,8 @@ mod workers;
 mod world;
 
 pub use by_threads::record;
-pub use in_order::record_in_order;
+pub use in_order::{record_in_order, record_in_turns};
 pub use outputs::{Output, Outputs};
 pub use record_err::RecordErr;
+pub use turns::Turns;
 pub use world::{World, WorldErr};

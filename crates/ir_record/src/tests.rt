@@ -3,7 +3,7 @@
 ghost use Rattle.std.specs.Prelude.{◌≡◌, ◌≤◌, length, map, IfOk};
 ghost use Rattle.ir_record.specs.Worlds.{NoneFailed};
 
-use crate::{Outputs, RecordErr, World, WorldErr, record_in_order};
+use crate::{Outputs, RecordErr, Turns, World, WorldErr, record_in_order, record_in_turns};
 use ir_image::{Image, read_image};
 use ir_log::Event;
 use ir_runs::EnvKind;
@@ -188,6 +188,28 @@ fn the_order_says_who_is_first(rt: HostRuntime) -> Result<(), Fail> {
     let (trace, _) = recorded(rt.alloc(), &image, &[1; 18], &[], 1000)?;
     let bytes = write_trace(rt.alloc(), &trace)?;
     assert_eq!(rt; bytes.as_slice(), count_trace(1, 0).as_slice());
+    Ok(())
+}
+
+// As many turns of a thread as there may be.
+fn most_turns(thread: u8) -> Turns {
+    Turns {
+        thread,
+        count: u64::MAX,
+    }
+}
+
+// Turns that a thread hasn't take no time, however many they are.
+#[test]
+fn many_turns_are_no_many_steps(rt: HostRuntime) -> Result<(), Fail> {
+    let image = guest(rt.alloc(), 2, 1, &COUNT)?;
+    for (thread, first, second) in [(0, 0, 1), (1, 1, 0), (2, 0, 1)] {
+        let order = [most_turns(thread), most_turns(thread)];
+        let worlds = worlds(rt.alloc(), image.entries().len(), &[])?;
+        let (trace, _) = record_in_turns(rt.alloc(), &image, &order, worlds, 1000)?;
+        let bytes = write_trace(rt.alloc(), &trace)?;
+        assert_eq!(rt; bytes.as_slice(), count_trace(first, second).as_slice());
+    }
     Ok(())
 }
 

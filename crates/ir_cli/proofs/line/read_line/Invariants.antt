@@ -1,6 +1,6 @@
 use Rattle.std.proofs.Common.{◌≡◌, false, vec_len}
 use Rattle.std.specs.Io.KnownBytes.{Consumes}
-use Rattle.ir_cli.proofs.TakenLines.{IsPlain}
+use Rattle.ir_cli.specs.Taking.{IsPlain}
 use Rattle.ir_cli.proofs.line.read_line.Given as goal
 
 abbrev pub invariant-loop : goal.invariant-loop

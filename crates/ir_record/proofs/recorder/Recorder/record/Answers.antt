@@ -1,6 +1,7 @@
 use Rattle.std.proofs.Common.{length, map, replicate, sym, ap, ◌∙◌, subst}
 use Rattle.ir_runs.specs.InOrder.{rounds}
 use Rattle.ir_record.specs.Progress.{progress, Took}
+use Rattle.ir_record.specs.Turns.{order_of_turns}
 use Rattle.ir_record.proofs.Steps.{took_both}
 use Rattle.ir_record.proofs.Asking.{extends_both}
 use Rattle.ir_record.proofs.recorder.Recorder.record.Goals as goal
@@ -12,7 +13,7 @@ returns-clause-took g c =
     let new = progress c.rounds.new.self.tape (map g.W.World.answers c.rounds.new.self.worlds.items) in
     let n = length c.args.self.now.tape.flat.threads in (
       c.in_ok-rounds.ensures.took.0,
-      took_both c.args.order.now (rounds n c.in_ok-rounds.ensures.took.0) entry mid new c.in_ok-follow.ensures.took
+      took_both (order_of_turns c.args.order.now) (rounds n c.in_ok-rounds.ensures.took.0) entry mid new c.in_ok-follow.ensures.took
           (subst (λ k. Took (rounds k c.in_ok-rounds.ensures.took.0) mid new) c.in_ok-follow.ensures.took.threads c.in_ok-rounds.ensures.took.1),
     )
 

@@ -1,9 +1,10 @@
 use Rattle.std.proofs.Common.{rules, ◌≡◌, length, map, sym, ap, ◌∙◌, subst, arith}
 use Rattle.std.proofs.lemmas.List.{length-map}
 use Rattle.ir_record.specs.Progress.{Progress, progress, IsReady}
+use Rattle.ir_record.specs.Turns.{order_of_turns}
 use Rattle.ir_record.specs.Worlds.{NoneFailed}
 use Rattle.ir_record.proofs.Ended.{start_ready, Over, over_from, started, threads_there, ended_there, recorded_there, mapped_twice}
-use Rattle.ir_record.proofs.in_order.record_in_order.Goals as goal
+use Rattle.ir_record.proofs.in_order.record_in_turns.Goals as goal
 
 pub record-requires-clause-ready : goal.record-requires-clause-ready
 record-requires-clause-ready g c =
@@ -17,8 +18,8 @@ into_trace-requires-clause-some g c =
     let first : Progress = progress c.in_ok-start.field-0 before in
     let last : Progress = progress c.record.new.self.tape (map g.W.World.answers c.record.new.self.worlds.items) in
     let same = started c.args.image.now c.args.budget before c.in_ok-start.field-0.flat c.in_ok-start.field-0.logs.items c.in_ok-start.ensures.flat c.in_ok-start.ensures.logs in
-    let over : Over c.args.image.now c.args.budget c.args.order.now before last = over_from c.args.image.now c.args.budget c.args.order.now before first last same c.in_default.ensures.took c.in_default.ensures.over in
-    let n = threads_there c.args.image.now c.args.budget c.args.order.now before last over in
+    let over : Over c.args.image.now c.args.budget (order_of_turns c.args.order.now) before last = over_from c.args.image.now c.args.budget (order_of_turns c.args.order.now) before first last same c.in_default.ensures.took c.in_default.ensures.over in
+    let n = threads_there c.args.image.now c.args.budget (order_of_turns c.args.order.now) before last over in
     omega (arith, n, c.in_ok-start.ensures.guest.some_thread)
 
 pub into_trace-requires-clause-ended : goal.into_trace-requires-clause-ended
@@ -27,8 +28,8 @@ into_trace-requires-clause-ended g c =
     let first : Progress = progress c.in_ok-start.field-0 before in
     let last : Progress = progress c.record.new.self.tape (map g.W.World.answers c.record.new.self.worlds.items) in
     let same = started c.args.image.now c.args.budget before c.in_ok-start.field-0.flat c.in_ok-start.field-0.logs.items c.in_ok-start.ensures.flat c.in_ok-start.ensures.logs in
-    let over : Over c.args.image.now c.args.budget c.args.order.now before last = over_from c.args.image.now c.args.budget c.args.order.now before first last same c.in_default.ensures.took c.in_default.ensures.over in
-    λ t l. ended_there c.args.image.now c.args.budget c.args.order.now before last over t
+    let over : Over c.args.image.now c.args.budget (order_of_turns c.args.order.now) before last = over_from c.args.image.now c.args.budget (order_of_turns c.args.order.now) before first last same c.in_default.ensures.took c.in_default.ensures.over in
+    λ t l. ended_there c.args.image.now c.args.budget (order_of_turns c.args.order.now) before last over t
 
 pub returns-clause-recorded : goal.returns-clause-recorded
 returns-clause-recorded g c =
@@ -36,8 +37,8 @@ returns-clause-recorded g c =
     let first : Progress = progress c.in_ok-start.field-0 before in
     let last : Progress = progress c.record.new.self.tape (map g.W.World.answers c.record.new.self.worlds.items) in
     let same = started c.args.image.now c.args.budget before c.in_ok-start.field-0.flat c.in_ok-start.field-0.logs.items c.in_ok-start.ensures.flat c.in_ok-start.ensures.logs in
-    let over : Over c.args.image.now c.args.budget c.args.order.now before last = over_from c.args.image.now c.args.budget c.args.order.now before first last same c.in_default.ensures.took c.in_default.ensures.over in
-    recorded_there c.args.image.now c.args.budget c.args.order.now before last over (map g.W.World.broken c.record.new.self.worlds.items) c.in_default.ensures.ready
+    let over : Over c.args.image.now c.args.budget (order_of_turns c.args.order.now) before last = over_from c.args.image.now c.args.budget (order_of_turns c.args.order.now) before first last same c.in_default.ensures.took c.in_default.ensures.over in
+    recorded_there c.args.image.now c.args.budget (order_of_turns c.args.order.now) before last over (map g.W.World.broken c.record.new.self.worlds.items) c.in_default.ensures.ready
     c.in_ok-trace.trace c.in_ok-trace.ensures.objects c.in_ok-trace.ensures.limit c.in_ok-trace.ensures.threads
     _ (c.in_ok-outputs.ensures.bytes ∙ ap (map (λ x. x.output)) c.threads-2.ensures.value)
     _ (mapped_twice g.W.World.answers (λ o. o.world) c.in_ok-outputs.outputs.each.items c.record.new.self.worlds.items c.in_ok-outputs.ensures.worlds)

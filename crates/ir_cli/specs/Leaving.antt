@@ -1,0 +1,56 @@
+-- What a bundled session leaves of its reader and its writer.
+use Rattle.std.specs.Prelude.{◌≡◌, ◌≢◌, ◌⊎◌, ℕ, true, false, List, [], Option, IfSome, Result, Ok, Err, None}
+use Rattle.std.specs.Io.KnownBytes.{Appends, IsAtEnd}
+use Rattle.ir_stream.specs.Lines.{cut, lines_of}
+use Rattle.ir_stream.specs.Answers.{some_quits, through}
+use Rattle.ir_stream.specs.Devices.{AppendsFront, Reads}
+use Rattle.ir_debug.specs.Reference.{is_quit}
+use Rattle.ir_debug.specs.Session.{Session, opening_of, told}
+use Rattle.ir_debug.specs.declared.ended.Ended.{Ended}
+use Rattle.ir_debug.specs.declared.ended.SessionErr.{SessionErr}
+use Rattle.ir_debug.specs.declared.ended.SessionErr.TheVariants as session
+use Rattle.ir_cli.specs.Bundle.{most_input, bundle_of, Bundled}
+use Rattle.ir_cli.specs.Taking.{Reader, TakesBytes, IsInLines}
+use Rattle.ir_cli.specs.Writers.{Writer}
+use Rattle.ir_cli.specs.declared.fault.BundleErr.{BundleErr}
+use Rattle.ir_cli.specs.declared.fault.BundleErr.TheVariants.{BadLine, NoMem, Read, Write, TooLong}
+
+-- the lines of an image and a trace were taken, and this holds of them and of what was read after them
+pub record Serves (old new : Option (List ℕ)) (P : List ℕ → List ℕ → List ℕ → Type 0) : Type 0 where
+  pub image : List ℕ
+  pub trace : List ℕ
+  pub after_image : Option (List ℕ)
+  pub after_trace : Option (List ℕ)
+  pub image_line : TakesBytes old after_image image
+  pub trace_line : TakesBytes after_image after_trace trace
+  pub commands : Reads most_input after_trace new (P image trace)
+
+-- their session came to this result, and wrote these bytes
+abbrev pub Came : Result Ended SessionErr → Option (List ℕ) → Option (List ℕ) → List ℕ → List ℕ → List ℕ → Type 0
+Came result old new image trace commands = Session (opening_of image trace) most_input result old new commands
+
+-- the opening lines and all answers to the lines that were read whole were written, none of which quits
+abbrev pub AnsweredWhole : Option (List ℕ) → Option (List ℕ) → List ℕ → List ℕ → List ℕ → Type 0
+AnsweredWhole old new image trace commands = (some_quits is_quit (cut commands).whole ≡ false) × Appends old new (told (opening_of image trace) (cut commands).whole)
+
+-- a front of the opening lines and of the answers to the lines that were read was written; none but the last of them may
+-- quit, and it is unfinished only at the end of the input
+abbrev pub AnsweredInPart : Option (List ℕ) → Option (List ℕ) → Option (List ℕ) → List ℕ → List ℕ → List ℕ → Type 0
+AnsweredInPart left old new image trace commands =
+    (through is_quit (lines_of commands) ≡ lines_of commands) × ((cut commands).rest ≢ [] → IsAtEnd left) × AppendsFront old new (told (opening_of image trace) (lines_of commands))
+
+-- neither the reader nor the writer has failed, and the bytes that were read led to this result and to what was written
+pub record Comes (result : Result Ended SessionErr) (reader : Reader) (writer : Writer) : Type 0 where
+  pub reads : reader.failed ≡ false
+  pub writes : writer.failed ≡ false
+  pub known : IfSome reader.before (Bundled result writer.before writer.after)
+  pub served : Serves reader.before reader.after (Came result writer.before writer.after)
+
+-- what a fault leaves, the last being that the writer is as it was
+abbrev pub Leaves : BundleErr → Reader → Writer → Type 0 → Type 0
+Leaves BadLine reader writer same = IfSome reader.before (λ input. bundle_of input ≡ None) × (reader.failed ≡ false) × same
+Leaves NoMem reader writer same = (reader.failed ≡ false) × same
+Leaves Read reader writer same =
+    (reader.failed ≡ true) × (writer.failed ≡ false) × ((IsInLines reader.before reader.after × same) ⊎ Serves reader.before reader.after (AnsweredWhole writer.before writer.after))
+Leaves Write reader writer same = (reader.failed ≡ false) × (writer.failed ≡ true) × Serves reader.before reader.after (AnsweredInPart reader.after writer.before writer.after)
+Leaves TooLong reader writer same = Comes (Err session.TooLong) reader writer

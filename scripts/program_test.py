@@ -1,0 +1,310 @@
+"""Tests of the program as a person runs it: what no test inside a crate can hold, since it takes closed and full devices,
+pipes, signals and files of a disk.
+
+    python3 scripts/program_test.py ./ir
+
+It needs Linux, and bash and xxd for the commands of the README. The last line is `N passed, M failed`.
+"""
+
+import os
+import resource
+import shlex
+import signal
+import subprocess
+import sys
+import tempfile
+import time
+from pathlib import Path
+
+ROOT = Path(__file__).resolve().parent.parent
+PROGRAM = ""
+
+DOUBLE = """
+        addi a0, zero, 72
+        addi a7, zero, 2
+        ecall
+        add a0, a0, a0
+        addi a7, zero, 1
+        ecall
+"""
+
+# Never ends by itself.
+FOREVER = "again: jal zero, again\n"
+
+# What a recording of the first prints, and what is told where nobody takes it.
+DOUBLE_LINE = b"thread 0 end 1 code 144 steps 6 events 0\n"
+FULL = b"ir: standard output can't be written\n"
+
+# Each row: the arguments, the exit status, and what standard error says.
+ARGUMENTS = [
+    ("asm", 2, "ir: the following required arguments were not provided: <SOURCE> <IMAGE>\n"),
+    ("asm d.s", 2, "ir: the following required arguments were not provided: <IMAGE>\n"),
+    ("record d.img", 2, "ir: the following required arguments were not provided: <TRACE>\n"),
+    ("play", 2, "ir: unrecognized subcommand 'play'\n"),
+    ("asm d.s d2.img --fast", 2, "ir: unexpected argument '--fast' found\n"),
+    ("record d.img d.trc --budget x", 2, "ir: --budget: 'x' is no number up to 1000000000000\n"),
+    ("record d.img d.trc --budget -1", 2, "ir: --budget: '-1' is no number up to 1000000000000\n"),
+    ("record d.img d.trc --budget 1000000000001", 2, "ir: --budget: '1000000000001' is no number up to 1000000000000\n"),
+    ("record d.img d.trc --random 1x", 2, "ir: --random: '1x' is no number up to 18446744073709551615\n"),
+    ("asm none.s d2.img", 1, "ir: none.s can't be read: no such file or folder\n"),
+    ("asm folder d2.img", 1, "ir: folder can't be read: it is a folder\n"),
+    ("asm d.s folder", 1, "ir: folder can't be written: it is a folder\n"),
+    ("asm d.s none/d.img", 1, "ir: none/d.img can't be written: no such file or folder\n"),
+    ("asm d.s d.s/d.img", 1, "ir: d.s/d.img can't be written: its path goes through what is no folder\n"),
+    ("asm long d2.img", 1, "ir: long is over 100000000 bytes\n"),
+    ("asm bad.s d2.img", 3, "line 2 error 2\n"),
+    ("record none.img d.trc", 1, "ir: none.img can't be read: no such file or folder\n"),
+    ("record d.img d.trc --input none", 1, "ir: none can't be read: no such file or folder\n"),
+    ("record d.img d.trc --input longer", 1, "ir: longer is over 1048576 bytes\n"),
+    ("record d.s d.trc", 3, "ir: the image is refused, 2: these bytes are no image\n"),
+    ("record d.img d.trc --order 1", 3, "ir: LIST: the item '1' names no thread of the image\n"),
+    ("record d.img d.trc --order -1", 3, "ir: LIST: the item '-1' is neither T nor TxN\n"),
+    ("record d.img d.trc --order 0x0", 3, "ir: LIST: the item '0x0' has an N that is not from 1 to 1000000\n"),
+    ("record d.img none/d.trc", 1, "ir: none/d.trc can't be written: no such file or folder\n"),
+]
+
+# Each row: the arguments of a run that would write over what it reads, and the message.
+OWN_FILES = [
+    ("asm d.s d.s", "ir: d.s: IMAGE would be written over SOURCE\n"),
+    ("asm d.s ./d.s", "ir: ./d.s: IMAGE would be written over SOURCE\n"),
+    ("asm d.s link.s", "ir: link.s: IMAGE would be written over SOURCE\n"),
+    ("asm d.s hard.s", "ir: hard.s: IMAGE would be written over SOURCE\n"),
+    ("record d.img d.img", "ir: d.img: TRACE would be written over IMAGE\n"),
+    ("record d.img link.img", "ir: link.img: TRACE would be written over IMAGE\n"),
+    ("record d.img d.trc --input d.trc", "ir: d.trc: TRACE would be written over FILE\n"),
+    ("record d.trc.part d.trc", "ir: d.trc.part: TRACE.part would be written over IMAGE\n"),
+]
+
+
+class Wrong(Exception):
+    """What a test found."""
+
+
+def wants(what, found, wanted):
+    """Fails where what was found isn't what was wanted."""
+    if found != wanted:
+        raise Wrong(f"{what}: found {found!r}, wanted {wanted!r}")
+
+
+def run(arguments, folder, **more):
+    """A run of the program in a folder, to its end."""
+    more.setdefault("stdin", subprocess.DEVNULL)
+    more.setdefault("stdout", subprocess.PIPE)
+    more.setdefault("stderr", subprocess.PIPE)
+    return subprocess.run([PROGRAM] + shlex.split(arguments), cwd=folder, timeout=120, **more)
+
+
+def shell(command, folder):
+    """A run of a command by bash, in which `./ir` is the program."""
+    return subprocess.run(["bash", "-c", command], cwd=folder, timeout=120, capture_output=True)
+
+
+def prepare(folder):
+    """The files that the tests read."""
+    (folder / "ir").symlink_to(PROGRAM)
+    (folder / "folder").mkdir()
+    (folder / "d.s").write_text(DOUBLE)
+    (folder / "forever.s").write_text(FOREVER)
+    (folder / "bad.s").write_text("nop\nx\n")
+    for name, size in (("long", 100_000_001), ("longer", 1_048_577)):
+        with open(folder / name, "wb") as file:
+            file.truncate(size)
+    for name in ("d", "forever"):
+        wants("assembling", run(f"asm {name}.s {name}.img", folder).returncode, 0)
+    wants("recording", run("record d.img whole.trc --order 0", folder).returncode, 0)
+
+
+def test_arguments(folder):
+    """Wrong arguments and files are named, with their statuses; nothing is written."""
+    for arguments, status, message in ARGUMENTS:
+        ended = run(arguments, folder)
+        wants(arguments, (ended.returncode, ended.stdout, ended.stderr.decode()), (status, b"", message))
+        for name in ("d2.img", "d.trc", "d.trc.part"):
+            wants(f"{arguments}: {name}", (folder / name).exists(), False)
+
+
+def test_own_files(folder):
+    """What is read isn't written over."""
+    (folder / "link.s").symlink_to("d.s")
+    os.link(folder / "d.s", folder / "hard.s")
+    (folder / "link.img").symlink_to("d.img")
+    (folder / "d.trc").write_bytes(b"input")
+    (folder / "d.trc.part").write_bytes((folder / "d.img").read_bytes())
+    names = ("d.s", "d.img", "d.trc", "d.trc.part")
+    before = {name: (folder / name).read_bytes() for name in names}
+    for arguments, message in OWN_FILES:
+        ended = run(arguments, folder)
+        wants(arguments, (ended.returncode, ended.stdout, ended.stderr.decode()), (2, b"", message))
+    for name in names:
+        wants(name, (folder / name).read_bytes(), before[name])
+
+
+def test_closed_streams(folder):
+    """A closed stream stays closed: nothing that is meant for it goes into another file."""
+    whole = (folder / "whole.trc").read_bytes()
+    for command, status, error in (
+        ("./ir record d.img d.trc --order 0 >&-", 1, FULL),
+        ("./ir record d.img d.trc --order 0 <&- >&-", 1, FULL),
+        ("./ir record d.img d.trc --order 0 >&- 2>&-", 1, b""),
+        ("./ir record d.img d.trc --order 0 >/dev/full 2>&-", 1, b""),
+    ):
+        ended = shell(command, folder)
+        wants(command, (ended.returncode, ended.stdout, ended.stderr), (status, b"", error))
+        wants(f"{command}: the trace", (folder / "d.trc").read_bytes(), whole)
+        (folder / "d.trc").unlink()
+    for command, status in (
+        ("./ir asm bad.s d2.img 2>&-", 1),
+        ("./ir asm 2>&-", 2),
+        ("./ir <&-", 1),
+        ("./ir --help >&-", 1),
+    ):
+        wants(command, shell(command, folder).returncode, status)
+    wants("an image of a source with a fault", (folder / "d2.img").exists(), False)
+
+
+def test_full_devices(folder):
+    """A full device is told, and the trace stands."""
+    whole = (folder / "whole.trc").read_bytes()
+    ended = shell("./ir record d.img d.trc --order 0 >/dev/full", folder)
+    wants("lines", (ended.returncode, ended.stderr), (1, FULL))
+    wants("the trace", (folder / "d.trc").read_bytes(), whole)
+    for arguments, message in (
+        ("asm d.s /dev/full", b"ir: /dev/full can't be written: no space is left\n"),
+        ("record d.img /dev/full --order 0", b"ir: /dev/full can't be written: no space is left\n"),
+    ):
+        ended = run(arguments, folder)
+        wants(arguments, (ended.returncode, ended.stdout, ended.stderr), (1, b"", message))
+    wants("help", shell("./ir --help >/dev/full", folder).returncode, 1)
+    wants("a session", shell("./ir < %s/crates/ir_cli/stdin >/dev/full" % shlex.quote(str(ROOT)), folder).returncode, 1)
+
+
+def test_closed_pipe(folder):
+    """Nobody reads the output."""
+    for arguments in ("record d.img d.trc --order 0", "--help"):
+        reader, writer = os.pipe()
+        os.close(reader)
+        ended = run(arguments, folder, stdout=writer)
+        os.close(writer)
+        wants(arguments, (ended.returncode, ended.stderr), (1, FULL))
+
+
+def small_files():
+    """Files have at most 10 bytes, as where a disk is full."""
+    signal.signal(signal.SIGXFSZ, signal.SIG_IGN)
+    resource.setrlimit(resource.RLIMIT_FSIZE, (10, 10))
+
+
+def test_half_written(folder):
+    """A trace that can't be written whole leaves what stood in its place, and nothing beside it."""
+    for before in (None, b"an older trace"):
+        if before is not None:
+            (folder / "d.trc").write_bytes(before)
+        ended = run("record d.img d.trc --order 0", folder, preexec_fn=small_files)
+        told = b"ir: d.trc can't be written: it would be too large\n"
+        wants("the end", (ended.returncode, ended.stdout, ended.stderr), (1, b"", told))
+        place = folder / "d.trc"
+        wants("what stood there", place.read_bytes() if place.exists() else None, before)
+        wants("what is left beside it", (folder / "d.trc.part").exists(), False)
+
+
+def test_interrupt(folder):
+    """Ctrl-C stops a recording, and TRACE stays as it was."""
+    for order in ("", " --order 0x1000000"):
+        (folder / "f.trc").write_bytes(b"an older trace")
+        command = [PROGRAM] + shlex.split(f"record forever.img f.trc --budget 1000000000000{order}")
+        with subprocess.Popen(command, cwd=folder, stdout=subprocess.DEVNULL, stderr=subprocess.DEVNULL) as started:
+            time.sleep(0.3)
+            started.send_signal(signal.SIGINT)
+            wants("the end", started.wait(10), -signal.SIGINT)
+        wants("TRACE", (folder / "f.trc").read_bytes(), b"an older trace")
+
+
+def test_answers_come(folder):
+    """Each answer comes before the next line is sent."""
+    lines = (ROOT / "crates/ir_cli/stdin").read_bytes().splitlines(keepends=True)
+    rows = (
+        (b"".join(lines[:2]), b"ready\n"),
+        (b"step 0 3\n", b"at 3\n"),
+        (b"foo\n", b"refused 1 unknown command\n"),
+        (b"quit\n", b"bye\n"),
+    )
+    with subprocess.Popen([PROGRAM], cwd=folder, stdin=subprocess.PIPE, stdout=subprocess.PIPE, bufsize=0) as session:
+        for asked, answer in rows:
+            session.stdin.write(asked)
+            wants(repr(asked[-9:]), session.stdout.readline(), answer)
+        # It ends by itself, though its input doesn't.
+        wants("the status", session.wait(10), 0)
+
+
+def test_large_order(folder):
+    """Items of many steps that a thread hasn't take neither time nor memory."""
+    def little_memory():
+        resource.setrlimit(resource.RLIMIT_AS, (400_000_000, 400_000_000))
+
+    start = time.monotonic()
+    ended = run("record d.img d.trc --order " + ",".join(["0x1000000"] * 1500), folder, preexec_fn=little_memory)
+    wants("the recording", (ended.returncode, ended.stdout, ended.stderr), (0, DOUBLE_LINE, b""))
+    if time.monotonic() - start > 2:
+        raise Wrong(f"it took {time.monotonic() - start:.1f} s")
+
+
+def commands_of(text):
+    """The commands of the README, with what they write; `..` stands for any lines."""
+    commands = []
+    for line in text.splitlines():
+        if line.startswith("    $ "):
+            commands.append((line[6:], []))
+        elif line.startswith("    ") and commands and commands[-1][1] is not None:
+            commands[-1][1].append(line[4:])
+        elif commands and commands[-1][1] is not None:
+            commands.append(("", None))
+    return [(command, lines) for command, lines in commands if command]
+
+
+def matches(found, wanted):
+    """Whether the lines are these, in which `..` stands for any."""
+    if not wanted:
+        return not found
+    if wanted[0] == "..":
+        return any(matches(found[k:], wanted[1:]) for k in range(len(found) + 1))
+    return bool(found) and found[0] == wanted[0] and matches(found[1:], wanted[1:])
+
+
+def test_readme(folder):
+    """Each command of the README writes what stands there."""
+    for name in ("crates", "examples"):
+        (folder / name).symlink_to(ROOT / name)
+    commands = commands_of((ROOT / "README.md").read_text())
+    for command, wanted in commands:
+        ended = shell(command, folder)
+        if wanted and not matches(ended.stdout.decode().splitlines(), wanted):
+            raise Wrong(f"{command}: wrote {ended.stdout.decode()!r}")
+        wants(f"{command}: standard error", ended.stderr, b"")
+    if len(commands) < 5:
+        raise Wrong("the README has no commands")
+
+
+def main():
+    """Runs each test in a folder of its own."""
+    global PROGRAM
+    if len(sys.argv) != 2:
+        print(__doc__)
+        sys.exit(2)
+    PROGRAM = str(Path(sys.argv[1]).resolve())
+    failed = 0
+    tests = [(name, test) for name, test in globals().items() if name.startswith("test_")]
+    for name, test in tests:
+        with tempfile.TemporaryDirectory() as folder:
+            try:
+                prepare(Path(folder))
+                test(Path(folder))
+                print(f"{name[5:]}: passed", flush=True)
+            except (Wrong, subprocess.TimeoutExpired, OSError) as why:
+                failed += 1
+                print(f"{name[5:]}: failed: {why}", flush=True)
+    print(f"{len(tests) - failed} passed, {failed} failed")
+    sys.exit(1 if failed else 0)
+
+
+if __name__ == "__main__":
+    main()
