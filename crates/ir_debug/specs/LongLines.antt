@@ -3,6 +3,7 @@ use Rattle.std.specs.Prelude.{◌≡◌, ◌<◌, ℕ, List, length, take, refl,
 use Rattle.std.proofs.Common.{ap, ◌∙◌, sym, arith, inl, inr}
 use Rattle.std.proofs.lemmas.Bool.{cases_lt, lt-ltb}
 use Rattle.std.proofs.lemmas.List.{take_all, length-take}
+use Rattle.ir_stream.specs.Determined.{Only}
 use Rattle.ir_command.specs.declared.refusal.Refusal.TheVariants.{LineTooLong}
 use Rattle.ir_command.specs.Commands.{command_of}
 use Rattle.ir_debug.specs.Reference.{Reference, reply_to, next_after, is_quit, answer_to, next_of, ends_session}
@@ -18,13 +19,16 @@ long_at k line h =
       | inr le ↦ ap (λ l. command_of l) (take_all k line le)
     ]
 
-pub long_reply : (m : Reference) (line : List ℕ) → reply_to m (take 1025 line) ≡ reply_to m line
+long_reply : (m : Reference) (line : List ℕ) → reply_to m (take 1025 line) ≡ reply_to m line
 unfolding reply_to
 long_reply m line = ap (λ asked. answer_to m asked) (long_at 1025 line (omega arith))
 
-pub long_next : (m : Reference) (line : List ℕ) → next_after m (take 1025 line) ≡ next_after m line
+long_next : (m : Reference) (line : List ℕ) → next_after m (take 1025 line) ≡ next_after m line
 unfolding next_after
 long_next m line = ap (λ asked. next_of m asked) (long_at 1025 line (omega arith))
+
+pub long_replies : (m : Reference) (line text : List ℕ) (next : Reference) → Only reply_to next_after m (take 1025 line) text next → Only reply_to next_after m line text next
+long_replies m line text next is = (is.0 ∙ long_reply m line, is.1 ∙ long_next m line)
 
 pub long_quit : (line : List ℕ) → is_quit (take 1025 line) ≡ is_quit line
 unfolding is_quit

@@ -1,12 +1,14 @@
 //! The debugger: one thread of a guest, at a position of its recorded run.
 
-ghost use Rattle.std.specs.Prelude.{◌≡◌, ◌≤◌, ◌+◌, ◌++◌, ◌<◌, IfOk};
+ghost use Rattle.std.specs.Prelude.{◌≡◌, ◌^◌, ◌≤◌, ◌+◌, ◌++◌, ◌<◌, IfOk};
 ghost use Rattle.std.specs.Io.KnownBytes.{Appends};
 ghost use Rattle.arrayvec.specs.ArrayVec.{array_vec_len};
 ghost use Rattle.ir_stream.specs.Endings.{flow_after};
+ghost use Rattle.ir_stream.specs.Determined.{Only};
+ghost use Rattle.ir_stream.specs.Answers.{Replied, RepliedFront};
 ghost use Rattle.ir_debug.specs.Fitting.{thread_at};
 ghost use Rattle.ir_debug.specs.Reference.{Reference, reference_of, moved, answer_to_command, next_of_command, answer_to, next_of, reply_to, next_after, is_quit, ends_session};
-ghost use Rattle.ir_debug.specs.LongLines.{long_reply, long_next, long_quit};
+ghost use Rattle.ir_debug.specs.LongLines.{long_replies, long_quit};
 
 use crate::answer::{Text, put_machine, put_place, put_refusal};
 use crate::fit::run;
@@ -84,11 +86,11 @@ impl Debugger {
 }
 
 impl Responder for Debugger {
-    ghost text = { reply_to };
-
-    ghost next = { next_after };
+    ghost replies = { Only reply_to next_after };
 
     ghost quits = { is_quit };
+
+    ghost room = { λ _. 2 ^ 64 };
 
     #[tactic(auto, unfolding(crate::specs::Reference::reply_to, crate::specs::Reference::next_after, crate::specs::Reference::is_quit))]
     fn respond<W: Sink>(&mut self, line: &[u8], writer: &mut W) -> Result<Flow, DeviceErr> {
@@ -108,9 +110,7 @@ impl Responder for Debugger {
         Ok(flow)
     }
 
-    ghost long_text = { long_reply };
-
-    ghost long_next = { long_next };
+    ghost long_replies = { long_replies };
 
     ghost long_quits = { long_quit };
 }
