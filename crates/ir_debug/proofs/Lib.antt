@@ -1,5 +1,6 @@
 mod Runs
 mod RegisterNames
+mod Lines
 mod Opened
 mod Machine
 mod Rows

@@ -13,15 +13,15 @@ use ir_stream::append;
 use itoa::Buffer;
 
 /// The most bytes of an answer.
-pub const ROOM: usize = 512;
+pub const ROOM: usize = 1024;
 
 /// An answer that is put together before it is written.
 pub type Text = ArrayVec<u8, ROOM>;
 
 const REGISTERS: u8 = 32;
 
-fn put_word(text: &mut Text, word: u32)
-    requires { array_vec_len text.old + 8 ≤ 512 }
+pub fn put_word(text: &mut Text, word: u32)
+    requires { array_vec_len text.old + 8 ≤ 1024 }
     ensures text { text.new.items ≡ text.old.items ++ hex_word word }
     ensures len { array_vec_len text.new ≡ array_vec_len text.old + 8 }
 {

@@ -9,8 +9,10 @@ use Rattle.ir_trace.specs.Reading.{recorded_at}
 use Rattle.ir_trace.specs.Refusal as trace
 use Rattle.ir_trace.specs.declared.trace_err.TraceErr.{TraceErr}
 use Rattle.ir_coherence.specs.Numbers.{cause_number}
+use Rattle.ir_coherence.specs.declared.cause.Cause.{Cause}
 use Rattle.ir_fit.specs.Fit.{FittedTrace, HasRun, IsRefused}
 use Rattle.ir_fit.specs.Numbers.{header_cause_number}
+use Rattle.ir_fit.specs.declared.header_cause.HeaderCause.{HeaderCause}
 use Rattle.ir_runs.specs.declared.thread_verdict.ThreadVerdict.{ThreadVerdict}
 use Rattle.ir_runs.specs.declared.thread_verdict.ThreadVerdict.TheVariants.{Same, Disagrees, Starves}
 use Rattle.ir_fit.specs.declared.fit_err.FitErr.TheVariants.{Refused}
@@ -44,19 +46,28 @@ unfoldable pub Opens : List ℕ → List ℕ → Opening → Type 0
 Opens image_bytes trace_bytes opening = OpensImage (guest_at image_bytes) (recorded_at trace_bytes) opening
 
 abbrev pub thread_verdict_text : ThreadVerdict → List ℕ
-thread_verdict_text Same = codes " same\n"
-thread_verdict_text (Disagrees event step) = codes " disagrees event " ++ decimal event ++ codes " step " ++ decimal step ++ codes "\n"
-thread_verdict_text (Starves event) = codes " starves event " ++ decimal event ++ codes "\n"
+thread_verdict_text Same = codes " same"
+thread_verdict_text (Disagrees event step) = codes " disagrees event " ++ decimal event ++ codes " step " ++ decimal step
+thread_verdict_text (Starves event) = codes " starves event " ++ decimal event
+
+abbrev pub thread_line : ℕ → ThreadVerdict → List ℕ
+thread_line t v = codes "thread " ++ decimal t ++ thread_verdict_text v ++ codes "\n"
 
 -- a line for each thread, from this one on
 unfoldable pub threads_text : ℕ → List ThreadVerdict → List ℕ
 threads_text t [] = []
-threads_text t (v ∷ vs) = codes "thread " ++ decimal t ++ thread_verdict_text v ++ threads_text (t + 1) vs
+threads_text t (v ∷ vs) = thread_line t v ++ threads_text (t + 1) vs
+
+abbrev pub header_text : HeaderCause → List ℕ
+header_text cause = codes "header differs " ++ decimal (header_cause_number cause)
+
+abbrev pub incoherent_text : ℕ → ℕ → Cause → List ℕ
+incoherent_text thread event cause = codes "incoherent thread " ++ decimal thread ++ codes " event " ++ decimal event ++ codes " cause " ++ decimal (cause_number cause)
 
 -- the lines of a verdict
 abbrev pub verdict_text : Verdict → List ℕ
-verdict_text (Header cause) = codes "header differs " ++ decimal (header_cause_number cause) ++ codes "\n"
-verdict_text (Incoherent thread event cause) = codes "incoherent thread " ++ decimal thread ++ codes " event " ++ decimal event ++ codes " cause " ++ decimal (cause_number cause) ++ codes "\n"
+verdict_text (Header cause) = header_text cause ++ codes "\n"
+verdict_text (Incoherent thread event cause) = incoherent_text thread event cause ++ codes "\n"
 verdict_text (Threads vs) = threads_text 0 vs.items
 
 -- the lines that a session begins with
