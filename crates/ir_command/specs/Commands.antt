@@ -1,51 +1,86 @@
--- What a line asks.
-use Rattle.std.specs.Prelude.{ℕ, ◌-◌, ◌^◌, nat_lt, List, [], ◌∷◌, length, codes, Option, Some, None, Result, Ok, Err, if◌then◌else◌}
+-- What a line asks: one table of names and of the numbers after them.
+use Rattle.std.specs.Prelude.{ℕ, nat_lt, List, [], ◌∷◌, length, codes, find, slice_index, Option, Some, None, option_map, option_and_then, Result, Ok, Err, if◌then◌else◌}
 use Rattle.std.specs.Str.{bytes_eq}
+use Rattle.ir_command.specs.Limits.{most_line, most_small, most_position, byte_count}
 use Rattle.ir_command.specs.Words.{words_of, without_return}
-use Rattle.ir_command.specs.Numbers.{number_up_to}
+use Rattle.ir_command.specs.Numbers.{number_of, number_up_to}
 use Rattle.ir_command.specs.declared.command.Command.{Command}
-use Rattle.ir_command.specs.declared.command.Command.TheVariants.{Step, Registers, Quit}
+use Rattle.ir_command.specs.declared.command.Command.TheVariants as command
+use Rattle.ir_command.specs.declared.command.Move.TheVariants.{Step, Back, Goto, Start, End}
+use Rattle.ir_command.specs.declared.command.Show.TheVariants.{Registers, Memory, Object, Output, Log, Next}
 use Rattle.ir_command.specs.declared.refusal.Refusal.{Refusal}
 use Rattle.ir_command.specs.declared.refusal.Refusal.TheVariants.{UnknownCommand, BadArgument, LineTooLong}
 
--- the most bytes of a line, a carriage return among them
-abbrev pub most_line : ℕ
-most_line = 1024
+-- the numbers that a word may write: of a thread, an object, a count or an address; of a position; of bytes that are shown
+pub data Kind : Type 0 where
+  Small : Kind
+  Position : Kind
+  Bytes : Kind
 
--- a number of a thread, a count or an address
-abbrev pub small : List ℕ → Option ℕ
-small word = number_up_to (2 ^ 32 - 1) word
+-- the number of a kind that a word writes
+abbrev pub argument : Kind → List ℕ → Option ℕ
+argument Small word = number_up_to most_small word
+argument Position word = number_up_to most_position word
+argument Bytes word = option_and_then byte_count (number_of word)
 
-abbrev pub step_by : Option ℕ → Option ℕ → Result Command Refusal
-step_by (Some thread) (Some count) = Ok (Step thread count)
-step_by thread count = Err BadArgument
+-- the numbers that the words write, if there is a word of each kind and no other
+abbrev pub arguments : List Kind → List (List ℕ) → Option (List ℕ)
+arguments [] [] = Some []
+arguments [] (word ∷ words) = None
+arguments (kind ∷ kinds) [] = None
+arguments (kind ∷ kinds) (word ∷ words) = option_and_then (λ n. option_map (λ ns. n ∷ ns) (arguments kinds words)) (argument kind word)
 
-abbrev pub registers_of : Option ℕ → Result Command Refusal
-registers_of (Some thread) = Ok (Registers thread)
-registers_of None = Err BadArgument
+-- a command's name, the kinds of its arguments, and the command that they make
+pub record Row : Type 0 where
+  pub name : List ℕ
+  pub kinds : List Kind
+  pub makes : List ℕ → Command
 
--- `step T N`
-abbrev pub step_command : List (List ℕ) → Result Command Refusal
-step_command (thread ∷ count ∷ []) = step_by (small thread) (small count)
-step_command arguments = Err BadArgument
+abbrev pub row : List ℕ → List Kind → (List ℕ → Command) → Row
+row name kinds makes = record { name = name; kinds = kinds; makes = makes }
 
--- `regs T`
-abbrev pub registers_command : List (List ℕ) → Result Command Refusal
-registers_command (thread ∷ []) = registers_of (small thread)
-registers_command arguments = Err BadArgument
+abbrev pub first : List ℕ → ℕ
+first ns = slice_index ns 0
 
--- `quit`
-abbrev pub quit_command : List (List ℕ) → Result Command Refusal
-quit_command [] = Ok Quit
-quit_command arguments = Err BadArgument
+abbrev pub second : List ℕ → ℕ
+second ns = slice_index ns 1
+
+abbrev pub third : List ℕ → ℕ
+third ns = slice_index ns 2
+
+abbrev pub table : List Row
+table =
+    row (codes "step") (Small ∷ Small ∷ []) (λ ns. command.Move (Step (first ns) (second ns))) ∷
+    row (codes "back") (Small ∷ Small ∷ []) (λ ns. command.Move (Back (first ns) (second ns))) ∷
+    row (codes "goto") (Small ∷ Position ∷ []) (λ ns. command.Move (Goto (first ns) (second ns))) ∷
+    row (codes "start") [] (λ ns. command.Move Start) ∷
+    row (codes "end") [] (λ ns. command.Move End) ∷
+    row (codes "pos") [] (λ ns. command.Position) ∷
+    row (codes "regs") (Small ∷ []) (λ ns. command.Show (Registers (first ns))) ∷
+    row (codes "mem") (Small ∷ Small ∷ Bytes ∷ []) (λ ns. command.Show (Memory (first ns) (second ns) (third ns))) ∷
+    row (codes "obj") (Small ∷ []) (λ ns. command.Show (Object (first ns))) ∷
+    row (codes "out") (Small ∷ []) (λ ns. command.Show (Output (first ns))) ∷
+    row (codes "log") (Small ∷ []) (λ ns. command.Show (Log (first ns))) ∷
+    row (codes "next") (Small ∷ []) (λ ns. command.Show (Next (first ns))) ∷
+    row (codes "quit") [] (λ ns. command.Quit) ∷
+    []
+
+-- the row of a name
+abbrev pub row_of : List ℕ → Option Row
+row_of name = find (λ r. bytes_eq name r.name) table
+
+abbrev pub made_by : Row → Option (List ℕ) → Result Command Refusal
+made_by r (Some ns) = Ok (r.makes ns)
+made_by r None = Err BadArgument
+
+-- the command of a row with these arguments
+abbrev pub made_of : Option Row → List (List ℕ) → Result Command Refusal
+made_of (Some r) words = made_by r (arguments r.kinds words)
+made_of None words = Err UnknownCommand
 
 -- the command of this name with these arguments
-abbrev pub command_named : List ℕ → List (List ℕ) → Result Command Refusal
-command_named name arguments =
-    if bytes_eq name (codes "step") then step_command arguments else
-    if bytes_eq name (codes "regs") then registers_command arguments else
-    if bytes_eq name (codes "quit") then quit_command arguments else
-    Err UnknownCommand
+unfoldable pub command_named : List ℕ → List (List ℕ) → Result Command Refusal
+command_named name words = made_of (row_of name) words
 
 abbrev pub some_command : Result Command Refusal → Result (Option Command) Refusal
 some_command (Ok command) = Ok (Some command)
@@ -54,7 +89,7 @@ some_command (Err refusal) = Err refusal
 -- no words are no command
 abbrev pub command_of_words : List (List ℕ) → Result (Option Command) Refusal
 command_of_words [] = Ok None
-command_of_words (name ∷ arguments) = some_command (command_named name arguments)
+command_of_words (name ∷ words) = some_command (command_named name words)
 
 -- what a line asks, which stands before its line feed
 unfoldable pub command_of : List ℕ → Result (Option Command) Refusal

@@ -3,6 +3,7 @@ use Rattle.std.specs.Prelude.{ℕ, ◌==◌, ◌&&◌, nat_le, nat_lt, Bool, fal
 use Rattle.std.specs.List.{list_all}
 use Rattle.std.specs.Char.{digit_value}
 use Rattle.std.specs.Str.Parse.{digits_value}
+use Rattle.ir_command.specs.Limits.{most_decimal, most_hexadecimal}
 
 -- whether the byte is a digit of the radix
 abbrev pub is_digit : ℕ → ℕ → Bool
@@ -22,7 +23,7 @@ starts_hexadecimal digits = false
 
 -- 1 to 20 decimal digits, or `0x` and 1 to 16 hexadecimal digits of either case
 unfoldable pub number_of : List ℕ → Option ℕ
-number_of word = if starts_hexadecimal word then numeral 16 16 (drop 2 word) else numeral 10 20 word
+number_of word = if starts_hexadecimal word then numeral 16 most_hexadecimal (drop 2 word) else numeral 10 most_decimal word
 
 -- a number that may not pass the limit
 abbrev pub number_up_to : ℕ → List ℕ → Option ℕ

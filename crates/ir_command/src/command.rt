@@ -1,12 +1,109 @@
 //! What a line may ask.
 
+use std::marker::Model;
+
 /// A command of the debugger.
 #[derive(Clone, Copy, Debug, PartialEq, Eq)]
 pub enum Command {
-    /// `step T N`: move to the least cut at which the thread has taken so many steps more.
-    Step { thread: u32, count: u32 },
-    /// `regs T`: show the thread's pc and registers.
-    Registers { thread: u32 },
+    /// A move of all threads to another cut.
+    Move(Move),
+    /// `pos`: tell the position of each thread.
+    Position,
+    /// Show what stands at the cut.
+    Show(Show),
     /// `quit`: end the session.
     Quit,
+}
+
+/// A move of all threads to another cut.
+#[derive(Clone, Copy, Debug, PartialEq, Eq)]
+pub enum Move {
+    /// `step T N`: so many steps of the thread on, or to its last position.
+    Step { thread: u32, count: u32 },
+    /// `back T N`: so many steps of the thread back, or to 0.
+    Back { thread: u32, count: u32 },
+    /// `goto T K`: to this position of the thread, or to its last.
+    Goto { thread: u32, position: u64 },
+    /// `start`: all threads to 0.
+    Start,
+    /// `end`: all threads to their last positions.
+    End,
+}
+
+/// What is shown of the guest at the cut.
+#[derive(Clone, Copy, Debug, PartialEq, Eq)]
+pub enum Show {
+    /// `regs T`: the thread's pc and registers.
+    Registers {
+        thread: u32,
+    },
+    /// `mem T A N`: bytes of the code or of the thread's private memory, from an address on.
+    Memory {
+        thread: u32,
+        address: u32,
+        size: ByteCount,
+    },
+    /// `obj O`: an object.
+    Object {
+        object: u32,
+    },
+    /// `out T`: what the thread has printed.
+    Output {
+        thread: u32,
+    },
+    /// `log T`: the events that the thread has logged.
+    Log {
+        thread: u32,
+    },
+    /// `next T`: the thread's next step.
+    Next {
+        thread: u32,
+    },
+}
+
+/// How many bytes are shown: 1 to 256.
+#[derive(Clone, Copy, Debug, PartialEq, Eq)]
+pub struct ByteCount {
+    bytes: u16,
+}
+
+impl Model for ByteCount {
+    ghost use Rattle.std.specs.Prelude.{ℕ, ◌≤◌};
+
+    ghost Value = { ℕ };
+
+    ghost view = { λ c. c.bytes };
+
+    ghost inverse = { λ n. record { bytes = n } };
+
+    ghost invariant = { λ c. (1 ≤ c.bytes) × (c.bytes ≤ 256) };
+}
+
+impl ByteCount {
+    ghost use Rattle.std.specs.Prelude.{◌≡◌, ◌≤◌, Some, None, nat_le, if◌then◌else◌};
+    ghost use Rattle.ir_command.specs.Limits.{most_bytes, byte_count};
+
+    /// The most bytes that are shown at once.
+    pub const MOST: u128 = 256;
+
+    /// So many bytes, if they may be shown at once.
+    pub fn new(bytes: u128) -> Option<ByteCount>
+        ensures { result ≡ byte_count bytes }
+    {
+        if bytes == 0 || bytes > Self::MOST {
+            return None;
+        }
+        Some(ByteCount {
+            bytes: bytes as u16,
+        })
+    }
+
+    /// How many bytes.
+    pub fn get(self) -> usize
+        ensures value { result ≡ self }
+        ensures some { 1 ≤ result }
+        ensures within { result ≤ most_bytes }
+    {
+        self.bytes as usize
+    }
 }

@@ -1,13 +1,16 @@
 //! The debugger's commands, and the lines that ask them.
 #![tactic(auto)]
 
+mod arguments;
 mod command;
 mod number;
 mod parse;
 mod refusal;
+#[cfg(test)]
+mod tests;
 mod words;
 
-pub use command::Command;
-pub use parse::parse_line;
+pub use command::{ByteCount, Command, Move, Show};
+pub use parse::{MOST_LINE, parse_line};
 pub use refusal::Refusal;
-pub use words::without_return;
+pub use words::{next_word, without_return};

@@ -1,13 +1,21 @@
 //! Numbers of commands.
 
-ghost use Rattle.std.specs.Prelude.{◌≡◌, ◌≤◌, ◌-◌, ◌^◌, length, ℕ, Option, MatchOption, true, false};
+ghost use Rattle.std.specs.Prelude.{◌≡◌, ◌≤◌, length, ℕ, Option, MatchOption, option_and_then, true, false};
 ghost use Rattle.std.specs.List.{list_all};
 ghost use Rattle.std.specs.Str.Parse.{digits_value};
+ghost use Rattle.ir_command.specs.Limits.{most_small, most_position};
+ghost use Rattle.ir_command.specs.Limits as limits;
 ghost use Rattle.ir_command.specs.Numbers.{is_digit, numeral, number_of, number_up_to};
+
+use crate::command::ByteCount;
 
 const DECIMAL: u32 = 10;
 
 const HEXADECIMAL: u32 = 16;
+
+const MOST_DECIMAL: usize = 20;
+
+const MOST_HEXADECIMAL: usize = 16;
 
 // The number that the bytes write, if each is a digit of the radix.
 fn value(radix: u32, digits: &[u8]) -> Option<u128>
@@ -44,17 +52,34 @@ fn number(word: &[u8]) -> Option<u128>
     ensures { result ≡ number_of word.now }
 {
     match word {
-        [b'0', b'x', digits @ ..] => numeral(HEXADECIMAL, 16, digits),
-        _ => numeral(DECIMAL, 20, word),
+        [b'0', b'x', digits @ ..] => numeral(HEXADECIMAL, MOST_HEXADECIMAL, digits),
+        _ => numeral(DECIMAL, MOST_DECIMAL, word),
     }
 }
 
 /// The number that a word writes, if it is one of 32 bits.
 pub fn small(word: &[u8]) -> Option<u32>
-    ensures { result ≡ number_up_to (2 ^ 32 - 1) word.now }
+    ensures { result ≡ number_up_to most_small word.now }
 {
     match number(word) {
         Some(value) if value <= u32::MAX as u128 => Some(value as u32),
         _ => None,
     }
+}
+
+/// The number that a word writes, if it is one of 64 bits.
+pub fn large(word: &[u8]) -> Option<u64>
+    ensures { result ≡ number_up_to most_position word.now }
+{
+    match number(word) {
+        Some(value) if value <= u64::MAX as u128 => Some(value as u64),
+        _ => None,
+    }
+}
+
+/// The number of bytes that a word writes, if so many are shown at once.
+pub fn byte_count(word: &[u8]) -> Option<ByteCount>
+    ensures { result ≡ option_and_then limits.byte_count (number_of word.now) }
+{
+    ByteCount::new(number(word)?)
 }

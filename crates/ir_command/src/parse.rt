@@ -1,74 +1,59 @@
 //! What a line asks.
 
-ghost use Rattle.std.specs.Prelude.{◌≡◌, ◌≢◌, [], ◌∷◌, List, ℕ, MatchOption};
+ghost use Rattle.std.specs.Prelude.{◌≡◌};
 ghost use Rattle.ir_command.specs.Words.{words_of};
-ghost use Rattle.ir_command.specs.Commands.{command_of, command_named, step_command, registers_command, quit_command};
+ghost use Rattle.ir_command.specs.Commands.{command_of, command_named};
 
-use crate::command::Command;
-use crate::number::small;
+use crate::arguments::{
+    no_argument, one_number, thread_and_bytes, thread_and_position, two_numbers,
+};
+use crate::command::{Command, Move, Show};
 use crate::refusal::Refusal;
 use crate::words::{next_word, without_return};
 
 /// The most bytes of a line, a carriage return among them and its line feed not.
 pub const MOST_LINE: usize = 1024;
 
-// The word of a text of one word.
-fn one_word(text: &[u8]) -> Option<&[u8]>
-    ensures { MatchOption result ((word : List ℕ) → words_of text.now ≢ word ∷ []) (λ word. words_of text.now ≡ word.now ∷ []) }
+// The command of this name: a row for each, with the numbers that its words write.
+#[tactic(auto, unfolding(crate::specs::Commands::command_named))]
+fn named(name: &[u8], words: &[u8]) -> Result<Command, Refusal>
+    ensures { result ≡ command_named name.now (words_of words.now) }
 {
-    let (word, rest) = next_word(text)?;
-    match next_word(rest) {
-        None => Some(word),
-        Some(_) => None,
-    }
-}
-
-// The words of a text of two words.
-fn two_words(text: &[u8]) -> Option<(&[u8], &[u8])>
-    ensures { MatchOption result ((first second : List ℕ) → words_of text.now ≢ first ∷ second ∷ []) (λ words. words_of text.now ≡ words.0.now ∷ words.1.now ∷ []) }
-{
-    let (first, rest) = next_word(text)?;
-    let second = one_word(rest)?;
-    Some((first, second))
-}
-
-fn step(arguments: &[u8]) -> Result<Command, Refusal>
-    ensures { result ≡ step_command (words_of arguments.now) }
-{
-    let (thread, count) = two_words(arguments).ok_or(Refusal::BadArgument)?;
-    match (small(thread), small(count)) {
-        (Some(thread), Some(count)) => Ok(Command::Step { thread, count }),
-        _ => Err(Refusal::BadArgument),
-    }
-}
-
-fn registers(arguments: &[u8]) -> Result<Command, Refusal>
-    ensures { result ≡ registers_command (words_of arguments.now) }
-{
-    let thread = one_word(arguments).ok_or(Refusal::BadArgument)?;
-    match small(thread) {
-        Some(thread) => Ok(Command::Registers { thread }),
-        None => Err(Refusal::BadArgument),
-    }
-}
-
-fn quit(arguments: &[u8]) -> Result<Command, Refusal>
-    ensures { result ≡ quit_command (words_of arguments.now) }
-{
-    match next_word(arguments) {
-        None => Ok(Command::Quit),
-        Some(_) => Err(Refusal::BadArgument),
-    }
-}
-
-fn named(name: &[u8], arguments: &[u8]) -> Result<Command, Refusal>
-    ensures { result ≡ command_named name.now (words_of arguments.now) }
-{
-    match name {
-        b"step" => step(arguments),
-        b"regs" => registers(arguments),
-        b"quit" => quit(arguments),
-        _ => Err(Refusal::UnknownCommand),
+    if name == b"step".as_slice() {
+        two_numbers(words).map(|(thread, count)| Command::Move(Move::Step { thread, count }))
+    } else if name == b"back".as_slice() {
+        two_numbers(words).map(|(thread, count)| Command::Move(Move::Back { thread, count }))
+    } else if name == b"goto".as_slice() {
+        thread_and_position(words).map(|(thread, position)| Command::Move(Move::Goto {
+            thread,
+            position,
+        }))
+    } else if name == b"start".as_slice() {
+        no_argument(words).map(|()| Command::Move(Move::Start))
+    } else if name == b"end".as_slice() {
+        no_argument(words).map(|()| Command::Move(Move::End))
+    } else if name == b"pos".as_slice() {
+        no_argument(words).map(|()| Command::Position)
+    } else if name == b"regs".as_slice() {
+        one_number(words).map(|thread| Command::Show(Show::Registers { thread }))
+    } else if name == b"mem".as_slice() {
+        thread_and_bytes(words).map(|(thread, address, size)| Command::Show(Show::Memory {
+            thread,
+            address,
+            size,
+        }))
+    } else if name == b"obj".as_slice() {
+        one_number(words).map(|object| Command::Show(Show::Object { object }))
+    } else if name == b"out".as_slice() {
+        one_number(words).map(|thread| Command::Show(Show::Output { thread }))
+    } else if name == b"log".as_slice() {
+        one_number(words).map(|thread| Command::Show(Show::Log { thread }))
+    } else if name == b"next".as_slice() {
+        one_number(words).map(|thread| Command::Show(Show::Next { thread }))
+    } else if name == b"quit".as_slice() {
+        no_argument(words).map(|()| Command::Quit)
+    } else {
+        Err(Refusal::UnknownCommand)
     }
 }
 

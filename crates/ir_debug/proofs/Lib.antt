@@ -1,3 +1,8 @@
 mod Runs
 mod RegisterNames
+mod Lines
 mod Opened
+mod Machine
+mod Rows
+mod RowsOne
+mod RowsTwo

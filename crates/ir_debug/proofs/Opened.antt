@@ -4,7 +4,9 @@ use Rattle.std.specs.Prelude.{IfSome}
 use Rattle.std.specs.Io.KnownBytes.{Appends, Consumes, IsAtEnd}
 use Rattle.std.proofs.KnownBytes.{Appends-trans}
 use Rattle.ir_stream.specs.Lines.{cut, lines_of, heard}
-use Rattle.ir_stream.specs.Answers.{answers, replies, through}
+use Rattle.ir_stream.specs.Answers.{Wrote, WroteFront, through}
+use Rattle.ir_stream.specs.Determined.{Only, answers}
+use Rattle.ir_stream.proofs.CallerLemmas.{wrote_only, front_only, front_after}
 use Rattle.ir_stream.specs.Devices.{AppendsFront, Reads}
 use Rattle.ir_stream.specs.Endings.{IfEnded, LeadsTo}
 use Rattle.ir_stream.specs.declared.serving.Served.{Served}
@@ -76,36 +78,28 @@ IfServed-by (Err fault.TooLong) P Q go p = go p
 
 -- the answers after the opening lines
 pub session_of : (opening : Opening) (m : Reference) (limit : ℕ) (r : Result Served Fault) (w0 w1 w2 : Option (List ℕ)) (input : List ℕ) → Ready m ≡ opening → Appends w0 w1 (opening_text (Ready m))
-    → LeadsTo reply_to next_after is_quit m limit r w1 w2 input → Session opening limit (ended_by r) w0 w2 input
+    → LeadsTo (Only reply_to next_after) is_quit m limit r w1 w2 input → Session opening limit (ended_by r) w0 w2 input
 session_of opening m limit r w0 w1 w2 input is begun leads =
     let P : Opening → Type 0 = λ o. Session o limit (ended_by r) w0 w2 input in
-    let answered : List ℕ = replies reply_to next_after is_quit m (heard limit input) in
+    let answered : List ℕ = answers reply_to next_after m (through is_quit (heard limit input)) in
     subst P is (record {
       ending = ap ended_by leads.ending;
-      wrote = Appends-trans w0 w1 w2 (opening_text (Ready m)) answered begun leads.wrote;
+      wrote = Appends-trans w0 w1 w2 (opening_text (Ready m)) answered begun (wrote_only reply_to next_after m (through is_quit (heard limit input)) w1 w2 leads.wrote);
     })
 
 -- all answers to whole lines after the opening lines
 pub told_after : (opening : Opening) (m : Reference) (w0 w1 w2 : Option (List ℕ)) (lines : List (List ℕ)) → Ready m ≡ opening → Appends w0 w1 (opening_text (Ready m))
-    → Appends w1 w2 (answers reply_to next_after m lines) → Appends w0 w2 (told opening lines)
+    → Wrote (Only reply_to next_after) m lines w1 w2 → Appends w0 w2 (told opening lines)
 told_after opening m w0 w1 w2 lines is begun grown =
     let P : Opening → Type 0 = λ o. Appends w0 w2 (told o lines) in
-    subst P is (Appends-trans w0 w1 w2 (opening_text (Ready m)) (answers reply_to next_after m lines) begun grown)
-
-front_after : (w0 w1 w2 : Option (List ℕ)) (x y : List ℕ) → Appends w0 w1 x → AppendsFront w1 w2 y → AppendsFront w0 w2 (x ++ y)
-front_after w0 w1 w2 x y begun f = record {
-  part = x ++ f.part;
-  more = f.more;
-  splits = ap (λ (t : List ℕ). x ++ t) f.splits ∙ sym (append_assoc x f.part f.more);
-  grown = Appends-trans w0 w1 w2 x f.part begun f.grown;
-}
+    subst P is (Appends-trans w0 w1 w2 (opening_text (Ready m)) (answers reply_to next_after m lines) begun (wrote_only reply_to next_after m lines w1 w2 grown))
 
 -- a front of the answers after the opening lines
 pub told_front : (opening : Opening) (m : Reference) (w0 w1 w2 : Option (List ℕ)) (lines : List (List ℕ)) → Ready m ≡ opening → Appends w0 w1 (opening_text (Ready m))
-    → AppendsFront w1 w2 (answers reply_to next_after m lines) → AppendsFront w0 w2 (told opening lines)
+    → WroteFront (Only reply_to next_after) m lines w1 w2 → AppendsFront w0 w2 (told opening lines)
 told_front opening m w0 w1 w2 lines is begun front =
     let P : Opening → Type 0 = λ o. AppendsFront w0 w2 (told o lines) in
-    subst P is (front_after w0 w1 w2 (opening_text (Ready m)) (answers reply_to next_after m lines) begun front)
+    subst P is (front_after w0 w1 w2 (opening_text (Ready m)) (answers reply_to next_after m lines) begun (front_only reply_to next_after m lines w1 w2 front))
 
 pub begun_at : (opening : Opening) (m : Reference) (w0 w1 : Option (List ℕ)) → opening ≡ Ready m → Appends w0 w1 (opening_text opening) → Appends w0 w1 (opening_text (Ready m))
 begun_at opening m w0 w1 is begun = let P : Opening → Type 0 = λ o. Appends w0 w1 (opening_text o) in subst P is begun
@@ -126,13 +120,13 @@ was_write (Err fault.TooLong) e = absurd cc
 
 -- what a session says of its whole input, from what was said of the lines
 pub served_known : (opening : Opening) (m : Reference) (limit : ℕ) (result : Result Ended SessionErr) (r : Result Served Fault) (a w0 w1 w2 : Option (List ℕ)) → result ≡ ended_by r → Ready m ≡ opening → Appends w0 w1 (opening_text (Ready m))
-    → IfEnded r (IfSome a (LeadsTo reply_to next_after is_quit m limit r w1 w2)) → IfServed result (IfSome a (Session opening limit result w0 w2))
+    → IfEnded r (IfSome a (LeadsTo (Only reply_to next_after) is_quit m limit r w1 w2)) → IfServed result (IfSome a (Session opening limit result w0 w2))
 served_known opening m limit result r a w0 w1 w2 ended is begun known =
     let P : Result Ended SessionErr → Type 0 = λ x. IfServed x (IfSome a (Session opening limit x w0 w2)) in
     subst P (sym ended) (IfServed-by r _ _ (IfSome-map a _ _ (λ input leads. session_of opening m limit r w0 w1 w2 input is begun leads)) known)
 
 pub served_ended : (opening : Opening) (m : Reference) (limit : ℕ) (result : Result Ended SessionErr) (r : Result Served Fault) (a b w0 w1 w2 : Option (List ℕ)) → result ≡ ended_by r → Ready m ≡ opening → Appends w0 w1 (opening_text (Ready m))
-    → IfEnded r (Reads limit a b (LeadsTo reply_to next_after is_quit m limit r w1 w2)) → IfServed result (Reads limit a b (Session opening limit result w0 w2))
+    → IfEnded r (Reads limit a b (LeadsTo (Only reply_to next_after) is_quit m limit r w1 w2)) → IfServed result (Reads limit a b (Session opening limit result w0 w2))
 served_ended opening m limit result r a b w0 w1 w2 ended is begun known =
     let P : Result Ended SessionErr → Type 0 = λ x. IfServed x (Reads limit a b (Session opening limit x w0 w2)) in
     subst P (sym ended) (IfServed-by r _ _ (Reads-map limit a b _ _ (λ input leads. session_of opening m limit r w0 w1 w2 input is begun leads)) known)

@@ -1,5 +1,5 @@
 -- Threads that go on by their own steps.
-use Rattle.std.proofs.Common.{◌≡◌, ◌+◌, ◌-◌, ◌≤◌, ◌<◌, ℕ, zero, suc, Bool, true, false, List, refl, sym, ap, ◌∙◌, add-one, add-zero, zero-add, arith}
+use Rattle.std.proofs.Common.{◌≡◌, ◌+◌, ◌-◌, ◌≤◌, ◌<◌, ℕ, zero, suc, true, false, List, refl, sym, ap, ◌∙◌, add-one, add-zero, zero-add, arith}
 use Rattle.ir_thread.specs.State.{State}
 use Rattle.ir_thread.specs.Calls.{run_of, step_of, after_reply, ask_of, Suits}
 use Rattle.ir_thread.specs.Private.{PrivateSteps}

@@ -5,17 +5,26 @@ use Rattle.hex.specs.Hex.{encode_lower}
 use Rattle.ir_isa.specs.Names.{register_name}
 use Rattle.ir_mach.specs.Core.{Core, register}
 use Rattle.ir_command.specs.declared.refusal.Refusal.{Refusal}
-use Rattle.ir_command.specs.declared.refusal.Refusal.TheVariants.{UnknownCommand, BadArgument, NoSuchThread, LineTooLong}
+use Rattle.ir_command.specs.declared.refusal.Refusal.TheVariants.{UnknownCommand, BadArgument, NoSuchThread, NoSuchObject, NoSuchNumber, BadAddress, LineTooLong, NoMemory, Full}
+use Rattle.ir_command.specs.Refusals.{refusal_number}
 
 -- a word in eight lower-case hexadecimal digits, the highest first
 abbrev pub hex_word : ℕ → List ℕ
 hex_word n = encode_lower (bytes_high_first 4 n)
 
+abbrev pub reason_text : Refusal → List ℕ
+reason_text UnknownCommand = codes "unknown command"
+reason_text BadArgument = codes "bad argument"
+reason_text NoSuchThread = codes "no such thread"
+reason_text NoSuchObject = codes "no such object"
+reason_text NoSuchNumber = codes "no such number"
+reason_text BadAddress = codes "bad address"
+reason_text LineTooLong = codes "line too long"
+reason_text NoMemory = codes "no memory"
+reason_text Full = codes "full"
+
 abbrev pub refusal_text : Refusal → List ℕ
-refusal_text UnknownCommand = codes "refused 1 unknown command\n"
-refusal_text BadArgument = codes "refused 2 bad argument\n"
-refusal_text NoSuchThread = codes "refused 3 no such thread\n"
-refusal_text LineTooLong = codes "refused 7 line too long\n"
+refusal_text r = codes "refused " ++ decimal (refusal_number r) ++ codes " " ++ reason_text r ++ codes "\n"
 
 -- where a move stopped, of a thread whose last position is given
 abbrev pub stop_text : ℕ → ℕ → List ℕ

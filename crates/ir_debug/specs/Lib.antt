@@ -6,3 +6,4 @@ pub mod Answers
 pub mod Reference
 pub mod LongLines
 pub mod Session
+pub mod Machine

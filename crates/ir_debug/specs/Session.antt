@@ -6,7 +6,8 @@ use Rattle.ir_image.specs.Refusal.{number_of}
 use Rattle.ir_image.specs.Reading.{guest_at}
 use Rattle.ir_image.specs.declared.image_err.ImageErr.{ImageErr}
 use Rattle.ir_stream.specs.Lines.{heard}
-use Rattle.ir_stream.specs.Answers.{answers, through}
+use Rattle.ir_stream.specs.Answers.{through}
+use Rattle.ir_stream.specs.Determined.{answers}
 use Rattle.ir_stream.specs.Endings.{ends}
 use Rattle.ir_stream.specs.declared.serving.Served.{Served}
 use Rattle.ir_stream.specs.declared.serving.Served.TheVariants as served

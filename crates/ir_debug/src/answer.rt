@@ -3,7 +3,7 @@
 ghost use Rattle.std.specs.Prelude.{◌≡◌, ◌≤◌, ◌<◌, ◌+◌, ◌++◌, length};
 ghost use Rattle.arrayvec.specs.ArrayVec.{array_vec_len};
 ghost use Rattle.ir_isa.specs.Names.{register_name};
-ghost use Rattle.ir_debug.specs.Answers.{hex_word, refusal_text, place_text, stop_text, register_text, registers_text, after_register, machine_text};
+ghost use Rattle.ir_debug.specs.Answers.{hex_word, reason_text, refusal_text, place_text, stop_text, register_text, registers_text, after_register, machine_text};
 
 use arrayvec::ArrayVec;
 use ir_command::Refusal;
@@ -13,15 +13,15 @@ use ir_stream::append;
 use itoa::Buffer;
 
 /// The most bytes of an answer.
-pub const ROOM: usize = 512;
+pub const ROOM: usize = 1024;
 
 /// An answer that is put together before it is written.
 pub type Text = ArrayVec<u8, ROOM>;
 
 const REGISTERS: u8 = 32;
 
-fn put_word(text: &mut Text, word: u32)
-    requires { array_vec_len text.old + 8 ≤ 512 }
+pub fn put_word(text: &mut Text, word: u32)
+    requires { array_vec_len text.old + 8 ≤ 1024 }
     ensures text { text.new.items ≡ text.old.items ++ hex_word word }
     ensures len { array_vec_len text.new ≡ array_vec_len text.old + 8 }
 {
@@ -30,17 +30,34 @@ fn put_word(text: &mut Text, word: u32)
     append(text, &digits);
 }
 
+fn reason(refusal: Refusal) -> &'static [u8]
+    ensures value { result.now ≡ reason_text refusal }
+    ensures short { length result.now ≤ 16 }
+{
+    match refusal {
+        Refusal::UnknownCommand => b"unknown command",
+        Refusal::BadArgument => b"bad argument",
+        Refusal::NoSuchThread => b"no such thread",
+        Refusal::NoSuchObject => b"no such object",
+        Refusal::NoSuchNumber => b"no such number",
+        Refusal::BadAddress => b"bad address",
+        Refusal::LineTooLong => b"line too long",
+        Refusal::NoMemory => b"no memory",
+        Refusal::Full => b"full",
+    }
+}
+
 /// Puts a refusal's line at the end.
 pub fn put_refusal(text: &mut Text, refusal: Refusal)
     requires { array_vec_len text.old ≤ 256 }
     ensures { text.new.items ≡ text.old.items ++ refusal_text refusal }
 {
-    match refusal {
-        Refusal::UnknownCommand => append(text, b"refused 1 unknown command\n"),
-        Refusal::BadArgument => append(text, b"refused 2 bad argument\n"),
-        Refusal::NoSuchThread => append(text, b"refused 3 no such thread\n"),
-        Refusal::LineTooLong => append(text, b"refused 7 line too long\n"),
-    }
+    let mut buffer = Buffer::new();
+    append(text, b"refused ");
+    append(text, buffer.format(refusal.number()).as_bytes());
+    append(text, b" ");
+    append(text, reason(refusal));
+    append(text, b"\n");
 }
 
 /// Puts the answer to a move at the end: where a thread is that has this last position.

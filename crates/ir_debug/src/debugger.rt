@@ -1,17 +1,19 @@
 //! The debugger: one thread of a guest, at a position of its recorded run.
 
-ghost use Rattle.std.specs.Prelude.{◌≡◌, ◌≤◌, ◌+◌, ◌++◌, ◌<◌, IfOk};
+ghost use Rattle.std.specs.Prelude.{◌≡◌, ◌^◌, ◌≤◌, ◌+◌, ◌++◌, ◌<◌, IfOk};
 ghost use Rattle.std.specs.Io.KnownBytes.{Appends};
 ghost use Rattle.arrayvec.specs.ArrayVec.{array_vec_len};
 ghost use Rattle.ir_stream.specs.Endings.{flow_after};
+ghost use Rattle.ir_stream.specs.Determined.{Only};
+ghost use Rattle.ir_stream.specs.Answers.{Replied, RepliedFront};
 ghost use Rattle.ir_debug.specs.Fitting.{thread_at};
-ghost use Rattle.ir_debug.specs.Reference.{Reference, reference_of, moved, answer_to_command, next_of_command, answer_to, next_of, reply_to, next_after, is_quit, ends_session};
-ghost use Rattle.ir_debug.specs.LongLines.{long_reply, long_next, long_quit};
+ghost use Rattle.ir_debug.specs.Reference.{Reference, reference_of, moved, asked_of, answer_to_command, next_of_command, answer_to, next_of, reply_to, next_after, is_quit, ends_session};
+ghost use Rattle.ir_debug.specs.LongLines.{long_replies, long_quit};
 
 use crate::answer::{Text, put_machine, put_place, put_refusal};
 use crate::fit::run;
 use crate::trace::Trace;
-use ir_command::{Command, Refusal, parse_line};
+use ir_command::{Command, MOST_LINE, Move, Refusal, Show, next_word, parse_line, without_return};
 use ir_image::Image;
 use ir_stream::{DeviceErr, Flow, Responder, Sink, append, write_all};
 use ir_thread::Thread;
@@ -69,32 +71,46 @@ impl Debugger {
         ensures next { self.new ≡ next_of_command self.old command }
     {
         match command {
-            Command::Step { thread: 0, count } => {
+            Command::Move(Move::Step { thread: 0, count }) => {
                 self.step(count as u64);
                 put_place(text, self.last, self.at);
             }
-            Command::Registers { thread: 0 } => put_machine(text, self.thread.mach()),
-            Command::Step { .. } | Command::Registers { .. } => put_refusal(
-                text,
-                Refusal::NoSuchThread,
-            ),
+            Command::Show(Show::Registers { thread: 0 }) => put_machine(text, self.thread.mach()),
+            Command::Move(Move::Step { .. }) | Command::Show(Show::Registers { .. }) => {
+                put_refusal(text, Refusal::NoSuchThread)
+            }
             Command::Quit => append(text, b"bye\n"),
+            _ => put_refusal(text, Refusal::UnknownCommand),
         }
     }
 }
 
-impl Responder for Debugger {
-    ghost text = { reply_to };
+// What a line asks; a command that isn't served is unknown.
+#[tactic(auto, unfolding(crate::specs::Reference::asked_of, ir_command::specs::Commands::command_of))]
+fn asked(line: &[u8]) -> Result<Option<Command>, Refusal>
+    ensures { result ≡ asked_of line.now }
+{
+    if line.len() > MOST_LINE {
+        return Err(Refusal::LineTooLong);
+    }
+    match next_word(without_return(line)) {
+        Some((b"step" | b"regs" | b"quit", _)) | None => parse_line(line),
+        Some(_) => Err(Refusal::UnknownCommand),
+    }
+}
 
-    ghost next = { next_after };
+impl Responder for Debugger {
+    ghost replies = { Only reply_to next_after };
 
     ghost quits = { is_quit };
+
+    ghost room = { λ _. 2 ^ 64 };
 
     #[tactic(auto, unfolding(crate::specs::Reference::reply_to, crate::specs::Reference::next_after, crate::specs::Reference::is_quit))]
     fn respond<W: Sink>(&mut self, line: &[u8], writer: &mut W) -> Result<Flow, DeviceErr> {
         let mut text = Text::new();
         let mut flow = Flow::Goes;
-        match parse_line(line) {
+        match asked(line) {
             Ok(None) => {}
             Ok(Some(command)) => {
                 if matches!(command, Command::Quit) {
@@ -108,9 +124,7 @@ impl Responder for Debugger {
         Ok(flow)
     }
 
-    ghost long_text = { long_reply };
-
-    ghost long_next = { long_next };
+    ghost long_replies = { long_replies };
 
     ghost long_quits = { long_quit };
 }

@@ -2,16 +2,20 @@
 #![tactic(auto)]
 
 mod answer;
+mod bytes;
 mod debugger;
 mod ended;
+mod events;
 mod fit;
 mod open;
 mod opening;
+mod positions;
 mod sessions;
 mod trace;
 mod trace_err;
 mod trace_reader;
 mod verdict;
+mod verdicts;
 
 pub use ended::{Ended, SessionErr};
 pub use ir_stream::{DeviceErr, FromStd, Sink, Source};

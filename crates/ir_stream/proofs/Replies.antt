@@ -1,31 +1,74 @@
 -- Answers to lines that are joined, and lines that quit.
-use Rattle.std.proofs.Common.{◌≡◌, ℕ, suc, Bool, true, false, cond, List, [], ◌∷◌, ◌++◌, take, refl, sym, ap, ◌∙◌, append_assoc}
+use Rattle.std.proofs.Common.{◌≡◌, ℕ, suc, Bool, true, false, cond, List, [], ◌∷◌, ◌++◌, take, refl, sym, ap, subst, ◌∙◌, append_assoc}
+use Rattle.std.specs.Prelude.{Option}
 use Rattle.std.proofs.lemmas.List.{append-nil}
+use Rattle.std.proofs.KnownBytes.{Appends-nil, Appends-trans}
+use Rattle.std.specs.Io.KnownBytes.{Appends}
 use Rattle.ir_stream.specs.Lines.{last_line}
-use Rattle.ir_stream.specs.Answers.{answers, after, through, some_quits, replies}
+use Rattle.ir_stream.specs.Devices.{AppendsFront}
+use Rattle.ir_stream.specs.Answers.{Replying, Answered, Wrote, WroteFront, Replied, RepliedFront, through, some_quits}
 
--- the answers to one line more
-pub answers-append : {S : Type 0} (text : S → List ℕ → List ℕ) (next : S → List ℕ → S) (s : S) (ls ms : List (List ℕ)) → answers text next s (ls ++ ms) ≡ answers text next s ls ++ answers text next (after next s ls) ms
-unfolding answers after
-answers-append text next s [] ms = refl
-answers-append text next s (l ∷ ls) ms = ap (λ (t : List ℕ). text s l ++ t) (answers-append text next (next s l) ls ms) ∙ sym (append_assoc (text s l) (answers text next (next s l) ls) (answers text next (after next (next s l) ls) ms))
+-- a front of the next text is one of all that was written
+pub front_after : (a b c : Option (List ℕ)) (done text : List ℕ) → Appends a b done → AppendsFront b c text → AppendsFront a c (done ++ text)
+front_after a b c done text wrote f = record {
+  part = done ++ f.part;
+  more = f.more;
+  splits = ap (λ (t : List ℕ). done ++ t) f.splits ∙ sym (append_assoc done f.part f.more);
+  grown = Appends-trans a b c done f.part wrote f.grown;
+}
 
-pub after-append : {S : Type 0} (next : S → List ℕ → S) (s : S) (ls ms : List (List ℕ)) → after next s (ls ++ ms) ≡ after next (after next s ls) ms
-unfolding after
-after-append next s [] ms = refl
-after-append next s (l ∷ ls) ms = after-append next (next s l) ls ms
+-- the answers to lines, and then to others
+pub answered-append : {S : Type 0} (R : Replying S) (s : S) (ls ms : List (List ℕ)) (t u : List ℕ) (m last : S) → Answered R s ls t m → Answered R m ms u last → Answered R s (ls ++ ms) (t ++ u) last
+unfolding Answered
+answered-append {S} R s [] ms t u m last done more =
+    let P : S → Type 0 = λ x. Answered R x ms (t ++ u) last in
+    let Q : List ℕ → Type 0 = λ x. Answered R m ms (x ++ u) last in
+    subst P done.1 (subst Q (sym done.0) more)
+answered-append {S} R s (l ∷ ls) ms t u m last (first, next, rest, is, done, e) more = (
+  first,
+  next,
+  rest ++ u,
+  is,
+  answered-append R next ls ms rest u m last done more,
+  ap (λ (x : List ℕ). x ++ u) e ∙ append_assoc first rest u,
+)
 
-pub answers-nil : {S : Type 0} (text : S → List ℕ → List ℕ) (next : S → List ℕ → S) (s : S) → answers text next s [] ≡ []
-unfolding answers
-answers-nil text next s = refl
+-- the answers to no lines
+pub answered-nil : {S : Type 0} (R : Replying S) (s : S) → Answered R s [] [] s
+unfolding Answered
+answered-nil R s = (refl, refl)
 
-pub answers-one : {S : Type 0} (text : S → List ℕ → List ℕ) (next : S → List ℕ → S) (s : S) (l : List ℕ) → answers text next s (l ∷ []) ≡ text s l
-unfolding answers
-answers-one text next s l = append-nil (text s l)
+-- the answer to one line
+pub answered-one : {S : Type 0} (R : Replying S) (s : S) (l text : List ℕ) (next : S) → R s l text next → Answered R s (l ∷ []) text next
+unfolding Answered
+answered-one R s l text next is = (text, next, [], is, (refl, refl), sym (append-nil text))
 
-pub after-one : {S : Type 0} (next : S → List ℕ → S) (s : S) (l : List ℕ) → after next s (l ∷ []) ≡ next s l
-unfolding after
-after-one next s l = refl
+-- an empty end of an input has no answer
+pub wrote_none : {S : Type 0} (R : Replying S) (s : S) (r : List ℕ) (w : Option (List ℕ)) → r ≡ [] → Wrote R s (last_line r) w w
+wrote_none R s [] w e = record { text = []; last = s; answered = answered-nil R s; grown = Appends-nil w }
+wrote_none R s (b ∷ r) w e = absurd cc
+
+-- any other has that of one line
+pub wrote_some : {S : Type 0} (R : Replying S) (s next : S) (r : List ℕ) (old new : Option (List ℕ)) → (r ≡ [] → ⊥) → Replied R s r next old new → Wrote R s (last_line r) old new
+wrote_some R s next [] old new some p = absurd (some refl)
+wrote_some R s next (b ∷ r) old new some p = record { text = p.text; last = next; answered = answered-one R s (b ∷ r) p.text next p.is; grown = p.grown }
+
+pub front_some : {S : Type 0} (R : Replying S) (s : S) (r : List ℕ) (old new : Option (List ℕ)) → (r ≡ [] → ⊥) → RepliedFront R s r old new → WroteFront R s (last_line r) old new
+front_some R s [] old new some p = absurd (some refl)
+front_some R s (b ∷ r) old new some p = record { text = p.text; last = p.next; answered = answered-one R s (b ∷ r) p.text p.next p.is; grown = p.grown }
+
+one_front : {S : Type 0} (R : Replying S) (long : (s : S) (line text : List ℕ) (next : S) → R s (take 1025 line) text next → R s line text next)
+    → (s : S) (l k text : List ℕ) (last : S) → l ≡ take 1025 k → Answered R s (l ∷ []) text last → Answered R s (k ∷ []) text last
+unfolding Answered
+one_front {S} R long s l k text last e (first, next, rest, is, done, f) =
+    let P : List ℕ → Type 0 = λ x. R s x first next in
+    (first, next, rest, long s k first next (subst P e is), done, f)
+
+-- of the last line, too, only a front matters
+pub answered_front : {S : Type 0} (R : Replying S) (long : (s : S) (line text : List ℕ) (next : S) → R s (take 1025 line) text next → R s line text next)
+    → (s : S) (r text : List ℕ) (last : S) → Answered R s (last_line (take 1025 r)) text last → Answered R s (last_line r) text last
+answered_front R long s [] text last p = p
+answered_front R long s (b ∷ r) text last p = one_front R long s (take 1025 (b ∷ r)) (b ∷ r) text last refl p
 
 some_by : (b x y z : Bool) → cond b true x ≡ false → (x ≡ false → y ≡ z) → cond b true y ≡ z
 some_by true x y z h k = absurd cc
@@ -85,41 +128,9 @@ through-last quits (b ∷ r) = through-one quits (b ∷ r)
 pub through-none : (quits : List ℕ → Bool) (ls : List (List ℕ)) → some_quits quits ls ≡ false → through quits ls ≡ ls
 through-none quits ls h = ap (through quits) (sym (append-nil ls)) ∙ through-append quits ls [] h ∙ ap (λ (r : List (List ℕ)). ls ++ r) (through-nil quits) ∙ append-nil ls
 
--- the lines of which none quits, and then others
-pub replies-append : {S : Type 0} (text : S → List ℕ → List ℕ) (next : S → List ℕ → S) (quits : List ℕ → Bool) (s : S) (ls ms : List (List ℕ)) → some_quits quits ls ≡ false
-    → replies text next quits s (ls ++ ms) ≡ answers text next s ls ++ replies text next quits (after next s ls) ms
-replies-append text next quits s ls ms h = ap (answers text next s) (through-append quits ls ms h) ∙ answers-append text next s ls (through quits ms)
-
-pub replies-one : {S : Type 0} (text : S → List ℕ → List ℕ) (next : S → List ℕ → S) (quits : List ℕ → Bool) (s : S) (l : List ℕ) → replies text next quits s (l ∷ []) ≡ text s l
-replies-one text next quits s l = ap (answers text next s) (through-one quits l) ∙ answers-one text next s l
-
-pub replies-first : {S : Type 0} (text : S → List ℕ → List ℕ) (next : S → List ℕ → S) (quits : List ℕ → Bool) (s : S) (l : List ℕ) (ls : List (List ℕ)) → quits l ≡ true → replies text next quits s (l ∷ ls) ≡ text s l
-replies-first text next quits s l ls h = ap (answers text next s) (through-first quits l ls h) ∙ answers-one text next s l
-
-pub replies-nil : {S : Type 0} (text : S → List ℕ → List ℕ) (next : S → List ℕ → S) (quits : List ℕ → Bool) (s : S) → replies text next quits s [] ≡ []
-replies-nil text next quits s = ap (answers text next s) (through-nil quits) ∙ answers-nil text next s
-
-pub replies-none : {S : Type 0} (text : S → List ℕ → List ℕ) (next : S → List ℕ → S) (quits : List ℕ → Bool) (s : S) (ls : List (List ℕ)) → some_quits quits ls ≡ false → replies text next quits s ls ≡ answers text next s ls
-replies-none text next quits s ls h = ap (answers text next s) (through-none quits ls h)
-
--- of the last line, too, only a front matters
-pub replies_front : {S : Type 0} (text : S → List ℕ → List ℕ) (next : S → List ℕ → S) (quits : List ℕ → Bool) (s : S) (m : ℕ) (r : List ℕ)
-    → ((line : List ℕ) → text s (take (suc m) line) ≡ text s line) → replies text next quits s (last_line (take (suc m) r)) ≡ replies text next quits s (last_line r)
-replies_front text next quits s m [] h = refl
-replies_front text next quits s m (b ∷ r) h = replies-one text next quits s (b ∷ take m r) ∙ h (b ∷ r) ∙ sym (replies-one text next quits s (b ∷ r))
-
 pub some_quits_front : (quits : List ℕ → Bool) (m : ℕ) (r : List ℕ) → ((line : List ℕ) → quits (take (suc m) line) ≡ quits line) → some_quits quits (last_line (take (suc m) r)) ≡ some_quits quits (last_line r)
 some_quits_front quits m [] h = refl
 some_quits_front quits m (b ∷ r) h = some_quits-one quits (b ∷ take m r) ∙ h (b ∷ r) ∙ sym (some_quits-one quits (b ∷ r))
-
--- an empty end of an input has no answer, any other has that of one line
-pub replies_empty : {S : Type 0} (text : S → List ℕ → List ℕ) (next : S → List ℕ → S) (quits : List ℕ → Bool) (s : S) (r : List ℕ) → r ≡ [] → replies text next quits s (last_line r) ≡ []
-replies_empty text next quits s [] h = replies-nil text next quits s
-replies_empty text next quits s (b ∷ r) h = absurd cc
-
-pub replies_some : {S : Type 0} (text : S → List ℕ → List ℕ) (next : S → List ℕ → S) (quits : List ℕ → Bool) (s : S) (r : List ℕ) → (r ≡ [] → ⊥) → replies text next quits s (last_line r) ≡ text s r
-replies_some text next quits s [] h = absurd (h refl)
-replies_some text next quits s (b ∷ r) h = replies-one text next quits s (b ∷ r)
 
 pub some_quits_empty : (quits : List ℕ → Bool) (r : List ℕ) → r ≡ [] → some_quits quits (last_line r) ≡ false
 some_quits_empty quits [] h = some_quits-nil quits

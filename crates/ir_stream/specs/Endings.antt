@@ -2,7 +2,6 @@
 use Rattle.std.specs.Prelude.{◌≡◌, ℕ, Bool, true, false, ⊤, List, length, nat_lt, if◌then◌else◌, Ok, Err}
 use Rattle.std.specs.declared.option.Option.{Option}
 use Rattle.std.specs.declared.result.Result.{Result}
-use Rattle.std.specs.Io.KnownBytes.{Appends}
 use Rattle.ir_stream.specs.declared.serving.Served.{Served}
 use Rattle.ir_stream.specs.declared.serving.Served.TheVariants.{Quit, InputEnd}
 use Rattle.ir_stream.specs.declared.serving.Fault.{Fault}
@@ -10,7 +9,7 @@ use Rattle.ir_stream.specs.declared.serving.Fault.TheVariants.{Read, Write, TooL
 use Rattle.ir_stream.specs.declared.serving.Flow.{Flow}
 use Rattle.ir_stream.specs.declared.serving.Flow.TheVariants.{Goes, Quits}
 use Rattle.ir_stream.specs.Lines.{heard}
-use Rattle.ir_stream.specs.Answers.{some_quits, replies}
+use Rattle.ir_stream.specs.Answers.{Replying, Wrote, through, some_quits}
 
 -- whether a line that quits was answered
 abbrev pub flow_after : Bool → Flow
@@ -34,6 +33,6 @@ IfEnded (Err Write) P = ⊤
 IfEnded (Err TooLong) P = P
 
 -- the input leads to this result, and the writer took the answers to the lines that count
-pub record LeadsTo {S : Type 0} (text : S → List ℕ → List ℕ) (next : S → List ℕ → S) (quits : List ℕ → Bool) (s : S) (limit : ℕ) (result : Result Served Fault) (old new : Option (List ℕ)) (input : List ℕ) : Type 0 where
+pub record LeadsTo {S : Type 0} (R : Replying S) (quits : List ℕ → Bool) (s : S) (limit : ℕ) (result : Result Served Fault) (old new : Option (List ℕ)) (input : List ℕ) : Type 0 where
   pub ending : result ≡ ends quits limit input
-  pub wrote : Appends old new (replies text next quits s (heard limit input))
+  pub wrote : Wrote R s (through quits (heard limit input)) old new

@@ -1,6 +1,7 @@
 pub mod Lines
-pub mod Answers
 pub mod Devices
+pub mod Answers
+pub mod Determined
 pub mod Nexts
 pub mod Endings
 pub mod Wrapped

@@ -1,12 +1,12 @@
 //! Lines that are read, and their answers.
 
-ghost use Rattle.std.specs.Prelude.{◌≡◌, ◌≢◌, ℕ, true, false, Bool, [], List, take, IfOk, IfErr, IfSome, OnOk, OnErr, Err};
-ghost use Rattle.std.specs.Io.KnownBytes.{Appends, IsAtEnd};
+ghost use Rattle.std.specs.Prelude.{◌≡◌, ◌≢◌, ℕ, ◌+◌, ◌<◌, ◌≤◌, true, false, Bool, [], List, take, IfOk, IfErr, IfSome, OnOk, OnErr, Err};
+ghost use Rattle.std.specs.Io.KnownBytes.{IsAtEnd};
 ghost use Rattle.ir_stream.specs.Lines.{cut, lines_of, last_line};
 ghost use Rattle.ir_stream.specs.Nexts.{IsNext, broken_after};
 ghost use Rattle.ir_stream.specs.Endings.{flow_after, served_after, IfEnded, LeadsTo};
-ghost use Rattle.ir_stream.specs.Answers.{answers, replies, through, some_quits};
-ghost use Rattle.ir_stream.specs.Devices.{AppendsFront, Reads};
+ghost use Rattle.ir_stream.specs.Answers.{Replying, Wrote, WroteFront, Replied, RepliedFront, through, some_quits};
+ghost use Rattle.ir_stream.specs.Devices.{Reads};
 
 use crate::device::{DeviceErr, Sink, Source};
 use crate::line::{KEPT, keep};
@@ -21,28 +21,27 @@ pub enum Flow {
 
 /// What answers lines. A line comes without its line feed, and with the carriage return that may stand before it.
 pub trait Responder {
-    /// The answer to a line.
-    ghost text: { Self → List ℕ → List ℕ };
-
-    /// What it is after the line.
-    ghost next: { Self → List ℕ → Self };
+    /// What it may answer to a line, and what it is after that answer.
+    ghost replies: { Self → List ℕ → List ℕ → Self → Type 0 };
 
     /// Whether no line after this one is answered.
     ghost quits: { List ℕ → Bool };
 
+    /// How many more lines it can answer, at least.
+    ghost room: { Self → ℕ };
+
     /// Answers a line.
     fn respond<W: Sink>(&mut self, line: &[u8], writer: &mut W) -> Result<Flow, DeviceErr>
-        ensures ok { OnOk result (Appends (W.written writer.old) (W.written writer.new) (text self.old line.now)) }
-        ensures next { OnOk result (self.new ≡ next self.old line.now) }
+        requires { 0 < room self.old }
+        ensures ok { OnOk result (Replied replies self.old line.now self.new (W.written writer.old) (W.written writer.new)) }
         ensures flow { IfOk result (λ f. f ≡ flow_after (quits line.now)) }
+        ensures room { OnOk result (room self.old ≤ room self.new + 1) }
         ensures stays { OnOk result (W.broken writer.new ≡ W.broken writer.old) }
-        ensures front { OnErr result (AppendsFront (W.written writer.old) (W.written writer.new) (text self.old line.now)) }
+        ensures front { OnErr result (RepliedFront replies self.old line.now (W.written writer.old) (W.written writer.new)) }
         ensures err { OnErr result (W.broken writer.new ≡ true) };
 
     /// Of a line, no more than 1,025 bytes matter.
-    ghost long_text: { (s : Self) (line : List ℕ) → text s (take 1025 line) ≡ text s line };
-
-    ghost long_next: { (s : Self) (line : List ℕ) → next s (take 1025 line) ≡ next s line };
+    ghost long_replies: { (s : Self) (line text : List ℕ) (next : Self) → replies s (take 1025 line) text next → replies s line text next };
 
     ghost long_quits: { (line : List ℕ) → quits (take 1025 line) ≡ quits line };
 }
@@ -92,11 +91,12 @@ fn finish<W: Sink, M: Responder>(
     writer: &mut W,
     machine: &mut M,
 ) -> Result<Served, Fault>
-    ensures ok { OnOk result (Appends (W.written writer.old) (W.written writer.new) (replies M.text M.next M.quits machine.old (last_line line.now))) }
+    requires { 0 < M.room machine.old }
+    ensures ok { OnOk result (Wrote M.replies machine.old (last_line line.now) (W.written writer.old) (W.written writer.new)) }
     ensures served { IfOk result (λ e. e ≡ served_after (some_quits M.quits (last_line line.now))) }
     ensures stays { OnOk result (W.broken writer.new ≡ W.broken writer.old) }
     ensures fault { IfErr result (λ f. f ≡ Fault.Write) }
-    ensures front { OnErr result (AppendsFront (W.written writer.old) (W.written writer.new) (replies M.text M.next M.quits machine.old (last_line line.now))) }
+    ensures front { OnErr result (WroteFront M.replies machine.old (last_line line.now) (W.written writer.old) (W.written writer.new)) }
     ensures err { OnErr result (W.broken writer.new ≡ true) }
 {
     if line.is_empty() {
@@ -120,23 +120,25 @@ pub fn serve<R: Source, W: Sink, M: Responder>(
 ) -> Result<Served, Fault>
     requires reads { R.broken reader.old ≡ false }
     requires writes { W.broken writer.old ≡ false }
-    // Where no device fails, the bytes that were read lead to the result, and neither device has failed.
+    requires room { limit ≤ M.room machine.old }
+    // Where no device fails, the bytes that were read lead to the result, with states of the machine between the lines
+    // that count, and neither device has failed.
     ensures ended { IfEnded result (Reads limit (R.left reader.old) (R.left reader.new)
-        (LeadsTo M.text M.next M.quits machine.old limit result (W.written writer.old) (W.written writer.new))) }
+        (LeadsTo M.replies M.quits machine.old limit result (W.written writer.old) (W.written writer.new))) }
     ensures works { IfEnded result ((R.broken reader.new ≡ false) × (W.broken writer.new ≡ false)) }
     // Where the reader tells its bytes, all of them together lead to it.
     ensures known { IfEnded result (IfSome (R.left reader.old)
-        (LeadsTo M.text M.next M.quits machine.old limit result (W.written writer.old) (W.written writer.new))) }
+        (LeadsTo M.replies M.quits machine.old limit result (W.written writer.old) (W.written writer.new))) }
     // After a failed read, the answers to the lines that were read whole, none of which quits.
     ensures read { result ≡ Err Fault.Read → (R.broken reader.new ≡ true) × (W.broken writer.new ≡ false)
         × Reads limit (R.left reader.old) (R.left reader.new) (λ consumed. (some_quits M.quits (cut consumed).whole ≡ false)
-        × Appends (W.written writer.old) (W.written writer.new) (answers M.text M.next machine.old (cut consumed).whole)) }
+        × Wrote M.replies machine.old (cut consumed).whole (W.written writer.old) (W.written writer.new)) }
     // After a failed write, a front of the answers to the lines that were read, of which none but the last may quit. It
     // is unfinished only at the end of the input.
     ensures write { result ≡ Err Fault.Write → (R.broken reader.new ≡ false) × (W.broken writer.new ≡ true)
         × Reads limit (R.left reader.old) (R.left reader.new) (λ consumed. (through M.quits (lines_of consumed) ≡ lines_of consumed)
         × ((cut consumed).rest ≢ [] → IsAtEnd (R.left reader.new))
-        × AppendsFront (W.written writer.old) (W.written writer.new) (answers M.text M.next machine.old (lines_of consumed))) }
+        × WroteFront M.replies machine.old (lines_of consumed) (W.written writer.old) (W.written writer.new)) }
 {
     let mut line = ArrayVec::<u8, KEPT>::new();
     for taken in 0..limit {

@@ -1,4 +1,4 @@
-ghost use Rattle.std.specs.Prelude.{◌≡◌, ◌==◌, ℕ, List, [], ◌∷◌, Some, false, refl, IfOk, ◌≤◌, slice_index_or};
+ghost use Rattle.std.specs.Prelude.{◌≡◌, ◌==◌, ℕ, List, [], ◌∷◌, Some, false, refl, IfOk, ◌≤◌, ◌^◌, slice_index_or};
 
 use super::*;
 use std::io::{Error, ErrorKind, Read, Write};
@@ -69,11 +69,11 @@ impl Sink for Slip {
 struct First;
 
 impl Responder for First {
-    ghost text = { λ _ line. slice_index_or line 0 45 ∷ 10 ∷ [] };
-
-    ghost next = { λ s _. s };
+    ghost replies = { λ s line text next. (text ≡ slice_index_or line 0 45 ∷ 10 ∷ []) × (next ≡ s) };
 
     ghost quits = { λ line. slice_index_or line 0 45 == 113 };
+
+    ghost room = { λ _. 2 ^ 64 };
 
     fn respond<W: Sink>(&mut self, line: &[u8], writer: &mut W) -> Result<Flow, DeviceErr> {
         let first = match line {
@@ -87,9 +87,7 @@ impl Responder for First {
         Ok(Flow::Goes)
     }
 
-    ghost long_text = { λ _. elim [ [] ↦ refl | (b ∷ line) ↦ refl ] };
-
-    ghost long_next = { λ _ _. refl };
+    ghost long_replies = { λ _. elim [ [] ↦ (λ _ _ is. is) | (b ∷ line) ↦ (λ _ _ is. is) ] };
 
     ghost long_quits = { elim [ [] ↦ refl | (b ∷ line) ↦ refl ] };
 }

@@ -1,4 +1,4 @@
-use Rattle.std.proofs.Common.{◌≡◌, ◌+◌, ◌-◌, ◌≤◌, ℕ, true, false, sym, ap, ◌∙◌, arith}
+use Rattle.std.proofs.Common.{◌≡◌, ◌+◌, ◌-◌, true, false, sym, ap, ◌∙◌, arith}
 use Rattle.ir_thread.specs.Calls.{ask_of}
 use Rattle.ir_debug.specs.Fitting.{is_own}
 use Rattle.ir_debug.proofs.Runs.{owned, run-on, run-start, one-more, at-rest, own_suits}

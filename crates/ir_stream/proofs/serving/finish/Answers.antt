@@ -1,14 +1,11 @@
-use Rattle.std.proofs.Common.{◌≡◌, ℕ, Bool, true, false, eqb, length, List, [], refl, sym, ap, subst, ◌∙◌}
+use Rattle.std.proofs.Common.{◌≡◌, ℕ, Bool, true, false, eqb, length, List, [], refl, sym, ap, ◌∙◌}
 use Rattle.std.proofs.lemmas.Bool.{eqb-true, eqb-false}
 use Rattle.std.proofs.lemmas.List.{nil_from_length}
-use Rattle.std.specs.Io.KnownBytes.{Appends}
-use Rattle.std.proofs.KnownBytes.{Appends-nil}
 use Rattle.ir_stream.specs.declared.serving.Flow.{Flow}
 use Rattle.ir_stream.specs.declared.serving.Flow.TheVariants.{Goes, Quits}
 use Rattle.ir_stream.specs.declared.serving.Served.TheVariants.{Quit, InputEnd}
-use Rattle.ir_stream.specs.Devices.{AppendsFront}
 use Rattle.ir_stream.specs.Endings.{flow_after, served_after}
-use Rattle.ir_stream.proofs.Replies.{replies_empty, replies_some, some_quits_empty, some_quits_some}
+use Rattle.ir_stream.proofs.Replies.{wrote_none, wrote_some, front_some, some_quits_empty, some_quits_some}
 use Rattle.ir_stream.proofs.serving.finish.Goals as goal
 
 some : (line : List ℕ) (b : Bool) → b ≡ eqb (length line) 0 → b ≡ false → line ≡ [] → ⊥
@@ -26,28 +23,24 @@ quit f true e is = refl
 quit f false e is = absurd cc
 
 pub returns-then-is_empty-clause-ok : goal.returns-then-is_empty-clause-ok
-returns-then-is_empty-clause-ok g c = subst (Appends (g.W.Sink.written c.args.writer.now) (g.W.Sink.written c.args.writer.now))
-    (sym (replies_empty g.M.Responder.text g.M.Responder.next g.M.Responder.quits c.args.machine.now c.args.line.now (none c.args.line.now c.is_empty.result c.is_empty.ensures c.if-is_empty.true))) (Appends-nil (g.W.Sink.written c.args.writer.now))
+returns-then-is_empty-clause-ok g c = wrote_none g.M.Responder.replies c.args.machine.now c.args.line.now (g.W.Sink.written c.args.writer.now) (none c.args.line.now c.is_empty.result c.is_empty.ensures c.if-is_empty.true)
 
 pub returns-then-is_empty-clause-served : goal.returns-then-is_empty-clause-served
 returns-then-is_empty-clause-served g c = ap served_after (sym (some_quits_empty g.M.Responder.quits c.args.line.now (none c.args.line.now c.is_empty.result c.is_empty.ensures c.if-is_empty.true)))
 
 pub returns-in-Ok-Goes-clause-ok : goal.returns-in-Ok-Goes-clause-ok
-returns-in-Ok-Goes-clause-ok g c = subst (Appends (g.W.Sink.written c.args.writer.now) (g.W.Sink.written c.respond.new.writer))
-    (sym (replies_some g.M.Responder.text g.M.Responder.next g.M.Responder.quits c.args.machine.now c.args.line.now (some c.args.line.now c.is_empty.result c.is_empty.ensures c.if-is_empty.false))) c.in-Ok-Goes.ensures.ok
+returns-in-Ok-Goes-clause-ok g c = wrote_some g.M.Responder.replies c.args.machine.now c.respond.new.self c.args.line.now (g.W.Sink.written c.args.writer.now) (g.W.Sink.written c.respond.new.writer) (some c.args.line.now c.is_empty.result c.is_empty.ensures c.if-is_empty.false) c.in-Ok-Goes.ensures.ok
 
 pub returns-in-Ok-Goes-clause-served : goal.returns-in-Ok-Goes-clause-served
 returns-in-Ok-Goes-clause-served g c = goes c.in-Ok-Goes.field-0 (g.M.Responder.quits c.args.line.now) c.in-Ok-Goes.ensures.flow c.in-Ok-Goes.field-0-is
     ∙ ap served_after (sym (some_quits_some g.M.Responder.quits c.args.line.now (some c.args.line.now c.is_empty.result c.is_empty.ensures c.if-is_empty.false)))
 
 pub returns-in-Ok-Quits-clause-ok : goal.returns-in-Ok-Quits-clause-ok
-returns-in-Ok-Quits-clause-ok g c = subst (Appends (g.W.Sink.written c.args.writer.now) (g.W.Sink.written c.respond.new.writer))
-    (sym (replies_some g.M.Responder.text g.M.Responder.next g.M.Responder.quits c.args.machine.now c.args.line.now (some c.args.line.now c.is_empty.result c.is_empty.ensures c.if-is_empty.false))) c.in-Ok-Quits.ensures.ok
+returns-in-Ok-Quits-clause-ok g c = wrote_some g.M.Responder.replies c.args.machine.now c.respond.new.self c.args.line.now (g.W.Sink.written c.args.writer.now) (g.W.Sink.written c.respond.new.writer) (some c.args.line.now c.is_empty.result c.is_empty.ensures c.if-is_empty.false) c.in-Ok-Quits.ensures.ok
 
 pub returns-in-Ok-Quits-clause-served : goal.returns-in-Ok-Quits-clause-served
 returns-in-Ok-Quits-clause-served g c = quit c.in-Ok-Quits.field-0 (g.M.Responder.quits c.args.line.now) c.in-Ok-Quits.ensures.flow c.in-Ok-Quits.field-0-is
     ∙ ap served_after (sym (some_quits_some g.M.Responder.quits c.args.line.now (some c.args.line.now c.is_empty.result c.is_empty.ensures c.if-is_empty.false)))
 
 pub returns-in-Err-clause-front : goal.returns-in-Err-clause-front
-returns-in-Err-clause-front g c = subst (AppendsFront (g.W.Sink.written c.args.writer.now) (g.W.Sink.written c.respond.new.writer))
-    (sym (replies_some g.M.Responder.text g.M.Responder.next g.M.Responder.quits c.args.machine.now c.args.line.now (some c.args.line.now c.is_empty.result c.is_empty.ensures c.if-is_empty.false))) c.in-Err.ensures.front
+returns-in-Err-clause-front g c = front_some g.M.Responder.replies c.args.machine.now c.args.line.now (g.W.Sink.written c.args.writer.now) (g.W.Sink.written c.respond.new.writer) (some c.args.line.now c.is_empty.result c.is_empty.ensures c.if-is_empty.false) c.in-Err.ensures.front

@@ -1,0 +1,215 @@
+use super::*;
+use std::test::*;
+
+const STEP: Command = Command::Move(Move::Step {
+    thread: 0,
+    count: 3,
+});
+
+fn bytes_shown(thread: u32, address: u32, bytes: u128) -> Result<Option<Command>, Refusal> {
+    Ok(ByteCount::new(bytes).map(|size| {
+        Command::Show(Show::Memory {
+            thread,
+            address,
+            size,
+        })
+    }))
+}
+
+#[test]
+fn each_command_has_its_form(rt: HostRuntime) {
+    let most = u32::MAX;
+    let cases: [(&[u8], Command); 16] = [
+        (b"step 0 3", STEP),
+        (
+            b"step 0 4294967295",
+            Command::Move(Move::Step {
+                thread: 0,
+                count: most,
+            }),
+        ),
+        (
+            b"back 7 99",
+            Command::Move(Move::Back {
+                thread: 7,
+                count: 99,
+            }),
+        ),
+        (
+            b"goto 1 18446744073709551615",
+            Command::Move(Move::Goto {
+                thread: 1,
+                position: u64::MAX,
+            }),
+        ),
+        (
+            b"goto 1 0xFFFFFFFFFFFFFFFF",
+            Command::Move(Move::Goto {
+                thread: 1,
+                position: u64::MAX,
+            }),
+        ),
+        (b"start", Command::Move(Move::Start)),
+        (b"end", Command::Move(Move::End)),
+        (b"pos", Command::Position),
+        (
+            b"regs 4294967295",
+            Command::Show(Show::Registers { thread: most }),
+        ),
+        (
+            b"obj 0xabCD",
+            Command::Show(Show::Object { object: 0xabcd }),
+        ),
+        (
+            b"out 00000000000000000001",
+            Command::Show(Show::Output { thread: 1 }),
+        ),
+        (
+            b"log 0x0000000000000002",
+            Command::Show(Show::Log { thread: 2 }),
+        ),
+        (b"next 0", Command::Show(Show::Next { thread: 0 })),
+        (b"quit", Command::Quit),
+        (b" \tstep\t0  3 ", STEP),
+        (b"step 0 3\r", STEP),
+    ];
+    for (line, want) in cases {
+        assert_eq!(rt; parse_line(line), Ok(Some(want)));
+    }
+    assert_eq!(rt; parse_line(b"mem 0 0x10000 4"), bytes_shown(0, 0x10000, 4));
+    assert_eq!(rt;
+        parse_line(b"mem 0 4294967295 256"),
+        bytes_shown(0, most, 256)
+    );
+    assert_eq!(rt; parse_line(b"mem 9 0 1"), bytes_shown(9, 0, 1));
+}
+
+#[test]
+fn too_few_and_too_many_words_are_bad_arguments(rt: HostRuntime) {
+    let cases: [&[u8]; 24] = [
+        b"step",
+        b"step 0",
+        b"step 0 1 2",
+        b"back 0",
+        b"back 0 1 2",
+        b"goto 0",
+        b"goto 0 1 2",
+        b"start 0",
+        b"end 0",
+        b"pos 0",
+        b"regs",
+        b"regs 0 1",
+        b"mem 0 0",
+        b"mem 0 0 1 2",
+        b"obj",
+        b"obj 0 1",
+        b"out",
+        b"out 0 1",
+        b"log",
+        b"log 0 1",
+        b"next",
+        b"next 0 1",
+        b"quit 1",
+        b"quit quit",
+    ];
+    for line in cases {
+        assert_eq!(rt; parse_line(line), Err(Refusal::BadArgument));
+    }
+}
+
+#[test]
+fn numbers_have_their_forms_and_limits(rt: HostRuntime) {
+    let cases: [&[u8]; 21] = [
+        b"step 0 4294967296",
+        b"step 4294967296 0",
+        b"back 0 0x100000000",
+        b"regs 4294967296",
+        b"obj 4294967296",
+        b"goto 0 18446744073709551616",
+        b"goto 0 99999999999999999999",
+        b"goto 0 000000000000000000001",
+        b"goto 0 0x00000000000000001",
+        b"goto 0 0x",
+        b"goto 0 1x0",
+        b"goto 0 0X10",
+        b"goto 0 x10",
+        b"goto 0 0xg",
+        b"goto 0 -1",
+        b"goto 0 +1",
+        b"goto 0 1.",
+        b"mem 9 0 0",
+        b"mem 0 0 257",
+        b"mem 0 4294967296 1",
+        b"step 0 a",
+    ];
+    for line in cases {
+        assert_eq!(rt; parse_line(line), Err(Refusal::BadArgument));
+    }
+}
+
+#[test]
+fn other_names_are_unknown(rt: HostRuntime) {
+    let cases: [&[u8]; 15] = [
+        b"jump",
+        b"STEP 0 1",
+        b"steps 0 1",
+        b"ste 0 1",
+        b"step,0,1",
+        b"help",
+        b"break 0 0x10000",
+        b"watch 0 0x100000",
+        b"owatch 0",
+        b"clear 1",
+        b"cont 0",
+        b"rcont 0",
+        b"keep",
+        b"kept 1 2",
+        b"\rstep 0 1",
+    ];
+    for line in cases {
+        assert_eq!(rt; parse_line(line), Err(Refusal::UnknownCommand));
+    }
+}
+
+#[test]
+fn a_line_has_at_most_1024_bytes(rt: HostRuntime) {
+    let blanks = [b' '; 1025];
+    assert_eq!(rt; parse_line(b""), Ok(None));
+    assert_eq!(rt; parse_line(b" \t\r"), Ok(None));
+    assert_eq!(rt; parse_line(&blanks[..1024]), Ok(None));
+    assert_eq!(rt; parse_line(&blanks), Err(Refusal::LineTooLong));
+    let mut line = [b' '; 1025];
+    line[1023] = b'\r';
+    assert_eq!(rt; parse_line(&line[..1024]), Ok(None));
+    line[1024] = b'\r';
+    assert_eq!(rt; parse_line(&line), Err(Refusal::LineTooLong));
+    line[0] = b'x';
+    assert_eq!(rt; parse_line(&line), Err(Refusal::LineTooLong));
+}
+
+#[test]
+fn a_carriage_return_is_dropped_at_the_end_alone(rt: HostRuntime) {
+    assert_eq!(rt; parse_line(b"quit\r"), Ok(Some(Command::Quit)));
+    assert_eq!(rt; parse_line(b"quit\r\r"), Err(Refusal::UnknownCommand));
+    assert_eq!(rt; parse_line(b"step 0 3\r "), Err(Refusal::BadArgument));
+    assert_eq!(rt; parse_line(b"\r"), Ok(None));
+}
+
+#[test]
+fn refusals_have_their_numbers(rt: HostRuntime) {
+    let refusals = [
+        Refusal::UnknownCommand,
+        Refusal::BadArgument,
+        Refusal::NoSuchThread,
+        Refusal::NoSuchObject,
+        Refusal::NoSuchNumber,
+        Refusal::BadAddress,
+        Refusal::LineTooLong,
+        Refusal::NoMemory,
+        Refusal::Full,
+    ];
+    for (refusal, number) in refusals.iter().zip(1u8..) {
+        assert_eq!(rt; refusal.number(), number);
+    }
+    assert_eq!(rt; ByteCount::new(256).map(|count| count.get()), Some(256));
+}

@@ -1,0 +1,61 @@
+-- The small machine as one that answers lines.
+use Rattle.std.proofs.Common.{◌≡◌, ◌<◌, ℕ, List, length, take, sym, ap, subst, ◌∙◌, arith, inl, inr, true, Option, Some, None, Result, Ok, Err, refl}
+use Rattle.std.specs.Prelude.{nat_lt}
+use Rattle.std.proofs.lemmas.Bool.{cases_lt, lt-ltb}
+use Rattle.std.proofs.lemmas.List.{take_all, length-take}
+use Rattle.ir_runs.specs.Run.{Step}
+use Rattle.ir_cut.specs.Positions.{EachRun}
+use Rattle.ir_stream.specs.Answers.{Replying}
+use Rattle.ir_command.specs.Limits.{most_line}
+use Rattle.ir_command.specs.Commands.{command_of}
+use Rattle.ir_command.specs.declared.command.Command.{Command}
+use Rattle.ir_command.specs.declared.command.Command.TheVariants.{Move, Position, Show, Quit}
+use Rattle.ir_command.specs.declared.refusal.Refusal.{Refusal}
+use Rattle.ir_command.specs.declared.refusal.Refusal.TheVariants.{LineTooLong}
+use Rattle.ir_debug.specs.Machine.Desk.{Desk}
+use Rattle.ir_debug.specs.Machine.Refusals.{refusal_of}
+use Rattle.ir_debug.specs.Machine.Answers.{Gives, CarriesOut, AnswersBy, Answers, RepliesBy, Replies}
+
+pub small_machine : Replying Desk
+small_machine = Replies
+
+-- ---- of a line, no more than 1,025 bytes matter
+
+too_long : (line : List ℕ) → most_line < length line → command_of line ≡ Err LineTooLong
+unfolding command_of
+too_long line h = let e : nat_lt most_line (length line) ≡ true = lt-ltb most_line (length line) h in rw e refl
+
+long_at : (k : ℕ) (line : List ℕ) → most_line < k → command_of (take k line) ≡ command_of line
+long_at k line h =
+    elim (cases_lt k (length line)) [
+      | inl lt ↦ too_long (take k line) (omega (arith, length-take k line)) ∙ sym (too_long line (omega arith))
+      | inr le ↦ ap (λ l. command_of l) (take_all k line le)
+    ]
+
+pub long_replies : (d : Desk) (line text : List ℕ) (next : Desk) → Replies d (take 1025 line) text next → Replies d line text next
+unfolding Replies
+long_replies d line text next is =
+    let P : Result (Option Command) Refusal → Type 0 = λ a. EachRun d.fitted (λ run. RepliesBy a run d text next) in
+    subst P (long_at 1025 line (omega arith)) is
+
+-- ---- what each answer keeps: the guest and its trace
+
+keeps : (d after next : Desk) (answer text : List ℕ) → after.fitted ≡ d.fitted → Gives answer after text next → next.fitted ≡ d.fitted
+keeps d after next answer text same is = ap (λ (x : Desk). x.fitted) is.1 ∙ same
+
+carried : (run : List Step) (d : Desk) (c : Command) (text : List ℕ) (next : Desk) → CarriesOut run d c text next → next.fitted ≡ d.fitted
+carried run d (Move move) text next (to, leads, is) = keeps d _ next _ text refl is
+carried run d Position text next is = keeps d _ next _ text refl is
+carried run d (Show show) text next is = keeps d _ next _ text refl is
+carried run d Quit text next is = keeps d _ next _ text refl is
+
+answered : (r : Option Refusal) (run : List Step) (d : Desk) (c : Command) (text : List ℕ) (next : Desk) → AnswersBy r run d c text next → next.fitted ≡ d.fitted
+answered (Some r) run d c text next is = keeps d _ next _ text refl is
+answered None run d c text next (inl is) = carried run d c text next is
+answered None run d c text next (inr (may, is)) = keeps d _ next _ text refl is
+
+pub replies_keep : (asked : Result (Option Command) Refusal) (run : List Step) (d : Desk) (text : List ℕ) (next : Desk) → RepliesBy asked run d text next → next.fitted ≡ d.fitted
+unfolding Answers
+replies_keep (Ok (Some c)) run d text next is = answered (refusal_of d c) run d c text next is
+replies_keep (Ok None) run d text next is = keeps d _ next _ text refl is
+replies_keep (Err r) run d text next is = keeps d _ next _ text refl is

@@ -1,0 +1,80 @@
+-- What is refused, whatever the run: the first reason in the order of the tests.
+use Rattle.std.specs.Prelude.{◌&&◌, ◌||◌, ℕ, ◌+◌, ◌*◌, not, nat_le, nat_lt, Bool, true, false, length, Option, Some, None, if◌then◌else◌}
+use Rattle.ir_image.specs.Guest.{Guest, code_start, object_count}
+use Rattle.ir_mach.specs.Memory.{lies_in_memory}
+use Rattle.ir_command.specs.declared.command.Command.{Command}
+use Rattle.ir_command.specs.declared.command.Command.TheVariants as command
+use Rattle.ir_command.specs.declared.command.Move.{Move}
+use Rattle.ir_command.specs.declared.command.Move.TheVariants.{Step, Back, Goto, Start, End}
+use Rattle.ir_command.specs.declared.command.Show.{Show}
+use Rattle.ir_command.specs.declared.command.Show.TheVariants.{Registers, Memory, Object, Output, Log, Next}
+use Rattle.ir_command.specs.declared.refusal.Refusal.{Refusal}
+use Rattle.ir_command.specs.declared.refusal.Refusal.TheVariants.{NoSuchThread, NoSuchObject, BadAddress}
+use Rattle.ir_debug.specs.Machine.Desk.{Desk, threads_of}
+
+-- a test of what is named, if anything is
+abbrev pub if_some : Option ℕ → (ℕ → Bool) → Bool
+if_some None test = true
+if_some (Some x) test = test x
+
+-- ---- what a command names
+
+-- the thread that a move names
+abbrev pub thread_moved : Move → Option ℕ
+thread_moved (Step thread count) = Some thread
+thread_moved (Back thread count) = Some thread
+thread_moved (Goto thread position) = Some thread
+thread_moved Start = None
+thread_moved End = None
+
+-- the thread of which something is shown
+abbrev pub thread_shown : Show → Option ℕ
+thread_shown (Registers thread) = Some thread
+thread_shown (Memory thread address size) = Some thread
+thread_shown (Object object) = None
+thread_shown (Output thread) = Some thread
+thread_shown (Log thread) = Some thread
+thread_shown (Next thread) = Some thread
+
+abbrev pub thread_named : Command → Option ℕ
+thread_named (command.Move move) = thread_moved move
+thread_named (command.Show show) = thread_shown show
+thread_named command.Position = None
+thread_named command.Quit = None
+
+abbrev pub object_named : Command → Option ℕ
+object_named (command.Show (Object object)) = Some object
+object_named c = None
+
+-- ---- the tests
+
+-- so many bytes from an address on lie in the code
+abbrev pub lies_in_code : Guest → ℕ → ℕ → Bool
+lies_in_code g width address = nat_le code_start address && nat_le (address + width) (code_start + 4 * length g.code)
+
+-- bytes are shown of the code or of private memory
+abbrev pub has_address : Guest → Command → Bool
+has_address g (command.Show (Memory thread address size)) = lies_in_code g size address || lies_in_memory size address
+has_address g c = true
+
+-- why a command is refused, if it is
+unfoldable pub refusal_of : Desk → Command → Option Refusal
+refusal_of d c =
+    if not (if_some (thread_named c) (λ t. nat_lt t (threads_of d.fitted))) then Some NoSuchThread else
+    if not (if_some (object_named c) (λ o. nat_lt o (object_count d.fitted.guest))) then Some NoSuchObject else
+    if not (has_address d.fitted.guest c) then Some BadAddress else
+    None
+
+-- ---- out of memory
+
+-- whether it is a show of what is at hand after a move; the text of an instruction takes memory
+abbrev pub is_at_hand : Show → Bool
+is_at_hand (Next thread) = false
+is_at_hand show = true
+
+-- whether a command that isn't refused otherwise may be refused for lack of memory
+abbrev pub may_lack : Desk → Command → Bool
+may_lack d (command.Move move) = true
+may_lack d (command.Show show) = not (d.fresh && is_at_hand show)
+may_lack d command.Position = false
+may_lack d command.Quit = false

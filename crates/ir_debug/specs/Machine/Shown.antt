@@ -1,0 +1,40 @@
+-- What is shown of the guest at the cut.
+use Rattle.std.specs.Prelude.{ℕ, zero, suc, ◌+◌, List, [], ◌∷◌, length, take, Option, Some, None}
+use Rattle.ir_mach.specs.Memory.{byte_at}
+use Rattle.ir_runs.specs.Marks.{Mark}
+use Rattle.ir_thread.specs.State as thread
+use Rattle.ir_runs.specs.Run as run
+use Rattle.ir_runs.specs.Cuts.{object_at}
+use Rattle.ir_cut.specs.Positions.{machine_of, start_of, cut_of}
+use Rattle.ir_command.specs.declared.command.Show.{Show}
+use Rattle.ir_command.specs.declared.command.Show.TheVariants.{Registers, Memory, Object, Output, Log, Next}
+use Rattle.ir_debug.specs.Answers.{machine_text}
+use Rattle.ir_debug.specs.Machine.Desk.{Desk, threads_of, position_of, thread_at}
+use Rattle.ir_debug.specs.Machine.Texts.{memory_text, output_text, object_text, log_text, next_text}
+
+-- thread t at its position
+abbrev pub current : List run.Step → Desk → ℕ → thread.State
+current steps d t = thread_at d.fitted steps t (position_of d t)
+
+-- what thread t logged so far: of its first steps, as many as its position says
+abbrev pub logged_so_far : List run.Step → Desk → ℕ → List Mark
+logged_so_far steps d t = run.events (take (position_of d t) (run.trail (machine_of d.fitted) (start_of d.fitted) steps t))
+
+-- a byte that is looked at
+abbrev pub byte_or_zero : Option ℕ → ℕ
+byte_or_zero (Some b) = b
+byte_or_zero None = 0
+
+-- so many bytes from an address on, of code or private memory
+unfoldable pub bytes_from : List ℕ → List ℕ → ℕ → ℕ → List ℕ
+bytes_from code memory zero address = []
+bytes_from code memory (suc n) address = byte_or_zero (byte_at code memory address) ∷ bytes_from code memory n (address + 1)
+
+-- the answer to a show that isn't refused
+unfoldable pub shown : List run.Step → Desk → Show → List ℕ
+shown steps d (Registers t) = machine_text (current steps d t).core
+shown steps d (Memory t address size) = memory_text address (bytes_from d.fitted.guest.code (current steps d t).core.memory size address)
+shown steps d (Object o) = object_text (threads_of d.fitted) (object_at (machine_of d.fitted) (start_of d.fitted) steps (cut_of d.at) o)
+shown steps d (Output t) = output_text (current steps d t).output
+shown steps d (Log t) = log_text (logged_so_far steps d t) (length (run.log (machine_of d.fitted) (start_of d.fitted) steps t))
+shown steps d (Next t) = next_text d.fitted.guest.code (current steps d t)
