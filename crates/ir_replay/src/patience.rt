@@ -14,13 +14,14 @@ const FIRST_LOOKS: u64 = 500;
 const STEPS_FOR_A_LOOK: u64 = 8;
 
 // How often it looks for one step before it sleeps between looks: by then it has waited longer than a sleep takes, so
-// that sleeping at most doubles its wait.
-const LOOKS_AWAKE: u64 = 200;
+// that sleeping at most doubles its wait. Fewer looks cost more than they save: with 40, replay took five times as long.
+const LOOKS_AWAKE: u64 = 400;
 
-const SLEEP_MICROS: u64 = 50;
+// What it asks for; the system adds some 50 to each sleep.
+const SLEEP_MICROS: u64 = 10;
 
-// How often it looks for one step once another worker has ended its round: what it waits for may then not come. Some two
-// milliseconds, where a worker that ends has waited for more than ten times as long.
+// How often it looks for one step once another worker has ended its round: what it waits for may then not come. Some one
+// millisecond longer than without sleeping, where a worker that ends has slept for five times as long.
 const LAST_LOOKS: u64 = LOOKS_AWAKE + 20;
 
 /// How often a worker may still look for steps that aren't admitted.
