@@ -96,6 +96,18 @@ fn distances_at_the_limit(rt: HostRuntime) -> Result<(), Fail> {
     Ok(())
 }
 
+// 60,004 bytes on, and back again.
+#[test]
+fn a_jump_goes_far(rt: HostRuntime) -> Result<(), Fail> {
+    let first = "start: jal zero, far\n";
+    let source = repeated(rt.alloc(), first, 15_000, "nop\n", "far: jal ra, start")?;
+    let image = assemble(rt.alloc(), &source)?;
+    assert_eq!(rt; image.code().words().len(), 15_002);
+    assert_eq!(rt; image.code().words().first(), Some(&0x2650_e06f));
+    assert_eq!(rt; image.code().words().last(), Some(&0xd9cf_10ef));
+    Ok(())
+}
+
 #[test]
 fn sizes_at_the_limit(rt: HostRuntime) -> Result<(), Fail> {
     let full = repeated(rt.alloc(), "", 16_384, "nop\n", "")?;
