@@ -1,4 +1,4 @@
--- Numbers as the program's words write them.
+-- Numbers as command-line arguments write them.
 use Rattle.std.specs.Prelude.{ℕ, ◌&&◌, nat_le, List, length, Option, Some, None, if◌then◌else◌}
 use Rattle.std.specs.Str.{all_ascii_digits}
 use Rattle.std.specs.Str.Parse.{digits_value}

@@ -1,4 +1,4 @@
-//! The files that the words name.
+//! The files that the arguments name.
 
 ghost use Rattle.std.specs.Prelude.{◌≡◌, ◌≤◌, [], length, false, true, IfOk, IfSome, Ok, None};
 ghost use Rattle.ir_cli.specs.declared.files.FileErr.TheVariants.{NoMem};

@@ -1,6 +1,9 @@
 //! `ir`: a record and replay debugger for guests of RV32IM threads.
 #![tactic(auto)]
 
+mod arguments;
+#[cfg(test)]
+mod arguments_tests;
 #[cfg(test)]
 mod asm_tests;
 mod assembling;
@@ -29,12 +32,10 @@ mod telling;
 mod tests;
 mod time;
 mod whole_file;
-mod words;
-#[cfg(test)]
-mod words_tests;
 #[cfg(test)]
 mod world_tests;
 
+use arguments::{Asked, RecordArguments, read_arguments};
 use assembling::asm_run;
 use bundle::bundle;
 use files::{MOST_BYTES, MOST_INPUT, NewFile, read_file};
@@ -49,13 +50,12 @@ use std::sync::Wait;
 use std::thread::Threads;
 use std::time::Clock;
 use whole_file::WholeFile;
-use words::{Asked, RecordWords, read_words};
 
 const DONE: u8 = 0;
 
 const FAULT: u8 = 1;
 
-const BAD_WORDS: u8 = 2;
+const BAD_ARGUMENTS: u8 = 2;
 
 // Says why the program stops, in one line on standard error. Nobody is left to tell where that fails.
 fn complain(rt: &impl Eprint, why: &str) {
@@ -99,7 +99,7 @@ fn is_lost(rt: &HostRuntime, role: &str, read: &str, written_role: &str, written
 // Assembles a file into another.
 fn assemble_file(rt: &HostRuntime, source: &str, image: &str) -> u8 {
     if is_lost(rt, "SOURCE", source, "IMAGE", image) {
-        return BAD_WORDS;
+        return BAD_ARGUMENTS;
     }
     let Some(bytes) = bytes_of(rt, source, MOST_BYTES) else {
         return FAULT;
@@ -116,17 +116,17 @@ fn assemble_file(rt: &HostRuntime, source: &str, image: &str) -> u8 {
 }
 
 // The bytes that guests read, none without a file.
-fn input_of(rt: &HostRuntime, words: &RecordWords) -> Option<Vec<u8>> {
-    match &words.input {
+fn input_of(rt: &HostRuntime, arguments: &RecordArguments) -> Option<Vec<u8>> {
+    match &arguments.input {
         Some(path) => bytes_of(rt, path.as_str(), MOST_INPUT),
         None => Some(Vec::new(rt.alloc())),
     }
 }
 
 // Whether one of the files that a recording reads would be lost by writing to a path.
-fn loses_input(rt: &HostRuntime, words: &RecordWords, role: &str, written: &str) -> bool {
-    is_lost(rt, "IMAGE", words.image.as_str(), role, written)
-        || match &words.input {
+fn loses_input(rt: &HostRuntime, arguments: &RecordArguments, role: &str, written: &str) -> bool {
+    is_lost(rt, "IMAGE", arguments.image.as_str(), role, written)
+        || match &arguments.input {
             Some(file) => is_lost(rt, "FILE", file.as_str(), role, written),
             None => false,
         }
@@ -136,22 +136,22 @@ fn loses_input(rt: &HostRuntime, words: &RecordWords, role: &str, written: &str)
 fn record_file<R: Threads + Wait + Sync + Clock + Eprint>(
     rt: &HostRuntime,
     threads: &R,
-    words: &RecordWords,
+    arguments: &RecordArguments,
 ) -> u8 {
-    let Ok(beside) = format!(in rt.alloc(); "{}.part", words.trace) else {
+    let Ok(beside) = format!(in rt.alloc(); "{}.part", arguments.trace) else {
         complain(rt, "memory ran out");
         return FAULT;
     };
-    let mut trace = WholeFile::new(rt, words.trace.as_str(), beside.as_str());
-    if loses_input(rt, words, "TRACE", words.trace.as_str())
-        || loses_input(rt, words, "TRACE.part", trace.first_place())
+    let mut trace = WholeFile::new(rt, arguments.trace.as_str(), beside.as_str());
+    if loses_input(rt, arguments, "TRACE", arguments.trace.as_str())
+        || loses_input(rt, arguments, "TRACE.part", trace.first_place())
     {
-        return BAD_WORDS;
+        return BAD_ARGUMENTS;
     }
-    let Some(image) = bytes_of(rt, words.image.as_str(), MOST_BYTES) else {
+    let Some(image) = bytes_of(rt, arguments.image.as_str(), MOST_BYTES) else {
         return FAULT;
     };
-    let Some(input) = input_of(rt, words) else {
+    let Some(input) = input_of(rt, arguments) else {
         return FAULT;
     };
     let mut out = FromStd::new(io::writer(rt));
@@ -162,9 +162,9 @@ fn record_file<R: Threads + Wait + Sync + Clock + Eprint>(
         rt.alloc(),
         &progress,
         image.as_slice(),
-        words.order.as_ref().map(|list| list.as_str()),
-        words.budget,
-        words.random,
+        arguments.order.as_ref().map(|list| list.as_str()),
+        arguments.budget,
+        arguments.random,
         input.as_slice(),
         &mut trace,
         &mut out,
@@ -172,12 +172,12 @@ fn record_file<R: Threads + Wait + Sync + Clock + Eprint>(
     )
 }
 
-// Does what the words ask for; the exit status. A recording's threads are those of the second handle.
+// Does what the arguments ask for; the exit status. A recording's threads are those of the second handle.
 fn run<R: Threads + Wait + Sync + Clock + Eprint>(rt: &HostRuntime, threads: &R) -> u8 {
-    match read_words(rt) {
+    match read_arguments(rt) {
         Asked::Session => serve(rt),
         Asked::Assembling(source, image) => assemble_file(rt, source.as_str(), image.as_str()),
-        Asked::Recording(words) => record_file(rt, threads, &words),
+        Asked::Recording(arguments) => record_file(rt, threads, &arguments),
         Asked::Help(text) => match rt.print(text) {
             Ok(()) => DONE,
             Err(_) => {
@@ -187,7 +187,7 @@ fn run<R: Threads + Wait + Sync + Clock + Eprint>(rt: &HostRuntime, threads: &R)
         },
         Asked::Nothing(why) => {
             complain(rt, why.as_str());
-            BAD_WORDS
+            BAD_ARGUMENTS
         }
         Asked::NoMem => {
             complain(rt, "memory ran out");

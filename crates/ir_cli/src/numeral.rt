@@ -1,4 +1,4 @@
-//! Numbers as the program's words write them.
+//! Numbers as command-line arguments write them.
 
 ghost use Rattle.std.specs.Prelude.{◌≡◌, ◌≤◌, IfSome};
 ghost use Rattle.ir_cli.specs.Numerals.{number_within};

@@ -1,4 +1,4 @@
-//! The words that the program is started with.
+//! The command-line arguments.
 
 ghost use Rattle.std.specs.Prelude.{◌≤◌};
 
@@ -19,7 +19,7 @@ A session of a source of your own, with xxd for the hexadecimal:
   ir asm guest.s guest.img
   ir record guest.img guest.trc
   { for file in guest.img guest.trc; do xxd -p $file | tr -d '\\n'; echo; done; echo step 0 9; echo regs 0; } | ir
-Exit status: 0 done, 1 a fault, 2 bad words, 3 a refused image or trace, 4 a trace that doesn't fit.
+Exit status: 0 done, 1 a fault, 2 bad arguments, 3 a refused image or trace, 4 a trace that doesn't fit.
 ";
 
 const ASM: &str = "asm";
@@ -74,7 +74,7 @@ A fault is told on standard error as `line L error C`, C being
    4 an unknown register                     10 too much code or data, or no code
    5 a malformed number or one out of range  11 too many threads, or no such object
    6 a label defined twice                   12 a malformed label
-Exit status: 0 assembled, 1 a file that can't be read or written, 2 bad words, 3 a fault of the source.
+Exit status: 0 assembled, 1 a file that can't be read or written, 2 bad arguments, 3 a fault of the source.
 ";
 
 const RECORD: &str = "record";
@@ -95,7 +95,7 @@ const RECORD_ABOUT: &str = "Records a guest, and prints a line for each thread";
 
 const RECORD_AFTER: &str =
     "Without LIST each thread of the guest runs on a thread of its own, and TRACE is of the run that came about. Recordings
-of one guest, with the same words, may differ in who enters an object first, in what CLOCK answers, and in what follows
+of one guest, with the same arguments, may differ in who enters an object first, in what CLOCK answers, and in what follows
 from these; else not. A thread that waits for an object takes no step, and the budget doesn't end it; it goes on once
 those inside have left or ended, which the budget sees to. At a terminal standard error shows the steps so far, once a
 second. Ctrl-C stops a recording, and TRACE stays as it was.
@@ -112,17 +112,17 @@ A line is `thread T end E code C steps S events N`; the ends E are
    3 no instruction        8 an unknown call         13 the budget is spent
    4 a misaligned jump     9 no such object          14 too many events
    5 outside the code     10 an entry out of order
-Exit status: 0 recorded, 1 a file that can't be read or written or is too long, 2 bad words, 3 a refused image or LIST.
+Exit status: 0 recorded, 1 a file that can't be read or written or is too long, 2 bad arguments, 3 a refused image or LIST.
 ";
 
 /// What is recorded, how, and where to.
 #[derive(Drop)]
-pub struct RecordWords {
+pub struct RecordArguments {
     /// The file of the image.
     pub image: String,
     /// The file that the trace is written to.
     pub trace: String,
-    /// The list that spells the order, if it is given.
+    /// The list that writes the order out, if it is given.
     pub order: Option<String>,
     /// The most steps of each thread.
     pub budget: u64,
@@ -133,7 +133,7 @@ pub struct RecordWords {
     ghost within: { budget ≤ 1000000000000 },
 }
 
-/// What the words ask for.
+/// What the arguments ask for.
 #[derive(Drop)]
 pub enum Asked {
     /// A session over standard input and output.
@@ -141,7 +141,7 @@ pub enum Asked {
     /// The image of the source in the first file, into the second file.
     Assembling(String, String),
     /// A recording.
-    Recording(RecordWords),
+    Recording(RecordArguments),
     /// This text, about the program.
     Help(String),
     /// Nothing that there is, for this reason.
@@ -284,7 +284,7 @@ fn recording(alloc: Global, matches: &ArgMatches<'_>) -> Result<Asked, AllocErro
     let Some(start) = number_within(0, u64::MAX, random) else {
         return Ok(Asked::Nothing(no_number(alloc, RANDOM, random, u64::MAX)?));
     };
-    Ok(Asked::Recording(RecordWords {
+    Ok(Asked::Recording(RecordArguments {
         image: text_of(alloc, matches, IMAGE)?,
         trace: text_of(alloc, matches, TRACE)?,
         order: given_text(alloc, matches, ORDER)?,
@@ -302,30 +302,30 @@ fn by_subcommand(alloc: Global, matches: &ArgMatches<'_>) -> Result<Asked, Alloc
     }
 }
 
-/// What the words ask for, of which the first is the program's name.
-pub fn parsed(alloc: Global, words: &[String]) -> Asked {
+/// What the arguments ask for, of which the first is the program's name.
+pub fn parsed(alloc: Global, arguments: &[String]) -> Asked {
     let Ok(command) = command(alloc) else {
         return Asked::NoMem;
     };
-    match command.try_get_matches_from(words) {
+    match command.try_get_matches_from(arguments) {
         Ok(matches) => by_subcommand(alloc, &matches).unwrap_or(Asked::NoMem),
         Err(error) => asked_for(alloc, &error).unwrap_or(Asked::NoMem),
     }
 }
 
 fn collected<R: env::Env + AllocGlobal>(rt: &R) -> io::Result<Vec<String>> {
-    let mut words = Vec::new(rt.alloc());
-    for word in env::args(rt)? {
-        words.push(word)?;
+    let mut arguments = Vec::new(rt.alloc());
+    for argument in env::args(rt)? {
+        arguments.push(argument)?;
     }
-    Ok(words)
+    Ok(arguments)
 }
 
-/// Reads the words.
-pub fn read_words(rt: &HostRuntime) -> Asked {
+/// Reads the arguments.
+pub fn read_arguments(rt: &HostRuntime) -> Asked {
     match collected(rt) {
-        Ok(words) => parsed(rt.alloc(), words.as_slice()),
-        Err(_) => match String::from_str(rt.alloc(), "a word is no text") {
+        Ok(arguments) => parsed(rt.alloc(), arguments.as_slice()),
+        Err(_) => match String::from_str(rt.alloc(), "an argument is no text") {
             Ok(why) => Asked::Nothing(why),
             Err(_) => Asked::NoMem,
         },

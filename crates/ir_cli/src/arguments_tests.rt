@@ -1,17 +1,17 @@
-//! What wrong words are told, and that the help of `ir asm` names what there is.
+//! What wrong arguments are told, and that the help of `ir asm` names what there is.
 
+use crate::arguments::{ASM_AFTER, Asked, parsed};
 use crate::assembling::asm_run;
 use crate::tests::{ENDLESS, empty_page};
-use crate::words::{ASM_AFTER, Asked, parsed};
 use ir_thread::Call;
 use std::test::Fail;
 
 fn asked(rt: &HostRuntime, line: &str) -> Result<Asked, Fail> {
-    let mut words = Vec::new(rt.alloc());
-    for word in line.split(' ') {
-        words.push(String::from_str(rt.alloc(), word)?)?;
+    let mut arguments = Vec::new(rt.alloc());
+    for argument in line.split(' ') {
+        arguments.push(String::from_str(rt.alloc(), argument)?)?;
     }
-    Ok(parsed(rt.alloc(), words.as_slice()))
+    Ok(parsed(rt.alloc(), arguments.as_slice()))
 }
 
 const WRONG: [(&str, &str); 7] = [
@@ -43,7 +43,7 @@ const WRONG: [(&str, &str); 7] = [
 ];
 
 #[test]
-fn wrong_words_are_named(rt: HostRuntime) -> Result<(), Fail> {
+fn wrong_arguments_are_named(rt: HostRuntime) -> Result<(), Fail> {
     for (line, told) in WRONG {
         match asked(&rt, line)? {
             Asked::Nothing(why) => assert_eq!(rt; why.as_str(), told),
@@ -56,8 +56,11 @@ fn wrong_words_are_named(rt: HostRuntime) -> Result<(), Fail> {
 #[test]
 fn a_list_may_begin_with_a_hyphen(rt: HostRuntime) -> Result<(), Fail> {
     match asked(&rt, "ir record a.img a.trc --order -1")? {
-        Asked::Recording(words) => {
-            assert_eq!(rt; words.order.as_ref().map(|list| list.as_str()), Some("-1"))
+        Asked::Recording(arguments) => {
+            assert_eq!(rt;
+                arguments.order.as_ref().map(|list| list.as_str()),
+                Some("-1")
+            )
         }
         _ => assert!(rt; false),
     }
