@@ -80,11 +80,11 @@ address_fits s label a fits e =
 -- an object's words take the place of as many
 pub object_length : (g : Guest) (object : ℕ) (words : List ℕ) → length words ≤ object_words → object_words * object + object_words ≤ length g.words → length (with_object g object words).words ≡ length g.words
 object_length g object words few there =
-    let front : List ℕ = take (object_words * object) g.words in
+    let prefix : List ℕ = take (object_words * object) g.words in
     let back : List ℕ = drop (object_words * object + object_words) g.words in
     omega (
       arith,
-      length-append front (eight_words words ++ back),
+      length-append prefix (eight_words words ++ back),
       length-append (eight_words words) back,
       length-append words (replicate (object_words - length words) 0),
       length-replicate {A = ℕ} (object_words - length words) 0,
@@ -167,25 +167,25 @@ all_here P [] i d l h = absurd (omega (arith, l))
 all_here P (y ∷ ys) zero d l h = h.0
 all_here P (y ∷ ys) (suc i) d l h = all_here P ys i d (omega (arith, l)) h.1
 
-front : {X : Type 0} (xs : List X) (i : ℕ) (d : X) → i < length xs → drop i xs ≡ get_or xs i d ∷ drop (i + 1) xs
-front [] i d l = absurd (omega (arith, l))
-front (y ∷ ys) zero d l = refl
-front (y ∷ ys) (suc i) d l =
+prefix : {X : Type 0} (xs : List X) (i : ℕ) (d : X) → i < length xs → drop i xs ≡ get_or xs i d ∷ drop (i + 1) xs
+prefix [] i d l = absurd (omega (arith, l))
+prefix (y ∷ ys) zero d l = refl
+prefix (y ∷ ys) (suc i) d l =
     let n : suc i + 1 ≡ suc (i + 1) = omega arith in
-    rw n (front ys i d (omega (arith, l)))
+    rw n (prefix ys i d (omega (arith, l)))
 
 -- one step, and those that follow
 pub put_next : (s : Seen) (xs : List Placed) (i : ℕ) (x : Placed) (g h : Guest) (whole : Result Guest Fault) → i < length xs → x ≡ get_or xs i x → put s x.address x.item g ≡ Ok h →
     second_pass s (drop i xs) g ≡ whole → second_pass s (drop (i + 1) xs) h ≡ whole
 put_next s xs i x g h whole l there e told =
-    let cut : drop i xs ≡ x ∷ drop (i + 1) xs = front xs i x l ∙ ap (λ (y : Placed). y ∷ drop (i + 1) xs) (sym there) in
+    let cut : drop i xs ≡ x ∷ drop (i + 1) xs = prefix xs i x l ∙ ap (λ (y : Placed). y ∷ drop (i + 1) xs) (sym there) in
     sym (ap (λ (l : List Placed). second_pass s l g) cut ∙ rw e refl) ∙ told
 
 -- a step that is refused
 pub put_refused : {X : Type 0} (view : X → Guest) (s : Seen) (xs : List Placed) (i : ℕ) (x : Placed) (g state : Guest) (refusal : Refusal) (error : AsmErr) (whole : Result Guest Fault) → i < length xs → x ≡ get_or xs i x → error ≡ refused x.line refusal →
     Makes {A = Unit {0}} state (Err refusal) (put s x.address x.item g) → second_pass s (drop i xs) g ≡ whole → Answers view (Err error) whole
 put_refused view s xs i x g state refusal error whole l there is e told =
-    let cut : drop i xs ≡ x ∷ drop (i + 1) xs = front xs i x l ∙ ap (λ (y : Placed). y ∷ drop (i + 1) xs) (sym there) in
+    let cut : drop i xs ≡ x ∷ drop (i + 1) xs = prefix xs i x l ∙ ap (λ (y : Placed). y ∷ drop (i + 1) xs) (sym there) in
     let again : second_pass s (x ∷ drop (i + 1) xs) g ≡ whole = sym (ap (λ (l : List Placed). second_pass s l g) cut) ∙ told in
     subst (λ r. Answers view (Err r) whole) (sym is) (by_refusal refusal (put s x.address x.item g) e again)
   where

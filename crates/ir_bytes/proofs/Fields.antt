@@ -11,7 +11,7 @@ use Rattle.ir_bytes.specs.Reading.{Reader, Field, judged, number_at, field_at, b
 use Rattle.ir_bytes.proofs.Numbers.{IsBytes, drop_fits, take_fits, number_parts, one_byte}
 use Rattle.ir_bytes.proofs.Steps.{two_ok, three_ok, guard_ok, judged_ok, ok_is, refused_by}
 
--- what a reader took from the front
+-- what a reader took from the prefix
 pub record Takes (bytes text rest : List ℕ) : Type 0 where
   pub parts : bytes ≡ text ++ rest
   pub rest_fits : IsBytes rest
@@ -111,7 +111,7 @@ bytes_take {E} short n bytes x fits e =
 
 -- the bytes that were taken, and those that weren't
 pub record AreParts (n : ℕ) (bytes : List ℕ) (x : List ℕ × List ℕ) : Type 0 where
-  pub front : x.0 ≡ take n bytes
+  pub prefix : x.0 ≡ take n bytes
   pub back : x.1 ≡ drop n bytes
   pub long : n ≤ length bytes
 
@@ -121,7 +121,7 @@ unfolding bytes_at
 bytes_parts {E} short n bytes x e =
     let g = guard_ok (ltb (length bytes) n) short (Ok (take n bytes, drop n bytes)) x e in
     subst (λ (y : List ℕ × List ℕ). AreParts n bytes y) (ok_is E (take n bytes, drop n bytes) x g.1)
-    (record { front = refl; back = refl; long = ltb-false (length bytes) n g.0 })
+    (record { prefix = refl; back = refl; long = ltb-false (length bytes) n g.0 })
 
 -- fewer bytes than that
 pub bytes_short : {E : Type 0} (short e : E) (n : ℕ) (bytes : List ℕ) → bytes_at short n bytes ≡ Err e → (length bytes < n) × (short ≡ e)
@@ -138,43 +138,43 @@ bytes_again short own rest =
 
 -- ---- so many of one kind
 
-pub record TakesFields {X : Type 0} (P : X → Type 0) (spell : X → List ℕ) (n : ℕ) (bytes : List ℕ) (x : List X × List ℕ) : Type 0 where
-  pub takes : Takes bytes (flat_map spell x.0) x.1
+pub record TakesFields {X : Type 0} (P : X → Type 0) (encode : X → List ℕ) (n : ℕ) (bytes : List ℕ) (x : List X × List ℕ) : Type 0 where
+  pub takes : Takes bytes (flat_map encode x.0) x.1
   pub count : length x.0 ≡ n
   pub fit : AllByRecursion P x.0
 
-one_more : {X : Type 0} (P : X → Type 0) (spell : X → List ℕ) (n : ℕ) (bytes : List ℕ) (first : X × List ℕ) (others : List X × List ℕ)
-    → Takes bytes (spell first.0) first.1 × P first.0 → TakesFields P spell n first.1 others
-    → TakesFields P spell (suc n) bytes (first.0 ∷ others.0, others.1)
-one_more P spell n bytes first others a b =
+one_more : {X : Type 0} (P : X → Type 0) (encode : X → List ℕ) (n : ℕ) (bytes : List ℕ) (first : X × List ℕ) (others : List X × List ℕ)
+    → Takes bytes (encode first.0) first.1 × P first.0 → TakesFields P encode n first.1 others
+    → TakesFields P encode (suc n) bytes (first.0 ∷ others.0, others.1)
+one_more P encode n bytes first others a b =
     record {
-      takes = rw flat_map-cons (Takes-then bytes (spell first.0) first.1 (flat_map spell others.0) others.1 a.0 b.takes);
+      takes = rw flat_map-cons (Takes-then bytes (encode first.0) first.1 (flat_map encode others.0) others.1 a.0 b.takes);
       count =
           ap suc b.count;
       fit = (a.1, b.fit);
     }
 
-pub fields_take : {X E : Type 0} (P : X → Type 0) (spell : X → List ℕ) (read : Reader X E)
-    → ((bytes : List ℕ) (n : X × List ℕ) → IsBytes bytes → read bytes ≡ Ok n → Takes bytes (spell n.0) n.1 × P n.0)
-    → (n : ℕ) (bytes : List ℕ) (x : List X × List ℕ) → IsBytes bytes → fields_at read n bytes ≡ Ok x → TakesFields P spell n bytes x
+pub fields_take : {X E : Type 0} (P : X → Type 0) (encode : X → List ℕ) (read : Reader X E)
+    → ((bytes : List ℕ) (n : X × List ℕ) → IsBytes bytes → read bytes ≡ Ok n → Takes bytes (encode n.0) n.1 × P n.0)
+    → (n : ℕ) (bytes : List ℕ) (x : List X × List ℕ) → IsBytes bytes → fields_at read n bytes ≡ Ok x → TakesFields P encode n bytes x
 unfolding fields_at
-fields_take {X} {E} P spell read takes zero bytes x fits e =
-    subst (λ (y : List X × List ℕ). TakesFields P spell 0 bytes y) (ok_is E ([], bytes) x e)
+fields_take {X} {E} P encode read takes zero bytes x fits e =
+    subst (λ (y : List X × List ℕ). TakesFields P encode 0 bytes y) (ok_is E ([], bytes) x e)
     (record { takes = record { parts = refl; rest_fits = fits }; count = refl; fit = tt })
-fields_take {X} {E} P spell read takes (suc n) bytes x fits e =
+fields_take {X} {E} P encode read takes (suc n) bytes x fits e =
     three_ok (read bytes) (λ first. fields_at read n first.1) (λ first others. Ok (first.0 ∷ others.0, others.1)) x e
     (λ first others e0 e1 e2.
     let a = takes bytes first fits e0 in
-    subst (λ (y : List X × List ℕ). TakesFields P spell (suc n) bytes y) (ok_is E (first.0 ∷ others.0, others.1) x e2)
-    (one_more P spell n bytes first others a (fields_take P spell read takes n first.1 others a.0.rest_fits e1)))
+    subst (λ (y : List X × List ℕ). TakesFields P encode (suc n) bytes y) (ok_is E (first.0 ∷ others.0, others.1) x e2)
+    (one_more P encode n bytes first others a (fields_take P encode read takes n first.1 others a.0.rest_fits e1)))
 
-pub fields_again : {X E : Type 0} (P : X → Type 0) (spell : X → List ℕ) (read : Reader X E)
-    → ((n : X) (rest : List ℕ) → P n → read (spell n ++ rest) ≡ Ok (n, rest))
-    → (ns : List X) (rest : List ℕ) → AllByRecursion P ns → fields_at read (length ns) (flat_map spell ns ++ rest) ≡ Ok (ns, rest)
+pub fields_again : {X E : Type 0} (P : X → Type 0) (encode : X → List ℕ) (read : Reader X E)
+    → ((n : X) (rest : List ℕ) → P n → read (encode n ++ rest) ≡ Ok (n, rest))
+    → (ns : List X) (rest : List ℕ) → AllByRecursion P ns → fields_at read (length ns) (flat_map encode ns ++ rest) ≡ Ok (ns, rest)
 unfolding fields_at
-fields_again P spell read again [] rest fits = refl
-fields_again P spell read again (n ∷ ns) rest fits =
-    let regrouped : flat_map spell (n ∷ ns) ++ rest ≡ spell n ++ (flat_map spell ns ++ rest) = ap (λ (x : List ℕ). x ++ rest)
-    (flat_map-cons spell n ns) ∙ append_assoc (spell n) (flat_map spell ns) rest in
+fields_again P encode read again [] rest fits = refl
+fields_again P encode read again (n ∷ ns) rest fits =
+    let regrouped : flat_map encode (n ∷ ns) ++ rest ≡ encode n ++ (flat_map encode ns ++ rest) = ap (λ (x : List ℕ). x ++ rest)
+    (flat_map-cons encode n ns) ∙ append_assoc (encode n) (flat_map encode ns) rest in
     ap (fields_at read (suc (length ns))) regrouped ∙ rw
-    (again n (flat_map spell ns ++ rest) fits.0, fields_again P spell read again ns rest fits.1) refl
+    (again n (flat_map encode ns ++ rest) fits.0, fields_again P encode read again ns rest fits.1) refl

@@ -55,8 +55,8 @@ low_bytes_fit : (i n x : ℕ) → IsBytes (bytes_low_first i n x)
 low_bytes_fit i zero x = tt
 low_bytes_fit i (suc n) x = (byte_fits i x, low_bytes_fit (suc i) n x)
 
-front_is : (n : ℕ) (xs : List ℕ) → IsBytes xs → n ≤ length xs → take n xs ≡ little_bytes n (little_number n xs)
-front_is n xs h long =
+prefix_is : (n : ℕ) (xs : List ℕ) → IsBytes xs → n ≤ length xs → take n xs ≡ little_bytes n (little_number n xs)
+prefix_is n xs h long =
     let v = little_number n xs in
     let fits : v < 256 ^ n = little_from-lt 0 n xs (each_fits xs h) in
     let own : little_number n (take n xs) ≡ v = little_from-take 0 n n xs (omega arith) in
@@ -65,19 +65,19 @@ front_is n xs h long =
     same_bytes n (take n xs) (little_bytes n v) (take_fits n xs h) (low_bytes_fit 0 n v) (length-take-le n xs long)
     (length-bytes_low_first 0 n v) (own ∙ sym back)
 
--- bytes whose front spells a number
-pub record IsSpelled (n : ℕ) (xs : List ℕ) : Type 0 where
+-- bytes whose prefix encodes a number
+pub record IsEncoded (n : ℕ) (xs : List ℕ) : Type 0 where
   pub parts : xs ≡ little_bytes n (little_number n xs) ++ drop n xs
   pub fits : little_number n xs < 256 ^ n
 
-pub number_parts : (n : ℕ) (xs : List ℕ) → IsBytes xs → n ≤ length xs → IsSpelled n xs
+pub number_parts : (n : ℕ) (xs : List ℕ) → IsBytes xs → n ≤ length xs → IsEncoded n xs
 number_parts n xs h long = record {
-  parts = sym (take-append-drop n xs) ∙ ap (λ (t : List ℕ). t ++ drop n xs) (front_is n xs h long);
+  parts = sym (take-append-drop n xs) ∙ ap (λ (t : List ℕ). t ++ drop n xs) (prefix_is n xs h long);
   fits = little_from-lt 0 n xs (each_fits xs h);
 }
 
 pub number_whole : (xs : List ℕ) → IsBytes xs → xs ≡ little_bytes (length xs) (little_number (length xs) xs)
-number_whole xs h = sym (take-length xs) ∙ front_is (length xs) xs h (omega arith)
+number_whole xs h = sym (take-length xs) ∙ prefix_is (length xs) xs h (omega arith)
 
 -- a number below 256 is its one byte
 pub one_byte : (n : ℕ) → n < 256 → little_bytes 1 n ≡ n ∷ []

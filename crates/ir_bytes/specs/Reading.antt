@@ -7,7 +7,7 @@ abbrev pub Reads : {X Y E : Type 0} → (X → Y) → Result X E → Result Y E 
 Reads view (Ok x) read = read ≡ Ok (view x)
 Reads view (Err e) read = read ≡ Err e
 
--- what takes something from the front: it gives that and the bytes after it, or a fault
+-- what takes something from the prefix: it gives that and the bytes after it, or a fault
 abbrev pub Reader : Type 0 → Type 0 → Type 0
 Reader X E = List ℕ → Result (X × List ℕ) E
 

@@ -1,4 +1,4 @@
-//! Fields at the front of bytes, over any type of errors. Each call gives what the field holds, and the bytes after it.
+//! Fields at the prefix of bytes, over any type of errors. Each call gives what the field holds, and the bytes after it.
 
 ghost use Rattle.std.specs.Prelude.{◌≡◌, ◌≤◌, ◌+◌, length, IfOk};
 ghost use Rattle.ir_bytes.specs.Reading.{Reads, number_at, bytes_at, field_at, fixed, within};

@@ -2,20 +2,20 @@
 use Rattle.std.proofs.Common.{◌≡◌, ℕ, List, ◌++◌, Option, Result, Ok, Err, OnErr, IfErr, sym, ap, subst, ◌∙◌, append_assoc}
 use Rattle.std.specs.Io.KnownBytes.{Appends}
 use Rattle.std.proofs.KnownBytes.{Appends-trans}
-use Rattle.ir_stream.specs.Devices.{AppendsFront}
+use Rattle.ir_stream.specs.Devices.{AppendsPrefix}
 
--- a front of a text is one of a longer text
-pub front_longer : (a b : Option (List ℕ)) (text more : List ℕ) → AppendsFront a b text → AppendsFront a b (text ++ more)
-front_longer a b text more f = record {
+-- a prefix of a text is one of a longer text
+pub prefix_longer : (a b : Option (List ℕ)) (text more : List ℕ) → AppendsPrefix a b text → AppendsPrefix a b (text ++ more)
+prefix_longer a b text more f = record {
   part = f.part;
   more = f.more ++ more;
   splits = ap (λ (t : List ℕ). t ++ more) f.splits ∙ append_assoc f.part f.more more;
   grown = f.grown;
 }
 
--- a front of a text after all of another
-pub front_further : (a b c : Option (List ℕ)) (done text : List ℕ) → Appends a b done → AppendsFront b c text → AppendsFront a c (done ++ text)
-front_further a b c done text begun f = record {
+-- a prefix of a text after all of another
+pub prefix_further : (a b c : Option (List ℕ)) (done text : List ℕ) → Appends a b done → AppendsPrefix b c text → AppendsPrefix a c (done ++ text)
+prefix_further a b c done text begun f = record {
   part = done ++ f.part;
   more = f.more;
   splits = ap (λ (t : List ℕ). done ++ t) f.splits ∙ sym (append_assoc done f.part f.more);
@@ -23,9 +23,9 @@ front_further a b c done text begun f = record {
 }
 
 -- the same, where a write may have failed
-pub then_front : {A E : Type 0} (r : Result A E) (a b c : Option (List ℕ)) (done text : List ℕ) → Appends a b done → OnErr r (AppendsFront b c text) → OnErr r (AppendsFront a c (done ++ text))
-then_front (Ok x) a b c done text begun f = tt
-then_front (Err e) a b c done text begun f = front_further a b c done text begun f
+pub then_prefix : {A E : Type 0} (r : Result A E) (a b c : Option (List ℕ)) (done text : List ℕ) → Appends a b done → OnErr r (AppendsPrefix b c text) → OnErr r (AppendsPrefix a c (done ++ text))
+then_prefix (Ok x) a b c done text begun f = tt
+then_prefix (Err e) a b c done text begun f = prefix_further a b c done text begun f
 
 -- ---- what holds at an error
 

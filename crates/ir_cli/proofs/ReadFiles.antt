@@ -4,7 +4,7 @@ use Rattle.std.specs.Option.{option_map}
 use Rattle.std.specs.declared.io.traits.Take.{Take}
 use Rattle.std.specs.Io.Take.{take_limit, take_inner, take_remaining}
 
--- a front that is shorter than the limit is all
+-- a prefix that is shorter than the limit is all
 short_is_all : (n : ℕ) (xs : List ℕ) → length (take n xs) < n → take n xs ≡ xs
 short_is_all zero [] h = refl
 short_is_all (suc n) [] h = refl

@@ -1,7 +1,7 @@
 -- What assembling a file gives: the bytes of its image, or the line that tells its first fault.
 use Rattle.std.specs.Prelude.{◌≡◌, ◌⊎◌, ℕ, nat_lt, List, [], ◌∷◌, ◌++◌, codes, map, decimal, Result, Ok, Err, if◌then◌else◌}
 use Rattle.ir_image.specs.Guest.{Guest}
-use Rattle.ir_image.specs.Spelling.{spelling}
+use Rattle.ir_image.specs.Encoding.{encoding}
 use Rattle.ir_asm.specs.Causes.{number_of}
 use Rattle.ir_asm.specs.Source.{Fault}
 use Rattle.ir_asm.specs.Passes.{assembled}
@@ -13,7 +13,7 @@ masked b = if nat_lt 126 b then 1 else b
 
 -- the bytes of a guest, or the fault
 abbrev pub spelled : Result Guest Fault → Result (List ℕ) Fault
-spelled (Ok g) = Ok (spelling g)
+spelled (Ok g) = Ok (encoding g)
 spelled (Err fault) = Err fault
 
 -- the bytes of the image of a source, or its first fault

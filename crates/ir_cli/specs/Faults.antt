@@ -5,7 +5,7 @@ use Rattle.ir_image.specs.Reading.{guest_at}
 use Rattle.ir_image.specs.declared.image_err.ImageErr.{ImageErr}
 use Rattle.ir_image.specs.declared.image_err.ImageErr.TheVariants as image
 use Rattle.ir_trace.specs.Recorded.{Recorded}
-use Rattle.ir_trace.specs.Spelling.{spelling}
+use Rattle.ir_trace.specs.Encoding.{encoding}
 use Rattle.ir_record.specs.declared.record_err.RecordErr.{RecordErr}
 use Rattle.ir_record.specs.declared.record_err.RecordErr.TheVariants as record_err
 use Rattle.ir_cli.specs.Order.{order_of}
@@ -69,4 +69,4 @@ WriteFails World bytes lines trace out untouched = ⊥
 -- a fault: nothing was written (both writers are as before), or there is a recording and a writer failed (where the
 -- trace's did, the other is as before)
 abbrev pub Stops : RecordFault → List ℕ → Option (List ℕ) → (Recorded → Type 0) → Writer → Writer → Type 0 → Type 0 → Type 0
-Stops e image list IsIt trace out both second = (Refuses e image list × both) ⊎ ((recorded : Recorded) × IsIt recorded × WriteFails e (spelling recorded) (lines_of recorded) trace out second)
+Stops e image list IsIt trace out both second = (Refuses e image list × both) ⊎ ((recorded : Recorded) × IsIt recorded × WriteFails e (encoding recorded) (lines_of recorded) trace out second)

@@ -3,7 +3,7 @@ use Rattle.std.specs.Prelude.{◌≡◌, ◌≢◌, ◌⊎◌, ℕ, true, false,
 use Rattle.std.specs.Io.KnownBytes.{Appends, IsAtEnd}
 use Rattle.ir_stream.specs.Lines.{cut, lines_of}
 use Rattle.ir_stream.specs.Answers.{some_quits, through}
-use Rattle.ir_stream.specs.Devices.{AppendsFront, Reads}
+use Rattle.ir_stream.specs.Devices.{AppendsPrefix, Reads}
 use Rattle.ir_debug.specs.Reference.{is_quit}
 use Rattle.ir_debug.specs.Session.{Session, opening_of, told}
 use Rattle.ir_debug.specs.declared.ended.Ended.{Ended}
@@ -33,11 +33,11 @@ Came result old new image trace commands = Session (opening_of image trace) most
 abbrev pub AnsweredWhole : Option (List ℕ) → Option (List ℕ) → List ℕ → List ℕ → List ℕ → Type 0
 AnsweredWhole old new image trace commands = (some_quits is_quit (cut commands).whole ≡ false) × Appends old new (told (opening_of image trace) (cut commands).whole)
 
--- a front of the opening lines and of the answers to the lines that were read was written; none but the last of them may
+-- a prefix of the opening lines and of the answers to the lines that were read was written; none but the last of them may
 -- quit, and it is unfinished only at the end of the input
 abbrev pub AnsweredInPart : Option (List ℕ) → Option (List ℕ) → Option (List ℕ) → List ℕ → List ℕ → List ℕ → Type 0
 AnsweredInPart left old new image trace commands =
-    (through is_quit (lines_of commands) ≡ lines_of commands) × ((cut commands).rest ≢ [] → IsAtEnd left) × AppendsFront old new (told (opening_of image trace) (lines_of commands))
+    (through is_quit (lines_of commands) ≡ lines_of commands) × ((cut commands).rest ≢ [] → IsAtEnd left) × AppendsPrefix old new (told (opening_of image trace) (lines_of commands))
 
 -- neither the reader nor the writer has failed, and the bytes that were read led to this result and to what was written
 pub record Comes (result : Result Ended SessionErr) (reader : Reader) (writer : Writer) : Type 0 where

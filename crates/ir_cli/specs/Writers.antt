@@ -1,7 +1,7 @@
 -- What a writer took of a text, and the lines that tell faults.
 use Rattle.std.specs.Prelude.{◌≡◌, ℕ, Bool, true, false, List, [], ◌∷◌, ◌++◌, codes, ◌⊎◌, Option}
 use Rattle.std.specs.Io.KnownBytes.{Appends}
-use Rattle.ir_stream.specs.Devices.{AppendsFront}
+use Rattle.ir_stream.specs.Devices.{AppendsPrefix}
 
 -- a writer: what it took before and after, and whether it has failed
 pub record Writer : Type 0 where
@@ -16,9 +16,9 @@ writer_of before after failed = record { before = before; after = after; failed 
 abbrev pub Took : Writer → List ℕ → Type 0
 Took w text = Appends w.before w.after text
 
--- it failed, and took no more than a front of the text
+-- it failed, and took no more than a prefix of the text
 abbrev pub Failed : Writer → List ℕ → Type 0
-Failed w text = AppendsFront w.before w.after text × (w.failed ≡ true)
+Failed w text = AppendsPrefix w.before w.after text × (w.failed ≡ true)
 
 -- it took the text, or failed in it
 abbrev pub Tells : Writer → List ℕ → Type 0

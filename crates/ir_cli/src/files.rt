@@ -60,7 +60,7 @@ pub fn read_file(rt: &HostRuntime, path: &str, most: u32) -> Result<Vec<u8>, Fil
     }
 }
 
-// Writes some bytes from the front, again where a signal interrupts it.
+// Writes some bytes from the prefix, again where a signal interrupts it.
 fn put(file: &mut File, bytes: &[u8]) -> Result<usize, ErrorKind>
     ensures count { IfOk result (λ n. n ≤ length bytes.now) }
     ensures some { result ≡ Ok 0 → bytes.now ≡ [] }

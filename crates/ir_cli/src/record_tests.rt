@@ -397,11 +397,11 @@ fn a_failing_trace_leaves_no_line(rt: HostRuntime) {
             ..with_order("1x18")
         };
         let run = recorded(&rt, image.as_slice(), how);
-        let front = trace_calls as usize * 7;
+        let prefix = trace_calls as usize * 7;
         assert_eq!(rt; run.status, 1);
         assert_eq!(rt;
             run.trace.bytes.as_slice(),
-            count_trace(1, 0).get(..front).unwrap_or(&[])
+            count_trace(1, 0).get(..prefix).unwrap_or(&[])
         );
         assert!(rt; run.out.bytes.is_empty() && !run.out.failed);
         assert_eq!(rt;

@@ -4,7 +4,7 @@ ghost use Rattle.std.specs.Prelude.{◌≡◌, ◌≢◌, ◌<◌, ◌≤◌, �
 ghost use Rattle.std.specs.String.{string_bytes};
 ghost use Rattle.std.specs.Io.KnownBytes.{Appends};
 ghost use Rattle.ir_trace.specs.Recorded.{Recorded};
-ghost use Rattle.ir_trace.specs.Spelling.{spelling};
+ghost use Rattle.ir_trace.specs.Encoding.{encoding};
 ghost use Rattle.ir_record.specs.Worlds.{NoneFailed};
 ghost use Rattle.ir_cli.specs.Recording.{origins, IsRecordedOf, line_by, thread_line, lines_of};
 ghost use Rattle.ir_cli.specs.Sources.{made_with, is_counted};
@@ -193,7 +193,7 @@ fn run<R: Threads + Wait + Sync + Clock, G: Gate + Sync, W: WholeSink, O: Sink>(
     out: &mut O,
 ) -> Result<(), RecordFault>
     requires { budget ≤ 1000000000000 }
-    ensures done { OnOk result ((recorded : Recorded) × IsRecordedOf image.now (option_map (λ s. s.now) order.entry) budget random input.now recorded × Appends (W.written trace.old) (W.written trace.new) (spelling recorded) × Appends (O.written out.old) (O.written out.new) (lines_of recorded)) }
+    ensures done { OnOk result ((recorded : Recorded) × IsRecordedOf image.now (option_map (λ s. s.now) order.entry) budget random input.now recorded × Appends (W.written trace.old) (W.written trace.new) (encoding recorded) × Appends (O.written out.old) (O.written out.new) (lines_of recorded)) }
     ensures whole { OnOk result (W.whole trace.new ≡ true) }
     ensures stopped { IfErr result (λ e. Stops e image.now (option_map (λ s. s.now) order.entry) (IsRecordedOf image.now (option_map (λ s. s.now) order.entry) budget random input.now) (record { before = W.written trace.old; after = W.written trace.new; failed = W.broken trace.new }) (record { before = O.written out.old; after = O.written out.new; failed = O.broken out.new }) ((trace.new ≡ trace.old) × (out.new ≡ out.old)) (out.new ≡ out.old)) }
 {
@@ -263,7 +263,7 @@ pub fn record_run<R: Threads + Wait + Sync + Clock, G: Gate + Sync, W: WholeSink
     requires prints { O.broken out.old ≡ false }
     requires tells { E.broken faults.old ≡ false }
     // The trace of the run by the order, or of some complete run, was written, and its lines, and no fault told.
-    ensures done { result ≡ 0 → (recorded : Recorded) × IsRecordedOf image.now (option_map (λ s. s.now) order.entry) budget random input.now recorded × Appends (W.written trace.old) (W.written trace.new) (spelling recorded) × Appends (O.written out.old) (O.written out.new) (lines_of recorded) }
+    ensures done { result ≡ 0 → (recorded : Recorded) × IsRecordedOf image.now (option_map (λ s. s.now) order.entry) budget random input.now recorded × Appends (W.written trace.old) (W.written trace.new) (encoding recorded) × Appends (O.written out.old) (O.written out.new) (lines_of recorded) }
     ensures whole { result ≡ 0 → W.whole trace.new ≡ true }
     ensures quiet { result ≡ 0 → faults.new ≡ faults.old }
     // Else what stopped it, and what that left.

@@ -2,7 +2,7 @@
 
 ghost use Rattle.std.specs.Prelude.{◌≡◌, true, false, OnOk, OnErr};
 ghost use Rattle.std.specs.Io.KnownBytes.{Appends};
-ghost use Rattle.ir_stream.specs.Devices.{AppendsFront};
+ghost use Rattle.ir_stream.specs.Devices.{AppendsPrefix};
 ghost use Rattle.ir_cli.specs.Writers.{writer_of, Tells, fault_text};
 
 use ir_debug::{DeviceErr, Sink};
@@ -34,7 +34,7 @@ pub fn tell_of<E: Sink>(faults: &mut E, before: &str, name: &str, what: &str, wh
 // Writes the line that tells a fault.
 fn put_line<E: Sink>(faults: &mut E, words: &str) -> Result<(), DeviceErr>
     ensures ok { OnOk result (Appends (E.written faults.old) (E.written faults.new) (fault_text words.now)) }
-    ensures front { OnErr result (AppendsFront (E.written faults.old) (E.written faults.new) (fault_text words.now)) }
+    ensures prefix { OnErr result (AppendsPrefix (E.written faults.old) (E.written faults.new) (fault_text words.now)) }
     ensures err { OnErr result (E.broken faults.new ≡ true) }
 {
     write_all(faults, b"ir: ")?;

@@ -30,8 +30,8 @@ impl Source for Bytes<'_> {
         }
         self.calls_left -= 1;
         let count = self.left.len().min(buffer.len());
-        let (front, rest) = self.left.split_at(count);
-        buffer[..count].copy_from_slice(front);
+        let (prefix, rest) = self.left.split_at(count);
+        buffer[..count].copy_from_slice(prefix);
         self.left = rest;
         Ok(count)
     }

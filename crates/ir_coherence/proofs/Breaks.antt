@@ -4,9 +4,9 @@ use Rattle.std.specs.Prelude.{slice_get}
 use Rattle.std.specs.List.{AllByRecursion}
 use Rattle.std.proofs.lemmas.Option.{same_Some}
 use Rattle.std.proofs.lemmas.List.{length-map}
-use Rattle.ir_runs.specs.Marks.{Mark, In, Trace}
+use Rattle.ir_runs.specs.Labels.{Label, In, Trace}
 use Rattle.ir_runs.specs.declared.access.Access.TheVariants.{Writing}
-use Rattle.ir_log.specs.Logging.{mark_of}
+use Rattle.ir_log.specs.Logging.{label_of}
 use Rattle.ir_log.specs.declared.event.Event.{Event}
 use Rattle.ir_trace.specs.Recorded.{Recorded, RecordedThread, IsRecorded, IsRecordedThread}
 use Rattle.ir_trace.specs.Told.{absent, recorded_thread, trace_of}
@@ -41,7 +41,7 @@ pub thread_fits : (r : Recorded) → IsRecorded r → (i : ℕ) → i < length r
 thread_fits r fits i l = each (IsRecordedThread r.objects) r.threads i absent fits.threads_fit l
 
 is_of : (r : Recorded) → IsOf (length r.threads) (trace_of r)
-is_of r t l = ap (λ (x : RecordedThread). map mark_of x.events) (past r.threads t absent l)
+is_of r t l = ap (λ (x : RecordedThread). map label_of x.events) (past r.threads t absent l)
 
 pub thread_room : (r : Recorded) → IsRecorded r → (i : ℕ) (c : EntryCounts) → i < length r.threads → CountsFirst r i c → HasRoom c (length (recorded_thread r i).events)
 thread_room r fits i c l first = record {
@@ -50,42 +50,42 @@ thread_room r fits i c l first = record {
 }
   where
     of_thread : (u : ℕ) → u < length r.threads → length ((trace_of r).logs u) ≤ 1048576
-    of_thread u less = omega (arith, length-map (recorded_thread r u).events mark_of, (thread_fits r fits u less).few_events)
+    of_thread u less = omega (arith, length-map (recorded_thread r u).events label_of, (thread_fits r fits u less).few_events)
 
-pub thread_counted : (r : Recorded) (i : ℕ) (a b : EntryCounts) → CountsFirst r i a → CountsMore a b (map mark_of (recorded_thread r i).events) → CountsFirst r (i + 1) b
+pub thread_counted : (r : Recorded) (i : ℕ) (a b : EntryCounts) → CountsFirst r i a → CountsMore a b (map label_of (recorded_thread r i).events) → CountsFirst r (i + 1) b
 thread_counted r i a b first more = record {
   objects = more.objects ∙ first.objects;
   reads = λ o v. omega (arith, more.reads o v, first.reads o v, sum_next i (λ u. reads o v ((trace_of r).logs u)));
   writes = λ o v. omega (arith, more.writes o v, first.writes o v, sum_next i (λ u. writes o v ((trace_of r).logs u)));
 }
 
-at_event : (es : List Event) (i : ℕ) (e : Event) → slice_get es i ≡ Some e → At (map mark_of es) i (mark_of e)
+at_event : (es : List Event) (i : ℕ) (e : Event) → slice_get es i ≡ Some e → At (map label_of es) i (label_of e)
 at_event [] i e is = absurd (let bad : None ≡ Some e = is in cc)
-at_event (x ∷ xs) zero e is = ap mark_of (same_Some x e is)
+at_event (x ∷ xs) zero e is = ap label_of (same_Some x e is)
 at_event (x ∷ xs) (suc i) e is = at_event xs i e is
 
-event_at : (es : List Event) (i : ℕ) (m : Mark) → At (map mark_of es) i m → (e : Event) × (slice_get es i ≡ Some e) × (mark_of e ≡ m)
+event_at : (es : List Event) (i : ℕ) (m : Label) → At (map label_of es) i m → (e : Event) × (slice_get es i ≡ Some e) × (label_of e ≡ m)
 event_at [] i m at = absurd at
 event_at (x ∷ xs) zero m at = (x, refl, at)
 event_at (x ∷ xs) (suc i) m at = event_at xs i m at
 
 -- the tables' counts name what the trace's counts name
-as_counted : (n : ℕ) (told : Trace) (c : EntryCounts) → CountsAll n told c → (m : Mark) → cause_by (reads_of c) (writes_of c) m ≡ cause_by (reads_in n told) (writes_in n told) m
+as_counted : (n : ℕ) (told : Trace) (c : EntryCounts) → CountsAll n told c → (m : Label) → cause_by (reads_of c) (writes_of c) m ≡ cause_by (reads_in n told) (writes_in n told) m
 as_counted n told c all m = λ i. cause_by (λ o v. all.reads o v i) (λ o v. all.writes o v i) m
 
 -- what has a cause stands in the trace
-entry_of : (n : ℕ) (told : Trace) (t i : ℕ) (d : Cause) → HasCause n told t i d → (m : Mark) × At (told.logs t) i m
+entry_of : (n : ℕ) (told : Trace) (t i : ℕ) (d : Cause) → HasCause n told t i d → (m : Label) × At (told.logs t) i m
 entry_of n told t i Unmade has = (In has.object has.access (suc has.version) has.left, has.entry)
 entry_of n told t i Twice has = (In has.1.object Writing has.1.version has.1.left, has.1.entry)
 entry_of n told t i Readers has = (In has.2.object Writing has.2.version has.2.left, has.2.entry)
 
-silent : (r : Recorded) (c : EntryCounts) → CountsAll (length r.threads) (trace_of r) c → (t i : ℕ) (m : Mark) → At ((trace_of r).logs t) i m → ((e : Event) → slice_get (recorded_thread r t).events i ≡ Some e → cause_by (reads_of c) (writes_of c) (mark_of e) ≡ None)
+silent : (r : Recorded) (c : EntryCounts) → CountsAll (length r.threads) (trace_of r) c → (t i : ℕ) (m : Label) → At ((trace_of r).logs t) i m → ((e : Event) → slice_get (recorded_thread r t).events i ≡ Some e → cause_by (reads_of c) (writes_of c) (label_of e) ≡ None)
     → cause_by (reads_in (length r.threads) (trace_of r)) (writes_in (length r.threads) (trace_of r)) m ≡ None
 silent r c all t i m at none =
     let e = event_at (recorded_thread r t).events i m at in
     sym (as_counted (length r.threads) (trace_of r) c all m) ∙ ap (cause_by (reads_of c) (writes_of c)) (sym e.2) ∙ none e.0 e.1
 
-unbroken : (r : Recorded) (c : EntryCounts) → CountsAll (length r.threads) (trace_of r) c → (t i : ℕ) → ((e : Event) → slice_get (recorded_thread r t).events i ≡ Some e → cause_by (reads_of c) (writes_of c) (mark_of e) ≡ None)
+unbroken : (r : Recorded) (c : EntryCounts) → CountsAll (length r.threads) (trace_of r) c → (t i : ℕ) → ((e : Event) → slice_get (recorded_thread r t).events i ≡ Some e → cause_by (reads_of c) (writes_of c) (label_of e) ≡ None)
     → (d : Cause) → HasCause (length r.threads) (trace_of r) t i d → ⊥
 unbroken r c all t i none d has =
     let m = entry_of (length r.threads) (trace_of r) t i d has in
@@ -99,8 +99,8 @@ all_silent r c all none = silent_coherent (length r.threads) (trace_of r) (is_of
 pub first_named : (r : Recorded) (c : EntryCounts) → CountsAll (length r.threads) (trace_of r) c → (t i : ℕ) (cause : Cause) → ((u : ℕ) → u < t → NoCause (reads_of c) (writes_of c) (recorded_thread r u).events)
     → FirstCause (reads_of c) (writes_of c) (recorded_thread r t).events i cause → IsFirstBreak (length r.threads) (trace_of r) t i cause
 first_named r c all t i cause none found = record {
-  breaks = named (length r.threads) (trace_of r) (is_of r) t i (mark_of found.event) cause (at_event (recorded_thread r t).events i found.event found.stands)
-      (sym (as_counted (length r.threads) (trace_of r) c all (mark_of found.event)) ∙ found.cause);
+  breaks = named (length r.threads) (trace_of r) (is_of r) t i (label_of found.event) cause (at_event (recorded_thread r t).events i found.event found.stands)
+      (sym (as_counted (length r.threads) (trace_of r) c all (label_of found.event)) ∙ found.cause);
   first = λ u j d before has. earlier u j d before has;
 }
   where

@@ -1,7 +1,7 @@
 -- The causes by counts are the causes.
 use Rattle.std.proofs.Common.{◌≡◌, ℕ, suc, zero, ◌-◌, ◌<◌, ◌≤◌, ◌⊎◌, inl, inr, Bool, true, false, nat_lt, ◌==◌, if◌then◌else◌, Option, Some, None, refl, sym, ap, ◌∙◌, subst, arith}
 use Rattle.std.proofs.lemmas.Bool.{cases_eq, cases_lt, and_parts, and_cases, ltb-true, ltb-false, eqb-true, eqb-false}
-use Rattle.ir_runs.specs.Marks.{Mark, Quiet, Answer, In, Refused, Out, Trace}
+use Rattle.ir_runs.specs.Labels.{Label, Quiet, Answer, In, Refused, Out, Trace}
 use Rattle.ir_runs.specs.declared.access.Access.{Access}
 use Rattle.ir_runs.specs.declared.access.Access.TheVariants.{Reading, Writing}
 use Rattle.ir_runs.specs.Coherent.{IsCoherent}
@@ -126,14 +126,14 @@ of_first n told t i Unmade f = f
 of_first n told t i Twice f = f
 of_first n told t i Readers f = f
 
--- a mark that is no entry breaks nothing
-no_entry : (n : ℕ) (told : Trace) (t i : ℕ) (m : Mark) → At (told.logs t) i m → ((o v l : ℕ) (a : Access) → In o a v l ≡ m → ⊥) → (c : Cause) → HasCause n told t i c → ⊥
+-- a label that is no entry breaks nothing
+no_entry : (n : ℕ) (told : Trace) (t i : ℕ) (m : Label) → At (told.logs t) i m → ((o v l : ℕ) (a : Access) → In o a v l ≡ m → ⊥) → (c : Cause) → HasCause n told t i c → ⊥
 no_entry n told t i m at none Unmade f = none f.object (suc f.version) f.left f.access (at_same (told.logs t) i _ _ f.entry at)
 no_entry n told t i m at none Twice f = none f.1.object f.1.version f.1.left Writing (at_same (told.logs t) i _ _ f.1.entry at)
 no_entry n told t i m at none Readers f = none f.2.object f.2.version f.2.left Writing (at_same (told.logs t) i _ _ f.2.entry at)
 
 -- what the counts name is the first cause
-pub named : (n : ℕ) (told : Trace) → IsOf n told → (t i : ℕ) (m : Mark) (c : Cause) → At (told.logs t) i m → cause_by (reads_in n told) (writes_in n told) m ≡ Some c → HasCause n told t i c
+pub named : (n : ℕ) (told : Trace) → IsOf n told → (t i : ℕ) (m : Label) (c : Cause) → At (told.logs t) i m → cause_by (reads_in n told) (writes_in n told) m ≡ Some c → HasCause n told t i c
 named n told of t i Quiet c at e = absurd (let bad : None ≡ Some c = e in cc)
 named n told of t i (Answer k x) c at e = absurd (let bad : None ≡ Some c = e in cc)
 named n told of t i (In o Reading v l) c at e =
@@ -147,7 +147,7 @@ named n told of t i (Refused p) c at e = absurd (let bad : None ≡ Some c = e i
 named n told of t i (Out p a w) c at e = absurd (let bad : None ≡ Some c = e in cc)
 
 -- where the counts name none, there is none
-pub unnamed : (n : ℕ) (told : Trace) → IsOf n told → (t i : ℕ) (m : Mark) → At (told.logs t) i m → cause_by (reads_in n told) (writes_in n told) m ≡ None → (c : Cause) → HasCause n told t i c → ⊥
+pub unnamed : (n : ℕ) (told : Trace) → IsOf n told → (t i : ℕ) (m : Label) → At (told.logs t) i m → cause_by (reads_in n told) (writes_in n told) m ≡ None → (c : Cause) → HasCause n told t i c → ⊥
 unnamed n told of t i Quiet at e c f = no_entry n told t i Quiet at (λ o v l a q. cc) c f
 unnamed n told of t i (Answer k x) at e c f = no_entry n told t i (Answer k x) at (λ o v l a q. cc) c f
 unnamed n told of t i (In o Reading v l) at e c f =
@@ -179,14 +179,14 @@ coherent_unbroken n told co t i Readers f =
     mis.other (co.readers t i mis.object mis.version mis.left mis.entry)
 
 -- where no event has a cause by the counts, the trace is coherent
-pub silent_coherent : (n : ℕ) (told : Trace) → IsOf n told → ((t i : ℕ) (m : Mark) → At (told.logs t) i m → cause_by (reads_in n told) (writes_in n told) m ≡ None) → IsCoherent n told
+pub silent_coherent : (n : ℕ) (told : Trace) → IsOf n told → ((t i : ℕ) (m : Label) → At (told.logs t) i m → cause_by (reads_in n told) (writes_in n told) m ≡ None) → IsCoherent n told
 silent_coherent n told of none = record {
   made = λ t i o v l a at. made_by t i o v l a at (cases_lt 0 (writes_in n told o v));
   writer = λ t i u j o v l k at bt. one_by t i u j o v l k at bt (cases_eq t u) (cases_eq i j);
   readers = λ t i o v l at. readers_by t i o v l at (cases_eq l (reads_in n told o v));
 }
   where
-    broken : (t i : ℕ) (m : Mark) → At (told.logs t) i m → (c : Cause) → HasCause n told t i c → ⊥
+    broken : (t i : ℕ) (m : Label) → At (told.logs t) i m → (c : Cause) → HasCause n told t i c → ⊥
     broken t i m at = unnamed n told of t i m at (none t i m at)
 
     made_by : (t i o v l : ℕ) (a : Access) → At (told.logs t) i (In o a (suc v) l) → (0 < writes_in n told o v) ⊎ (writes_in n told o v ≤ 0) → (u j k : ℕ) × At (told.logs u) j (In o Writing v k)
@@ -200,10 +200,10 @@ silent_coherent n told of none = record {
       unmade = λ u j k w. omega (arith, entry_counted n told of o v u j k w);
     })
 
-    unmade_not : (t i : ℕ) (m : Mark) → At (told.logs t) i m → IsUnmade told t i → ⊥
+    unmade_not : (t i : ℕ) (m : Label) → At (told.logs t) i m → IsUnmade told t i → ⊥
     unmade_not t i m at = broken t i m at Unmade
 
-    twice_not : (t i : ℕ) (m : Mark) → At (told.logs t) i m → IsTwice told t i → ⊥
+    twice_not : (t i : ℕ) (m : Label) → At (told.logs t) i m → IsTwice told t i → ⊥
     twice_not t i m at two = broken t i m at Twice (unmade_not t i m at, two)
 
     one_by : (t i u j o v l k : ℕ) → At (told.logs t) i (In o Writing v l) → At (told.logs u) j (In o Writing v k) → (t ≡ u) ⊎ (t ≡ u → ⊥) → (i ≡ j) ⊎ (i ≡ j → ⊥) → (t ≡ u) × (i ≡ j)
@@ -218,6 +218,6 @@ silent_coherent n told of none = record {
 pub unbroken_coherent : UnbrokenCoherent
 unbroken_coherent n told of none = silent_coherent n told of (λ t i m at. go t i m at (option_cases (cause_by (reads_in n told) (writes_in n told) m)))
   where
-    go : (t i : ℕ) (m : Mark) → At (told.logs t) i m → (cause_by (reads_in n told) (writes_in n told) m ≡ None) ⊎ ((c : Cause) × (cause_by (reads_in n told) (writes_in n told) m ≡ Some c)) → cause_by (reads_in n told) (writes_in n told) m ≡ None
+    go : (t i : ℕ) (m : Label) → At (told.logs t) i m → (cause_by (reads_in n told) (writes_in n told) m ≡ None) ⊎ ((c : Cause) × (cause_by (reads_in n told) (writes_in n told) m ≡ Some c)) → cause_by (reads_in n told) (writes_in n told) m ≡ None
     go t i m at (inl e) = e
     go t i m at (inr some) = absurd (none t i some.0 (named n told of t i m some.0 at some.1))

@@ -1,19 +1,19 @@
 -- Counts of the events of logs.
 use Rattle.std.proofs.Common.{◌≡◌, ℕ, suc, zero, ◌+◌, ◌*◌, ◌<◌, ◌≤◌, Bool, true, false, cond, eqb, List, [], ◌∷◌, ◌++◌, length, map, take, get_or, refl, sym, ap, ◌∙◌, subst, arith, add-one}
 use Rattle.std.proofs.lemmas.List.{take_more, map-append}
-use Rattle.ir_runs.specs.Marks.{Mark, Quiet, Answer, In, Refused, Out}
+use Rattle.ir_runs.specs.Labels.{Label, Quiet, Answer, In, Refused, Out}
 use Rattle.ir_runs.specs.declared.access.Access.TheVariants.{Reading, Writing}
-use Rattle.ir_log.specs.Logging.{mark_of}
+use Rattle.ir_log.specs.Logging.{label_of}
 use Rattle.ir_log.specs.declared.event.Event.{Event}
 use Rattle.ir_runs.specs.Coherent.{reads_one, reads, sum_below}
 use Rattle.ir_coherence.specs.Counting.{writes_one, writes, CountsMore, HasRoom}
 use Rattle.ir_coherence.specs.declared.entry_counts.EntryCounts.{EntryCounts}
 
-reads-append : (o v : ℕ) (xs ys : List Mark) → reads o v (xs ++ ys) ≡ reads o v xs + reads o v ys
+reads-append : (o v : ℕ) (xs ys : List Label) → reads o v (xs ++ ys) ≡ reads o v xs + reads o v ys
 reads-append o v [] ys = let e : reads o v ys ≡ 0 + reads o v ys = omega arith in e
 reads-append o v (x ∷ xs) ys = omega (arith, reads-append o v xs ys)
 
-writes-append : (o v : ℕ) (xs ys : List Mark) → writes o v (xs ++ ys) ≡ writes o v xs + writes o v ys
+writes-append : (o v : ℕ) (xs ys : List Label) → writes o v (xs ++ ys) ≡ writes o v xs + writes o v ys
 writes-append o v [] ys = let e : writes o v ys ≡ 0 + writes o v ys = omega arith in e
 writes-append o v (x ∷ xs) ys = omega (arith, writes-append o v xs ys)
 
@@ -22,7 +22,7 @@ test_le true true = omega arith
 test_le true false = omega arith
 test_le false d = omega arith
 
-reads_one_le : (o v : ℕ) (m : Mark) → reads_one o v m ≤ 1
+reads_one_le : (o v : ℕ) (m : Label) → reads_one o v m ≤ 1
 reads_one_le o v Quiet = omega arith
 reads_one_le o v (Answer k x) = omega arith
 reads_one_le o v (In p Reading w l) = test_le (eqb p o) (eqb w v)
@@ -30,7 +30,7 @@ reads_one_le o v (In p Writing w l) = omega arith
 reads_one_le o v (Refused p) = omega arith
 reads_one_le o v (Out p a w) = omega arith
 
-writes_one_le : (o v : ℕ) (m : Mark) → writes_one o v m ≤ 1
+writes_one_le : (o v : ℕ) (m : Label) → writes_one o v m ≤ 1
 writes_one_le o v Quiet = omega arith
 writes_one_le o v (Answer k x) = omega arith
 writes_one_le o v (In p Reading w l) = omega arith
@@ -38,22 +38,22 @@ writes_one_le o v (In p Writing w l) = test_le (eqb p o) (eqb w v)
 writes_one_le o v (Refused p) = omega arith
 writes_one_le o v (Out p a w) = omega arith
 
-pub reads_le : (o v : ℕ) (ks : List Mark) → reads o v ks ≤ length ks
+pub reads_le : (o v : ℕ) (ks : List Label) → reads o v ks ≤ length ks
 reads_le o v [] = omega arith
 reads_le o v (k ∷ ks) = omega (arith, reads_one_le o v k, reads_le o v ks)
 
-pub writes_le : (o v : ℕ) (ks : List Mark) → writes o v ks ≤ length ks
+pub writes_le : (o v : ℕ) (ks : List Label) → writes o v ks ≤ length ks
 writes_le o v [] = omega arith
 writes_le o v (k ∷ ks) = omega (arith, writes_one_le o v k, writes_le o v ks)
 
 -- what room is left
-pub room_left : (a b : EntryCounts) (ks : List Mark) (n k : ℕ) → HasRoom a n → CountsMore a b ks → length ks + k ≤ n → HasRoom b k
+pub room_left : (a b : EntryCounts) (ks : List Label) (n k : ℕ) → HasRoom a n → CountsMore a b ks → length ks + k ≤ n → HasRoom b k
 room_left a b ks n k room more l = record {
   reads = λ o v. omega (arith, room.reads o v, more.reads o v, reads_le o v ks);
   writes = λ o v. omega (arith, room.writes o v, more.writes o v, writes_le o v ks);
 }
 
-both_counted : (a b d : EntryCounts) (xs ys : List Mark) → CountsMore a b xs → CountsMore b d ys → CountsMore a d (xs ++ ys)
+both_counted : (a b d : EntryCounts) (xs ys : List Label) → CountsMore a b xs → CountsMore b d ys → CountsMore a d (xs ++ ys)
 both_counted a b d xs ys m k = record {
   objects = k.objects ∙ m.objects;
   reads = λ o v. omega (arith, k.reads o v, m.reads o v, reads-append o v xs ys);
@@ -61,9 +61,9 @@ both_counted a b d xs ys m k = record {
 }
 
 -- one event further
-pub one_counted : (a b d : EntryCounts) (es : List Event) (i : ℕ) (e : Event) → i < length es → CountsMore a b (map mark_of (take i es)) → CountsMore b d (mark_of (get_or es i e) ∷ []) → CountsMore a d (map mark_of (take (i + 1) es))
+pub one_counted : (a b d : EntryCounts) (es : List Event) (i : ℕ) (e : Event) → i < length es → CountsMore a b (map label_of (take i es)) → CountsMore b d (label_of (get_or es i e) ∷ []) → CountsMore a d (map label_of (take (i + 1) es))
 one_counted a b d es i e l m k =
-    subst (CountsMore a d) (sym (ap (map mark_of) (take_more es i e l) ∙ map-append mark_of (take i es) (get_or es i e ∷ []))) (both_counted a b d (map mark_of (take i es)) (mark_of (get_or es i e) ∷ []) m k)
+    subst (CountsMore a d) (sym (ap (map label_of) (take_more es i e l) ∙ map-append label_of (take i es) (get_or es i e ∷ []))) (both_counted a b d (map label_of (take i es)) (label_of (get_or es i e) ∷ []) m k)
 
 -- a sum of n numbers, each of at most as many events as a log has
 pub sum_bound : (n : ℕ) (f : ℕ → ℕ) → ((t : ℕ) → t < n → f t ≤ 1048576) → sum_below n f ≤ n * 1048576

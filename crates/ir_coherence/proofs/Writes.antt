@@ -1,7 +1,7 @@
 -- Counts of write entries, and the entries themselves.
 use Rattle.std.proofs.Common.{◌≡◌, ℕ, suc, zero, ◌+◌, ◌<◌, ◌≤◌, ◌⊎◌, inl, inr, Bool, true, false, cond, eqb, List, [], ◌∷◌, refl, sym, ap, ◌∙◌, subst, arith, eq-eqb, ne_eqb}
 use Rattle.std.proofs.lemmas.Bool.{cases_eq, cases_lt}
-use Rattle.ir_runs.specs.Marks.{Mark, Quiet, Answer, In, Refused, Out, Trace}
+use Rattle.ir_runs.specs.Labels.{Label, Quiet, Answer, In, Refused, Out, Trace}
 use Rattle.ir_runs.specs.declared.access.Access.TheVariants.{Reading, Writing}
 use Rattle.ir_runs.specs.Coherent.{sum_below}
 use Rattle.ir_coherence.specs.Counting.{writes_one, writes, writes_in}
@@ -16,8 +16,8 @@ at_same (z ∷ zs) (suc i) x y a b = at_same zs i x y a b
 one_write : (o v k : ℕ) → writes_one o v (In o Writing v k) ≡ 1
 one_write o v k = ap (λ b. cond b (cond (eqb v v) 1 0) 0) (eq-eqb o o refl) ∙ ap (λ b. cond b 1 0) (eq-eqb v v refl)
 
--- a mark that is counted is a write entry
-written : (o v : ℕ) (m : Mark) → 0 < writes_one o v m → (k : ℕ) × (m ≡ In o Writing v k)
+-- a label that is counted is a write entry
+written : (o v : ℕ) (m : Label) → 0 < writes_one o v m → (k : ℕ) × (m ≡ In o Writing v k)
 written o v Quiet h = absurd (omega arith)
 written o v (Answer k x) h = absurd (omega arith)
 written o v (In p Reading w l) h = absurd (omega arith)
@@ -38,26 +38,26 @@ written o v (In p Writing w l) h = elim (cases_eq p o) [
 written o v (Refused p) h = absurd (omega arith)
 written o v (Out p a w) h = absurd (omega arith)
 
-some_write : (o v : ℕ) (ks : List Mark) → 0 < writes o v ks → (j k : ℕ) × At ks j (In o Writing v k)
+some_write : (o v : ℕ) (ks : List Label) → 0 < writes o v ks → (j k : ℕ) × At ks j (In o Writing v k)
 some_write o v [] h = absurd (omega arith)
 some_write o v (m ∷ ks) h = elim (cases_lt 0 (writes_one o v m)) [
   | inl here ↦ let w = written o v m here in (zero, w.0, w.1)
   | inr none ↦ let r = some_write o v ks (omega arith) in (suc r.0, r.1, r.2)
 ]
 
-write_counted : (o v k : ℕ) (ks : List Mark) (j : ℕ) → At ks j (In o Writing v k) → 0 < writes o v ks
+write_counted : (o v k : ℕ) (ks : List Label) (j : ℕ) → At ks j (In o Writing v k) → 0 < writes o v ks
 write_counted o v k [] j at = absurd at
 write_counted o v k (m ∷ ks) zero at = omega (arith, ap (writes_one o v) at, one_write o v k)
 write_counted o v k (m ∷ ks) (suc j) at = omega (arith, write_counted o v k ks j at)
 
-two_writes : (o v k l : ℕ) (ks : List Mark) (i j : ℕ) → At ks i (In o Writing v k) → At ks j (In o Writing v l) → (i ≡ j → ⊥) → 1 < writes o v ks
+two_writes : (o v k l : ℕ) (ks : List Label) (i j : ℕ) → At ks i (In o Writing v k) → At ks j (In o Writing v l) → (i ≡ j → ⊥) → 1 < writes o v ks
 two_writes o v k l [] i j a b ne = absurd a
 two_writes o v k l (m ∷ ks) zero zero a b ne = absurd (ne refl)
 two_writes o v k l (m ∷ ks) zero (suc j) a b ne = omega (arith, ap (writes_one o v) a, one_write o v k, write_counted o v l ks j b)
 two_writes o v k l (m ∷ ks) (suc i) zero a b ne = omega (arith, ap (writes_one o v) b, one_write o v l, write_counted o v k ks i a)
 two_writes o v k l (m ∷ ks) (suc i) (suc j) a b ne = omega (arith, two_writes o v k l ks i j a b (λ e. ne (ap suc e)))
 
-another_write : (o v k : ℕ) (ks : List Mark) (i : ℕ) → At ks i (In o Writing v k) → 1 < writes o v ks → (j l : ℕ) × At ks j (In o Writing v l) × (i ≡ j → ⊥)
+another_write : (o v k : ℕ) (ks : List Label) (i : ℕ) → At ks i (In o Writing v k) → 1 < writes o v ks → (j l : ℕ) × At ks j (In o Writing v l) × (i ≡ j → ⊥)
 another_write o v k [] i a h = absurd a
 another_write o v k (m ∷ ks) zero a h =
     let r = some_write o v ks (omega (arith, ap (writes_one o v) a, one_write o v k)) in
@@ -108,7 +108,7 @@ sum_other (suc n) t f l h = elim (cases_eq n t) [
 abbrev pub IsOf : ℕ → Trace → Type 0
 IsOf n told = (t : ℕ) → n ≤ t → told.logs t ≡ []
 
-pub is_thread : (n : ℕ) (told : Trace) → IsOf n told → (t i : ℕ) (m : Mark) → At (told.logs t) i m → t < n
+pub is_thread : (n : ℕ) (told : Trace) → IsOf n told → (t i : ℕ) (m : Label) → At (told.logs t) i m → t < n
 is_thread n told of t i m at = elim (cases_lt t n) [
   | inl less ↦ less
   | inr past ↦ absurd (subst (λ ks. At ks i m) (of t past) at)

@@ -1,6 +1,6 @@
 -- The events of a trace that break its coherence.
 use Rattle.std.specs.Prelude.{◌≡◌, ◌≢◌, ℕ, suc, ◌<◌, ◌≤◌, ◌⊎◌, [], length}
-use Rattle.ir_runs.specs.Marks.{In, Trace}
+use Rattle.ir_runs.specs.Labels.{In, Trace}
 use Rattle.ir_runs.specs.declared.access.Access.{Access}
 use Rattle.ir_runs.specs.declared.access.Access.TheVariants.{Writing}
 use Rattle.ir_runs.specs.Coherent.{IsCoherent, reads, sum_below}

@@ -3,9 +3,9 @@ use Rattle.std.specs.Prelude.{◌≡◌, ℕ, ◌+◌, ◌-◌, ◌^◌, ◌<◌
 use Rattle.std.specs.Option.{option_map_or}
 use Rattle.std.specs.List.{sum_by}
 use Rattle.std.specs.List.Sorted.{IsNonDecreasing}
-use Rattle.ir_runs.specs.Marks.{Mark, Quiet, Answer, In, Refused, Out, Trace}
+use Rattle.ir_runs.specs.Labels.{Label, Quiet, Answer, In, Refused, Out, Trace}
 use Rattle.ir_runs.specs.declared.access.Access.TheVariants.{Reading, Writing}
-use Rattle.ir_log.specs.Logging.{mark_of}
+use Rattle.ir_log.specs.Logging.{label_of}
 use Rattle.ir_log.specs.declared.event.Event.{Event}
 use Rattle.ir_runs.specs.Coherent.{reads, sum_below}
 use Rattle.ir_coherence.specs.declared.cause.Cause.{Cause}
@@ -15,7 +15,7 @@ use Rattle.ir_coherence.specs.declared.entry_counts.ObjectCounts.{ObjectCounts}
 use Rattle.ir_coherence.specs.declared.entry_counts.EntryCounts.{EntryCounts}
 
 -- 1 for a write entry of object o at version v, else 0
-abbrev pub writes_one : ℕ → ℕ → Mark → ℕ
+abbrev pub writes_one : ℕ → ℕ → Label → ℕ
 writes_one o v Quiet = 0
 writes_one o v (Answer k x) = 0
 writes_one o v (In p Reading w l) = 0
@@ -24,7 +24,7 @@ writes_one o v (Refused p) = 0
 writes_one o v (Out p a w) = 0
 
 -- how many of these are write entries of object o at version v
-abbrev pub writes : ℕ → ℕ → List Mark → ℕ
+abbrev pub writes : ℕ → ℕ → List Label → ℕ
 writes o v [] = 0
 writes o v (k ∷ ks) = writes_one o v k + writes o v ks
 
@@ -41,7 +41,7 @@ abbrev pub nobody_made : (ℕ → ℕ → ℕ) → ℕ → ℕ → Bool
 nobody_made w o v = nat_lt 0 v && (w o (v - 1) == 0)
 
 -- the first cause for which an event breaks coherence, where so many read entries and write entries stand in the trace at each version of each object
-abbrev pub cause_by : (ℕ → ℕ → ℕ) → (ℕ → ℕ → ℕ) → Mark → Option Cause
+abbrev pub cause_by : (ℕ → ℕ → ℕ) → (ℕ → ℕ → ℕ) → Label → Option Cause
 cause_by r w Quiet = None
 cause_by r w (Answer k x) = None
 cause_by r w (In o Reading v l) = if nobody_made w o v then Some Unmade else None
@@ -106,8 +106,8 @@ pub record CountsNone (n : ℕ) (c : EntryCounts) : Type 0 where
   pub reads : (o v : ℕ) → reads_of c o v ≡ 0
   pub writes : (o v : ℕ) → writes_of c o v ≡ 0
 
--- these marks are counted beside what was
-pub record CountsMore (old new : EntryCounts) (ks : List Mark) : Type 0 where
+-- these labels are counted beside what was
+pub record CountsMore (old new : EntryCounts) (ks : List Label) : Type 0 where
   pub objects : vec_len new.objects ≡ vec_len old.objects
   pub reads : (o v : ℕ) → reads_of new o v ≡ reads_of old o v + reads o v ks
   pub writes : (o v : ℕ) → writes_of new o v ≡ writes_of old o v + writes o v ks
@@ -126,9 +126,9 @@ pub record CountsAll (n : ℕ) (tr : Trace) (c : EntryCounts) : Type 0 where
 pub record FirstCause (r w : ℕ → ℕ → ℕ) (es : List Event) (i : ℕ) (c : Cause) : Type 0 where
   pub event : Event
   pub stands : slice_get es i ≡ Some event
-  pub cause : cause_by r w (mark_of event) ≡ Some c
-  pub first : (j : ℕ) (e : Event) → j < i → slice_get es j ≡ Some e → cause_by r w (mark_of e) ≡ None
+  pub cause : cause_by r w (label_of event) ≡ Some c
+  pub first : (j : ℕ) (e : Event) → j < i → slice_get es j ≡ Some e → cause_by r w (label_of e) ≡ None
 
 -- no event of the log has a cause
 abbrev pub NoCause : (r w : ℕ → ℕ → ℕ) → List Event → Type 0
-NoCause r w es = (j : ℕ) (e : Event) → slice_get es j ≡ Some e → cause_by r w (mark_of e) ≡ None
+NoCause r w es = (j : ℕ) (e : Event) → slice_get es j ≡ Some e → cause_by r w (label_of e) ≡ None

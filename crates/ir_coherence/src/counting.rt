@@ -2,7 +2,7 @@
 
 ghost use Rattle.std.specs.Prelude.{◌≡◌, ◌<◌, ◌≤◌, length, map, OnOk, IfOk, vec_len};
 ghost use Rattle.std.specs.List.{AllByRecursion};
-ghost use Rattle.ir_log.specs.Logging.{mark_of};
+ghost use Rattle.ir_log.specs.Logging.{label_of};
 ghost use Rattle.ir_trace.specs.Recorded.{IsEvent};
 ghost use Rattle.ir_trace.specs.Told.{trace_of};
 ghost use Rattle.ir_coherence.specs.Counting.{CountsMore, CountsAll, HasRoom, AreSettled};
@@ -40,7 +40,7 @@ fn add_writes(limits: &mut [usize], events: &[Event])
 fn add_log(counts: &mut EntryCounts, events: &[Event]) -> Result<(), AllocError>
     requires objects { AllByRecursion (IsEvent (vec_len counts.old.objects)) events.now }
     requires room { HasRoom counts.old (length events.now) }
-    ensures { OnOk result (CountsMore counts.old counts.new (map mark_of events.now)) }
+    ensures { OnOk result (CountsMore counts.old counts.new (map label_of events.now)) }
 {
     for event in events {
         counts.add(*event)?;

@@ -1,7 +1,7 @@
 //! How many entries of each object there are at each version.
 
 ghost use Rattle.std.specs.Prelude.{◌≡◌, ℕ, [], ◌∷◌, length, vec_len, OnOk, IfOk};
-ghost use Rattle.ir_log.specs.Logging.{mark_of};
+ghost use Rattle.ir_log.specs.Logging.{label_of};
 ghost use Rattle.ir_trace.specs.Recorded.{IsEvent};
 ghost use Rattle.ir_coherence.specs.Counting.{count, reads_of, writes_of, CountsNone, CountsMore, HasRoom, IsSettled, AreSettled, SameCounts, nobody_made, cause_by};
 
@@ -82,7 +82,7 @@ impl EntryCounts {
     pub fn add(&mut self, event: Event) -> Result<(), AllocError>
         requires object { IsEvent (vec_len self.old.objects) event }
         requires room { HasRoom self.old 1 }
-        ensures { OnOk result (CountsMore self.old self.new (mark_of event ∷ [])) }
+        ensures { OnOk result (CountsMore self.old self.new (label_of event ∷ [])) }
     {
         match event {
             Event::Answer(..) => Ok(()),
@@ -138,7 +138,7 @@ impl EntryCounts {
     /// The first cause for which an event breaks coherence, where the entries of its trace are counted here.
     pub fn cause_of(&self, event: Event) -> Option<Cause>
         requires { AreSettled self.now }
-        ensures { result ≡ cause_by (reads_of self.now) (writes_of self.now) (mark_of event) }
+        ensures { result ≡ cause_by (reads_of self.now) (writes_of self.now) (label_of event) }
     {
         match event {
             Event::Answer(..) => None,

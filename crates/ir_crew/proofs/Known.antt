@@ -13,13 +13,13 @@ use Rattle.ir_runs.specs.declared.access.Access.TheVariants.{Reading, Writing}
 use Rattle.ir_object.specs.Cell.{one_if_reading, readers, has_writer}
 use Rattle.ir_runs.specs.Object.{Object, target, Admits, acted, told}
 use Rattle.ir_object.specs.Layout.{word_place}
-use Rattle.ir_object.specs.Order.{Shared, keep_if, of_thread, objects_then, objects_after, order_marks, Uses, IsStep, IsLegal, inside_after}
+use Rattle.ir_object.specs.Order.{Shared, keep_if, of_thread, objects_then, objects_after, order_labels, Uses, IsStep, IsLegal, inside_after}
 use Rattle.ir_object.specs.Word.{bit_of, fields_of, entered, left_by}
 use Rattle.ir_object.specs.declared.fields.Fields.{Fields}
 use Rattle.ir_object.proofs.CallerLemmas.{then_same, then_other, alone_acted, Alone, inside_run, entry_counts, leave_counts, can_leave, writer_admitted}
 use Rattle.ir_runs.proofs.CallerLemmas.{upd_same, upd_other, upd_elim}
 use Rattle.ir_crew.specs.Plays.{inside_by, version_if, version_then, entered_at}
-use Rattle.ir_crew.specs.Rule.{View, one_if_entry, entries, mark_of, start_objects, Tells, Kept}
+use Rattle.ir_crew.specs.Rule.{View, one_if_entry, entries, label_of, start_objects, Tells, Kept}
 use Rattle.ir_crew.specs.declared.deed.ObjectStep.{ObjectStep}
 use Rattle.ir_crew.specs.declared.deed.Track.{Track}
 use Rattle.ir_crew.proofs.Counting.{all_entries, total_le, entries_total}
@@ -167,12 +167,12 @@ version_elsewhere (Store p i w) b o v ne = refl
 version_elsewhere Never b o v ne = refl
 
 since_run : {T : Type 0} (m : Machine T) (n count : ℕ) (f : ℕ → Object) (xs : List (ℕ × Shared)) (t o v : ℕ) → IsLegal m n count f xs → ((p : ℕ) → Alone (f p).inside) → Since t (f o) v
-    → Since t (objects_after f xs o) (entered_at o v (of_thread t (order_marks f xs)))
+    → Since t (objects_after f xs o) (entered_at o v (of_thread t (order_labels f xs)))
 since_run m n count f [] t o v l a h = h
 since_run m n count f (x ∷ xs) t o v l a h =
     let q : Act = x.1.0 in
     let b : Object = f (target q) in
-    let more = of_thread t (order_marks (objects_then f x) xs) in
+    let more = of_thread t (order_labels (objects_then f x) xs) in
     let goes = λ (w : ℕ) (s : Since t (objects_then f x o) w). since_run m n count (objects_then f x) xs t o w l.1 (alone_then m n count f x l.0 a) s in
     elim (cases_eq t x.0) [
       | inl own ↦ subst (λ c. Since t (objects_after (objects_then f x) xs o) (entered_at o v (keep_if c (told q b) more))) (sym (eq-eqb t x.0 own))
@@ -199,7 +199,7 @@ pub record IsAt (n t o : ℕ) (h : List ObjectStep) (b : Object) (w : ℕ) : Typ
   pub inside : b.inside t ≡ inside_by o h
   pub alone : Alone b.inside
   pub small : IsSmall b
-  pub version : Since t b (entered_at o 0 (map mark_of h))
+  pub version : Since t b (entered_at o 0 (map label_of h))
   pub thread : t < n
 
 readers_le : (n : ℕ) (f : ℕ → Option Access) → readers n f ≤ n
@@ -282,6 +282,6 @@ at_now g x k id o q at lt =
       inside = inside_run (start_objects g) k.steps q.thread o ∙ ap (inside_after o None) own.steps_are;
       alone = alone_run m n (object_count g) (start_objects g) k.steps k.legal (start_alone g) o;
       small = small_now g k.steps k.guest k.legal o;
-      version = subst (λ ks. Since q.thread (now_of g k.steps o) (entered_at o 0 ks)) own.marks_are (since_run m n (object_count g) (start_objects g) k.steps q.thread o 0 k.legal (start_alone g) (λ is. absurd (cc is)));
+      version = subst (λ ks. Since q.thread (now_of g k.steps o) (entered_at o 0 ks)) own.labels_are (since_run m n (object_count g) (start_objects g) k.steps q.thread o 0 k.legal (start_alone g) (λ is. absurd (cc is)));
       thread = own.thread;
     }

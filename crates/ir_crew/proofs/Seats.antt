@@ -97,7 +97,7 @@ splits g id t m v is x k at =
 
 starts_fit : (n : ℕ) (f : ℕ → Object) (u m : ℕ) → u + m ≤ n → Fits n f [] (λ _. 0) 0 (tracks_from u m)
 starts_fit n f u zero le = tt
-starts_fit n f u (suc m) le = ((record { thread = omega (arith, le); steps_are = refl; marks_are = refl }, refl), starts_fit n f (suc u) m (omega (arith, le)))
+starts_fit n f u (suc m) le = ((record { thread = omega (arith, le); steps_are = refl; labels_are = refl }, refl), starts_fit n f (suc u) m (omega (arith, le)))
 
 pub opens : (g : Guest) (ws : List ℕ) → IsGuest g → IsTable (length g.entries) (object_count g) (start_objects g) ws → Kept g (opening ws [] (tracks_from 0 (length g.entries)))
 opens g ws guest table = record {

@@ -12,17 +12,17 @@ use Rattle.ir_image.specs.Guest.{Guest, object_count}
 use Rattle.ir_thread.specs.Calls.{most_events}
 use Rattle.ir_thread.specs.Instance.{thread_machine}
 use Rattle.ir_runs.specs.Machine.{Entry, Exit, Store, upd}
-use Rattle.ir_runs.specs.Marks.{Mark}
+use Rattle.ir_runs.specs.Labels.{Label}
 use Rattle.ir_runs.specs.declared.access.Access.TheVariants.{Reading, Writing}
 use Rattle.ir_object.specs.Cell.{Admitted}
 use Rattle.ir_runs.specs.Object.{Object, target, Admits, acted, reply, told}
 use Rattle.ir_object.specs.Layout.{word_place, content_place}
-use Rattle.ir_object.specs.Order.{Shared, of_thread, objects_after, order_marks, Uses}
+use Rattle.ir_object.specs.Order.{Shared, of_thread, objects_after, order_labels, Uses}
 use Rattle.ir_object.specs.Word.{fields_of}
-use Rattle.ir_object.proofs.CallerLemmas.{of_own, of_other, after_more, marks_more, legal_more, entry_counts, leave_counts, can_leave, admits_reader, admits_writer, read_entry_word, write_entry_word, read_leave_word, version_word}
+use Rattle.ir_object.proofs.CallerLemmas.{of_own, of_other, after_more, labels_more, legal_more, entry_counts, leave_counts, can_leave, admits_reader, admits_writer, read_entry_word, write_entry_word, read_leave_word, version_word}
 use Rattle.ir_runs.proofs.CallerLemmas.{upd_same, upd_other, upd_id}
 use Rattle.ir_crew.specs.Plays.{IsAlone, history, did, inside_by, entered_at, M, object_of, index_of, IsSight, looked, tried, read_entry, write_entry, entered_read, entered_write, left_reading, left_writing, got, wrote}
-use Rattle.ir_crew.specs.Rule.{View, shared_by, mark_by, shared_of, mark_of, one_if_entry, entries, start_objects, Tells, IsTable, IsTrack, Fits, Kept}
+use Rattle.ir_crew.specs.Rule.{View, shared_by, label_by, shared_of, label_of, one_if_entry, entries, start_objects, Tells, IsTable, IsTrack, Fits, Kept}
 use Rattle.ir_crew.specs.declared.deed.Deed.{Deed}
 use Rattle.ir_crew.specs.declared.deed.Deed.TheVariants.{Enter, Leave, Get, Put}
 use Rattle.ir_crew.specs.declared.deed.ObjectStep.{ObjectStep}
@@ -53,7 +53,7 @@ pub record May (g : Guest) (t o : ℕ) (d : Deed) (b : Object) : Type 0 where
   pub uses : Uses (shared_by o d).0 (b.inside t)
   pub admits : Admits (thread_machine g.code) (shared_by o d).0 b
   pub answers : reply (shared_by o d).0 b ≡ (shared_by o d).1
-  pub tells : told (shared_by o d).0 b ≡ mark_by o d
+  pub tells : told (shared_by o d).0 b ≡ label_by o d
 
 -- the tracks of another seat stay as they are
 others_stay : (n t : ℕ) (f : ℕ → Object) (steps : List (ℕ × Shared)) (s : Shared) (seat : ℕ → ℕ) (id : ℕ) (v : View) → seat t ≢ id → Fits n f steps seat id v → Fits n f (steps ++ (t, s) ∷ []) seat id v
@@ -64,7 +64,7 @@ others_stay n t f steps s seat id (k ∷ ks) ne h =
         record {
           thread = h.0.0.thread;
           steps_are = of_other t k.thread steps s apart ∙ h.0.0.steps_are;
-          marks_are = ap (of_thread k.thread) (marks_more f steps (t, s)) ∙ of_other t k.thread (order_marks f steps) (told s.0 (objects_after f steps (target s.0))) apart ∙ h.0.0.marks_are;
+          labels_are = ap (of_thread k.thread) (labels_more f steps (t, s)) ∙ of_other t k.thread (order_labels f steps) (told s.0 (objects_after f steps (target s.0))) apart ∙ h.0.0.labels_are;
         },
         h.0.1,
       ),
@@ -86,8 +86,8 @@ adds g x k id t o h d at lt may room ws hs table =
     let new : IsTrack (length g.entries) f steps (track t (h ++ act o d ∷ [])) = record {
       thread = own.0.thread;
       steps_are = mine;
-      marks_are = ap (of_thread t) (marks_more f k.steps (t, s)) ∙ of_own t (order_marks f k.steps) (told s.0 (now (target s.0)))
-          ∙ (λ i. own.0.marks_are i ++ (ap (λ p. told s.0 (now p)) is ∙ may.tells) i ∷ []) ∙ sym (map_more mark_of h (act o d));
+      labels_are = ap (of_thread t) (labels_more f k.steps (t, s)) ∙ of_own t (order_labels f k.steps) (told s.0 (now (target s.0)))
+          ∙ (λ i. own.0.labels_are i ++ (ap (λ p. told s.0 (now p)) is ∙ may.tells) i ∷ []) ∙ sym (map_more label_of h (act o d));
     } in
     record {
       guest = k.guest;
@@ -240,7 +240,7 @@ enters_read g slots id o old me alone lt room outside free = tries g slots id o 
         uses = out;
         admits = admits_reader n (fields_of old) b.inside a.tells.inside free;
         answers = refl;
-        tells = λ i. Rattle.ir_runs.specs.Marks.In o Reading (sym a.tells.version i) 0;
+        tells = λ i. Rattle.ir_runs.specs.Labels.In o Reading (sym a.tells.version i) 0;
       };
       tells = subst (λ f. Tells n f (acted (Entry o Reading 0) t b)) (sym (read_entry_word old free (let few = a.narrow in omega (arith, few))))
           (record { version = a.tells.version; left = a.tells.left; inside = entry_counts n (fields_of old) b.inside t Reading a.thread out a.tells.inside });
@@ -256,7 +256,7 @@ enters_write g slots id o old me alone lt room free = tries g slots id o old (ol
         uses = nobody t;
         admits = nobody;
         answers = refl;
-        tells = λ i. Rattle.ir_runs.specs.Marks.In o Writing (sym a.tells.version i) (sym a.tells.left i);
+        tells = λ i. Rattle.ir_runs.specs.Labels.In o Writing (sym a.tells.version i) (sym a.tells.left i);
       };
       tells = subst (λ f. Tells n f (acted (Entry o Writing 0) t b)) (sym (write_entry_word old free))
           (record { version = a.tells.version; left = a.tells.left; inside = entry_counts n (fields_of old) b.inside t Writing a.thread (nobody t) a.tells.inside });
@@ -302,7 +302,7 @@ leaves_read g slots id o me alone lt inside = changes g slots id o (λ n. (n + 2
     })
     (λ w b. (b.version, λ i. (did me.0 (sym (object_is o) i) (Leave Reading b.version), me.1)))
 
-pub leaves_write : (g : Guest) (slots id o v : ℕ) (me : M) → IsAlone me.0 → o < object_count g → inside_by o (history me.0) ≡ Some Writing → v ≡ entered_at o 0 (map mark_of (history me.0))
+pub leaves_write : (g : Guest) (slots id o v : ℕ) (me : M) → IsAlone me.0 → o < object_count g → inside_by o (history me.0) ≡ Some Writing → v ≡ entered_at o 0 (map label_of (history me.0))
     → Allows (Kept g) slots id me (word_place o) (λ _. (v + 1) * 2 ^ 32) (λ _. left_writing (step slots (word_place o) ((v + 1) * 2 ^ 32) 0 none) me ((v + 1) * 2 ^ 32))
 leaves_write g slots id o v me alone lt inside version = changes g slots id o (λ _. (v + 1) * 2 ^ 32) (λ b. Leave Writing b.version) (λ _. left_writing (step slots (word_place o) ((v + 1) * 2 ^ 32) 0 none) me ((v + 1) * 2 ^ 32)) me alone lt (λ b. refl)
     (λ t w b a.
@@ -319,7 +319,7 @@ leaves_write g slots id o v me alone lt inside version = changes g slots id o (�
     (λ w b. (b.version, λ i. (did me.0 (sym (object_is o) i) (Leave Writing b.version), me.1)))
 
 -- the word that is stored, as the word of the next version
-pub leaves_write_by : (g : Guest) (slots id o v w : ℕ) (me : M) → IsAlone me.0 → o < object_count g → inside_by o (history me.0) ≡ Some Writing → v ≡ entered_at o 0 (map mark_of (history me.0)) → w ≡ (v + 1) * 2 ^ 32
+pub leaves_write_by : (g : Guest) (slots id o v w : ℕ) (me : M) → IsAlone me.0 → o < object_count g → inside_by o (history me.0) ≡ Some Writing → v ≡ entered_at o 0 (map label_of (history me.0)) → w ≡ (v + 1) * 2 ^ 32
     → Allows (Kept g) slots id me (word_place o) (λ _. w) (λ _. left_writing (step slots (word_place o) w 0 none) me w)
 leaves_write_by g slots id o v w me alone lt inside version is = subst (λ z. Allows (Kept g) slots id me (word_place o) (λ _. z) (λ _. left_writing (step slots (word_place o) z 0 none) me z)) (sym is) (leaves_write g slots id o v me alone lt inside version)
 
@@ -370,6 +370,6 @@ tried_hit d slots o old new n me first w told hit is = told.0 hit ∙ (λ i. (di
 pub alone_as : (me first : M) → me ≡ first → IsAlone first.0 → IsAlone me.0
 alone_as me first is a = subst (λ (m : M). IsAlone m.0) (sym is) a
 
-pub seen_version : (me w : M) (o n slots : ℕ) → looked (step slots (word_place o) 0 0 none) me n w → inside_by o (history me.0) ≡ Some Writing → n / 2 ^ 32 ≡ entered_at o 0 (map mark_of (history w.0))
+pub seen_version : (me w : M) (o n slots : ℕ) → looked (step slots (word_place o) 0 0 none) me n w → inside_by o (history me.0) ≡ Some Writing → n / 2 ^ 32 ≡ entered_at o 0 (map label_of (history w.0))
 seen_version me w o n slots told inside = let q = subst (λ z. IsSight (history me.0) z n) (object_is o) told.1 in
-    q.version inside ∙ sym (ap (λ (m : M). entered_at o 0 (map mark_of (history m.0))) told.0)
+    q.version inside ∙ sym (ap (λ (m : M). entered_at o 0 (map label_of (history m.0))) told.0)

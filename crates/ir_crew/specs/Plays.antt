@@ -1,11 +1,11 @@
 -- What each step of the table tells the seat that takes it.
 use Rattle.std.specs.Prelude.{◌≡◌, ◌≢◌, ℕ, ◌-◌, ◌/◌, ◌%◌, ◌^◌, ◌<◌, Bool, true, false, eqb, List, [], ◌∷◌, ◌++◌, map, Option, Some, None}
 use Rattle.atomic_table.specs.Table.{Me, Step}
-use Rattle.ir_runs.specs.Marks.{Mark, Quiet, Answer, In, Refused, Out}
+use Rattle.ir_runs.specs.Labels.{Label, Quiet, Answer, In, Refused, Out}
 use Rattle.ir_runs.specs.declared.access.Access.{Access}
 use Rattle.ir_runs.specs.declared.access.Access.TheVariants.{Reading, Writing}
 use Rattle.ir_object.specs.Order.{inside_after}
-use Rattle.ir_crew.specs.Rule.{View, shared_of, mark_of}
+use Rattle.ir_crew.specs.Rule.{View, shared_of, label_of}
 use Rattle.ir_crew.specs.declared.deed.Deed.{Deed}
 use Rattle.ir_crew.specs.declared.deed.Deed.TheVariants.{Enter, Leave, Get, Put}
 use Rattle.ir_crew.specs.declared.deed.ObjectStep.{ObjectStep}
@@ -30,20 +30,20 @@ did (k ∷ ks) o d = record { thread = k.thread; steps = k.steps ++ record { obj
 abbrev pub inside_by : ℕ → List ObjectStep → Option Access
 inside_by o h = inside_after o None (map shared_of h)
 
--- the version after a mark, of object o
+-- the version after a label, of object o
 abbrev pub version_if : Bool → ℕ → ℕ → ℕ
 version_if true w v = w
 version_if false w v = v
 
-abbrev pub version_then : ℕ → Mark → ℕ → ℕ
+abbrev pub version_then : ℕ → Label → ℕ → ℕ
 version_then o Quiet v = v
 version_then o (Answer k w) v = v
 version_then o (In p a w l) v = version_if (eqb o p) w v
 version_then o (Refused p) v = v
 version_then o (Out p a w) v = v
 
--- the version at which a thread entered object o last, by its own marks
-abbrev pub entered_at : ℕ → ℕ → List Mark → ℕ
+-- the version at which a thread entered object o last, by its own labels
+abbrev pub entered_at : ℕ → ℕ → List Label → ℕ
 entered_at o v [] = v
 entered_at o v (k ∷ ks) = entered_at o (version_then o k v) ks
 
@@ -60,7 +60,7 @@ index_of word = (word - 16) % 24
 -- what a look at an object's word tells: it has room for an entry, and while the thread is inside for writing, the version is that of its entry
 pub record IsSight (h : List ObjectStep) (o n : ℕ) : Type 0 where
   pub small : n < 2 ^ 63
-  pub version : inside_by o h ≡ Some Writing → n / 2 ^ 32 ≡ entered_at o 0 (map mark_of h)
+  pub version : inside_by o h ≡ Some Writing → n / 2 ^ 32 ≡ entered_at o 0 (map label_of h)
 
 abbrev pub looked : Step (Unit {0}) → M → ℕ → M → Type 0
 looked s me n w = (w ≡ me) × IsSight (history me.0) (object_of s.word) n

@@ -7,11 +7,11 @@ use Rattle.ir_image.specs.Guest.{Guest, IsGuest, object_count, object_words}
 use Rattle.ir_thread.specs.Calls.{most_events}
 use Rattle.ir_thread.specs.Instance.{thread_machine}
 use Rattle.ir_runs.specs.Machine.{Act, Silent, Result, Entry, Refusal, Exit, Load, Store, Never}
-use Rattle.ir_runs.specs.Marks.{Mark, Quiet, In, Out}
+use Rattle.ir_runs.specs.Labels.{Label, Quiet, In, Out}
 use Rattle.ir_object.specs.Cell.{Counts}
 use Rattle.ir_object.specs.Layout.{word_place, content_place, table_length}
 use Rattle.ir_runs.specs.Object.{Object}
-use Rattle.ir_object.specs.Order.{Shared, of_thread, objects_after, order_marks, IsLegal}
+use Rattle.ir_object.specs.Order.{Shared, of_thread, objects_after, order_labels, IsLegal}
 use Rattle.ir_object.specs.Word.{fields_of}
 use Rattle.ir_object.specs.declared.fields.Fields.{Fields}
 use Rattle.ir_crew.specs.declared.deed.Deed.{Deed}
@@ -31,17 +31,17 @@ shared_by o (Get i w) = (Load o i, w)
 shared_by o (Put i w) = (Store o i w, 0)
 
 -- what it tells
-abbrev pub mark_by : ℕ → Deed → Mark
-mark_by o (Enter a v l) = In o a v l
-mark_by o (Leave a v) = Out o a v
-mark_by o (Get i w) = Quiet
-mark_by o (Put i w) = Quiet
+abbrev pub label_by : ℕ → Deed → Label
+label_by o (Enter a v l) = In o a v l
+label_by o (Leave a v) = Out o a v
+label_by o (Get i w) = Quiet
+label_by o (Put i w) = Quiet
 
 abbrev pub shared_of : ObjectStep → Shared
 shared_of e = shared_by e.object e.deed
 
-abbrev pub mark_of : ObjectStep → Mark
-mark_of e = mark_by e.object e.deed
+abbrev pub label_of : ObjectStep → Label
+label_of e = label_by e.object e.deed
 
 -- 1 for an entry
 abbrev pub one_if_entry : Act → ℕ
@@ -79,7 +79,7 @@ pub record IsTable (n count : ℕ) (objects : ℕ → Object) (ws : List ℕ) : 
 pub record IsTrack (n : ℕ) (f : ℕ → Object) (steps : List (ℕ × Shared)) (k : Track) : Type 0 where
   pub thread : k.thread < n
   pub steps_are : of_thread k.thread steps ≡ map shared_of k.steps
-  pub marks_are : of_thread k.thread (order_marks f steps) ≡ map mark_of k.steps
+  pub labels_are : of_thread k.thread (order_labels f steps) ≡ map label_of k.steps
 
 -- the tracks of a seat are such, and it is the seat of their threads
 abbrev pub Fits : ℕ → (ℕ → Object) → List (ℕ × Shared) → (ℕ → ℕ) → ℕ → View → Type 0

@@ -1,13 +1,13 @@
 -- A guest with a trace has one run, up to the order of the steps.
 use Rattle.std.proofs.Common.{◌≡◌, ℕ, zero, suc, ◌<◌, ◌≤◌, ◌^◌, List, [], ◌∷◌, length, sym, ap, ◌∙◌, subst, arith, inl, inr}
 use Rattle.std.proofs.lemmas.Bool.{cases_lt}
-use Rattle.ir_runs.specs.Marks.{Mark, Quiet, Answer, In, Refused, Out}
+use Rattle.ir_runs.specs.Labels.{Label, Quiet, Answer, In, Refused, Out}
 use Rattle.ir_runs.specs.declared.access.Access.{Access}
 use Rattle.ir_thread.proofs.CallerLemmas.{lawful}
 use Rattle.ir_runs.specs.Run.{Step, trail, count, events}
 use Rattle.ir_runs.proofs.CallerLemmas.{start_good, alike}
 use Rattle.ir_flat.proofs.CallerLemmas.{start_idle}
-use Rattle.ir_log.specs.Logging.{mark_of}
+use Rattle.ir_log.specs.Logging.{label_of}
 use Rattle.ir_log.specs.declared.event.Event.{Event}
 use Rattle.ir_log.specs.declared.event.Event.TheVariants.{Answer as Result, Read, Write}
 use Rattle.ir_trace.specs.Recorded.{IsRecorded, IsEvent}
@@ -36,7 +36,7 @@ same_trail f run run' is is' =
       | inr l ↦ ap length (no_trail f run is t l ∙ sym (no_trail f run' is' t l))
     ])).same_trail
 
-abbrev version_in : Mark → ℕ
+abbrev version_in : Label → ℕ
 version_in Quiet = 0
 version_in (Answer k x) = 0
 version_in (In o a v l) = v
@@ -54,24 +54,24 @@ again f h run is = record {
 }
 
 -- a step is of a thread that there is
-pub teller : (f : FittedTrace) → HasRun f → (run : List Step) → IsRunOf f.guest f.recorded run → (t i : ℕ) (k : Mark) → Tells (machine_of f) (start_of f) run t i k → t < length f.guest.entries
+pub teller : (f : FittedTrace) → HasRun f → (run : List Step) → IsRunOf f.guest f.recorded run → (t i : ℕ) (k : Label) → Tells (machine_of f) (start_of f) run t i k → t < length f.guest.entries
 unfolding again
 teller f h run is t i k told = tells_below f (again f h run is) t i k told
 
 -- and one of those that it takes
-pub place_within : (f : FittedTrace) (run : List Step) (t i : ℕ) (k : Mark) → Tells (machine_of f) (start_of f) run t i k → i < count (machine_of f) (start_of f) run t
+pub place_within : (f : FittedTrace) (run : List Step) (t i : ℕ) (k : Label) → Tells (machine_of f) (start_of f) run t i k → i < count (machine_of f) (start_of f) run t
 place_within f run t i k told = (get_at (trail (machine_of f) (start_of f) run t) i (told.0, k) told.1).0
 
 -- ---- what is told by an entry stands in the trace
 
-word_of : (objects : ℕ) (x : Event) (o : ℕ) (a : Access) (v l : ℕ) → IsEvent objects x → mark_of x ≡ In o a v l → v < 2 ^ 32
+word_of : (objects : ℕ) (x : Event) (o : ℕ) (a : Access) (v l : ℕ) → IsEvent objects x → label_of x ≡ In o a v l → v < 2 ^ 32
 word_of objects (Result kind value) o a v l h e = absurd (cc e)
 word_of objects (Read p w) o a v l h e = subst (λ z. z < 2 ^ 32) (ap version_in e) h.1
 word_of objects (Write p w n) o a v l h e = subst (λ z. z < 2 ^ 32) (ap version_in e) h.1
 
-words_of : (objects : ℕ) (es : List Event) → AllByRecursion (IsEvent objects) es → (e : ℕ) (x : Event) (o : ℕ) (a : Access) (v l : ℕ) → At es e x → mark_of x ≡ In o a v l → v < 2 ^ 32
+words_of : (objects : ℕ) (es : List Event) → AllByRecursion (IsEvent objects) es → (e : ℕ) (x : Event) (o : ℕ) (a : Access) (v l : ℕ) → At es e x → label_of x ≡ In o a v l → v < 2 ^ 32
 words_of objects [] all e x o a v l h is = absurd h
-words_of objects (y ∷ es) all zero x o a v l h is = word_of objects y o a v l all.0 (ap mark_of h ∙ is)
+words_of objects (y ∷ es) all zero x o a v l h is = word_of objects y o a v l all.0 (ap label_of h ∙ is)
 words_of objects (y ∷ es) all (suc e) x o a v l h is = words_of objects es all.1 e x o a v l h is
 
 -- a version that is entered is a word

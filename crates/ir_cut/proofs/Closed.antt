@@ -5,7 +5,7 @@ use Rattle.std.specs.List.{slice_index_or}
 use Rattle.std.proofs.lemmas.Bool.{cases_lt}
 use Rattle.std.proofs.lemmas.List.{get_or_past}
 use Rattle.std.proofs.lemmas.Option.{slice_get_within, slice_get-get_or}
-use Rattle.ir_log.specs.Logging.{mark_of}
+use Rattle.ir_log.specs.Logging.{label_of}
 use Rattle.ir_log.specs.declared.event.Event.{Event}
 use Rattle.ir_trace.specs.Told.{recorded_thread}
 use Rattle.ir_runs.specs.Cuts.{Tells, Needs}
@@ -19,7 +19,7 @@ use Rattle.ir_cut.proofs.Searched.{entered, same_element}
 
 -- what the first n events of thread t need is inside
 abbrev pub FirstMet : FittedTrace → List ℕ → ℕ → ℕ → Type 0
-FirstMet f qs t n = (e : ℕ) (x : Event) → e < n → slice_get (recorded_thread f.recorded t).events e ≡ Some x → EachRun f (λ run. AreInside f run (NeededBy (mark_of x)) (cut_of qs))
+FirstMet f qs t n = (e : ℕ) (x : Event) → e < n → slice_get (recorded_thread f.recorded t).events e ≡ Some x → EachRun f (λ run. AreInside f run (NeededBy (label_of x)) (cut_of qs))
 
 -- it is closed, where all events in the cut are among them
 closed_by : (f : FittedTrace) → IsFitted f → (qs : List ℕ) (t n : ℕ) → FirstMet f qs t n → ((e i : ℕ) → slice_get (placed_at f.placed t).entries e ≡ Some i → i < cut_of qs t → e < n) → EachRun f (λ run. IsClosed f run (cut_of qs) t)
@@ -57,22 +57,22 @@ pub event_there : (f : FittedTrace) (ks : List ℕ) (es : List Event) (t n : ℕ
 event_there f ks es t n list size l = let same : length ks ≡ length (placed_at f.placed t).entries = ap length list in omega (arith, l, same, size)
 
 pub not_closed : (f : FittedTrace) → IsFitted f → (qs ks : List ℕ) (es : List Event) (t n k : ℕ) (x : Event) (b : Bool) → t < length f.guest.entries → ks ≡ (placed_at f.placed t).entries → es ≡ (recorded_thread f.recorded t).events → n < length ks → k ≡ slice_index_or ks n 0 → k < cut_of qs t
-    → slice_get es n ≡ Some x → IsTrue b ↔ EachRun f (λ run. AreInside f run (NeededBy (mark_of x)) (cut_of qs)) → b ≡ false → IsTrue false ↔ EachRun f (λ run. IsClosed f run (cut_of qs) t)
+    → slice_get es n ≡ Some x → IsTrue b ↔ EachRun f (λ run. AreInside f run (NeededBy (label_of x)) (cut_of qs)) → b ≡ false → IsTrue false ↔ EachRun f (λ run. IsClosed f run (cut_of qs) t)
 not_closed f fit qs ks es t n k x b there list log l read inside event test is = (
   (λ h. absurd (cc h)),
   (λ closed. absurd (cc (
     is,
     test.1 (λ run ok.
-        closed run ok k (mark_of x) ((listed f fit.run run ok).event t n k x there (ap (λ z. slice_get z n) (sym log) ∙ event) (ap (λ z. slice_get z n) (sym list) ∙ slice_get-get_or ks n 0 l ∙ ap Some (sym read))) inside),
+        closed run ok k (label_of x) ((listed f fit.run run ok).event t n k x there (ap (λ z. slice_get z n) (sym log) ∙ event) (ap (λ z. slice_get z n) (sym list) ∙ slice_get-get_or ks n 0 l ∙ ap Some (sym read))) inside),
   ))),
 )
 
 -- one more
-pub one_met : (f : FittedTrace) (qs : List ℕ) (es : List Event) (t n : ℕ) (x : Event) (b : Bool) → es ≡ (recorded_thread f.recorded t).events → slice_get es n ≡ Some x → IsTrue b ↔ EachRun f (λ run. AreInside f run (NeededBy (mark_of x)) (cut_of qs)) → b ≡ true
+pub one_met : (f : FittedTrace) (qs : List ℕ) (es : List Event) (t n : ℕ) (x : Event) (b : Bool) → es ≡ (recorded_thread f.recorded t).events → slice_get es n ≡ Some x → IsTrue b ↔ EachRun f (λ run. AreInside f run (NeededBy (label_of x)) (cut_of qs)) → b ≡ true
     → FirstMet f qs t n → FirstMet f qs t (n + 1)
 one_met f qs es t n x b log event test is met e y l at = elim (cases_lt e n) [
   | inl less ↦ met e y less at
-  | inr past ↦ subst (λ z. EachRun f (λ run. AreInside f run (NeededBy (mark_of z)) (cut_of qs)))
+  | inr past ↦ subst (λ z. EachRun f (λ run. AreInside f run (NeededBy (label_of z)) (cut_of qs)))
       (same_element es n e x y (let d : n ≡ e = omega (arith, l, past) in d) event (ap (λ z. slice_get z e) log ∙ at)) (test.0 is)
 ]
 

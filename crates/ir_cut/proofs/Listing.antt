@@ -9,10 +9,10 @@ use Rattle.ir_fit.proofs.CallerLemmas as kept
 use Rattle.ir_fit.proofs.CallerLemmas.{tells_below, entries_long, entry_tells, entry_of, leave_tells, leave_of}
 use Rattle.ir_cut.proofs.Again.{again}
 use Rattle.std.specs.Prelude.{slice_get}
-use Rattle.ir_runs.specs.Marks.{In, Out}
+use Rattle.ir_runs.specs.Labels.{In, Out}
 use Rattle.ir_runs.specs.declared.access.Access.{Access}
 use Rattle.ir_runs.specs.Run.{Step}
-use Rattle.ir_log.specs.Logging.{mark_of}
+use Rattle.ir_log.specs.Logging.{label_of}
 use Rattle.ir_log.specs.declared.event.Event.{Event}
 use Rattle.ir_trace.specs.Told.{recorded_thread}
 use Rattle.ir_runs.specs.Cuts.{Tells}
@@ -24,8 +24,8 @@ use Rattle.ir_cut.specs.Positions.{machine_of, start_of}
 -- the events of thread t, the positions of these, and its leaves
 pub record Listed (f : FittedTrace) (run : List Step) : Type 0 where
   pub sizes : (t : ℕ) → t < length f.guest.entries → length (placed_at f.placed t).entries ≡ length (recorded_thread f.recorded t).events
-  pub event : (t e i : ℕ) (x : Event) → t < length f.guest.entries → slice_get (recorded_thread f.recorded t).events e ≡ Some x → slice_get (placed_at f.placed t).entries e ≡ Some i → Tells (machine_of f) (start_of f) run t i (mark_of x)
-  pub entry : (t i o : ℕ) (a : Access) (v l : ℕ) → Tells (machine_of f) (start_of f) run t i (In o a v l) → (e : ℕ) × (x : Event) × (slice_get (placed_at f.placed t).entries e ≡ Some i) × (slice_get (recorded_thread f.recorded t).events e ≡ Some x) × (mark_of x ≡ In o a v l)
+  pub event : (t e i : ℕ) (x : Event) → t < length f.guest.entries → slice_get (recorded_thread f.recorded t).events e ≡ Some x → slice_get (placed_at f.placed t).entries e ≡ Some i → Tells (machine_of f) (start_of f) run t i (label_of x)
+  pub entry : (t i o : ℕ) (a : Access) (v l : ℕ) → Tells (machine_of f) (start_of f) run t i (In o a v l) → (e : ℕ) × (x : Event) × (slice_get (placed_at f.placed t).entries e ≡ Some i) × (slice_get (recorded_thread f.recorded t).events e ≡ Some x) × (label_of x ≡ In o a v l)
   pub rise : (t e d i j : ℕ) → t < length f.guest.entries → e < d → slice_get (placed_at f.placed t).entries e ≡ Some i → slice_get (placed_at f.placed t).entries d ≡ Some j → i < j
   pub left : (t e : ℕ) (l : Leave) → t < length f.guest.entries → slice_get (placed_at f.placed t).leaves e ≡ Some l → Tells (machine_of f) (start_of f) run t l.position (Out l.object l.access l.version)
   pub leave : (t i o : ℕ) (a : Access) (v : ℕ) → Tells (machine_of f) (start_of f) run t i (Out o a v) → (e : ℕ) × (slice_get (placed_at f.placed t).leaves e ≡ Some (record { position = i; object = o; access = a; version = v }))
@@ -39,8 +39,8 @@ listed f h run is =
       sizes = λ t there. entries_long f k t there;
       event = λ t e i x there at place.
           let inside = slice_get_within (recorded_thread f.recorded t).events e x at in
-          subst (λ m. Tells (machine_of f) (start_of f) run t i (mark_of m)) (get_or_from_slice_get (recorded_thread f.recorded t).events e x x at)
-          (subst (λ j. Tells (machine_of f) (start_of f) run t j (mark_of (slice_index_or (recorded_thread f.recorded t).events e x))) (get_or_from_slice_get (placed_at f.placed t).entries e i 0 place) (entry_tells f k t there e x inside));
+          subst (λ m. Tells (machine_of f) (start_of f) run t i (label_of m)) (get_or_from_slice_get (recorded_thread f.recorded t).events e x x at)
+          (subst (λ j. Tells (machine_of f) (start_of f) run t j (label_of (slice_index_or (recorded_thread f.recorded t).events e x))) (get_or_from_slice_get (placed_at f.placed t).entries e i 0 place) (entry_tells f k t there e x inside));
       entry = λ t i o a v l told.
           let there = tells_below f k t i (In o a v l) told in
           let d : Event = Read 0 0 in

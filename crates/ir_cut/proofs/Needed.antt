@@ -1,9 +1,9 @@
 -- What entries need, and what needs leaves.
 use Rattle.std.proofs.Common.{◌≡◌, ℕ, suc, ◌+◌, ◌-◌, ◌<◌, ◌≤◌, ◌^◌, ◌⊎◌, ◌↔◌, Bool, false, List, length, refl, sym, ap, ◌∙◌, subst, arith, inl, inr, IsTrue}
-use Rattle.ir_runs.specs.Marks.{Mark, Quiet, Answer, In, Refused, Out}
+use Rattle.ir_runs.specs.Labels.{Label, Quiet, Answer, In, Refused, Out}
 use Rattle.ir_runs.specs.declared.access.Access.TheVariants.{Reading, Writing}
 use Rattle.ir_runs.specs.declared.env_kind.EnvKind.{EnvKind}
-use Rattle.ir_log.specs.Logging.{mark_of}
+use Rattle.ir_log.specs.Logging.{label_of}
 use Rattle.ir_log.specs.declared.event.Event.{Event}
 use Rattle.ir_log.specs.declared.event.Event.TheVariants.{Read, Write}
 use Rattle.ir_runs.specs.Cuts.{Tells, Needs, Cut}
@@ -19,7 +19,7 @@ use Rattle.ir_cut.proofs.Again.{entered_word}
 
 -- ---- an entry needs the leave that made its version
 
-pub nobody_made : (o v l : ℕ) → v ≡ 0 → (b : Mark) → NeededBy (In o Reading v l) b → ⊥
+pub nobody_made : (o v l : ℕ) → v ≡ 0 → (b : Label) → NeededBy (In o Reading v l) b → ⊥
 nobody_made o v l is Quiet h = h
 nobody_made o v l is (Answer k x) h = h
 nobody_made o v l is (In p a w i) h = h
@@ -27,7 +27,7 @@ nobody_made o v l is (Refused p) h = h
 nobody_made o v l is (Out p Reading w) h = h
 nobody_made o v l is (Out p Writing w) h = let e = h.1 in omega (arith, is, e)
 
-pub its_maker : (o v w l : ℕ) → v ≡ w + 1 → (b : Mark) → NeededBy (In o Reading v l) b → b ≡ Out o Writing w
+pub its_maker : (o v w l : ℕ) → v ≡ w + 1 → (b : Label) → NeededBy (In o Reading v l) b → b ≡ Out o Writing w
 its_maker o v w l is Quiet h = absurd h
 its_maker o v w l is (Answer k x) h = absurd h
 its_maker o v w l is (In p a u i) h = absurd h
@@ -35,12 +35,12 @@ its_maker o v w l is (Refused p) h = absurd h
 its_maker o v w l is (Out p Reading u) h = absurd h
 its_maker o v w l is (Out p Writing u) h = let e = h.1 in ap (λ z. Out z Writing u) h.0 ∙ ap (Out o Writing) (let d : u ≡ w = omega (arith, is, e) in d)
 
-pub makes_it : (o v w l : ℕ) → v ≡ w + 1 → (b : Mark) → b ≡ Out o Writing w → NeededBy (In o Reading v l) b
+pub makes_it : (o v w l : ℕ) → v ≡ w + 1 → (b : Label) → b ≡ Out o Writing w → NeededBy (In o Reading v l) b
 makes_it o v w l is b e = subst (NeededBy (In o Reading v l)) (sym e) (refl, (let d : v ≡ suc w = omega (arith, is) in d))
 
 -- ---- one for writing needs the readers' leaves of its version beside
 
-pub maker_or_reader : (o v l : ℕ) (b : Mark) → NeededBy (In o Writing v l) b → NeededBy (In o Reading v 0) b ⊎ (b ≡ Out o Reading v)
+pub maker_or_reader : (o v l : ℕ) (b : Label) → NeededBy (In o Writing v l) b → NeededBy (In o Reading v 0) b ⊎ (b ≡ Out o Reading v)
 maker_or_reader o v l Quiet h = absurd h
 maker_or_reader o v l (Answer k x) h = absurd h
 maker_or_reader o v l (In p a w i) h = absurd h
@@ -48,7 +48,7 @@ maker_or_reader o v l (Refused p) h = absurd h
 maker_or_reader o v l (Out p Reading w) h = inr (ap (λ z. Out z Reading w) h.0 ∙ ap (Out o Reading) (sym h.1))
 maker_or_reader o v l (Out p Writing w) h = inl h
 
-pub maker_needed : (o v l : ℕ) (b : Mark) → NeededBy (In o Reading v 0) b → NeededBy (In o Writing v l) b
+pub maker_needed : (o v l : ℕ) (b : Label) → NeededBy (In o Reading v 0) b → NeededBy (In o Writing v l) b
 maker_needed o v l Quiet h = h
 maker_needed o v l (Answer k x) h = h
 maker_needed o v l (In p a w i) h = h
@@ -56,10 +56,10 @@ maker_needed o v l (Refused p) h = h
 maker_needed o v l (Out p Reading w) h = absurd h
 maker_needed o v l (Out p Writing w) h = h
 
-pub reader_needed : (o v l : ℕ) (b : Mark) → b ≡ Out o Reading v → NeededBy (In o Writing v l) b
+pub reader_needed : (o v l : ℕ) (b : Label) → b ≡ Out o Reading v → NeededBy (In o Writing v l) b
 reader_needed o v l b e = subst (NeededBy (In o Writing v l)) (sym e) (refl, refl)
 
-pub answer_needs : (kind : EnvKind) (x : ℕ) (b : Mark) → NeededBy (Answer kind x) b → ⊥
+pub answer_needs : (kind : EnvKind) (x : ℕ) (b : Label) → NeededBy (Answer kind x) b → ⊥
 answer_needs kind x Quiet h = h
 answer_needs kind x (Answer k y) h = h
 answer_needs kind x (In p a w i) h = h
@@ -70,7 +70,7 @@ answer_needs kind x (Out p Writing w) h = h
 -- ---- whether what an event needs is inside
 
 -- where each step of one kind is of the other
-inside_from : (f : FittedTrace) (P R : Mark → Type 0) → ((k : Mark) → R k → P k) → (c : Cut) → EachRun f (λ run. AreInside f run P c) → EachRun f (λ run. AreInside f run R c)
+inside_from : (f : FittedTrace) (P R : Label → Type 0) → ((k : Label) → R k → P k) → (c : Cut) → EachRun f (λ run. AreInside f run P c) → EachRun f (λ run. AreInside f run R c)
 inside_from f P R to c h run is t i k tells r = h run is t i k tells (to k r)
 
 pub made_inside : (f : FittedTrace) → IsFitted f → (o v w : ℕ) (ps : List Place) → OnlyLeaves f o Writing w ps → AllLeaves f o Writing w ps → (xs : List ℕ) (b : Bool) → (1 ≤ v) × (w ≡ v - 1)
@@ -83,22 +83,22 @@ made_inside f k o v w ps only all xs b is test =
     )
 
 pub read_inside : (f : FittedTrace) (x : Event) (o v : ℕ) (xs : List ℕ) (b : Bool) → x ≡ Read o v → IsTrue b ↔ EachRun f (λ run. AreInside f run (NeededBy (In o Reading v 0)) (cut_of xs))
-    → IsTrue b ↔ EachRun f (λ run. AreInside f run (NeededBy (mark_of x)) (cut_of xs))
-read_inside f x o v xs b is h = subst (λ z. IsTrue b ↔ EachRun f (λ run. AreInside f run (NeededBy (mark_of z)) (cut_of xs))) (sym is) h
+    → IsTrue b ↔ EachRun f (λ run. AreInside f run (NeededBy (label_of x)) (cut_of xs))
+read_inside f x o v xs b is h = subst (λ z. IsTrue b ↔ EachRun f (λ run. AreInside f run (NeededBy (label_of z)) (cut_of xs))) (sym is) h
 
 pub write_inside : (f : FittedTrace) → IsFitted f → (x : Event) (o v l : ℕ) (ps : List Place) → OnlyLeaves f o Reading v ps → AllLeaves f o Reading v ps → (xs : List ℕ) (a b : Bool) → x ≡ Write o v l → IsTrue a
     → IsTrue a ↔ EachRun f (λ run. AreInside f run (NeededBy (In o Reading v 0)) (cut_of xs)) → IsTrue b ↔ EachPlace ps (length ps) (λ p. p.position < cut_of xs p.thread)
-    → IsTrue b ↔ EachRun f (λ run. AreInside f run (NeededBy (mark_of x)) (cut_of xs))
+    → IsTrue b ↔ EachRun f (λ run. AreInside f run (NeededBy (label_of x)) (cut_of xs))
 write_inside f k x o v l ps only all xs a b is so made test =
     let leaves = leaves_inside f k o Reading v ps only all xs in
-    subst (λ z. IsTrue b ↔ EachRun f (λ run. AreInside f run (NeededBy (mark_of z)) (cut_of xs))) (sym is) (
+    subst (λ z. IsTrue b ↔ EachRun f (λ run. AreInside f run (NeededBy (label_of z)) (cut_of xs))) (sym is) (
       (λ read run is t i m tells n. elim (maker_or_reader o v l m n) [ inl maker ↦ made.0 so run is t i m tells maker | inr reader ↦ leaves.0 (test.0 read) run is t i m tells reader ]),
       (λ h. test.1 (leaves.1 (inside_from f (NeededBy (In o Writing v l)) (λ z. z ≡ Out o Reading v) (reader_needed o v l) (cut_of xs) h))),
     )
 
 pub unmade_inside : (f : FittedTrace) (x : Event) (o v l : ℕ) (xs : List ℕ) (a : Bool) → x ≡ Write o v l → a ≡ false
-    → IsTrue a ↔ EachRun f (λ run. AreInside f run (NeededBy (In o Reading v 0)) (cut_of xs)) → IsTrue a ↔ EachRun f (λ run. AreInside f run (NeededBy (mark_of x)) (cut_of xs))
-unmade_inside f x o v l xs a is no_maker made = subst (λ z. IsTrue a ↔ EachRun f (λ run. AreInside f run (NeededBy (mark_of z)) (cut_of xs))) (sym is) (
+    → IsTrue a ↔ EachRun f (λ run. AreInside f run (NeededBy (In o Reading v 0)) (cut_of xs)) → IsTrue a ↔ EachRun f (λ run. AreInside f run (NeededBy (label_of x)) (cut_of xs))
+unmade_inside f x o v l xs a is no_maker made = subst (λ z. IsTrue a ↔ EachRun f (λ run. AreInside f run (NeededBy (label_of z)) (cut_of xs))) (sym is) (
   (λ so. absurd (cc (so, no_maker))),
   (λ h. made.1 (inside_from f (NeededBy (In o Writing v l)) (NeededBy (In o Reading v 0)) (maker_needed o v l) (cut_of xs) h)),
 )
@@ -112,12 +112,12 @@ made_raised f k o v w ps only all old new is r run ok =
     raised_same f run (λ z. z ≡ Out o Writing w) (NeededBy (In o Reading v 0)) (its_maker o v w 0 next) (makes_it o v w 0 next) old new (leaves_raised f k o Writing w ps only all old new r run ok)
 
 pub write_raised : (f : FittedTrace) → IsFitted f → (x : Event) (o v l : ℕ) (ps : List Place) → OnlyLeaves f o Reading v ps → AllLeaves f o Reading v ps → (old cur new : List ℕ) → x ≡ Write o v l
-    → EachRun f (λ run. RaisedFor f run (NeededBy (In o Reading v 0)) old cur) → IsRaised cur new ps (length ps) → EachRun f (λ run. RaisedFor f run (NeededBy (mark_of x)) old new)
-write_raised f k x o v l ps only all old cur new is made r run ok = subst (λ z. RaisedFor f run (NeededBy (mark_of z)) old new) (sym is)
+    → EachRun f (λ run. RaisedFor f run (NeededBy (In o Reading v 0)) old cur) → IsRaised cur new ps (length ps) → EachRun f (λ run. RaisedFor f run (NeededBy (label_of x)) old new)
+write_raised f k x o v l ps only all old cur new is made r run ok = subst (λ z. RaisedFor f run (NeededBy (label_of z)) old new) (sym is)
     (raised_both f run (NeededBy (In o Reading v 0)) (λ z. z ≡ Out o Reading v) (NeededBy (In o Writing v l)) (maker_or_reader o v l) (maker_needed o v l) (reader_needed o v l) old cur new (made run ok) (leaves_raised f k o Reading v ps only all cur new r run ok))
 
-pub read_raised : (f : FittedTrace) (x : Event) (o v : ℕ) (old new : List ℕ) → x ≡ Read o v → EachRun f (λ run. RaisedFor f run (NeededBy (In o Reading v 0)) old new) → EachRun f (λ run. RaisedFor f run (NeededBy (mark_of x)) old new)
-read_raised f x o v old new is h run ok = subst (λ z. RaisedFor f run (NeededBy (mark_of z)) old new) (sym is) (h run ok)
+pub read_raised : (f : FittedTrace) (x : Event) (o v : ℕ) (old new : List ℕ) → x ≡ Read o v → EachRun f (λ run. RaisedFor f run (NeededBy (In o Reading v 0)) old new) → EachRun f (λ run. RaisedFor f run (NeededBy (label_of x)) old new)
+read_raised f x o v old new is h run ok = subst (λ z. RaisedFor f run (NeededBy (label_of z)) old new) (sym is) (h run ok)
 
 -- nothing is needed of the first version, and by a result
 pub first_raised : (f : FittedTrace) (o v : ℕ) (xs : List ℕ) → v ≡ 0 → EachRun f (λ run. RaisedFor f run (NeededBy (In o Reading v 0)) xs xs)
@@ -125,7 +125,7 @@ first_raised f o v xs is run ok = raised_nothing f run (NeededBy (In o Reading v
 
 -- ---- positions lowered from what needs a leave
 
-either_access : (o v : ℕ) (k : Mark) → IsEntryAt o v k → ((l : ℕ) × (k ≡ In o Reading v l)) ⊎ ((l : ℕ) × (k ≡ In o Writing v l))
+either_access : (o v : ℕ) (k : Label) → IsEntryAt o v k → ((l : ℕ) × (k ≡ In o Reading v l)) ⊎ ((l : ℕ) × (k ≡ In o Writing v l))
 either_access o v k (Reading, l, e) = inl (l, e)
 either_access o v k (Writing, l, e) = inr (l, e)
 
@@ -136,7 +136,7 @@ both_lowered f k o v ps qs only all only' all' old cur new r s run ok =
     (entries_lowered f k o Reading v ps only all old cur r run ok) (entries_lowered f k o Writing v qs only' all' cur new s run ok)
 
 -- what needs a leave after reading is an entry for writing at its version
-reading_needs : (o w : ℕ) (k : Mark) → Needs (Out o Reading w) k → (l : ℕ) × (k ≡ In o Writing w l)
+reading_needs : (o w : ℕ) (k : Label) → Needs (Out o Reading w) k → (l : ℕ) × (k ≡ In o Writing w l)
 reading_needs o w Quiet h = absurd h
 reading_needs o w (Answer j x) h = absurd h
 reading_needs o w (In p Reading v l) h = absurd h
@@ -144,7 +144,7 @@ reading_needs o w (In p Writing v l) h = (l, ap (λ z. In z Writing v l) (sym h.
 reading_needs o w (Refused p) h = absurd h
 reading_needs o w (Out p a v) h = absurd h
 
-needs_reading : (o w : ℕ) (k : Mark) → (l : ℕ) × (k ≡ In o Writing w l) → Needs (Out o Reading w) k
+needs_reading : (o w : ℕ) (k : Label) → (l : ℕ) × (k ≡ In o Writing w l) → Needs (Out o Reading w) k
 needs_reading o w k e = subst (Needs (Out o Reading w)) (sym e.1) (refl, refl)
 
 pub reader_lowered : (f : FittedTrace) → IsFitted f → (x : Leave) (ps : List Place) → OnlyEntries f x.object Writing x.version ps → AllEntries f x.object Writing x.version ps → (old new : List ℕ) → x.access ≡ Reading → IsLowered old new ps (length ps)
@@ -154,14 +154,14 @@ reader_lowered f k x ps only all old new is r run ok = subst (λ a. LoweredFor f
     (entries_lowered f k x.object Writing x.version ps only all old new r run ok))
 
 -- what needs a leave after writing is an entry at the version that it made
-writing_needs : (o w v : ℕ) → v ≡ w + 1 → (k : Mark) → Needs (Out o Writing w) k → IsEntryAt o v k
+writing_needs : (o w v : ℕ) → v ≡ w + 1 → (k : Label) → Needs (Out o Writing w) k → IsEntryAt o v k
 writing_needs o w v is Quiet h = absurd h
 writing_needs o w v is (Answer j x) h = absurd h
 writing_needs o w v is (In p a u l) h = (a, l, ap (λ z. In z a u l) (sym h.0) ∙ ap (λ z. In o a z l) (let e = h.1 in let d : u ≡ v = omega (arith, is, e) in d))
 writing_needs o w v is (Refused p) h = absurd h
 writing_needs o w v is (Out p a u) h = absurd h
 
-needs_writing : (o w v : ℕ) → v ≡ w + 1 → (k : Mark) → IsEntryAt o v k → Needs (Out o Writing w) k
+needs_writing : (o w v : ℕ) → v ≡ w + 1 → (k : Label) → IsEntryAt o v k → Needs (Out o Writing w) k
 needs_writing o w v is k e = subst (Needs (Out o Writing w)) (sym e.2) (refl, (let d : v ≡ suc w = omega (arith, is) in d))
 
 pub writer_lowered : (f : FittedTrace) (x : Leave) (v : ℕ) (old new : List ℕ) → x.access ≡ Writing → v ≡ x.version + 1 → EachRun f (λ run. LoweredFor f run (IsEntryAt x.object v) old new)

@@ -5,11 +5,11 @@ use Rattle.std.specs.List.{slice_index_or}
 use Rattle.std.proofs.lemmas.Bool.{cases_eq, cases_lt}
 use Rattle.std.proofs.lemmas.List.{get_or_past}
 use Rattle.std.proofs.lemmas.Option.{slice_get_within, slice_get-get_or, get_or_from_slice_get}
-use Rattle.ir_runs.specs.Marks.{Mark, Quiet, Answer, In, Refused, Out}
+use Rattle.ir_runs.specs.Labels.{Label, Quiet, Answer, In, Refused, Out}
 use Rattle.ir_runs.specs.declared.access.Access.{Access}
 use Rattle.ir_runs.specs.declared.access.Access.TheVariants.{Reading, Writing}
 use Rattle.ir_runs.specs.Run.{Step, count}
-use Rattle.ir_log.specs.Logging.{mark_of}
+use Rattle.ir_log.specs.Logging.{label_of}
 use Rattle.ir_log.specs.declared.event.Event.{Event}
 use Rattle.ir_trace.specs.Told.{recorded_thread}
 use Rattle.ir_runs.specs.Cuts.{Tells, Needs, Cut, IsCut, Consistent}
@@ -24,14 +24,14 @@ use Rattle.ir_cut.proofs.Listing.{Listed}
 
 -- ---- what needs something is an entry
 
-pub record Entered (k : Mark) : Type 0 where
+pub record Entered (k : Label) : Type 0 where
   pub object : ℕ
   pub access : Access
   pub version : ℕ
   pub left : ℕ
   pub is : k ≡ In object access version left
 
-pub entered : (b a : Mark) → Needs b a → Entered a
+pub entered : (b a : Label) → Needs b a → Entered a
 entered (Out o Writing w) (In p c v l) h = record { object = p; access = c; version = v; left = l; is = refl }
 entered (Out o Writing w) Quiet h = absurd h
 entered (Out o Writing w) (Answer k x) h = absurd h
@@ -49,13 +49,13 @@ entered (In p c v l) a h = absurd h
 entered (Refused p) a h = absurd h
 
 -- and it needs a leave
-pub record Left (k : Mark) : Type 0 where
+pub record Left (k : Label) : Type 0 where
   pub object : ℕ
   pub access : Access
   pub version : ℕ
   pub is : k ≡ Out object access version
 
-pub left : (b a : Mark) → Needs b a → Left b
+pub left : (b a : Label) → Needs b a → Left b
 left (Out o c w) a h = record { object = o; access = c; version = w; is = refl }
 left Quiet a h = absurd h
 left (Answer k x) a h = absurd h
@@ -75,11 +75,11 @@ no_number next n u e size l = elim (cases_lt u n) [
 
 -- ---- upwards
 
-pub inside_more : (f : FittedTrace) (run : List Step) (P : Mark → Type 0) (c d : Cut) → ((u : ℕ) → c u ≤ d u) → AreInside f run P c → AreInside f run P d
+pub inside_more : (f : FittedTrace) (run : List Step) (P : Label → Type 0) (c d : Cut) → ((u : ℕ) → c u ≤ d u) → AreInside f run P c → AreInside f run P d
 inside_more f run P c d up h t i k tells is = let l = h t i k tells is in let m = up t in omega (arith, l, m)
 
 -- what an event of a step in a consistent cut needs is inside
-pub step_met : (f : FittedTrace) (run : List Step) (c : Cut) → Consistent (machine_of f) (start_of f) run c → (t i : ℕ) (k : Mark) → Tells (machine_of f) (start_of f) run t i k → i < c t → AreInside f run (NeededBy k) c
+pub step_met : (f : FittedTrace) (run : List Step) (c : Cut) → Consistent (machine_of f) (start_of f) run c → (t i : ℕ) (k : Label) → Tells (machine_of f) (start_of f) run t i k → i < c t → AreInside f run (NeededBy k) c
 step_met f run c con t i k tells l u j b at n = con t i u j k b tells at n l
 
 pub rising_start : (f : FittedTrace) (run : List Step) → IsRunOf f.guest f.recorded run → Listed f run → (ps qs next : List ℕ) (t k : ℕ) → IsCut (machine_of f) (start_of f) run (cut_of ps) → Consistent (machine_of f) (start_of f) run (cut_of ps)
@@ -103,29 +103,29 @@ rising_start f run is list ps qs next t k cut con there steps own rest size firs
           let inside : e < length (placed_at f.placed u).entries = (let a = slice_get_within (recorded_thread f.recorded u).events e x at in let b = list.sizes u less in omega (arith, a, b)) in
           let i : ℕ = slice_index_or (placed_at f.placed u).entries e 0 in
           let place : slice_get (placed_at f.placed u).entries e ≡ Some i = slice_get-get_or (placed_at f.placed u).entries e 0 inside in
-          inside_more f run (NeededBy (mark_of x)) (cut_of ps) (cut_of qs) up (step_met f run (cut_of ps) con u i (mark_of x) (list.event u e i x less at place) (first u less e i l place));
+          inside_more f run (NeededBy (label_of x)) (cut_of ps) (cut_of qs) up (step_met f run (cut_of ps) con u i (label_of x) (list.event u e i x less at place) (first u less e i l place));
     }
 
 pub rising_more : (f : FittedTrace) (run : List Step) → Listed f run → (ps qs qs' next next' : List ℕ) (t k u : ℕ) (x : Event) → Rising f ps t k qs next run → u < length f.guest.entries → HasBelow f qs next u
-    → slice_get (recorded_thread f.recorded u).events (cut_of next u) ≡ Some x → RaisedFor f run (NeededBy (mark_of x)) qs qs' → cut_of next' u ≡ cut_of next u + 1 → ((w : ℕ) → w ≢ u → cut_of next' w ≡ cut_of next w)
+    → slice_get (recorded_thread f.recorded u).events (cut_of next u) ≡ Some x → RaisedFor f run (NeededBy (label_of x)) qs qs' → cut_of next' u ≡ cut_of next u + 1 → ((w : ℕ) → w ≢ u → cut_of next' w ≡ cut_of next w)
     → Rising f ps t k qs' next' run
 rising_more f run list ps qs qs' next next' t k u x r there below at raised own rest =
-    let tells : Tells (machine_of f) (start_of f) run u below.0 (mark_of x) = list.event u (cut_of next u) below.0 x there at below.1 in
+    let tells : Tells (machine_of f) (start_of f) run u below.0 (label_of x) = list.event u (cut_of next u) below.0 x there at below.1 in
     record {
       above = λ w. let a = r.above w in let b = raised.above w in omega (arith, a, b);
       reaches = let a = r.reaches in let b = raised.above t in omega (arith, a, b);
       cut = raised.least (count (machine_of f) (start_of f) run) r.cut (λ w j b says _. place_within f run w j b says);
       least = λ c cut con over reach.
           let low = r.least c cut con over reach in
-          raised.least c low (step_met f run c con u below.0 (mark_of x) tells (let a = below.2 in let b = low u in omega (arith, a, b)));
+          raised.least c low (step_met f run c con u below.0 (label_of x) tells (let a = below.2 in let b = low u in omega (arith, a, b)));
       met = λ w e y l says. elim (cases_eq w u) [
-        | inr ne ↦ inside_more f run (NeededBy (mark_of y)) (cut_of qs) (cut_of qs') raised.above (r.met w e y (omega (arith, l, rest w ne)) says)
+        | inr ne ↦ inside_more f run (NeededBy (label_of y)) (cut_of qs) (cut_of qs') raised.above (r.met w e y (omega (arith, l, rest w ne)) says)
         | inl same ↦
             let l' : e < cut_of next u + 1 = subst (λ z. e < z) (ap (cut_of next') same ∙ own) l in
             let says' : slice_get (recorded_thread f.recorded u).events e ≡ Some y = subst (λ z. slice_get (recorded_thread f.recorded z).events e ≡ Some y) same says in
             elim (cases_lt e (cut_of next u)) [
-              | inl less ↦ inside_more f run (NeededBy (mark_of y)) (cut_of qs) (cut_of qs') raised.above (r.met u e y less says')
-              | inr past ↦ subst (λ z. AreInside f run (NeededBy (mark_of z)) (cut_of qs')) (same_element (recorded_thread f.recorded u).events (cut_of next u) e x y (let d : cut_of next u ≡ e = omega (arith, l', past) in d) at says') raised.inside
+              | inl less ↦ inside_more f run (NeededBy (label_of y)) (cut_of qs) (cut_of qs') raised.above (r.met u e y less says')
+              | inr past ↦ subst (λ z. AreInside f run (NeededBy (label_of z)) (cut_of qs')) (same_element (recorded_thread f.recorded u).events (cut_of next u) e x y (let d : cut_of next u ≡ e = omega (arith, l', past) in d) at says') raised.inside
             ]
       ];
     }
@@ -161,11 +161,11 @@ rising_over f h run is list ps qs next t k r none = record {
 
 -- ---- downwards
 
-pub outside_less : (f : FittedTrace) (run : List Step) (P : Mark → Type 0) (c d : Cut) → ((u : ℕ) → d u ≤ c u) → AreOutside f run P c → AreOutside f run P d
+pub outside_less : (f : FittedTrace) (run : List Step) (P : Label → Type 0) (c d : Cut) → ((u : ℕ) → d u ≤ c u) → AreOutside f run P c → AreOutside f run P d
 outside_less f run P c d down h t i k tells is = let l = h t i k tells is in let m = down t in omega (arith, l, m)
 
 -- what needs a leave that isn't in a consistent cut is outside
-pub step_unmet : (f : FittedTrace) (run : List Step) (c : Cut) → Consistent (machine_of f) (start_of f) run c → (t i : ℕ) (b : Mark) → Tells (machine_of f) (start_of f) run t i b → c t ≤ i → AreOutside f run (λ a. Needs b a) c
+pub step_unmet : (f : FittedTrace) (run : List Step) (c : Cut) → Consistent (machine_of f) (start_of f) run c → (t i : ℕ) (b : Label) → Tells (machine_of f) (start_of f) run t i b → c t ≤ i → AreOutside f run (λ a. Needs b a) c
 step_unmet f run c con t i b tells l u j a at n = elim (cases_lt j (c u)) [
   | inr past ↦ past
   | inl less ↦ let inside = con u j t i a b at tells n less in absurd (omega (arith, inside, l))

@@ -3,7 +3,7 @@ use Rattle.std.proofs.Common.{◌≡◌, ℕ, ◌<◌, ◌⊎◌, ◌↔◌, Lis
 use Rattle.std.specs.Prelude.{slice_get}
 use Rattle.std.specs.List.{Contains}
 use Rattle.std.proofs.lemmas.Option.{slice_get_read, slice_get_within, get_or_from_slice_get}
-use Rattle.ir_runs.specs.Marks.{Mark, In, Out}
+use Rattle.ir_runs.specs.Labels.{Label, In, Out}
 use Rattle.ir_runs.specs.declared.access.Access.{Access}
 use Rattle.ir_runs.specs.Run.{Step, count}
 use Rattle.ir_trace.specs.Recorded.{IsRecorded}
@@ -18,9 +18,9 @@ use Rattle.ir_fit.specs.declared.place.Place.{Place}
 use Rattle.ir_cut.proofs.Again.{again, teller, place_within}
 
 -- the places are those of the steps of the run that tell so
-pub record AreOf (f : FittedTrace) (run : List Step) (P : Mark → Type 0) (ps : List Place) : Type 0 where
-  pub only : (p : Place) → Contains ps p → (k : Mark) × P k × Tells (machine_of f) (start_of f) run p.thread p.position k
-  pub all : (t i : ℕ) (k : Mark) → Tells (machine_of f) (start_of f) run t i k → P k → (v : ℕ) × Contains ps (record { position = i; version = v; thread = t })
+pub record AreOf (f : FittedTrace) (run : List Step) (P : Label → Type 0) (ps : List Place) : Type 0 where
+  pub only : (p : Place) → Contains ps p → (k : Label) × P k × Tells (machine_of f) (start_of f) run p.thread p.position k
+  pub all : (t i : ℕ) (k : Label) → Tells (machine_of f) (start_of f) run t i k → P k → (v : ℕ) × Contains ps (record { position = i; version = v; thread = t })
 
 contained : (ps : List Place) (i : ℕ) (p : Place) → slice_get ps i ≡ Some p → Contains ps p
 contained ps i p e = (i, slice_get_within ps i p e, get_or_from_slice_get ps i p p e)
@@ -43,7 +43,7 @@ entries_are f h o a v ps only all run is = record {
 
 -- ---- each of them can be counted
 
-pub are_placed : (f : FittedTrace) → HasRun f → (run : List Step) → IsRunOf f.guest f.recorded run → IsRecorded f.recorded → (P : Mark → Type 0) (ps : List Place) → AreOf f run P ps → ArePlaced (length f.guest.entries) ps
+pub are_placed : (f : FittedTrace) → HasRun f → (run : List Step) → IsRunOf f.guest f.recorded run → IsRecorded f.recorded → (P : Label → Type 0) (ps : List Place) → AreOf f run P ps → ArePlaced (length f.guest.entries) ps
 are_placed f h run is recorded P ps of i p l e =
     let t = of.only p (contained ps i p e) in
     let there : p.thread < length f.guest.entries = teller f h run is p.thread p.position t.0 t.2 in
@@ -54,15 +54,15 @@ are_placed f h run is recorded P ps of i p l e =
 
 -- ---- moved for them
 
-pub inside_all : (f : FittedTrace) (run : List Step) (P : Mark → Type 0) (ps : List Place) → AreOf f run P ps → (c : Cut) → EachPlace ps (length ps) (λ p. p.position < c p.thread) → AreInside f run P c
+pub inside_all : (f : FittedTrace) (run : List Step) (P : Label → Type 0) (ps : List Place) → AreOf f run P ps → (c : Cut) → EachPlace ps (length ps) (λ p. p.position < c p.thread) → AreInside f run P c
 inside_all f run P ps of c each t i k tells is =
     let a = of.all t i k tells is in
     each a.1.0 (record { position = i; version = a.0; thread = t }) a.1.1 (slice_get_read ps (length ps) a.1.0 _ refl a.1.1 (sym a.1.2))
 
-pub inside_each : (f : FittedTrace) (run : List Step) (P : Mark → Type 0) (ps : List Place) → AreOf f run P ps → (c : Cut) → AreInside f run P c → EachPlace ps (length ps) (λ p. p.position < c p.thread)
+pub inside_each : (f : FittedTrace) (run : List Step) (P : Label → Type 0) (ps : List Place) → AreOf f run P ps → (c : Cut) → AreInside f run P c → EachPlace ps (length ps) (λ p. p.position < c p.thread)
 inside_each f run P ps of c inside i p l e = let t = of.only p (contained ps i p e) in inside p.thread p.position t.0 t.2 t.1
 
-pub raised_for : (f : FittedTrace) (run : List Step) (P : Mark → Type 0) (ps : List Place) → AreOf f run P ps → (old new : List ℕ) → IsRaised old new ps (length ps) → RaisedFor f run P old new
+pub raised_for : (f : FittedTrace) (run : List Step) (P : Label → Type 0) (ps : List Place) → AreOf f run P ps → (old new : List ℕ) → IsRaised old new ps (length ps) → RaisedFor f run P old new
 raised_for f run P ps of old new r = record {
   size = r.size;
   above = r.above;
@@ -70,7 +70,7 @@ raised_for f run P ps of old new r = record {
   least = λ c up inside. r.least c up (inside_each f run P ps of c inside);
 }
 
-pub lowered_for : (f : FittedTrace) (run : List Step) (P : Mark → Type 0) (ps : List Place) → AreOf f run P ps → (old new : List ℕ) → IsLowered old new ps (length ps) → LoweredFor f run P old new
+pub lowered_for : (f : FittedTrace) (run : List Step) (P : Label → Type 0) (ps : List Place) → AreOf f run P ps → (old new : List ℕ) → IsLowered old new ps (length ps) → LoweredFor f run P old new
 lowered_for f run P ps of old new r = record {
   size = r.size;
   below = r.below;
@@ -79,7 +79,7 @@ lowered_for f run P ps of old new r = record {
 }
 
 -- moved for both
-pub raised_both : (f : FittedTrace) (run : List Step) (P Q R : Mark → Type 0) → ((k : Mark) → R k → P k ⊎ Q k) → ((k : Mark) → P k → R k) → ((k : Mark) → Q k → R k) → (a b c : List ℕ)
+pub raised_both : (f : FittedTrace) (run : List Step) (P Q R : Label → Type 0) → ((k : Label) → R k → P k ⊎ Q k) → ((k : Label) → P k → R k) → ((k : Label) → Q k → R k) → (a b c : List ℕ)
     → RaisedFor f run P a b → RaisedFor f run Q b c → RaisedFor f run R a c
 raised_both f run P Q R split first second a b c r s = record {
   size = s.size ∙ r.size;
@@ -91,7 +91,7 @@ raised_both f run P Q R split first second a b c r s = record {
   least = λ d up inside. s.least d (r.least d up (λ t i k tells p. inside t i k tells (first k p))) (λ t i k tells q. inside t i k tells (second k q));
 }
 
-pub lowered_both : (f : FittedTrace) (run : List Step) (P Q R : Mark → Type 0) → ((k : Mark) → R k → P k ⊎ Q k) → ((k : Mark) → P k → R k) → ((k : Mark) → Q k → R k) → (a b c : List ℕ)
+pub lowered_both : (f : FittedTrace) (run : List Step) (P Q R : Label → Type 0) → ((k : Label) → R k → P k ⊎ Q k) → ((k : Label) → P k → R k) → ((k : Label) → Q k → R k) → (a b c : List ℕ)
     → LoweredFor f run P a b → LoweredFor f run Q b c → LoweredFor f run R a c
 lowered_both f run P Q R split first second a b c r s = record {
   size = s.size ∙ r.size;
@@ -104,7 +104,7 @@ lowered_both f run P Q R split first second a b c r s = record {
 }
 
 -- for the same steps in other words
-pub raised_same : (f : FittedTrace) (run : List Step) (P R : Mark → Type 0) → ((k : Mark) → R k → P k) → ((k : Mark) → P k → R k) → (a b : List ℕ) → RaisedFor f run P a b → RaisedFor f run R a b
+pub raised_same : (f : FittedTrace) (run : List Step) (P R : Label → Type 0) → ((k : Label) → R k → P k) → ((k : Label) → P k → R k) → (a b : List ℕ) → RaisedFor f run P a b → RaisedFor f run R a b
 raised_same f run P R to from a b r = record {
   size = r.size;
   above = r.above;
@@ -112,7 +112,7 @@ raised_same f run P R to from a b r = record {
   least = λ d up inside. r.least d up (λ t i k tells p. inside t i k tells (from k p));
 }
 
-pub lowered_same : (f : FittedTrace) (run : List Step) (P R : Mark → Type 0) → ((k : Mark) → R k → P k) → ((k : Mark) → P k → R k) → (a b : List ℕ) → LoweredFor f run P a b → LoweredFor f run R a b
+pub lowered_same : (f : FittedTrace) (run : List Step) (P R : Label → Type 0) → ((k : Label) → R k → P k) → ((k : Label) → P k → R k) → (a b : List ℕ) → LoweredFor f run P a b → LoweredFor f run R a b
 lowered_same f run P R to from a b r = record {
   size = r.size;
   below = r.below;
@@ -121,7 +121,7 @@ lowered_same f run P R to from a b r = record {
 }
 
 -- nothing is moved where no step tells so
-pub raised_nothing : (f : FittedTrace) (run : List Step) (P : Mark → Type 0) → ((t i : ℕ) (k : Mark) → Tells (machine_of f) (start_of f) run t i k → P k → ⊥) → (xs : List ℕ) → RaisedFor f run P xs xs
+pub raised_nothing : (f : FittedTrace) (run : List Step) (P : Label → Type 0) → ((t i : ℕ) (k : Label) → Tells (machine_of f) (start_of f) run t i k → P k → ⊥) → (xs : List ℕ) → RaisedFor f run P xs xs
 raised_nothing f run P none xs = record {
   size = refl;
   above = λ u. le_refl (cut_of xs u);
@@ -129,7 +129,7 @@ raised_nothing f run P none xs = record {
   least = λ c up inside u. up u;
 }
 
-pub lowered_nothing : (f : FittedTrace) (run : List Step) (P : Mark → Type 0) → ((t i : ℕ) (k : Mark) → Tells (machine_of f) (start_of f) run t i k → P k → ⊥) → (xs : List ℕ) → LoweredFor f run P xs xs
+pub lowered_nothing : (f : FittedTrace) (run : List Step) (P : Label → Type 0) → ((t i : ℕ) (k : Label) → Tells (machine_of f) (start_of f) run t i k → P k → ⊥) → (xs : List ℕ) → LoweredFor f run P xs xs
 lowered_nothing f run P none xs = record {
   size = refl;
   below = λ u. le_refl (cut_of xs u);

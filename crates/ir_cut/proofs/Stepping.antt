@@ -5,7 +5,7 @@ use Rattle.std.specs.List.{slice_index_or}
 use Rattle.std.proofs.lemmas.Bool.{cases_eq, cases_lt}
 use Rattle.std.proofs.lemmas.Grind.{get_or_default_zero}
 use Rattle.std.proofs.lemmas.Option.{slice_get_within, slice_get-get_or, get_or_from_slice_get}
-use Rattle.ir_log.specs.Logging.{mark_of}
+use Rattle.ir_log.specs.Logging.{label_of}
 use Rattle.ir_log.specs.declared.event.Event.{Event}
 use Rattle.ir_trace.specs.Recorded.{Recorded, RecordedThread, IsRecorded}
 use Rattle.ir_trace.specs.Told.{absent, recorded_thread}
@@ -47,7 +47,7 @@ pub below_inside : (f : FittedTrace) (qs next : List ℕ) (t i : ℕ) → HasBel
 below_inside f qs next t i below same = subst (λ z. z < length (placed_at f.placed t).entries) same (slice_get_within (placed_at f.placed t).entries (cut_of next t) below.0 below.1)
 
 pub event_taken : (f : FittedTrace) → IsFitted f → (qs qs' next : List ℕ) (t i : ℕ) (es : List Event) (d : Event) → length next ≡ length f.guest.entries → t < length f.guest.entries → HasBelow f qs next t → i ≡ slice_index_or next t i
-    → es ≡ (recorded_thread f.recorded t).events → length es ≡ length (placed_at f.placed t).entries → EachRun f (λ run. RaisedFor f run (NeededBy (mark_of (slice_index_or es i d))) qs qs')
+    → es ≡ (recorded_thread f.recorded t).events → length es ≡ length (placed_at f.placed t).entries → EachRun f (λ run. RaisedFor f run (NeededBy (label_of (slice_index_or es i d))) qs qs')
     → (ps : List ℕ) (u k : ℕ) → EachRun f (Rising f ps u k qs next) → EachRun f (Rising f ps u k qs' (set next t (i + 1)))
 event_taken f fit qs qs' next t i es d size there below read log sizes raised ps u k rising run is =
     let inside : t < length next = omega (arith, there, size) in

@@ -1,9 +1,9 @@
 -- What holds of the consistent cuts of all runs of a guest.
 use Rattle.std.specs.Prelude.{◌≡◌, ℕ, min, max, ◌<◌, ◌≤◌, List, []}
 use Rattle.ir_image.specs.Guest.{Guest}
-use Rattle.ir_runs.specs.Marks.{Mark, logged}
+use Rattle.ir_runs.specs.Labels.{Label, logged}
 use Rattle.ir_flat.specs.Flat.{start_flat, tables, machine}
-use Rattle.ir_runs.specs.Run.{Step, Can, mark, IsRun, end, count}
+use Rattle.ir_runs.specs.Run.{Step, Can, label, IsRun, end, count}
 use Rattle.ir_runs.specs.Cuts.{Tells, Cut, IsCut, Consistent, part, Admitted}
 use Rattle.ir_runs.specs.Extremes.{IsLeast, IsGreatest}
 
@@ -47,5 +47,5 @@ GreatestExact = (guest : Guest) (budget : ℕ) (run : List Step) → let f = sta
 abbrev pub FollowersAdmitted : Type 0
 FollowersAdmitted = (guest : Guest) (budget : ℕ) (run : List Step) → let f = start_flat guest budget in IsRun (machine f) (tables f) run
     → (p : Cut) → IsCut (machine f) (tables f) run p → Consistent (machine f) (tables f) run p
-    → (t r : ℕ) (k : Mark) → Can (machine f) (end (machine f) (tables f) (part run p)) (t, r) → Tells (machine f) (tables f) run t (p t) k
-    → logged k [] ≡ logged (mark (machine f) (end (machine f) (tables f) (part run p)) (t, r)) [] → Admitted (machine f) (tables f) run p t
+    → (t r : ℕ) (k : Label) → Can (machine f) (end (machine f) (tables f) (part run p)) (t, r) → Tells (machine f) (tables f) run t (p t) k
+    → logged k [] ≡ logged (label (machine f) (end (machine f) (tables f) (part run p)) (t, r)) [] → Admitted (machine f) (tables f) run p t

@@ -1,9 +1,9 @@
 -- Positions on the way to the least and the greatest consistent cut.
 use Rattle.std.specs.Prelude.{◌≡◌, ℕ, suc, ◌-◌, ◌<◌, ◌≤◌, List, length, slice_get, Some}
-use Rattle.ir_runs.specs.Marks.{Mark, In, Out}
+use Rattle.ir_runs.specs.Labels.{Label, In, Out}
 use Rattle.ir_runs.specs.declared.access.Access.{Access}
 use Rattle.ir_runs.specs.Run.{Step}
-use Rattle.ir_log.specs.Logging.{mark_of}
+use Rattle.ir_log.specs.Logging.{label_of}
 use Rattle.ir_log.specs.declared.event.Event.{Event}
 use Rattle.ir_trace.specs.Told.{recorded_thread}
 use Rattle.ir_runs.specs.Coherent.{sum_below}
@@ -14,37 +14,37 @@ use Rattle.ir_fit.specs.declared.leave.Leave.{Leave}
 use Rattle.ir_cut.specs.Positions.{machine_of, start_of, cut_of}
 
 -- the steps that tell so are inside the cut
-abbrev pub AreInside : FittedTrace → List Step → (Mark → Type 0) → Cut → Type 0
-AreInside f run P c = (t i : ℕ) (k : Mark) → Tells (machine_of f) (start_of f) run t i k → P k → i < c t
+abbrev pub AreInside : FittedTrace → List Step → (Label → Type 0) → Cut → Type 0
+AreInside f run P c = (t i : ℕ) (k : Label) → Tells (machine_of f) (start_of f) run t i k → P k → i < c t
 
 -- the steps that tell so are outside
-abbrev pub AreOutside : FittedTrace → List Step → (Mark → Type 0) → Cut → Type 0
-AreOutside f run P c = (t i : ℕ) (k : Mark) → Tells (machine_of f) (start_of f) run t i k → P k → c t ≤ i
+abbrev pub AreOutside : FittedTrace → List Step → (Label → Type 0) → Cut → Type 0
+AreOutside f run P c = (t i : ℕ) (k : Label) → Tells (machine_of f) (start_of f) run t i k → P k → c t ≤ i
 
 -- the least positions at or above the old ones with the steps that tell so inside
-pub record RaisedFor (f : FittedTrace) (run : List Step) (P : Mark → Type 0) (old new : List ℕ) : Type 0 where
+pub record RaisedFor (f : FittedTrace) (run : List Step) (P : Label → Type 0) (old new : List ℕ) : Type 0 where
   pub size : length new ≡ length old
   pub above : (u : ℕ) → cut_of old u ≤ cut_of new u
   pub inside : AreInside f run P (cut_of new)
   pub least : (c : Cut) → ((u : ℕ) → cut_of old u ≤ c u) → AreInside f run P c → (u : ℕ) → cut_of new u ≤ c u
 
 -- the greatest positions at or below the old ones with the steps that tell so outside
-pub record LoweredFor (f : FittedTrace) (run : List Step) (P : Mark → Type 0) (old new : List ℕ) : Type 0 where
+pub record LoweredFor (f : FittedTrace) (run : List Step) (P : Label → Type 0) (old new : List ℕ) : Type 0 where
   pub size : length new ≡ length old
   pub below : (u : ℕ) → cut_of new u ≤ cut_of old u
   pub outside : AreOutside f run P (cut_of new)
   pub greatest : (c : Cut) → ((u : ℕ) → c u ≤ cut_of old u) → AreOutside f run P c → (u : ℕ) → c u ≤ cut_of new u
 
 -- what an entry that tells k needs
-abbrev pub NeededBy : Mark → Mark → Type 0
+abbrev pub NeededBy : Label → Label → Type 0
 NeededBy k told = Needs told k
 
 -- what needs a leave
-abbrev pub Needing : Leave → Mark → Type 0
+abbrev pub Needing : Leave → Label → Type 0
 Needing l told = Needs (Out l.object l.access l.version) told
 
 -- an entry of object o at version v
-abbrev pub IsEntryAt : ℕ → ℕ → Mark → Type 0
+abbrev pub IsEntryAt : ℕ → ℕ → Label → Type 0
 IsEntryAt o v told = (a : Access) × (l : ℕ) × (told ≡ In o a v l)
 
 -- on the way from ps up to the least cut with thread t at k or more: no position is above that cut's, and what the first so many events of each thread need is inside
@@ -53,7 +53,7 @@ pub record Rising (f : FittedTrace) (ps : List ℕ) (t k : ℕ) (qs next : List 
   pub reaches : k ≤ cut_of qs t
   pub cut : IsCut (machine_of f) (start_of f) run (cut_of qs)
   pub least : (c : Cut) → IsCut (machine_of f) (start_of f) run c → Consistent (machine_of f) (start_of f) run c → ((u : ℕ) → cut_of ps u ≤ c u) → k ≤ c t → (u : ℕ) → cut_of qs u ≤ c u
-  pub met : (u e : ℕ) (x : Event) → e < cut_of next u → slice_get (recorded_thread f.recorded u).events e ≡ Some x → AreInside f run (NeededBy (mark_of x)) (cut_of qs)
+  pub met : (u e : ℕ) (x : Event) → e < cut_of next u → slice_get (recorded_thread f.recorded u).events e ≡ Some x → AreInside f run (NeededBy (label_of x)) (cut_of qs)
 
 -- on the way from ps down to the greatest cut with thread t at k or less: no position is below that cut's, and what needs the leaves of each thread but the first so many is outside
 pub record Falling (f : FittedTrace) (ps : List ℕ) (t k : ℕ) (qs next : List ℕ) (run : List Step) : Type 0 where
@@ -94,7 +94,7 @@ pub record AreLeaves (f : FittedTrace) (next : List ℕ) : Type 0 where
 
 -- what the steps of thread t in the cut need is in it
 abbrev pub IsClosed : FittedTrace → List Step → Cut → ℕ → Type 0
-IsClosed f run c t = (i : ℕ) (k : Mark) → Tells (machine_of f) (start_of f) run t i k → i < c t → AreInside f run (NeededBy k) c
+IsClosed f run c t = (i : ℕ) (k : Label) → Tells (machine_of f) (start_of f) run t i k → i < c t → AreInside f run (NeededBy k) c
 
 -- how many events are behind the first so many of each thread
 abbrev pub events_left : FittedTrace → List ℕ → ℕ

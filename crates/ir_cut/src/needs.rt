@@ -1,9 +1,9 @@
 //! What the entries of a cut need, and what needs its leaves.
 
 ghost use Rattle.std.specs.Prelude.{◌≡◌, ◌<◌, ℕ, length, IsTrue, ◌↔◌};
-ghost use Rattle.ir_runs.specs.Marks.{In};
+ghost use Rattle.ir_runs.specs.Labels.{In};
 ghost use Rattle.ir_runs.specs.declared.access.Access.TheVariants.{Reading};
-ghost use Rattle.ir_log.specs.Logging.{mark_of};
+ghost use Rattle.ir_log.specs.Logging.{label_of};
 ghost use Rattle.ir_cut.specs.Positions.{EachRun, cut_of};
 ghost use Rattle.ir_fit.specs.Fit.{IsFitted};
 ghost use Rattle.ir_cut.specs.Searching.{AreInside, IsEntryAt, NeededBy, Needing, RaisedFor, LoweredFor};
@@ -32,7 +32,7 @@ fn is_made(fitted: &Fitted, positions: &[u64], object: u8, version: u32) -> bool
 pub fn are_met(fitted: &Fitted, positions: &[u64], event: Event) -> bool
     requires fitted { IsFitted fitted.now }
     requires size { length positions.now ≡ length fitted.now.guest.entries }
-    ensures { IsTrue result ↔ EachRun fitted.now (λ run. AreInside fitted.now run (NeededBy (mark_of event)) (cut_of positions.now)) }
+    ensures { IsTrue result ↔ EachRun fitted.now (λ run. AreInside fitted.now run (NeededBy (label_of event)) (cut_of positions.now)) }
 {
     match event {
         Event::Answer(..) => true,
@@ -64,7 +64,7 @@ fn raise_to_maker(fitted: &Fitted, positions: &mut Vec<u64>, object: u8, version
 pub fn raise_for(fitted: &Fitted, positions: &mut Vec<u64>, event: Event)
     requires fitted { IsFitted fitted.now }
     requires size { length positions.old.items ≡ length fitted.now.guest.entries }
-    ensures raised { EachRun fitted.now (λ run. RaisedFor fitted.now run (NeededBy (mark_of event)) positions.old.items positions.new.items) }
+    ensures raised { EachRun fitted.now (λ run. RaisedFor fitted.now run (NeededBy (label_of event)) positions.old.items positions.new.items) }
     ensures size { length positions.new.items ≡ length positions.old.items }
 {
     match event {

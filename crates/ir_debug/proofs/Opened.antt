@@ -4,10 +4,10 @@ use Rattle.std.specs.Prelude.{IfSome}
 use Rattle.std.specs.Io.KnownBytes.{Appends, Consumes, IsAtEnd}
 use Rattle.std.proofs.KnownBytes.{Appends-trans}
 use Rattle.ir_stream.specs.Lines.{cut, lines_of, heard}
-use Rattle.ir_stream.specs.Answers.{Wrote, WroteFront, through}
+use Rattle.ir_stream.specs.Answers.{Wrote, WrotePrefix, through}
 use Rattle.ir_stream.specs.Determined.{Only, answers}
-use Rattle.ir_stream.proofs.CallerLemmas.{wrote_only, front_only, front_after}
-use Rattle.ir_stream.specs.Devices.{AppendsFront, Reads}
+use Rattle.ir_stream.proofs.CallerLemmas.{wrote_only, prefix_only, prefix_after}
+use Rattle.ir_stream.specs.Devices.{AppendsPrefix, Reads}
 use Rattle.ir_stream.specs.Endings.{IfEnded, LeadsTo}
 use Rattle.ir_stream.specs.declared.serving.Served.{Served}
 use Rattle.ir_stream.specs.declared.serving.Served.TheVariants as served
@@ -23,8 +23,8 @@ use Rattle.ir_debug.specs.declared.ended.SessionErr.TheVariants as err
 
 -- ---- before a line is read
 
-front_more : (a b : Option (List ℕ)) (text more : List ℕ) → AppendsFront a b text → AppendsFront a b (text ++ more)
-front_more a b text more f = record {
+prefix_more : (a b : Option (List ℕ)) (text more : List ℕ) → AppendsPrefix a b text → AppendsPrefix a b (text ++ more)
+prefix_more a b text more f = record {
   part = f.part;
   more = f.more ++ more;
   splits = ap (λ (t : List ℕ). t ++ more) f.splits ∙ append_assoc f.part f.more more;
@@ -37,7 +37,7 @@ nothing_read (Some xs) = refl
 
 -- the writer failed in the opening lines, or the answers after them
 abbrev pub Fails : Opening → Option (List ℕ) → Option (List ℕ) → Option (List ℕ) → List ℕ → Type 0
-Fails opening a w0 w1 consumed = (through is_quit (lines_of consumed) ≡ lines_of consumed) × ((cut consumed).rest ≢ [] → IsAtEnd a) × AppendsFront w0 w1 (told opening (lines_of consumed))
+Fails opening a w0 w1 consumed = (through is_quit (lines_of consumed) ≡ lines_of consumed) × ((cut consumed).rest ≢ [] → IsAtEnd a) × AppendsPrefix w0 w1 (told opening (lines_of consumed))
 
 no_line : lines_of [] ≡ []
 unfolding cut
@@ -52,12 +52,12 @@ unfolding through
 through-none [] e = refl
 through-none (l ∷ ls) e = absurd cc
 
-pub none_read : (opening : Opening) (limit : ℕ) (a w0 w1 : Option (List ℕ)) → AppendsFront w0 w1 (opening_text opening) → Reads limit a a (Fails opening a w0 w1)
-none_read opening limit a w0 w1 front = record {
+pub none_read : (opening : Opening) (limit : ℕ) (a w0 w1 : Option (List ℕ)) → AppendsPrefix w0 w1 (opening_text opening) → Reads limit a a (Fails opening a w0 w1)
+none_read opening limit a w0 w1 prefix = record {
   consumed = [];
   taken = nothing_read a;
   within = omega arith;
-  holds = (through-none (lines_of []) no_line, λ some. absurd (some no_rest), front_more w0 w1 (opening_text opening) (answers_after opening (lines_of [])) front);
+  holds = (through-none (lines_of []) no_line, λ some. absurd (some no_rest), prefix_more w0 w1 (opening_text opening) (answers_after opening (lines_of [])) prefix);
 }
 
 -- ---- after the opening lines
@@ -94,12 +94,12 @@ told_after opening m w0 w1 w2 lines is begun grown =
     let P : Opening → Type 0 = λ o. Appends w0 w2 (told o lines) in
     subst P is (Appends-trans w0 w1 w2 (opening_text (Ready m)) (answers reply_to next_after m lines) begun (wrote_only reply_to next_after m lines w1 w2 grown))
 
--- a front of the answers after the opening lines
-pub told_front : (opening : Opening) (m : Reference) (w0 w1 w2 : Option (List ℕ)) (lines : List (List ℕ)) → Ready m ≡ opening → Appends w0 w1 (opening_text (Ready m))
-    → WroteFront (Only reply_to next_after) m lines w1 w2 → AppendsFront w0 w2 (told opening lines)
-told_front opening m w0 w1 w2 lines is begun front =
-    let P : Opening → Type 0 = λ o. AppendsFront w0 w2 (told o lines) in
-    subst P is (front_after w0 w1 w2 (opening_text (Ready m)) (answers reply_to next_after m lines) begun (front_only reply_to next_after m lines w1 w2 front))
+-- a prefix of the answers after the opening lines
+pub told_prefix : (opening : Opening) (m : Reference) (w0 w1 w2 : Option (List ℕ)) (lines : List (List ℕ)) → Ready m ≡ opening → Appends w0 w1 (opening_text (Ready m))
+    → WrotePrefix (Only reply_to next_after) m lines w1 w2 → AppendsPrefix w0 w2 (told opening lines)
+told_prefix opening m w0 w1 w2 lines is begun prefix =
+    let P : Opening → Type 0 = λ o. AppendsPrefix w0 w2 (told o lines) in
+    subst P is (prefix_after w0 w1 w2 (opening_text (Ready m)) (answers reply_to next_after m lines) begun (prefix_only reply_to next_after m lines w1 w2 prefix))
 
 pub begun_at : (opening : Opening) (m : Reference) (w0 w1 : Option (List ℕ)) → opening ≡ Ready m → Appends w0 w1 (opening_text opening) → Appends w0 w1 (opening_text (Ready m))
 begun_at opening m w0 w1 is begun = let P : Opening → Type 0 = λ o. Appends w0 w1 (opening_text o) in subst P is begun

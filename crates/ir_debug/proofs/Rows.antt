@@ -4,7 +4,7 @@ use Rattle.std.specs.Prelude.{codes, Result}
 use Rattle.std.specs.Fmt.{digits}
 use Rattle.hex.specs.Hex.{encode_with}
 use Rattle.ir_image.specs.Guest.{Guest}
-use Rattle.ir_runs.specs.Marks.{In, Answer}
+use Rattle.ir_runs.specs.Labels.{In, Answer}
 use Rattle.ir_runs.specs.Object as objects
 use Rattle.ir_runs.specs.declared.access.Access.TheVariants.{Reading, Writing}
 use Rattle.ir_runs.specs.declared.env_kind.EnvKind.TheVariants.{Clock}

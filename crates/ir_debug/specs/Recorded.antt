@@ -1,4 +1,4 @@
--- What was recorded of a run of one thread without events, and its one spelling.
+-- What was recorded of a run of one thread without events, and its one encoding.
 use Rattle.std.specs.Prelude.{ℕ, ◌≤◌, ◌<◌, ◌^◌, List, [], ◌∷◌, ◌++◌}
 use Rattle.byteorder.specs.Endian.{little_bytes}
 use Rattle.ir_thread.specs.Ends.{end_number, end_code}
@@ -26,5 +26,5 @@ pub record IsRecorded (r : Recorded) : Type 0 where
   pub code_fits : end_code r.end < 2 ^ 32
 
 -- the magic, one thread, no object, two reserved bytes, the budget; the thread's steps, its end, its code, and no event
-abbrev pub trace_spelling : Recorded → List ℕ
-trace_spelling r = trace_magic ++ 1 ∷ 0 ∷ 0 ∷ 0 ∷ [] ++ little_bytes 8 r.budget ++ little_bytes 8 r.steps ++ end_number r.end ∷ [] ++ little_bytes 4 (end_code r.end) ++ little_bytes 4 0
+abbrev pub trace_encoding : Recorded → List ℕ
+trace_encoding r = trace_magic ++ 1 ∷ 0 ∷ 0 ∷ 0 ∷ [] ++ little_bytes 8 r.budget ++ little_bytes 8 r.steps ++ end_number r.end ∷ [] ++ little_bytes 4 (end_code r.end) ++ little_bytes 4 0

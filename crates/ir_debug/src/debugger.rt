@@ -5,7 +5,7 @@ ghost use Rattle.std.specs.Io.KnownBytes.{Appends};
 ghost use Rattle.arrayvec.specs.ArrayVec.{array_vec_len};
 ghost use Rattle.ir_stream.specs.Endings.{flow_after};
 ghost use Rattle.ir_stream.specs.Determined.{Only};
-ghost use Rattle.ir_stream.specs.Answers.{Replied, RepliedFront};
+ghost use Rattle.ir_stream.specs.Answers.{Replied, RepliedPrefix};
 ghost use Rattle.ir_debug.specs.Fitting.{thread_at};
 ghost use Rattle.ir_debug.specs.Reference.{Reference, reference_of, moved, asked_of, answer_to_command, next_of_command, answer_to, next_of, reply_to, next_after, is_quit, ends_session};
 ghost use Rattle.ir_debug.specs.LongLines.{long_replies, long_quit};

@@ -2,7 +2,7 @@
 
 ghost use Rattle.std.specs.Prelude.{◌≡◌, ◌≤◌, ◌+◌, ◌++◌, length, codes, decimal};
 ghost use Rattle.arrayvec.specs.ArrayVec.{array_vec_len};
-ghost use Rattle.ir_log.specs.Logging.{mark_of};
+ghost use Rattle.ir_log.specs.Logging.{label_of};
 ghost use Rattle.ir_debug.specs.Machine.Texts.{kind_text, event_text};
 
 use crate::answer::Text;
@@ -35,7 +35,7 @@ fn kind_name(kind: EnvKind) -> &'static [u8]
 
 fn put_what(text: &mut Text, event: Event)
     requires { array_vec_len text.old ≤ 256 }
-    ensures text { text.new.items ≡ text.old.items ++ event_text (mark_of event) }
+    ensures text { text.new.items ≡ text.old.items ++ event_text (label_of event) }
     ensures len { array_vec_len text.new ≤ array_vec_len text.old + 64 }
 {
     match event {
@@ -62,7 +62,7 @@ fn put_what(text: &mut Text, event: Event)
 /// Puts the line of an event at the end, with its number among those of its thread.
 pub fn put_event(text: &mut Text, index: u32, event: Event)
     requires { array_vec_len text.old ≤ 192 }
-    ensures { text.new.items ≡ text.old.items ++ (decimal index ++ codes " " ++ event_text (mark_of event) ++ codes "\n") }
+    ensures { text.new.items ≡ text.old.items ++ (decimal index ++ codes " " ++ event_text (label_of event) ++ codes "\n") }
 {
     put_number(text, b"", index);
     append(text, b" ");

@@ -3,7 +3,7 @@
 ghost use Rattle.std.specs.Prelude.{◌≡◌, ◌≤◌, ◌+◌, ◌++◌, IfOk, OnOk, OnErr, length, codes, decimal, true, Ok};
 ghost use Rattle.std.specs.Io.KnownBytes.{Appends};
 ghost use Rattle.arrayvec.specs.ArrayVec.{array_vec_len};
-ghost use Rattle.ir_stream.specs.Devices.{AppendsFront};
+ghost use Rattle.ir_stream.specs.Devices.{AppendsPrefix};
 ghost use Rattle.ir_debug.specs.Session.{is_single, opening_by_image, opening_by_trace, opening_of, opening_text};
 ghost use Rattle.ir_debug.specs.TraceReading.{trace_at};
 
@@ -94,7 +94,7 @@ fn text_of(opening: &Opening) -> Text
 pub fn announce<W: Sink>(opening: &Opening, writer: &mut W) -> Result<(), DeviceErr>
     ensures ok { OnOk result (Appends (W.written writer.old) (W.written writer.new) (opening_text opening.now)) }
     ensures stays { OnOk result (W.broken writer.new ≡ W.broken writer.old) }
-    ensures front { OnErr result (AppendsFront (W.written writer.old) (W.written writer.new) (opening_text opening.now)) }
+    ensures prefix { OnErr result (AppendsPrefix (W.written writer.old) (W.written writer.new) (opening_text opening.now)) }
     ensures err { OnErr result (W.broken writer.new ≡ true) }
 {
     let text = text_of(opening);

@@ -4,7 +4,7 @@ ghost use Rattle.std.specs.Prelude.{◌≡◌, ◌≢◌, ◌≤◌, [], true, f
 ghost use Rattle.std.specs.Io.KnownBytes.{Appends, Keeps, IsAtEnd};
 ghost use Rattle.ir_stream.specs.Lines.{cut, lines_of};
 ghost use Rattle.ir_stream.specs.Answers.{some_quits, through};
-ghost use Rattle.ir_stream.specs.Devices.{AppendsFront, Reads};
+ghost use Rattle.ir_stream.specs.Devices.{AppendsPrefix, Reads};
 ghost use Rattle.ir_debug.specs.Reference.{is_quit};
 ghost use Rattle.ir_debug.specs.Session.{opening_of, told, IfServed, Session, ended_by};
 
@@ -63,12 +63,12 @@ pub fn session_up_to<R: Source, W: Sink>(
     ensures read { result ≡ Err SessionErr.Read → (R.broken reader.new ≡ true) × (W.broken writer.new ≡ false)
         × Reads limit (R.left reader.old) (R.left reader.new) (λ consumed. (some_quits is_quit (cut consumed).whole ≡ false)
         × Appends (W.written writer.old) (W.written writer.new) (told (opening_of image.now trace.now) (cut consumed).whole)) }
-    // After a failed write, a front of the opening lines and the answers to the lines that were read, of which none but
+    // After a failed write, a prefix of the opening lines and the answers to the lines that were read, of which none but
     // the last may quit. It is unfinished only at the end of the input.
     ensures write { result ≡ Err SessionErr.Write → (R.broken reader.new ≡ false) × (W.broken writer.new ≡ true)
         × Reads limit (R.left reader.old) (R.left reader.new) (λ consumed. (through is_quit (lines_of consumed) ≡ lines_of consumed)
         × ((cut consumed).rest ≢ [] → IsAtEnd (R.left reader.new))
-        × AppendsFront (W.written writer.old) (W.written writer.new) (told (opening_of image.now trace.now) (lines_of consumed))) }
+        × AppendsPrefix (W.written writer.old) (W.written writer.new) (told (opening_of image.now trace.now) (lines_of consumed))) }
 {
     let Ok(opening) = open(alloc, image, trace) else {
         return Err(SessionErr::NoMem);
@@ -110,7 +110,7 @@ pub fn session<R: Source, W: Sink>(
     ensures write { result ≡ Err SessionErr.Write → (R.broken reader.new ≡ false) × (W.broken writer.new ≡ true)
         × Reads 1073741824 (R.left reader.old) (R.left reader.new) (λ consumed. (through is_quit (lines_of consumed) ≡ lines_of consumed)
         × ((cut consumed).rest ≢ [] → IsAtEnd (R.left reader.new))
-        × AppendsFront (W.written writer.old) (W.written writer.new) (told (opening_of image.now trace.now) (lines_of consumed))) }
+        × AppendsPrefix (W.written writer.old) (W.written writer.new) (told (opening_of image.now trace.now) (lines_of consumed))) }
 {
     session_up_to(alloc, MOST_INPUT, image, trace, reader, writer)
 }

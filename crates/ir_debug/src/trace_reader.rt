@@ -96,7 +96,7 @@ fn header(bytes: &[u8]) -> Result<(u64, &[u8]), TraceErr>
     Ok((budget, rest))
 }
 
-/// The trace that the bytes spell, all of the bytes.
+/// The trace that the bytes encode, all of the bytes.
 ///
 /// # Errors
 /// The first fault from the left; more than one thread, an object and an event are counts over their limit.

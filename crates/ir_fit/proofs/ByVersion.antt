@@ -176,16 +176,16 @@ pub adds_more : (x y z : Listing) (vs ws : List Visit) → AddsAll x y vs → Ad
 adds_more x y z vs ws h k o l a =
     k o l a ∙ ap (λ xs. xs ++ picked o a ws) (h o l a) ∙ append_assoc (listed x o a) (picked o a vs) (picked o a ws) ∙ ap (λ xs. listed x o a ++ xs) (sym (picked_append o a vs ws))
 
-enter_front : (t : ℕ) (e : Event) (k : ℕ) (vs ws : List Visit) → enter_if t e k (vs ++ ws) ≡ enter_if t e k vs ++ ws
-enter_front t (Answer kind value) k vs ws = refl
-enter_front t (Read o v) k vs ws = refl
-enter_front t (Write o v r) k vs ws = refl
+enter_prefix : (t : ℕ) (e : Event) (k : ℕ) (vs ws : List Visit) → enter_if t e k (vs ++ ws) ≡ enter_if t e k vs ++ ws
+enter_prefix t (Answer kind value) k vs ws = refl
+enter_prefix t (Read o v) k vs ws = refl
+enter_prefix t (Write o v r) k vs ws = refl
 
 entered_next : (t : ℕ) (es : List Event) (ks : List ℕ) (i : ℕ) (d : Event) → i < length es → i < length ks → entered_by t (take (suc i) es) ks ≡ entered_by t (take i es) ks ++ enter_if t (get_or es i d) (get_or ks i 0) []
 entered_next t [] ks i d l m = absurd (omega (arith, l))
 entered_next t (e ∷ es) [] i d l m = absurd (omega (arith, m))
 entered_next t (e ∷ es) (k ∷ ks) zero d l m = refl
-entered_next t (e ∷ es) (k ∷ ks) (suc i) d l m = ap (enter_if t e k) (entered_next t es ks i d (omega (arith, l)) (omega (arith, m))) ∙ enter_front t e k (entered_by t (take i es) ks) (enter_if t (get_or es i d) (get_or ks i 0) [])
+entered_next t (e ∷ es) (k ∷ ks) (suc i) d l m = ap (enter_if t e k) (entered_next t es ks i d (omega (arith, l)) (omega (arith, m))) ∙ enter_prefix t e k (entered_by t (take i es) ks) (enter_if t (get_or es i d) (get_or ks i 0) [])
 
 -- one more event of a log
 pub adds_event : (x y z : Listing) (t : ℕ) (es : List Event) (ks : List ℕ) (i : ℕ) (d : Event) → i < length es → i < length ks → AddsAll x y (entered_by t (take i es) ks) → AddsAll y z (enter_if t (get_or es i d) (get_or ks i 0) []) → AddsAll x z (entered_by t (take (i + 1) es) ks)

@@ -4,11 +4,11 @@ use Rattle.std.specs.List.{Contains}
 use Rattle.std.proofs.lemmas.Bool.{cases_eq}
 use Rattle.std.proofs.lemmas.List.Elements.{Contains-append_left, Contains-append_right, Contains-append_cases}
 use Rattle.std.proofs.lemmas.List.Sorted.{Contains-permutation, IsPermutation-sym}
-use Rattle.ir_runs.specs.Marks.{Mark, In, Out}
+use Rattle.ir_runs.specs.Labels.{Label, In, Out}
 use Rattle.ir_runs.specs.declared.access.Access.{Access}
 use Rattle.ir_runs.specs.declared.access.Access.TheVariants.{Reading, Writing}
 use Rattle.ir_runs.specs.Run.{join_if}
-use Rattle.ir_log.specs.Logging.{mark_of}
+use Rattle.ir_log.specs.Logging.{label_of}
 use Rattle.ir_log.specs.declared.event.Event.{Event}
 use Rattle.ir_log.specs.declared.event.Event.TheVariants.{Answer, Read, Write}
 use Rattle.ir_trace.specs.Told.{recorded_thread}
@@ -45,15 +45,15 @@ both_true true true h = (refl, refl)
 both_true true false h = absurd (cc h)
 both_true false c h = absurd (cc h)
 
--- at the front, or behind
+-- at the prefix, or behind
 at_joined : {A : Type 0} (b : Bool) (x y : A) (xs : List A) (i : ℕ) → At (join_if b x xs) i y → ((b ≡ true) × (x ≡ y)) ⊎ ((j : ℕ) × At xs j y)
 at_joined true x y xs zero h = inl (refl, h)
 at_joined true x y xs (suc i) h = inr (i, h)
 at_joined false x y xs i h = inr (i, h)
 
-joined_front : {A : Type 0} (b : Bool) (x : A) (xs : List A) → b ≡ true → At (join_if b x xs) 0 x
-joined_front true x xs h = refl
-joined_front false x xs h = absurd (cc h)
+joined_prefix : {A : Type 0} (b : Bool) (x : A) (xs : List A) → b ≡ true → At (join_if b x xs) 0 x
+joined_prefix true x xs h = refl
+joined_prefix false x xs h = absurd (cc h)
 
 joined_behind : {A : Type 0} (b : Bool) (x y : A) (xs : List A) (i : ℕ) → At xs i y → (j : ℕ) × At (join_if b x xs) j y
 joined_behind true x y xs i h = (suc i, h)
@@ -74,7 +74,7 @@ to_picked : (o : ℕ) (a : Access) (vs : List Visit) (j : ℕ) (p : Place) → A
 to_picked o a [] j p h = absurd h
 to_picked o a (v ∷ vs) zero p h =
     let b : (eqb v.0 o && same_access v.1 a) ≡ true = rw (eq-eqb v.0 o (ap (λ x. x.0) h), ap (λ (x : Visit). same_access x.1 a) h, same_self a) refl in
-    (0, subst (At (picked o a (v ∷ vs)) 0) (ap (λ x. x.2) h) (joined_front (eqb v.0 o && same_access v.1 a) v.2 (picked o a vs) b))
+    (0, subst (At (picked o a (v ∷ vs)) 0) (ap (λ x. x.2) h) (joined_prefix (eqb v.0 o && same_access v.1 a) v.2 (picked o a vs) b))
 to_picked o a (v ∷ vs) (suc j) p h = let g = to_picked o a vs j p h in joined_behind (eqb v.0 o && same_access v.1 a) v.2 p (picked o a vs) g.0 g.1
 
 -- ---- the steps of all threads
@@ -112,35 +112,35 @@ to_left t (m ∷ ls) (suc i) l h = to_left t ls i l h
 
 -- event i at position k is this entry
 abbrev IsEntered : List Event → List ℕ → ℕ → Visit → Type 0
-IsEntered es ks t v = (i : ℕ) × (e : Event) × At es i e × At ks i v.2.position × (v.2.thread ≡ t) × ((l : ℕ) × (mark_of e ≡ In v.0 v.1 v.2.version l))
+IsEntered es ks t v = (i : ℕ) × (e : Event) × At es i e × At ks i v.2.position × (v.2.thread ≡ t) × ((l : ℕ) × (label_of e ≡ In v.0 v.1 v.2.version l))
 
 behind_entered : (e : Event) (es : List Event) (k : ℕ) (ks : List ℕ) (t : ℕ) (v : Visit) → IsEntered es ks t v → IsEntered (e ∷ es) (k ∷ ks) t v
-behind_entered e es k ks t v (i, d, at, place, thread, mark) = (suc i, d, at, place, thread, mark)
+behind_entered e es k ks t v (i, d, at, place, thread, label) = (suc i, d, at, place, thread, label)
 
-front_entered : (e : Event) (es : List Event) (k : ℕ) (ks : List ℕ) (t o : ℕ) (a : Access) (w l : ℕ) (v : Visit) → mark_of e ≡ In o a w l → (o, a, record { position = k; version = w; thread = t }) ≡ v → IsEntered (e ∷ es) (k ∷ ks) t v
-front_entered e es k ks t o a w l v is h =
+prefix_entered : (e : Event) (es : List Event) (k : ℕ) (ks : List ℕ) (t o : ℕ) (a : Access) (w l : ℕ) (v : Visit) → label_of e ≡ In o a w l → (o, a, record { position = k; version = w; thread = t }) ≡ v → IsEntered (e ∷ es) (k ∷ ks) t v
+prefix_entered e es k ks t o a w l v is h =
     (0, e, refl, ap (λ z. z.2.position) h, sym (ap (λ z. z.2.thread) h), (l, is ∙ ap (λ (z : Visit). In z.0 z.1 z.2.version l) h))
 
 of_entered : (t : ℕ) (es : List Event) (ks : List ℕ) (j : ℕ) (v : Visit) → At (entered_by t es ks) j v → IsEntered es ks t v
 of_entered t [] ks j v h = absurd h
 of_entered t (e ∷ es) [] j v h = absurd h
 of_entered t (Answer kind value ∷ es) (k ∷ ks) j v h = behind_entered (Answer kind value) es k ks t v (of_entered t es ks j v h)
-of_entered t (Read o w ∷ es) (k ∷ ks) zero v h = front_entered (Read o w) es k ks t o Reading w 0 v refl h
+of_entered t (Read o w ∷ es) (k ∷ ks) zero v h = prefix_entered (Read o w) es k ks t o Reading w 0 v refl h
 of_entered t (Read o w ∷ es) (k ∷ ks) (suc j) v h = behind_entered (Read o w) es k ks t v (of_entered t es ks j v h)
-of_entered t (Write o w l ∷ es) (k ∷ ks) zero v h = front_entered (Write o w l) es k ks t o Writing w l v refl h
+of_entered t (Write o w l ∷ es) (k ∷ ks) zero v h = prefix_entered (Write o w l) es k ks t o Writing w l v refl h
 of_entered t (Write o w l ∷ es) (k ∷ ks) (suc j) v h = behind_entered (Write o w l) es k ks t v (of_entered t es ks j v h)
 
 -- the entry that an event tells of
-abbrev told_visit : ℕ → ℕ → Mark → Visit
+abbrev told_visit : ℕ → ℕ → Label → Visit
 told_visit t k (In o a w l) = (o, a, record { position = k; version = w; thread = t })
 told_visit t k _ = (0, Reading, record { position = k; version = 0; thread = t })
 
-to_entered : (t : ℕ) (es : List Event) (ks : List ℕ) (i : ℕ) (e : Event) (k o : ℕ) (a : Access) (w l : ℕ) → At es i e → At ks i k → mark_of e ≡ In o a w l → Contains (entered_by t es ks) (o, a, record { position = k; version = w; thread = t })
+to_entered : (t : ℕ) (es : List Event) (ks : List ℕ) (i : ℕ) (e : Event) (k o : ℕ) (a : Access) (w l : ℕ) → At es i e → At ks i k → label_of e ≡ In o a w l → Contains (entered_by t es ks) (o, a, record { position = k; version = w; thread = t })
 to_entered t [] ks i e k o a w l at place is = absurd at
 to_entered t (d ∷ es) [] i e k o a w l at place is = absurd place
-to_entered t (Answer kind value ∷ es) (q ∷ ks) zero e k o a w l at place is = absurd (cc (ap mark_of at ∙ is))
-to_entered t (Read p x ∷ es) (q ∷ ks) zero e k o a w l at place is = (0, omega arith, ap (told_visit t q) (ap mark_of at ∙ is) ∙ ap (λ z. (o, a, record { position = z; version = w; thread = t })) place)
-to_entered t (Write p x r ∷ es) (q ∷ ks) zero e k o a w l at place is = (0, omega arith, ap (told_visit t q) (ap mark_of at ∙ is) ∙ ap (λ z. (o, a, record { position = z; version = w; thread = t })) place)
+to_entered t (Answer kind value ∷ es) (q ∷ ks) zero e k o a w l at place is = absurd (cc (ap label_of at ∙ is))
+to_entered t (Read p x ∷ es) (q ∷ ks) zero e k o a w l at place is = (0, omega arith, ap (told_visit t q) (ap label_of at ∙ is) ∙ ap (λ z. (o, a, record { position = z; version = w; thread = t })) place)
+to_entered t (Write p x r ∷ es) (q ∷ ks) zero e k o a w l at place is = (0, omega arith, ap (told_visit t q) (ap label_of at ∙ is) ∙ ap (λ z. (o, a, record { position = z; version = w; thread = t })) place)
 to_entered t (Answer kind value ∷ es) (q ∷ ks) (suc i) e k o a w l at place is = to_entered t es ks i e k o a w l at place is
 to_entered t (Read p x ∷ es) (q ∷ ks) (suc i) e k o a w l at place is = Contains-append_right ((p, Reading, record { position = q; version = x; thread = t }) ∷ []) (entered_by t es ks) _ (to_entered t es ks i e k o a w l at place is)
 to_entered t (Write p x r ∷ es) (q ∷ ks) (suc i) e k o a w l at place is = Contains-append_right ((p, Writing, record { position = q; version = x; thread = t }) ∷ []) (entered_by t es ks) _ (to_entered t es ks i e k o a w l at place is)
@@ -189,11 +189,11 @@ only_entries f x is o l a v ps found h p c =
     let es : List Event = (recorded_thread f.recorded t).events in
     let ks : List ℕ = (placed_at f.placed t).entries in
     let at = contains_at (entered_by t es ks) (o, a, p) some.2 in
-    let (i, e, event, place, thread, (n, mark)) = of_entered t es ks at.0 (o, a, p) at.1 in
+    let (i, e, event, place, thread, (n, label)) = of_entered t es ks at.0 (o, a, p) at.1 in
     let got = get_at es i e event in
     let stands = get_at ks i p.position place in
-    let told : TellsIn f h t (get_or ks i 0) (mark_of (get_or es i e)) = entry_tells f h t (let lt = some.1 in let m = h.each in omega (arith, lt, m)) i e got.0 in
-    let here : TellsIn f h t p.position (In o a p.version n) = subst (λ k. TellsIn f h t k (In o a p.version n)) (stands.1 0) (subst (TellsIn f h t (get_or ks i 0)) (ap mark_of (got.1 e) ∙ mark) told) in
+    let told : TellsIn f h t (get_or ks i 0) (label_of (get_or es i e)) = entry_tells f h t (let lt = some.1 in let m = h.each in omega (arith, lt, m)) i e got.0 in
+    let here : TellsIn f h t p.position (In o a p.version n) = subst (λ k. TellsIn f h t k (In o a p.version n)) (stands.1 0) (subst (TellsIn f h t (get_or ks i 0)) (ap label_of (got.1 e) ∙ label) told) in
     (q.1, (n, subst (λ w. TellsIn f h p.thread p.position (In o a w n)) q.1 (subst (λ u. TellsIn f h u p.position (In o a p.version n)) (sym thread) here)))
 
 pub all_entries : (f : FittedTrace) (x : Listing) → IsListing (all_entered f.recorded f.placed) x → (o : ℕ) → o < 2 ^ 8 → (a : Access) (v : ℕ) (ps : List Place) → ((p : Place) → Contains (listed x o a) p → p.version ≡ v → Contains ps p) → AllEntries f o a v ps
@@ -202,8 +202,8 @@ all_entries f x is o l a v ps found h t k n told =
     let below = tells_below f h t k (In o a v n) told in
     let es : List Event = (recorded_thread f.recorded t).events in
     let ks : List ℕ = (placed_at f.placed t).entries in
-    let (i, li, place, mark) = entry_of f h t k o a v n told in
+    let (i, li, place, label) = entry_of f h t k o a v n told in
     let d : Event = Read 0 0 in
     let at : At ks i k = subst (At ks i) place (at_get ks i 0 (let m = entries_long f h t below in omega (arith, li, m))) in
     found p (listed_all (all_entered f.recorded f.placed) x is o l a p (of_each (length f.placed) (λ u. entered_by u (recorded_thread f.recorded u).events (placed_at f.placed u).entries) (o, a, p) t (let m = h.each in omega (arith, below, m))
-    (to_entered t es ks i (get_or es i d) k o a v n (at_get es i d li) at (mark d)))) refl
+    (to_entered t es ks i (get_or es i d) k o a v n (at_get es i d li) at (label d)))) refl

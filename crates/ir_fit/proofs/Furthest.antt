@@ -6,7 +6,7 @@ use Rattle.std.proofs.lemmas.Bool.{cases_lt}
 use Rattle.std.proofs.lemmas.Bool.Decides.{nat_tests}
 use Rattle.ir_image.specs.Guest.{Guest}
 use Rattle.ir_thread.specs.Instance.{thread_machine, is_result}
-use Rattle.ir_runs.specs.Marks.{Mark}
+use Rattle.ir_runs.specs.Labels.{Label}
 use Rattle.ir_runs.specs.declared.env_kind.EnvKind.{EnvKind}
 use Rattle.ir_runs.specs.declared.env_kind.EnvKind.TheVariants.{Clock, Random, Input}
 use Rattle.ir_thread.proofs.CallerLemmas.{lawful, closing}
@@ -14,7 +14,7 @@ use Rattle.ir_flat.specs.Flat.{Flat, start_flat, tables}
 use Rattle.ir_runs.specs.Run.{Step, log, trace}
 use Rattle.ir_runs.proofs.CallerLemmas.{start_good, one_maximal, Over, over, all_same, whole_same, same_verdict, own_coherent, settled, verdict_at, goes_on, all_done}
 use Rattle.ir_flat.proofs.CallerLemmas.{start_idle}
-use Rattle.ir_log.specs.Logging.{mark_of}
+use Rattle.ir_log.specs.Logging.{label_of}
 use Rattle.ir_log.specs.declared.event.Event.{Event}
 use Rattle.ir_log.specs.declared.event.Event.TheVariants.{Answer, Read, Write}
 use Rattle.ir_trace.specs.Recorded.{Recorded, RecordedThread, IsRecorded, IsRecordedThread, IsEvent, IsResult}
@@ -45,17 +45,17 @@ result_fits Random value h = grind (arith, nat_tests, h)
 result_fits Input value (inl h) = grind (arith, nat_tests, h)
 result_fits Input value (inr h) = grind (arith, nat_tests, h)
 
-event_fits : (code : List ℕ) (objects : ℕ) (e : Event) → IsEvent objects e → verdicts.IsEvent (thread_machine code) (mark_of e)
+event_fits : (code : List ℕ) (objects : ℕ) (e : Event) → IsEvent objects e → verdicts.IsEvent (thread_machine code) (label_of e)
 event_fits code objects (Answer kind value) h = result_fits kind value h
 event_fits code objects (Read object version) h = refl
 event_fits code objects (Write object version readers) h = tt
 
-events_fit : (code : List ℕ) (objects : ℕ) (es : List Event) → AllByRecursion (IsEvent objects) es → (i : ℕ) (k : Mark) → At (map mark_of es) i k → verdicts.IsEvent (thread_machine code) k
+events_fit : (code : List ℕ) (objects : ℕ) (es : List Event) → AllByRecursion (IsEvent objects) es → (i : ℕ) (k : Label) → At (map label_of es) i k → verdicts.IsEvent (thread_machine code) k
 events_fit code objects [] all i k h = absurd h
 events_fit code objects (e ∷ es) all zero k h = subst (verdicts.IsEvent (thread_machine code)) h (event_fits code objects e all.0)
 events_fit code objects (e ∷ es) all (suc i) k h = events_fit code objects es all.1 i k h
 
-threads_fit : (code : List ℕ) (objects : ℕ) (ts : List RecordedThread) → AllByRecursion (IsRecordedThread objects) ts → (t i : ℕ) (k : Mark) → At (map mark_of (get_or ts t absent).events) i k → verdicts.IsEvent (thread_machine code) k
+threads_fit : (code : List ℕ) (objects : ℕ) (ts : List RecordedThread) → AllByRecursion (IsRecordedThread objects) ts → (t i : ℕ) (k : Label) → At (map label_of (get_or ts t absent).events) i k → verdicts.IsEvent (thread_machine code) k
 threads_fit code objects [] all t i k h = absurd h
 threads_fit code objects (x ∷ xs) all zero i k h = events_fit code objects x.events all.0.events_fit i k h
 threads_fit code objects (x ∷ xs) all (suc t) i k h = threads_fit code objects xs all.1 t i k h
@@ -107,7 +107,7 @@ none_of g r co run furthest t v stands ne whole is =
 
 -- ---- the trace of a run is coherent
 
-no_events : (ts : List RecordedThread) (t : ℕ) → length ts ≤ t → map mark_of (get_or ts t absent).events ≡ []
+no_events : (ts : List RecordedThread) (t : ℕ) → length ts ≤ t → map label_of (get_or ts t absent).events ≡ []
 no_events [] t l = refl
 no_events (x ∷ xs) zero l = absurd (omega (arith, l))
 no_events (x ∷ xs) (suc t) l = no_events xs t (omega (arith, l))

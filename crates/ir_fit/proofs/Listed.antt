@@ -4,7 +4,7 @@ use Rattle.std.proofs.lemmas.Bool.{cases_lt}
 use Rattle.std.proofs.lemmas.List.{length-map, get_or-map}
 use Rattle.ir_thread.specs.Instance.{thread_machine}
 use Rattle.ir_runs.specs.Machine.{Machine}
-use Rattle.ir_runs.specs.Marks.{Mark, Quiet, Answer, In, Refused, Out, logged}
+use Rattle.ir_runs.specs.Labels.{Label, Quiet, Answer, In, Refused, Out, logged}
 use Rattle.ir_thread.specs.State as thread
 use Rattle.ir_runs.specs.declared.access.Access.{Access}
 use Rattle.ir_runs.specs.declared.env_kind.EnvKind.{EnvKind}
@@ -12,7 +12,7 @@ use Rattle.ir_runs.specs.declared.env_kind.EnvKind.TheVariants.{Clock}
 use Rattle.ir_flat.specs.Flat.{start_flat, tables, machine}
 use Rattle.ir_runs.specs.Run.{State, Step, after, IsRun, IsIdle, trail, count, events}
 use Rattle.ir_flat.proofs.CallerLemmas.{start_idle}
-use Rattle.ir_log.specs.Logging.{mark_of}
+use Rattle.ir_log.specs.Logging.{label_of}
 use Rattle.ir_log.specs.declared.event.Event.{Event}
 use Rattle.ir_log.specs.declared.event.Event.TheVariants as logged_event
 use Rattle.ir_trace.specs.Told.{recorded_thread}
@@ -25,16 +25,16 @@ use Rattle.ir_fit.specs.declared.leave.Leave.{Leave}
 
 -- ---- one step
 
--- whether a mark is logged
-record Logs (m : Mark) : Type 0 where
+-- whether a label is logged
+record Logs (m : Label) : Type 0 where
   place : (k : ℕ) (ks : List ℕ) → place_if m k ks ≡ k ∷ ks
-  event : (es : List Mark) → logged m es ≡ m ∷ es
+  event : (es : List Label) → logged m es ≡ m ∷ es
 
-record Passes (m : Mark) : Type 0 where
+record Passes (m : Label) : Type 0 where
   place : (k : ℕ) (ks : List ℕ) → place_if m k ks ≡ ks
-  event : (es : List Mark) → logged m es ≡ es
+  event : (es : List Label) → logged m es ≡ es
 
-logs_or : (m : Mark) → Logs m ⊎ Passes m
+logs_or : (m : Label) → Logs m ⊎ Passes m
 logs_or Quiet = inr (record { place = λ k ks. refl; event = λ es. refl })
 logs_or (Answer kind value) = inl (record { place = λ k ks. refl; event = λ es. refl })
 logs_or (In o a v l) = inl (record { place = λ k ks. refl; event = λ es. refl })
@@ -43,7 +43,7 @@ logs_or (Out o a v) = inr (record { place = λ k ks. refl; event = λ es. refl }
 
 -- ---- events and their positions
 
-places_long : {T : Type 0} (n : ℕ) (xs : List (T × Mark)) → length (places_from n xs) ≡ length (events xs)
+places_long : {T : Type 0} (n : ℕ) (xs : List (T × Label)) → length (places_from n xs) ≡ length (events xs)
 places_long n [] = refl
 places_long n (x ∷ xs) = elim (logs_or x.1) [
   | inl l ↦ ap length (l.place n (places_from (suc n) xs)) ∙ ap suc (places_long (suc n) xs) ∙ sym (ap length (l.event (events xs)))
@@ -51,14 +51,14 @@ places_long n (x ∷ xs) = elim (logs_or x.1) [
 ]
 
 -- the step at position k tells e, where the first of these stands at n
-abbrev StepAt : {T : Type 0} → ℕ → List (T × Mark) → ℕ → Mark → Type 0
+abbrev StepAt : {T : Type 0} → ℕ → List (T × Label) → ℕ → Label → Type 0
 StepAt {T} n xs k e = (j : ℕ) × (k ≡ n + j) × ((x : T) × At xs j (x, e))
 
-onward : {T : Type 0} (n : ℕ) (x : T × Mark) (xs : List (T × Mark)) (k : ℕ) (e : Mark) → StepAt (suc n) xs k e → StepAt n (x ∷ xs) k e
+onward : {T : Type 0} (n : ℕ) (x : T × Label) (xs : List (T × Label)) (k : ℕ) (e : Label) → StepAt (suc n) xs k e → StepAt n (x ∷ xs) k e
 onward n x xs k e g = (suc g.0, g.1 ∙ (let q : suc n + g.0 ≡ n + suc g.0 = omega arith in q), g.2)
 
 -- the step of event i stands at position i
-step_of_event : {T : Type 0} (n : ℕ) (xs : List (T × Mark)) (i k : ℕ) (e : Mark) → At (events xs) i e → At (places_from n xs) i k → StepAt n xs k e
+step_of_event : {T : Type 0} (n : ℕ) (xs : List (T × Label)) (i k : ℕ) (e : Label) → At (events xs) i e → At (places_from n xs) i k → StepAt n xs k e
 step_of_event n [] i k e h g = absurd h
 step_of_event n (x ∷ xs) zero k e h g = elim (logs_or x.1) [
   | inl l ↦
@@ -73,7 +73,7 @@ step_of_event n (x ∷ xs) (suc i) k e h g = elim (logs_or x.1) [
 ]
 
 -- a step that is logged is some event's
-event_of_step : {T : Type 0} (n : ℕ) (xs : List (T × Mark)) (j : ℕ) (x : T) (e : Mark) → ((es : List Mark) → logged e es ≡ e ∷ es) → At xs j (x, e) → (i : ℕ) × At (events xs) i e × At (places_from n xs) i (n + j)
+event_of_step : {T : Type 0} (n : ℕ) (xs : List (T × Label)) (j : ℕ) (x : T) (e : Label) → ((es : List Label) → logged e es ≡ e ∷ es) → At xs j (x, e) → (i : ℕ) × At (events xs) i e × At (places_from n xs) i (n + j)
 event_of_step n [] j x e h at = absurd at
 event_of_step n (y ∷ ys) zero x e h at = elim (logs_or y.1) [
   | inl l ↦ (0, subst (λ es. At es 0 e) (sym (l.event (events ys))) (ap (λ z. z.1) at), subst (λ ks. At ks 0 (n + 0)) (sym (l.place n (places_from (suc n) ys))) (let q : n ≡ n + 0 = omega arith in q))
@@ -97,14 +97,14 @@ abbrev leave_at : ℕ → ℕ → Access → ℕ → Leave
 leave_at k o a v = record { position = k; object = o; access = a; version = v }
 
 -- a leave, or a step that is none
-leaves_or : (m : Mark) → ((o : ℕ) × (a : Access) × (v : ℕ) × (m ≡ Out o a v)) ⊎ ((k : ℕ) (ls : List Leave) → leave_if m k ls ≡ ls)
+leaves_or : (m : Label) → ((o : ℕ) × (a : Access) × (v : ℕ) × (m ≡ Out o a v)) ⊎ ((k : ℕ) (ls : List Leave) → leave_if m k ls ≡ ls)
 leaves_or Quiet = inr (λ k ls. refl)
 leaves_or (Answer kind value) = inr (λ k ls. refl)
 leaves_or (In o a v l) = inr (λ k ls. refl)
 leaves_or (Refused o) = inr (λ k ls. refl)
 leaves_or (Out o a v) = inl (o, a, v, refl)
 
-step_of_leave : {T : Type 0} (n : ℕ) (xs : List (T × Mark)) (i : ℕ) (l : Leave) → At (leaves_from n xs) i l → StepAt n xs l.position (Out l.object l.access l.version)
+step_of_leave : {T : Type 0} (n : ℕ) (xs : List (T × Label)) (i : ℕ) (l : Leave) → At (leaves_from n xs) i l → StepAt n xs l.position (Out l.object l.access l.version)
 step_of_leave n [] i l h = absurd h
 step_of_leave n (x ∷ xs) zero l h = elim (leaves_or x.1) [
   | inl (o, a, v, is) ↦
@@ -117,7 +117,7 @@ step_of_leave n (x ∷ xs) (suc i) l h = elim (leaves_or x.1) [
   | inr p ↦ onward n x xs l.position (Out l.object l.access l.version) (step_of_leave (suc n) xs (suc i) l (subst (λ ls. At ls (suc i) l) (p n (leaves_from (suc n) xs)) h))
 ]
 
-leave_of_step : {T : Type 0} (n : ℕ) (xs : List (T × Mark)) (j : ℕ) (x : T) (o : ℕ) (a : Access) (v : ℕ) → At xs j (x, Out o a v) → (i : ℕ) × At (leaves_from n xs) i (leave_at (n + j) o a v)
+leave_of_step : {T : Type 0} (n : ℕ) (xs : List (T × Label)) (j : ℕ) (x : T) (o : ℕ) (a : Access) (v : ℕ) → At xs j (x, Out o a v) → (i : ℕ) × At (leaves_from n xs) i (leave_at (n + j) o a v)
 leave_of_step n [] j x o a v at = absurd at
 leave_of_step n (y ∷ ys) zero x o a v at =
     (0, subst (λ m. At (leave_if m n (leaves_from (suc n) ys)) 0 (leave_at (n + 0) o a v)) (sym (ap (λ z. z.1) at)) (ap (λ k. leave_at k o a v) (let q : n ≡ n + 0 = omega arith in q)))
@@ -140,7 +140,7 @@ rises_lower : (m n : ℕ) (ks : List ℕ) → m ≤ n → Rises n ks → Rises m
 rises_lower m n [] l h = tt
 rises_lower m n (k ∷ ks) l h = (omega (arith, l, h.0), h.1)
 
-places_rise : {T : Type 0} (n : ℕ) (xs : List (T × Mark)) → Rises n (places_from n xs)
+places_rise : {T : Type 0} (n : ℕ) (xs : List (T × Label)) → Rises n (places_from n xs)
 places_rise n [] = tt
 places_rise n (x ∷ xs) = elim (logs_or x.1) [
   | inl l ↦ subst (Rises n) (sym (l.place n (places_from (suc n) xs))) (omega arith, places_rise (suc n) xs)
@@ -150,7 +150,7 @@ places_rise n (x ∷ xs) = elim (logs_or x.1) [
 abbrev positions : List Leave → List ℕ
 positions ls = map (λ l. l.position) ls
 
-leaves_rise_from : {T : Type 0} (n : ℕ) (xs : List (T × Mark)) → Rises n (positions (leaves_from n xs))
+leaves_rise_from : {T : Type 0} (n : ℕ) (xs : List (T × Label)) → Rises n (positions (leaves_from n xs))
 leaves_rise_from n [] = tt
 leaves_rise_from n (x ∷ xs) = elim (leaves_or x.1) [
   | inl (o, a, v, is) ↦ subst (λ m. Rises n (positions (leave_if m n (leaves_from (suc n) xs)))) (sym is) (omega arith, leaves_rise_from (suc n) xs)
@@ -183,7 +183,7 @@ get_at (y ∷ ys) (suc i) x h = let g = get_at ys i x h in (omega (arith, g.0), 
 -- ---- what is kept of a run
 
 -- the steps of thread t in the run that is kept
-abbrev trail_in : (f : FittedTrace) → HasRun f → ℕ → List (thread.State × Mark)
+abbrev trail_in : (f : FittedTrace) → HasRun f → ℕ → List (thread.State × Label)
 trail_in f h t = trail (machine (start_flat f.guest f.recorded.budget)) (tables (start_flat f.guest f.recorded.budget)) h.run t
 
 pub idle_trail : {T : Type 0} (m : Machine T) (s : State T) (n : ℕ) → IsIdle m s n → (run : List Step) → IsRun m s run → (t : ℕ) → n ≤ t → trail m s run t ≡ []
@@ -193,7 +193,7 @@ idle_trail m s n idle (e ∷ run) ok t l =
     trail_other m s e run t (λ q. absurd (omega (arith, q, l, g.0))) ∙ idle_trail m (after m s e) n g.1 run ok.1 t l
 
 -- only the guest's threads take steps
-pub tells_below : (f : FittedTrace) (h : HasRun f) (t k : ℕ) (e : Mark) → TellsIn f h t k e → t < length f.guest.entries
+pub tells_below : (f : FittedTrace) (h : HasRun f) (t k : ℕ) (e : Label) → TellsIn f h t k e → t < length f.guest.entries
 tells_below f h t k e told = elim (cases_lt t (length f.guest.entries)) [
   | inl l ↦ l
   | inr past ↦
@@ -206,47 +206,47 @@ pub steps_in : (f : FittedTrace) (h : HasRun f) (t : ℕ) → t < length f.guest
 steps_in f h t l = h.whole.1.steps t l
 
 -- no step stands past them
-pub tells_within : (f : FittedTrace) (h : HasRun f) (t k : ℕ) (e : Mark) → TellsIn f h t k e → k < (recorded_thread f.recorded t).steps
+pub tells_within : (f : FittedTrace) (h : HasRun f) (t k : ℕ) (e : Label) → TellsIn f h t k e → k < (recorded_thread f.recorded t).steps
 tells_within f h t k e told = subst (λ n. k < n) (steps_in f h t (tells_below f h t k e told)) (get_at (trail_in f h t) k (told.0, e) told.1).0
 
-told_by : (f : FittedTrace) (h : HasRun f) (t k : ℕ) (e : Mark) → StepAt 0 (trail_in f h t) k e → TellsIn f h t k e
+told_by : (f : FittedTrace) (h : HasRun f) (t k : ℕ) (e : Label) → StepAt 0 (trail_in f h t) k e → TellsIn f h t k e
 told_by f h t k e g = (g.2.0, subst (λ j. At (trail_in f h t) j (g.2.0, e)) (let q : g.0 ≡ k = omega (arith, g.1) in q) g.2.1)
 
 -- a thread has as many positions as events
 pub entries_long : (f : FittedTrace) (h : HasRun f) (t : ℕ) → t < length f.guest.entries → length (placed_at f.placed t).entries ≡ length (recorded_thread f.recorded t).events
-entries_long f h t l = ap length (h.entries t l) ∙ places_long 0 (trail_in f h t) ∙ ap length (h.whole.1.logs t l) ∙ length-map (recorded_thread f.recorded t).events mark_of
+entries_long f h t l = ap length (h.entries t l) ∙ places_long 0 (trail_in f h t) ∙ ap length (h.whole.1.logs t l) ∙ length-map (recorded_thread f.recorded t).events label_of
 
 -- the step at the position of event i tells event i
-pub entry_tells : (f : FittedTrace) (h : HasRun f) (t : ℕ) → t < length f.guest.entries → (i : ℕ) (d : Event) → i < length (recorded_thread f.recorded t).events → TellsIn f h t (get_or (placed_at f.placed t).entries i 0) (mark_of (get_or (recorded_thread f.recorded t).events i d))
+pub entry_tells : (f : FittedTrace) (h : HasRun f) (t : ℕ) → t < length f.guest.entries → (i : ℕ) (d : Event) → i < length (recorded_thread f.recorded t).events → TellsIn f h t (get_or (placed_at f.placed t).entries i 0) (label_of (get_or (recorded_thread f.recorded t).events i d))
 entry_tells f h t l i d li =
     let es : List Event = (recorded_thread f.recorded t).events in
     let k : ℕ = get_or (placed_at f.placed t).entries i 0 in
-    let e : Mark = mark_of (get_or es i d) in
-    let event : At (map mark_of es) i e = subst (At (map mark_of es) i) (get_or-map mark_of es i d e li) (at_get (map mark_of es) i e (let n = length-map es mark_of in omega (arith, n, li))) in
+    let e : Label = label_of (get_or es i d) in
+    let event : At (map label_of es) i e = subst (At (map label_of es) i) (get_or-map label_of es i d e li) (at_get (map label_of es) i e (let n = length-map es label_of in omega (arith, n, li))) in
     let place : At (placed_at f.placed t).entries i k = at_get (placed_at f.placed t).entries i 0 (let n = entries_long f h t l in omega (arith, n, li)) in
     told_by f h t k e (step_of_event 0 (trail_in f h t) i k e (subst (λ xs. At xs i e) (sym (h.whole.1.logs t l)) event) (subst (λ xs. At xs i k) (h.entries t l) place))
 
 -- a step that is logged is an event's, at its position
-pub event_of : (f : FittedTrace) (h : HasRun f) (t k : ℕ) (e : Mark) → ((es : List Mark) → logged e es ≡ e ∷ es) → TellsIn f h t k e
-    → (i : ℕ) × (i < length (recorded_thread f.recorded t).events) × (get_or (placed_at f.placed t).entries i 0 ≡ k) × ((d : Event) → mark_of (get_or (recorded_thread f.recorded t).events i d) ≡ e)
+pub event_of : (f : FittedTrace) (h : HasRun f) (t k : ℕ) (e : Label) → ((es : List Label) → logged e es ≡ e ∷ es) → TellsIn f h t k e
+    → (i : ℕ) × (i < length (recorded_thread f.recorded t).events) × (get_or (placed_at f.placed t).entries i 0 ≡ k) × ((d : Event) → label_of (get_or (recorded_thread f.recorded t).events i d) ≡ e)
 event_of f h t k e logs told =
     let l = tells_below f h t k e told in
     let es : List Event = (recorded_thread f.recorded t).events in
     let g = event_of_step 0 (trail_in f h t) k told.0 e logs told.1 in
-    let event : At (map mark_of es) g.0 e = subst (λ xs. At xs g.0 e) (h.whole.1.logs t l) g.1 in
+    let event : At (map label_of es) g.0 e = subst (λ xs. At xs g.0 e) (h.whole.1.logs t l) g.1 in
     let place : At (placed_at f.placed t).entries g.0 (0 + k) = subst (λ xs. At xs g.0 (0 + k)) (sym (h.entries t l)) g.2 in
-    let found = get_at (map mark_of es) g.0 e event in
-    let li : g.0 < length es = let n = length-map es mark_of in let m = found.0 in omega (arith, n, m) in
-    (g.0, li, (get_at (placed_at f.placed t).entries g.0 (0 + k) place).1 0 ∙ (let q : 0 + k ≡ k = omega arith in q), λ d. sym (get_or-map mark_of es g.0 d e li) ∙ found.1 e)
+    let found = get_at (map label_of es) g.0 e event in
+    let li : g.0 < length es = let n = length-map es label_of in let m = found.0 in omega (arith, n, m) in
+    (g.0, li, (get_at (placed_at f.placed t).entries g.0 (0 + k) place).1 0 ∙ (let q : 0 + k ≡ k = omega arith in q), λ d. sym (get_or-map label_of es g.0 d e li) ∙ found.1 e)
 
 -- each entry is an event's
 pub entry_of : (f : FittedTrace) (h : HasRun f) (t k o : ℕ) (a : Access) (v n : ℕ) → TellsIn f h t k (In o a v n)
-    → (i : ℕ) × (i < length (recorded_thread f.recorded t).events) × (get_or (placed_at f.placed t).entries i 0 ≡ k) × ((d : Event) → mark_of (get_or (recorded_thread f.recorded t).events i d) ≡ In o a v n)
+    → (i : ℕ) × (i < length (recorded_thread f.recorded t).events) × (get_or (placed_at f.placed t).entries i 0 ≡ k) × ((d : Event) → label_of (get_or (recorded_thread f.recorded t).events i d) ≡ In o a v n)
 entry_of f h t k o a v n told = event_of f h t k (In o a v n) (λ es. refl) told
 
 -- so is each answer
 pub answer_of : (f : FittedTrace) (h : HasRun f) (t k : ℕ) (kind : EnvKind) (value : ℕ) → TellsIn f h t k (Answer kind value)
-    → (i : ℕ) × (i < length (recorded_thread f.recorded t).events) × (get_or (placed_at f.placed t).entries i 0 ≡ k) × ((d : Event) → mark_of (get_or (recorded_thread f.recorded t).events i d) ≡ Answer kind value)
+    → (i : ℕ) × (i < length (recorded_thread f.recorded t).events) × (get_or (placed_at f.placed t).entries i 0 ≡ k) × ((d : Event) → label_of (get_or (recorded_thread f.recorded t).events i d) ≡ Answer kind value)
 answer_of f h t k kind value told = event_of f h t k (Answer kind value) (λ es. refl) told
 
 -- the positions of the events rise
@@ -257,7 +257,7 @@ entries_rise f h t l = rises_below 0 (placed_at f.placed t).entries (subst (Rise
 pub entry_within : (f : FittedTrace) (h : HasRun f) (t : ℕ) → t < length f.guest.entries → (i : ℕ) → i < length (placed_at f.placed t).entries → get_or (placed_at f.placed t).entries i 0 < (recorded_thread f.recorded t).steps
 entry_within f h t l i li =
     let d : Event = logged_event.Answer Clock 0 in
-    tells_within f h t (get_or (placed_at f.placed t).entries i 0) (mark_of (get_or (recorded_thread f.recorded t).events i d)) (entry_tells f h t l i d (let n = entries_long f h t l in omega (arith, n, li)))
+    tells_within f h t (get_or (placed_at f.placed t).entries i 0) (label_of (get_or (recorded_thread f.recorded t).events i d)) (entry_tells f h t l i d (let n = entries_long f h t l in omega (arith, n, li)))
 
 -- the step of leave i tells leave i
 pub leave_tells : (f : FittedTrace) (h : HasRun f) (t : ℕ) → t < length f.guest.entries → (i : ℕ) (d : Leave) → i < length (placed_at f.placed t).leaves

@@ -8,11 +8,11 @@ use Rattle.ir_image.specs.Guest.{Guest, object_count}
 use Rattle.ir_thread.specs.Calls.{ask_of, after_ask}
 use Rattle.ir_thread.specs.Held.{held_count, one_if_held}
 use Rattle.ir_thread.proofs.CallerLemmas.{ask_permits, one_fewer}
-use Rattle.ir_runs.proofs.CallerLemmas.{upd_same, upd_other, upd_elim, trail_append, end_append, trail_same, trail_other, run_last, fits_front, goes_further, is_done, agrees, fits_last, sum_le, sum_less}
+use Rattle.ir_runs.proofs.CallerLemmas.{upd_same, upd_other, upd_elim, trail_append, end_append, trail_same, trail_other, run_last, fits_prefix, goes_further, is_done, agrees, fits_last, sum_le, sum_less}
 use Rattle.ir_thread.specs.Instance.{shared_ask, reply_of, thread_machine}
 use Rattle.ir_runs.specs.Machine as machine
 use Rattle.ir_runs.specs.Machine.{Machine, act_of}
-use Rattle.ir_runs.specs.Marks.{Mark, logged, Trace}
+use Rattle.ir_runs.specs.Labels.{Label, logged, Trace}
 use Rattle.ir_thread.specs.State as thread
 use Rattle.ir_thread.specs.Calls.{Permits}
 use Rattle.ir_runs.specs.declared.access.Access.{Access}
@@ -20,9 +20,9 @@ use Rattle.ir_thread.specs.declared.ask.Ask.TheVariants.{Private, Done, Leave as
 use Rattle.ir_runs.specs.Object.{target, told, reply, Admits}
 use Rattle.ir_flat.specs.Alone.{WentAlone}
 use Rattle.ir_flat.specs.Flat.{Flat, thread_of, tables, machine as machine_of, start_flat, start_threads, idle, IsFlat}
-use Rattle.ir_runs.specs.Run.{State, Step, act, asked, Can, after, mark, end, trail, events, log, count}
+use Rattle.ir_runs.specs.Run.{State, Step, act, asked, Can, after, label, end, trail, events, log, count}
 use Rattle.ir_flat.proofs.CallerLemmas.{tally, really_done, moved_thread, now_after, fresh, no_steps, threads_length, cells_length}
-use Rattle.ir_log.specs.Logging.{mark_of}
+use Rattle.ir_log.specs.Logging.{label_of}
 use Rattle.ir_trace.specs.Recorded.{Recorded, RecordedThread}
 use Rattle.ir_trace.specs.Told.{recorded_thread, absent, trace_of}
 use Rattle.ir_fit.specs.Ahead.{steps_ahead, log_ahead, StepFollows, CanFollow, IsStopped, AgreesAhead, IsMove}
@@ -40,12 +40,12 @@ use Rattle.ir_fit.proofs.Seen.{end_asked, ends_asked, tells, events_within}
 
 -- ---- what is left
 
-steps_over_is : {T : Type 0} (xs : List (T × Mark)) (n : ℕ) → left_steps xs n ≡ n - length xs
+steps_over_is : {T : Type 0} (xs : List (T × Label)) (n : ℕ) → left_steps xs n ≡ n - length xs
 steps_over_is [] n = omega arith
 steps_over_is (x ∷ xs) n = let rest : left_steps xs (pred n) ≡ pred n - length xs = steps_over_is xs (pred n) in omega (arith, rest)
 
-log_over_is : {T : Type 0} (E : Check T) (n : ℕ) (es : List Mark) (xs : List (T × Mark)) → Fits E n es xs → left_log xs es ≡ drop (length (events xs)) es
-log_over_is E n es xs h = sym (drop-append_seam (events xs) (left_log xs es)) ∙ ap (drop (length (events xs))) (fits_front E n es xs h)
+log_over_is : {T : Type 0} (E : Check T) (n : ℕ) (es : List Label) (xs : List (T × Label)) → Fits E n es xs → left_log xs es ≡ drop (length (events xs)) es
+log_over_is E n es xs h = sym (drop-append_seam (events xs) (left_log xs es)) ∙ ap (drop (length (events xs))) (fits_prefix E n es xs h)
 
 -- ---- a follower's run
 
@@ -87,12 +87,12 @@ pub steps_are : (guest : Guest) (r : Recorded) (f : Flat) (ps : List Placed) →
 steps_are guest r f ps k t = ap (λ n. (recorded_thread r t).steps - n) (k.steps t) ∙ sym (steps_over_is (trail (guest_machine guest r) (guest_start guest r) k.run t) ((trace_of r).steps t))
 
 pub log_is : (guest : Guest) (r : Recorded) (f : Flat) (ps : List Placed) → (k : IsFollower guest r f ps) → (t : ℕ) → log_ahead r f t ≡ left_log (trail (guest_machine guest r) (guest_start guest r) k.run t) ((trace_of r).logs t)
-log_is guest r f ps k t = ap (λ n. drop n (map mark_of (recorded_thread r t).events)) (k.events t)
+log_is guest r f ps k t = ap (λ n. drop n (map label_of (recorded_thread r t).events)) (k.events t)
     ∙ sym (log_over_is (closing (guest_machine guest r) (trace_of r) t) ((trace_of r).steps t) ((trace_of r).logs t) (trail (guest_machine guest r) (guest_start guest r) k.run t) (k.follows.1 t))
 
 -- what holds of the guest as it stands and of what is left to thread t
 abbrev pub Of : Type 1
-Of = Machine thread.State → State thread.State → ℕ → List Mark → Type 0
+Of = Machine thread.State → State thread.State → ℕ → List Label → Type 0
 
 -- holds at the end of the run
 pub there : (guest : Guest) (r : Recorded) (f : Flat) (ps : List Placed) → (k : IsFollower guest r f ps) → (t : ℕ) (P : Of) → P (machine_of f) (tables f) (steps_ahead r f t) (log_ahead r f t)
@@ -126,14 +126,14 @@ module _ (guest : Guest) (r : Recorded) (f : Flat) (ps qs : List Placed) (n : Mo
   kept_other : (u : ℕ) → u ≢ n.thread → placed_at qs u ≡ placed_at ps u
   kept_other u ne = ap (λ z. placed_at z u) more ∙ get_or-set_other ps n.thread u (placed_by f n.thread (placed_at ps n.thread) n.asked) none_placed ne
 
-  own_steps : trail (guest_machine guest r) (guest_start guest r) (k.run ++ (n.thread, n.result) ∷ []) n.thread ≡ trail (guest_machine guest r) (guest_start guest r) k.run n.thread ++ ((end (guest_machine guest r) (guest_start guest r) k.run).now n.thread, mark (guest_machine guest r) (end (guest_machine guest r) (guest_start guest r) k.run) (n.thread, n.result)) ∷ []
+  own_steps : trail (guest_machine guest r) (guest_start guest r) (k.run ++ (n.thread, n.result) ∷ []) n.thread ≡ trail (guest_machine guest r) (guest_start guest r) k.run n.thread ++ ((end (guest_machine guest r) (guest_start guest r) k.run).now n.thread, label (guest_machine guest r) (end (guest_machine guest r) (guest_start guest r) k.run) (n.thread, n.result)) ∷ []
   own_steps = trail_append (guest_machine guest r) (guest_start guest r) k.run ((n.thread, n.result) ∷ []) n.thread ∙ ap (λ z. trail (guest_machine guest r) (guest_start guest r) k.run n.thread ++ z) (trail_same (guest_machine guest r) (end (guest_machine guest r) (guest_start guest r) k.run) (n.thread, n.result) [])
 
   other_steps : (u : ℕ) → u ≢ n.thread → trail (guest_machine guest r) (guest_start guest r) (k.run ++ (n.thread, n.result) ∷ []) u ≡ trail (guest_machine guest r) (guest_start guest r) k.run u
   other_steps u ne = trail_append (guest_machine guest r) (guest_start guest r) k.run ((n.thread, n.result) ∷ []) u ∙ ap (λ z. trail (guest_machine guest r) (guest_start guest r) k.run u ++ z) (trail_other (guest_machine guest r) (end (guest_machine guest r) (guest_start guest r) k.run) (n.thread, n.result) [] u ne) ∙ append-nil _
 
-  tells_there : tells f n.asked n.result ≡ mark (guest_machine guest r) (end (guest_machine guest r) (guest_start guest r) k.run) (n.thread, n.result)
-  tells_there = ap (λ q. tells f q n.result) move.asked ∙ ap (λ c. mark (thread_machine c) (tables f) (n.thread, n.result)) k.code ∙ ap (λ z. mark (guest_machine guest r) z (n.thread, n.result)) k.ends
+  tells_there : tells f n.asked n.result ≡ label (guest_machine guest r) (end (guest_machine guest r) (guest_start guest r) k.run) (n.thread, n.result)
+  tells_there = ap (λ q. tells f q n.result) move.asked ∙ ap (λ c. label (thread_machine c) (tables f) (n.thread, n.result)) k.code ∙ ap (λ z. label (guest_machine guest r) z (n.thread, n.result)) k.ends
 
   position : (thread_of f n.thread).steps ≡ 0 + length (trail (guest_machine guest r) (guest_start guest r) k.run n.thread)
   position = k.steps n.thread ∙ (let e : length (trail (guest_machine guest r) (guest_start guest r) k.run n.thread) ≡ 0 + length (trail (guest_machine guest r) (guest_start guest r) k.run n.thread) = omega arith in e)
@@ -142,8 +142,8 @@ module _ (guest : Guest) (r : Recorded) (f : Flat) (ps qs : List Placed) (n : Mo
   more_placed t l = elim (cases_eq t n.thread) [
     | inl e ↦ subst (λ u. (placed_at qs u).entries ≡ places_of (trail (guest_machine guest r) (guest_start guest r) (k.run ++ (n.thread, n.result) ∷ []) u)) (sym e)
         (ap (λ z. z.entries) kept_own ∙ placed_entries f n.thread n.result (placed_at ps n.thread) n.asked ∙ ap (λ z. z ++ place_if (tells f n.asked n.result) (thread_of f n.thread).steps []) (k.placed n.thread (subst (λ u. u < length guest.entries) e l))
-        ∙ ap (λ z. places_of (trail (guest_machine guest r) (guest_start guest r) k.run n.thread) ++ z) (ap (λ z. place_if z (thread_of f n.thread).steps []) tells_there ∙ ap (λ (i : ℕ). place_if (mark (guest_machine guest r) (end (guest_machine guest r) (guest_start guest r) k.run) (n.thread, n.result)) i []) position)
-        ∙ sym (places_append 0 (trail (guest_machine guest r) (guest_start guest r) k.run n.thread) (((end (guest_machine guest r) (guest_start guest r) k.run).now n.thread, mark (guest_machine guest r) (end (guest_machine guest r) (guest_start guest r) k.run) (n.thread, n.result)) ∷ [])) ∙ ap (λ z. places_of z) (sym own_steps))
+        ∙ ap (λ z. places_of (trail (guest_machine guest r) (guest_start guest r) k.run n.thread) ++ z) (ap (λ z. place_if z (thread_of f n.thread).steps []) tells_there ∙ ap (λ (i : ℕ). place_if (label (guest_machine guest r) (end (guest_machine guest r) (guest_start guest r) k.run) (n.thread, n.result)) i []) position)
+        ∙ sym (places_append 0 (trail (guest_machine guest r) (guest_start guest r) k.run n.thread) (((end (guest_machine guest r) (guest_start guest r) k.run).now n.thread, label (guest_machine guest r) (end (guest_machine guest r) (guest_start guest r) k.run) (n.thread, n.result)) ∷ [])) ∙ ap (λ z. places_of z) (sym own_steps))
     | inr ne ↦ ap (λ z. z.entries) (kept_other t ne) ∙ k.placed t l ∙ ap (λ z. places_of z) (sym (other_steps t ne))
   ]
 
@@ -151,8 +151,8 @@ module _ (guest : Guest) (r : Recorded) (f : Flat) (ps qs : List Placed) (n : Mo
   more_left t l = elim (cases_eq t n.thread) [
     | inl e ↦ subst (λ u. (placed_at qs u).leaves ≡ leaves_of (trail (guest_machine guest r) (guest_start guest r) (k.run ++ (n.thread, n.result) ∷ []) u)) (sym e)
         (ap (λ z. z.leaves) kept_own ∙ placed_leaves f n.thread n.result (placed_at ps n.thread) n.asked ∙ ap (λ z. z ++ leave_if (tells f n.asked n.result) (thread_of f n.thread).steps []) (k.left n.thread (subst (λ u. u < length guest.entries) e l))
-        ∙ ap (λ z. leaves_of (trail (guest_machine guest r) (guest_start guest r) k.run n.thread) ++ z) (ap (λ z. leave_if z (thread_of f n.thread).steps []) tells_there ∙ ap (λ (i : ℕ). leave_if (mark (guest_machine guest r) (end (guest_machine guest r) (guest_start guest r) k.run) (n.thread, n.result)) i []) position)
-        ∙ sym (leaves_append 0 (trail (guest_machine guest r) (guest_start guest r) k.run n.thread) (((end (guest_machine guest r) (guest_start guest r) k.run).now n.thread, mark (guest_machine guest r) (end (guest_machine guest r) (guest_start guest r) k.run) (n.thread, n.result)) ∷ [])) ∙ ap (λ z. leaves_of z) (sym own_steps))
+        ∙ ap (λ z. leaves_of (trail (guest_machine guest r) (guest_start guest r) k.run n.thread) ++ z) (ap (λ z. leave_if z (thread_of f n.thread).steps []) tells_there ∙ ap (λ (i : ℕ). leave_if (label (guest_machine guest r) (end (guest_machine guest r) (guest_start guest r) k.run) (n.thread, n.result)) i []) position)
+        ∙ sym (leaves_append 0 (trail (guest_machine guest r) (guest_start guest r) k.run n.thread) (((end (guest_machine guest r) (guest_start guest r) k.run).now n.thread, label (guest_machine guest r) (end (guest_machine guest r) (guest_start guest r) k.run) (n.thread, n.result)) ∷ [])) ∙ ap (λ z. leaves_of z) (sym own_steps))
     | inr ne ↦ ap (λ z. z.leaves) (kept_other t ne) ∙ k.left t l ∙ ap (λ z. leaves_of z) (sym (other_steps t ne))
   ]
 
@@ -181,7 +181,7 @@ alone_follows code tr s run t (suc n) h each le =
     let e : Step = (t, 0) in
     let x : thread.State = (end m s run).now t in
     let left : ℕ = left_steps (trail m s run t) (tr.steps t) in
-    let es : List Mark = left_log (trail m s run t) (tr.logs t) in
+    let es : List Label = left_log (trail m s run t) (tr.logs t) in
     let is : ask_of code x ≡ Private = each 0 (omega arith) in
     let step : Follows (closing m tr) m s tr (run ++ e ∷ []) = goes_further m s tr run h t 0
     (subst (λ q. Admits m (act_of (shared_ask q) 0) ((end m s run).objects (target (act_of (shared_ask q) 0)))) (sym is) tt) (
@@ -204,7 +204,7 @@ alone_quiet code s t zero each u = tt
 alone_quiet code s t (suc n) each u =
     let m = thread_machine code in
     let is : ask_of code (s.now t) ≡ Private = each 0 (omega arith) in
-    quiet_join (eqb u t) (s.now u, mark m s (t, 0)) (trail m (after m s (t, 0)) (replicate n (t, 0)) u) (ap (λ q. told (act_of (shared_ask q) 0) (s.objects (target (act_of (shared_ask q) 0)))) is)
+    quiet_join (eqb u t) (s.now u, label m s (t, 0)) (trail m (after m s (t, 0)) (replicate n (t, 0)) u) (ap (λ q. told (act_of (shared_ask q) 0) (s.objects (target (act_of (shared_ask q) 0)))) is)
     (alone_quiet code (after m s (t, 0)) t n (λ k l. each (suc k) (omega (arith, l))) u)
 
 pub went_follows : (guest : Guest) (r : Recorded) (f g : Flat) (ps : List Placed) (t n : ℕ) → WentAlone f g t n → n ≤ steps_ahead r f t → IsFollower guest r f ps → IsFollower guest r g ps
@@ -213,7 +213,7 @@ went_follows guest r f g ps t n w le k =
     let s = guest_start guest r in
     let each : (j : ℕ) → j < n → ask_of guest.code ((end m (end m s k.run) (replicate j (t, 0))).now t) ≡ Private =
     λ j l. subst (λ z. ask_of guest.code ((end m z (replicate j (t, 0))).now t) ≡ Private) k.ends (subst (λ c. ask_of c ((end (thread_machine c) (tables f) (replicate j (t, 0))).now t) ≡ Private) k.code (w.each j l)) in
-    let rest : ℕ → List (thread.State × Mark) = λ u. trail m (end m s k.run) (replicate n (t, 0)) u in
+    let rest : ℕ → List (thread.State × Label) = λ u. trail m (end m s k.run) (replicate n (t, 0)) u in
     let quiet : (u : ℕ) → AllQuiet (rest u) = alone_quiet guest.code (end m s k.run) t n each in
     made guest r g ps (k.run ++ replicate n (t, 0))
     (alone_follows guest.code (trace_of r) s k.run t n k.follows each (subst (λ z. n ≤ z) (steps_are guest r f ps k t) le))

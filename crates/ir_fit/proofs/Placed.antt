@@ -12,51 +12,51 @@ use Rattle.ir_thread.specs.declared.ask.Reply.{Reply}
 use Rattle.ir_thread.proofs.CallerLemmas.{one_fewer}
 use Rattle.ir_flat.specs.Flat.{Flat, thread_of}
 use Rattle.ir_fit.proofs.Seen.{tells}
-use Rattle.ir_runs.specs.Marks.{Mark, Quiet, Answer, In, Refused, Out}
+use Rattle.ir_runs.specs.Labels.{Label, Quiet, Answer, In, Refused, Out}
 use Rattle.ir_runs.specs.Run.{join_if}
 use Rattle.ir_fit.specs.Places.{Placed, placed_by, place_if, places_from, leave_if, leaves_from}
 use Rattle.ir_fit.specs.declared.leave.Leave.{Leave}
 
-place_front : (k : Mark) (i : ℕ) (ps qs : List ℕ) → place_if k i (ps ++ qs) ≡ place_if k i ps ++ qs
-place_front Quiet i ps qs = refl
-place_front (Answer a v) i ps qs = refl
-place_front (In o a v l) i ps qs = refl
-place_front (Refused o) i ps qs = refl
-place_front (Out o a v) i ps qs = refl
+place_prefix : (k : Label) (i : ℕ) (ps qs : List ℕ) → place_if k i (ps ++ qs) ≡ place_if k i ps ++ qs
+place_prefix Quiet i ps qs = refl
+place_prefix (Answer a v) i ps qs = refl
+place_prefix (In o a v l) i ps qs = refl
+place_prefix (Refused o) i ps qs = refl
+place_prefix (Out o a v) i ps qs = refl
 
-leave_front : (k : Mark) (i : ℕ) (ps qs : List Leave) → leave_if k i (ps ++ qs) ≡ leave_if k i ps ++ qs
-leave_front Quiet i ps qs = refl
-leave_front (Answer a v) i ps qs = refl
-leave_front (In o a v l) i ps qs = refl
-leave_front (Refused o) i ps qs = refl
-leave_front (Out o a v) i ps qs = refl
+leave_prefix : (k : Label) (i : ℕ) (ps qs : List Leave) → leave_if k i (ps ++ qs) ≡ leave_if k i ps ++ qs
+leave_prefix Quiet i ps qs = refl
+leave_prefix (Answer a v) i ps qs = refl
+leave_prefix (In o a v l) i ps qs = refl
+leave_prefix (Refused o) i ps qs = refl
+leave_prefix (Out o a v) i ps qs = refl
 
-pub places_append : {T : Type 0} (i : ℕ) (xs ys : List (T × Mark)) → places_from i (xs ++ ys) ≡ places_from i xs ++ places_from (i + length xs) ys
+pub places_append : {T : Type 0} (i : ℕ) (xs ys : List (T × Label)) → places_from i (xs ++ ys) ≡ places_from i xs ++ places_from (i + length xs) ys
 places_append i [] ys = ap (λ (k : ℕ). places_from k ys) (let e : i ≡ i + 0 = omega arith in e)
 places_append i (x ∷ xs) ys =
     ap (place_if x.1 i) (places_append (suc i) xs ys ∙ ap (λ (k : ℕ). places_from (suc i) xs ++ places_from k ys) (let e : suc i + length xs ≡ i + suc (length xs) = omega arith in e))
-    ∙ place_front x.1 i (places_from (suc i) xs) (places_from (i + suc (length xs)) ys)
+    ∙ place_prefix x.1 i (places_from (suc i) xs) (places_from (i + suc (length xs)) ys)
 
-pub leaves_append : {T : Type 0} (i : ℕ) (xs ys : List (T × Mark)) → leaves_from i (xs ++ ys) ≡ leaves_from i xs ++ leaves_from (i + length xs) ys
+pub leaves_append : {T : Type 0} (i : ℕ) (xs ys : List (T × Label)) → leaves_from i (xs ++ ys) ≡ leaves_from i xs ++ leaves_from (i + length xs) ys
 leaves_append i [] ys = ap (λ (k : ℕ). leaves_from k ys) (let e : i ≡ i + 0 = omega arith in e)
 leaves_append i (x ∷ xs) ys =
     ap (leave_if x.1 i) (leaves_append (suc i) xs ys ∙ ap (λ (k : ℕ). leaves_from (suc i) xs ++ leaves_from k ys) (let e : suc i + length xs ≡ i + suc (length xs) = omega arith in e))
-    ∙ leave_front x.1 i (leaves_from (suc i) xs) (leaves_from (i + suc (length xs)) ys)
+    ∙ leave_prefix x.1 i (leaves_from (suc i) xs) (leaves_from (i + suc (length xs)) ys)
 
 -- steps that tell nothing
-abbrev pub AllQuiet : {T : Type 0} → List (T × Mark) → Type 0
+abbrev pub AllQuiet : {T : Type 0} → List (T × Label) → Type 0
 AllQuiet [] = Unit {0}
 AllQuiet (x ∷ xs) = (x.1 ≡ Quiet) × AllQuiet xs
 
-pub quiet_places : {T : Type 0} (i : ℕ) (xs : List (T × Mark)) → AllQuiet xs → places_from i xs ≡ []
+pub quiet_places : {T : Type 0} (i : ℕ) (xs : List (T × Label)) → AllQuiet xs → places_from i xs ≡ []
 quiet_places i [] h = refl
 quiet_places i (x ∷ xs) h = ap (λ k. place_if k i (places_from (suc i) xs)) h.0 ∙ quiet_places (suc i) xs h.1
 
-pub quiet_leaves : {T : Type 0} (i : ℕ) (xs : List (T × Mark)) → AllQuiet xs → leaves_from i xs ≡ []
+pub quiet_leaves : {T : Type 0} (i : ℕ) (xs : List (T × Label)) → AllQuiet xs → leaves_from i xs ≡ []
 quiet_leaves i [] h = refl
 quiet_leaves i (x ∷ xs) h = ap (λ k. leave_if k i (leaves_from (suc i) xs)) h.0 ∙ quiet_leaves (suc i) xs h.1
 
-pub quiet_join : {T : Type 0} (b : Bool) (x : T × Mark) (xs : List (T × Mark)) → x.1 ≡ Quiet → AllQuiet xs → AllQuiet (join_if b x xs)
+pub quiet_join : {T : Type 0} (b : Bool) (x : T × Label) (xs : List (T × Label)) → x.1 ≡ Quiet → AllQuiet xs → AllQuiet (join_if b x xs)
 quiet_join true x xs h rest = (h, rest)
 quiet_join false x xs h rest = rest
 

@@ -9,8 +9,8 @@ use Rattle.ir_thread.specs.Held.{held_count}
 use Rattle.ir_thread.specs.Instance.{shared_ask, reply_of, is_result, thread_machine}
 use Rattle.ir_runs.specs.Machine as machine
 use Rattle.ir_runs.specs.Machine.{act_of}
-use Rattle.ir_runs.specs.Marks as marks
-use Rattle.ir_runs.specs.Marks.{Mark, logged}
+use Rattle.ir_runs.specs.Labels as labels
+use Rattle.ir_runs.specs.Labels.{Label, logged}
 use Rattle.ir_thread.specs.State as thread
 use Rattle.ir_runs.specs.declared.access.Access.{Access}
 use Rattle.ir_runs.specs.declared.access.Access.TheVariants.{Reading, Writing}
@@ -26,7 +26,7 @@ use Rattle.ir_runs.specs.Object.{target, Admits, told}
 use Rattle.ir_flat.specs.Flat.{Flat, thread_of, cell_of, tables, machine, IsFlat}
 use Rattle.ir_flat.proofs.CallerLemmas.{may_admits, added}
 use Rattle.std.proofs.lemmas.Option.{slice_get_within}
-use Rattle.ir_log.specs.Logging.{mark_of, Suits}
+use Rattle.ir_log.specs.Logging.{label_of, Suits}
 use Rattle.ir_log.specs.declared.event.Event.{Event}
 use Rattle.ir_log.specs.declared.event.Event.TheVariants.{Answer, Read, Write}
 use Rattle.ir_trace.specs.Recorded.{Recorded, IsResult, IsEvent, IsRecordedThread}
@@ -67,11 +67,11 @@ ends_asked code s = ends_by code s (reply_of (ask_of code s) 0) (ask_of code s) 
 -- ---- steps by what is asked
 
 -- what a step tells that is asked so and has this result
-abbrev pub tells : Flat → Ask → ℕ → Mark
+abbrev pub tells : Flat → Ask → ℕ → Label
 tells f q v = told (act_of (shared_ask q) v) ((tables f).objects (target (act_of (shared_ask q) v)))
 
 -- a step that is asked so follows, where n steps and the log es are left
-pub record FollowsAs (r : Recorded) (f : Flat) (t v n : ℕ) (es : List Mark) (q : Ask) : Type 0 where
+pub record FollowsAs (r : Recorded) (f : Flat) (t v n : ℕ) (es : List Label) (q : Ask) : Type 0 where
   pub can : Admits (machine f) (act_of (shared_ask q) v) ((tables f).objects (target (act_of (shared_ask q) v)))
   pub steps : 0 < n
   pub logs : logged (tells f q v) (unlogged (tells f q v) es) ≡ es
@@ -91,7 +91,7 @@ follows_by r f t v q is h =
     (k.can, k.steps, k.logs, subst (λ e. Meets e ((trace_of r).ends t) (held_count (thread_of f t).held) (steps_ahead r f t) (log_ahead r f t)) (sym (ends_asked f.code (thread_of f t))) k.ends)
 
 -- the next step is the trace's, where it is asked so
-pub record AgreesAs (r : Recorded) (f : Flat) (t n : ℕ) (es : List Mark) (q : Ask) : Type 0 where
+pub record AgreesAs (r : Recorded) (f : Flat) (t n : ℕ) (es : List Label) (q : Ask) : Type 0 where
   pub steps : 0 < n
   pub suits : verdicts.Suits (shared_ask q) es
   pub ends : Meets (end_asked q) ((trace_of r).ends t) (held_count (thread_of f t).held) n es
@@ -111,9 +111,9 @@ agrees_by r f t q is h =
 -- ---- the next event of a log
 
 -- the log from an event on
-pub ahead_at : (xs : List Event) (i : ℕ) (e : Event) → slice_get xs i ≡ Some e → drop i (map mark_of xs) ≡ mark_of e ∷ drop (suc i) (map mark_of xs)
+pub ahead_at : (xs : List Event) (i : ℕ) (e : Event) → slice_get xs i ≡ Some e → drop i (map label_of xs) ≡ label_of e ∷ drop (suc i) (map label_of xs)
 ahead_at [] i e h = absurd (cc h)
-ahead_at (x ∷ xs) zero e h = let same : x ≡ e = cc h in ap (λ z. mark_of z ∷ map mark_of xs) same
+ahead_at (x ∷ xs) zero e h = let same : x ≡ e = cc h in ap (λ z. label_of z ∷ map label_of xs) same
 ahead_at (x ∷ xs) (suc i) e h = ahead_at xs i e h
 
 pub event_fits : {X : Type 0} (P : X → Type 0) (xs : List X) (i : ℕ) (e : X) → AllByRecursion P xs → slice_get xs i ≡ Some e → P e
@@ -122,36 +122,36 @@ event_fits P (x ∷ xs) zero e all h = let same : x ≡ e = cc h in subst P same
 event_fits P (x ∷ xs) (suc i) e all h = event_fits P xs i e all.1 h
 
 -- a log whose next event suits what is asked
-call_suits : (x : Event) (es : List Mark) (kind : EnvKind) → verdicts.Suits (machine.Env kind) (mark_of x ∷ es) → Suits (Env kind) x
+call_suits : (x : Event) (es : List Label) (kind : EnvKind) → verdicts.Suits (machine.Env kind) (label_of x ∷ es) → Suits (Env kind) x
 call_suits (Answer j v) es kind h = ap Env h
 call_suits (Read o v) es kind h = absurd h
 call_suits (Write o v l) es kind h = absurd h
 
-entry_suits : (x : Event) (es : List Mark) (o : ℕ) (a : Access) → verdicts.Suits (machine.Enter o a) (mark_of x ∷ es) → Suits (Enter o a) x
+entry_suits : (x : Event) (es : List Label) (o : ℕ) (a : Access) → verdicts.Suits (machine.Enter o a) (label_of x ∷ es) → Suits (Enter o a) x
 entry_suits (Answer j v) es o a h = absurd h
 entry_suits (Read p v) es o a h = λ i. Enter (h.0 i) (h.1 i)
 entry_suits (Write p v l) es o a h = λ i. Enter (h.0 i) (h.1 i)
 
-pub suits_call : (x : Event) (es : List Mark) (kind : EnvKind) → Suits (Env kind) x → verdicts.Suits (machine.Env kind) (mark_of x ∷ es)
+pub suits_call : (x : Event) (es : List Label) (kind : EnvKind) → Suits (Env kind) x → verdicts.Suits (machine.Env kind) (label_of x ∷ es)
 suits_call (Answer j v) es kind h = cc h
 suits_call (Read o v) es kind h = absurd (cc h)
 suits_call (Write o v l) es kind h = absurd (cc h)
 
-pub suits_entry : (x : Event) (es : List Mark) (o : ℕ) (a : Access) → Suits (Enter o a) x → verdicts.Suits (machine.Enter o a) (mark_of x ∷ es)
+pub suits_entry : (x : Event) (es : List Label) (o : ℕ) (a : Access) → Suits (Enter o a) x → verdicts.Suits (machine.Enter o a) (label_of x ∷ es)
 suits_entry (Answer j v) es o a h = absurd (cc h)
 suits_entry (Read p v) es o a h = ((let e : ◌≡◌ {A = ℕ} p o = cc h in e), (let e : ◌≡◌ {A = Access} Reading a = cc h in e))
 suits_entry (Write p v l) es o a h = ((let e : ◌≡◌ {A = ℕ} p o = cc h in e), (let e : ◌≡◌ {A = Access} Writing a = cc h in e))
 
-pub call_there : (xs : List Event) (i : ℕ) (kind : EnvKind) → verdicts.Suits (machine.Env kind) (drop i (map mark_of xs)) → (e : Event) × (slice_get xs i ≡ Some e) × Suits (Env kind) e
+pub call_there : (xs : List Event) (i : ℕ) (kind : EnvKind) → verdicts.Suits (machine.Env kind) (drop i (map label_of xs)) → (e : Event) × (slice_get xs i ≡ Some e) × Suits (Env kind) e
 call_there [] zero kind h = absurd h
 call_there [] (suc i) kind h = absurd h
-call_there (x ∷ xs) zero kind h = (x, refl, call_suits x (map mark_of xs) kind h)
+call_there (x ∷ xs) zero kind h = (x, refl, call_suits x (map label_of xs) kind h)
 call_there (x ∷ xs) (suc i) kind h = call_there xs i kind h
 
-pub entry_there : (xs : List Event) (i o : ℕ) (a : Access) → verdicts.Suits (machine.Enter o a) (drop i (map mark_of xs)) → (e : Event) × (slice_get xs i ≡ Some e) × Suits (Enter o a) e
+pub entry_there : (xs : List Event) (i o : ℕ) (a : Access) → verdicts.Suits (machine.Enter o a) (drop i (map label_of xs)) → (e : Event) × (slice_get xs i ≡ Some e) × Suits (Enter o a) e
 entry_there [] zero o a h = absurd h
 entry_there [] (suc i) o a h = absurd h
-entry_there (x ∷ xs) zero o a h = (x, refl, entry_suits x (map mark_of xs) o a h)
+entry_there (x ∷ xs) zero o a h = (x, refl, entry_suits x (map label_of xs) o a h)
 entry_there (x ∷ xs) (suc i) o a h = entry_there xs i o a h
 
 -- ---- calls of the environment
@@ -171,41 +171,41 @@ pub call_follows : (r : Recorded) (f : Flat) (t v : ℕ) (kind j : EnvKind) → 
 call_follows r f t v kind j fits is steps next suits =
     let same : j ≡ kind = cc suits in
     let here : Answer j v ≡ Answer kind v = ap (λ z. Answer z v) same in
-    let es : log_ahead r f t ≡ marks.Answer kind v ∷ drop (suc (thread_of f t).events) (map mark_of (recorded_thread r t).events) =
+    let es : log_ahead r f t ≡ labels.Answer kind v ∷ drop (suc (thread_of f t).events) (map label_of (recorded_thread r t).events) =
     ahead_at (recorded_thread r t).events (thread_of f t).events (Answer kind v) (subst (λ z. slice_get (recorded_thread r t).events (thread_of f t).events ≡ Some z) here next) in
     let result : IsResult kind v = subst (λ z. IsResult z v) same (event_fits (IsEvent r.objects) (recorded_thread r t).events (thread_of f t).events (Answer j v) fits.events_fit next) in
     follows_by r f t v (Env kind) is (record {
       can = fits_result kind v result;
       steps = steps;
-      logs = ap (λ z. marks.Answer kind v ∷ unlogged (marks.Answer kind v) z) es ∙ sym es;
+      logs = ap (λ z. labels.Answer kind v ∷ unlogged (labels.Answer kind v) z) es ∙ sym es;
       ends = tt;
     })
 
 -- ---- entries
 
-open_entry : (f : Flat) (t v o : ℕ) (a : Access) (e : Event) (es rest : List Mark) → es ≡ mark_of e ∷ rest → Suits (Enter o a) e → IsOpen (cell_of f o) e → (Admitted a (cell_of f o).fields) × (logged (tells f (Enter o a) v) (unlogged (tells f (Enter o a) v) es) ≡ es)
+open_entry : (f : Flat) (t v o : ℕ) (a : Access) (e : Event) (es rest : List Label) → es ≡ label_of e ∷ rest → Suits (Enter o a) e → IsOpen (cell_of f o) e → (Admitted a (cell_of f o).fields) × (logged (tells f (Enter o a) v) (unlogged (tells f (Enter o a) v) es) ≡ es)
 open_entry f t v o a (Answer k w) es rest is suits h = absurd h
 open_entry f t v o a (Read p w) es rest is suits h =
     let object : ◌≡◌ {A = ℕ} o p = sym (let e : ◌≡◌ {A = ℕ} p o = cc suits in e) in
     let access : ◌≡◌ {A = Access} Reading a = cc suits in
     subst (λ z. (Admitted z (cell_of f o).fields) × (logged (tells f (Enter o z) v) (unlogged (tells f (Enter o z) v) es) ≡ es)) access
-    (h.1, ap (λ z. marks.In o Reading (cell_of f o).fields.version 0 ∷ unlogged (marks.In o Reading (cell_of f o).fields.version 0) z) is ∙ (λ i. marks.In (object i) Reading (h.0 i) 0 ∷ rest) ∙ sym is)
+    (h.1, ap (λ z. labels.In o Reading (cell_of f o).fields.version 0 ∷ unlogged (labels.In o Reading (cell_of f o).fields.version 0) z) is ∙ (λ i. labels.In (object i) Reading (h.0 i) 0 ∷ rest) ∙ sym is)
 open_entry f t v o a (Write p w l) es rest is suits h =
     let object : ◌≡◌ {A = ℕ} o p = sym (let e : ◌≡◌ {A = ℕ} p o = cc suits in e) in
     let access : ◌≡◌ {A = Access} Writing a = cc suits in
     subst (λ z. (Admitted z (cell_of f o).fields) × (logged (tells f (Enter o z) v) (unlogged (tells f (Enter o z) v) es) ≡ es)) access
-    (h.2, ap (λ z. marks.In o Writing (cell_of f o).fields.version (cell_of f o).fields.left ∷ unlogged (marks.In o Writing (cell_of f o).fields.version (cell_of f o).fields.left) z) is ∙ (λ i. marks.In (object i) Writing (h.0 i) (h.1 i) ∷ rest) ∙ sym is)
+    (h.2, ap (λ z. labels.In o Writing (cell_of f o).fields.version (cell_of f o).fields.left ∷ unlogged (labels.In o Writing (cell_of f o).fields.version (cell_of f o).fields.left) z) is ∙ (λ i. labels.In (object i) Writing (h.0 i) (h.1 i) ∷ rest) ∙ sym is)
 
-entry_open : (f : Flat) (t v o : ℕ) (a : Access) (e : Event) (es rest : List Mark) → es ≡ mark_of e ∷ rest → Suits (Enter o a) e → Admitted a (cell_of f o).fields → logged (tells f (Enter o a) v) (unlogged (tells f (Enter o a) v) es) ≡ es → IsOpen (cell_of f o) e
+entry_open : (f : Flat) (t v o : ℕ) (a : Access) (e : Event) (es rest : List Label) → es ≡ label_of e ∷ rest → Suits (Enter o a) e → Admitted a (cell_of f o).fields → logged (tells f (Enter o a) v) (unlogged (tells f (Enter o a) v) es) ≡ es → IsOpen (cell_of f o) e
 entry_open f t v o a (Answer k w) es rest is suits can h = absurd (cc suits)
 entry_open f t v o a (Read p w) es rest is suits can h =
     let access : ◌≡◌ {A = Access} a Reading = sym (let e : ◌≡◌ {A = Access} Reading a = cc suits in e) in
-    let tells_read : marks.In o Reading (cell_of f o).fields.version 0 ∷ unlogged (marks.In o Reading (cell_of f o).fields.version 0) es ≡ es = subst (λ z. logged (tells f (Enter o z) v) (unlogged (tells f (Enter o z) v) es) ≡ es) access h in
+    let tells_read : labels.In o Reading (cell_of f o).fields.version 0 ∷ unlogged (labels.In o Reading (cell_of f o).fields.version 0) es ≡ es = subst (λ z. logged (tells f (Enter o z) v) (unlogged (tells f (Enter o z) v) es) ≡ es) access h in
     let both = tells_read ∙ is in
     ((let e : ◌≡◌ {A = ℕ} (cell_of f o).fields.version w = cc both in e), subst (λ z. Admitted z (cell_of f o).fields) access can)
 entry_open f t v o a (Write p w l) es rest is suits can h =
     let access : ◌≡◌ {A = Access} a Writing = sym (let e : ◌≡◌ {A = Access} Writing a = cc suits in e) in
-    let tells_write : marks.In o Writing (cell_of f o).fields.version (cell_of f o).fields.left ∷ unlogged (marks.In o Writing (cell_of f o).fields.version (cell_of f o).fields.left) es ≡ es = subst (λ z. logged (tells f (Enter o z) v) (unlogged (tells f (Enter o z) v) es) ≡ es) access h in
+    let tells_write : labels.In o Writing (cell_of f o).fields.version (cell_of f o).fields.left ∷ unlogged (labels.In o Writing (cell_of f o).fields.version (cell_of f o).fields.left) es ≡ es = subst (λ z. logged (tells f (Enter o z) v) (unlogged (tells f (Enter o z) v) es) ≡ es) access h in
     let both = tells_write ∙ is in
     ((let e : ◌≡◌ {A = ℕ} (cell_of f o).fields.version w = cc both in e), (let e : ◌≡◌ {A = ℕ} (cell_of f o).fields.left l = cc both in e), subst (λ z. Admitted z (cell_of f o).fields) access can)
 
@@ -224,7 +224,7 @@ pub entry_follows : (r : Recorded) (f : Flat) (t o : ℕ) (a : Access) (e : Even
     → slice_get (recorded_thread r t).events (thread_of f t).events ≡ Some e → Suits (Enter o a) e → IsOpen (cell_of f o) e → CanFollow r f t 0
 entry_follows r f t o a e flat l is steps next suits opens =
     let es = ahead_at (recorded_thread r t).events (thread_of f t).events e next in
-    let both = open_entry f t 0 o a e (log_ahead r f t) (drop (suc (thread_of f t).events) (map mark_of (recorded_thread r t).events)) es suits opens in
+    let both = open_entry f t 0 o a e (log_ahead r f t) (drop (suc (thread_of f t).events) (map label_of (recorded_thread r t).events)) es suits opens in
     follows_by r f t 0 (Enter o a) is (record {
       can = (may_admits f t 0 (Enter o a) flat l (subst (Permits (thread_of f t)) is (ask_permits f.code (thread_of f t)))).0 both.0;
       steps = steps;
@@ -236,7 +236,7 @@ pub entry_waits : (r : Recorded) (f : Flat) (t o : ℕ) (a : Access) (e : Event)
     → slice_get (recorded_thread r t).events (thread_of f t).events ≡ Some e → Suits (Enter o a) e → (IsOpen (cell_of f o) e → ⊥) → IsStopped r f t
 entry_waits r f t o a e flat l is next suits shut v h =
     let k : FollowsAs r f t v (steps_ahead r f t) (log_ahead r f t) (Enter o a) = follows_as r f t v (Enter o a) is h in
-    shut (entry_open f t v o a e (log_ahead r f t) (drop (suc (thread_of f t).events) (map mark_of (recorded_thread r t).events)) (ahead_at (recorded_thread r t).events (thread_of f t).events e next) suits
+    shut (entry_open f t v o a e (log_ahead r f t) (drop (suc (thread_of f t).events) (map label_of (recorded_thread r t).events)) (ahead_at (recorded_thread r t).events (thread_of f t).events e next) suits
     ((may_admits f t v (Enter o a) flat l (subst (Permits (thread_of f t)) is (ask_permits f.code (thread_of f t)))).1 k.can) k.logs)
 
 pub entry_agrees : (r : Recorded) (f : Flat) (t o : ℕ) (a : Access) (e : Event) → ask_of f.code (thread_of f t) ≡ Enter o a → 0 < steps_ahead r f t
@@ -277,13 +277,13 @@ spent_disagrees r f t none h = let some : 0 < steps_ahead r f t = h.0 in omega (
 
 -- ---- ends
 
-no_events : (xs : List Event) (i : ℕ) → length xs ≤ i → ◌≡◌ {A = List Mark} (drop i (map mark_of xs)) []
+no_events : (xs : List Event) (i : ℕ) → length xs ≤ i → ◌≡◌ {A = List Label} (drop i (map label_of xs)) []
 no_events [] zero h = refl
 no_events [] (suc i) h = refl
 no_events (x ∷ xs) zero h = absurd (omega (arith, h))
 no_events (x ∷ xs) (suc i) h = no_events xs i (omega (arith, h))
 
-events_used : (xs : List Event) (i : ℕ) → ◌≡◌ {A = List Mark} (drop i (map mark_of xs)) [] → length xs ≤ i
+events_used : (xs : List Event) (i : ℕ) → ◌≡◌ {A = List Label} (drop i (map label_of xs)) [] → length xs ≤ i
 events_used [] i h = omega arith
 events_used (x ∷ xs) zero h = absurd (cc h)
 events_used (x ∷ xs) (suc i) h = let rest : length xs ≤ i = events_used xs i h in omega (arith, rest)
@@ -312,7 +312,7 @@ end_disagrees r f t e is other h =
 
 -- ---- steps that are the thread's own
 
-own_by : (r : Recorded) (f : Flat) (t n : ℕ) (es : List Mark) (q : Ask) → IsOwn q → 0 < n → FollowsAs r f t 0 n es q
+own_by : (r : Recorded) (f : Flat) (t n : ℕ) (es : List Label) (q : Ask) → IsOwn q → 0 < n → FollowsAs r f t 0 n es q
 own_by r f t n es Private k steps = record { can = tt; steps = steps; logs = refl; ends = tt }
 own_by r f t n es (Env kind) k steps = absurd k
 own_by r f t n es (Enter o a) k steps = absurd k
@@ -335,7 +335,7 @@ seen_other r f t l seen stopped (inr g) =
     let goes = subst (IsSeen r f t) g.1 seen in
     absurd (stopped g.0.result (subst (λ u. CanFollow r f u g.0.result) goes.0 goes.1.follows))
 
-suits_logged : (f : Flat) (v : ℕ) (es : List Mark) (q : Ask) → logged (tells f q v) (unlogged (tells f q v) es) ≡ es → verdicts.Suits (shared_ask q) es
+suits_logged : (f : Flat) (v : ℕ) (es : List Label) (q : Ask) → logged (tells f q v) (unlogged (tells f q v) es) ≡ es → verdicts.Suits (shared_ask q) es
 suits_logged f v es Private h = tt
 suits_logged f v es (Env kind) h = subst (verdicts.Suits (machine.Env kind)) h refl
 suits_logged f v es (Enter o Reading) h = subst (verdicts.Suits (machine.Enter o Reading)) h (refl, refl)

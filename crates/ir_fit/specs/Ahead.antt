@@ -4,7 +4,7 @@ use Rattle.ir_thread.specs.Calls.{ask_of}
 use Rattle.ir_thread.specs.Ends.{end_number, end_code}
 use Rattle.ir_thread.specs.Held.{held_count}
 use Rattle.ir_runs.specs.Machine.{Machine}
-use Rattle.ir_runs.specs.Marks.{Mark, logged, Trace}
+use Rattle.ir_runs.specs.Labels.{Label, logged, Trace}
 use Rattle.ir_runs.specs.declared.access.Access.{Access}
 use Rattle.ir_runs.specs.declared.access.Access.TheVariants.{Reading, Writing}
 use Rattle.ir_thread.specs.declared.ask.Ask as ask
@@ -12,8 +12,8 @@ use Rattle.ir_thread.specs.declared.ask.Ask.TheVariants as asks
 use Rattle.ir_thread.specs.declared.end.End.{End}
 use Rattle.ir_object.specs.Cell.{Cell, Admitted}
 use Rattle.ir_flat.specs.Flat.{Flat, thread_of, tables, machine}
-use Rattle.ir_runs.specs.Run.{State, Can, mark}
-use Rattle.ir_log.specs.Logging.{mark_of}
+use Rattle.ir_runs.specs.Run.{State, Can, label}
+use Rattle.ir_log.specs.Logging.{label_of}
 use Rattle.ir_log.specs.declared.event.Event.{Event}
 use Rattle.ir_log.specs.declared.event.Event.TheVariants.{Answer, Read, Write}
 use Rattle.ir_trace.specs.Recorded.{Recorded}
@@ -29,12 +29,12 @@ abbrev pub steps_ahead : Recorded → Flat → ℕ → ℕ
 steps_ahead r f t = (recorded_thread r t).steps - (thread_of f t).steps
 
 -- the log that the trace leaves to thread t
-abbrev pub log_ahead : Recorded → Flat → ℕ → List Mark
-log_ahead r f t = drop (thread_of f t).events (map mark_of (recorded_thread r t).events)
+abbrev pub log_ahead : Recorded → Flat → ℕ → List Label
+log_ahead r f t = drop (thread_of f t).events (map label_of (recorded_thread r t).events)
 
 -- there is the step of thread t with this result, and it follows the trace where that leaves n steps and the log es to the thread
-abbrev pub StepFollows : {T : Type 0} → Machine T → Trace → State T → ℕ → List Mark → ℕ → ℕ → Type 0
-StepFollows m tr s n es t v = Can m s (t, v) × (0 < n) × (logged (mark m s (t, v)) (unlogged (mark m s (t, v)) es) ≡ es) × closing m tr t (s.now t) n es
+abbrev pub StepFollows : {T : Type 0} → Machine T → Trace → State T → ℕ → List Label → ℕ → ℕ → Type 0
+StepFollows m tr s n es t v = Can m s (t, v) × (0 < n) × (logged (label m s (t, v)) (unlogged (label m s (t, v)) es) ≡ es) × closing m tr t (s.now t) n es
 
 -- there is the step of thread t with this result now, and it follows the trace
 abbrev pub CanFollow : Recorded → Flat → ℕ → ℕ → Type 0

@@ -1,7 +1,7 @@
 -- What holds of all runs of a guest, and of traces and the runs that follow them.
 use Rattle.std.specs.Prelude.{◌≡◌, ◌↔◌, ℕ, List, [], ◌∷◌, ◌++◌, length}
 use Rattle.ir_image.specs.Guest.{Guest}
-use Rattle.ir_runs.specs.Marks.{Trace}
+use Rattle.ir_runs.specs.Labels.{Trace}
 use Rattle.ir_flat.specs.Flat.{start_flat, tables, machine}
 use Rattle.ir_runs.specs.Run.{Step, IsRun, IsComplete, trace, asked, end, trail}
 use Rattle.ir_runs.specs.Alike.{SameTrace, SameRun, Reaches}

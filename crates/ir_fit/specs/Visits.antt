@@ -2,7 +2,7 @@
 use Rattle.std.specs.Prelude.{◌≡◌, ℕ, zero, suc, ◌<◌, Bool, true, false, ◌&&◌, eqb, List, [], ◌∷◌, ◌++◌, map, slice_set, length, replicate, ◌^◌}
 use Rattle.std.specs.List.{Contains, slice_index_or}
 use Rattle.std.specs.List.Sorted.{IsPermutation, IsNonDecreasingBy}
-use Rattle.ir_runs.specs.Marks.{Mark, In, Out}
+use Rattle.ir_runs.specs.Labels.{Label, In, Out}
 use Rattle.ir_runs.specs.declared.access.Access.{Access}
 use Rattle.ir_runs.specs.declared.access.Access.TheVariants.{Reading, Writing}
 use Rattle.ir_flat.specs.Flat.{start_flat, tables, machine}
@@ -20,7 +20,7 @@ use Rattle.ir_fit.specs.declared.place.Place.{Place}
 -- ---- what the steps of a run tell
 
 -- step k of thread t tells this in the run that is kept
-abbrev pub TellsIn : (f : FittedTrace) → HasRun f → ℕ → ℕ → Mark → Type 0
+abbrev pub TellsIn : (f : FittedTrace) → HasRun f → ℕ → ℕ → Label → Type 0
 TellsIn f h t k told = Tells (machine (start_flat f.guest f.recorded.budget)) (tables (start_flat f.guest f.recorded.budget)) h.run t k told
 
 -- each of these is a step by which object o was left after such access at version v

@@ -49,7 +49,7 @@ pub fn put(bytes: &mut Vec<u8>, event: Event) -> Result<(), AllocError> {
 }
 
 // The bytes of a trace of threads with these logs.
-fn spelled(alloc: Global, logs: &[&[Event]]) -> Result<Vec<u8>, AllocError> {
+fn encoded(alloc: Global, logs: &[&[Event]]) -> Result<Vec<u8>, AllocError> {
     let mut bytes = Vec::new(alloc);
     bytes.extend_from_slice(b"IRT1")?;
     bytes.push((logs.len() % 256) as u8)?;
@@ -66,7 +66,7 @@ fn spelled(alloc: Global, logs: &[&[Event]]) -> Result<Vec<u8>, AllocError> {
 
 // The first event that breaks coherence, and its first cause; none where the trace is coherent.
 fn broken(alloc: Global, logs: &[&[Event]]) -> Result<Option<(u8, u32, Cause)>, Fail> {
-    let trace: Trace = read_trace(alloc, &spelled(alloc, logs)?)?;
+    let trace: Trace = read_trace(alloc, &encoded(alloc, logs)?)?;
     match coherent(alloc, &trace) {
         Ok(()) => Ok(None),
         Err(

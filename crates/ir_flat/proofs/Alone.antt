@@ -2,7 +2,7 @@
 use Rattle.std.proofs.Common.{◌≡◌, ℕ, zero, suc, ◌<◌, Bool, true, false, eqb, List, ◌∷◌, length, set, replicate, refl, sym, ap, ◌∙◌, subst, arith, get_or-set_same, length-set}
 use Rattle.std.proofs.lemmas.List.{set-get_or, set-set}
 use Rattle.ir_thread.specs.Calls.{Permits, ask_of, after_ask, after_reply, step_of, run_of}
-use Rattle.ir_runs.specs.Marks.{Mark, Quiet}
+use Rattle.ir_runs.specs.Labels.{Label, Quiet}
 use Rattle.ir_thread.specs.Private.{PrivateSteps}
 use Rattle.ir_thread.specs.State as thread
 use Rattle.ir_thread.specs.declared.ask.Ask.TheVariants.{Private}
@@ -14,14 +14,14 @@ use Rattle.ir_thread.specs.Instance.{shared_ask}
 use Rattle.ir_flat.specs.Alone.{WentAlone}
 use Rattle.ir_flat.specs.Flat.{Flat, idle, thread_of, tables, machine, IsFlat}
 use Rattle.ir_flat.specs.Next.{with_thread, MayStep}
-use Rattle.ir_runs.specs.Run.{after, mark, IsRun, end, join_if, trail, events, log}
+use Rattle.ir_runs.specs.Run.{after, label, IsRun, end, join_if, trail, events, log}
 use Rattle.ir_flat.proofs.Keeps.{may_can, next_flat}
 use Rattle.ir_flat.proofs.Next.{next_after}
 
-run_front : (code : List ℕ) (k : ℕ) (x : thread.State) → run_of code k (step_of code x) ≡ run_of code (suc k) x
+run_prefix : (code : List ℕ) (k : ℕ) (x : thread.State) → run_of code k (step_of code x) ≡ run_of code (suc k) x
 unfolding run_of
-run_front code zero x = refl
-run_front code (suc k) x = ap (step_of code) (run_front code k x)
+run_prefix code zero x = refl
+run_prefix code (suc k) x = ap (step_of code) (run_prefix code k x)
 
 private_step : (code : List ℕ) (x : thread.State) → ask_of code x ≡ Private → step_of code x ≡ after_ask code x Private Go
 unfolding step_of after_reply
@@ -29,16 +29,16 @@ private_step code x is = ap (λ q. after_ask code x q Go) is
 
 private_rest : (code : List ℕ) (n : ℕ) (x y : thread.State) → PrivateSteps code (suc n) x y → PrivateSteps code n (step_of code x) y
 private_rest code n x y p = record {
-  steps = p.steps ∙ sym (run_front code n x);
-  each = λ k l. ap (ask_of code) (run_front code k x) ∙ p.each (suc k) (omega (arith, l));
+  steps = p.steps ∙ sym (run_prefix code n x);
+  each = λ k l. ap (ask_of code) (run_prefix code k x) ∙ p.each (suc k) (omega (arith, l));
 }
 
-quiet_first : (b : Bool) (x : thread.State) (k : Mark) (xs : List (thread.State × Mark)) → k ≡ Quiet → events (join_if b (x, k) xs) ≡ events xs
+quiet_first : (b : Bool) (x : thread.State) (k : Label) (xs : List (thread.State × Label)) → k ≡ Quiet → events (join_if b (x, k) xs) ≡ events xs
 quiet_first true x k xs e = ap (λ z. events ((x, z) ∷ xs)) e
 quiet_first false x k xs e = refl
 
 -- a private step tells nothing
-tells_nothing : (f : Flat) (t : ℕ) → ask_of f.code (thread_of f t) ≡ Private → mark (machine f) (tables f) (t, 0) ≡ Quiet
+tells_nothing : (f : Flat) (t : ℕ) → ask_of f.code (thread_of f t) ≡ Private → label (machine f) (tables f) (t, 0) ≡ Quiet
 tells_nothing f t is = ap (λ q. told (act_of (shared_ask q) 0) ((tables f).objects (target (act_of (shared_ask q) 0)))) is
 
 -- no step
@@ -74,7 +74,7 @@ one_more f t y n flat l p rest =
       runs = ((may_can f t 0 flat l).0 (subst (MayStep f 0) (sym is) tt), subst (λ s. IsRun (machine f) s (replicate n (t, 0))) first w.runs);
       ends = sym (ap tables again_flat) ∙ w.ends ∙ ap (λ s. end (machine f) s (replicate n (t, 0))) first;
       each = λ k below. at_step k below is first w;
-      quiet = λ u. quiet_first (eqb u t) ((tables f).now u) (mark (machine f) (tables f) (t, 0)) (trail (machine f) (after (machine f) (tables f) (t, 0)) (replicate n (t, 0)) u) (tells_nothing f t is) ∙ ap (λ s. log (machine f) s (replicate n (t, 0)) u) (sym first) ∙ w.quiet u;
+      quiet = λ u. quiet_first (eqb u t) ((tables f).now u) (label (machine f) (tables f) (t, 0)) (trail (machine f) (after (machine f) (tables f) (t, 0)) (replicate n (t, 0)) u) (tells_nothing f t is) ∙ ap (λ s. log (machine f) s (replicate n (t, 0)) u) (sym first) ∙ w.quiet u;
       code = refl;
       threads = length-set f.threads t y;
       objects = refl;

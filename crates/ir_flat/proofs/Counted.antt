@@ -5,7 +5,7 @@ use Rattle.ir_thread.specs.Calls.{ask_of, after_ask, after_reply}
 use Rattle.ir_thread.specs.Instance.{shared_ask, reply_of, thread_machine}
 use Rattle.ir_runs.specs.Machine as machine
 use Rattle.ir_runs.specs.Machine.{act_of, upd}
-use Rattle.ir_runs.specs.Marks.{Mark, Quiet, Answer, In, Refused, Out, logged}
+use Rattle.ir_runs.specs.Labels.{Label, Quiet, Answer, In, Refused, Out, logged}
 use Rattle.ir_thread.specs.State as thread
 use Rattle.ir_runs.specs.declared.access.Access.TheVariants.{Reading, Writing}
 use Rattle.ir_thread.specs.declared.ask.Ask.{Ask}
@@ -13,7 +13,7 @@ use Rattle.ir_thread.specs.declared.ask.Ask.TheVariants.{Private, Env, Enter, Le
 use Rattle.ir_thread.specs.declared.ask.Reply.{Reply}
 use Rattle.ir_runs.specs.Object.{Object, target, reply, told, Admits}
 use Rattle.ir_runs.proofs.CallerLemmas.{upd_same, upd_other}
-use Rattle.ir_runs.specs.Run.{State, Step, act, Can, after, mark, IsRun, end, join_if, trail, events, log, count}
+use Rattle.ir_runs.specs.Run.{State, Step, act, Can, after, label, IsRun, end, join_if, trail, events, log, count}
 use Rattle.ir_flat.proofs.Kept.{added, events_added}
 
 -- the thread of a step after it
@@ -39,19 +39,19 @@ really_done Print e = absurd (cc e)
 really_done (End k) e = absurd (cc e)
 really_done Done e = refl
 
-mark_added : (q : Ask) (r : ℕ) (b : Object) → length (logged (told (act_of (shared_ask q) r) b) []) ≡ added q
-mark_added Private r b = refl
-mark_added (Env kind) r b = refl
-mark_added (Enter o Reading) r b = refl
-mark_added (Enter o Writing) r b = refl
-mark_added (Leave o a) r b = refl
-mark_added (Get o i) r b = refl
-mark_added (Put o i w) r b = refl
-mark_added Print r b = refl
-mark_added (End e) r b = refl
-mark_added Done r b = refl
+label_added : (q : Ask) (r : ℕ) (b : Object) → length (logged (told (act_of (shared_ask q) r) b) []) ≡ added q
+label_added Private r b = refl
+label_added (Env kind) r b = refl
+label_added (Enter o Reading) r b = refl
+label_added (Enter o Writing) r b = refl
+label_added (Leave o a) r b = refl
+label_added (Get o i) r b = refl
+label_added (Put o i w) r b = refl
+label_added Print r b = refl
+label_added (End e) r b = refl
+label_added Done r b = refl
 
-longer : (k : Mark) (xs : List Mark) → length (logged k xs) ≡ length (logged k []) + length xs
+longer : (k : Label) (xs : List Label) → length (logged k xs) ≡ length (logged k []) + length xs
 longer Quiet xs = omega arith
 longer (Answer i v) xs = omega arith
 longer (In o a v l) xs = omega arith
@@ -78,11 +78,11 @@ tally_own : (code : List ℕ) (s : State thread.State) (e : Step) (run : List St
 tally_own code s e run can k =
     let m = thread_machine code in
     let now : (after m s e).now e.0 ≡ moved_thread code s e = ap (λ f. f e.0) (now_after code s e) ∙ upd_same s.now e.0 (moved_thread code s e) in
-    let trail_is : trail m s (e ∷ run) e.0 ≡ (s.now e.0, mark m s e) ∷ trail m (after m s e) run e.0 = ap (λ b. join_if b (s.now e.0, mark m s e) (trail m (after m s e) run e.0)) (eq-eqb e.0 e.0 refl) in
+    let trail_is : trail m s (e ∷ run) e.0 ≡ (s.now e.0, label m s e) ∷ trail m (after m s e) run e.0 = ap (λ b. join_if b (s.now e.0, label m s e) (trail m (after m s e) run e.0)) (eq-eqb e.0 e.0 refl) in
     let more : ((after m s e).now e.0).events ≡ (s.now e.0).events + added (ask_of code (s.now e.0)) = ap (λ x. x.events) now ∙ events_added code (s.now e.0) (ask_of code (s.now e.0)) _ in
     let one : ((after m s e).now e.0).steps ≡ (s.now e.0).steps + 1 = ap (λ x. x.steps) now ∙ steps_added code (s.now e.0) (ask_of code (s.now e.0)) _ (never_done code s e can) in
     let size : length (log m s (e ∷ run) e.0) ≡ added (ask_of code (s.now e.0)) + length (log m (after m s e) run e.0) =
-    ap (λ z. length (events z)) trail_is ∙ longer (mark m s e) (events (trail m (after m s e) run e.0)) ∙ ap (λ z. z + length (log m (after m s e) run e.0)) (mark_added (ask_of code (s.now e.0)) e.1 (s.objects (target (act m s e)))) in
+    ap (λ z. length (events z)) trail_is ∙ longer (label m s e) (events (trail m (after m s e) run e.0)) ∙ ap (λ z. z + length (log m (after m s e) run e.0)) (label_added (ask_of code (s.now e.0)) e.1 (s.objects (target (act m s e)))) in
     let steps : count m s (e ∷ run) e.0 ≡ suc (count m (after m s e) run e.0) = ap length trail_is in
     record { events = let was = k.events in omega (arith, was, more, size); steps = let was = k.steps in omega (arith, was, one, steps) }
 
@@ -93,7 +93,7 @@ tally code s (e ∷ run) ok t = elim (cases_eq t e.0) [
   | inr ne ↦
       let m = thread_machine code in
       let k : Tallies code (after m s e) run t = tally code (after m s e) run ok.1 t in
-      let trail_is : trail m s (e ∷ run) t ≡ trail m (after m s e) run t = ap (λ b. join_if b (s.now t, mark m s e) (trail m (after m s e) run t)) (ne_eqb t e.0 ne) in
+      let trail_is : trail m s (e ∷ run) t ≡ trail m (after m s e) run t = ap (λ b. join_if b (s.now t, label m s e) (trail m (after m s e) run t)) (ne_eqb t e.0 ne) in
       let now : (after m s e).now t ≡ s.now t = ap (λ f. f t) (now_after code s e) ∙ upd_other s.now e.0 t (moved_thread code s e) ne in
       record {
         events = k.events ∙ ap (λ x. x.events + length (log m (after m s e) run t)) now ∙ ap (λ z. (s.now t).events + length (events z)) (sym trail_is);

@@ -3,12 +3,12 @@ use Rattle.std.proofs.Common.{◌≡◌, ◌≢◌, ℕ, suc, zero, ◌<◌, ◌
 use Rattle.std.proofs.Math.Path.{fun_ext}
 use Rattle.std.proofs.lemmas.Bool.{cases_eq, cases_lt, lt-ltb, le-ltb, eqb-true}
 use Rattle.ir_runs.specs.Machine.{Ask, Private, Env, Enter, Try, Leave, Get, Put, Done, Act, act_of, Silent, Result, Entry, Refusal, Exit, Load, Store, Never, Machine, upd}
-use Rattle.ir_runs.specs.Marks.{Mark}
+use Rattle.ir_runs.specs.Labels.{Label}
 use Rattle.ir_runs.specs.Object.{Object, target, Admits, acted, reply, told}
-use Rattle.ir_object.specs.Order.{is_shared, Shared, keep_if, of_thread, IsAllowed, objects_after, order_marks}
+use Rattle.ir_object.specs.Order.{is_shared, Shared, keep_if, of_thread, IsAllowed, objects_after, order_labels}
 use Rattle.ir_runs.proofs.CallerLemmas.{upd_same, upd_other, upd_id, run_append, trail_append, end_append}
-use Rattle.ir_runs.specs.Run.{State, Step, moved, Can, after, IsRun, end, trail, join_if, mark}
-use Rattle.ir_flat.specs.Splice.{MayReply, MayRun, alone_after, shared_steps, lead, led, remain, tail_of, last_steps, splice, alone_mark, marks_left, alone_trail}
+use Rattle.ir_runs.specs.Run.{State, Step, moved, Can, after, IsRun, end, trail, join_if, label}
+use Rattle.ir_flat.specs.Splice.{MayReply, MayRun, alone_after, shared_steps, lead, led, remain, tail_of, last_steps, splice, alone_label, labels_left, alone_trail}
 
 upd_upd : {A : Type 0} (f : ℕ → A) (i : ℕ) (v w : A) → upd (upd f i v) i w ≡ upd f i w
 upd_upd f i v w = fun_ext (λ j. elim (cases_eq j i) [
@@ -59,19 +59,19 @@ pub record Led {T : Type 0} (m : Machine T) (now : ℕ → T) (t : ℕ) (x : T) 
   pub next : (r : ℕ) (rs : List ℕ) → ws ≡ r ∷ rs → is_shared (act_of (m.ask y) r) ≡ true
   pub parts : ls ++ ws ≡ vs
   pub rest : alone_after m y ws ≡ alone_after m x vs
-  pub trails : (ks : List Mark) → trail m (With now t x f) (map (λ r. (t, r)) ls) t ++ alone_trail m y ws ks ≡ alone_trail m x vs ks
+  pub trails : (ks : List Label) → trail m (With now t x f) (map (λ r. (t, r)) ls) t ++ alone_trail m y ws ks ≡ alone_trail m x vs ks
   pub others : (u : ℕ) → u ≢ t → trail m (With now t x f) (map (λ r. (t, r)) ls) u ≡ []
 
 -- what a private step tells
-private_mark : {T : Type 0} (m : Machine T) (q : Act) (v : ℕ) (b : Object) (ks : List Mark) → is_shared q ≡ false → MayReply m q v → told q b ≡ alone_mark q ks
-private_mark m Silent v b ks p h = refl
-private_mark m (Refusal _) v b ks p h = refl
-private_mark m (Result k res) v b ks p h = refl
-private_mark m (Entry o a ans) v b ks p h = absurd (cc p)
-private_mark m (Exit o a) v b ks p h = absurd (cc p)
-private_mark m (Load o i) v b ks p h = absurd (cc p)
-private_mark m (Store o i w) v b ks p h = absurd (cc p)
-private_mark m Never v b ks p h = absurd h
+private_label : {T : Type 0} (m : Machine T) (q : Act) (v : ℕ) (b : Object) (ks : List Label) → is_shared q ≡ false → MayReply m q v → told q b ≡ alone_label q ks
+private_label m Silent v b ks p h = refl
+private_label m (Refusal _) v b ks p h = refl
+private_label m (Result k res) v b ks p h = refl
+private_label m (Entry o a ans) v b ks p h = absurd (cc p)
+private_label m (Exit o a) v b ks p h = absurd (cc p)
+private_label m (Load o i) v b ks p h = absurd (cc p)
+private_label m (Store o i w) v b ks p h = absurd (cc p)
+private_label m Never v b ks p h = absurd h
 
 first_of : (v r : ℕ) (vs rs : List ℕ) → (v ∷ vs) ≡ (r ∷ rs) → v ≡ r
 first_of v r vs rs e = cc e
@@ -92,13 +92,13 @@ leads_on m now t x f v vs h false p k =
       parts = ap (λ y. v ∷ y) k.parts;
       rest = k.rest;
       trails = λ ks.
-          ap (λ b. join_if b (upd now t x t, mark m (With now t x f) (t, v)) (trail m (after m (With now t x f) (t, v)) (map (λ r. (t, r)) (lead m (m.take x v) vs)) t) ++ alone_trail m (led m (m.take x v) vs) (remain m (m.take x v) vs) ks) (eq-eqb t t refl)
-          ∙ ap (λ z. (upd now t x t, mark m (With now t x f) (t, v)) ∷ (trail m z (map (λ r. (t, r)) (lead m (m.take x v) vs)) t ++ alone_trail m (led m (m.take x v) vs) (remain m (m.take x v) vs) ks)) g.1
-          ∙ ap (λ z. (upd now t x t, mark m (With now t x f) (t, v)) ∷ z) (k.trails ks)
+          ap (λ b. join_if b (upd now t x t, label m (With now t x f) (t, v)) (trail m (after m (With now t x f) (t, v)) (map (λ r. (t, r)) (lead m (m.take x v) vs)) t) ++ alone_trail m (led m (m.take x v) vs) (remain m (m.take x v) vs) ks) (eq-eqb t t refl)
+          ∙ ap (λ z. (upd now t x t, label m (With now t x f) (t, v)) ∷ (trail m z (map (λ r. (t, r)) (lead m (m.take x v) vs)) t ++ alone_trail m (led m (m.take x v) vs) (remain m (m.take x v) vs) ks)) g.1
+          ∙ ap (λ z. (upd now t x t, label m (With now t x f) (t, v)) ∷ z) (k.trails ks)
           ∙ ap (λ z. (z, told (act_of (m.ask z) v) (f (target (act_of (m.ask z) v)))) ∷ alone_trail m (m.take x v) vs ks) (upd_same now t x)
-          ∙ ap (λ z. (x, z) ∷ alone_trail m (m.take x v) vs ks) (private_mark m (act_of (m.ask x) v) v (f (target (act_of (m.ask x) v))) ks p h.0)
-          ∙ ap (λ b. (x, alone_mark (act_of (m.ask x) v) ks) ∷ alone_trail m (m.take x v) vs (marks_left b ks)) (sym p);
-      others = λ u ne. ap (λ b. join_if b (upd now t x u, mark m (With now t x f) (t, v)) (trail m (after m (With now t x f) (t, v)) (map (λ r. (t, r)) (lead m (m.take x v) vs)) u)) (ne_eqb u t ne)
+          ∙ ap (λ z. (x, z) ∷ alone_trail m (m.take x v) vs ks) (private_label m (act_of (m.ask x) v) v (f (target (act_of (m.ask x) v))) ks p h.0)
+          ∙ ap (λ b. (x, alone_label (act_of (m.ask x) v) ks) ∷ alone_trail m (m.take x v) vs (labels_left b ks)) (sym p);
+      others = λ u ne. ap (λ b. join_if b (upd now t x u, label m (With now t x f) (t, v)) (trail m (after m (With now t x f) (t, v)) (map (λ r. (t, r)) (lead m (m.take x v) vs)) u)) (ne_eqb u t ne)
           ∙ ap (λ z. trail m z (map (λ r. (t, r)) (lead m (m.take x v) vs)) u) g.1 ∙ k.others u ne;
     }
 
@@ -107,14 +107,14 @@ leads m now t x f [] h = record { ok = tt; there = refl; alone = h; same_steps =
 leads m now t x f (v ∷ vs) h = leads_on m now t x f v vs h (is_shared (act_of (m.ask x) v)) refl (leads m now t (m.take x v) f vs h.1)
 
 -- a run with these steps of the threads, after which they and the objects are these
-pub record Complete {T : Type 0} (m : Machine T) (s : State T) (run : List Step) (W : ℕ → List (T × Mark)) (E : ℕ → T) (O : ℕ → Object) : Type 0 where
+pub record Complete {T : Type 0} (m : Machine T) (s : State T) (run : List Step) (W : ℕ → List (T × Label)) (E : ℕ → T) (O : ℕ → Object) : Type 0 where
   pub ok : IsRun m s run
   pub trails : (u : ℕ) → trail m s run u ≡ W u
   pub threads : (u : ℕ) → (end m s run).now u ≡ E u
   pub objects : (end m s run).objects ≡ O
 
 -- a run, and what completes it
-completes : {T : Type 0} (m : Machine T) (s s' : State T) (run more : List Step) (W W' : ℕ → List (T × Mark)) (E E' : ℕ → T) (O : ℕ → Object) → IsRun m s run → end m s run ≡ s' → Complete m s' more W E O
+completes : {T : Type 0} (m : Machine T) (s s' : State T) (run more : List Step) (W W' : ℕ → List (T × Label)) (E E' : ℕ → T) (O : ℕ → Object) → IsRun m s run → end m s run ≡ s' → Complete m s' more W E O
     → ((u : ℕ) → trail m s run u ++ W u ≡ W' u) → ((u : ℕ) → E u ≡ E' u) → Complete m s (run ++ more) W' E' O
 completes {T} m s s' run more W W' E E' O ok e c joins ends = record {
   ok = run_append m s run more ok (subst (λ z. IsRun m z more) (sym e) c.ok);
@@ -138,7 +138,7 @@ append_nothing : (xs ys zs : List ℕ) → xs ++ ys ≡ zs → ys ≡ [] → xs 
 append_nothing xs ys zs e n = sym (append-nil xs) ∙ ap (λ z. xs ++ z) (sym n) ∙ e
 
 -- the trails where the threads below n are still to go
-abbrev pub Last : {T : Type 0} → Machine T → (ℕ → T) → (ℕ → List ℕ) → ℕ → ℕ → List (T × Mark)
+abbrev pub Last : {T : Type 0} → Machine T → (ℕ → T) → (ℕ → List ℕ) → ℕ → ℕ → List (T × Label)
 Last m now rs n u = cond (ltb u n) (alone_trail m (now u) (rs u) []) []
 
 -- the threads where those below n are still to go
@@ -191,26 +191,26 @@ last m now f rs (suc n) h =
     below : (u n : ℕ) → u ≢ n → ltb u n ≡ ltb u (suc n)
     below u n ne = elim (cases_lt u n) [ inl l ↦ lt-ltb u n l ∙ sym (lt-ltb u (suc n) (omega arith)) | inr g ↦ le-ltb u n g ∙ sym (le-ltb u (suc n) (omega arith)) ]
 
-pub record Fronts {T : Type 0} (m : Machine T) (y : T) (ws : List ℕ) (q : Act) (v : ℕ) (more : List Shared) : Type 0 where
+pub record Prefixes {T : Type 0} (m : Machine T) (y : T) (ws : List ℕ) (q : Act) (v : ℕ) (more : List Shared) : Type 0 where
   pub does : act_of (m.ask y) v ≡ q
   pub alone : MayRun m (m.take y v) (tail_of ws)
   pub steps : shared_steps m (m.take y v) (tail_of ws) ≡ more
   pub rest : alone_after m (m.take y v) (tail_of ws) ≡ alone_after m y ws
-  pub trails : (k : Mark) (ks : List Mark) → alone_trail m y ws (k ∷ ks) ≡ (y, k) ∷ alone_trail m (m.take y v) (tail_of ws) ks
+  pub trails : (k : Label) (ks : List Label) → alone_trail m y ws (k ∷ ks) ≡ (y, k) ∷ alone_trail m (m.take y v) (tail_of ws) ks
 
-shared_mark : (q : Act) (k : Mark) (ks : List Mark) → is_shared q ≡ true → alone_mark q (k ∷ ks) ≡ k
-shared_mark Silent k ks p = absurd (cc p)
-shared_mark (Refusal _) k ks p = absurd (cc p)
-shared_mark (Result i res) k ks p = absurd (cc p)
-shared_mark (Entry o a ans) k ks p = refl
-shared_mark (Exit o a) k ks p = refl
-shared_mark (Load o i) k ks p = refl
-shared_mark (Store o i w) k ks p = refl
-shared_mark Never k ks p = absurd (cc p)
+shared_label : (q : Act) (k : Label) (ks : List Label) → is_shared q ≡ true → alone_label q (k ∷ ks) ≡ k
+shared_label Silent k ks p = absurd (cc p)
+shared_label (Refusal _) k ks p = absurd (cc p)
+shared_label (Result i res) k ks p = absurd (cc p)
+shared_label (Entry o a ans) k ks p = refl
+shared_label (Exit o a) k ks p = refl
+shared_label (Load o i) k ks p = refl
+shared_label (Store o i w) k ks p = refl
+shared_label Never k ks p = absurd (cc p)
 
-fronts : {T : Type 0} (m : Machine T) (y : T) (ws : List ℕ) (q : Act) (v : ℕ) (more : List Shared) → MayRun m y ws → ((r : ℕ) (rs : List ℕ) → ws ≡ r ∷ rs → is_shared (act_of (m.ask y) r) ≡ true) → shared_steps m y ws ≡ (q, v) ∷ more → Fronts m y ws q v more
-fronts m y [] q v more h next e = absurd (cc e)
-fronts m y (r ∷ rs) q v more h next e =
+prefixes : {T : Type 0} (m : Machine T) (y : T) (ws : List ℕ) (q : Act) (v : ℕ) (more : List Shared) → MayRun m y ws → ((r : ℕ) (rs : List ℕ) → ws ≡ r ∷ rs → is_shared (act_of (m.ask y) r) ≡ true) → shared_steps m y ws ≡ (q, v) ∷ more → Prefixes m y ws q v more
+prefixes m y [] q v more h next e = absurd (cc e)
+prefixes m y (r ∷ rs) q v more h next e =
     let is : is_shared (act_of (m.ask y) r) ≡ true = next r rs refl in
     let g : (act_of (m.ask y) r, r) ∷ shared_steps m (m.take y r) rs ≡ (q, v) ∷ more = subst (λ b. keep_if b (act_of (m.ask y) r, r) (shared_steps m (m.take y r) rs) ≡ (q, v) ∷ more) is e in
     let pair : ◌≡◌ {A = Shared} (act_of (m.ask y) r, r) (q, v) = cc g in
@@ -221,8 +221,8 @@ fronts m y (r ∷ rs) q v more h next e =
       alone = subst (λ z. MayRun m (m.take y z) rs) same h.1;
       steps = subst (λ z. shared_steps m (m.take y z) rs ≡ more) same (cc g);
       rest = ap (λ z. alone_after m (m.take y z) rs) (sym same);
-      trails = λ k ks. ap (λ z. (y, z) ∷ alone_trail m (m.take y r) rs (marks_left (is_shared (act_of (m.ask y) r)) (k ∷ ks))) (shared_mark (act_of (m.ask y) r) k ks is)
-          ∙ ap (λ b. (y, k) ∷ alone_trail m (m.take y r) rs (marks_left b (k ∷ ks))) is ∙ ap (λ z. (y, k) ∷ alone_trail m (m.take y z) rs ks) same;
+      trails = λ k ks. ap (λ z. (y, z) ∷ alone_trail m (m.take y r) rs (labels_left (is_shared (act_of (m.ask y) r)) (k ∷ ks))) (shared_label (act_of (m.ask y) r) k ks is)
+          ∙ ap (λ b. (y, k) ∷ alone_trail m (m.take y r) rs (labels_left b (k ∷ ks))) is ∙ ap (λ z. (y, k) ∷ alone_trail m (m.take y z) rs ks) same;
     }
 
 -- two tables that changed at one place
@@ -237,7 +237,7 @@ two_other f g t a b u P ne h = subst (λ z. P z (upd g t b u)) (sym (upd_other f
 
 -- where the object steps of each thread alone are those in the order, the splice is a run, and each thread's steps are its own
 pub spliced : {T : Type 0} (m : Machine T) (now : ℕ → T) (f : ℕ → Object) (rs : ℕ → List ℕ) (n : ℕ) (order : List (ℕ × Shared)) → ((t : ℕ) → n ≤ t → rs t ≡ []) → ((t : ℕ) → MayRun m (now t) (rs t)) → ((t : ℕ) → shared_steps m (now t) (rs t) ≡ of_thread t order)
-    → IsAllowed m f order → Complete m (state_of now f) (splice m now rs n order) (λ u. alone_trail m (now u) (rs u) (of_thread u (order_marks f order))) (λ u. alone_after m (now u) (rs u)) (objects_after f order)
+    → IsAllowed m f order → Complete m (state_of now f) (splice m now rs n order) (λ u. alone_trail m (now u) (rs u) (of_thread u (order_labels f order))) (λ u. alone_after m (now u) (rs u)) (objects_after f order)
 spliced m now f rs n [] idle alone steps allowed =
     let k : Complete m (state_of now f) (last_steps rs n) (Last m now rs n) (Ends m now rs n) f = last m now f rs n (λ t _. (alone t, steps t)) in
     record {
@@ -258,11 +258,11 @@ spliced {T} m now f rs n (x ∷ xs) idle alone steps allowed =
     let f' : ℕ → Object = upd f (target q) (acted q t (f (target q))) in
     let k : Led m now t (now t) f (rs t) (lead m (now t) (rs t)) y ws = leads m now t (now t) f (rs t) (alone t) in
     let here : shared_steps m (now t) (rs t) ≡ (q, v) ∷ of_thread t xs = steps t ∙ ap (λ b. keep_if b x.1 (of_thread t xs)) (eq-eqb t t refl) in
-    let c : Fronts m y ws q v (of_thread t xs) = fronts m y ws q v (of_thread t xs) k.alone k.next (k.same_steps ∙ here) in
+    let c : Prefixes m y ws q v (of_thread t xs) = prefixes m y ws q v (of_thread t xs) k.alone k.next (k.same_steps ∙ here) in
     let g = goes_on m now t y v f f' q c.does allowed.0 allowed.1 refl in
     let low : (u : ℕ) → n ≤ u → u ≢ t = λ u l e. cc (ap (λ b. shared_steps m (now b) (rs b)) e ∙ here, ap (shared_steps m (now u)) (idle u l)) in
     let more : List Step = splice m (upd now t (m.take y v)) (upd rs t (tail_of ws)) n xs in
-    let W = λ (u : ℕ). alone_trail m (upd now t (m.take y v) u) (upd rs t (tail_of ws) u) (of_thread u (order_marks f' xs)) in
+    let W = λ (u : ℕ). alone_trail m (upd now t (m.take y v) u) (upd rs t (tail_of ws) u) (of_thread u (order_labels f' xs)) in
     let E = λ (u : ℕ). alone_after m (upd now t (m.take y v) u) (upd rs t (tail_of ws) u) in
     let ih : Complete m (state_of (upd now t (m.take y v)) f') more W E (objects_after f' xs) =
     spliced m (upd now t (m.take y v)) f' (upd rs t (tail_of ws)) n xs
@@ -270,37 +270,37 @@ spliced {T} m now f rs n (x ∷ xs) idle alone steps allowed =
     (λ u. two now rs t (m.take y v) (tail_of ws) u (λ w a b. MayRun m a b) c.alone (λ ne. alone u))
     (λ u. two now rs t (m.take y v) (tail_of ws) u (λ w a b. shared_steps m a b ≡ of_thread w xs) c.steps (λ ne. steps u ∙ ap (λ b. keep_if b x.1 (of_thread u xs)) (ne_eqb u t ne)))
     allowed.2 in
-    let k0 : Mark = told q (f (target q)) in
-    let marked : mark m (With now t y f) (t, v) ≡ k0 = ap (λ w. told (act_of (m.ask w) v) (f (target (act_of (m.ask w) v)))) (upd_same now t y) ∙ ap (λ w. told w (f (target w))) c.does in
+    let k0 : Label = told q (f (target q)) in
+    let marked : label m (With now t y f) (t, v) ≡ k0 = ap (λ w. told (act_of (m.ask w) v) (f (target (act_of (m.ask w) v)))) (upd_same now t y) ∙ ap (λ w. told w (f (target w))) c.does in
     let same : (u : ℕ) → trail m (state_of now f) (map (λ r. (t, r)) (lead m (now t) (rs t))) u ≡ trail m (With now t (now t) f) (map (λ r. (t, r)) (lead m (now t) (rs t))) u = λ u. ap (λ w. trail m w (map (λ r. (t, r)) (lead m (now t) (rs t))) u) (sym (with_now now t f)) in
-    completes m (state_of now f) (With now t y f) (map (λ r. (t, r)) (lead m (now t) (rs t))) ((t, v) ∷ more) (λ u. join_if (eqb u t) (y, k0) (W u)) (λ u. alone_trail m (now u) (rs u) (of_thread u (order_marks f (x ∷ xs)))) E (λ u. alone_after m (now u) (rs u)) (objects_after f' xs)
+    completes m (state_of now f) (With now t y f) (map (λ r. (t, r)) (lead m (now t) (rs t))) ((t, v) ∷ more) (λ u. join_if (eqb u t) (y, k0) (W u)) (λ u. alone_trail m (now u) (rs u) (of_thread u (order_labels f (x ∷ xs)))) E (λ u. alone_after m (now u) (rs u)) (objects_after f' xs)
     (subst (λ w. IsRun m w (map (λ r. (t, r)) (lead m (now t) (rs t)))) (with_now now t f) k.ok)
     (ap (λ w. end m w (map (λ r. (t, r)) (lead m (now t) (rs t)))) (sym (with_now now t f)) ∙ k.there)
     (record {
       ok = (g.0, subst (λ w. IsRun m w more) (sym g.1) ih.ok);
       threads = λ u. ap (λ w. (end m w more).now u) g.1 ∙ ih.threads u;
       objects = ap (λ w. (end m w more).objects) g.1 ∙ ih.objects;
-      trails = λ u. ap (λ w. join_if (eqb u t) (upd now t y u, mark m (With now t y f) (t, v)) (trail m w more u)) g.1
-          ∙ ap (join_if (eqb u t) (upd now t y u, mark m (With now t y f) (t, v))) (ih.trails u)
+      trails = λ u. ap (λ w. join_if (eqb u t) (upd now t y u, label m (With now t y f) (t, v)) (trail m w more u)) g.1
+          ∙ ap (join_if (eqb u t) (upd now t y u, label m (With now t y f) (t, v))) (ih.trails u)
           ∙ ap (λ w. join_if (eqb u t) (upd now t y u, w) (W u)) marked
           ∙ head_of u (eqb u t) refl y now t k0 (W u);
     })
     (λ u. elim (cases_eq u t) [
-      | inl e ↦ subst (λ w. trail m (state_of now f) (map (λ r. (t, r)) (lead m (now t) (rs t))) w ++ join_if (eqb w t) (y, k0) (W w) ≡ alone_trail m (now w) (rs w) (of_thread w (order_marks f (x ∷ xs)))) (sym e)
+      | inl e ↦ subst (λ w. trail m (state_of now f) (map (λ r. (t, r)) (lead m (now t) (rs t))) w ++ join_if (eqb w t) (y, k0) (W w) ≡ alone_trail m (now w) (rs w) (of_thread w (order_labels f (x ∷ xs)))) (sym e)
           (ap (λ b. trail m (state_of now f) (map (λ r. (t, r)) (lead m (now t) (rs t))) t ++ join_if b (y, k0) (W t)) (eq-eqb t t refl)
           ∙ ap (λ w. w ++ (y, k0) ∷ W t) (same t)
           ∙ ap (λ w. trail m (With now t (now t) f) (map (λ r. (t, r)) (lead m (now t) (rs t))) t ++ (y, k0) ∷ w)
-          (two now rs t (m.take y v) (tail_of ws) t (λ w a b. alone_trail m a b (of_thread t (order_marks f' xs)) ≡ alone_trail m (m.take y v) (tail_of ws) (of_thread t (order_marks f' xs))) refl (λ ne. absurd (ne refl)))
-          ∙ ap (λ w. trail m (With now t (now t) f) (map (λ r. (t, r)) (lead m (now t) (rs t))) t ++ w) (sym (c.trails k0 (of_thread t (order_marks f' xs))))
-          ∙ k.trails (k0 ∷ of_thread t (order_marks f' xs))
-          ∙ ap (λ b. alone_trail m (now t) (rs t) (keep_if b k0 (of_thread t (order_marks f' xs)))) (sym (eq-eqb t t refl)))
+          (two now rs t (m.take y v) (tail_of ws) t (λ w a b. alone_trail m a b (of_thread t (order_labels f' xs)) ≡ alone_trail m (m.take y v) (tail_of ws) (of_thread t (order_labels f' xs))) refl (λ ne. absurd (ne refl)))
+          ∙ ap (λ w. trail m (With now t (now t) f) (map (λ r. (t, r)) (lead m (now t) (rs t))) t ++ w) (sym (c.trails k0 (of_thread t (order_labels f' xs))))
+          ∙ k.trails (k0 ∷ of_thread t (order_labels f' xs))
+          ∙ ap (λ b. alone_trail m (now t) (rs t) (keep_if b k0 (of_thread t (order_labels f' xs)))) (sym (eq-eqb t t refl)))
       | inr ne ↦ ap (λ b. trail m (state_of now f) (map (λ r. (t, r)) (lead m (now t) (rs t))) u ++ join_if b (y, k0) (W u)) (ne_eqb u t ne)
           ∙ ap (λ w. w ++ W u) (same u ∙ k.others u ne)
-          ∙ two_other now rs t (m.take y v) (tail_of ws) u (λ a b. alone_trail m a b (of_thread u (order_marks f' xs)) ≡ alone_trail m (now u) (rs u) (of_thread u (order_marks f' xs))) ne refl
-          ∙ ap (λ b. alone_trail m (now u) (rs u) (keep_if b k0 (of_thread u (order_marks f' xs)))) (sym (ne_eqb u t ne))
+          ∙ two_other now rs t (m.take y v) (tail_of ws) u (λ a b. alone_trail m a b (of_thread u (order_labels f' xs)) ≡ alone_trail m (now u) (rs u) (of_thread u (order_labels f' xs))) ne refl
+          ∙ ap (λ b. alone_trail m (now u) (rs u) (keep_if b k0 (of_thread u (order_labels f' xs)))) (sym (ne_eqb u t ne))
     ])
     (λ u. two now rs t (m.take y v) (tail_of ws) u (λ w a b. alone_after m a b ≡ alone_after m (now w) (rs w)) (c.rest ∙ k.rest) (λ ne. refl))
   where
-    head_of : (u : ℕ) (b : Bool) → eqb u x.0 ≡ b → (y : T) (now : ℕ → T) (t : ℕ) (k : Mark) (xs : List (T × Mark)) → join_if (eqb u x.0) (upd now x.0 y u, k) xs ≡ join_if (eqb u x.0) (y, k) xs
+    head_of : (u : ℕ) (b : Bool) → eqb u x.0 ≡ b → (y : T) (now : ℕ → T) (t : ℕ) (k : Label) (xs : List (T × Label)) → join_if (eqb u x.0) (upd now x.0 y u, k) xs ≡ join_if (eqb u x.0) (y, k) xs
     head_of u true p y now t k xs = ap (λ w. join_if (eqb u x.0) (w, k) xs) (ap (upd now x.0 y) (eqb-true u x.0 p) ∙ upd_same now x.0 y)
     head_of u false p y now t k xs = ap (λ b. join_if b (upd now x.0 y u, k) xs) p ∙ ap (λ b. join_if b (y, k) xs) (sym p)

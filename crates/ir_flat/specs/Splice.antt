@@ -6,8 +6,8 @@ use Rattle.ir_thread.specs.Instance.{reply_of, thread_machine}
 use Rattle.ir_thread.specs.State as thread
 use Rattle.ir_thread.specs.declared.ask.Reply.{Reply}
 use Rattle.ir_runs.specs.Machine.{Act, act_of, Silent, Result, Entry, Refusal, Exit, Load, Store, Never, Done, Machine, upd}
-use Rattle.ir_runs.specs.Marks.{Mark, Quiet, Answer, Refused}
-use Rattle.ir_object.specs.Order.{is_shared, Shared, keep_if, of_thread, IsAllowed, objects_after, order_marks}
+use Rattle.ir_runs.specs.Labels.{Label, Quiet, Answer, Refused}
+use Rattle.ir_object.specs.Order.{is_shared, Shared, keep_if, of_thread, IsAllowed, objects_after, order_labels}
 use Rattle.ir_runs.specs.Run.{State, Step, IsRun, IsDone, end, trail}
 
 -- what may be answered to a thread that runs alone
@@ -65,28 +65,28 @@ splice m now rs n (x ∷ xs) = map (λ r. (x.0, r)) (lead m (now x.0) (rs x.0)) 
     ∷ splice m (upd now x.0 (m.take (led m (now x.0) (rs x.0)) x.1.1)) (upd rs x.0 (tail_of (remain m (now x.0) (rs x.0)))) n xs
 
 -- what a step of a thread alone tells, where ks is what its object steps tell
-abbrev pub alone_mark : Act → List Mark → Mark
-alone_mark Silent ks = Quiet
-alone_mark (Result k v) ks = Answer k v
-alone_mark (Refusal o) ks = Refused o
-alone_mark Never ks = Quiet
-alone_mark _ [] = Quiet
-alone_mark _ (k ∷ ks) = k
+abbrev pub alone_label : Act → List Label → Label
+alone_label Silent ks = Quiet
+alone_label (Result k v) ks = Answer k v
+alone_label (Refusal o) ks = Refused o
+alone_label Never ks = Quiet
+alone_label _ [] = Quiet
+alone_label _ (k ∷ ks) = k
 
-abbrev pub marks_left : Bool → List Mark → List Mark
-marks_left false ks = ks
-marks_left true [] = []
-marks_left true (k ∷ ks) = ks
+abbrev pub labels_left : Bool → List Label → List Label
+labels_left false ks = ks
+labels_left true [] = []
+labels_left true (k ∷ ks) = ks
 
 -- the steps of a thread alone, with what they tell
-abbrev pub alone_trail : {T : Type 0} → Machine T → T → List ℕ → List Mark → List (T × Mark)
+abbrev pub alone_trail : {T : Type 0} → Machine T → T → List ℕ → List Label → List (T × Label)
 alone_trail m x [] ks = []
-alone_trail m x (v ∷ vs) ks = (x, alone_mark (act_of (m.ask x) v) ks) ∷ alone_trail m (m.take x v) vs (marks_left (is_shared (act_of (m.ask x) v)) ks)
+alone_trail m x (v ∷ vs) ks = (x, alone_label (act_of (m.ask x) v) ks) ∷ alone_trail m (m.take x v) vs (labels_left (is_shared (act_of (m.ask x) v)) ks)
 
 -- a run in which each thread takes the steps that it takes alone, answered so, and the objects are stepped on in this order
 pub record IsSplice {T : Type 0} (m : Machine T) (s : State T) (replies : ℕ → List ℕ) (order : List (ℕ × Shared)) (run : List Step) : Type 0 where
   pub runs : IsRun m s run
-  pub trails : (t : ℕ) → trail m s run t ≡ alone_trail m (s.now t) (replies t) (of_thread t (order_marks s.objects order))
+  pub trails : (t : ℕ) → trail m s run t ≡ alone_trail m (s.now t) (replies t) (of_thread t (order_labels s.objects order))
   pub threads : (t : ℕ) → (end m s run).now t ≡ alone_after m (s.now t) (replies t)
   pub objects : (end m s run).objects ≡ objects_after s.objects order
   -- it is complete where each thread is done

@@ -60,8 +60,8 @@ pub words_whole : (n room : ℕ) (bytes own rest ws items : List ℕ) → bytes_
     → fields_at word_at n bytes ≡ Ok (take room (ws ++ drop (length ws) items), rest)
 words_whole n room bytes own rest ws items e count full h =
     let p = bytes_parts Short (4 * n) bytes (own, rest) e in
-    let whole : bytes ≡ own ++ rest = sym (take-append-drop (4 * n) bytes) ∙ ap (λ (x : List ℕ). x ++ drop (4 * n) bytes) (sym p.front) ∙
+    let whole : bytes ≡ own ++ rest = sym (take-append-drop (4 * n) bytes) ∙ ap (λ (x : List ℕ). x ++ drop (4 * n) bytes) (sym p.prefix) ∙
     ap (λ (x : List ℕ). own ++ x) (sym p.back) in
-    let size : length own ≡ 4 * length ws = omega (arith, ap length p.front, length-take-le (4 * n) bytes p.long) in
+    let size : length own ≡ 4 * length ws = omega (arith, ap length p.prefix, length-take-le (4 * n) bytes p.long) in
     ap (λ (k : ℕ). fields_at word_at k bytes) (sym count) ∙ ap (fields_at word_at (length ws)) whole ∙ piece ws own rest size h
     ∙ ap (λ (x : List ℕ). Ok (x, rest)) (sym (over ws items room (count ∙ sym full)))

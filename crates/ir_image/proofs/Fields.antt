@@ -8,7 +8,7 @@ use Rattle.ir_bytes.proofs.CallerLemmas.{IsBytes, Takes, number_takes, number_ag
 use Rattle.ir_image.specs.declared.image_err.ImageErr.{ImageErr}
 use Rattle.ir_image.specs.declared.image_err.ImageErr.TheVariants.{Short, Magic, Entry}
 use Rattle.ir_image.specs.Guest.{IsPlace, IsWord, code_start}
-use Rattle.ir_image.specs.Spelling.{magic}
+use Rattle.ir_image.specs.Encoding.{magic}
 use Rattle.ir_image.specs.Reading.{magic_field, is_place, entry_field, word_at, entry_at}
 
 pub magic_takes : (bytes : List ℕ) (n : ℕ × List ℕ) → IsBytes bytes → field_at Short magic_field bytes ≡ Ok n → Takes bytes magic n.1

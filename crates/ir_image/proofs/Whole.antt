@@ -1,4 +1,4 @@
--- What is read is spelled so, and what is spelled so is read.
+-- What is read is encoded so, and what is encoded so is read.
 use Rattle.std.proofs.Common.{◌≡◌, ℕ, ◌*◌, ◌/◌, ◌<◌, ◌≤◌, cond, eqb, List, [], ◌∷◌, ◌++◌, length, slice_index, Ok, Err, refl, sym, ap, subst, ◌∙◌, append_assoc, arith}
 use Rattle.std.specs.List.{AllByRecursion}
 use Rattle.std.proofs.lemmas.Bool.{eqb-true}
@@ -10,7 +10,7 @@ use Rattle.ir_image.specs.declared.counts.Counts.{Counts}
 use Rattle.ir_image.specs.declared.image_err.ImageErr.{ImageErr}
 use Rattle.ir_image.specs.declared.image_err.ImageErr.TheVariants.{Short, Count, Trailing}
 use Rattle.ir_image.specs.Guest.{Guest, IsGuest, IsPlace, IsWord, object_words, object_count}
-use Rattle.ir_image.specs.Spelling.{magic, counts_of, counts_spelling, words_spelling, body_spelling, spelling}
+use Rattle.ir_image.specs.Encoding.{magic, counts_of, counts_encoding, words_encoding, body_encoding, encoding}
 use Rattle.ir_image.specs.Reading.{magic_field, threads_field, objects_field, words_field, bytes_field, word_at, entry_at, counts_at, body_at, guest_at}
 use Rattle.ir_image.proofs.Fields.{magic_takes, magic_again, word_takes, word_again, entry_takes, entry_again}
 
@@ -26,7 +26,7 @@ record IsWithin (c : Counts) : Type 0 where
 
 -- what reading the counts takes
 record TakesCounts (all : List ℕ) (x : Counts × List ℕ) : Type 0 where
-  takes : Takes all (counts_spelling x.0) x.1
+  takes : Takes all (counts_encoding x.0) x.1
   within : IsWithin x.0
 
 counts_taken : (all : List ℕ) (first threads objects words bytes : ℕ × List ℕ) → Takes all magic first.1
@@ -38,14 +38,14 @@ counts_taken all first threads objects words bytes t0 t1 t2 t3 t4 =
     let m = within_ok 0 16 objects.0 Count t2.passes in
     let c = within_ok 0 16384 words.0 Count t3.passes in
     let d = within_ok 0 65536 bytes.0 Count t4.passes in
-    let front = Takes-then all magic first.1 (threads.0 ∷ []) threads.1 t0 (byte_taken first.1 threads t1.takes t1.fits) in
+    let prefix = Takes-then all magic first.1 (threads.0 ∷ []) threads.1 t0 (byte_taken first.1 threads t1.takes t1.fits) in
     let second = Takes-then threads.1 (objects.0 ∷ []) objects.1 (little_bytes 4 words.0) words.1
     (byte_taken threads.1 objects t2.takes t2.fits) t3.takes in
     let third = Takes-then threads.1 (objects.0 ∷ [] ++ little_bytes 4 words.0) words.1 (little_bytes 4 bytes.0) bytes.1 second t4.takes
     in
     record {
       takes = Takes-then all (magic ++ threads.0 ∷ []) threads.1 ((objects.0 ∷ [] ++ little_bytes 4 words.0) ++ little_bytes 4 bytes.0)
-          bytes.1 front third;
+          bytes.1 prefix third;
       within = record { some_thread = n.0; few_threads = n.1; few_objects = m.1; short_code = c.1; short_data = d.1 };
     }
 
@@ -67,7 +67,7 @@ counts_take all x fits e =
     (ok_is ImageErr (record { threads = threads.0; objects = objects.0; words = words.0; bytes = bytes.0 }, bytes.1) x e5)
     (counts_taken all first threads objects words bytes t0 t1 t2 t3 t4))
 
-counts_again : (c : Counts) (rest : List ℕ) → IsWithin c → counts_at (counts_spelling c ++ rest) ≡ Ok (c, rest)
+counts_again : (c : Counts) (rest : List ℕ) → IsWithin c → counts_at (counts_encoding c ++ rest) ≡ Ok (c, rest)
 unfolding counts_at
 counts_again c rest within =
     let r3 = little_bytes 4 c.bytes ++ rest in
@@ -89,7 +89,7 @@ counts_again c rest within =
 record TakesBody (c : Counts) (all : List ℕ) (g : Guest) : Type 0 where
   counts : counts_of g ≡ c
   fits : IsGuest g
-  parts : all ≡ body_spelling g
+  parts : all ≡ body_encoding g
 
 same_counts : (g : Guest) (c : Counts) → length g.entries ≡ c.threads → object_count g ≡ c.objects → length g.code ≡ c.words
     → length g.bytes ≡ c.bytes → counts_of g ≡ c
@@ -126,7 +126,7 @@ body_taken c all entries code initial words within t0 t1 t2 t3 nothing =
         bytes_fit = t2.fit;
         words_fit = t3.fit;
       };
-      parts = joined all (words_spelling entries.0) entries.1 (words_spelling code.0) code.1 initial.0 initial.1 (words_spelling words.0)
+      parts = joined all (words_encoding entries.0) entries.1 (words_encoding code.0) code.1 initial.0 initial.1 (words_encoding words.0)
           words.1 t0.takes.parts t1.takes.parts t2.takes.parts t3.takes.parts nothing;
     }
 
@@ -147,12 +147,12 @@ body_take c all g fits within e =
     subst (λ (y : Guest). TakesBody c all y) p.1
     (body_taken c all entries code initial words within t0 t1 t2 t3 (nil_from_length words.1 (eqb-true (length words.1) 0 p.0))))
 
-body_again : (g : Guest) → IsGuest g → body_at (counts_of g) (body_spelling g) ≡ Ok g
+body_again : (g : Guest) → IsGuest g → body_at (counts_of g) (body_encoding g) ≡ Ok g
 unfolding body_at
 body_again g fits =
-    let r2 = words_spelling g.words in
+    let r2 = words_encoding g.words in
     let r1 = g.bytes ++ r2 in
-    let r0 = words_spelling g.code ++ r1 in
+    let r0 = words_encoding g.code ++ r1 in
     let e0 = fields_again (IsPlace (length g.code)) (little_bytes 4) (entry_at (length g.code))
     (λ n rest place. entry_again (length g.code) n rest fits.short_code place) g.entries r0 fits.entries_fit in
     let e1 = fields_again IsWord (little_bytes 4) word_at word_again g.code r1 fits.code_fits in
@@ -161,18 +161,18 @@ body_again g fits =
     let e3 : fields_at word_at (object_words * object_count g) r2 ≡ Ok (g.words, []) =
     ap (λ (k : ℕ). fields_at word_at k r2) count ∙ ap (fields_at word_at (length g.words)) (sym (append-nil r2)) ∙ fields_again IsWord
     (little_bytes 4) word_at word_again g.words [] fits.words_fit in
-    ap (body_at (counts_of g)) (sym (regroup (words_spelling g.entries) (words_spelling g.code) g.bytes r2)) ∙ rw (e0, e1, e2, e3) refl
+    ap (body_at (counts_of g)) (sym (regroup (words_encoding g.entries) (words_encoding g.code) g.bytes r2)) ∙ rw (e0, e1, e2, e3) refl
 
 -- ---- the whole image
 
-whole_taken : (all : List ℕ) (x : Counts × List ℕ) (g : Guest) → TakesCounts all x → TakesBody x.0 x.1 g → IsGuest g × (all ≡ spelling g)
+whole_taken : (all : List ℕ) (x : Counts × List ℕ) (g : Guest) → TakesCounts all x → TakesBody x.0 x.1 g → IsGuest g × (all ≡ encoding g)
 whole_taken all x g t u = (
   u.fits,
-  t.takes.parts ∙ ap (λ (k : List ℕ). counts_spelling x.0 ++ k) u.parts ∙ ap
-      (λ (c : Counts). counts_spelling c ++ body_spelling g) (sym u.counts),
+  t.takes.parts ∙ ap (λ (k : List ℕ). counts_encoding x.0 ++ k) u.parts ∙ ap
+      (λ (c : Counts). counts_encoding c ++ body_encoding g) (sym u.counts),
 )
 
-pub guest_takes : (all : List ℕ) (g : Guest) → IsBytes all → guest_at all ≡ Ok g → IsGuest g × (all ≡ spelling g)
+pub guest_takes : (all : List ℕ) (g : Guest) → IsBytes all → guest_at all ≡ Ok g → IsGuest g × (all ≡ encoding g)
 unfolding guest_at
 guest_takes all g fits e =
     two_ok (counts_at all) (λ c. body_at c.0 c.1) g e (λ x e0 e1.
@@ -181,14 +181,14 @@ guest_takes all g fits e =
 
 -- what the parts of an image say of it
 pub parts_take : (all : List ℕ) (c : Counts) (rest : List ℕ) (g h : Guest) → ((i : ℕ) → slice_index all i < 256)
-    → counts_at all ≡ Ok (c, rest) → body_at c rest ≡ Ok g → g ≡ h → IsGuest h × (all ≡ spelling h)
+    → counts_at all ≡ Ok (c, rest) → body_at c rest ≡ Ok g → g ≡ h → IsGuest h × (all ≡ encoding h)
 parts_take all c rest g h bytes e0 e1 same =
     let fits = bytes_fit all bytes in
     let t = counts_take all (c, rest) fits e0 in
-    subst (λ (x : Guest). IsGuest x × (all ≡ spelling x)) same
+    subst (λ (x : Guest). IsGuest x × (all ≡ encoding x)) same
     (whole_taken all (c, rest) g t (body_take c rest g t.takes.rest_fits t.within e1))
 
-pub guest_again : (g : Guest) → IsGuest g → guest_at (spelling g) ≡ Ok g
+pub guest_again : (g : Guest) → IsGuest g → guest_at (encoding g) ≡ Ok g
 unfolding guest_at
 guest_again g fits =
     let within : IsWithin (counts_of g) = record {
@@ -198,4 +198,4 @@ guest_again g fits =
       short_code = fits.short_code;
       short_data = fits.short_data;
     } in
-    rw (counts_again (counts_of g) (body_spelling g) within) (body_again g fits)
+    rw (counts_again (counts_of g) (body_encoding g) within) (body_again g fits)

@@ -2,6 +2,6 @@ pub mod Guest
 pub mod Fetch
 pub mod Lowering
 pub mod Refusal
-pub mod Spelling
+pub mod Encoding
 pub mod Reading
 pub mod Fields

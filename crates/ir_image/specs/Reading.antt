@@ -6,7 +6,7 @@ use Rattle.ir_image.specs.declared.counts.Counts.{Counts}
 use Rattle.ir_image.specs.declared.image_err.ImageErr.{ImageErr}
 use Rattle.ir_image.specs.declared.image_err.ImageErr.TheVariants.{Short, Magic, Count, Entry, Trailing, NoMem}
 use Rattle.ir_image.specs.Guest.{Guest, code_start, object_words}
-use Rattle.ir_image.specs.Spelling.{magic}
+use Rattle.ir_image.specs.Encoding.{magic}
 
 -- reading meets this fault, or memory ran out
 abbrev pub Fails : {Y : Type 0} → ImageErr → Result Y ImageErr → Type 0

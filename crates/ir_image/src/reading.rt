@@ -2,7 +2,7 @@
 
 ghost use Rattle.std.specs.Prelude.{◌≡◌, List, ℕ, length, IfOk, Ok, ◌<◌, ◌≤◌};
 ghost use Rattle.ir_image.specs.Guest.{Guest, IsGuest};
-ghost use Rattle.ir_image.specs.Spelling.{spelling};
+ghost use Rattle.ir_image.specs.Encoding.{encoding};
 ghost use Rattle.ir_bytes.specs.Reading.{bytes_at, fields_at};
 ghost use Rattle.ir_image.specs.declared.image_err.ImageErr.TheVariants.{Short};
 ghost use Rattle.ir_image.specs.Reading.{Gives, word_at, entry_at, counts_at, body_at, guest_at};
@@ -122,7 +122,7 @@ fn body(alloc: Global, counts: Counts, bytes: &[u8]) -> Result<Parts, ImageErr>
 
 #[tactic(auto, unfolding(crate::specs::Reading::guest_at))]
 fn image(alloc: Global, bytes: &[u8]) -> Result<Image, ImageErr>
-    ensures found { IfOk result (λ image. IsGuest image × (bytes.now ≡ spelling image)) }
+    ensures found { IfOk result (λ image. IsGuest image × (bytes.now ≡ encoding image)) }
     ensures exact { Gives (λ image. image) result (guest_at bytes.now) }
 {
     let (counts, rest) = counts(bytes)?;
@@ -136,15 +136,15 @@ fn image(alloc: Global, bytes: &[u8]) -> Result<Image, ImageErr>
     Ok(Image::new(entries, code, bytes, words))
 }
 
-/// The image that the bytes spell, all of the bytes. Numbers are little-endian, and memory is taken only for what the bytes hold.
+/// The image that the bytes encode, all of the bytes. Numbers are little-endian, and memory is taken only for what the bytes hold.
 ///
 /// # Errors
 /// The first fault from the left, each field being read whole and then tested; or want of memory.
 pub fn read_image(alloc: Global, bytes: &[u8]) -> Result<Image, ImageErr>
-    // What is read is a guest within its limits, and spelled so.
-    ensures found { IfOk result (λ image. IsGuest image × (bytes.now ≡ spelling image)) }
-    // What is spelled so is read, unless memory runs out.
-    ensures only { (g : Guest) → IsGuest g → bytes.now ≡ spelling g → Gives (λ image. image) result (Ok g) }
+    // What is read is a guest within its limits, and encoded so.
+    ensures found { IfOk result (λ image. IsGuest image × (bytes.now ≡ encoding image)) }
+    // What is encoded so is read, unless memory runs out.
+    ensures only { (g : Guest) → IsGuest g → bytes.now ≡ encoding g → Gives (λ image. image) result (Ok g) }
     // Which fault it is.
     ensures exact { Gives (λ image. image) result (guest_at bytes.now) }
 {

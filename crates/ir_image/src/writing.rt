@@ -2,7 +2,7 @@
 
 ghost use Rattle.std.specs.Prelude.{◌≡◌, ◌++◌, length, IfOk, OnOk};
 ghost use Rattle.byteorder.specs.Endian.{little_bytes};
-ghost use Rattle.ir_image.specs.Spelling.{words_spelling, spelling};
+ghost use Rattle.ir_image.specs.Encoding.{words_encoding, encoding};
 
 use crate::image::Image;
 use crate::layout::{COUNTS_LENGTH, OBJECT_WORDS};
@@ -18,7 +18,7 @@ fn put_word(out: &mut Vec<u8>, word: u32) -> Result<(), AllocError>
 }
 
 fn put_words(out: &mut Vec<u8>, words: &[u32]) -> Result<(), AllocError>
-    ensures { OnOk result (out.new.items ≡ out.old.items ++ words_spelling words.now) }
+    ensures { OnOk result (out.new.items ≡ out.old.items ++ words_encoding words.now) }
 {
     for word in words {
         put_word(out, *word)?;
@@ -26,12 +26,12 @@ fn put_words(out: &mut Vec<u8>, words: &[u32]) -> Result<(), AllocError>
     Ok(())
 }
 
-/// The one spelling of the image.
+/// The one encoding of the image.
 ///
 /// # Errors
 /// Want of memory.
 pub fn write_image(alloc: Global, image: &Image) -> Result<Vec<u8>, AllocError>
-    ensures { IfOk result (λ v. v.items ≡ spelling image.now) }
+    ensures { IfOk result (λ v. v.items ≡ encoding image.now) }
 {
     let entries = image.entries();
     let code = image.code().words();

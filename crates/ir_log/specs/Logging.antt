@@ -1,18 +1,18 @@
 -- What an event tells of a step.
 use Rattle.std.specs.Prelude.{◌≡◌}
-use Rattle.ir_runs.specs.Marks.{Mark}
-use Rattle.ir_runs.specs.Marks as marks
+use Rattle.ir_runs.specs.Labels.{Label}
+use Rattle.ir_runs.specs.Labels as labels
 use Rattle.ir_runs.specs.declared.access.Access.TheVariants.{Reading, Writing}
 use Rattle.ir_thread.specs.declared.ask.Ask.{Ask}
 use Rattle.ir_thread.specs.declared.ask.Ask.TheVariants.{Env, Enter}
 use Rattle.ir_log.specs.declared.event.Event.{Event}
 use Rattle.ir_log.specs.declared.event.Event.TheVariants.{Answer, Read, Write}
 
--- the mark of the step that the event is logged of; at an entry for reading nobody's leave is logged
-abbrev pub mark_of : Event → Mark
-mark_of (Answer kind value) = marks.Answer kind value
-mark_of (Read object version) = marks.In object Reading version 0
-mark_of (Write object version readers) = marks.In object Writing version readers
+-- the label of the step that the event is logged of; at an entry for reading nobody's leave is logged
+abbrev pub label_of : Event → Label
+label_of (Answer kind value) = labels.Answer kind value
+label_of (Read object version) = labels.In object Reading version 0
+label_of (Write object version readers) = labels.In object Writing version readers
 
 -- what a thread asks for at the step that the event is logged of
 abbrev pub ask_of : Event → Ask

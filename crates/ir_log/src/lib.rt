@@ -10,5 +10,5 @@ mod tests;
 
 pub use cursor::{Cursor, Disagree};
 pub use event::Event;
-pub use laws::one_mark_each;
+pub use laws::one_label_each;
 pub use log::{Log, MOST_EVENTS};

@@ -1,7 +1,7 @@
 -- Object steps of several threads in one order.
 use Rattle.std.specs.Prelude.{◌≡◌, ◌≢◌, ℕ, ◌^◌, ◌<◌, Bool, true, false, eqb, List, [], ◌∷◌, Option, Some, None}
 use Rattle.ir_runs.specs.Machine.{Act, Silent, Result, Entry, Refusal, Exit, Load, Store, Never, Machine, upd}
-use Rattle.ir_runs.specs.Marks.{Mark}
+use Rattle.ir_runs.specs.Labels.{Label}
 use Rattle.ir_runs.specs.declared.access.Access.{Access}
 use Rattle.ir_runs.specs.declared.access.Access.TheVariants.{Writing}
 use Rattle.ir_runs.specs.Object.{Object, target, Admits, acted, reply, told}
@@ -46,9 +46,9 @@ IsAllowed m f [] = Unit {0}
 IsAllowed m f (x ∷ xs) = Admits m x.1.0 (f (target x.1.0)) × (reply x.1.0 (f (target x.1.0)) ≡ x.1.1) × IsAllowed m (objects_then f x) xs
 
 -- what each object step of the order tells
-abbrev pub order_marks : (ℕ → Object) → List (ℕ × Shared) → List (ℕ × Mark)
-order_marks f [] = []
-order_marks f (x ∷ xs) = (x.0, told x.1.0 (f (target x.1.0))) ∷ order_marks (objects_then f x) xs
+abbrev pub order_labels : (ℕ → Object) → List (ℕ × Shared) → List (ℕ × Label)
+order_labels f [] = []
+order_labels f (x ∷ xs) = (x.0, told x.1.0 (f (target x.1.0))) ∷ order_labels (objects_then f x) xs
 
 -- how a thread is inside the object that it does this to
 abbrev pub Uses : Act → Option Access → Type 0

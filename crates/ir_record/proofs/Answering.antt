@@ -3,7 +3,7 @@ use Rattle.std.proofs.Common.{◌≡◌, ℕ, ◌<◌, true, List, [], ◌∷◌
 use Rattle.ir_thread.specs.Calls.{ask_of, Permits, most_events}
 use Rattle.ir_thread.specs.Instance.{shared_ask, is_result}
 use Rattle.ir_runs.specs.Machine.{act_of}
-use Rattle.ir_runs.specs.Marks.{Answer}
+use Rattle.ir_runs.specs.Labels.{Answer}
 use Rattle.ir_thread.specs.declared.ask.Ask.TheVariants.{Env}
 use Rattle.ir_runs.specs.declared.env_kind.EnvKind.{EnvKind}
 use Rattle.ir_thread.proofs.CallerLemmas.{ask_permits}
@@ -13,11 +13,11 @@ use Rattle.ir_runs.specs.Run.{Can, after}
 use Rattle.ir_flat.proofs.CallerLemmas.{added}
 use Rattle.ir_log.specs.Logged.{Logged}
 use Rattle.ir_log.specs.declared.event.Event.TheVariants as event
-use Rattle.ir_record.specs.Progress.{TookIf, IsTape, log_at, answers_at, marks_at}
+use Rattle.ir_record.specs.Progress.{TookIf, IsTape, log_at, answers_at, labels_at}
 use Rattle.ir_record.specs.Worlds.{Answered}
 use Rattle.ir_record.proofs.Steps.{took_one}
 use Rattle.ir_record.proofs.Running.{flat_few}
-use Rattle.ir_record.proofs.Logs.{tape_pushed, marks_pushed, marks_other, result_fits}
+use Rattle.ir_record.proofs.Logs.{tape_pushed, labels_pushed, labels_other, result_fits}
 
 -- there is the step
 pub answer_can : (f : Flat) (t value : ℕ) (kind : EnvKind) → ask_of f.code (thread_of f t) ≡ Env kind → is_result kind value ≡ true → Can (machine f) (tables f) (t, value)
@@ -57,8 +57,8 @@ answer_took f g logs more t value kind a answers given l e =
       threads = a.threads;
       objects = a.objects;
       tells = ap (λ q. told (act_of (shared_ask q) value) ((tables f).objects (target (act_of (shared_ask q) value)))) a.asked;
-      own_log = subst (λ z. marks_at z t ≡ marks_at logs t ++ Answer kind value ∷ []) (sym a.logged) (marks_pushed logs t (event.Answer kind value) a.new (omega (arith, a.below, a.tape.one_each)) a.pushed);
+      own_log = subst (λ z. labels_at z t ≡ labels_at logs t ++ Answer kind value ∷ []) (sym a.logged) (labels_pushed logs t (event.Answer kind value) a.new (omega (arith, a.below, a.tape.one_each)) a.pushed);
       own_answers = ap (λ z. answers_at z t) e ∙ get_or-set_same answers t (answers_at answers t ++ (kind, value) ∷ []) [] l;
-      other_logs = λ u ne. subst (λ z. marks_at z u ≡ marks_at logs u) (sym a.logged) (marks_other logs t u a.new ne);
+      other_logs = λ u ne. subst (λ z. labels_at z u ≡ labels_at logs u) (sym a.logged) (labels_other logs t u a.new ne);
       other_answers = λ u ne. ap (λ z. answers_at z u) e ∙ get_or-set_other answers t u (answers_at answers t ++ (kind, value) ∷ []) [] ne;
     })

@@ -14,7 +14,7 @@ use Rattle.ir_runs.specs.Machine.{Machine}
 use Rattle.ir_thread.specs.State as thread
 use Rattle.ir_thread.specs.declared.ask.Ask.TheVariants as ask
 use Rattle.ir_object.specs.Cell.{Cell}
-use Rattle.ir_object.specs.Order.{Shared, of_thread, order_marks, IsAllowed}
+use Rattle.ir_object.specs.Order.{Shared, of_thread, order_labels, IsAllowed}
 use Rattle.ir_object.proofs.CallerLemmas.{allowed, none_beyond}
 use Rattle.ir_crew.specs.Ends.{AreTracks, IsEnd}
 use Rattle.ir_crew.specs.Plays.{M}
@@ -129,7 +129,7 @@ record Part (g : Guest) (budget : ℕ) (ws : List Work) (es : List (ℕ × Share
   none : length g.entries ≤ t → replies ≡ []
   done : shared_ask (ask_of g.code (alone_after (thread_machine g.code) (thread_of (start_flat g budget) t) replies)) ≡ machine.Done
   threads_are : t < length g.entries → alone_after (thread_machine g.code) (thread_of (start_flat g budget) t) replies ≡ (work_at ws t).thread
-  logged : t < length g.entries → events (alone_trail (thread_machine g.code) (thread_of (start_flat g budget) t) replies (of_thread t (order_marks (start_objects g) es))) ≡ map logging.mark_of (work_at ws t).log.events
+  logged : t < length g.entries → events (alone_trail (thread_machine g.code) (thread_of (start_flat g budget) t) replies (of_thread t (order_labels (start_objects g) es))) ≡ map logging.label_of (work_at ws t).log.events
 
 part : (g : Guest) (budget : ℕ) (before : List (List Answered)) (ws : List Work) (v : View) (objects : List Cell) → AllOver g budget before ws → (e : IsEnd g v objects) → v ≡ tracks_of ws → (t : ℕ) → Part g budget ws e.steps t
 part g budget before ws v objects over e view t = elim (cases_lt t (length g.entries)) [
@@ -147,7 +147,7 @@ part g budget before ws v objects over e view t = elim (cases_lt t (length g.ent
         none = λ past. absurd (omega (arith, past, l));
         done = ap (λ x. shared_ask (ask_of g.code (alone_after m x w.replies))) x0 ∙ ap (λ x. shared_ask (ask_of g.code x)) w.now ∙ ap shared_ask (over.done t l);
         threads_are = λ _. ap (λ x. alone_after m x w.replies) x0 ∙ w.now;
-        logged = λ _. ap (λ x. events (alone_trail m x w.replies (of_thread t (order_marks (start_objects g) e.steps)))) x0 ∙ ap (λ z. events (alone_trail m (thread.start_state g t budget) w.replies z)) track.marks_are ∙ w.logged;
+        logged = λ _. ap (λ x. events (alone_trail m x w.replies (of_thread t (order_labels (start_objects g) e.steps)))) x0 ∙ ap (λ z. events (alone_trail m (thread.start_state g t budget) w.replies z)) track.labels_are ∙ w.logged;
       }
   | inr past ↦ record {
     replies = [];
@@ -178,8 +178,8 @@ recorded_of g budget before ws v objects over e view trace counted limit all tra
     let now : ℕ → thread.State = λ t. (work_at ws t).thread in
     let logs : ℕ → Logged = λ t. (work_at ws t).log in
     let told : ℕ → List Answered = λ t. (work_at ws t).answers in
-    let own_log : (t : ℕ) → t < length g.entries → map logging.mark_of (logs t).events ≡ log m s run t = λ t l.
-    sym (ap events (k.trails t) ∙ ap (λ z. events (alone_trail m (s.now t) (rs t) (of_thread t (order_marks z e.steps)))) same ∙ (p t).logged l) in
+    let own_log : (t : ℕ) → t < length g.entries → map logging.label_of (logs t).events ≡ log m s run t = λ t l.
+    sym (ap events (k.trails t) ∙ ap (λ z. events (alone_trail m (s.now t) (rs t) (of_thread t (order_labels z e.steps)))) same ∙ (p t).logged l) in
     let stand : StandAtEnd g budget run before now logs told = record {
       runs = k.ok;
       threads = λ t l. sym (k.threads t ∙ (p t).threads_are l);

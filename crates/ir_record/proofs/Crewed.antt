@@ -29,7 +29,7 @@ new_working : {W : Type 0} (answers : W → List Answered) (g : Guest) (budget t
 new_working answers g budget t id w new = record {
   track = [];
   view = new.me;
-  worked = subst (λ (z : thread.State × Logged). Rattle.ir_record.specs.Working.Worked (thread_machine g.code) (thread.start_state g t budget) z.0 [] [] (map Rattle.ir_log.specs.Logging.mark_of z.1.events))
+  worked = subst (λ (z : thread.State × Logged). Rattle.ir_record.specs.Working.Worked (thread_machine g.code) (thread.start_state g t budget) z.0 [] [] (map Rattle.ir_log.specs.Logging.label_of z.1.events))
       (λ i. (sym new.thread i, sym new.log i)) (worked_starts (thread_machine g.code) (thread.start_state g t budget));
   held = λ o. sym (ap (λ x. held_at x.held o) new.thread ∙ none o);
   places = ap (λ x. length x.held) new.thread ∙ length-replicate (object_count g) None;
@@ -37,7 +37,7 @@ new_working answers g budget t id w new = record {
   room = ap (λ l. l.room) new.log;
   count = ap (λ l. length l.events) new.log ∙ sym (ap (λ x. x.events) new.thread);
   events_fit = subst (λ l. AllByRecursion (Rattle.ir_trace.specs.Recorded.IsEvent (object_count g)) l.events) (sym new.log) tt;
-  answered = sym (ap (λ l. answers w.world ++ Rattle.ir_record.specs.Worlds.answers_in (map Rattle.ir_log.specs.Logging.mark_of l.events)) new.log ∙ append-nil (answers w.world));
+  answered = sym (ap (λ l. answers w.world ++ Rattle.ir_record.specs.Worlds.answers_in (map Rattle.ir_log.specs.Logging.label_of l.events)) new.log ∙ append-nil (answers w.world));
 }
   where
     none : (o : ℕ) → held_at (replicate (object_count g) None) o ≡ None

@@ -17,7 +17,7 @@ use Rattle.ir_runs.specs.Run.{State, Step, asked, Can, IsRun, end, log, IsDone}
 use Rattle.ir_flat.proofs.CallerLemmas.{fresh, threads_length, cells_length, nothing_is_stuck, start_idle, really_done}
 use Rattle.ir_runs.proofs.CallerLemmas.{run_idle, turns_run}
 use Rattle.ir_log.specs.Logged.{Logged}
-use Rattle.ir_log.specs.Logging.{mark_of}
+use Rattle.ir_log.specs.Logging.{label_of}
 use Rattle.ir_trace.specs.Recorded.{Recorded, IsEvent}
 use Rattle.ir_record.specs.Gathered.{AreThreadTraces}
 use Rattle.ir_runs.specs.InOrder.{HasNone, rounds}
@@ -114,7 +114,7 @@ at_end guest budget order before b o =
     record {
       runs = run_of_it guest budget order before b o;
       threads = λ t l. ap (λ s. s.now t) o.took.ends;
-      logged = λ t l. o.took.logs t (omega (arith, l, n)) ∙ ap (λ z. map mark_of z.events ++ log (machine f0) (tables f0) o.took.run t) (get_or-replicate (length guest.entries) t new_log no_log l);
+      logged = λ t l. o.took.logs t (omega (arith, l, n)) ∙ ap (λ z. map label_of z.events ++ log (machine f0) (tables f0) o.took.run t) (get_or-replicate (length guest.entries) t new_log no_log l);
       answered = λ t l. o.took.answers t (omega (arith, l, n));
     }
 

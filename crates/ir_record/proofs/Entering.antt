@@ -4,7 +4,7 @@ use Rattle.ir_thread.specs.Calls.{ask_of, Permits, most_events}
 use Rattle.ir_thread.specs.Instance.{shared_ask}
 use Rattle.ir_runs.specs.Machine as machine
 use Rattle.ir_runs.specs.Machine.{act_of}
-use Rattle.ir_runs.specs.Marks.{Mark, logged}
+use Rattle.ir_runs.specs.Labels.{Label, logged}
 use Rattle.ir_runs.specs.declared.access.Access.{Access}
 use Rattle.ir_runs.specs.declared.access.Access.TheVariants.{Reading, Writing}
 use Rattle.ir_thread.specs.declared.ask.Ask.{Ask}
@@ -12,17 +12,17 @@ use Rattle.ir_thread.specs.declared.ask.Ask.TheVariants.{Private, Env, Enter, Le
 use Rattle.ir_thread.proofs.CallerLemmas.{ask_permits}
 use Rattle.ir_runs.specs.Object.{Object, target, told, Admits}
 use Rattle.ir_flat.specs.Flat.{Flat, thread_of, tables, machine, IsFlat}
-use Rattle.ir_runs.specs.Run.{Can, after, mark}
+use Rattle.ir_runs.specs.Run.{Can, after, label}
 use Rattle.ir_flat.proofs.CallerLemmas.{added}
 use Rattle.ir_log.specs.Logged.{Logged}
-use Rattle.ir_log.specs.Logging.{mark_of}
+use Rattle.ir_log.specs.Logging.{label_of}
 use Rattle.ir_log.specs.declared.event.Event.{Event}
 use Rattle.ir_trace.specs.Recorded.{IsEvent}
 use Rattle.ir_runs.specs.InOrder.{HasNone}
-use Rattle.ir_record.specs.Progress.{TookIf, IsTape, IsQuiet, log_at, marks_at, answers_at}
+use Rattle.ir_record.specs.Progress.{TookIf, IsTape, IsQuiet, log_at, labels_at, answers_at}
 use Rattle.ir_record.specs.Worlds.{Answered, answers_in}
 use Rattle.ir_record.proofs.Steps.{took_one, took_none}
-use Rattle.ir_record.proofs.Logs.{tape_kept, tape_pushed, marks_pushed, marks_other}
+use Rattle.ir_record.proofs.Logs.{tape_kept, tape_pushed, labels_pushed, labels_other}
 use Rattle.ir_record.proofs.Running.{flat_few}
 
 -- whether a step can be taken is no matter of its result, unless it calls the environment
@@ -72,7 +72,7 @@ pub record Entering (f g : Flat) (logs more : List Logged) (t o : ℕ) (a : Acce
   pub flat : IsFlat f
   pub below : t < length f.threads
   pub asked : ask_of f.code (thread_of f t) ≡ Enter o a
-  pub tells : mark_of e ≡ told (machine.Entry o a 0) ((tables f).objects o)
+  pub tells : label_of e ≡ told (machine.Entry o a 0) ((tables f).objects o)
   pub fits : IsEvent (length f.objects) e
   pub can : Can (machine f) (tables f) (t, 0)
   pub taken : tables g ≡ after (machine f) (tables f) (t, 0)
@@ -99,7 +99,7 @@ entry_unanswered o Writing b = refl
 pub enter_took : (f g : Flat) (logs more : List Logged) (t o : ℕ) (a : Access) (e : Event) → Entering f g logs more t o a e → (answers : List (List Answered))
     → TookIf true (t ∷ []) (record { flat = f; logs = logs; answers = answers }) (record { flat = g; logs = more; answers = answers })
 enter_took f g logs more t o a e x answers =
-    let k : Mark = told (machine.Entry o a 0) ((tables f).objects o) in
+    let k : Label = told (machine.Entry o a 0) ((tables f).objects o) in
     took_one t 0 k (record { flat = f; logs = logs; answers = answers }) (record { flat = g; logs = more; answers = answers }) (record {
       below = x.below;
       few = flat_few f x.flat;
@@ -109,10 +109,10 @@ enter_took f g logs more t o a e x answers =
       threads = x.threads;
       objects = x.objects;
       tells = ap (λ q. told (act_of (shared_ask q) 0) ((tables f).objects (target (act_of (shared_ask q) 0)))) x.asked;
-      own_log = subst (λ z. marks_at z t ≡ marks_at logs t ++ logged k []) (sym x.logged)
-          (marks_pushed logs t e x.new (omega (arith, x.below, x.tape.one_each)) x.pushed ∙ ap (λ z. marks_at logs t ++ z) (ap (λ z. z ∷ []) x.tells ∙ sym (entry_logged o a ((tables f).objects o))));
+      own_log = subst (λ z. labels_at z t ≡ labels_at logs t ++ logged k []) (sym x.logged)
+          (labels_pushed logs t e x.new (omega (arith, x.below, x.tape.one_each)) x.pushed ∙ ap (λ z. labels_at logs t ++ z) (ap (λ z. z ∷ []) x.tells ∙ sym (entry_logged o a ((tables f).objects o))));
       own_answers = sym (append-nil (answers_at answers t)) ∙ ap (λ z. answers_at answers t ++ z) (sym (entry_unanswered o a ((tables f).objects o)));
-      other_logs = λ u ne. subst (λ z. marks_at z u ≡ marks_at logs u) (sym x.logged) (marks_other logs t u x.new ne);
+      other_logs = λ u ne. subst (λ z. labels_at z u ≡ labels_at logs u) (sym x.logged) (labels_other logs t u x.new ne);
       other_answers = λ u ne. refl;
     })
 
@@ -156,7 +156,7 @@ go_tape f g logs t x = tape_kept f g logs t 0 x.tape x.taken x.threads x.objects
 pub go_took : (f g : Flat) (logs : List Logged) (t : ℕ) → Going f g logs t → (answers : List (List Answered))
     → TookIf true (t ∷ []) (record { flat = f; logs = logs; answers = answers }) (record { flat = g; logs = logs; answers = answers })
 go_took f g logs t x answers =
-    let k : Mark = mark (machine f) (tables f) (t, 0) in
+    let k : Label = label (machine f) (tables f) (t, 0) in
     let none : logged k [] ≡ [] = quiet_logged (ask_of f.code (thread_of f t)) _ x.quiet in
     took_one t 0 k (record { flat = f; logs = logs; answers = answers }) (record { flat = g; logs = logs; answers = answers }) (record {
       below = x.below;
@@ -167,7 +167,7 @@ go_took f g logs t x answers =
       threads = x.threads;
       objects = x.objects;
       tells = refl;
-      own_log = sym (append-nil (marks_at logs t)) ∙ ap (λ z. marks_at logs t ++ z) (sym none);
+      own_log = sym (append-nil (labels_at logs t)) ∙ ap (λ z. labels_at logs t ++ z) (sym none);
       own_answers = sym (append-nil (answers_at answers t)) ∙ ap (λ z. answers_at answers t ++ answers_in z) (sym none);
       other_logs = λ u ne. refl;
       other_answers = λ u ne. refl;

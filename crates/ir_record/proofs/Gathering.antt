@@ -42,7 +42,7 @@ gathered_more f before x rs r was new =
 pub thread_found : (f : Flat) (threads : List thread.State) (t : ℕ) (x : thread.State) → threads ≡ f.threads → t < length f.threads → x ≡ get_or threads t x → x ≡ thread_of f t
 thread_found f threads t x same l e = e ∙ ap (λ z. get_or z t x) same ∙ get_or_default f.threads t x idle l
 
--- one item more of a list that is taken from the front
+-- one item more of a list that is taken from the prefix
 pub moved_on : {A : Type 0} (before items rest whole : List A) (x : A) → before ++ items ≡ whole → items ≡ x ∷ rest → (before ++ x ∷ []) ++ rest ≡ whole
 moved_on before items rest whole x h e = append_assoc before (x ∷ []) rest ∙ ap (λ z. before ++ z) (sym e) ∙ h
 
@@ -58,7 +58,7 @@ take_one [] i x d l e = absurd (omega arith)
 take_one (y ∷ xs) zero x d l e = ap (λ z. z ∷ []) (sym e)
 take_one (y ∷ xs) (suc i) x d l e = ap (λ z. y ∷ z) (take_one xs i x d (omega arith) e)
 
--- the front of a list, seen by a function, with one item more
+-- the prefix of a list, seen by a function, with one item more
 pub taken_more : {A B C : Type 0} (f : A → B) (h : C → B) (xs new : List A) (x : A) (whole : List C) (c : C) → new ≡ xs ++ x ∷ [] → map f xs ≡ take (length xs) (map h whole) → length xs < length whole → c ≡ get_or whole (length xs) c → f x ≡ h c → map f new ≡ take (length new) (map h whole)
 taken_more f h xs new x whole c e was l is same =
     let n : length new ≡ suc (length xs) = ap (λ z. length z) e ∙ length-append xs (x ∷ []) ∙ (let k : length xs + 1 ≡ suc (length xs) = omega arith in k) in

@@ -5,18 +5,18 @@ use Rattle.std.proofs.lemmas.List.{get_or-replicate, get_or_past, length-replica
 use Rattle.std.specs.List.{range_with_len}
 use Rattle.ir_thread.specs.Instance.{shared_ask, thread_machine}
 use Rattle.ir_runs.specs.Machine.{Machine, Private}
-use Rattle.ir_runs.specs.Marks.{Quiet}
+use Rattle.ir_runs.specs.Labels.{Quiet}
 use Rattle.ir_thread.specs.State as thread
 use Rattle.ir_flat.specs.Alone.{WentAlone}
 use Rattle.ir_flat.specs.Flat.{Flat, tables, machine, IsFlat}
-use Rattle.ir_runs.specs.Run.{State, Step, Can, after, mark, end, join_if, events, log}
+use Rattle.ir_runs.specs.Run.{State, Step, Can, after, label, end, join_if, events, log}
 use Rattle.ir_runs.proofs.CallerLemmas.{log_append, end_append, turns_append}
 use Rattle.ir_record.specs.Ahead.{lead, IsAhead, all_ahead, NoneAhead, Went, WentIf}
 use Rattle.ir_runs.specs.InOrder.{HasNone, InTurn, rounds}
-use Rattle.ir_record.specs.Progress.{Progress, Took, TookIf, all_left, marks_at, answers_at}
+use Rattle.ir_record.specs.Progress.{Progress, Took, TookIf, all_left, labels_at, answers_at}
 use Rattle.ir_record.specs.Worlds.{answers_in}
 use Rattle.ir_record.proofs.Joining.{range_more, rounds_more, some_run, some_after, none_in_turn}
-use Rattle.ir_record.proofs.Leading.{can_alone, quiet_alone, spent, can_there, none_there, mark_there, stepped, gone_ahead, level, caught_up}
+use Rattle.ir_record.proofs.Leading.{can_alone, quiet_alone, spent, can_there, none_there, label_there, stepped, gone_ahead, level, caught_up}
 use Rattle.ir_record.proofs.Running.{flat_few}
 use Rattle.ir_record.proofs.Steps.{answers_append}
 use Rattle.ir_record.proofs.Tally.{alone_less}
@@ -36,17 +36,17 @@ at_lead (x ∷ xs) (suc t) v l is = at_lead xs t v (omega (arith, l)) is
 
 -- ---- what one step logs
 
-quiet_log : {T : Type 0} (m : Machine T) (s : State T) (t r u : ℕ) → mark m s (t, r) ≡ Quiet → log m s ((t, r) ∷ []) u ≡ []
+quiet_log : {T : Type 0} (m : Machine T) (s : State T) (t r u : ℕ) → label m s (t, r) ≡ Quiet → log m s ((t, r) ∷ []) u ≡ []
 quiet_log m s t r u is = ap (λ k. events (join_if (eqb u t) (s.now u, k) [])) is ∙ none (eqb u t)
   where
     none : (b : Bool) → events (join_if b (s.now u, Quiet) []) ≡ []
     none true = refl
     none false = refl
 
-same_log : {T : Type 0} (m : Machine T) (s later : State T) (t r u : ℕ) → mark m later (t, r) ≡ mark m s (t, r) → log m later ((t, r) ∷ []) u ≡ log m s ((t, r) ∷ []) u
+same_log : {T : Type 0} (m : Machine T) (s later : State T) (t r u : ℕ) → label m later (t, r) ≡ label m s (t, r) → log m later ((t, r) ∷ []) u ≡ log m s ((t, r) ∷ []) u
 same_log m s later t r u is = by_case (eqb u t)
   where
-    by_case : (b : Bool) → events (join_if b (later.now u, mark m later (t, r)) []) ≡ events (join_if b (s.now u, mark m s (t, r)) [])
+    by_case : (b : Bool) → events (join_if b (later.now u, label m later (t, r)) []) ≡ events (join_if b (s.now u, label m s (t, r)) [])
     by_case true = ap (λ k. events ((later.now u, k) ∷ [])) is
     by_case false = refl
 
@@ -65,7 +65,7 @@ turn_spent s a c t k l is h =
         code = refl;
         threads = refl;
         objects = refl;
-        logs = λ u below. sym (append-nil (marks_at a.logs u)) ∙ ap (λ z. marks_at a.logs u ++ z) (sym (quiet u));
+        logs = λ u below. sym (append-nil (labels_at a.logs u)) ∙ ap (λ z. labels_at a.logs u ++ z) (sym (quiet u));
         answers = λ u below. sym (append-nil (answers_at a.answers u)) ∙ ap (λ z. answers_at a.answers u ++ answers_in z) (sym (quiet u));
         fewer = let less = one_set c t k l in omega (arith, less, is);
       };
@@ -98,7 +98,7 @@ turn_stays s a b c t moved e is h k =
         code = k.took.code;
         threads = k.took.threads;
         objects = k.took.objects;
-        logs = λ u l. k.took.logs u l ∙ ap (λ z. marks_at a.logs u ++ log (machine a.flat) (tables a.flat) z u) none;
+        logs = λ u l. k.took.logs u l ∙ ap (λ z. labels_at a.logs u ++ log (machine a.flat) (tables a.flat) z u) none;
         answers = λ u l. k.took.answers u l ∙ ap (λ z. answers_at a.answers u ++ answers_in (log (machine a.flat) (tables a.flat) z u)) none;
         fewer = let less = k.took.fewer in omega (arith, less);
       };
@@ -118,7 +118,7 @@ turn_steps s a b g c t k l below flat is h took w = by_turn took.took.turns
         let is_after : tables b.flat ≡ after m (tables a.flat) (t, r) = took.took.ends ∙ ap (end m (tables a.flat)) one in
         let same_machine : machine b.flat ≡ m = ap thread_machine took.took.code in
         let h' : IsAhead m c (after m s (t, r)) (tables b.flat) = subst (IsAhead m c (after m s (t, r))) (sym is_after) (stepped m c s (tables a.flat) t r is h) in
-        let told : (u : ℕ) → log m (tables a.flat) took.took.run u ≡ log m s ((t, r) ∷ []) u = λ u. ap (λ z. log m (tables a.flat) z u) one ∙ same_log m s (tables a.flat) t r u (mark_there m c s (tables a.flat) t r is h) in
+        let told : (u : ℕ) → log m (tables a.flat) took.took.run u ≡ log m s ((t, r) ∷ []) u = λ u. ap (λ z. log m (tables a.flat) z u) one ∙ same_log m s (tables a.flat) t r u (label_there m c s (tables a.flat) t r is h) in
         record {
           went = record {
             run = (t, r) ∷ [];
@@ -128,7 +128,7 @@ turn_steps s a b g c t k l below flat is h took w = by_turn took.took.turns
             code = w.code ∙ took.took.code;
             threads = w.threads ∙ took.took.threads;
             objects = w.objects ∙ took.took.objects;
-            logs = λ u less. took.took.logs u less ∙ ap (λ z. marks_at a.logs u ++ z) (told u);
+            logs = λ u less. took.took.logs u less ∙ ap (λ z. labels_at a.logs u ++ z) (told u);
             answers = λ u less. took.took.answers u less ∙ ap (λ z. answers_at a.answers u ++ answers_in z) (told u);
             fewer =
                 let n : ℕ = length a.flat.threads in
@@ -161,7 +161,7 @@ went_nothing s a c h = record {
   code = refl;
   threads = refl;
   objects = refl;
-  logs = λ u l. sym (append-nil (marks_at a.logs u));
+  logs = λ u l. sym (append-nil (labels_at a.logs u));
   answers = λ u l. sym (append-nil (answers_at a.answers u));
   fewer = omega arith;
 }
@@ -187,7 +187,7 @@ went_both order more s a b e c d f p q =
       threads = q.threads ∙ p.threads;
       objects = q.objects ∙ p.objects;
       logs = λ u l. q.logs u (omega (arith, l, p.threads)) ∙ ap (λ z. z ++ log (machine b.flat) (reached p) q.run u) (p.logs u l)
-          ∙ append_assoc (marks_at a.logs u) (log (machine a.flat) s p.run u) (log (machine b.flat) (reached p) q.run u) ∙ ap (λ z. marks_at a.logs u ++ z) (sym (logs_of u));
+          ∙ append_assoc (labels_at a.logs u) (log (machine a.flat) s p.run u) (log (machine b.flat) (reached p) q.run u) ∙ ap (λ z. labels_at a.logs u ++ z) (sym (logs_of u));
       answers = λ u l. q.answers u (omega (arith, l, p.threads)) ∙ ap (λ z. z ++ answers_in (log (machine b.flat) (reached p) q.run u)) (p.answers u l)
           ∙ append_assoc (answers_at a.answers u) (answers_in (log (machine a.flat) s p.run u)) (answers_in (log (machine b.flat) (reached p) q.run u))
           ∙ ap (λ z. answers_at a.answers u ++ z) (sym (answers_append (log (machine a.flat) s p.run u) (log (machine b.flat) (reached p) q.run u)) ∙ ap answers_in (sym (logs_of u)));

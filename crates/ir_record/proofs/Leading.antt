@@ -3,10 +3,10 @@ use Rattle.std.proofs.Common.{◌≡◌, ◌≢◌, ℕ, zero, suc, ◌<◌, Lis
 use Rattle.std.proofs.Math.Path.{fun_ext}
 use Rattle.std.proofs.lemmas.Bool.{cases_eq}
 use Rattle.ir_runs.specs.Machine.{Machine, Private, act_of, upd}
-use Rattle.ir_runs.specs.Marks.{Quiet}
+use Rattle.ir_runs.specs.Labels.{Quiet}
 use Rattle.ir_runs.specs.Object.{Object, target, Admits, acted, reply, told}
 use Rattle.ir_runs.proofs.CallerLemmas.{upd_same, upd_other, upd_id}
-use Rattle.ir_runs.specs.Run.{State, Can, after, mark, end}
+use Rattle.ir_runs.specs.Run.{State, Can, after, label, end}
 use Rattle.ir_record.specs.Ahead.{alone, lead, IsAhead}
 use Rattle.ir_runs.specs.InOrder.{HasNone}
 
@@ -15,7 +15,7 @@ use Rattle.ir_runs.specs.InOrder.{HasNone}
 pub can_alone : {T : Type 0} (m : Machine T) (s : State T) (t : ℕ) → m.ask (s.now t) ≡ Private → Can m s (t, 0)
 can_alone m s t is = subst (λ q. Admits m (act_of q 0) (s.objects (target (act_of q 0)))) (sym is) tt
 
-pub quiet_alone : {T : Type 0} (m : Machine T) (s : State T) (t : ℕ) → m.ask (s.now t) ≡ Private → mark m s (t, 0) ≡ Quiet
+pub quiet_alone : {T : Type 0} (m : Machine T) (s : State T) (t : ℕ) → m.ask (s.now t) ≡ Private → label m s (t, 0) ≡ Quiet
 quiet_alone m s t is = ap (λ q. told (act_of q 0) (s.objects (target (act_of q 0)))) is
 
 own_alone : {T : Type 0} (m : Machine T) (s : State T) (t : ℕ) → m.ask (s.now t) ≡ Private → (after m s (t, 0)).now t ≡ m.take (s.now t) 0
@@ -65,8 +65,8 @@ can_there m ahead s later t r is h can = subst (λ x. CanSo m x s.objects r) (no
 pub none_there : {T : Type 0} (m : Machine T) (ahead : List ℕ) (s later : State T) (t : ℕ) → lead ahead t ≡ 0 → IsAhead m ahead s later → HasNone m later t → HasNone m s t
 none_there m ahead s later t is h none r can = none r (subst (λ x. CanSo m x later.objects r) (sym (now_there m ahead s later t is h)) (subst (λ objects. CanSo m (s.now t) objects r) (sym h.objects) can))
 
-pub mark_there : {T : Type 0} (m : Machine T) (ahead : List ℕ) (s later : State T) (t r : ℕ) → lead ahead t ≡ 0 → IsAhead m ahead s later → mark m later (t, r) ≡ mark m s (t, r)
-mark_there m ahead s later t r is h =
+pub label_there : {T : Type 0} (m : Machine T) (ahead : List ℕ) (s later : State T) (t r : ℕ) → lead ahead t ≡ 0 → IsAhead m ahead s later → label m later (t, r) ≡ label m s (t, r)
+label_there m ahead s later t r is h =
     ap (λ x. told (act_of (m.ask x) r) (later.objects (target (act_of (m.ask x) r)))) (now_there m ahead s later t is h)
     ∙ ap (λ objects. told (act_of (m.ask (s.now t)) r) (objects (target (act_of (m.ask (s.now t)) r)))) h.objects
 

@@ -14,10 +14,10 @@ use Rattle.ir_flat.specs.Flat.{Flat, thread_of, tables, machine}
 use Rattle.ir_runs.specs.Run.{after}
 use Rattle.ir_flat.proofs.CallerLemmas.{added, events_added, moved_thread, now_after}
 use Rattle.ir_log.specs.Logged.{Logged}
-use Rattle.ir_log.specs.Logging.{mark_of}
+use Rattle.ir_log.specs.Logging.{label_of}
 use Rattle.ir_log.specs.declared.event.Event.{Event}
 use Rattle.ir_trace.specs.Recorded.{IsEvent, IsResult}
-use Rattle.ir_record.specs.Progress.{IsTape, no_log, log_at, marks_at}
+use Rattle.ir_record.specs.Progress.{IsTape, no_log, log_at, labels_at}
 
 -- a step that there is, is taken
 pub stepped : {X E : Type 0} (result : Result X E) (P Q : Type 0) → P → OnErr result (P → ⊥) → OnOk result Q → Q
@@ -80,13 +80,13 @@ pub map_append : {A B : Type 0} (f : A → B) (xs : List A) (x : A) → map f (x
 map_append f [] x = refl
 map_append f (y ∷ xs) x = ap (λ z. f y ∷ z) (map_append f xs x)
 
--- the marks in a log with an event more
-pub marks_pushed : (logs : List Logged) (t : ℕ) (e : Event) (new : Logged) → t < length logs → new ≡ record (log_at logs t) { events = (log_at logs t).events ++ e ∷ [] } → marks_at (set logs t new) t ≡ marks_at logs t ++ mark_of e ∷ []
-marks_pushed logs t e new l is =
-    ap (λ z. map mark_of z.events) (get_or-set_same logs t new no_log l ∙ is) ∙ map_append mark_of (log_at logs t).events e
+-- the labels in a log with an event more
+pub labels_pushed : (logs : List Logged) (t : ℕ) (e : Event) (new : Logged) → t < length logs → new ≡ record (log_at logs t) { events = (log_at logs t).events ++ e ∷ [] } → labels_at (set logs t new) t ≡ labels_at logs t ++ label_of e ∷ []
+labels_pushed logs t e new l is =
+    ap (λ z. map label_of z.events) (get_or-set_same logs t new no_log l ∙ is) ∙ map_append label_of (log_at logs t).events e
 
-pub marks_other : (logs : List Logged) (t u : ℕ) (new : Logged) → u ≢ t → marks_at (set logs t new) u ≡ marks_at logs u
-marks_other logs t u new ne = ap (λ z. map mark_of z.events) (get_or-set_other logs t u new no_log ne)
+pub labels_other : (logs : List Logged) (t u : ℕ) (new : Logged) → u ≢ t → labels_at (set logs t new) u ≡ labels_at logs u
+labels_other logs t u new ne = ap (λ z. map label_of z.events) (get_or-set_other logs t u new no_log ne)
 
 -- a result of the environment is one that a log may hold
 pub result_fits : (kind : EnvKind) (value : ℕ) → is_result kind value ≡ true → IsResult kind value

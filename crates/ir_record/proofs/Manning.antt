@@ -82,10 +82,10 @@ pairs_by P [] (y ∷ ys) e h = absurd (omega (arith, e))
 pairs_by P (x ∷ xs) [] e h = absurd (omega (arith, e))
 pairs_by P (x ∷ xs) (y ∷ ys) e h = (h 0 x (omega arith), pairs_by P xs ys (omega (arith, e)) (λ i d l. h (suc i) d (omega (arith, l))))
 
-take_front : {A : Type 0} (xs ys : List A) → take (length xs) (xs ++ ys) ≡ xs
-take_front [] ys = refl
-take_front (x ∷ xs) ys = ap (λ z. x ∷ z) (take_front xs ys)
+take_prefix : {A : Type 0} (xs ys : List A) → take (length xs) (xs ++ ys) ≡ xs
+take_prefix [] ys = refl
+take_prefix (x ∷ xs) ys = ap (λ z. x ∷ z) (take_prefix xs ys)
 
 -- what is left in a list of which a part was changed in place
 pub changed_all : {A : Type 0} (new old : List A) (n : ℕ) → n ≡ length old → length new ≡ length old → take n (new ++ drop (length new) old) ≡ new
-changed_all new old n e f = ap (λ k. take k (new ++ drop (length new) old)) (e ∙ sym f) ∙ take_front new (drop (length new) old)
+changed_all new old n e f = ap (λ k. take k (new ++ drop (length new) old)) (e ∙ sym f) ∙ take_prefix new (drop (length new) old)

@@ -10,7 +10,7 @@ use Rattle.ir_runs.specs.Run.{State, Step, after, IsRun, end}
 use Rattle.ir_log.specs.Logged.{Logged}
 use Rattle.ir_trace.specs.Recorded.{IsEvent}
 use Rattle.ir_runs.specs.InOrder.{InTurn}
-use Rattle.ir_record.specs.Progress.{Took, IsTape, log_at, marks_at, answers_at, all_left}
+use Rattle.ir_record.specs.Progress.{Took, IsTape, log_at, labels_at, answers_at, all_left}
 use Rattle.ir_record.specs.Worlds.{Answered, answers_in}
 use Rattle.ir_flat.proofs.CallerLemmas.{tally}
 use Rattle.ir_record.proofs.Tally.{Few, alone_less}
@@ -35,7 +35,7 @@ run_took f g logs t k flat l w answers = record {
   code = w.code;
   threads = w.threads;
   objects = w.objects;
-  logs = λ u below. sym (append-nil (marks_at logs u)) ∙ ap (λ z. marks_at logs u ++ z) (sym (w.quiet u));
+  logs = λ u below. sym (append-nil (labels_at logs u)) ∙ ap (λ z. labels_at logs u ++ z) (sym (w.quiet u));
   answers = λ u below. sym (append-nil (answers_at answers u)) ∙ ap (λ z. answers_at answers u ++ answers_in z) (sym (w.quiet u));
   fewer =
       let step : Step = (t, 0) in

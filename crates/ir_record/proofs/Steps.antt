@@ -2,22 +2,22 @@
 use Rattle.std.proofs.Common.{◌≡◌, ◌≢◌, ℕ, zero, suc, ◌+◌, ◌<◌, ◌≤◌, true, false, List, [], ◌∷◌, ◌++◌, length, refl, sym, ap, ◌∙◌, subst, arith, inl, inr, eq-eqb, ne_eqb, append-nil, append_assoc, length-append}
 use Rattle.std.proofs.lemmas.Bool.{cases_eq}
 use Rattle.ir_thread.specs.Instance.{thread_machine}
-use Rattle.ir_runs.specs.Marks.{Mark, Quiet, Answer, In, Out, Refused, logged}
+use Rattle.ir_runs.specs.Labels.{Label, Quiet, Answer, In, Out, Refused, logged}
 use Rattle.ir_flat.specs.Flat.{Flat, thread_of, tables, machine}
-use Rattle.ir_runs.specs.Run.{Step, Can, after, mark, end, join_if, events, log}
+use Rattle.ir_runs.specs.Run.{Step, Can, after, label, end, join_if, events, log}
 use Rattle.ir_runs.proofs.CallerLemmas.{log_append, end_append, turns_append}
 use Rattle.ir_runs.specs.InOrder.{HasNone, InTurn}
-use Rattle.ir_record.specs.Progress.{Progress, Took, TookIf, all_left, marks_at, answers_at}
+use Rattle.ir_record.specs.Progress.{Progress, Took, TookIf, all_left, labels_at, answers_at}
 use Rattle.ir_record.specs.Worlds.{answers_in}
 use Rattle.ir_record.proofs.Tally.{Few, step_less}
 
 -- ---- what a step logs
 
-pub log_own : (f : Flat) (t r : ℕ) → log (machine f) (tables f) ((t, r) ∷ []) t ≡ logged (mark (machine f) (tables f) (t, r)) []
-log_own f t r = ap (λ b. events (join_if b (thread_of f t, mark (machine f) (tables f) (t, r)) [])) (eq-eqb t t refl)
+pub log_own : (f : Flat) (t r : ℕ) → log (machine f) (tables f) ((t, r) ∷ []) t ≡ logged (label (machine f) (tables f) (t, r)) []
+log_own f t r = ap (λ b. events (join_if b (thread_of f t, label (machine f) (tables f) (t, r)) [])) (eq-eqb t t refl)
 
 pub log_other : (f : Flat) (t r u : ℕ) → u ≢ t → log (machine f) (tables f) ((t, r) ∷ []) u ≡ []
-log_other f t r u ne = ap (λ b. events (join_if b (thread_of f u, mark (machine f) (tables f) (t, r)) [])) (ne_eqb u t ne)
+log_other f t r u ne = ap (λ b. events (join_if b (thread_of f u, label (machine f) (tables f) (t, r)) [])) (ne_eqb u t ne)
 
 -- ---- turns that were taken
 
@@ -31,7 +31,7 @@ took_none t a b none same = subst (TookIf false (t ∷ []) a) (sym same) (record
     code = refl;
     threads = refl;
     objects = refl;
-    logs = λ u l. sym (append-nil (marks_at a.logs u));
+    logs = λ u l. sym (append-nil (labels_at a.logs u));
     answers = λ u l. sym (append-nil (answers_at a.answers u));
     fewer = omega arith;
   };
@@ -40,7 +40,7 @@ took_none t a b none same = subst (TookIf false (t ∷ []) a) (sym same) (record
 })
 
 -- a step of thread t that tells k
-pub record OneStep (t r : ℕ) (k : Mark) (a b : Progress) : Type 0 where
+pub record OneStep (t r : ℕ) (k : Label) (a b : Progress) : Type 0 where
   pub below : t < length a.flat.threads
   pub few : Few (tables a.flat)
   pub can : Can (machine a.flat) (tables a.flat) (t, r)
@@ -48,13 +48,13 @@ pub record OneStep (t r : ℕ) (k : Mark) (a b : Progress) : Type 0 where
   pub code : b.flat.code ≡ a.flat.code
   pub threads : length b.flat.threads ≡ length a.flat.threads
   pub objects : length b.flat.objects ≡ length a.flat.objects
-  pub tells : mark (machine a.flat) (tables a.flat) (t, r) ≡ k
-  pub own_log : marks_at b.logs t ≡ marks_at a.logs t ++ logged k []
+  pub tells : label (machine a.flat) (tables a.flat) (t, r) ≡ k
+  pub own_log : labels_at b.logs t ≡ labels_at a.logs t ++ logged k []
   pub own_answers : answers_at b.answers t ≡ answers_at a.answers t ++ answers_in (logged k [])
-  pub other_logs : (u : ℕ) → u ≢ t → marks_at b.logs u ≡ marks_at a.logs u
+  pub other_logs : (u : ℕ) → u ≢ t → labels_at b.logs u ≡ labels_at a.logs u
   pub other_answers : (u : ℕ) → u ≢ t → answers_at b.answers u ≡ answers_at a.answers u
 
-unfoldable pub took_step : (t r : ℕ) (k : Mark) (a b : Progress) → OneStep t r k a b → Took (t ∷ []) a b
+unfoldable pub took_step : (t r : ℕ) (k : Label) (a b : Progress) → OneStep t r k a b → Took (t ∷ []) a b
 took_step t r k a b s = record {
   run = (t, r) ∷ [];
   turns = inr (r, [], refl, s.can, refl);
@@ -63,9 +63,9 @@ took_step t r k a b s = record {
   threads = s.threads;
   objects = s.objects;
   logs = λ u l. elim (cases_eq u t) [
-    | inl e ↦ subst (λ z. marks_at b.logs z ≡ marks_at a.logs z ++ log (machine a.flat) (tables a.flat) ((t, r) ∷ []) z) (sym e)
-        (s.own_log ∙ ap (λ z. marks_at a.logs t ++ z) (sym (log_own a.flat t r ∙ ap (λ z. logged z []) s.tells)))
-    | inr ne ↦ s.other_logs u ne ∙ sym (append-nil (marks_at a.logs u)) ∙ ap (λ z. marks_at a.logs u ++ z) (sym (log_other a.flat t r u ne))
+    | inl e ↦ subst (λ z. labels_at b.logs z ≡ labels_at a.logs z ++ log (machine a.flat) (tables a.flat) ((t, r) ∷ []) z) (sym e)
+        (s.own_log ∙ ap (λ z. labels_at a.logs t ++ z) (sym (log_own a.flat t r ∙ ap (λ z. logged z []) s.tells)))
+    | inr ne ↦ s.other_logs u ne ∙ sym (append-nil (labels_at a.logs u)) ∙ ap (λ z. labels_at a.logs u ++ z) (sym (log_other a.flat t r u ne))
   ];
   answers = λ u l. elim (cases_eq u t) [
     | inl e ↦ subst (λ z. answers_at b.answers z ≡ answers_at a.answers z ++ answers_in (log (machine a.flat) (tables a.flat) ((t, r) ∷ []) z)) (sym e)
@@ -75,18 +75,18 @@ took_step t r k a b s = record {
   fewer = subst (λ z. all_left (length a.flat.threads) z.now + 1 ≤ all_left (length a.flat.threads) (thread_of a.flat)) (sym s.taken) (step_less a.flat.code (length a.flat.threads) (tables a.flat) (t, r) s.few s.below s.can);
 }
 
-pub took_one : (t r : ℕ) (k : Mark) (a b : Progress) → OneStep t r k a b → TookIf true (t ∷ []) a b
+pub took_one : (t r : ℕ) (k : Label) (a b : Progress) → OneStep t r k a b → TookIf true (t ∷ []) a b
 unfolding took_step
 took_one t r k a b s = record { took = took_step t r k a b s; some = λ e. (let one : 0 < suc zero = omega arith in one); none = λ e. absurd cc }
 
-answers_logged : (k : Mark) (ys : List Mark) → answers_in (logged k ys) ≡ answers_in (logged k []) ++ answers_in ys
+answers_logged : (k : Label) (ys : List Label) → answers_in (logged k ys) ≡ answers_in (logged k []) ++ answers_in ys
 answers_logged Quiet ys = refl
 answers_logged (Answer i v) ys = refl
 answers_logged (In o a v l) ys = refl
 answers_logged (Refused o) ys = refl
 answers_logged (Out o a v) ys = refl
 
-pub answers_append : (xs ys : List Mark) → answers_in (xs ++ ys) ≡ answers_in xs ++ answers_in ys
+pub answers_append : (xs ys : List Label) → answers_in (xs ++ ys) ≡ answers_in xs ++ answers_in ys
 answers_append [] ys = refl
 answers_append (Quiet ∷ xs) ys = answers_append xs ys
 answers_append (Answer i v ∷ xs) ys = ap (λ z. (i, v) ∷ z) (answers_append xs ys)
@@ -104,7 +104,7 @@ took_nothing a = record {
   code = refl;
   threads = refl;
   objects = refl;
-  logs = λ u l. sym (append-nil (marks_at a.logs u));
+  logs = λ u l. sym (append-nil (labels_at a.logs u));
   answers = λ u l. sym (append-nil (answers_at a.answers u));
   fewer = omega arith;
 }
@@ -127,7 +127,7 @@ took_both order more a b c p q =
       threads = q.threads ∙ p.threads;
       objects = q.objects ∙ p.objects;
       logs = λ t l. q.logs t (omega (arith, l, p.threads)) ∙ ap (λ z. z ++ log (machine b.flat) (tables b.flat) q.run t) (p.logs t l)
-          ∙ append_assoc (marks_at a.logs t) (log (machine a.flat) (tables a.flat) p.run t) (log (machine b.flat) (tables b.flat) q.run t) ∙ ap (λ z. marks_at a.logs t ++ z) (sym (logs_of t));
+          ∙ append_assoc (labels_at a.logs t) (log (machine a.flat) (tables a.flat) p.run t) (log (machine b.flat) (tables b.flat) q.run t) ∙ ap (λ z. labels_at a.logs t ++ z) (sym (logs_of t));
       answers = λ t l. q.answers t (omega (arith, l, p.threads)) ∙ ap (λ z. z ++ answers_in (log (machine b.flat) (tables b.flat) q.run t)) (p.answers t l)
           ∙ append_assoc (answers_at a.answers t) (answers_in (log (machine a.flat) (tables a.flat) p.run t)) (answers_in (log (machine b.flat) (tables b.flat) q.run t))
           ∙ ap (λ z. answers_at a.answers t ++ z) (sym (answers_append (log (machine a.flat) (tables a.flat) p.run t) (log (machine b.flat) (tables b.flat) q.run t)) ∙ ap answers_in (sym (logs_of t)));

@@ -11,7 +11,7 @@ use Rattle.ir_flat.specs.Flat.{start_flat, tables}
 use Rattle.ir_runs.specs.Run.{Step, IsRun, IsDone, end, log, count}
 use Rattle.ir_flat.proofs.CallerLemmas.{tally, no_steps}
 use Rattle.ir_log.specs.Logged.{Logged}
-use Rattle.ir_log.specs.Logging.{mark_of}
+use Rattle.ir_log.specs.Logging.{label_of}
 use Rattle.ir_trace.specs.Recorded.{Recorded, RecordedThread}
 use Rattle.ir_trace.specs.Told.{absent}
 use Rattle.ir_record.specs.Gathered.{IsThreadTrace}
@@ -23,7 +23,7 @@ use Rattle.ir_record.specs.Worlds.{Answered, answers_in}
 pub record StandAtEnd (guest : Guest) (budget : ℕ) (run : List Step) (before : List (List Answered)) (now : ℕ → thread.State) (logs : ℕ → Logged) (answers : ℕ → List Answered) : Type 0 where
   pub runs : IsRun (thread_machine guest.code) (tables (start_flat guest budget)) run
   pub threads : (t : ℕ) → t < length guest.entries → now t ≡ (end (thread_machine guest.code) (tables (start_flat guest budget)) run).now t
-  pub logged : (t : ℕ) → t < length guest.entries → map mark_of (logs t).events ≡ log (thread_machine guest.code) (tables (start_flat guest budget)) run t
+  pub logged : (t : ℕ) → t < length guest.entries → map label_of (logs t).events ≡ log (thread_machine guest.code) (tables (start_flat guest budget)) run t
   pub answered : (t : ℕ) → t < length guest.entries → answers t ≡ answers_at before t ++ answers_in (log (thread_machine guest.code) (tables (start_flat guest budget)) run t)
 
 -- the end that is told of a recorded thread
@@ -43,7 +43,7 @@ module _ (guest : Guest) (budget : ℕ) (run : List Step) (before : List (List A
       steps = λ t l. sym ((each t l).steps ∙ ap (λ x. x.steps) (s.threads t l) ∙ (tally guest.code (tables (start_flat guest budget)) run s.runs t).steps
         ∙ ap (λ k. k + count (thread_machine guest.code) (tables (start_flat guest budget)) run t) (no_steps guest budget 0 (length guest.entries) t)
         ∙ (let e : 0 + count (thread_machine guest.code) (tables (start_flat guest budget)) run t ≡ count (thread_machine guest.code) (tables (start_flat guest budget)) run t = omega arith in e));
-      logs = λ t l. sym (ap (map mark_of) (each t l).events ∙ s.logged t l);
+      logs = λ t l. sym (ap (map label_of) (each t l).events ∙ s.logged t l);
       ends = λ t l. sym (ends_by (get_or trace.threads t absent) (now t).ended (each t l).end ∙ ap (thread_machine guest.code).ended (s.threads t l));
     };
   }

@@ -9,7 +9,7 @@ use Rattle.ir_thread.specs.Held.{held_at}
 use Rattle.ir_thread.specs.Instance.{shared_ask, reply_of, is_result, thread_machine}
 use Rattle.ir_runs.specs.Machine as machine
 use Rattle.ir_runs.specs.Machine.{Act, act_of, Silent, Result, Entry, Refusal, Exit, Load, Store, Never, Machine, IsLawful, held_after}
-use Rattle.ir_runs.specs.Marks.{Mark, Quiet, Answer, In, Out, logged}
+use Rattle.ir_runs.specs.Labels.{Label, Quiet, Answer, In, Out, logged}
 use Rattle.ir_thread.specs.Private.{PrivateSteps}
 use Rattle.ir_thread.specs.State as thread
 use Rattle.ir_runs.specs.declared.access.Access.{Access}
@@ -21,7 +21,7 @@ use Rattle.ir_thread.specs.declared.ask.Reply.TheVariants.{Go, Value}
 use Rattle.ir_thread.proofs.CallerLemmas.{ask_permits, lawful}
 use Rattle.ir_object.specs.Order.{is_shared, Shared, keep_if, inside_if, inside_after}
 use Rattle.ir_object.proofs.CallerLemmas.{inside_more}
-use Rattle.ir_flat.specs.Splice.{MayReply, alone_mark}
+use Rattle.ir_flat.specs.Splice.{MayReply, alone_label}
 use Rattle.ir_flat.proofs.CallerLemmas.{added, events_added, held_length}
 use Rattle.ir_log.specs.Logged.{Logged}
 use Rattle.ir_log.specs.Logging as logging
@@ -29,7 +29,7 @@ use Rattle.ir_log.specs.declared.event.Event.{Event}
 use Rattle.ir_log.specs.declared.event.Event.TheVariants as event
 use Rattle.ir_trace.specs.Recorded.{IsEvent}
 use Rattle.ir_crew.specs.Plays.{M, IsAlone, history, did, inside_by}
-use Rattle.ir_crew.specs.Rule.{shared_by, shared_of, mark_of, one_if_entry, entries}
+use Rattle.ir_crew.specs.Rule.{shared_by, shared_of, label_of, one_if_entry, entries}
 use Rattle.ir_crew.specs.declared.deed.Deed.{Deed}
 use Rattle.ir_crew.specs.declared.deed.Deed.TheVariants.{Enter, Leave, Get, Put}
 use Rattle.ir_crew.specs.declared.deed.ObjectStep.{ObjectStep}
@@ -44,12 +44,12 @@ map_join : {A B : Type 0} (f : A → B) (xs ys : List A) → map f (xs ++ ys) �
 map_join f [] ys = refl
 map_join f (x ∷ xs) ys = ap (λ z. f x ∷ z) (map_join f xs ys)
 
-answers_join : (xs ys : List Mark) → answers_in (xs ++ ys) ≡ answers_in xs ++ answers_in ys
+answers_join : (xs ys : List Label) → answers_in (xs ++ ys) ≡ answers_in xs ++ answers_in ys
 answers_join [] ys = refl
 answers_join (Quiet ∷ xs) ys = answers_join xs ys
 answers_join (Answer k v ∷ xs) ys = ap (λ z. (k, v) ∷ z) (answers_join xs ys)
 answers_join (In o a v l ∷ xs) ys = answers_join xs ys
-answers_join (Rattle.ir_runs.specs.Marks.Refused o ∷ xs) ys = answers_join xs ys
+answers_join (Rattle.ir_runs.specs.Labels.Refused o ∷ xs) ys = answers_join xs ys
 answers_join (Out o a v ∷ xs) ys = answers_join xs ys
 
 all_join : {X : Type 0} (P : X → Type 0) (xs ys : List X) → AllByRecursion P xs → AllByRecursion P ys → AllByRecursion P (xs ++ ys)
@@ -85,11 +85,11 @@ pub record IsStep (g : Guest) (t : ℕ) (w w' : Work) (q : Ask) (v : ℕ) (es : 
   pub may : MayReply (thread_machine g.code) (act_of (shared_ask q) v) v
   pub took : w'.thread ≡ after_reply g.code w.thread (reply_of q v)
   pub shares : map shared_of es ≡ keep_if (is_shared (act_of (shared_ask q) v)) (act_of (shared_ask q) v, v) []
-  pub logs : map logging.mark_of evs ≡ logged (alone_mark (act_of (shared_ask q) v) (map mark_of es)) []
+  pub logs : map logging.label_of evs ≡ logged (alone_label (act_of (shared_ask q) v) (map label_of es)) []
   pub events : length evs ≡ added q
   pub fit : AllByRecursion (IsEvent (object_count g)) evs
   pub log : w'.log ≡ record w.log { events = w.log.events ++ evs }
-  pub answers : w'.answers ≡ w.answers ++ answers_in (map logging.mark_of evs)
+  pub answers : w'.answers ≡ w.answers ++ answers_in (map logging.label_of evs)
 
 pub works_on : (g : Guest) (budget t : ℕ) (before : List Answered) (w w' : Work) (q : Ask) (v : ℕ) (es : List ObjectStep) (evs : List Event) → (i : IsWorking g budget t before w) → IsStep g t w w' q v es evs
     → w'.me ≡ (track t (i.track ++ es) ∷ [], []) → IsWorking g budget t before w'
@@ -100,11 +100,11 @@ works_on g budget t before w w' q v es evs i s view =
     let is : act_of (m.ask w.thread) v ≡ a = ap (λ z. act_of (shared_ask z) v) s.asked in
     let next : m.take w.thread v ≡ w'.thread = ap (λ z. after_reply g.code w.thread (reply_of z v)) s.asked ∙ sym s.took in
     let after : w'.thread ≡ after_ask g.code w.thread q (reply_of q v) = s.took ∙ ap (λ z. after_ask g.code w.thread z (reply_of q v)) s.asked in
-    let even : length (map mark_of i.track) ≡ length (map shared_of i.track) = length-map i.track mark_of ∙ sym (length-map i.track shared_of) in
+    let even : length (map label_of i.track) ≡ length (map shared_of i.track) = length-map i.track label_of ∙ sym (length-map i.track shared_of) in
     let steps : map shared_of (i.track ++ es) ≡ map shared_of i.track ++ keep_if (is_shared a) (a, v) [] = map_join shared_of i.track es ∙ ap (λ z. map shared_of i.track ++ z) s.shares in
-    let more = worked_more m (thread.start_state g t budget) w.thread (map shared_of i.track) (map mark_of i.track) (map logging.mark_of w.log.events) v (map mark_of es) i.worked even (subst (λ z. MayReply m z v) (sym is) s.may) in
+    let more = worked_more m (thread.start_state g t budget) w.thread (map shared_of i.track) (map label_of i.track) (map logging.label_of w.log.events) v (map label_of es) i.worked even (subst (λ z. MayReply m z v) (sym is) s.may) in
     let events : w'.log.events ≡ w.log.events ++ evs = ap (λ z. z.events) s.log in
-    let marks : map logging.mark_of w'.log.events ≡ map logging.mark_of w.log.events ++ map logging.mark_of evs = ap (map logging.mark_of) events ∙ map_join logging.mark_of w.log.events evs in
+    let labels : map logging.label_of w'.log.events ≡ map logging.label_of w.log.events ++ map logging.label_of evs = ap (map logging.label_of) events ∙ map_join logging.label_of w.log.events evs in
     let sum : w'.thread.events ≡ w.thread.events + added q = ap (λ z. z.events) after ∙ events_added g.code w.thread q (reply_of q v) in
     record {
       track = i.track ++ es;
@@ -114,8 +114,8 @@ works_on g budget t before w w' q v es evs i s view =
         may = more.may;
         now = more.now ∙ next;
         steps_are = more.steps_are ∙ ap (λ z. map shared_of i.track ++ keep_if (is_shared z) (z, v) []) is ∙ sym steps;
-        logged = ap (λ z. Rattle.ir_runs.specs.Run.events (Rattle.ir_flat.specs.Splice.alone_trail m (thread.start_state g t budget) more.replies z)) (map_join mark_of i.track es)
-            ∙ more.logged ∙ ap (λ z. map logging.mark_of w.log.events ++ logged (alone_mark z (map mark_of es)) []) is ∙ ap (λ z. map logging.mark_of w.log.events ++ z) (sym s.logs) ∙ sym marks;
+        logged = ap (λ z. Rattle.ir_runs.specs.Run.events (Rattle.ir_flat.specs.Splice.alone_trail m (thread.start_state g t budget) more.replies z)) (map_join label_of i.track es)
+            ∙ more.logged ∙ ap (λ z. map logging.label_of w.log.events ++ logged (alone_label z (map label_of es)) []) is ∙ ap (λ z. map logging.label_of w.log.events ++ z) (sym s.logs) ∙ sym labels;
       };
       held = λ o. ap (inside_after o None) steps ∙ inside_keep a v o (held_at w.thread.held) (map shared_of i.track) (is_shared a) refl (i.held o)
           ∙ ap (λ z. held_after z (held_at w.thread.held) o) (sym is) ∙ sym ((lawful g.code).takes w.thread v o) ∙ ap (λ z. held_at z.held o) next;
@@ -133,8 +133,8 @@ works_on g budget t before w w' q v es evs i s view =
           let new = s.events in
           omega (arith, long, was, new, sum);
       events_fit = subst (AllByRecursion (IsEvent (object_count g))) (sym events) (all_join (IsEvent (object_count g)) w.log.events evs i.events_fit s.fit);
-      answered = s.answers ∙ ap (λ z. z ++ answers_in (map logging.mark_of evs)) i.answered ∙ append_assoc before (answers_in (map logging.mark_of w.log.events)) (answers_in (map logging.mark_of evs))
-          ∙ ap (λ z. before ++ z) (sym (answers_join (map logging.mark_of w.log.events) (map logging.mark_of evs)) ∙ ap answers_in (sym marks));
+      answered = s.answers ∙ ap (λ z. z ++ answers_in (map logging.label_of evs)) i.answered ∙ append_assoc before (answers_in (map logging.label_of w.log.events)) (answers_in (map logging.label_of evs))
+          ∙ ap (λ z. before ++ z) (sym (answers_join (map logging.label_of w.log.events) (map logging.label_of evs)) ∙ ap answers_in (sym labels));
     }
 
 -- ---- the kinds of steps

@@ -1,12 +1,12 @@
 -- A thread alone, with one step more.
 use Rattle.std.proofs.Common.{◌≡◌, ℕ, Bool, true, false, cond, eqb, List, [], ◌∷◌, ◌++◌, length, Option, Some, None, refl, sym, ap, ◌∙◌, subst, arith}
 use Rattle.ir_runs.specs.Machine.{Act, act_of, Silent, Result, Entry, Refusal, Exit, Load, Store, Never, Machine, upd, held_after}
-use Rattle.ir_runs.specs.Marks.{Mark, logged}
+use Rattle.ir_runs.specs.Labels.{Label, logged}
 use Rattle.ir_runs.specs.declared.access.Access.{Access}
 use Rattle.ir_runs.specs.Object.{target}
 use Rattle.ir_object.specs.Order.{is_shared, Shared, keep_if, inside_then, inside_if}
 use Rattle.ir_runs.specs.Run.{events}
-use Rattle.ir_flat.specs.Splice.{MayReply, MayRun, alone_after, shared_steps, alone_mark, marks_left, alone_trail}
+use Rattle.ir_flat.specs.Splice.{MayReply, MayRun, alone_after, shared_steps, alone_label, labels_left, alone_trail}
 use Rattle.ir_runs.proofs.CallerLemmas.{events_append}
 use Rattle.ir_record.specs.Working.{Worked}
 
@@ -28,47 +28,47 @@ shared_more m x [] v = refl
 shared_more m x (u ∷ vs) v = ap (keep_if (is_shared (act_of (m.ask x) u)) (act_of (m.ask x) u, u)) (shared_more m (m.take x u) vs v)
     ∙ keep_append (is_shared (act_of (m.ask x) u)) (act_of (m.ask x) u, u) (shared_steps m (m.take x u) vs) _
 
-own_mark : (q : Act) (ks ls : List Mark) → is_shared q ≡ false → alone_mark q ks ≡ alone_mark q ls
-own_mark Silent ks ls e = refl
-own_mark (Result k v) ks ls e = refl
-own_mark (Entry o a v) ks ls e = absurd (cc e)
-own_mark (Refusal o) ks ls e = refl
-own_mark (Exit o a) ks ls e = absurd (cc e)
-own_mark (Load o i) ks ls e = absurd (cc e)
-own_mark (Store o i w) ks ls e = absurd (cc e)
-own_mark Never ks ls e = refl
+own_label : (q : Act) (ks ls : List Label) → is_shared q ≡ false → alone_label q ks ≡ alone_label q ls
+own_label Silent ks ls e = refl
+own_label (Result k v) ks ls e = refl
+own_label (Entry o a v) ks ls e = absurd (cc e)
+own_label (Refusal o) ks ls e = refl
+own_label (Exit o a) ks ls e = absurd (cc e)
+own_label (Load o i) ks ls e = absurd (cc e)
+own_label (Store o i w) ks ls e = absurd (cc e)
+own_label Never ks ls e = refl
 
-first_mark : (q : Act) (k : Mark) (ks ls : List Mark) → alone_mark q (k ∷ ks) ≡ alone_mark q (k ∷ ls)
-first_mark Silent k ks ls = refl
-first_mark (Result i v) k ks ls = refl
-first_mark (Entry o a v) k ks ls = refl
-first_mark (Refusal o) k ks ls = refl
-first_mark (Exit o a) k ks ls = refl
-first_mark (Load o i) k ks ls = refl
-first_mark (Store o i w) k ks ls = refl
-first_mark Never k ks ls = refl
+first_label : (q : Act) (k : Label) (ks ls : List Label) → alone_label q (k ∷ ks) ≡ alone_label q (k ∷ ls)
+first_label Silent k ks ls = refl
+first_label (Result i v) k ks ls = refl
+first_label (Entry o a v) k ks ls = refl
+first_label (Refusal o) k ks ls = refl
+first_label (Exit o a) k ks ls = refl
+first_label (Load o i) k ks ls = refl
+first_label (Store o i w) k ks ls = refl
+first_label Never k ks ls = refl
 
 -- what the trail of more replies says
-abbrev TrailMore : {T : Type 0} → Machine T → T → List ℕ → ℕ → List Mark → List Mark → Type 0
-TrailMore m x vs v ks ls = alone_trail m x (vs ++ v ∷ []) (ks ++ ls) ≡ alone_trail m x vs ks ++ (alone_after m x vs, alone_mark (act_of (m.ask (alone_after m x vs)) v) ls) ∷ []
+abbrev TrailMore : {T : Type 0} → Machine T → T → List ℕ → ℕ → List Label → List Label → Type 0
+TrailMore m x vs v ks ls = alone_trail m x (vs ++ v ∷ []) (ks ++ ls) ≡ alone_trail m x vs ks ++ (alone_after m x vs, alone_label (act_of (m.ask (alone_after m x vs)) v) ls) ∷ []
 
-trail_step : {T : Type 0} (m : Machine T) (x : T) (u : ℕ) (vs : List ℕ) (v : ℕ) (ls : List Mark) → ((ks : List Mark) → length ks ≡ length (shared_steps m (m.take x u) vs) → TrailMore m (m.take x u) vs v ks ls) → (b : Bool) → is_shared (act_of (m.ask x) u) ≡ b
-    → (ks : List Mark) → length ks ≡ length (keep_if b (act_of (m.ask x) u, u) (shared_steps m (m.take x u) vs)) → TrailMore m x (u ∷ vs) v ks ls
+trail_step : {T : Type 0} (m : Machine T) (x : T) (u : ℕ) (vs : List ℕ) (v : ℕ) (ls : List Label) → ((ks : List Label) → length ks ≡ length (shared_steps m (m.take x u) vs) → TrailMore m (m.take x u) vs v ks ls) → (b : Bool) → is_shared (act_of (m.ask x) u) ≡ b
+    → (ks : List Label) → length ks ≡ length (keep_if b (act_of (m.ask x) u, u) (shared_steps m (m.take x u) vs)) → TrailMore m x (u ∷ vs) v ks ls
 trail_step m x u vs v ls rest false is ks n =
     let q = act_of (m.ask x) u in
-    ap (λ z. (x, z) ∷ alone_trail m (m.take x u) (vs ++ v ∷ []) (marks_left (is_shared q) (ks ++ ls))) (own_mark q (ks ++ ls) ks is)
-    ∙ ap (λ b. (x, alone_mark q ks) ∷ alone_trail m (m.take x u) (vs ++ v ∷ []) (marks_left b (ks ++ ls))) is
-    ∙ ap (λ z. (x, alone_mark q ks) ∷ z) (rest ks n)
-    ∙ sym (ap (λ b. ((x, alone_mark q ks) ∷ alone_trail m (m.take x u) vs (marks_left b ks)) ++ (alone_after m (m.take x u) vs, alone_mark (act_of (m.ask (alone_after m (m.take x u) vs)) v) ls) ∷ []) is)
+    ap (λ z. (x, z) ∷ alone_trail m (m.take x u) (vs ++ v ∷ []) (labels_left (is_shared q) (ks ++ ls))) (own_label q (ks ++ ls) ks is)
+    ∙ ap (λ b. (x, alone_label q ks) ∷ alone_trail m (m.take x u) (vs ++ v ∷ []) (labels_left b (ks ++ ls))) is
+    ∙ ap (λ z. (x, alone_label q ks) ∷ z) (rest ks n)
+    ∙ sym (ap (λ b. ((x, alone_label q ks) ∷ alone_trail m (m.take x u) vs (labels_left b ks)) ++ (alone_after m (m.take x u) vs, alone_label (act_of (m.ask (alone_after m (m.take x u) vs)) v) ls) ∷ []) is)
 trail_step m x u vs v ls rest true is [] n = absurd (omega (arith, n))
 trail_step m x u vs v ls rest true is (k ∷ ks) n =
     let q = act_of (m.ask x) u in
-    ap (λ z. (x, z) ∷ alone_trail m (m.take x u) (vs ++ v ∷ []) (marks_left (is_shared q) (k ∷ ks ++ ls))) (first_mark q k (ks ++ ls) ks)
-    ∙ ap (λ b. (x, alone_mark q (k ∷ ks)) ∷ alone_trail m (m.take x u) (vs ++ v ∷ []) (marks_left b (k ∷ ks ++ ls))) is
-    ∙ ap (λ z. (x, alone_mark q (k ∷ ks)) ∷ z) (rest ks (omega (arith, n)))
-    ∙ sym (ap (λ b. ((x, alone_mark q (k ∷ ks)) ∷ alone_trail m (m.take x u) vs (marks_left b (k ∷ ks))) ++ (alone_after m (m.take x u) vs, alone_mark (act_of (m.ask (alone_after m (m.take x u) vs)) v) ls) ∷ []) is)
+    ap (λ z. (x, z) ∷ alone_trail m (m.take x u) (vs ++ v ∷ []) (labels_left (is_shared q) (k ∷ ks ++ ls))) (first_label q k (ks ++ ls) ks)
+    ∙ ap (λ b. (x, alone_label q (k ∷ ks)) ∷ alone_trail m (m.take x u) (vs ++ v ∷ []) (labels_left b (k ∷ ks ++ ls))) is
+    ∙ ap (λ z. (x, alone_label q (k ∷ ks)) ∷ z) (rest ks (omega (arith, n)))
+    ∙ sym (ap (λ b. ((x, alone_label q (k ∷ ks)) ∷ alone_trail m (m.take x u) vs (labels_left b (k ∷ ks))) ++ (alone_after m (m.take x u) vs, alone_label (act_of (m.ask (alone_after m (m.take x u) vs)) v) ls) ∷ []) is)
 
-trail_more : {T : Type 0} (m : Machine T) (x : T) (vs : List ℕ) (v : ℕ) (ks ls : List Mark) → length ks ≡ length (shared_steps m x vs) → TrailMore m x vs v ks ls
+trail_more : {T : Type 0} (m : Machine T) (x : T) (vs : List ℕ) (v : ℕ) (ks ls : List Label) → length ks ≡ length (shared_steps m x vs) → TrailMore m x vs v ks ls
 trail_more m x [] v [] ls e = refl
 trail_more m x [] v (k ∷ ks) ls e = absurd (omega (arith, e))
 trail_more m x (u ∷ vs) v ks ls e = trail_step m x u vs v ls (λ is n. trail_more m (m.take x u) vs v is ls n) (is_shared (act_of (m.ask x) u)) refl ks e
@@ -77,16 +77,16 @@ pub worked_starts : {T : Type 0} (m : Machine T) (x : T) → Worked m x x [] [] 
 worked_starts m x = record { replies = []; may = tt; now = refl; steps_are = refl; logged = refl }
 
 -- one step more: its object step, if it is one, with what it told, and what is logged of it
-pub worked_more : {T : Type 0} (m : Machine T) (x y : T) (steps : List Shared) (marks log : List Mark) (v : ℕ) (ls : List Mark) → Worked m x y steps marks log → length marks ≡ length steps → MayReply m (act_of (m.ask y) v) v
-    → Worked m x (m.take y v) (steps ++ keep_if (is_shared (act_of (m.ask y) v)) (act_of (m.ask y) v, v) []) (marks ++ ls) (log ++ logged (alone_mark (act_of (m.ask y) v) ls) [])
-worked_more m x y steps marks log v ls w n may = record {
+pub worked_more : {T : Type 0} (m : Machine T) (x y : T) (steps : List Shared) (labels log : List Label) (v : ℕ) (ls : List Label) → Worked m x y steps labels log → length labels ≡ length steps → MayReply m (act_of (m.ask y) v) v
+    → Worked m x (m.take y v) (steps ++ keep_if (is_shared (act_of (m.ask y) v)) (act_of (m.ask y) v, v) []) (labels ++ ls) (log ++ logged (alone_label (act_of (m.ask y) v) ls) [])
+worked_more m x y steps labels log v ls w n may = record {
   replies = w.replies ++ v ∷ [];
   may = may_more m x w.replies v w.may (subst (λ z. MayReply m (act_of (m.ask z) v) v) (sym w.now) may);
   now = after_more m x w.replies v ∙ ap (λ z. m.take z v) w.now;
   steps_are = shared_more m x w.replies v ∙ (λ i. w.steps_are i ++ keep_if (is_shared (act_of (m.ask (w.now i)) v)) (act_of (m.ask (w.now i)) v, v) []);
-  logged = ap events (trail_more m x w.replies v marks ls (n ∙ ap (λ z. length z) (sym w.steps_are)))
-      ∙ events_append (alone_trail m x w.replies marks) ((alone_after m x w.replies, alone_mark (act_of (m.ask (alone_after m x w.replies)) v) ls) ∷ [])
-      ∙ (λ i. w.logged i ++ logged (alone_mark (act_of (m.ask (w.now i)) v) ls) []);
+  logged = ap events (trail_more m x w.replies v labels ls (n ∙ ap (λ z. length z) (sym w.steps_are)))
+      ∙ events_append (alone_trail m x w.replies labels) ((alone_after m x w.replies, alone_label (act_of (m.ask (alone_after m x w.replies)) v) ls) ∷ [])
+      ∙ (λ i. w.logged i ++ logged (alone_label (act_of (m.ask (w.now i)) v) ls) []);
 }
 
 -- ---- what a thread holds is what it is inside of

@@ -6,7 +6,7 @@ use Rattle.ir_thread.specs.State as thread
 use Rattle.ir_flat.specs.Flat.{tables, machine}
 use Rattle.ir_runs.specs.Run.{State, Step, end, log}
 use Rattle.ir_runs.specs.InOrder.{HasNone, InTurn}
-use Rattle.ir_record.specs.Progress.{Progress, all_left, marks_at, answers_at}
+use Rattle.ir_record.specs.Progress.{Progress, all_left, labels_at, answers_at}
 use Rattle.ir_record.specs.Worlds.{answers_in}
 
 -- a thread after so many steps by itself
@@ -48,7 +48,7 @@ pub record Went (order : List ℕ) (s : State thread.State) (a : Progress) (old 
   pub threads : length b.flat.threads ≡ length a.flat.threads
   pub objects : length b.flat.objects ≡ length a.flat.objects
   -- what its steps log is added to each thread's log, and the answers among it to those of the thread's world
-  pub logs : (t : ℕ) → t < length a.flat.threads → marks_at b.logs t ≡ marks_at a.logs t ++ log (machine a.flat) s run t
+  pub logs : (t : ℕ) → t < length a.flat.threads → labels_at b.logs t ≡ labels_at a.logs t ++ log (machine a.flat) s run t
   pub answers : (t : ℕ) → t < length a.flat.threads → answers_at b.answers t ≡ answers_at a.answers t ++ answers_in (log (machine a.flat) s run t)
   pub fewer : all_left (length a.flat.threads) (tables b.flat).now + all_ahead new + length run ≤ all_left (length a.flat.threads) (tables a.flat).now + all_ahead old
 

@@ -3,7 +3,7 @@ use Rattle.std.specs.Prelude.{◌≡◌, ◌<◌, ◌≤◌, ◌+◌, ◌-◌, �
 use Rattle.std.specs.List.{slice_index_or, AllByRecursion}
 use Rattle.ir_thread.specs.Calls.{most_events}
 use Rattle.ir_thread.specs.Held.{held_count}
-use Rattle.ir_runs.specs.Marks.{Mark}
+use Rattle.ir_runs.specs.Labels.{Label}
 use Rattle.ir_thread.specs.State as thread
 use Rattle.ir_thread.specs.declared.end.End.{End}
 use Rattle.ir_thread.specs.declared.ask.Ask as ask
@@ -11,7 +11,7 @@ use Rattle.ir_thread.specs.declared.ask.Ask.TheVariants as asks
 use Rattle.ir_flat.specs.Flat.{Flat, thread_of, tables, machine}
 use Rattle.ir_runs.specs.Run.{Step, end, log}
 use Rattle.ir_log.specs.Logged.{Logged}
-use Rattle.ir_log.specs.Logging.{mark_of}
+use Rattle.ir_log.specs.Logging.{label_of}
 use Rattle.ir_trace.specs.Recorded.{IsEvent}
 use Rattle.ir_runs.specs.InOrder.{InTurn}
 use Rattle.ir_record.specs.Worlds.{Answered, answers_in, NoneFailed}
@@ -35,9 +35,9 @@ no_log = record { events = []; room = 0 }
 abbrev pub log_at : List Logged → ℕ → Logged
 log_at logs t = slice_index_or logs t no_log
 
--- what thread t has logged, as marks of its steps
-abbrev pub marks_at : List Logged → ℕ → List Mark
-marks_at logs t = map mark_of (log_at logs t).events
+-- what thread t has logged, as labels of its steps
+abbrev pub labels_at : List Logged → ℕ → List Label
+labels_at logs t = map label_of (log_at logs t).events
 
 -- what the world of thread t has answered
 abbrev pub answers_at : List (List Answered) → ℕ → List Answered
@@ -62,7 +62,7 @@ pub record Took (order : List ℕ) (a b : Progress) : Type 0 where
   pub threads : length b.flat.threads ≡ length a.flat.threads
   pub objects : length b.flat.objects ≡ length a.flat.objects
   -- what its steps log is added to each thread's log, and the answers among it to those of the thread's world
-  pub logs : (t : ℕ) → t < length a.flat.threads → marks_at b.logs t ≡ marks_at a.logs t ++ log (machine a.flat) (tables a.flat) run t
+  pub logs : (t : ℕ) → t < length a.flat.threads → labels_at b.logs t ≡ labels_at a.logs t ++ log (machine a.flat) (tables a.flat) run t
   pub answers : (t : ℕ) → t < length a.flat.threads → answers_at b.answers t ≡ answers_at a.answers t ++ answers_in (log (machine a.flat) (tables a.flat) run t)
   pub fewer : all_left (length a.flat.threads) (tables b.flat).now + length run ≤ all_left (length a.flat.threads) (tables a.flat).now
 

@@ -7,7 +7,7 @@ use Rattle.ir_thread.specs.Calls.{ask_of, most_events}
 use Rattle.ir_thread.specs.Held.{held_at}
 use Rattle.ir_thread.specs.Instance.{thread_machine}
 use Rattle.ir_runs.specs.Machine.{Machine}
-use Rattle.ir_runs.specs.Marks.{Mark}
+use Rattle.ir_runs.specs.Labels.{Label}
 use Rattle.ir_thread.specs.State as thread
 use Rattle.ir_thread.specs.declared.ask.Ask.{Ask}
 use Rattle.ir_thread.specs.declared.ask.Ask.TheVariants as ask
@@ -20,18 +20,18 @@ use Rattle.ir_crew.specs.declared.table.Crew.{Crew}
 use Rattle.ir_runs.specs.Run.{events}
 use Rattle.ir_flat.specs.Splice.{MayRun, alone_after, shared_steps, alone_trail}
 use Rattle.ir_log.specs.Logged.{Logged}
-use Rattle.ir_log.specs.Logging.{mark_of}
+use Rattle.ir_log.specs.Logging.{label_of}
 use Rattle.ir_trace.specs.Recorded.{IsEvent}
 use Rattle.ir_record.specs.Worlds.{Answered, answers_in}
 use Rattle.ir_record.specs.declared.worker.Worker.{Worker}
 
 -- x alone, after some replies, is y; these are its object steps with what they told, and this is logged of its steps
-pub record Worked {T : Type 0} (m : Machine T) (x y : T) (steps : List Shared) (marks log : List Mark) : Type 0 where
+pub record Worked {T : Type 0} (m : Machine T) (x y : T) (steps : List Shared) (labels log : List Label) : Type 0 where
   pub replies : List ℕ
   pub may : MayRun m x replies
   pub now : alone_after m x replies ≡ y
   pub steps_are : shared_steps m x replies ≡ steps
-  pub logged : events (alone_trail m x replies marks) ≡ log
+  pub logged : events (alone_trail m x replies labels) ≡ log
 
 -- a worker apart from where it lies: its seat's view, its thread, its log, and what its world has answered
 pub record Work : Type 0 where
@@ -49,7 +49,7 @@ pub record IsWorking (g : Guest) (budget t : ℕ) (before : List Answered) (w : 
   pub track : List ObjectStep
   pub view : w.me ≡ (record { thread = t; steps = track } ∷ [], [])
   -- its thread has taken its own steps from the start; these are its object steps, and its log
-  pub worked : Worked (thread_machine g.code) (thread.start_state g t budget) w.thread (map shared_of track) (map rule.mark_of track) (map mark_of w.log.events)
+  pub worked : Worked (thread_machine g.code) (thread.start_state g t budget) w.thread (map shared_of track) (map rule.label_of track) (map label_of w.log.events)
   -- it is inside what it holds
   pub held : (o : ℕ) → inside_by o track ≡ held_at w.thread.held o
   pub places : length w.thread.held ≡ object_count g
@@ -57,7 +57,7 @@ pub record IsWorking (g : Guest) (budget t : ℕ) (before : List Answered) (w : 
   pub room : w.log.room ≡ most_events
   pub count : length w.log.events ≡ w.thread.events
   pub events_fit : AllByRecursion (IsEvent (object_count g)) w.log.events
-  pub answered : w.answers ≡ before ++ answers_in (map mark_of w.log.events)
+  pub answered : w.answers ≡ before ++ answers_in (map label_of w.log.events)
 
 -- the worker of some thread
 abbrev pub IsWorker : Guest → Work → Type 0

@@ -1,7 +1,7 @@
 -- What the world outside has answered.
 use Rattle.std.specs.Prelude.{◌≡◌, ◌<◌, ℕ, List, [], ◌∷◌, ◌++◌, length, Bool, true, false}
 use Rattle.std.specs.List.{slice_index_or}
-use Rattle.ir_runs.specs.Marks.{Mark, Answer}
+use Rattle.ir_runs.specs.Labels.{Label, Answer}
 use Rattle.ir_runs.specs.declared.env_kind.EnvKind.{EnvKind}
 
 -- a call of the environment, and what it was answered
@@ -9,7 +9,7 @@ abbrev pub Answered : Type 0
 Answered = EnvKind × ℕ
 
 -- the calls of the environment in a log, with their answers
-abbrev pub answers_in : List Mark → List Answered
+abbrev pub answers_in : List Label → List Answered
 answers_in [] = []
 answers_in (Answer kind value ∷ log) = (kind, value) ∷ answers_in log
 answers_in (event ∷ log) = answers_in log

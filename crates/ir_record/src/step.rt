@@ -7,7 +7,7 @@ ghost use Rattle.ir_thread.specs.Calls.{ask_of, Permits};
 ghost use Rattle.ir_thread.specs.Instance.{is_result};
 ghost use Rattle.ir_thread.specs.declared.ask.Ask.TheVariants.{Env, Enter};
 ghost use Rattle.ir_flat.specs.Flat.{tables};
-ghost use Rattle.ir_log.specs.Logging.{mark_of};
+ghost use Rattle.ir_log.specs.Logging.{label_of};
 ghost use Rattle.ir_runs.specs.Object.{told};
 ghost use Rattle.ir_runs.specs.Machine as act;
 ghost use Rattle.ir_trace.specs.Recorded.{IsEvent};
@@ -48,7 +48,7 @@ impl Tape<'_> {
     // What is logged of an entry to the object now.
     fn entry(&self, object: u8, access: Access) -> Event
         requires { object < length self.now.flat.objects }
-        ensures told { mark_of result ≡ told (act.Entry object access 0) ((tables self.now.flat).objects object) }
+        ensures told { label_of result ≡ told (act.Entry object access 0) ((tables self.now.flat).objects object) }
         ensures fits { IsEvent (length self.now.flat.objects) result }
     {
         let fields = self.flat.objects()[object as usize].fields();

@@ -14,7 +14,7 @@ pub struct Turns {
     pub count: u64,
 }
 
-// How many entries at the front of the order are this one.
+// How many entries at the prefix of the order are this one.
 fn repeats(order: &[u8], entry: u8) -> usize
     ensures within { result ≤ length order.now }
     ensures same { take result order.now ≡ replicate result entry }

@@ -12,7 +12,7 @@ pub use Rattle.ir_runs.proofs.Same.{now_other, alike}
 -- the part of a run in a cut is a run
 pub use Rattle.ir_runs.proofs.Sort.{Sorted, sort}
 -- runs that follow a trace
-pub use Rattle.ir_runs.proofs.Follow.{fits_front, own_fits}
+pub use Rattle.ir_runs.proofs.Follow.{fits_prefix, own_fits}
 -- sums over threads
 pub use Rattle.ir_runs.proofs.Tally.{sum_le, sum_less}
 -- laws of cuts, and of runs with one trace
@@ -39,7 +39,7 @@ pub use Rattle.ir_runs.proofs.Exist.{least_exists}
 pub use Rattle.ir_runs.proofs.Highest.{greatest_exists}
 -- who may step at a cut
 pub use Rattle.ir_runs.proofs.Admit.{admitted}
--- cuts of a front of a run
-pub use Rattle.ir_runs.proofs.Fronts.{IsFront, front_at}
+-- cuts of a prefix of a run
+pub use Rattle.ir_runs.proofs.Prefixes.{IsPrefix, prefix_at}
 -- runs by an order of the threads
 pub use Rattle.ir_runs.proofs.Turns.{turns_run, turns_append}

@@ -2,8 +2,8 @@
 use Rattle.std.proofs.Common.{◌≡◌, ◌≢◌, ℕ, suc, zero, min, ◌+◌, ◌≤◌, Bool, true, false, cond, eqb, List, [], ◌∷◌, ◌++◌, length, take, drop, refl, sym, ap, ◌∙◌, subst, arith, inl, inr, eq-eqb, ne_eqb, le_refl, length-append, length-take, take-append-drop}
 use Rattle.std.proofs.lemmas.Bool.{cases_eq}
 use Rattle.ir_runs.specs.Machine.{Machine, IsLawful}
-use Rattle.ir_runs.specs.Marks.{Mark}
-use Rattle.ir_runs.specs.Run.{State, Step, Can, after, mark, IsRun, end, join_if, trail, count, events, th, thread_in, IsStart}
+use Rattle.ir_runs.specs.Labels.{Label}
+use Rattle.ir_runs.specs.Run.{State, Step, Can, after, label, IsRun, end, join_if, trail, count, events, th, thread_in, IsStart}
 use Rattle.ir_runs.proofs.Good.{Good}
 use Rattle.ir_runs.proofs.Append.{events_append}
 use Rattle.ir_runs.proofs.Same.{Goes, goes, Alike, alike, now_other, no_steps}
@@ -15,32 +15,32 @@ use Rattle.ir_runs.specs.Cuts.{AtCut, At, Tells, Cut, IsCut, Consistent, part, f
 pub trails_cut : {T : Type 0} (m : Machine T) (s : State T) (run run' : List Step) → ((u : ℕ) → trail m s run u ≡ trail m s run' u) → (p : Cut) → Consistent m s run p → Consistent m s run' p
 trails_cut m s run run' same p c = λ t k u j a b h g n l. c t k u j a b (h.0, subst (λ z. At z k (h.0, a)) (sym (same t)) h.1) (g.0, subst (λ z. At z j (g.0, b)) (sym (same u)) g.1) n l
 
--- what the first steps log is a front of the log
+-- what the first steps log is a prefix of the log
 -- a part of the run, and then the rest
-pub part_goes : {T : Type 0} (m : Machine T) → IsLawful m → (s : State T) → Good m s → (front run : List Step) → IsRun m s front → IsRun m s run → (n : ℕ → ℕ) → ((t : ℕ) → trail m s front t ≡ take (n t) (trail m s run t)) → Goes m s front run
-part_goes m law s good front run ok ok' n same = goes m law s good front run ok ok' (λ t. events (drop (n t) (trail m s run t)))
+pub part_goes : {T : Type 0} (m : Machine T) → IsLawful m → (s : State T) → Good m s → (prefix run : List Step) → IsRun m s prefix → IsRun m s run → (n : ℕ → ℕ) → ((t : ℕ) → trail m s prefix t ≡ take (n t) (trail m s run t)) → Goes m s prefix run
+part_goes m law s good prefix run ok ok' n same = goes m law s good prefix run ok ok' (λ t. events (drop (n t) (trail m s run t)))
     (λ t. ap (λ z. events z ++ events (drop (n t) (trail m s run t))) (same t) ∙ sym (events_append (take (n t) (trail m s run t)) (drop (n t) (trail m s run t))) ∙ ap events (take-append-drop (n t) (trail m s run t)))
     (λ t. omega (arith, ap length (same t), length-take (n t) (trail m s run t)))
 
 first_thread : {T : Type 0} (m : Machine T) (s : State T) (run : List Step) (t : ℕ) → thread_in (trail m s run t) 0 ((end m s run).now t) ≡ s.now t
 first_thread m s [] t = refl
 first_thread m s (e ∷ run) t = elim (cases_eq t e.0) [
-  | inl same ↦ subst (λ b. thread_in (join_if b (s.now t, mark m s e) (trail m (after m s e) run t)) 0 ((end m (after m s e) run).now t) ≡ s.now t) (sym (eq-eqb t e.0 same)) refl
-  | inr other ↦ subst (λ b. thread_in (join_if b (s.now t, mark m s e) (trail m (after m s e) run t)) 0 ((end m (after m s e) run).now t) ≡ s.now t) (sym (ne_eqb t e.0 other)) (first_thread m (after m s e) run t ∙ now_other m s e t other)
+  | inl same ↦ subst (λ b. thread_in (join_if b (s.now t, label m s e) (trail m (after m s e) run t)) 0 ((end m (after m s e) run).now t) ≡ s.now t) (sym (eq-eqb t e.0 same)) refl
+  | inr other ↦ subst (λ b. thread_in (join_if b (s.now t, label m s e) (trail m (after m s e) run t)) 0 ((end m (after m s e) run).now t) ≡ s.now t) (sym (ne_eqb t e.0 other)) (first_thread m (after m s e) run t ∙ now_other m s e t other)
 ]
 
-thread_append : {T : Type 0} (xs ys : List (T × Mark)) (k : ℕ) (last : T) → length xs ≡ k → thread_in (xs ++ ys) k last ≡ thread_in ys 0 last
+thread_append : {T : Type 0} (xs ys : List (T × Label)) (k : ℕ) (last : T) → length xs ≡ k → thread_in (xs ++ ys) k last ≡ thread_in ys 0 last
 thread_append [] ys zero last h = refl
 thread_append [] ys (suc k) last h = absurd (omega arith)
 thread_append (x ∷ xs) ys zero last h = absurd (omega arith)
 thread_append (x ∷ xs) ys (suc k) last h = thread_append xs ys k last (omega arith)
 
 -- the thread at a cut
-thread_at : {T : Type 0} (m : Machine T) (s : State T) (front run : List Step) → Goes m s front run → (t k : ℕ) → count m s front t ≡ k → (end m s front).now t ≡ th m s run t k
-thread_at m s front run g t k h =
-    sym (first_thread m (end m s front) g.rest t)
-    ∙ sym (thread_append (trail m s front t) (trail m (end m s front) g.rest t) k ((end m (end m s front) g.rest).now t) h)
-    ∙ ap (λ z. thread_in z k ((end m (end m s front) g.rest).now t)) (g.same_trail t)
+thread_at : {T : Type 0} (m : Machine T) (s : State T) (prefix run : List Step) → Goes m s prefix run → (t k : ℕ) → count m s prefix t ≡ k → (end m s prefix).now t ≡ th m s run t k
+thread_at m s prefix run g t k h =
+    sym (first_thread m (end m s prefix) g.rest t)
+    ∙ sym (thread_append (trail m s prefix t) (trail m (end m s prefix) g.rest t) k ((end m (end m s prefix) g.rest).now t) h)
+    ∙ ap (λ z. thread_in z k ((end m (end m s prefix) g.rest).now t)) (g.same_trail t)
     ∙ ap (λ z. thread_in (trail m s run t) k (z.now t)) g.same_end
 
 -- a run of one step
@@ -48,10 +48,10 @@ pub record Single {T : Type 0} (m : Machine T) (s : State T) (run : List Step) (
   pub result : ℕ
   pub can : Can m s (t, result)
   pub same_end : after m s (t, result) ≡ end m s run
-  pub tells : At (trail m s run t) 0 (s.now t, mark m s (t, result))
+  pub tells : At (trail m s run t) 0 (s.now t, label m s (t, result))
 
 pub count_head : {T : Type 0} (m : Machine T) (s : State T) (e : Step) (run : List Step) (u : ℕ) → count m s (e ∷ run) u ≡ cond (eqb u e.0) (suc (count m (after m s e) run u)) (count m (after m s e) run u)
-count_head m s e run u = lengthen (eqb u e.0) (s.now u, mark m s e) (trail m (after m s e) run u)
+count_head m s e run u = lengthen (eqb u e.0) (s.now u, label m s e) (trail m (after m s e) run u)
   where
     lengthen : {A : Type 0} (b : Bool) (x : A) (xs : List A) → length (join_if b x xs) ≡ cond b (suc (length xs)) (length xs)
     lengthen true x xs = refl
@@ -70,7 +70,7 @@ single m s (e ∷ run) ok t one none = elim (cases_eq e.0 t) [
         result = e.1;
         can = ok.0;
         same_end = ap (end m (after m s e)) (sym empty);
-        tells = subst (λ b. At (join_if b (s.now e.0, mark m s e) (trail m (after m s e) run e.0)) 0 (s.now e.0, mark m s e)) (sym (eq-eqb e.0 e.0 refl)) refl;
+        tells = subst (λ b. At (join_if b (s.now e.0, label m s e) (trail m (after m s e) run e.0)) 0 (s.now e.0, label m s e)) (sym (eq-eqb e.0 e.0 refl)) refl;
       })
 ]
   where
@@ -125,7 +125,7 @@ at_cut m law s good run ok p cut c =
       steps = λ t ad. one_step t ad z;
     }
   where
-    one_step : (t : ℕ) → Admitted m s run p t → Sorted m s run p → (r : ℕ) × Can m (end m s (part run p)) (t, r) × (after m (end m s (part run p)) (t, r) ≡ end m s (part run (further p t))) × Tells m s run t (p t) (mark m (end m s (part run p)) (t, r))
+    one_step : (t : ℕ) → Admitted m s run p t → Sorted m s run p → (r : ℕ) × Can m (end m s (part run p)) (t, r) × (after m (end m s (part run p)) (t, r) ≡ end m s (part run (further p t))) × Tells m s run t (p t) (label m (end m s (part run p)) (t, r))
     one_step t ad z =
         let q : Cut = further p t in
         let y : Sorted m s run q = sort m law s good run ok q ad.1 in
@@ -137,8 +137,8 @@ at_cut m law s good run ok p cut c =
           k.same_end ∙ g.same_end,
           (
             (end m s (part run p)).now t,
-            subst (λ i. At (trail m s run t) i ((end m s (part run p)).now t, mark m (end m s (part run p)) (t, k.result))) (add_zero (p t))
-                (at_of_take (q t) (trail m s run t) (p t + 0) _ (subst (λ w. At w (p t + 0) ((end m s (part run p)).now t, mark m (end m s (part run p)) (t, k.result))) (g.same_trail t ∙ y.same_trail t)
+            subst (λ i. At (trail m s run t) i ((end m s (part run p)).now t, label m (end m s (part run p)) (t, k.result))) (add_zero (p t))
+                (at_of_take (q t) (trail m s run t) (p t + 0) _ (subst (λ w. At w (p t + 0) ((end m s (part run p)).now t, label m (end m s (part run p)) (t, k.result))) (g.same_trail t ∙ y.same_trail t)
                 (at_more (trail m s (part run p) t) (trail m (end m s (part run p)) g.rest t) 0 (p t) _ (omega (arith, ap length (z.same_trail t), length-take (p t) (trail m s run t), cut t)) k.tells))),
           ),
         )

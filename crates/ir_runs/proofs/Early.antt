@@ -3,12 +3,12 @@
 use Rattle.std.proofs.Common.{◌≡◌, ◌≢◌, ℕ, suc, zero, ◌<◌, Bool, true, false, cond, eqb, List, [], ◌∷◌, Some, None, refl, sym, ap, ◌∙◌, subst, arith, inl, inr, ◌⊎◌, eq-eqb}
 use Rattle.std.proofs.lemmas.Bool.{cases_eq, eqb-true}
 use Rattle.ir_runs.specs.Machine.{Act, Silent, Result, Entry, Refusal, Exit, Load, Store, Never, Machine, IsLawful}
-use Rattle.ir_runs.specs.Marks.{Mark, Out}
+use Rattle.ir_runs.specs.Labels.{Label, Out}
 use Rattle.ir_runs.specs.declared.access.Access.{Access}
 use Rattle.ir_runs.specs.declared.access.Access.TheVariants.{Reading, Writing}
 use Rattle.ir_runs.specs.Object.{Object, target, told}
 use Rattle.ir_runs.proofs.Tables.{upd_same}
-use Rattle.ir_runs.specs.Run.{act, State, Step, Can, after, mark, IsRun, join_if, trail}
+use Rattle.ir_runs.specs.Run.{act, State, Step, Can, after, label, IsRun, join_if, trail}
 use Rattle.ir_runs.proofs.Good.{Inside, Good, stays_good, inside_now}
 use Rattle.ir_runs.proofs.Pull.{objects_after}
 use Rattle.ir_runs.proofs.Ratchet.{Taken, taken, Writes, Writes_kept, Least, Least_kept}
@@ -65,7 +65,7 @@ past m law s good e can run ok u j x p o a w ans is h n =
     omega (arith, k.kept, k.version)
 
 -- nothing that a step needs comes after it
-pub no_later : {T : Type 0} (m : Machine T) → IsLawful m → (s : State T) → Good m s → (e : Step) → Can m s e → (run : List Step) → IsRun m (after m s e) run → (u j : ℕ) (x : T) (b : Mark) (q : Act) → act m s e ≡ q
+pub no_later : {T : Type 0} (m : Machine T) → IsLawful m → (s : State T) → Good m s → (e : Step) → Can m s e → (run : List Step) → IsRun m (after m s e) run → (u j : ℕ) (x : T) (b : Label) (q : Act) → act m s e ≡ q
     → At (trail m (after m s e) run u) j (x, b) → Needs b (told q (s.objects (target q))) → ⊥
 no_later m law s good e can run ok u j x (Out p Writing w) (Entry o Reading ans) is h n = past m law s good e can run ok u j x p o Reading w ans is h n
 no_later m law s good e can run ok u j x (Out p Writing w) (Entry o Writing ans) is h n = past m law s good e can run ok u j x p o Writing w ans is h n
@@ -80,7 +80,7 @@ no_later m law s good e can run ok u j x (Out p Writing w) _ is h n = absurd n
 no_later m law s good e can run ok u j x _ _ is h n = absurd n
 
 -- where a step of a run stands
-pub record Placed {T : Type 0} (m : Machine T) (s : State T) (e : Step) (run : List Step) (t k : ℕ) (a : Mark) : Type 0 where
+pub record Placed {T : Type 0} (m : Machine T) (s : State T) (e : Step) (run : List Step) (t k : ℕ) (a : Label) : Type 0 where
   pub place : ℕ
   pub is : k ≡ cond (eqb t e.0) (suc place) place
   pub tells : Tells m (after m s e) run t place a
@@ -90,8 +90,8 @@ placed_in true x y xs zero h = inl (refl, refl, h)
 placed_in true x y xs (suc k) h = inr (k, refl, h)
 placed_in false x y xs k h = inr (k, refl, h)
 
-pub placed : {T : Type 0} (m : Machine T) (s : State T) (e : Step) (run : List Step) (t k : ℕ) (a : Mark) → Tells m s (e ∷ run) t k a → ((t ≡ e.0) × (k ≡ 0) × (a ≡ mark m s e)) ⊎ Placed m s e run t k a
-placed m s e run t k a h = elim (placed_in (eqb t e.0) (s.now t, mark m s e) (h.0, a) (trail m (after m s e) run t) k h.1) [
+pub placed : {T : Type 0} (m : Machine T) (s : State T) (e : Step) (run : List Step) (t k : ℕ) (a : Label) → Tells m s (e ∷ run) t k a → ((t ≡ e.0) × (k ≡ 0) × (a ≡ label m s e)) ⊎ Placed m s e run t k a
+placed m s e run t k a h = elim (placed_in (eqb t e.0) (s.now t, label m s e) (h.0, a) (trail m (after m s e) run t) k h.1) [
   | inl p ↦ inl (eqb-true t e.0 p.0, p.1, sym (ap (λ z. z.1) p.2))
   | inr p ↦ inr (record { place = p.0; is = p.1; tells = (h.0, p.2) })
 ]

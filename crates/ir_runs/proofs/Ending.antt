@@ -2,10 +2,10 @@
 use Rattle.std.proofs.Common.{◌≡◌, ◌≢◌, ℕ, suc, List, [], ◌∷◌, ◌++◌, length, Option, Some, None, refl, sym, ap, ◌∙◌, subst, inl, inr, eq-eqb, ne_eqb}
 use Rattle.std.proofs.lemmas.Bool.{cases_eq}
 use Rattle.ir_runs.specs.Machine.{Private, Done, act_of, Machine, IsClosing}
-use Rattle.ir_runs.specs.Marks.{Quiet, Out, logged}
+use Rattle.ir_runs.specs.Labels.{Quiet, Out, logged}
 use Rattle.ir_runs.specs.Object.{target, Admits, reply, told}
 use Rattle.ir_runs.proofs.Tables.{upd_same}
-use Rattle.ir_runs.specs.Run.{act, State, Step, asked, Can, after, mark, IsRun, end, join_if, trail, IsDone, events, trace}
+use Rattle.ir_runs.specs.Run.{act, State, Step, asked, Can, after, label, IsRun, end, join_if, trail, IsDone, events, trace}
 use Rattle.ir_runs.proofs.Follow.{fits_own}
 use Rattle.ir_runs.proofs.Same.{now_other}
 use Rattle.ir_runs.specs.Following.{Ends, Follows, IsMaximal, ends_at, ends_now, Meets, closing}
@@ -14,11 +14,11 @@ pub now_same : {T : Type 0} (m : Machine T) (s : State T) (e : Step) → (after 
 unfolding after
 now_same m s e = upd_same s.now e.0 _
 
-pub trail_same : {T : Type 0} (m : Machine T) (s : State T) (e : Step) (run : List Step) → trail m s (e ∷ run) e.0 ≡ (s.now e.0, mark m s e) ∷ trail m (after m s e) run e.0
-trail_same m s e run = ap (λ b. join_if b (s.now e.0, mark m s e) (trail m (after m s e) run e.0)) (eq-eqb e.0 e.0 refl)
+pub trail_same : {T : Type 0} (m : Machine T) (s : State T) (e : Step) (run : List Step) → trail m s (e ∷ run) e.0 ≡ (s.now e.0, label m s e) ∷ trail m (after m s e) run e.0
+trail_same m s e run = ap (λ b. join_if b (s.now e.0, label m s e) (trail m (after m s e) run e.0)) (eq-eqb e.0 e.0 refl)
 
 pub trail_other : {T : Type 0} (m : Machine T) (s : State T) (e : Step) (run : List Step) (t : ℕ) → t ≢ e.0 → trail m s (e ∷ run) t ≡ trail m (after m s e) run t
-trail_other m s e run t ne = ap (λ b. join_if b (s.now t, mark m s e) (trail m (after m s e) run t)) (ne_eqb t e.0 ne)
+trail_other m s e run t ne = ap (λ b. join_if b (s.now t, label m s e) (trail m (after m s e) run t)) (ne_eqb t e.0 ne)
 
 pub not_done : {T : Type 0} (m : Machine T) (s : State T) (e : Step) → Can m s e → asked m s e.0 ≢ Done
 not_done m s e can p = subst (λ q. Admits m (act_of q e.1) (s.objects (target (act_of q e.1)))) p can
@@ -33,7 +33,7 @@ over_here : {T : Type 0} (m : Machine T) → IsClosing m → (s : State T) (d : 
 over_here m c s d run can e h k =
     let v : ℕ = reply (act m s d) (s.objects (target (act m s d))) in
     let g = c.leaves (s.now d.0) v e h (not_done m s d can) in
-    let told_out : mark m s d ≡ Out g.0 g.1 (s.objects g.0).version = ap (λ q. told (act_of q d.1) (s.objects (target (act_of q d.1)))) g.2 in
+    let told_out : label m s d ≡ Out g.0 g.1 (s.objects g.0).version = ap (λ q. told (act_of q d.1) (s.objects (target (act_of q d.1)))) g.2 in
     record {
       steps = ap length (trail_same m s d run) ∙ ap suc (k.steps ∙ ap m.size (now_same m s d)) ∙ sym g.3;
       silent = ap events (trail_same m s d run) ∙ ap (λ z. logged z (events (trail m (after m s d) run d.0))) told_out ∙ k.silent;
@@ -62,7 +62,7 @@ ends_some (Some x) b e h = absurd (cc h)
 
 -- a thread's end, as a step of a run
 pub record AtEnd {T : Type 0} (m : Machine T) (s : State T) (d : Step) (e : ℕ × ℕ) : Type 0 where
-  pub quiet : mark m s d ≡ Quiet
+  pub quiet : label m s d ≡ Quiet
   pub ended : m.ended ((after m s d).now d.0) ≡ Some e
   pub size : m.size ((after m s d).now d.0) ≡ m.size (s.now d.0)
 
@@ -79,7 +79,7 @@ at_end m c s d e h =
     }
 
 ends_here : {T : Type 0} (m : Machine T) → IsClosing m → (s : State T) (d : Step) (run : List Step) → IsRun m (after m s d) run → IsDone m (end m (after m s d) run) → (fin : Option (ℕ × ℕ)) → fin ≡ m.ended ((end m (after m s d) run).now d.0) → (q : Option (ℕ × ℕ)) → ends_now m (s.now d.0) ≡ q
-    → Meets q fin (m.size (s.now d.0)) (suc (length (trail m (after m s d) run d.0))) (logged (mark m s d) (events (trail m (after m s d) run d.0)))
+    → Meets q fin (m.size (s.now d.0)) (suc (length (trail m (after m s d) run d.0))) (logged (label m s d) (events (trail m (after m s d) run d.0)))
 ends_here m c s d run ok done fin is None h = tt
 ends_here m c s d run ok done fin is (Some e) h =
     let g : AtEnd m s d e = at_end m c s d e h in

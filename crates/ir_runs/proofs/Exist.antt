@@ -2,9 +2,9 @@
 use Rattle.std.proofs.Common.{◌≡◌, ℕ, suc, pred, max, ◌<◌, ◌≤◌, Bool, true, false, cond, eqb, List, [], ◌∷◌, refl, sym, ap, ◌∙◌, subst, arith, inl, inr, ◌⊎◌, eq-eqb, ne_eqb, le_refl}
 use Rattle.std.proofs.lemmas.Bool.{cases_eq, eqb-true, cases_lt}
 use Rattle.ir_runs.specs.Machine.{Machine, IsLawful}
-use Rattle.ir_runs.specs.Marks.{Mark, In, Out}
+use Rattle.ir_runs.specs.Labels.{Label, In, Out}
 use Rattle.ir_runs.specs.declared.access.Access.TheVariants.{Reading, Writing}
-use Rattle.ir_runs.specs.Run.{act, State, Step, after, mark, IsRun, count}
+use Rattle.ir_runs.specs.Run.{act, State, Step, after, label, IsRun, count}
 use Rattle.ir_runs.proofs.Good.{Good, stays_good}
 use Rattle.ir_runs.specs.Extremes.{IsLeast}
 use Rattle.ir_runs.proofs.Determined.{count_head}
@@ -12,7 +12,7 @@ use Rattle.ir_runs.proofs.Early.{placed, no_later}
 use Rattle.ir_runs.proofs.Sort.{later, foremost, consistent_later, lower_up}
 use Rattle.ir_runs.specs.Cuts.{Tells, Needs, Cut, IsCut, Consistent, lower, further}
 
-pub needs_or : (a b : Mark) → Needs a b ⊎ (Needs a b → ⊥)
+pub needs_or : (a b : Label) → Needs a b ⊎ (Needs a b → ⊥)
 needs_or (Out o Writing w) (In p c v l) = elim (cases_eq o p) [ inl e ↦ elim (cases_eq v (suc w)) [ inl d ↦ inl (e, d) | inr ne ↦ inr (λ h. ne h.1) ] | inr ne ↦ inr (λ h. ne h.0) ]
 needs_or (Out o Reading w) (In p Writing v l) = elim (cases_eq o p) [ inl e ↦ elim (cases_eq v w) [ inl d ↦ inl (e, d) | inr ne ↦ inr (λ h. ne h.1) ] | inr ne ↦ inr (λ h. ne h.0) ]
 needs_or (Out o Reading w) _ = inr (λ h. h)
@@ -20,15 +20,15 @@ needs_or (Out o Writing w) _ = inr (λ h. h)
 needs_or _ _ = inr (λ h. h)
 
 -- a step of the cut that needs what k tells
-pub record Wants {T : Type 0} (m : Machine T) (s : State T) (run : List Step) (q : Cut) (k : Mark) : Type 0 where
+pub record Wants {T : Type 0} (m : Machine T) (s : State T) (run : List Step) (q : Cut) (k : Label) : Type 0 where
   pub thread : ℕ
   pub place : ℕ
-  pub told : Mark
+  pub told : Label
   pub tells : Tells m s run thread place told
   pub inside : place < q thread
   pub needs : Needs k told
 
-wants_or : {T : Type 0} (m : Machine T) (s : State T) (run : List Step) (q : Cut) (k : Mark) → Wants m s run q k ⊎ ((t j : ℕ) (a : Mark) → Tells m s run t j a → j < q t → Needs k a → ⊥)
+wants_or : {T : Type 0} (m : Machine T) (s : State T) (run : List Step) (q : Cut) (k : Label) → Wants m s run q k ⊎ ((t j : ℕ) (a : Label) → Tells m s run t j a → j < q t → Needs k a → ⊥)
 wants_or m s [] q k = inr (λ t j a h l n. h.1)
 wants_or m s (e ∷ run) q k = elim (wants_or m (after m s e) run (lower q e.0) k) [
   | inl w ↦ inl (record { thread = w.thread; place = cond (eqb w.thread e.0) (suc w.place) w.place; told = w.told; tells = later m s e run w.thread w.place w.told w.tells; inside = lower_up (eqb w.thread e.0) w.place (q w.thread) w.inside; needs = w.needs })
@@ -37,8 +37,8 @@ wants_or m s (e ∷ run) q k = elim (wants_or m (after m s e) run (lower q e.0) 
       | inl p ↦ absurd (omega (arith, out, l, p.1, ap q p.0))
       | inr p ↦ none t p.place a p.tells (down (eqb t e.0) p.place (q t) (subst (λ z. z < q t) p.is l)) n
     ])
-    | inl inside ↦ elim (needs_or k (mark m s e)) [
-      | inl n ↦ inl (record { thread = e.0; place = 0; told = mark m s e; tells = foremost m s e run; inside = inside; needs = n })
+    | inl inside ↦ elim (needs_or k (label m s e)) [
+      | inl n ↦ inl (record { thread = e.0; place = 0; told = label m s e; tells = foremost m s e run; inside = inside; needs = n })
       | inr free ↦ inr (λ t j a h l n. elim (placed m s e run t j a h) [
         | inl p ↦ free (subst (Needs k) p.2 n)
         | inr p ↦ none t p.place a p.tells (down (eqb t e.0) p.place (q t) (subst (λ z. z < q t) p.is l)) n
@@ -103,7 +103,7 @@ with_first m law s good e run ok b q k must = record {
     fill false x y h f = h
 
 -- without the first step
-without_first : {T : Type 0} (m : Machine T) (s : State T) (e : Step) (run : List Step) (b q : Cut) → Closed m (after m s e) run (lower b e.0) q → b e.0 ≡ 0 → q e.0 ≡ 0 → ((t j : ℕ) (a : Mark) → Tells m (after m s e) run t j a → j < q t → Needs (mark m s e) a → ⊥) → Closed m s (e ∷ run) b q
+without_first : {T : Type 0} (m : Machine T) (s : State T) (e : Step) (run : List Step) (b q : Cut) → Closed m (after m s e) run (lower b e.0) q → b e.0 ≡ 0 → q e.0 ≡ 0 → ((t j : ℕ) (a : Label) → Tells m (after m s e) run t j a → j < q t → Needs (label m s e) a → ⊥) → Closed m s (e ∷ run) b q
 without_first m s e run b q k none zero' free = record {
   cut = λ u. omega (arith, count_head m s e run u, more (eqb u e.0) (count m (after m s e) run u), k.cut u);
   consistent = λ t i u j a d h g n l. elim (placed m s e run t i a h) [
@@ -143,11 +143,11 @@ closed m law s good (e ∷ run) ok b cut =
       | inl h ↦ (further k.0 e.0, with_first m law s good e run ok b k.0 k.1 (λ c con up low. omega (arith, h, up e.0)))
       | inr h ↦ elim (cases_lt 0 (k.0 e.0)) [
         | inl g ↦ (further k.0 e.0, with_first m law s good e run ok b k.0 k.1 (λ c con up low. omega (arith, g, lower_le (eqb e.0 e.0) (k.0 e.0) (c e.0) (low e.0))))
-        | inr g ↦ elim (wants_or m (after m s e) run k.0 (mark m s e)) [
+        | inr g ↦ elim (wants_or m (after m s e) run k.0 (label m s e)) [
           | inl w ↦ (
             further k.0 e.0,
             with_first m law s good e run ok b k.0 k.1 (λ c con up low.
-                con w.thread (cond (eqb w.thread e.0) (suc w.place) w.place) e.0 0 w.told (mark m s e) (later m s e run w.thread w.place w.told w.tells) (foremost m s e run) w.needs
+                con w.thread (cond (eqb w.thread e.0) (suc w.place) w.place) e.0 0 w.told (label m s e) (later m s e run w.thread w.place w.told w.tells) (foremost m s e run) w.needs
                 (lower_up (eqb w.thread e.0) w.place (c w.thread) (omega (arith, w.inside, low w.thread)))),
           )
           | inr free ↦ (k.0, without_first m s e run b k.0 k.1 (omega arith) (omega arith) free)

@@ -1,30 +1,30 @@
 -- A maximal run that follows a run's own trace goes all the way.
 use Rattle.std.proofs.Common.{◌≡◌, ℕ, pred, ◌≤◌, eqb, List, [], ◌∷◌, ◌++◌, length, refl, sym, ap, ◌∙◌, subst, arith, append-nil, append_assoc}
 use Rattle.ir_runs.specs.Machine.{Machine, IsLawful}
-use Rattle.ir_runs.specs.Marks.{Mark, logged}
-use Rattle.ir_runs.specs.Run.{State, Step, after, IsRun, end, trail, events, log, count, mark, trace}
+use Rattle.ir_runs.specs.Labels.{Label, logged}
+use Rattle.ir_runs.specs.Run.{State, Step, after, IsRun, end, trail, events, log, count, label, trace}
 use Rattle.ir_runs.proofs.Good.{Good}
 use Rattle.ir_runs.proofs.Append.{join_append, trail_append, run_append}
 use Rattle.ir_runs.proofs.Same.{Goes, goes}
 use Rattle.ir_runs.specs.Alike.{Reaches}
 use Rattle.ir_runs.specs.Following.{left_log, Ending, Check, Ends, unlogged, Fits, Follows, IsMaximal}
 
-logged_front : (k : Mark) (xs ys zs : List Mark) → xs ++ ys ≡ zs → logged k xs ++ ys ≡ logged k zs
-logged_front Mark.Quiet xs ys zs h = h
-logged_front (Mark.Answer i v) xs ys zs h = ap (λ z. Mark.Answer i v ∷ z) h
-logged_front (Mark.In o a v l) xs ys zs h = ap (λ z. Mark.In o a v l ∷ z) h
-logged_front (Mark.Refused o) xs ys zs h = ap (λ z. Mark.Refused o ∷ z) h
-logged_front (Mark.Out o a v) xs ys zs h = h
+logged_prefix : (k : Label) (xs ys zs : List Label) → xs ++ ys ≡ zs → logged k xs ++ ys ≡ logged k zs
+logged_prefix Label.Quiet xs ys zs h = h
+logged_prefix (Label.Answer i v) xs ys zs h = ap (λ z. Label.Answer i v ∷ z) h
+logged_prefix (Label.In o a v l) xs ys zs h = ap (λ z. Label.In o a v l ∷ z) h
+logged_prefix (Label.Refused o) xs ys zs h = ap (λ z. Label.Refused o ∷ z) h
+logged_prefix (Label.Out o a v) xs ys zs h = h
 
-pub fits_front : {T : Type 0} (E : Check T) (n : ℕ) (es : List Mark) (xs : List (T × Mark)) → Fits E n es xs → events xs ++ left_log xs es ≡ es
-fits_front E n es [] h = refl
-fits_front E n es (x ∷ xs) h = logged_front x.1 (events xs) (left_log xs (unlogged x.1 es)) (unlogged x.1 es) (fits_front E (pred n) (unlogged x.1 es) xs h.3) ∙ h.1
+pub fits_prefix : {T : Type 0} (E : Check T) (n : ℕ) (es : List Label) (xs : List (T × Label)) → Fits E n es xs → events xs ++ left_log xs es ≡ es
+fits_prefix E n es [] h = refl
+fits_prefix E n es (x ∷ xs) h = logged_prefix x.1 (events xs) (left_log xs (unlogged x.1 es)) (unlogged x.1 es) (fits_prefix E (pred n) (unlogged x.1 es) xs h.3) ∙ h.1
 
-pub fits_length : {T : Type 0} (E : Check T) (n : ℕ) (es : List Mark) (xs : List (T × Mark)) → Fits E n es xs → length xs ≤ n
+pub fits_length : {T : Type 0} (E : Check T) (n : ℕ) (es : List Label) (xs : List (T × Label)) → Fits E n es xs → length xs ≤ n
 fits_length E n es [] h = omega arith
 fits_length E n es (x ∷ xs) h = omega (arith, fits_length E (pred n) (unlogged x.1 es) xs h.3, h.0)
 
-pub fits_part : {T : Type 0} (E : Check T) (n : ℕ) (es : List Mark) (xs ys : List (T × Mark)) → Fits E n es (xs ++ ys) → Fits E n es xs
+pub fits_part : {T : Type 0} (E : Check T) (n : ℕ) (es : List Label) (xs ys : List (T × Label)) → Fits E n es (xs ++ ys) → Fits E n es xs
 fits_part E n es [] ys h = tt
 fits_part E n es (x ∷ xs) ys h = (h.0, h.1, h.2, fits_part E (pred n) (unlogged x.1 es) xs ys h.3)
 
@@ -39,28 +39,28 @@ stops E m s run follower own ok top (e ∷ rest) okr same = absurd (top e (
 ))
   where
     whole : (t : ℕ) → trail m s follower t ++ trail m (end m s follower) (e ∷ rest) t ≡ trail m s (follower ++ e ∷ []) t ++ trail m (after m (end m s follower) e) rest t
-    whole t = ap (λ z. trail m s follower t ++ z) (join_append (eqb t e.0) ((end m s follower).now t, mark m (end m s follower) e) [] (trail m (after m (end m s follower) e) rest t))
+    whole t = ap (λ z. trail m s follower t ++ z) (join_append (eqb t e.0) ((end m s follower).now t, label m (end m s follower) e) [] (trail m (after m (end m s follower) e) rest t))
         ∙ sym (append_assoc (trail m s follower t) (trail m (end m s follower) (e ∷ []) t) (trail m (after m (end m s follower) e) rest t))
         ∙ ap (λ z. z ++ trail m (after m (end m s follower) e) rest t) (sym (trail_append m s follower (e ∷ []) t))
 
 pub own_fits : {T : Type 0} (E : Ending T) (m : Machine T) → IsLawful m → (s : State T) → Good m s → (run : List Step) → Follows E m s (trace m s run) run → (follower : List Step) → Follows E m s (trace m s run) follower → IsMaximal E m s (trace m s run) follower → Reaches m s follower run
 own_fits E m law s good run own follower f top =
     let g : Goes m s follower run = goes m law s good follower run f.0 own.0 (λ t. left_log (trail m s follower t) (log m s run t))
-    (λ t. fits_front (E t) (count m s run t) (log m s run t) (trail m s follower t) (f.1 t)) (λ t. fits_length (E t) (count m s run t) (log m s run t) (trail m s follower t) (f.1 t)) in
+    (λ t. fits_prefix (E t) (count m s run t) (log m s run t) (trail m s follower t) (f.1 t)) (λ t. fits_length (E t) (count m s run t) (log m s run t) (trail m s follower t) (f.1 t)) in
     let none : g.rest ≡ [] = stops E m s run follower own.1 f.0 top g.rest g.ok g.same_trail in
     record {
       trails = λ u. sym (append-nil _) ∙ ap (λ z. trail m s follower u ++ trail m (end m s follower) z u) (sym none) ∙ g.same_trail u;
       states = ap (end m (end m s follower)) (sym none) ∙ g.same_end;
     }
 
-unlogged_logged : (k : Mark) (es : List Mark) → unlogged k (logged k es) ≡ es
-unlogged_logged Mark.Quiet es = refl
-unlogged_logged (Mark.Answer i v) es = refl
-unlogged_logged (Mark.In o a v l) es = refl
-unlogged_logged (Mark.Refused o) es = refl
-unlogged_logged (Mark.Out o a v) es = refl
+unlogged_logged : (k : Label) (es : List Label) → unlogged k (logged k es) ≡ es
+unlogged_logged Label.Quiet es = refl
+unlogged_logged (Label.Answer i v) es = refl
+unlogged_logged (Label.In o a v l) es = refl
+unlogged_logged (Label.Refused o) es = refl
+unlogged_logged (Label.Out o a v) es = refl
 
 -- a thread's steps follow their own number and log
-pub fits_own : {T : Type 0} (E : Check T) (xs : List (T × Mark)) → Ends E xs → Fits E (length xs) (events xs) xs
+pub fits_own : {T : Type 0} (E : Check T) (xs : List (T × Label)) → Ends E xs → Fits E (length xs) (events xs) xs
 fits_own E [] h = tt
 fits_own E (x ∷ xs) h = (omega arith, ap (logged x.1) (unlogged_logged x.1 (events xs)), h.0, subst (λ z. Fits E (length xs) z xs) (sym (unlogged_logged x.1 (events xs))) (fits_own E xs h.1))

@@ -1,10 +1,10 @@
 -- The greatest consistent cut below a cut.
--- the marks that are left out
+-- the labels that are left out
 use Rattle.std.proofs.Common.{◌≡◌, ℕ, suc, pred, min, ◌<◌, ◌≤◌, Bool, true, false, cond, eqb, List, [], ◌∷◌, refl, sym, ap, ◌∙◌, subst, arith, inl, inr, ◌⊎◌, eq-eqb, ne_eqb, le_refl}
 use Rattle.std.proofs.lemmas.Bool.{cases_eq, eqb-true, cases_lt}
 use Rattle.ir_runs.specs.Machine.{Machine, IsLawful}
-use Rattle.ir_runs.specs.Marks.{Mark}
-use Rattle.ir_runs.specs.Run.{act, State, Step, after, mark, IsRun, count}
+use Rattle.ir_runs.specs.Labels.{Label}
+use Rattle.ir_runs.specs.Run.{act, State, Step, after, label, IsRun, count}
 use Rattle.ir_runs.proofs.Good.{Good, stays_good}
 use Rattle.ir_runs.specs.Extremes.{IsGreatest}
 use Rattle.ir_runs.proofs.Determined.{count_head}
@@ -13,11 +13,11 @@ use Rattle.ir_runs.proofs.Exist.{needs_or}
 use Rattle.ir_runs.proofs.Sort.{later, foremost, consistent_later, lower_up}
 use Rattle.ir_runs.specs.Cuts.{Tells, Needs, Cut, IsCut, Consistent, lower, further}
 
-abbrev pub Among : Mark → List Mark → Type 0
+abbrev pub Among : Label → List Label → Type 0
 Among k [] = ⊥
 Among k (x ∷ xs) = (x ≡ k) ⊎ Among k xs
 
-needs_any : (out : List Mark) (a : Mark) → ((k : Mark) × Among k out × Needs k a) ⊎ ((k : Mark) → Among k out → Needs k a → ⊥)
+needs_any : (out : List Label) (a : Label) → ((k : Label) × Among k out × Needs k a) ⊎ ((k : Label) → Among k out → Needs k a → ⊥)
 needs_any [] a = inr (λ k h n. h)
 needs_any (x ∷ xs) a = elim (needs_or x a) [
   | inl n ↦ inl (x, inl (λ i. x), n)
@@ -28,24 +28,24 @@ needs_any (x ∷ xs) a = elim (needs_or x a) [
 ]
 
 -- no step of the cut needs what is left out
-abbrev pub Avoids : {T : Type 0} → Machine T → State T → List Step → Cut → List Mark → Type 0
-Avoids m s run q out = (t i : ℕ) (a k : Mark) → Tells m s run t i a → i < q t → Among k out → Needs k a → ⊥
+abbrev pub Avoids : {T : Type 0} → Machine T → State T → List Step → Cut → List Label → Type 0
+Avoids m s run q out = (t i : ℕ) (a k : Label) → Tells m s run t i a → i < q t → Among k out → Needs k a → ⊥
 
 -- the greatest consistent cut at or below b that avoids what is left out
-pub record Highest {T : Type 0} (m : Machine T) (s : State T) (run : List Step) (b : Cut) (out : List Mark) (q : Cut) : Type 0 where
+pub record Highest {T : Type 0} (m : Machine T) (s : State T) (run : List Step) (b : Cut) (out : List Label) (q : Cut) : Type 0 where
   pub consistent : Consistent m s run q
   pub avoids : Avoids m s run q out
   pub below : (u : ℕ) → q u ≤ b u
   pub greatest : (c : Cut) → Consistent m s run c → Avoids m s run c out → ((u : ℕ) → c u ≤ b u) → (u : ℕ) → c u ≤ q u
 
-avoids_later : {T : Type 0} (m : Machine T) (s : State T) (e : Step) (run : List Step) (c : Cut) (out : List Mark) → Avoids m s (e ∷ run) c out → Avoids m (after m s e) run (lower c e.0) out
+avoids_later : {T : Type 0} (m : Machine T) (s : State T) (e : Step) (run : List Step) (c : Cut) (out : List Label) → Avoids m s (e ∷ run) c out → Avoids m (after m s e) run (lower c e.0) out
 avoids_later m s e run c out f t i a k h l g n = f t (cond (eqb t e.0) (suc i) i) a k (later m s e run t i a h) (lower_up (eqb t e.0) i (c t) l) g n
 
 first_less : (n : ℕ) → 0 < suc n
 first_less n = omega arith
 
 -- with the first step
-with_first : {T : Type 0} (m : Machine T) → IsLawful m → (s : State T) → Good m s → (e : Step) (run : List Step) → IsRun m s (e ∷ run) → (b q : Cut) (out : List Mark) → 0 < b e.0 → ((k : Mark) → Among k out → Needs k (mark m s e) → ⊥)
+with_first : {T : Type 0} (m : Machine T) → IsLawful m → (s : State T) → Good m s → (e : Step) (run : List Step) → IsRun m s (e ∷ run) → (b q : Cut) (out : List Label) → 0 < b e.0 → ((k : Label) → Among k out → Needs k (label m s e) → ⊥)
     → Highest m (after m s e) run (lower b e.0) out q → Highest m s (e ∷ run) b out (further q e.0)
 with_first m law s good e run ok b q out more free k = record {
   consistent = λ t i u j a d h g n l. elim (placed m s e run u j d g) [
@@ -80,8 +80,8 @@ abbrev pub without : Cut → ℕ → Cut
 without b t u = cond (eqb u t) 0 (b u)
 
 -- without the first step
-without_first : {T : Type 0} (m : Machine T) (s : State T) (e : Step) (run : List Step) (b q : Cut) (out : List Mark) → ((c : Cut) → Avoids m s (e ∷ run) c out → ((u : ℕ) → c u ≤ b u) → c e.0 ≡ 0)
-    → Highest m (after m s e) run (without b e.0) (mark m s e ∷ out) q → Highest m s (e ∷ run) b out q
+without_first : {T : Type 0} (m : Machine T) (s : State T) (e : Step) (run : List Step) (b q : Cut) (out : List Label) → ((c : Cut) → Avoids m s (e ∷ run) c out → ((u : ℕ) → c u ≤ b u) → c e.0 ≡ 0)
+    → Highest m (after m s e) run (without b e.0) (label m s e ∷ out) q → Highest m s (e ∷ run) b out q
 without_first m s e run b q out never k = record {
   consistent = λ t i u j a d h g n l. elim (placed m s e run t i a h) [
     | inl c ↦ absurd (omega (arith, l, ap q c.0, none))
@@ -129,16 +129,16 @@ without_first m s e run b q out never k = record {
         below_it true i n h = let h' : suc i < n = h in omega arith
         below_it false i n h = h
 
-pub highest : {T : Type 0} (m : Machine T) → IsLawful m → (s : State T) → Good m s → (run : List Step) → IsRun m s run → (b : Cut) (out : List Mark) → ((u : ℕ) → b u ≤ count m s run u) → (q : Cut) × Highest m s run b out q
+pub highest : {T : Type 0} (m : Machine T) → IsLawful m → (s : State T) → Good m s → (run : List Step) → IsRun m s run → (b : Cut) (out : List Label) → ((u : ℕ) → b u ≤ count m s run u) → (q : Cut) × Highest m s run b out q
 highest m law s good [] ok b out cut = (b, record { consistent = λ t i u j a d h g n l. absurd h.1; avoids = λ t i a k h l g n. h.1; below = λ u. le_refl (b u); greatest = λ c con av down u. down u })
 highest m law s good (e ∷ run) ok b out cut =
     let good' = stays_good m law s good e ok.0 in
-    let gone = highest m law (after m s e) good' run ok.1 (without b e.0) (mark m s e ∷ out) (λ u. cut_without (eqb u e.0) (b u) (count m (after m s e) run u) (subst (λ z. b u ≤ z) (count_head m s e run u) (cut u))) in
+    let gone = highest m law (after m s e) good' run ok.1 (without b e.0) (label m s e ∷ out) (λ u. cut_without (eqb u e.0) (b u) (count m (after m s e) run u) (subst (λ z. b u ≤ z) (count_head m s e run u) (cut u))) in
     let kept = highest m law (after m s e) good' run ok.1 (lower b e.0) out (λ u. shorter (eqb u e.0) (b u) (count m (after m s e) run u) (subst (λ z. b u ≤ z) (count_head m s e run u) (cut u))) in
     elim (cases_lt 0 (b e.0)) [
       | inr h ↦ (gone.0, without_first m s e run b gone.0 out (λ c av down. omega (arith, h, down e.0)) gone.1)
-      | inl h ↦ elim (needs_any out (mark m s e)) [
-        | inl w ↦ (gone.0, without_first m s e run b gone.0 out (λ c av down. elim (cases_lt 0 (c e.0)) [ inl l ↦ absurd (av e.0 0 (mark m s e) w.0 (foremost m s e run) l w.1 w.2) | inr l ↦ omega arith ]) gone.1)
+      | inl h ↦ elim (needs_any out (label m s e)) [
+        | inl w ↦ (gone.0, without_first m s e run b gone.0 out (λ c av down. elim (cases_lt 0 (c e.0)) [ inl l ↦ absurd (av e.0 0 (label m s e) w.0 (foremost m s e run) l w.1 w.2) | inr l ↦ omega arith ]) gone.1)
         | inr free ↦ (further kept.0 e.0, with_first m law s good e run ok b kept.0 out h free kept.1)
       ]
     ]

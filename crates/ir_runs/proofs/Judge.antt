@@ -2,13 +2,13 @@
 use Rattle.std.proofs.Common.{◌≡◌, ◌≢◌, ℕ, suc, zero, pred, ◌<◌, true, List, [], ◌∷◌, ◌++◌, length, Option, Some, None, refl, sym, ap, ◌∙◌, subst, arith, inl, inr, ◌⊎◌, append-nil, length-append}
 use Rattle.std.proofs.lemmas.Bool.{cases_eq, cases_lt}
 use Rattle.ir_runs.specs.Machine.{Ask, Private, Env, Enter, Try, Leave, Get, Put, Done, act_of, Machine, IsLawful, IsClosing}
-use Rattle.ir_runs.specs.Marks.{Mark, Quiet, Answer, In, Refused, Out, logged, Trace}
+use Rattle.ir_runs.specs.Labels.{Label, Quiet, Answer, In, Refused, Out, logged, Trace}
 use Rattle.ir_runs.specs.declared.access.Access.{Access}
 use Rattle.ir_runs.specs.declared.env_kind.EnvKind.{EnvKind}
 use Rattle.ir_runs.specs.declared.env_kind.EnvKind.TheVariants.{Clock, Random, Input}
 use Rattle.ir_runs.specs.declared.access.Access.TheVariants.{Reading, Writing}
 use Rattle.ir_runs.specs.Object.{Object, target, Admits, reply, told}
-use Rattle.ir_runs.specs.Run.{act, State, Step, Can, after, mark, IsRun, end, trail, IsStart, IsIdle, IsDone, events, log, count}
+use Rattle.ir_runs.specs.Run.{act, State, Step, Can, after, label, IsRun, end, trail, IsStart, IsIdle, IsDone, events, log, count}
 use Rattle.ir_runs.proofs.Good.{Good}
 use Rattle.ir_runs.proofs.Append.{trail_append, run_append}
 use Rattle.ir_runs.proofs.Confluent.{confluent, start_sofar, one_maximal}
@@ -61,7 +61,7 @@ same_kind Input Clock = inr (λ h. cc h)
 same_kind Input Random = inr (λ h. cc h)
 same_kind Input Input = inl refl
 
-is_suited : (q : Ask) (es : List Mark) → Suits q es ⊎ (Suits q es → ⊥)
+is_suited : (q : Ask) (es : List Label) → Suits q es ⊎ (Suits q es → ⊥)
 is_suited Private es = inl tt
 is_suited (Env k) [] = inr (λ h. h)
 is_suited (Env k) (Quiet ∷ es) = inr (λ h. h)
@@ -86,7 +86,7 @@ is_suited (Get o i) es = inl tt
 is_suited (Put o i w) es = inl tt
 is_suited Done es = inl tt
 
-is_empty : (es : List Mark) → (es ≡ []) ⊎ (es ≢ [])
+is_empty : (es : List Label) → (es ≡ []) ⊎ (es ≢ [])
 is_empty [] = inl refl
 is_empty (k ∷ es) = inr (λ h. cc h)
 
@@ -100,11 +100,11 @@ same_end (Some (a, b)) (c, d) = elim (cases_eq a c) [
     pair : {e f : ℕ × ℕ} → ◌≡◌ {A = Option (ℕ × ℕ)} (Some e) (Some f) → e ≡ f
     pair h = cc h
 
-pub is_met : (q fin : Option (ℕ × ℕ)) (size n : ℕ) (es : List Mark) → Meets q fin size n es ⊎ (Meets q fin size n es → ⊥)
+pub is_met : (q fin : Option (ℕ × ℕ)) (size n : ℕ) (es : List Label) → Meets q fin size n es ⊎ (Meets q fin size n es → ⊥)
 is_met None fin size n es = inl tt
 is_met (Some e) fin size n es = all_three (same_end fin e) (cases_eq n (suc size)) (is_empty es)
 
-pub agrees : {T : Type 0} (m : Machine T) (fin : Option (ℕ × ℕ)) (x : T) (n : ℕ) (es : List Mark) → Agrees m fin x n es ⊎ (Agrees m fin x n es → ⊥)
+pub agrees : {T : Type 0} (m : Machine T) (fin : Option (ℕ × ℕ)) (x : T) (n : ℕ) (es : List Label) → Agrees m fin x n es ⊎ (Agrees m fin x n es → ⊥)
 agrees m fin x n es = all_three (positive n) (is_suited (m.ask x) es) (is_met (ends_now m x) fin (m.size x) n es)
   where
     positive : (n : ℕ) → (0 < n) ⊎ ((0 < n) → ⊥)
@@ -112,25 +112,25 @@ agrees m fin x n es = all_three (positive n) (is_suited (m.ask x) es) (is_met (e
     positive (suc n) = inl (omega arith)
 
 -- a step behind those of a thread
-fits_more : {T : Type 0} (E : Check T) (n : ℕ) (es : List Mark) (xs : List (T × Mark)) (y : T × Mark) → Fits E n es xs → (0 < left_steps xs n) × (logged y.1 (unlogged y.1 (left_log xs es)) ≡ left_log xs es) × E y.0 (left_steps xs n) (left_log xs es) → Fits E n es (xs ++ y ∷ [])
+fits_more : {T : Type 0} (E : Check T) (n : ℕ) (es : List Label) (xs : List (T × Label)) (y : T × Label) → Fits E n es xs → (0 < left_steps xs n) × (logged y.1 (unlogged y.1 (left_log xs es)) ≡ left_log xs es) × E y.0 (left_steps xs n) (left_log xs es) → Fits E n es (xs ++ y ∷ [])
 fits_more E n es [] y h g = (g.0, g.1, g.2, tt)
 fits_more E n es (x ∷ xs) y h g = (h.0, h.1, h.2, fits_more E (pred n) (unlogged x.1 es) xs y h.3 g)
 
 -- a run that follows, and one more step that does
 pub goes_further : {T : Type 0} (m : Machine T) (s : State T) (tr : Trace) (run : List Step) → Follows (closing m tr) m s tr run → (t r : ℕ) → Can m (end m s run) (t, r)
-    → (0 < left_steps (trail m s run t) (tr.steps t)) × (logged (mark m (end m s run) (t, r)) (unlogged (mark m (end m s run) (t, r)) (left_log (trail m s run t) (tr.logs t))) ≡ left_log (trail m s run t) (tr.logs t))
+    → (0 < left_steps (trail m s run t) (tr.steps t)) × (logged (label m (end m s run) (t, r)) (unlogged (label m (end m s run) (t, r)) (left_log (trail m s run t) (tr.logs t))) ≡ left_log (trail m s run t) (tr.logs t))
     × closing m tr t ((end m s run).now t) (left_steps (trail m s run t) (tr.steps t)) (left_log (trail m s run t) (tr.logs t)) → Follows (closing m tr) m s tr (run ++ (t, r) ∷ [])
 goes_further m s tr run f t r can g = (
   run_append m s run ((t, r) ∷ []) f.0 (can, tt),
   λ u. elim (cases_eq u t) [
     | inl same ↦ subst (λ w. Fits (closing m tr w) (tr.steps w) (tr.logs w) (trail m s (run ++ (t, r) ∷ []) w)) (sym same)
         (subst (Fits (closing m tr t) (tr.steps t) (tr.logs t)) (sym (trail_append m s run ((t, r) ∷ []) t ∙ ap (λ z. trail m s run t ++ z) (trail_same m (end m s run) (t, r) [])))
-        (fits_more (closing m tr t) (tr.steps t) (tr.logs t) (trail m s run t) ((end m s run).now t, mark m (end m s run) (t, r)) (f.1 t) g))
+        (fits_more (closing m tr t) (tr.steps t) (tr.logs t) (trail m s run t) ((end m s run).now t, label m (end m s run) (t, r)) (f.1 t) g))
     | inr other ↦ subst (Fits (closing m tr u) (tr.steps u) (tr.logs u)) (sym (trail_append m s run ((t, r) ∷ []) u ∙ ap (λ z. trail m s run u ++ z) (trail_other m (end m s run) (t, r) [] u other) ∙ append-nil (trail m s run u))) (f.1 u)
   ],
 )
 
-at_unlogged : (k : Mark) (es : List Mark) (i : ℕ) (j : Mark) → At (unlogged k es) i j → (h : ℕ) × At es h j
+at_unlogged : (k : Label) (es : List Label) (i : ℕ) (j : Label) → At (unlogged k es) i j → (h : ℕ) × At es h j
 at_unlogged Quiet es i j h = (i, h)
 at_unlogged (Answer a v) [] i j h = absurd h
 at_unlogged (Answer a v) (e ∷ es) i j h = (suc i, h)
@@ -140,12 +140,12 @@ at_unlogged (Refused o) [] i j h = absurd h
 at_unlogged (Refused o) (e ∷ es) i j h = (suc i, h)
 at_unlogged (Out o a v) es i j h = (i, h)
 
-at_left : {T : Type 0} (xs : List (T × Mark)) (es : List Mark) (i : ℕ) (j : Mark) → At (left_log xs es) i j → (h : ℕ) × At es h j
+at_left : {T : Type 0} (xs : List (T × Label)) (es : List Label) (i : ℕ) (j : Label) → At (left_log xs es) i j → (h : ℕ) × At es h j
 at_left [] es i j h = (i, h)
 at_left (x ∷ xs) es i j h = let g = at_left xs (unlogged x.1 es) i j h in at_unlogged x.1 es g.0 j g.1
 
 -- where no step goes on, an entry is waited for
-waits : {T : Type 0} (m : Machine T) (q : Ask) (es : List Mark) → Suits q es → q ≢ Done → ((i : ℕ) (k : Mark) → At es i k → IsEvent m k)
+waits : {T : Type 0} (m : Machine T) (q : Ask) (es : List Label) → Suits q es → q ≢ Done → ((i : ℕ) (k : Label) → At es i k → IsEvent m k)
     → ((r : ℕ) → ((b : Object) → Admits m (act_of q r) b) → ((b : Object) → logged (told (act_of q r) b) (unlogged (told (act_of q r) b) es) ≡ es) → ⊥) → Awaits q es
 waits m Private es suits ne ev stop = absurd (stop 0 (λ b. tt) (λ b. refl))
 waits m (Env k) (Answer j v ∷ es) suits ne ev stop = absurd (stop v (λ b. subst (λ z. m.fits z v ≡ true) suits (ev 0 (Answer j v) refl)) (λ b. ap (λ z. Answer z v ∷ es) (sym suits)))
@@ -176,7 +176,7 @@ pub judged : {T : Type 0} (n : ℕ) (m : Machine T) → IsLawful m → (tr : Tra
 judged n m law tr co ev s good st im run f top t =
     let x = (end m s run).now t in
     let k : ℕ = left_steps (trail m s run t) (tr.steps t) in
-    let es : List Mark = left_log (trail m s run t) (tr.logs t) in
+    let es : List Label = left_log (trail m s run t) (tr.logs t) in
     elim (is_done (m.ask x)) [
       | inl d ↦ (Same, d)
       | inr ne ↦ elim (agrees m (tr.ends t) x k es) [
@@ -195,7 +195,7 @@ judged n m law tr co ev s good st im run f top t =
       ]
     ]
 
-pub one_verdict : {T : Type 0} (m : Machine T) (fin : Option (ℕ × ℕ)) (none : Type 0) (x : T) (n : ℕ) (es : List Mark) (i k : ℕ) (v w : ThreadVerdict) → Judged m fin none x n es i k v → Judged m fin none x n es i k w → w ≡ v
+pub one_verdict : {T : Type 0} (m : Machine T) (fin : Option (ℕ × ℕ)) (none : Type 0) (x : T) (n : ℕ) (es : List Label) (i k : ℕ) (v w : ThreadVerdict) → Judged m fin none x n es i k v → Judged m fin none x n es i k w → w ≡ v
 one_verdict m fin none x n es i k Same Same h g = refl
 one_verdict m fin none x n es i k Same (Disagrees a b) h g = absurd (g.0 h)
 one_verdict m fin none x n es i k Same (Starves a) h g = absurd (g.0 h)
@@ -212,7 +212,7 @@ same_verdict m s tr run run' k t v h =
     (subst (λ y. Judged m (tr.ends t) (NoneTakes m s tr t (count m s run t)) (y.now t) (left_steps (trail m s run t) (tr.steps t)) (left_log (trail m s run t) (tr.logs t)) (length (log m s run t)) (count m s run t) v) k.states h)
 
 -- a thread that hasn't ended, and is done at the run's end, has used what the trace gives it
-pub record Used {T : Type 0} (m : Machine T) (s : State T) (run : List Step) (t : ℕ) (fin : Option (ℕ × ℕ)) (n : ℕ) (es : List Mark) : Type 0 where
+pub record Used {T : Type 0} (m : Machine T) (s : State T) (run : List Step) (t : ℕ) (fin : Option (ℕ × ℕ)) (n : ℕ) (es : List Label) : Type 0 where
   pub steps : length (trail m s run t) ≡ n
   pub silent : events (trail m s run t) ≡ es
   pub ended : m.ended ((end m s run).now t) ≡ fin
@@ -229,14 +229,14 @@ still_live m c s d live h =
         let q : m.ended (m.take (s.now d.0) 0) ≡ Some e = ap (λ w. m.ended (m.take (s.now d.0) (reply (act_of w d.1) (s.objects (target (act_of w d.1)))))) (sym z.0) ∙ p in
         absurd (cc (h, ap (λ w. ends_at w (m.ended (m.take (s.now d.0) 0))) live ∙ q))
 
-used_here : {T : Type 0} (m : Machine T) → IsClosing m → (s : State T) (d : Step) (run : List Step) → IsRun m (after m s d) run → IsDone m (end m (after m s d) run) → (fin : Option (ℕ × ℕ)) (n : ℕ) (es : List Mark) → m.ended (s.now d.0) ≡ None
-    → (w : Option (ℕ × ℕ)) → ends_now m (s.now d.0) ≡ w → 0 < n → logged (mark m s d) (unlogged (mark m s d) es) ≡ es → Meets w fin (m.size (s.now d.0)) n es
-    → (m.ended ((after m s d).now d.0) ≡ None → Used m (after m s d) run d.0 fin (pred n) (unlogged (mark m s d) es)) → Used m s (d ∷ run) d.0 fin n es
+used_here : {T : Type 0} (m : Machine T) → IsClosing m → (s : State T) (d : Step) (run : List Step) → IsRun m (after m s d) run → IsDone m (end m (after m s d) run) → (fin : Option (ℕ × ℕ)) (n : ℕ) (es : List Label) → m.ended (s.now d.0) ≡ None
+    → (w : Option (ℕ × ℕ)) → ends_now m (s.now d.0) ≡ w → 0 < n → logged (label m s d) (unlogged (label m s d) es) ≡ es → Meets w fin (m.size (s.now d.0)) n es
+    → (m.ended ((after m s d).now d.0) ≡ None → Used m (after m s d) run d.0 fin (pred n) (unlogged (label m s d) es)) → Used m s (d ∷ run) d.0 fin n es
 used_here m c s d run ok done fin n es live None h l is meets ih =
-    let k : Used m (after m s d) run d.0 fin (pred n) (unlogged (mark m s d) es) = ih (still_live m c s d live h) in
+    let k : Used m (after m s d) run d.0 fin (pred n) (unlogged (label m s d) es) = ih (still_live m c s d live h) in
     record {
       steps = ap length (trail_same m s d run) ∙ (let g : suc (length (trail m (after m s d) run d.0)) ≡ n = omega (arith, k.steps, l) in g);
-      silent = ap events (trail_same m s d run) ∙ ap (logged (mark m s d)) k.silent ∙ is;
+      silent = ap events (trail_same m s d run) ∙ ap (logged (label m s d)) k.silent ∙ is;
       ended = k.ended;
     }
 used_here m c s d run ok done fin n es live (Some e) h l is meets ih =
@@ -248,15 +248,15 @@ used_here m c s d run ok done fin n es live (Some e) h l is meets ih =
       ended = k.ended ∙ sym meets.0;
     }
 
-pub used : {T : Type 0} (m : Machine T) → IsClosing m → (s : State T) (run : List Step) → IsRun m s run → IsDone m (end m s run) → (t : ℕ) (fin : Option (ℕ × ℕ)) (n : ℕ) (es : List Mark) → m.ended (s.now t) ≡ None → Fits (λ x n es. Meets (ends_now m x) fin (m.size x) n es) n es (trail m s run t) → Used m s run t fin n es
+pub used : {T : Type 0} (m : Machine T) → IsClosing m → (s : State T) (run : List Step) → IsRun m s run → IsDone m (end m s run) → (t : ℕ) (fin : Option (ℕ × ℕ)) (n : ℕ) (es : List Label) → m.ended (s.now t) ≡ None → Fits (λ x n es. Meets (ends_now m x) fin (m.size x) n es) n es (trail m s run t) → Used m s run t fin n es
 used m c s [] ok done t fin n es live h = absurd (cc (live, (c.done (s.now t) (done t)).1))
 used m c s (d ∷ run) ok done t fin n es live h = elim (cases_eq t d.0) [
   | inl same ↦
-      let h' : Fits (λ x n es. Meets (ends_now m x) fin (m.size x) n es) n es ((s.now d.0, mark m s d) ∷ trail m (after m s d) run d.0) =
+      let h' : Fits (λ x n es. Meets (ends_now m x) fin (m.size x) n es) n es ((s.now d.0, label m s d) ∷ trail m (after m s d) run d.0) =
       subst (Fits (λ x n es. Meets (ends_now m x) fin (m.size x) n es) n es) (trail_same m s d run) (subst (λ z. Fits (λ x n es. Meets (ends_now m x) fin (m.size x) n es) n es (trail m s (d ∷ run) z)) same h) in
       subst (λ z. Used m s (d ∷ run) z fin n es) (sym same)
       (used_here m c s d run ok.1 done fin n es (ap (λ z. m.ended (s.now z)) (sym same) ∙ live) (ends_now m (s.now d.0)) refl h'.0 h'.1 h'.2
-      (λ live'. used m c (after m s d) run ok.1 done d.0 fin (pred n) (unlogged (mark m s d) es) live' h'.3))
+      (λ live'. used m c (after m s d) run ok.1 done d.0 fin (pred n) (unlogged (label m s d) es) live' h'.3))
   | inr other ↦
       let k : Used m (after m s d) run t fin n es = used m c (after m s d) run ok.1 done t fin n es (ap m.ended (now_other m s d t other) ∙ live)
       (subst (Fits (λ x n es. Meets (ends_now m x) fin (m.size x) n es) n es) (trail_other m s d run t other) h) in
@@ -276,7 +276,7 @@ all_same n m c tr s live run f done = record {
     whole : (t : ℕ) → t < n → Used m s run t (tr.ends t) (tr.steps t) (tr.logs t)
     whole t l = used m c s run f.0 done t (tr.ends t) (tr.steps t) (tr.logs t) (live t l) (f.1 t)
 
-no_fits : {T : Type 0} (E : Check T) (n : ℕ) (es : List Mark) (xs : List (T × Mark)) → length xs ≡ 0 → Fits E n es xs
+no_fits : {T : Type 0} (E : Check T) (n : ℕ) (es : List Label) (xs : List (T × Label)) → length xs ≡ 0 → Fits E n es xs
 no_fits E n es [] h = tt
 no_fits E n es (x ∷ xs) h = absurd (omega (arith, h))
 

@@ -24,6 +24,6 @@ mod Order
 mod Exist
 mod Highest
 mod Admit
-mod Fronts
+mod Prefixes
 mod Turns
 pub mod CallerLemmas

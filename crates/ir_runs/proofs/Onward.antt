@@ -2,10 +2,10 @@
 use Rattle.std.proofs.Common.{◌≡◌, ◌≢◌, ℕ, suc, zero, pred, ◌<◌, ◌≤◌, Bool, true, false, cond, eqb, List, [], ◌∷◌, ◌++◌, Some, None, refl, sym, subst, arith, inl, inr, ◌⊎◌, eq-eqb}
 use Rattle.std.proofs.lemmas.Bool.{cases_eq, cases_lt, eqb-true}
 use Rattle.ir_runs.specs.Machine.{Done, Act, Silent, Result, Entry, Refusal, Exit, Load, Store, Never, Machine, IsLawful}
-use Rattle.ir_runs.specs.Marks.{Mark, Quiet, Answer, In, Refused, Out, logged, Trace}
+use Rattle.ir_runs.specs.Labels.{Label, Quiet, Answer, In, Refused, Out, logged, Trace}
 use Rattle.ir_runs.specs.declared.access.Access.TheVariants.{Reading, Writing}
 use Rattle.ir_runs.specs.Object.{target, Admits, told}
-use Rattle.ir_runs.specs.Run.{act, State, Step, asked, Can, after, mark, trail}
+use Rattle.ir_runs.specs.Run.{act, State, Step, asked, Can, after, label, trail}
 use Rattle.ir_runs.proofs.Good.{Good, stays_good}
 use Rattle.ir_runs.proofs.Stuck.{search_below, is_writing, is_inside, not_inside}
 use Rattle.ir_runs.proofs.Confluent.{steps_left, log_left, Goes_on, first_fits, rest_fits, fits_join, below_done}
@@ -17,7 +17,7 @@ use Rattle.ir_runs.specs.Coherent.{sum_below}
 use Rattle.ir_runs.specs.Following.{unlogged, ends_now, closing}
 use Rattle.ir_runs.specs.Verdicts.{result_of}
 
-is_logged : (k : Mark) (es : List Mark) → (logged k (unlogged k es) ≡ es) ⊎ ((logged k (unlogged k es) ≡ es) → ⊥)
+is_logged : (k : Label) (es : List Label) → (logged k (unlogged k es) ≡ es) ⊎ ((logged k (unlogged k es) ≡ es) → ⊥)
 is_logged Quiet es = inl refl
 is_logged (Answer i v) [] = inr (λ h. cc h)
 is_logged (Answer i v) (Quiet ∷ es) = inr (λ h. cc h)
@@ -83,10 +83,10 @@ search_threads P decide (suc n) = elim (decide n) [
 ]
 
 -- the step follows what is left
-abbrev Next : {T : Type 0} → Machine T → Trace → State T → (ℕ → ℕ) → (ℕ → List Mark) → Step → Type 0
-Next m tr s ns rem e = Can m s e × ((0 < ns e.0) × (logged (mark m s e) (unlogged (mark m s e) (rem e.0)) ≡ rem e.0) × closing m tr e.0 (s.now e.0) (ns e.0) (rem e.0))
+abbrev Next : {T : Type 0} → Machine T → Trace → State T → (ℕ → ℕ) → (ℕ → List Label) → Step → Type 0
+Next m tr s ns rem e = Can m s e × ((0 < ns e.0) × (logged (label m s e) (unlogged (label m s e) (rem e.0)) ≡ rem e.0) × closing m tr e.0 (s.now e.0) (ns e.0) (rem e.0))
 
-pub record Built {T : Type 0} (m : Machine T) (tr : Trace) (s : State T) (ns : ℕ → ℕ) (rem : ℕ → List Mark) : Type 0 where
+pub record Built {T : Type 0} (m : Machine T) (tr : Trace) (s : State T) (ns : ℕ → ℕ) (rem : ℕ → List Label) : Type 0 where
   pub run : List Step
   pub ok : Goes_on (closing m tr) m s ns rem run
   pub top : (x : Step) → Goes_on (closing m tr) m s ns rem (run ++ x ∷ []) → ⊥
@@ -99,23 +99,23 @@ pred_less : (b : Bool) (n : ℕ) → b ≡ true → 0 < n → cond b (pred n) n 
 pred_less true n p l = let g : pred n < n = omega (arith, l) in g
 pred_less false n p l = absurd (cc p)
 
-pub build : {T : Type 0} (fuel n : ℕ) (m : Machine T) → IsLawful m → (tr : Trace) (s : State T) → Good m s → ((t : ℕ) → n ≤ t → asked m s t ≡ Done) → (ns : ℕ → ℕ) (rem : ℕ → List Mark) → sum_below n ns < fuel → Built m tr s ns rem
+pub build : {T : Type 0} (fuel n : ℕ) (m : Machine T) → IsLawful m → (tr : Trace) (s : State T) → Good m s → ((t : ℕ) → n ≤ t → asked m s t ≡ Done) → (ns : ℕ → ℕ) (rem : ℕ → List Label) → sum_below n ns < fuel → Built m tr s ns rem
 build zero n m law tr s good idle ns rem less = absurd (omega (arith, less))
 build (suc d) n m law tr s good idle ns rem less = elim (search_threads (λ t. Next m tr s ns rem (t, result_of (asked m s t) (rem t)))
     (λ t. both (is_admitted m law s good n idle (act m s (t, result_of (asked m s t) (rem t))))
-    (all_three (positive (ns t)) (is_logged (mark m s (t, result_of (asked m s t) (rem t))) (rem t)) (is_met (ends_now m (s.now t)) (tr.ends t) (m.size (s.now t)) (ns t) (rem t)))) n) [
+    (all_three (positive (ns t)) (is_logged (label m s (t, result_of (asked m s t) (rem t))) (rem t)) (is_met (ends_now m (s.now t)) (tr.ends t) (m.size (s.now t)) (ns t) (rem t)))) n) [
       | inl w ↦
           let e : Step = (w.0, result_of (asked m s w.0) (rem w.0)) in
           let next : Next m tr s ns rem e = w.2 in
-          let b : Built m tr (after m s e) (steps_left ns e) (log_left rem e (mark m s e)) =
-          build d n m law tr (after m s e) (stays_good m law s good e next.0) (below_idle m s n idle e next.0).1 (steps_left ns e) (log_left rem e (mark m s e))
+          let b : Built m tr (after m s e) (steps_left ns e) (log_left rem e (label m s e)) =
+          build d n m law tr (after m s e) (stays_good m law s good e next.0) (below_idle m s n idle e next.0).1 (steps_left ns e) (log_left rem e (label m s e))
           (omega (arith, less, sum_less n e.0 (steps_left ns e) ns w.1 (pred_less (eqb e.0 e.0) (ns e.0) (eq-eqb e.0 e.0 refl) next.1.0) (λ u. pred_least (eqb u e.0) (ns u)))) in
           record {
             run = e ∷ b.run;
             ok = (
               (next.0, b.ok.0),
-              λ t. fits_join (closing m tr t) (ns t) (rem t) (eqb t e.0) (s.now t, mark m s e) (trail m (after m s e) b.run t)
-                  (λ p. subst (λ z. (0 < ns z) × (logged (mark m s e) (unlogged (mark m s e) (rem z)) ≡ rem z) × closing m tr z (s.now z) (ns z) (rem z)) (sym (eqb-true t e.0 p)) next.1) (b.ok.1 t),
+              λ t. fits_join (closing m tr t) (ns t) (rem t) (eqb t e.0) (s.now t, label m s e) (trail m (after m s e) b.run t)
+                  (λ p. subst (λ z. (0 < ns z) × (logged (label m s e) (unlogged (label m s e) (rem z)) ≡ rem z) × closing m tr z (s.now z) (ns z) (rem z)) (sym (eqb-true t e.0 p)) next.1) (b.ok.1 t),
             );
             top = λ x h. b.top x (rest_fits (closing m tr) m s ns rem e (b.run ++ x ∷ []) h);
           }

@@ -2,8 +2,8 @@
 use Rattle.std.proofs.Common.{◌≡◌, ◌≢◌, ℕ, suc, zero, min, max, ◌<◌, ◌≤◌, Bool, true, false, cond, eqb, List, [], ◌∷◌, length, refl, sym, ap, ◌∙◌, subst, arith, inl, inr, ◌⊎◌, eq-eqb, ne_eqb}
 use Rattle.std.proofs.lemmas.Bool.{cases_eq, cases_lt}
 use Rattle.ir_runs.specs.Machine.{Machine, IsLawful}
-use Rattle.ir_runs.specs.Marks.{Mark}
-use Rattle.ir_runs.specs.Run.{State, Step, after, mark, IsRun, join_if, trail, count}
+use Rattle.ir_runs.specs.Labels.{Label}
+use Rattle.ir_runs.specs.Run.{State, Step, after, label, IsRun, join_if, trail, count}
 use Rattle.ir_runs.proofs.Good.{Good}
 use Rattle.ir_runs.proofs.Early.{moment}
 use Rattle.ir_runs.specs.Extremes.{IsLeast, IsGreatest}
@@ -65,7 +65,7 @@ one_more (e ∷ run) (suc i) = elim (one_more run i) [
 
 pub whole : {T : Type 0} (m : Machine T) (s : State T) (run : List Step) (t : ℕ) → moment run (length run) t ≡ count m s run t
 whole m s [] t = refl
-whole m s (e ∷ run) t = ap (λ z. cond (eqb t e.0) (suc z) z) (whole m (after m s e) run t) ∙ lengthen (eqb t e.0) (s.now t, mark m s e) (trail m (after m s e) run t)
+whole m s (e ∷ run) t = ap (λ z. cond (eqb t e.0) (suc z) z) (whole m (after m s e) run t) ∙ lengthen (eqb t e.0) (s.now t, label m s e) (trail m (after m s e) run t)
   where
     lengthen : {A : Type 0} (b : Bool) (x : A) (xs : List A) → cond b (suc (length xs)) (length xs) ≡ length (join_if b x xs)
     lengthen true x xs = refl
@@ -126,18 +126,18 @@ passes {T} m s (e ∷ run) t (suc k) h = elim (cases_eq t e.0) [
     miss true p n k h = absurd (cc p)
     miss false p n k h = h
 
-    inside : (b : Bool) → b ≡ true → (xs : List (T × Mark)) → suc k ≤ length (join_if b (s.now t, mark m s e) xs) → k ≤ length xs
+    inside : (b : Bool) → b ≡ true → (xs : List (T × Label)) → suc k ≤ length (join_if b (s.now t, label m s e) xs) → k ≤ length xs
     inside true p xs h = omega arith
     inside false p xs h = absurd (cc p)
 
-    outside : (b : Bool) → b ≡ false → (xs : List (T × Mark)) → suc k ≤ length (join_if b (s.now t, mark m s e) xs) → suc k ≤ length xs
+    outside : (b : Bool) → b ≡ false → (xs : List (T × Label)) → suc k ≤ length (join_if b (s.now t, label m s e) xs) → suc k ≤ length xs
     outside true p xs h = absurd (cc p)
     outside false p xs h = h
 
 up_to : {T : Type 0} (m : Machine T) (s : State T) (run : List Step) (i u : ℕ) → moment run i u ≤ count m s run u
 up_to m s run zero u = omega arith
 up_to m s [] (suc i) u = omega arith
-up_to m s (e ∷ run) (suc i) u = grow (eqb u e.0) (moment run i u) (s.now u, mark m s e) (trail m (after m s e) run u) (up_to m (after m s e) run i u)
+up_to m s (e ∷ run) (suc i) u = grow (eqb u e.0) (moment run i u) (s.now u, label m s e) (trail m (after m s e) run u) (up_to m (after m s e) run i u)
   where
     grow : {A : Type 0} (b : Bool) (n : ℕ) (x : A) (xs : List A) → n ≤ length xs → cond b (suc n) n ≤ length (join_if b x xs)
     grow true n x xs h = let g : suc n ≤ suc (length xs) = omega arith in g

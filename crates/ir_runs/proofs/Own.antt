@@ -3,12 +3,12 @@
 use Rattle.std.proofs.Common.{◌≡◌, ℕ, suc, zero, ◌+◌, ◌<◌, ◌≤◌, Bool, true, false, cond, eqb, List, [], ◌∷◌, Some, None, refl, sym, ap, ◌∙◌, subst, arith, inl, inr, ◌⊎◌, eq-eqb, ne_eqb}
 use Rattle.std.proofs.lemmas.Bool.{cases_eq, eqb-true, cases_lt}
 use Rattle.ir_runs.specs.Machine.{Done, Act, act_of, Silent, Result, Entry, Refusal, Exit, Load, Store, Never, Machine, upd, IsLawful}
-use Rattle.ir_runs.specs.Marks.{Mark, Quiet, Answer, In, Refused, Out, logged}
+use Rattle.ir_runs.specs.Labels.{Label, Quiet, Answer, In, Refused, Out, logged}
 use Rattle.ir_runs.specs.declared.access.Access.{Access}
 use Rattle.ir_runs.specs.declared.access.Access.TheVariants.{Reading, Writing}
 use Rattle.ir_runs.specs.Object.{Object, target, Admits, acted, told}
 use Rattle.ir_runs.proofs.Tables.{upd_same, upd_elim}
-use Rattle.ir_runs.specs.Run.{act, State, Step, asked, Can, after, mark, IsRun, join_if, trail, IsStart, IsIdle, events, log, trace}
+use Rattle.ir_runs.specs.Run.{act, State, Step, asked, Can, after, label, IsRun, join_if, trail, IsStart, IsIdle, events, log, trace}
 use Rattle.ir_runs.proofs.Good.{Exclusive, Inside, Good, stays_good, inside_now}
 use Rattle.ir_runs.proofs.Pull.{entered, past_writer, objects_after}
 use Rattle.ir_runs.proofs.Ratchet.{taken, Writes, Writes_kept, told_in, Entering}
@@ -17,13 +17,13 @@ use Rattle.ir_runs.proofs.Tally.{Tally, tally_step, tally_start, sum_same, sum_z
 use Rattle.ir_runs.specs.Coherent.{reads_one, reads, sum_below, IsCoherent}
 use Rattle.ir_runs.specs.Cuts.{At}
 
-pub record First {T : Type 0} (m : Machine T) (s : State T) (e : Step) (t i : ℕ) (k : Mark) : Type 0 where
+pub record First {T : Type 0} (m : Machine T) (s : State T) (e : Step) (t i : ℕ) (k : Label) : Type 0 where
   pub who : t ≡ e.0
   pub place : i ≡ 0
-  pub is : k ≡ mark m s e
+  pub is : k ≡ label m s e
 
 -- how many events the first step has of thread t
-abbrev pub shift : Bool → Mark → ℕ → ℕ
+abbrev pub shift : Bool → Label → ℕ → ℕ
 shift true Quiet i = i
 shift true (Answer k v) i = suc i
 shift true (In o a v l) i = suc i
@@ -31,11 +31,11 @@ shift true (Refused o) i = suc i
 shift true (Out o a v) i = i
 shift false k i = i
 
-event_in : {T : Type 0} (b : Bool) (x : T × Mark) (xs : List (T × Mark)) (i : ℕ) (k : Mark) → At (events (join_if b x xs)) i k → ((b ≡ true) × (i ≡ 0) × (k ≡ x.1)) ⊎ ((j : ℕ) × (i ≡ shift b x.1 j) × At (events xs) j k)
+event_in : {T : Type 0} (b : Bool) (x : T × Label) (xs : List (T × Label)) (i : ℕ) (k : Label) → At (events (join_if b x xs)) i k → ((b ≡ true) × (i ≡ 0) × (k ≡ x.1)) ⊎ ((j : ℕ) × (i ≡ shift b x.1 j) × At (events xs) j k)
 event_in false x xs i k h = inr (i, refl, h)
 event_in true x xs i k h = in_logged x.1 i h
   where
-    in_logged : (y : Mark) (i : ℕ) → At (logged y (events xs)) i k → ((true ≡ true) × (i ≡ 0) × (k ≡ y)) ⊎ ((j : ℕ) × (i ≡ shift true y j) × At (events xs) j k)
+    in_logged : (y : Label) (i : ℕ) → At (logged y (events xs)) i k → ((true ≡ true) × (i ≡ 0) × (k ≡ y)) ⊎ ((j : ℕ) × (i ≡ shift true y j) × At (events xs) j k)
     in_logged Quiet i h = inr (i, refl, h)
     in_logged (Answer a v) zero h = inl (refl, refl, sym h)
     in_logged (Answer a v) (suc i) h = inr (i, refl, h)
@@ -45,14 +45,14 @@ event_in true x xs i k h = in_logged x.1 i h
     in_logged (Refused o) (suc i) h = inr (i, refl, h)
     in_logged (Out o a v) i h = inr (i, refl, h)
 
-event_cases : {T : Type 0} (m : Machine T) (s : State T) (e : Step) (run : List Step) (t i : ℕ) (k : Mark) → At (log m s (e ∷ run) t) i k → First m s e t i k ⊎ ((j : ℕ) × (i ≡ shift (eqb t e.0) (mark m s e) j) × At (log m (after m s e) run t) j k)
-event_cases m s e run t i k h = elim (event_in (eqb t e.0) (s.now t, mark m s e) (trail m (after m s e) run t) i k h) [
+event_cases : {T : Type 0} (m : Machine T) (s : State T) (e : Step) (run : List Step) (t i : ℕ) (k : Label) → At (log m s (e ∷ run) t) i k → First m s e t i k ⊎ ((j : ℕ) × (i ≡ shift (eqb t e.0) (label m s e) j) × At (log m (after m s e) run t) j k)
+event_cases m s e run t i k h = elim (event_in (eqb t e.0) (s.now t, label m s e) (trail m (after m s e) run t) i k h) [
   | inl p ↦ inl (record { who = eqb-true t e.0 p.0; place = p.1; is = p.2 })
   | inr p ↦ inr p
 ]
 
 -- an event stands in the trail
-event_in_trail : {T : Type 0} (y : T × Mark) (ys : List (T × Mark)) (k : Mark) → ((i : ℕ) → At (events ys) i k → (x : T) × (j : ℕ) × At ys j (x, k)) → (z : Mark) (i : ℕ) → y.1 ≡ z → At (logged z (events ys)) i k → (x : T) × (j : ℕ) × At (y ∷ ys) j (x, k)
+event_in_trail : {T : Type 0} (y : T × Label) (ys : List (T × Label)) (k : Label) → ((i : ℕ) → At (events ys) i k → (x : T) × (j : ℕ) × At ys j (x, k)) → (z : Label) (i : ℕ) → y.1 ≡ z → At (logged z (events ys)) i k → (x : T) × (j : ℕ) × At (y ∷ ys) j (x, k)
 event_in_trail y ys k ih Quiet i p h = let g = ih i h in (g.0, suc g.1, g.2)
 event_in_trail y ys k ih (Answer a v) zero p h = (y.0, 0, λ w. (y.0, (p ∙ h) w))
 event_in_trail y ys k ih (Answer a v) (suc i) p h = let g = ih i h in (g.0, suc g.1, g.2)
@@ -62,12 +62,12 @@ event_in_trail y ys k ih (Refused o) zero p h = (y.0, 0, λ w. (y.0, (p ∙ h) w
 event_in_trail y ys k ih (Refused o) (suc i) p h = let g = ih i h in (g.0, suc g.1, g.2)
 event_in_trail y ys k ih (Out o a v) i p h = let g = ih i h in (g.0, suc g.1, g.2)
 
-event_at : {T : Type 0} (xs : List (T × Mark)) (i : ℕ) (k : Mark) → At (events xs) i k → (x : T) × (j : ℕ) × At xs j (x, k)
+event_at : {T : Type 0} (xs : List (T × Label)) (i : ℕ) (k : Label) → At (events xs) i k → (x : T) × (j : ℕ) × At xs j (x, k)
 event_at [] i k h = absurd h
 event_at (y ∷ ys) i k h = event_in_trail y ys k (λ j g. event_at ys j k g) y.1 i refl h
 
 -- after a write entry no other entry has its version
-after_writer : {T : Type 0} (m : Machine T) → IsLawful m → (s : State T) → Good m s → (e : Step) → Can m s e → (run : List Step) → IsRun m (after m s e) run → (o v l : ℕ) → In o Writing v l ≡ mark m s e → (t i : ℕ) (a : Access) (k : ℕ) → At (log m (after m s e) run t) i (In o a v k) → ⊥
+after_writer : {T : Type 0} (m : Machine T) → IsLawful m → (s : State T) → Good m s → (e : Step) → Can m s e → (run : List Step) → IsRun m (after m s e) run → (o v l : ℕ) → In o Writing v l ≡ label m s e → (t i : ℕ) (a : Access) (k : ℕ) → At (log m (after m s e) run t) i (In o a v k) → ⊥
 after_writer m law s good e can run ok o v l is t i a k h =
     let q : Act = act m s e in
     let en : Entering m (s.objects (target q)) o Writing v l q = told_in m q (s.objects (target q)) o Writing v l (sym is) in
@@ -88,23 +88,23 @@ one_writer m law s good (e ∷ run) ok t i u j o v l k h g = elim (event_cases m
   | inr p ↦ elim (event_cases m s e run u j (In o Writing v k) g) [
     | inl q ↦ absurd (after_writer m law s good e ok.0 run ok.1 o v k q.is t p.0 Writing l p.2)
     | inr q ↦ let z = one_writer m law (after m s e) (stays_good m law s good e ok.0) run ok.1 t p.0 u q.0 o v l k p.2 q.2 in
-        (z.0, p.1 ∙ ap (λ w. shift (eqb w e.0) (mark m s e) p.0) z.0 ∙ ap (shift (eqb u e.0) (mark m s e)) z.1 ∙ sym q.1)
+        (z.0, p.1 ∙ ap (λ w. shift (eqb w e.0) (label m s e) p.0) z.0 ∙ ap (shift (eqb u e.0) (label m s e)) z.1 ∙ sym q.1)
   ]
 ]
 
-reads_join : {T : Type 0} (o v : ℕ) (b : Bool) (x : T × Mark) (xs : List (T × Mark)) → reads o v (events (join_if b x xs)) ≡ cond b (reads_one o v x.1) 0 + reads o v (events xs)
-reads_join o v true x xs = by_mark x.1
+reads_join : {T : Type 0} (o v : ℕ) (b : Bool) (x : T × Label) (xs : List (T × Label)) → reads o v (events (join_if b x xs)) ≡ cond b (reads_one o v x.1) 0 + reads o v (events xs)
+reads_join o v true x xs = by_label x.1
   where
-    by_mark : (k : Mark) → reads o v (logged k (events xs)) ≡ reads_one o v k + reads o v (events xs)
-    by_mark Quiet = let g : reads o v (events xs) ≡ 0 + reads o v (events xs) = omega arith in g
-    by_mark (Answer a w) = refl
-    by_mark (In p a w l) = refl
-    by_mark (Refused p) = refl
-    by_mark (Out p a w) = let g : reads o v (events xs) ≡ 0 + reads o v (events xs) = omega arith in g
+    by_label : (k : Label) → reads o v (logged k (events xs)) ≡ reads_one o v k + reads o v (events xs)
+    by_label Quiet = let g : reads o v (events xs) ≡ 0 + reads o v (events xs) = omega arith in g
+    by_label (Answer a w) = refl
+    by_label (In p a w l) = refl
+    by_label (Refused p) = refl
+    by_label (Out p a w) = let g : reads o v (events xs) ≡ 0 + reads o v (events xs) = omega arith in g
 reads_join o v false x xs = let g : reads o v (events xs) ≡ 0 + reads o v (events xs) = omega arith in g
 
 -- no read entry of a version that none of these is
-no_reads : (o v : ℕ) (es : List Mark) → ((i k : ℕ) → At es i (In o Reading v k) → ⊥) → reads o v es ≡ 0
+no_reads : (o v : ℕ) (es : List Label) → ((i k : ℕ) → At es i (In o Reading v k) → ⊥) → reads o v es ≡ 0
 no_reads o v [] h = refl
 no_reads o v (Quiet ∷ es) h = no_more (reads o v es) (no_reads o v es (λ i k a. h (suc i) k a))
   where
@@ -150,15 +150,15 @@ all_readers m law n s good idle c tally (e ∷ run) ok t i o v l h = elim (event
         sum_zero n (λ u. is_reader ((s.objects o).inside u)) (λ u _. ap is_reader (empty u)),
         sum_same n (c o v) (λ u. c o v u + reads o v (log m s (e ∷ run) u)) (λ u _. omega (
           arith,
-          reads_join o v (eqb u e.0) (s.now u, mark m s e) (trail m (after m s e) run u),
-          not_read (eqb u e.0) (reads_one o v (mark m s e)) (ap (reads_one o v) (sym p.is)),
+          reads_join o v (eqb u e.0) (s.now u, label m s e) (trail m (after m s e) run u),
+          not_read (eqb u e.0) (reads_one o v (label m s e)) (ap (reads_one o v) (sym p.is)),
           no_reads o v (log m (after m s e) run u) (λ j k a. after_writer m law s good e ok.0 run ok.1 o v l p.is u j Reading k a),
         )),
       )
   | inr p ↦
       let st = below_idle m s n idle e ok.0 in
-      all_readers m law n (after m s e) (stays_good m law s good e ok.0) st.1 (λ o v u. c o v u + counted o v (mark m s e) e.0 u) (tally_step m law n s good c tally e ok.0 st.0) run ok.1 t p.0 o v l p.2
-      ∙ sum_same n _ _ (λ u _. omega (arith, reads_join o v (eqb u e.0) (s.now u, mark m s e) (trail m (after m s e) run u)))
+      all_readers m law n (after m s e) (stays_good m law s good e ok.0) st.1 (λ o v u. c o v u + counted o v (label m s e) e.0 u) (tally_step m law n s good c tally e ok.0 st.0) run ok.1 t p.0 o v l p.2
+      ∙ sum_same n _ _ (λ u _. omega (arith, reads_join o v (eqb u e.0) (s.now u, label m s e) (trail m (after m s e) run u)))
 ]
   where
     not_read : (b : Bool) (k : ℕ) → k ≡ 0 → cond b k 0 ≡ 0
@@ -192,7 +192,7 @@ made1 m (Load o j) t b ex i P p w new = (p, w)
 made1 m (Store o j x) t b ex i P p w new = (p, w)
 made1 m Never t b ex i P p w new = (p, w)
 
-made_step : {T : Type 0} (m : Machine T) → IsLawful m → (s : State T) → Good m s → (Q : ℕ → ℕ → Type 0) → Made s Q → (e : Step) → ((o v l : ℕ) → mark m s e ≡ In o Writing v l → Q o v) → Made (after m s e) Q
+made_step : {T : Type 0} (m : Machine T) → IsLawful m → (s : State T) → Good m s → (Q : ℕ → ℕ → Type 0) → Made s Q → (e : Step) → ((o v l : ℕ) → label m s e ≡ In o Writing v l → Q o v) → Made (after m s e) Q
 unfolding after
 made_step m law s good Q made e new =
     let q : Act = act m s e in
@@ -204,19 +204,19 @@ made_step m law s good Q made e new =
       inside = λ o t. upd_elim s.objects (target q) (acted q e.0 b) o (λ d. d.inside t ≡ Some Writing → Q o d.version) (λ here h. subst (λ w. Q w (acted q e.0 b).version) (sym here) (z.1 t h)) (λ _ h. made.inside o t h);
     }
 
-event_later : {T : Type 0} (b : Bool) (x : T × Mark) (xs : List (T × Mark)) (i : ℕ) (k : Mark) → At (events xs) i k → At (events (join_if b x xs)) (shift b x.1 i) k
+event_later : {T : Type 0} (b : Bool) (x : T × Label) (xs : List (T × Label)) (i : ℕ) (k : Label) → At (events xs) i k → At (events (join_if b x xs)) (shift b x.1 i) k
 event_later false x xs i k h = h
-event_later true x xs i k h = by_mark x.1
+event_later true x xs i k h = by_label x.1
   where
-    by_mark : (y : Mark) → At (logged y (events xs)) (shift true y i) k
-    by_mark Quiet = h
-    by_mark (Answer a v) = h
-    by_mark (In o a v l) = h
-    by_mark (Refused o) = h
-    by_mark (Out o a v) = h
+    by_label : (y : Label) → At (logged y (events xs)) (shift true y i) k
+    by_label Quiet = h
+    by_label (Answer a v) = h
+    by_label (In o a v l) = h
+    by_label (Refused o) = h
+    by_label (Out o a v) = h
 
-event_first : {T : Type 0} (m : Machine T) (s : State T) (e : Step) (run : List Step) (o v l : ℕ) → mark m s e ≡ In o Writing v l → At (log m s (e ∷ run) e.0) 0 (In o Writing v l)
-event_first m s e run o v l is = subst (λ b. At (events (join_if b (s.now e.0, mark m s e) (trail m (after m s e) run e.0))) 0 (In o Writing v l)) (sym (eq-eqb e.0 e.0 refl))
+event_first : {T : Type 0} (m : Machine T) (s : State T) (e : Step) (run : List Step) (o v l : ℕ) → label m s e ≡ In o Writing v l → At (log m s (e ∷ run) e.0) 0 (In o Writing v l)
+event_first m s e run o v l is = subst (λ b. At (events (join_if b (s.now e.0, label m s e) (trail m (after m s e) run e.0))) 0 (In o Writing v l)) (sym (eq-eqb e.0 e.0 refl))
     (subst (λ z. At (logged z (log m (after m s e) run e.0)) 0 (In o Writing v l)) (sym is) refl)
 
 pub made_by : {T : Type 0} (m : Machine T) → IsLawful m → (s : State T) → Good m s → (Q : ℕ → ℕ → Type 0) → Made s Q → (run : List Step) → IsRun m s run → ((t i o v l : ℕ) → At (log m s run t) i (In o Writing v l) → Q o v)
@@ -229,7 +229,7 @@ made_by m law s good Q made (e ∷ run) ok all t i o v l a h = elim (event_cases
       let ver : (s.objects o).version ≡ suc v = ap (λ z. (s.objects (target z)).version) (sym en.does) ∙ en.version in
       made.past o v (omega arith)
   | inr p ↦ made_by m law (after m s e) (stays_good m law s good e ok.0) Q (made_step m law s good Q made e (λ o v l is. all e.0 0 o v l (event_first m s e run o v l is))) run ok.1
-      (λ t i o v l g. all t (shift (eqb t e.0) (mark m s e) i) o v l (event_later (eqb t e.0) (s.now t, mark m s e) (trail m (after m s e) run t) i (In o Writing v l) g)) t p.0 o v l a p.2
+      (λ t i o v l g. all t (shift (eqb t e.0) (label m s e) i) o v l (event_later (eqb t e.0) (s.now t, label m s e) (trail m (after m s e) run t) i (In o Writing v l) g)) t p.0 o v l a p.2
 ]
 
 pub own_coherent : (n : ℕ) {T : Type 0} (m : Machine T) → IsLawful m → (s : State T) → Good m s → IsStart m s → IsIdle m s n → (run : List Step) → IsRun m s run → IsCoherent n (trace m s run)

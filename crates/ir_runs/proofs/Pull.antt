@@ -3,12 +3,12 @@
 use Rattle.std.proofs.Common.{◌≡◌, ◌≢◌, ℕ, suc, zero, Bool, true, false, eqb, List, [], ◌∷◌, Some, refl, sym, ap, ◌∙◌, subst, arith, inl, inr, eq-eqb, ne_eqb, append-nil, ◌++◌}
 use Rattle.std.proofs.lemmas.Bool.{cases_eq, eqb-true}
 use Rattle.ir_runs.specs.Machine.{Ask, Private, Env, Enter, Try, Leave, Get, Put, Done, Act, act_of, Entry, Machine, IsLawful}
-use Rattle.ir_runs.specs.Marks.{Mark, Quiet, Answer, In, Refused, Out, logged}
+use Rattle.ir_runs.specs.Labels.{Label, Quiet, Answer, In, Refused, Out, logged}
 use Rattle.ir_runs.specs.declared.access.Access.{Access}
 use Rattle.ir_runs.specs.declared.access.Access.TheVariants.{Reading, Writing}
 use Rattle.ir_runs.specs.Object.{Object, target, Admits, acted, told}
 use Rattle.ir_runs.proofs.Tables.{upd_same}
-use Rattle.ir_runs.specs.Run.{act, State, moved, Step, asked, Can, after, mark, IsRun, end, join_if, trail}
+use Rattle.ir_runs.specs.Run.{act, State, moved, Step, asked, Can, after, label, IsRun, end, join_if, trail}
 use Rattle.ir_runs.proofs.Good.{Good, stays_good}
 use Rattle.ir_runs.proofs.Ratchet.{Taken, taken, Writes, Reads, Writes_kept, Reads_kept, Entering, told_in}
 use Rattle.ir_runs.proofs.Steps.{Clashes, Keeps, keeps, commute}
@@ -79,7 +79,7 @@ clash_sym (Entry o Reading ans) (Entry p Reading ans') c = c
 clash_sym _ _ c = absurd c
 
 -- results with which an ask logs the same are one act
-pub same_act : {T : Type 0} (m : Machine T) (q : Ask) (r r' : ℕ) (b b' : Object) (xs ys zs : List Mark) → Admits m (act_of q r) b → Admits m (act_of q r') b' → logged (told (act_of q r) b) xs ++ ys ≡ logged (told (act_of q r') b') zs → act_of q r ≡ act_of q r'
+pub same_act : {T : Type 0} (m : Machine T) (q : Ask) (r r' : ℕ) (b b' : Object) (xs ys zs : List Label) → Admits m (act_of q r) b → Admits m (act_of q r') b' → logged (told (act_of q r) b) xs ++ ys ≡ logged (told (act_of q r') b') zs → act_of q r ≡ act_of q r'
 same_act m Private r r' b b' xs ys zs can can' h = refl
 same_act m (Env k) r r' b b' xs ys zs can can' h = cc h
 same_act m (Enter o a) r r' b b' xs ys zs can can' h = refl
@@ -116,21 +116,21 @@ head_at : {A : Type 0} (x y : A) (xs ys : List A) → (x ∷ xs) ≡ (y ∷ ys) 
 head_at x y xs ys h = cc h
 
 -- what logs an entry is the entry
-logged_in : (k : Mark) (o : ℕ) (a : Access) (v l : ℕ) → logged k [] ≡ In o a v l ∷ [] → k ≡ In o a v l
+logged_in : (k : Label) (o : ℕ) (a : Access) (v l : ℕ) → logged k [] ≡ In o a v l ∷ [] → k ≡ In o a v l
 logged_in Quiet o a v l h = absurd (cc h)
 logged_in (Answer i w) o a v l h = cc h
 logged_in (In p c v' l') o a v l h = cc h
 logged_in (Refused p) o a v l h = absurd (cc h)
 logged_in (Out p c v') o a v l h = absurd (cc h)
 
-clash_told : (q' q : Act) (b : Object) (k : Mark) → Clash q' q → logged k [] ≡ logged (told q b) [] → k ≡ told q b
+clash_told : (q' q : Act) (b : Object) (k : Label) → Clash q' q → logged k [] ≡ logged (told q b) [] → k ≡ told q b
 clash_told q' (Entry o Reading x) b k c h = logged_in k o Reading _ _ h
 clash_told q' (Entry o Writing x) b k c h = logged_in k o Writing _ _ h
 clash_told (Entry p Reading x) _ b k c h = absurd c
 clash_told (Entry p Writing x) _ b k c h = absurd c
 clash_told _ _ b k c h = absurd c
 
-pull_first : {T : Type 0} (m : Machine T) (s : State T) (e : Step) (run : List Step) → IsRun m s (e ∷ run) → (r : ℕ) → Can m s (e.0, r) → logged (mark m s e) [] ≡ logged (mark m s (e.0, r)) [] → Pulled m s (e ∷ run) e.0 r
+pull_first : {T : Type 0} (m : Machine T) (s : State T) (e : Step) (run : List Step) → IsRun m s (e ∷ run) → (r : ℕ) → Can m s (e.0, r) → logged (label m s e) [] ≡ logged (label m s (e.0, r)) [] → Pulled m s (e ∷ run) e.0 r
 pull_first m s e run ok r can h =
     let a : act m s (e.0, r) ≡ act m s e = sym (same_act m (asked m s e.0) e.1 r (s.objects (target (act m s e))) (s.objects (target (act m s (e.0, r)))) [] [] [] ok.0 can (append-nil _ ∙ h)) in
     let p : after m s (e.0, r) ≡ after m s e = same_after m s e.0 r e.1 a in
@@ -138,41 +138,41 @@ pull_first m s e run ok r can h =
       rest = run;
       ok = subst (λ z. IsRun m z run) (sym p) ok.1;
       same_end = ap (λ z. end m z run) p;
-      same_trail = λ u. ap (λ z. join_if (eqb u e.0) (s.now u, mark m s (e.0, r)) (trail m z run u)) p ∙ ap (λ z. join_if (eqb u e.0) (s.now u, told z (s.objects (target z))) (trail m (after m s e) run u)) a;
+      same_trail = λ u. ap (λ z. join_if (eqb u e.0) (s.now u, label m s (e.0, r)) (trail m z run u)) p ∙ ap (λ z. join_if (eqb u e.0) (s.now u, told z (s.objects (target z))) (trail m (after m s e) run u)) a;
     }
 
-pull_later : {T : Type 0} (m : Machine T) → IsLawful m → (s : State T) → Good m s → (e : Step) (run : List Step) → IsRun m s (e ∷ run) → (t r : ℕ) → t ≢ e.0 → Can m s (t, r) → (x : T) (j : Mark) → At (trail m (after m s e) run t) 0 (x, j)
-    → logged j [] ≡ logged (mark m s (t, r)) [] → (Can m (after m s e) (t, r) → logged j [] ≡ logged (mark m (after m s e) (t, r)) [] → Pulled m (after m s e) run t r) → Pulled m s (e ∷ run) t r
+pull_later : {T : Type 0} (m : Machine T) → IsLawful m → (s : State T) → Good m s → (e : Step) (run : List Step) → IsRun m s (e ∷ run) → (t r : ℕ) → t ≢ e.0 → Can m s (t, r) → (x : T) (j : Label) → At (trail m (after m s e) run t) 0 (x, j)
+    → logged j [] ≡ logged (label m s (t, r)) [] → (Can m (after m s e) (t, r) → logged j [] ≡ logged (label m (after m s e) (t, r)) [] → Pulled m (after m s e) run t r) → Pulled m s (e ∷ run) t r
 pull_later m law s good e run ok t r other can x j h l ih =
     let free : Clashes m s e (t, r) → ⊥ = λ c. never m law s good e ok.0 run ok.1 t 0 x (act m s e) (act m s (t, r)) refl c.0 c.1
     (subst (λ z. At (trail m (after m s e) run t) 0 (x, z)) (clash_told (act m s e) (act m s (t, r)) (s.objects (target (act m s (t, r)))) j c.1 l) h) in
     let free' : Clashes m s (t, r) e → ⊥ = λ c. free (sym c.0, clash_sym _ _ c.1) in
     let k : Keeps m s e (t, r) = keeps m law s good e (t, r) (λ p. other (sym p)) ok.0 can free in
     let k' : Keeps m s (t, r) e = keeps m law s good (t, r) e other can ok.0 free' in
-    let q : Pulled m (after m s e) run t r = ih k.can (l ∙ ap (λ z. logged z []) (sym k.mark_same)) in
+    let q : Pulled m (after m s e) run t r = ih k.can (l ∙ ap (λ z. logged z []) (sym k.label_same)) in
     let p : after m (after m s (t, r)) e ≡ after m (after m s e) (t, r) = commute m law s good (t, r) e other can ok.0 free' free in
     record {
       rest = e ∷ q.rest;
       ok = (k'.can, subst (λ z. IsRun m z q.rest) (sym p) q.ok);
       same_end = ap (λ z. end m z q.rest) p ∙ q.same_end;
       same_trail = λ u.
-          ap (λ z. join_if (eqb u t) (s.now u, mark m s (t, r)) (join_if (eqb u e.0) ((after m s (t, r)).now u, mark m (after m s (t, r)) e) (trail m z q.rest u))) p
-          ∙ join_swap (eqb u t) (eqb u e.0) (s.now u, mark m s (t, r)) ((after m s e).now u, mark m (after m s e) (t, r)) ((after m s (t, r)).now u, mark m (after m s (t, r)) e) (s.now u, mark m s e) (trail m (after m (after m s e) (t, r)) q.rest u)
+          ap (λ z. join_if (eqb u t) (s.now u, label m s (t, r)) (join_if (eqb u e.0) ((after m s (t, r)).now u, label m (after m s (t, r)) e) (trail m z q.rest u))) p
+          ∙ join_swap (eqb u t) (eqb u e.0) (s.now u, label m s (t, r)) ((after m s e).now u, label m (after m s e) (t, r)) ((after m s (t, r)).now u, label m (after m s (t, r)) e) (s.now u, label m s e) (trail m (after m (after m s e) (t, r)) q.rest u)
           (λ a b. other (sym (eqb-true u t a) ∙ eqb-true u e.0 b))
-          (λ a. λ i. (subst (λ z. s.now z ≡ (after m s e).now z) (sym (eqb-true u t a)) (sym k.now_same) i, sym k.mark_same i))
-          (λ b. λ i. (subst (λ z. (after m s (t, r)).now z ≡ s.now z) (sym (eqb-true u e.0 b)) k'.now_same i, k'.mark_same i))
-          ∙ ap (join_if (eqb u e.0) (s.now u, mark m s e)) (q.same_trail u);
+          (λ a. λ i. (subst (λ z. s.now z ≡ (after m s e).now z) (sym (eqb-true u t a)) (sym k.now_same) i, sym k.label_same i))
+          (λ b. λ i. (subst (λ z. (after m s (t, r)).now z ≡ s.now z) (sym (eqb-true u e.0 b)) k'.now_same i, k'.label_same i))
+          ∙ ap (join_if (eqb u e.0) (s.now u, label m s e)) (q.same_trail u);
     }
 
 -- A step that can be taken, and that logs what the thread's first step in the run logs, may come first.
-pub pull : {T : Type 0} (m : Machine T) → IsLawful m → (s : State T) → Good m s → (run : List Step) → IsRun m s run → (t r : ℕ) → Can m s (t, r) → (x : T) (j : Mark) → At (trail m s run t) 0 (x, j) → logged j [] ≡ logged (mark m s (t, r)) [] → Pulled m s run t r
+pub pull : {T : Type 0} (m : Machine T) → IsLawful m → (s : State T) → Good m s → (run : List Step) → IsRun m s run → (t r : ℕ) → Can m s (t, r) → (x : T) (j : Label) → At (trail m s run t) 0 (x, j) → logged j [] ≡ logged (label m s (t, r)) [] → Pulled m s run t r
 pull m law s good [] ok t r can x j h l = absurd h
 pull m law s good (e ∷ run) ok t r can x j h l = elim (cases_eq t e.0) [
   | inl same ↦ subst (λ z. Pulled m s (e ∷ run) z r) (sym same) (pull_first m s e run ok r
       (subst (λ z. Can m s (z, r)) same can)
-      (ap (λ z. logged z.1 []) (subst (λ b. At (join_if b (s.now t, mark m s e) (trail m (after m s e) run t)) 0 (x, j)) (eq-eqb t e.0 same) h) ∙ subst (λ z. logged j [] ≡ logged (mark m s (z, r)) []) same l))
+      (ap (λ z. logged z.1 []) (subst (λ b. At (join_if b (s.now t, label m s e) (trail m (after m s e) run t)) 0 (x, j)) (eq-eqb t e.0 same) h) ∙ subst (λ z. logged j [] ≡ logged (label m s (z, r)) []) same l))
   | inr other ↦ pull_later m law s good e run ok t r other can x j
-      (subst (λ b. At (join_if b (s.now t, mark m s e) (trail m (after m s e) run t)) 0 (x, j)) (ne_eqb t e.0 other) h) l
+      (subst (λ b. At (join_if b (s.now t, label m s e) (trail m (after m s e) run t)) 0 (x, j)) (ne_eqb t e.0 other) h) l
       (λ c a. pull m law (after m s e) (stays_good m law s good e ok.0) run ok.1 t r c x j
-      (subst (λ b. At (join_if b (s.now t, mark m s e) (trail m (after m s e) run t)) 0 (x, j)) (ne_eqb t e.0 other) h) a)
+      (subst (λ b. At (join_if b (s.now t, label m s e) (trail m (after m s e) run t)) 0 (x, j)) (ne_eqb t e.0 other) h) a)
 ]

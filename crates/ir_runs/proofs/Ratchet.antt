@@ -3,12 +3,12 @@
 use Rattle.std.proofs.Common.{◌≡◌, ◌≢◌, ℕ, suc, zero, ◌<◌, ◌≤◌, Bool, true, false, eqb, List, [], ◌∷◌, Some, None, refl, sym, ap, ◌∙◌, subst, arith, inl, inr, ◌⊎◌}
 use Rattle.std.proofs.lemmas.Bool.{cases_eq, eqb-true}
 use Rattle.ir_runs.specs.Machine.{Act, Silent, Result, Entry, Refusal, Exit, Load, Store, Never, Machine, upd, IsLawful}
-use Rattle.ir_runs.specs.Marks.{Mark, In}
+use Rattle.ir_runs.specs.Labels.{Label, In}
 use Rattle.ir_runs.specs.declared.access.Access.{Access}
 use Rattle.ir_runs.specs.declared.access.Access.TheVariants.{Reading, Writing}
 use Rattle.ir_runs.specs.Object.{Object, target, Admits, acted, told}
 use Rattle.ir_runs.proofs.Tables.{upd_other, upd_elim}
-use Rattle.ir_runs.specs.Run.{act, State, Step, Can, after, mark, IsRun, join_if, trail}
+use Rattle.ir_runs.specs.Run.{act, State, Step, Can, after, label, IsRun, join_if, trail}
 use Rattle.ir_runs.proofs.Good.{Exclusive, Inside, Good, inside_now, stays_good}
 use Rattle.ir_runs.specs.Cuts.{At}
 
@@ -24,13 +24,13 @@ kept_step m law R kept s good e can o here =
     (λ _. here)
 
 -- a step of the run, in its state
-pub record Taken {T : Type 0} (m : Machine T) (R : Object → Type 0) (o t : ℕ) (k : Mark) : Type 0 where
+pub record Taken {T : Type 0} (m : Machine T) (R : Object → Type 0) (o t : ℕ) (k : Label) : Type 0 where
   pub state : State T
   pub good : Good m state
   pub step : Step
   pub can : Can m state step
   pub who : step.0 ≡ t
-  pub tells : mark m state step ≡ k
+  pub tells : label m state step ≡ k
   pub kept : R (state.objects o)
 
 pub at_join : {A : Type 0} (b : Bool) (x y : A) (xs : List A) (k : ℕ) → At (join_if b x xs) k y → ((b ≡ true) × (x ≡ y)) ⊎ ((j : ℕ) × At xs j y)
@@ -39,9 +39,9 @@ at_join true x y xs (suc k) h = inr (k, h)
 at_join false x y xs k h = inr (k, h)
 
 pub taken : {T : Type 0} (m : Machine T) → IsLawful m → (R : Object → Type 0) → IsKept m R → (s : State T) → Good m s → (run : List Step) → IsRun m s run → (o : ℕ) → R (s.objects o)
-    → (t k : ℕ) (x : T) (μ : Mark) → At (trail m s run t) k (x, μ) → Taken m R o t μ
+    → (t k : ℕ) (x : T) (μ : Label) → At (trail m s run t) k (x, μ) → Taken m R o t μ
 taken m law R kept s good [] ok o here t k x μ h = absurd h
-taken m law R kept s good (e ∷ run) ok o here t k x μ h = elim (at_join (eqb t e.0) (s.now t, mark m s e) (x, μ) (trail m (after m s e) run t) k h) [
+taken m law R kept s good (e ∷ run) ok o here t k x μ h = elim (at_join (eqb t e.0) (s.now t, label m s e) (x, μ) (trail m (after m s e) run t) k h) [
   | inl p ↦ record { state = s; good = good; step = e; can = ok.0; who = sym (eqb-true t e.0 p.0); tells = ap (λ z. z.1) p.1; kept = here }
   | inr p ↦ taken m law R kept (after m s e) (stays_good m law s good e ok.0) run ok.1 o (kept_step m law R kept s good e ok.0 o here) t p.0 x μ p.1
 ]

@@ -2,8 +2,8 @@
 use Rattle.std.proofs.Common.{◌≡◌, ℕ, suc, zero, pred, ◌<◌, Bool, true, false, cond, eqb, List, [], ◌∷◌, take, refl, sym, ap, ◌∙◌, subst, arith, inl, inr, eq-eqb}
 use Rattle.std.proofs.lemmas.Bool.{eqb-true, cases_lt, lt-ltb, le-ltb}
 use Rattle.ir_runs.specs.Machine.{Machine, IsLawful}
-use Rattle.ir_runs.specs.Marks.{Mark}
-use Rattle.ir_runs.specs.Run.{State, Step, Can, after, mark, IsRun, join_if, trail}
+use Rattle.ir_runs.specs.Labels.{Label}
+use Rattle.ir_runs.specs.Run.{State, Step, Can, after, label, IsRun, join_if, trail}
 use Rattle.ir_runs.proofs.Good.{Good, stays_good}
 use Rattle.ir_runs.proofs.Back.{Skipped, skip}
 use Rattle.ir_runs.specs.Cuts.{At, Tells, Cut, Consistent, lower, part}
@@ -13,12 +13,12 @@ at_later true x y xs k h = h
 at_later false x y xs k h = h
 
 -- a step after the first
-pub later : {T : Type 0} (m : Machine T) (s : State T) (e : Step) (run : List Step) (t k : ℕ) (a : Mark) → Tells m (after m s e) run t k a → Tells m s (e ∷ run) t (cond (eqb t e.0) (suc k) k) a
-later m s e run t k a h = (h.0, at_later (eqb t e.0) (s.now t, mark m s e) (h.0, a) (trail m (after m s e) run t) k h.1)
+pub later : {T : Type 0} (m : Machine T) (s : State T) (e : Step) (run : List Step) (t k : ℕ) (a : Label) → Tells m (after m s e) run t k a → Tells m s (e ∷ run) t (cond (eqb t e.0) (suc k) k) a
+later m s e run t k a h = (h.0, at_later (eqb t e.0) (s.now t, label m s e) (h.0, a) (trail m (after m s e) run t) k h.1)
 
 -- the first step
-pub foremost : {T : Type 0} (m : Machine T) (s : State T) (e : Step) (run : List Step) → Tells m s (e ∷ run) e.0 0 (mark m s e)
-foremost m s e run = (s.now e.0, subst (λ b. At (join_if b (s.now e.0, mark m s e) (trail m (after m s e) run e.0)) 0 (s.now e.0, mark m s e)) (sym (eq-eqb e.0 e.0 refl)) refl)
+pub foremost : {T : Type 0} (m : Machine T) (s : State T) (e : Step) (run : List Step) → Tells m s (e ∷ run) e.0 0 (label m s e)
+foremost m s e run = (s.now e.0, subst (λ b. At (join_if b (s.now e.0, label m s e) (trail m (after m s e) run e.0)) 0 (s.now e.0, label m s e)) (sym (eq-eqb e.0 e.0 refl)) refl)
 
 pub lower_up : (b : Bool) (k n : ℕ) → k < cond b (pred n) n → cond b (suc k) k < n
 lower_up true k n h = let h' : k < pred n = h in let g : suc k < n = omega arith in g
@@ -56,7 +56,7 @@ pub record Sorted {T : Type 0} (m : Machine T) (s : State T) (run : List Step) (
 sort_in : {T : Type 0} (m : Machine T) (s : State T) (e : Step) (run : List Step) (p : Cut) → Can m s e → 0 < p e.0 → Sorted m (after m s e) run (lower p e.0) → Sorted m s (e ∷ run) p
 sort_in m s e run p can l z = subst (λ b. (x : IsRun m s (join_if b e (part run (lower p e.0)))) → ((u : ℕ) → trail m s (join_if b e (part run (lower p e.0))) u ≡ take (p u) (trail m s (e ∷ run) u)) → Sorted m s (e ∷ run) p) (lt-ltb 0 (p e.0) l) (λ x y. record { ok = x; same_trail = y })
     (can, z.ok)
-    (λ u. ap (join_if (eqb u e.0) (s.now u, mark m s e)) (z.same_trail u) ∙ take_join (eqb u e.0) (p u) (s.now u, mark m s e) (trail m (after m s e) run u) (λ h. subst (λ y. 0 < p y) (sym (eqb-true u e.0 h)) l))
+    (λ u. ap (join_if (eqb u e.0) (s.now u, label m s e)) (z.same_trail u) ∙ take_join (eqb u e.0) (p u) (s.now u, label m s e) (trail m (after m s e) run u) (λ h. subst (λ y. 0 < p y) (sym (eqb-true u e.0 h)) l))
 
 take_zero : {A : Type 0} (n : ℕ) (xs : List A) → n ≡ 0 → take n xs ≡ []
 take_zero zero xs h = refl
@@ -68,10 +68,10 @@ sort_out m law s good e run p can l c z =
     let k : Skipped m s e (part run low) = skip m law s good e can (part run low) z.ok
     (z.same_trail e.0 ∙ take_zero (low e.0) (trail m (after m s e) run e.0) (subst (λ b. cond b (pred (p e.0)) (p e.0) ≡ 0) (sym (eq-eqb e.0 e.0 refl)) (ap pred l)))
     (λ u k x a h n. let w = at_take (low u) (trail m (after m s e) run u) k (x, a) (subst (λ y. At y k (x, a)) (z.same_trail u) h) in
-    not_less (p e.0) l (c u (cond (eqb u e.0) (suc k) k) e.0 0 a (mark m s e) (later m s e run u k a (x, w.1)) (foremost m s e run) n (lower_up (eqb u e.0) k (p u) w.0))) in
+    not_less (p e.0) l (c u (cond (eqb u e.0) (suc k) k) e.0 0 a (label m s e) (later m s e run u k a (x, w.1)) (foremost m s e run) n (lower_up (eqb u e.0) k (p u) w.0))) in
     subst (λ b. IsRun m s (join_if b e (part run low)) → ((u : ℕ) → trail m s (join_if b e (part run low)) u ≡ take (p u) (trail m s (e ∷ run) u)) → Sorted m s (e ∷ run) p) (le-ltb 0 (p e.0) (omega arith)) (λ x y. record { ok = x; same_trail = y })
     k.ok
-    (λ u. k.same_trail u ∙ z.same_trail u ∙ take_none (eqb u e.0) (p u) (s.now u, mark m s e) (trail m (after m s e) run u) (λ h. ap p (eqb-true u e.0 h) ∙ l))
+    (λ u. k.same_trail u ∙ z.same_trail u ∙ take_none (eqb u e.0) (p u) (s.now u, label m s e) (trail m (after m s e) run u) (λ h. ap p (eqb-true u e.0 h) ∙ l))
   where
     not_less : (n : ℕ) → n ≡ 0 → 0 < n → ⊥
     not_less n e h = omega arith

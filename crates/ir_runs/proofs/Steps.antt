@@ -5,7 +5,7 @@ use Rattle.std.proofs.lemmas.Bool.{cases_eq}
 use Rattle.ir_runs.specs.Machine.{Act, act_of, Machine, upd, IsLawful}
 use Rattle.ir_runs.specs.Object.{Object, target, Admits, acted, reply, told}
 use Rattle.ir_runs.proofs.Tables.{upd_same, upd_other}
-use Rattle.ir_runs.specs.Run.{act, State, moved, Step, Can, after, mark}
+use Rattle.ir_runs.specs.Run.{act, State, moved, Step, Can, after, label}
 use Rattle.ir_runs.proofs.Good.{Inside, Good, inside_now}
 use Rattle.ir_runs.proofs.Swap.{upd_comm, upd_upd, Clash, Commutes, swap1}
 
@@ -23,7 +23,7 @@ Clashes m s e e' = (target (act m s e') ≡ target (act m s e)) × Clash (act m 
 -- after the step e, the step e' is what it was
 pub record Keeps {T : Type 0} (m : Machine T) (s : State T) (e e' : Step) : Type 0 where
   pub can : Can m (after m s e) e'
-  pub mark_same : mark m (after m s e) e' ≡ mark m s e'
+  pub label_same : label m (after m s e) e' ≡ label m s e'
   pub now_same : (after m s e).now e'.0 ≡ s.now e'.0
   pub reply_same : reply (act m s e') ((after m s e).objects (target (act m s e'))) ≡ reply (act m s e') (s.objects (target (act m s e')))
 
@@ -57,7 +57,7 @@ keeps m law s good e e' ne can can' free =
     let z = sees m s.objects (target q) (acted q e.0) e'.0 (act m s e') can' (commutes_at m law s good e e' ne can can' free) in
     record {
       can = subst (λ y. Admits m (act_of (m.ask y) e'.1) ((after m s e).objects (target (act_of (m.ask y) e'.1)))) (sym still) z.0;
-      mark_same = ap (λ y. told (act_of (m.ask y) e'.1) ((after m s e).objects (target (act_of (m.ask y) e'.1)))) still ∙ z.1;
+      label_same = ap (λ y. told (act_of (m.ask y) e'.1) ((after m s e).objects (target (act_of (m.ask y) e'.1)))) still ∙ z.1;
       now_same = still;
       reply_same = z.2;
     }

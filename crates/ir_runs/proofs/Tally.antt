@@ -2,12 +2,12 @@
 use Rattle.std.proofs.Common.{◌≡◌, ◌≢◌, ℕ, suc, zero, ◌+◌, ◌<◌, ◌≤◌, Bool, true, false, cond, eqb, Option, Some, None, refl, sym, ap, ◌∙◌, subst, arith, inl, inr, eq-eqb, ne_eqb}
 use Rattle.std.proofs.lemmas.Bool.{cases_eq}
 use Rattle.ir_runs.specs.Machine.{Act, Silent, Result, Entry, Refusal, Exit, Load, Store, Never, Machine, upd, IsLawful}
-use Rattle.ir_runs.specs.Marks.{Mark, In}
+use Rattle.ir_runs.specs.Labels.{Label, In}
 use Rattle.ir_runs.specs.declared.access.Access.{Access}
 use Rattle.ir_runs.specs.declared.access.Access.TheVariants.{Reading, Writing}
 use Rattle.ir_runs.specs.Object.{Object, target, Admits, acted, told}
 use Rattle.ir_runs.proofs.Tables.{upd_same, upd_other, upd_elim}
-use Rattle.ir_runs.specs.Run.{act, State, Step, Can, after, mark, IsStart}
+use Rattle.ir_runs.specs.Run.{act, State, Step, Can, after, label, IsStart}
 use Rattle.ir_runs.proofs.Good.{Exclusive, Inside, Good, inside_now}
 use Rattle.ir_runs.specs.Coherent.{reads_one, sum_below}
 
@@ -50,8 +50,8 @@ pub record Tally {T : Type 0} (n : ℕ) (s : State T) (c : ℕ → ℕ → ℕ �
   pub balance : (o : ℕ) → (s.objects o).left + readers_inside n (s.objects o) ≡ sum_below n (c o (s.objects o).version)
   pub later : (o v t : ℕ) → (s.objects o).version < v → c o v t ≡ 0
 
--- one more, where the mark is a read entry
-abbrev pub counted : ℕ → ℕ → Mark → ℕ → ℕ → ℕ
+-- one more, where the label is a read entry
+abbrev pub counted : ℕ → ℕ → Label → ℕ → ℕ → ℕ
 counted o v k t u = cond (eqb u t) (reads_one o v k) 0
 
 plain : (n t : ℕ) (f : ℕ → ℕ) → sum_below n f ≡ sum_below n (λ u. f u + cond (eqb u t) 0 0)
@@ -137,19 +137,19 @@ none_counted : (c k : ℕ) (b : Bool) → c ≡ 0 → k ≡ 0 → c + cond b k 0
 none_counted c k true h g = let z : c + k ≡ 0 = omega arith in z
 none_counted c k false h g = let z : c + 0 ≡ 0 = omega arith in z
 
-pub tally_step : {T : Type 0} (m : Machine T) → IsLawful m → (n : ℕ) (s : State T) → Good m s → (c : ℕ → ℕ → ℕ → ℕ) → Tally n s c → (e : Step) → Can m s e → e.0 < n → Tally n (after m s e) (λ o v u. c o v u + counted o v (mark m s e) e.0 u)
+pub tally_step : {T : Type 0} (m : Machine T) → IsLawful m → (n : ℕ) (s : State T) → Good m s → (c : ℕ → ℕ → ℕ → ℕ) → Tally n s c → (e : Step) → Can m s e → e.0 < n → Tally n (after m s e) (λ o v u. c o v u + counted o v (label m s e) e.0 u)
 unfolding after
 tally_step m law n s good c tally e can l =
     let q : Act = act m s e in
     let b : Object = s.objects (target q) in
     record {
-      balance = λ o. upd_elim s.objects (target q) (acted q e.0 b) o (λ d. d.left + readers_inside n d ≡ sum_below n (λ u. c o d.version u + counted o d.version (mark m s e) e.0 u))
-          (λ here. subst (λ z. (acted q e.0 b).left + readers_inside n (acted q e.0 b) ≡ sum_below n (λ u. c z (acted q e.0 b).version u + counted z (acted q e.0 b).version (mark m s e) e.0 u)) (sym here)
+      balance = λ o. upd_elim s.objects (target q) (acted q e.0 b) o (λ d. d.left + readers_inside n d ≡ sum_below n (λ u. c o d.version u + counted o d.version (label m s e) e.0 u))
+          (λ here. subst (λ z. (acted q e.0 b).left + readers_inside n (acted q e.0 b) ≡ sum_below n (λ u. c z (acted q e.0 b).version u + counted z (acted q e.0 b).version (label m s e) e.0 u)) (sym here)
           (balance1 m n e.0 q b l (good.exclusive (target q)) (inside_now m law s good e) can (c (target q)) (tally.balance (target q)) (tally.later (target q))))
-          (λ other. tally.balance o ∙ sum_same n _ _ (λ u _. absent (c o (s.objects o).version u) (reads_one o (s.objects o).version (mark m s e)) (eqb u e.0) (told_elsewhere q b o (s.objects o).version other)));
-      later = λ o v t. upd_elim s.objects (target q) (acted q e.0 b) o (λ d. d.version < v → c o v t + counted o v (mark m s e) e.0 t ≡ 0)
-          (λ here less. let z : b.version < v = omega (arith, less, grows q e.0 b) in none_counted (c o v t) (reads_one o v (mark m s e)) (eqb t e.0) (subst (λ w. c w v t ≡ 0) (sym here) (tally.later (target q) v t z)) (told_before q b o v z))
-          (λ other less. none_counted (c o v t) (reads_one o v (mark m s e)) (eqb t e.0) (tally.later o v t less) (told_elsewhere q b o v other));
+          (λ other. tally.balance o ∙ sum_same n _ _ (λ u _. absent (c o (s.objects o).version u) (reads_one o (s.objects o).version (label m s e)) (eqb u e.0) (told_elsewhere q b o (s.objects o).version other)));
+      later = λ o v t. upd_elim s.objects (target q) (acted q e.0 b) o (λ d. d.version < v → c o v t + counted o v (label m s e) e.0 t ≡ 0)
+          (λ here less. let z : b.version < v = omega (arith, less, grows q e.0 b) in none_counted (c o v t) (reads_one o v (label m s e)) (eqb t e.0) (subst (λ w. c w v t ≡ 0) (sym here) (tally.later (target q) v t z)) (told_before q b o v z))
+          (λ other less. none_counted (c o v t) (reads_one o v (label m s e)) (eqb t e.0) (tally.later o v t less) (told_elsewhere q b o v other));
     }
   where
     absent : (c k : ℕ) (b : Bool) → k ≡ 0 → c ≡ c + cond b k 0

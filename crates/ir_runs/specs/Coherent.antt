@@ -1,12 +1,12 @@
 -- Coherent traces.
 use Rattle.std.specs.Prelude.{◌≡◌, ℕ, suc, zero, ◌+◌, cond, eqb, List, [], ◌∷◌}
-use Rattle.ir_runs.specs.Marks.{Mark, Quiet, Answer, In, Refused, Out, Trace}
+use Rattle.ir_runs.specs.Labels.{Label, Quiet, Answer, In, Refused, Out, Trace}
 use Rattle.ir_runs.specs.declared.access.Access.{Access}
 use Rattle.ir_runs.specs.declared.access.Access.TheVariants.{Reading, Writing}
 use Rattle.ir_runs.specs.Cuts.{At}
 
 -- 1 for a read entry of object o at version v, else 0
-abbrev pub reads_one : ℕ → ℕ → Mark → ℕ
+abbrev pub reads_one : ℕ → ℕ → Label → ℕ
 reads_one o v Quiet = 0
 reads_one o v (Answer k x) = 0
 reads_one o v (In p Reading w l) = cond (eqb p o) (cond (eqb w v) 1 0) 0
@@ -15,7 +15,7 @@ reads_one o v (Refused p) = 0
 reads_one o v (Out p a w) = 0
 
 -- how many of these are read entries of object o at version v
-abbrev pub reads : ℕ → ℕ → List Mark → ℕ
+abbrev pub reads : ℕ → ℕ → List Label → ℕ
 reads o v [] = 0
 reads o v (k ∷ ks) = reads_one o v k + reads o v ks
 

@@ -1,10 +1,10 @@
 -- Cuts of a run: a position for each thread.
 use Rattle.std.specs.Prelude.{◌≡◌, ℕ, suc, zero, pred, ◌<◌, ◌≤◌, cond, eqb, ltb, List, [], ◌∷◌}
 use Rattle.ir_runs.specs.Machine.{Machine}
-use Rattle.ir_runs.specs.Marks.{Mark, In, Out}
+use Rattle.ir_runs.specs.Labels.{Label, In, Out}
 use Rattle.ir_runs.specs.declared.access.Access.TheVariants.{Reading, Writing}
 use Rattle.ir_runs.specs.Object.{Object}
-use Rattle.ir_runs.specs.Run.{State, Step, Can, after, mark, IsRun, end, join_if, trail, count, th}
+use Rattle.ir_runs.specs.Run.{State, Step, Can, after, label, IsRun, end, join_if, trail, count, th}
 
 -- x stands at place k of the list
 abbrev pub At : {A : Type 0} → List A → ℕ → A → Type 0
@@ -13,11 +13,11 @@ At (y ∷ ys) zero x = y ≡ x
 At (y ∷ ys) (suc k) x = At ys k x
 
 -- step k of thread t tells this
-abbrev pub Tells : {T : Type 0} → Machine T → State T → List Step → ℕ → ℕ → Mark → Type 0
+abbrev pub Tells : {T : Type 0} → Machine T → State T → List Step → ℕ → ℕ → Label → Type 0
 Tells {T} m s run t k told = (x : T) × At (trail m s run t) k (x, told)
 
 -- what tells the second needs what tells the first: an entry needs the writer's leave that made its version, an entry for writing each reader's leave of its version
-abbrev pub Needs : Mark → Mark → Type 0
+abbrev pub Needs : Label → Label → Type 0
 Needs (Out o Writing w) (In p a v l) = (o ≡ p) × (v ≡ suc w)
 Needs (Out o Reading w) (In p Writing v l) = (o ≡ p) × (v ≡ w)
 Needs (Out o Reading w) _ = ⊥
@@ -33,7 +33,7 @@ IsCut m s run p = (t : ℕ) → p t ≤ count m s run t
 
 -- what a step of the cut needs is in the cut
 abbrev pub Consistent : {T : Type 0} → Machine T → State T → List Step → Cut → Type 0
-Consistent m s run p = (t k u j : ℕ) (a b : Mark) → Tells m s run t k a → Tells m s run u j b → Needs b a → k < p t → j < p u
+Consistent m s run p = (t k u j : ℕ) (a b : Label) → Tells m s run t k a → Tells m s run u j b → Needs b a → k < p t → j < p u
 
 -- the positions that are left after a step of thread t
 abbrev pub lower : Cut → ℕ → Cut
@@ -61,4 +61,4 @@ pub record AtCut {T : Type 0} (m : Machine T) (s : State T) (run : List Step) (p
   pub runs : IsRun m s (part run p)
   pub threads : (t : ℕ) → (end m s (part run p)).now t ≡ th m s run t (p t)
   pub steps : (t : ℕ) → Admitted m s run p t → (r : ℕ) × Can m (end m s (part run p)) (t, r) × (after m (end m s (part run p)) (t, r) ≡ end m s (part run (further p t)))
-      × Tells m s run t (p t) (mark m (end m s (part run p)) (t, r))
+      × Tells m s run t (p t) (label m (end m s (part run p)) (t, r))

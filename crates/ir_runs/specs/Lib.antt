@@ -1,5 +1,5 @@
 pub mod Machine
-pub mod Marks
+pub mod Labels
 pub mod Object
 pub mod Run
 pub mod Cuts

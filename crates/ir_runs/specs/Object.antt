@@ -1,6 +1,6 @@
 -- An object as the threads see it, and what a step of a thread makes of it.
 use Rattle.std.specs.Prelude.{◌≡◌, ◌≢◌, ℕ, suc, true, Option, Some, None}
-use Rattle.ir_runs.specs.Marks.{Mark, Quiet, Answer, In, Refused, Out}
+use Rattle.ir_runs.specs.Labels.{Label, Quiet, Answer, In, Refused, Out}
 use Rattle.ir_runs.specs.Machine.{Act, Silent, Result, Entry, Refusal, Exit, Load, Store, Never, Machine, upd}
 use Rattle.ir_runs.specs.declared.access.Access.{Access}
 use Rattle.ir_runs.specs.declared.access.Access.TheVariants.{Reading, Writing}
@@ -62,7 +62,7 @@ reply (Store o i w) b = 0
 reply Never b = 0
 
 -- what the act tells: an entry tells the version that it finds and, for writing, how many readers have left it
-abbrev pub told : Act → Object → Mark
+abbrev pub told : Act → Object → Label
 told Silent b = Quiet
 told (Result k v) b = Answer k v
 told (Entry o Reading v) b = In o Reading b.version 0

@@ -2,7 +2,7 @@
 use Rattle.std.specs.Prelude.{◌≡◌, ℕ, zero, suc, ◌<◌, ◌≤◌, Bool, true, false, eqb, List, [], ◌∷◌, length, None}
 use Rattle.ir_runs.specs.Machine.{Ask, Done, Enter, Act, act_of, Machine, upd}
 use Rattle.ir_runs.specs.declared.access.Access.{Access}
-use Rattle.ir_runs.specs.Marks.{Mark, logged, Trace}
+use Rattle.ir_runs.specs.Labels.{Label, logged, Trace}
 use Rattle.ir_runs.specs.Object.{Object, target, Admits, acted, reply, told}
 
 -- all threads, of any kind, and all objects at one moment
@@ -38,8 +38,8 @@ unfoldable pub after : {T : Type 0} → Machine T → State T → Step → State
 after m s e = moved m s e.0 (s.now e.0) (act m s e)
 
 -- what the step tells
-abbrev pub mark : {T : Type 0} → Machine T → State T → Step → Mark
-mark m s e = told (act m s e) (s.objects (target (act m s e)))
+abbrev pub label : {T : Type 0} → Machine T → State T → Step → Label
+label m s e = told (act m s e) (s.objects (target (act m s e)))
 
 -- there is each step of the run, after those before it
 abbrev pub IsRun : {T : Type 0} → Machine T → State T → List Step → Type 0
@@ -57,17 +57,17 @@ join_if true x xs = x ∷ xs
 join_if false x xs = xs
 
 -- the steps of thread t in the run, each with the thread before it and what it tells
-abbrev pub trail : {T : Type 0} → Machine T → State T → List Step → ℕ → List (T × Mark)
+abbrev pub trail : {T : Type 0} → Machine T → State T → List Step → ℕ → List (T × Label)
 trail m s [] t = []
-trail m s (e ∷ run) t = join_if (eqb t e.0) (s.now t, mark m s e) (trail m (after m s e) run t)
+trail m s (e ∷ run) t = join_if (eqb t e.0) (s.now t, label m s e) (trail m (after m s e) run t)
 
 -- what is logged of a thread's steps
-abbrev pub events : {T : Type 0} → List (T × Mark) → List Mark
+abbrev pub events : {T : Type 0} → List (T × Label) → List Label
 events [] = []
 events (x ∷ xs) = logged x.1 (events xs)
 
 -- the log of thread t
-abbrev pub log : {T : Type 0} → Machine T → State T → List Step → ℕ → List Mark
+abbrev pub log : {T : Type 0} → Machine T → State T → List Step → ℕ → List Label
 log m s run t = events (trail m s run t)
 
 -- how many steps thread t takes
@@ -75,7 +75,7 @@ abbrev pub count : {T : Type 0} → Machine T → State T → List Step → ℕ 
 count m s run t = length (trail m s run t)
 
 -- the thread before step k, or after the last step
-abbrev pub thread_in : {T : Type 0} → List (T × Mark) → ℕ → T → T
+abbrev pub thread_in : {T : Type 0} → List (T × Label) → ℕ → T → T
 thread_in [] k last = last
 thread_in (x ∷ xs) zero last = x.0
 thread_in (x ∷ xs) (suc k) last = thread_in xs k last

@@ -1,7 +1,7 @@
 -- Where the threads stand at the end of a run that follows a trace.
 use Rattle.std.specs.Prelude.{◌≡◌, ◌≢◌, ℕ, List, [], ◌∷◌, ◌++◌, length}
 use Rattle.ir_runs.specs.Machine.{Machine, Done}
-use Rattle.ir_runs.specs.Marks.{Mark, Trace}
+use Rattle.ir_runs.specs.Labels.{Label, Trace}
 use Rattle.ir_runs.specs.Run.{State, Step, asked, end, trail, log, count}
 use Rattle.ir_runs.specs.Following.{Follows, left_log, left_steps, closing}
 use Rattle.ir_runs.specs.Verdicts.{Agrees, result_of}
@@ -13,7 +13,7 @@ abbrev pub steps_over : {T : Type 0} → Machine T → State T → Trace → Lis
 steps_over m s tr run t = left_steps (trail m s run t) (tr.steps t)
 
 -- the log that the trace leaves to thread t after the run
-abbrev pub log_over : {T : Type 0} → Machine T → State T → Trace → List Step → ℕ → List Mark
+abbrev pub log_over : {T : Type 0} → Machine T → State T → Trace → List Step → ℕ → List Label
 log_over m s tr run t = left_log (trail m s run t) (tr.logs t)
 
 -- after the run, thread t has a further step that follows: with the result that its log gives

@@ -1,7 +1,7 @@
 -- What is said of each thread where a run that follows a trace has gone as far as any can.
 use Rattle.std.specs.Prelude.{◌≡◌, ◌≢◌, ℕ, ◌<◌, ◌≤◌, true, List, ◌∷◌, Option, None, length}
 use Rattle.ir_runs.specs.Machine.{Ask, Private, Env, Enter, Try, Leave, Get, Put, Done, Machine}
-use Rattle.ir_runs.specs.Marks.{Mark, Quiet, Answer, In, Refused, Out, Trace}
+use Rattle.ir_runs.specs.Labels.{Label, Quiet, Answer, In, Refused, Out, Trace}
 use Rattle.ir_runs.specs.declared.access.Access.TheVariants.{Reading, Writing}
 use Rattle.ir_runs.specs.Run.{State, Step, IsRun, IsDone, end, trail, log, count}
 use Rattle.ir_runs.specs.Cuts.{At}
@@ -10,7 +10,7 @@ use Rattle.ir_runs.specs.declared.thread_verdict.ThreadVerdict.TheVariants.{Same
 use Rattle.ir_runs.specs.Following.{Follows, left_log, left_steps, ends_now, Meets, closing}
 
 -- where an event is asked for, the next one is of that kind and object
-abbrev pub Suits : Ask → List Mark → Type 0
+abbrev pub Suits : Ask → List Label → Type 0
 Suits Private es = Unit {0}
 Suits (Env k) (Answer j v ∷ es) = j ≡ k
 Suits (Env k) _ = ⊥
@@ -25,17 +25,17 @@ Suits (Put o i w) es = Unit {0}
 Suits Done es = Unit {0}
 
 -- the next step of a thread that isn't done doesn't disagree, where n steps and the log es are left: its position is below the trace's steps, its event suits, and if it ends, then as the trace says
-abbrev pub Agrees : {T : Type 0} → Machine T → Option (ℕ × ℕ) → T → ℕ → List Mark → Type 0
+abbrev pub Agrees : {T : Type 0} → Machine T → Option (ℕ × ℕ) → T → ℕ → List Label → Type 0
 Agrees m fin x n es = (0 < n) × Suits (m.ask x) es × Meets (ends_now m x) fin (m.size x) n es
 
 -- an entry, or a try that the trace says got in
-abbrev pub Awaits : Ask → List Mark → Type 0
+abbrev pub Awaits : Ask → List Label → Type 0
 Awaits (Enter o a) es = Unit {0}
 Awaits (Try o) (In p c v l ∷ es) = Unit {0}
 Awaits _ _ = ⊥
 
 -- the verdict on a thread that stands as x, with n steps and the log es left, i events and k steps behind it, where no run takes it further
-abbrev pub Judged : {T : Type 0} → Machine T → Option (ℕ × ℕ) → Type 0 → T → ℕ → List Mark → ℕ → ℕ → ThreadVerdict → Type 0
+abbrev pub Judged : {T : Type 0} → Machine T → Option (ℕ × ℕ) → Type 0 → T → ℕ → List Label → ℕ → ℕ → ThreadVerdict → Type 0
 Judged m fin none x n es i k Same = m.ask x ≡ Done
 Judged m fin none x n es i k (Disagrees j h) = (m.ask x ≢ Done) × (Agrees m fin x n es → ⊥) × (j ≡ i) × (h ≡ k)
 Judged m fin none x n es i k (Starves j) = (m.ask x ≢ Done) × Agrees m fin x n es × Awaits (m.ask x) es × none × (j ≡ i)
@@ -49,7 +49,7 @@ abbrev pub IsVerdict : {T : Type 0} → Machine T → State T → Trace → List
 IsVerdict m s tr run t v = Judged m (tr.ends t) (NoneTakes m s tr t (count m s run t)) ((end m s run).now t) (left_steps (trail m s run t) (tr.steps t)) (left_log (trail m s run t) (tr.logs t)) (length (log m s run t)) (count m s run t) v
 
 -- what a trace may hold: results that fit, entries and refused tries
-abbrev pub IsEvent : {T : Type 0} → Machine T → Mark → Type 0
+abbrev pub IsEvent : {T : Type 0} → Machine T → Label → Type 0
 IsEvent m Quiet = ⊥
 IsEvent m (Answer k v) = m.fits k v ≡ true
 IsEvent m (In o Reading v l) = l ≡ 0
@@ -59,7 +59,7 @@ IsEvent m (Out o a v) = ⊥
 
 -- each log of the trace holds such
 abbrev pub HoldsEvents : {T : Type 0} → Machine T → Trace → Type 0
-HoldsEvents m tr = (t i : ℕ) (k : Mark) → At (tr.logs t) i k → IsEvent m k
+HoldsEvents m tr = (t i : ℕ) (k : Label) → At (tr.logs t) i k → IsEvent m k
 
 -- none of the first n threads has ended
 abbrev pub IsLive : {T : Type 0} → Machine T → State T → ℕ → Type 0
@@ -74,7 +74,7 @@ pub record IsWhole {T : Type 0} (m : Machine T) (s : State T) (n : ℕ) (tr : Tr
   pub ends : (t : ℕ) → t < n → m.ended ((end m s run).now t) ≡ tr.ends t
 
 -- the one result with which a step that asks so can follow this log
-abbrev pub result_of : Ask → List Mark → ℕ
+abbrev pub result_of : Ask → List Label → ℕ
 result_of (Env k) (Answer j v ∷ es) = v
 result_of (Try o) (In p c v l ∷ es) = 1
 result_of _ _ = 0

@@ -29,7 +29,7 @@ unfolding cut
 cut-other [] b e = rw e refl
 cut-other (x ∷ bytes) b e = ap (λ (k : Cut). by_test (eqb x 10) x k) (cut-other bytes b e) ∙ other_by (eqb x 10) x (cut bytes).whole (cut bytes).rest b
 
--- only the front of a line is kept
+-- only the prefix of a line is kept
 pub take-again : (n : ℕ) (xs ys : List ℕ) → take n (take n xs ++ ys) ≡ take n (xs ++ ys)
 take-again zero xs ys = refl
 take-again (suc n) [] ys = refl

@@ -2,8 +2,8 @@
 use Rattle.std.proofs.Common.{◌≡◌, ℕ, List, [], ◌∷◌, ◌++◌, ap, subst, ◌∙◌}
 use Rattle.std.specs.Prelude.{Option}
 use Rattle.std.specs.Io.KnownBytes.{Appends}
-use Rattle.ir_stream.specs.Devices.{AppendsFront}
-use Rattle.ir_stream.specs.Answers.{Answered, Wrote, WroteFront}
+use Rattle.ir_stream.specs.Devices.{AppendsPrefix}
+use Rattle.ir_stream.specs.Answers.{Answered, Wrote, WrotePrefix}
 use Rattle.ir_stream.specs.Determined.{Only, answers}
 
 only : {S : Type 0} (text : S → List ℕ → List ℕ) (next : S → List ℕ → S) (s : S) (ls : List (List ℕ)) (t : List ℕ) (last : S) → Answered (Only text next) s ls t last → t ≡ answers text next s ls
@@ -17,6 +17,6 @@ only text next s (l ∷ ls) t last (first, m, rest, is, done, e) =
 pub wrote_only : {S : Type 0} (text : S → List ℕ → List ℕ) (next : S → List ℕ → S) (s : S) (ls : List (List ℕ)) (old new : Option (List ℕ)) → Wrote (Only text next) s ls old new → Appends old new (answers text next s ls)
 wrote_only text next s ls old new w = subst (Appends old new) (only text next s ls w.text w.last w.answered) w.grown
 
--- the writer took a front of its answers
-pub front_only : {S : Type 0} (text : S → List ℕ → List ℕ) (next : S → List ℕ → S) (s : S) (ls : List (List ℕ)) (old new : Option (List ℕ)) → WroteFront (Only text next) s ls old new → AppendsFront old new (answers text next s ls)
-front_only text next s ls old new w = subst (AppendsFront old new) (only text next s ls w.text w.last w.answered) w.grown
+-- the writer took a prefix of its answers
+pub prefix_only : {S : Type 0} (text : S → List ℕ → List ℕ) (next : S → List ℕ → S) (s : S) (ls : List (List ℕ)) (old new : Option (List ℕ)) → WrotePrefix (Only text next) s ls old new → AppendsPrefix old new (answers text next s ls)
+prefix_only text next s ls old new w = subst (AppendsPrefix old new) (only text next s ls w.text w.last w.answered) w.grown

@@ -9,11 +9,11 @@ use Rattle.ir_stream.specs.declared.serving.Served.TheVariants.{Quit}
 use Rattle.ir_stream.specs.declared.serving.Fault.{Fault}
 use Rattle.ir_stream.specs.declared.serving.Fault.TheVariants.{Read, Write, TooLong}
 use Rattle.ir_stream.specs.Lines.{Cut, cut, last_line, lines_of}
-use Rattle.ir_stream.specs.Answers.{Replying, Answered, Wrote, WroteFront, Replied, RepliedFront, through, some_quits}
+use Rattle.ir_stream.specs.Answers.{Replying, Answered, Wrote, WrotePrefix, Replied, RepliedPrefix, through, some_quits}
 use Rattle.ir_stream.specs.Devices.{Reads}
 use Rattle.ir_stream.specs.Endings.{served_after, IfEnded, LeadsTo}
 use Rattle.ir_stream.proofs.Cuts.{cut-feed, cut-other, take-again}
-use Rattle.ir_stream.proofs.Replies.{front_after, answered-append, answered-nil, answered-one, answered_front, some_quits-append, some_quits-one, some_quits-nil, through-append, through-last, through-one, some_quits_front}
+use Rattle.ir_stream.proofs.Replies.{prefix_after, answered-append, answered-nil, answered-one, answered_prefix, some_quits-append, some_quits-one, some_quits-nil, through-append, through-last, through-one, some_quits_prefix}
 use Rattle.ir_stream.proofs.Hearing.{consumed_any, leads_quit, leads_end, leads_long}
 
 -- after these bytes: what is left, what was written, the machine and the line that has begun
@@ -69,8 +69,8 @@ module _ {S : Type 0} (R : Replying S) (quits : List ℕ → Bool) (long_replies
     fed_wrote : (next : S) (written' : Option (List ℕ)) → Replied R s line next written written' → Wrote R s0 ((cut at.bytes).whole ++ (cut at.bytes).rest ∷ []) w0 written'
     fed_wrote next written' p = record { text = at.text ++ p.text; last = next; answered = fed p.text next p.is; grown = Appends-trans w0 written written' at.text p.text at.grown p.grown }
 
-    fed_front : (written' : Option (List ℕ)) → RepliedFront R s line written written' → WroteFront R s0 ((cut at.bytes).whole ++ (cut at.bytes).rest ∷ []) w0 written'
-    fed_front written' p = record { text = at.text ++ p.text; last = p.next; answered = fed p.text p.next p.is; grown = front_after w0 written written' at.text p.text at.grown p.grown }
+    fed_prefix : (written' : Option (List ℕ)) → RepliedPrefix R s line written written' → WrotePrefix R s0 ((cut at.bytes).whole ++ (cut at.bytes).rest ∷ []) w0 written'
+    fed_prefix written' p = record { text = at.text ++ p.text; last = p.next; answered = fed p.text p.next p.is; grown = prefix_after w0 written written' at.text p.text at.grown p.grown }
 
     -- a line feed, whose line was answered and doesn't quit
     pub at_feed : (written' : Option (List ℕ)) (s' : S) → Consumes left left' (10 ∷ []) → Replied R s line s' written written' → quits line ≡ false → At R quits s0 input w0 left' written' s' [] (n + 1)
@@ -107,14 +107,14 @@ module _ {S : Type 0} (R : Replying S) (quits : List ℕ → Bool) (long_replies
           (λ (r : List ℕ). subst (LeadsTo R quits s0 limit (Ok Quit) w0 written') (sym (append_assoc at.bytes (10 ∷ []) r)) (leads_quit R quits s0 limit w0 written' at.bytes at.quiet r short (sym same_quits ∙ q) (fed_wrote next written' p)))
 
       -- the writer failed in the answer to a line whose line feed came
-      pub feed_failed : (written' : Option (List ℕ)) → Consumes left left' (10 ∷ []) → RepliedFront R s line written written'
-          → Reads limit input left' (λ consumed. (through quits (lines_of consumed) ≡ lines_of consumed) × (((cut consumed).rest ≡ [] → ⊥) → IsAtEnd left') × WroteFront R s0 (lines_of consumed) w0 written')
+      pub feed_failed : (written' : Option (List ℕ)) → Consumes left left' (10 ∷ []) → RepliedPrefix R s line written written'
+          → Reads limit input left' (λ consumed. (through quits (lines_of consumed) ≡ lines_of consumed) × (((cut consumed).rest ≡ [] → ⊥) → IsAtEnd left') × WrotePrefix R s0 (lines_of consumed) w0 written')
       unfolding cut
       feed_failed written' took p =
           let k = cut-feed at.bytes [] in
           let lines : lines_of (at.bytes ++ 10 ∷ []) ≡ (cut at.bytes).whole ++ (cut at.bytes).rest ∷ [] = ap (λ (c : Cut). c.whole ++ last_line c.rest) k ∙ append-nil ((cut at.bytes).whole ++ (cut at.bytes).rest ∷ []) in
           let none : (cut (at.bytes ++ 10 ∷ [])).rest ≡ [] = ap (λ (c : Cut). c.rest) k in
-          let P : List (List ℕ) → Type 0 = λ x. WroteFront R s0 x w0 written' in
+          let P : List (List ℕ) → Type 0 = λ x. WrotePrefix R s0 x w0 written' in
           record {
             consumed = at.bytes ++ 10 ∷ [];
             taken = Consumes-trans input left left' at.bytes (10 ∷ []) at.parts took;
@@ -122,7 +122,7 @@ module _ {S : Type 0} (R : Replying S) (quits : List ℕ → Bool) (long_replies
             holds = (
               ap (through quits) lines ∙ through-append quits (cut at.bytes).whole ((cut at.bytes).rest ∷ []) at.quiet ∙ ap (λ (t : List (List ℕ)). (cut at.bytes).whole ++ t) (through-one quits (cut at.bytes).rest) ∙ sym lines,
               λ some. absurd (some none),
-              subst P (sym lines) (fed_front written' p),
+              subst P (sym lines) (fed_prefix written' p),
             );
           }
 
@@ -136,19 +136,19 @@ module _ {S : Type 0} (R : Replying S) (quits : List ℕ → Bool) (long_replies
       }
 
       last_quits : some_quits quits (last_line line) ≡ some_quits quits (last_line (cut at.bytes).rest)
-      last_quits = ap (λ (l : List ℕ). some_quits quits (last_line l)) at.begun ∙ some_quits_front quits 1024 (cut at.bytes).rest long_quits
+      last_quits = ap (λ (l : List ℕ). some_quits quits (last_line l)) at.begun ∙ some_quits_prefix quits 1024 (cut at.bytes).rest long_quits
 
       -- the answers with that to what the input ended in
       all : (text : List ℕ) (last : S) → Answered R s (last_line line) text last → Answered R s0 (lines_of at.bytes) (at.text ++ text) last
       all text last done =
           let P : List ℕ → Type 0 = λ l. Answered R s (last_line l) text last in
-          answered-append R s0 (cut at.bytes).whole (last_line (cut at.bytes).rest) at.text text s last at.answered (answered_front R long_replies s (cut at.bytes).rest text last (subst P at.begun done))
+          answered-append R s0 (cut at.bytes).whole (last_line (cut at.bytes).rest) at.text text s last at.answered (answered_prefix R long_replies s (cut at.bytes).rest text last (subst P at.begun done))
 
       all_wrote : (written' : Option (List ℕ)) → Wrote R s (last_line line) written written' → Wrote R s0 (lines_of at.bytes) w0 written'
       all_wrote written' p = record { text = at.text ++ p.text; last = p.last; answered = all p.text p.last p.answered; grown = Appends-trans w0 written written' at.text p.text at.grown p.grown }
 
-      all_front : (written' : Option (List ℕ)) → WroteFront R s (last_line line) written written' → WroteFront R s0 (lines_of at.bytes) w0 written'
-      all_front written' p = record { text = at.text ++ p.text; last = p.last; answered = all p.text p.last p.answered; grown = front_after w0 written written' at.text p.text at.grown p.grown }
+      all_prefix : (written' : Option (List ℕ)) → WrotePrefix R s (last_line line) written written' → WrotePrefix R s0 (lines_of at.bytes) w0 written'
+      all_prefix written' p = record { text = at.text ++ p.text; last = p.last; answered = all p.text p.last p.answered; grown = prefix_after w0 written written' at.text p.text at.grown p.grown }
 
       module _ (took : Consumes left left' []) where
         ended_bytes : Consumes input left' at.bytes
@@ -165,8 +165,8 @@ module _ {S : Type 0} (R : Replying S) (quits : List ℕ → Bool) (long_replies
         end_known e written' gone p served = Consumes-whole input left' at.bytes (LeadsTo R quits s0 limit (Ok e) w0 written') ended_bytes gone (end_leads e written' p served)
 
         -- the writer failed in the answer to what the input ended in
-        pub end_failed : (written' : Option (List ℕ)) → IsAtEnd left' → WroteFront R s (last_line line) written written'
-            → Reads limit input left' (λ consumed. (through quits (lines_of consumed) ≡ lines_of consumed) × (((cut consumed).rest ≡ [] → ⊥) → IsAtEnd left') × WroteFront R s0 (lines_of consumed) w0 written')
+        pub end_failed : (written' : Option (List ℕ)) → IsAtEnd left' → WrotePrefix R s (last_line line) written written'
+            → Reads limit input left' (λ consumed. (through quits (lines_of consumed) ≡ lines_of consumed) × (((cut consumed).rest ≡ [] → ⊥) → IsAtEnd left') × WrotePrefix R s0 (lines_of consumed) w0 written')
         end_failed written' gone p = record {
           consumed = at.bytes;
           taken = ended_bytes;
@@ -174,7 +174,7 @@ module _ {S : Type 0} (R : Replying S) (quits : List ℕ → Bool) (long_replies
           holds = (
             through-append quits (cut at.bytes).whole (last_line (cut at.bytes).rest) at.quiet ∙ ap (λ (t : List (List ℕ)). (cut at.bytes).whole ++ t) (through-last quits (cut at.bytes).rest),
             λ _. gone,
-            all_front written' p,
+            all_prefix written' p,
           );
         }
 
@@ -193,8 +193,8 @@ module _ {S : Type 0} (R : Replying S) (quits : List ℕ → Bool) (long_replies
         finish_known (Err Write) written' gone p served fault = tt
         finish_known (Err TooLong) written' gone p served fault = absurd cc
 
-        pub finish_failed : (result : Result Served Fault) (written' : Option (List ℕ)) → IsAtEnd left' → result ≡ Err Write → OnErr result (WroteFront R s (last_line line) written written')
-            → Reads limit input left' (λ consumed. (through quits (lines_of consumed) ≡ lines_of consumed) × (((cut consumed).rest ≡ [] → ⊥) → IsAtEnd left') × WroteFront R s0 (lines_of consumed) w0 written')
+        pub finish_failed : (result : Result Served Fault) (written' : Option (List ℕ)) → IsAtEnd left' → result ≡ Err Write → OnErr result (WrotePrefix R s (last_line line) written written')
+            → Reads limit input left' (λ consumed. (through quits (lines_of consumed) ≡ lines_of consumed) × (((cut consumed).rest ≡ [] → ⊥) → IsAtEnd left') × WrotePrefix R s0 (lines_of consumed) w0 written')
         finish_failed (Ok e) written' gone failed p = absurd cc
         finish_failed (Err x) written' gone failed p = end_failed written' gone p
 

@@ -5,12 +5,12 @@ use Rattle.std.proofs.lemmas.List.{append-nil}
 use Rattle.std.proofs.KnownBytes.{Appends-nil, Appends-trans}
 use Rattle.std.specs.Io.KnownBytes.{Appends}
 use Rattle.ir_stream.specs.Lines.{last_line}
-use Rattle.ir_stream.specs.Devices.{AppendsFront}
-use Rattle.ir_stream.specs.Answers.{Replying, Answered, Wrote, WroteFront, Replied, RepliedFront, through, some_quits}
+use Rattle.ir_stream.specs.Devices.{AppendsPrefix}
+use Rattle.ir_stream.specs.Answers.{Replying, Answered, Wrote, WrotePrefix, Replied, RepliedPrefix, through, some_quits}
 
--- a front of the next text is one of all that was written
-pub front_after : (a b c : Option (List ℕ)) (done text : List ℕ) → Appends a b done → AppendsFront b c text → AppendsFront a c (done ++ text)
-front_after a b c done text wrote f = record {
+-- a prefix of the next text is one of all that was written
+pub prefix_after : (a b c : Option (List ℕ)) (done text : List ℕ) → Appends a b done → AppendsPrefix b c text → AppendsPrefix a c (done ++ text)
+prefix_after a b c done text wrote f = record {
   part = done ++ f.part;
   more = f.more;
   splits = ap (λ (t : List ℕ). done ++ t) f.splits ∙ sym (append_assoc done f.part f.more);
@@ -53,22 +53,22 @@ pub wrote_some : {S : Type 0} (R : Replying S) (s next : S) (r : List ℕ) (old 
 wrote_some R s next [] old new some p = absurd (some refl)
 wrote_some R s next (b ∷ r) old new some p = record { text = p.text; last = next; answered = answered-one R s (b ∷ r) p.text next p.is; grown = p.grown }
 
-pub front_some : {S : Type 0} (R : Replying S) (s : S) (r : List ℕ) (old new : Option (List ℕ)) → (r ≡ [] → ⊥) → RepliedFront R s r old new → WroteFront R s (last_line r) old new
-front_some R s [] old new some p = absurd (some refl)
-front_some R s (b ∷ r) old new some p = record { text = p.text; last = p.next; answered = answered-one R s (b ∷ r) p.text p.next p.is; grown = p.grown }
+pub prefix_some : {S : Type 0} (R : Replying S) (s : S) (r : List ℕ) (old new : Option (List ℕ)) → (r ≡ [] → ⊥) → RepliedPrefix R s r old new → WrotePrefix R s (last_line r) old new
+prefix_some R s [] old new some p = absurd (some refl)
+prefix_some R s (b ∷ r) old new some p = record { text = p.text; last = p.next; answered = answered-one R s (b ∷ r) p.text p.next p.is; grown = p.grown }
 
-one_front : {S : Type 0} (R : Replying S) (long : (s : S) (line text : List ℕ) (next : S) → R s (take 1025 line) text next → R s line text next)
+one_prefix : {S : Type 0} (R : Replying S) (long : (s : S) (line text : List ℕ) (next : S) → R s (take 1025 line) text next → R s line text next)
     → (s : S) (l k text : List ℕ) (last : S) → l ≡ take 1025 k → Answered R s (l ∷ []) text last → Answered R s (k ∷ []) text last
 unfolding Answered
-one_front {S} R long s l k text last e (first, next, rest, is, done, f) =
+one_prefix {S} R long s l k text last e (first, next, rest, is, done, f) =
     let P : List ℕ → Type 0 = λ x. R s x first next in
     (first, next, rest, long s k first next (subst P e is), done, f)
 
--- of the last line, too, only a front matters
-pub answered_front : {S : Type 0} (R : Replying S) (long : (s : S) (line text : List ℕ) (next : S) → R s (take 1025 line) text next → R s line text next)
+-- of the last line, too, only a prefix matters
+pub answered_prefix : {S : Type 0} (R : Replying S) (long : (s : S) (line text : List ℕ) (next : S) → R s (take 1025 line) text next → R s line text next)
     → (s : S) (r text : List ℕ) (last : S) → Answered R s (last_line (take 1025 r)) text last → Answered R s (last_line r) text last
-answered_front R long s [] text last p = p
-answered_front R long s (b ∷ r) text last p = one_front R long s (take 1025 (b ∷ r)) (b ∷ r) text last refl p
+answered_prefix R long s [] text last p = p
+answered_prefix R long s (b ∷ r) text last p = one_prefix R long s (take 1025 (b ∷ r)) (b ∷ r) text last refl p
 
 some_by : (b x y z : Bool) → cond b true x ≡ false → (x ≡ false → y ≡ z) → cond b true y ≡ z
 some_by true x y z h k = absurd cc
@@ -128,9 +128,9 @@ through-last quits (b ∷ r) = through-one quits (b ∷ r)
 pub through-none : (quits : List ℕ → Bool) (ls : List (List ℕ)) → some_quits quits ls ≡ false → through quits ls ≡ ls
 through-none quits ls h = ap (through quits) (sym (append-nil ls)) ∙ through-append quits ls [] h ∙ ap (λ (r : List (List ℕ)). ls ++ r) (through-nil quits) ∙ append-nil ls
 
-pub some_quits_front : (quits : List ℕ → Bool) (m : ℕ) (r : List ℕ) → ((line : List ℕ) → quits (take (suc m) line) ≡ quits line) → some_quits quits (last_line (take (suc m) r)) ≡ some_quits quits (last_line r)
-some_quits_front quits m [] h = refl
-some_quits_front quits m (b ∷ r) h = some_quits-one quits (b ∷ take m r) ∙ h (b ∷ r) ∙ sym (some_quits-one quits (b ∷ r))
+pub some_quits_prefix : (quits : List ℕ → Bool) (m : ℕ) (r : List ℕ) → ((line : List ℕ) → quits (take (suc m) line) ≡ quits line) → some_quits quits (last_line (take (suc m) r)) ≡ some_quits quits (last_line r)
+some_quits_prefix quits m [] h = refl
+some_quits_prefix quits m (b ∷ r) h = some_quits-one quits (b ∷ take m r) ∙ h (b ∷ r) ∙ sym (some_quits-one quits (b ∷ r))
 
 pub some_quits_empty : (quits : List ℕ → Bool) (r : List ℕ) → r ≡ [] → some_quits quits (last_line r) ≡ false
 some_quits_empty quits [] h = some_quits-nil quits

@@ -2,7 +2,7 @@
 use Rattle.std.specs.Prelude.{◌≡◌, ℕ, Bool, true, false, List, [], ◌∷◌, ◌++◌, if◌then◌else◌}
 use Rattle.std.specs.declared.option.Option.{Option}
 use Rattle.std.specs.Io.KnownBytes.{Appends}
-use Rattle.ir_stream.specs.Devices.{AppendsFront}
+use Rattle.ir_stream.specs.Devices.{AppendsPrefix}
 
 -- what a machine may do: as the first it answers a line by a text, and is then the second
 abbrev pub Replying : Type 0 → Type 1
@@ -20,12 +20,12 @@ pub record Wrote {S : Type 0} (R : Replying S) (s : S) (lines : List (List ℕ))
   pub answered : Answered R s lines text last
   pub grown : Appends old new text
 
--- the machine may answer the lines so that the writer took a front of the answers
-pub record WroteFront {S : Type 0} (R : Replying S) (s : S) (lines : List (List ℕ)) (old new : Option (List ℕ)) : Type 0 where
+-- the machine may answer the lines so that the writer took a prefix of the answers
+pub record WrotePrefix {S : Type 0} (R : Replying S) (s : S) (lines : List (List ℕ)) (old new : Option (List ℕ)) : Type 0 where
   pub text : List ℕ
   pub last : S
   pub answered : Answered R s lines text last
-  pub grown : AppendsFront old new text
+  pub grown : AppendsPrefix old new text
 
 -- the machine answered a line and is then the second, and the writer took the answer
 pub record Replied {S : Type 0} (R : Replying S) (s : S) (line : List ℕ) (next : S) (old new : Option (List ℕ)) : Type 0 where
@@ -33,12 +33,12 @@ pub record Replied {S : Type 0} (R : Replying S) (s : S) (line : List ℕ) (next
   pub is : R s line text next
   pub grown : Appends old new text
 
--- the machine may answer a line so that the writer took a front of the answer
-pub record RepliedFront {S : Type 0} (R : Replying S) (s : S) (line : List ℕ) (old new : Option (List ℕ)) : Type 0 where
+-- the machine may answer a line so that the writer took a prefix of the answer
+pub record RepliedPrefix {S : Type 0} (R : Replying S) (s : S) (line : List ℕ) (old new : Option (List ℕ)) : Type 0 where
   pub text : List ℕ
   pub next : S
   pub is : R s line text next
-  pub grown : AppendsFront old new text
+  pub grown : AppendsPrefix old new text
 
 -- the lines up to and with the first that quits
 unfoldable pub through : (List ℕ → Bool) → List (List ℕ) → List (List ℕ)

@@ -3,8 +3,8 @@ use Rattle.std.specs.Prelude.{◌≡◌, ℕ, ◌≤◌, List, length, ◌++◌}
 use Rattle.std.specs.declared.option.Option.{Option}
 use Rattle.std.specs.Io.KnownBytes.{Appends, Consumes}
 
--- known bytes grow by a front of the text
-pub record AppendsFront (old new : Option (List ℕ)) (text : List ℕ) : Type 0 where
+-- known bytes grow by a prefix of the text
+pub record AppendsPrefix (old new : Option (List ℕ)) (text : List ℕ) : Type 0 where
   pub part : List ℕ
   pub more : List ℕ
   pub splits : text ≡ part ++ more

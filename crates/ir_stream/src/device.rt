@@ -3,7 +3,7 @@
 ghost use Rattle.std.specs.Prelude.{◌≡◌, ℕ, Bool, true, ◌≤◌, ◌<◌, List, length, take, IfOk, OnOk, OnErr, [], Ok};
 ghost use Rattle.std.specs.declared.option.Option.{Option};
 ghost use Rattle.std.specs.Io.KnownBytes.{Keeps, Appends, Consumes, IsAtEnd};
-ghost use Rattle.ir_stream.specs.Devices.{AppendsFront};
+ghost use Rattle.ir_stream.specs.Devices.{AppendsPrefix};
 
 /// A device failed, and stays so.
 #[derive(Clone, Copy, Debug, PartialEq, Eq)]
@@ -17,7 +17,7 @@ pub trait Source {
     /// Whether a read has failed.
     ghost broken: { Self → Bool };
 
-    /// Moves some bytes to the front of the buffer and gives their number, which is 0 only at the end of the bytes or
+    /// Moves some bytes to the prefix of the buffer and gives their number, which is 0 only at the end of the bytes or
     /// for an empty buffer.
     fn read(&mut self, buffer: &mut [u8]) -> Result<usize, DeviceErr>
         ensures count { IfOk result (λ n. n ≤ length buffer.new) }
@@ -40,7 +40,7 @@ pub trait Sink {
     /// Whether a write has failed.
     ghost broken: { Self → Bool };
 
-    /// Takes some bytes from the front and gives their number, which is 0 only for no bytes.
+    /// Takes some bytes from the prefix and gives their number, which is 0 only for no bytes.
     fn write(&mut self, bytes: &[u8]) -> Result<usize, DeviceErr>
         ensures count { IfOk result (λ n. n ≤ length bytes.now) }
         ensures some { result ≡ Ok 0 → bytes.now ≡ [] }
@@ -54,11 +54,11 @@ pub trait Sink {
         ensures { result ≡ broken self.now };
 }
 
-/// Writes all of the bytes. After an `Err` the writer has failed and took a front of them.
+/// Writes all of the bytes. After an `Err` the writer has failed and took a prefix of them.
 pub fn write_all<W: Sink>(writer: &mut W, bytes: &[u8]) -> Result<(), DeviceErr>
     ensures ok { OnOk result (Appends (W.written writer.old) (W.written writer.new) bytes.now) }
     ensures stays { OnOk result (W.broken writer.new ≡ W.broken writer.old) }
-    ensures front { OnErr result (AppendsFront (W.written writer.old) (W.written writer.new) bytes.now) }
+    ensures prefix { OnErr result (AppendsPrefix (W.written writer.old) (W.written writer.new) bytes.now) }
     ensures err { OnErr result (W.broken writer.new ≡ true) }
 {
     let mut rest = bytes;

@@ -5,7 +5,7 @@ ghost use Rattle.std.specs.Io.KnownBytes.{IsAtEnd};
 ghost use Rattle.ir_stream.specs.Lines.{cut, lines_of, last_line};
 ghost use Rattle.ir_stream.specs.Nexts.{IsNext, broken_after};
 ghost use Rattle.ir_stream.specs.Endings.{flow_after, served_after, IfEnded, LeadsTo};
-ghost use Rattle.ir_stream.specs.Answers.{Replying, Wrote, WroteFront, Replied, RepliedFront, through, some_quits};
+ghost use Rattle.ir_stream.specs.Answers.{Replying, Wrote, WrotePrefix, Replied, RepliedPrefix, through, some_quits};
 ghost use Rattle.ir_stream.specs.Devices.{Reads};
 
 use crate::device::{DeviceErr, Sink, Source};
@@ -37,7 +37,7 @@ pub trait Responder {
         ensures flow { IfOk result (λ f. f ≡ flow_after (quits line.now)) }
         ensures room { OnOk result (room self.old ≤ room self.new + 1) }
         ensures stays { OnOk result (W.broken writer.new ≡ W.broken writer.old) }
-        ensures front { OnErr result (RepliedFront replies self.old line.now (W.written writer.old) (W.written writer.new)) }
+        ensures prefix { OnErr result (RepliedPrefix replies self.old line.now (W.written writer.old) (W.written writer.new)) }
         ensures err { OnErr result (W.broken writer.new ≡ true) };
 
     /// Of a line, no more than 1,025 bytes matter.
@@ -96,7 +96,7 @@ fn finish<W: Sink, M: Responder>(
     ensures served { IfOk result (λ e. e ≡ served_after (some_quits M.quits (last_line line.now))) }
     ensures stays { OnOk result (W.broken writer.new ≡ W.broken writer.old) }
     ensures fault { IfErr result (λ f. f ≡ Fault.Write) }
-    ensures front { OnErr result (WroteFront M.replies machine.old (last_line line.now) (W.written writer.old) (W.written writer.new)) }
+    ensures prefix { OnErr result (WrotePrefix M.replies machine.old (last_line line.now) (W.written writer.old) (W.written writer.new)) }
     ensures err { OnErr result (W.broken writer.new ≡ true) }
 {
     if line.is_empty() {
@@ -133,12 +133,12 @@ pub fn serve<R: Source, W: Sink, M: Responder>(
     ensures read { result ≡ Err Fault.Read → (R.broken reader.new ≡ true) × (W.broken writer.new ≡ false)
         × Reads limit (R.left reader.old) (R.left reader.new) (λ consumed. (some_quits M.quits (cut consumed).whole ≡ false)
         × Wrote M.replies machine.old (cut consumed).whole (W.written writer.old) (W.written writer.new)) }
-    // After a failed write, a front of the answers to the lines that were read, of which none but the last may quit. It
+    // After a failed write, a prefix of the answers to the lines that were read, of which none but the last may quit. It
     // is unfinished only at the end of the input.
     ensures write { result ≡ Err Fault.Write → (R.broken reader.new ≡ false) × (W.broken writer.new ≡ true)
         × Reads limit (R.left reader.old) (R.left reader.new) (λ consumed. (through M.quits (lines_of consumed) ≡ lines_of consumed)
         × ((cut consumed).rest ≢ [] → IsAtEnd (R.left reader.new))
-        × WroteFront M.replies machine.old (lines_of consumed) (W.written writer.old) (W.written writer.new)) }
+        × WrotePrefix M.replies machine.old (lines_of consumed) (W.written writer.old) (W.written writer.new)) }
 {
     let mut line = ArrayVec::<u8, KEPT>::new();
     for taken in 0..limit {

@@ -24,8 +24,8 @@ impl Source for Page<'_> {
         }
         self.reads -= 1;
         let n = self.left.len().min(buffer.len());
-        let (front, rest) = self.left.split_at(n);
-        buffer[..n].copy_from_slice(front);
+        let (prefix, rest) = self.left.split_at(n);
+        buffer[..n].copy_from_slice(prefix);
         self.left = rest;
         Ok(n)
     }
@@ -156,7 +156,7 @@ fn a_failed_read_leaves_the_answers_to_whole_lines(rt: HostRuntime) {
 }
 
 #[test]
-fn a_failed_write_leaves_a_front_of_the_answers(rt: HostRuntime) {
+fn a_failed_write_leaves_a_prefix_of_the_answers(rt: HostRuntime) {
     let all = b"a\nb\nq\n".as_slice();
     for writes in 0..6 {
         let mut reader = source_of(b"a\nbc\nq", 9999);

@@ -11,7 +11,7 @@ use Rattle.ir_thread.specs.declared.end.End.TheVariants as end
 use Rattle.ir_trace.specs.declared.trace_err.TraceErr.{TraceErr}
 use Rattle.ir_trace.specs.declared.trace_err.TraceErr.TheVariants.{Short, Magic, Reserved}
 use Rattle.ir_trace.specs.Recorded.{IsWord}
-use Rattle.ir_trace.specs.Spelling.{magic, end_spelling}
+use Rattle.ir_trace.specs.Encoding.{magic, end_encoding}
 use Rattle.ir_trace.specs.Reading.{magic_field, reserved_field, end_field, end_by, end_at}
 
 pub magic_takes : (bytes : List ℕ) (n : ℕ × List ℕ) → IsBytes bytes → field_at Short magic_field bytes ≡ Ok n → Takes bytes magic n.1
@@ -91,12 +91,12 @@ number_in_range end.LogFull = refl
 
 -- what reading an end takes
 abbrev pub TakesEnd : List ℕ → End × List ℕ → Type 0
-TakesEnd bytes x = Takes bytes (end_spelling x.0) x.1 × IsWord (end_code x.0)
+TakesEnd bytes x = Takes bytes (end_encoding x.0) x.1 × IsWord (end_code x.0)
 
 end_chosen : (bytes : List ℕ) (n : ℕ) (code : ℕ × List ℕ) (o : Option End) (x : End × List ℕ)
     → Takes bytes (n ∷ little_bytes 4 code.0) code.1 → IsWord code.0
     → ((e : End) → o ≡ Some e → HasNumbers n code.0 e) → end_by o code.1 ≡ Ok x → TakesEnd bytes x
-unfolding end_spelling
+unfolding end_encoding
 end_chosen bytes n code (Some e) x t w is h =
     let both = is e refl in
     let own : TakesEnd bytes (e, code.1) = (
@@ -119,8 +119,8 @@ end_takes bytes x fits e =
     (Takes-then bytes (n.0 ∷ []) n.1 (little_bytes 4 code.0) code.1 (byte_taken bytes n t0.takes t0.fits) t1.0) t1.1 (end_is n.0 code.0)
     e2)
 
-pub end_again : (e : End) (rest : List ℕ) → IsWord (end_code e) → end_at (end_spelling e ++ rest) ≡ Ok (e, rest)
-unfolding end_at end_spelling
+pub end_again : (e : End) (rest : List ℕ) → IsWord (end_code e) → end_at (end_encoding e ++ rest) ≡ Ok (e, rest)
+unfolding end_at end_encoding
 end_again e rest fits =
     rw (
       byte_field_again Short end_field (end_number e) (little_bytes 4 (end_code e) ++ rest) refl (number_in_range e),

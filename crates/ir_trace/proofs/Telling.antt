@@ -3,26 +3,26 @@ use Rattle.std.proofs.Common.{◌≡◌, ℕ, zero, suc, List, [], ◌∷◌, le
 use Rattle.std.specs.List.{slice_index_or}
 use Rattle.ir_thread.specs.Ends.{end_number, end_code, end_of}
 use Rattle.ir_thread.specs.declared.end.End.{End}
-use Rattle.ir_runs.specs.Marks.{Mark, Trace}
-use Rattle.ir_log.specs.Logging.{mark_of}
+use Rattle.ir_runs.specs.Labels.{Label, Trace}
+use Rattle.ir_log.specs.Logging.{label_of}
 use Rattle.ir_log.specs.declared.event.Event.{Event}
 use Rattle.ir_trace.specs.Recorded.{RecordedThread, Recorded}
 use Rattle.ir_trace.specs.Told.{absent, trace_of}
 use Rattle.ir_trace.proofs.Taken.{end_again_by}
 
--- different events are different marks
-abbrev pub OneMarkEach : Type 0
-OneMarkEach = (a b : Event) → mark_of a ≡ mark_of b → a ≡ b
+-- different events are different labels
+abbrev pub OneLabelEach : Type 0
+OneLabelEach = (a b : Event) → label_of a ≡ label_of b → a ≡ b
 
-heads : (x y : Mark) (xs ys : List Mark) → x ∷ xs ≡ y ∷ ys → (x ≡ y) × (xs ≡ ys)
+heads : (x y : Label) (xs ys : List Label) → x ∷ xs ≡ y ∷ ys → (x ≡ y) × (xs ≡ ys)
 heads x y xs ys e = (cc, cc)
 
-same_events : OneMarkEach → (xs ys : List Event) → map mark_of xs ≡ map mark_of ys → xs ≡ ys
+same_events : OneLabelEach → (xs ys : List Event) → map label_of xs ≡ map label_of ys → xs ≡ ys
 same_events law [] [] e = refl
 same_events law [] (y ∷ ys) e = absurd cc
 same_events law (x ∷ xs) [] e = absurd cc
 same_events law (x ∷ xs) (y ∷ ys) e =
-    let both = heads (mark_of x) (mark_of y) (map mark_of xs) (map mark_of ys) e in
+    let both = heads (label_of x) (label_of y) (map label_of xs) (map label_of ys) e in
     let first : x ≡ y = law x y both.0 in
     ap (λ (k : Event). k ∷ xs) first ∙ ap (λ (k : List Event). y ∷ k) (same_events law xs ys both.1)
 
@@ -53,16 +53,16 @@ end_of_thread t = both_numbers (end_number t.end) (end_code t.end)
 -- two lists of threads that are told alike
 record ToldAlike (xs ys : List RecordedThread) : Type 0 where
   steps : (t : ℕ) → (slice_index_or xs t absent).steps ≡ (slice_index_or ys t absent).steps
-  logs : (t : ℕ) → map mark_of (slice_index_or xs t absent).events ≡ map mark_of (slice_index_or ys t absent).events
+  logs : (t : ℕ) → map label_of (slice_index_or xs t absent).events ≡ map label_of (slice_index_or ys t absent).events
   ends : (t : ℕ) → end_of_thread (slice_index_or xs t absent) ≡ end_of_thread (slice_index_or ys t absent)
 
-same_thread : OneMarkEach → (x y : RecordedThread) → x.steps ≡ y.steps → map mark_of x.events ≡ map mark_of y.events → end_of_thread x ≡ end_of_thread y → x ≡ y
+same_thread : OneLabelEach → (x y : RecordedThread) → x.steps ≡ y.steps → map label_of x.events ≡ map label_of y.events → end_of_thread x ≡ end_of_thread y → x ≡ y
 same_thread law x y s l e =
     let end = same_end x.end y.end e in
     let events = same_events law x.events y.events l in
     λ i. record { steps = s i; end = end i; events = events i }
 
-same_threads : OneMarkEach → (xs ys : List RecordedThread) → length xs ≡ length ys → ToldAlike xs ys → xs ≡ ys
+same_threads : OneLabelEach → (xs ys : List RecordedThread) → length xs ≡ length ys → ToldAlike xs ys → xs ≡ ys
 same_threads law [] [] n h = refl
 same_threads law [] (y ∷ ys) n h = absurd (omega (arith, n))
 same_threads law (x ∷ xs) [] n h = absurd (omega (arith, n))
@@ -71,7 +71,7 @@ same_threads law (x ∷ xs) (y ∷ ys) n h =
     let others : xs ≡ ys = same_threads law xs ys (omega (arith, n)) (record { steps = λ t. h.steps (suc t); logs = λ t. h.logs (suc t); ends = λ t. h.ends (suc t) }) in
     ap (λ (k : RecordedThread). k ∷ xs) first ∙ ap (λ (k : List RecordedThread). y ∷ k) others
 
-pub told_apart_by : OneMarkEach → (a b : Recorded) → a.objects ≡ b.objects → a.budget ≡ b.budget → length a.threads ≡ length b.threads → trace_of a ≡ trace_of b → a ≡ b
+pub told_apart_by : OneLabelEach → (a b : Recorded) → a.objects ≡ b.objects → a.budget ≡ b.budget → length a.threads ≡ length b.threads → trace_of a ≡ trace_of b → a ≡ b
 told_apart_by law a b o n l e =
     let threads = same_threads law a.threads b.threads l (record { steps = λ t. ap (λ (x : Trace). x.steps t) e; logs = λ t. ap (λ (x : Trace). x.logs t) e; ends = λ t. ap (λ (x : Trace). x.ends t) e }) in
     λ i. record { objects = o i; budget = n i; threads = threads i }

@@ -1,4 +1,4 @@
--- What is read is spelled so, and what is spelled so is read.
+-- What is read is encoded so, and what is encoded so is read.
 use Rattle.std.proofs.Common.{◌≡◌, ℕ, ◌<◌, ◌≤◌, cond, eqb, List, [], ◌∷◌, ◌++◌, length, slice_index, Ok, Err, refl, sym, ap, subst, ◌∙◌, append_assoc, arith}
 use Rattle.std.specs.List.{flat_map}
 use Rattle.std.proofs.lemmas.Bool.{eqb-true}
@@ -13,7 +13,7 @@ use Rattle.ir_trace.specs.declared.header.Header.{Header}
 use Rattle.ir_trace.specs.declared.trace_err.TraceErr.{TraceErr}
 use Rattle.ir_trace.specs.declared.trace_err.TraceErr.TheVariants.{Short, Count, Trailing}
 use Rattle.ir_trace.specs.Recorded.{RecordedThread, Recorded, IsEvent, IsRecordedThread, IsRecorded, most_budget}
-use Rattle.ir_trace.specs.Spelling.{magic, event_spelling, end_spelling, thread_spelling, header_of, header_spelling, spelling}
+use Rattle.ir_trace.specs.Encoding.{magic, event_encoding, end_encoding, thread_encoding, header_of, header_encoding, encoding}
 use Rattle.ir_trace.specs.Reading.{magic_field, threads_field, objects_field, reserved_field, budget_field, events_field, header_at, end_at, event_at, thread_at, recorded_at}
 use Rattle.ir_trace.proofs.EventLaws.{event_takes, event_again}
 use Rattle.ir_trace.proofs.Taken.{magic_takes, magic_again, reserved_takes, reserved_again, end_takes, end_again}
@@ -29,22 +29,22 @@ record IsWithin (h : Header) : Type 0 where
 
 -- what reading the header takes
 record TakesHeader (all : List ℕ) (x : Header × List ℕ) : Type 0 where
-  takes : Takes all (header_spelling x.0) x.1
+  takes : Takes all (header_encoding x.0) x.1
   within : IsWithin x.0
 
 header_taken : (all : List ℕ) (first threads objects reserved budget : ℕ × List ℕ) → Takes all magic first.1
     → TakesField threads_field first.1 threads → TakesField objects_field threads.1 objects
     → Takes objects.1 (little_bytes 2 0) reserved.1 → TakesField budget_field reserved.1 budget
     → TakesHeader all (record { threads = threads.0; objects = objects.0; budget = budget.0 }, budget.1)
-unfolding header_spelling
+unfolding header_encoding
 header_taken all first threads objects reserved budget t0 t1 t2 t3 t4 =
     let n = within_ok 1 8 threads.0 Count t1.passes in
     let m = within_ok 0 16 objects.0 Count t2.passes in
     let b = within_ok 0 most_budget budget.0 Count t4.passes in
     let counts = Takes-then first.1 (threads.0 ∷ []) threads.1 (objects.0 ∷ []) objects.1 (byte_taken first.1 threads t1.takes t1.fits)
     (byte_taken threads.1 objects t2.takes t2.fits) in
-    let front = Takes-then all magic first.1 (threads.0 ∷ objects.0 ∷ []) objects.1 t0 counts in
-    let second = Takes-then all (magic ++ (threads.0 ∷ objects.0 ∷ [])) objects.1 (little_bytes 2 0) reserved.1 front t3 in
+    let prefix = Takes-then all magic first.1 (threads.0 ∷ objects.0 ∷ []) objects.1 t0 counts in
+    let second = Takes-then all (magic ++ (threads.0 ∷ objects.0 ∷ [])) objects.1 (little_bytes 2 0) reserved.1 prefix t3 in
     record {
       takes = Takes-then all (magic ++ (threads.0 ∷ objects.0 ∷ []) ++ little_bytes 2 0) reserved.1 (little_bytes 8 budget.0) budget.1
           second t4.takes;
@@ -69,8 +69,8 @@ header_take all x fits e =
     (ok_is TraceErr (record { threads = threads.0; objects = objects.0; budget = budget.0 }, budget.1) x e5)
     (header_taken all first threads objects reserved budget t0 t1 t2 t3 t4))
 
-header_again : (h : Header) (rest : List ℕ) → IsWithin h → header_at (header_spelling h ++ rest) ≡ Ok (h, rest)
-unfolding header_at header_spelling
+header_again : (h : Header) (rest : List ℕ) → IsWithin h → header_at (header_encoding h ++ rest) ≡ Ok (h, rest)
+unfolding header_at header_encoding
 header_again h rest within =
     let r2 = little_bytes 8 h.budget ++ rest in
     let r1 = little_bytes 2 0 ++ r2 in
@@ -88,28 +88,28 @@ header_again h rest within =
 
 -- what reading a thread takes
 abbrev TakesThread : ℕ → List ℕ → RecordedThread × List ℕ → Type 0
-TakesThread objects bytes x = Takes bytes (thread_spelling x.0) x.1 × IsRecordedThread objects x.0
+TakesThread objects bytes x = Takes bytes (thread_encoding x.0) x.1 × IsRecordedThread objects x.0
 
 thread_taken : (objects : ℕ) (all : List ℕ) (steps : ℕ × List ℕ) (ended : End × List ℕ) (count : ℕ × List ℕ)
     (events : List Event × List ℕ) → IsBytes all
     → number_at Short 8 all ≡ Ok steps → end_at steps.1 ≡ Ok ended → field_at Short events_field ended.1 ≡ Ok count
     → fields_at (event_at objects) count.0 count.1 ≡ Ok events
     → TakesThread objects all (record { steps = steps.0; end = ended.0; events = events.0 }, events.1)
-unfolding thread_spelling
+unfolding thread_encoding
 thread_taken objects all steps ended count events fits e0 e1 e2 e3 =
     let t0 = number_takes Short 8 all steps fits e0 in
     let t1 = end_takes steps.1 ended t0.0.rest_fits e1 in
     let t2 = field_takes Short events_field ended.1 count t1.0.rest_fits e2 in
     let n = within_ok 0 most_events count.0 Count t2.passes in
-    let t3 = fields_take (IsEvent objects) event_spelling (event_at objects) (event_takes objects) count.0 count.1 events
+    let t3 = fields_take (IsEvent objects) event_encoding (event_at objects) (event_takes objects) count.0 count.1 events
     t2.takes.rest_fits e3 in
     let counted : Takes ended.1 (little_bytes 4 (length events.0)) count.1 = subst (λ (k : ℕ). Takes ended.1 (little_bytes 4 k) count.1)
     (sym t3.count) t2.takes in
-    let first = Takes-then all (little_bytes 8 steps.0) steps.1 (end_spelling ended.0) ended.1 t0.0 t1.0 in
-    let second = Takes-then all (little_bytes 8 steps.0 ++ end_spelling ended.0) ended.1 (little_bytes 4 (length events.0)) count.1 first
+    let first = Takes-then all (little_bytes 8 steps.0) steps.1 (end_encoding ended.0) ended.1 t0.0 t1.0 in
+    let second = Takes-then all (little_bytes 8 steps.0 ++ end_encoding ended.0) ended.1 (little_bytes 4 (length events.0)) count.1 first
     counted in (
-      Takes-then all (little_bytes 8 steps.0 ++ end_spelling ended.0 ++ little_bytes 4 (length events.0)) count.1
-          (flat_map event_spelling events.0) events.1 second t3.takes,
+      Takes-then all (little_bytes 8 steps.0 ++ end_encoding ended.0 ++ little_bytes 4 (length events.0)) count.1
+          (flat_map event_encoding events.0) events.1 second t3.takes,
       record {
         steps_fit = t0.1;
         code_fits = t1.1;
@@ -134,29 +134,29 @@ four_parts : (a b c d rest : List ℕ) → (a ++ b ++ c ++ d) ++ rest ≡ a ++ (
 four_parts a b c d rest = simp append_assoc
 
 thread_again : (objects : ℕ) (t : RecordedThread) (rest : List ℕ) → IsRecordedThread objects t
-    → thread_at objects (thread_spelling t ++ rest) ≡ Ok (t, rest)
-unfolding thread_at thread_spelling
+    → thread_at objects (thread_encoding t ++ rest) ≡ Ok (t, rest)
+unfolding thread_at thread_encoding
 thread_again objects t rest fits =
-    let r3 = flat_map event_spelling t.events ++ rest in
+    let r3 = flat_map event_encoding t.events ++ rest in
     let r2 = little_bytes 4 (length t.events) ++ r3 in
-    let r1 = end_spelling t.end ++ r2 in
+    let r1 = end_encoding t.end ++ r2 in
     let e0 = number_again Short 8 t.steps r1 fits.steps_fit in
     let e1 = end_again t.end r2 fits.code_fits in
     let e2 = field_again Short events_field (length t.events) r3 (omega (arith, fits.few_events))
     (within_again 0 most_events (length t.events) Count (omega arith) fits.few_events) in
-    let e3 = fields_again (IsEvent objects) event_spelling (event_at objects) (event_again objects) t.events rest fits.events_fit in
-    ap (thread_at objects) (four_parts (little_bytes 8 t.steps) (end_spelling t.end) (little_bytes 4 (length t.events))
-    (flat_map event_spelling t.events) rest) ∙ rw (e0, e1, e2, e3) refl
+    let e3 = fields_again (IsEvent objects) event_encoding (event_at objects) (event_again objects) t.events rest fits.events_fit in
+    ap (thread_at objects) (four_parts (little_bytes 8 t.steps) (end_encoding t.end) (little_bytes 4 (length t.events))
+    (flat_map event_encoding t.events) rest) ∙ rw (e0, e1, e2, e3) refl
 
 -- ---- the whole trace
 
 -- what reading the threads after a header takes
 abbrev TakesThreads : Header → List ℕ → List RecordedThread × List ℕ → Type 0
-TakesThreads h bytes x = TakesFields (IsRecordedThread h.objects) thread_spelling h.threads bytes x
+TakesThreads h bytes x = TakesFields (IsRecordedThread h.objects) thread_encoding h.threads bytes x
 
 threads_take : (h : Header) (bytes : List ℕ) (x : List RecordedThread × List ℕ) → IsBytes bytes
     → fields_at (thread_at h.objects) h.threads bytes ≡ Ok x → TakesThreads h bytes x
-threads_take h bytes x fits e = fields_take (IsRecordedThread h.objects) thread_spelling (thread_at h.objects) (thread_takes h.objects)
+threads_take h bytes x fits e = fields_take (IsRecordedThread h.objects) thread_encoding (thread_at h.objects) (thread_takes h.objects)
     h.threads bytes x fits e
 
 abbrev recorded_by : Header → List RecordedThread → Recorded
@@ -167,10 +167,10 @@ same_header h threads n = λ i. record { threads = n i; objects = h.objects; bud
 
 whole_taken : (all : List ℕ) (x : Header × List ℕ) (threads : List RecordedThread × List ℕ) → TakesHeader all x
     → TakesThreads x.0 x.1 threads → threads.1 ≡ []
-    → IsRecorded (recorded_by x.0 threads.0) × (all ≡ spelling (recorded_by x.0 threads.0))
+    → IsRecorded (recorded_by x.0 threads.0) × (all ≡ encoding (recorded_by x.0 threads.0))
 whole_taken all x threads t u nothing =
-    let last : x.1 ≡ flat_map thread_spelling threads.0 = u.takes.parts ∙ ap (λ (k : List ℕ). flat_map thread_spelling threads.0 ++ k)
-    nothing ∙ append-nil (flat_map thread_spelling threads.0) in (
+    let last : x.1 ≡ flat_map thread_encoding threads.0 = u.takes.parts ∙ ap (λ (k : List ℕ). flat_map thread_encoding threads.0 ++ k)
+    nothing ∙ append-nil (flat_map thread_encoding threads.0) in (
       record {
         some_thread = omega (arith, u.count, t.within.some_thread);
         few_threads = omega (arith, u.count, t.within.few_threads);
@@ -178,18 +178,18 @@ whole_taken all x threads t u nothing =
         budget_fits = t.within.budget_fits;
         threads_fit = u.fit;
       },
-      t.takes.parts ∙ ap (λ (k : List ℕ). header_spelling x.0 ++ k) last ∙ ap
-          (λ (h : Header). header_spelling h ++ flat_map thread_spelling threads.0) (sym (same_header x.0 threads.0 u.count)),
+      t.takes.parts ∙ ap (λ (k : List ℕ). header_encoding x.0 ++ k) last ∙ ap
+          (λ (h : Header). header_encoding h ++ flat_map thread_encoding threads.0) (sym (same_header x.0 threads.0 u.count)),
     )
 
-pub recorded_takes : (all : List ℕ) (r : Recorded) → IsBytes all → recorded_at all ≡ Ok r → IsRecorded r × (all ≡ spelling r)
+pub recorded_takes : (all : List ℕ) (r : Recorded) → IsBytes all → recorded_at all ≡ Ok r → IsRecorded r × (all ≡ encoding r)
 unfolding recorded_at
 recorded_takes all r fits e =
     three_ok (header_at all) (λ h. fields_at (thread_at h.0.objects) h.0.threads h.1)
     (λ h threads. cond (eqb (length threads.1) 0) (Ok (recorded_by h.0 threads.0)) (Err Trailing)) r e (λ h threads e0 e1 e2.
     let t = header_take all h fits e0 in
     let g = pass_ok (eqb (length threads.1) 0) Trailing (recorded_by h.0 threads.0) r e2 in
-    subst (λ (y : Recorded). IsRecorded y × (all ≡ spelling y)) g.1
+    subst (λ (y : Recorded). IsRecorded y × (all ≡ encoding y)) g.1
     (whole_taken all h threads t (threads_take h.0 h.1 threads t.takes.rest_fits e1)
     (nil_from_length threads.1 (eqb-true (length threads.1) 0 g.0))))
 
@@ -197,20 +197,20 @@ recorded_takes all r fits e =
 pub parts_take : (all : List ℕ) (h : Header) (rest : List ℕ) (threads : List RecordedThread) (after : List ℕ)
     → ((i : ℕ) → slice_index all i < 256) → header_at all ≡ Ok (h, rest)
     → fields_at (thread_at h.objects) h.threads rest ≡ Ok (threads, after) → after ≡ []
-    → IsRecorded (recorded_by h threads) × (all ≡ spelling (recorded_by h threads))
+    → IsRecorded (recorded_by h threads) × (all ≡ encoding (recorded_by h threads))
 parts_take all h rest threads after bytes e0 e1 nothing =
     let fits = bytes_fit all bytes in
     let t = header_take all (h, rest) fits e0 in
     whole_taken all (h, rest) (threads, after) t (threads_take h rest (threads, after) t.takes.rest_fits e1) nothing
 
-pub recorded_again : (r : Recorded) → IsRecorded r → recorded_at (spelling r) ≡ Ok r
+pub recorded_again : (r : Recorded) → IsRecorded r → recorded_at (encoding r) ≡ Ok r
 unfolding recorded_at
 recorded_again r fits =
     let within : IsWithin (header_of r) = record
     { some_thread = fits.some_thread; few_threads = fits.few_threads; few_objects = fits.few_objects; budget_fits = fits.budget_fits } in
-    let own = flat_map thread_spelling r.threads in
+    let own = flat_map thread_encoding r.threads in
     let e0 = header_again (header_of r) own within in
     let e1 : fields_at (thread_at r.objects) (length r.threads) own ≡ Ok (r.threads, []) =
     ap (fields_at (thread_at r.objects) (length r.threads)) (sym (append-nil own)) ∙ fields_again (IsRecordedThread r.objects)
-    thread_spelling (thread_at r.objects) (thread_again r.objects) r.threads [] fits.threads_fit in
+    thread_encoding (thread_at r.objects) (thread_again r.objects) r.threads [] fits.threads_fit in
     rw (e0, e1) refl

@@ -1,6 +1,6 @@
 pub mod Recorded
 pub mod Refusal
-pub mod Spelling
+pub mod Encoding
 pub mod Reading
 pub mod Fields
 pub mod Told

@@ -2,9 +2,9 @@
 use Rattle.std.specs.Prelude.{ℕ, [], map, Some}
 use Rattle.std.specs.List.{slice_index_or}
 use Rattle.ir_thread.specs.Ends.{end_number, end_code}
-use Rattle.ir_runs.specs.Marks.{Trace}
+use Rattle.ir_runs.specs.Labels.{Trace}
 use Rattle.ir_thread.specs.declared.end.End.TheVariants.{Breakpoint}
-use Rattle.ir_log.specs.Logging.{mark_of}
+use Rattle.ir_log.specs.Logging.{label_of}
 use Rattle.ir_trace.specs.Recorded.{RecordedThread, Recorded}
 
 -- a thread that is none of the guest's: it took no step and logged nothing, and stands as one that has ended
@@ -19,6 +19,6 @@ recorded_thread r t = slice_index_or r.threads t absent
 abbrev pub trace_of : Recorded → Trace
 trace_of r = record {
   steps = λ t. (recorded_thread r t).steps;
-  logs = λ t. map mark_of (recorded_thread r t).events;
+  logs = λ t. map label_of (recorded_thread r t).events;
   ends = λ t. let e = (recorded_thread r t).end in Some (end_number e, end_code e);
 }

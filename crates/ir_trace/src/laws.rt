@@ -1,4 +1,4 @@
-//! Laws of the traces' spelling, each the contract of a function without parameters.
+//! Laws of the traces' encoding, each the contract of a function without parameters.
 
 ghost use Rattle.std.specs.Prelude.{◌≡◌, List, ℕ, length, Ok};
 ghost use Rattle.std.specs.List.{AllByRecursion};
@@ -6,21 +6,21 @@ ghost use Rattle.byteorder.specs.Endian.{little_number, little_bytes};
 ghost use Rattle.ir_bytes.specs.Numbers.{IsByte};
 ghost use Rattle.ir_bytes.specs.Format.{fault_of};
 ghost use Rattle.ir_trace.specs.Recorded.{Recorded, IsRecorded};
-ghost use Rattle.ir_trace.specs.Spelling.{spelling};
+ghost use Rattle.ir_trace.specs.Encoding.{encoding};
 ghost use Rattle.ir_trace.specs.Reading.{recorded_at};
 ghost use Rattle.ir_trace.specs.Fields.{trace_fault};
 ghost use Rattle.ir_trace.specs.Told.{trace_of};
 
-use ir_log::one_mark_each;
+use ir_log::one_label_each;
 
-/// The spelling of what was recorded, within its limits, is read as that, so no two recordings are spelled alike.
-pub fn spelling_is_read()
-    ensures { (r : Recorded) → IsRecorded r → recorded_at (spelling r) ≡ Ok r }
+/// The encoding of what was recorded, within its limits, is read as that, so no two recordings are encoded alike.
+pub fn encoding_is_read()
+    ensures { (r : Recorded) → IsRecorded r → recorded_at (encoding r) ≡ Ok r }
 {}
 
-/// Bytes that are read as a recording are the spelling of it, so none is spelled in two ways, and it is within its limits.
-pub fn read_is_spelled()
-    ensures { (bytes : List ℕ) (r : Recorded) → AllByRecursion IsByte bytes → recorded_at bytes ≡ Ok r → IsRecorded r × (bytes ≡ spelling r) }
+/// Bytes that are read as a recording are the encoding of it, so none is encoded in two ways, and it is within its limits.
+pub fn read_is_encoded()
+    ensures { (bytes : List ℕ) (r : Recorded) → AllByRecursion IsByte bytes → recorded_at bytes ≡ Ok r → IsRecorded r × (bytes ≡ encoding r) }
 {}
 
 /// Bytes are refused exactly for the first of a trace's fields, from the left, that isn't whole or holds what it may not, or
@@ -29,7 +29,7 @@ pub fn first_fault_is_named()
     ensures { (bytes : List ℕ) → fault_of (recorded_at bytes) ≡ trace_fault bytes }
 {}
 
-/// Different bytes of one width are different numbers: the bytes are those of the number that they spell.
+/// Different bytes of one width are different numbers: the bytes are those of the number that they encode.
 pub fn bytes_are_their_number()
     ensures { (bytes : List ℕ) → AllByRecursion IsByte bytes → bytes ≡ little_bytes (length bytes) (little_number (length bytes) bytes) }
 {}
@@ -38,5 +38,5 @@ pub fn bytes_are_their_number()
 pub fn told_apart()
     ensures { (a b : Recorded) → a.objects ≡ b.objects → a.budget ≡ b.budget → length a.threads ≡ length b.threads → trace_of a ≡ trace_of b → a ≡ b }
 {
-    one_mark_each();
+    one_label_each();
 }

@@ -1,4 +1,4 @@
-//! Traces: what was recorded of a run, and its one spelling in bytes.
+//! Traces: what was recorded of a run, and its one encoding in bytes.
 #![tactic(auto)]
 
 mod event_reader;
@@ -14,7 +14,7 @@ mod trace_err;
 mod writer;
 
 pub use laws::{
-    bytes_are_their_number, first_fault_is_named, read_is_spelled, spelling_is_read, told_apart,
+    bytes_are_their_number, first_fault_is_named, read_is_encoded, encoding_is_read, told_apart,
 };
 pub use reader::read_trace;
 pub use thread_trace::ThreadTrace;

@@ -2,7 +2,7 @@
 
 ghost use Rattle.std.specs.Prelude.{◌≡◌, List, ℕ, IfOk, Ok};
 ghost use Rattle.ir_trace.specs.Recorded.{Recorded, IsRecorded};
-ghost use Rattle.ir_trace.specs.Spelling.{spelling};
+ghost use Rattle.ir_trace.specs.Encoding.{encoding};
 ghost use Rattle.ir_bytes.specs.Reading.{fields_at};
 ghost use Rattle.ir_trace.specs.Reading.{Gives, header_at, end_at, thread_at, recorded_at};
 
@@ -79,7 +79,7 @@ fn threads(
 
 #[tactic(auto, unfolding(crate::specs::Reading::recorded_at))]
 fn trace(alloc: Global, bytes: &[u8]) -> Result<Trace, TraceErr>
-    ensures found { IfOk result (λ trace. IsRecorded trace × (bytes.now ≡ spelling trace)) }
+    ensures found { IfOk result (λ trace. IsRecorded trace × (bytes.now ≡ encoding trace)) }
     ensures exact { Gives (λ trace. trace) result (recorded_at bytes.now) }
 {
     let (header, rest) = header(bytes)?;
@@ -90,15 +90,15 @@ fn trace(alloc: Global, bytes: &[u8]) -> Result<Trace, TraceErr>
     Ok(Trace::new(header.objects, header.budget, threads))
 }
 
-/// The trace that the bytes spell, all of the bytes. Numbers are little-endian, and room is taken only for events whose bytes are there.
+/// The trace that the bytes encode, all of the bytes. Numbers are little-endian, and room is taken only for events whose bytes are there.
 ///
 /// # Errors
 /// The first fault from the left, each field being read whole and then tested; or want of memory.
 pub fn read_trace(alloc: Global, bytes: &[u8]) -> Result<Trace, TraceErr>
-    // What is read was recorded within the limits, and is spelled so.
-    ensures found { IfOk result (λ trace. IsRecorded trace × (bytes.now ≡ spelling trace)) }
-    // What is spelled so is read, unless memory runs out.
-    ensures only { (r : Recorded) → IsRecorded r → bytes.now ≡ spelling r → Gives (λ trace. trace) result (Ok r) }
+    // What is read was recorded within the limits, and is encoded so.
+    ensures found { IfOk result (λ trace. IsRecorded trace × (bytes.now ≡ encoding trace)) }
+    // What is encoded so is read, unless memory runs out.
+    ensures only { (r : Recorded) → IsRecorded r → bytes.now ≡ encoding r → Gives (λ trace. trace) result (Ok r) }
     // Which fault it is.
     ensures exact { Gives (λ trace. trace) result (recorded_at bytes.now) }
 {

@@ -50,9 +50,9 @@ fn changed(alloc: Global, bytes: &[u8], place: usize, byte: u8) -> Result<Vec<u8
 }
 
 // The first bytes, so many of them.
-fn front(bytes: &[u8], length: usize) -> &[u8] {
+fn prefix(bytes: &[u8], length: usize) -> &[u8] {
     match bytes.split_at_checked(length) {
-        Some((front, _)) => front,
+        Some((prefix, _)) => prefix,
         None => bytes,
     }
 }
@@ -173,7 +173,7 @@ fn a_copy_is_written_alike(rt: HostRuntime) -> Result<(), Fail> {
 }
 
 #[test]
-fn every_front_is_short(rt: HostRuntime) {
+fn every_prefix_is_short(rt: HostRuntime) {
     for length in 0..33usize {
         assert_eq!(rt; refusal(rt.alloc(), &ONE_THREAD[..length]), Some(1));
     }
@@ -245,10 +245,10 @@ fn the_fault_of_an_event_is_named(rt: HostRuntime) -> Result<(), Fail> {
 fn the_first_fault_is_named(rt: HostRuntime) -> Result<(), Fail> {
     // an object that there isn't, before its version is there
     let object = changed(rt.alloc(), &READ_THEN_WRITE, 34, 1)?;
-    assert_eq!(rt; refusal(rt.alloc(), front(&object, 35)), Some(3));
+    assert_eq!(rt; refusal(rt.alloc(), prefix(&object, 35)), Some(3));
     // an end that there isn't, before its code is there
     let end = changed(rt.alloc(), &READ_THEN_WRITE, 24, 15)?;
-    assert_eq!(rt; refusal(rt.alloc(), front(&end, 25)), Some(6));
+    assert_eq!(rt; refusal(rt.alloc(), prefix(&end, 25)), Some(6));
     // reserved bytes, before a budget over its limit
     let reserved = changed(rt.alloc(), &READ_THEN_WRITE, 6, 1)?;
     let both = changed(rt.alloc(), &reserved, 14, 1)?;

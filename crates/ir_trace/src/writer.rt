@@ -4,7 +4,7 @@ ghost use Rattle.std.specs.Prelude.{◌≡◌, ◌≤◌, ◌*◌, ◌+◌, ◌�
 ghost use Rattle.std.specs.List.{flat_map};
 ghost use Rattle.byteorder.specs.Endian.{little_bytes};
 ghost use Rattle.ir_thread.specs.Calls.{most_events};
-ghost use Rattle.ir_trace.specs.Spelling.{header_spelling, kind_tag, event_spelling, end_spelling, thread_spelling, spelling};
+ghost use Rattle.ir_trace.specs.Encoding.{header_encoding, kind_tag, event_encoding, end_encoding, thread_encoding, encoding};
 
 use crate::header::Header;
 use crate::layout::{HEADER_LENGTH, SHORTEST_EVENT, THREAD_LENGTH};
@@ -32,9 +32,9 @@ fn put_double(out: &mut Vec<u8>, double: u64) -> Result<(), AllocError>
     out.extend_from_slice(&bytes)
 }
 
-#[tactic(auto, unfolding(crate::specs::Spelling::header_spelling))]
+#[tactic(auto, unfolding(crate::specs::Encoding::header_encoding))]
 fn put_header(out: &mut Vec<u8>, header: Header) -> Result<(), AllocError>
-    ensures { OnOk result (out.new.items ≡ out.old.items ++ header_spelling header) }
+    ensures { OnOk result (out.new.items ≡ out.old.items ++ header_encoding header) }
 {
     out.extend_from_slice(b"IRT1")?;
     out.extend_from_slice(&[header.threads, header.objects, 0, 0])?;
@@ -51,9 +51,9 @@ fn tag(kind: EnvKind) -> u8
     }
 }
 
-#[tactic(auto, unfolding(crate::specs::Spelling::event_spelling))]
+#[tactic(auto, unfolding(crate::specs::Encoding::event_encoding))]
 fn put_event(out: &mut Vec<u8>, event: Event) -> Result<(), AllocError>
-    ensures { OnOk result (out.new.items ≡ out.old.items ++ event_spelling event) }
+    ensures { OnOk result (out.new.items ≡ out.old.items ++ event_encoding event) }
 {
     match event {
         Event::Answer(kind, value) => {
@@ -77,7 +77,7 @@ fn put_event(out: &mut Vec<u8>, event: Event) -> Result<(), AllocError>
 }
 
 fn put_events(out: &mut Vec<u8>, events: &[Event]) -> Result<(), AllocError>
-    ensures { OnOk result (out.new.items ≡ out.old.items ++ flat_map event_spelling events.now) }
+    ensures { OnOk result (out.new.items ≡ out.old.items ++ flat_map event_encoding events.now) }
 {
     for event in events {
         put_event(out, *event)?;
@@ -85,16 +85,16 @@ fn put_events(out: &mut Vec<u8>, events: &[Event]) -> Result<(), AllocError>
     Ok(())
 }
 
-#[tactic(auto, unfolding(crate::specs::Spelling::end_spelling))]
+#[tactic(auto, unfolding(crate::specs::Encoding::end_encoding))]
 fn put_end(out: &mut Vec<u8>, end: End) -> Result<(), AllocError>
-    ensures { OnOk result (out.new.items ≡ out.old.items ++ end_spelling end) }
+    ensures { OnOk result (out.new.items ≡ out.old.items ++ end_encoding end) }
 {
     out.push(end.number())?;
     put_word(out, end.code())
 }
 
 fn put_thread(out: &mut Vec<u8>, thread: &ThreadTrace) -> Result<(), AllocError>
-    ensures { OnOk result (out.new.items ≡ out.old.items ++ thread_spelling thread.now) }
+    ensures { OnOk result (out.new.items ≡ out.old.items ++ thread_encoding thread.now) }
 {
     let events = thread.log().events();
     put_double(out, thread.steps())?;
@@ -105,7 +105,7 @@ fn put_thread(out: &mut Vec<u8>, thread: &ThreadTrace) -> Result<(), AllocError>
 }
 
 fn put_threads(out: &mut Vec<u8>, threads: &[ThreadTrace]) -> Result<(), AllocError>
-    ensures { OnOk result (out.new.items ≡ out.old.items ++ flat_map thread_spelling threads.now) }
+    ensures { OnOk result (out.new.items ≡ out.old.items ++ flat_map thread_encoding threads.now) }
 {
     for thread in threads {
         put_thread(out, thread)?;
@@ -146,12 +146,12 @@ fn written_length(threads: &[ThreadTrace]) -> usize
     length
 }
 
-/// The one spelling of the trace.
+/// The one encoding of the trace.
 ///
 /// # Errors
 /// Want of memory.
 pub fn write_trace(alloc: Global, trace: &Trace) -> Result<Vec<u8>, AllocError>
-    ensures { IfOk result (λ v. v.items ≡ spelling trace.now) }
+    ensures { IfOk result (λ v. v.items ≡ encoding trace.now) }
 {
     let threads = trace.threads();
     let mut out = Vec::with_capacity(alloc, written_length(threads))?;

@@ -11,7 +11,7 @@ use Rattle.ir_thread.specs.Calls.{ask_of, after_ask, Permits}
 use Rattle.ir_thread.proofs.CallerLemmas.{ask_permits}
 use Rattle.ir_thread.specs.Instance.{shared_ask}
 use Rattle.ir_runs.specs.Machine.{act_of}
-use Rattle.ir_runs.specs.Marks.{Out}
+use Rattle.ir_runs.specs.Labels.{Out}
 use Rattle.ir_thread.specs.State as thread
 use Rattle.ir_runs.specs.declared.access.Access.{Access}
 use Rattle.ir_runs.specs.declared.access.Access.TheVariants.{Reading, Writing}
@@ -24,7 +24,7 @@ use Rattle.ir_object.specs.declared.fields.Fields.{Fields}
 use Rattle.ir_object.specs.Word.{IsFields, word_of, fields_of, entered, left_by, bit_of}
 use Rattle.ir_flat.specs.Flat.{Flat, IsFlat, idle, thread_of, cell_of, inside_of, tables}
 use Rattle.ir_flat.specs.Next.{next}
-use Rattle.ir_runs.specs.Run.{count, mark, end, trail}
+use Rattle.ir_runs.specs.Run.{count, label, end, trail}
 use Rattle.ir_flat.proofs.CallerLemmas.{logged_fits, few_inside, enter_fits, leave_fits, leave_allowed, thread_count}
 use Rattle.ir_log.specs.declared.event.Event.{Event}
 use Rattle.ir_trace.specs.Told.{recorded_thread}
@@ -285,16 +285,16 @@ leave_tells : (f : FittedTrace) (s : Flat) (t o : ℕ) → IsStateAt f (position
     → EachRun f (λ run. Tells (machine_of f) (start_of f) run t (positions s t) (Out o Writing (cell_of s o).fields.version))
 leave_tells f s t o at is ad run of =
     let some = (cut_at f run of (positions s) (at.each run of).cut (at.each run of).consistent).steps t (ad run of) in
-    let told_is : mark (machine_of f) (end (machine_of f) (start_of f) (part run (positions s))) (t, some.0) ≡ Out o Writing (cell_of s o).fields.version =
-    ap (λ z. mark (machine_of f) z (t, some.0)) (sym (tables_at f (positions s) s run of (at.each run of)))
+    let told_is : label (machine_of f) (end (machine_of f) (start_of f) (part run (positions s))) (t, some.0) ≡ Out o Writing (cell_of s o).fields.version =
+    ap (λ z. label (machine_of f) z (t, some.0)) (sym (tables_at f (positions s) s run of (at.each run of)))
     ∙ ap (λ a. told (act_of (shared_ask a) some.0) ((tables s).objects (target (act_of (shared_ask a) some.0)))) (ap (λ code. ask_of code (thread_of s t)) (sym at.code) ∙ is) in
     subst (Tells (machine_of f) (start_of f) run t (positions s t)) told_is some.3
 
--- one mark stands at each content_place
-pub same_mark : {X : Type 0} (xs : List X) (k : ℕ) (a b : X) → At xs k a → At xs k b → a ≡ b
-same_mark [] k a b h g = absurd h
-same_mark (x ∷ xs) zero a b h g = sym h ∙ g
-same_mark (x ∷ xs) (suc k) a b h g = same_mark xs k a b h g
+-- one label stands at each content_place
+pub same_label : {X : Type 0} (xs : List X) (k : ℕ) (a b : X) → At xs k a → At xs k b → a ≡ b
+same_label [] k a b h g = absurd h
+same_label (x ∷ xs) zero a b h g = sym h ∙ g
+same_label (x ∷ xs) (suc k) a b h g = same_label xs k a b h g
 
 pub versions_at : (slots id o : ℕ) (y : thread.State) (q : Progress) (c : List (ℕ × Unit {0})) → IsAhead (trace_in q.plan) q.thread q.position y → o < object_count (trace_in q.plan).guest → ask_of (trace_in q.plan).guest.code y ≡ Leave o Writing
     → HasStep (trace_in q.plan) q.thread y.steps → Allows (Woven q.plan) slots id (q ∷ [], c) (word_place o) (λ n. n) (read_version (step slots (word_place o) 0 0 none) (q ∷ [], c))
@@ -340,8 +340,8 @@ left_writing_at slots id o v y q c ahead inside is has tells x h homes at small 
     let own = leave_tells f cu.state t o cu.at ask (free_admitted f cu.state t cu.at (has_there f h.state t y cu has) (λ p a e. cc (sym ask ∙ e))) h.run.run h.run.whole in
     let mine : Tells (machine_of f) (start_of f) h.run.run t y.steps (Out o Writing (cell_of cu.state o).fields.version) = subst (λ z. Tells (machine_of f) (start_of f) h.run.run t z (Out o Writing (cell_of cu.state o).fields.version)) (ap (λ (z : thread.State). z.steps) cu.own) own in
     let told' = tells h.run.run h.run.whole in
-    let marks : Out o Writing v ≡ Out o Writing (cell_of cu.state o).fields.version = ap (λ z. z.1) (same_mark (trail (machine_of f) (start_of f) h.run.run t) y.steps (told'.0, Out o Writing v) (mine.0, Out o Writing (cell_of cu.state o).fields.version) told'.1 mine.1) in
-    let version : v ≡ (cell_of cu.state o).fields.version = cc marks in
+    let labels : Out o Writing v ≡ Out o Writing (cell_of cu.state o).fields.version = ap (λ z. z.1) (same_label (trail (machine_of f) (start_of f) h.run.run t) y.steps (told'.0, Out o Writing v) (mine.0, Out o Writing (cell_of cu.state o).fields.version) told'.1 mine.1) in
+    let version : v ≡ (cell_of cu.state o).fields.version = cc labels in
     let table : IsTable cu.state.objects x.words = subst (λ cs. IsTable cs x.words) (sym cu.objects) h.table in
     let word : w ≡ word_of (left_by Writing (cell_of cu.state o).fields) = omega (arith, version) in
     let made = steps_on slots id (word_place o) w 0 q c x h at y ahead (Leave o Writing) (λ b. b) is cu goes.0 goes.1 w (λ p i e. absurd (cc e)) (set x.words (word_place o) w)

@@ -4,14 +4,14 @@ use Rattle.std.proofs.Math.Path.{fun_ext}
 use Rattle.std.proofs.Math.Seq.{drop-append_seam}
 use Rattle.ir_runs.specs.Machine.{Machine, IsLawful}
 use Rattle.ir_thread.specs.Instance.{thread_machine}
-use Rattle.ir_runs.specs.Marks.{Mark, Quiet, Answer, In, Refused, Out, logged}
+use Rattle.ir_runs.specs.Labels.{Label, Quiet, Answer, In, Refused, Out, logged}
 use Rattle.ir_thread.specs.State as thread
 use Rattle.ir_thread.proofs.CallerLemmas.{lawful}
 use Rattle.ir_flat.specs.Flat.{Flat, tables, machine}
-use Rattle.ir_runs.specs.Run.{State, Step, Can, mark, IsRun, end, trail, events, log, count}
+use Rattle.ir_runs.specs.Run.{State, Step, Can, label, IsRun, end, trail, events, log, count}
 use Rattle.ir_runs.proofs.CallerLemmas.{events_append, Good, start_good, at_cut, Sorted, sort}
 use Rattle.ir_flat.proofs.CallerLemmas.{tally, fresh, no_steps, state_eq}
-use Rattle.ir_log.specs.Logging.{mark_of}
+use Rattle.ir_log.specs.Logging.{label_of}
 use Rattle.ir_trace.specs.Told.{recorded_thread}
 use Rattle.ir_fit.specs.Ahead.{log_ahead}
 use Rattle.ir_runs.specs.Cuts.{Cut, AtCut, At, IsCut, Consistent, Admitted, part}
@@ -65,7 +65,7 @@ events_counted f run ok t = (tally f.guest.code (start_of f) run ok t).events �
 -- ---- the log behind a cut
 
 -- what thread t logs behind the cut
-abbrev pub behind : FittedTrace → List Step → Cut → ℕ → List Mark
+abbrev pub behind : FittedTrace → List Step → Cut → ℕ → List Label
 behind f run p t = events (drop (p t) (trail (machine_of f) (start_of f) run t))
 
 pub log_parts : (f : FittedTrace) (run : List Step) → IsRunOf f.guest f.recorded run → (p : Cut) → Consistent (machine_of f) (start_of f) run p → (t : ℕ) → log (machine_of f) (start_of f) (part run p) t ++ behind f run p t ≡ log (machine_of f) (start_of f) run t
@@ -76,13 +76,13 @@ log_parts f run is p c t =
 
 pub log_behind : (f : FittedTrace) (p : Cut) (s : Flat) (run : List Step) → IsRunOf f.guest f.recorded run → IsAt f p s run → (t : ℕ) → t < length f.guest.entries → log_ahead f.recorded s t ≡ behind f run p t
 log_behind f p s run is at t l =
-    ap (λ n. drop n (map mark_of (recorded_thread f.recorded t).events)) (ap (λ z. (z.now t).events) (tables_at f p s run is at) ∙ events_counted f (part run p) (sorted f run is p at.consistent).ok t)
+    ap (λ n. drop n (map label_of (recorded_thread f.recorded t).events)) (ap (λ z. (z.now t).events) (tables_at f p s run is at) ∙ events_counted f (part run p) (sorted f run is p at.consistent).ok t)
     ∙ ap (drop (length (log (machine_of f) (start_of f) (part run p) t))) (sym (is.1.logs t l) ∙ sym (log_parts f run is p at.consistent t))
     ∙ drop-append_seam (log (machine_of f) (start_of f) (part run p) t) (behind f run p t)
 
 -- ---- an admitted step
 
-logged_back : (k : Mark) (es : List Mark) → logged k (unlogged k (logged k es)) ≡ logged k es
+logged_back : (k : Label) (es : List Label) → logged k (unlogged k (logged k es)) ≡ logged k es
 logged_back Quiet es = refl
 logged_back (Answer kind value) es = refl
 logged_back (In o a v l) es = refl
@@ -104,15 +104,15 @@ back : (f : FittedTrace) (p : Cut) (s : Flat) (run : List Step) → IsRunOf f.gu
 back f p s run is code at P h = subst (λ c. P (thread_machine c) (tables s)) (sym code) (subst (P (machine_of f)) (sym (tables_at f p s run is at)) h)
 
 -- such a step, with what is left of the log
-abbrev pub CanLog : ℕ → ℕ → List Mark → Machine thread.State → State thread.State → Type 0
-CanLog t r es m s = Can m s (t, r) × (logged (mark m s (t, r)) (unlogged (mark m s (t, r)) es) ≡ es)
+abbrev pub CanLog : ℕ → ℕ → List Label → Machine thread.State → State thread.State → Type 0
+CanLog t r es m s = Can m s (t, r) × (logged (label m s (t, r)) (unlogged (label m s (t, r)) es) ≡ es)
 
 -- a thread that is admitted can take its step, and logs what the trace tells next
 pub admitted_next : (f : FittedTrace) (s : Flat) → IsStateAt f (positions s) s → (run : List Step) → IsRunOf f.guest f.recorded run → (t : ℕ) → t < length f.guest.entries → Admitted (machine_of f) (start_of f) run (positions s) t → (v : ℕ) × LogsNext f.recorded s t v
 admitted_next f s state run is t l ad =
     let at : IsAt f (positions s) s run = state.each run is in
     let next = (cut_at f run is (positions s) at.cut at.consistent).steps t ad in
-    let told : Mark = mark (machine_of f) (end (machine_of f) (start_of f) (part run (positions s))) (t, next.0) in
+    let told : Label = label (machine_of f) (end (machine_of f) (start_of f) (part run (positions s))) (t, next.0) in
     let first : log_ahead f.recorded s t ≡ logged told (events (drop (suc (positions s t)) (trail (machine_of f) (start_of f) run t))) =
     log_behind f (positions s) s run is at t l ∙ ap events (drop_at (trail (machine_of f) (start_of f) run t) (positions s t) (next.3.0, told) next.3.1) in
     (next.0, back f (positions s) s run is state.code at (CanLog t next.0 (log_ahead f.recorded s t)) (next.1, ap (λ es. logged told (unlogged told es)) first ∙ logged_back told _ ∙ sym first))

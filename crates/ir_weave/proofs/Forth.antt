@@ -5,14 +5,14 @@ use Rattle.ir_thread.specs.Calls.{ask_of}
 use Rattle.ir_thread.specs.Instance.{shared_ask}
 use Rattle.ir_runs.specs.Machine.{act_of}
 use Rattle.ir_runs.specs.Machine as machine
-use Rattle.ir_runs.specs.Marks.{Mark, logged}
+use Rattle.ir_runs.specs.Labels.{Label, logged}
 use Rattle.ir_thread.specs.State as thread
 use Rattle.ir_runs.specs.declared.access.Access.{Access}
 use Rattle.ir_thread.specs.declared.ask.Ask.{Ask}
 use Rattle.ir_thread.specs.declared.ask.Ask.TheVariants.{Private, Env, Enter, Leave, Get, Put, Print, End, Done}
 use Rattle.ir_flat.specs.Flat.{Flat, IsFlat, thread_of, tables, machine as machine_in}
 use Rattle.ir_flat.specs.Next.{next, MayStep}
-use Rattle.ir_runs.specs.Run.{Step, after, mark, count, th}
+use Rattle.ir_runs.specs.Run.{Step, after, label, count, th}
 use Rattle.ir_flat.proofs.CallerLemmas.{can_by_may, taken_by, next_flat, thread_count, object_count}
 use Rattle.ir_runs.specs.Cuts.{Tells, Needs, Cut, further}
 use Rattle.ir_fit.specs.Fit.{FittedTrace, HasRun, IsRunOf}
@@ -74,7 +74,7 @@ logs_on f s t v q flat at l is has logs =
               runs = (logs.0, tt);
               ends = taken;
               logs = one_logs (machine_in s) (tables s) t v (behind f run (positions s))
-                  (subst (λ es. logged (mark (machine_in s) (tables s) (t, v)) (unlogged (mark (machine_in s) (tables s) (t, v)) es) ≡ es) (log_behind f (positions s) s run of (at.each run of) t (guest_thread f s t at l)) logs.1);
+                  (subst (λ es. logged (label (machine_in s) (tables s) (t, v)) (unlogged (label (machine_in s) (tables s) (t, v)) es) ≡ es) (log_behind f (positions s) s run of (at.each run of) t (guest_thread f s t at l)) logs.1);
             });
       };
       own = own;
@@ -139,7 +139,7 @@ free_admitted f s t at has ne run of = (
   ],
 )
   where
-    last : (run : List Step) → IsRunOf f.guest f.recorded run → (u k w j : ℕ) (a b : Mark) → u ≡ t → k ≡ positions s u → Tells (machine_of f) (start_of f) run u k a → Needs b a → ⊥
+    last : (run : List Step) → IsRunOf f.guest f.recorded run → (u k w j : ℕ) (a b : Label) → u ≡ t → k ≡ positions s u → Tells (machine_of f) (start_of f) run u k a → Needs b a → ⊥
     last run of u k w j a b same here ha need =
         let z : StepOf (machine_of f) (th (machine_of f) (start_of f) run u k) (th (machine_of f) (start_of f) run u (suc k)) a = step_at (machine_of f) (start_of f) run of.1.runs u k a ha in
         let asks : ask_of f.guest.code (th (machine_of f) (start_of f) run u k) ≡ ask_of s.code (thread_of s t) = ap (λ i. ask_at f run u i) here ∙ ap (λ i. ask_at f run i (positions s i)) same ∙ sym (asks_so f s t run at of) in

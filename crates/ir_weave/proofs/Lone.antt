@@ -6,7 +6,7 @@ use Rattle.std.specs.Prelude.{slice_get}
 use Rattle.ir_thread.specs.Calls.{ask_of, after_ask, after_reply}
 use Rattle.ir_thread.specs.Instance.{shared_ask, reply_of, thread_machine}
 use Rattle.ir_runs.specs.Machine.{act_of}
-use Rattle.ir_runs.specs.Marks.{Mark, Answer, logged}
+use Rattle.ir_runs.specs.Labels.{Label, Answer, logged}
 use Rattle.ir_thread.specs.State as thread
 use Rattle.ir_runs.specs.declared.access.Access.TheVariants.{Reading, Writing}
 use Rattle.ir_thread.specs.declared.ask.Ask.{Ask}
@@ -18,7 +18,7 @@ use Rattle.ir_runs.specs.Object.{Object, reply, told, Admits}
 use Rattle.ir_runs.specs.Run.{Step, trail, events, count}
 use Rattle.ir_runs.proofs.CallerLemmas.{events_append}
 use Rattle.ir_flat.proofs.CallerLemmas.{fresh, added, events_added, held_length}
-use Rattle.ir_log.specs.Logging.{mark_of}
+use Rattle.ir_log.specs.Logging.{label_of}
 use Rattle.ir_log.specs.declared.event.Event.{Event}
 use Rattle.ir_log.specs.declared.event.Event.TheVariants.{Answer as Answered}
 use Rattle.ir_trace.specs.Told.{recorded_thread}
@@ -47,7 +47,7 @@ drop_at (y ∷ ys) zero x h = ap (λ z. z ∷ ys) h
 drop_at (y ∷ ys) (suc k) x h = drop_at ys k x h
 
 -- step k of thread t
-pub step_there : (f : FittedTrace) (run : List Step) (t k : ℕ) → k < count (machine_of f) (start_of f) run t → (a : Mark) × Tells (machine_of f) (start_of f) run t k a
+pub step_there : (f : FittedTrace) (run : List Step) (t k : ℕ) → k < count (machine_of f) (start_of f) run t → (a : Label) × Tells (machine_of f) (start_of f) run t k a
 step_there f run t k l = let z = at_some (trail (machine_of f) (start_of f) run t) k l in (z.0.1, (z.0.0, z.1))
 
 told_count : (q : Ask) (r : ℕ) (b : Object) → length (logged (told (act_of (shared_ask q) r) b) []) ≡ added q
@@ -81,25 +81,25 @@ counted f run of t (suc k) l =
     let before = counted f run of t k (omega (arith, l)) in
     let parts : events (take (suc k) (trail (machine_of f) (start_of f) run t)) ≡ events (take k (trail (machine_of f) (start_of f) run t)) ++ logged at.0 [] =
     ap events (take_at (trail (machine_of f) (start_of f) run t) k (at.1.0, at.0) at.1.1) ∙ events_append (take k (trail (machine_of f) (start_of f) run t)) ((at.1.0, at.0) ∷ []) in
-    let sum = ap (λ (es : List Mark). length es) parts ∙ length-append (events (take k (trail (machine_of f) (start_of f) run t))) (logged at.0 []) in
+    let sum = ap (λ (es : List Label). length es) parts ∙ length-append (events (take k (trail (machine_of f) (start_of f) run t))) (logged at.0 []) in
     omega (arith, more, one, before, sum)
 
 -- the trace's log behind it
 log_left : (f : FittedTrace) (run : List Step) → IsRunOf f.guest f.recorded run → (t k : ℕ) → t < length f.guest.entries → k ≤ count (machine_of f) (start_of f) run t
-    → drop (thread_at f run t k).events (map mark_of (recorded_thread f.recorded t).events) ≡ events (drop k (trail (machine_of f) (start_of f) run t))
+    → drop (thread_at f run t k).events (map label_of (recorded_thread f.recorded t).events) ≡ events (drop k (trail (machine_of f) (start_of f) run t))
 log_left f run of t k l within =
     let xs = trail (machine_of f) (start_of f) run t in
-    ap (λ n. drop n (map mark_of (recorded_thread f.recorded t).events)) (counted f run of t k within)
+    ap (λ n. drop n (map label_of (recorded_thread f.recorded t).events)) (counted f run of t k within)
     ∙ ap (drop (length (events (take k xs)))) (sym (of.1.logs t l) ∙ ap events (sym (take-append-drop k xs)) ∙ events_append (take k xs) (drop k xs))
     ∙ drop-append_seam (events (take k xs)) (events (drop k xs))
 
-first_mark : (xs : List Event) (i : ℕ) (a : Mark) (es : List Mark) → drop i (map mark_of xs) ≡ a ∷ es → (e : Event) × (slice_get xs i ≡ Some e) × (mark_of e ≡ a)
-first_mark [] zero a es h = absurd (cc h)
-first_mark [] (suc i) a es h = absurd (cc h)
-first_mark (x ∷ xs) zero a es h = (x, refl, cc h)
-first_mark (x ∷ xs) (suc i) a es h = first_mark xs i a es h
+first_label : (xs : List Event) (i : ℕ) (a : Label) (es : List Label) → drop i (map label_of xs) ≡ a ∷ es → (e : Event) × (slice_get xs i ≡ Some e) × (label_of e ≡ a)
+first_label [] zero a es h = absurd (cc h)
+first_label [] (suc i) a es h = absurd (cc h)
+first_label (x ∷ xs) zero a es h = (x, refl, cc h)
+first_label (x ∷ xs) (suc i) a es h = first_label xs i a es h
 
-logs_itself : (q : Ask) (r : ℕ) (b : Object) (es : List Mark) → added q ≡ 1 → logged (told (act_of (shared_ask q) r) b) es ≡ told (act_of (shared_ask q) r) b ∷ es
+logs_itself : (q : Ask) (r : ℕ) (b : Object) (es : List Label) → added q ≡ 1 → logged (told (act_of (shared_ask q) r) b) es ≡ told (act_of (shared_ask q) r) b ∷ es
 logs_itself Private r b es h = absurd (omega (arith, h))
 logs_itself (Env kind) r b es h = refl
 logs_itself (Enter o Reading) r b es h = refl
@@ -113,15 +113,15 @@ logs_itself Done r b es h = absurd (omega (arith, h))
 
 -- the event of a step that is logged
 pub event_there : (f : FittedTrace) (run : List Step) → IsRunOf f.guest f.recorded run → (t k : ℕ) → t < length f.guest.entries → k < count (machine_of f) (start_of f) run t → added (ask_at f run t k) ≡ 1
-    → (e : Event) × (slice_get (recorded_thread f.recorded t).events (thread_at f run t k).events ≡ Some e) × Tells (machine_of f) (start_of f) run t k (mark_of e)
+    → (e : Event) × (slice_get (recorded_thread f.recorded t).events (thread_at f run t k).events ≡ Some e) × Tells (machine_of f) (start_of f) run t k (label_of e)
 event_there f run of t k l within one =
     let at = step_there f run t k within in
     let xs = trail (machine_of f) (start_of f) run t in
     let z : StepOf (machine_of f) (thread_at f run t k) (thread_at f run t (suc k)) at.0 = step_at (machine_of f) (start_of f) run of.1.runs t k at.0 at.1 in
-    let es : List Mark = events (drop (suc k) xs) in
-    let first : drop (thread_at f run t k).events (map mark_of (recorded_thread f.recorded t).events) ≡ at.0 ∷ es =
+    let es : List Label = events (drop (suc k) xs) in
+    let first : drop (thread_at f run t k).events (map label_of (recorded_thread f.recorded t).events) ≡ at.0 ∷ es =
     log_left f run of t k l (omega (arith, within)) ∙ ap events (drop_at xs k (at.1.0, at.0) at.1.1) ∙ ap (λ a. logged a es) z.tells ∙ logs_itself (ask_at f run t k) z.result z.object es one ∙ ap (λ a. a ∷ es) (sym z.tells) in
-    let found = first_mark (recorded_thread f.recorded t).events (thread_at f run t k).events at.0 es first in
+    let found = first_label (recorded_thread f.recorded t).events (thread_at f run t k).events at.0 es first in
     (found.0, found.1, subst (Tells (machine_of f) (start_of f) run t k) (sym found.2) at.1)
 
 -- ---- the next step
@@ -160,8 +160,8 @@ pub next_answer : (f : FittedTrace) (run : List Step) → IsRunOf f.guest f.reco
 next_answer f run of t k kind j v l within is event =
     let found = event_there f run of t k l within (ap added is) in
     let same : found.0 ≡ Answered j v = cc (found.1, event) in
-    let z : StepOf (machine_of f) (thread_at f run t k) (thread_at f run t (suc k)) (mark_of found.0) = step_at (machine_of f) (start_of f) run of.1.runs t k (mark_of found.0) found.2 in
-    let tells : told (act_of (shared_ask (Env kind)) z.result) z.object ≡ Answer j v = ap (λ a. told (act_of (shared_ask a) z.result) z.object) (sym is) ∙ sym z.tells ∙ ap mark_of same in
+    let z : StepOf (machine_of f) (thread_at f run t k) (thread_at f run t (suc k)) (label_of found.0) = step_at (machine_of f) (start_of f) run of.1.runs t k (label_of found.0) found.2 in
+    let tells : told (act_of (shared_ask (Env kind)) z.result) z.object ≡ Answer j v = ap (λ a. told (act_of (shared_ask a) z.result) z.object) (sym is) ∙ sym z.tells ∙ ap label_of same in
     let r : z.result ≡ v = told_answer kind z.result z.object j v tells in
     z.next ∙ taken f.guest.code (thread_at f run t k) (reply (act_of (shared_ask (ask_at f run t k)) z.result) z.object)
     ∙ ap (λ a. after_ask f.guest.code (thread_at f run t k) a (reply_of a (reply (act_of (shared_ask a) z.result) z.object))) is ∙ ap (λ n. after_ask f.guest.code (thread_at f run t k) (Env kind) (Value n)) r

@@ -3,12 +3,12 @@ use Rattle.std.proofs.Common.{◌≡◌, ◌≢◌, ℕ, suc, zero, ◌+◌, ◌
 use Rattle.std.proofs.lemmas.Bool.{cases_eq}
 use Rattle.ir_image.specs.Guest.{object_count}
 use Rattle.ir_runs.specs.Machine.{Machine}
-use Rattle.ir_runs.specs.Marks.{Mark, Quiet, Answer, In, Refused, Out, logged}
+use Rattle.ir_runs.specs.Labels.{Label, Quiet, Answer, In, Refused, Out, logged}
 use Rattle.ir_thread.specs.State as thread
 use Rattle.ir_flat.specs.Alone.{WentAlone}
 use Rattle.ir_flat.specs.Flat.{Flat, tables, machine, start_flat}
-use Rattle.ir_runs.specs.Run.{State, Step, Can, after, mark, IsRun, end, events, log, count}
-use Rattle.ir_runs.proofs.CallerLemmas.{run_append, end_append, log_append, trail_same, trail_other, IsFront, front_at}
+use Rattle.ir_runs.specs.Run.{State, Step, Can, after, label, IsRun, end, events, log, count}
+use Rattle.ir_runs.proofs.CallerLemmas.{run_append, end_append, log_append, trail_same, trail_other, IsPrefix, prefix_at}
 use Rattle.ir_flat.proofs.CallerLemmas.{tally, threads_length, cells_length, no_steps}
 use Rattle.ir_runs.specs.Cuts.{part}
 use Rattle.ir_fit.specs.Fit.{FittedTrace, IsRunOf}
@@ -18,14 +18,14 @@ use Rattle.ir_weave.specs.States.{IsAt, IsStateAt, positions}
 use Rattle.ir_weave.specs.Stepping.{LogsNext, IsTarget, IsUnder, HasGone}
 use Rattle.ir_weave.proofs.Behind.{law, good, sorted, at_tables, steps_counted, behind, log_parts, log_behind, there}
 
--- ---- the end of a front
+-- ---- the end of a prefix
 
--- the tables at the end of a front of the run, whose threads are not past their last steps
-at_end : (f : FittedTrace) (s : Flat) (run front : List Step) → IsRunOf f.guest f.recorded run → IsRun (machine_of f) (start_of f) front → (left : ℕ → List Mark) → ((t : ℕ) → log (machine_of f) (start_of f) front t ++ left t ≡ log (machine_of f) (start_of f) run t)
-    → tables s ≡ end (machine_of f) (start_of f) front → ((t : ℕ) → positions s t ≤ count (machine_of f) (start_of f) run t) → IsAt f (positions s) s run
-at_end f s run front is ok left logs ends within =
-    let counted : (t : ℕ) → count (machine_of f) (start_of f) front t ≡ positions s t = λ t. sym (ap (λ z. (z.now t).steps) ends ∙ steps_counted f front ok t) in
-    let at : IsFront (machine_of f) (start_of f) run front (positions s) = front_at (machine_of f) (law f) (start_of f) (good f) run front is.1.runs ok left logs (λ t. subst (λ n. n ≤ count (machine_of f) (start_of f) run t) (sym (counted t)) (within t)) (positions s) counted in
+-- the tables at the end of a prefix of the run, whose threads are not past their last steps
+at_end : (f : FittedTrace) (s : Flat) (run prefix : List Step) → IsRunOf f.guest f.recorded run → IsRun (machine_of f) (start_of f) prefix → (left : ℕ → List Label) → ((t : ℕ) → log (machine_of f) (start_of f) prefix t ++ left t ≡ log (machine_of f) (start_of f) run t)
+    → tables s ≡ end (machine_of f) (start_of f) prefix → ((t : ℕ) → positions s t ≤ count (machine_of f) (start_of f) run t) → IsAt f (positions s) s run
+at_end f s run prefix is ok left logs ends within =
+    let counted : (t : ℕ) → count (machine_of f) (start_of f) prefix t ≡ positions s t = λ t. sym (ap (λ z. (z.now t).steps) ends ∙ steps_counted f prefix ok t) in
+    let at : IsPrefix (machine_of f) (start_of f) run prefix (positions s) = prefix_at (machine_of f) (law f) (start_of f) (good f) run prefix is.1.runs ok left logs (λ t. subst (λ n. n ≤ count (machine_of f) (start_of f) run t) (sym (counted t)) (within t)) (positions s) counted in
     at_tables f (positions s) s run is at.cut at.consistent (ends ∙ at.same_end)
 
 -- ---- the start
@@ -47,10 +47,10 @@ starts_at f s same = subst (IsStateAt f (λ t. 0)) (sym same) (record {
 -- ---- further steps
 
 -- steps from a state that lead to another, and log the first of what the run has left
-pub record Leads (more : List Step) (new : State thread.State) (left : ℕ → List Mark) (m : Machine thread.State) (s : State thread.State) : Type 0 where
+pub record Leads (more : List Step) (new : State thread.State) (left : ℕ → List Label) (m : Machine thread.State) (s : State thread.State) : Type 0 where
   pub runs : IsRun m s more
   pub ends : new ≡ end m s more
-  pub logs : (t : ℕ) → (rest : List Mark) × (log m s more t ++ rest ≡ left t)
+  pub logs : (t : ℕ) → (rest : List Label) × (log m s more t ++ rest ≡ left t)
 
 pub leads_at : (f : FittedTrace) (s new : Flat) (run more : List Step) → IsRunOf f.guest f.recorded run → s.code ≡ f.guest.code → IsAt f (positions s) s run → ((t : ℕ) → positions new t ≤ count (machine_of f) (start_of f) run t)
     → Leads more (tables new) (behind f run (positions s)) (machine s) (tables s) → IsAt f (positions new) new run
@@ -78,7 +78,7 @@ leads_under f target s new more aim under code threads objects below leads = rec
 
 -- ---- one step
 
-logged_any : (k : Mark) (es : List Mark) → logged k [] ++ es ≡ logged k es
+logged_any : (k : Label) (es : List Label) → logged k [] ++ es ≡ logged k es
 logged_any Quiet es = refl
 logged_any (Answer kind value) es = refl
 logged_any (In o a v l) es = refl
@@ -86,10 +86,10 @@ logged_any (Refused o) es = refl
 logged_any (Out o a v) es = refl
 
 -- what a step of thread t logs
-pub one_logs : {T : Type 0} (m : Machine T) (s : State T) (t v : ℕ) (left : ℕ → List Mark) → logged (mark m s (t, v)) (unlogged (mark m s (t, v)) (left t)) ≡ left t → (u : ℕ) → (rest : List Mark) × (log m s ((t, v) ∷ []) u ++ rest ≡ left u)
+pub one_logs : {T : Type 0} (m : Machine T) (s : State T) (t v : ℕ) (left : ℕ → List Label) → logged (label m s (t, v)) (unlogged (label m s (t, v)) (left t)) ≡ left t → (u : ℕ) → (rest : List Label) × (log m s ((t, v) ∷ []) u ++ rest ≡ left u)
 one_logs m s t v left own u = elim (cases_eq u t) [
-  | inl same ↦ subst (λ w. (rest : List Mark) × (log m s ((t, v) ∷ []) w ++ rest ≡ left w)) (sym same)
-      (unlogged (mark m s (t, v)) (left t), ap (λ z. events z ++ unlogged (mark m s (t, v)) (left t)) (trail_same m s (t, v) []) ∙ logged_any (mark m s (t, v)) (unlogged (mark m s (t, v)) (left t)) ∙ own)
+  | inl same ↦ subst (λ w. (rest : List Label) × (log m s ((t, v) ∷ []) w ++ rest ≡ left w)) (sym same)
+      (unlogged (label m s (t, v)) (left t), ap (λ z. events z ++ unlogged (label m s (t, v)) (left t)) (trail_same m s (t, v) []) ∙ logged_any (label m s (t, v)) (unlogged (label m s (t, v)) (left t)) ∙ own)
   | inr other ↦ (left u, ap (λ z. events z ++ left u) (trail_other m s (t, v) [] u other))
 ]
 
@@ -123,7 +123,7 @@ stepped f target s new t v aim under there_is before next taken code threads obj
             runs = (next.0, tt);
             ends = taken;
             logs = one_logs (machine s) (tables s) t v (behind f run (positions s))
-                (subst (λ es. logged (mark (machine s) (tables s) (t, v)) (unlogged (mark (machine s) (tables s) (t, v)) es) ≡ es) (log_behind f (positions s) s run is (under.state.each run is) t (subst (λ n. t < n) aim.size there_is)) next.1);
+                (subst (λ es. logged (label (machine s) (tables s) (t, v)) (unlogged (label (machine s) (tables s) (t, v)) es) ≡ es) (log_behind f (positions s) s run is (under.state.each run is) t (subst (λ n. t < n) aim.size there_is)) next.1);
           });
       gone = record { own = own; others = others };
     }

@@ -6,7 +6,7 @@ use mathlib.Core.Option.{none}
 use Rattle.atomic_table.specs.Table.{Step as TableStep, step, Allows}
 use Rattle.ir_image.specs.Guest.{object_count}
 use Rattle.ir_thread.specs.Calls.{ask_of, Permits}
-use Rattle.ir_runs.specs.Marks.{Out}
+use Rattle.ir_runs.specs.Labels.{Out}
 use Rattle.ir_thread.specs.State as thread
 use Rattle.ir_runs.specs.declared.access.Access.{Access}
 use Rattle.ir_runs.specs.declared.access.Access.TheVariants.{Reading, Writing}

@@ -17,7 +17,7 @@ use Rattle.ir_thread.specs.declared.ask.Reply.TheVariants.{Go, Value}
 use Rattle.ir_runs.specs.Object.{Object, told}
 use Rattle.ir_runs.specs.Run.{Step, count}
 use Rattle.ir_flat.proofs.CallerLemmas.{added}
-use Rattle.ir_log.specs.Logging.{mark_of, Suits}
+use Rattle.ir_log.specs.Logging.{label_of, Suits}
 use Rattle.ir_log.specs.declared.event.Event.{Event}
 use Rattle.ir_log.specs.declared.event.Event.TheVariants.{Answer as Answered, Read, Write}
 use Rattle.ir_trace.specs.Told.{recorded_thread}
@@ -98,7 +98,7 @@ get_takes k v x o i n seated asking answers = record {
 
 -- ---- the next event
 
-suits_by : (q : Ask) (e : Event) (r : ℕ) (b : Object) → mark_of e ≡ told (act_of (shared_ask q) r) b → added q ≡ 1 → Suits q e
+suits_by : (q : Ask) (e : Event) (r : ℕ) (b : Object) → label_of e ≡ told (act_of (shared_ask q) r) b → added q ≡ 1 → Suits q e
 suits_by (Env k) (Answered j v) r b h one = let same : j ≡ k = cc h in ap Env same
 suits_by (Env k) (Read o v) r b h one = absurd (cc h)
 suits_by (Env k) (Write o v l) r b h one = absurd (cc h)
@@ -126,7 +126,7 @@ event_suits k v x q seated asking one =
     let of = ahead.run.whole in
     let asks : ask_at f run x.number x.steps ≡ q = asks_in f x.number (seated_at v) x q run of ahead asking.asks in
     let found = event_there f run of x.number x.steps ahead.there (asking.has run of) (ap added asks ∙ one) in
-    let z : StepOf (machine_of f) (thread_at f run x.number x.steps) (thread_at f run x.number (suc x.steps)) (mark_of found.0) = step_at (machine_of f) (start_of f) run of.1.runs x.number x.steps (mark_of found.0) found.2 in (
+    let z : StepOf (machine_of f) (thread_at f run x.number x.steps) (thread_at f run x.number (suc x.steps)) (label_of found.0) = step_at (machine_of f) (start_of f) run of.1.runs x.number x.steps (label_of found.0) found.2 in (
       found.0,
       ap (λ (y : thread.State). slice_get (recorded_thread f.recorded x.number).events y.events) (ahead.at run of).1 ∙ found.1,
       suits_by q found.0 z.result z.object (z.tells ∙ ap (λ a. told (act_of (shared_ask a) z.result) z.object) asks) one,

@@ -3,15 +3,15 @@ use Rattle.std.proofs.Common.{◌≡◌, ◌≢◌, ℕ, suc, zero, List, [], �
 use Rattle.std.proofs.lemmas.Bool.{cases_eq}
 use Rattle.ir_runs.specs.Machine.{Machine, Ask, act_of, upd}
 use Rattle.ir_runs.specs.Machine as machine
-use Rattle.ir_runs.specs.Marks.{Mark, Quiet, Answer, In, Refused, Out}
+use Rattle.ir_runs.specs.Labels.{Label, Quiet, Answer, In, Refused, Out}
 use Rattle.ir_runs.specs.declared.access.Access.{Access}
 use Rattle.ir_runs.specs.declared.access.Access.TheVariants.{Reading, Writing}
 use Rattle.ir_runs.specs.Object.{Object, target, reply, told, Admits}
 use Rattle.ir_runs.proofs.CallerLemmas.{upd_same, now_other}
-use Rattle.ir_runs.specs.Run.{State, Step, act, Can, IsRun, after, mark, end, join_if, trail, thread_in, th}
+use Rattle.ir_runs.specs.Run.{State, Step, act, Can, IsRun, after, label, end, join_if, trail, thread_in, th}
 use Rattle.ir_runs.specs.Cuts.{At, Tells, Needs}
 
-pub record StepOf {T : Type 0} (m : Machine T) (x y : T) (a : Mark) : Type 0 where
+pub record StepOf {T : Type 0} (m : Machine T) (x y : T) (a : Label) : Type 0 where
   pub result : ℕ
   pub object : Object
   pub can : Admits m (act_of (m.ask x) result) object
@@ -26,14 +26,14 @@ now_same m s e = upd_same s.now e.0 (m.take (s.now e.0) (reply (act m s e) (s.ob
 pub first_thread : {T : Type 0} (m : Machine T) (s : State T) (run : List Step) (t : ℕ) → th m s run t 0 ≡ s.now t
 first_thread m s [] t = refl
 first_thread m s (e ∷ run) t = elim (cases_eq t e.0) [
-  | inl same ↦ subst (λ b. thread_in (join_if b (s.now t, mark m s e) (trail m (after m s e) run t)) 0 ((end m (after m s e) run).now t) ≡ s.now t) (sym (eq-eqb t e.0 same)) refl
-  | inr other ↦ subst (λ b. thread_in (join_if b (s.now t, mark m s e) (trail m (after m s e) run t)) 0 ((end m (after m s e) run).now t) ≡ s.now t) (sym (ne_eqb t e.0 other)) (first_thread m (after m s e) run t ∙ now_other m s e t other)
+  | inl same ↦ subst (λ b. thread_in (join_if b (s.now t, label m s e) (trail m (after m s e) run t)) 0 ((end m (after m s e) run).now t) ≡ s.now t) (sym (eq-eqb t e.0 same)) refl
+  | inr other ↦ subst (λ b. thread_in (join_if b (s.now t, label m s e) (trail m (after m s e) run t)) 0 ((end m (after m s e) run).now t) ≡ s.now t) (sym (ne_eqb t e.0 other)) (first_thread m (after m s e) run t ∙ now_other m s e t other)
 ]
 
 -- the first step of a trail, or a later one
-first_or : {T : Type 0} (m : Machine T) (s : State T) (e : Step) (run : List Step) (t k : ℕ) (a : Mark) (x : T) → Can m s e → ((j : ℕ) → At (trail m (after m s e) run t) j (x, a) → StepOf m (th m (after m s e) run t j) (th m (after m s e) run t (suc j)) a) → t ≡ e.0
-    → At ((s.now t, mark m s e) ∷ trail m (after m s e) run t) k (x, a)
-    → StepOf m (thread_in ((s.now t, mark m s e) ∷ trail m (after m s e) run t) k ((end m (after m s e) run).now t)) (thread_in ((s.now t, mark m s e) ∷ trail m (after m s e) run t) (suc k) ((end m (after m s e) run).now t)) a
+first_or : {T : Type 0} (m : Machine T) (s : State T) (e : Step) (run : List Step) (t k : ℕ) (a : Label) (x : T) → Can m s e → ((j : ℕ) → At (trail m (after m s e) run t) j (x, a) → StepOf m (th m (after m s e) run t j) (th m (after m s e) run t (suc j)) a) → t ≡ e.0
+    → At ((s.now t, label m s e) ∷ trail m (after m s e) run t) k (x, a)
+    → StepOf m (thread_in ((s.now t, label m s e) ∷ trail m (after m s e) run t) k ((end m (after m s e) run).now t)) (thread_in ((s.now t, label m s e) ∷ trail m (after m s e) run t) (suc k) ((end m (after m s e) run).now t)) a
 first_or m s e run t zero a x can later same at = subst (λ u. StepOf m (s.now u) (thread_in (trail m (after m s e) run u) 0 ((end m (after m s e) run).now u)) a) (sym same) (record {
   result = e.1;
   object = s.objects (target (act m s e));
@@ -43,24 +43,24 @@ first_or m s e run t zero a x can later same at = subst (λ u. StepOf m (s.now u
 })
 first_or m s e run t (suc k) a x can later same at = later k at
 
-pub step_at : {T : Type 0} (m : Machine T) (s : State T) (run : List Step) → IsRun m s run → (t k : ℕ) (a : Mark) → Tells m s run t k a → StepOf m (th m s run t k) (th m s run t (suc k)) a
+pub step_at : {T : Type 0} (m : Machine T) (s : State T) (run : List Step) → IsRun m s run → (t k : ℕ) (a : Label) → Tells m s run t k a → StepOf m (th m s run t k) (th m s run t (suc k)) a
 step_at m s [] ok t k a h = absurd h.1
 step_at m s (e ∷ run) ok t k a h = elim (cases_eq t e.0) [
   | inl same ↦ subst
-      (λ b. At (join_if b (s.now t, mark m s e) (trail m (after m s e) run t)) k (h.0, a)
-      → StepOf m (thread_in (join_if b (s.now t, mark m s e) (trail m (after m s e) run t)) k ((end m (after m s e) run).now t)) (thread_in (join_if b (s.now t, mark m s e) (trail m (after m s e) run t)) (suc k) ((end m (after m s e) run).now t)) a)
+      (λ b. At (join_if b (s.now t, label m s e) (trail m (after m s e) run t)) k (h.0, a)
+      → StepOf m (thread_in (join_if b (s.now t, label m s e) (trail m (after m s e) run t)) k ((end m (after m s e) run).now t)) (thread_in (join_if b (s.now t, label m s e) (trail m (after m s e) run t)) (suc k) ((end m (after m s e) run).now t)) a)
       (sym (eq-eqb t e.0 same)) (first_or m s e run t k a h.0 ok.0 (λ j at. step_at m (after m s e) run ok.1 t j a (h.0, at)) same) h.1
   | inr other ↦ subst
-      (λ b. At (join_if b (s.now t, mark m s e) (trail m (after m s e) run t)) k (h.0, a)
-      → StepOf m (thread_in (join_if b (s.now t, mark m s e) (trail m (after m s e) run t)) k ((end m (after m s e) run).now t)) (thread_in (join_if b (s.now t, mark m s e) (trail m (after m s e) run t)) (suc k) ((end m (after m s e) run).now t)) a)
+      (λ b. At (join_if b (s.now t, label m s e) (trail m (after m s e) run t)) k (h.0, a)
+      → StepOf m (thread_in (join_if b (s.now t, label m s e) (trail m (after m s e) run t)) k ((end m (after m s e) run).now t)) (thread_in (join_if b (s.now t, label m s e) (trail m (after m s e) run t)) (suc k) ((end m (after m s e) run).now t)) a)
       (sym (ne_eqb t e.0 other)) (λ at. step_at m (after m s e) run ok.1 t k a (h.0, at)) h.1
 ]
 
 -- what isn't an entry needs nothing
-pub needs_none : (b : Mark) (q : Ask) (r : ℕ) (x : Object) → ((o : ℕ) (a : Access) → q ≢ machine.Enter o a) → ((o : ℕ) → q ≢ machine.Try o) → Needs b (told (act_of q r) x) → ⊥
+pub needs_none : (b : Label) (q : Ask) (r : ℕ) (x : Object) → ((o : ℕ) (a : Access) → q ≢ machine.Enter o a) → ((o : ℕ) → q ≢ machine.Try o) → Needs b (told (act_of q r) x) → ⊥
 needs_none b q r x ne nt n = none b (told (act_of q r) x) (quiet q r x ne nt) n
   where
-    NotIn : Mark → Type 0
+    NotIn : Label → Type 0
     NotIn Quiet = Unit {0}
     NotIn (Answer k v) = Unit {0}
     NotIn (In o a v l) = ⊥
@@ -77,7 +77,7 @@ needs_none b q r x ne nt n = none b (told (act_of q r) x) (quiet q r x ne nt) n
     quiet (machine.Put o i w) r x ne nt = tt
     quiet machine.Done r x ne nt = tt
 
-    none : (b a : Mark) → NotIn a → Needs b a → ⊥
+    none : (b a : Label) → NotIn a → Needs b a → ⊥
     none b (In o c v l) h n = h
     none (Out o Reading w) Quiet h n = n
     none (Out o Writing w) Quiet h n = n

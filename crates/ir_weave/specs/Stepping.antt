@@ -1,8 +1,8 @@
 -- Steps on the way to a cut.
 use Rattle.std.specs.Prelude.{◌≡◌, ◌≢◌, ℕ, ◌+◌, ◌-◌, ◌<◌, ◌≤◌, ◌⊎◌, List, length, Option, Some, None}
-use Rattle.ir_runs.specs.Marks.{logged}
+use Rattle.ir_runs.specs.Labels.{logged}
 use Rattle.ir_flat.specs.Flat.{Flat, tables, machine}
-use Rattle.ir_runs.specs.Run.{Can, mark}
+use Rattle.ir_runs.specs.Run.{Can, label}
 use Rattle.ir_trace.specs.Recorded.{Recorded}
 use Rattle.ir_fit.specs.Ahead.{log_ahead}
 use Rattle.ir_runs.specs.Coherent.{sum_below}
@@ -14,7 +14,7 @@ use Rattle.ir_weave.specs.States.{IsStateAt, positions}
 
 -- thread t can take its next step now with this result, and logs by it what the trace tells next
 abbrev pub LogsNext : Recorded → Flat → ℕ → ℕ → Type 0
-LogsNext r s t v = Can (machine s) (tables s) (t, v) × (logged (mark (machine s) (tables s) (t, v)) (unlogged (mark (machine s) (tables s) (t, v)) (log_ahead r s t)) ≡ log_ahead r s t)
+LogsNext r s t v = Can (machine s) (tables s) (t, v) × (logged (label (machine s) (tables s) (t, v)) (unlogged (label (machine s) (tables s) (t, v)) (log_ahead r s t)) ≡ log_ahead r s t)
 
 -- such a result, or there is none
 abbrev pub IsNext : Recorded → Flat → ℕ → Option ℕ → Type 0

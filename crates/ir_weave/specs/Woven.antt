@@ -6,7 +6,7 @@ use Rattle.atomic_table.specs.Table.{State, Me, Step}
 use Rattle.atomic_table.specs.Seated.{TableId}
 use Rattle.atomic_table.specs.declared.shared.Seat.{Seat}
 use Rattle.ir_thread.specs.Calls.{after_ask}
-use Rattle.ir_runs.specs.Marks.{Out}
+use Rattle.ir_runs.specs.Labels.{Out}
 use Rattle.ir_thread.specs.State as thread
 use Rattle.ir_runs.specs.declared.access.Access.TheVariants.{Writing}
 use Rattle.ir_thread.specs.declared.ask.Ask.TheVariants as ask

@@ -1,7 +1,7 @@
 -- What is shown of the guest at the cut.
 use Rattle.std.specs.Prelude.{ℕ, zero, suc, ◌+◌, List, [], ◌∷◌, length, take, Option, Some, None}
 use Rattle.ir_mach.specs.Memory.{byte_at}
-use Rattle.ir_runs.specs.Marks.{Mark}
+use Rattle.ir_runs.specs.Labels.{Label}
 use Rattle.ir_thread.specs.State as thread
 use Rattle.ir_runs.specs.Run as run
 use Rattle.ir_runs.specs.Cuts.{object_at}
@@ -17,7 +17,7 @@ abbrev pub current : List run.Step → Desk → ℕ → thread.State
 current steps d t = thread_at d.fitted steps t (position_of d t)
 
 -- what thread t logged so far: of its first steps, as many as its position says
-abbrev pub logged_so_far : List run.Step → Desk → ℕ → List Mark
+abbrev pub logged_so_far : List run.Step → Desk → ℕ → List Label
 logged_so_far steps d t = run.events (take (position_of d t) (run.trail (machine_of d.fitted) (start_of d.fitted) steps t))
 
 -- a byte that is looked at

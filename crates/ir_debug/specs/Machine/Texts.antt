@@ -3,8 +3,8 @@ use Rattle.std.specs.Prelude.{◌==◌, ℕ, zero, suc, ◌+◌, ◌/◌, List, 
 use Rattle.hex.specs.Hex.{encode_lower}
 use Rattle.ir_image.specs.Fetch.{word_at}
 use Rattle.ir_thread.specs.Held.{highest}
-use Rattle.ir_runs.specs.Marks.{Mark, Quiet, Answer, In, Out}
-use Rattle.ir_runs.specs.Marks as marks
+use Rattle.ir_runs.specs.Labels.{Label, Quiet, Answer, In, Out}
+use Rattle.ir_runs.specs.Labels as labels
 use Rattle.ir_thread.specs.State as thread
 use Rattle.ir_runs.specs.declared.access.Access.{Access}
 use Rattle.ir_runs.specs.declared.access.Access.TheVariants.{Reading, Writing}
@@ -92,21 +92,21 @@ kind_text Random = codes "random"
 kind_text Input = codes "input"
 
 -- what is logged of a step; nothing of one that logs nothing
-abbrev pub event_text : Mark → List ℕ
+abbrev pub event_text : Label → List ℕ
 event_text (Answer kind value) = kind_text kind ++ codes " " ++ decimal value
 event_text (In object Reading version left) = codes "read " ++ decimal object ++ codes " version " ++ decimal version
 event_text (In object Writing version left) = codes "write " ++ decimal object ++ codes " version " ++ decimal version ++ codes " readers " ++ decimal left
 event_text Quiet = []
-event_text (marks.Refused object) = []
+event_text (labels.Refused object) = []
 event_text (Out object access version) = []
 
 -- the events from a number on
-unfoldable pub event_lines : ℕ → List Mark → List ℕ
+unfoldable pub event_lines : ℕ → List Label → List ℕ
 event_lines i [] = []
 event_lines i (e ∷ es) = decimal i ++ codes " " ++ event_text e ++ codes "\n" ++ event_lines (i + 1) es
 
 -- those so far, of so many
-abbrev pub log_text : List Mark → ℕ → List ℕ
+abbrev pub log_text : List Label → ℕ → List ℕ
 log_text so_far all = codes "log " ++ decimal (length so_far) ++ codes " of " ++ decimal all ++ codes "\n" ++ event_lines 0 so_far
 
 -- ---- what comes next

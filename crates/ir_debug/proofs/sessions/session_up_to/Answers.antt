@@ -2,18 +2,18 @@ use Rattle.std.proofs.Common.{sym, subst, ◌∙◌}
 use Rattle.ir_stream.specs.Lines.{cut, lines_of}
 use Rattle.ir_debug.specs.Session.{opening_of, opening_text}
 use Rattle.ir_debug.specs.declared.opening.Opening.{Opening}
-use Rattle.ir_stream.specs.Devices.{AppendsFront}
-use Rattle.ir_debug.proofs.Opened.{none_read, Reads-map, begun_at, was_read, was_write, served_known, served_ended, told_after, told_front}
+use Rattle.ir_stream.specs.Devices.{AppendsPrefix}
+use Rattle.ir_debug.proofs.Opened.{none_read, Reads-map, begun_at, was_read, was_write, served_known, served_ended, told_after, told_prefix}
 use Rattle.ir_debug.proofs.sessions.session_up_to.Goals as goal
 
 pub returns-in-Err-clause-write : goal.returns-in-Err-clause-write
 returns-in-Err-clause-write g c = λ e.
-    let front = c.in-Err.ensures.front in
-    let P : Opening → Type 0 = λ o. AppendsFront (g.W.Sink.written c.args.writer.now) (g.W.Sink.written c.announce.new.writer) (opening_text o) in (
+    let prefix = c.in-Err.ensures.prefix in
+    let P : Opening → Type 0 = λ o. AppendsPrefix (g.W.Sink.written c.args.writer.now) (g.W.Sink.written c.announce.new.writer) (opening_text o) in (
       c.requires.reads,
       c.in-Err.ensures.err,
       none_read (opening_of c.args.image.now c.args.trace.now) c.args.limit (g.R.Source.left c.args.reader.now) (g.W.Sink.written c.args.writer.now) (g.W.Sink.written c.announce.new.writer)
-          (subst P c.in-Ok.ensures front),
+          (subst P c.in-Ok.ensures prefix),
     )
 
 pub returns-in-Ready-clause-ended : goal.returns-in-Ready-clause-ended
@@ -49,7 +49,7 @@ returns-in-Ready-clause-write g c = λ e.
       Reads-map c.args.limit _ _ _ _ (λ consumed p. (
         p.0,
         p.1,
-        told_front (opening_of c.args.image.now c.args.trace.now) c.in-Ready.debugger
+        told_prefix (opening_of c.args.image.now c.args.trace.now) c.in-Ready.debugger
             (g.W.Sink.written c.args.writer.now) (g.W.Sink.written c.announce.new.writer) (g.W.Sink.written c.serve.new.writer) (lines_of consumed)
             (sym c.in-Ready.is ∙ c.in-Ok.ensures) (begun_at c.in-Ok.opening c.in-Ready.debugger _ _ c.in-Ready.is c.in-Ok-announce.ensures.ok) p.2,
       )) r.2,

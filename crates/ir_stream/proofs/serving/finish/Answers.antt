@@ -5,7 +5,7 @@ use Rattle.ir_stream.specs.declared.serving.Flow.{Flow}
 use Rattle.ir_stream.specs.declared.serving.Flow.TheVariants.{Goes, Quits}
 use Rattle.ir_stream.specs.declared.serving.Served.TheVariants.{Quit, InputEnd}
 use Rattle.ir_stream.specs.Endings.{flow_after, served_after}
-use Rattle.ir_stream.proofs.Replies.{wrote_none, wrote_some, front_some, some_quits_empty, some_quits_some}
+use Rattle.ir_stream.proofs.Replies.{wrote_none, wrote_some, prefix_some, some_quits_empty, some_quits_some}
 use Rattle.ir_stream.proofs.serving.finish.Goals as goal
 
 some : (line : List ℕ) (b : Bool) → b ≡ eqb (length line) 0 → b ≡ false → line ≡ [] → ⊥
@@ -42,5 +42,5 @@ pub returns-in-Ok-Quits-clause-served : goal.returns-in-Ok-Quits-clause-served
 returns-in-Ok-Quits-clause-served g c = quit c.in-Ok-Quits.field-0 (g.M.Responder.quits c.args.line.now) c.in-Ok-Quits.ensures.flow c.in-Ok-Quits.field-0-is
     ∙ ap served_after (sym (some_quits_some g.M.Responder.quits c.args.line.now (some c.args.line.now c.is_empty.result c.is_empty.ensures c.if-is_empty.false)))
 
-pub returns-in-Err-clause-front : goal.returns-in-Err-clause-front
-returns-in-Err-clause-front g c = front_some g.M.Responder.replies c.args.machine.now c.args.line.now (g.W.Sink.written c.args.writer.now) (g.W.Sink.written c.respond.new.writer) (some c.args.line.now c.is_empty.result c.is_empty.ensures c.if-is_empty.false) c.in-Err.ensures.front
+pub returns-in-Err-clause-prefix : goal.returns-in-Err-clause-prefix
+returns-in-Err-clause-prefix g c = prefix_some g.M.Responder.replies c.args.machine.now c.args.line.now (g.W.Sink.written c.args.writer.now) (g.W.Sink.written c.respond.new.writer) (some c.args.line.now c.is_empty.result c.is_empty.ensures c.if-is_empty.false) c.in-Err.ensures.prefix

@@ -58,7 +58,7 @@ returns-in-End-clause-write g c = λ failed. (
       c.args.machine.now (g.R.Source.left c.args.reader.now) (g.W.Sink.written c.args.writer.now)
       (g.R.Source.left c.loop-taken.reader) (g.R.Source.left c.next_byte.new.reader) (g.W.Sink.written c.loop-taken.writer) c.loop-taken.machine c.as_slice.result.now c.loop-taken.taken
       (at_other g.M.Responder.replies g.M.Responder.quits c.args.machine.now (g.R.Source.left c.args.reader.now) (g.W.Sink.written c.args.writer.now) (g.R.Source.left c.loop-taken.reader) (g.W.Sink.written c.loop-taken.writer) c.loop-taken.machine c.loop-taken.line.items c.as_slice.result.now c.loop-taken.taken c.loop-taken.taken c.loop-taken.invariant.at c.as_slice.ensures.value refl)
-      c.args.limit c.loop-taken-test.true c.in-End.ensures.bytes.0 c.finish.result (g.W.Sink.written c.finish.new.writer) c.in-End.ensures.bytes.1 failed c.finish.ensures.front,
+      c.args.limit c.loop-taken-test.true c.in-End.ensures.bytes.0 c.finish.result (g.W.Sink.written c.finish.new.writer) c.in-End.ensures.bytes.1 failed c.finish.ensures.prefix,
 )
 
 pub loop-taken-preserved-then-byte-ne10 : goal.loop-taken-preserved-then-byte-ne10
@@ -100,7 +100,7 @@ returns-in-Err-clause-write g c = λ _. (
       c.args.machine.now (g.R.Source.left c.args.reader.now) (g.W.Sink.written c.args.writer.now)
       (g.R.Source.left c.loop-taken.reader) (g.R.Source.left c.next_byte.new.reader) (g.W.Sink.written c.loop-taken.writer) c.loop-taken.machine c.as_slice-in-Byte.result.now c.loop-taken.taken
       (at_other g.M.Responder.replies g.M.Responder.quits c.args.machine.now (g.R.Source.left c.args.reader.now) (g.W.Sink.written c.args.writer.now) (g.R.Source.left c.loop-taken.reader) (g.W.Sink.written c.loop-taken.writer) c.loop-taken.machine c.loop-taken.line.items c.as_slice-in-Byte.result.now c.loop-taken.taken c.loop-taken.taken c.loop-taken.invariant.at c.as_slice-in-Byte.ensures.value refl)
-      c.args.limit c.loop-taken-test.true (g.W.Sink.written c.respond.new.writer) (subst (λ (b : ℕ). Consumes (g.R.Source.left c.loop-taken.reader) (g.R.Source.left c.next_byte.new.reader) (b ∷ [])) c.if-byte-ne10.false c.in-Byte.ensures.bytes) c.in-Err.ensures.front,
+      c.args.limit c.loop-taken-test.true (g.W.Sink.written c.respond.new.writer) (subst (λ (b : ℕ). Consumes (g.R.Source.left c.loop-taken.reader) (g.R.Source.left c.next_byte.new.reader) (b ∷ [])) c.if-byte-ne10.false c.in-Byte.ensures.bytes) c.in-Err.ensures.prefix,
 )
 
 pub loop-taken-preserved : goal.loop-taken-preserved

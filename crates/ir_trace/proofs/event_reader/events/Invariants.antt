@@ -1,12 +1,12 @@
 use Rattle.std.proofs.Common.{◌≡◌, ◌≤◌, ◌+◌, ◌*◌, ◌-◌, ◌/◌, length, min}
 use Rattle.ir_bytes.specs.Reading.{fields_at}
 use Rattle.ir_trace.specs.Reading.{event_at}
-use Rattle.ir_bytes.proofs.CallerLemmas.{with_front}
+use Rattle.ir_bytes.proofs.CallerLemmas.{with_prefix}
 use Rattle.ir_trace.proofs.event_reader.events.Given as goal
 
 abbrev pub invariant-loop : goal.invariant-loop
 invariant-loop l = record {
-  told : with_front l.log.events (fields_at (event_at l.objects) (l.count - l.counter) l.rest) ≡ fields_at (event_at l.objects) l.count l.bytes;
+  told : with_prefix l.log.events (fields_at (event_at l.objects) (l.count - l.counter) l.rest) ≡ fields_at (event_at l.objects) l.count l.bytes;
   pushed : length l.log.events ≡ l.counter;
   room : l.log.room ≡ min l.count (length l.bytes / 5);
   taken : 5 * l.counter + length l.rest ≤ length l.bytes;

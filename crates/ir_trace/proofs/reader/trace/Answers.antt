@@ -1,7 +1,7 @@
 use Rattle.std.proofs.Common.{◌≡◌, [], sym, subst, arith, rules}
 use Rattle.std.proofs.lemmas.List.{nil_from_length}
 use Rattle.ir_trace.specs.Recorded.{Recorded, IsRecorded}
-use Rattle.ir_trace.specs.Spelling.{spelling}
+use Rattle.ir_trace.specs.Encoding.{encoding}
 use Rattle.ir_trace.proofs.Whole.{parts_take}
 use Rattle.ir_trace.proofs.reader.trace.Goals as goal
 
@@ -13,5 +13,5 @@ new-requires c =
 pub returns-clause-found : goal.returns-clause-found
 returns-clause-found c =
     let nothing : c.in_ok-threads.rest.now ≡ [] = nil_from_length c.in_ok-threads.rest.now (search rules) in
-    subst (λ (r : Recorded). IsRecorded r × (c.args.bytes.now ≡ spelling r)) (sym c.new.ensures)
+    subst (λ (r : Recorded). IsRecorded r × (c.args.bytes.now ≡ encoding r)) (sym c.new.ensures)
     (parts_take c.args.bytes.now c.in_ok-header.header c.in_ok-header.rest.now c.in_ok-threads.threads.items c.in_ok-threads.rest.now (λ i. omega (arith, c.type_inv.bytes i)) c.in_ok-header.ensures c.in_ok-threads.ensures nothing)

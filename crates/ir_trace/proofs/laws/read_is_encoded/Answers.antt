@@ -1,5 +1,5 @@
 use Rattle.ir_trace.proofs.Whole.{recorded_takes}
-use Rattle.ir_trace.proofs.laws.read_is_spelled.Goals as goal
+use Rattle.ir_trace.proofs.laws.read_is_encoded.Goals as goal
 
 pub returns : goal.returns
 returns c = recorded_takes
