@@ -27,8 +27,10 @@ use Rattle.ir_asm.proofs.Statements.{one_statement}
 use Rattle.ir_asm.proofs.Formats.{plain_end, imm_within, imm_small}
 use Rattle.ir_asm.proofs.Pairs.{two_says}
 
-address_plain : (z : ℤ) (b : ℕ) → list_all clean (signed_decimal z) ≡ true → list_all clean (register_name b) ≡ true → list_all clean (address z b) ≡ true
-address_plain z b h k = all_append clean (signed_decimal z) (40 ∷ (register_name b ++ 41 ∷ [])) h (all_append clean (register_name b) (41 ∷ []) k refl)
+address_plain : (z : ℤ) (b : ℕ) → list_all clean (signed_decimal z) ≡ true → list_all clean (register_name b) ≡ true
+    → list_all clean (address z b) ≡ true
+address_plain z b h k = all_append clean (signed_decimal z) (40 ∷ (register_name b ++ 41 ∷ [])) h
+    (all_append clean (register_name b) (41 ∷ []) k refl)
 
 address_piece : (z : ℤ) (b : Register) → nat_abs z < 2 ^ 64 → IsPiece (address z b.number)
 address_piece z b h = record {
@@ -37,12 +39,14 @@ address_piece z b h = record {
 }
 
 -- an address is cut into what was put together
-address_again : (z : ℤ) (b : Register) → nat_abs z < 2 ^ 64 → address_of (address z b.number) ≡ Some (signed_decimal z, register_name b.number)
+address_again : (z : ℤ) (b : Register) → nat_abs z < 2 ^ 64
+    → address_of (address z b.number) ≡ Some (signed_decimal z, register_name b.number)
 address_again z b h =
     let s = signed_plain z h in
     let r = register_plain b in
     let base : List ℕ = register_name b.number in
-    rw (split_at 40 (signed_decimal z) (base ++ 41 ∷ []) (plain_open (signed_decimal z) s), split_one 40 (base ++ 41 ∷ []) (all_append (λ c. not (c == 40)) base (41 ∷ []) (plain_open base r) refl))
+    rw (split_at 40 (signed_decimal z) (base ++ 41 ∷ []) (plain_open (signed_decimal z) s), split_one 40 (base ++ 41 ∷ [])
+        (all_append (λ c. not (c == 40)) base (41 ∷ []) (plain_open base r) refl))
     (rw (split_one 41 (signed_decimal z) (plain_close (signed_decimal z) s), split_at 41 base [] (plain_close base r))
     (rw (trim_clean (signed_decimal z) (signed_piece z h).all, trim_clean base (register_piece b).all) refl))
 
@@ -54,13 +58,16 @@ reads_at b i =
 wide : (i : Immediate) → nat_abs i.value < 2 ^ 64
 wide i = let small = imm_small i.value i.low i.high in omega (arith, small)
 
-reads_load : (op : LoadOp) (a b : Register) (i : Immediate) → operands_of (Loads op) (register_name a.number ∷ address i.value b.number ∷ []) ≡ Ok (Index a ∷ Offset i.value b ∷ [])
+reads_load : (op : LoadOp) (a b : Register) (i : Immediate)
+    → operands_of (Loads op) (register_name a.number ∷ address i.value b.number ∷ []) ≡ Ok (Index a ∷ Offset i.value b ∷ [])
 reads_load op a b i = rw ((register_piece a).some, address_again i.value b (wide i)) (rw (register_again a, reads_at b i) refl)
 
-reads_store : (op : StoreOp) (a b : Register) (i : Immediate) → operands_of (Stores op) (register_name a.number ∷ address i.value b.number ∷ []) ≡ Ok (Index a ∷ Offset i.value b ∷ [])
+reads_store : (op : StoreOp) (a b : Register) (i : Immediate)
+    → operands_of (Stores op) (register_name a.number ∷ address i.value b.number ∷ []) ≡ Ok (Index a ∷ Offset i.value b ∷ [])
 reads_store op a b i = rw ((register_piece a).some, address_again i.value b (wide i)) (rw (register_again a, reads_at b i) refl)
 
-reads_jumps_to : (a b : Register) (i : Immediate) → operands_of JumpsTo (register_name a.number ∷ address i.value b.number ∷ []) ≡ Ok (Index a ∷ Offset i.value b ∷ [])
+reads_jumps_to : (a b : Register) (i : Immediate)
+    → operands_of JumpsTo (register_name a.number ∷ address i.value b.number ∷ []) ≡ Ok (Index a ∷ Offset i.value b ∷ [])
 reads_jumps_to a b i = rw ((register_piece a).some, address_again i.value b (wide i)) (rw (register_again a, reads_at b i) refl)
 
 load_named : (op : LoadOp) → form_named (load_name op) ≡ Some (Loads op)
@@ -87,20 +94,26 @@ store_piece Sb = record { some = refl; all = refl }
 store_piece Sh = record { some = refl; all = refl }
 store_piece Sw = record { some = refl; all = refl }
 
-pub load_law : (pc : ℕ) (op : LoadOp) (rd rs1 : Register) (i : Immediate) → IsWordGuest (assembled (printed pc (Load op rd rs1 i))) (word_of (Load op rd rs1 i))
+pub load_law : (pc : ℕ) (op : LoadOp) (rd rs1 : Register) (i : Immediate)
+    → IsWordGuest (assembled (printed pc (Load op rd rs1 i))) (word_of (Load op rd rs1 i))
 load_law pc op rd rs1 i =
-    one_statement _ _ _ (two_says (load_name op) (register_name rd.number) (address i.value rs1.number) (address i.value rs1.number) (word_of (Load op rd rs1 i)) (Loads op) (Index rd ∷ Offset i.value rs1 ∷ [])
+    one_statement _ _ _ (two_says (load_name op) (register_name rd.number) (address i.value rs1.number) (address i.value rs1.number)
+        (word_of (Load op rd rs1 i)) (Loads op) (Index rd ∷ Offset i.value rs1 ∷ [])
     (load_piece op) (register_piece rd) (plain_end (address i.value rs1.number) (address_piece i.value rs1 (wide i)))
     (load_named op) refl (reads_load op rd rs1 i) (ap (λ (x : Immediate). instruction (Load op rd rs1 x)) (immediate_kept i)))
 
-pub store_law : (pc : ℕ) (op : StoreOp) (rs1 rs2 : Register) (i : Immediate) → IsWordGuest (assembled (printed pc (Store op rs1 rs2 i))) (word_of (Store op rs1 rs2 i))
+pub store_law : (pc : ℕ) (op : StoreOp) (rs1 rs2 : Register) (i : Immediate)
+    → IsWordGuest (assembled (printed pc (Store op rs1 rs2 i))) (word_of (Store op rs1 rs2 i))
 store_law pc op rs1 rs2 i =
-    one_statement _ _ _ (two_says (store_name op) (register_name rs2.number) (address i.value rs1.number) (address i.value rs1.number) (word_of (Store op rs1 rs2 i)) (Stores op) (Index rs2 ∷ Offset i.value rs1 ∷ [])
+    one_statement _ _ _ (two_says (store_name op) (register_name rs2.number) (address i.value rs1.number) (address i.value rs1.number)
+        (word_of (Store op rs1 rs2 i)) (Stores op) (Index rs2 ∷ Offset i.value rs1 ∷ [])
     (store_piece op) (register_piece rs2) (plain_end (address i.value rs1.number) (address_piece i.value rs1 (wide i)))
     (store_named op) refl (reads_store op rs2 rs1 i) (ap (λ (x : Immediate). instruction (Store op rs1 rs2 x)) (immediate_kept i)))
 
-pub jumps_to_law : (pc : ℕ) (rd rs1 : Register) (i : Immediate) → IsWordGuest (assembled (printed pc (Jalr rd rs1 i))) (word_of (Jalr rd rs1 i))
+pub jumps_to_law : (pc : ℕ) (rd rs1 : Register) (i : Immediate)
+    → IsWordGuest (assembled (printed pc (Jalr rd rs1 i))) (word_of (Jalr rd rs1 i))
 jumps_to_law pc rd rs1 i =
-    one_statement _ _ _ (two_says (codes "jalr") (register_name rd.number) (address i.value rs1.number) (address i.value rs1.number) (word_of (Jalr rd rs1 i)) JumpsTo (Index rd ∷ Offset i.value rs1 ∷ [])
+    one_statement _ _ _ (two_says (codes "jalr") (register_name rd.number) (address i.value rs1.number) (address i.value rs1.number)
+        (word_of (Jalr rd rs1 i)) JumpsTo (Index rd ∷ Offset i.value rs1 ∷ [])
     (record { some = refl; all = refl }) (register_piece rd) (plain_end (address i.value rs1.number) (address_piece i.value rs1 (wide i)))
     refl refl (reads_jumps_to rd rs1 i) (ap (λ (x : Immediate). instruction (Jalr rd rs1 x)) (immediate_kept i)))

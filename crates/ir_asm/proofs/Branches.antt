@@ -46,11 +46,15 @@ far_end pc z h =
     let p = distance_piece z h in
     let t : ℕ = (pc + low_bits 32 z) % 2 ^ 32 in
     record {
-      trimmed = ap trim_end (before_under 35 (distance z) (codes " # " ++ hex 8 t) (clean_lacks 35 (distance z) refl p.all)) ∙ blank_end (distance z) p.all;
+      trimmed = ap trim_end (before_under 35 (distance z) (codes " # " ++ hex 8 t) (clean_lacks 35 (distance z) refl p.all))
+          ∙ blank_end (distance z) p.all;
       piece_is = p;
-      feed = all_append (λ b. not (b == 10)) (distance z) (codes " # " ++ hex 8 t) (clean_lacks 10 (distance z) refl p.all) (clean_lacks 10 (hex 8 t) refl (hex_clean 8 t));
-      source = all_append is_source_byte (distance z) (codes " # " ++ hex 8 t) (weaken is_source_byte clean_source (distance z) p.all) (weaken is_source_byte clean_source (hex 8 t) (hex_clean 8 t));
-      colon = all_append (λ b. not (b == 58)) (distance z) (codes " # " ++ hex 8 t) (clean_lacks 58 (distance z) refl p.all) (clean_lacks 58 (hex 8 t) refl (hex_clean 8 t));
+      feed = all_append (λ b. not (b == 10)) (distance z) (codes " # " ++ hex 8 t) (clean_lacks 10 (distance z) refl p.all)
+          (clean_lacks 10 (hex 8 t) refl (hex_clean 8 t));
+      source = all_append is_source_byte (distance z) (codes " # " ++ hex 8 t) (weaken is_source_byte clean_source (distance z) p.all)
+          (weaken is_source_byte clean_source (hex 8 t) (hex_clean 8 t));
+      colon = all_append (λ b. not (b == 58)) (distance z) (codes " # " ++ hex 8 t) (clean_lacks 58 (distance z) refl p.all)
+          (clean_lacks 58 (hex 8 t) refl (hex_clean 8 t));
     }
 
 pub distance_again : (z : ℤ) → nat_abs z < 10 ^ 10 → distance_text (distance z) ≡ Some z
@@ -69,7 +73,9 @@ pub off_even : (z : ℤ) → IsEven z → is_even z ≡ true
 off_even (pos n) h = grind (arith, common_steps)
 off_even (negsuc n) h = grind (arith, common_steps)
 
-reads_target : (op : BranchOp) (a b : Register) (z : ℤ) → distance_in (negsuc 4095) (pos 4094) (distance z) ≡ Ok z → operands_of (Branches op) (register_name a.number ∷ register_name b.number ∷ distance z ∷ []) ≡ Ok (Index a ∷ Index b ∷ Integer z ∷ [])
+reads_target : (op : BranchOp) (a b : Register) (z : ℤ) → distance_in (negsuc 4095) (pos 4094) (distance z) ≡ Ok z
+    → operands_of (Branches op) (register_name a.number ∷ register_name b.number ∷ distance z ∷ []) ≡ Ok
+    (Index a ∷ Index b ∷ Integer z ∷ [])
 reads_target op a b (pos n) e = rw ((register_piece a).some, (register_piece b).some) (rw (register_again a, register_again b, e) refl)
 reads_target op a b (negsuc n) e = rw ((register_piece a).some, (register_piece b).some) (rw (register_again a, register_again b, e) refl)
 
@@ -78,12 +84,15 @@ reads_distance i =
     let small = off_small i.value i.low i.high in
     rw (distance_again i.value (omega (arith, small))) (rw (off_even i.value i.even, off_within i.value i.low i.high) refl)
 
-pub branch_law : (pc : ℕ) (op : BranchOp) (rs1 rs2 : Register) (i : BranchOffset) → IsWordGuest (assembled (printed pc (Branch op rs1 rs2 i))) (word_of (Branch op rs1 rs2 i))
+pub branch_law : (pc : ℕ) (op : BranchOp) (rs1 rs2 : Register) (i : BranchOffset)
+    → IsWordGuest (assembled (printed pc (Branch op rs1 rs2 i))) (word_of (Branch op rs1 rs2 i))
 branch_law pc op rs1 rs2 i =
     let small = off_small i.value i.low i.high in
-    one_statement _ _ _ (three_says (branch_name op) (register_name rs1.number) (register_name rs2.number) (far pc i.value) (distance i.value) (word_of (Branch op rs1 rs2 i)) (Branches op) (Index rs1 ∷ Index rs2 ∷ Integer i.value ∷ [])
+    one_statement _ _ _ (three_says (branch_name op) (register_name rs1.number) (register_name rs2.number) (far pc i.value)
+        (distance i.value) (word_of (Branch op rs1 rs2 i)) (Branches op) (Index rs1 ∷ Index rs2 ∷ Integer i.value ∷ [])
     (branch_piece op) (register_piece rs1) (register_piece rs2) (far_end pc i.value (omega (arith, small)))
-    (branch_named op) refl (reads_target op rs1 rs2 i.value (reads_distance i)) (ap (λ (x : BranchOffset). instruction (Branch op rs1 rs2 x)) (branch_offset_kept i)))
+    (branch_named op) refl (reads_target op rs1 rs2 i.value (reads_distance i))
+        (ap (λ (x : BranchOffset). instruction (Branch op rs1 rs2 x)) (branch_offset_kept i)))
 
 -- ---- .word
 
@@ -114,7 +123,8 @@ word_says n h =
       feed = clean_lacks 10 c refl k;
       source = weaken is_source_byte clean_source c k;
       colon = lacks_before 58 35 (one (codes ".word") (codes "0x" ++ c)) (clean_lacks 58 c refl k);
-      trimmed = ap trim (before_none 35 (one (codes ".word") (codes "0x" ++ c)) (clean_lacks 35 c refl k)) ∙ trim_under (codes ".word ") (codes "0x" ++ c) (codes "0x" ++ c) (end_clean (codes "0x" ++ c) p.all) refl;
+      trimmed = ap trim (before_none 35 (one (codes ".word") (codes "0x" ++ c)) (clean_lacks 35 c refl k))
+          ∙ trim_under (codes ".word ") (codes "0x" ++ c) (codes "0x" ++ c) (end_clean (codes "0x" ++ c) p.all) refl;
       some = refl;
       named = refl;
       stands = refl;
@@ -137,14 +147,20 @@ shift_piece Slli = record { some = refl; all = refl }
 shift_piece Srli = record { some = refl; all = refl }
 shift_piece Srai = record { some = refl; all = refl }
 
-reads_shift : (op : ShiftOp) (a b : Register) (n : ℕ) → n < 32 → operands_of (Shifts op) (register_name a.number ∷ register_name b.number ∷ decimal n ∷ []) ≡ Ok (Index a ∷ Index b ∷ Integer (pos n) ∷ [])
+reads_shift : (op : ShiftOp) (a b : Register) (n : ℕ) → n < 32
+    → operands_of (Shifts op) (register_name a.number ∷ register_name b.number ∷ decimal n ∷ []) ≡ Ok
+    (Index a ∷ Index b ∷ Integer (pos n) ∷ [])
 reads_shift op a b n l =
     rw ((register_piece a).some, (register_piece b).some, (decimal_piece n (omega (arith, l))).some)
     (rw (register_again a, register_again b, natural_number n (omega (arith, l)))
     (rw (le-leb 0 n (omega arith), le-leb n 31 (omega (arith, l))) refl))
 
-pub shift_law : (pc : ℕ) (op : ShiftOp) (rd rs1 : Register) (a : ShiftAmount) → IsWordGuest (assembled (printed pc (Shift op rd rs1 a))) (word_of (Shift op rd rs1 a))
+pub shift_law : (pc : ℕ) (op : ShiftOp) (rd rs1 : Register) (a : ShiftAmount)
+    → IsWordGuest (assembled (printed pc (Shift op rd rs1 a))) (word_of (Shift op rd rs1 a))
 shift_law pc op rd rs1 a =
-    one_statement _ _ _ (three_says (shift_name op) (register_name rd.number) (register_name rs1.number) (decimal a.bits) (decimal a.bits) (word_of (Shift op rd rs1 a)) (Shifts op) (Index rd ∷ Index rs1 ∷ Integer (pos a.bits) ∷ [])
-    (shift_piece op) (register_piece rd) (register_piece rs1) (plain_end (decimal a.bits) (decimal_piece a.bits (omega (arith, a.in_range))))
-    (shift_named op) refl (reads_shift op rd rs1 a.bits a.in_range) (ap (λ (x : ShiftAmount). instruction (Shift op rd rs1 x)) (amount_kept a)))
+    one_statement _ _ _ (three_says (shift_name op) (register_name rd.number) (register_name rs1.number) (decimal a.bits) (decimal a.bits)
+        (word_of (Shift op rd rs1 a)) (Shifts op) (Index rd ∷ Index rs1 ∷ Integer (pos a.bits) ∷ [])
+    (shift_piece op) (register_piece rd) (register_piece rs1)
+        (plain_end (decimal a.bits) (decimal_piece a.bits (omega (arith, a.in_range))))
+    (shift_named op) refl (reads_shift op rd rs1 a.bits a.in_range)
+        (ap (λ (x : ShiftAmount). instruction (Shift op rd rs1 x)) (amount_kept a)))

@@ -7,7 +7,8 @@ use Rattle.ir_asm.specs.Operands.{address, address_parts, in_parentheses}
 use Rattle.ir_asm.specs.Text.{until, from, split, trim_end, is_blank}
 
 -- a list is cut at the first element that passes
-pub cut_at : (p : ℕ → Bool) (xs : List ℕ) (n : ℕ) → n ≤ length xs → ((k : ℕ) → k < n → p (get_or xs k 0) ≡ false) → (n < length xs → p (get_or xs n 0) ≡ true) → (take n xs ≡ until p xs) × (drop n xs ≡ from p xs)
+pub cut_at : (p : ℕ → Bool) (xs : List ℕ) (n : ℕ) → n ≤ length xs → ((k : ℕ) → k < n → p (get_or xs k 0) ≡ false)
+    → (n < length xs → p (get_or xs n 0) ≡ true) → (take n xs ≡ until p xs) × (drop n xs ≡ from p xs)
 cut_at p [] zero h none found = (refl, refl)
 cut_at p [] (suc n) h none found = absurd (omega (arith, h))
 cut_at p (x ∷ xs) zero h none found = rw (found (omega arith)) (refl, refl)
@@ -15,10 +16,12 @@ cut_at p (x ∷ xs) (suc n) h none found =
     let rest = cut_at p xs n (omega (arith, h)) (λ k l. none (suc k) (omega (arith, l))) (λ l. found (omega (arith, l))) in
     rw (none zero (omega arith)) (ap (λ (l : List ℕ). x ∷ l) rest.0, rest.1)
 
-pub cut_before : (p : ℕ → Bool) (xs : List ℕ) (n : ℕ) → n ≤ length xs → ((k : ℕ) → k < n → p (get_or xs k 0) ≡ false) → (n < length xs → p (get_or xs n 0) ≡ true) → take n xs ≡ until p xs
+pub cut_before : (p : ℕ → Bool) (xs : List ℕ) (n : ℕ) → n ≤ length xs → ((k : ℕ) → k < n → p (get_or xs k 0) ≡ false)
+    → (n < length xs → p (get_or xs n 0) ≡ true) → take n xs ≡ until p xs
 cut_before p xs n h none found = (cut_at p xs n h none found).0
 
-pub cut_after : (p : ℕ → Bool) (xs : List ℕ) (n : ℕ) → n ≤ length xs → ((k : ℕ) → k < n → p (get_or xs k 0) ≡ false) → (n < length xs → p (get_or xs n 0) ≡ true) → drop n xs ≡ from p xs
+pub cut_after : (p : ℕ → Bool) (xs : List ℕ) (n : ℕ) → n ≤ length xs → ((k : ℕ) → k < n → p (get_or xs k 0) ≡ false)
+    → (n < length xs → p (get_or xs n 0) ≡ true) → drop n xs ≡ from p xs
 cut_after p xs n h none found = (cut_at p xs n h none found).1
 
 -- the first part, by what stands before the first byte c and from it on
@@ -30,7 +33,9 @@ onto_rest : (c x : ℕ) (part rest : List ℕ) → onto_first x (split_rest c pa
 onto_rest c x part [] = refl
 onto_rest c x part (b ∷ rest) = refl
 
-split_by_test : (c x : ℕ) (xs : List ℕ) (t : Bool) → split c xs ≡ split_rest c (until (λ b. b == c) xs) (from (λ b. b == c) xs) → cond t ([] ∷ split c xs) (onto_first x (split c xs)) ≡ split_rest c (cond t [] (x ∷ until (λ b. b == c) xs)) (cond t (x ∷ xs) (from (λ b. b == c) xs))
+split_by_test : (c x : ℕ) (xs : List ℕ) (t : Bool) → split c xs ≡ split_rest c (until (λ b. b == c) xs) (from (λ b. b == c) xs)
+    → cond t ([] ∷ split c xs) (onto_first x (split c xs)) ≡ split_rest c (cond t [] (x ∷ until (λ b. b == c) xs))
+    (cond t (x ∷ xs) (from (λ b. b == c) xs))
 split_by_test c x xs true e = refl
 split_by_test c x xs false e = ap (onto_first x) e ∙ onto_rest c x (until (λ b. b == c) xs) (from (λ b. b == c) xs)
 
@@ -42,14 +47,17 @@ take_all : (xs : List ℕ) → take (length xs) xs ≡ xs
 take_all [] = refl
 take_all (x ∷ xs) = ap (λ (l : List ℕ). x ∷ l) (take_all xs)
 
-pub split_tail : (c : ℕ) (xs part rest : List ℕ) → part ≡ until (λ b. b == c) xs → rest ≡ from (λ b. b == c) xs → 1 ≤ length rest → split c xs ≡ part ∷ split c (take (length rest - 1) (drop 1 rest))
+pub split_tail : (c : ℕ) (xs part rest : List ℕ) → part ≡ until (λ b. b == c) xs → rest ≡ from (λ b. b == c) xs → 1 ≤ length rest
+    → split c xs ≡ part ∷ split c (take (length rest - 1) (drop 1 rest))
 split_tail c xs part [] e f h = absurd (omega (arith, h))
 split_tail c xs part (b ∷ rest) e f h =
     let n : length (b ∷ rest) - 1 ≡ length rest = omega arith in
-    rw (n, take_all rest) (split_by c xs ∙ ap (λ (l : List ℕ). split_rest c (until (λ b. b == c) xs) l) (sym f) ∙ ap (λ (l : List ℕ). l ∷ split c rest) (sym e))
+    rw (n, take_all rest) (split_by c xs ∙ ap (λ (l : List ℕ). split_rest c (until (λ b. b == c) xs) l) (sym f)
+        ∙ ap (λ (l : List ℕ). l ∷ split c rest) (sym e))
 
 -- a blank at the end goes
-pub trim_blank : (xs : List ℕ) → 1 ≤ length xs → is_blank (get_or xs (length xs - 1) 0) ≡ true → trim_end (take (length xs - 1) xs) ≡ trim_end xs
+pub trim_blank : (xs : List ℕ) → 1 ≤ length xs → is_blank (get_or xs (length xs - 1) 0) ≡ true
+    → trim_end (take (length xs - 1) xs) ≡ trim_end xs
 trim_blank [] h k = absurd (omega (arith, h))
 trim_blank (x ∷ []) h k = rw k refl
 trim_blank (x ∷ y ∷ ys) h k =
@@ -79,7 +87,8 @@ trim_kept (x ∷ y ∷ ys) h k =
 pub first_of : (c : ℕ) (xs : List ℕ) → split c xs ≡ until (λ b. b == c) xs ∷ drop 1 (split c xs)
 first_of c xs = first_by (from (λ b. b == c) xs) (split_by c xs)
   where
-    first_by : (rest : List ℕ) → split c xs ≡ split_rest c (until (λ b. b == c) xs) rest → split c xs ≡ until (λ b. b == c) xs ∷ drop 1 (split c xs)
+    first_by : (rest : List ℕ) → split c xs ≡ split_rest c (until (λ b. b == c) xs) rest → split c xs ≡ until (λ b. b == c) xs
+        ∷ drop 1 (split c xs)
     first_by [] e = rw e refl
     first_by (b ∷ rest) e = rw e refl
 
@@ -88,13 +97,15 @@ first_is c xs part e = first_of c xs ∙ ap (λ (l : List ℕ). l ∷ drop 1 (sp
 
 -- more parts than one
 pub not_single : (c : ℕ) (xs a rest : List ℕ) → split c xs ≡ a ∷ split c rest → (p : List ℕ) → split c xs ≡ p ∷ [] → ⊥
-not_single c xs a rest e p f = two_not_one a p (until (λ b. b == c) rest) (drop 1 (split c rest)) (ap (λ (l : List (List ℕ)). a ∷ l) (sym (first_of c rest)) ∙ sym e ∙ f)
+not_single c xs a rest e p f = two_not_one a p (until (λ b. b == c) rest) (drop 1 (split c rest))
+    (ap (λ (l : List (List ℕ)). a ∷ l) (sym (first_of c rest)) ∙ sym e ∙ f)
   where
     two_not_one : (a p b : List ℕ) (l : List (List ℕ)) → a ∷ b ∷ l ≡ p ∷ [] → ⊥
     two_not_one a p b l h = cc
 
 -- two opening parentheses
-pub opened_twice : (text a rest : List ℕ) → split 40 text ≡ a ∷ split 40 rest → ((p : List ℕ) → split 40 rest ≡ p ∷ [] → ⊥) → address text ≡ None
+pub opened_twice : (text a rest : List ℕ) → split 40 text ≡ a ∷ split 40 rest → ((p : List ℕ) → split 40 rest ≡ p ∷ [] → ⊥)
+    → address text ≡ None
 opened_twice text a rest e f = rw e (by_parts (split 40 rest) f)
   where
     by_parts : (parts : List (List ℕ)) → ((p : List ℕ) → parts ≡ p ∷ [] → ⊥) → address_parts (a ∷ parts) ≡ None
@@ -103,7 +114,8 @@ opened_twice text a rest e f = rw e (by_parts (split 40 rest) f)
     by_parts (p ∷ q ∷ parts) g = refl
 
 -- a closing parenthesis before the opening one
-pub closed_early : (text a rest inside : List ℕ) → split 40 text ≡ a ∷ split 40 rest → split 40 rest ≡ inside ∷ [] → ((p : List ℕ) → split 41 a ≡ p ∷ [] → ⊥) → address text ≡ None
+pub closed_early : (text a rest inside : List ℕ) → split 40 text ≡ a ∷ split 40 rest → split 40 rest ≡ inside ∷ []
+    → ((p : List ℕ) → split 41 a ≡ p ∷ [] → ⊥) → address text ≡ None
 closed_early text a rest inside e f g = rw (e, f) (by_parts (split 41 a) (split 41 inside) g)
   where
     by_parts : (parts others : List (List ℕ)) → ((p : List ℕ) → parts ≡ p ∷ [] → ⊥) → in_parentheses parts others ≡ None
@@ -112,11 +124,13 @@ closed_early text a rest inside e f g = rw (e, f) (by_parts (split 41 a) (split 
     by_parts (p ∷ q ∷ parts) others h = refl
 
 -- something after the closing parenthesis
-pub goes_on : (text q t : List ℕ) → split 41 text ≡ q ∷ split 41 t → 1 ≤ length t → (imm : List ℕ) → in_parentheses (imm ∷ []) (split 41 text) ≡ None
+pub goes_on : (text q t : List ℕ) → split 41 text ≡ q ∷ split 41 t → 1 ≤ length t → (imm : List ℕ)
+    → in_parentheses (imm ∷ []) (split 41 text) ≡ None
 goes_on text q [] e h imm = absurd (omega (arith, h))
 goes_on text q (x ∷ t) e h imm = rw (e, split_by 41 (x ∷ t)) (by_test (x == 41) (from (λ b. b == 41) t))
   where
-    by_test : (k : Bool) (rest : List ℕ) → in_parentheses (imm ∷ []) (q ∷ split_rest 41 (cond k [] (x ∷ until (λ b. b == 41) t)) (cond k (x ∷ t) rest)) ≡ None
+    by_test : (k : Bool) (rest : List ℕ) → in_parentheses (imm ∷ [])
+        (q ∷ split_rest 41 (cond k [] (x ∷ until (λ b. b == 41) t)) (cond k (x ∷ t) rest)) ≡ None
     by_test true rest = rw (first_of 41 t) refl
     by_test false [] = refl
     by_test false (b ∷ rest) = refl

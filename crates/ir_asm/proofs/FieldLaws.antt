@@ -64,10 +64,12 @@ pub immediate_kept : (i : Immediate) → immediate_of i.value ≡ i
 immediate_kept i = sym (same_immediate i i.value (sym (signed_12 i.value i.low i.high)))
 
 pub branch_offset_kept : (i : BranchOffset) → branch_offset_of i.value ≡ i
-branch_offset_kept i = sym (same_branch_offset i i.value (sym (ap (sign_extended 13) (even_13 i.value i.even) ∙ signed_13 i.value i.low i.high)))
+branch_offset_kept i = sym (same_branch_offset i i.value
+    (sym (ap (sign_extended 13) (even_13 i.value i.even) ∙ signed_13 i.value i.low i.high)))
 
 pub jump_offset_kept : (i : JumpOffset) → jump_offset_of i.value ≡ i
-jump_offset_kept i = sym (same_jump_offset i i.value (sym (ap (sign_extended 21) (even_21 i.value i.even) ∙ signed_21 i.value i.low i.high)))
+jump_offset_kept i = sym (same_jump_offset i i.value
+    (sym (ap (sign_extended 21) (even_21 i.value i.even) ∙ signed_21 i.value i.low i.high)))
 
 pub upper_kept : (i : UpperImmediate) → upper_of (pos (i.value / 2 ^ 12)) ≡ i
 upper_kept i = sym (same_upper i (pos (i.value / 2 ^ 12)) (omega (arith, i.in_range, i.whole)))
@@ -81,4 +83,5 @@ low_again (negsuc n) = omega arith
 
 -- the lowest bits alone make the same immediate
 pub low_bits_kept : (i : Immediate) → immediate_of (pos (low_bits 12 i.value)) ≡ i
-low_bits_kept i = sym (same_immediate i (pos (low_bits 12 i.value)) (sym (ap (sign_extended 12) (sym (low_again i.value)) ∙ signed_12 i.value i.low i.high)))
+low_bits_kept i = sym (same_immediate i (pos (low_bits 12 i.value))
+    (sym (ap (sign_extended 12) (sym (low_again i.value)) ∙ signed_12 i.value i.low i.high)))

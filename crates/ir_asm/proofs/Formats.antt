@@ -86,14 +86,16 @@ plain_end a p = record {
 
 -- ---- three operands
 
-all_three : (p : ℕ → Bool) → p 32 ≡ true → p 44 ≡ true → (name a b c : List ℕ) → list_all p name ≡ true → list_all p a ≡ true → list_all p b ≡ true → list_all p c ≡ true → list_all p (three name a b c) ≡ true
+all_three : (p : ℕ → Bool) → p 32 ≡ true → p 44 ≡ true → (name a b c : List ℕ) → list_all p name ≡ true → list_all p a ≡ true
+    → list_all p b ≡ true → list_all p c ≡ true → list_all p (three name a b c) ≡ true
 all_three p s t name a b c h i j k =
     all_append p name (32 ∷ (a ++ 44 ∷ 32 ∷ (b ++ 44 ∷ 32 ∷ c))) h
     (rw s (all_append p a (44 ∷ 32 ∷ (b ++ 44 ∷ 32 ∷ c)) i
     (rw (t, s) (all_append p b (44 ∷ 32 ∷ c) j
     (rw (t, s) k)))))
 
-before_three : (name a b raw : List ℕ) → IsPiece name → IsPiece a → IsPiece b → before 35 (three name a b raw) ≡ three name a b (before 35 raw)
+before_three : (name a b raw : List ℕ) → IsPiece name → IsPiece a → IsPiece b
+    → before 35 (three name a b raw) ≡ three name a b (before 35 raw)
 before_three name a b raw p q r =
     before_under 35 name (32 ∷ (a ++ 44 ∷ 32 ∷ (b ++ 44 ∷ 32 ∷ raw))) (clean_lacks 35 name refl p.all)
     ∙ ap (λ (l : List ℕ). name ++ 32 ∷ l) (before_under 35 a (44 ∷ 32 ∷ (b ++ 44 ∷ 32 ∷ raw)) (clean_lacks 35 a refl q.all)
@@ -120,18 +122,25 @@ texts_three name a b c n p q r =
     (trim_under b (44 ∷ 32 ∷ c) (44 ∷ 32 ∷ c)
     (trim_under (44 ∷ 32 ∷ []) c c (end_clean c r.all) r.some) refl)
     (not_nil b (44 ∷ 32 ∷ c) refl)) refl)
-    ∙ rw (not_nil a (44 ∷ 32 ∷ (b ++ 44 ∷ 32 ∷ c)) refl, split_at 44 a (32 ∷ (b ++ 44 ∷ 32 ∷ c)) (clean_lacks 44 a refl p.all), split_at 44 (32 ∷ b) (32 ∷ c) (clean_lacks 44 b refl q.all), split_one 44 (32 ∷ c) (clean_lacks 44 c refl r.all))
+    ∙ rw (not_nil a (44 ∷ 32 ∷ (b ++ 44 ∷ 32 ∷ c)) refl, split_at 44 a (32 ∷ (b ++ 44 ∷ 32 ∷ c)) (clean_lacks 44 a refl p.all), split_at 44
+    (32 ∷ b) (32 ∷ c) (clean_lacks 44 b refl q.all), split_one 44 (32 ∷ c) (clean_lacks 44 c refl r.all))
     (rw (trim_clean a p.all, trim_clean b q.all, trim_clean c r.all) refl)
 
-pub three_says : (name a b raw c : List ℕ) (word : ℕ) (form : Form) (xs : List Operand) → IsPiece name → IsPiece a → IsPiece b → Ends raw c →
-    form_named name ≡ Some form → may_stand (stands_in form) Text ≡ true → operands_of form (a ∷ b ∷ c ∷ []) ≡ Ok xs → item_of form xs ≡ Code (word ∷ []) →
+pub three_says : (name a b raw c : List ℕ) (word : ℕ) (form : Form) (xs : List Operand) → IsPiece name → IsPiece a → IsPiece b → Ends raw c
+    →
+    form_named name ≡ Some form → may_stand (stands_in form) Text ≡ true → operands_of form (a ∷ b ∷ c ∷ []) ≡ Ok xs
+        → item_of form xs ≡ Code (word ∷ []) →
     Says (three name a b raw) (three name a b c) word
 three_says name a b raw c word form xs n p q r e s o m = record {
   form = form;
   xs = xs;
-  feed = all_three (λ b. not (b == 10)) refl refl name a b raw (clean_lacks 10 name refl n.all) (clean_lacks 10 a refl p.all) (clean_lacks 10 b refl q.all) r.feed;
-  source = all_three is_source_byte refl refl name a b raw (weaken is_source_byte clean_source name n.all) (weaken is_source_byte clean_source a p.all) (weaken is_source_byte clean_source b q.all) r.source;
-  colon = lacks_before 58 35 (three name a b raw) (all_three (λ b. not (b == 58)) refl refl name a b raw (clean_lacks 58 name refl n.all) (clean_lacks 58 a refl p.all) (clean_lacks 58 b refl q.all) r.colon);
+  feed = all_three (λ b. not (b == 10)) refl refl name a b raw (clean_lacks 10 name refl n.all) (clean_lacks 10 a refl p.all)
+      (clean_lacks 10 b refl q.all) r.feed;
+  source = all_three is_source_byte refl refl name a b raw (weaken is_source_byte clean_source name n.all)
+      (weaken is_source_byte clean_source a p.all) (weaken is_source_byte clean_source b q.all) r.source;
+  colon = lacks_before 58 35 (three name a b raw)
+      (all_three (λ b. not (b == 58)) refl refl name a b raw (clean_lacks 58 name refl n.all) (clean_lacks 58 a refl p.all)
+      (clean_lacks 58 b refl q.all) r.colon);
   trimmed = ap trim (before_three name a b raw n p q) ∙ trim_three name a b (before 35 raw) c n r.trimmed r.piece_is;
   some = not_nil name (32 ∷ (a ++ 44 ∷ 32 ∷ (b ++ 44 ∷ 32 ∷ c))) refl;
   named = ap form_named (name_before name (a ++ 44 ∷ 32 ∷ (b ++ 44 ∷ 32 ∷ c)) n.all) ∙ e;
@@ -214,11 +223,17 @@ reg_piece Divu = record { some = refl; all = refl }
 reg_piece Rem = record { some = refl; all = refl }
 reg_piece Remu = record { some = refl; all = refl }
 
-reads_regs : (op : RegisterOp) (a b c : Register) → operands_of (Registers op) (register_name a.number ∷ register_name b.number ∷ register_name c.number ∷ []) ≡ Ok (Index a ∷ Index b ∷ Index c ∷ [])
-reads_regs op a b c = rw ((register_piece a).some, (register_piece b).some, (register_piece c).some) (rw (register_again a, register_again b, register_again c) refl)
+reads_regs : (op : RegisterOp) (a b c : Register)
+    → operands_of (Registers op) (register_name a.number ∷ register_name b.number ∷ register_name c.number ∷ []) ≡ Ok
+    (Index a ∷ Index b ∷ Index c ∷ [])
+reads_regs op a b c = rw ((register_piece a).some, (register_piece b).some, (register_piece c).some)
+    (rw (register_again a, register_again b, register_again c) refl)
 
-pub reg_law : (pc : ℕ) (op : RegisterOp) (rd rs1 rs2 : Register) → IsWordGuest (assembled (printed pc (Op op rd rs1 rs2))) (word_of (Op op rd rs1 rs2))
-reg_law pc op rd rs1 rs2 = one_statement _ _ _ (three_says (operation_name op) (register_name rd.number) (register_name rs1.number) (register_name rs2.number) (register_name rs2.number) (word_of (Op op rd rs1 rs2)) (Registers op) (Index rd ∷ Index rs1 ∷ Index rs2 ∷ [])
+pub reg_law : (pc : ℕ) (op : RegisterOp) (rd rs1 rs2 : Register)
+    → IsWordGuest (assembled (printed pc (Op op rd rs1 rs2))) (word_of (Op op rd rs1 rs2))
+reg_law pc op rd rs1 rs2 = one_statement _ _ _
+    (three_says (operation_name op) (register_name rd.number) (register_name rs1.number) (register_name rs2.number)
+    (register_name rs2.number) (word_of (Op op rd rs1 rs2)) (Registers op) (Index rd ∷ Index rs1 ∷ Index rs2 ∷ [])
     (reg_piece op) (register_piece rd) (register_piece rs1) (plain_end (register_name rs2.number) (register_piece rs2))
     (reg_named op) refl (reads_regs op rd rs1 rs2) refl)
 
@@ -232,16 +247,21 @@ pub imm_small : (z : ℤ) → negsuc 2047 ≤ℤ z → z ≤ℤ pos 2047 → nat
 imm_small (pos n) h k = grind (arith, common_steps)
 imm_small (negsuc n) h k = grind (arith, common_steps)
 
-reads_imm : (op : ImmediateOp) (a b : Register) (i : Immediate) → operands_of (Immediates op) (register_name a.number ∷ register_name b.number ∷ signed_decimal i.value ∷ []) ≡ Ok (Index a ∷ Index b ∷ Integer i.value ∷ [])
+reads_imm : (op : ImmediateOp) (a b : Register) (i : Immediate)
+    → operands_of (Immediates op) (register_name a.number ∷ register_name b.number ∷ signed_decimal i.value ∷ []) ≡ Ok
+    (Index a ∷ Index b ∷ Integer i.value ∷ [])
 reads_imm op a b i =
     let small = imm_small i.value i.low i.high in
     rw ((register_piece a).some, (register_piece b).some, (signed_piece i.value (omega (arith, small))).some)
     (rw (register_again a, register_again b, signed_again i.value (omega (arith, small)))
     (rw (imm_within i.value i.low i.high) refl))
 
-pub imm_law : (pc : ℕ) (op : ImmediateOp) (rd rs1 : Register) (i : Immediate) → IsWordGuest (assembled (printed pc (OpImm op rd rs1 i))) (word_of (OpImm op rd rs1 i))
+pub imm_law : (pc : ℕ) (op : ImmediateOp) (rd rs1 : Register) (i : Immediate)
+    → IsWordGuest (assembled (printed pc (OpImm op rd rs1 i))) (word_of (OpImm op rd rs1 i))
 imm_law pc op rd rs1 i =
     let small = imm_small i.value i.low i.high in
-    one_statement _ _ _ (three_says (immediate_name op) (register_name rd.number) (register_name rs1.number) (signed_decimal i.value) (signed_decimal i.value) (word_of (OpImm op rd rs1 i)) (Immediates op) (Index rd ∷ Index rs1 ∷ Integer i.value ∷ [])
-    (imm_piece op) (register_piece rd) (register_piece rs1) (plain_end (signed_decimal i.value) (signed_piece i.value (omega (arith, small))))
+    one_statement _ _ _ (three_says (immediate_name op) (register_name rd.number) (register_name rs1.number) (signed_decimal i.value)
+        (signed_decimal i.value) (word_of (OpImm op rd rs1 i)) (Immediates op) (Index rd ∷ Index rs1 ∷ Integer i.value ∷ [])
+    (imm_piece op) (register_piece rd) (register_piece rs1)
+        (plain_end (signed_decimal i.value) (signed_piece i.value (omega (arith, small))))
     (imm_named op) refl (reads_imm op rd rs1 i) (ap (λ (x : Immediate). instruction (OpImm op rd rs1 x)) (immediate_kept i)))

@@ -57,7 +57,8 @@ all_push P [] x h p = (p, tt)
 all_push P (y ∷ ys) x h p = (h.0, all_push P ys x h.1 p)
 
 -- what holds beside all names holds beside one
-pub all_named : {A : Type 0} (P : A → Type 0) (rows : List (List ℕ × A)) (name : List ℕ) (x : A) → AllByRecursion (λ r. P r.1) rows → named rows name ≡ Some x → P x
+pub all_named : {A : Type 0} (P : A → Type 0) (rows : List (List ℕ × A)) (name : List ℕ) (x : A) → AllByRecursion (λ r. P r.1) rows
+    → named rows name ≡ Some x → P x
 all_named P [] name x h e = absurd (cc e)
 all_named P (r ∷ rows) name x h e = by_test (bytes_eq name r.0) (λ f. all_named P rows name x h.1 f) e
   where
@@ -78,7 +79,8 @@ address_fits s label a fits e =
     by_section Data n f p = absurd (cc f)
 
 -- an object's words take the place of as many
-pub object_length : (g : Guest) (object : ℕ) (words : List ℕ) → length words ≤ object_words → object_words * object + object_words ≤ length g.words → length (with_object g object words).words ≡ length g.words
+pub object_length : (g : Guest) (object : ℕ) (words : List ℕ) → length words ≤ object_words
+    → object_words * object + object_words ≤ length g.words → length (with_object g object words).words ≡ length g.words
 object_length g object words few there =
     let prefix : List ℕ = take (object_words * object) g.words in
     let back : List ℕ = drop (object_words * object + object_words) g.words in
@@ -102,7 +104,8 @@ pub record Adds (s : Seen) (item : Item) (g h : Guest) : Type 0 where
   pub words : length h.words ≡ length g.words
   pub fit : LabelsFit s.labels → (n : ℕ) → 4 * n ≡ s.code → AllByRecursion (IsPlace n) g.entries → AllByRecursion (IsPlace n) h.entries
 
-more_code : (s : Seen) (item : Item) (g h : Guest) (words : List ℕ) → 4 * length words ≡ code_size item → data_size item ≡ 0 → entry_count item ≡ 0 → with_code g words ≡ h → Adds s item g h
+more_code : (s : Seen) (item : Item) (g h : Guest) (words : List ℕ) → 4 * length words ≡ code_size item → data_size item ≡ 0
+    → entry_count item ≡ 0 → with_code g words ≡ h → Adds s item g h
 more_code s item g h words c d n e = subst (Adds s item g) e (record {
   code = omega (arith, length-append g.code words, c);
   bytes = omega (arith, d);
@@ -111,10 +114,13 @@ more_code s item g h words c d n e = subst (Adds s item g) e (record {
   fit = λ fits k m all. all;
 })
 
-same_guest : (s : Seen) (item : Item) (g h : Guest) → code_size item ≡ 0 → data_size item ≡ 0 → entry_count item ≡ 0 → g ≡ h → Adds s item g h
-same_guest s item g h c d n e = subst (Adds s item g) e (record { code = omega (arith, c); bytes = omega (arith, d); entries = omega (arith, n); words = refl; fit = λ fits k m all. all })
+same_guest : (s : Seen) (item : Item) (g h : Guest) → code_size item ≡ 0 → data_size item ≡ 0 → entry_count item ≡ 0 → g ≡ h
+    → Adds s item g h
+same_guest s item g h c d n e = subst (Adds s item g) e
+    (record { code = omega (arith, c); bytes = omega (arith, d); entries = omega (arith, n); words = refl; fit = λ fits k m all. all })
 
-pub put_adds : (s : Seen) (a : ℕ) (item : Item) (g h : Guest) → HasFewWords item → length g.words ≡ object_words * s.objects → put s a item g ≡ Ok h → Adds s item g h
+pub put_adds : (s : Seen) (a : ℕ) (item : Item) (g h : Guest) → HasFewWords item → length g.words ≡ object_words * s.objects
+    → put s a item g ≡ Ok h → Adds s item g h
 put_adds s a (Code words) g h few there e = more_code s (Code words) g h words refl refl refl (ok_is _ h e)
 put_adds s a (BranchTo op rs1 rs2 label) g h few there e =
     let b = bind_ok (distance_to s (negsuc 4095) (pos 4094) a label) _ h e in
@@ -141,7 +147,8 @@ put_adds s a (Entry label) g h few there e =
       bytes = omega arith;
       entries = length-append g.entries (b.0 ∷ []);
       words = refl;
-      fit = λ fits n m all. let p = address_fits s label b.0 fits b.1 in all_push (IsPlace n) g.entries b.0 all (record { aligned = p.0; low = p.1; high = omega (arith, below, m) });
+      fit = λ fits n m all. let p = address_fits s label b.0 fits b.1 in
+          all_push (IsPlace n) g.entries b.0 all (record { aligned = p.0; low = p.1; high = omega (arith, below, m) });
     })
 put_adds s a (First object words) g h few there e =
     let t = tested (nat_lt object s.objects) BadCount _ h e in
@@ -158,7 +165,8 @@ put_adds s a (Count n) g h few there e = same_guest s (Count n) g h refl refl re
 put_adds s a Nothing g h few there e = same_guest s Nothing g h refl refl refl (ok_is _ h e)
 
 -- the number of words stays
-pub words_stay : (s : Seen) (a : ℕ) (item : Item) (g h : Guest) → HasFewWords item → length g.words ≡ object_words * s.objects → put s a item g ≡ Ok h → length h.words ≡ object_words * s.objects
+pub words_stay : (s : Seen) (a : ℕ) (item : Item) (g h : Guest) → HasFewWords item → length g.words ≡ object_words * s.objects
+    → put s a item g ≡ Ok h → length h.words ≡ object_words * s.objects
 words_stay s a item g h few there e = (put_adds s a item g h few there e).words ∙ there
 
 -- what holds of all holds of one
@@ -175,20 +183,24 @@ prefix (y ∷ ys) (suc i) d l =
     rw n (prefix ys i d (omega (arith, l)))
 
 -- one step, and those that follow
-pub put_next : (s : Seen) (xs : List Placed) (i : ℕ) (x : Placed) (g h : Guest) (whole : Result Guest Fault) → i < length xs → x ≡ get_or xs i x → put s x.address x.item g ≡ Ok h →
+pub put_next : (s : Seen) (xs : List Placed) (i : ℕ) (x : Placed) (g h : Guest) (whole : Result Guest Fault) → i < length xs
+    → x ≡ get_or xs i x → put s x.address x.item g ≡ Ok h →
     second_pass s (drop i xs) g ≡ whole → second_pass s (drop (i + 1) xs) h ≡ whole
 put_next s xs i x g h whole l there e told =
     let cut : drop i xs ≡ x ∷ drop (i + 1) xs = prefix xs i x l ∙ ap (λ (y : Placed). y ∷ drop (i + 1) xs) (sym there) in
     sym (ap (λ (l : List Placed). second_pass s l g) cut ∙ rw e refl) ∙ told
 
 -- a step that is refused
-pub put_refused : {X : Type 0} (view : X → Guest) (s : Seen) (xs : List Placed) (i : ℕ) (x : Placed) (g state : Guest) (refusal : Refusal) (error : AsmErr) (whole : Result Guest Fault) → i < length xs → x ≡ get_or xs i x → error ≡ refused x.line refusal →
-    Makes {A = Unit {0}} state (Err refusal) (put s x.address x.item g) → second_pass s (drop i xs) g ≡ whole → Answers view (Err error) whole
+pub put_refused : {X : Type 0} (view : X → Guest) (s : Seen) (xs : List Placed) (i : ℕ) (x : Placed) (g state : Guest) (refusal : Refusal)
+    (error : AsmErr) (whole : Result Guest Fault) → i < length xs → x ≡ get_or xs i x → error ≡ refused x.line refusal →
+    Makes {A = Unit {0}} state (Err refusal) (put s x.address x.item g) → second_pass s (drop i xs) g ≡ whole
+        → Answers view (Err error) whole
 put_refused view s xs i x g state refusal error whole l there is e told =
     let cut : drop i xs ≡ x ∷ drop (i + 1) xs = prefix xs i x l ∙ ap (λ (y : Placed). y ∷ drop (i + 1) xs) (sym there) in
     let again : second_pass s (x ∷ drop (i + 1) xs) g ≡ whole = sym (ap (λ (l : List Placed). second_pass s l g) cut) ∙ told in
     subst (λ r. Answers view (Err r) whole) (sym is) (by_refusal refusal (put s x.address x.item g) e again)
   where
-    by_refusal : (r : Refusal) (step : Result Guest Cause) → Makes {A = Unit {0}} state (Err r) step → (at_line x.line step >>= λ h. second_pass s (drop (i + 1) xs) h) ≡ whole → Answers view (Err (refused x.line r)) whole
+    by_refusal : (r : Refusal) (step : Result Guest Cause) → Makes {A = Unit {0}} state (Err r) step
+        → (at_line x.line step >>= λ h. second_pass s (drop (i + 1) xs) h) ≡ whole → Answers view (Err (refused x.line r)) whole
     by_refusal (Faulty cause) step m k = sym k ∙ rw m refl
     by_refusal NoMem step m k = tt

@@ -26,11 +26,13 @@ record Enters (item : Item) (u t : Seen) : Type 0 where
   labels : t.labels ≡ u.labels
 
 entered_is : (section : Section) (line a : ℕ) (item : Item) (u t : Seen) → entered line a (laid section item) u ≡ Ok t → Enters item u t
-entered_is Data line a (Code words) u t e = subst (Enters (Code words) u) (ok_is _ t e) (record { section = refl; code = refl; filled = refl; labels = refl })
+entered_is Data line a (Code words) u t e = subst (Enters (Code words) u) (ok_is _ t e)
+    (record { section = refl; code = refl; filled = refl; labels = refl })
 entered_is section line a (Entry label) u t e =
     let x = tested (nat_lt u.threads 8) BadCount _ t e in
     subst (Enters (Entry label) u) x.1 (record { section = refl; code = refl; filled = refl; labels = refl })
-entered_is section line a item u t e = subst (Enters item u) (ok_is _ t e) (record { section = refl; code = refl; filled = refl; labels = refl })
+entered_is section line a item u t e = subst (Enters item u) (ok_is _ t e)
+    (record { section = refl; code = refl; filled = refl; labels = refl })
 
 -- what growing a section leaves
 record Grows (section : Section) (n : ℕ) (s u : Seen) : Type 0 where
@@ -38,17 +40,21 @@ record Grows (section : Section) (n : ℕ) (s u : Seen) : Type 0 where
   labels : u.labels ≡ s.labels
   sizes : (w : Section) → size_in w u ≡ size_in w s + (if same_section w section then n else 0)
 
-text_sizes : (s : Seen) (n : ℕ) (w : Section) → size_in w (record s { code = s.code + n }) ≡ size_in w s + (if same_section w Text then n else 0)
+text_sizes : (s : Seen) (n : ℕ) (w : Section) → size_in w (record s { code = s.code + n }) ≡ size_in w s +
+    (if same_section w Text then n else 0)
 text_sizes s n Text = refl
 text_sizes s n Data = omega arith
 
-data_sizes : (s : Seen) (n : ℕ) (w : Section) → size_in w (record s { filled = s.filled + n }) ≡ size_in w s + (if same_section w Data then n else 0)
+data_sizes : (s : Seen) (n : ℕ) (w : Section) → size_in w (record s { filled = s.filled + n }) ≡ size_in w s +
+    (if same_section w Data then n else 0)
 data_sizes s n Text = omega arith
 data_sizes s n Data = refl
 
 grown_is : (section : Section) (n : ℕ) (s u : Seen) → grown section n s ≡ Ok u → Grows section n s u
-grown_is Text n s u e = subst (Grows Text n s) (tested (nat_le (s.code + n) 65536) BadSize _ u e).1 (record { stays = refl; labels = refl; sizes = text_sizes s n })
-grown_is Data n s u e = subst (Grows Data n s) (tested (nat_le (s.filled + n) 65536) BadSize _ u e).1 (record { stays = refl; labels = refl; sizes = data_sizes s n })
+grown_is Text n s u e = subst (Grows Text n s) (tested (nat_le (s.code + n) 65536) BadSize _ u e).1
+    (record { stays = refl; labels = refl; sizes = text_sizes s n })
+grown_is Data n s u e = subst (Grows Data n s) (tested (nat_le (s.filled + n) 65536) BadSize _ u e).1
+    (record { stays = refl; labels = refl; sizes = data_sizes s n })
 
 same_size : (w : Section) (u t : Seen) → t.code ≡ u.code → t.filled ≡ u.filled → size_in w t ≡ size_in w u
 same_size Text u t c f = c
@@ -62,7 +68,8 @@ record Stands (section : Section) (item : Item) (s t : Seen) : Type 0 where
   labels : t.labels ≡ s.labels
   sizes : (w : Section) → size_in w t ≡ size_in w s + (if same_section w section then size_of item else 0)
 
-item_is : (section : Section) (line a : ℕ) (item : Item) (s t : Seen) → (grown section (size_of item) s >>= λ u. entered line a (laid section item) u) ≡ Ok t → Stands section item s t
+item_is : (section : Section) (line a : ℕ) (item : Item) (s t : Seen)
+    → (grown section (size_of item) s >>= λ u. entered line a (laid section item) u) ≡ Ok t → Stands section item s t
 item_is section line a item s t e =
     let b = bind_ok (grown section (size_of item) s) _ t e in
     let g = grown_is section (size_of item) s b.0 b.1 in
@@ -77,27 +84,33 @@ no_more : (b : Bool) (n : ℕ) → n ≡ n + cond b 0 0
 no_more true n = omega arith
 no_more false n = omega arith
 
-statement_is : (line : ℕ) (statement : List ℕ) (s t : Seen) → with_statement line statement s ≡ Ok t → Stands s.section (if is_nil statement then Nothing else item_or_nothing (item_in s.section statement)) s t
-statement_is line [] s t e = subst (Stands s.section Nothing s) (ok_is s t e) (record { goes_on = refl; labels = refl; sizes = λ w. no_more (same_section w s.section) (size_in w s) })
+statement_is : (line : ℕ) (statement : List ℕ) (s t : Seen) → with_statement line statement s ≡ Ok t
+    → Stands s.section (if is_nil statement then Nothing else item_or_nothing (item_in s.section statement)) s t
+statement_is line [] s t e = subst (Stands s.section Nothing s) (ok_is s t e)
+    (record { goes_on = refl; labels = refl; sizes = λ w. no_more (same_section w s.section) (size_in w s) })
 statement_is line (b ∷ bs) s t e =
     let i = bind_ok (item_in s.section (b ∷ bs)) _ t e in
     subst (λ r. Stands s.section (item_or_nothing r) s t) (sym i.1) (item_is s.section line _ i.0 s t i.2)
 
 -- ---- labels
 
-named_append : {A : Type 0} (rows more : List (List ℕ × A)) (name : List ℕ) (p : A) → named rows name ≡ Some p → named (rows ++ more) name ≡ Some p
+named_append : {A : Type 0} (rows more : List (List ℕ × A)) (name : List ℕ) (p : A) → named rows name ≡ Some p
+    → named (rows ++ more) name ≡ Some p
 named_append [] more name p e = absurd (cc e)
 named_append (r ∷ rows) more name p e = by_test (bytes_eq name r.0) (named_append rows more name p) e
   where
-    by_test : (b : Bool) → (named rows name ≡ Some p → named (rows ++ more) name ≡ Some p) → cond b (Some r.1) (named rows name) ≡ Some p → cond b (Some r.1) (named (rows ++ more) name) ≡ Some p
+    by_test : (b : Bool) → (named rows name ≡ Some p → named (rows ++ more) name ≡ Some p) → cond b (Some r.1) (named rows name) ≡ Some p
+        → cond b (Some r.1) (named (rows ++ more) name) ≡ Some p
     by_test true rest f = f
     by_test false rest f = rest f
 
-named_last : {A : Type 0} (rows : List (List ℕ × A)) (name x : List ℕ) (p : A) → named rows name ≡ None → bytes_eq name x ≡ true → named (rows ++ (x, p) ∷ []) name ≡ Some p
+named_last : {A : Type 0} (rows : List (List ℕ × A)) (name x : List ℕ) (p : A) → named rows name ≡ None → bytes_eq name x ≡ true
+    → named (rows ++ (x, p) ∷ []) name ≡ Some p
 named_last [] name x p e same = ap (λ b. cond b (Some p) None) same
 named_last (r ∷ rows) name x p e same = by_test (bytes_eq name r.0) (λ f. named_last rows name x p f same) e
   where
-    by_test : (b : Bool) → (named rows name ≡ None → named (rows ++ (x, p) ∷ []) name ≡ Some p) → cond b (Some r.1) (named rows name) ≡ None → cond b (Some r.1) (named (rows ++ (x, p) ∷ []) name) ≡ Some p
+    by_test : (b : Bool) → (named rows name ≡ None → named (rows ++ (x, p) ∷ []) name ≡ Some p) → cond b (Some r.1) (named rows name) ≡ None
+        → cond b (Some r.1) (named (rows ++ (x, p) ∷ []) name) ≡ Some p
     by_test true rest f = absurd (cc f)
     by_test false rest f = rest f
 
@@ -106,7 +119,8 @@ is_none None e = refl
 is_none (Some x) e = absurd (cc e)
 
 same_here : (s : Seen) (rows : List (List ℕ × Place)) → here (record s { labels = rows }) ≡ here s
-same_here s rows = λ i. record { section = s.section; address = start_of s.section + same_size s.section s (record s { labels = rows }) refl refl i }
+same_here s rows = λ i. record { section = s.section; address =
+    start_of s.section + same_size s.section s (record s { labels = rows }) refl refl i }
 
 -- what labels leave
 record Labelled (labels : List (List ℕ)) (s t : Seen) : Type 0 where
@@ -117,7 +131,8 @@ record Labelled (labels : List (List ℕ)) (s t : Seen) : Type 0 where
   found : (name : List ℕ) → list_any (bytes_eq name) labels ≡ true → named t.labels name ≡ Some (here s)
 
 labels_is : (labels : List (List ℕ)) (s t : Seen) → with_labels labels s ≡ Ok t → Labelled labels s t
-labels_is [] s t e = subst (Labelled [] s) (ok_is s t e) (record { section = refl; code = refl; filled = refl; kept = λ name p f. f; found = λ name f. absurd (cc f) })
+labels_is [] s t e = subst (Labelled [] s) (ok_is s t e)
+    (record { section = refl; code = refl; filled = refl; kept = λ name p f. f; found = λ name f. absurd (cc f) })
 labels_is (x ∷ xs) s t e =
     let u = unless_ok (not (is_some (named s.labels x))) LabelTwice _ t e in
     let r = labels_is xs (record s { labels = s.labels ++ (x, here s) ∷ [] }) t u.1 in
@@ -126,10 +141,15 @@ labels_is (x ∷ xs) s t e =
       code = r.code;
       filled = r.filled;
       kept = λ name p f. r.kept name p (named_append s.labels ((x, here s) ∷ []) name p f);
-      found = λ name f. by_test name (bytes_eq name x) refl f (λ g. r.kept name (here s) (named_last s.labels name x (here s) (ap (named s.labels) ((bytes_eq-Decides name x).0 g) ∙ is_none (named s.labels x) u.0) g)) (λ g. r.found name g ∙ ap (λ (q : Place). Some q) (same_here s (s.labels ++ (x, here s) ∷ [])));
+      found = λ name f. by_test name (bytes_eq name x) refl f
+          (λ g. r.kept name (here s) (named_last s.labels name x (here s)
+          (ap (named s.labels) ((bytes_eq-Decides name x).0 g) ∙ is_none (named s.labels x) u.0) g))
+          (λ g. r.found name g ∙ ap (λ (q : Place). Some q) (same_here s (s.labels ++ (x, here s) ∷ [])));
     }
   where
-    by_test : (name : List ℕ) (b : Bool) → bytes_eq name x ≡ b → (b || list_any (bytes_eq name) xs) ≡ true → (bytes_eq name x ≡ true → named t.labels name ≡ Some (here s)) → (list_any (bytes_eq name) xs ≡ true → named t.labels name ≡ Some (here s)) → named t.labels name ≡ Some (here s)
+    by_test : (name : List ℕ) (b : Bool) → bytes_eq name x ≡ b → (b || list_any (bytes_eq name) xs) ≡ true
+        → (bytes_eq name x ≡ true → named t.labels name ≡ Some (here s))
+        → (list_any (bytes_eq name) xs ≡ true → named t.labels name ≡ Some (here s)) → named t.labels name ≡ Some (here s)
     by_test name true g f same rest = same g
     by_test name false g f same rest = rest f
 
@@ -152,7 +172,8 @@ line_is n line s t e =
     let j : Stands s.section (placed_by s.section line) p.0 t = subst (λ w. Stands w (placed_by w line) p.0 t) l.section i in
     record {
       section = j.goes_on ∙ ap (section_after (placed_by s.section line)) l.section;
-      sizes = λ w. j.sizes w ∙ ap (λ k. k + (if same_section w s.section then size_of (placed_by s.section line) else 0)) (same_size w s p.0 l.code l.filled);
+      sizes = λ w. j.sizes w ∙ ap (λ k. k + (if same_section w s.section then size_of (placed_by s.section line) else 0))
+          (same_size w s p.0 l.code l.filled);
       kept = λ name q f. ap (λ rows. named rows name) j.labels ∙ l.kept name q f;
       found = λ name f. ap (λ rows. named rows name) j.labels ∙ l.found name f;
     }
@@ -171,11 +192,14 @@ lines_are n (x ∷ xs) s t e =
     let r = lines_are (n + 1) xs f.0 t f.2 in
     record {
       section = r.section ∙ ap (λ w. section_at_end w xs) l.section;
-      sizes = λ w. (let here_is = l.sizes w in let rest_is : size_in w t ≡ size_in w f.0 + bytes_placed w (section_after (placed_by s.section x) s.section) xs = r.sizes w ∙ ap (λ v. size_in w f.0 + bytes_placed w v xs) l.section in omega (arith, here_is, rest_is));
+      sizes = λ w. (let here_is = l.sizes w in
+          let rest_is : size_in w t ≡ size_in w f.0 + bytes_placed w (section_after (placed_by s.section x) s.section) xs = r.sizes w
+          ∙ ap (λ v. size_in w f.0 + bytes_placed w v xs) l.section in omega (arith, here_is, rest_is));
       kept = λ name p g. r.kept name p (l.kept name p g);
     }
 
-cut_pass : (n : ℕ) (xs ys : List (List ℕ)) (s u : Seen) → first_pass n (xs ++ ys) s ≡ Ok u → (t : Seen) × (first_pass n xs s ≡ Ok t) × (first_pass (n + length xs) ys t ≡ Ok u)
+cut_pass : (n : ℕ) (xs ys : List (List ℕ)) (s u : Seen) → first_pass n (xs ++ ys) s ≡ Ok u → (t : Seen) × (first_pass n xs s ≡ Ok t)
+    × (first_pass (n + length xs) ys t ≡ Ok u)
 cut_pass n [] ys s u e =
     let same : n + 0 ≡ n = omega arith in
     (s, refl, rw same e)
@@ -193,10 +217,12 @@ place_is : (lines : List (List ℕ)) (t : Seen) → Passed lines nothing_seen t 
 place_is lines t p =
     let w : Section = section_at_end Text lines in
     let size : size_in w t ≡ bytes_placed w Text lines = (let n = nothing_there w in let s = p.sizes w in omega (arith, n, s)) in
-    (λ i. record { section = p.section i; address = start_of (p.section i) + size_in (p.section i) t }) ∙ (λ i. record { section = w; address = start_of w + size i })
+    (λ i. record { section = p.section i; address = start_of (p.section i) + size_in (p.section i) t })
+        ∙ (λ i. record { section = w; address = start_of w + size i })
 
 -- a label stands after what was placed before it
-pub label_value : (xs ys : List (List ℕ)) (line name : List ℕ) (s : Seen) → first_pass 1 (xs ++ line ∷ ys) nothing_seen ≡ Ok s → list_any (bytes_eq name) (line_of line).labels ≡ true → named s.labels name ≡ Some (place_after Text xs)
+pub label_value : (xs ys : List (List ℕ)) (line name : List ℕ) (s : Seen) → first_pass 1 (xs ++ line ∷ ys) nothing_seen ≡ Ok s
+    → list_any (bytes_eq name) (line_of line).labels ≡ true → named s.labels name ≡ Some (place_after Text xs)
 label_value xs ys line name s e h =
     let c = cut_pass 1 xs (line ∷ ys) nothing_seen s e in
     let f = bind_ok (at_line (1 + length xs) (with_line (1 + length xs) (line_of line) c.0)) _ s c.2 in

@@ -29,10 +29,12 @@ by_inst pc (Auipc rd i) = auipc_law pc rd i
 by_inst pc (Fence rd rs1 i) = fence_law pc rd rs1 i
 
 -- by what is found for the word; again is that encoding what was decoded gives the word again
-by_option : (again : (w : ℕ) (i : Inst) → w < 2 ^ 32 → instruction_of w ≡ Some i → word_of i ≡ w) → (pc w : ℕ) (o : Option Inst) → instruction_of w ≡ o → w < 2 ^ 32 → IsWordGuest (assembled (text_by pc w o)) w
+by_option : (again : (w : ℕ) (i : Inst) → w < 2 ^ 32 → instruction_of w ≡ Some i → word_of i ≡ w) → (pc w : ℕ) (o : Option Inst)
+    → instruction_of w ≡ o → w < 2 ^ 32 → IsWordGuest (assembled (text_by pc w o)) w
 by_option again pc w (Some i) e h = rw (again w i h e) at (by_inst pc i)
 by_option again pc w None e h = word_law_illegal w h
 
 -- the word law
-pub word_law_from : (again : (w : ℕ) (i : Inst) → w < 2 ^ 32 → instruction_of w ≡ Some i → word_of i ≡ w) → (w pc : ℕ) → w < 2 ^ 32 → pc < 2 ^ 32 → IsWordGuest (assembled (text_of pc w)) w
+pub word_law_from : (again : (w : ℕ) (i : Inst) → w < 2 ^ 32 → instruction_of w ≡ Some i → word_of i ≡ w) → (w pc : ℕ) → w < 2 ^ 32
+    → pc < 2 ^ 32 → IsWordGuest (assembled (text_of pc w)) w
 word_law_from again w pc h k = by_option again pc w (instruction_of w) refl h

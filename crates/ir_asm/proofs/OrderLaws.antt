@@ -19,7 +19,8 @@ use Rattle.ir_asm.proofs.Kept.{all_push}
 abbrev pub IsBefore : ℕ → List Placed → Type 0
 IsBefore line xs = AreInOrder 1 xs × AllByRecursion (λ y. y.line < line) xs
 
-pushed : (low line : ℕ) (xs : List Placed) (x : Placed) → low ≤ line → x.line ≡ line → AllByRecursion (λ y. y.line < line) xs → AreInOrder low xs → AreInOrder low (xs ++ x ∷ [])
+pushed : (low line : ℕ) (xs : List Placed) (x : Placed) → low ≤ line → x.line ≡ line → AllByRecursion (λ y. y.line < line) xs
+    → AreInOrder low xs → AreInOrder low (xs ++ x ∷ [])
 pushed low line [] x l e b o = (omega (arith, l, e), tt)
 pushed low line (y ∷ ys) x l e b o = (o.0, pushed (y.line + 1) line ys x (omega (arith, b.0)) e b.1 o.1)
 
@@ -37,28 +38,36 @@ one_more line a item s l o =
     let x : Placed = record { line = line; address = a; item = item } in
     (pushed 1 line s.placed x l refl o.1 o.0, all_push (λ y. y.line < line + 1) s.placed x (all_later line s.placed o.1) (omega arith))
 
-by_item : (line a : ℕ) (item : Item) (s t : Seen) → 1 ≤ line → IsBefore line s.placed → entered line a item s ≡ Ok t → IsBefore (line + 1) t.placed
+by_item : (line a : ℕ) (item : Item) (s t : Seen) → 1 ≤ line → IsBefore line s.placed → entered line a item s ≡ Ok t
+    → IsBefore (line + 1) t.placed
 by_item line a (Within section) s t l o e = subst (λ u. IsBefore (line + 1) u.placed) (ok_is _ t e) (passed line s.placed o)
 by_item line a (Count objects) s t l o e = subst (λ u. IsBefore (line + 1) u.placed) (ok_is _ t e) (passed line s.placed o)
 by_item line a Nothing s t l o e = subst (λ u. IsBefore (line + 1) u.placed) (ok_is _ t e) (passed line s.placed o)
-by_item line a (Entry label) s t l o e = subst (λ u. IsBefore (line + 1) u.placed) (tested (nat_lt s.threads 8) BadCount _ t e).1 (one_more line a (Entry label) s l o)
+by_item line a (Entry label) s t l o e = subst (λ u. IsBefore (line + 1) u.placed) (tested (nat_lt s.threads 8) BadCount _ t e).1
+    (one_more line a (Entry label) s l o)
 by_item line a (Code words) s t l o e = subst (λ u. IsBefore (line + 1) u.placed) (ok_is _ t e) (one_more line a (Code words) s l o)
-by_item line a (BranchTo op rs1 rs2 label) s t l o e = subst (λ u. IsBefore (line + 1) u.placed) (ok_is _ t e) (one_more line a (BranchTo op rs1 rs2 label) s l o)
-by_item line a (JumpTo rd label) s t l o e = subst (λ u. IsBefore (line + 1) u.placed) (ok_is _ t e) (one_more line a (JumpTo rd label) s l o)
-by_item line a (LoadAddress rd label) s t l o e = subst (λ u. IsBefore (line + 1) u.placed) (ok_is _ t e) (one_more line a (LoadAddress rd label) s l o)
+by_item line a (BranchTo op rs1 rs2 label) s t l o e =
+    subst (λ u. IsBefore (line + 1) u.placed) (ok_is _ t e) (one_more line a (BranchTo op rs1 rs2 label) s l o)
+by_item line a (JumpTo rd label) s t l o e = subst (λ u. IsBefore (line + 1) u.placed) (ok_is _ t e)
+    (one_more line a (JumpTo rd label) s l o)
+by_item line a (LoadAddress rd label) s t l o e =
+    subst (λ u. IsBefore (line + 1) u.placed) (ok_is _ t e) (one_more line a (LoadAddress rd label) s l o)
 by_item line a (Filled bytes) s t l o e = subst (λ u. IsBefore (line + 1) u.placed) (ok_is _ t e) (one_more line a (Filled bytes) s l o)
-by_item line a (First object words) s t l o e = subst (λ u. IsBefore (line + 1) u.placed) (ok_is _ t e) (one_more line a (First object words) s l o)
+by_item line a (First object words) s t l o e =
+    subst (λ u. IsBefore (line + 1) u.placed) (ok_is _ t e) (one_more line a (First object words) s l o)
 
 grown_places : (section : Section) (n : ℕ) (s t : Seen) → grown section n s ≡ Ok t → s.placed ≡ t.placed
 grown_places Text n s t e = ap (λ (u : Seen). u.placed) (tested (nat_le (s.code + n) 65536) BadSize _ t e).1
 grown_places Data n s t e = ap (λ (u : Seen). u.placed) (tested (nat_le (s.filled + n) 65536) BadSize _ t e).1
 
-by_statement : (line : ℕ) (statement : List ℕ) (s t : Seen) → 1 ≤ line → IsBefore line s.placed → with_statement line statement s ≡ Ok t → IsBefore (line + 1) t.placed
+by_statement : (line : ℕ) (statement : List ℕ) (s t : Seen) → 1 ≤ line → IsBefore line s.placed → with_statement line statement s ≡ Ok t
+    → IsBefore (line + 1) t.placed
 by_statement line [] s t l o e = subst (λ u. IsBefore (line + 1) u.placed) (ok_is s t e) (passed line s.placed o)
 by_statement line (b ∷ bs) s t l o e =
     let i = bind_ok (item_in s.section (b ∷ bs)) _ t e in
     let g = bind_ok (grown s.section (size_of i.0) s) _ t i.2 in
-    by_item line (here s).address (laid s.section i.0) g.0 t l (subst (IsBefore line) (grown_places s.section (size_of i.0) s g.0 g.1) o) g.2
+    by_item line (here s).address (laid s.section i.0) g.0 t l (subst (IsBefore line) (grown_places s.section (size_of i.0) s g.0 g.1) o)
+        g.2
 
 labels_place : (labels : List (List ℕ)) (s t : Seen) → with_labels labels s ≡ Ok t → s.placed ≡ t.placed
 labels_place [] s t e = ap (λ (u : Seen). u.placed) (ok_is s t e)
@@ -66,7 +75,8 @@ labels_place (x ∷ xs) s t e =
     let u = unless_ok (not (is_some (named s.labels x))) LabelTwice _ t e in
     labels_place xs (record s { labels = s.labels ++ (x, here s) ∷ [] }) t u.1
 
-by_lines : (number : ℕ) (lines : List (List ℕ)) (s t : Seen) → 1 ≤ number → IsBefore number s.placed → first_pass number lines s ≡ Ok t → AreInOrder 1 t.placed
+by_lines : (number : ℕ) (lines : List (List ℕ)) (s t : Seen) → 1 ≤ number → IsBefore number s.placed → first_pass number lines s ≡ Ok t
+    → AreInOrder 1 t.placed
 by_lines number [] s t l o e = subst (λ u. AreInOrder 1 u.placed) (ok_is s t e) o.0
 by_lines number (x ∷ xs) s t l o e =
     let f = bind_ok (at_line number (with_line number (line_of x) s)) _ t e in
@@ -74,7 +84,9 @@ by_lines number (x ∷ xs) s t l o e =
     let b = unless_ok (list_all is_source_byte x) BadByte _ f.0 w in
     let n = unless_ok (list_all is_name (line_of x).labels) BadLabel _ f.0 b.1 in
     let p = bind_ok (with_labels (line_of x).labels s) _ f.0 n.1 in
-    by_lines (number + 1) xs f.0 t (omega (arith, l)) (by_statement number (line_of x).statement p.0 f.0 l (subst (IsBefore number) (labels_place (line_of x).labels s p.0 p.1) o) p.2) f.2
+    by_lines (number + 1) xs f.0 t (omega (arith, l))
+        (by_statement number (line_of x).statement p.0 f.0 l (subst (IsBefore number) (labels_place (line_of x).labels s p.0 p.1) o) p.2)
+        f.2
 
 pub in_order : (lines : List (List ℕ)) (s : Seen) → first_pass 1 lines nothing_seen ≡ Ok s → AreInOrder 1 s.placed
 in_order lines s e = by_lines 1 lines nothing_seen s (omega arith) (tt, tt) e

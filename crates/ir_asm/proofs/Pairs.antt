@@ -28,7 +28,8 @@ use Rattle.ir_asm.proofs.Statements.{Says, one_statement}
 use Rattle.ir_asm.proofs.Formats.{Ends, trim_under, before_under, lacks_before, weaken, clean_source}
 use Rattle.ir_asm.proofs.Branches.{far_end, distance_again, off_even}
 
-all_two : (p : ℕ → Bool) → p 32 ≡ true → p 44 ≡ true → (name a c : List ℕ) → list_all p name ≡ true → list_all p a ≡ true → list_all p c ≡ true → list_all p (two name a c) ≡ true
+all_two : (p : ℕ → Bool) → p 32 ≡ true → p 44 ≡ true → (name a c : List ℕ) → list_all p name ≡ true → list_all p a ≡ true
+    → list_all p c ≡ true → list_all p (two name a c) ≡ true
 all_two p s t name a c h i k =
     all_append p name (32 ∷ (a ++ 44 ∷ 32 ∷ c)) h
     (rw s (all_append p a (44 ∷ 32 ∷ c) i
@@ -54,18 +55,22 @@ texts_two_of name a c n p r =
     ∙ ap texts_of (ap trim_end (start_kept a (44 ∷ 32 ∷ c) p.some p.all)
     ∙ trim_under a (44 ∷ 32 ∷ c) (44 ∷ 32 ∷ c)
     (trim_under (44 ∷ 32 ∷ []) c c (end_clean c r.all) r.some) refl)
-    ∙ rw (not_nil a (44 ∷ 32 ∷ c) refl, split_at 44 a (32 ∷ c) (clean_lacks 44 a refl p.all), split_one 44 (32 ∷ c) (clean_lacks 44 c refl r.all))
+    ∙ rw (not_nil a (44 ∷ 32 ∷ c) refl, split_at 44 a (32 ∷ c) (clean_lacks 44 a refl p.all), split_one 44 (32 ∷ c)
+    (clean_lacks 44 c refl r.all))
     (rw (trim_clean a p.all, trim_clean c r.all) refl)
 
 pub two_says : (name a raw c : List ℕ) (word : ℕ) (form : Form) (xs : List Operand) → IsPiece name → IsPiece a → Ends raw c →
-    form_named name ≡ Some form → may_stand (stands_in form) Text ≡ true → operands_of form (a ∷ c ∷ []) ≡ Ok xs → item_of form xs ≡ Code (word ∷ []) →
+    form_named name ≡ Some form → may_stand (stands_in form) Text ≡ true → operands_of form (a ∷ c ∷ []) ≡ Ok xs
+        → item_of form xs ≡ Code (word ∷ []) →
     Says (two name a raw) (two name a c) word
 two_says name a raw c word form xs n p r e s o m = record {
   form = form;
   xs = xs;
   feed = all_two (λ b. not (b == 10)) refl refl name a raw (clean_lacks 10 name refl n.all) (clean_lacks 10 a refl p.all) r.feed;
-  source = all_two is_source_byte refl refl name a raw (weaken is_source_byte clean_source name n.all) (weaken is_source_byte clean_source a p.all) r.source;
-  colon = lacks_before 58 35 (two name a raw) (all_two (λ b. not (b == 58)) refl refl name a raw (clean_lacks 58 name refl n.all) (clean_lacks 58 a refl p.all) r.colon);
+  source = all_two is_source_byte refl refl name a raw (weaken is_source_byte clean_source name n.all)
+      (weaken is_source_byte clean_source a p.all) r.source;
+  colon = lacks_before 58 35 (two name a raw) (all_two (λ b. not (b == 58)) refl refl name a raw (clean_lacks 58 name refl n.all)
+      (clean_lacks 58 a refl p.all) r.colon);
   trimmed = ap trim (before_two name a raw n p) ∙ trim_two name a (before 35 raw) c n r.trimmed r.piece_is;
   some = not_nil name (32 ∷ (a ++ 44 ∷ 32 ∷ c)) refl;
   named = ap form_named (name_before name (a ++ 44 ∷ 32 ∷ c) n.all) ∙ e;
@@ -82,7 +87,8 @@ jump_small : (z : ℤ) → negsuc 1048575 ≤ℤ z → z ≤ℤ pos 1048574 → 
 jump_small (pos n) h k = grind (arith, common_steps)
 jump_small (negsuc n) h k = grind (arith, common_steps)
 
-reads_jump_at : (a : Register) (z : ℤ) → distance_in (negsuc 1048575) (pos 1048574) (distance z) ≡ Ok z → operands_of Jumps (register_name a.number ∷ distance z ∷ []) ≡ Ok (Index a ∷ Integer z ∷ [])
+reads_jump_at : (a : Register) (z : ℤ) → distance_in (negsuc 1048575) (pos 1048574) (distance z) ≡ Ok z
+    → operands_of Jumps (register_name a.number ∷ distance z ∷ []) ≡ Ok (Index a ∷ Integer z ∷ [])
 reads_jump_at a (pos n) e = rw ((register_piece a).some) (rw (register_again a, e) refl)
 reads_jump_at a (negsuc n) e = rw ((register_piece a).some) (rw (register_again a, e) refl)
 
@@ -94,6 +100,7 @@ reads_jump i =
 pub jump_law : (pc : ℕ) (rd : Register) (i : JumpOffset) → IsWordGuest (assembled (printed pc (Jal rd i))) (word_of (Jal rd i))
 jump_law pc rd i =
     let small = jump_small i.value i.low i.high in
-    one_statement _ _ _ (two_says (codes "jal") (register_name rd.number) (far pc i.value) (distance i.value) (word_of (Jal rd i)) Jumps (Index rd ∷ Integer i.value ∷ [])
+    one_statement _ _ _ (two_says (codes "jal") (register_name rd.number) (far pc i.value) (distance i.value) (word_of (Jal rd i)) Jumps
+        (Index rd ∷ Integer i.value ∷ [])
     (record { some = refl; all = refl }) (register_piece rd) (far_end pc i.value (omega (arith, small)))
     refl refl (reads_jump_at rd i.value (reads_jump i)) (ap (λ (x : JumpOffset). instruction (Jal rd x)) (jump_offset_kept i)))

@@ -25,7 +25,8 @@ label_taken x xs s t e = by_test (is_some (named s.labels x)) e
     by_test false f = ap (λ r. r >>= with_labels xs) f
 
 -- a label that there is already
-pub label_refused : (x : List ℕ) (xs : List (List ℕ)) (s : Seen) (cause : Cause) → with_labels (x ∷ []) s ≡ Err cause → with_labels (x ∷ xs) s ≡ Err cause
+pub label_refused : (x : List ℕ) (xs : List (List ℕ)) (s : Seen) (cause : Cause) → with_labels (x ∷ []) s ≡ Err cause
+    → with_labels (x ∷ xs) s ≡ Err cause
 label_refused x xs s cause e = by_test (is_some (named s.labels x)) e
   where
     next : Seen

@@ -25,7 +25,8 @@ of_test : {A B : Type 0} (b : Bool) (c : Cause) (x : A) (y : B) → fault_in (un
 of_test true c x y = refl
 of_test false c x y = refl
 
-of_tested : {A B : Type 0} (r : Result A Cause) (p : A → Bool) (c : Cause) (f : A → B) → fault_in (r >>= λ x. unless (p x) c (Ok (f x))) ≡ fault_in (r >>= λ x. unless (p x) c (Ok x))
+of_tested : {A B : Type 0} (r : Result A Cause) (p : A → Bool) (c : Cause) (f : A → B)
+    → fault_in (r >>= λ x. unless (p x) c (Ok (f x))) ≡ fault_in (r >>= λ x. unless (p x) c (Ok x))
 of_tested (Ok x) p c f = of_test (p x) c (f x) x
 of_tested (Err d) p c f = refl
 
@@ -55,7 +56,8 @@ some_fault : {A : Type 0} (r : Result A Cause) (c : Cause) → fault_in r ≡ So
 some_fault (Ok x) c e = absurd (cc e)
 some_fault (Err d) c e = ap (λ k. Err k) (same_Some d c e)
 
-fails_there : (s : Seen) (before after : List Placed) (x : Placed) (cause : Cause) (g : Guest) → AllByRecursion (IsPut s) before → item_fault s x.address x.item ≡ Some cause →
+fails_there : (s : Seen) (before after : List Placed) (x : Placed) (cause : Cause) (g : Guest) → AllByRecursion (IsPut s) before
+    → item_fault s x.address x.item ≡ Some cause →
     second_pass s (before ++ x ∷ after) g ≡ Err (record { line = x.line; cause = cause })
 fails_there s [] after x cause g n f = rw (some_fault (put s x.address x.item g) cause (put_fault s x.address x.item g ∙ f)) refl
 fails_there s (y ∷ ys) after x cause g n f =
@@ -82,13 +84,17 @@ later s x xs fault p f = record {
 
 first_there : (s : Seen) (xs : List Placed) (g : Guest) (fault : Fault) → second_pass s xs g ≡ Err fault → IsFirstFault s xs fault
 first_there s [] g fault e = absurd (cc e)
-first_there s (x ∷ xs) g fault e = by_put (put s x.address x.item g) (sym (put_fault s x.address x.item g)) e (λ h f. first_there s xs h fault f)
+first_there s (x ∷ xs) g fault e = by_put (put s x.address x.item g) (sym (put_fault s x.address x.item g)) e
+    (λ h f. first_there s xs h fault f)
   where
-    by_put : (r : Result Guest Cause) → item_fault s x.address x.item ≡ fault_in r → (at_line x.line r >>= λ h. second_pass s xs h) ≡ Err fault → ((h : Guest) → second_pass s xs h ≡ Err fault → IsFirstFault s xs fault) → IsFirstFault s (x ∷ xs) fault
+    by_put : (r : Result Guest Cause) → item_fault s x.address x.item ≡ fault_in r
+        → (at_line x.line r >>= λ h. second_pass s xs h) ≡ Err fault
+        → ((h : Guest) → second_pass s xs h ≡ Err fault → IsFirstFault s xs fault) → IsFirstFault s (x ∷ xs) fault
     by_put (Ok h) p f again = later s x xs fault p (again h f)
     by_put (Err c) p f again =
         let same : record { line = x.line; cause = c } ≡ fault = err_is {A = Guest} _ fault f in
-        record { before = []; statement = x; after = xs; stands = refl; earlier = tt; fails = p ∙ ap (λ (d : Fault). Some d.cause) same; line = ap (λ (d : Fault). d.line) same }
+        record { before = []; statement = x; after = xs; stands = refl; earlier = tt; fails = p
+            ∙ ap (λ (d : Fault). Some d.cause) same; line = ap (λ (d : Fault). d.line) same }
 
 -- ---- the whole
 
@@ -106,7 +112,8 @@ with_code n h = by_test (n == 0) refl
 by_second : (lines : List (List ℕ)) (s : Seen) → first_pass 1 lines nothing_seen ≡ Ok s → 0 < s.code → assembled_lines lines ≡ guest_of s
 by_second lines s e some = rw e (rw (with_code s.code some) refl)
 
-pub second_fault : (lines : List (List ℕ)) (s : Seen) (fault : Fault) → first_pass 1 lines nothing_seen ≡ Ok s → 0 < s.code → (assembled_lines lines ≡ Err fault) ↔ IsFirstFault s s.placed fault
+pub second_fault : (lines : List (List ℕ)) (s : Seen) (fault : Fault) → first_pass 1 lines nothing_seen ≡ Ok s → 0 < s.code
+    → (assembled_lines lines ≡ Err fault) ↔ IsFirstFault s s.placed fault
 second_fault lines s fault e some =
     let whole = by_second lines s e some in (
       (λ h. first_there s s.placed (started s) fault (kept_fault (second_pass s s.placed (started s)) with_entry fault (sym whole ∙ h))),
@@ -115,6 +122,9 @@ second_fault lines s fault e some =
   where
     back : IsFirstFault s s.placed fault → guest_of s ≡ Err fault
     back f =
-        let there : second_pass s s.placed (started s) ≡ Err (record { line = f.statement.line; cause = fault.cause }) = ap (λ l. second_pass s l (started s)) f.stands ∙ fails_there s f.before f.after f.statement fault.cause (started s) f.earlier f.fails in
-        let told : second_pass s s.placed (started s) ≡ Err fault = there ∙ ap (λ n. Err (record { line = n; cause = fault.cause })) f.line in
+        let there : second_pass s s.placed (started s) ≡ Err (record { line = f.statement.line; cause = fault.cause }) =
+            ap (λ l. second_pass s l (started s)) f.stands
+            ∙ fails_there s f.before f.after f.statement fault.cause (started s) f.earlier f.fails in
+        let told : second_pass s s.placed (started s) ≡ Err fault = there
+            ∙ ap (λ n. Err (record { line = n; cause = fault.cause })) f.line in
         rw told refl

@@ -40,10 +40,12 @@ row_18 = refl
 row_19 : assembled (codes "nop\n.object 0, 1") ≡ Err (record { line = 2; cause = BadCount })
 row_19 = refl
 
-pub li_row : assembled (codes "li a0, 0x12345FFF # x: y") ≡ Ok (record { entries = 0x00010000 ∷ []; code = 0x12346537 ∷ 0xFFF50513 ∷ []; bytes = []; words = [] })
+pub li_row : assembled (codes "li a0, 0x12345FFF # x: y") ≡ Ok
+    (record { entries = 0x00010000 ∷ []; code = 0x12346537 ∷ 0xFFF50513 ∷ []; bytes = []; words = [] })
 li_row = refl
 
-lw_row : assembled (codes "a:b: lw a0 , 4 ( sp )\r\n beq a0, x0, a") ≡ Ok (record { entries = 0x00010000 ∷ []; code = 0x00412503 ∷ 0xFE050EE3 ∷ []; bytes = []; words = [] })
+lw_row : assembled (codes "a:b: lw a0 , 4 ( sp )\r\n beq a0, x0, a") ≡ Ok
+    (record { entries = 0x00010000 ∷ []; code = 0x00412503 ∷ 0xFE050EE3 ∷ []; bytes = []; words = [] })
 lw_row = refl
 
 pub empty : assembled (codes "") ≡ Err (record { line = 2; cause = BadSize })
@@ -70,19 +72,25 @@ section = refl
 pub end : assembled (codes "nop\nend: .thread end\n") ≡ Err (record { line = 2; cause = WrongSection })
 end = refl
 
-pub carried : assembled (codes "li a0, 0x12345FFF") ≡ Ok (record { entries = 0x00010000 ∷ []; code = 0x12346537 ∷ 0xFFF50513 ∷ []; bytes = []; words = [] })
+pub carried : assembled (codes "li a0, 0x12345FFF") ≡ Ok
+    (record { entries = 0x00010000 ∷ []; code = 0x12346537 ∷ 0xFFF50513 ∷ []; bytes = []; words = [] })
 carried = refl
 
-data_row : assembled (codes ".data\n.byte 1, 255\n.word 258\n.space 2\n.byte 9\n.text\nnop") ≡ Ok (record { entries = 0x00010000 ∷ []; code = 0x13 ∷ []; bytes = 0x01 ∷ 0xff ∷ 0x02 ∷ 0x01 ∷ 0 ∷ 0 ∷ 0 ∷ 0 ∷ 0x09 ∷ []; words = [] })
+data_row : assembled (codes ".data\n.byte 1, 255\n.word 258\n.space 2\n.byte 9\n.text\nnop") ≡ Ok
+    (record { entries = 0x00010000 ∷ []; code = 0x13 ∷ []; bytes = 0x01 ∷ 0xff ∷ 0x02 ∷ 0x01 ∷ 0 ∷ 0 ∷ 0 ∷ 0 ∷ 0x09 ∷ []; words = [] })
 data_row = refl
 
-threads_row : assembled (codes "nop\na: nop\n.thread a\n.thread b\nb: nop") ≡ Ok (record { entries = 0x10004 ∷ 0x10008 ∷ []; code = 0x13 ∷ 0x13 ∷ 0x13 ∷ []; bytes = []; words = [] })
+threads_row : assembled (codes "nop\na: nop\n.thread a\n.thread b\nb: nop") ≡ Ok
+    (record { entries = 0x10004 ∷ 0x10008 ∷ []; code = 0x13 ∷ 0x13 ∷ 0x13 ∷ []; bytes = []; words = [] })
 threads_row = refl
 
-objects_row : assembled (codes ".object 1, 5, -1\n.objects 1\n.objects 2\nnop") ≡ Ok (record { entries = 0x10000 ∷ []; code = 0x13 ∷ []; bytes = []; words = 0 ∷ 0 ∷ 0 ∷ 0 ∷ 0 ∷ 0 ∷ 0 ∷ 0 ∷ 5 ∷ 0xFFFFFFFF ∷ 0 ∷ 0 ∷ 0 ∷ 0 ∷ 0 ∷ 0 ∷ [] })
+objects_row : assembled (codes ".object 1, 5, -1\n.objects 1\n.objects 2\nnop") ≡ Ok
+    (record { entries = 0x10000 ∷ []; code = 0x13 ∷ []; bytes = []; words = 0 ∷ 0 ∷ 0 ∷ 0 ∷ 0 ∷ 0 ∷ 0 ∷ 0 ∷ 5 ∷ 0xFFFFFFFF ∷ 0 ∷ 0 ∷ 0 ∷ 0
+    ∷ 0 ∷ 0 ∷ [] })
 objects_row = refl
 
-label_row : assembled (codes ".data\n.byte 1\nx: .byte 2\n.text\nli a0, x") ≡ Ok (record { entries = 0x10000 ∷ []; code = 0x00100537 ∷ 0x00150513 ∷ []; bytes = 1 ∷ 2 ∷ []; words = [] })
+label_row : assembled (codes ".data\n.byte 1\nx: .byte 2\n.text\nli a0, x") ≡ Ok
+    (record { entries = 0x10000 ∷ []; code = 0x00100537 ∷ 0x00150513 ∷ []; bytes = 1 ∷ 2 ∷ []; words = [] })
 label_row = refl
 
 object_fault : assembled (codes ".objects 2\n.object 1, 1\n.objects 1\nnop\n") ≡ Err (record { line = 2; cause = BadCount })

@@ -49,7 +49,8 @@ MayStand section (First object words) = length words ≤ object_words
 MayStand section item = Unit {0}
 
 -- as many operands as texts
-pub read_length : (form : Form) (place : ℕ) (texts : List (List ℕ)) (xs : List Operand) → read_all form place texts ≡ Ok xs → length xs ≡ length texts
+pub read_length : (form : Form) (place : ℕ) (texts : List (List ℕ)) (xs : List Operand) → read_all form place texts ≡ Ok xs
+    → length xs ≡ length texts
 read_length form place [] xs e = ap length (sym (ok_is [] xs e))
 read_length form place (t ∷ texts) xs e =
     let b = bind_ok (read (kind_at form place) t) _ xs e in
@@ -72,10 +73,12 @@ and_right true b e = e
 and_right false b e = absurd (true≢false (sym e))
 
 -- the first words of an object are at most eight
-few_first : (texts : List (List ℕ)) (z : ℤ) (xs : List Operand) → operands_of Object texts ≡ Ok (Integer z ∷ xs) → length (values 32 xs) ≤ object_words
+few_first : (texts : List (List ℕ)) (z : ℤ) (xs : List Operand) → operands_of Object texts ≡ Ok (Integer z ∷ xs)
+    → length (values 32 xs) ≤ object_words
 few_first texts z xs e =
     let u = unless_ok (takes Object (length texts) && are_formed Object 0 texts) WrongOperands (read_all Object 0 texts) _ e in
-    let most : length texts ≤ 9 = leb-true (length texts) 9 (and_right (nat_le 2 (length texts)) _ (and_left (takes Object (length texts)) _ u.0)) in
+    let most : length texts ≤ 9 = leb-true (length texts) 9
+        (and_right (nat_le 2 (length texts)) _ (and_left (takes Object (length texts)) _ u.0)) in
     let count : suc (length xs) ≡ length texts = read_length Object 0 texts (Integer z ∷ xs) u.1 in
     omega (arith, most, count, values_length 32 xs)
 
@@ -100,14 +103,16 @@ first_number (x ∷ xs) = pos 0
 few_objects : (texts : List (List ℕ)) (z : ℤ) → operands_of Objects texts ≡ Ok (Integer z ∷ []) → low_bits 32 z ≤ 16
 few_objects [] z e = absurd (cc e)
 few_objects (t ∷ texts) z e =
-    let u = unless_ok (takes Objects (length (t ∷ texts)) && are_formed Objects 0 (t ∷ texts)) WrongOperands (read_all Objects 0 (t ∷ texts)) _ e in
+    let u = unless_ok (takes Objects (length (t ∷ texts)) && are_formed Objects 0 (t ∷ texts)) WrongOperands
+        (read_all Objects 0 (t ∷ texts)) _ e in
     let b = bind_ok (read (Number (pos 0) (pos 16)) t) _ _ u.1 in
     let d = bind_ok (read_all Objects 1 texts) _ _ b.2 in
     let n = bind_ok (number_in (pos 0) (pos 16) t) _ _ b.1 in
     let same : n.0 ≡ z = ap (λ x. first_number (x ∷ d.0)) (ok_is _ _ n.2) ∙ ap first_number (ok_is _ _ d.2) in
     subst (λ y. low_bits 32 y ≤ 16) same (number_within 16 t n.0 n.1 (omega arith))
 
-form_stands : (section : Section) (form : Form) (texts : List (List ℕ)) (xs : List Operand) → may_stand (stands_in form) section ≡ true → operands_of form texts ≡ Ok xs → MayStand section (item_of form xs)
+form_stands : (section : Section) (form : Form) (texts : List (List ℕ)) (xs : List Operand) → may_stand (stands_in form) section ≡ true
+    → operands_of form texts ≡ Ok xs → MayStand section (item_of form xs)
 form_stands Text Bytes texts xs m e = absurd (cc m)
 form_stands Text Space texts xs m e = absurd (cc m)
 form_stands Data (Registers op) texts xs m e = absurd (cc m)
@@ -162,7 +167,8 @@ item_stands section statement item e =
 -- ---- the whole guest
 
 -- within its limits, and all of it fits
-pub guest_fits : (g : Guest) → HasLimits g → AllByRecursion IsWord g.code → AllByRecursion IsByte g.bytes → AllByRecursion IsWord g.words → IsGuest g
+pub guest_fits : (g : Guest) → HasLimits g → AllByRecursion IsWord g.code → AllByRecursion IsByte g.bytes → AllByRecursion IsWord g.words
+    → IsGuest g
 guest_fits g l code bytes words = record {
   some_thread = l.some_thread;
   few_threads = l.few_threads;
@@ -196,13 +202,15 @@ pub record IsSound (s : Seen) : Type 0 where
   pub few : HaveFewWords s.placed
 
 pub nothing_sound : IsSound nothing_seen
-nothing_sound = record { code = refl; bytes = refl; entries = refl; aligned = refl; short_code = omega arith; short_data = omega arith; few_threads = omega arith; few_objects = omega arith; labels = tt; few = tt }
+nothing_sound = record { code = refl; bytes = refl; entries = refl; aligned = refl; short_code = omega arith; short_data =
+    omega arith; few_threads = omega arith; few_objects = omega arith; labels = tt; few = tt }
 
 total_push : (size : Item → ℕ) (placed : List Placed) (x : Placed) → total size (placed ++ x ∷ []) ≡ total size placed + size x.item
 total_push size placed x = sum_by-append (λ y. size y.item) placed (x ∷ []) ∙ omega arith
 
 -- one item more
-item_sound : (s : Seen) (line a c d n : ℕ) (item : Item) → IsSound s → HasFewWords item → code_size item % 4 ≡ 0 → c ≡ s.code + code_size item → d ≡ s.filled + data_size item → n ≡ s.threads + entry_count item → c ≤ 65536 → d ≤ 65536 → n ≤ 8
+item_sound : (s : Seen) (line a c d n : ℕ) (item : Item) → IsSound s → HasFewWords item → code_size item % 4 ≡ 0
+    → c ≡ s.code + code_size item → d ≡ s.filled + data_size item → n ≡ s.threads + entry_count item → c ≤ 65536 → d ≤ 65536 → n ≤ 8
     → IsSound (placed_at line a item (record s { code = c; filled = d; threads = n }))
 item_sound s line a c d n item h few whole is_code is_data is_entry short_code short_data few_threads =
     let x : Placed = record { line = line; address = a; item = item } in
@@ -220,7 +228,8 @@ item_sound s line a c d n item h few whole is_code is_data is_entry short_code s
     }
 
 -- nothing more
-other_sound : (s : Seen) (section : Section) (c d o : ℕ) → IsSound s → c ≡ s.code → d ≡ s.filled → o ≤ 16 → IsSound (record s { section = section; code = c; filled = d; objects = o })
+other_sound : (s : Seen) (section : Section) (c d o : ℕ) → IsSound s → c ≡ s.code → d ≡ s.filled → o ≤ 16
+    → IsSound (record s { section = section; code = c; filled = d; objects = o })
 other_sound s section c d o h is_code is_data few = record {
   code = h.code ∙ sym is_code;
   bytes = h.bytes ∙ sym is_data;
@@ -235,43 +244,70 @@ other_sound s section c d o h is_code is_data few = record {
 }
 
 -- an item of text
-text_item : (s t : Seen) (line a : ℕ) (item : Item) → IsSound s → MayStand Text item → s.code + size_of item ≤ 65536 → entered line a (laid Text item) (record s { code = s.code + size_of item }) ≡ Ok t → IsSound t
-text_item s t line a (Code words) h m l e = subst IsSound (ok_is _ t e) (item_sound s line a (s.code + 4 * length words) s.filled s.threads (Code words) h tt (omega arith) refl (omega arith) (omega arith) l h.short_data h.few_threads)
-text_item s t line a (BranchTo op rs1 rs2 label) h m l e = subst IsSound (ok_is _ t e) (item_sound s line a (s.code + 4) s.filled s.threads (BranchTo op rs1 rs2 label) h tt refl refl (omega arith) (omega arith) l h.short_data h.few_threads)
-text_item s t line a (JumpTo rd label) h m l e = subst IsSound (ok_is _ t e) (item_sound s line a (s.code + 4) s.filled s.threads (JumpTo rd label) h tt refl refl (omega arith) (omega arith) l h.short_data h.few_threads)
-text_item s t line a (LoadAddress rd label) h m l e = subst IsSound (ok_is _ t e) (item_sound s line a (s.code + 8) s.filled s.threads (LoadAddress rd label) h tt refl refl (omega arith) (omega arith) l h.short_data h.few_threads)
+text_item : (s t : Seen) (line a : ℕ) (item : Item) → IsSound s → MayStand Text item → s.code + size_of item ≤ 65536
+    → entered line a (laid Text item) (record s { code = s.code + size_of item }) ≡ Ok t → IsSound t
+text_item s t line a (Code words) h m l e = subst IsSound (ok_is _ t e)
+    (item_sound s line a (s.code + 4 * length words) s.filled s.threads (Code words) h tt (omega arith) refl (omega arith) (omega arith) l
+    h.short_data h.few_threads)
+text_item s t line a (BranchTo op rs1 rs2 label) h m l e =
+    subst IsSound (ok_is _ t e) (item_sound s line a (s.code + 4) s.filled s.threads (BranchTo op rs1 rs2 label) h tt
+    refl refl (omega arith) (omega arith) l h.short_data h.few_threads)
+text_item s t line a (JumpTo rd label) h m l e =
+    subst IsSound (ok_is _ t e) (item_sound s line a (s.code + 4) s.filled s.threads (JumpTo rd label) h tt refl refl (omega arith)
+    (omega arith) l h.short_data h.few_threads)
+text_item s t line a (LoadAddress rd label) h m l e =
+    subst IsSound (ok_is _ t e) (item_sound s line a (s.code + 8) s.filled s.threads (LoadAddress rd label) h tt refl refl (omega arith)
+    (omega arith) l h.short_data h.few_threads)
 text_item s t line a (Filled bytes) h m l e = absurd m
-text_item s t line a (Within section) h m l e = subst IsSound (ok_is _ t e) (other_sound s section (s.code + 0) s.filled s.objects h (omega arith) refl h.few_objects)
+text_item s t line a (Within section) h m l e =
+    subst IsSound (ok_is _ t e) (other_sound s section (s.code + 0) s.filled s.objects h (omega arith) refl h.few_objects)
 text_item s t line a (Entry label) h m l e =
     let u = tested (nat_lt s.threads 8) BadCount _ t e in
     let below : s.threads < 8 = ltb-true s.threads 8 u.0 in
-    subst IsSound u.1 (item_sound s line a (s.code + 0) s.filled (s.threads + 1) (Entry label) h tt refl refl (omega arith) refl l h.short_data (omega (arith, below)))
-text_item s t line a (Count n) h m l e = subst IsSound (ok_is _ t e) (other_sound s s.section (s.code + 0) s.filled n h (omega arith) refl m)
-text_item s t line a (First object words) h m l e = subst IsSound (ok_is _ t e) (item_sound s line a (s.code + 0) s.filled s.threads (First object words) h m refl refl (omega arith) (omega arith) l h.short_data h.few_threads)
-text_item s t line a Nothing h m l e = subst IsSound (ok_is _ t e) (other_sound s s.section (s.code + 0) s.filled s.objects h (omega arith) refl h.few_objects)
+    subst IsSound u.1 (item_sound s line a (s.code + 0) s.filled (s.threads + 1) (Entry label) h tt refl refl (omega arith) refl l
+        h.short_data (omega (arith, below)))
+text_item s t line a (Count n) h m l e = subst IsSound (ok_is _ t e)
+    (other_sound s s.section (s.code + 0) s.filled n h (omega arith) refl m)
+text_item s t line a (First object words) h m l e =
+    subst IsSound (ok_is _ t e) (item_sound s line a (s.code + 0) s.filled s.threads (First object words) h m refl refl (omega arith)
+    (omega arith) l h.short_data h.few_threads)
+text_item s t line a Nothing h m l e = subst IsSound (ok_is _ t e)
+    (other_sound s s.section (s.code + 0) s.filled s.objects h (omega arith) refl h.few_objects)
 
 spelled_length : (words : List ℕ) → length (flat_map (little_bytes 4) words) ≡ 4 * length words
 spelled_length [] = refl
 spelled_length (w ∷ words) = omega (arith, length-append (little_bytes 4 w) (flat_map (little_bytes 4) words), spelled_length words)
 
 -- an item of data
-data_item : (s t : Seen) (line a : ℕ) (item : Item) → IsSound s → MayStand Data item → s.filled + size_of item ≤ 65536 → entered line a (laid Data item) (record s { filled = s.filled + size_of item }) ≡ Ok t → IsSound t
-data_item s t line a (Code words) h m l e = subst IsSound (ok_is _ t e) (item_sound s line a s.code (s.filled + 4 * length words) s.threads (Filled (flat_map (little_bytes 4) words)) h tt refl (omega arith) (omega (arith, spelled_length words)) (omega arith) h.short_code l h.few_threads)
+data_item : (s t : Seen) (line a : ℕ) (item : Item) → IsSound s → MayStand Data item → s.filled + size_of item ≤ 65536
+    → entered line a (laid Data item) (record s { filled = s.filled + size_of item }) ≡ Ok t → IsSound t
+data_item s t line a (Code words) h m l e = subst IsSound (ok_is _ t e)
+    (item_sound s line a s.code (s.filled + 4 * length words) s.threads (Filled (flat_map (little_bytes 4) words)) h tt refl (omega arith)
+    (omega (arith, spelled_length words)) (omega arith) h.short_code l h.few_threads)
 data_item s t line a (BranchTo op rs1 rs2 label) h m l e = absurd m
 data_item s t line a (JumpTo rd label) h m l e = absurd m
 data_item s t line a (LoadAddress rd label) h m l e = absurd m
-data_item s t line a (Filled bytes) h m l e = subst IsSound (ok_is _ t e) (item_sound s line a s.code (s.filled + length bytes) s.threads (Filled bytes) h tt refl (omega arith) refl (omega arith) h.short_code l h.few_threads)
-data_item s t line a (Within section) h m l e = subst IsSound (ok_is _ t e) (other_sound s section s.code (s.filled + 0) s.objects h refl (omega arith) h.few_objects)
+data_item s t line a (Filled bytes) h m l e = subst IsSound (ok_is _ t e)
+    (item_sound s line a s.code (s.filled + length bytes) s.threads (Filled bytes) h tt refl (omega arith) refl (omega arith) h.short_code l
+    h.few_threads)
+data_item s t line a (Within section) h m l e =
+    subst IsSound (ok_is _ t e) (other_sound s section s.code (s.filled + 0) s.objects h refl (omega arith) h.few_objects)
 data_item s t line a (Entry label) h m l e =
     let u = tested (nat_lt s.threads 8) BadCount _ t e in
     let below : s.threads < 8 = ltb-true s.threads 8 u.0 in
-    subst IsSound u.1 (item_sound s line a s.code (s.filled + 0) (s.threads + 1) (Entry label) h tt refl (omega arith) refl refl h.short_code l (omega (arith, below)))
-data_item s t line a (Count n) h m l e = subst IsSound (ok_is _ t e) (other_sound s s.section s.code (s.filled + 0) n h refl (omega arith) m)
-data_item s t line a (First object words) h m l e = subst IsSound (ok_is _ t e) (item_sound s line a s.code (s.filled + 0) s.threads (First object words) h m refl (omega arith) refl (omega arith) h.short_code l h.few_threads)
-data_item s t line a Nothing h m l e = subst IsSound (ok_is _ t e) (other_sound s s.section s.code (s.filled + 0) s.objects h refl (omega arith) h.few_objects)
+    subst IsSound u.1 (item_sound s line a s.code (s.filled + 0) (s.threads + 1) (Entry label) h tt refl (omega arith)
+        refl refl h.short_code l (omega (arith, below)))
+data_item s t line a (Count n) h m l e = subst IsSound (ok_is _ t e)
+    (other_sound s s.section s.code (s.filled + 0) n h refl (omega arith) m)
+data_item s t line a (First object words) h m l e =
+    subst IsSound (ok_is _ t e) (item_sound s line a s.code (s.filled + 0) s.threads (First object words) h m refl (omega arith)
+    refl (omega arith) h.short_code l h.few_threads)
+data_item s t line a Nothing h m l e = subst IsSound (ok_is _ t e)
+    (other_sound s s.section s.code (s.filled + 0) s.objects h refl (omega arith) h.few_objects)
 
 -- an item of a section
-section_item : (section : Section) (s t : Seen) (line a : ℕ) (item : Item) → IsSound s → MayStand section item → (grown section (size_of item) s >>= λ u. entered line a (laid section item) u) ≡ Ok t → IsSound t
+section_item : (section : Section) (s t : Seen) (line a : ℕ) (item : Item) → IsSound s → MayStand section item
+    → (grown section (size_of item) s >>= λ u. entered line a (laid section item) u) ≡ Ok t → IsSound t
 section_item Text s t line a item h m e =
     let b = bind_ok (grown Text (size_of item) s) _ t e in
     let u = tested (nat_le (s.code + size_of item) 65536) BadSize _ b.0 b.1 in
@@ -325,7 +361,8 @@ lines_sound number (x ∷ xs) s t h e =
     let b = unless_ok (list_all is_source_byte x) BadByte _ f.0 l in
     let n = unless_ok (list_all is_name (line_of x).labels) BadLabel _ f.0 b.1 in
     let p = bind_ok (with_labels (line_of x).labels s) _ f.0 n.1 in
-    lines_sound (number + 1) xs f.0 t (statement_sound number (line_of x).statement p.0 f.0 (labels_sound (line_of x).labels s p.0 h p.1) p.2) f.2
+    lines_sound (number + 1) xs f.0 t (statement_sound number (line_of x).statement p.0 f.0 (labels_sound (line_of x).labels s p.0 h p.1)
+        p.2) f.2
 
 -- what the first pass saw
 pub seen_sound : (lines : List (List ℕ)) (s t : Seen) → s ≡ nothing_seen → first_pass 1 lines s ≡ Ok t → IsSound t
@@ -344,8 +381,10 @@ record Puts (s : Seen) (xs : List Placed) (g h : Guest) : Type 0 where
 total_next : (size : Item → ℕ) (x : Placed) (xs : List Placed) → total size (x ∷ xs) ≡ size x.item + total size xs
 total_next size x xs = sum_by-append (λ y. size y.item) (x ∷ []) xs ∙ omega arith
 
-all_put : (s : Seen) (xs : List Placed) (g h : Guest) → LabelsFit s.labels → HaveFewWords xs → length g.words ≡ object_words * s.objects → second_pass s xs g ≡ Ok h → Puts s xs g h
-all_put s [] g h fits few there e = subst (Puts s [] g) (ok_is g h e) (record { code = omega arith; bytes = omega arith; entries = omega arith; words = refl; fit = λ n m all. all })
+all_put : (s : Seen) (xs : List Placed) (g h : Guest) → LabelsFit s.labels → HaveFewWords xs → length g.words ≡ object_words * s.objects
+    → second_pass s xs g ≡ Ok h → Puts s xs g h
+all_put s [] g h fits few there e = subst (Puts s [] g) (ok_is g h e)
+    (record { code = omega arith; bytes = omega arith; entries = omega arith; words = refl; fit = λ n m all. all })
 all_put s (x ∷ xs) g h fits few there e =
     let b = bind_ok (at_line x.line (put s x.address x.item g)) _ h e in
     let a = put_adds s x.address x.item g b.0 few.0 there (at_line_ok x.line _ b.0 b.1) in
@@ -387,7 +426,8 @@ pub guest_limits : (s : Seen) (g : Guest) → IsSound s → not (s.code == 0) �
 guest_limits s g h some e =
     let there = length-replicate {A = ℕ} (object_words * s.objects) 0 in
     let b = bind_ok (second_pass s s.placed (started s)) _ g e in
-    subst HasLimits (ok_is _ g b.2) (entry_limits s b.0 h (some_code s.code some) (all_put s s.placed (started s) b.0 h.labels h.few there b.1))
+    subst HasLimits (ok_is _ g b.2) (entry_limits s b.0 h (some_code s.code some)
+        (all_put s s.placed (started s) b.0 h.labels h.few there b.1))
   where
     some_code : (n : ℕ) → not (n == 0) ≡ true → 1 ≤ n
     some_code zero f = absurd (cc f)

@@ -27,10 +27,12 @@ pub record Says (text st : List ℕ) (word : ℕ) : Type 0 where
   pub read : operands_of form (operand_texts st) ≡ Ok xs
   pub means : item_of form xs ≡ Code (word ∷ [])
 
-statement_says : (text st : List ℕ) (word : ℕ) (s : Says text st word) → with_statement 1 st nothing_seen ≡ with_item 1 (Code (word ∷ [])) nothing_seen
+statement_says : (text st : List ℕ) (word : ℕ) (s : Says text st word)
+    → with_statement 1 st nothing_seen ≡ with_item 1 (Code (word ∷ [])) nothing_seen
 statement_says text st word s = rw (s.some, s.named) (rw (s.stands, s.read) (rw (s.means) refl))
 
-line_says : (text st : List ℕ) (word : ℕ) (s : Says text st word) → with_line 1 (line_of text) nothing_seen ≡ with_item 1 (Code (word ∷ [])) nothing_seen
+line_says : (text st : List ℕ) (word : ℕ) (s : Says text st word)
+    → with_line 1 (line_of text) nothing_seen ≡ with_item 1 (Code (word ∷ [])) nothing_seen
 line_says text st word s = rw (s.source, split_one 58 (before 35 text) s.colon) (rw s.trimmed (statement_says text st word s))
 
 pub one_statement : (text st : List ℕ) (word : ℕ) (s : Says text st word) → IsWordGuest (assembled text) word

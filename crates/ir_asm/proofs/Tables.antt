@@ -7,10 +7,13 @@ by_test : {A : Type 0} (t : Bool) (x : A) (r s o : Option A) → r ≡ first_of 
 by_test true x r s o e = refl
 by_test false x r s o e = e
 
-pub named_append : {A : Type 0} (xs ys : List (List ℕ × A)) (name : List ℕ) → named (xs ++ ys) name ≡ first_of (named xs name) (named ys name)
+pub named_append : {A : Type 0} (xs ys : List (List ℕ × A)) (name : List ℕ)
+    → named (xs ++ ys) name ≡ first_of (named xs name) (named ys name)
 named_append [] ys name = refl
-named_append (x ∷ xs) ys name = by_test (bytes_eq name x.0) x.1 (named (xs ++ ys) name) (named xs name) (named ys name) (named_append xs ys name)
+named_append (x ∷ xs) ys name = by_test (bytes_eq name x.0) x.1 (named (xs ++ ys) name) (named xs name) (named ys name)
+    (named_append xs ys name)
 
 -- two tables, as a chain of tests gives them
-pub joined : {A : Type 0} (xs ys : List (List ℕ × A)) (name : List ℕ) (r s : Option A) → r ≡ named xs name → s ≡ named ys name → first_of r s ≡ named (xs ++ ys) name
+pub joined : {A : Type 0} (xs ys : List (List ℕ × A)) (name : List ℕ) (r s : Option A) → r ≡ named xs name → s ≡ named ys name
+    → first_of r s ≡ named (xs ++ ys) name
 joined xs ys name r s e f = rw (e, f) (sym (named_append xs ys name))

@@ -25,7 +25,9 @@ onto done (Ok xs) = Ok (done ++ xs)
 onto done (Err e) = Err e
 
 -- one more operand
-pub one_more : (form : Form) (place : ℕ) (done : List Operand) (x : Operand) (text : List ℕ) (texts : List (List ℕ)) → read (kind_at form place) text ≡ Ok x → onto done (read_all form place (text ∷ texts)) ≡ onto (done ++ x ∷ []) (read_all form (place + 1) texts)
+pub one_more : (form : Form) (place : ℕ) (done : List Operand) (x : Operand) (text : List ℕ) (texts : List (List ℕ))
+    → read (kind_at form place) text ≡ Ok x → onto done (read_all form place (text ∷ texts)) ≡ onto (done ++ x ∷ [])
+    (read_all form (place + 1) texts)
 one_more form place done x text texts e = rw e (by_rest (read_all form (place + 1) texts))
   where
     by_rest : (r : Result (List Operand) Cause) → onto done (r >>= λ xs. Ok (x ∷ xs)) ≡ onto (done ++ x ∷ []) r
@@ -33,7 +35,8 @@ one_more form place done x text texts e = rw e (by_rest (read_all form (place + 
     by_rest (Err e) = refl
 
 -- a fault of an operand
-pub one_fault : (form : Form) (place : ℕ) (done : List Operand) (cause : Cause) (text : List ℕ) (texts : List (List ℕ)) → read (kind_at form place) text ≡ Err cause → onto done (read_all form place (text ∷ texts)) ≡ Err cause
+pub one_fault : (form : Form) (place : ℕ) (done : List Operand) (cause : Cause) (text : List ℕ) (texts : List (List ℕ))
+    → read (kind_at form place) text ≡ Err cause → onto done (read_all form place (text ∷ texts)) ≡ Err cause
 one_fault form place done cause text texts e = rw e refl
 
 pub onto_nil : (r : Result (List Operand) Cause) → onto [] r ≡ r
@@ -41,9 +44,12 @@ onto_nil (Ok xs) = refl
 onto_nil (Err e) = refl
 
 -- an operand that is refused
-pub one_refusal : {X : Type 0} (view : X → List Operand) (e : Refusal) (form : Form) (place : ℕ) (done : List Operand) (rest part : List ℕ) (whole : Result (List Operand) Cause) →
-    split 44 rest ≡ part ∷ drop 1 (split 44 rest) → Gives {X = Operand} {Y = Operand} (λ x. x) (Err e) (read (kind_at form place) (trim part)) →
+pub one_refusal : {X : Type 0} (view : X → List Operand) (e : Refusal) (form : Form) (place : ℕ) (done : List Operand) (rest part : List ℕ)
+    (whole : Result (List Operand) Cause) →
+    split 44 rest ≡ part ∷ drop 1 (split 44 rest)
+        → Gives {X = Operand} {Y = Operand} (λ x. x) (Err e) (read (kind_at form place) (trim part)) →
     onto done (read_all form place (map trim (split 44 rest))) ≡ whole → Gives view (Err e) whole
 one_refusal view (Faulty cause) form place done rest part whole s g told =
-    sym told ∙ ap (λ (l : List (List ℕ)). onto done (read_all form place (map trim l))) s ∙ one_fault form place done cause (trim part) (map trim (drop 1 (split 44 rest))) g
+    sym told ∙ ap (λ (l : List (List ℕ)). onto done (read_all form place (map trim l))) s
+        ∙ one_fault form place done cause (trim part) (map trim (drop 1 (split 44 rest))) g
 one_refusal view NoMem form place done rest part whole s g told = tt

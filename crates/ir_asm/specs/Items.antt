@@ -19,7 +19,8 @@ instruction inst = Code (word_of inst ∷ [])
 
 -- the two words of li: the upper twenty bits, rounded so that the signed lower twelve make up the rest
 abbrev pub li_words : Register → ℕ → List ℕ
-li_words rd value = word_of (Lui rd (upper_of (pos ((value + 0x800) / 2 ^ 12)))) ∷ word_of (OpImm Addi rd rd (immediate_of (pos value))) ∷ []
+li_words rd value = word_of (Lui rd (upper_of (pos ((value + 0x800) / 2 ^ 12)))) ∷ word_of (OpImm Addi rd rd (immediate_of (pos value)))
+    ∷ []
 
 -- the lowest bits of numbers
 abbrev pub values : ℕ → List Operand → List ℕ

@@ -34,7 +34,8 @@ number_in low high text = or_cause BadNumber (number text) >>= λ z. within low 
 
 -- a distance after its first two bytes, which are .+ or .-
 abbrev pub signed_distance : ℕ → ℕ → Option ℕ → Option ℤ
-signed_distance a b n = if (a == 46) && (b == 43) then option_map pos n else if (a == 46) && (b == 45) then option_map (λ m. neg_ℤ (pos m)) n else None
+signed_distance a b n = if (a == 46) && (b == 43) then option_map pos n else if (a == 46) && (b == 45) then option_map (λ m. neg_ℤ (pos m))
+    n else None
 
 -- the distance of a text
 abbrev pub distance_text : List ℕ → Option ℤ
@@ -74,7 +75,8 @@ is_formed Label text = is_like_label text
 -- the number and the register of an address
 abbrev pub at_address : Option (List ℕ × List ℕ) → Result Operand Cause
 at_address None = Err WrongOperands
-at_address (Some parts) = number_in (negsuc 2047) (pos 2047) parts.0 >>= λ imm. or_cause UnknownRegister (register parts.1) >>= λ base. Ok (Offset imm base)
+at_address (Some parts) = number_in (negsuc 2047) (pos 2047) parts.0 >>= λ imm. or_cause UnknownRegister (register parts.1) >>= λ base. Ok
+    (Offset imm base)
 
 -- what an operand of a kind says
 abbrev pub read : Kind → List ℕ → Result Operand Cause

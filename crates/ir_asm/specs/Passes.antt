@@ -47,16 +47,20 @@ eight_words words = words ++ replicate (object_words - length words) 0
 
 -- the guest with the first words of an object
 abbrev pub with_object : Guest → ℕ → List ℕ → Guest
-with_object g object words = record g { words = take (object_words * object) g.words ++ (eight_words words ++ drop (object_words * object + object_words) g.words) }
+with_object g object words = record g { words =
+    take (object_words * object) g.words ++ (eight_words words ++ drop (object_words * object + object_words) g.words) }
 
 -- after an item
 abbrev pub put : Seen → ℕ → Item → Guest → Result Guest Cause
 put s address (Code words) g = Ok (with_code g words)
-put s address (BranchTo op rs1 rs2 label) g = distance_to s (negsuc 4095) (pos 4094) address label >>= λ z. Ok (with_code g (word_of (Branch op rs1 rs2 (branch_offset_of z)) ∷ []))
-put s address (JumpTo rd label) g = distance_to s (negsuc 1048575) (pos 1048574) address label >>= λ z. Ok (with_code g (word_of (Jal rd (jump_offset_of z)) ∷ []))
+put s address (BranchTo op rs1 rs2 label) g = distance_to s (negsuc 4095) (pos 4094) address label >>= λ z. Ok
+    (with_code g (word_of (Branch op rs1 rs2 (branch_offset_of z)) ∷ []))
+put s address (JumpTo rd label) g = distance_to s (negsuc 1048575) (pos 1048574) address label >>= λ z. Ok
+    (with_code g (word_of (Jal rd (jump_offset_of z)) ∷ []))
 put s address (LoadAddress rd label) g = value_of s label >>= λ place. Ok (with_code g (li_words rd place.address))
 put s address (Filled bytes) g = Ok (record g { bytes = g.bytes ++ bytes })
-put s address (Entry label) g = text_address s label >>= λ a. unless (nat_lt a (code_start + s.code)) WrongSection (Ok (record g { entries = g.entries ++ a ∷ [] }))
+put s address (Entry label) g = text_address s label >>= λ a. unless (nat_lt a (code_start + s.code)) WrongSection
+    (Ok (record g { entries = g.entries ++ a ∷ [] }))
 put s address (First object words) g = unless (nat_lt object s.objects) BadCount (Ok (with_object g object words))
 put s address item g = Ok g
 

@@ -104,7 +104,8 @@ size_of item = 0
 -- the labels of a line
 abbrev pub with_labels : List (List ℕ) → Seen → Result Seen Cause
 with_labels [] s = Ok s
-with_labels (label ∷ labels) s = unless (not (is_some (named s.labels label))) LabelTwice (with_labels labels (record s { labels = s.labels ++ (label, here s) ∷ [] }))
+with_labels (label ∷ labels) s = unless (not (is_some (named s.labels label))) LabelTwice
+    (with_labels labels (record s { labels = s.labels ++ (label, here s) ∷ [] }))
 
 -- two sections are one
 abbrev pub same_section : Section → Section → Bool
@@ -135,7 +136,8 @@ placed_at line address item s = record s { placed = s.placed ++ record { line = 
 abbrev pub entered : ℕ → ℕ → Item → Seen → Result Seen Cause
 entered line address (Within section) s = Ok (record s { section = section })
 entered line address (Count objects) s = Ok (record s { objects = objects })
-entered line address (Entry label) s = unless (nat_lt s.threads 8) BadCount (Ok (placed_at line address (Entry label) (record s { threads = s.threads + 1 })))
+entered line address (Entry label) s = unless (nat_lt s.threads 8) BadCount
+    (Ok (placed_at line address (Entry label) (record s { threads = s.threads + 1 })))
 entered line address Nothing s = Ok s
 entered line address item s = Ok (placed_at line address item s)
 

@@ -30,8 +30,10 @@ section_at_end section (line ∷ lines) = section_at_end (section_after (placed_
 -- how many bytes of a section the lines place that begin in another
 abbrev pub bytes_placed : Section → Section → List (List ℕ) → ℕ
 bytes_placed wanted section [] = 0
-bytes_placed wanted section (line ∷ lines) = (if same_section wanted section then size_of (placed_by section line) else 0) + bytes_placed wanted (section_after (placed_by section line) section) lines
+bytes_placed wanted section (line ∷ lines) = (if same_section wanted section then size_of (placed_by section line) else 0) + bytes_placed
+    wanted (section_after (placed_by section line) section) lines
 
 -- the place after lines of text: the start of the section that they end in, and what they place in it
 abbrev pub place_after : Section → List (List ℕ) → Place
-place_after section lines = record { section = section_at_end section lines; address = start_of (section_at_end section lines) + bytes_placed (section_at_end section lines) section lines }
+place_after section lines = record { section = section_at_end section lines; address =
+    start_of (section_at_end section lines) + bytes_placed (section_at_end section lines) section lines }

@@ -27,24 +27,31 @@ pub origins_more : {W : Type 0} (made : W → MadeWith) (old new : List W) (w : 
     → map made old ≡ origins counted random file n → made w ≡ origin_of counted random file n → new ≡ old ++ w ∷ []
     → map made new ≡ origins counted random file (n + 1)
 origins_more made old new w counted random file n before here e =
-    ap (map made) e ∙ map_more made old w ∙ ap (λ (z : List MadeWith). z ++ made w ∷ []) before ∙ ap (λ (z : MadeWith). origins counted random file n ++ z ∷ []) here
+    ap (map made) e ∙ map_more made old w ∙ ap (λ (z : List MadeWith). z ++ made w ∷ []) before
+        ∙ ap (λ (z : MadeWith). origins counted random file n ++ z ∷ []) here
     ∙ sym (map-range_with_len_more (origin_of counted random file) 0 n n (omega arith))
 
 -- what the new world is made with
-pub made_by : (time before : Time) (seed random : ℕ) (of file : List ℕ) (n : ℕ) → time ≡ before → seed ≡ seed_of random n → of ≡ file → made_with time seed of ≡ origin_of (is_counted before) random file n
+pub made_by : (time before : Time) (seed random : ℕ) (of file : List ℕ) (n : ℕ) → time ≡ before → seed ≡ seed_of random n → of ≡ file
+    → made_with time seed of ≡ origin_of (is_counted before) random file n
 made_by time before seed random of file n e s f = λ i. made_with (e i) (s i) (f i)
 
-pub fresh_more : {W : Type 0} (answers : W → List Answered) (old new : List W) (w : W) (n : ℕ) → map answers old ≡ replicate n [] → answers w ≡ [] → new ≡ old ++ w ∷ [] → map answers new ≡ replicate (n + 1) []
+pub fresh_more : {W : Type 0} (answers : W → List Answered) (old new : List W) (w : W) (n : ℕ) → map answers old ≡ replicate n []
+    → answers w ≡ [] → new ≡ old ++ w ∷ [] → map answers new ≡ replicate (n + 1) []
 fresh_more answers old new w n before s e =
-    ap (map answers) e ∙ map_more answers old w ∙ ap (λ (z : List (List Answered)). z ++ answers w ∷ []) before ∙ ap (λ (z : List Answered). replicate n [] ++ z ∷ []) s ∙ replicate_more n []
+    ap (map answers) e ∙ map_more answers old w ∙ ap (λ (z : List (List Answered)). z ++ answers w ∷ []) before
+        ∙ ap (λ (z : List Answered). replicate n [] ++ z ∷ []) s ∙ replicate_more n []
     ∙ ap (λ (k : ℕ). replicate k []) (sym (add-one n))
 
 -- there is a world for each thread
-pub many : {W : Type 0} (made : W → MadeWith) (worlds : List W) (counted : Bool) (random : ℕ) (file : List ℕ) (n : ℕ) → map made worlds ≡ origins counted random file n → length worlds ≡ n
-many made worlds counted random file n e = sym (length-map worlds made) ∙ ap (λ (z : List MadeWith). length z) e ∙ length-map-range_with_len (origin_of counted random file) 0 n
+pub many : {W : Type 0} (made : W → MadeWith) (worlds : List W) (counted : Bool) (random : ℕ) (file : List ℕ) (n : ℕ)
+    → map made worlds ≡ origins counted random file n → length worlds ≡ n
+many made worlds counted random file n e = sym (length-map worlds made) ∙ ap (λ (z : List MadeWith). length z) e
+    ∙ length-map-range_with_len (origin_of counted random file) 0 n
 
 told_from : {O : Type 0} (made : O → MadeWith) (answers : O → List Answered) → ((o : O) → IsTold (made o) (answers o))
-    → (counted : Bool) (random : ℕ) (file : List ℕ) (os : List O) (a n : ℕ) → map made os ≡ map (origin_of counted random file) (range_with_len a n)
+    → (counted : Bool) (random : ℕ) (file : List ℕ) (os : List O) (a n : ℕ)
+    → map made os ≡ map (origin_of counted random file) (range_with_len a n)
     → (t : ℕ) → t < n → IsTold (origin_of counted random file (a + t)) (get_or (map answers os) t [])
 told_from made answers gave counted random file os a zero e t l = absurd (omega (arith, l))
 told_from made answers gave counted random file [] a (suc n) e t l = absurd (cc)
@@ -55,7 +62,8 @@ told_from made answers gave counted random file (o ∷ os) a (suc n) e zero l =
 told_from made answers gave counted random file (o ∷ os) a (suc n) e (suc t) l =
     let rest : map made os ≡ map (origin_of counted random file) (range_with_len (a + 1) n) = cc in
     let place : a + 1 + t ≡ a + suc t = omega arith in
-    subst (λ (k : ℕ). IsTold (origin_of counted random file k) (get_or (map answers os) t [])) place (told_from made answers gave counted random file os (a + 1) n rest t (omega (arith, l)))
+    subst (λ (k : ℕ). IsTold (origin_of counted random file k) (get_or (map answers os) t [])) place
+        (told_from made answers gave counted random file os (a + 1) n rest t (omega (arith, l)))
 
 -- each of the worlds was answered by its own sources
 pub told_by : {O : Type 0} (made : O → MadeWith) (answers : O → List Answered) → ((o : O) → IsTold (made o) (answers o))
@@ -63,12 +71,16 @@ pub told_by : {O : Type 0} (made : O → MadeWith) (answers : O → List Answere
     → (t : ℕ) → t < n → IsTold (origin_of counted random file t) (get_or (map answers os) t [])
 told_by made answers gave counted random file os n e t l =
     let place : 0 + t ≡ t = omega arith in
-    subst (λ (k : ℕ). IsTold (origin_of counted random file k) (get_or (map answers os) t [])) place (told_from made answers gave counted random file os 0 n e t l)
+    subst (λ (k : ℕ). IsTold (origin_of counted random file k) (get_or (map answers os) t [])) place
+        (told_from made answers gave counted random file os 0 n e t l)
 
 -- what was recorded in an order, with fresh worlds
-pub recorded_from : (image list : List ℕ) (budget random : ℕ) (file : List ℕ) (guest : Guest) (entries order given : List ℕ) (before : List (List Answered)) (trace : Recorded) (outputs : List (List ℕ)) (answers : List (List Answered))
-    → guest_at image ≡ Ok guest → entries ≡ guest.entries → order_of (length entries) list ≡ Some order → given ≡ order → before ≡ replicate (length entries) [] → IsRecording guest budget given before trace outputs answers
-    → ((t : ℕ) → t < length entries → IsTold (origin_of true random file t) (get_or answers t [])) → IsRecordedOf image (Some list) budget random file trace
+pub recorded_from : (image list : List ℕ) (budget random : ℕ) (file : List ℕ) (guest : Guest) (entries order given : List ℕ)
+    (before : List (List Answered)) (trace : Recorded) (outputs : List (List ℕ)) (answers : List (List Answered))
+    → guest_at image ≡ Ok guest → entries ≡ guest.entries → order_of (length entries) list ≡ Some order → given ≡ order
+    → before ≡ replicate (length entries) [] → IsRecording guest budget given before trace outputs answers
+    → ((t : ℕ) → t < length entries → IsTold (origin_of true random file t) (get_or answers t []))
+    → IsRecordedOf image (Some list) budget random file trace
 recorded_from image list budget random file guest entries order given before trace outputs answers is same spelled e silent h told =
     let long : length entries ≡ length guest.entries = ap (λ (z : List ℕ). length z) same in
     record {
@@ -79,15 +91,20 @@ recorded_from image list budget random file guest entries order given before tra
       recorded = (
         order,
         ap (λ (n : ℕ). order_of n list) (sym long) ∙ spelled,
-        subst (λ (z : List (List Answered)). IsRecording guest budget order z trace outputs answers) (silent ∙ ap (λ (n : ℕ). replicate n []) long) (subst (λ (z : List ℕ). IsRecording guest budget z before trace outputs answers) e h),
+        subst (λ (z : List (List Answered)). IsRecording guest budget order z trace outputs answers)
+            (silent ∙ ap (λ (n : ℕ). replicate n []) long)
+            (subst (λ (z : List ℕ). IsRecording guest budget z before trace outputs answers) e h),
       );
       told = λ t l. told t (omega (arith, l, long));
     }
 
 -- the same, by threads
-pub recorded_by : (image : List ℕ) (budget random : ℕ) (file : List ℕ) (guest : Guest) (entries : List ℕ) (before : List (List Answered)) (trace : Recorded) (outputs : List (List ℕ)) (answers : List (List Answered))
-    → guest_at image ≡ Ok guest → entries ≡ guest.entries → before ≡ replicate (length entries) [] → IsRecordingOfSome guest budget before trace outputs answers
-    → ((t : ℕ) → t < length entries → IsTold (origin_of false random file t) (get_or answers t [])) → IsRecordedOf image None budget random file trace
+pub recorded_by : (image : List ℕ) (budget random : ℕ) (file : List ℕ) (guest : Guest) (entries : List ℕ) (before : List (List Answered))
+    (trace : Recorded) (outputs : List (List ℕ)) (answers : List (List Answered))
+    → guest_at image ≡ Ok guest → entries ≡ guest.entries → before ≡ replicate (length entries) []
+    → IsRecordingOfSome guest budget before trace outputs answers
+    → ((t : ℕ) → t < length entries → IsTold (origin_of false random file t) (get_or answers t []))
+    → IsRecordedOf image None budget random file trace
 recorded_by image budget random file guest entries before trace outputs answers is same silent h told =
     let long : length entries ≡ length guest.entries = ap (λ (z : List ℕ). length z) same in
     record {
@@ -95,6 +112,7 @@ recorded_by image budget random file guest entries before trace outputs answers 
       is = is;
       outputs = outputs;
       answers = answers;
-      recorded = subst (λ (z : List (List Answered)). IsRecordingOfSome guest budget z trace outputs answers) (silent ∙ ap (λ (n : ℕ). replicate n []) long) h;
+      recorded = subst (λ (z : List (List Answered)). IsRecordingOfSome guest budget z trace outputs answers)
+          (silent ∙ ap (λ (n : ℕ). replicate n []) long) h;
       told = λ t l. told t (omega (arith, l, long));
     }

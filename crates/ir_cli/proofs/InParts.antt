@@ -14,7 +14,8 @@ prefix_longer a b text more f = record {
 }
 
 -- a prefix of a text after all of another
-pub prefix_further : (a b c : Option (List ℕ)) (done text : List ℕ) → Appends a b done → AppendsPrefix b c text → AppendsPrefix a c (done ++ text)
+pub prefix_further : (a b c : Option (List ℕ)) (done text : List ℕ) → Appends a b done → AppendsPrefix b c text
+    → AppendsPrefix a c (done ++ text)
 prefix_further a b c done text begun f = record {
   part = done ++ f.part;
   more = f.more;
@@ -23,7 +24,8 @@ prefix_further a b c done text begun f = record {
 }
 
 -- the same, where a write may have failed
-pub then_prefix : {A E : Type 0} (r : Result A E) (a b c : Option (List ℕ)) (done text : List ℕ) → Appends a b done → OnErr r (AppendsPrefix b c text) → OnErr r (AppendsPrefix a c (done ++ text))
+pub then_prefix : {A E : Type 0} (r : Result A E) (a b c : Option (List ℕ)) (done text : List ℕ) → Appends a b done
+    → OnErr r (AppendsPrefix b c text) → OnErr r (AppendsPrefix a c (done ++ text))
 then_prefix (Ok x) a b c done text begun f = tt
 then_prefix (Err e) a b c done text begun f = prefix_further a b c done text begun f
 

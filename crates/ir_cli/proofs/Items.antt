@@ -20,30 +20,42 @@ no_thread (Some count) = refl
 no_thread None = refl
 
 -- the parts of what isn't all digits spell no number of steps
-by_parts : (threads : ℕ) (thread bs : List ℕ) (parts : List (List ℕ)) → number_within 1 most_turns bs ≡ None → join_with_byte 120 parts ≡ bs → 1 ≤ length parts → item_by threads (thread ∷ parts) ≡ None
+by_parts : (threads : ℕ) (thread bs : List ℕ) (parts : List (List ℕ)) → number_within 1 most_turns bs ≡ None → join_with_byte 120 parts ≡ bs
+    → 1 ≤ length parts → item_by threads (thread ∷ parts) ≡ None
 by_parts threads thread bs [] none e some = absurd (omega (arith, some))
-by_parts threads thread bs (a ∷ []) none e some = ap (λ (z : List ℕ). turns (number_within 0 (threads - 1) thread) (number_within 1 most_turns z)) e ∙ ap (turns (number_within 0 (threads - 1) thread)) none ∙ no_count (number_within 0 (threads - 1) thread)
+by_parts threads thread bs (a ∷ []) none e some =
+    ap (λ (z : List ℕ). turns (number_within 0 (threads - 1) thread) (number_within 1 most_turns z)) e
+    ∙ ap (turns (number_within 0 (threads - 1) thread)) none ∙ no_count (number_within 0 (threads - 1) thread)
 by_parts threads thread bs (a ∷ b ∷ parts) none e some = refl
 
 -- an item with a mark
-pub with_count : (threads : ℕ) (item thread count : List ℕ) → slice_split (λ b. b == 120) item ≡ thread ∷ slice_split (λ b. b == 120) count → item_of threads item ≡ turns (number_within 0 (threads - 1) thread) (number_within 1 most_turns count)
+pub with_count : (threads : ℕ) (item thread count : List ℕ) → slice_split (λ b. b == 120) item ≡ thread ∷ slice_split (λ b. b == 120) count
+    → item_of threads item ≡ turns (number_within 0 (threads - 1) thread) (number_within 1 most_turns count)
 with_count threads item thread count e = ap (item_by threads) e ∙ elim (cases_Bool (all_ascii_digits count)) [
-  | inl all ↦ ap (λ (z : List (List ℕ)). item_by threads (thread ∷ z)) (one_part 120 count (not_in_digits own count 120 all (λ r. omega (arith, r))))
+  | inl all ↦ ap (λ (z : List (List ℕ)). item_by threads (thread ∷ z))
+      (one_part 120 count (not_in_digits own count 120 all (λ r. omega (arith, r))))
   | inr other ↦
       let none = refused_byte 1 most_turns count other in
-      by_parts threads thread count (slice_split (λ b. b == 120) count) none (join_with_byte-slice_split 120 count) (omega (arith, length-slice_split (λ b. b == 120) count))
+      by_parts threads thread count (slice_split (λ b. b == 120) count) none (join_with_byte-slice_split 120 count)
+          (omega (arith, length-slice_split (λ b. b == 120) count))
       ∙ sym (ap (turns (number_within 0 (threads - 1) thread)) none ∙ no_count (number_within 0 (threads - 1) thread))
 ]
 
 -- an item without
-pub without_count : (threads : ℕ) (item thread : List ℕ) → slice_split (λ b. b == 120) item ≡ thread ∷ [] → item_of threads item ≡ turns (number_within 0 (threads - 1) thread) (Some 1)
+pub without_count : (threads : ℕ) (item thread : List ℕ) → slice_split (λ b. b == 120) item ≡ thread ∷ []
+    → item_of threads item ≡ turns (number_within 0 (threads - 1) thread) (Some 1)
 without_count threads item thread e = ap (item_by threads) e
 
-pub spelled : (threads : ℕ) (item thread count : List ℕ) (t n : ℕ) → slice_split (λ b. b == 120) item ≡ thread ∷ slice_split (λ b. b == 120) count → number_within 0 (threads - 1) thread ≡ Some t → number_within 1 most_turns count ≡ Some n → Some (replicate n t) ≡ item_of threads item
-spelled threads item thread count t n e a b = sym (with_count threads item thread count e ∙ ap (λ (z : Option ℕ). turns z (number_within 1 most_turns count)) a ∙ ap (turns (Some t)) b)
+pub spelled : (threads : ℕ) (item thread count : List ℕ) (t n : ℕ) → slice_split (λ b. b == 120) item ≡ thread
+    ∷ slice_split (λ b. b == 120) count → number_within 0 (threads - 1) thread ≡ Some t → number_within 1 most_turns count ≡ Some n
+    → Some (replicate n t) ≡ item_of threads item
+spelled threads item thread count t n e a b = sym (with_count threads item thread count e
+    ∙ ap (λ (z : Option ℕ). turns z (number_within 1 most_turns count)) a ∙ ap (turns (Some t)) b)
 
-pub unspelled : (threads : ℕ) (item thread count : List ℕ) → slice_split (λ b. b == 120) item ≡ thread ∷ slice_split (λ b. b == 120) count → number_within 1 most_turns count ≡ None → None ≡ item_of threads item
-unspelled threads item thread count e b = sym (with_count threads item thread count e ∙ ap (turns (number_within 0 (threads - 1) thread)) b ∙ no_count (number_within 0 (threads - 1) thread))
+pub unspelled : (threads : ℕ) (item thread count : List ℕ) → slice_split (λ b. b == 120) item ≡ thread ∷ slice_split (λ b. b == 120) count
+    → number_within 1 most_turns count ≡ None → None ≡ item_of threads item
+unspelled threads item thread count e b = sym (with_count threads item thread count e ∙ ap (turns (number_within 0 (threads - 1) thread)) b
+    ∙ no_count (number_within 0 (threads - 1) thread))
 
 -- ---- items in turn
 

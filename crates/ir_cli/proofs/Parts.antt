@@ -14,5 +14,7 @@ pub one_part : (mark : ℕ) (bs : List ℕ) → ((i : ℕ) → i < length bs →
 one_part mark bs none = slice_split_none (λ b. b == mark) bs (λ k d l. other mark bs k d l (none k l))
 
 -- the first part ends at the first mark
-pub cut_part : (mark : ℕ) (bs part rest : List ℕ) → bs ≡ part ++ mark ∷ rest → ((i : ℕ) → i < length part → get_or part i 0 ≢ mark) → slice_split (λ b. b == mark) bs ≡ part ∷ slice_split (λ b. b == mark) rest
-cut_part mark bs part rest e none = ap (slice_split (λ b. b == mark)) e ∙ slice_split_at (λ b. b == mark) part mark rest (λ k d l. other mark part k d l (none k l)) (eq-eqb mark mark refl)
+pub cut_part : (mark : ℕ) (bs part rest : List ℕ) → bs ≡ part ++ mark ∷ rest → ((i : ℕ) → i < length part → get_or part i 0 ≢ mark)
+    → slice_split (λ b. b == mark) bs ≡ part ∷ slice_split (λ b. b == mark) rest
+cut_part mark bs part rest e none = ap (slice_split (λ b. b == mark)) e
+    ∙ slice_split_at (λ b. b == mark) part mark rest (λ k d l. other mark part k d l (none k l)) (eq-eqb mark mark refl)

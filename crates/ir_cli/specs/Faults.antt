@@ -69,4 +69,5 @@ WriteFails World bytes lines trace out untouched = ⊥
 -- a fault: nothing was written (both writers are as before), or there is a recording and a writer failed (where the
 -- trace's did, the other is as before)
 abbrev pub Stops : RecordFault → List ℕ → Option (List ℕ) → (Recorded → Type 0) → Writer → Writer → Type 0 → Type 0 → Type 0
-Stops e image list IsIt trace out both second = (Refuses e image list × both) ⊎ ((recorded : Recorded) × IsIt recorded × WriteFails e (encoding recorded) (lines_of recorded) trace out second)
+Stops e image list IsIt trace out both second = (Refuses e image list × both)
+    ⊎ ((recorded : Recorded) × IsIt recorded × WriteFails e (encoding recorded) (lines_of recorded) trace out second)

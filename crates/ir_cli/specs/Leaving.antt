@@ -31,13 +31,15 @@ Came result old new image trace commands = Session (opening_of image trace) most
 
 -- the opening lines and all answers to the lines that were read whole were written, none of which quits
 abbrev pub AnsweredWhole : Option (List ℕ) → Option (List ℕ) → List ℕ → List ℕ → List ℕ → Type 0
-AnsweredWhole old new image trace commands = (some_quits is_quit (cut commands).whole ≡ false) × Appends old new (told (opening_of image trace) (cut commands).whole)
+AnsweredWhole old new image trace commands = (some_quits is_quit (cut commands).whole ≡ false)
+    × Appends old new (told (opening_of image trace) (cut commands).whole)
 
 -- a prefix of the opening lines and of the answers to the lines that were read was written; none but the last of them may
 -- quit, and it is unfinished only at the end of the input
 abbrev pub AnsweredInPart : Option (List ℕ) → Option (List ℕ) → Option (List ℕ) → List ℕ → List ℕ → List ℕ → Type 0
 AnsweredInPart left old new image trace commands =
-    (through is_quit (lines_of commands) ≡ lines_of commands) × ((cut commands).rest ≢ [] → IsAtEnd left) × AppendsPrefix old new (told (opening_of image trace) (lines_of commands))
+    (through is_quit (lines_of commands) ≡ lines_of commands) × ((cut commands).rest ≢ [] → IsAtEnd left)
+        × AppendsPrefix old new (told (opening_of image trace) (lines_of commands))
 
 -- neither the reader nor the writer has failed, and the bytes that were read led to this result and to what was written
 pub record Comes (result : Result Ended SessionErr) (reader : Reader) (writer : Writer) : Type 0 where
@@ -51,6 +53,8 @@ abbrev pub Leaves : BundleErr → Reader → Writer → Type 0 → Type 0
 Leaves BadLine reader writer same = IfSome reader.before (λ input. bundle_of input ≡ None) × (reader.failed ≡ false) × same
 Leaves NoMem reader writer same = (reader.failed ≡ false) × same
 Leaves Read reader writer same =
-    (reader.failed ≡ true) × (writer.failed ≡ false) × ((IsInLines reader.before reader.after × same) ⊎ Serves reader.before reader.after (AnsweredWhole writer.before writer.after))
-Leaves Write reader writer same = (reader.failed ≡ false) × (writer.failed ≡ true) × Serves reader.before reader.after (AnsweredInPart reader.after writer.before writer.after)
+    (reader.failed ≡ true) × (writer.failed ≡ false)
+        × ((IsInLines reader.before reader.after × same) ⊎ Serves reader.before reader.after (AnsweredWhole writer.before writer.after))
+Leaves Write reader writer same = (reader.failed ≡ false) × (writer.failed ≡ true)
+    × Serves reader.before reader.after (AnsweredInPart reader.after writer.before writer.after)
 Leaves TooLong reader writer same = Comes (Err session.TooLong) reader writer

@@ -30,7 +30,8 @@ unasked guest = replicate (length guest.entries) []
 -- the trace, the outputs and the worlds' answers of one complete run of the guest: the one by the order that the list
 -- spells, or without a list some run
 abbrev pub IsRecordedBy : Option (List ℕ) → Guest → ℕ → Recorded → List (List ℕ) → List (List Answered) → Type 0
-IsRecordedBy (Some list) guest budget trace outputs answers = (order : List ℕ) × (order_of (length guest.entries) list ≡ Some order) × IsRecording guest budget order (unasked guest) trace outputs answers
+IsRecordedBy (Some list) guest budget trace outputs answers = (order : List ℕ) × (order_of (length guest.entries) list ≡ Some order)
+    × IsRecording guest budget order (unasked guest) trace outputs answers
 IsRecordedBy None guest budget trace outputs answers = IsRecordingOfSome guest budget (unasked guest) trace outputs answers
 
 -- the trace is of such a run of the image's guest, whose threads were answered by random words, the file's bytes and a
@@ -47,7 +48,9 @@ pub record IsRecordedOf (image : List ℕ) (list : Option (List ℕ)) (budget ra
 -- a thread's line: its number, the number and the code of its end, its steps, how many events it logged
 abbrev pub line_by : ℕ → ℕ → ℕ → ℕ → ℕ → List ℕ
 line_by t end code steps events =
-    codes "thread " ++ (decimal t ++ (codes " end " ++ (decimal end ++ (codes " code " ++ (decimal code ++ (codes " steps " ++ (decimal steps ++ (codes " events " ++ (decimal events ++ 10 ∷ [])))))))))
+    codes "thread " ++ (decimal t ++ (codes " end " ++
+        (decimal end ++ (codes " code " ++ (decimal code ++
+        (codes " steps " ++ (decimal steps ++ (codes " events " ++ (decimal events ++ 10 ∷ [])))))))))
 
 -- the line of thread t
 abbrev pub thread_line : ℕ → RecordedThread → List ℕ

@@ -43,16 +43,22 @@ thread_fits r fits i l = each (IsRecordedThread r.objects) r.threads i absent fi
 is_of : (r : Recorded) → IsOf (length r.threads) (trace_of r)
 is_of r t l = ap (λ (x : RecordedThread). map label_of x.events) (past r.threads t absent l)
 
-pub thread_room : (r : Recorded) → IsRecorded r → (i : ℕ) (c : EntryCounts) → i < length r.threads → CountsFirst r i c → HasRoom c (length (recorded_thread r i).events)
+pub thread_room : (r : Recorded) → IsRecorded r → (i : ℕ) (c : EntryCounts) → i < length r.threads → CountsFirst r i c
+    → HasRoom c (length (recorded_thread r i).events)
 thread_room r fits i c l first = record {
-  reads = λ o v. omega (arith, first.reads o v, sum_bound i (λ u. reads o v ((trace_of r).logs u)) (λ u less. omega (arith, reads_le o v ((trace_of r).logs u), of_thread u (omega arith))), (thread_fits r fits i l).few_events, fits.few_threads);
-  writes = λ o v. omega (arith, first.writes o v, sum_bound i (λ u. writes o v ((trace_of r).logs u)) (λ u less. omega (arith, writes_le o v ((trace_of r).logs u), of_thread u (omega arith))), (thread_fits r fits i l).few_events, fits.few_threads);
+  reads = λ o v. omega (arith, first.reads o v, sum_bound i (λ u. reads o v ((trace_of r).logs u))
+      (λ u less. omega (arith, reads_le o v ((trace_of r).logs u), of_thread u (omega arith))), (thread_fits r fits i l).few_events,
+      fits.few_threads);
+  writes = λ o v. omega (arith, first.writes o v, sum_bound i (λ u. writes o v ((trace_of r).logs u))
+      (λ u less. omega (arith, writes_le o v ((trace_of r).logs u), of_thread u (omega arith))), (thread_fits r fits i l).few_events,
+      fits.few_threads);
 }
   where
     of_thread : (u : ℕ) → u < length r.threads → length ((trace_of r).logs u) ≤ 1048576
     of_thread u less = omega (arith, length-map (recorded_thread r u).events label_of, (thread_fits r fits u less).few_events)
 
-pub thread_counted : (r : Recorded) (i : ℕ) (a b : EntryCounts) → CountsFirst r i a → CountsMore a b (map label_of (recorded_thread r i).events) → CountsFirst r (i + 1) b
+pub thread_counted : (r : Recorded) (i : ℕ) (a b : EntryCounts) → CountsFirst r i a
+    → CountsMore a b (map label_of (recorded_thread r i).events) → CountsFirst r (i + 1) b
 thread_counted r i a b first more = record {
   objects = more.objects ∙ first.objects;
   reads = λ o v. omega (arith, more.reads o v, first.reads o v, sum_next i (λ u. reads o v ((trace_of r).logs u)));
@@ -70,7 +76,8 @@ event_at (x ∷ xs) zero m at = (x, refl, at)
 event_at (x ∷ xs) (suc i) m at = event_at xs i m at
 
 -- the tables' counts name what the trace's counts name
-as_counted : (n : ℕ) (told : Trace) (c : EntryCounts) → CountsAll n told c → (m : Label) → cause_by (reads_of c) (writes_of c) m ≡ cause_by (reads_in n told) (writes_in n told) m
+as_counted : (n : ℕ) (told : Trace) (c : EntryCounts) → CountsAll n told c → (m : Label)
+    → cause_by (reads_of c) (writes_of c) m ≡ cause_by (reads_in n told) (writes_in n told) m
 as_counted n told c all m = λ i. cause_by (λ o v. all.reads o v i) (λ o v. all.writes o v i) m
 
 -- what has a cause stands in the trace
@@ -79,31 +86,40 @@ entry_of n told t i Unmade has = (In has.object has.access (suc has.version) has
 entry_of n told t i Twice has = (In has.1.object Writing has.1.version has.1.left, has.1.entry)
 entry_of n told t i Readers has = (In has.2.object Writing has.2.version has.2.left, has.2.entry)
 
-silent : (r : Recorded) (c : EntryCounts) → CountsAll (length r.threads) (trace_of r) c → (t i : ℕ) (m : Label) → At ((trace_of r).logs t) i m → ((e : Event) → slice_get (recorded_thread r t).events i ≡ Some e → cause_by (reads_of c) (writes_of c) (label_of e) ≡ None)
+silent : (r : Recorded) (c : EntryCounts) → CountsAll (length r.threads) (trace_of r) c → (t i : ℕ) (m : Label)
+    → At ((trace_of r).logs t) i m → ((e : Event) → slice_get (recorded_thread r t).events i ≡ Some e
+    → cause_by (reads_of c) (writes_of c) (label_of e) ≡ None)
     → cause_by (reads_in (length r.threads) (trace_of r)) (writes_in (length r.threads) (trace_of r)) m ≡ None
 silent r c all t i m at none =
     let e = event_at (recorded_thread r t).events i m at in
     sym (as_counted (length r.threads) (trace_of r) c all m) ∙ ap (cause_by (reads_of c) (writes_of c)) (sym e.2) ∙ none e.0 e.1
 
-unbroken : (r : Recorded) (c : EntryCounts) → CountsAll (length r.threads) (trace_of r) c → (t i : ℕ) → ((e : Event) → slice_get (recorded_thread r t).events i ≡ Some e → cause_by (reads_of c) (writes_of c) (label_of e) ≡ None)
+unbroken : (r : Recorded) (c : EntryCounts) → CountsAll (length r.threads) (trace_of r) c → (t i : ℕ)
+    → ((e : Event) → slice_get (recorded_thread r t).events i ≡ Some e → cause_by (reads_of c) (writes_of c) (label_of e) ≡ None)
     → (d : Cause) → HasCause (length r.threads) (trace_of r) t i d → ⊥
 unbroken r c all t i none d has =
     let m = entry_of (length r.threads) (trace_of r) t i d has in
     unnamed (length r.threads) (trace_of r) (is_of r) t i m.0 m.1 (silent r c all t i m.0 m.1 none) d has
 
 -- where no thread's log has an event with a cause
-pub all_silent : (r : Recorded) (c : EntryCounts) → CountsAll (length r.threads) (trace_of r) c → ((t : ℕ) → t < length r.threads → NoCause (reads_of c) (writes_of c) (recorded_thread r t).events) → IsCoherent (length r.threads) (trace_of r)
-all_silent r c all none = silent_coherent (length r.threads) (trace_of r) (is_of r) (λ t i m at. silent r c all t i m at (none t (is_thread (length r.threads) (trace_of r) (is_of r) t i m at) i))
+pub all_silent : (r : Recorded) (c : EntryCounts) → CountsAll (length r.threads) (trace_of r) c
+    → ((t : ℕ) → t < length r.threads → NoCause (reads_of c) (writes_of c) (recorded_thread r t).events)
+    → IsCoherent (length r.threads) (trace_of r)
+all_silent r c all none = silent_coherent (length r.threads) (trace_of r) (is_of r)
+    (λ t i m at. silent r c all t i m at (none t (is_thread (length r.threads) (trace_of r) (is_of r) t i m at) i))
 
 -- the first event with a cause
-pub first_named : (r : Recorded) (c : EntryCounts) → CountsAll (length r.threads) (trace_of r) c → (t i : ℕ) (cause : Cause) → ((u : ℕ) → u < t → NoCause (reads_of c) (writes_of c) (recorded_thread r u).events)
+pub first_named : (r : Recorded) (c : EntryCounts) → CountsAll (length r.threads) (trace_of r) c → (t i : ℕ) (cause : Cause)
+    → ((u : ℕ) → u < t → NoCause (reads_of c) (writes_of c) (recorded_thread r u).events)
     → FirstCause (reads_of c) (writes_of c) (recorded_thread r t).events i cause → IsFirstBreak (length r.threads) (trace_of r) t i cause
 first_named r c all t i cause none found = record {
-  breaks = named (length r.threads) (trace_of r) (is_of r) t i (label_of found.event) cause (at_event (recorded_thread r t).events i found.event found.stands)
+  breaks = named (length r.threads) (trace_of r) (is_of r) t i (label_of found.event) cause
+      (at_event (recorded_thread r t).events i found.event found.stands)
       (sym (as_counted (length r.threads) (trace_of r) c all (label_of found.event)) ∙ found.cause);
   first = λ u j d before has. earlier u j d before has;
 }
   where
     earlier : (u j : ℕ) (d : Cause) → IsBefore u j t i → HasCause (length r.threads) (trace_of r) u j d → ⊥
     earlier u j d (inl less) has = unbroken r c all u j (none u less j) d has
-    earlier u j d (inr here) has = unbroken r c all u j (λ e is. found.first j e here.1 (subst (λ z. slice_get (recorded_thread r z).events j ≡ Some e) here.0 is)) d has
+    earlier u j d (inr here) has = unbroken r c all u j
+        (λ e is. found.first j e here.1 (subst (λ z. slice_get (recorded_thread r z).events j ≡ Some e) here.0 is)) d has

@@ -30,7 +30,8 @@ at_set_other f (y ∷ ys) (suc i) zero w ne = refl
 at_set_other f (y ∷ ys) (suc i) (suc o) w ne = at_set_other f ys i o w (λ e. ne (ap suc e))
 
 -- element i is written, of which f says n more
-at_more : {X : Type 0} (f : X → ℕ) (xs : List X) (i o : ℕ) (x w : X) (n : ℕ) → i < length xs → get_or xs i x ≡ x → f w ≡ f x + n → at f (slice_set xs i w) o ≡ at f xs o + cond (eqb i o) n 0
+at_more : {X : Type 0} (f : X → ℕ) (xs : List X) (i o : ℕ) (x w : X) (n : ℕ) → i < length xs → get_or xs i x ≡ x → f w ≡ f x + n
+    → at f (slice_set xs i w) o ≡ at f xs o + cond (eqb i o) n 0
 at_more f xs i o x w n l e more = elim (cases_eq i o) [
   | inl here ↦ subst (λ z. at f (slice_set xs i w) z ≡ at f xs z + cond (eqb i z) n 0) here
       (omega (arith, at_set_here f xs i w l, more, at_here f xs i x l e, ap {B = ℕ} (λ b. cond b n 0) (eq-eqb i i refl)))
@@ -38,14 +39,16 @@ at_more f xs i o x w n l e more = elim (cases_eq i o) [
 ]
 
 -- f says as much of the element that is written
-pub at_kept : {X : Type 0} (f : X → ℕ) (xs : List X) (i o : ℕ) (x w : X) → i < length xs → get_or xs i x ≡ x → f w ≡ f x → at f (slice_set xs i w) o ≡ at f xs o
+pub at_kept : {X : Type 0} (f : X → ℕ) (xs : List X) (i o : ℕ) (x w : X) → i < length xs → get_or xs i x ≡ x → f w ≡ f x
+    → at f (slice_set xs i w) o ≡ at f xs o
 at_kept f xs i o x w l e same = elim (cases_eq i o) [
   | inl here ↦ subst (λ z. at f (slice_set xs i w) z ≡ at f xs z) here (at_set_here f xs i w l ∙ same ∙ sym (at_here f xs i x l e))
   | inr ne ↦ at_set_other f xs i o w ne
 ]
 
 -- what stands in the list is what is written, or stood there
-pub set_seen : {X : Type 0} (xs : List X) (i o : ℕ) (w y : X) → slice_get (slice_set xs i w) o ≡ Some y → (y ≡ w) ⊎ ((i ≡ o → ⊥) × (slice_get xs o ≡ Some y))
+pub set_seen : {X : Type 0} (xs : List X) (i o : ℕ) (w y : X) → slice_get (slice_set xs i w) o ≡ Some y → (y ≡ w)
+    ⊎ ((i ≡ o → ⊥) × (slice_get xs o ≡ Some y))
 set_seen [] i o w y e = absurd (let bad : None ≡ Some y = e in cc)
 set_seen (x ∷ xs) zero zero w y e = inl (sym (same_Some w y e))
 set_seen (x ∷ xs) zero (suc o) w y e = inr ((λ q. absurd (omega (arith, q))), e)
@@ -64,22 +67,33 @@ at_push f (y ∷ ys) x (suc o) e h = at_push f ys x o e (λ p. h (suc p))
 none_more : (k : ℕ) → k ≡ k + (0 + 0)
 none_more k = omega arith
 
-pub more_reads : (xs : List ObjectCounts) (i w : ℕ) (x : ObjectCounts) (new : VersionCounts) → i < length xs → get_or xs i x ≡ x → OneMore x.reads new w
-    → (o v : ℕ) → at (λ z. count z.reads v) (slice_set xs i record { reads = new; writes = x.writes }) o ≡ at (λ z. count z.reads v) xs o + (cond (eqb i o) (cond (eqb w v) 1 0) 0 + 0)
-more_reads xs i w x new l e more o v = omega (arith, at_more (λ z. count z.reads v) xs i o x record { reads = new; writes = x.writes } (cond (eqb w v) 1 0) l e (more v))
+pub more_reads : (xs : List ObjectCounts) (i w : ℕ) (x : ObjectCounts) (new : VersionCounts) → i < length xs → get_or xs i x ≡ x
+    → OneMore x.reads new w
+    → (o v : ℕ) → at (λ z. count z.reads v) (slice_set xs i record { reads = new; writes = x.writes }) o ≡ at (λ z. count z.reads v) xs o +
+    (cond (eqb i o) (cond (eqb w v) 1 0) 0 + 0)
+more_reads xs i w x new l e more o v = omega (arith, at_more (λ z. count z.reads v) xs i o x record { reads = new; writes = x.writes }
+    (cond (eqb w v) 1 0) l e (more v))
 
 pub same_writes : (xs : List ObjectCounts) (i : ℕ) (x : ObjectCounts) (new : VersionCounts) → i < length xs → get_or xs i x ≡ x
-    → (o v : ℕ) → at (λ z. count z.writes v) (slice_set xs i record { reads = new; writes = x.writes }) o ≡ at (λ z. count z.writes v) xs o + (0 + 0)
-same_writes xs i x new l e o v = at_kept (λ z. count z.writes v) xs i o x record { reads = new; writes = x.writes } l e refl ∙ none_more (at (λ z. count z.writes v) xs o)
+    → (o v : ℕ) → at (λ z. count z.writes v) (slice_set xs i record { reads = new; writes = x.writes }) o ≡ at (λ z. count z.writes v) xs o
+    + (0 + 0)
+same_writes xs i x new l e o v = at_kept (λ z. count z.writes v) xs i o x record { reads = new; writes = x.writes } l e refl ∙ none_more
+    (at (λ z. count z.writes v) xs o)
 
-pub more_writes : (xs : List ObjectCounts) (i w : ℕ) (x : ObjectCounts) (new : VersionCounts) → i < length xs → get_or xs i x ≡ x → OneMore x.writes new w
-    → (o v : ℕ) → at (λ z. count z.writes v) (slice_set xs i record { reads = x.reads; writes = new }) o ≡ at (λ z. count z.writes v) xs o + (cond (eqb i o) (cond (eqb w v) 1 0) 0 + 0)
-more_writes xs i w x new l e more o v = omega (arith, at_more (λ z. count z.writes v) xs i o x record { reads = x.reads; writes = new } (cond (eqb w v) 1 0) l e (more v))
+pub more_writes : (xs : List ObjectCounts) (i w : ℕ) (x : ObjectCounts) (new : VersionCounts) → i < length xs → get_or xs i x ≡ x
+    → OneMore x.writes new w
+    → (o v : ℕ) → at (λ z. count z.writes v) (slice_set xs i record { reads = x.reads; writes = new }) o ≡ at (λ z. count z.writes v) xs o +
+    (cond (eqb i o) (cond (eqb w v) 1 0) 0 + 0)
+more_writes xs i w x new l e more o v = omega (arith, at_more (λ z. count z.writes v) xs i o x record { reads = x.reads; writes = new }
+    (cond (eqb w v) 1 0) l e (more v))
 
 pub same_reads : (xs : List ObjectCounts) (i : ℕ) (x : ObjectCounts) (new : VersionCounts) → i < length xs → get_or xs i x ≡ x
-    → (o v : ℕ) → at (λ z. count z.reads v) (slice_set xs i record { reads = x.reads; writes = new }) o ≡ at (λ z. count z.reads v) xs o + (0 + 0)
-same_reads xs i x new l e o v = at_kept (λ z. count z.reads v) xs i o x record { reads = x.reads; writes = new } l e refl ∙ none_more (at (λ z. count z.reads v) xs o)
+    → (o v : ℕ) → at (λ z. count z.reads v) (slice_set xs i record { reads = x.reads; writes = new }) o ≡ at (λ z. count z.reads v) xs o +
+    (0 + 0)
+same_reads xs i x new l e o v = at_kept (λ z. count z.reads v) xs i o x record { reads = x.reads; writes = new } l e refl ∙ none_more
+    (at (λ z. count z.reads v) xs o)
 
 -- what is counted of an object may grow as all counts may
-pub room_at : {X : Type 0} (f : X → ℕ) (xs : List X) (i : ℕ) (x : X) (n : ℕ) → i < length xs → get_or xs i x ≡ x → at f xs i + 1 < n → f x + 1 < n
+pub room_at : {X : Type 0} (f : X → ℕ) (xs : List X) (i : ℕ) (x : X) (n : ℕ) → i < length xs → get_or xs i x ≡ x → at f xs i + 1 < n
+    → f x + 1 < n
 room_at f xs i x n l e h = omega (arith, at_here f xs i x l e)

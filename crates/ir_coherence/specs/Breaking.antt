@@ -58,7 +58,8 @@ CoherentUnbroken = (n : ℕ) (tr : Trace) → IsCoherent n tr → (t i : ℕ) (c
 
 -- a trace of n threads is coherent where no event breaks coherence
 abbrev pub UnbrokenCoherent : Type 0
-UnbrokenCoherent = (n : ℕ) (tr : Trace) → ((t : ℕ) → n ≤ t → tr.logs t ≡ []) → ((t i : ℕ) (c : Cause) → HasCause n tr t i c → ⊥) → IsCoherent n tr
+UnbrokenCoherent = (n : ℕ) (tr : Trace) → ((t : ℕ) → n ≤ t → tr.logs t ≡ []) → ((t i : ℕ) (c : Cause) → HasCause n tr t i c → ⊥)
+    → IsCoherent n tr
 
 -- an event has one first cause at most
 abbrev pub OneCause : Type 0

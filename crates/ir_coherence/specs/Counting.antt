@@ -40,7 +40,8 @@ writes_in n tr o v = sum_below n (λ u. writes o v (tr.logs u))
 abbrev pub nobody_made : (ℕ → ℕ → ℕ) → ℕ → ℕ → Bool
 nobody_made w o v = nat_lt 0 v && (w o (v - 1) == 0)
 
--- the first cause for which an event breaks coherence, where so many read entries and write entries stand in the trace at each version of each object
+-- the first cause for which an event breaks coherence, where so many read entries and write entries stand in the trace at each version of
+-- each object
 abbrev pub cause_by : (ℕ → ℕ → ℕ) → (ℕ → ℕ → ℕ) → Label → Option Cause
 cause_by r w Quiet = None
 cause_by r w (Answer k x) = None

@@ -13,7 +13,8 @@ abbrev after_word : List ℕ → List (List ℕ)
 after_word [] = []
 after_word (b ∷ bytes) = slice_split is_blank bytes
 
-split_by : (t : Bool) (b : ℕ) (bytes : List ℕ) → is_blank b ≡ t → slice_split is_blank bytes ≡ take (word_end bytes) bytes ∷ after_word (drop (word_end bytes) bytes)
+split_by : (t : Bool) (b : ℕ) (bytes : List ℕ) → is_blank b ≡ t → slice_split is_blank bytes ≡ take (word_end bytes) bytes
+    ∷ after_word (drop (word_end bytes) bytes)
     → slice_split is_blank (b ∷ bytes) ≡ take (word_end (b ∷ bytes)) (b ∷ bytes) ∷ after_word (drop (word_end (b ∷ bytes)) (b ∷ bytes))
 unfolding word_end
 split_by true b bytes e split = rw e refl
@@ -28,7 +29,8 @@ split_word (b ∷ bytes) = split_by (is_blank b) b bytes refl (split_word bytes)
 pub record AtBlank (line : List ℕ) : Type 0 where
   pub words : words_of line ≡ filter is_word (after_word line)
 
-at_blank_by : (t : Bool) (b : ℕ) (bytes : List ℕ) → is_blank b ≡ t → AtBlank (drop (word_end bytes) bytes) → AtBlank (drop (word_end (b ∷ bytes)) (b ∷ bytes))
+at_blank_by : (t : Bool) (b : ℕ) (bytes : List ℕ) → is_blank b ≡ t → AtBlank (drop (word_end bytes) bytes)
+    → AtBlank (drop (word_end (b ∷ bytes)) (b ∷ bytes))
 unfolding word_end words_of
 at_blank_by true b bytes e at = record { words = rw e (rw e refl) }
 at_blank_by false b bytes e at = rw e at
@@ -38,7 +40,8 @@ unfolding word_end words_of
 at_blank [] = record { words = refl }
 at_blank (b ∷ bytes) = at_blank_by (is_blank b) b bytes refl (at_blank bytes)
 
-words-skip_by : (t : Bool) (b : ℕ) (bytes : List ℕ) → is_blank b ≡ t → words_of (skip_blanks bytes) ≡ words_of bytes → words_of (skip_blanks (b ∷ bytes)) ≡ words_of (b ∷ bytes)
+words-skip_by : (t : Bool) (b : ℕ) (bytes : List ℕ) → is_blank b ≡ t → words_of (skip_blanks bytes) ≡ words_of bytes
+    → words_of (skip_blanks (b ∷ bytes)) ≡ words_of (b ∷ bytes)
 unfolding words_of skip_blanks
 words-skip_by true b bytes e same = rw e same
 words-skip_by false b bytes e same =
@@ -68,7 +71,9 @@ first_by : (word : List ℕ) (rest : List (List ℕ)) → is_empty word ≡ fals
 first_by word rest some = rw some refl
 
 -- the first word, and the words of what is left
-pub first_word : (line : List ℕ) → is_empty (skip_blanks line) ≡ false → words_of line ≡ take (word_end (skip_blanks line)) (skip_blanks line) ∷ words_of (drop (word_end (skip_blanks line)) (skip_blanks line))
+pub first_word : (line : List ℕ) → is_empty (skip_blanks line) ≡ false
+    → words_of line ≡ take (word_end (skip_blanks line)) (skip_blanks line)
+    ∷ words_of (drop (word_end (skip_blanks line)) (skip_blanks line))
 unfolding words_of
 first_word line some =
     let l = skip_blanks line in

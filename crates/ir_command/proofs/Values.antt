@@ -29,13 +29,15 @@ fits v r d i small radix digit short =
     let most : 16 ^ (i + 1) ≤ 16 ^ 20 = pow-le-pow_right {n = 16} (omega arith) {i = i + 1} {j = 20} (omega arith) in
     omega arith
 
-digits-more : (r i byte : ℕ) (ds : List ℕ) → i < length ds → byte ≡ get_or ds i 0 → digit_value byte < r → list_all (is_digit r) (take i ds) ≡ true → list_all (is_digit r) (take (i + 1) ds) ≡ true
+digits-more : (r i byte : ℕ) (ds : List ℕ) → i < length ds → byte ≡ get_or ds i 0 → digit_value byte < r
+    → list_all (is_digit r) (take i ds) ≡ true → list_all (is_digit r) (take (i + 1) ds) ≡ true
 digits-more r i byte ds lt is below all =
     let here : is_digit r (get_or ds i 0) ≡ true = ap (is_digit r) (sym is) ∙ lt-ltb (digit_value byte) r below in
     list_all_more (is_digit r) ds i 0 lt ∙ both (list_all (is_digit r) (take i ds)) (is_digit r (get_or ds i 0)) all here
 
 -- what the digits so far write, with one more
-value-more : (r i v d byte : ℕ) (ds : List ℕ) → i < length ds → byte ≡ get_or ds i 0 → d ≡ digit_value byte → v ≡ digits_value r (take i ds) → v * r + d ≡ digits_value r (take (i + 1) ds)
+value-more : (r i v d byte : ℕ) (ds : List ℕ) → i < length ds → byte ≡ get_or ds i 0 → d ≡ digit_value byte → v ≡ digits_value r (take i ds)
+    → v * r + d ≡ digits_value r (take (i + 1) ds)
 value-more r i v d byte ds lt is digit so_far =
     let more = digits_value_more r ds i lt in
     let here : d ≡ digit_value (get_or ds i 0) = digit ∙ ap digit_value is in
@@ -46,7 +48,8 @@ pub record Goes (r i v : ℕ) (ds : List ℕ) : Type 0 where
   pub value : v ≡ digits_value r (take i ds)
   pub small : v < 16 ^ i
 
-pub goes-on : (r i v d byte : ℕ) (ds : List ℕ) → i < length ds → byte ≡ get_or ds i 0 → (digit_value byte < r) × (d ≡ digit_value byte) → r ≤ 16 → Goes r i v ds → Goes r (i + 1) (v * r + d) ds
+pub goes-on : (r i v d byte : ℕ) (ds : List ℕ) → i < length ds → byte ≡ get_or ds i 0 → (digit_value byte < r) × (d ≡ digit_value byte)
+    → r ≤ 16 → Goes r i v ds → Goes r (i + 1) (v * r + d) ds
 goes-on r i v d byte ds lt is digit radix so_far = record {
   all = digits-more r i byte ds lt is digit.0 so_far.all;
   value = value-more r i v d byte ds lt is digit.1 so_far.value;

@@ -36,16 +36,19 @@ total_same (suc n) f g h = let r = total_same n f g (λ t lt. h t (omega arith))
 total_bump : (n u k : ℕ) (f g : ℕ → ℕ) → u < n → f u ≡ g u + k → ((t : ℕ) → t ≢ u → f t ≡ g t) → total n f ≡ total n g + k
 total_bump zero u k f g lt here others = absurd (omega arith)
 total_bump (suc n) u k f g lt here others = elim (cases_eq u n) [
-  | inl is ↦ let r = total_same n f g (λ t small. others t (λ e. omega (arith, e, small, is))) in let s : f n ≡ g n + k = subst (λ z. f z ≡ g z + k) is here in omega (arith, r, s)
+  | inl is ↦ let r = total_same n f g (λ t small. others t (λ e. omega (arith, e, small, is))) in let s : f n ≡ g n + k =
+      subst (λ z. f z ≡ g z + k) is here in omega (arith, r, s)
   | inr ne ↦ let r = total_bump n u k f g (omega (arith, ne, lt)) here others in let s = others n (λ e. ne (sym e)) in omega (arith, r, s)
 ]
 
 -- the entries are those of the threads
-pub entries_total : {T : Type 0} (m : Machine T) (n count : ℕ) (f : ℕ → Object) (xs : List (ℕ × Shared)) → IsLegal m n count f xs → total n (λ t. entries (of_thread t xs)) ≡ all_entries xs
+pub entries_total : {T : Type 0} (m : Machine T) (n count : ℕ) (f : ℕ → Object) (xs : List (ℕ × Shared)) → IsLegal m n count f xs
+    → total n (λ t. entries (of_thread t xs)) ≡ all_entries xs
 entries_total m n count f [] l = total_none n
 entries_total m n count f (x ∷ xs) l =
     let r = entries_total m n count (objects_then f x) xs l.1 in
     let s = total_bump n x.0 (one_if_entry x.1.0) (λ t. entries (of_thread t (x ∷ xs))) (λ t. entries (of_thread t xs)) l.0.thread
-    (let e : entries (keep_if (eqb x.0 x.0) x.1 (of_thread x.0 xs)) ≡ one_if_entry x.1.0 + entries (of_thread x.0 xs) = ap (λ b. entries (keep_if b x.1 (of_thread x.0 xs))) (eq-eqb x.0 x.0 refl) in omega (arith, e))
+    (let e : entries (keep_if (eqb x.0 x.0) x.1 (of_thread x.0 xs)) ≡ one_if_entry x.1.0 + entries (of_thread x.0 xs) =
+        ap (λ b. entries (keep_if b x.1 (of_thread x.0 xs))) (eq-eqb x.0 x.0 refl) in omega (arith, e))
     (λ t ne. ap (λ b. entries (keep_if b x.1 (of_thread t xs))) (ne_eqb t x.0 ne)) in
     omega (arith, r, s)

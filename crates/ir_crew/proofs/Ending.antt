@@ -23,7 +23,8 @@ use Rattle.ir_crew.proofs.Steps.{track}
 pub starts : (g : Guest) (ws : List ℕ) → IsGuest g → IsLaid g.words ws → IsTable (length g.entries) (object_count g) (start_objects g) ws
 starts g ws guest laid = record {
   size = laid.size;
-  words = λ o lt. subst (λ z. Tells (length g.entries) (fields_of z) (start_objects g o)) (sym (laid.free o lt)) (nothing_tells (length g.entries) (start_objects g o).words);
+  words = λ o lt. subst (λ z. Tells (length g.entries) (fields_of z) (start_objects g o)) (sym (laid.free o lt))
+      (nothing_tells (length g.entries) (start_objects g o).words);
   contents = λ o i lt small. laid.contents o i small (let whole = guest.whole_objects in omega (arith, lt, small, whole))
       ∙ sym (get_or-take 8 (drop (8 * o) g.words) i 0 small ∙ get_or-drop (8 * o) g.words i 0);
 }
@@ -32,15 +33,18 @@ starts g ws guest laid = record {
 pub record IsLaying (words laid : List ℕ) (at : ℕ) : Type 0 where
   pub size : length laid ≡ table_length (length words / object_words)
   pub free : (o : ℕ) → o < length words / object_words → get_or laid (word_place o) 0 ≡ 0
-  pub contents : (o i : ℕ) → i < object_words → object_words * o + i < at → get_or laid (content_place o i) 0 ≡ get_or words (object_words * o + i) 0
+  pub contents : (o i : ℕ) → i < object_words → object_words * o + i < at
+      → get_or laid (content_place o i) 0 ≡ get_or words (object_words * o + i) 0
 
 -- ---- seats
 
-pub seats_more : (id : TableId) (t u : ℕ) (xs : List (Seat (Unit {0}) View)) (x : Seat (Unit {0}) View) → AreSeats id t xs → u ≡ t + length xs → x.table_id ≡ id → x.me ≡ (track u [] ∷ [], []) → AreSeats id t (xs ++ x ∷ [])
+pub seats_more : (id : TableId) (t u : ℕ) (xs : List (Seat (Unit {0}) View)) (x : Seat (Unit {0}) View) → AreSeats id t xs
+    → u ≡ t + length xs → x.table_id ≡ id → x.me ≡ (track u [] ∷ [], []) → AreSeats id t (xs ++ x ∷ [])
 seats_more id t u [] x h e i m = ((i, m ∙ (λ j. (track ((let q : u ≡ t = omega (arith, e) in q) j) [] ∷ [], []))), tt)
 seats_more id t u (y ∷ ys) x h e i m = (h.0, seats_more id (suc t) u ys x h.1 (omega (arith, e)) i m)
 
-pub dealt : (l m n : ℕ) (me w : M) → me ≡ (tracks_from l (suc m), []) → w ≡ (all_but_first me.0, me.1) → n ≡ suc l → w ≡ (tracks_from n m, [])
+pub dealt : (l m n : ℕ) (me w : M) → me ≡ (tracks_from l (suc m), []) → w ≡ (all_but_first me.0, me.1) → n ≡ suc l
+    → w ≡ (tracks_from n m, [])
 dealt l m n me w is told long = told ∙ (λ i. (all_but_first (is i).0, (is i).1)) ∙ (λ i. (tracks_from (sym long i) m, []))
 
 pub dealt_first : (l m : ℕ) (me w : M) → me ≡ (tracks_from l (suc m), []) → w ≡ (first_alone me.0, []) → w ≡ (track l [] ∷ [], [])
@@ -49,10 +53,13 @@ dealt_first l m me w is told = told ∙ (λ i. (first_alone (is i).0, []))
 pub all_but : (l m k : ℕ) (me : M) → me ≡ (tracks_from l m, []) → m ≡ suc k → me ≡ (tracks_from l (suc k), [])
 all_but l m k me is e = is ∙ (λ i. (tracks_from l (e i), []))
 
-pub laying_starts : (words laid : List ℕ) (count : ℕ) → count ≡ length words / 8 → length laid ≡ 8 + 24 * count → ((k : ℕ) → get_or laid k 0 ≡ 0) → IsLaying words laid 0
-laying_starts words laid count is size none = record { size = omega (arith, is, size); free = λ o lt. none (word_place o); contents = λ o i lt l. absurd (omega (arith, l)) }
+pub laying_starts : (words laid : List ℕ) (count : ℕ) → count ≡ length words / 8 → length laid ≡ 8 + 24 * count
+    → ((k : ℕ) → get_or laid k 0 ≡ 0) → IsLaying words laid 0
+laying_starts words laid count is size none = record { size = omega (arith, is, size); free = λ o lt. none (word_place o); contents =
+    λ o i lt l. absurd (omega (arith, l)) }
 
-pub laying_more : (words laid more : List ℕ) (at word : ℕ) → length words % 8 ≡ 0 → at < length words → IsLaying words laid at → word ≡ get_or words at 0 → more ≡ set laid (16 + 24 * (at / 8) + at % 8) word → IsLaying words more (at + 1)
+pub laying_more : (words laid more : List ℕ) (at word : ℕ) → length words % 8 ≡ 0 → at < length words → IsLaying words laid at
+    → word ≡ get_or words at 0 → more ≡ set laid (16 + 24 * (at / 8) + at % 8) word → IsLaying words more (at + 1)
 laying_more words laid more at word whole lt h is new = subst (λ z. IsLaying words z (at + 1)) (sym new) (record {
   size = length-set laid place word ∙ h.size;
   free = λ o l. get_or-set_other laid place (word_place o) word 0 (λ e. omega (arith, e)) ∙ h.free o l;
@@ -61,8 +68,10 @@ laying_more words laid more at word whole lt h is new = subst (λ z. IsLaying wo
         let p : o ≡ at / 8 = omega (arith, e, small) in
         let r : i ≡ at % 8 = omega (arith, e, small) in
         let here : content_place o i ≡ place = omega (arith, p, r) in
-        ap (λ z. get_or (set laid place word) z 0) here ∙ get_or-set_same laid place word 0 (let s = h.size in omega (arith, s, lt, whole)) ∙ is ∙ ap (λ z. get_or words z 0) (sym e)
-    | inr ne ↦ get_or-set_other laid place (content_place o i) word 0 (λ e. ne (omega (arith, e, small))) ∙ h.contents o i small (omega (arith, l, ne))
+        ap (λ z. get_or (set laid place word) z 0) here ∙ get_or-set_same laid place word 0 (let s = h.size in omega (arith, s, lt, whole))
+            ∙ is ∙ ap (λ z. get_or words z 0) (sym e)
+    | inr ne ↦ get_or-set_other laid place (content_place o i) word 0 (λ e. ne (omega (arith, e, small)))
+        ∙ h.contents o i small (omega (arith, l, ne))
   ];
 })
   where
@@ -76,38 +85,48 @@ elem_or [] k y e = absurd (some-ne-none y (sym e))
 elem_or (x ∷ xs) zero y e = some-injective x y e
 elem_or (x ∷ xs) (suc k) y e = elem_or xs k y e
 
-stands : (n count o : ℕ) (f : ℕ → Object) (ws : List ℕ) (c : Cell) → IsTable n count f ws → o < count → IsObjectOf ws o c → StandsFor n c (f o)
+stands : (n count o : ℕ) (f : ℕ → Object) (ws : List ℕ) (c : Cell) → IsTable n count f ws → o < count → IsObjectOf ws o c
+    → StandsFor n c (f o)
 stands n count o f ws c r lt is =
-    let tells : Tells n c.fields (f o) = subst (λ z. Tells n z (f o)) (ap fields_of (elem_or ws (word_place o) is.word is.head) ∙ sym is.fields) (r.words o lt) in record {
+    let tells : Tells n c.fields (f o) = subst (λ z. Tells n z (f o))
+        (ap fields_of (elem_or ws (word_place o) is.word is.head) ∙ sym is.fields) (r.words o lt) in record {
       version = tells.version;
       left = tells.left;
       inside = tells.inside;
       words = λ i small. sym (elem_or ws (content_place o i) (get_or c.words i 0) (is.contents i small)) ∙ r.contents o i lt small;
     }
 
-tracks_of : (g : Guest) (seat : ℕ → ℕ) (es : List (ℕ × Shared)) (id : ℕ) (v : View) → Fits (length g.entries) (start_objects g) es seat id v → AreTracks g es v
+tracks_of : (g : Guest) (seat : ℕ → ℕ) (es : List (ℕ × Shared)) (id : ℕ) (v : View) → Fits (length g.entries) (start_objects g) es seat id v
+    → AreTracks g es v
 tracks_of g seat es id [] f = tt
 tracks_of g seat es id (k ∷ ks) f = (f.0.0, tracks_of g seat es id ks f.1)
 
-pub ends : (g : Guest) (id : ℕ) (v : View) (ws : List ℕ) (xs : List (Unit {0})) (objects : List Cell) → Final (Seen (Kept g) id v) ws xs → ((o : ℕ) → o < object_count g → IsObjectOf ws o (get_or objects o empty)) → IsEnd g v objects
+pub ends : (g : Guest) (id : ℕ) (v : View) (ws : List ℕ) (xs : List (Unit {0})) (objects : List Cell) → Final (Seen (Kept g) id v) ws xs
+    → ((o : ℕ) → o < object_count g → IsObjectOf ws o (get_or objects o empty)) → IsEnd g v objects
 ends g id v ws xs objects f are =
     let k = f.1.0 in
-    let table : IsTable (length g.entries) (object_count g) (objects_after (start_objects g) k.steps) ws = subst (IsTable (length g.entries) (object_count g) (objects_after (start_objects g) k.steps)) f.2 k.table in record {
+    let table : IsTable (length g.entries) (object_count g) (objects_after (start_objects g) k.steps) ws =
+        subst (IsTable (length g.entries) (object_count g) (objects_after (start_objects g) k.steps)) f.2 k.table in record {
       steps = k.steps;
       legal = k.legal;
       few = k.few;
       tracks = tracks_of g k.seat k.steps id v (k.fits id v f.1.1);
-      stand = λ o lt. stands (length g.entries) (object_count g) o (objects_after (start_objects g) k.steps) ws (get_or objects o empty) table lt (are o lt);
+      stand = λ o lt. stands (length g.entries) (object_count g) o (objects_after (start_objects g) k.steps) ws (get_or objects o empty)
+          table lt (are o lt);
     }
 
-pub cell_small : (g : Guest) (id : ℕ) (v : View) (ws : List ℕ) (xs : List (Unit {0})) → Final (Seen (Kept g) id v) ws xs → (o i word : ℕ) → o < object_count g → i < 8 → get_elem? ws (content_place o i) ≡ some word → word < 2 ^ 32
+pub cell_small : (g : Guest) (id : ℕ) (v : View) (ws : List ℕ) (xs : List (Unit {0})) → Final (Seen (Kept g) id v) ws xs → (o i word : ℕ)
+    → o < object_count g → i < 8 → get_elem? ws (content_place o i) ≡ some word → word < 2 ^ 32
 cell_small g id v ws xs f o i word lt small e =
     let k = f.1.0 in
-    subst (λ z. z < 2 ^ 32) (sym (k.table.contents o i lt small) ∙ ap (λ z. get_or z (content_place o i) 0) f.2 ∙ elem_or ws (content_place o i) word e) (small_now g k.steps k.guest k.legal o i)
+    subst (λ z. z < 2 ^ 32) (sym (k.table.contents o i lt small) ∙ ap (λ z. get_or z (content_place o i) 0) f.2
+        ∙ elem_or ws (content_place o i) word e) (small_now g k.steps k.guest k.legal o i)
 
 -- one object more
-pub one_more : (ws : List ℕ) (old more : List Cell) (o : ℕ) (c : Cell) → ((k : ℕ) → k < o → IsObjectOf ws k (get_or old k empty)) → o < length old → IsObjectOf ws o c → more ≡ set old o c → (k : ℕ) → k < o + 1 → IsObjectOf ws k (get_or more k empty)
+pub one_more : (ws : List ℕ) (old more : List Cell) (o : ℕ) (c : Cell) → ((k : ℕ) → k < o → IsObjectOf ws k (get_or old k empty))
+    → o < length old → IsObjectOf ws o c → more ≡ set old o c → (k : ℕ) → k < o + 1 → IsObjectOf ws k (get_or more k empty)
 one_more ws old more o c h lt is new k l = subst (λ z. IsObjectOf ws k (get_or z k empty)) (sym new) (elim (cases_eq k o) [
-  | inl e ↦ subst (λ z. IsObjectOf ws z (get_or (set old o c) z empty)) (sym e) (subst (IsObjectOf ws o) (sym (get_or-set_same old o c empty lt)) is)
+  | inl e ↦ subst (λ z. IsObjectOf ws z (get_or (set old o c) z empty)) (sym e)
+      (subst (IsObjectOf ws o) (sym (get_or-set_same old o c empty lt)) is)
   | inr ne ↦ subst (IsObjectOf ws k) (sym (get_or-set_other old o k c empty ne)) (h k (omega (arith, l, ne)))
 ])

@@ -40,24 +40,29 @@ bit_on : (b : Bool) → b ≡ true → bit_of b ≡ 1
 bit_on b e = ap bit_of e
 
 -- a step makes it at most as much heavier as it is an entry
-light_then : {T : Type 0} (m : Machine T) (n k t : ℕ) (q : Act) (f : Fields) (b : Object) → t < n → Uses q (b.inside t) → Admits m q b → Alone b.inside → Light n k f b → (g : Fields) × Light n (k + one_if_entry q) g (acted q t b)
+light_then : {T : Type 0} (m : Machine T) (n k t : ℕ) (q : Act) (f : Fields) (b : Object) → t < n → Uses q (b.inside t) → Admits m q b
+    → Alone b.inside → Light n k f b → (g : Fields) × Light n (k + one_if_entry q) g (acted q t b)
 light_then m n k t Silent f b lt use_is can alone l = absurd use_is
 light_then m n k t (Result i v) f b lt use_is can alone l = absurd use_is
 light_then m n k t (Refusal o) f b lt use_is can alone l = absurd use_is
 light_then m n k t Never f b lt use_is can alone l = absurd use_is
 light_then m n k t (Load o i) f b lt use_is can alone l = (f, record { tells = l.tells; light = let w = l.light in omega (arith, w) })
-light_then m n k t (Store o i w) f b lt use_is can alone l = (f, record { tells = record { version = l.tells.version; left = l.tells.left; inside = l.tells.inside }; light = let z = l.light in omega (arith, z) })
+light_then m n k t (Store o i w) f b lt use_is can alone l =
+    (f, record { tells = record { version = l.tells.version; left = l.tells.left; inside = l.tells.inside }; light = let z = l.light in
+    omega (arith, z) })
 light_then m n k t (Entry o Reading v) f b lt use_is can alone l = (
   entered Reading f,
   record {
-    tells = record { version = l.tells.version; left = l.tells.left; inside = entry_counts n f b.inside t Reading lt use_is l.tells.inside };
+    tells = record { version = l.tells.version; left = l.tells.left; inside =
+        entry_counts n f b.inside t Reading lt use_is l.tells.inside };
     light = let w = l.light in omega (arith, w);
   },
 )
 light_then m n k t (Entry o Writing v) f b lt use_is can alone l = (
   entered Writing f,
   record {
-    tells = record { version = l.tells.version; left = l.tells.left; inside = entry_counts n f b.inside t Writing lt use_is l.tells.inside };
+    tells = record { version = l.tells.version; left = l.tells.left; inside =
+        entry_counts n f b.inside t Writing lt use_is l.tells.inside };
     light = let w = l.light in let off = bit_off f.writer (writer_admitted n f b.inside l.tells.inside can).0 in omega (arith, w, off);
   },
 )
@@ -65,7 +70,8 @@ light_then m n k t (Exit o Reading) f b lt use_is can alone l =
     let some_in : 0 < f.inside = can_leave n f b.inside t Reading lt use_is l.tells.inside in (
       left_by Reading f,
       record {
-        tells = record { version = l.tells.version; left = let e = l.tells.left in omega (arith, e); inside = leave_counts n f b.inside t Reading lt use_is (λ e. absurd (cc e)) l.tells.inside };
+        tells = record { version = l.tells.version; left = let e = l.tells.left in omega (arith, e); inside =
+            leave_counts n f b.inside t Reading lt use_is (λ e. absurd (cc e)) l.tells.inside };
         light = let w = l.light in omega (arith, w, some_in);
       },
     )
@@ -73,29 +79,38 @@ light_then m n k t (Exit o Writing) f b lt use_is can alone l =
     let on = bit_on f.writer (can_leave n f b.inside t Writing lt use_is l.tells.inside) in (
       left_by Writing f,
       record {
-        tells = record { version = let e = l.tells.version in omega (arith, e); left = refl; inside = leave_counts n f b.inside t Writing lt use_is (λ _ u ne. alone t u (λ e. ne (sym e)) use_is) l.tells.inside };
+        tells = record { version = let e = l.tells.version in omega (arith, e); left = refl; inside =
+            leave_counts n f b.inside t Writing lt use_is (λ _ u ne. alone t u (λ e. ne (sym e)) use_is) l.tells.inside };
         light = let w = l.light in omega (arith, w, on);
       },
     )
 
-pub alone_then : {T : Type 0} (m : Machine T) (n count : ℕ) (f : ℕ → Object) (x : ℕ × Shared) → IsStep m n count f x → ((p : ℕ) → Alone (f p).inside) → (p : ℕ) → Alone (objects_then f x p).inside
+pub alone_then : {T : Type 0} (m : Machine T) (n count : ℕ) (f : ℕ → Object) (x : ℕ × Shared) → IsStep m n count f x
+    → ((p : ℕ) → Alone (f p).inside) → (p : ℕ) → Alone (objects_then f x p).inside
 alone_then m n count f x s h p = elim (cases_eq p (target x.1.0)) [
-  | inl e ↦ subst (λ z. Alone (objects_then f x z).inside) (sym e) (subst (λ b. Alone b.inside) (sym (then_same f x)) (alone_acted m x.1.0 x.0 (f (target x.1.0)) s.admits (h (target x.1.0))))
+  | inl e ↦ subst (λ z. Alone (objects_then f x z).inside) (sym e)
+      (subst (λ b. Alone b.inside) (sym (then_same f x)) (alone_acted m x.1.0 x.0 (f (target x.1.0)) s.admits (h (target x.1.0))))
   | inr ne ↦ subst (λ b. Alone b.inside) (sym (then_other f x p ne)) (h p)
 ]
 
-pub alone_run : {T : Type 0} (m : Machine T) (n count : ℕ) (f : ℕ → Object) (xs : List (ℕ × Shared)) → IsLegal m n count f xs → ((p : ℕ) → Alone (f p).inside) → (p : ℕ) → Alone (objects_after f xs p).inside
+pub alone_run : {T : Type 0} (m : Machine T) (n count : ℕ) (f : ℕ → Object) (xs : List (ℕ × Shared)) → IsLegal m n count f xs
+    → ((p : ℕ) → Alone (f p).inside) → (p : ℕ) → Alone (objects_after f xs p).inside
 alone_run m n count f [] l h = h
 alone_run m n count f (x ∷ xs) l h = alone_run m n count (objects_then f x) xs l.1 (alone_then m n count f x l.0 h)
 
-light_run : {T : Type 0} (m : Machine T) (n count k : ℕ) (f : ℕ → Object) (xs : List (ℕ × Shared)) (o : ℕ) (g : Fields) → IsLegal m n count f xs → ((p : ℕ) → Alone (f p).inside) → Light n k g (f o) → (h : Fields) × Light n (k + all_entries xs) h (objects_after f xs o)
+light_run : {T : Type 0} (m : Machine T) (n count k : ℕ) (f : ℕ → Object) (xs : List (ℕ × Shared)) (o : ℕ) (g : Fields)
+    → IsLegal m n count f xs → ((p : ℕ) → Alone (f p).inside) → Light n k g (f o) → (h : Fields)
+    × Light n (k + all_entries xs) h (objects_after f xs o)
 light_run m n count k f [] o g l a is = (g, record { tells = is.tells; light = let w = is.light in omega (arith, w) })
 light_run m n count k f (x ∷ xs) o g l a is =
     let next : (h : Fields) × Light n (k + one_if_entry x.1.0) h (objects_then f x o) = elim (cases_eq o (target x.1.0)) [
       | inl e ↦
-          let z = light_then m n k x.0 x.1.0 g (f (target x.1.0)) l.0.thread l.0.uses l.0.admits (a (target x.1.0)) (subst (λ p. Light n k g (f p)) e is) in
-          (z.0, subst (λ p. Light n (k + one_if_entry x.1.0) z.0 (objects_then f x p)) (sym e) (subst (Light n (k + one_if_entry x.1.0) z.0) (sym (then_same f x)) z.1))
-      | inr ne ↦ (g, subst (Light n (k + one_if_entry x.1.0) g) (sym (then_other f x o ne)) (record { tells = is.tells; light = let w = is.light in omega (arith, w) }))
+          let z = light_then m n k x.0 x.1.0 g (f (target x.1.0)) l.0.thread l.0.uses l.0.admits (a (target x.1.0))
+              (subst (λ p. Light n k g (f p)) e is) in
+          (z.0, subst (λ p. Light n (k + one_if_entry x.1.0) z.0 (objects_then f x p)) (sym e)
+              (subst (Light n (k + one_if_entry x.1.0) z.0) (sym (then_same f x)) z.1))
+      | inr ne ↦ (g, subst (Light n (k + one_if_entry x.1.0) g) (sym (then_other f x o ne))
+          (record { tells = is.tells; light = let w = is.light in omega (arith, w) }))
     ] in
     let r = light_run m n count (k + one_if_entry x.1.0) (objects_then f x) xs o next.0 l.1 (alone_then m n count f x l.0 a) next.1 in
     (r.0, record { tells = r.1.tells; light = let w = r.1.light in omega (arith, w) })
@@ -116,10 +131,12 @@ small_acted (Load o i) t b u h = h
 small_acted (Store o i w) t b u h = λ j. upd_elim b.words i w j (λ z. z < 2 ^ 32) (λ _. u.1) (λ _. h j)
 small_acted Never t b u h = h
 
-small_run : {T : Type 0} (m : Machine T) (n count : ℕ) (f : ℕ → Object) (xs : List (ℕ × Shared)) → IsLegal m n count f xs → ((p : ℕ) → IsSmall (f p)) → (p : ℕ) → IsSmall (objects_after f xs p)
+small_run : {T : Type 0} (m : Machine T) (n count : ℕ) (f : ℕ → Object) (xs : List (ℕ × Shared)) → IsLegal m n count f xs
+    → ((p : ℕ) → IsSmall (f p)) → (p : ℕ) → IsSmall (objects_after f xs p)
 small_run m n count f [] l h = h
 small_run m n count f (x ∷ xs) l h = small_run m n count (objects_then f x) xs l.1 (λ p. elim (cases_eq p (target x.1.0)) [
-  | inl e ↦ subst (λ z. IsSmall (objects_then f x z)) (sym e) (subst IsSmall (sym (then_same f x)) (small_acted x.1.0 x.0 (f (target x.1.0)) l.0.uses (h (target x.1.0))))
+  | inl e ↦ subst (λ z. IsSmall (objects_then f x z)) (sym e)
+      (subst IsSmall (sym (then_same f x)) (small_acted x.1.0 x.0 (f (target x.1.0)) l.0.uses (h (target x.1.0))))
   | inr ne ↦ subst IsSmall (sym (then_other f x p ne)) (h p)
 ])
 
@@ -130,7 +147,8 @@ abbrev pub Since : ℕ → Object → ℕ → Type 0
 Since t b v = b.inside t ≡ Some Writing → b.version ≡ v
 
 -- a step of its own on the object
-since_own : {T : Type 0} (m : Machine T) (q : Act) (t v : ℕ) (b : Object) → Uses q (b.inside t) → Since t b v → Since t (acted q t b) (version_then (target q) (told q b) v)
+since_own : {T : Type 0} (m : Machine T) (q : Act) (t v : ℕ) (b : Object) → Uses q (b.inside t) → Since t b v
+    → Since t (acted q t b) (version_then (target q) (told q b) v)
 since_own m Silent t v b u h = absurd u
 since_own m (Result k w) t v b u h = absurd u
 since_own m (Refusal o) t v b u h = absurd u
@@ -143,7 +161,8 @@ since_own m (Load o i) t v b u h = h
 since_own m (Store o i w) t v b u h = h
 
 -- a step of another thread's on the object
-since_other : {T : Type 0} (m : Machine T) (q : Act) (t u v : ℕ) (b : Object) → Uses q (b.inside u) → Alone b.inside → t ≢ u → Since t b v → Since t (acted q u b) v
+since_other : {T : Type 0} (m : Machine T) (q : Act) (t u v : ℕ) (b : Object) → Uses q (b.inside u) → Alone b.inside → t ≢ u → Since t b v
+    → Since t (acted q u b) v
 since_other m Silent t u v b s a ne h = absurd s
 since_other m (Result k w) t u v b s a ne h = absurd s
 since_other m (Refusal o) t u v b s a ne h = absurd s
@@ -166,26 +185,33 @@ version_elsewhere (Load p i) b o v ne = refl
 version_elsewhere (Store p i w) b o v ne = refl
 version_elsewhere Never b o v ne = refl
 
-since_run : {T : Type 0} (m : Machine T) (n count : ℕ) (f : ℕ → Object) (xs : List (ℕ × Shared)) (t o v : ℕ) → IsLegal m n count f xs → ((p : ℕ) → Alone (f p).inside) → Since t (f o) v
+since_run : {T : Type 0} (m : Machine T) (n count : ℕ) (f : ℕ → Object) (xs : List (ℕ × Shared)) (t o v : ℕ) → IsLegal m n count f xs
+    → ((p : ℕ) → Alone (f p).inside) → Since t (f o) v
     → Since t (objects_after f xs o) (entered_at o v (of_thread t (order_labels f xs)))
 since_run m n count f [] t o v l a h = h
 since_run m n count f (x ∷ xs) t o v l a h =
     let q : Act = x.1.0 in
     let b : Object = f (target q) in
     let more = of_thread t (order_labels (objects_then f x) xs) in
-    let goes = λ (w : ℕ) (s : Since t (objects_then f x o) w). since_run m n count (objects_then f x) xs t o w l.1 (alone_then m n count f x l.0 a) s in
+    let goes = λ (w : ℕ) (s : Since t (objects_then f x o) w). since_run m n count (objects_then f x) xs t o w l.1
+        (alone_then m n count f x l.0 a) s in
     elim (cases_eq t x.0) [
-      | inl own ↦ subst (λ c. Since t (objects_after (objects_then f x) xs o) (entered_at o v (keep_if c (told q b) more))) (sym (eq-eqb t x.0 own))
+      | inl own ↦ subst (λ c. Since t (objects_after (objects_then f x) xs o) (entered_at o v (keep_if c (told q b) more)))
+          (sym (eq-eqb t x.0 own))
           (goes (version_then o (told q b) v) (elim (cases_eq o (target q)) [
             | inl e ↦ subst (λ p. Since t (objects_then f x p) (version_then p (told q b) v)) (sym e)
                 (subst (λ z. Since t z (version_then (target q) (told q b) v)) (sym (then_same f x))
-                (subst (λ u. Since t (acted q u b) (version_then (target q) (told q b) v)) own (since_own m q t v b (subst (λ u. Uses q (b.inside u)) (sym own) l.0.uses) (subst (λ p. Since t (f p) v) e h))))
-            | inr ne ↦ subst (λ z. Since t z (version_then o (told q b) v)) (sym (then_other f x o ne)) (subst (Since t (f o)) (sym (version_elsewhere q b o v ne)) h)
+                (subst (λ u. Since t (acted q u b) (version_then (target q) (told q b) v)) own
+                    (since_own m q t v b (subst (λ u. Uses q (b.inside u)) (sym own) l.0.uses) (subst (λ p. Since t (f p) v) e h))))
+            | inr ne ↦ subst (λ z. Since t z (version_then o (told q b) v)) (sym (then_other f x o ne))
+                (subst (Since t (f o)) (sym (version_elsewhere q b o v ne)) h)
           ]))
-      | inr other ↦ subst (λ c. Since t (objects_after (objects_then f x) xs o) (entered_at o v (keep_if c (told q b) more))) (sym (ne_eqb t x.0 other))
+      | inr other ↦ subst (λ c. Since t (objects_after (objects_then f x) xs o) (entered_at o v (keep_if c (told q b) more)))
+          (sym (ne_eqb t x.0 other))
           (goes v (elim (cases_eq o (target q)) [
             | inl e ↦ subst (λ p. Since t (objects_then f x p) v) (sym e)
-                (subst (λ z. Since t z v) (sym (then_same f x)) (since_other m q t x.0 v b l.0.uses (a (target q)) other (subst (λ p. Since t (f p) v) e h)))
+                (subst (λ z. Since t z v) (sym (then_same f x))
+                    (since_other m q t x.0 v b l.0.uses (a (target q)) other (subst (λ p. Since t (f p) v) e h)))
             | inr ne ↦ subst (λ z. Since t z v) (sym (then_other f x o ne)) h
           ]))
     ]
@@ -232,7 +258,8 @@ abbrev pub nothing : Fields
 nothing = record { version = 0; left = 0; inside = 0; writer = false }
 
 pub nothing_tells : (n : ℕ) (words : ℕ → ℕ) → Tells n nothing (record { version = 0; left = 0; inside = λ t. None; words = words })
-nothing_tells n words = record { version = refl; left = refl; inside = record { readers = sym (no_readers n); writer = sym (no_writer n); others = λ t l. refl } }
+nothing_tells n words = record { version = refl; left = refl; inside =
+    record { readers = sym (no_readers n); writer = sym (no_writer n); others = λ t l. refl } }
 
 small_list : (xs : List ℕ) (i : ℕ) → AllByRecursion IsWord xs → get_or xs i 0 < 2 ^ 32
 small_list [] i h = omega arith
@@ -253,20 +280,24 @@ abbrev pub now_of : Guest → List (ℕ × Shared) → ℕ → Object
 now_of g steps = objects_after (start_objects g) steps
 
 -- the same of all legal steps
-pub small_now : (g : Guest) (steps : List (ℕ × Shared)) → IsGuest g → IsLegal (thread_machine g.code) (length g.entries) (object_count g) (start_objects g) steps → (o : ℕ) → IsSmall (now_of g steps o)
+pub small_now : (g : Guest) (steps : List (ℕ × Shared)) → IsGuest g
+    → IsLegal (thread_machine g.code) (length g.entries) (object_count g) (start_objects g) steps → (o : ℕ) → IsSmall (now_of g steps o)
 small_now g steps guest legal = small_run (thread_machine g.code) (length g.entries) (object_count g) (start_objects g) steps legal
-    (λ p i. small_list (take object_words (drop (object_words * p) g.words)) i (all_take object_words (drop (object_words * p) g.words) (all_drop (object_words * p) g.words guest.words_fit)))
+    (λ p i. small_list (take object_words (drop (object_words * p) g.words)) i
+        (all_take object_words (drop (object_words * p) g.words) (all_drop (object_words * p) g.words guest.words_fit)))
 
 start_alone : (g : Guest) (p : ℕ) → Alone (start_objects g p).inside
 start_alone g p t u ne is = refl
 
-pub at_now : (g : Guest) (x : table.State (Unit {0}) View) (k : Kept g x) (id o : ℕ) (q : Track) → get_elem? x.views id ≡ some (q ∷ []) → o < object_count g
+pub at_now : (g : Guest) (x : table.State (Unit {0}) View) (k : Kept g x) (id o : ℕ) (q : Track) → get_elem? x.views id ≡ some (q ∷ [])
+    → o < object_count g
     → IsAt (length g.entries) q.thread o q.steps (now_of g k.steps o) (get_or x.words (word_place o) 0)
 at_now g x k id o q at lt =
     let m = thread_machine g.code in
     let n : ℕ = length g.entries in
     let own = (k.fits id (q ∷ []) at).0.0 in
-    let l = light_run m n (object_count g) 0 (start_objects g) k.steps o nothing k.legal (start_alone g) (record { tells = nothing_tells n (start_objects g o).words; light = omega arith }) in
+    let l = light_run m n (object_count g) 0 (start_objects g) k.steps o nothing k.legal (start_alone g)
+        (record { tells = nothing_tells n (start_objects g o).words; light = omega arith }) in
     let tells : Tells n (fields_of (get_or x.words (word_place o) 0)) (now_of g k.steps o) = k.table.words o lt in
     let same = same_weight n (fields_of (get_or x.words (word_place o) 0)) l.0 (now_of g k.steps o) tells l.1.tells in
     let light = l.1.light in
@@ -282,6 +313,7 @@ at_now g x k id o q at lt =
       inside = inside_run (start_objects g) k.steps q.thread o ∙ ap (inside_after o None) own.steps_are;
       alone = alone_run m n (object_count g) (start_objects g) k.steps k.legal (start_alone g) o;
       small = small_now g k.steps k.guest k.legal o;
-      version = subst (λ ks. Since q.thread (now_of g k.steps o) (entered_at o 0 ks)) own.labels_are (since_run m n (object_count g) (start_objects g) k.steps q.thread o 0 k.legal (start_alone g) (λ is. absurd (cc is)));
+      version = subst (λ ks. Since q.thread (now_of g k.steps o) (entered_at o 0 ks)) own.labels_are
+          (since_run m n (object_count g) (start_objects g) k.steps q.thread o 0 k.legal (start_alone g) (λ is. absurd (cc is)));
       thread = own.thread;
     }

@@ -56,7 +56,8 @@ pub record May (g : Guest) (t o : ℕ) (d : Deed) (b : Object) : Type 0 where
   pub tells : told (shared_by o d).0 b ≡ label_by o d
 
 -- the tracks of another seat stay as they are
-others_stay : (n t : ℕ) (f : ℕ → Object) (steps : List (ℕ × Shared)) (s : Shared) (seat : ℕ → ℕ) (id : ℕ) (v : View) → seat t ≢ id → Fits n f steps seat id v → Fits n f (steps ++ (t, s) ∷ []) seat id v
+others_stay : (n t : ℕ) (f : ℕ → Object) (steps : List (ℕ × Shared)) (s : Shared) (seat : ℕ → ℕ) (id : ℕ) (v : View) → seat t ≢ id
+    → Fits n f steps seat id v → Fits n f (steps ++ (t, s) ∷ []) seat id v
 others_stay n t f steps s seat id [] ne h = tt
 others_stay n t f steps s seat id (k ∷ ks) ne h =
     let apart : k.thread ≢ t = λ e. ne (ap seat (sym e) ∙ h.0.1) in (
@@ -64,16 +65,19 @@ others_stay n t f steps s seat id (k ∷ ks) ne h =
         record {
           thread = h.0.0.thread;
           steps_are = of_other t k.thread steps s apart ∙ h.0.0.steps_are;
-          labels_are = ap (of_thread k.thread) (labels_more f steps (t, s)) ∙ of_other t k.thread (order_labels f steps) (told s.0 (objects_after f steps (target s.0))) apart ∙ h.0.0.labels_are;
+          labels_are = ap (of_thread k.thread) (labels_more f steps (t, s))
+              ∙ of_other t k.thread (order_labels f steps) (told s.0 (objects_after f steps (target s.0))) apart ∙ h.0.0.labels_are;
         },
         h.0.1,
       ),
       others_stay n t f steps s seat id ks ne h.1,
     )
 
-pub adds : (g : Guest) (x : table.State (Unit {0}) View) (k : Kept g x) (id t o : ℕ) (h : List ObjectStep) (d : Deed) → get_elem? x.views id ≡ some (track t h ∷ []) → o < object_count g
+pub adds : (g : Guest) (x : table.State (Unit {0}) View) (k : Kept g x) (id t o : ℕ) (h : List ObjectStep) (d : Deed)
+    → get_elem? x.views id ≡ some (track t h ∷ []) → o < object_count g
     → May g t o d (now_of g k.steps o) → entries (map shared_of h) + one_if_entry (shared_by o d).0 ≤ most_events
-    → (ws : List ℕ) (hs : List _) → IsTable (length g.entries) (object_count g) (upd (now_of g k.steps) o (acted (shared_by o d).0 t (now_of g k.steps o))) ws
+    → (ws : List ℕ) (hs : List _) → IsTable (length g.entries) (object_count g)
+    (upd (now_of g k.steps) o (acted (shared_by o d).0 t (now_of g k.steps o))) ws
     → Kept g (record { words = ws; homes = hs; views = set x.views id (track t (h ++ act o d ∷ []) ∷ []) })
 adds g x k id t o h d at lt may room ws hs table =
     let own = (k.fits id (track t h ∷ []) at).0 in
@@ -82,7 +86,8 @@ adds g x k id t o h d at lt may room ws hs table =
     let now : ℕ → Object = now_of g k.steps in
     let is : target s.0 ≡ o = target_by o d in
     let steps : List (ℕ × Shared) = k.steps ++ (t, s) ∷ [] in
-    let mine : of_thread t steps ≡ map shared_of (h ++ act o d ∷ []) = of_own t k.steps s ∙ ap (λ z. z ++ s ∷ []) own.0.steps_are ∙ sym (map_more shared_of h (act o d)) in
+    let mine : of_thread t steps ≡ map shared_of (h ++ act o d ∷ []) = of_own t k.steps s ∙ ap (λ z. z ++ s ∷ []) own.0.steps_are
+        ∙ sym (map_more shared_of h (act o d)) in
     let new : IsTrack (length g.entries) f steps (track t (h ++ act o d ∷ [])) = record {
       thread = own.0.thread;
       steps_are = mine;
@@ -102,51 +107,68 @@ adds g x k id t o h d at lt may room ws hs table =
       });
       few = λ u. elim (cases_eq u t) [
         | inl e ↦ subst (λ z. entries (of_thread z steps) ≤ most_events) (sym e) (subst (λ z. entries z ≤ most_events) (sym mine)
-            (subst (λ z. entries z ≤ most_events) (sym (map_more shared_of h (act o d))) (let r = entries_more (map shared_of h) s in omega (arith, r, room))))
+            (subst (λ z. entries z ≤ most_events) (sym (map_more shared_of h (act o d)))
+                (let r = entries_more (map shared_of h) s in omega (arith, r, room))))
         | inr ne ↦ subst (λ z. entries z ≤ most_events) (sym (of_other t u k.steps s ne)) (k.few u)
       ];
       fits = λ j v e. ⊎_elim
-          (λ (q : (j ≡ id) × (track t (h ++ act o d ∷ []) ∷ [] ≡ v)). subst (Fits (length g.entries) f steps k.seat j) q.1 ((new, own.1 ∙ sym q.0), tt))
-          (λ (q : (j ≢ id) × (get_elem? x.views j ≡ some v)). others_stay (length g.entries) t f k.steps s k.seat j v (λ e. q.0 (sym e ∙ own.1)) (k.fits j v q.1))
+          (λ (q : (j ≡ id) × (track t (h ++ act o d ∷ []) ∷ [] ≡ v)). subst (Fits (length g.entries) f steps k.seat j) q.1
+              ((new, own.1 ∙ sym q.0), tt))
+          (λ (q : (j ≢ id) × (get_elem? x.views j ≡ some v)). others_stay (length g.entries) t f k.steps s k.seat j v
+              (λ e. q.0 (sym e ∙ own.1)) (k.fits j v q.1))
           (at_set x.views id j (track t (h ++ act o d ∷ []) ∷ []) v e);
-      table = subst (λ z. IsTable (length g.entries) (object_count g) z ws) (sym (after_more f k.steps (t, s) ∙ ap (λ p. upd now p (acted s.0 t (now p))) is)) table;
+      table = subst (λ z. IsTable (length g.entries) (object_count g) z ws)
+          (sym (after_more f k.steps (t, s) ∙ ap (λ p. upd now p (acted s.0 t (now p))) is)) table;
     }
 
 -- the word and the view are stored again
 pub stays : (g : Guest) (x : table.State (Unit {0}) View) (k : Kept g x) (id i : ℕ) (v : View) (hs : List _) → get_elem? x.views id ≡ some v
     → Kept g (record { words = set x.words i (get_or x.words i 0); homes = hs; views = set x.views id v })
-stays g x k id i v hs at = subst (λ (z : List ℕ × List View). Kept g (record { words = z.0; homes = hs; views = z.1 })) (λ j. (sym (set-get_or x.words i 0) j, sym (set_again x.views id v at) j))
+stays g x k id i v hs at = subst (λ (z : List ℕ × List View). Kept g (record { words = z.0; homes = hs; views = z.1 }))
+    (λ j. (sym (set-get_or x.words i 0) j, sym (set_again x.views id v at) j))
     (record { guest = k.guest; steps = k.steps; seat = k.seat; legal = k.legal; few = k.few; fits = k.fits; table = k.table })
 
 -- ---- the words, with one changed
 
 -- an object's word and its state are changed together
-head_changes : (n count : ℕ) (f : ℕ → Object) (ws : List ℕ) (o w : ℕ) (y : Object) → IsTable n count f ws → o < count → Tells n (fields_of w) y → y.words ≡ (f o).words → IsTable n count (upd f o y) (set ws (word_place o) w)
+head_changes : (n count : ℕ) (f : ℕ → Object) (ws : List ℕ) (o w : ℕ) (y : Object) → IsTable n count f ws → o < count
+    → Tells n (fields_of w) y → y.words ≡ (f o).words → IsTable n count (upd f o y) (set ws (word_place o) w)
 head_changes n count f ws o w y r lt tells same = record {
   size = length-set ws (word_place o) w ∙ r.size;
   words = λ p small. elim (cases_eq p o) [
     | inl e ↦ subst (λ z. Tells n (fields_of (get_or (set ws (word_place o) w) (word_place z) 0)) (upd f o y z)) (sym e)
-        (subst (λ z. Tells n (fields_of z) (upd f o y o)) (sym (get_or-set_same ws (word_place o) w 0 (let s = r.size in omega (arith, s, lt)))) (subst (Tells n (fields_of w)) (sym (upd_same f o y)) tells))
-    | inr ne ↦ subst (λ z. Tells n (fields_of z) (upd f o y p)) (sym (get_or-set_other ws (word_place o) (word_place p) w 0 (λ e. ne (omega (arith, e))))) (subst (Tells n (fields_of (get_or ws (word_place p) 0))) (sym (upd_other f o p y ne)) (r.words p small))
+        (subst (λ z. Tells n (fields_of z) (upd f o y o))
+            (sym (get_or-set_same ws (word_place o) w 0 (let s = r.size in omega (arith, s, lt))))
+            (subst (Tells n (fields_of w)) (sym (upd_same f o y)) tells))
+    | inr ne ↦ subst (λ z. Tells n (fields_of z) (upd f o y p))
+        (sym (get_or-set_other ws (word_place o) (word_place p) w 0 (λ e. ne (omega (arith, e)))))
+        (subst (Tells n (fields_of (get_or ws (word_place p) 0))) (sym (upd_other f o p y ne)) (r.words p small))
   ];
-  contents = λ p i small fits. get_or-set_other ws (word_place o) (content_place p i) w 0 (λ e. omega (arith, e, fits)) ∙ r.contents p i small fits ∙ elim (cases_eq p o) [
-    | inl e ↦ subst (λ z. (f z).words i ≡ (upd f o y z).words i) (sym e) (ap (λ z. z i) (sym same) ∙ sym (ap (λ z. z.words i) (upd_same f o y)))
+  contents = λ p i small fits. get_or-set_other ws (word_place o) (content_place p i) w 0 (λ e. omega (arith, e, fits))
+      ∙ r.contents p i small fits ∙ elim (cases_eq p o) [
+    | inl e ↦ subst (λ z. (f z).words i ≡ (upd f o y z).words i) (sym e)
+        (ap (λ z. z i) (sym same) ∙ sym (ap (λ z. z.words i) (upd_same f o y)))
     | inr ne ↦ sym (ap (λ z. z.words i) (upd_other f o p y ne))
   ];
 }
 
 -- a word of contents is written
-cell_changes : (n count : ℕ) (f : ℕ → Object) (ws : List ℕ) (o i v : ℕ) (y : Object) → IsTable n count f ws → o < count → i < 8 → Tells n (fields_of (get_or ws (word_place o) 0)) y → y.words ≡ upd (f o).words i v
+cell_changes : (n count : ℕ) (f : ℕ → Object) (ws : List ℕ) (o i v : ℕ) (y : Object) → IsTable n count f ws → o < count → i < 8
+    → Tells n (fields_of (get_or ws (word_place o) 0)) y → y.words ≡ upd (f o).words i v
     → IsTable n count (upd f o y) (set ws (content_place o i) v)
 cell_changes n count f ws o i v y r lt small tells is = record {
   size = length-set ws (content_place o i) v ∙ r.size;
-  words = λ p fits. subst (λ z. Tells n (fields_of z) (upd f o y p)) (sym (get_or-set_other ws (content_place o i) (word_place p) v 0 (λ e. omega (arith, e, small)))) (elim (cases_eq p o) [
-    | inl e ↦ subst (λ z. Tells n (fields_of (get_or ws (word_place z) 0)) (upd f o y z)) (sym e) (subst (Tells n (fields_of (get_or ws (word_place o) 0))) (sym (upd_same f o y)) tells)
+  words = λ p fits. subst (λ z. Tells n (fields_of z) (upd f o y p))
+      (sym (get_or-set_other ws (content_place o i) (word_place p) v 0 (λ e. omega (arith, e, small)))) (elim (cases_eq p o) [
+    | inl e ↦ subst (λ z. Tells n (fields_of (get_or ws (word_place z) 0)) (upd f o y z)) (sym e)
+        (subst (Tells n (fields_of (get_or ws (word_place o) 0))) (sym (upd_same f o y)) tells)
     | inr ne ↦ subst (Tells n (fields_of (get_or ws (word_place p) 0))) (sym (upd_other f o p y ne)) (r.words p fits)
   ]);
   contents = λ p j fits lt8. elim (cases_eq p o) [
-    | inl e ↦ subst (λ z. get_or (set ws (content_place o i) v) (content_place z j) 0 ≡ (upd f o y z).words j) (sym e) (written_at j lt8 ∙ sym (ap (λ z. z.words j) (upd_same f o y) ∙ ap (λ z. z j) is))
-    | inr ne ↦ get_or-set_other ws (content_place o i) (content_place p j) v 0 (λ e. ne (omega (arith, e, small, lt8))) ∙ r.contents p j fits lt8 ∙ sym (ap (λ z. z.words j) (upd_other f o p y ne))
+    | inl e ↦ subst (λ z. get_or (set ws (content_place o i) v) (content_place z j) 0 ≡ (upd f o y z).words j) (sym e)
+        (written_at j lt8 ∙ sym (ap (λ z. z.words j) (upd_same f o y) ∙ ap (λ z. z j) is))
+    | inr ne ↦ get_or-set_other ws (content_place o i) (content_place p j) v 0 (λ e. ne (omega (arith, e, small, lt8)))
+        ∙ r.contents p j fits lt8 ∙ sym (ap (λ z. z.words j) (upd_other f o p y ne))
   ];
 }
   where
@@ -154,7 +176,8 @@ cell_changes n count f ws o i v y r lt small tells is = record {
     written_at j lt8 = elim (cases_eq j i) [
       | inl e ↦ subst (λ z. get_or (set ws (content_place o i) v) (content_place o z) 0 ≡ upd (f o).words i v z) (sym e)
           (get_or-set_same ws (content_place o i) v 0 (let s = r.size in omega (arith, s, lt, small)) ∙ sym (upd_same (f o).words i v))
-      | inr ne ↦ get_or-set_other ws (content_place o i) (content_place o j) v 0 (λ e. ne (omega (arith, e))) ∙ r.contents o j lt lt8 ∙ sym (upd_other (f o).words i j v ne)
+      | inr ne ↦ get_or-set_other ws (content_place o i) (content_place o j) v 0 (λ e. ne (omega (arith, e))) ∙ r.contents o j lt lt8
+          ∙ sym (upd_other (f o).words i j v ne)
     ]
 
 -- ---- looks
@@ -180,7 +203,8 @@ sees n t o h b w a = record {
   version = λ is. a.tells.version ∙ a.version (a.inside ∙ is);
 }
 
-pub looks : (g : Guest) (slots id o : ℕ) (me : M) → IsAlone me.0 → o < object_count g → Allows (Kept g) slots id me (word_place o) (λ n. n) (looked (step slots (word_place o) 0 0 none) me)
+pub looks : (g : Guest) (slots id o : ℕ) (me : M) → IsAlone me.0 → o < object_count g
+    → Allows (Kept g) slots id me (word_place o) (λ n. n) (looked (step slots (word_place o) 0 0 none) me)
 looks g slots id o ([], c) alone lt x k homes at small = absurd alone
 looks g slots id o (k2 ∷ l ∷ ks, c) alone lt x k homes at small = absurd alone
 looks g slots id o (q ∷ [], c) alone lt x k homes at small = (
@@ -188,7 +212,8 @@ looks g slots id o (q ∷ [], c) alone lt x k homes at small = (
   keeps,
   tt,
   stays g x k id (word_place o) (q ∷ []) x.homes at,
-  (refl, subst (λ z. IsSight q.steps z (get_or x.words (word_place o) 0)) (sym (object_is o)) (sees (length g.entries) q.thread o q.steps (now_of g k.steps o) (get_or x.words (word_place o) 0) (at_now g x k id o q at lt))),
+  (refl, subst (λ z. IsSight q.steps z (get_or x.words (word_place o) 0)) (sym (object_is o))
+      (sees (length g.entries) q.thread o q.steps (now_of g k.steps o) (get_or x.words (word_place o) 0) (at_now g x k id o q at lt))),
 )
 
 -- ---- entries
@@ -199,8 +224,10 @@ pub record Turns (g : Guest) (t o : ℕ) (d : Deed) (w : ℕ) (b : Object) : Typ
   pub tells : Tells (length g.entries) (fields_of w) (acted (shared_by o d).0 t b)
   pub words : (acted (shared_by o d).0 t b).words ≡ b.words
 
--- a compare-exchange: where the word is the one expected, the thread takes a step that the object admits, and the word is that of the object then
-pub tries : (g : Guest) (slots id o old new : ℕ) (d : ℕ → Deed) (me : M) → IsAlone me.0 → o < object_count g → entries (map shared_of (history me.0)) + one_if_entry (shared_by o (d old)).0 ≤ most_events
+-- a compare-exchange: where the word is the one expected, the thread takes a step that the object admits, and the word is that of the
+-- object then
+pub tries : (g : Guest) (slots id o old new : ℕ) (d : ℕ → Deed) (me : M) → IsAlone me.0 → o < object_count g
+    → entries (map shared_of (history me.0)) + one_if_entry (shared_by o (d old)).0 ≤ most_events
     → ((t : ℕ) (b : Object) → IsAt (length g.entries) t o (history me.0) b old → Turns g t o (d old) new b)
     → Allows (Kept g) slots id me (word_place o) (λ n. either (eqb n old) new n) (tried d (step slots (word_place o) old new none) me)
 tries g slots id o old new d ([], c) alone lt room step_is x k homes at small = absurd alone
@@ -215,25 +242,31 @@ tries g slots id o old new d (q ∷ [], c) alone lt room step_is x k homes at sm
         did (q ∷ []) o (d old),
         keeps,
         tt,
-        subst (λ (z : Bool). Kept g (stepped x (word_place o) (either z new w) id c (did (q ∷ []) o (d old)) keeps)) (sym (eq-eqb w old hit))
+        subst (λ (z : Bool). Kept g (stepped x (word_place o) (either z new w) id c (did (q ∷ []) o (d old)) keeps))
+            (sym (eq-eqb w old hit))
             (adds g x k id q.thread o q.steps (d old) at lt m.may room (set x.words (word_place o) new) x.homes
-            (head_changes (length g.entries) (object_count g) (now_of g k.steps) x.words o new (acted (shared_by o (d old)).0 q.thread b) k.table lt m.tells m.words)),
+            (head_changes (length g.entries) (object_count g) (now_of g k.steps) x.words o new (acted (shared_by o (d old)).0 q.thread b)
+                k.table lt m.tells m.words)),
         ((λ _. λ i. (did (q ∷ []) (sym (object_is o) i) (d (sym hit i)), c)), (λ miss. absurd (miss hit)), bound),
       )
       | inr miss ↦ (
         q ∷ [],
         keeps,
         tt,
-        subst (λ (z : Bool). Kept g (stepped x (word_place o) (either z new w) id c (q ∷ []) keeps)) (sym (ne_eqb w old miss)) (stays g x k id (word_place o) (q ∷ []) x.homes at),
+        subst (λ (z : Bool). Kept g (stepped x (word_place o) (either z new w) id c (q ∷ []) keeps)) (sym (ne_eqb w old miss))
+            (stays g x k id (word_place o) (q ∷ []) x.homes at),
         ((λ hit. absurd (miss hit)), (λ _. refl), bound),
       )
     ]
 
 -- ---- an entry that the word admits
 
-pub enters_read : (g : Guest) (slots id o old : ℕ) (me : M) → IsAlone me.0 → o < object_count g → entries (map shared_of (history me.0)) < most_events → inside_by o (history me.0) ≡ None → Admitted Reading (fields_of old)
-    → Allows (Kept g) slots id me (word_place o) (λ n. either (eqb n old) (old + 2) n) (entered_read (step slots (word_place o) old (old + 2) none) me)
-enters_read g slots id o old me alone lt room outside free = tries g slots id o old (old + 2) read_entry me alone lt (omega (arith, room)) (λ t b a.
+pub enters_read : (g : Guest) (slots id o old : ℕ) (me : M) → IsAlone me.0 → o < object_count g
+    → entries (map shared_of (history me.0)) < most_events → inside_by o (history me.0) ≡ None → Admitted Reading (fields_of old)
+    → Allows (Kept g) slots id me (word_place o) (λ n. either (eqb n old) (old + 2) n)
+    (entered_read (step slots (word_place o) old (old + 2) none) me)
+enters_read g slots id o old me alone lt room outside free =
+    tries g slots id o old (old + 2) read_entry me alone lt (omega (arith, room)) (λ t b a.
     let n : ℕ = length g.entries in
     let out : b.inside t ≡ None = a.inside ∙ outside in record {
       may = record {
@@ -242,14 +275,19 @@ enters_read g slots id o old me alone lt room outside free = tries g slots id o 
         answers = refl;
         tells = λ i. Rattle.ir_runs.specs.Labels.In o Reading (sym a.tells.version i) 0;
       };
-      tells = subst (λ f. Tells n f (acted (Entry o Reading 0) t b)) (sym (read_entry_word old free (let few = a.narrow in omega (arith, few))))
-          (record { version = a.tells.version; left = a.tells.left; inside = entry_counts n (fields_of old) b.inside t Reading a.thread out a.tells.inside });
+      tells = subst (λ f. Tells n f (acted (Entry o Reading 0) t b))
+          (sym (read_entry_word old free (let few = a.narrow in omega (arith, few))))
+          (record { version = a.tells.version; left = a.tells.left; inside =
+              entry_counts n (fields_of old) b.inside t Reading a.thread out a.tells.inside });
       words = refl;
     })
 
-pub enters_write : (g : Guest) (slots id o old : ℕ) (me : M) → IsAlone me.0 → o < object_count g → entries (map shared_of (history me.0)) < most_events → Admitted Writing (fields_of old)
-    → Allows (Kept g) slots id me (word_place o) (λ n. either (eqb n old) (old + 1) n) (entered_write (step slots (word_place o) old (old + 1) none) me)
-enters_write g slots id o old me alone lt room free = tries g slots id o old (old + 1) write_entry me alone lt (omega (arith, room)) (λ t b a.
+pub enters_write : (g : Guest) (slots id o old : ℕ) (me : M) → IsAlone me.0 → o < object_count g
+    → entries (map shared_of (history me.0)) < most_events → Admitted Writing (fields_of old)
+    → Allows (Kept g) slots id me (word_place o) (λ n. either (eqb n old) (old + 1) n)
+    (entered_write (step slots (word_place o) old (old + 1) none) me)
+enters_write g slots id o old me alone lt room free =
+    tries g slots id o old (old + 1) write_entry me alone lt (omega (arith, room)) (λ t b a.
     let n : ℕ = length g.entries in
     let nobody : (u : ℕ) → b.inside u ≡ None = admits_writer n (fields_of old) b.inside a.tells.inside free in record {
       may = record {
@@ -259,14 +297,16 @@ enters_write g slots id o old me alone lt room free = tries g slots id o old (ol
         tells = λ i. Rattle.ir_runs.specs.Labels.In o Writing (sym a.tells.version i) (sym a.tells.left i);
       };
       tells = subst (λ f. Tells n f (acted (Entry o Writing 0) t b)) (sym (write_entry_word old free))
-          (record { version = a.tells.version; left = a.tells.left; inside = entry_counts n (fields_of old) b.inside t Writing a.thread (nobody t) a.tells.inside });
+          (record { version = a.tells.version; left = a.tells.left; inside =
+              entry_counts n (fields_of old) b.inside t Writing a.thread (nobody t) a.tells.inside });
       words = refl;
     })
 
 -- ---- leaves
 
 -- a step on an object's word that is taken whatever the word is
-changes : (g : Guest) (slots id o : ℕ) (f : ℕ → ℕ) (d : Object → Deed) (tell : ℕ → M → Type 0) (me : M) → IsAlone me.0 → o < object_count g → ((b : Object) → one_if_entry (shared_by o (d b)).0 ≡ 0)
+changes : (g : Guest) (slots id o : ℕ) (f : ℕ → ℕ) (d : Object → Deed) (tell : ℕ → M → Type 0) (me : M) → IsAlone me.0 → o < object_count g
+    → ((b : Object) → one_if_entry (shared_by o (d b)).0 ≡ 0)
     → ((t w : ℕ) (b : Object) → IsAt (length g.entries) t o (history me.0) b w → Turns g t o (d b) (f w) b)
     → ((w : ℕ) (b : Object) → tell w (did me.0 o (d b), me.1)) → Allows (Kept g) slots id me (word_place o) f tell
 changes g slots id o f d tell ([], c) alone lt no_entry step_is tells x k homes at small = absurd alone
@@ -275,25 +315,29 @@ changes g slots id o f d tell (q ∷ [], c) alone lt no_entry step_is tells x k 
     let w : ℕ = get_or x.words (word_place o) 0 in
     let b : Object = now_of g k.steps o in
     let m = step_is q.thread w b (at_now g x k id o q at lt) in
-    let few : entries (map shared_of q.steps) ≤ most_events = subst (λ z. entries z ≤ most_events) (k.fits id (q ∷ []) at).0.0.steps_are (k.few q.thread) in
+    let few : entries (map shared_of q.steps) ≤ most_events =
+        subst (λ z. entries z ≤ most_events) (k.fits id (q ∷ []) at).0.0.steps_are (k.few q.thread) in
     let none_more = no_entry b in (
       did (q ∷ []) o (d b),
       keeps,
       tt,
       adds g x k id q.thread o q.steps (d b) at lt m.may (omega (arith, few, none_more)) (set x.words (word_place o) (f w)) x.homes
-          (head_changes (length g.entries) (object_count g) (now_of g k.steps) x.words o (f w) (acted (shared_by o (d b)).0 q.thread b) k.table lt m.tells m.words),
+          (head_changes (length g.entries) (object_count g) (now_of g k.steps) x.words o (f w) (acted (shared_by o (d b)).0 q.thread b)
+              k.table lt m.tells m.words),
       tells w b,
     )
 
 pub leaves_read : (g : Guest) (slots id o : ℕ) (me : M) → IsAlone me.0 → o < object_count g → inside_by o (history me.0) ≡ Some Reading
     → Allows (Kept g) slots id me (word_place o) (λ n. (n + 254) % 2 ^ 64) (left_reading (step slots (word_place o) 254 0 none) me)
-leaves_read g slots id o me alone lt inside = changes g slots id o (λ n. (n + 254) % 2 ^ 64) (λ b. Leave Reading b.version) (left_reading (step slots (word_place o) 254 0 none) me) me alone lt (λ b. refl)
+leaves_read g slots id o me alone lt inside = changes g slots id o (λ n. (n + 254) % 2 ^ 64) (λ b. Leave Reading b.version)
+    (left_reading (step slots (word_place o) 254 0 none) me) me alone lt (λ b. refl)
     (λ t w b a.
     let n : ℕ = length g.entries in
     let is : b.inside t ≡ Some Reading = a.inside ∙ inside in
     let some_in : 0 < (fields_of w).inside = can_leave n (fields_of w) b.inside t Reading a.thread is a.tells.inside in record {
       may = record { uses = is; admits = tt; answers = refl; tells = refl };
-      tells = subst (λ f. Tells n f (acted (Exit o Reading) t b)) (sym (read_leave_word w some_in (left_small w a.light) (let v = below w a.light in omega (arith, v)))) (record {
+      tells = subst (λ f. Tells n f (acted (Exit o Reading) t b))
+          (sym (read_leave_word w some_in (left_small w a.light) (let v = below w a.light in omega (arith, v)))) (record {
         version = a.tells.version;
         left = let e = a.tells.left in omega (arith, e);
         inside = leave_counts n (fields_of w) b.inside t Reading a.thread is (λ e. absurd (cc e)) a.tells.inside;
@@ -302,14 +346,19 @@ leaves_read g slots id o me alone lt inside = changes g slots id o (λ n. (n + 2
     })
     (λ w b. (b.version, λ i. (did me.0 (sym (object_is o) i) (Leave Reading b.version), me.1)))
 
-pub leaves_write : (g : Guest) (slots id o v : ℕ) (me : M) → IsAlone me.0 → o < object_count g → inside_by o (history me.0) ≡ Some Writing → v ≡ entered_at o 0 (map label_of (history me.0))
-    → Allows (Kept g) slots id me (word_place o) (λ _. (v + 1) * 2 ^ 32) (λ _. left_writing (step slots (word_place o) ((v + 1) * 2 ^ 32) 0 none) me ((v + 1) * 2 ^ 32))
-leaves_write g slots id o v me alone lt inside version = changes g slots id o (λ _. (v + 1) * 2 ^ 32) (λ b. Leave Writing b.version) (λ _. left_writing (step slots (word_place o) ((v + 1) * 2 ^ 32) 0 none) me ((v + 1) * 2 ^ 32)) me alone lt (λ b. refl)
+pub leaves_write : (g : Guest) (slots id o v : ℕ) (me : M) → IsAlone me.0 → o < object_count g → inside_by o (history me.0) ≡ Some Writing
+    → v ≡ entered_at o 0 (map label_of (history me.0))
+    → Allows (Kept g) slots id me (word_place o) (λ _. (v + 1) * 2 ^ 32)
+    (λ _. left_writing (step slots (word_place o) ((v + 1) * 2 ^ 32) 0 none) me ((v + 1) * 2 ^ 32))
+leaves_write g slots id o v me alone lt inside version =
+    changes g slots id o (λ _. (v + 1) * 2 ^ 32) (λ b. Leave Writing b.version)
+    (λ _. left_writing (step slots (word_place o) ((v + 1) * 2 ^ 32) 0 none) me ((v + 1) * 2 ^ 32)) me alone lt (λ b. refl)
     (λ t w b a.
     let n : ℕ = length g.entries in
     let is : b.inside t ≡ Some Writing = a.inside ∙ inside in record {
       may = record { uses = is; admits = tt; answers = refl; tells = refl };
-      tells = subst (λ f. Tells n f (acted (Exit o Writing) t b)) (sym (version_word v (fields_of w) (a.tells.version ∙ a.version is ∙ sym version))) (record {
+      tells = subst (λ f. Tells n f (acted (Exit o Writing) t b))
+          (sym (version_word v (fields_of w) (a.tells.version ∙ a.version is ∙ sym version))) (record {
         version = let e = a.tells.version in omega (arith, e);
         left = refl;
         inside = leave_counts n (fields_of w) b.inside t Writing a.thread is (λ _ u ne. a.alone t u (λ e. ne (sym e)) is) a.tells.inside;
@@ -319,9 +368,12 @@ leaves_write g slots id o v me alone lt inside version = changes g slots id o (�
     (λ w b. (b.version, λ i. (did me.0 (sym (object_is o) i) (Leave Writing b.version), me.1)))
 
 -- the word that is stored, as the word of the next version
-pub leaves_write_by : (g : Guest) (slots id o v w : ℕ) (me : M) → IsAlone me.0 → o < object_count g → inside_by o (history me.0) ≡ Some Writing → v ≡ entered_at o 0 (map label_of (history me.0)) → w ≡ (v + 1) * 2 ^ 32
+pub leaves_write_by : (g : Guest) (slots id o v w : ℕ) (me : M) → IsAlone me.0 → o < object_count g
+    → inside_by o (history me.0) ≡ Some Writing → v ≡ entered_at o 0 (map label_of (history me.0)) → w ≡ (v + 1) * 2 ^ 32
     → Allows (Kept g) slots id me (word_place o) (λ _. w) (λ _. left_writing (step slots (word_place o) w 0 none) me w)
-leaves_write_by g slots id o v w me alone lt inside version is = subst (λ z. Allows (Kept g) slots id me (word_place o) (λ _. z) (λ _. left_writing (step slots (word_place o) z 0 none) me z)) (sym is) (leaves_write g slots id o v me alone lt inside version)
+leaves_write_by g slots id o v w me alone lt inside version is =
+    subst (λ z. Allows (Kept g) slots id me (word_place o) (λ _. z) (λ _. left_writing (step slots (word_place o) z 0 none) me z)) (sym is)
+    (leaves_write g slots id o v me alone lt inside version)
 
 -- ---- contents
 
@@ -335,17 +387,23 @@ gets g slots id o i (q ∷ [], c) alone lt small inside x k homes at fits =
     let b : Object = now o in
     let a = at_now g x k id o q at lt in
     let is : w ≡ b.words i = k.table.contents o i lt small in
-    let few : entries (map shared_of q.steps) ≤ most_events = subst (λ z. entries z ≤ most_events) (k.fits id (q ∷ []) at).0.0.steps_are (k.few q.thread) in
+    let few : entries (map shared_of q.steps) ≤ most_events =
+        subst (λ z. entries z ≤ most_events) (k.fits id (q ∷ []) at).0.0.steps_are (k.few q.thread) in
     let same : IsTable (length g.entries) (object_count g) (upd now o b) (set x.words (content_place o i) w) =
-    subst (λ (z : (ℕ → Object) × List ℕ). IsTable (length g.entries) (object_count g) z.0 z.1) (λ j. (sym (upd_id now o b refl) j, sym (set-get_or x.words (content_place o i) 0) j)) k.table in (
+    subst (λ (z : (ℕ → Object) × List ℕ). IsTable (length g.entries) (object_count g) z.0 z.1)
+        (λ j. (sym (upd_id now o b refl) j, sym (set-get_or x.words (content_place o i) 0) j)) k.table in (
       did (q ∷ []) o (Get i w),
       keeps,
       tt,
-      adds g x k id q.thread o q.steps (Get i w) at lt (record { uses = (small, λ e. inside (sym a.inside ∙ e)); admits = tt; answers = sym is; tells = refl }) (omega (arith, few)) (set x.words (content_place o i) w) x.homes same,
-      ((λ j. (did (q ∷ []) (sym (object_is_cell o i small) j) (Get (sym (index_is_cell o i small) j) w), c)), subst (λ z. z < 2 ^ 32) (sym is) (a.small i)),
+      adds g x k id q.thread o q.steps (Get i w) at lt
+          (record { uses = (small, λ e. inside (sym a.inside ∙ e)); admits = tt; answers = sym is; tells = refl }) (omega (arith, few))
+          (set x.words (content_place o i) w) x.homes same,
+      ((λ j. (did (q ∷ []) (sym (object_is_cell o i small) j) (Get (sym (index_is_cell o i small) j) w), c)), subst (λ z. z < 2 ^ 32)
+          (sym is) (a.small i)),
     )
 
-pub puts : (g : Guest) (slots id o i v : ℕ) (me : M) → IsAlone me.0 → o < object_count g → i < 8 → v < 2 ^ 32 → inside_by o (history me.0) ≡ Some Writing
+pub puts : (g : Guest) (slots id o i v : ℕ) (me : M) → IsAlone me.0 → o < object_count g → i < 8 → v < 2 ^ 32
+    → inside_by o (history me.0) ≡ Some Writing
     → Allows (Kept g) slots id me (content_place o i) (λ _. v) (λ _. wrote (step slots (content_place o i) v 0 none) me v)
 puts g slots id o i v ([], c) alone lt small fit inside x k homes at fits = absurd alone
 puts g slots id o i v (k2 ∷ l ∷ ks, c) alone lt small fit inside x k homes at fits = absurd alone
@@ -353,23 +411,29 @@ puts g slots id o i v (q ∷ [], c) alone lt small fit inside x k homes at fits 
     let now : ℕ → Object = now_of g k.steps in
     let b : Object = now o in
     let a = at_now g x k id o q at lt in
-    let few : entries (map shared_of q.steps) ≤ most_events = subst (λ z. entries z ≤ most_events) (k.fits id (q ∷ []) at).0.0.steps_are (k.few q.thread) in (
+    let few : entries (map shared_of q.steps) ≤ most_events =
+        subst (λ z. entries z ≤ most_events) (k.fits id (q ∷ []) at).0.0.steps_are (k.few q.thread) in (
       did (q ∷ []) o (Put i v),
       keeps,
       tt,
-      adds g x k id q.thread o q.steps (Put i v) at lt (record { uses = (small, fit, a.inside ∙ inside); admits = tt; answers = refl; tells = refl }) (omega (arith, few)) (set x.words (content_place o i) v) x.homes
-          (cell_changes (length g.entries) (object_count g) now x.words o i v (acted (Store o i v) q.thread b) k.table lt small (record { version = a.tells.version; left = a.tells.left; inside = a.tells.inside }) refl),
+      adds g x k id q.thread o q.steps (Put i v) at lt
+          (record { uses = (small, fit, a.inside ∙ inside); admits = tt; answers = refl; tells = refl }) (omega (arith, few))
+          (set x.words (content_place o i) v) x.homes
+          (cell_changes (length g.entries) (object_count g) now x.words o i v (acted (Store o i v) q.thread b) k.table lt small
+              (record { version = a.tells.version; left = a.tells.left; inside = a.tells.inside }) refl),
       (λ j. (did (q ∷ []) (sym (object_is_cell o i small) j) (Put (sym (index_is_cell o i small) j) v), c)),
     )
 
 -- ---- what a call passes on of what its steps told
 
-pub tried_hit : (d : ℕ → Deed) (slots o old new n : ℕ) (me first w : M) → tried d (step slots (word_place o) old new none) me n w → n ≡ old → me ≡ first → w ≡ (did first.0 o (d old), first.1)
+pub tried_hit : (d : ℕ → Deed) (slots o old new n : ℕ) (me first w : M) → tried d (step slots (word_place o) old new none) me n w → n ≡ old
+    → me ≡ first → w ≡ (did first.0 o (d old), first.1)
 tried_hit d slots o old new n me first w told hit is = told.0 hit ∙ (λ i. (did (is i).0 (object_is o i) (d (hit i)), (is i).1))
 
 pub alone_as : (me first : M) → me ≡ first → IsAlone first.0 → IsAlone me.0
 alone_as me first is a = subst (λ (m : M). IsAlone m.0) (sym is) a
 
-pub seen_version : (me w : M) (o n slots : ℕ) → looked (step slots (word_place o) 0 0 none) me n w → inside_by o (history me.0) ≡ Some Writing → n / 2 ^ 32 ≡ entered_at o 0 (map label_of (history w.0))
+pub seen_version : (me w : M) (o n slots : ℕ) → looked (step slots (word_place o) 0 0 none) me n w
+    → inside_by o (history me.0) ≡ Some Writing → n / 2 ^ 32 ≡ entered_at o 0 (map label_of (history w.0))
 seen_version me w o n slots told inside = let q = subst (λ z. IsSight (history me.0) z n) (object_is o) told.1 in
     q.version inside ∙ sym (ap (λ (m : M). entered_at o 0 (map label_of (history m.0))) told.0)

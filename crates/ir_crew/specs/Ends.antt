@@ -28,19 +28,22 @@ abbrev pub AreTracks : Guest → List (ℕ × Shared) → View → Type 0
 AreTracks g steps [] = Unit {0}
 AreTracks g steps (k ∷ ks) = IsTrack (length g.entries) (start_objects g) steps k × AreTracks g steps ks
 
--- the threads have taken object steps in an order, each allowed after those before it, of which the view has those of its threads; these are the objects after them
+-- the threads have taken object steps in an order, each allowed after those before it, of which the view has those of its threads; these
+-- are the objects after them
 pub record IsEnd (g : Guest) (v : View) (objects : List Cell) : Type 0 where
   pub steps : List (ℕ × Shared)
   pub legal : IsLegal (thread_machine g.code) (length g.entries) (object_count g) (start_objects g) steps
   pub few : (t : ℕ) → entries (of_thread t steps) ≤ most_events
   pub tracks : AreTracks g steps v
-  pub stand : (o : ℕ) → o < object_count g → StandsFor (length g.entries) (slice_index_or objects o empty) (objects_after (start_objects g) steps o)
+  pub stand : (o : ℕ) → o < object_count g → StandsFor (length g.entries) (slice_index_or objects o empty)
+      (objects_after (start_objects g) steps o)
 
 -- what is laid out before the first step: the objects' words are 0, and their contents the first words of the guest
 pub record IsLaid (words laid : List ℕ) : Type 0 where
   pub size : length laid ≡ table_length (length words / object_words)
   pub free : (o : ℕ) → o < length words / object_words → slice_index laid (word_place o) ≡ 0
-  pub contents : (o i : ℕ) → i < object_words → object_words * o + i < length words → slice_index laid (content_place o i) ≡ slice_index words (object_words * o + i)
+  pub contents : (o i : ℕ) → i < object_words → object_words * o + i < length words
+      → slice_index laid (content_place o i) ≡ slice_index words (object_words * o + i)
 
 -- the object of these words
 pub record IsObjectOf (words : List ℕ) (o : ℕ) (c : Cell) : Type 0 where

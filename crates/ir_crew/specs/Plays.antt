@@ -57,7 +57,8 @@ object_of word = (word - 8) / 24
 abbrev pub index_of : ℕ → ℕ
 index_of word = (word - 16) % 24
 
--- what a look at an object's word tells: it has room for an entry, and while the thread is inside for writing, the version is that of its entry
+-- what a look at an object's word tells: it has room for an entry, and while the thread is inside for writing, the version is that of its
+-- entry
 pub record IsSight (h : List ObjectStep) (o n : ℕ) : Type 0 where
   pub small : n < 2 ^ 63
   pub version : inside_by o h ≡ Some Writing → n / 2 ^ 32 ≡ entered_at o 0 (map label_of h)

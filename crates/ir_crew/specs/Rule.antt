@@ -61,7 +61,8 @@ entries (x ∷ xs) = one_if_entry x.0 + entries xs
 
 -- the objects of a guest that nobody has entered
 abbrev pub start_objects : Guest → ℕ → Object
-start_objects g o = record { version = 0; left = 0; inside = λ t. None; words = slice_index (take object_words (drop (object_words * o) g.words)) }
+start_objects g o = record { version = 0; left = 0; inside = λ t. None; words =
+    slice_index (take object_words (drop (object_words * o) g.words)) }
 
 -- a word of n threads says this of the object
 pub record Tells (n : ℕ) (f : Fields) (b : Object) : Type 0 where
@@ -86,7 +87,8 @@ abbrev pub Fits : ℕ → (ℕ → Object) → List (ℕ × Shared) → (ℕ →
 Fits n f steps seat id [] = Unit {0}
 Fits n f steps seat id (k ∷ ks) = (IsTrack n f steps k × (seat k.thread ≡ id)) × Fits n f steps seat id ks
 
--- there is an order of object steps, each allowed after those before it, of which each seat has those of its threads, and the words are the objects after them; no thread has more entries than events
+-- there is an order of object steps, each allowed after those before it, of which each seat has those of its threads, and the words are the
+-- objects after them; no thread has more entries than events
 pub record Kept (g : Guest) (x : State (Unit {0}) View) : Type 0 where
   pub guest : IsGuest g
   pub steps : List (ℕ × Shared)

@@ -20,13 +20,17 @@ use Rattle.ir_fit.proofs.CallerLemmas.{starts, idle_trail, tells_below, get_at, 
 use Rattle.ir_coherence.proofs.CallerLemmas.{thread_fits}
 use Rattle.ir_cut.specs.Positions.{machine_of, start_of}
 
-pub no_trail : (f : FittedTrace) (run : List Step) → IsRunOf f.guest f.recorded run → (t : ℕ) → length f.guest.entries ≤ t → trail (machine_of f) (start_of f) run t ≡ []
-no_trail f run is t l = idle_trail (machine_of f) (start_of f) (length f.guest.entries) (start_idle f.guest f.recorded.budget) run is.1.runs t l
+pub no_trail : (f : FittedTrace) (run : List Step) → IsRunOf f.guest f.recorded run → (t : ℕ) → length f.guest.entries ≤ t
+    → trail (machine_of f) (start_of f) run t ≡ []
+no_trail f run is t l = idle_trail (machine_of f) (start_of f) (length f.guest.entries) (start_idle f.guest f.recorded.budget) run is.1.runs
+    t l
 
 -- runs with the trace have the same steps of each thread
-pub same_trail : (f : FittedTrace) (run run' : List Step) → IsRunOf f.guest f.recorded run → IsRunOf f.guest f.recorded run' → (t : ℕ) → trail (machine_of f) (start_of f) run t ≡ trail (machine_of f) (start_of f) run' t
+pub same_trail : (f : FittedTrace) (run run' : List Step) → IsRunOf f.guest f.recorded run → IsRunOf f.guest f.recorded run' → (t : ℕ)
+    → trail (machine_of f) (start_of f) run t ≡ trail (machine_of f) (start_of f) run' t
 same_trail f run run' is is' =
-    (alike (machine_of f) (lawful f.guest.code) (start_of f) (start_good (machine_of f) (start_of f) (starts f.guest f.recorded.budget)) run run' is.1.runs is'.1.runs
+    (alike (machine_of f) (lawful f.guest.code) (start_of f) (start_good (machine_of f) (start_of f) (starts f.guest f.recorded.budget)) run
+        run' is.1.runs is'.1.runs
     (λ t. elim (cases_lt t (length f.guest.entries)) [
       | inl l ↦ is.1.logs t l ∙ sym (is'.1.logs t l)
       | inr l ↦ ap events (no_trail f run is t l ∙ sym (no_trail f run' is' t l))
@@ -54,12 +58,14 @@ again f h run is = record {
 }
 
 -- a step is of a thread that there is
-pub teller : (f : FittedTrace) → HasRun f → (run : List Step) → IsRunOf f.guest f.recorded run → (t i : ℕ) (k : Label) → Tells (machine_of f) (start_of f) run t i k → t < length f.guest.entries
+pub teller : (f : FittedTrace) → HasRun f → (run : List Step) → IsRunOf f.guest f.recorded run → (t i : ℕ) (k : Label)
+    → Tells (machine_of f) (start_of f) run t i k → t < length f.guest.entries
 unfolding again
 teller f h run is t i k told = tells_below f (again f h run is) t i k told
 
 -- and one of those that it takes
-pub place_within : (f : FittedTrace) (run : List Step) (t i : ℕ) (k : Label) → Tells (machine_of f) (start_of f) run t i k → i < count (machine_of f) (start_of f) run t
+pub place_within : (f : FittedTrace) (run : List Step) (t i : ℕ) (k : Label) → Tells (machine_of f) (start_of f) run t i k
+    → i < count (machine_of f) (start_of f) run t
 place_within f run t i k told = (get_at (trail (machine_of f) (start_of f) run t) i (told.0, k) told.1).0
 
 -- ---- what is told by an entry stands in the trace
@@ -69,17 +75,20 @@ word_of objects (Result kind value) o a v l h e = absurd (cc e)
 word_of objects (Read p w) o a v l h e = subst (λ z. z < 2 ^ 32) (ap version_in e) h.1
 word_of objects (Write p w n) o a v l h e = subst (λ z. z < 2 ^ 32) (ap version_in e) h.1
 
-words_of : (objects : ℕ) (es : List Event) → AllByRecursion (IsEvent objects) es → (e : ℕ) (x : Event) (o : ℕ) (a : Access) (v l : ℕ) → At es e x → label_of x ≡ In o a v l → v < 2 ^ 32
+words_of : (objects : ℕ) (es : List Event) → AllByRecursion (IsEvent objects) es → (e : ℕ) (x : Event) (o : ℕ) (a : Access) (v l : ℕ)
+    → At es e x → label_of x ≡ In o a v l → v < 2 ^ 32
 words_of objects [] all e x o a v l h is = absurd h
 words_of objects (y ∷ es) all zero x o a v l h is = word_of objects y o a v l all.0 (ap label_of h ∙ is)
 words_of objects (y ∷ es) all (suc e) x o a v l h is = words_of objects es all.1 e x o a v l h is
 
 -- a version that is entered is a word
-pub entered_word : (f : FittedTrace) → HasRun f → IsRecorded f.recorded → (run : List Step) → IsRunOf f.guest f.recorded run → (t i o : ℕ) (a : Access) (v l : ℕ) → Tells (machine_of f) (start_of f) run t i (In o a v l) → v < 2 ^ 32
+pub entered_word : (f : FittedTrace) → HasRun f → IsRecorded f.recorded → (run : List Step) → IsRunOf f.guest f.recorded run
+    → (t i o : ℕ) (a : Access) (v l : ℕ) → Tells (machine_of f) (start_of f) run t i (In o a v l) → v < 2 ^ 32
 unfolding again
 entered_word f h recorded run is t i o a v l told =
     let there : t < length f.guest.entries = teller f h run is t i (In o a v l) told in
     let es : List Event = (recorded_thread f.recorded t).events in
     let e = entry_of f (again f h run is) t i o a v l told in
     let d : Event = Read 0 0 in
-    words_of f.recorded.objects es (thread_fits f.recorded recorded t (let same = is.0.threads in omega (arith, same, there))).events_fit e.0 (slice_index_or es e.0 d) o a v l (at_get es e.0 d e.1) (e.3 d)
+    words_of f.recorded.objects es (thread_fits f.recorded recorded t (let same = is.0.threads in omega (arith, same, there))).events_fit
+        e.0 (slice_index_or es e.0 d) o a v l (at_get es e.0 d e.1) (e.3 d)

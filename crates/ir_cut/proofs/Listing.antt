@@ -24,12 +24,19 @@ use Rattle.ir_cut.specs.Positions.{machine_of, start_of}
 -- the events of thread t, the positions of these, and its leaves
 pub record Listed (f : FittedTrace) (run : List Step) : Type 0 where
   pub sizes : (t : ℕ) → t < length f.guest.entries → length (placed_at f.placed t).entries ≡ length (recorded_thread f.recorded t).events
-  pub event : (t e i : ℕ) (x : Event) → t < length f.guest.entries → slice_get (recorded_thread f.recorded t).events e ≡ Some x → slice_get (placed_at f.placed t).entries e ≡ Some i → Tells (machine_of f) (start_of f) run t i (label_of x)
-  pub entry : (t i o : ℕ) (a : Access) (v l : ℕ) → Tells (machine_of f) (start_of f) run t i (In o a v l) → (e : ℕ) × (x : Event) × (slice_get (placed_at f.placed t).entries e ≡ Some i) × (slice_get (recorded_thread f.recorded t).events e ≡ Some x) × (label_of x ≡ In o a v l)
-  pub rise : (t e d i j : ℕ) → t < length f.guest.entries → e < d → slice_get (placed_at f.placed t).entries e ≡ Some i → slice_get (placed_at f.placed t).entries d ≡ Some j → i < j
-  pub left : (t e : ℕ) (l : Leave) → t < length f.guest.entries → slice_get (placed_at f.placed t).leaves e ≡ Some l → Tells (machine_of f) (start_of f) run t l.position (Out l.object l.access l.version)
-  pub leave : (t i o : ℕ) (a : Access) (v : ℕ) → Tells (machine_of f) (start_of f) run t i (Out o a v) → (e : ℕ) × (slice_get (placed_at f.placed t).leaves e ≡ Some (record { position = i; object = o; access = a; version = v }))
-  pub fall : (t e d : ℕ) (l r : Leave) → t < length f.guest.entries → e < d → slice_get (placed_at f.placed t).leaves e ≡ Some l → slice_get (placed_at f.placed t).leaves d ≡ Some r → l.position < r.position
+  pub event : (t e i : ℕ) (x : Event) → t < length f.guest.entries → slice_get (recorded_thread f.recorded t).events e ≡ Some x
+      → slice_get (placed_at f.placed t).entries e ≡ Some i → Tells (machine_of f) (start_of f) run t i (label_of x)
+  pub entry : (t i o : ℕ) (a : Access) (v l : ℕ) → Tells (machine_of f) (start_of f) run t i (In o a v l) → (e : ℕ) × (x : Event)
+      × (slice_get (placed_at f.placed t).entries e ≡ Some i) × (slice_get (recorded_thread f.recorded t).events e ≡ Some x)
+      × (label_of x ≡ In o a v l)
+  pub rise : (t e d i j : ℕ) → t < length f.guest.entries → e < d → slice_get (placed_at f.placed t).entries e ≡ Some i
+      → slice_get (placed_at f.placed t).entries d ≡ Some j → i < j
+  pub left : (t e : ℕ) (l : Leave) → t < length f.guest.entries → slice_get (placed_at f.placed t).leaves e ≡ Some l
+      → Tells (machine_of f) (start_of f) run t l.position (Out l.object l.access l.version)
+  pub leave : (t i o : ℕ) (a : Access) (v : ℕ) → Tells (machine_of f) (start_of f) run t i (Out o a v) → (e : ℕ)
+      × (slice_get (placed_at f.placed t).leaves e ≡ Some (record { position = i; object = o; access = a; version = v }))
+  pub fall : (t e d : ℕ) (l r : Leave) → t < length f.guest.entries → e < d → slice_get (placed_at f.placed t).leaves e ≡ Some l
+      → slice_get (placed_at f.placed t).leaves d ≡ Some r → l.position < r.position
 
 pub listed : (f : FittedTrace) → HasRun f → (run : List Step) → IsRunOf f.guest f.recorded run → Listed f run
 unfolding again
@@ -39,15 +46,18 @@ listed f h run is =
       sizes = λ t there. entries_long f k t there;
       event = λ t e i x there at place.
           let inside = slice_get_within (recorded_thread f.recorded t).events e x at in
-          subst (λ m. Tells (machine_of f) (start_of f) run t i (label_of m)) (get_or_from_slice_get (recorded_thread f.recorded t).events e x x at)
-          (subst (λ j. Tells (machine_of f) (start_of f) run t j (label_of (slice_index_or (recorded_thread f.recorded t).events e x))) (get_or_from_slice_get (placed_at f.placed t).entries e i 0 place) (entry_tells f k t there e x inside));
+          subst (λ m. Tells (machine_of f) (start_of f) run t i (label_of m))
+              (get_or_from_slice_get (recorded_thread f.recorded t).events e x x at)
+          (subst (λ j. Tells (machine_of f) (start_of f) run t j (label_of (slice_index_or (recorded_thread f.recorded t).events e x)))
+              (get_or_from_slice_get (placed_at f.placed t).entries e i 0 place) (entry_tells f k t there e x inside));
       entry = λ t i o a v l told.
           let there = tells_below f k t i (In o a v l) told in
           let d : Event = Read 0 0 in
           let e = entry_of f k t i o a v l told in
           let inside = e.1 in
           let size = entries_long f k t there in
-          (e.0, slice_index_or (recorded_thread f.recorded t).events e.0 d, slice_get-get_or (placed_at f.placed t).entries e.0 0 (omega (arith, inside, size)) ∙ ap Some e.2, slice_get-get_or (recorded_thread f.recorded t).events e.0 d inside, e.3 d);
+          (e.0, slice_index_or (recorded_thread f.recorded t).events e.0 d, slice_get-get_or (placed_at f.placed t).entries e.0 0
+              (omega (arith, inside, size)) ∙ ap Some e.2, slice_get-get_or (recorded_thread f.recorded t).events e.0 d inside, e.3 d);
       rise = λ t e d i j there less first second.
           let up = kept.entries_rise f k t there e d less (slice_get_within (placed_at f.placed t).entries d j second) in
           let low = get_or_from_slice_get (placed_at f.placed t).entries e i 0 first in
@@ -55,7 +65,8 @@ listed f h run is =
           omega (arith, up, low, high);
       left = λ t e l there at.
           let inside = slice_get_within (placed_at f.placed t).leaves e l at in
-          subst (λ z. Tells (machine_of f) (start_of f) run t z.position (Out z.object z.access z.version)) (get_or_from_slice_get (placed_at f.placed t).leaves e l l at) (leave_tells f k t there e l inside);
+          subst (λ z. Tells (machine_of f) (start_of f) run t z.position (Out z.object z.access z.version))
+              (get_or_from_slice_get (placed_at f.placed t).leaves e l l at) (leave_tells f k t there e l inside);
       leave = λ t i o a v told.
           let e = leave_of f k t i o a v told in
           let d : Leave = record { position = i; object = o; access = a; version = v } in
@@ -68,7 +79,8 @@ listed f h run is =
     }
 
 -- a leave is of a thread that there is
-pub no_leaves : (f : FittedTrace) → HasRun f → (u e : ℕ) (l : Leave) → slice_get (placed_at f.placed u).leaves e ≡ Some l → u < length f.guest.entries
+pub no_leaves : (f : FittedTrace) → HasRun f → (u e : ℕ) (l : Leave) → slice_get (placed_at f.placed u).leaves e ≡ Some l
+    → u < length f.guest.entries
 no_leaves f h u e l at = elim (cases_lt u (length f.guest.entries)) [
   | inl less ↦ less
   | inr past ↦

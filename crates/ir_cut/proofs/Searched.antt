@@ -65,7 +65,8 @@ left (Refused p) a h = absurd h
 -- ---- an element of a list
 
 pub same_element : {A : Type 0} (xs : List A) (i j : ℕ) (x y : A) → i ≡ j → slice_get xs i ≡ Some x → slice_get xs j ≡ Some y → x ≡ y
-same_element xs i j x y is e d = sym (get_or_from_slice_get xs i x x e) ∙ ap (λ k. slice_index_or xs k x) is ∙ get_or_from_slice_get xs j y x d
+same_element xs i j x y is e d = sym (get_or_from_slice_get xs i x x e) ∙ ap (λ k. slice_index_or xs k x) is
+    ∙ get_or_from_slice_get xs j y x d
 
 no_number : (next : List ℕ) (n u e : ℕ) → length next ≡ n → e < cut_of next u → u < n
 no_number next n u e size l = elim (cases_lt u n) [
@@ -75,23 +76,31 @@ no_number next n u e size l = elim (cases_lt u n) [
 
 -- ---- upwards
 
-pub inside_more : (f : FittedTrace) (run : List Step) (P : Label → Type 0) (c d : Cut) → ((u : ℕ) → c u ≤ d u) → AreInside f run P c → AreInside f run P d
+pub inside_more : (f : FittedTrace) (run : List Step) (P : Label → Type 0) (c d : Cut) → ((u : ℕ) → c u ≤ d u) → AreInside f run P c
+    → AreInside f run P d
 inside_more f run P c d up h t i k tells is = let l = h t i k tells is in let m = up t in omega (arith, l, m)
 
 -- what an event of a step in a consistent cut needs is inside
-pub step_met : (f : FittedTrace) (run : List Step) (c : Cut) → Consistent (machine_of f) (start_of f) run c → (t i : ℕ) (k : Label) → Tells (machine_of f) (start_of f) run t i k → i < c t → AreInside f run (NeededBy k) c
+pub step_met : (f : FittedTrace) (run : List Step) (c : Cut) → Consistent (machine_of f) (start_of f) run c → (t i : ℕ) (k : Label)
+    → Tells (machine_of f) (start_of f) run t i k → i < c t → AreInside f run (NeededBy k) c
 step_met f run c con t i k tells l u j b at n = con t i u j k b tells at n l
 
-pub rising_start : (f : FittedTrace) (run : List Step) → IsRunOf f.guest f.recorded run → Listed f run → (ps qs next : List ℕ) (t k : ℕ) → IsCut (machine_of f) (start_of f) run (cut_of ps) → Consistent (machine_of f) (start_of f) run (cut_of ps)
-    → t < length f.guest.entries → k ≤ (recorded_thread f.recorded t).steps → cut_of qs t ≡ max (cut_of ps t) k → ((u : ℕ) → u ≢ t → cut_of qs u ≡ cut_of ps u)
-    → length next ≡ length f.guest.entries → ((u : ℕ) → u < length f.guest.entries → AreFirst f ps u (cut_of next u)) → Rising f ps t k qs next run
+pub rising_start : (f : FittedTrace) (run : List Step) → IsRunOf f.guest f.recorded run → Listed f run → (ps qs next : List ℕ) (t k : ℕ)
+    → IsCut (machine_of f) (start_of f) run (cut_of ps) → Consistent (machine_of f) (start_of f) run (cut_of ps)
+    → t < length f.guest.entries → k ≤ (recorded_thread f.recorded t).steps → cut_of qs t ≡ max (cut_of ps t) k
+    → ((u : ℕ) → u ≢ t → cut_of qs u ≡ cut_of ps u)
+    → length next ≡ length f.guest.entries → ((u : ℕ) → u < length f.guest.entries → AreFirst f ps u (cut_of next u))
+    → Rising f ps t k qs next run
 rising_start f run is list ps qs next t k cut con there steps own rest size first =
-    let up : (u : ℕ) → cut_of ps u ≤ cut_of qs u = λ u. elim (cases_eq u t) [ inl same ↦ subst (λ z. cut_of ps z ≤ cut_of qs z) (sym same) (omega (arith, own)) | inr ne ↦ omega (arith, rest u ne) ] in
+    let up : (u : ℕ) → cut_of ps u ≤ cut_of qs u =
+        λ u. elim (cases_eq u t) [ inl same ↦ subst (λ z. cut_of ps z ≤ cut_of qs z) (sym same) (omega (arith, own)) | inr ne ↦
+        omega (arith, rest u ne) ] in
     record {
       above = up;
       reaches = omega (arith, own);
       cut = λ u. elim (cases_eq u t) [
-        | inl same ↦ subst (λ z. cut_of qs z ≤ count (machine_of f) (start_of f) run z) (sym same) (let a = cut t in let b = is.1.steps t there in omega (arith, own, a, b, steps))
+        | inl same ↦ subst (λ z. cut_of qs z ≤ count (machine_of f) (start_of f) run z) (sym same)
+            (let a = cut t in let b = is.1.steps t there in omega (arith, own, a, b, steps))
         | inr ne ↦ let a = cut u in omega (arith, rest u ne, a)
       ];
       least = λ c _ _ over reach u. elim (cases_eq u t) [
@@ -100,14 +109,18 @@ rising_start f run is list ps qs next t k cut con there steps own rest size firs
       ];
       met = λ u e x l at.
           let less : u < length f.guest.entries = no_number next (length f.guest.entries) u e size l in
-          let inside : e < length (placed_at f.placed u).entries = (let a = slice_get_within (recorded_thread f.recorded u).events e x at in let b = list.sizes u less in omega (arith, a, b)) in
+          let inside : e < length (placed_at f.placed u).entries =
+              (let a = slice_get_within (recorded_thread f.recorded u).events e x at in let b = list.sizes u less in omega (arith, a, b)) in
           let i : ℕ = slice_index_or (placed_at f.placed u).entries e 0 in
           let place : slice_get (placed_at f.placed u).entries e ≡ Some i = slice_get-get_or (placed_at f.placed u).entries e 0 inside in
-          inside_more f run (NeededBy (label_of x)) (cut_of ps) (cut_of qs) up (step_met f run (cut_of ps) con u i (label_of x) (list.event u e i x less at place) (first u less e i l place));
+          inside_more f run (NeededBy (label_of x)) (cut_of ps) (cut_of qs) up
+              (step_met f run (cut_of ps) con u i (label_of x) (list.event u e i x less at place) (first u less e i l place));
     }
 
-pub rising_more : (f : FittedTrace) (run : List Step) → Listed f run → (ps qs qs' next next' : List ℕ) (t k u : ℕ) (x : Event) → Rising f ps t k qs next run → u < length f.guest.entries → HasBelow f qs next u
-    → slice_get (recorded_thread f.recorded u).events (cut_of next u) ≡ Some x → RaisedFor f run (NeededBy (label_of x)) qs qs' → cut_of next' u ≡ cut_of next u + 1 → ((w : ℕ) → w ≢ u → cut_of next' w ≡ cut_of next w)
+pub rising_more : (f : FittedTrace) (run : List Step) → Listed f run → (ps qs qs' next next' : List ℕ) (t k u : ℕ) (x : Event)
+    → Rising f ps t k qs next run → u < length f.guest.entries → HasBelow f qs next u
+    → slice_get (recorded_thread f.recorded u).events (cut_of next u) ≡ Some x → RaisedFor f run (NeededBy (label_of x)) qs qs'
+    → cut_of next' u ≡ cut_of next u + 1 → ((w : ℕ) → w ≢ u → cut_of next' w ≡ cut_of next w)
     → Rising f ps t k qs' next' run
 rising_more f run list ps qs qs' next next' t k u x r there below at raised own rest =
     let tells : Tells (machine_of f) (start_of f) run u below.0 (label_of x) = list.event u (cut_of next u) below.0 x there at below.1 in
@@ -119,33 +132,42 @@ rising_more f run list ps qs qs' next next' t k u x r there below at raised own 
           let low = r.least c cut con over reach in
           raised.least c low (step_met f run c con u below.0 (label_of x) tells (let a = below.2 in let b = low u in omega (arith, a, b)));
       met = λ w e y l says. elim (cases_eq w u) [
-        | inr ne ↦ inside_more f run (NeededBy (label_of y)) (cut_of qs) (cut_of qs') raised.above (r.met w e y (omega (arith, l, rest w ne)) says)
+        | inr ne ↦ inside_more f run (NeededBy (label_of y)) (cut_of qs) (cut_of qs') raised.above
+            (r.met w e y (omega (arith, l, rest w ne)) says)
         | inl same ↦
             let l' : e < cut_of next u + 1 = subst (λ z. e < z) (ap (cut_of next') same ∙ own) l in
-            let says' : slice_get (recorded_thread f.recorded u).events e ≡ Some y = subst (λ z. slice_get (recorded_thread f.recorded z).events e ≡ Some y) same says in
+            let says' : slice_get (recorded_thread f.recorded u).events e ≡ Some y =
+                subst (λ z. slice_get (recorded_thread f.recorded z).events e ≡ Some y) same says in
             elim (cases_lt e (cut_of next u)) [
               | inl less ↦ inside_more f run (NeededBy (label_of y)) (cut_of qs) (cut_of qs') raised.above (r.met u e y less says')
-              | inr past ↦ subst (λ z. AreInside f run (NeededBy (label_of z)) (cut_of qs')) (same_element (recorded_thread f.recorded u).events (cut_of next u) e x y (let d : cut_of next u ≡ e = omega (arith, l', past) in d) at says') raised.inside
+              | inr past ↦ subst (λ z. AreInside f run (NeededBy (label_of z)) (cut_of qs'))
+                  (same_element (recorded_thread f.recorded u).events (cut_of next u) e x y
+                  (let d : cut_of next u ≡ e = omega (arith, l', past) in d) at says') raised.inside
             ]
       ];
     }
 
 -- an event in the cut is among the first of its thread, where none is below
-behind : (f : FittedTrace) (run : List Step) → Listed f run → (qs next : List ℕ) (t e i : ℕ) → t < length f.guest.entries → NoneBelow f qs next t → slice_get (placed_at f.placed t).entries e ≡ Some i → i < cut_of qs t → e < cut_of next t
+behind : (f : FittedTrace) (run : List Step) → Listed f run → (qs next : List ℕ) (t e i : ℕ) → t < length f.guest.entries
+    → NoneBelow f qs next t → slice_get (placed_at f.placed t).entries e ≡ Some i → i < cut_of qs t → e < cut_of next t
 behind f run list qs next t e i there none place l = elim (cases_lt e (cut_of next t)) [
   | inl less ↦ less
   | inr past ↦
-      let inside : cut_of next t < length (placed_at f.placed t).entries = (let a = slice_get_within (placed_at f.placed t).entries e i place in omega (arith, a, past)) in
+      let inside : cut_of next t < length (placed_at f.placed t).entries =
+          (let a = slice_get_within (placed_at f.placed t).entries e i place in omega (arith, a, past)) in
       let j : ℕ = slice_index_or (placed_at f.placed t).entries (cut_of next t) 0 in
-      let first : slice_get (placed_at f.placed t).entries (cut_of next t) ≡ Some j = slice_get-get_or (placed_at f.placed t).entries (cut_of next t) 0 inside in
+      let first : slice_get (placed_at f.placed t).entries (cut_of next t) ≡ Some j =
+          slice_get-get_or (placed_at f.placed t).entries (cut_of next t) 0 inside in
       let far = none j first in
       elim (cases_lt (cut_of next t) e) [
         | inl before ↦ let up = list.rise t (cut_of next t) e j i there before first place in absurd (omega (arith, far, up, l))
-        | inr same ↦ let one : j ≡ i = same_element (placed_at f.placed t).entries (cut_of next t) e j i (let d : cut_of next t ≡ e = omega (arith, same, past) in d) first place in absurd (omega (arith, one, far, l))
+        | inr same ↦ let one : j ≡ i = same_element (placed_at f.placed t).entries (cut_of next t) e j i
+            (let d : cut_of next t ≡ e = omega (arith, same, past) in d) first place in absurd (omega (arith, one, far, l))
       ]
 ]
 
-pub rising_over : (f : FittedTrace) → HasRun f → (run : List Step) → IsRunOf f.guest f.recorded run → Listed f run → (ps qs next : List ℕ) (t k : ℕ) → Rising f ps t k qs next run → ((u : ℕ) → u < length f.guest.entries → NoneBelow f qs next u)
+pub rising_over : (f : FittedTrace) → HasRun f → (run : List Step) → IsRunOf f.guest f.recorded run → Listed f run
+    → (ps qs next : List ℕ) (t k : ℕ) → Rising f ps t k qs next run → ((u : ℕ) → u < length f.guest.entries → NoneBelow f qs next u)
     → IsLeast (machine_of f) (start_of f) run (cut_of ps) t k (cut_of qs)
 rising_over f h run is list ps qs next t k r none = record {
   cut = r.cut;
@@ -161,21 +183,28 @@ rising_over f h run is list ps qs next t k r none = record {
 
 -- ---- downwards
 
-pub outside_less : (f : FittedTrace) (run : List Step) (P : Label → Type 0) (c d : Cut) → ((u : ℕ) → d u ≤ c u) → AreOutside f run P c → AreOutside f run P d
+pub outside_less : (f : FittedTrace) (run : List Step) (P : Label → Type 0) (c d : Cut) → ((u : ℕ) → d u ≤ c u) → AreOutside f run P c
+    → AreOutside f run P d
 outside_less f run P c d down h t i k tells is = let l = h t i k tells is in let m = down t in omega (arith, l, m)
 
 -- what needs a leave that isn't in a consistent cut is outside
-pub step_unmet : (f : FittedTrace) (run : List Step) (c : Cut) → Consistent (machine_of f) (start_of f) run c → (t i : ℕ) (b : Label) → Tells (machine_of f) (start_of f) run t i b → c t ≤ i → AreOutside f run (λ a. Needs b a) c
+pub step_unmet : (f : FittedTrace) (run : List Step) (c : Cut) → Consistent (machine_of f) (start_of f) run c → (t i : ℕ) (b : Label)
+    → Tells (machine_of f) (start_of f) run t i b → c t ≤ i → AreOutside f run (λ a. Needs b a) c
 step_unmet f run c con t i b tells l u j a at n = elim (cases_lt j (c u)) [
   | inr past ↦ past
   | inl less ↦ let inside = con u j t i a b at tells n less in absurd (omega (arith, inside, l))
 ]
 
-pub falling_start : (f : FittedTrace) (run : List Step) → Listed f run → (ps qs next : List ℕ) (t k : ℕ) → Consistent (machine_of f) (start_of f) run (cut_of ps) → t < length f.guest.entries
-    → cut_of qs t ≡ min (cut_of ps t) k → ((u : ℕ) → u ≢ t → cut_of qs u ≡ cut_of ps u) → ((u : ℕ) → u < length f.guest.entries → AreRest f ps u (cut_of next u))
-    → ((u e : ℕ) (l : Leave) → slice_get (placed_at f.placed u).leaves e ≡ Some l → u < length f.guest.entries) → Falling f ps t k qs next run
+pub falling_start : (f : FittedTrace) (run : List Step) → Listed f run → (ps qs next : List ℕ) (t k : ℕ)
+    → Consistent (machine_of f) (start_of f) run (cut_of ps) → t < length f.guest.entries
+    → cut_of qs t ≡ min (cut_of ps t) k → ((u : ℕ) → u ≢ t → cut_of qs u ≡ cut_of ps u)
+    → ((u : ℕ) → u < length f.guest.entries → AreRest f ps u (cut_of next u))
+    → ((u e : ℕ) (l : Leave) → slice_get (placed_at f.placed u).leaves e ≡ Some l → u < length f.guest.entries)
+    → Falling f ps t k qs next run
 falling_start f run list ps qs next t k con there own rest each known =
-    let down : (u : ℕ) → cut_of qs u ≤ cut_of ps u = λ u. elim (cases_eq u t) [ inl same ↦ subst (λ z. cut_of qs z ≤ cut_of ps z) (sym same) (omega (arith, own)) | inr ne ↦ omega (arith, rest u ne) ] in
+    let down : (u : ℕ) → cut_of qs u ≤ cut_of ps u =
+        λ u. elim (cases_eq u t) [ inl same ↦ subst (λ z. cut_of qs z ≤ cut_of ps z) (sym same) (omega (arith, own)) | inr ne ↦
+        omega (arith, rest u ne) ] in
     record {
       below = down;
       reaches = omega (arith, own);
@@ -185,31 +214,42 @@ falling_start f run list ps qs next t k con there own rest each known =
       ];
       unmet = λ u e l past at.
           let less : u < length f.guest.entries = known u e l at in
-          outside_less f run (Needing l) (cut_of ps) (cut_of qs) down (step_unmet f run (cut_of ps) con u l.position (Out l.object l.access l.version) (list.left u e l less at) ((each u less).outside e l past at));
+          outside_less f run (Needing l) (cut_of ps) (cut_of qs) down
+              (step_unmet f run (cut_of ps) con u l.position (Out l.object l.access l.version) (list.left u e l less at)
+              ((each u less).outside e l past at));
     }
 
-pub falling_more : (f : FittedTrace) (run : List Step) → Listed f run → (ps qs qs' next next' : List ℕ) (t k u : ℕ) (x : Leave) (last : ℕ) → Falling f ps t k qs next run → u < length f.guest.entries → cut_of next u ≡ last + 1
-    → slice_get (placed_at f.placed u).leaves last ≡ Some x → cut_of qs u ≤ x.position → LoweredFor f run (Needing x) qs qs' → cut_of next' u ≡ last → ((w : ℕ) → w ≢ u → cut_of next' w ≡ cut_of next w)
+pub falling_more : (f : FittedTrace) (run : List Step) → Listed f run → (ps qs qs' next next' : List ℕ) (t k u : ℕ) (x : Leave) (last : ℕ)
+    → Falling f ps t k qs next run → u < length f.guest.entries → cut_of next u ≡ last + 1
+    → slice_get (placed_at f.placed u).leaves last ≡ Some x → cut_of qs u ≤ x.position → LoweredFor f run (Needing x) qs qs'
+    → cut_of next' u ≡ last → ((w : ℕ) → w ≢ u → cut_of next' w ≡ cut_of next w)
     → Falling f ps t k qs' next' run
 falling_more f run list ps qs qs' next next' t k u x last r there was at far lowered own rest = record {
   below = λ w. let a = r.below w in let b = lowered.below w in omega (arith, a, b);
   reaches = let a = r.reaches in let b = lowered.below t in omega (arith, a, b);
   greatest = λ c cut con under reach.
       let high = r.greatest c cut con under reach in
-      lowered.greatest c high (step_unmet f run c con u x.position (Out x.object x.access x.version) (list.left u last x there at) (let a = high u in omega (arith, a, far)));
+      lowered.greatest c high (step_unmet f run c con u x.position (Out x.object x.access x.version) (list.left u last x there at)
+          (let a = high u in omega (arith, a, far)));
   unmet = λ w e l past says. elim (cases_eq w u) [
     | inr ne ↦ outside_less f run (Needing l) (cut_of qs) (cut_of qs') lowered.below (r.unmet w e l (omega (arith, past, rest w ne)) says)
     | inl same ↦
         let past' : last ≤ e = subst (λ z. z ≤ e) (ap (cut_of next') same ∙ own) past in
-        let says' : slice_get (placed_at f.placed u).leaves e ≡ Some l = subst (λ z. slice_get (placed_at f.placed z).leaves e ≡ Some l) same says in
+        let says' : slice_get (placed_at f.placed u).leaves e ≡ Some l =
+            subst (λ z. slice_get (placed_at f.placed z).leaves e ≡ Some l) same says in
         elim (cases_lt last e) [
-          | inl behind ↦ outside_less f run (Needing l) (cut_of qs) (cut_of qs') lowered.below (r.unmet u e l (omega (arith, was, behind)) says')
-          | inr equal ↦ subst (λ z. AreOutside f run (Needing z) (cut_of qs')) (same_element (placed_at f.placed u).leaves last e x l (let d : last ≡ e = omega (arith, equal, past') in d) at says') lowered.outside
+          | inl behind ↦ outside_less f run (Needing l) (cut_of qs) (cut_of qs') lowered.below
+              (r.unmet u e l (omega (arith, was, behind)) says')
+          | inr equal ↦ subst (λ z. AreOutside f run (Needing z) (cut_of qs'))
+              (same_element (placed_at f.placed u).leaves last e x l (let d : last ≡ e = omega (arith, equal, past') in d) at says')
+              lowered.outside
         ]
   ];
 }
 
-pub falling_over : (f : FittedTrace) → HasRun f → (run : List Step) → IsRunOf f.guest f.recorded run → Listed f run → (ps qs next : List ℕ) (t k : ℕ) → IsCut (machine_of f) (start_of f) run (cut_of ps) → Falling f ps t k qs next run → ((u : ℕ) → u < length f.guest.entries → NoneAbove f qs next u)
+pub falling_over : (f : FittedTrace) → HasRun f → (run : List Step) → IsRunOf f.guest f.recorded run → Listed f run
+    → (ps qs next : List ℕ) (t k : ℕ) → IsCut (machine_of f) (start_of f) run (cut_of ps) → Falling f ps t k qs next run
+    → ((u : ℕ) → u < length f.guest.entries → NoneAbove f qs next u)
     → IsGreatest (machine_of f) (start_of f) run (cut_of ps) t k (cut_of qs)
 falling_over f h run is list ps qs next t k cut r none = record {
   cut = λ u. let a = r.below u in let b = cut u in omega (arith, a, b);
@@ -219,7 +259,8 @@ falling_over f h run is list ps qs next t k cut r none = record {
       let e = list.leave w j x.object x.access x.version (subst (Tells (machine_of f) (start_of f) run w j) x.is says) in
       elim (cases_lt e.0 (cut_of next w)) [
         | inl first ↦ none w there e.0 (record { position = j; object = x.object; access = x.access; version = x.version }) first e.1
-        | inr past ↦ let out = r.unmet w e.0 (record { position = j; object = x.object; access = x.access; version = x.version }) past e.1 u i a at (subst (λ z. Needs z a) x.is n) in absurd (omega (arith, out, l))
+        | inr past ↦ let out = r.unmet w e.0 (record { position = j; object = x.object; access = x.access; version = x.version }) past e.1 u
+            i a at (subst (λ z. Needs z a) x.is n) in absurd (omega (arith, out, l))
       ];
   below = r.below;
   reaches = r.reaches;

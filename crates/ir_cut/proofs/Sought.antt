@@ -20,21 +20,24 @@ use Rattle.ir_cut.proofs.Again.{again, teller, place_within}
 -- the places are those of the steps of the run that tell so
 pub record AreOf (f : FittedTrace) (run : List Step) (P : Label → Type 0) (ps : List Place) : Type 0 where
   pub only : (p : Place) → Contains ps p → (k : Label) × P k × Tells (machine_of f) (start_of f) run p.thread p.position k
-  pub all : (t i : ℕ) (k : Label) → Tells (machine_of f) (start_of f) run t i k → P k → (v : ℕ) × Contains ps (record { position = i; version = v; thread = t })
+  pub all : (t i : ℕ) (k : Label) → Tells (machine_of f) (start_of f) run t i k → P k → (v : ℕ)
+      × Contains ps (record { position = i; version = v; thread = t })
 
 contained : (ps : List Place) (i : ℕ) (p : Place) → slice_get ps i ≡ Some p → Contains ps p
 contained ps i p e = (i, slice_get_within ps i p e, get_or_from_slice_get ps i p p e)
 
 -- ---- the leaves and the entries of an object at a version
 
-pub leaves_are : (f : FittedTrace) → HasRun f → (o : ℕ) (a : Access) (v : ℕ) (ps : List Place) → OnlyLeaves f o a v ps → AllLeaves f o a v ps → (run : List Step) → IsRunOf f.guest f.recorded run → AreOf f run (λ k. k ≡ Out o a v) ps
+pub leaves_are : (f : FittedTrace) → HasRun f → (o : ℕ) (a : Access) (v : ℕ) (ps : List Place) → OnlyLeaves f o a v ps
+    → AllLeaves f o a v ps → (run : List Step) → IsRunOf f.guest f.recorded run → AreOf f run (λ k. k ≡ Out o a v) ps
 unfolding again
 leaves_are f h o a v ps only all run is = record {
   only = λ p c. (Out o a v, refl, (only (again f h run is) p c).1);
   all = λ t i k tells e. (v, all (again f h run is) t i (subst (Tells (machine_of f) (start_of f) run t i) e tells));
 }
 
-pub entries_are : (f : FittedTrace) → HasRun f → (o : ℕ) (a : Access) (v : ℕ) (ps : List Place) → OnlyEntries f o a v ps → AllEntries f o a v ps → (run : List Step) → IsRunOf f.guest f.recorded run → AreOf f run (λ k. (l : ℕ) × (k ≡ In o a v l)) ps
+pub entries_are : (f : FittedTrace) → HasRun f → (o : ℕ) (a : Access) (v : ℕ) (ps : List Place) → OnlyEntries f o a v ps
+    → AllEntries f o a v ps → (run : List Step) → IsRunOf f.guest f.recorded run → AreOf f run (λ k. (l : ℕ) × (k ≡ In o a v l)) ps
 unfolding again
 entries_are f h o a v ps only all run is = record {
   only = λ p c. let e = (only (again f h run is) p c).1 in (In o a v e.0, (e.0, refl), e.1);
@@ -43,7 +46,8 @@ entries_are f h o a v ps only all run is = record {
 
 -- ---- each of them can be counted
 
-pub are_placed : (f : FittedTrace) → HasRun f → (run : List Step) → IsRunOf f.guest f.recorded run → IsRecorded f.recorded → (P : Label → Type 0) (ps : List Place) → AreOf f run P ps → ArePlaced (length f.guest.entries) ps
+pub are_placed : (f : FittedTrace) → HasRun f → (run : List Step) → IsRunOf f.guest f.recorded run → IsRecorded f.recorded
+    → (P : Label → Type 0) (ps : List Place) → AreOf f run P ps → ArePlaced (length f.guest.entries) ps
 are_placed f h run is recorded P ps of i p l e =
     let t = of.only p (contained ps i p e) in
     let there : p.thread < length f.guest.entries = teller f h run is p.thread p.position t.0 t.2 in
@@ -54,15 +58,18 @@ are_placed f h run is recorded P ps of i p l e =
 
 -- ---- moved for them
 
-pub inside_all : (f : FittedTrace) (run : List Step) (P : Label → Type 0) (ps : List Place) → AreOf f run P ps → (c : Cut) → EachPlace ps (length ps) (λ p. p.position < c p.thread) → AreInside f run P c
+pub inside_all : (f : FittedTrace) (run : List Step) (P : Label → Type 0) (ps : List Place) → AreOf f run P ps → (c : Cut)
+    → EachPlace ps (length ps) (λ p. p.position < c p.thread) → AreInside f run P c
 inside_all f run P ps of c each t i k tells is =
     let a = of.all t i k tells is in
     each a.1.0 (record { position = i; version = a.0; thread = t }) a.1.1 (slice_get_read ps (length ps) a.1.0 _ refl a.1.1 (sym a.1.2))
 
-pub inside_each : (f : FittedTrace) (run : List Step) (P : Label → Type 0) (ps : List Place) → AreOf f run P ps → (c : Cut) → AreInside f run P c → EachPlace ps (length ps) (λ p. p.position < c p.thread)
+pub inside_each : (f : FittedTrace) (run : List Step) (P : Label → Type 0) (ps : List Place) → AreOf f run P ps → (c : Cut)
+    → AreInside f run P c → EachPlace ps (length ps) (λ p. p.position < c p.thread)
 inside_each f run P ps of c inside i p l e = let t = of.only p (contained ps i p e) in inside p.thread p.position t.0 t.2 t.1
 
-pub raised_for : (f : FittedTrace) (run : List Step) (P : Label → Type 0) (ps : List Place) → AreOf f run P ps → (old new : List ℕ) → IsRaised old new ps (length ps) → RaisedFor f run P old new
+pub raised_for : (f : FittedTrace) (run : List Step) (P : Label → Type 0) (ps : List Place) → AreOf f run P ps → (old new : List ℕ)
+    → IsRaised old new ps (length ps) → RaisedFor f run P old new
 raised_for f run P ps of old new r = record {
   size = r.size;
   above = r.above;
@@ -70,16 +77,21 @@ raised_for f run P ps of old new r = record {
   least = λ c up inside. r.least c up (inside_each f run P ps of c inside);
 }
 
-pub lowered_for : (f : FittedTrace) (run : List Step) (P : Label → Type 0) (ps : List Place) → AreOf f run P ps → (old new : List ℕ) → IsLowered old new ps (length ps) → LoweredFor f run P old new
+pub lowered_for : (f : FittedTrace) (run : List Step) (P : Label → Type 0) (ps : List Place) → AreOf f run P ps → (old new : List ℕ)
+    → IsLowered old new ps (length ps) → LoweredFor f run P old new
 lowered_for f run P ps of old new r = record {
   size = r.size;
   below = r.below;
-  outside = λ t i k tells is. let a = of.all t i k tells is in r.outside a.1.0 (record { position = i; version = a.0; thread = t }) a.1.1 (slice_get_read ps (length ps) a.1.0 _ refl a.1.1 (sym a.1.2));
-  greatest = λ c down outside. r.greatest c down (λ i p l e. let t = of.only p (contained ps i p e) in outside p.thread p.position t.0 t.2 t.1);
+  outside = λ t i k tells is. let a = of.all t i k tells is in
+      r.outside a.1.0 (record { position = i; version = a.0; thread = t }) a.1.1
+      (slice_get_read ps (length ps) a.1.0 _ refl a.1.1 (sym a.1.2));
+  greatest = λ c down outside. r.greatest c down
+      (λ i p l e. let t = of.only p (contained ps i p e) in outside p.thread p.position t.0 t.2 t.1);
 }
 
 -- moved for both
-pub raised_both : (f : FittedTrace) (run : List Step) (P Q R : Label → Type 0) → ((k : Label) → R k → P k ⊎ Q k) → ((k : Label) → P k → R k) → ((k : Label) → Q k → R k) → (a b c : List ℕ)
+pub raised_both : (f : FittedTrace) (run : List Step) (P Q R : Label → Type 0) → ((k : Label) → R k → P k ⊎ Q k) → ((k : Label) → P k → R k)
+    → ((k : Label) → Q k → R k) → (a b c : List ℕ)
     → RaisedFor f run P a b → RaisedFor f run Q b c → RaisedFor f run R a c
 raised_both f run P Q R split first second a b c r s = record {
   size = s.size ∙ r.size;
@@ -88,10 +100,12 @@ raised_both f run P Q R split first second a b c r s = record {
     | inl p ↦ let x = r.inside t i k tells p in let y = s.above t in omega (arith, x, y)
     | inr q ↦ s.inside t i k tells q
   ];
-  least = λ d up inside. s.least d (r.least d up (λ t i k tells p. inside t i k tells (first k p))) (λ t i k tells q. inside t i k tells (second k q));
+  least = λ d up inside. s.least d (r.least d up (λ t i k tells p. inside t i k tells (first k p)))
+      (λ t i k tells q. inside t i k tells (second k q));
 }
 
-pub lowered_both : (f : FittedTrace) (run : List Step) (P Q R : Label → Type 0) → ((k : Label) → R k → P k ⊎ Q k) → ((k : Label) → P k → R k) → ((k : Label) → Q k → R k) → (a b c : List ℕ)
+pub lowered_both : (f : FittedTrace) (run : List Step) (P Q R : Label → Type 0) → ((k : Label) → R k → P k ⊎ Q k)
+    → ((k : Label) → P k → R k) → ((k : Label) → Q k → R k) → (a b c : List ℕ)
     → LoweredFor f run P a b → LoweredFor f run Q b c → LoweredFor f run R a c
 lowered_both f run P Q R split first second a b c r s = record {
   size = s.size ∙ r.size;
@@ -100,11 +114,13 @@ lowered_both f run P Q R split first second a b c r s = record {
     | inl p ↦ let x = r.outside t i k tells p in let y = s.below t in omega (arith, x, y)
     | inr q ↦ s.outside t i k tells q
   ];
-  greatest = λ d down outside. s.greatest d (r.greatest d down (λ t i k tells p. outside t i k tells (first k p))) (λ t i k tells q. outside t i k tells (second k q));
+  greatest = λ d down outside. s.greatest d (r.greatest d down (λ t i k tells p. outside t i k tells (first k p)))
+      (λ t i k tells q. outside t i k tells (second k q));
 }
 
 -- for the same steps in other words
-pub raised_same : (f : FittedTrace) (run : List Step) (P R : Label → Type 0) → ((k : Label) → R k → P k) → ((k : Label) → P k → R k) → (a b : List ℕ) → RaisedFor f run P a b → RaisedFor f run R a b
+pub raised_same : (f : FittedTrace) (run : List Step) (P R : Label → Type 0) → ((k : Label) → R k → P k) → ((k : Label) → P k → R k)
+    → (a b : List ℕ) → RaisedFor f run P a b → RaisedFor f run R a b
 raised_same f run P R to from a b r = record {
   size = r.size;
   above = r.above;
@@ -112,7 +128,8 @@ raised_same f run P R to from a b r = record {
   least = λ d up inside. r.least d up (λ t i k tells p. inside t i k tells (from k p));
 }
 
-pub lowered_same : (f : FittedTrace) (run : List Step) (P R : Label → Type 0) → ((k : Label) → R k → P k) → ((k : Label) → P k → R k) → (a b : List ℕ) → LoweredFor f run P a b → LoweredFor f run R a b
+pub lowered_same : (f : FittedTrace) (run : List Step) (P R : Label → Type 0) → ((k : Label) → R k → P k) → ((k : Label) → P k → R k)
+    → (a b : List ℕ) → LoweredFor f run P a b → LoweredFor f run R a b
 lowered_same f run P R to from a b r = record {
   size = r.size;
   below = r.below;
@@ -121,7 +138,8 @@ lowered_same f run P R to from a b r = record {
 }
 
 -- nothing is moved where no step tells so
-pub raised_nothing : (f : FittedTrace) (run : List Step) (P : Label → Type 0) → ((t i : ℕ) (k : Label) → Tells (machine_of f) (start_of f) run t i k → P k → ⊥) → (xs : List ℕ) → RaisedFor f run P xs xs
+pub raised_nothing : (f : FittedTrace) (run : List Step) (P : Label → Type 0)
+    → ((t i : ℕ) (k : Label) → Tells (machine_of f) (start_of f) run t i k → P k → ⊥) → (xs : List ℕ) → RaisedFor f run P xs xs
 raised_nothing f run P none xs = record {
   size = refl;
   above = λ u. le_refl (cut_of xs u);
@@ -129,7 +147,8 @@ raised_nothing f run P none xs = record {
   least = λ c up inside u. up u;
 }
 
-pub lowered_nothing : (f : FittedTrace) (run : List Step) (P : Label → Type 0) → ((t i : ℕ) (k : Label) → Tells (machine_of f) (start_of f) run t i k → P k → ⊥) → (xs : List ℕ) → LoweredFor f run P xs xs
+pub lowered_nothing : (f : FittedTrace) (run : List Step) (P : Label → Type 0)
+    → ((t i : ℕ) (k : Label) → Tells (machine_of f) (start_of f) run t i k → P k → ⊥) → (xs : List ℕ) → LoweredFor f run P xs xs
 lowered_nothing f run P none xs = record {
   size = refl;
   below = λ u. le_refl (cut_of xs u);
@@ -139,25 +158,35 @@ lowered_nothing f run P none xs = record {
 
 -- ---- for what the code looks up
 
-pub leaves_placed : (f : FittedTrace) → IsFitted f → (o : ℕ) (a : Access) (v : ℕ) (ps : List Place) → OnlyLeaves f o a v ps → AllLeaves f o a v ps → (n : ℕ) → n ≡ length f.guest.entries → ArePlaced n ps
+pub leaves_placed : (f : FittedTrace) → IsFitted f → (o : ℕ) (a : Access) (v : ℕ) (ps : List Place) → OnlyLeaves f o a v ps
+    → AllLeaves f o a v ps → (n : ℕ) → n ≡ length f.guest.entries → ArePlaced n ps
 leaves_placed f k o a v ps only all n size =
-    subst (λ z. ArePlaced z ps) (sym size) (are_placed f k.run k.run.run k.run.whole k.within (λ b. b ≡ Out o a v) ps (leaves_are f k.run o a v ps only all k.run.run k.run.whole))
+    subst (λ z. ArePlaced z ps) (sym size) (are_placed f k.run k.run.run k.run.whole k.within (λ b. b ≡ Out o a v) ps
+        (leaves_are f k.run o a v ps only all k.run.run k.run.whole))
 
-pub entries_placed : (f : FittedTrace) → IsFitted f → (o : ℕ) (a : Access) (v : ℕ) (ps : List Place) → OnlyEntries f o a v ps → AllEntries f o a v ps → (n : ℕ) → n ≡ length f.guest.entries → ArePlaced n ps
+pub entries_placed : (f : FittedTrace) → IsFitted f → (o : ℕ) (a : Access) (v : ℕ) (ps : List Place) → OnlyEntries f o a v ps
+    → AllEntries f o a v ps → (n : ℕ) → n ≡ length f.guest.entries → ArePlaced n ps
 entries_placed f k o a v ps only all n size =
-    subst (λ z. ArePlaced z ps) (sym size) (are_placed f k.run k.run.run k.run.whole k.within (λ b. (l : ℕ) × (b ≡ In o a v l)) ps (entries_are f k.run o a v ps only all k.run.run k.run.whole))
+    subst (λ z. ArePlaced z ps) (sym size) (are_placed f k.run k.run.run k.run.whole k.within (λ b. (l : ℕ) × (b ≡ In o a v l)) ps
+        (entries_are f k.run o a v ps only all k.run.run k.run.whole))
 
-pub leaves_inside : (f : FittedTrace) → IsFitted f → (o : ℕ) (a : Access) (v : ℕ) (ps : List Place) → OnlyLeaves f o a v ps → AllLeaves f o a v ps → (xs : List ℕ)
+pub leaves_inside : (f : FittedTrace) → IsFitted f → (o : ℕ) (a : Access) (v : ℕ) (ps : List Place) → OnlyLeaves f o a v ps
+    → AllLeaves f o a v ps → (xs : List ℕ)
     → EachPlace ps (length ps) (λ p. p.position < cut_of xs p.thread) ↔ EachRun f (λ run. AreInside f run (λ b. b ≡ Out o a v) (cut_of xs))
 leaves_inside f k o a v ps only all xs = (
   (λ each run is. inside_all f run (λ b. b ≡ Out o a v) ps (leaves_are f k.run o a v ps only all run is) (cut_of xs) each),
-  (λ inside. inside_each f k.run.run (λ b. b ≡ Out o a v) ps (leaves_are f k.run o a v ps only all k.run.run k.run.whole) (cut_of xs) (inside k.run.run k.run.whole)),
+  (λ inside. inside_each f k.run.run (λ b. b ≡ Out o a v) ps (leaves_are f k.run o a v ps only all k.run.run k.run.whole) (cut_of xs)
+      (inside k.run.run k.run.whole)),
 )
 
-pub leaves_raised : (f : FittedTrace) → IsFitted f → (o : ℕ) (a : Access) (v : ℕ) (ps : List Place) → OnlyLeaves f o a v ps → AllLeaves f o a v ps → (old new : List ℕ) → IsRaised old new ps (length ps)
+pub leaves_raised : (f : FittedTrace) → IsFitted f → (o : ℕ) (a : Access) (v : ℕ) (ps : List Place) → OnlyLeaves f o a v ps
+    → AllLeaves f o a v ps → (old new : List ℕ) → IsRaised old new ps (length ps)
     → EachRun f (λ run. RaisedFor f run (λ b. b ≡ Out o a v) old new)
-leaves_raised f k o a v ps only all old new r run is = raised_for f run (λ b. b ≡ Out o a v) ps (leaves_are f k.run o a v ps only all run is) old new r
+leaves_raised f k o a v ps only all old new r run is =
+    raised_for f run (λ b. b ≡ Out o a v) ps (leaves_are f k.run o a v ps only all run is) old new r
 
-pub entries_lowered : (f : FittedTrace) → IsFitted f → (o : ℕ) (a : Access) (v : ℕ) (ps : List Place) → OnlyEntries f o a v ps → AllEntries f o a v ps → (old new : List ℕ) → IsLowered old new ps (length ps)
+pub entries_lowered : (f : FittedTrace) → IsFitted f → (o : ℕ) (a : Access) (v : ℕ) (ps : List Place) → OnlyEntries f o a v ps
+    → AllEntries f o a v ps → (old new : List ℕ) → IsLowered old new ps (length ps)
     → EachRun f (λ run. LoweredFor f run (λ b. (l : ℕ) × (b ≡ In o a v l)) old new)
-entries_lowered f k o a v ps only all old new r run is = lowered_for f run (λ b. (l : ℕ) × (b ≡ In o a v l)) ps (entries_are f k.run o a v ps only all run is) old new r
+entries_lowered f k o a v ps only all old new r run is =
+    lowered_for f run (λ b. (l : ℕ) × (b ≡ In o a v l)) ps (entries_are f k.run o a v ps only all run is) old new r

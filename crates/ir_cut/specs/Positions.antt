@@ -27,12 +27,15 @@ cut_of ps t = slice_index_or ps t 0
 
 -- these positions are a consistent cut
 abbrev pub IsConsistentCut : FittedTrace → List ℕ → Type 0
-IsConsistentCut f ps = EachRun f (λ run. IsCut (machine_of f) (start_of f) run (cut_of ps) × Consistent (machine_of f) (start_of f) run (cut_of ps))
+IsConsistentCut f ps = EachRun f (λ run. IsCut (machine_of f) (start_of f) run (cut_of ps)
+    × Consistent (machine_of f) (start_of f) run (cut_of ps))
 
 -- the consistent cut at or above ps with thread t at k or more that lies below every other such
 abbrev pub IsLeastCut : FittedTrace → List ℕ → ℕ → ℕ → List ℕ → Type 0
-IsLeastCut f ps t k qs = (length qs ≡ length f.guest.entries) × EachRun f (λ run. IsLeast (machine_of f) (start_of f) run (cut_of ps) t k (cut_of qs))
+IsLeastCut f ps t k qs = (length qs ≡ length f.guest.entries)
+    × EachRun f (λ run. IsLeast (machine_of f) (start_of f) run (cut_of ps) t k (cut_of qs))
 
 -- the consistent cut at or below ps with thread t at k or less that lies above every other such
 abbrev pub IsGreatestCut : FittedTrace → List ℕ → ℕ → ℕ → List ℕ → Type 0
-IsGreatestCut f ps t k qs = (length qs ≡ length f.guest.entries) × EachRun f (λ run. IsGreatest (machine_of f) (start_of f) run (cut_of ps) t k (cut_of qs))
+IsGreatestCut f ps t k qs = (length qs ≡ length f.guest.entries)
+    × EachRun f (λ run. IsGreatest (machine_of f) (start_of f) run (cut_of ps) t k (cut_of qs))

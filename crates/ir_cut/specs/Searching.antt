@@ -47,20 +47,26 @@ Needing l told = Needs (Out l.object l.access l.version) told
 abbrev pub IsEntryAt : ℕ → ℕ → Label → Type 0
 IsEntryAt o v told = (a : Access) × (l : ℕ) × (told ≡ In o a v l)
 
--- on the way from ps up to the least cut with thread t at k or more: no position is above that cut's, and what the first so many events of each thread need is inside
+-- on the way from ps up to the least cut with thread t at k or more: no position is above that cut's, and what the first so many events of
+-- each thread need is inside
 pub record Rising (f : FittedTrace) (ps : List ℕ) (t k : ℕ) (qs next : List ℕ) (run : List Step) : Type 0 where
   pub above : (u : ℕ) → cut_of ps u ≤ cut_of qs u
   pub reaches : k ≤ cut_of qs t
   pub cut : IsCut (machine_of f) (start_of f) run (cut_of qs)
-  pub least : (c : Cut) → IsCut (machine_of f) (start_of f) run c → Consistent (machine_of f) (start_of f) run c → ((u : ℕ) → cut_of ps u ≤ c u) → k ≤ c t → (u : ℕ) → cut_of qs u ≤ c u
-  pub met : (u e : ℕ) (x : Event) → e < cut_of next u → slice_get (recorded_thread f.recorded u).events e ≡ Some x → AreInside f run (NeededBy (label_of x)) (cut_of qs)
+  pub least : (c : Cut) → IsCut (machine_of f) (start_of f) run c → Consistent (machine_of f) (start_of f) run c
+      → ((u : ℕ) → cut_of ps u ≤ c u) → k ≤ c t → (u : ℕ) → cut_of qs u ≤ c u
+  pub met : (u e : ℕ) (x : Event) → e < cut_of next u → slice_get (recorded_thread f.recorded u).events e ≡ Some x
+      → AreInside f run (NeededBy (label_of x)) (cut_of qs)
 
--- on the way from ps down to the greatest cut with thread t at k or less: no position is below that cut's, and what needs the leaves of each thread but the first so many is outside
+-- on the way from ps down to the greatest cut with thread t at k or less: no position is below that cut's, and what needs the leaves of
+-- each thread but the first so many is outside
 pub record Falling (f : FittedTrace) (ps : List ℕ) (t k : ℕ) (qs next : List ℕ) (run : List Step) : Type 0 where
   pub below : (u : ℕ) → cut_of qs u ≤ cut_of ps u
   pub reaches : cut_of qs t ≤ k
-  pub greatest : (c : Cut) → IsCut (machine_of f) (start_of f) run c → Consistent (machine_of f) (start_of f) run c → ((u : ℕ) → c u ≤ cut_of ps u) → c t ≤ k → (u : ℕ) → c u ≤ cut_of qs u
-  pub unmet : (u e : ℕ) (l : Leave) → cut_of next u ≤ e → slice_get (placed_at f.placed u).leaves e ≡ Some l → AreOutside f run (Needing l) (cut_of qs)
+  pub greatest : (c : Cut) → IsCut (machine_of f) (start_of f) run c → Consistent (machine_of f) (start_of f) run c
+      → ((u : ℕ) → c u ≤ cut_of ps u) → c t ≤ k → (u : ℕ) → c u ≤ cut_of qs u
+  pub unmet : (u e : ℕ) (l : Leave) → cut_of next u ≤ e → slice_get (placed_at f.placed u).leaves e ≡ Some l
+      → AreOutside f run (Needing l) (cut_of qs)
 
 -- the event of thread u that comes next, behind the first so many, is no step of the cut
 abbrev pub NoneBelow : FittedTrace → List ℕ → List ℕ → ℕ → Type 0
@@ -68,7 +74,8 @@ NoneBelow f qs next u = (i : ℕ) → slice_get (placed_at f.placed u).entries (
 
 -- the last of the first so many leaves of thread u is a step of the cut
 abbrev pub NoneAbove : FittedTrace → List ℕ → List ℕ → ℕ → Type 0
-NoneAbove f qs next u = (e : ℕ) (l : Leave) → e < cut_of next u → slice_get (placed_at f.placed u).leaves e ≡ Some l → l.position < cut_of qs u
+NoneAbove f qs next u = (e : ℕ) (l : Leave) → e < cut_of next u → slice_get (placed_at f.placed u).leaves e ≡ Some l
+    → l.position < cut_of qs u
 
 -- its next event is a step of the cut
 abbrev pub HasBelow : FittedTrace → List ℕ → List ℕ → ℕ → Type 0
@@ -76,7 +83,8 @@ HasBelow f qs next u = (i : ℕ) × (slice_get (placed_at f.placed u).entries (c
 
 -- the last of the first so many leaves of thread u is no step of the cut
 abbrev pub HasAbove : FittedTrace → List ℕ → List ℕ → ℕ → Type 0
-HasAbove f qs next u = (e : ℕ) × (l : Leave) × (cut_of next u ≡ suc e) × (slice_get (placed_at f.placed u).leaves e ≡ Some l) × (cut_of qs u ≤ l.position)
+HasAbove f qs next u = (e : ℕ) × (l : Leave) × (cut_of next u ≡ suc e) × (slice_get (placed_at f.placed u).leaves e ≡ Some l)
+    × (cut_of qs u ≤ l.position)
 
 -- the first n events of thread u are steps of the cut
 abbrev pub AreFirst : FittedTrace → List ℕ → ℕ → ℕ → Type 0

@@ -11,11 +11,13 @@ lines-more n some = omega arith
 
 -- a line, and the lines of the bytes after it
 pub memory-more : (address : ℕ) (bytes : List ℕ) → 0 < length bytes
-    → memory_text address bytes ≡ (hex_word address ++ codes ": " ++ encode_lower (take 16 bytes) ++ codes "\n") ++ memory_text (address + 16) (drop 16 bytes)
+    → memory_text address bytes ≡ (hex_word address ++ codes ": " ++ encode_lower (take 16 bytes) ++ codes "\n") ++ memory_text
+    (address + 16) (drop 16 bytes)
 unfolding memory_lines
 memory-more address bytes some =
     let n : ℕ = lines_for 16 (length (drop 16 bytes)) in
-    let e : lines_for 16 (length bytes) ≡ suc n = lines-more (length bytes) some ∙ ap (λ (k : ℕ). suc (lines_for 16 k)) (sym (length-drop 16 bytes)) in
+    let e : lines_for 16 (length bytes) ≡ suc n = lines-more (length bytes) some
+        ∙ ap (λ (k : ℕ). suc (lines_for 16 k)) (sym (length-drop 16 bytes)) in
     ap (λ (k : ℕ). memory_lines k address bytes) e
 
 pub memory-none : (address : ℕ) → memory_text address [] ≡ []
@@ -23,8 +25,10 @@ unfolding memory_lines
 memory-none address = refl
 
 -- a line more is put
-pub memory-next : (before after all line rest more : List ℕ) (at k : ℕ) → 0 < length rest → k ≡ min 16 (length rest) → line ≡ take k rest → more ≡ drop k rest
-    → after ≡ before ++ (hex_word at ++ codes ": " ++ encode_lower line ++ codes "\n") → before ++ memory_text at rest ≡ all → after ++ memory_text (at + 16) more ≡ all
+pub memory-next : (before after all line rest more : List ℕ) (at k : ℕ) → 0 < length rest → k ≡ min 16 (length rest) → line ≡ take k rest
+    → more ≡ drop k rest
+    → after ≡ before ++ (hex_word at ++ codes ": " ++ encode_lower line ++ codes "\n") → before ++ memory_text at rest ≡ all
+    → after ++ memory_text (at + 16) more ≡ all
 memory-next before after all line rest more at k some is prefix back put so_far =
     let l : line ≡ take 16 rest = prefix ∙ ap (λ (n : ℕ). take n rest) is ∙ take_min 16 rest in
     let m : more ≡ drop 16 rest = back ∙ ap (λ (n : ℕ). drop n rest) is ∙ drop_min 16 rest in
@@ -43,11 +47,13 @@ memory-done before all (b ∷ rest) at none so_far = absurd cc
 
 -- a line of 43 bytes fits for each 16 bytes that are left
 pub room-next : (before after rest more at k : ℕ) → k ≡ min 16 rest → more + k ≡ rest → after ≤ before + 43
-    → (16 * before + 43 * rest ≤ 16 * 200 + 43 * 256) × (at + rest ≤ 2 ^ 31 + 256) → 0 < more → (16 * after + 43 * more ≤ 16 * 200 + 43 * 256) × (at + 16 + more ≤ 2 ^ 31 + 256)
+    → (16 * before + 43 * rest ≤ 16 * 200 + 43 * 256) × (at + rest ≤ 2 ^ 31 + 256) → 0 < more
+    → (16 * after + 43 * more ≤ 16 * 200 + 43 * 256) × (at + 16 + more ≤ 2 ^ 31 + 256)
 room-next before after rest more at k is left grown fits some = (omega arith, omega arith)
 
 -- a number is put behind what was put before
-pub put-more : (before first words digits now after : List ℕ) → now ≡ before ++ first → after ≡ now ++ (words ++ digits) → after ≡ before ++ (first ++ words ++ digits)
+pub put-more : (before first words digits now after : List ℕ) → now ≡ before ++ first → after ≡ now ++ (words ++ digits)
+    → after ≡ before ++ (first ++ words ++ digits)
 put-more before first words digits now after e f =
     f ∙ ap (λ (x : List ℕ). x ++ (words ++ digits)) e
     ∙ append_assoc before first (words ++ digits)

@@ -49,12 +49,14 @@ carried run d Position text next is = keeps d _ next _ text refl is
 carried run d (Show show) text next is = keeps d _ next _ text refl is
 carried run d Quit text next is = keeps d _ next _ text refl is
 
-answered : (r : Option Refusal) (run : List Step) (d : Desk) (c : Command) (text : List ℕ) (next : Desk) → AnswersBy r run d c text next → next.fitted ≡ d.fitted
+answered : (r : Option Refusal) (run : List Step) (d : Desk) (c : Command) (text : List ℕ) (next : Desk) → AnswersBy r run d c text next
+    → next.fitted ≡ d.fitted
 answered (Some r) run d c text next is = keeps d _ next _ text refl is
 answered None run d c text next (inl is) = carried run d c text next is
 answered None run d c text next (inr (may, is)) = keeps d _ next _ text refl is
 
-pub replies_keep : (asked : Result (Option Command) Refusal) (run : List Step) (d : Desk) (text : List ℕ) (next : Desk) → RepliesBy asked run d text next → next.fitted ≡ d.fitted
+pub replies_keep : (asked : Result (Option Command) Refusal) (run : List Step) (d : Desk) (text : List ℕ) (next : Desk)
+    → RepliesBy asked run d text next → next.fitted ≡ d.fitted
 unfolding Answers
 replies_keep (Ok (Some c)) run d text next is = answered (refusal_of d c) run d c text next is
 replies_keep (Ok None) run d text next is = keeps d _ next _ text refl is

@@ -37,7 +37,8 @@ nothing_read (Some xs) = refl
 
 -- the writer failed in the opening lines, or the answers after them
 abbrev pub Fails : Opening → Option (List ℕ) → Option (List ℕ) → Option (List ℕ) → List ℕ → Type 0
-Fails opening a w0 w1 consumed = (through is_quit (lines_of consumed) ≡ lines_of consumed) × ((cut consumed).rest ≢ [] → IsAtEnd a) × AppendsPrefix w0 w1 (told opening (lines_of consumed))
+Fails opening a w0 w1 consumed = (through is_quit (lines_of consumed) ≡ lines_of consumed) × ((cut consumed).rest ≢ [] → IsAtEnd a)
+    × AppendsPrefix w0 w1 (told opening (lines_of consumed))
 
 no_line : lines_of [] ≡ []
 unfolding cut
@@ -52,18 +53,22 @@ unfolding through
 through-none [] e = refl
 through-none (l ∷ ls) e = absurd cc
 
-pub none_read : (opening : Opening) (limit : ℕ) (a w0 w1 : Option (List ℕ)) → AppendsPrefix w0 w1 (opening_text opening) → Reads limit a a (Fails opening a w0 w1)
+pub none_read : (opening : Opening) (limit : ℕ) (a w0 w1 : Option (List ℕ)) → AppendsPrefix w0 w1 (opening_text opening)
+    → Reads limit a a (Fails opening a w0 w1)
 none_read opening limit a w0 w1 prefix = record {
   consumed = [];
   taken = nothing_read a;
   within = omega arith;
-  holds = (through-none (lines_of []) no_line, λ some. absurd (some no_rest), prefix_more w0 w1 (opening_text opening) (answers_after opening (lines_of [])) prefix);
+  holds = (through-none (lines_of []) no_line, λ some. absurd (some no_rest), prefix_more w0 w1 (opening_text opening)
+      (answers_after opening (lines_of [])) prefix);
 }
 
 -- ---- after the opening lines
 
-pub Reads-map : (limit : ℕ) (a b : Option (List ℕ)) (P Q : List ℕ → Type 0) → ((consumed : List ℕ) → P consumed → Q consumed) → Reads limit a b P → Reads limit a b Q
-Reads-map limit a b P Q go reads = record { consumed = reads.consumed; taken = reads.taken; within = reads.within; holds = go reads.consumed reads.holds }
+pub Reads-map : (limit : ℕ) (a b : Option (List ℕ)) (P Q : List ℕ → Type 0) → ((consumed : List ℕ) → P consumed → Q consumed)
+    → Reads limit a b P → Reads limit a b Q
+Reads-map limit a b P Q go reads = record { consumed = reads.consumed; taken = reads.taken; within = reads.within; holds =
+    go reads.consumed reads.holds }
 
 pub IfSome-map : (a : Option (List ℕ)) (P Q : List ℕ → Type 0) → ((input : List ℕ) → P input → Q input) → IfSome a P → IfSome a Q
 IfSome-map None P Q go p = tt
@@ -77,31 +82,38 @@ IfServed-by (Err fault.Write) P Q go p = tt
 IfServed-by (Err fault.TooLong) P Q go p = go p
 
 -- the answers after the opening lines
-pub session_of : (opening : Opening) (m : Reference) (limit : ℕ) (r : Result Served Fault) (w0 w1 w2 : Option (List ℕ)) (input : List ℕ) → Ready m ≡ opening → Appends w0 w1 (opening_text (Ready m))
+pub session_of : (opening : Opening) (m : Reference) (limit : ℕ) (r : Result Served Fault) (w0 w1 w2 : Option (List ℕ)) (input : List ℕ)
+    → Ready m ≡ opening → Appends w0 w1 (opening_text (Ready m))
     → LeadsTo (Only reply_to next_after) is_quit m limit r w1 w2 input → Session opening limit (ended_by r) w0 w2 input
 session_of opening m limit r w0 w1 w2 input is begun leads =
     let P : Opening → Type 0 = λ o. Session o limit (ended_by r) w0 w2 input in
     let answered : List ℕ = answers reply_to next_after m (through is_quit (heard limit input)) in
     subst P is (record {
       ending = ap ended_by leads.ending;
-      wrote = Appends-trans w0 w1 w2 (opening_text (Ready m)) answered begun (wrote_only reply_to next_after m (through is_quit (heard limit input)) w1 w2 leads.wrote);
+      wrote = Appends-trans w0 w1 w2 (opening_text (Ready m)) answered begun
+          (wrote_only reply_to next_after m (through is_quit (heard limit input)) w1 w2 leads.wrote);
     })
 
 -- all answers to whole lines after the opening lines
-pub told_after : (opening : Opening) (m : Reference) (w0 w1 w2 : Option (List ℕ)) (lines : List (List ℕ)) → Ready m ≡ opening → Appends w0 w1 (opening_text (Ready m))
+pub told_after : (opening : Opening) (m : Reference) (w0 w1 w2 : Option (List ℕ)) (lines : List (List ℕ)) → Ready m ≡ opening
+    → Appends w0 w1 (opening_text (Ready m))
     → Wrote (Only reply_to next_after) m lines w1 w2 → Appends w0 w2 (told opening lines)
 told_after opening m w0 w1 w2 lines is begun grown =
     let P : Opening → Type 0 = λ o. Appends w0 w2 (told o lines) in
-    subst P is (Appends-trans w0 w1 w2 (opening_text (Ready m)) (answers reply_to next_after m lines) begun (wrote_only reply_to next_after m lines w1 w2 grown))
+    subst P is (Appends-trans w0 w1 w2 (opening_text (Ready m)) (answers reply_to next_after m lines) begun
+        (wrote_only reply_to next_after m lines w1 w2 grown))
 
 -- a prefix of the answers after the opening lines
-pub told_prefix : (opening : Opening) (m : Reference) (w0 w1 w2 : Option (List ℕ)) (lines : List (List ℕ)) → Ready m ≡ opening → Appends w0 w1 (opening_text (Ready m))
+pub told_prefix : (opening : Opening) (m : Reference) (w0 w1 w2 : Option (List ℕ)) (lines : List (List ℕ)) → Ready m ≡ opening
+    → Appends w0 w1 (opening_text (Ready m))
     → WrotePrefix (Only reply_to next_after) m lines w1 w2 → AppendsPrefix w0 w2 (told opening lines)
 told_prefix opening m w0 w1 w2 lines is begun prefix =
     let P : Opening → Type 0 = λ o. AppendsPrefix w0 w2 (told o lines) in
-    subst P is (prefix_after w0 w1 w2 (opening_text (Ready m)) (answers reply_to next_after m lines) begun (prefix_only reply_to next_after m lines w1 w2 prefix))
+    subst P is (prefix_after w0 w1 w2 (opening_text (Ready m)) (answers reply_to next_after m lines) begun
+        (prefix_only reply_to next_after m lines w1 w2 prefix))
 
-pub begun_at : (opening : Opening) (m : Reference) (w0 w1 : Option (List ℕ)) → opening ≡ Ready m → Appends w0 w1 (opening_text opening) → Appends w0 w1 (opening_text (Ready m))
+pub begun_at : (opening : Opening) (m : Reference) (w0 w1 : Option (List ℕ)) → opening ≡ Ready m → Appends w0 w1 (opening_text opening)
+    → Appends w0 w1 (opening_text (Ready m))
 begun_at opening m w0 w1 is begun = let P : Opening → Type 0 = λ o. Appends w0 w1 (opening_text o) in subst P is begun
 
 pub was_read : (r : Result Served Fault) → ended_by r ≡ Err err.Read → r ≡ Err fault.Read
@@ -119,14 +131,20 @@ was_write (Err fault.Write) e = refl
 was_write (Err fault.TooLong) e = absurd cc
 
 -- what a session says of its whole input, from what was said of the lines
-pub served_known : (opening : Opening) (m : Reference) (limit : ℕ) (result : Result Ended SessionErr) (r : Result Served Fault) (a w0 w1 w2 : Option (List ℕ)) → result ≡ ended_by r → Ready m ≡ opening → Appends w0 w1 (opening_text (Ready m))
-    → IfEnded r (IfSome a (LeadsTo (Only reply_to next_after) is_quit m limit r w1 w2)) → IfServed result (IfSome a (Session opening limit result w0 w2))
+pub served_known : (opening : Opening) (m : Reference) (limit : ℕ) (result : Result Ended SessionErr) (r : Result Served Fault)
+    (a w0 w1 w2 : Option (List ℕ)) → result ≡ ended_by r → Ready m ≡ opening → Appends w0 w1 (opening_text (Ready m))
+    → IfEnded r (IfSome a (LeadsTo (Only reply_to next_after) is_quit m limit r w1 w2))
+    → IfServed result (IfSome a (Session opening limit result w0 w2))
 served_known opening m limit result r a w0 w1 w2 ended is begun known =
     let P : Result Ended SessionErr → Type 0 = λ x. IfServed x (IfSome a (Session opening limit x w0 w2)) in
-    subst P (sym ended) (IfServed-by r _ _ (IfSome-map a _ _ (λ input leads. session_of opening m limit r w0 w1 w2 input is begun leads)) known)
+    subst P (sym ended) (IfServed-by r _ _ (IfSome-map a _ _ (λ input leads. session_of opening m limit r w0 w1 w2 input is begun leads))
+        known)
 
-pub served_ended : (opening : Opening) (m : Reference) (limit : ℕ) (result : Result Ended SessionErr) (r : Result Served Fault) (a b w0 w1 w2 : Option (List ℕ)) → result ≡ ended_by r → Ready m ≡ opening → Appends w0 w1 (opening_text (Ready m))
-    → IfEnded r (Reads limit a b (LeadsTo (Only reply_to next_after) is_quit m limit r w1 w2)) → IfServed result (Reads limit a b (Session opening limit result w0 w2))
+pub served_ended : (opening : Opening) (m : Reference) (limit : ℕ) (result : Result Ended SessionErr) (r : Result Served Fault)
+    (a b w0 w1 w2 : Option (List ℕ)) → result ≡ ended_by r → Ready m ≡ opening → Appends w0 w1 (opening_text (Ready m))
+    → IfEnded r (Reads limit a b (LeadsTo (Only reply_to next_after) is_quit m limit r w1 w2))
+    → IfServed result (Reads limit a b (Session opening limit result w0 w2))
 served_ended opening m limit result r a b w0 w1 w2 ended is begun known =
     let P : Result Ended SessionErr → Type 0 = λ x. IfServed x (Reads limit a b (Session opening limit x w0 w2)) in
-    subst P (sym ended) (IfServed-by r _ _ (Reads-map limit a b _ _ (λ input leads. session_of opening m limit r w0 w1 w2 input is begun leads)) known)
+    subst P (sym ended) (IfServed-by r _ _ (Reads-map limit a b _ _
+        (λ input leads. session_of opening m limit r w0 w1 w2 input is begun leads)) known)

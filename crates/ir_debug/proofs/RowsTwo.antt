@@ -17,7 +17,8 @@ use Rattle.ir_debug.specs.Machine.Shown.{shown}
 
 abbrev code_p : List ℕ
 code_p =
-    0x00000513 ∷ 0x00800893 ∷ 0x73 ∷ 0x00000513 ∷ 0x00000593 ∷ 0x00a00893 ∷ 0x73 ∷ 0x00150613 ∷ 0x00000513 ∷ 0x00000593 ∷ 0x00b00893 ∷ 0x73 ∷ 0x00000513 ∷ 0x00900893 ∷ 0x73 ∷ 0x00000513 ∷ 0x00100893 ∷ 0x73 ∷ []
+    0x00000513 ∷ 0x00800893 ∷ 0x73 ∷ 0x00000513 ∷ 0x00000593 ∷ 0x00a00893 ∷ 0x73 ∷ 0x00150613 ∷ 0x00000513 ∷ 0x00000593 ∷ 0x00b00893 ∷ 0x73
+        ∷ 0x00000513 ∷ 0x00900893 ∷ 0x73 ∷ 0x00000513 ∷ 0x00100893 ∷ 0x73 ∷ []
 
 abbrev fitted_p : FittedTrace
 fitted_p = record {
@@ -25,7 +26,8 @@ fitted_p = record {
   recorded = record {
     objects = 1;
     budget = 1000;
-    threads = record { steps = 18; end = Exit 0; events = Write 0 1 0 ∷ [] } ∷ record { steps = 18; end = Exit 0; events = Write 0 0 0 ∷ [] } ∷ [];
+    threads = record { steps = 18; end = Exit 0; events = Write 0 1 0 ∷ [] }
+        ∷ record { steps = 18; end = Exit 0; events = Write 0 0 0 ∷ [] } ∷ [];
   };
   placed = [];
 }
@@ -44,11 +46,13 @@ log_p : shown run_p (at_p (3 ∷ 15 ∷ [])) (Log 0) ≡ codes "log 1 of 1\n0 wr
 unfolding shown upd after_reply after inside_for event_lines digits encode_with decoded.instruction_of
 log_p = refl
 
-object_p : shown run_p (at_p (3 ∷ 15 ∷ [])) (Object 0) ≡ codes "version 1 left 0 readers - writer 0\nwords 00000001 00000000 00000000 00000000 00000000 00000000 00000000 00000000\n"
+object_p : shown run_p (at_p (3 ∷ 15 ∷ [])) (Object 0) ≡ codes "version 1 left 0 readers - writer 0\nwords 00000001 00000000 00000000
+    00000000 00000000 00000000 00000000 00000000\n"
 unfolding shown upd after_reply after inside_for event_lines digits encode_with decoded.instruction_of
 object_p = refl
 
-object_end : shown run_p (at_p (18 ∷ 18 ∷ [])) (Object 0) ≡ codes "version 2 left 0 readers - writer -\nwords 00000002 00000000 00000000 00000000 00000000 00000000 00000000 00000000\n"
+object_end : shown run_p (at_p (18 ∷ 18 ∷ [])) (Object 0) ≡ codes "version 2 left 0 readers - writer -\nwords 00000002 00000000 00000000
+    00000000 00000000 00000000 00000000 00000000\n"
 unfolding shown upd after_reply after inside_for event_lines digits encode_with decoded.instruction_of
 object_end = refl
 

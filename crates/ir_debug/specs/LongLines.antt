@@ -26,7 +26,8 @@ long_next : (m : Reference) (line : List ℕ) → next_after m (take 1025 line) 
 unfolding next_after
 long_next m line = ap (λ asked. next_of m asked) (long_at 1025 line (omega arith))
 
-pub long_replies : (m : Reference) (line text : List ℕ) (next : Reference) → Only reply_to next_after m (take 1025 line) text next → Only reply_to next_after m line text next
+pub long_replies : (m : Reference) (line text : List ℕ) (next : Reference) → Only reply_to next_after m (take 1025 line) text next
+    → Only reply_to next_after m line text next
 long_replies m line text next is = (is.0 ∙ long_reply m line, is.1 ∙ long_next m line)
 
 pub long_quit : (line : List ℕ) → is_quit (take 1025 line) ≡ is_quit line

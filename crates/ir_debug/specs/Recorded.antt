@@ -27,4 +27,5 @@ pub record IsRecorded (r : Recorded) : Type 0 where
 
 -- the magic, one thread, no object, two reserved bytes, the budget; the thread's steps, its end, its code, and no event
 abbrev pub trace_encoding : Recorded → List ℕ
-trace_encoding r = trace_magic ++ 1 ∷ 0 ∷ 0 ∷ 0 ∷ [] ++ little_bytes 8 r.budget ++ little_bytes 8 r.steps ++ end_number r.end ∷ [] ++ little_bytes 4 (end_code r.end) ++ little_bytes 4 0
+trace_encoding r = trace_magic ++ 1 ∷ 0 ∷ 0 ∷ 0 ∷ [] ++ little_bytes 8 r.budget ++ little_bytes 8 r.steps ++ end_number r.end
+    ∷ [] ++ little_bytes 4 (end_code r.end) ++ little_bytes 4 0

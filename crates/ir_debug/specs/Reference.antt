@@ -59,7 +59,8 @@ next_of_command m (Move (Step thread count)) = if is_thread thread then moved m 
 next_of_command m command = m
 
 abbrev pub answer_to_command : Reference → Command → List ℕ
-answer_to_command m (Move (Step thread count)) = if is_thread thread then place_text m.last (moved m count).at else refusal_text NoSuchThread
+answer_to_command m (Move (Step thread count)) =
+    if is_thread thread then place_text m.last (moved m count).at else refusal_text NoSuchThread
 answer_to_command m (Show (Registers thread)) = if is_thread thread then machine_text (current m).core else refusal_text NoSuchThread
 answer_to_command m Quit = codes "bye\n"
 answer_to_command m command = refusal_text UnknownCommand

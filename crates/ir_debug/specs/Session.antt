@@ -98,6 +98,7 @@ IfServed (Err Write) P = ⊤
 IfServed (Err TooLong) P = P
 
 -- the input leads to this result, and the writer took the session's bytes
-pub record Session (opening : Opening) (limit : ℕ) (result : Result Ended SessionErr) (old new : Option (List ℕ)) (input : List ℕ) : Type 0 where
+pub record Session (opening : Opening) (limit : ℕ) (result : Result Ended SessionErr) (old new : Option (List ℕ)) (input : List ℕ) : Type
+    0 where
   pub ending : result ≡ ending_of opening limit input
   pub wrote : Appends old new (written_by opening (heard limit input))

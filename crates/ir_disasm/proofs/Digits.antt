@@ -22,6 +22,8 @@ hex_step zero n h = absurd (omega (arith, h))
 hex_step (suc k) n h = let e : suc k - 1 ≡ k = omega arith in rw e refl
 
 -- a distance and the address of it, put together
-pub far_from : (pc t : ℕ) (z : ℤ) (s d a : List ℕ) → s ≡ d ++ (codes " # " ++ a) → d ≡ distance z → a ≡ hex 8 t → t ≡ (pc + low_bits 32 z) % 2 ^ 32 → s ≡ far pc z
+pub far_from : (pc t : ℕ) (z : ℤ) (s d a : List ℕ) → s ≡ d ++ (codes " # " ++ a) → d ≡ distance z → a ≡ hex 8 t
+    → t ≡ (pc + low_bits 32 z) % 2 ^ 32 → s ≡ far pc z
 far_from pc t z s d a e f g h =
-    e ∙ ap (λ (x : List ℕ). x ++ (codes " # " ++ a)) f ∙ ap (λ (x : List ℕ). distance z ++ (codes " # " ++ x)) (g ∙ ap (λ (n : ℕ). hex 8 n) h)
+    e ∙ ap (λ (x : List ℕ). x ++ (codes " # " ++ a)) f
+        ∙ ap (λ (x : List ℕ). distance z ++ (codes " # " ++ x)) (g ∙ ap (λ (n : ℕ). hex 8 n) h)

@@ -20,8 +20,10 @@ use Rattle.ir_fit.specs.declared.place.Place.{Place}
 rest_is : (xs : List Place) (i : ℕ) → take (length xs - i) (drop i xs) ≡ drop i xs
 rest_is xs i = take_all (length xs - i) (drop i xs) (omega (arith, length-drop i xs))
 
-rest_rises : (xs : List Place) (i : ℕ) → IsNonDecreasingBy (λ (p : Place). p.version) xs → IsNonDecreasingBy (λ (p : Place). p.version) (drop i xs)
-rest_rises xs i up j k d le l = rw (get_or-drop i xs j d, get_or-drop i xs k d) (up (i + j) (i + k) d (omega (arith, le)) (omega (arith, l, length-drop i xs)))
+rest_rises : (xs : List Place) (i : ℕ) → IsNonDecreasingBy (λ (p : Place). p.version) xs
+    → IsNonDecreasingBy (λ (p : Place). p.version) (drop i xs)
+rest_rises xs i up j k d le l = rw (get_or-drop i xs j d, get_or-drop i xs k d)
+    (up (i + j) (i + k) d (omega (arith, le)) (omega (arith, l, length-drop i xs)))
 
 -- where those before version v end, and where those at it end
 abbrev pub IsBefore : List Place → ℕ → ℕ → Type 0
@@ -30,7 +32,8 @@ IsBefore xs v i = IsPartitionPoint (λ (p : Place). p.version < v) (λ p. v ≤ 
 abbrev pub IsUpTo : List Place → ℕ → ℕ → Type 0
 IsUpTo xs v n = IsPartitionPoint (λ (p : Place). p.version ≤ v) (λ p. v < p.version) xs n
 
-only_at : (xs : List Place) (i n v : ℕ) → n ≤ length (drop i xs) → IsBefore xs v i → IsUpTo (drop i xs) v n → (p : Place) → Contains (take n (drop i xs)) p → Contains xs p × (p.version ≡ v)
+only_at : (xs : List Place) (i n v : ℕ) → n ≤ length (drop i xs) → IsBefore xs v i → IsUpTo (drop i xs) v n → (p : Place)
+    → Contains (take n (drop i xs)) p → Contains xs p × (p.version ≡ v)
 only_at xs i n v le first second p h =
     let k : ℕ = h.0 in
     let kn : k < n = omega (arith, h.1, length-take-le n (drop i xs) le) in
@@ -41,7 +44,8 @@ only_at xs i n v le first second p h =
     let high : p.version ≤ v = subst (λ (y : Place). y.version ≤ v) here (second.0 k p (omega arith) kn) in
     ((i + k, within, there), omega (arith, low, high))
 
-all_at : (xs : List Place) (i n v : ℕ) → n ≤ length (drop i xs) → IsBefore xs v i → IsUpTo (drop i xs) v n → (p : Place) → Contains xs p → p.version ≡ v → Contains (take n (drop i xs)) p
+all_at : (xs : List Place) (i n v : ℕ) → n ≤ length (drop i xs) → IsBefore xs v i → IsUpTo (drop i xs) v n → (p : Place) → Contains xs p
+    → p.version ≡ v → Contains (take n (drop i xs)) p
 all_at xs i n v le first second p h e = elim (cases_lt h.0 i) [
   | inl l ↦ absurd (let low = subst (λ (y : Place). y.version < v) h.2 (first.0 h.0 p (omega arith) l) in omega (arith, low, e))
   | inr from ↦
@@ -56,28 +60,38 @@ all_at xs i n v le first second p h e = elim (cases_lt h.0 i) [
 ]
 
 -- the steps between are those at the version
-pub at_version : (xs ys : List Place) (i n v : ℕ) → xs ≡ ys → n ≤ length (take (length xs - i) (drop i xs)) → IsBefore xs v i → IsUpTo (take (length xs - i) (drop i xs)) v n
-    → ((p : Place) → Contains (take n (take (length xs - i) (drop i xs))) p → Contains ys p × (p.version ≡ v)) × ((p : Place) → Contains ys p → p.version ≡ v → Contains (take n (take (length xs - i) (drop i xs))) p)
+pub at_version : (xs ys : List Place) (i n v : ℕ) → xs ≡ ys → n ≤ length (take (length xs - i) (drop i xs)) → IsBefore xs v i
+    → IsUpTo (take (length xs - i) (drop i xs)) v n
+    → ((p : Place) → Contains (take n (take (length xs - i) (drop i xs))) p → Contains ys p × (p.version ≡ v))
+    × ((p : Place) → Contains ys p → p.version ≡ v → Contains (take n (take (length xs - i) (drop i xs))) p)
 at_version xs ys i n v same le first second =
     let rest = rest_is xs i in
     let fits : n ≤ length (drop i xs) = subst (λ l. n ≤ length l) rest le in
     let behind : IsUpTo (drop i xs) v n = subst (λ l. IsUpTo l v n) rest second in (
-      λ p h. subst (λ l. Contains l p × (p.version ≡ v)) same (only_at xs i n v fits first behind p (subst (λ l. Contains (take n l) p) rest h)),
-      λ p h e. subst (λ l. Contains (take n l) p) (sym rest) (all_at xs i n v fits first behind p (subst (λ l. Contains l p) (sym same) h) e),
+      λ p h. subst (λ l. Contains l p × (p.version ≡ v)) same
+          (only_at xs i n v fits first behind p (subst (λ l. Contains (take n l) p) rest h)),
+      λ p h e. subst (λ l. Contains (take n l) p) (sym rest)
+          (all_at xs i n v fits first behind p (subst (λ l. Contains l p) (sym same) h) e),
     )
 
-pub rest_in_order : (xs : List Place) (i : ℕ) → IsNonDecreasingBy (λ (p : Place). p.version) xs → IsNonDecreasingBy (λ (p : Place). p.version) (take (length xs - i) (drop i xs))
+pub rest_in_order : (xs : List Place) (i : ℕ) → IsNonDecreasingBy (λ (p : Place). p.version) xs
+    → IsNonDecreasingBy (λ (p : Place). p.version) (take (length xs - i) (drop i xs))
 rest_in_order xs i up = subst (IsNonDecreasingBy (λ (p : Place). p.version)) (sym (rest_is xs i)) (rest_rises xs i up)
 
 -- a place that is at the version, and those before it are not
-pub before_guess : (xs : List Place) (v i : ℕ) (d : Place) → IsNonDecreasingBy (λ (p : Place). p.version) xs → i < length xs → (get_or xs i d).version ≡ v → (0 < i → (get_or xs (i - 1) d).version < v) → IsBefore xs v i
+pub before_guess : (xs : List Place) (v i : ℕ) (d : Place) → IsNonDecreasingBy (λ (p : Place). p.version) xs → i < length xs
+    → (get_or xs i d).version ≡ v → (0 < i → (get_or xs (i - 1) d).version < v) → IsBefore xs v i
 before_guess xs v i d up l at low = (
-  λ k e from lt. let a = up k (i - 1) d (omega (arith, lt)) (omega (arith, l)) in let b = low (omega (arith, lt)) in let s : get_or xs k e ≡ get_or xs k d = get_or_default xs k e d (omega (arith, lt, l)) in subst (λ (y : Place). y.version < v) (sym s) (omega (arith, a, b)),
-  λ k e from lt. let a = up i k d from lt in let s : get_or xs k e ≡ get_or xs k d = get_or_default xs k e d lt in subst (λ (y : Place). v ≤ y.version) (sym s) (omega (arith, a, at)),
+  λ k e from lt. let a = up k (i - 1) d (omega (arith, lt)) (omega (arith, l)) in let b = low (omega (arith, lt)) in
+      let s : get_or xs k e ≡ get_or xs k d = get_or_default xs k e d (omega (arith, lt, l)) in
+      subst (λ (y : Place). y.version < v) (sym s) (omega (arith, a, b)),
+  λ k e from lt. let a = up i k d from lt in let s : get_or xs k e ≡ get_or xs k d = get_or_default xs k e d lt in
+      subst (λ (y : Place). v ≤ y.version) (sym s) (omega (arith, a, at)),
 )
 
 -- those from i on are past the version, and the one before i is not
-pub up_to_guess : (xs : List Place) (v i : ℕ) (d : Place) → IsNonDecreasingBy (λ (p : Place). p.version) xs → (0 < i → i ≤ length xs) → (0 < i → (get_or xs (i - 1) d).version ≤ v) → (i < length xs → v < (get_or xs i d).version) → IsUpTo xs v i
+pub up_to_guess : (xs : List Place) (v i : ℕ) (d : Place) → IsNonDecreasingBy (λ (p : Place). p.version) xs → (0 < i → i ≤ length xs)
+    → (0 < i → (get_or xs (i - 1) d).version ≤ v) → (i < length xs → v < (get_or xs i d).version) → IsUpTo xs v i
 up_to_guess xs v i d up l low high = (
   λ k e from lt.
       let le = l (omega (arith, lt)) in
@@ -93,10 +107,12 @@ up_to_guess xs v i d up l low high = (
 )
 
 -- the same of the tests of a search
-pub before_tested : (xs : List Place) (v i : ℕ) → IsPartitionPoint (λ (y : Place). ltb y.version v ≡ true) (λ y. ltb y.version v ≡ false) xs i → IsBefore xs v i
+pub before_tested : (xs : List Place) (v i : ℕ)
+    → IsPartitionPoint (λ (y : Place). ltb y.version v ≡ true) (λ y. ltb y.version v ≡ false) xs i → IsBefore xs v i
 before_tested xs v i h = (λ k d from lt. ltb-true _ v (h.0 k d from lt), λ k d from lt. ltb-false _ v (h.1 k d from lt))
 
-pub up_to_tested : (xs : List Place) (v n : ℕ) → IsPartitionPoint (λ (y : Place). leb y.version v ≡ true) (λ y. leb y.version v ≡ false) xs n → IsUpTo xs v n
+pub up_to_tested : (xs : List Place) (v n : ℕ)
+    → IsPartitionPoint (λ (y : Place). leb y.version v ≡ true) (λ y. leb y.version v ≡ false) xs n → IsUpTo xs v n
 up_to_tested xs v n h = (λ k d from lt. leb-true _ v (h.0 k d from lt), λ k d from lt. leb-false _ v (h.1 k d from lt))
 
 -- ---- lists that are sorted in turn
@@ -104,18 +120,21 @@ up_to_tested xs v n h = (λ k d from lt. leb-true _ v (h.0 k d from lt), λ k d 
 -- the lists below n have their steps in order, and the others are as they were
 pub record SortedBelow (n : ℕ) (old new : List (List Place)) : Type 0 where
   pub size : length new ≡ length old
-  pub below : (o : ℕ) → o < n → IsPermutation (get_or old o []) (get_or new o []) × IsNonDecreasingBy (λ (p : Place). p.version) (get_or new o [])
+  pub below : (o : ℕ) → o < n → IsPermutation (get_or old o []) (get_or new o [])
+      × IsNonDecreasingBy (λ (p : Place). p.version) (get_or new o [])
   pub rest : (o : ℕ) → n ≤ o → get_or new o [] ≡ get_or old o []
 
 pub none_sorted : (xs : List (List Place)) → SortedBelow 0 xs xs
 none_sorted xs = record { size = refl; below = λ o l. absurd (omega (arith, l)); rest = λ o l. refl }
 
-pub one_sorted : (n : ℕ) (old new : List (List Place)) (x y : List Place) → n < length new → x ≡ get_or new n x → IsPermutation x y → IsNonDecreasingBy (λ (p : Place). p.version) y → SortedBelow n old new → SortedBelow (n + 1) old (slice_set new n y)
+pub one_sorted : (n : ℕ) (old new : List (List Place)) (x y : List Place) → n < length new → x ≡ get_or new n x → IsPermutation x y
+    → IsNonDecreasingBy (λ (p : Place). p.version) y → SortedBelow n old new → SortedBelow (n + 1) old (slice_set new n y)
 one_sorted n old new x y l read same up h = record {
   size = length-set new n y ∙ h.size;
   below = λ o lo. elim (cases_eq o n) [
     | inl here ↦
-        let was : x ≡ get_or old o [] = get_or_read new n x l read [] ∙ ap (λ k. get_or new k []) (sym here) ∙ h.rest o (omega (arith, here)) in
+        let was : x ≡ get_or old o [] = get_or_read new n x l read [] ∙ ap (λ k. get_or new k []) (sym here)
+            ∙ h.rest o (omega (arith, here)) in
         let is : get_or (slice_set new n y) o [] ≡ y = ap (λ k. get_or (slice_set new n y) k []) here ∙ get_or-set_same new n y [] l in (
           subst (λ z. IsPermutation (get_or old o []) z) (sym is) (subst (λ z. IsPermutation z y) was same),
           subst (IsNonDecreasingBy (λ (p : Place). p.version)) (sym is) up,
@@ -142,11 +161,14 @@ all_sorted n old new h l o = elim (cases_lt o n) [
 
 -- ---- one more step
 
-set_adds : (xs : List (List Place)) (o q : ℕ) (p : Place) → q < length xs → get_or (slice_set xs o (get_or xs o [] ++ p ∷ [])) q [] ≡ get_or xs q [] ++ join_if (eqb o q) p []
+set_adds : (xs : List (List Place)) (o q : ℕ) (p : Place) → q < length xs
+    → get_or (slice_set xs o (get_or xs o [] ++ p ∷ [])) q [] ≡ get_or xs q [] ++ join_if (eqb o q) p []
 set_adds xs o q p l = elim (cases_eq o q) [
   | inl here ↦ subst (λ k. get_or (slice_set xs o (get_or xs o [] ++ p ∷ [])) k [] ≡ get_or xs k [] ++ join_if (eqb o k) p []) here
-      (get_or-set_same xs o (get_or xs o [] ++ p ∷ []) [] (omega (arith, l, here)) ∙ ap (λ b. get_or xs o [] ++ join_if b p []) (sym (eq-eqb o o refl)))
-  | inr ne ↦ get_or-set_other xs o q (get_or xs o [] ++ p ∷ []) [] (λ e. ne (sym e)) ∙ sym (append-nil (get_or xs q [])) ∙ ap (λ b. get_or xs q [] ++ join_if b p []) (sym (ne_eqb o q ne))
+      (get_or-set_same xs o (get_or xs o [] ++ p ∷ []) [] (omega (arith, l, here))
+          ∙ ap (λ b. get_or xs o [] ++ join_if b p []) (sym (eq-eqb o o refl)))
+  | inr ne ↦ get_or-set_other xs o q (get_or xs o [] ++ p ∷ []) [] (λ e. ne (sym e)) ∙ sym (append-nil (get_or xs q []))
+      ∙ ap (λ b. get_or xs q [] ++ join_if b p []) (sym (ne_eqb o q ne))
 ]
 
 join_both : (b : Bool) (p : Place) → join_if (b && true) p [] ≡ join_if b p []
@@ -158,52 +180,69 @@ join_none true p = refl
 join_none false p = refl
 
 pub adds_one : (x : Listing) → HasLists x → (o : ℕ) (a : Access) (p : Place) → AddsAll x (added x o a p) ((o, a, p) ∷ [])
-adds_one x h o Reading p q l Reading = set_adds x.reading o q p (omega (arith, l, h.reading)) ∙ ap (λ z. get_or x.reading q [] ++ z) (sym (join_both (eqb o q) p))
-adds_one x h o Reading p q l Writing = sym (append-nil (get_or x.writing q [])) ∙ ap (λ z. get_or x.writing q [] ++ z) (sym (join_none (eqb o q) p))
-adds_one x h o Writing p q l Reading = sym (append-nil (get_or x.reading q [])) ∙ ap (λ z. get_or x.reading q [] ++ z) (sym (join_none (eqb o q) p))
-adds_one x h o Writing p q l Writing = set_adds x.writing o q p (omega (arith, l, h.writing)) ∙ ap (λ z. get_or x.writing q [] ++ z) (sym (join_both (eqb o q) p))
+adds_one x h o Reading p q l Reading = set_adds x.reading o q p (omega (arith, l, h.reading))
+    ∙ ap (λ z. get_or x.reading q [] ++ z) (sym (join_both (eqb o q) p))
+adds_one x h o Reading p q l Writing = sym (append-nil (get_or x.writing q []))
+    ∙ ap (λ z. get_or x.writing q [] ++ z) (sym (join_none (eqb o q) p))
+adds_one x h o Writing p q l Reading = sym (append-nil (get_or x.reading q []))
+    ∙ ap (λ z. get_or x.reading q [] ++ z) (sym (join_none (eqb o q) p))
+adds_one x h o Writing p q l Writing = set_adds x.writing o q p (omega (arith, l, h.writing))
+    ∙ ap (λ z. get_or x.writing q [] ++ z) (sym (join_both (eqb o q) p))
 
 -- ---- more steps
 
 pub picked_append : (o : ℕ) (a : Access) (xs ys : List Visit) → picked o a (xs ++ ys) ≡ picked o a xs ++ picked o a ys
 picked_append o a [] ys = refl
-picked_append o a (x ∷ xs) ys = ap (join_if (eqb x.0 o && same_access x.1 a) x.2) (picked_append o a xs ys) ∙ join_append (eqb x.0 o && same_access x.1 a) x.2 (picked o a xs) (picked o a ys)
+picked_append o a (x ∷ xs) ys = ap (join_if (eqb x.0 o && same_access x.1 a) x.2) (picked_append o a xs ys)
+    ∙ join_append (eqb x.0 o && same_access x.1 a) x.2 (picked o a xs) (picked o a ys)
 
 pub adds_none : (x : Listing) → AddsAll x x []
 adds_none x o l a = sym (append-nil (listed x o a))
 
 pub adds_more : (x y z : Listing) (vs ws : List Visit) → AddsAll x y vs → AddsAll y z ws → AddsAll x z (vs ++ ws)
 adds_more x y z vs ws h k o l a =
-    k o l a ∙ ap (λ xs. xs ++ picked o a ws) (h o l a) ∙ append_assoc (listed x o a) (picked o a vs) (picked o a ws) ∙ ap (λ xs. listed x o a ++ xs) (sym (picked_append o a vs ws))
+    k o l a ∙ ap (λ xs. xs ++ picked o a ws) (h o l a) ∙ append_assoc (listed x o a) (picked o a vs) (picked o a ws)
+        ∙ ap (λ xs. listed x o a ++ xs) (sym (picked_append o a vs ws))
 
 enter_prefix : (t : ℕ) (e : Event) (k : ℕ) (vs ws : List Visit) → enter_if t e k (vs ++ ws) ≡ enter_if t e k vs ++ ws
 enter_prefix t (Answer kind value) k vs ws = refl
 enter_prefix t (Read o v) k vs ws = refl
 enter_prefix t (Write o v r) k vs ws = refl
 
-entered_next : (t : ℕ) (es : List Event) (ks : List ℕ) (i : ℕ) (d : Event) → i < length es → i < length ks → entered_by t (take (suc i) es) ks ≡ entered_by t (take i es) ks ++ enter_if t (get_or es i d) (get_or ks i 0) []
+entered_next : (t : ℕ) (es : List Event) (ks : List ℕ) (i : ℕ) (d : Event) → i < length es → i < length ks
+    → entered_by t (take (suc i) es) ks ≡ entered_by t (take i es) ks ++ enter_if t (get_or es i d) (get_or ks i 0) []
 entered_next t [] ks i d l m = absurd (omega (arith, l))
 entered_next t (e ∷ es) [] i d l m = absurd (omega (arith, m))
 entered_next t (e ∷ es) (k ∷ ks) zero d l m = refl
-entered_next t (e ∷ es) (k ∷ ks) (suc i) d l m = ap (enter_if t e k) (entered_next t es ks i d (omega (arith, l)) (omega (arith, m))) ∙ enter_prefix t e k (entered_by t (take i es) ks) (enter_if t (get_or es i d) (get_or ks i 0) [])
+entered_next t (e ∷ es) (k ∷ ks) (suc i) d l m = ap (enter_if t e k) (entered_next t es ks i d (omega (arith, l)) (omega (arith, m)))
+    ∙ enter_prefix t e k (entered_by t (take i es) ks) (enter_if t (get_or es i d) (get_or ks i 0) [])
 
 -- one more event of a log
-pub adds_event : (x y z : Listing) (t : ℕ) (es : List Event) (ks : List ℕ) (i : ℕ) (d : Event) → i < length es → i < length ks → AddsAll x y (entered_by t (take i es) ks) → AddsAll y z (enter_if t (get_or es i d) (get_or ks i 0) []) → AddsAll x z (entered_by t (take (i + 1) es) ks)
+pub adds_event : (x y z : Listing) (t : ℕ) (es : List Event) (ks : List ℕ) (i : ℕ) (d : Event) → i < length es → i < length ks
+    → AddsAll x y (entered_by t (take i es) ks) → AddsAll y z (enter_if t (get_or es i d) (get_or ks i 0) [])
+    → AddsAll x z (entered_by t (take (i + 1) es) ks)
 adds_event x y z t es ks i d l m old new =
-    let next : entered_by t (take (i + 1) es) ks ≡ entered_by t (take i es) ks ++ enter_if t (get_or es i d) (get_or ks i 0) [] = ap (λ n. entered_by t (take n es) ks) (add-one i) ∙ entered_next t es ks i d l m in
+    let next : entered_by t (take (i + 1) es) ks ≡ entered_by t (take i es) ks ++ enter_if t (get_or es i d) (get_or ks i 0) [] =
+        ap (λ n. entered_by t (take n es) ks) (add-one i) ∙ entered_next t es ks i d l m in
     subst (AddsAll x z) (sym next) (adds_more x y z (entered_by t (take i es) ks) (enter_if t (get_or es i d) (get_or ks i 0) []) old new)
 
 -- one more leave
-pub adds_leave : (x y z : Listing) (t : ℕ) (ls : List Leave) (i : ℕ) (d : Leave) → i < length ls → HasLists y → AddsAll x y (left_by t (take i ls))
-    → z ≡ added y (get_or ls i d).object (get_or ls i d).access (record { position = (get_or ls i d).position; version = (get_or ls i d).version; thread = t }) → AddsAll x z (left_by t (take (i + 1) ls))
+pub adds_leave : (x y z : Listing) (t : ℕ) (ls : List Leave) (i : ℕ) (d : Leave) → i < length ls → HasLists y
+    → AddsAll x y (left_by t (take i ls))
+    → z ≡ added y (get_or ls i d).object (get_or ls i d).access
+    (record { position = (get_or ls i d).position; version = (get_or ls i d).version; thread = t })
+    → AddsAll x z (left_by t (take (i + 1) ls))
 adds_leave x y z t ls i d l sized old new =
     let f : Leave → Visit = λ g. (g.object, g.access, record { position = g.position; version = g.version; thread = t }) in
     let e : Leave = get_or ls i d in
     let next : left_by t (take (i + 1) ls) ≡ left_by t (take i ls) ++ f e ∷ [] = map_more f ls i d l in
-    subst (AddsAll x z) (sym next) (adds_more x y z (left_by t (take i ls)) (f e ∷ []) old (subst (λ w. AddsAll y w (f e ∷ [])) (sym new) (adds_one y sized e.object e.access (record { position = e.position; version = e.version; thread = t }))))
+    subst (AddsAll x z) (sym next) (adds_more x y z (left_by t (take i ls)) (f e ∷ []) old
+        (subst (λ w. AddsAll y w (f e ∷ [])) (sym new)
+        (adds_one y sized e.object e.access (record { position = e.position; version = e.version; thread = t }))))
 
 -- one more thread
-pub adds_thread : (x y z : Listing) (n : ℕ) (f : ℕ → List Visit) → AddsAll x y (of_threads n f) → AddsAll y z (f n) → AddsAll x z (of_threads (n + 1) f)
+pub adds_thread : (x y z : Listing) (n : ℕ) (f : ℕ → List Visit) → AddsAll x y (of_threads n f) → AddsAll y z (f n)
+    → AddsAll x z (of_threads (n + 1) f)
 adds_thread x y z n f old new = subst (λ k. AddsAll x z (of_threads k f)) (sym (add-one n)) (adds_more x y z (of_threads n f) (f n) old new)
 
 -- ---- the whole
@@ -221,12 +260,14 @@ none_at : (o : ℕ) (a : Access) → listed none_listed o a ≡ []
 none_at o Reading = no_lists (2 ^ 8) o
 none_at o Writing = no_lists (2 ^ 8) o
 
-in_order : (x y : Listing) → IsInOrder x y → (o : ℕ) (a : Access) → IsPermutation (listed x o a) (listed y o a) × IsNonDecreasingBy (λ (p : Place). p.version) (listed y o a)
+in_order : (x y : Listing) → IsInOrder x y → (o : ℕ) (a : Access) → IsPermutation (listed x o a) (listed y o a)
+    × IsNonDecreasingBy (λ (p : Place). p.version) (listed y o a)
 in_order x y h o Reading = h.0 o
 in_order x y h o Writing = h.1 o
 
 pub is_listing : (x y : Listing) (vs : List Visit) → AddsAll none_listed x vs → IsInOrder x y → IsListing vs y
 is_listing x y vs h sorted = record {
-  same = λ o l a. subst (λ z. IsPermutation z (listed y o a)) (h o l a ∙ ap (λ z. z ++ picked o a vs) (none_at o a)) (in_order x y sorted o a).0;
+  same = λ o l a. subst (λ z. IsPermutation z (listed y o a)) (h o l a ∙ ap (λ z. z ++ picked o a vs) (none_at o a))
+      (in_order x y sorted o a).0;
   sorted = λ o a. (in_order x y sorted o a).1;
 }

@@ -46,7 +46,8 @@ both_true true false h = absurd (cc h)
 both_true false c h = absurd (cc h)
 
 -- at the prefix, or behind
-at_joined : {A : Type 0} (b : Bool) (x y : A) (xs : List A) (i : ℕ) → At (join_if b x xs) i y → ((b ≡ true) × (x ≡ y)) ⊎ ((j : ℕ) × At xs j y)
+at_joined : {A : Type 0} (b : Bool) (x y : A) (xs : List A) (i : ℕ) → At (join_if b x xs) i y → ((b ≡ true) × (x ≡ y))
+    ⊎ ((j : ℕ) × At xs j y)
 at_joined true x y xs zero h = inl (refl, h)
 at_joined true x y xs (suc i) h = inr (i, h)
 at_joined false x y xs i h = inr (i, h)
@@ -73,9 +74,11 @@ of_picked o a (v ∷ vs) i p h = elim (at_joined (eqb v.0 o && same_access v.1 a
 to_picked : (o : ℕ) (a : Access) (vs : List Visit) (j : ℕ) (p : Place) → At vs j (o, a, p) → (i : ℕ) × At (picked o a vs) i p
 to_picked o a [] j p h = absurd h
 to_picked o a (v ∷ vs) zero p h =
-    let b : (eqb v.0 o && same_access v.1 a) ≡ true = rw (eq-eqb v.0 o (ap (λ x. x.0) h), ap (λ (x : Visit). same_access x.1 a) h, same_self a) refl in
+    let b : (eqb v.0 o && same_access v.1 a) ≡ true =
+        rw (eq-eqb v.0 o (ap (λ x. x.0) h), ap (λ (x : Visit). same_access x.1 a) h, same_self a) refl in
     (0, subst (At (picked o a (v ∷ vs)) 0) (ap (λ x. x.2) h) (joined_prefix (eqb v.0 o && same_access v.1 a) v.2 (picked o a vs) b))
-to_picked o a (v ∷ vs) (suc j) p h = let g = to_picked o a vs j p h in joined_behind (eqb v.0 o && same_access v.1 a) v.2 p (picked o a vs) g.0 g.1
+to_picked o a (v ∷ vs) (suc j) p h = let g = to_picked o a vs j p h in
+    joined_behind (eqb v.0 o && same_access v.1 a) v.2 p (picked o a vs) g.0 g.1
 
 -- ---- the steps of all threads
 
@@ -112,12 +115,15 @@ to_left t (m ∷ ls) (suc i) l h = to_left t ls i l h
 
 -- event i at position k is this entry
 abbrev IsEntered : List Event → List ℕ → ℕ → Visit → Type 0
-IsEntered es ks t v = (i : ℕ) × (e : Event) × At es i e × At ks i v.2.position × (v.2.thread ≡ t) × ((l : ℕ) × (label_of e ≡ In v.0 v.1 v.2.version l))
+IsEntered es ks t v = (i : ℕ) × (e : Event) × At es i e × At ks i v.2.position × (v.2.thread ≡ t)
+    × ((l : ℕ) × (label_of e ≡ In v.0 v.1 v.2.version l))
 
-behind_entered : (e : Event) (es : List Event) (k : ℕ) (ks : List ℕ) (t : ℕ) (v : Visit) → IsEntered es ks t v → IsEntered (e ∷ es) (k ∷ ks) t v
+behind_entered : (e : Event) (es : List Event) (k : ℕ) (ks : List ℕ) (t : ℕ) (v : Visit) → IsEntered es ks t v
+    → IsEntered (e ∷ es) (k ∷ ks) t v
 behind_entered e es k ks t v (i, d, at, place, thread, label) = (suc i, d, at, place, thread, label)
 
-prefix_entered : (e : Event) (es : List Event) (k : ℕ) (ks : List ℕ) (t o : ℕ) (a : Access) (w l : ℕ) (v : Visit) → label_of e ≡ In o a w l → (o, a, record { position = k; version = w; thread = t }) ≡ v → IsEntered (e ∷ es) (k ∷ ks) t v
+prefix_entered : (e : Event) (es : List Event) (k : ℕ) (ks : List ℕ) (t o : ℕ) (a : Access) (w l : ℕ) (v : Visit) → label_of e ≡ In o a w l
+    → (o, a, record { position = k; version = w; thread = t }) ≡ v → IsEntered (e ∷ es) (k ∷ ks) t v
 prefix_entered e es k ks t o a w l v is h =
     (0, e, refl, ap (λ z. z.2.position) h, sym (ap (λ z. z.2.thread) h), (l, is ∙ ap (λ (z : Visit). In z.0 z.1 z.2.version l) h))
 
@@ -135,56 +141,79 @@ abbrev told_visit : ℕ → ℕ → Label → Visit
 told_visit t k (In o a w l) = (o, a, record { position = k; version = w; thread = t })
 told_visit t k _ = (0, Reading, record { position = k; version = 0; thread = t })
 
-to_entered : (t : ℕ) (es : List Event) (ks : List ℕ) (i : ℕ) (e : Event) (k o : ℕ) (a : Access) (w l : ℕ) → At es i e → At ks i k → label_of e ≡ In o a w l → Contains (entered_by t es ks) (o, a, record { position = k; version = w; thread = t })
+to_entered : (t : ℕ) (es : List Event) (ks : List ℕ) (i : ℕ) (e : Event) (k o : ℕ) (a : Access) (w l : ℕ) → At es i e → At ks i k
+    → label_of e ≡ In o a w l → Contains (entered_by t es ks) (o, a, record { position = k; version = w; thread = t })
 to_entered t [] ks i e k o a w l at place is = absurd at
 to_entered t (d ∷ es) [] i e k o a w l at place is = absurd place
 to_entered t (Answer kind value ∷ es) (q ∷ ks) zero e k o a w l at place is = absurd (cc (ap label_of at ∙ is))
-to_entered t (Read p x ∷ es) (q ∷ ks) zero e k o a w l at place is = (0, omega arith, ap (told_visit t q) (ap label_of at ∙ is) ∙ ap (λ z. (o, a, record { position = z; version = w; thread = t })) place)
-to_entered t (Write p x r ∷ es) (q ∷ ks) zero e k o a w l at place is = (0, omega arith, ap (told_visit t q) (ap label_of at ∙ is) ∙ ap (λ z. (o, a, record { position = z; version = w; thread = t })) place)
+to_entered t (Read p x ∷ es) (q ∷ ks) zero e k o a w l at place is =
+    (0, omega arith, ap (told_visit t q) (ap label_of at ∙ is) ∙ ap (λ z. (o, a, record { position = z; version = w; thread = t })) place)
+to_entered t (Write p x r ∷ es) (q ∷ ks) zero e k o a w l at place is =
+    (0, omega arith, ap (told_visit t q) (ap label_of at ∙ is) ∙ ap (λ z. (o, a, record { position = z; version = w; thread = t })) place)
 to_entered t (Answer kind value ∷ es) (q ∷ ks) (suc i) e k o a w l at place is = to_entered t es ks i e k o a w l at place is
-to_entered t (Read p x ∷ es) (q ∷ ks) (suc i) e k o a w l at place is = Contains-append_right ((p, Reading, record { position = q; version = x; thread = t }) ∷ []) (entered_by t es ks) _ (to_entered t es ks i e k o a w l at place is)
-to_entered t (Write p x r ∷ es) (q ∷ ks) (suc i) e k o a w l at place is = Contains-append_right ((p, Writing, record { position = q; version = x; thread = t }) ∷ []) (entered_by t es ks) _ (to_entered t es ks i e k o a w l at place is)
+to_entered t (Read p x ∷ es) (q ∷ ks) (suc i) e k o a w l at place is =
+    Contains-append_right ((p, Reading, record { position = q; version = x; thread = t }) ∷ []) (entered_by t es ks) _
+    (to_entered t es ks i e k o a w l at place is)
+to_entered t (Write p x r ∷ es) (q ∷ ks) (suc i) e k o a w l at place is =
+    Contains-append_right ((p, Writing, record { position = q; version = x; thread = t }) ∷ []) (entered_by t es ks) _
+    (to_entered t es ks i e k o a w l at place is)
 
 -- ---- what is listed
 
-listed_of : (vs : List Visit) (x : Listing) → IsListing vs x → (o : ℕ) → o < 2 ^ 8 → (a : Access) (p : Place) → Contains (listed x o a) p → Contains vs (o, a, p)
+listed_of : (vs : List Visit) (x : Listing) → IsListing vs x → (o : ℕ) → o < 2 ^ 8 → (a : Access) (p : Place) → Contains (listed x o a) p
+    → Contains vs (o, a, p)
 listed_of vs x h o l a p c =
-    let at = contains_at (picked o a vs) p (Contains-permutation (listed x o a) (picked o a vs) p (IsPermutation-sym (picked o a vs) (listed x o a) (h.same o l a)) c) in
+    let at = contains_at (picked o a vs) p (Contains-permutation (listed x o a) (picked o a vs) p
+        (IsPermutation-sym (picked o a vs) (listed x o a) (h.same o l a)) c) in
     let v = of_picked o a vs at.0 p at.1 in
     at_contains vs v.0 (o, a, p) v.1
 
-listed_all : (vs : List Visit) (x : Listing) → IsListing vs x → (o : ℕ) → o < 2 ^ 8 → (a : Access) (p : Place) → Contains vs (o, a, p) → Contains (listed x o a) p
+listed_all : (vs : List Visit) (x : Listing) → IsListing vs x → (o : ℕ) → o < 2 ^ 8 → (a : Access) (p : Place) → Contains vs (o, a, p)
+    → Contains (listed x o a) p
 listed_all vs x h o l a p c =
     let at = contains_at vs (o, a, p) c in
     let v = to_picked o a vs at.0 p at.1 in
     Contains-permutation (picked o a vs) (listed x o a) p (h.same o l a) (at_contains (picked o a vs) v.0 p v.1)
 
-pub only_leaves : (f : FittedTrace) (x : Listing) → IsListing (all_left f.placed) x → (o : ℕ) → o < 2 ^ 8 → (a : Access) (v : ℕ) (ps : List Place) → ((p : Place) → Contains ps p → Contains (listed x o a) p × (p.version ≡ v)) → OnlyLeaves f o a v ps
+pub only_leaves : (f : FittedTrace) (x : Listing) → IsListing (all_left f.placed) x → (o : ℕ) → o < 2 ^ 8
+    → (a : Access) (v : ℕ) (ps : List Place) → ((p : Place) → Contains ps p → Contains (listed x o a) p × (p.version ≡ v))
+    → OnlyLeaves f o a v ps
 only_leaves f x is o l a v ps found h p c =
     let q = found p c in
-    let some = of_some (length f.placed) (λ t. left_by t (placed_at f.placed t).leaves) (o, a, p) (listed_of (all_left f.placed) x is o l a p q.0) in
+    let some = of_some (length f.placed) (λ t. left_by t (placed_at f.placed t).leaves) (o, a, p)
+        (listed_of (all_left f.placed) x is o l a p q.0) in
     let t : ℕ = some.0 in
     let ls : List Leave = (placed_at f.placed t).leaves in
     let at = contains_at (left_by t ls) (o, a, p) some.2 in
     let leave = of_left t ls at.0 (o, a, p) at.1 in
     let got = get_at ls at.0 leave.0 leave.1 in
-    let told = subst (λ (e : Leave). TellsIn f h t e.position (Out e.object e.access e.version)) (got.1 leave.0) (leave_tells f h t (let lt = some.1 in let n = h.each in omega (arith, lt, n)) at.0 leave.0 got.0) in
-    (q.1, subst (λ w. TellsIn f h p.thread p.position (Out o a w)) q.1 (subst (λ (z : Visit). TellsIn f h z.2.thread z.2.position (Out z.0 z.1 z.2.version)) leave.2 told))
+    let told = subst (λ (e : Leave). TellsIn f h t e.position (Out e.object e.access e.version)) (got.1 leave.0)
+        (leave_tells f h t (let lt = some.1 in let n = h.each in omega (arith, lt, n)) at.0 leave.0 got.0) in
+    (q.1, subst (λ w. TellsIn f h p.thread p.position (Out o a w)) q.1
+        (subst (λ (z : Visit). TellsIn f h z.2.thread z.2.position (Out z.0 z.1 z.2.version)) leave.2 told))
 
-pub all_leaves : (f : FittedTrace) (x : Listing) → IsListing (all_left f.placed) x → (o : ℕ) → o < 2 ^ 8 → (a : Access) (v : ℕ) (ps : List Place) → ((p : Place) → Contains (listed x o a) p → p.version ≡ v → Contains ps p) → AllLeaves f o a v ps
+pub all_leaves : (f : FittedTrace) (x : Listing) → IsListing (all_left f.placed) x → (o : ℕ) → o < 2 ^ 8
+    → (a : Access) (v : ℕ) (ps : List Place) → ((p : Place) → Contains (listed x o a) p → p.version ≡ v → Contains ps p)
+    → AllLeaves f o a v ps
 all_leaves f x is o l a v ps found h t k told =
     let p : Place = record { position = k; version = v; thread = t } in
     let below = tells_below f h t k (Out o a v) told in
     let ls : List Leave = (placed_at f.placed t).leaves in
     let leave = leave_of f h t k o a v told in
     let e : Leave = record { position = k; object = o; access = a; version = v } in
-    let at : At (left_by t ls) leave.0 (o, a, p) = to_left t ls leave.0 e (subst (At ls leave.0) (leave.2 e) (at_get ls leave.0 e leave.1)) in
-    found p (listed_all (all_left f.placed) x is o l a p (of_each (length f.placed) (λ u. left_by u (placed_at f.placed u).leaves) (o, a, p) t (let n = h.each in omega (arith, below, n)) (at_contains (left_by t ls) leave.0 (o, a, p) at))) refl
+    let at : At (left_by t ls) leave.0 (o, a, p) =
+        to_left t ls leave.0 e (subst (At ls leave.0) (leave.2 e) (at_get ls leave.0 e leave.1)) in
+    found p (listed_all (all_left f.placed) x is o l a p
+        (of_each (length f.placed) (λ u. left_by u (placed_at f.placed u).leaves) (o, a, p) t (let n = h.each in omega (arith, below, n))
+        (at_contains (left_by t ls) leave.0 (o, a, p) at))) refl
 
-pub only_entries : (f : FittedTrace) (x : Listing) → IsListing (all_entered f.recorded f.placed) x → (o : ℕ) → o < 2 ^ 8 → (a : Access) (v : ℕ) (ps : List Place) → ((p : Place) → Contains ps p → Contains (listed x o a) p × (p.version ≡ v)) → OnlyEntries f o a v ps
+pub only_entries : (f : FittedTrace) (x : Listing) → IsListing (all_entered f.recorded f.placed) x → (o : ℕ) → o < 2 ^ 8
+    → (a : Access) (v : ℕ) (ps : List Place) → ((p : Place) → Contains ps p → Contains (listed x o a) p × (p.version ≡ v))
+    → OnlyEntries f o a v ps
 only_entries f x is o l a v ps found h p c =
     let q = found p c in
-    let some = of_some (length f.placed) (λ t. entered_by t (recorded_thread f.recorded t).events (placed_at f.placed t).entries) (o, a, p) (listed_of (all_entered f.recorded f.placed) x is o l a p q.0) in
+    let some = of_some (length f.placed) (λ t. entered_by t (recorded_thread f.recorded t).events (placed_at f.placed t).entries) (o, a, p)
+        (listed_of (all_entered f.recorded f.placed) x is o l a p q.0) in
     let t : ℕ = some.0 in
     let es : List Event = (recorded_thread f.recorded t).events in
     let ks : List ℕ = (placed_at f.placed t).entries in
@@ -192,11 +221,17 @@ only_entries f x is o l a v ps found h p c =
     let (i, e, event, place, thread, (n, label)) = of_entered t es ks at.0 (o, a, p) at.1 in
     let got = get_at es i e event in
     let stands = get_at ks i p.position place in
-    let told : TellsIn f h t (get_or ks i 0) (label_of (get_or es i e)) = entry_tells f h t (let lt = some.1 in let m = h.each in omega (arith, lt, m)) i e got.0 in
-    let here : TellsIn f h t p.position (In o a p.version n) = subst (λ k. TellsIn f h t k (In o a p.version n)) (stands.1 0) (subst (TellsIn f h t (get_or ks i 0)) (ap label_of (got.1 e) ∙ label) told) in
-    (q.1, (n, subst (λ w. TellsIn f h p.thread p.position (In o a w n)) q.1 (subst (λ u. TellsIn f h u p.position (In o a p.version n)) (sym thread) here)))
+    let told : TellsIn f h t (get_or ks i 0) (label_of (get_or es i e)) =
+        entry_tells f h t (let lt = some.1 in let m = h.each in omega (arith, lt, m)) i e got.0 in
+    let here : TellsIn f h t p.position (In o a p.version n) =
+        subst (λ k. TellsIn f h t k (In o a p.version n)) (stands.1 0)
+        (subst (TellsIn f h t (get_or ks i 0)) (ap label_of (got.1 e) ∙ label) told) in
+    (q.1, (n, subst (λ w. TellsIn f h p.thread p.position (In o a w n)) q.1
+        (subst (λ u. TellsIn f h u p.position (In o a p.version n)) (sym thread) here)))
 
-pub all_entries : (f : FittedTrace) (x : Listing) → IsListing (all_entered f.recorded f.placed) x → (o : ℕ) → o < 2 ^ 8 → (a : Access) (v : ℕ) (ps : List Place) → ((p : Place) → Contains (listed x o a) p → p.version ≡ v → Contains ps p) → AllEntries f o a v ps
+pub all_entries : (f : FittedTrace) (x : Listing) → IsListing (all_entered f.recorded f.placed) x → (o : ℕ) → o < 2 ^ 8
+    → (a : Access) (v : ℕ) (ps : List Place) → ((p : Place) → Contains (listed x o a) p → p.version ≡ v → Contains ps p)
+    → AllEntries f o a v ps
 all_entries f x is o l a v ps found h t k n told =
     let p : Place = record { position = k; version = v; thread = t } in
     let below = tells_below f h t k (In o a v n) told in
@@ -205,5 +240,7 @@ all_entries f x is o l a v ps found h t k n told =
     let (i, li, place, label) = entry_of f h t k o a v n told in
     let d : Event = Read 0 0 in
     let at : At ks i k = subst (At ks i) place (at_get ks i 0 (let m = entries_long f h t below in omega (arith, li, m))) in
-    found p (listed_all (all_entered f.recorded f.placed) x is o l a p (of_each (length f.placed) (λ u. entered_by u (recorded_thread f.recorded u).events (placed_at f.placed u).entries) (o, a, p) t (let m = h.each in omega (arith, below, m))
+    found p (listed_all (all_entered f.recorded f.placed) x is o l a p
+        (of_each (length f.placed) (λ u. entered_by u (recorded_thread f.recorded u).events (placed_at f.placed u).entries) (o, a, p) t
+        (let m = h.each in omega (arith, below, m))
     (to_entered t es ks i (get_or es i d) k o a v n (at_get es i d li) at (label d)))) refl

@@ -50,12 +50,14 @@ event_fits code objects (Answer kind value) h = result_fits kind value h
 event_fits code objects (Read object version) h = refl
 event_fits code objects (Write object version readers) h = tt
 
-events_fit : (code : List ℕ) (objects : ℕ) (es : List Event) → AllByRecursion (IsEvent objects) es → (i : ℕ) (k : Label) → At (map label_of es) i k → verdicts.IsEvent (thread_machine code) k
+events_fit : (code : List ℕ) (objects : ℕ) (es : List Event) → AllByRecursion (IsEvent objects) es → (i : ℕ) (k : Label)
+    → At (map label_of es) i k → verdicts.IsEvent (thread_machine code) k
 events_fit code objects [] all i k h = absurd h
 events_fit code objects (e ∷ es) all zero k h = subst (verdicts.IsEvent (thread_machine code)) h (event_fits code objects e all.0)
 events_fit code objects (e ∷ es) all (suc i) k h = events_fit code objects es all.1 i k h
 
-threads_fit : (code : List ℕ) (objects : ℕ) (ts : List RecordedThread) → AllByRecursion (IsRecordedThread objects) ts → (t i : ℕ) (k : Label) → At (map label_of (get_or ts t absent).events) i k → verdicts.IsEvent (thread_machine code) k
+threads_fit : (code : List ℕ) (objects : ℕ) (ts : List RecordedThread) → AllByRecursion (IsRecordedThread objects) ts
+    → (t i : ℕ) (k : Label) → At (map label_of (get_or ts t absent).events) i k → verdicts.IsEvent (thread_machine code) k
 threads_fit code objects [] all t i k h = absurd h
 threads_fit code objects (x ∷ xs) all zero i k h = events_fit code objects x.events all.0.events_fit i k h
 threads_fit code objects (x ∷ xs) all (suc t) i k h = threads_fit code objects xs all.1 t i k h
@@ -72,38 +74,52 @@ there (v ∷ vs) (suc t) l = there vs t (omega (arith, l))
 
 -- the run goes furthest, and what is said of the threads is how they stand at its end
 pub verdicts_of : (g : Guest) (r : Recorded) → IsRecorded r → HasHeader g r → IsCoherent (length g.entries) (trace_of r) → (run : List Step)
-    → following.Follows (following.closing (thread_machine g.code) (trace_of r)) (thread_machine g.code) (tables (start_flat g r.budget)) (trace_of r) run → (vs : List ThreadVerdict) → length vs ≡ length g.entries
-    → ((t : ℕ) (v : ThreadVerdict) → slice_get vs t ≡ Some v → StandsAs (thread_machine g.code) (tables (start_flat g r.budget)) (trace_of r) run t v) → GoesFurthest g r run × AreVerdicts g r vs
+    → following.Follows (following.closing (thread_machine g.code) (trace_of r)) (thread_machine g.code) (tables (start_flat g r.budget))
+    (trace_of r) run → (vs : List ThreadVerdict) → length vs ≡ length g.entries
+    → ((t : ℕ) (v : ThreadVerdict) → slice_get vs t ≡ Some v
+    → StandsAs (thread_machine g.code) (tables (start_flat g r.budget)) (trace_of r) run t v) → GoesFurthest g r run × AreVerdicts g r vs
 verdicts_of g r is header co run f vs each stands =
     let m = thread_machine g.code in
     let s = tables (start_flat g r.budget) in
     let tr = trace_of r in
     let n : ℕ = length g.entries in
     let good = start_good m s (starts g r.budget) in
-    let top : following.IsMaximal (following.closing m tr) m s tr run = settled n m s (start_idle g r.budget) tr run f (λ t l. let v = there vs t (subst (λ z. t < z) (sym each) l) in (v.0, stands t v.0 v.1)) in (
+    let top : following.IsMaximal (following.closing m tr) m s tr run =
+        settled n m s (start_idle g r.budget) tr run f
+        (λ t l. let v = there vs t (subst (λ z. t < z) (sym each) l) in (v.0, stands t v.0 v.1)) in (
       (f, top),
       (
         each,
-        λ run' furthest t v at. same_verdict m s tr run run' (one_maximal (following.closing m tr) n m (lawful g.code) tr co s good (starts g r.budget) (start_idle g r.budget) run run' f top furthest.0 furthest.1) t v
-            (verdict_at n m (lawful g.code) tr co (holds_events g.code r is) s good (starts g r.budget) (start_idle g r.budget) run f top t v (stands t v at)),
+        λ run' furthest t v at. same_verdict m s tr run run'
+            (one_maximal (following.closing m tr) n m (lawful g.code) tr co s good (starts g r.budget) (start_idle g r.budget) run run' f
+            top furthest.0 furthest.1) t v
+            (verdict_at n m (lawful g.code) tr co (holds_events g.code r is) s good (starts g r.budget) (start_idle g r.budget) run f top t
+                v (stands t v at)),
       ),
     )
 
 -- where each thread is the same, the run is complete and has the trace
-pub whole_of : (g : Guest) (r : Recorded) → HasHeader g r → (run : List Step) → following.Follows (following.closing (thread_machine g.code) (trace_of r)) (thread_machine g.code) (tables (start_flat g r.budget)) (trace_of r) run
-    → ((t : ℕ) → t < length g.entries → StandsAs (thread_machine g.code) (tables (start_flat g r.budget)) (trace_of r) run t Same) → IsRunOf g r run
+pub whole_of : (g : Guest) (r : Recorded) → HasHeader g r → (run : List Step)
+    → following.Follows (following.closing (thread_machine g.code) (trace_of r)) (thread_machine g.code) (tables (start_flat g r.budget))
+    (trace_of r) run
+    → ((t : ℕ) → t < length g.entries → StandsAs (thread_machine g.code) (tables (start_flat g r.budget)) (trace_of r) run t Same)
+    → IsRunOf g r run
 whole_of g r header run f same =
     let m = thread_machine g.code in
     let s = tables (start_flat g r.budget) in
-    (header, all_same (length g.entries) m (closing g.code) (trace_of r) s (lives g r.budget) run f (all_done (length g.entries) m s (start_idle g r.budget) (trace_of r) run f same))
+    (header, all_same (length g.entries) m (closing g.code) (trace_of r) s (lives g r.budget) run f
+        (all_done (length g.entries) m s (start_idle g r.budget) (trace_of r) run f same))
 
 -- where one isn't, there is no run with the trace
-pub none_of : (g : Guest) (r : Recorded) → IsCoherent (length g.entries) (trace_of r) → (run : List Step) → GoesFurthest g r run → (t : ℕ) (v : ThreadVerdict) → StandsAs (thread_machine g.code) (tables (start_flat g r.budget)) (trace_of r) run t v → v ≢ Same
+pub none_of : (g : Guest) (r : Recorded) → IsCoherent (length g.entries) (trace_of r) → (run : List Step) → GoesFurthest g r run
+    → (t : ℕ) (v : ThreadVerdict) → StandsAs (thread_machine g.code) (tables (start_flat g r.budget)) (trace_of r) run t v → v ≢ Same
     → (whole : List Step) → IsRunOf g r whole → ⊥
 none_of g r co run furthest t v stands ne whole is =
     let m = thread_machine g.code in
     let s = tables (start_flat g r.budget) in
-    goes_on m s (trace_of r) run t v stands ne (whole_same (length g.entries) m (lawful g.code) (closing g.code) (trace_of r) co s (start_good m s (starts g r.budget)) (starts g r.budget) (start_idle g r.budget) run furthest.0 furthest.1 whole is.1 t)
+    goes_on m s (trace_of r) run t v stands ne
+        (whole_same (length g.entries) m (lawful g.code) (closing g.code) (trace_of r) co s (start_good m s (starts g r.budget))
+        (starts g r.budget) (start_idle g r.budget) run furthest.0 furthest.1 whole is.1 t)
 
 -- ---- the trace of a run is coherent
 
@@ -113,7 +129,8 @@ no_events (x ∷ xs) zero l = absurd (omega (arith, l))
 no_events (x ∷ xs) (suc t) l = no_events xs t (omega (arith, l))
 
 -- each thread's log in the run is the trace's
-logs_are : (g : Guest) (r : Recorded) (run : List Step) → IsRunOf g r run → (t : ℕ) → log (thread_machine g.code) (tables (start_flat g r.budget)) run t ≡ (trace_of r).logs t
+logs_are : (g : Guest) (r : Recorded) (run : List Step) → IsRunOf g r run → (t : ℕ)
+    → log (thread_machine g.code) (tables (start_flat g r.budget)) run t ≡ (trace_of r).logs t
 logs_are g r run is t = elim (cases_lt t (length g.entries)) [
   | inl l ↦ is.1.logs t l
   | inr le ↦
@@ -128,14 +145,18 @@ pub run_coherent : (g : Guest) (r : Recorded) (run : List Step) → IsRunOf g r 
 run_coherent g r run is =
     let m = thread_machine g.code in
     let s = tables (start_flat g r.budget) in
-    let own : IsCoherent (length g.entries) (trace m s run) = own_coherent (length g.entries) m (lawful g.code) s (start_good m s (starts g r.budget)) (starts g r.budget) (start_idle g r.budget) run is.1.runs in
+    let own : IsCoherent (length g.entries) (trace m s run) =
+        own_coherent (length g.entries) m (lawful g.code) s (start_good m s (starts g r.budget)) (starts g r.budget) (start_idle g r.budget)
+        run is.1.runs in
     let same : log m s run ≡ (trace_of r).logs = λ i t. logs_are g r run is t i in
-    subst (λ logs. IsCoherent (length g.entries) (record (trace_of r) { logs = logs })) same (record { made = own.made; writer = own.writer; readers = own.readers })
+    subst (λ logs. IsCoherent (length g.entries) (record (trace_of r) { logs = logs })) same
+        (record { made = own.made; writer = own.writer; readers = own.readers })
 
 -- ---- what the code answers
 
 -- a list, and one more at its end
-pub get_pushed : {A : Type 0} (xs : List A) (y : A) (t : ℕ) (v : A) → slice_get (xs ++ y ∷ []) t ≡ Some v → (slice_get xs t ≡ Some v) ⊎ ((t ≡ length xs) × (y ≡ v))
+pub get_pushed : {A : Type 0} (xs : List A) (y : A) (t : ℕ) (v : A) → slice_get (xs ++ y ∷ []) t ≡ Some v → (slice_get xs t ≡ Some v)
+    ⊎ ((t ≡ length xs) × (y ≡ v))
 get_pushed [] y zero v h = inr (refl, cc h)
 get_pushed [] y (suc t) v h = absurd (cc h)
 get_pushed (x ∷ xs) y zero v h = inl h
@@ -151,15 +172,19 @@ breaks_refuse g r header (Refused (verdict.Incoherent t i c)) b =
     ((header, first), λ run is. coherent_unbroken (length g.entries) (trace_of r) (run_coherent g r run is) t i c first.breaks)
 
 -- not all threads are the same at the end of the run that was followed
-pub threads_refuse : (g : Guest) (r : Recorded) → IsRecorded r → HasHeader g r → IsCoherent (length g.entries) (trace_of r) → (f : Flat) (ps : List Placed) → IsFollowed g r f ps → (vs : List ThreadVerdict) → length vs ≡ length f.threads → AreStanding r f ps vs
-    → (t : ℕ) (v : ThreadVerdict) → slice_get vs t ≡ Some v → v ≢ Same → (HasHeader g r × IsCoherent (length g.entries) (trace_of r) × AreVerdicts g r vs) × ((run : List Step) → IsRunOf g r run → ⊥)
+pub threads_refuse : (g : Guest) (r : Recorded) → IsRecorded r → HasHeader g r → IsCoherent (length g.entries) (trace_of r)
+    → (f : Flat) (ps : List Placed) → IsFollowed g r f ps → (vs : List ThreadVerdict) → length vs ≡ length f.threads → AreStanding r f ps vs
+    → (t : ℕ) (v : ThreadVerdict) → slice_get vs t ≡ Some v → v ≢ Same
+    → (HasHeader g r × IsCoherent (length g.entries) (trace_of r) × AreVerdicts g r vs) × ((run : List Step) → IsRunOf g r run → ⊥)
 threads_refuse g r is header co f ps followed vs each stand t v at ne =
     let k = followed.follower in
     let both = verdicts_of g r is header co k.run k.follows vs (each ∙ k.threads) (stand g k) in
     ((header, co, both.1), none_of g r co k.run both.0 t v (stand g k t v at) ne)
 
 -- all are the same
-pub threads_accept : (g : Guest) (r : Recorded) → HasHeader g r → (f : Flat) (ps : List Placed) → IsFollowed g r f ps → length ps ≡ length f.threads → (vs : List ThreadVerdict) → length vs ≡ length f.threads → AreStanding r f ps vs → ((t : ℕ) (v : ThreadVerdict) → slice_get vs t ≡ Some v → v ≡ Same)
+pub threads_accept : (g : Guest) (r : Recorded) → HasHeader g r → (f : Flat) (ps : List Placed) → IsFollowed g r f ps
+    → length ps ≡ length f.threads → (vs : List ThreadVerdict) → length vs ≡ length f.threads → AreStanding r f ps vs
+    → ((t : ℕ) (v : ThreadVerdict) → slice_get vs t ≡ Some v → v ≡ Same)
     → HasRun (record { guest = g; recorded = r; placed = ps })
 threads_accept g r header f ps followed placed vs each stand same =
     let k = followed.follower in
@@ -167,7 +192,8 @@ threads_accept g r header f ps followed placed vs each stand same =
       run = k.run;
       whole = whole_of g r header k.run k.follows (λ t l.
           let v = there vs t (omega (arith, l, each, k.threads)) in
-          subst (StandsAs (thread_machine g.code) (tables (start_flat g r.budget)) (trace_of r) k.run t) (same t v.0 v.1) (stand g k t v.0 v.1));
+          subst (StandsAs (thread_machine g.code) (tables (start_flat g r.budget)) (trace_of r) k.run t) (same t v.0 v.1)
+              (stand g k t v.0 v.1));
       each = placed ∙ k.threads;
       entries = k.placed;
       leaves = k.left;

@@ -58,25 +58,31 @@ onward : {T : Type 0} (n : ℕ) (x : T × Label) (xs : List (T × Label)) (k : �
 onward n x xs k e g = (suc g.0, g.1 ∙ (let q : suc n + g.0 ≡ n + suc g.0 = omega arith in q), g.2)
 
 -- the step of event i stands at position i
-step_of_event : {T : Type 0} (n : ℕ) (xs : List (T × Label)) (i k : ℕ) (e : Label) → At (events xs) i e → At (places_from n xs) i k → StepAt n xs k e
+step_of_event : {T : Type 0} (n : ℕ) (xs : List (T × Label)) (i k : ℕ) (e : Label) → At (events xs) i e → At (places_from n xs) i k
+    → StepAt n xs k e
 step_of_event n [] i k e h g = absurd h
 step_of_event n (x ∷ xs) zero k e h g = elim (logs_or x.1) [
   | inl l ↦
       let tells : x.1 ≡ e = subst (λ es. At es 0 e) (l.event (events xs)) h in
       let at : n ≡ k = subst (λ ks. At ks 0 k) (l.place n (places_from (suc n) xs)) g in
       (0, sym at ∙ (let q : n ≡ n + 0 = omega arith in q), (x.0, ap (λ m. (x.0, m)) tells))
-  | inr p ↦ onward n x xs k e (step_of_event (suc n) xs 0 k e (subst (λ es. At es 0 e) (p.event (events xs)) h) (subst (λ ks. At ks 0 k) (p.place n (places_from (suc n) xs)) g))
+  | inr p ↦ onward n x xs k e (step_of_event (suc n) xs 0 k e (subst (λ es. At es 0 e) (p.event (events xs)) h)
+      (subst (λ ks. At ks 0 k) (p.place n (places_from (suc n) xs)) g))
 ]
 step_of_event n (x ∷ xs) (suc i) k e h g = elim (logs_or x.1) [
-  | inl l ↦ onward n x xs k e (step_of_event (suc n) xs i k e (subst (λ es. At es (suc i) e) (l.event (events xs)) h) (subst (λ ks. At ks (suc i) k) (l.place n (places_from (suc n) xs)) g))
-  | inr p ↦ onward n x xs k e (step_of_event (suc n) xs (suc i) k e (subst (λ es. At es (suc i) e) (p.event (events xs)) h) (subst (λ ks. At ks (suc i) k) (p.place n (places_from (suc n) xs)) g))
+  | inl l ↦ onward n x xs k e (step_of_event (suc n) xs i k e (subst (λ es. At es (suc i) e) (l.event (events xs)) h)
+      (subst (λ ks. At ks (suc i) k) (l.place n (places_from (suc n) xs)) g))
+  | inr p ↦ onward n x xs k e (step_of_event (suc n) xs (suc i) k e (subst (λ es. At es (suc i) e) (p.event (events xs)) h)
+      (subst (λ ks. At ks (suc i) k) (p.place n (places_from (suc n) xs)) g))
 ]
 
 -- a step that is logged is some event's
-event_of_step : {T : Type 0} (n : ℕ) (xs : List (T × Label)) (j : ℕ) (x : T) (e : Label) → ((es : List Label) → logged e es ≡ e ∷ es) → At xs j (x, e) → (i : ℕ) × At (events xs) i e × At (places_from n xs) i (n + j)
+event_of_step : {T : Type 0} (n : ℕ) (xs : List (T × Label)) (j : ℕ) (x : T) (e : Label) → ((es : List Label) → logged e es ≡ e ∷ es)
+    → At xs j (x, e) → (i : ℕ) × At (events xs) i e × At (places_from n xs) i (n + j)
 event_of_step n [] j x e h at = absurd at
 event_of_step n (y ∷ ys) zero x e h at = elim (logs_or y.1) [
-  | inl l ↦ (0, subst (λ es. At es 0 e) (sym (l.event (events ys))) (ap (λ z. z.1) at), subst (λ ks. At ks 0 (n + 0)) (sym (l.place n (places_from (suc n) ys))) (let q : n ≡ n + 0 = omega arith in q))
+  | inl l ↦ (0, subst (λ es. At es 0 e) (sym (l.event (events ys))) (ap (λ z. z.1) at), subst (λ ks. At ks 0 (n + 0))
+      (sym (l.place n (places_from (suc n) ys))) (let q : n ≡ n + 0 = omega arith in q))
   | inr p ↦ absurd (longer (sym (p.event []) ∙ subst (λ m. logged m [] ≡ m ∷ []) (sym (ap (λ z. z.1) at)) (h [])))
 ]
   where
@@ -86,8 +92,10 @@ event_of_step n (y ∷ ys) (suc j) x e h at =
     let g = event_of_step (suc n) ys j x e h at in
     let q : suc n + j ≡ n + suc j = omega arith in
     elim (logs_or y.1) [
-      | inl l ↦ (suc g.0, subst (λ es. At es (suc g.0) e) (sym (l.event (events ys))) g.1, subst (λ ks. At ks (suc g.0) (n + suc j)) (sym (l.place n (places_from (suc n) ys))) (subst (At (places_from (suc n) ys) g.0) q g.2))
-      | inr p ↦ (g.0, subst (λ es. At es g.0 e) (sym (p.event (events ys))) g.1, subst (λ ks. At ks g.0 (n + suc j)) (sym (p.place n (places_from (suc n) ys))) (subst (At (places_from (suc n) ys) g.0) q g.2))
+      | inl l ↦ (suc g.0, subst (λ es. At es (suc g.0) e) (sym (l.event (events ys))) g.1, subst (λ ks. At ks (suc g.0) (n + suc j))
+          (sym (l.place n (places_from (suc n) ys))) (subst (At (places_from (suc n) ys) g.0) q g.2))
+      | inr p ↦ (g.0, subst (λ es. At es g.0 e) (sym (p.event (events ys))) g.1, subst (λ ks. At ks g.0 (n + suc j))
+          (sym (p.place n (places_from (suc n) ys))) (subst (At (places_from (suc n) ys) g.0) q g.2))
     ]
 
 -- ---- leaves
@@ -104,28 +112,37 @@ leaves_or (In o a v l) = inr (λ k ls. refl)
 leaves_or (Refused o) = inr (λ k ls. refl)
 leaves_or (Out o a v) = inl (o, a, v, refl)
 
-step_of_leave : {T : Type 0} (n : ℕ) (xs : List (T × Label)) (i : ℕ) (l : Leave) → At (leaves_from n xs) i l → StepAt n xs l.position (Out l.object l.access l.version)
+step_of_leave : {T : Type 0} (n : ℕ) (xs : List (T × Label)) (i : ℕ) (l : Leave) → At (leaves_from n xs) i l
+    → StepAt n xs l.position (Out l.object l.access l.version)
 step_of_leave n [] i l h = absurd h
 step_of_leave n (x ∷ xs) zero l h = elim (leaves_or x.1) [
   | inl (o, a, v, is) ↦
       let same : leave_at n o a v ≡ l = subst (λ m. At (leave_if m n (leaves_from (suc n) xs)) 0 l) is h in
-      (0, ap (λ z. z.position) (sym same) ∙ (let q : n ≡ n + 0 = omega arith in q), (x.0, ap (λ m. (x.0, m)) is ∙ ap (λ z. (x.0, Out z.object z.access z.version)) same))
-  | inr p ↦ onward n x xs l.position (Out l.object l.access l.version) (step_of_leave (suc n) xs 0 l (subst (λ ls. At ls 0 l) (p n (leaves_from (suc n) xs)) h))
+      (0, ap (λ z. z.position) (sym same) ∙ (let q : n ≡ n + 0 = omega arith in q),
+          (x.0, ap (λ m. (x.0, m)) is ∙ ap (λ z. (x.0, Out z.object z.access z.version)) same))
+  | inr p ↦ onward n x xs l.position (Out l.object l.access l.version)
+      (step_of_leave (suc n) xs 0 l (subst (λ ls. At ls 0 l) (p n (leaves_from (suc n) xs)) h))
 ]
 step_of_leave n (x ∷ xs) (suc i) l h = elim (leaves_or x.1) [
-  | inl (o, a, v, is) ↦ onward n x xs l.position (Out l.object l.access l.version) (step_of_leave (suc n) xs i l (subst (λ m. At (leave_if m n (leaves_from (suc n) xs)) (suc i) l) is h))
-  | inr p ↦ onward n x xs l.position (Out l.object l.access l.version) (step_of_leave (suc n) xs (suc i) l (subst (λ ls. At ls (suc i) l) (p n (leaves_from (suc n) xs)) h))
+  | inl (o, a, v, is) ↦ onward n x xs l.position (Out l.object l.access l.version)
+      (step_of_leave (suc n) xs i l (subst (λ m. At (leave_if m n (leaves_from (suc n) xs)) (suc i) l) is h))
+  | inr p ↦ onward n x xs l.position (Out l.object l.access l.version)
+      (step_of_leave (suc n) xs (suc i) l (subst (λ ls. At ls (suc i) l) (p n (leaves_from (suc n) xs)) h))
 ]
 
-leave_of_step : {T : Type 0} (n : ℕ) (xs : List (T × Label)) (j : ℕ) (x : T) (o : ℕ) (a : Access) (v : ℕ) → At xs j (x, Out o a v) → (i : ℕ) × At (leaves_from n xs) i (leave_at (n + j) o a v)
+leave_of_step : {T : Type 0} (n : ℕ) (xs : List (T × Label)) (j : ℕ) (x : T) (o : ℕ) (a : Access) (v : ℕ) → At xs j (x, Out o a v) → (i : ℕ)
+    × At (leaves_from n xs) i (leave_at (n + j) o a v)
 leave_of_step n [] j x o a v at = absurd at
 leave_of_step n (y ∷ ys) zero x o a v at =
-    (0, subst (λ m. At (leave_if m n (leaves_from (suc n) ys)) 0 (leave_at (n + 0) o a v)) (sym (ap (λ z. z.1) at)) (ap (λ k. leave_at k o a v) (let q : n ≡ n + 0 = omega arith in q)))
+    (0, subst (λ m. At (leave_if m n (leaves_from (suc n) ys)) 0 (leave_at (n + 0) o a v)) (sym (ap (λ z. z.1) at))
+        (ap (λ k. leave_at k o a v) (let q : n ≡ n + 0 = omega arith in q)))
 leave_of_step n (y ∷ ys) (suc j) x o a v at =
     let g = leave_of_step (suc n) ys j x o a v at in
-    let behind : At (leaves_from (suc n) ys) g.0 (leave_at (n + suc j) o a v) = subst (λ k. At (leaves_from (suc n) ys) g.0 (leave_at k o a v)) (let q : suc n + j ≡ n + suc j = omega arith in q) g.1 in
+    let behind : At (leaves_from (suc n) ys) g.0 (leave_at (n + suc j) o a v) =
+        subst (λ k. At (leaves_from (suc n) ys) g.0 (leave_at k o a v)) (let q : suc n + j ≡ n + suc j = omega arith in q) g.1 in
     elim (leaves_or y.1) [
-      | inl (p, b, w, is) ↦ (suc g.0, subst (λ m. At (leave_if m n (leaves_from (suc n) ys)) (suc g.0) (leave_at (n + suc j) o a v)) (sym is) behind)
+      | inl (p, b, w, is) ↦ (suc g.0, subst (λ m. At (leave_if m n (leaves_from (suc n) ys)) (suc g.0) (leave_at (n + suc j) o a v))
+          (sym is) behind)
       | inr p ↦ (g.0, subst (λ ls. At ls g.0 (leave_at (n + suc j) o a v)) (sym (p n (leaves_from (suc n) ys))) behind)
     ]
 
@@ -144,7 +161,8 @@ places_rise : {T : Type 0} (n : ℕ) (xs : List (T × Label)) → Rises n (place
 places_rise n [] = tt
 places_rise n (x ∷ xs) = elim (logs_or x.1) [
   | inl l ↦ subst (Rises n) (sym (l.place n (places_from (suc n) xs))) (omega arith, places_rise (suc n) xs)
-  | inr p ↦ subst (Rises n) (sym (p.place n (places_from (suc n) xs))) (rises_lower n (suc n) (places_from (suc n) xs) (omega arith) (places_rise (suc n) xs))
+  | inr p ↦ subst (Rises n) (sym (p.place n (places_from (suc n) xs)))
+      (rises_lower n (suc n) (places_from (suc n) xs) (omega arith) (places_rise (suc n) xs))
 ]
 
 abbrev positions : List Leave → List ℕ
@@ -153,8 +171,10 @@ positions ls = map (λ l. l.position) ls
 leaves_rise_from : {T : Type 0} (n : ℕ) (xs : List (T × Label)) → Rises n (positions (leaves_from n xs))
 leaves_rise_from n [] = tt
 leaves_rise_from n (x ∷ xs) = elim (leaves_or x.1) [
-  | inl (o, a, v, is) ↦ subst (λ m. Rises n (positions (leave_if m n (leaves_from (suc n) xs)))) (sym is) (omega arith, leaves_rise_from (suc n) xs)
-  | inr p ↦ subst (λ ls. Rises n (positions ls)) (sym (p n (leaves_from (suc n) xs))) (rises_lower n (suc n) (positions (leaves_from (suc n) xs)) (omega arith) (leaves_rise_from (suc n) xs))
+  | inl (o, a, v, is) ↦ subst (λ m. Rises n (positions (leave_if m n (leaves_from (suc n) xs)))) (sym is)
+      (omega arith, leaves_rise_from (suc n) xs)
+  | inr p ↦ subst (λ ls. Rises n (positions ls)) (sym (p n (leaves_from (suc n) xs)))
+      (rises_lower n (suc n) (positions (leaves_from (suc n) xs)) (omega arith) (leaves_rise_from (suc n) xs))
 ]
 
 rises_from : (n : ℕ) (ks : List ℕ) → Rises n ks → (i : ℕ) → i < length ks → n ≤ get_or ks i 0
@@ -186,7 +206,8 @@ get_at (y ∷ ys) (suc i) x h = let g = get_at ys i x h in (omega (arith, g.0), 
 abbrev trail_in : (f : FittedTrace) → HasRun f → ℕ → List (thread.State × Label)
 trail_in f h t = trail (machine (start_flat f.guest f.recorded.budget)) (tables (start_flat f.guest f.recorded.budget)) h.run t
 
-pub idle_trail : {T : Type 0} (m : Machine T) (s : State T) (n : ℕ) → IsIdle m s n → (run : List Step) → IsRun m s run → (t : ℕ) → n ≤ t → trail m s run t ≡ []
+pub idle_trail : {T : Type 0} (m : Machine T) (s : State T) (n : ℕ) → IsIdle m s n → (run : List Step) → IsRun m s run → (t : ℕ) → n ≤ t
+    → trail m s run t ≡ []
 idle_trail m s n idle [] ok t l = refl
 idle_trail m s n idle (e ∷ run) ok t l =
     let g = below_idle m s n idle e ok.0 in
@@ -197,38 +218,50 @@ pub tells_below : (f : FittedTrace) (h : HasRun f) (t k : ℕ) (e : Label) → T
 tells_below f h t k e told = elim (cases_lt t (length f.guest.entries)) [
   | inl l ↦ l
   | inr past ↦
-      let none : trail_in f h t ≡ [] = idle_trail (thread_machine f.guest.code) (tables (start_flat f.guest f.recorded.budget)) (length f.guest.entries) (start_idle f.guest f.recorded.budget) h.run h.whole.1.runs t past in
+      let none : trail_in f h t ≡ [] = idle_trail (thread_machine f.guest.code) (tables (start_flat f.guest f.recorded.budget))
+          (length f.guest.entries) (start_idle f.guest f.recorded.budget) h.run h.whole.1.runs t past in
       absurd (subst (λ xs. At xs k (told.0, e)) none told.1)
 ]
 
 -- a thread takes as many steps in the run as were recorded
-pub steps_in : (f : FittedTrace) (h : HasRun f) (t : ℕ) → t < length f.guest.entries → count (machine (start_flat f.guest f.recorded.budget)) (tables (start_flat f.guest f.recorded.budget)) h.run t ≡ (recorded_thread f.recorded t).steps
+pub steps_in : (f : FittedTrace) (h : HasRun f) (t : ℕ) → t < length f.guest.entries
+    → count (machine (start_flat f.guest f.recorded.budget)) (tables (start_flat f.guest f.recorded.budget)) h.run t ≡
+    (recorded_thread f.recorded t).steps
 steps_in f h t l = h.whole.1.steps t l
 
 -- no step stands past them
 pub tells_within : (f : FittedTrace) (h : HasRun f) (t k : ℕ) (e : Label) → TellsIn f h t k e → k < (recorded_thread f.recorded t).steps
-tells_within f h t k e told = subst (λ n. k < n) (steps_in f h t (tells_below f h t k e told)) (get_at (trail_in f h t) k (told.0, e) told.1).0
+tells_within f h t k e told = subst (λ n. k < n) (steps_in f h t (tells_below f h t k e told))
+    (get_at (trail_in f h t) k (told.0, e) told.1).0
 
 told_by : (f : FittedTrace) (h : HasRun f) (t k : ℕ) (e : Label) → StepAt 0 (trail_in f h t) k e → TellsIn f h t k e
 told_by f h t k e g = (g.2.0, subst (λ j. At (trail_in f h t) j (g.2.0, e)) (let q : g.0 ≡ k = omega (arith, g.1) in q) g.2.1)
 
 -- a thread has as many positions as events
-pub entries_long : (f : FittedTrace) (h : HasRun f) (t : ℕ) → t < length f.guest.entries → length (placed_at f.placed t).entries ≡ length (recorded_thread f.recorded t).events
-entries_long f h t l = ap length (h.entries t l) ∙ places_long 0 (trail_in f h t) ∙ ap length (h.whole.1.logs t l) ∙ length-map (recorded_thread f.recorded t).events label_of
+pub entries_long : (f : FittedTrace) (h : HasRun f) (t : ℕ) → t < length f.guest.entries
+    → length (placed_at f.placed t).entries ≡ length (recorded_thread f.recorded t).events
+entries_long f h t l = ap length (h.entries t l) ∙ places_long 0 (trail_in f h t) ∙ ap length (h.whole.1.logs t l)
+    ∙ length-map (recorded_thread f.recorded t).events label_of
 
 -- the step at the position of event i tells event i
-pub entry_tells : (f : FittedTrace) (h : HasRun f) (t : ℕ) → t < length f.guest.entries → (i : ℕ) (d : Event) → i < length (recorded_thread f.recorded t).events → TellsIn f h t (get_or (placed_at f.placed t).entries i 0) (label_of (get_or (recorded_thread f.recorded t).events i d))
+pub entry_tells : (f : FittedTrace) (h : HasRun f) (t : ℕ) → t < length f.guest.entries → (i : ℕ) (d : Event)
+    → i < length (recorded_thread f.recorded t).events
+    → TellsIn f h t (get_or (placed_at f.placed t).entries i 0) (label_of (get_or (recorded_thread f.recorded t).events i d))
 entry_tells f h t l i d li =
     let es : List Event = (recorded_thread f.recorded t).events in
     let k : ℕ = get_or (placed_at f.placed t).entries i 0 in
     let e : Label = label_of (get_or es i d) in
-    let event : At (map label_of es) i e = subst (At (map label_of es) i) (get_or-map label_of es i d e li) (at_get (map label_of es) i e (let n = length-map es label_of in omega (arith, n, li))) in
-    let place : At (placed_at f.placed t).entries i k = at_get (placed_at f.placed t).entries i 0 (let n = entries_long f h t l in omega (arith, n, li)) in
-    told_by f h t k e (step_of_event 0 (trail_in f h t) i k e (subst (λ xs. At xs i e) (sym (h.whole.1.logs t l)) event) (subst (λ xs. At xs i k) (h.entries t l) place))
+    let event : At (map label_of es) i e = subst (At (map label_of es) i) (get_or-map label_of es i d e li)
+        (at_get (map label_of es) i e (let n = length-map es label_of in omega (arith, n, li))) in
+    let place : At (placed_at f.placed t).entries i k =
+        at_get (placed_at f.placed t).entries i 0 (let n = entries_long f h t l in omega (arith, n, li)) in
+    told_by f h t k e (step_of_event 0 (trail_in f h t) i k e (subst (λ xs. At xs i e) (sym (h.whole.1.logs t l)) event)
+        (subst (λ xs. At xs i k) (h.entries t l) place))
 
 -- a step that is logged is an event's, at its position
 pub event_of : (f : FittedTrace) (h : HasRun f) (t k : ℕ) (e : Label) → ((es : List Label) → logged e es ≡ e ∷ es) → TellsIn f h t k e
-    → (i : ℕ) × (i < length (recorded_thread f.recorded t).events) × (get_or (placed_at f.placed t).entries i 0 ≡ k) × ((d : Event) → label_of (get_or (recorded_thread f.recorded t).events i d) ≡ e)
+    → (i : ℕ) × (i < length (recorded_thread f.recorded t).events) × (get_or (placed_at f.placed t).entries i 0 ≡ k)
+    × ((d : Event) → label_of (get_or (recorded_thread f.recorded t).events i d) ≡ e)
 event_of f h t k e logs told =
     let l = tells_below f h t k e told in
     let es : List Event = (recorded_thread f.recorded t).events in
@@ -237,58 +270,74 @@ event_of f h t k e logs told =
     let place : At (placed_at f.placed t).entries g.0 (0 + k) = subst (λ xs. At xs g.0 (0 + k)) (sym (h.entries t l)) g.2 in
     let found = get_at (map label_of es) g.0 e event in
     let li : g.0 < length es = let n = length-map es label_of in let m = found.0 in omega (arith, n, m) in
-    (g.0, li, (get_at (placed_at f.placed t).entries g.0 (0 + k) place).1 0 ∙ (let q : 0 + k ≡ k = omega arith in q), λ d. sym (get_or-map label_of es g.0 d e li) ∙ found.1 e)
+    (g.0, li, (get_at (placed_at f.placed t).entries g.0 (0 + k) place).1 0
+        ∙ (let q : 0 + k ≡ k = omega arith in q), λ d. sym (get_or-map label_of es g.0 d e li) ∙ found.1 e)
 
 -- each entry is an event's
 pub entry_of : (f : FittedTrace) (h : HasRun f) (t k o : ℕ) (a : Access) (v n : ℕ) → TellsIn f h t k (In o a v n)
-    → (i : ℕ) × (i < length (recorded_thread f.recorded t).events) × (get_or (placed_at f.placed t).entries i 0 ≡ k) × ((d : Event) → label_of (get_or (recorded_thread f.recorded t).events i d) ≡ In o a v n)
+    → (i : ℕ) × (i < length (recorded_thread f.recorded t).events) × (get_or (placed_at f.placed t).entries i 0 ≡ k)
+    × ((d : Event) → label_of (get_or (recorded_thread f.recorded t).events i d) ≡ In o a v n)
 entry_of f h t k o a v n told = event_of f h t k (In o a v n) (λ es. refl) told
 
 -- so is each answer
 pub answer_of : (f : FittedTrace) (h : HasRun f) (t k : ℕ) (kind : EnvKind) (value : ℕ) → TellsIn f h t k (Answer kind value)
-    → (i : ℕ) × (i < length (recorded_thread f.recorded t).events) × (get_or (placed_at f.placed t).entries i 0 ≡ k) × ((d : Event) → label_of (get_or (recorded_thread f.recorded t).events i d) ≡ Answer kind value)
+    → (i : ℕ) × (i < length (recorded_thread f.recorded t).events) × (get_or (placed_at f.placed t).entries i 0 ≡ k)
+    × ((d : Event) → label_of (get_or (recorded_thread f.recorded t).events i d) ≡ Answer kind value)
 answer_of f h t k kind value told = event_of f h t k (Answer kind value) (λ es. refl) told
 
 -- the positions of the events rise
-pub entries_rise : (f : FittedTrace) (h : HasRun f) (t : ℕ) → t < length f.guest.entries → (i j : ℕ) → i < j → j < length (placed_at f.placed t).entries → get_or (placed_at f.placed t).entries i 0 < get_or (placed_at f.placed t).entries j 0
+pub entries_rise : (f : FittedTrace) (h : HasRun f) (t : ℕ) → t < length f.guest.entries → (i j : ℕ) → i < j
+    → j < length (placed_at f.placed t).entries → get_or (placed_at f.placed t).entries i 0 < get_or (placed_at f.placed t).entries j 0
 entries_rise f h t l = rises_below 0 (placed_at f.placed t).entries (subst (Rises 0) (sym (h.entries t l)) (places_rise 0 (trail_in f h t)))
 
 -- and are below the thread's steps
-pub entry_within : (f : FittedTrace) (h : HasRun f) (t : ℕ) → t < length f.guest.entries → (i : ℕ) → i < length (placed_at f.placed t).entries → get_or (placed_at f.placed t).entries i 0 < (recorded_thread f.recorded t).steps
+pub entry_within : (f : FittedTrace) (h : HasRun f) (t : ℕ) → t < length f.guest.entries → (i : ℕ)
+    → i < length (placed_at f.placed t).entries → get_or (placed_at f.placed t).entries i 0 < (recorded_thread f.recorded t).steps
 entry_within f h t l i li =
     let d : Event = logged_event.Answer Clock 0 in
-    tells_within f h t (get_or (placed_at f.placed t).entries i 0) (label_of (get_or (recorded_thread f.recorded t).events i d)) (entry_tells f h t l i d (let n = entries_long f h t l in omega (arith, n, li)))
+    tells_within f h t (get_or (placed_at f.placed t).entries i 0) (label_of (get_or (recorded_thread f.recorded t).events i d))
+        (entry_tells f h t l i d (let n = entries_long f h t l in omega (arith, n, li)))
 
 -- the step of leave i tells leave i
-pub leave_tells : (f : FittedTrace) (h : HasRun f) (t : ℕ) → t < length f.guest.entries → (i : ℕ) (d : Leave) → i < length (placed_at f.placed t).leaves
-    → TellsIn f h t (get_or (placed_at f.placed t).leaves i d).position (Out (get_or (placed_at f.placed t).leaves i d).object (get_or (placed_at f.placed t).leaves i d).access (get_or (placed_at f.placed t).leaves i d).version)
+pub leave_tells : (f : FittedTrace) (h : HasRun f) (t : ℕ) → t < length f.guest.entries → (i : ℕ) (d : Leave)
+    → i < length (placed_at f.placed t).leaves
+    → TellsIn f h t (get_or (placed_at f.placed t).leaves i d).position
+    (Out (get_or (placed_at f.placed t).leaves i d).object (get_or (placed_at f.placed t).leaves i d).access
+    (get_or (placed_at f.placed t).leaves i d).version)
 leave_tells f h t l i d li =
     let e : Leave = get_or (placed_at f.placed t).leaves i d in
-    told_by f h t e.position (Out e.object e.access e.version) (step_of_leave 0 (trail_in f h t) i e (subst (λ xs. At xs i e) (h.leaves t l) (at_get (placed_at f.placed t).leaves i d li)))
+    told_by f h t e.position (Out e.object e.access e.version)
+        (step_of_leave 0 (trail_in f h t) i e (subst (λ xs. At xs i e) (h.leaves t l) (at_get (placed_at f.placed t).leaves i d li)))
 
 -- each leave is one of these
 pub leave_of : (f : FittedTrace) (h : HasRun f) (t k o : ℕ) (a : Access) (v : ℕ) → TellsIn f h t k (Out o a v)
-    → (i : ℕ) × (i < length (placed_at f.placed t).leaves) × ((d : Leave) → get_or (placed_at f.placed t).leaves i d ≡ record { position = k; object = o; access = a; version = v })
+    → (i : ℕ) × (i < length (placed_at f.placed t).leaves)
+    × ((d : Leave) → get_or (placed_at f.placed t).leaves i d ≡ record { position = k; object = o; access = a; version = v })
 leave_of f h t k o a v told =
     let l = tells_below f h t k (Out o a v) told in
     let g = leave_of_step 0 (trail_in f h t) k told.0 o a v told.1 in
-    let at : At (placed_at f.placed t).leaves g.0 (leave_at (0 + k) o a v) = subst (λ xs. At xs g.0 (leave_at (0 + k) o a v)) (sym (h.leaves t l)) g.1 in
+    let at : At (placed_at f.placed t).leaves g.0 (leave_at (0 + k) o a v) =
+        subst (λ xs. At xs g.0 (leave_at (0 + k) o a v)) (sym (h.leaves t l)) g.1 in
     let found = get_at (placed_at f.placed t).leaves g.0 (leave_at (0 + k) o a v) at in
     (g.0, found.0, λ d. found.1 d ∙ ap (λ j. leave_at j o a v) (let q : 0 + k ≡ k = omega arith in q))
 
 -- the positions of the leaves rise
-pub leaves_rise : (f : FittedTrace) (h : HasRun f) (t : ℕ) → t < length f.guest.entries → (i j : ℕ) (d : Leave) → i < j → j < length (placed_at f.placed t).leaves → (get_or (placed_at f.placed t).leaves i d).position < (get_or (placed_at f.placed t).leaves j d).position
+pub leaves_rise : (f : FittedTrace) (h : HasRun f) (t : ℕ) → t < length f.guest.entries → (i j : ℕ) (d : Leave) → i < j
+    → j < length (placed_at f.placed t).leaves
+    → (get_or (placed_at f.placed t).leaves i d).position < (get_or (placed_at f.placed t).leaves j d).position
 leaves_rise f h t l i j d lt lj =
     let ls : List Leave = (placed_at f.placed t).leaves in
     let place : Leave → ℕ = λ e. e.position in
     let n = length-map ls place in
-    let up = rises_below 0 (positions ls) (subst (λ xs. Rises 0 (positions xs)) (sym (h.leaves t l)) (leaves_rise_from 0 (trail_in f h t))) i j lt (omega (arith, n, lj)) in
+    let up = rises_below 0 (positions ls) (subst (λ xs. Rises 0 (positions xs)) (sym (h.leaves t l)) (leaves_rise_from 0 (trail_in f h t)))
+        i j lt (omega (arith, n, lj)) in
     let first : get_or (positions ls) i 0 ≡ (get_or ls i d).position = get_or-map place ls i d 0 (omega (arith, lt, lj)) in
     let second : get_or (positions ls) j 0 ≡ (get_or ls j d).position = get_or-map place ls j d 0 lj in
     omega (arith, up, first, second)
 
 -- and are below the thread's steps
-pub leave_within : (f : FittedTrace) (h : HasRun f) (t : ℕ) → t < length f.guest.entries → (i : ℕ) (d : Leave) → i < length (placed_at f.placed t).leaves → (get_or (placed_at f.placed t).leaves i d).position < (recorded_thread f.recorded t).steps
+pub leave_within : (f : FittedTrace) (h : HasRun f) (t : ℕ) → t < length f.guest.entries → (i : ℕ) (d : Leave)
+    → i < length (placed_at f.placed t).leaves → (get_or (placed_at f.placed t).leaves i d).position < (recorded_thread f.recorded t).steps
 leave_within f h t l i d li =
     let e : Leave = get_or (placed_at f.placed t).leaves i d in
     tells_within f h t e.position (Out e.object e.access e.version) (leave_tells f h t l i d li)

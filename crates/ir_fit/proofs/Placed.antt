@@ -31,16 +31,20 @@ leave_prefix (In o a v l) i ps qs = refl
 leave_prefix (Refused o) i ps qs = refl
 leave_prefix (Out o a v) i ps qs = refl
 
-pub places_append : {T : Type 0} (i : ℕ) (xs ys : List (T × Label)) → places_from i (xs ++ ys) ≡ places_from i xs ++ places_from (i + length xs) ys
+pub places_append : {T : Type 0} (i : ℕ) (xs ys : List (T × Label))
+    → places_from i (xs ++ ys) ≡ places_from i xs ++ places_from (i + length xs) ys
 places_append i [] ys = ap (λ (k : ℕ). places_from k ys) (let e : i ≡ i + 0 = omega arith in e)
 places_append i (x ∷ xs) ys =
-    ap (place_if x.1 i) (places_append (suc i) xs ys ∙ ap (λ (k : ℕ). places_from (suc i) xs ++ places_from k ys) (let e : suc i + length xs ≡ i + suc (length xs) = omega arith in e))
+    ap (place_if x.1 i) (places_append (suc i) xs ys
+        ∙ ap (λ (k : ℕ). places_from (suc i) xs ++ places_from k ys) (let e : suc i + length xs ≡ i + suc (length xs) = omega arith in e))
     ∙ place_prefix x.1 i (places_from (suc i) xs) (places_from (i + suc (length xs)) ys)
 
-pub leaves_append : {T : Type 0} (i : ℕ) (xs ys : List (T × Label)) → leaves_from i (xs ++ ys) ≡ leaves_from i xs ++ leaves_from (i + length xs) ys
+pub leaves_append : {T : Type 0} (i : ℕ) (xs ys : List (T × Label))
+    → leaves_from i (xs ++ ys) ≡ leaves_from i xs ++ leaves_from (i + length xs) ys
 leaves_append i [] ys = ap (λ (k : ℕ). leaves_from k ys) (let e : i ≡ i + 0 = omega arith in e)
 leaves_append i (x ∷ xs) ys =
-    ap (leave_if x.1 i) (leaves_append (suc i) xs ys ∙ ap (λ (k : ℕ). leaves_from (suc i) xs ++ leaves_from k ys) (let e : suc i + length xs ≡ i + suc (length xs) = omega arith in e))
+    ap (leave_if x.1 i) (leaves_append (suc i) xs ys
+        ∙ ap (λ (k : ℕ). leaves_from (suc i) xs ++ leaves_from k ys) (let e : suc i + length xs ≡ i + suc (length xs) = omega arith in e))
     ∙ leave_prefix x.1 i (leaves_from (suc i) xs) (leaves_from (i + suc (length xs)) ys)
 
 -- steps that tell nothing
@@ -62,7 +66,8 @@ quiet_join false x xs h rest = rest
 
 -- ---- what a step adds
 
-pub placed_entries : (f : Flat) (t v : ℕ) (p : Placed) (q : Ask) → (placed_by f t p q).entries ≡ p.entries ++ place_if (tells f q v) (thread_of f t).steps []
+pub placed_entries : (f : Flat) (t v : ℕ) (p : Placed) (q : Ask)
+    → (placed_by f t p q).entries ≡ p.entries ++ place_if (tells f q v) (thread_of f t).steps []
 placed_entries f t v p Private = sym (append-nil p.entries)
 placed_entries f t v p (Env kind) = refl
 placed_entries f t v p (Enter o Reading) = refl
@@ -74,7 +79,8 @@ placed_entries f t v p Print = sym (append-nil p.entries)
 placed_entries f t v p (End e) = sym (append-nil p.entries)
 placed_entries f t v p Done = sym (append-nil p.entries)
 
-pub placed_leaves : (f : Flat) (t v : ℕ) (p : Placed) (q : Ask) → (placed_by f t p q).leaves ≡ p.leaves ++ leave_if (tells f q v) (thread_of f t).steps []
+pub placed_leaves : (f : Flat) (t v : ℕ) (p : Placed) (q : Ask)
+    → (placed_by f t p q).leaves ≡ p.leaves ++ leave_if (tells f q v) (thread_of f t).steps []
 placed_leaves f t v p Private = sym (append-nil p.leaves)
 placed_leaves f t v p (Env kind) = sym (append-nil p.leaves)
 placed_leaves f t v p (Enter o Reading) = sym (append-nil p.leaves)
@@ -102,7 +108,8 @@ placed_room f t p Done = refl
 one_longer : {X : Type 0} (xs : List X) (x : X) → length (xs ++ x ∷ []) ≡ length xs + 1
 one_longer xs x = length-append xs (x ∷ [])
 
-pub placed_count : (code : List ℕ) (f : Flat) (t : ℕ) (p : Placed) (x : thread.State) (q : Ask) (r : Reply) → length p.entries ≡ x.events → length (placed_by f t p q).entries ≡ (after_ask code x q r).events
+pub placed_count : (code : List ℕ) (f : Flat) (t : ℕ) (p : Placed) (x : thread.State) (q : Ask) (r : Reply) → length p.entries ≡ x.events
+    → length (placed_by f t p q).entries ≡ (after_ask code x q r).events
 placed_count code f t p x Private r h = h
 placed_count code f t p x (Env kind) r h = let n = one_longer p.entries (thread_of f t).steps in omega (arith, n, h)
 placed_count code f t p x (Enter o a) r h = let n = one_longer p.entries (thread_of f t).steps in omega (arith, n, h)
@@ -119,7 +126,9 @@ held_more held o a l = let sums = sum_by-set one_if_held held o (Some a) None l 
 is_some : (x : Option Access) (a : Access) → x ≡ Some a → x ≡ None → ⊥
 is_some x a e n = cc (e, n)
 
-pub placed_fewer : (code : List ℕ) (f : Flat) (t : ℕ) (p : Placed) (x : thread.State) (q : Ask) (r : Reply) → Permits x q → length p.leaves + held_count x.held ≤ x.events → length (placed_by f t p q).leaves + held_count (after_ask code x q r).held ≤ (after_ask code x q r).events
+pub placed_fewer : (code : List ℕ) (f : Flat) (t : ℕ) (p : Placed) (x : thread.State) (q : Ask) (r : Reply) → Permits x q
+    → length p.leaves + held_count x.held ≤ x.events
+    → length (placed_by f t p q).leaves + held_count (after_ask code x q r).held ≤ (after_ask code x q r).events
 placed_fewer code f t p x Private r k h = h
 placed_fewer code f t p x (Env kind) r k h = omega (arith, h)
 placed_fewer code f t p x (Enter o a) r k h = let more = held_more x.held o a k.2 in omega (arith, h, more)

@@ -49,7 +49,8 @@ same_ends : (x : Option (ℕ × ℕ)) → ends_at x x ≡ None
 same_ends None = refl
 same_ends (Some e) = refl
 
-ends_by : (code : List ℕ) (s : thread.State) (reply : Reply) (q : Ask) → Permits s q → ends_at (over s.ended) (over (after_ask code s q reply).ended) ≡ end_asked q
+ends_by : (code : List ℕ) (s : thread.State) (reply : Reply) (q : Ask) → Permits s q
+    → ends_at (over s.ended) (over (after_ask code s q reply).ended) ≡ end_asked q
 ends_by code s reply Private p = same_ends (over s.ended)
 ends_by code s reply (Env kind) p = same_ends (over s.ended)
 ends_by code s reply (Enter object access) p = same_ends (over s.ended)
@@ -77,18 +78,23 @@ pub record FollowsAs (r : Recorded) (f : Flat) (t v n : ℕ) (es : List Label) (
   pub logs : logged (tells f q v) (unlogged (tells f q v) es) ≡ es
   pub ends : Meets (end_asked q) ((trace_of r).ends t) (held_count (thread_of f t).held) n es
 
-pub follows_as : (r : Recorded) (f : Flat) (t v : ℕ) (q : Ask) → ask_of f.code (thread_of f t) ≡ q → CanFollow r f t v → FollowsAs r f t v (steps_ahead r f t) (log_ahead r f t) q
+pub follows_as : (r : Recorded) (f : Flat) (t v : ℕ) (q : Ask) → ask_of f.code (thread_of f t) ≡ q → CanFollow r f t v
+    → FollowsAs r f t v (steps_ahead r f t) (log_ahead r f t) q
 follows_as r f t v q is h = subst (FollowsAs r f t v (steps_ahead r f t) (log_ahead r f t)) is (record {
   can = h.0;
   steps = h.1;
   logs = h.2;
-  ends = subst (λ e. Meets e ((trace_of r).ends t) (held_count (thread_of f t).held) (steps_ahead r f t) (log_ahead r f t)) (ends_asked f.code (thread_of f t)) h.3;
+  ends = subst (λ e. Meets e ((trace_of r).ends t) (held_count (thread_of f t).held) (steps_ahead r f t) (log_ahead r f t))
+      (ends_asked f.code (thread_of f t)) h.3;
 })
 
-pub follows_by : (r : Recorded) (f : Flat) (t v : ℕ) (q : Ask) → ask_of f.code (thread_of f t) ≡ q → FollowsAs r f t v (steps_ahead r f t) (log_ahead r f t) q → CanFollow r f t v
+pub follows_by : (r : Recorded) (f : Flat) (t v : ℕ) (q : Ask) → ask_of f.code (thread_of f t) ≡ q
+    → FollowsAs r f t v (steps_ahead r f t) (log_ahead r f t) q → CanFollow r f t v
 follows_by r f t v q is h =
-    let k : FollowsAs r f t v (steps_ahead r f t) (log_ahead r f t) (ask_of f.code (thread_of f t)) = subst (FollowsAs r f t v (steps_ahead r f t) (log_ahead r f t)) (sym is) h in
-    (k.can, k.steps, k.logs, subst (λ e. Meets e ((trace_of r).ends t) (held_count (thread_of f t).held) (steps_ahead r f t) (log_ahead r f t)) (sym (ends_asked f.code (thread_of f t))) k.ends)
+    let k : FollowsAs r f t v (steps_ahead r f t) (log_ahead r f t) (ask_of f.code (thread_of f t)) =
+        subst (FollowsAs r f t v (steps_ahead r f t) (log_ahead r f t)) (sym is) h in
+    (k.can, k.steps, k.logs, subst (λ e. Meets e ((trace_of r).ends t) (held_count (thread_of f t).held) (steps_ahead r f t)
+        (log_ahead r f t)) (sym (ends_asked f.code (thread_of f t))) k.ends)
 
 -- the next step is the trace's, where it is asked so
 pub record AgreesAs (r : Recorded) (f : Flat) (t n : ℕ) (es : List Label) (q : Ask) : Type 0 where
@@ -96,22 +102,28 @@ pub record AgreesAs (r : Recorded) (f : Flat) (t n : ℕ) (es : List Label) (q :
   pub suits : verdicts.Suits (shared_ask q) es
   pub ends : Meets (end_asked q) ((trace_of r).ends t) (held_count (thread_of f t).held) n es
 
-pub agrees_as : (r : Recorded) (f : Flat) (t : ℕ) (q : Ask) → ask_of f.code (thread_of f t) ≡ q → AgreesAhead r f t → AgreesAs r f t (steps_ahead r f t) (log_ahead r f t) q
+pub agrees_as : (r : Recorded) (f : Flat) (t : ℕ) (q : Ask) → ask_of f.code (thread_of f t) ≡ q → AgreesAhead r f t
+    → AgreesAs r f t (steps_ahead r f t) (log_ahead r f t) q
 agrees_as r f t q is h = subst (AgreesAs r f t (steps_ahead r f t) (log_ahead r f t)) is (record {
   steps = h.0;
   suits = h.1;
-  ends = subst (λ e. Meets e ((trace_of r).ends t) (held_count (thread_of f t).held) (steps_ahead r f t) (log_ahead r f t)) (ends_asked f.code (thread_of f t)) h.2;
+  ends = subst (λ e. Meets e ((trace_of r).ends t) (held_count (thread_of f t).held) (steps_ahead r f t) (log_ahead r f t))
+      (ends_asked f.code (thread_of f t)) h.2;
 })
 
-pub agrees_by : (r : Recorded) (f : Flat) (t : ℕ) (q : Ask) → ask_of f.code (thread_of f t) ≡ q → AgreesAs r f t (steps_ahead r f t) (log_ahead r f t) q → AgreesAhead r f t
+pub agrees_by : (r : Recorded) (f : Flat) (t : ℕ) (q : Ask) → ask_of f.code (thread_of f t) ≡ q
+    → AgreesAs r f t (steps_ahead r f t) (log_ahead r f t) q → AgreesAhead r f t
 agrees_by r f t q is h =
-    let k : AgreesAs r f t (steps_ahead r f t) (log_ahead r f t) (ask_of f.code (thread_of f t)) = subst (AgreesAs r f t (steps_ahead r f t) (log_ahead r f t)) (sym is) h in
-    (k.steps, k.suits, subst (λ e. Meets e ((trace_of r).ends t) (held_count (thread_of f t).held) (steps_ahead r f t) (log_ahead r f t)) (sym (ends_asked f.code (thread_of f t))) k.ends)
+    let k : AgreesAs r f t (steps_ahead r f t) (log_ahead r f t) (ask_of f.code (thread_of f t)) =
+        subst (AgreesAs r f t (steps_ahead r f t) (log_ahead r f t)) (sym is) h in
+    (k.steps, k.suits, subst (λ e. Meets e ((trace_of r).ends t) (held_count (thread_of f t).held) (steps_ahead r f t) (log_ahead r f t))
+        (sym (ends_asked f.code (thread_of f t))) k.ends)
 
 -- ---- the next event of a log
 
 -- the log from an event on
-pub ahead_at : (xs : List Event) (i : ℕ) (e : Event) → slice_get xs i ≡ Some e → drop i (map label_of xs) ≡ label_of e ∷ drop (suc i) (map label_of xs)
+pub ahead_at : (xs : List Event) (i : ℕ) (e : Event) → slice_get xs i ≡ Some e → drop i (map label_of xs) ≡ label_of e
+    ∷ drop (suc i) (map label_of xs)
 ahead_at [] i e h = absurd (cc h)
 ahead_at (x ∷ xs) zero e h = let same : x ≡ e = cc h in ap (λ z. label_of z ∷ map label_of xs) same
 ahead_at (x ∷ xs) (suc i) e h = ahead_at xs i e h
@@ -127,7 +139,8 @@ call_suits (Answer j v) es kind h = ap Env h
 call_suits (Read o v) es kind h = absurd h
 call_suits (Write o v l) es kind h = absurd h
 
-entry_suits : (x : Event) (es : List Label) (o : ℕ) (a : Access) → verdicts.Suits (machine.Enter o a) (label_of x ∷ es) → Suits (Enter o a) x
+entry_suits : (x : Event) (es : List Label) (o : ℕ) (a : Access) → verdicts.Suits (machine.Enter o a) (label_of x ∷ es)
+    → Suits (Enter o a) x
 entry_suits (Answer j v) es o a h = absurd h
 entry_suits (Read p v) es o a h = λ i. Enter (h.0 i) (h.1 i)
 entry_suits (Write p v l) es o a h = λ i. Enter (h.0 i) (h.1 i)
@@ -137,18 +150,21 @@ suits_call (Answer j v) es kind h = cc h
 suits_call (Read o v) es kind h = absurd (cc h)
 suits_call (Write o v l) es kind h = absurd (cc h)
 
-pub suits_entry : (x : Event) (es : List Label) (o : ℕ) (a : Access) → Suits (Enter o a) x → verdicts.Suits (machine.Enter o a) (label_of x ∷ es)
+pub suits_entry : (x : Event) (es : List Label) (o : ℕ) (a : Access) → Suits (Enter o a) x
+    → verdicts.Suits (machine.Enter o a) (label_of x ∷ es)
 suits_entry (Answer j v) es o a h = absurd (cc h)
 suits_entry (Read p v) es o a h = ((let e : ◌≡◌ {A = ℕ} p o = cc h in e), (let e : ◌≡◌ {A = Access} Reading a = cc h in e))
 suits_entry (Write p v l) es o a h = ((let e : ◌≡◌ {A = ℕ} p o = cc h in e), (let e : ◌≡◌ {A = Access} Writing a = cc h in e))
 
-pub call_there : (xs : List Event) (i : ℕ) (kind : EnvKind) → verdicts.Suits (machine.Env kind) (drop i (map label_of xs)) → (e : Event) × (slice_get xs i ≡ Some e) × Suits (Env kind) e
+pub call_there : (xs : List Event) (i : ℕ) (kind : EnvKind) → verdicts.Suits (machine.Env kind) (drop i (map label_of xs)) → (e : Event)
+    × (slice_get xs i ≡ Some e) × Suits (Env kind) e
 call_there [] zero kind h = absurd h
 call_there [] (suc i) kind h = absurd h
 call_there (x ∷ xs) zero kind h = (x, refl, call_suits x (map label_of xs) kind h)
 call_there (x ∷ xs) (suc i) kind h = call_there xs i kind h
 
-pub entry_there : (xs : List Event) (i o : ℕ) (a : Access) → verdicts.Suits (machine.Enter o a) (drop i (map label_of xs)) → (e : Event) × (slice_get xs i ≡ Some e) × Suits (Enter o a) e
+pub entry_there : (xs : List Event) (i o : ℕ) (a : Access) → verdicts.Suits (machine.Enter o a) (drop i (map label_of xs)) → (e : Event)
+    × (slice_get xs i ≡ Some e) × Suits (Enter o a) e
 entry_there [] zero o a h = absurd h
 entry_there [] (suc i) o a h = absurd h
 entry_there (x ∷ xs) zero o a h = (x, refl, entry_suits x (map label_of xs) o a h)
@@ -159,21 +175,25 @@ entry_there (x ∷ xs) (suc i) o a h = entry_there xs i o a h
 pub fits_result : (kind : EnvKind) (value : ℕ) → IsResult kind value → is_result kind value ≡ true
 fits_result Clock value h = grind (arith, nat_tests, h)
 fits_result Random value h = grind (arith, nat_tests, h)
-fits_result Input value (inl h) = ap (λ b. b || (value == 0xFFFFFFFF)) (let e : nat_lt value (2 ^ 8) ≡ true = grind (arith, nat_tests, h) in e)
+fits_result Input value (inl h) = ap (λ b. b || (value == 0xFFFFFFFF))
+    (let e : nat_lt value (2 ^ 8) ≡ true = grind (arith, nat_tests, h) in e)
 fits_result Input value (inr h) = either (nat_lt value (2 ^ 8)) (value == 0xFFFFFFFF) (grind (arith, nat_tests, h))
   where
     either : (a b : Bool) → b ≡ true → (a || b) ≡ true
     either true b h = refl
     either false b h = h
 
-pub call_follows : (r : Recorded) (f : Flat) (t v : ℕ) (kind j : EnvKind) → IsRecordedThread r.objects (recorded_thread r t) → ask_of f.code (thread_of f t) ≡ Env kind → 0 < steps_ahead r f t
+pub call_follows : (r : Recorded) (f : Flat) (t v : ℕ) (kind j : EnvKind) → IsRecordedThread r.objects (recorded_thread r t)
+    → ask_of f.code (thread_of f t) ≡ Env kind → 0 < steps_ahead r f t
     → slice_get (recorded_thread r t).events (thread_of f t).events ≡ Some (Answer j v) → Suits (Env kind) (Answer j v) → CanFollow r f t v
 call_follows r f t v kind j fits is steps next suits =
     let same : j ≡ kind = cc suits in
     let here : Answer j v ≡ Answer kind v = ap (λ z. Answer z v) same in
     let es : log_ahead r f t ≡ labels.Answer kind v ∷ drop (suc (thread_of f t).events) (map label_of (recorded_thread r t).events) =
-    ahead_at (recorded_thread r t).events (thread_of f t).events (Answer kind v) (subst (λ z. slice_get (recorded_thread r t).events (thread_of f t).events ≡ Some z) here next) in
-    let result : IsResult kind v = subst (λ z. IsResult z v) same (event_fits (IsEvent r.objects) (recorded_thread r t).events (thread_of f t).events (Answer j v) fits.events_fit next) in
+    ahead_at (recorded_thread r t).events (thread_of f t).events (Answer kind v)
+        (subst (λ z. slice_get (recorded_thread r t).events (thread_of f t).events ≡ Some z) here next) in
+    let result : IsResult kind v = subst (λ z. IsResult z v) same
+        (event_fits (IsEvent r.objects) (recorded_thread r t).events (thread_of f t).events (Answer j v) fits.events_fit next) in
     follows_by r f t v (Env kind) is (record {
       can = fits_result kind v result;
       steps = steps;
@@ -183,31 +203,42 @@ call_follows r f t v kind j fits is steps next suits =
 
 -- ---- entries
 
-open_entry : (f : Flat) (t v o : ℕ) (a : Access) (e : Event) (es rest : List Label) → es ≡ label_of e ∷ rest → Suits (Enter o a) e → IsOpen (cell_of f o) e → (Admitted a (cell_of f o).fields) × (logged (tells f (Enter o a) v) (unlogged (tells f (Enter o a) v) es) ≡ es)
+open_entry : (f : Flat) (t v o : ℕ) (a : Access) (e : Event) (es rest : List Label) → es ≡ label_of e ∷ rest → Suits (Enter o a) e
+    → IsOpen (cell_of f o) e → (Admitted a (cell_of f o).fields)
+    × (logged (tells f (Enter o a) v) (unlogged (tells f (Enter o a) v) es) ≡ es)
 open_entry f t v o a (Answer k w) es rest is suits h = absurd h
 open_entry f t v o a (Read p w) es rest is suits h =
     let object : ◌≡◌ {A = ℕ} o p = sym (let e : ◌≡◌ {A = ℕ} p o = cc suits in e) in
     let access : ◌≡◌ {A = Access} Reading a = cc suits in
     subst (λ z. (Admitted z (cell_of f o).fields) × (logged (tells f (Enter o z) v) (unlogged (tells f (Enter o z) v) es) ≡ es)) access
-    (h.1, ap (λ z. labels.In o Reading (cell_of f o).fields.version 0 ∷ unlogged (labels.In o Reading (cell_of f o).fields.version 0) z) is ∙ (λ i. labels.In (object i) Reading (h.0 i) 0 ∷ rest) ∙ sym is)
+    (h.1, ap (λ z. labels.In o Reading (cell_of f o).fields.version 0 ∷ unlogged (labels.In o Reading (cell_of f o).fields.version 0) z) is
+        ∙ (λ i. labels.In (object i) Reading (h.0 i) 0 ∷ rest) ∙ sym is)
 open_entry f t v o a (Write p w l) es rest is suits h =
     let object : ◌≡◌ {A = ℕ} o p = sym (let e : ◌≡◌ {A = ℕ} p o = cc suits in e) in
     let access : ◌≡◌ {A = Access} Writing a = cc suits in
     subst (λ z. (Admitted z (cell_of f o).fields) × (logged (tells f (Enter o z) v) (unlogged (tells f (Enter o z) v) es) ≡ es)) access
-    (h.2, ap (λ z. labels.In o Writing (cell_of f o).fields.version (cell_of f o).fields.left ∷ unlogged (labels.In o Writing (cell_of f o).fields.version (cell_of f o).fields.left) z) is ∙ (λ i. labels.In (object i) Writing (h.0 i) (h.1 i) ∷ rest) ∙ sym is)
+    (h.2, ap (λ z. labels.In o Writing (cell_of f o).fields.version (cell_of f o).fields.left
+        ∷ unlogged (labels.In o Writing (cell_of f o).fields.version (cell_of f o).fields.left) z) is
+        ∙ (λ i. labels.In (object i) Writing (h.0 i) (h.1 i) ∷ rest) ∙ sym is)
 
-entry_open : (f : Flat) (t v o : ℕ) (a : Access) (e : Event) (es rest : List Label) → es ≡ label_of e ∷ rest → Suits (Enter o a) e → Admitted a (cell_of f o).fields → logged (tells f (Enter o a) v) (unlogged (tells f (Enter o a) v) es) ≡ es → IsOpen (cell_of f o) e
+entry_open : (f : Flat) (t v o : ℕ) (a : Access) (e : Event) (es rest : List Label) → es ≡ label_of e ∷ rest → Suits (Enter o a) e
+    → Admitted a (cell_of f o).fields → logged (tells f (Enter o a) v) (unlogged (tells f (Enter o a) v) es) ≡ es → IsOpen (cell_of f o) e
 entry_open f t v o a (Answer k w) es rest is suits can h = absurd (cc suits)
 entry_open f t v o a (Read p w) es rest is suits can h =
     let access : ◌≡◌ {A = Access} a Reading = sym (let e : ◌≡◌ {A = Access} Reading a = cc suits in e) in
-    let tells_read : labels.In o Reading (cell_of f o).fields.version 0 ∷ unlogged (labels.In o Reading (cell_of f o).fields.version 0) es ≡ es = subst (λ z. logged (tells f (Enter o z) v) (unlogged (tells f (Enter o z) v) es) ≡ es) access h in
+    let tells_read : labels.In o Reading (cell_of f o).fields.version 0
+        ∷ unlogged (labels.In o Reading (cell_of f o).fields.version 0) es ≡ es =
+        subst (λ z. logged (tells f (Enter o z) v) (unlogged (tells f (Enter o z) v) es) ≡ es) access h in
     let both = tells_read ∙ is in
     ((let e : ◌≡◌ {A = ℕ} (cell_of f o).fields.version w = cc both in e), subst (λ z. Admitted z (cell_of f o).fields) access can)
 entry_open f t v o a (Write p w l) es rest is suits can h =
     let access : ◌≡◌ {A = Access} a Writing = sym (let e : ◌≡◌ {A = Access} Writing a = cc suits in e) in
-    let tells_write : labels.In o Writing (cell_of f o).fields.version (cell_of f o).fields.left ∷ unlogged (labels.In o Writing (cell_of f o).fields.version (cell_of f o).fields.left) es ≡ es = subst (λ z. logged (tells f (Enter o z) v) (unlogged (tells f (Enter o z) v) es) ≡ es) access h in
+    let tells_write : labels.In o Writing (cell_of f o).fields.version (cell_of f o).fields.left
+        ∷ unlogged (labels.In o Writing (cell_of f o).fields.version (cell_of f o).fields.left) es ≡ es =
+        subst (λ z. logged (tells f (Enter o z) v) (unlogged (tells f (Enter o z) v) es) ≡ es) access h in
     let both = tells_write ∙ is in
-    ((let e : ◌≡◌ {A = ℕ} (cell_of f o).fields.version w = cc both in e), (let e : ◌≡◌ {A = ℕ} (cell_of f o).fields.left l = cc both in e), subst (λ z. Admitted z (cell_of f o).fields) access can)
+    ((let e : ◌≡◌ {A = ℕ} (cell_of f o).fields.version w = cc both in e), (let e : ◌≡◌ {A = ℕ} (cell_of f o).fields.left l = cc both in e),
+        subst (λ z. Admitted z (cell_of f o).fields) access can)
 
 -- what isn't so where its test says no
 pub test_false : (b : Bool) (P : Type 0) → IsTrue b ↔ P → b ≡ false → P → ⊥
@@ -220,11 +251,14 @@ found_open b found c e same test is = subst (λ z. IsOpen z e) same (test.0 is)
 pub found_shut : (b : Bool) (found c : Cell) (e : Event) → found ≡ c → IsTrue b ↔ IsOpen found e → b ≡ false → IsOpen c e → ⊥
 found_shut b found c e same test is h = test_false b (IsOpen found e) test is (subst (λ z. IsOpen z e) (sym same) h)
 
-pub entry_follows : (r : Recorded) (f : Flat) (t o : ℕ) (a : Access) (e : Event) → IsFlat f → t < length f.threads → ask_of f.code (thread_of f t) ≡ Enter o a → 0 < steps_ahead r f t
-    → slice_get (recorded_thread r t).events (thread_of f t).events ≡ Some e → Suits (Enter o a) e → IsOpen (cell_of f o) e → CanFollow r f t 0
+pub entry_follows : (r : Recorded) (f : Flat) (t o : ℕ) (a : Access) (e : Event) → IsFlat f → t < length f.threads
+    → ask_of f.code (thread_of f t) ≡ Enter o a → 0 < steps_ahead r f t
+    → slice_get (recorded_thread r t).events (thread_of f t).events ≡ Some e → Suits (Enter o a) e → IsOpen (cell_of f o) e
+    → CanFollow r f t 0
 entry_follows r f t o a e flat l is steps next suits opens =
     let es = ahead_at (recorded_thread r t).events (thread_of f t).events e next in
-    let both = open_entry f t 0 o a e (log_ahead r f t) (drop (suc (thread_of f t).events) (map label_of (recorded_thread r t).events)) es suits opens in
+    let both = open_entry f t 0 o a e (log_ahead r f t) (drop (suc (thread_of f t).events) (map label_of (recorded_thread r t).events)) es
+        suits opens in
     follows_by r f t 0 (Enter o a) is (record {
       can = (may_admits f t 0 (Enter o a) flat l (subst (Permits (thread_of f t)) is (ask_permits f.code (thread_of f t)))).0 both.0;
       steps = steps;
@@ -232,18 +266,23 @@ entry_follows r f t o a e flat l is steps next suits opens =
       ends = tt;
     })
 
-pub entry_waits : (r : Recorded) (f : Flat) (t o : ℕ) (a : Access) (e : Event) → IsFlat f → t < length f.threads → ask_of f.code (thread_of f t) ≡ Enter o a
-    → slice_get (recorded_thread r t).events (thread_of f t).events ≡ Some e → Suits (Enter o a) e → (IsOpen (cell_of f o) e → ⊥) → IsStopped r f t
+pub entry_waits : (r : Recorded) (f : Flat) (t o : ℕ) (a : Access) (e : Event) → IsFlat f → t < length f.threads
+    → ask_of f.code (thread_of f t) ≡ Enter o a
+    → slice_get (recorded_thread r t).events (thread_of f t).events ≡ Some e → Suits (Enter o a) e → (IsOpen (cell_of f o) e → ⊥)
+    → IsStopped r f t
 entry_waits r f t o a e flat l is next suits shut v h =
     let k : FollowsAs r f t v (steps_ahead r f t) (log_ahead r f t) (Enter o a) = follows_as r f t v (Enter o a) is h in
-    shut (entry_open f t v o a e (log_ahead r f t) (drop (suc (thread_of f t).events) (map label_of (recorded_thread r t).events)) (ahead_at (recorded_thread r t).events (thread_of f t).events e next) suits
+    shut (entry_open f t v o a e (log_ahead r f t) (drop (suc (thread_of f t).events) (map label_of (recorded_thread r t).events))
+        (ahead_at (recorded_thread r t).events (thread_of f t).events e next) suits
     ((may_admits f t v (Enter o a) flat l (subst (Permits (thread_of f t)) is (ask_permits f.code (thread_of f t)))).1 k.can) k.logs)
 
-pub entry_agrees : (r : Recorded) (f : Flat) (t o : ℕ) (a : Access) (e : Event) → ask_of f.code (thread_of f t) ≡ Enter o a → 0 < steps_ahead r f t
+pub entry_agrees : (r : Recorded) (f : Flat) (t o : ℕ) (a : Access) (e : Event) → ask_of f.code (thread_of f t) ≡ Enter o a
+    → 0 < steps_ahead r f t
     → slice_get (recorded_thread r t).events (thread_of f t).events ≡ Some e → Suits (Enter o a) e → AgreesAhead r f t
 entry_agrees r f t o a e is steps next suits = agrees_by r f t (Enter o a) is (record {
   steps = steps;
-  suits = subst (verdicts.Suits (machine.Enter o a)) (sym (ahead_at (recorded_thread r t).events (thread_of f t).events e next)) (suits_entry e _ o a suits);
+  suits = subst (verdicts.Suits (machine.Enter o a)) (sym (ahead_at (recorded_thread r t).events (thread_of f t).events e next))
+      (suits_entry e _ o a suits);
   ends = tt;
 })
 
@@ -259,14 +298,16 @@ pub asks_end : (q : Ask) (e : end.End) → q ≡ End e → q ≢ Done
 asks_end q e is done = cc (is, done)
 
 pub call_disagrees : (r : Recorded) (f : Flat) (t : ℕ) (kind : EnvKind) → ask_of f.code (thread_of f t) ≡ Env kind
-    → ((e : Event) → slice_get (recorded_thread r t).events (thread_of f t).events ≡ Some e → Suits (Env kind) e → ⊥) → AgreesAhead r f t → ⊥
+    → ((e : Event) → slice_get (recorded_thread r t).events (thread_of f t).events ≡ Some e → Suits (Env kind) e → ⊥) → AgreesAhead r f t
+    → ⊥
 call_disagrees r f t kind is none h =
     let k : AgreesAs r f t (steps_ahead r f t) (log_ahead r f t) (Env kind) = agrees_as r f t (Env kind) is h in
     let e = call_there (recorded_thread r t).events (thread_of f t).events kind k.suits in
     none e.0 e.1 e.2
 
 pub entry_disagrees : (r : Recorded) (f : Flat) (t o : ℕ) (a : Access) → ask_of f.code (thread_of f t) ≡ Enter o a
-    → ((e : Event) → slice_get (recorded_thread r t).events (thread_of f t).events ≡ Some e → Suits (Enter o a) e → ⊥) → AgreesAhead r f t → ⊥
+    → ((e : Event) → slice_get (recorded_thread r t).events (thread_of f t).events ≡ Some e → Suits (Enter o a) e → ⊥) → AgreesAhead r f t
+    → ⊥
 entry_disagrees r f t o a is none h =
     let k : AgreesAs r f t (steps_ahead r f t) (log_ahead r f t) (Enter o a) = agrees_as r f t (Enter o a) is h in
     let e = entry_there (recorded_thread r t).events (thread_of f t).events o a k.suits in
@@ -288,7 +329,8 @@ events_used [] i h = omega arith
 events_used (x ∷ xs) zero h = absurd (cc h)
 events_used (x ∷ xs) (suc i) h = let rest : length xs ≤ i = events_used xs i h in omega (arith, rest)
 
-pub end_follows : (r : Recorded) (f : Flat) (t : ℕ) (e : end.End) → ask_of f.code (thread_of f t) ≡ End e → 0 < steps_ahead r f t → EndsSo r f t e → CanFollow r f t 0
+pub end_follows : (r : Recorded) (f : Flat) (t : ℕ) (e : end.End) → ask_of f.code (thread_of f t) ≡ End e → 0 < steps_ahead r f t
+    → EndsSo r f t e → CanFollow r f t 0
 end_follows r f t e is steps so = follows_by r f t 0 (End e) is (record {
   can = tt;
   steps = steps;
@@ -296,7 +338,8 @@ end_follows r f t e is steps so = follows_by r f t 0 (End e) is (record {
   ends = ((λ i. Some (so.number i, so.code i)), so.steps, no_events (recorded_thread r t).events (thread_of f t).events so.events);
 })
 
-pub end_disagrees : (r : Recorded) (f : Flat) (t : ℕ) (e : end.End) → ask_of f.code (thread_of f t) ≡ End e → (EndsSo r f t e → ⊥) → AgreesAhead r f t → ⊥
+pub end_disagrees : (r : Recorded) (f : Flat) (t : ℕ) (e : end.End) → ask_of f.code (thread_of f t) ≡ End e → (EndsSo r f t e → ⊥)
+    → AgreesAhead r f t → ⊥
 end_disagrees r f t e is other h =
     let k : AgreesAs r f t (steps_ahead r f t) (log_ahead r f t) (End e) = agrees_as r f t (End e) is h in
     let pair = some_pair k.ends.0 in
@@ -324,18 +367,21 @@ own_by r f t n es (End e) k steps = absurd k
 own_by r f t n es Done k steps = absurd k
 
 pub own_follows : (r : Recorded) (f : Flat) (t : ℕ) → IsOwn (ask_of f.code (thread_of f t)) → 0 < steps_ahead r f t → CanFollow r f t 0
-own_follows r f t own steps = follows_by r f t 0 (ask_of f.code (thread_of f t)) refl (own_by r f t (steps_ahead r f t) (log_ahead r f t) (ask_of f.code (thread_of f t)) own steps)
+own_follows r f t own steps = follows_by r f t 0 (ask_of f.code (thread_of f t))
+    refl (own_by r f t (steps_ahead r f t) (log_ahead r f t) (ask_of f.code (thread_of f t)) own steps)
 
 -- ---- threads that are stopped
 
 -- what is seen of a thread that is stopped, and neither done nor waiting
-pub seen_other : (r : Recorded) (f : Flat) (t : ℕ) (l : Look) → IsSeen r f t l → IsStopped r f t → (l ≡ look.Disagrees) ⊎ ((m : Move) × (l ≡ look.Goes m)) → (ask_of f.code (thread_of f t) ≢ Done) × (AgreesAhead r f t → ⊥)
+pub seen_other : (r : Recorded) (f : Flat) (t : ℕ) (l : Look) → IsSeen r f t l → IsStopped r f t → (l ≡ look.Disagrees)
+    ⊎ ((m : Move) × (l ≡ look.Goes m)) → (ask_of f.code (thread_of f t) ≢ Done) × (AgreesAhead r f t → ⊥)
 seen_other r f t l seen stopped (inl e) = subst (IsSeen r f t) e seen
 seen_other r f t l seen stopped (inr g) =
     let goes = subst (IsSeen r f t) g.1 seen in
     absurd (stopped g.0.result (subst (λ u. CanFollow r f u g.0.result) goes.0 goes.1.follows))
 
-suits_logged : (f : Flat) (v : ℕ) (es : List Label) (q : Ask) → logged (tells f q v) (unlogged (tells f q v) es) ≡ es → verdicts.Suits (shared_ask q) es
+suits_logged : (f : Flat) (v : ℕ) (es : List Label) (q : Ask) → logged (tells f q v) (unlogged (tells f q v) es) ≡ es
+    → verdicts.Suits (shared_ask q) es
 suits_logged f v es Private h = tt
 suits_logged f v es (Env kind) h = subst (verdicts.Suits (machine.Env kind)) h refl
 suits_logged f v es (Enter o Reading) h = subst (verdicts.Suits (machine.Enter o Reading)) h (refl, refl)
@@ -363,9 +409,14 @@ seen_stops r f t (look.Goes m) seen no_move = absurd (no_move m refl)
 -- ---- events and the log
 
 -- an event that suits stands in the log
-pub event_left : (r : Recorded) (f : Flat) (t : ℕ) (q : Ask) → ask_of f.code (thread_of f t) ≡ q → AgreesAhead r f t → added q ≡ 1 → (thread_of f t).events < length (recorded_thread r t).events
-event_left r f t (Env kind) is h one = let e = call_there (recorded_thread r t).events (thread_of f t).events kind (agrees_as r f t (Env kind) is h).suits in slice_get_within (recorded_thread r t).events (thread_of f t).events e.0 e.1
-event_left r f t (Enter o a) is h one = let e = entry_there (recorded_thread r t).events (thread_of f t).events o a (agrees_as r f t (Enter o a) is h).suits in slice_get_within (recorded_thread r t).events (thread_of f t).events e.0 e.1
+pub event_left : (r : Recorded) (f : Flat) (t : ℕ) (q : Ask) → ask_of f.code (thread_of f t) ≡ q → AgreesAhead r f t → added q ≡ 1
+    → (thread_of f t).events < length (recorded_thread r t).events
+event_left r f t (Env kind) is h one = let e =
+    call_there (recorded_thread r t).events (thread_of f t).events kind (agrees_as r f t (Env kind) is h).suits in
+    slice_get_within (recorded_thread r t).events (thread_of f t).events e.0 e.1
+event_left r f t (Enter o a) is h one = let e =
+    entry_there (recorded_thread r t).events (thread_of f t).events o a (agrees_as r f t (Enter o a) is h).suits in
+    slice_get_within (recorded_thread r t).events (thread_of f t).events e.0 e.1
 event_left r f t Private is h one = absurd (cc one)
 event_left r f t (Leave o a) is h one = absurd (cc one)
 event_left r f t (Get o i) is h one = absurd (cc one)
@@ -374,7 +425,8 @@ event_left r f t Print is h one = absurd (cc one)
 event_left r f t (End e) is h one = absurd (cc one)
 event_left r f t Done is h one = absurd (cc one)
 
-within_by : (code : List ℕ) (x : thread.State) (q : Ask) (reply : Reply) (n : ℕ) → (added q ≡ 1 → x.events < n) → x.events ≤ n → (after_ask code x q reply).events ≤ n
+within_by : (code : List ℕ) (x : thread.State) (q : Ask) (reply : Reply) (n : ℕ) → (added q ≡ 1 → x.events < n) → x.events ≤ n
+    → (after_ask code x q reply).events ≤ n
 within_by code x Private reply n less le = le
 within_by code x (Env kind) reply n less le = let l = less refl in omega (arith, l)
 within_by code x (Enter o a) reply n less le = let l = less refl in omega (arith, l)
@@ -385,5 +437,8 @@ within_by code x Print reply n less le = le
 within_by code x (End e) reply n less le = le
 within_by code x Done reply n less le = le
 
-pub events_within : (r : Recorded) (f : Flat) (t v : ℕ) (reply : Reply) → CanFollow r f t v → (thread_of f t).events ≤ length (recorded_thread r t).events → (after_ask f.code (thread_of f t) (ask_of f.code (thread_of f t)) reply).events ≤ length (recorded_thread r t).events
-events_within r f t v reply h le = within_by f.code (thread_of f t) (ask_of f.code (thread_of f t)) reply (length (recorded_thread r t).events) (event_left r f t (ask_of f.code (thread_of f t)) refl (follows_agrees r f t v h)) le
+pub events_within : (r : Recorded) (f : Flat) (t v : ℕ) (reply : Reply) → CanFollow r f t v
+    → (thread_of f t).events ≤ length (recorded_thread r t).events
+    → (after_ask f.code (thread_of f t) (ask_of f.code (thread_of f t)) reply).events ≤ length (recorded_thread r t).events
+events_within r f t v reply h le = within_by f.code (thread_of f t) (ask_of f.code (thread_of f t)) reply
+    (length (recorded_thread r t).events) (event_left r f t (ask_of f.code (thread_of f t)) refl (follows_agrees r f t v h)) le

@@ -34,7 +34,8 @@ log_ahead r f t = drop (thread_of f t).events (map label_of (recorded_thread r t
 
 -- there is the step of thread t with this result, and it follows the trace where that leaves n steps and the log es to the thread
 abbrev pub StepFollows : {T : Type 0} → Machine T → Trace → State T → ℕ → List Label → ℕ → ℕ → Type 0
-StepFollows m tr s n es t v = Can m s (t, v) × (0 < n) × (logged (label m s (t, v)) (unlogged (label m s (t, v)) es) ≡ es) × closing m tr t (s.now t) n es
+StepFollows m tr s n es t v = Can m s (t, v) × (0 < n) × (logged (label m s (t, v)) (unlogged (label m s (t, v)) es) ≡ es)
+    × closing m tr t (s.now t) n es
 
 -- there is the step of thread t with this result now, and it follows the trace
 abbrev pub CanFollow : Recorded → Flat → ℕ → ℕ → Type 0
@@ -48,13 +49,15 @@ IsStopped r f t = (v : ℕ) → CanFollow r f t v → ⊥
 abbrev pub AgreesAhead : Recorded → Flat → ℕ → Type 0
 AgreesAhead r f t = Agrees (machine f) ((trace_of r).ends t) (thread_of f t) (steps_ahead r f t) (log_ahead r f t)
 
--- the object can be entered now as the event says: at its version, for writing with its readers behind it, and nobody is inside who keeps others out
+-- the object can be entered now as the event says: at its version, for writing with its readers behind it, and nobody is inside who keeps
+-- others out
 abbrev pub IsOpen : Cell → Event → Type 0
 IsOpen c (Answer kind value) = ⊥
 IsOpen c (Read object version) = (c.fields.version ≡ version) × Admitted Reading c.fields
 IsOpen c (Write object version readers) = (c.fields.version ≡ version) × (c.fields.left ≡ readers) × Admitted Writing c.fields
 
--- where thread t is at this end, that is the trace's, no event is left to it, and the steps that are left are this one and a leave of each object that it holds
+-- where thread t is at this end, that is the trace's, no event is left to it, and the steps that are left are this one and a leave of each
+-- object that it holds
 pub record EndsSo (r : Recorded) (f : Flat) (t : ℕ) (e : End) : Type 0 where
   pub number : end_number (recorded_thread r t).end ≡ end_number e
   pub code : end_code (recorded_thread r t).end ≡ end_code e
@@ -82,7 +85,8 @@ pub record IsEntryAhead (r : Recorded) (f : Flat) (t : ℕ) (e : Event) : Type 0
   pub asked : ask_of f.code (thread_of f t) ≡ asks.Enter object access
   pub next : slice_get (recorded_thread r t).events (thread_of f t).events ≡ Some e
 
--- what is seen of thread t: it is done; its next step isn't the trace's; it is, and it is an entry, logged as this event, that can't be taken now as the log says; or the step follows
+-- what is seen of thread t: it is done; its next step isn't the trace's; it is, and it is an entry, logged as this event, that can't be
+-- taken now as the log says; or the step follows
 abbrev pub IsSeen : Recorded → Flat → ℕ → Look → Type 0
 IsSeen r f t Done = ask_of f.code (thread_of f t) ≡ asks.Done
 IsSeen r f t Disagrees = (ask_of f.code (thread_of f t) ≢ asks.Done) × (AgreesAhead r f t → ⊥)

@@ -26,11 +26,14 @@ pub record HasHeader (guest : Guest) (r : Recorded) : Type 0 where
 
 -- a complete run of the guest, under the trace's budget, whose trace this is
 abbrev pub IsRunOf : Guest → Recorded → List Step → Type 0
-IsRunOf guest r run = let f = start_flat guest r.budget in HasHeader guest r × IsWhole (machine f) (tables f) (length guest.entries) (trace_of r) run
+IsRunOf guest r run = let f = start_flat guest r.budget in HasHeader guest r
+    × IsWhole (machine f) (tables f) (length guest.entries) (trace_of r) run
 
 -- a run of the guest that follows the trace as far as any can
 abbrev pub GoesFurthest : Guest → Recorded → List Step → Type 0
-GoesFurthest guest r run = let f = start_flat guest r.budget in Follows (closing (machine f) (trace_of r)) (machine f) (tables f) (trace_of r) run × IsMaximal (closing (machine f) (trace_of r)) (machine f) (tables f) (trace_of r) run
+GoesFurthest guest r run = let f = start_flat guest r.budget in
+    Follows (closing (machine f) (trace_of r)) (machine f) (tables f) (trace_of r) run
+    × IsMaximal (closing (machine f) (trace_of r)) (machine f) (tables f) (trace_of r) run
 
 -- the verdict names the first event that breaks coherence, and its first cause
 abbrev pub NamesBreak : Recorded → Verdict → Type 0
@@ -46,7 +49,8 @@ BreaksBy r (Refused v) = NamesBreak r v
 -- a verdict for each thread, read off any such run
 abbrev pub AreVerdicts : Guest → Recorded → List ThreadVerdict → Type 0
 AreVerdicts guest r vs = let f = start_flat guest r.budget in (length vs ≡ length guest.entries)
-    × ((run : List Step) → GoesFurthest guest r run → (t : ℕ) (v : ThreadVerdict) → slice_get vs t ≡ Some v → IsVerdict (machine f) (tables f) (trace_of r) run t v)
+    × ((run : List Step) → GoesFurthest guest r run → (t : ℕ) (v : ThreadVerdict) → slice_get vs t ≡ Some v
+    → IsVerdict (machine f) (tables f) (trace_of r) run t v)
 
 -- a guest, what was recorded of a run, and where each thread's events and leaves stand among its steps
 pub record FittedTrace : Type 0 where
@@ -59,8 +63,12 @@ pub record HasRun (f : FittedTrace) : Type 0 where
   pub run : List Step
   pub whole : IsRunOf f.guest f.recorded run
   pub each : length f.placed ≡ length f.guest.entries
-  pub entries : (t : ℕ) → t < length f.guest.entries → (placed_at f.placed t).entries ≡ places_of (trail (machine (start_flat f.guest f.recorded.budget)) (tables (start_flat f.guest f.recorded.budget)) run t)
-  pub leaves : (t : ℕ) → t < length f.guest.entries → (placed_at f.placed t).leaves ≡ leaves_of (trail (machine (start_flat f.guest f.recorded.budget)) (tables (start_flat f.guest f.recorded.budget)) run t)
+  pub entries : (t : ℕ) → t < length f.guest.entries
+      → (placed_at f.placed t).entries ≡ places_of
+      (trail (machine (start_flat f.guest f.recorded.budget)) (tables (start_flat f.guest f.recorded.budget)) run t)
+  pub leaves : (t : ℕ) → t < length f.guest.entries
+      → (placed_at f.placed t).leaves ≡ leaves_of
+      (trail (machine (start_flat f.guest f.recorded.budget)) (tables (start_flat f.guest f.recorded.budget)) run t)
 
 -- there is a run with the trace, and the trace is within its limits
 pub record IsFitted (f : FittedTrace) : Type 0 where
@@ -72,7 +80,8 @@ abbrev pub IsOther : Guest → Recorded → HeaderCause → Type 0
 IsOther guest r Threads = length r.threads ≢ length guest.entries
 IsOther guest r Objects = (length r.threads ≡ length guest.entries) × (r.objects ≢ object_count guest)
 
--- why no run of the guest has the trace: its header isn't the guest's; or an event can't stand beside the others, the first such; or not all threads of a run that follows it furthest are the same
+-- why no run of the guest has the trace: its header isn't the guest's; or an event can't stand beside the others, the first such; or not
+-- all threads of a run that follows it furthest are the same
 abbrev pub IsRefusal : Guest → Recorded → Verdict → Type 0
 IsRefusal guest r (Header c) = IsOther guest r c
 IsRefusal guest r (Incoherent t i c) = HasHeader guest r × IsFirstBreak (length guest.entries) (trace_of r) t i c

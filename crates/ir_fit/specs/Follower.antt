@@ -17,15 +17,19 @@ use Rattle.ir_runs.specs.declared.thread_verdict.ThreadVerdict.{ThreadVerdict}
 -- the guest's threads and objects after a run that follows the trace
 pub record IsFollower (guest : Guest) (r : Recorded) (f : Flat) (ps : List Placed) : Type 0 where
   pub run : List Step
-  pub follows : Follows (closing (machine (start_flat guest r.budget)) (trace_of r)) (machine (start_flat guest r.budget)) (tables (start_flat guest r.budget)) (trace_of r) run
+  pub follows : Follows (closing (machine (start_flat guest r.budget)) (trace_of r)) (machine (start_flat guest r.budget))
+      (tables (start_flat guest r.budget)) (trace_of r) run
   pub ends : tables f ≡ end (machine (start_flat guest r.budget)) (tables (start_flat guest r.budget)) run
   pub code : f.code ≡ guest.code
   pub threads : length f.threads ≡ length guest.entries
   pub objects : length f.objects ≡ object_count guest
   pub steps : (t : ℕ) → (thread_of f t).steps ≡ count (machine (start_flat guest r.budget)) (tables (start_flat guest r.budget)) run t
-  pub events : (t : ℕ) → (thread_of f t).events ≡ length (log (machine (start_flat guest r.budget)) (tables (start_flat guest r.budget)) run t)
-  pub placed : (t : ℕ) → t < length guest.entries → (placed_at ps t).entries ≡ places_of (trail (machine (start_flat guest r.budget)) (tables (start_flat guest r.budget)) run t)
-  pub left : (t : ℕ) → t < length guest.entries → (placed_at ps t).leaves ≡ leaves_of (trail (machine (start_flat guest r.budget)) (tables (start_flat guest r.budget)) run t)
+  pub events : (t : ℕ) → (thread_of f t).events ≡ length
+      (log (machine (start_flat guest r.budget)) (tables (start_flat guest r.budget)) run t)
+  pub placed : (t : ℕ) → t < length guest.entries
+      → (placed_at ps t).entries ≡ places_of (trail (machine (start_flat guest r.budget)) (tables (start_flat guest r.budget)) run t)
+  pub left : (t : ℕ) → t < length guest.entries
+      → (placed_at ps t).leaves ≡ leaves_of (trail (machine (start_flat guest r.budget)) (tables (start_flat guest r.budget)) run t)
 
 -- how many steps the trace leaves to all threads
 abbrev pub all_ahead : Recorded → Flat → ℕ
@@ -38,7 +42,8 @@ pub record GoesOn (r : Recorded) (f : Flat) (ps : List Placed) (g : Flat) (qs : 
   pub objects : length g.objects ≡ length f.objects
   pub fewer : all_ahead r g ≤ all_ahead r f
 
--- what is kept of each thread: as many positions as it has events, not more leaves than entries that it has left, and room for as many as the trace has
+-- what is kept of each thread: as many positions as it has events, not more leaves than entries that it has left, and room for as many as
+-- the trace has
 pub record IsPlaced (r : Recorded) (f : Flat) (ps : List Placed) : Type 0 where
   pub each : length ps ≡ length f.threads
   pub rooms : (t : ℕ) → t < length f.threads → (placed_at ps t).room ≡ length (recorded_thread r t).events
@@ -56,8 +61,10 @@ pub record IsSized (f : Follower) : Type 0 where
 pub record IsFollowed (guest : Guest) (r : Recorded) (f : Flat) (ps : List Placed) : Type 0 where
   pub follower : IsFollower guest r f ps
   pub stopped : (t : ℕ) → t < length guest.entries → IsStopped r f t
-  pub stands : (t : ℕ) → t < length guest.entries → (v : ThreadVerdict) × StandsAs (machine (start_flat guest r.budget)) (tables (start_flat guest r.budget)) (trace_of r) follower.run t v
+  pub stands : (t : ℕ) → t < length guest.entries → (v : ThreadVerdict)
+      × StandsAs (machine (start_flat guest r.budget)) (tables (start_flat guest r.budget)) (trace_of r) follower.run t v
 
 -- these are the verdicts on the threads, in the order of their numbers
 abbrev pub AreStanding : Recorded → Flat → List Placed → List ThreadVerdict → Type 0
-AreStanding r f ps vs = (guest : Guest) (k : IsFollower guest r f ps) (t : ℕ) (v : ThreadVerdict) → slice_get vs t ≡ Some v → StandsAs (machine (start_flat guest r.budget)) (tables (start_flat guest r.budget)) (trace_of r) k.run t v
+AreStanding r f ps vs = (guest : Guest) (k : IsFollower guest r f ps) (t : ℕ) (v : ThreadVerdict) → slice_get vs t ≡ Some v
+    → StandsAs (machine (start_flat guest r.budget)) (tables (start_flat guest r.budget)) (trace_of r) k.run t v

@@ -16,7 +16,8 @@ use Rattle.ir_fit.specs.Fit.{IsRunOf}
 
 -- runs with one trace have the same threads, consistent cuts and objects
 abbrev pub TraceDetermines : Type 0
-TraceDetermines = (guest : Guest) (budget : ℕ) (run run' : List Step) → let f = start_flat guest budget in IsRun (machine f) (tables f) run → IsRun (machine f) (tables f) run'
+TraceDetermines = (guest : Guest) (budget : ℕ) (run run' : List Step) → let f = start_flat guest budget in IsRun (machine f) (tables f) run
+    → IsRun (machine f) (tables f) run'
     → SameTrace (machine f) (tables f) run run' → SameRun (machine f) (tables f) run run'
 
 -- so have complete runs of a guest with one recorded trace
@@ -34,32 +35,45 @@ abbrev pub OwnTraceCoherent : Type 0
 OwnTraceCoherent = (guest : Guest) (budget : ℕ) (run : List Step) → let f = start_flat guest budget in IsRun (machine f) (tables f) run
     → IsCoherent (length guest.entries) (trace (machine f) (tables f) run)
 
--- a complete run follows its own trace, no thread has a further step, and what follows that trace as far as any run can is that run, up to the order of the steps
+-- a complete run follows its own trace, no thread has a further step, and what follows that trace as far as any run can is that run, up to
+-- the order of the steps
 abbrev pub CompleteFits : Type 0
-CompleteFits = (guest : Guest) (budget : ℕ) (run : List Step) → let f = start_flat guest budget in let tr = trace (machine f) (tables f) run in IsComplete (machine f) (tables f) run
+CompleteFits = (guest : Guest) (budget : ℕ) (run : List Step) → let f = start_flat guest budget in let tr =
+    trace (machine f) (tables f) run in IsComplete (machine f) (tables f) run
     → Follows (closing (machine f) tr) (machine f) (tables f) tr run × IsMaximal (closing (machine f) tr) (machine f) (tables f) tr run
-    × ((follower : List Step) → Follows (closing (machine f) tr) (machine f) (tables f) tr follower → IsMaximal (closing (machine f) tr) (machine f) (tables f) tr follower → Reaches (machine f) (tables f) follower run)
+    × ((follower : List Step) → Follows (closing (machine f) tr) (machine f) (tables f) tr follower
+    → IsMaximal (closing (machine f) tr) (machine f) (tables f) tr follower → Reaches (machine f) (tables f) follower run)
 
 -- each trace has a run that follows it as far as any can
 abbrev pub MaximalExists : Type 0
 MaximalExists = (guest : Guest) (budget : ℕ) (tr : Trace) → let f = start_flat guest budget in
-    (run : List Step) × Follows (closing (machine f) tr) (machine f) (tables f) tr run × IsMaximal (closing (machine f) tr) (machine f) (tables f) tr run
+    (run : List Step) × Follows (closing (machine f) tr) (machine f) (tables f) tr run
+        × IsMaximal (closing (machine f) tr) (machine f) (tables f) tr run
 
 -- where such a run stops that follows a coherent trace, each thread has one verdict, and it is that of each other such run
 abbrev pub OneVerdict : Type 0
-OneVerdict = (guest : Guest) (budget : ℕ) (tr : Trace) → let f = start_flat guest budget in IsCoherent (length guest.entries) tr → HoldsEvents (machine f) tr
-    → (run : List Step) → Follows (closing (machine f) tr) (machine f) (tables f) tr run → IsMaximal (closing (machine f) tr) (machine f) (tables f) tr run
-    → ((t : ℕ) → (v : ThreadVerdict) × IsVerdict (machine f) (tables f) tr run t v × ((w : ThreadVerdict) → IsVerdict (machine f) (tables f) tr run t w → w ≡ v))
-    × ((run' : List Step) → Follows (closing (machine f) tr) (machine f) (tables f) tr run' → IsMaximal (closing (machine f) tr) (machine f) (tables f) tr run' → (t : ℕ) (v : ThreadVerdict) → IsVerdict (machine f) (tables f) tr run t v → IsVerdict (machine f) (tables f) tr run' t v)
+OneVerdict = (guest : Guest) (budget : ℕ) (tr : Trace) → let f = start_flat guest budget in IsCoherent (length guest.entries) tr
+    → HoldsEvents (machine f) tr
+    → (run : List Step) → Follows (closing (machine f) tr) (machine f) (tables f) tr run
+    → IsMaximal (closing (machine f) tr) (machine f) (tables f) tr run
+    → ((t : ℕ) → (v : ThreadVerdict) × IsVerdict (machine f) (tables f) tr run t v
+    × ((w : ThreadVerdict) → IsVerdict (machine f) (tables f) tr run t w → w ≡ v))
+    × ((run' : List Step) → Follows (closing (machine f) tr) (machine f) (tables f) tr run'
+    → IsMaximal (closing (machine f) tr) (machine f) (tables f) tr run' → (t : ℕ) (v : ThreadVerdict)
+    → IsVerdict (machine f) (tables f) tr run t v → IsVerdict (machine f) (tables f) tr run' t v)
 
 -- all threads are the same exactly where there is a complete run with this trace
 abbrev pub FitsExactly : Type 0
 FitsExactly = (guest : Guest) (budget : ℕ) (tr : Trace) → let f = start_flat guest budget in IsCoherent (length guest.entries) tr
-    → (run : List Step) → Follows (closing (machine f) tr) (machine f) (tables f) tr run → IsMaximal (closing (machine f) tr) (machine f) (tables f) tr run
-    → ((t : ℕ) → IsVerdict (machine f) (tables f) tr run t Same) ↔ ((whole : List Step) × IsWhole (machine f) (tables f) (length guest.entries) tr whole)
+    → (run : List Step) → Follows (closing (machine f) tr) (machine f) (tables f) tr run
+    → IsMaximal (closing (machine f) tr) (machine f) (tables f) tr run
+    → ((t : ℕ) → IsVerdict (machine f) (tables f) tr run t Same) ↔
+    ((whole : List Step) × IsWhole (machine f) (tables f) (length guest.entries) tr whole)
 
 -- to see that a run follows as far as any can, one step of each thread is tried
 abbrev pub OneStepEach : Type 0
 OneStepEach = (guest : Guest) (budget : ℕ) (tr : Trace) (run : List Step) → let f = start_flat guest budget in
-    ((t : ℕ) → Follows (closing (machine f) tr) (machine f) (tables f) tr (run ++ (t, result_of (asked (machine f) (end (machine f) (tables f) run) t) (left_log (trail (machine f) (tables f) run t) (tr.logs t))) ∷ []) → ⊥)
+    ((t : ℕ) → Follows (closing (machine f) tr) (machine f) (tables f) tr
+        (run ++ (t, result_of (asked (machine f) (end (machine f) (tables f) run) t)
+        (left_log (trail (machine f) (tables f) run t) (tr.logs t))) ∷ []) → ⊥)
     → IsMaximal (closing (machine f) tr) (machine f) (tables f) tr run

@@ -29,15 +29,18 @@ OnlyLeaves f o a v ps = (h : HasRun f) (p : Place) → Contains ps p → (p.vers
 
 -- each such step is one of these
 abbrev pub AllLeaves : FittedTrace → ℕ → Access → ℕ → List Place → Type 0
-AllLeaves f o a v ps = (h : HasRun f) (t k : ℕ) → TellsIn f h t k (Out o a v) → Contains ps (record { position = k; version = v; thread = t })
+AllLeaves f o a v ps = (h : HasRun f) (t k : ℕ) → TellsIn f h t k (Out o a v)
+    → Contains ps (record { position = k; version = v; thread = t })
 
 -- each of these is a step by which object o was entered for such access at version v
 abbrev pub OnlyEntries : FittedTrace → ℕ → Access → ℕ → List Place → Type 0
-OnlyEntries f o a v ps = (h : HasRun f) (p : Place) → Contains ps p → (p.version ≡ v) × ((l : ℕ) × TellsIn f h p.thread p.position (In o a v l))
+OnlyEntries f o a v ps = (h : HasRun f) (p : Place) → Contains ps p → (p.version ≡ v)
+    × ((l : ℕ) × TellsIn f h p.thread p.position (In o a v l))
 
 -- each such step is one of these
 abbrev pub AllEntries : FittedTrace → ℕ → Access → ℕ → List Place → Type 0
-AllEntries f o a v ps = (h : HasRun f) (t k l : ℕ) → TellsIn f h t k (In o a v l) → Contains ps (record { position = k; version = v; thread = t })
+AllEntries f o a v ps = (h : HasRun f) (t k l : ℕ) → TellsIn f h t k (In o a v l)
+    → Contains ps (record { position = k; version = v; thread = t })
 
 -- ---- how they are listed
 
@@ -108,7 +111,8 @@ added x o Writing p = record x { writing = slice_set x.writing o (slice_index_or
 
 -- the list for each object has the same steps, in the order of their versions
 abbrev pub AreSorted : List (List Place) → List (List Place) → Type 0
-AreSorted old new = (o : ℕ) → IsPermutation (slice_index_or old o []) (slice_index_or new o []) × IsNonDecreasingBy (λ (p : Place). p.version) (slice_index_or new o [])
+AreSorted old new = (o : ℕ) → IsPermutation (slice_index_or old o []) (slice_index_or new o [])
+    × IsNonDecreasingBy (λ (p : Place). p.version) (slice_index_or new o [])
 
 -- so of both accesses
 abbrev pub IsInOrder : Listing → Listing → Type 0

@@ -33,7 +33,8 @@ private_rest code n x y p = record {
   each = λ k l. ap (ask_of code) (run_prefix code k x) ∙ p.each (suc k) (omega (arith, l));
 }
 
-quiet_first : (b : Bool) (x : thread.State) (k : Label) (xs : List (thread.State × Label)) → k ≡ Quiet → events (join_if b (x, k) xs) ≡ events xs
+quiet_first : (b : Bool) (x : thread.State) (k : Label) (xs : List (thread.State × Label)) → k ≡ Quiet
+    → events (join_if b (x, k) xs) ≡ events xs
 quiet_first true x k xs e = ap (λ z. events ((x, z) ∷ xs)) e
 quiet_first false x k xs e = refl
 
@@ -58,55 +59,78 @@ nothing_done f t y p =
 
 -- what is said of the steps after the first is said of all
 one_more : (f : Flat) (t : ℕ) (y : thread.State) (n : ℕ) → IsFlat f → t < length f.threads → PrivateSteps f.code (suc n) (thread_of f t) y
-    → ((g : Flat) (u : ℕ) (z : thread.State) → IsFlat g → u < length g.threads → PrivateSteps g.code n (thread_of g u) z → WentAlone g (with_thread g u z) u n) → WentAlone f (with_thread f t y) t (suc n)
+    → ((g : Flat) (u : ℕ) (z : thread.State) → IsFlat g → u < length g.threads → PrivateSteps g.code n (thread_of g u) z
+    → WentAlone g (with_thread g u z) u n) → WentAlone f (with_thread f t y) t (suc n)
 unfolding run_of
 one_more f t y n flat l p rest =
     let is : ask_of f.code (thread_of f t) ≡ Private = p.each 0 (omega arith) in
     let x : thread.State = after_ask f.code (thread_of f t) Private Go in
     let g : Flat = with_thread f t x in
     let g_flat : IsFlat g = next_flat f t 0 Private (sym is) flat l tt in
-    let first : tables g ≡ after (machine f) (tables f) (t, 0) = next_after f t 0 Private is flat l (subst (Permits (thread_of f t)) is (ask_permits f.code (thread_of f t))) tt in
-    let now : thread_of g t ≡ step_of f.code (thread_of f t) = get_or-set_same f.threads t x idle l ∙ sym (private_step f.code (thread_of f t) is) in
-    let w : WentAlone g (with_thread g t y) t n = rest g t y g_flat (omega (arith, l, length-set f.threads t x)) (subst (λ z. PrivateSteps f.code n z y) (sym now) (private_rest f.code n (thread_of f t) y p)) in
+    let first : tables g ≡ after (machine f) (tables f) (t, 0) =
+        next_after f t 0 Private is flat l (subst (Permits (thread_of f t)) is (ask_permits f.code (thread_of f t))) tt in
+    let now : thread_of g t ≡ step_of f.code (thread_of f t) = get_or-set_same f.threads t x idle l
+        ∙ sym (private_step f.code (thread_of f t) is) in
+    let w : WentAlone g (with_thread g t y) t n =
+        rest g t y g_flat (omega (arith, l, length-set f.threads t x))
+        (subst (λ z. PrivateSteps f.code n z y) (sym now) (private_rest f.code n (thread_of f t) y p)) in
     let again : set (set f.threads t x) t y ≡ set f.threads t y = set-set f.threads t x y in
     let again_flat : with_thread g t y ≡ with_thread f t y = ap (λ xs. record f { threads = xs }) again in
     record {
-      runs = ((may_can f t 0 flat l).0 (subst (MayStep f 0) (sym is) tt), subst (λ s. IsRun (machine f) s (replicate n (t, 0))) first w.runs);
+      runs = ((may_can f t 0 flat l).0 (subst (MayStep f 0) (sym is) tt), subst (λ s. IsRun (machine f) s (replicate n (t, 0))) first
+          w.runs);
       ends = sym (ap tables again_flat) ∙ w.ends ∙ ap (λ s. end (machine f) s (replicate n (t, 0))) first;
       each = λ k below. at_step k below is first w;
-      quiet = λ u. quiet_first (eqb u t) ((tables f).now u) (label (machine f) (tables f) (t, 0)) (trail (machine f) (after (machine f) (tables f) (t, 0)) (replicate n (t, 0)) u) (tells_nothing f t is) ∙ ap (λ s. log (machine f) s (replicate n (t, 0)) u) (sym first) ∙ w.quiet u;
+      quiet = λ u. quiet_first (eqb u t) ((tables f).now u) (label (machine f) (tables f) (t, 0))
+          (trail (machine f) (after (machine f) (tables f) (t, 0)) (replicate n (t, 0)) u) (tells_nothing f t is)
+          ∙ ap (λ s. log (machine f) s (replicate n (t, 0)) u) (sym first) ∙ w.quiet u;
       code = refl;
       threads = length-set f.threads t y;
       objects = refl;
     }
   where
-    at_step : (k : ℕ) → k < suc n → ask_of f.code (thread_of f t) ≡ Private → tables (with_thread f t (after_ask f.code (thread_of f t) Private Go)) ≡ after (machine f) (tables f) (t, 0) → WentAlone (with_thread f t (after_ask f.code (thread_of f t) Private Go)) (with_thread (with_thread f t (after_ask f.code (thread_of f t) Private Go)) t y) t n
+    at_step : (k : ℕ) → k < suc n → ask_of f.code (thread_of f t) ≡ Private
+        → tables (with_thread f t (after_ask f.code (thread_of f t) Private Go)) ≡ after (machine f) (tables f) (t, 0)
+        → WentAlone (with_thread f t (after_ask f.code (thread_of f t) Private Go))
+        (with_thread (with_thread f t (after_ask f.code (thread_of f t) Private Go)) t y) t n
         → ask_of f.code ((end (machine f) (tables f) (replicate k (t, 0))).now t) ≡ Private
     at_step zero below is first w = is
-    at_step (suc k) below is first w = ap (λ s. ask_of f.code ((end (machine f) s (replicate k (t, 0))).now t)) (sym first) ∙ w.each k (omega (arith, below))
+    at_step (suc k) below is first w = ap (λ s. ask_of f.code ((end (machine f) s (replicate k (t, 0))).now t)) (sym first)
+        ∙ w.each k (omega (arith, below))
 
-pub went : (n : ℕ) (f : Flat) (t : ℕ) (y : thread.State) → IsFlat f → t < length f.threads → PrivateSteps f.code n (thread_of f t) y → WentAlone f (with_thread f t y) t n
+pub went : (n : ℕ) (f : Flat) (t : ℕ) (y : thread.State) → IsFlat f → t < length f.threads → PrivateSteps f.code n (thread_of f t) y
+    → WentAlone f (with_thread f t y) t n
 went zero f t y flat l p = nothing_done f t y p
 went (suc n) f t y flat l p = one_more f t y n flat l p (went n)
 
 -- the threads and objects keep what they always keep
-pub went_flat : (n : ℕ) (f : Flat) (t : ℕ) (y : thread.State) → IsFlat f → t < length f.threads → PrivateSteps f.code n (thread_of f t) y → IsFlat (with_thread f t y)
+pub went_flat : (n : ℕ) (f : Flat) (t : ℕ) (y : thread.State) → IsFlat f → t < length f.threads → PrivateSteps f.code n (thread_of f t) y
+    → IsFlat (with_thread f t y)
 unfolding run_of
-went_flat zero f t y flat l p = subst (λ xs. IsFlat (record f { threads = xs })) (sym (ap (set f.threads t) p.steps ∙ set-get_or f.threads t idle)) flat
+went_flat zero f t y flat l p = subst (λ xs. IsFlat (record f { threads = xs }))
+    (sym (ap (set f.threads t) p.steps ∙ set-get_or f.threads t idle)) flat
 went_flat (suc n) f t y flat l p =
     let is : ask_of f.code (thread_of f t) ≡ Private = p.each 0 (omega arith) in
     let x : thread.State = after_ask f.code (thread_of f t) Private Go in
     let g_flat : IsFlat (with_thread f t x) = next_flat f t 0 Private (sym is) flat l tt in
-    let now : thread_of (with_thread f t x) t ≡ step_of f.code (thread_of f t) = get_or-set_same f.threads t x idle l ∙ sym (private_step f.code (thread_of f t) is) in
+    let now : thread_of (with_thread f t x) t ≡ step_of f.code (thread_of f t) = get_or-set_same f.threads t x idle l
+        ∙ sym (private_step f.code (thread_of f t) is) in
     subst (λ xs. IsFlat (record f { threads = xs })) (set-set f.threads t x y)
-    (went_flat n (with_thread f t x) t y g_flat (omega (arith, l, length-set f.threads t x)) (subst (λ z. PrivateSteps f.code n z y) (sym now) (private_rest f.code n (thread_of f t) y p)))
+    (went_flat n (with_thread f t x) t y g_flat (omega (arith, l, length-set f.threads t x))
+        (subst (λ z. PrivateSteps f.code n z y) (sym now) (private_rest f.code n (thread_of f t) y p)))
 
 -- the same, of the value that the code's parts are
-pub ran_flat : (p f new : Flat) (t n : ℕ) → p ≡ f → t < length f.threads → IsFlat p → ((k : ℕ) → k < n → ask_of p.code (run_of p.code k (thread_of p t)) ≡ Private) → new ≡ with_thread p t (run_of p.code n (thread_of p t)) → IsFlat new
+pub ran_flat : (p f new : Flat) (t n : ℕ) → p ≡ f → t < length f.threads → IsFlat p
+    → ((k : ℕ) → k < n → ask_of p.code (run_of p.code k (thread_of p t)) ≡ Private)
+    → new ≡ with_thread p t (run_of p.code n (thread_of p t)) → IsFlat new
 ran_flat p f new t n same l flat each e =
-    subst IsFlat (sym e) (went_flat n p t (run_of p.code n (thread_of p t)) flat (subst (λ z. t < length z.threads) (sym same) l) (record { steps = refl; each = each }))
+    subst IsFlat (sym e) (went_flat n p t (run_of p.code n (thread_of p t)) flat (subst (λ z. t < length z.threads) (sym same) l)
+        (record { steps = refl; each = each }))
 
-pub ran_alone : (p f new : Flat) (t n : ℕ) → p ≡ f → t < length f.threads → IsFlat p → ((k : ℕ) → k < n → ask_of p.code (run_of p.code k (thread_of p t)) ≡ Private) → new ≡ with_thread p t (run_of p.code n (thread_of p t)) → WentAlone f new t n
+pub ran_alone : (p f new : Flat) (t n : ℕ) → p ≡ f → t < length f.threads → IsFlat p
+    → ((k : ℕ) → k < n → ask_of p.code (run_of p.code k (thread_of p t)) ≡ Private)
+    → new ≡ with_thread p t (run_of p.code n (thread_of p t)) → WentAlone f new t n
 ran_alone p f new t n same l flat each e =
     subst (λ g. WentAlone f g t n) (sym e) (subst (λ z. WentAlone z (with_thread p t (run_of p.code n (thread_of p t))) t n) same
-    (went n p t (run_of p.code n (thread_of p t)) flat (subst (λ z. t < length z.threads) (sym same) l) (record { steps = refl; each = each })))
+    (went n p t (run_of p.code n (thread_of p t)) flat (subst (λ z. t < length z.threads) (sym same) l)
+        (record { steps = refl; each = each })))

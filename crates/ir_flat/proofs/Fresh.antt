@@ -22,14 +22,19 @@ cells_length words zero = refl
 cells_length words (suc n) = ap suc (cells_length (drop 8 words) n)
 
 -- one thread more
-pub threads_more : (g : Guest) (budget from n : ℕ) → start_threads g budget from (suc n) ≡ start_threads g budget from n ++ thread.start_state g (from + n) budget ∷ []
+pub threads_more : (g : Guest) (budget from n : ℕ)
+    → start_threads g budget from (suc n) ≡ start_threads g budget from n ++ thread.start_state g (from + n) budget ∷ []
 threads_more g budget from zero = ap (λ k. thread.start_state g k budget ∷ []) (let e : from ≡ from + 0 = omega arith in e)
-threads_more g budget from (suc n) = ap (λ xs. thread.start_state g from budget ∷ xs) (threads_more g budget (suc from) n ∙ ap (λ k. start_threads g budget (suc from) n ++ thread.start_state g k budget ∷ []) (let e : suc from + n ≡ from + suc n = omega arith in e))
+threads_more g budget from (suc n) = ap (λ xs. thread.start_state g from budget ∷ xs)
+    (threads_more g budget (suc from) n ∙ ap (λ k. start_threads g budget (suc from) n ++ thread.start_state g k budget ∷ [])
+    (let e : suc from + n ≡ from + suc n = omega arith in e))
 
 -- one object more
 pub cells_more : (words : List ℕ) (n : ℕ) → start_cells words (suc n) ≡ start_cells words n ++ start_cell (take 8 (drop (8 * n) words)) ∷ []
 cells_more words zero = refl
-cells_more words (suc n) = ap (λ xs. start_cell (take 8 words) ∷ xs) (cells_more (drop 8 words) n ∙ ap (λ ys. start_cells (drop 8 words) n ++ start_cell (take 8 ys) ∷ []) (drop-drop (8 * n) 8 words ∙ ap (λ k. drop k words) (let e : 8 + 8 * n ≡ 8 * suc n = omega arith in e)))
+cells_more words (suc n) = ap (λ xs. start_cell (take 8 words) ∷ xs)
+    (cells_more (drop 8 words) n ∙ ap (λ ys. start_cells (drop 8 words) n ++ start_cell (take 8 ys) ∷ [])
+    (drop-drop (8 * n) 8 words ∙ ap (λ k. drop k words) (let e : 8 + 8 * n ≡ 8 * suc n = omega arith in e)))
 
 -- a thread at the start holds nothing and has logged nothing
 pub record IsFresh (places : ℕ) (x : thread.State) : Type 0 where
@@ -37,7 +42,8 @@ pub record IsFresh (places : ℕ) (x : thread.State) : Type 0 where
   pub events : x.events ≡ 0
 
 nothing_held : (n o : ℕ) → held_at (replicate n None) o ≡ None
-nothing_held n o = elim (cases_lt o n) [ inl l ↦ get_or-replicate n o None None l | inr g ↦ get_or_past (replicate n None) o None (subst (λ k. k ≤ o) (sym (length-replicate n None)) g) ]
+nothing_held n o = elim (cases_lt o n) [ inl l ↦ get_or-replicate n o None None l | inr g ↦ get_or_past (replicate n None) o None
+    (subst (λ k. k ≤ o) (sym (length-replicate n None)) g) ]
 
 pub fresh : (g : Guest) (budget from n t : ℕ) → IsFresh (object_count g) (get_or (start_threads g budget from n) t idle)
 fresh g budget from zero t = record { none = λ o. refl; events = refl }
@@ -67,7 +73,8 @@ fields_at words (suc n) (suc o) = fields_at (drop 8 words) n o
 words_at : (words : List ℕ) (n o : ℕ) → 8 * n ≤ length words → o < n → length (get_or (start_cells words n) o empty).words ≡ 8
 words_at words zero o h l = absurd (omega arith)
 words_at words (suc n) zero h l = length-take-le 8 words (omega arith)
-words_at words (suc n) (suc o) h l = words_at (drop 8 words) n o (let d : length (drop 8 words) ≡ length words - 8 = length-drop 8 words in omega (arith, d, h)) (omega arith)
+words_at words (suc n) (suc o) h l = words_at (drop 8 words) n o
+    (let d : length (drop 8 words) ≡ length words - 8 = length-drop 8 words in omega (arith, d, h)) (omega arith)
 
 -- nobody is inside
 pub start_none : (g : Guest) (budget o t : ℕ) → inside_of (start_flat g budget) o t ≡ None
@@ -106,23 +113,29 @@ start_is_flat g budget ok =
       few_objects = omega (arith, m, ok.few_objects);
       places = λ t l. places_at g budget 0 (length g.entries) t (omega (arith, n, l)) ∙ sym m;
       objects = λ o l. record {
-        counts = counts_none (length (start_threads g budget 0 (length g.entries))) (inside_of (start_flat g budget) o) (cell_of (start_flat g budget) o).fields (fields_at g.words (object_count g) o) (start_none g budget o);
+        counts = counts_none (length (start_threads g budget 0 (length g.entries))) (inside_of (start_flat g budget) o)
+            (cell_of (start_flat g budget) o).fields (fields_at g.words (object_count g) o) (start_none g budget o);
         words = words_at g.words (object_count g) o (omega arith) (omega (arith, m, l));
       };
       kept = subst (λ k. IsKept k (tables (start_flat g budget))) (sym n) (start_kept g budget);
     }
 
 -- the loop that makes the threads
-pub thread_made : (g : Guest) (budget n : ℕ) (before after : List thread.State) (x : thread.State) → before ≡ start_threads g budget 0 n → x ≡ thread.start_state g n budget → after ≡ before ++ x ∷ [] → after ≡ start_threads g budget 0 (n + 1)
+pub thread_made : (g : Guest) (budget n : ℕ) (before after : List thread.State) (x : thread.State) → before ≡ start_threads g budget 0 n
+    → x ≡ thread.start_state g n budget → after ≡ before ++ x ∷ [] → after ≡ start_threads g budget 0 (n + 1)
 thread_made g budget n before after x is new made =
     made ∙ ap (λ xs. xs ++ x ∷ []) is ∙ ap (λ y. start_threads g budget 0 n ++ y ∷ []) new
     ∙ ap (λ k. start_threads g budget 0 n ++ thread.start_state g k budget ∷ []) (let e : n ≡ 0 + n = omega arith in e)
     ∙ sym (threads_more g budget 0 n) ∙ ap (start_threads g budget 0) (let e : suc n ≡ n + 1 = omega arith in e)
 
 -- the loop that makes the objects
-pub object_made : (words : List ℕ) (n : ℕ) (before after : List Cell) (x : Cell) → before ≡ start_cells words n → x ≡ start_cell (take 8 (drop (8 * n) words)) → after ≡ before ++ x ∷ [] → after ≡ start_cells words (n + 1)
+pub object_made : (words : List ℕ) (n : ℕ) (before after : List Cell) (x : Cell) → before ≡ start_cells words n
+    → x ≡ start_cell (take 8 (drop (8 * n) words)) → after ≡ before ++ x ∷ [] → after ≡ start_cells words (n + 1)
 object_made words n before after x is new made =
-    made ∙ ap (λ xs. xs ++ x ∷ []) is ∙ ap (λ y. start_cells words n ++ y ∷ []) new ∙ sym (cells_more words n) ∙ ap (start_cells words) (let e : suc n ≡ n + 1 = omega arith in e)
+    made ∙ ap (λ xs. xs ++ x ∷ []) is ∙ ap (λ y. start_cells words n ++ y ∷ []) new ∙ sym (cells_more words n)
+        ∙ ap (start_cells words) (let e : suc n ≡ n + 1 = omega arith in e)
 
-pub made_flat : (g : Guest) (budget : ℕ) (f : Flat) → f.code ≡ g.code → f.threads ≡ start_threads g budget 0 (length g.entries) → f.objects ≡ start_cells g.words (object_count g) → IsGuest g → IsFlat f
-made_flat g budget f p q r ok = subst IsFlat (λ i. record { code = sym p i; threads = sym q i; objects = sym r i }) (start_is_flat g budget ok)
+pub made_flat : (g : Guest) (budget : ℕ) (f : Flat) → f.code ≡ g.code → f.threads ≡ start_threads g budget 0 (length g.entries)
+    → f.objects ≡ start_cells g.words (object_count g) → IsGuest g → IsFlat f
+made_flat g budget f p q r ok = subst IsFlat (λ i. record { code = sym p i; threads = sym q i; objects = sym r i })
+    (start_is_flat g budget ok)

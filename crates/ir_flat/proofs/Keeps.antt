@@ -25,15 +25,18 @@ use Rattle.ir_flat.proofs.Kept.{held_length, stays_kept, events_most}
 use Rattle.ir_flat.proofs.Next.{table-set, inside-set, still, next_after}
 
 -- the code's tests are those of the step
-pub may_admits : (f : Flat) (t r : ℕ) (q : Ask) → IsFlat f → t < length f.threads → Permits (thread_of f t) q → MayStep f r q ↔ Admits (machine f) (act_of (shared_ask q) r) ((tables f).objects (target (act_of (shared_ask q) r)))
+pub may_admits : (f : Flat) (t r : ℕ) (q : Ask) → IsFlat f → t < length f.threads → Permits (thread_of f t) q
+    → MayStep f r q ↔ Admits (machine f) (act_of (shared_ask q) r) ((tables f).objects (target (act_of (shared_ask q) r)))
 may_admits f t r Private flat l p = ((λ _. tt), λ _. tt)
 may_admits f t r (Env kind) flat l p = ((λ h. h), λ h. h)
 may_admits f t r (Enter o Reading) flat l p =
     let c = (flat.objects o (omega (arith, p.2, flat.places t l))).counts in
-    (admits_reader (length f.threads) (cell_of f o).fields (inside_of f o) c, reader_admitted (length f.threads) (cell_of f o).fields (inside_of f o) c)
+    (admits_reader (length f.threads) (cell_of f o).fields (inside_of f o) c, reader_admitted (length f.threads) (cell_of f o).fields
+        (inside_of f o) c)
 may_admits f t r (Enter o Writing) flat l p =
     let c = (flat.objects o (omega (arith, p.2, flat.places t l))).counts in
-    (admits_writer (length f.threads) (cell_of f o).fields (inside_of f o) c, writer_admitted (length f.threads) (cell_of f o).fields (inside_of f o) c)
+    (admits_writer (length f.threads) (cell_of f o).fields (inside_of f o) c, writer_admitted (length f.threads) (cell_of f o).fields
+        (inside_of f o) c)
 may_admits f t r (Leave o a) flat l p = ((λ _. tt), λ _. tt)
 may_admits f t r (Get o i) flat l p = ((λ _. tt), λ _. tt)
 may_admits f t r (Put o i w) flat l p = ((λ _. tt), λ _. tt)
@@ -41,7 +44,8 @@ may_admits f t r Print flat l p = ((λ _. tt), λ _. tt)
 may_admits f t r (End e) flat l p = ((λ _. tt), λ _. tt)
 may_admits f t r Done flat l p = ((λ h. h), λ h. h)
 
-pub may_can : (f : Flat) (t r : ℕ) → IsFlat f → t < length f.threads → MayStep f r (ask_of f.code (thread_of f t)) ↔ Can (machine f) (tables f) (t, r)
+pub may_can : (f : Flat) (t r : ℕ) → IsFlat f → t < length f.threads
+    → MayStep f r (ask_of f.code (thread_of f t)) ↔ Can (machine f) (tables f) (t, r)
 may_can f t r flat l = may_admits f t r (ask_of f.code (thread_of f t)) flat l (ask_permits f.code (thread_of f t))
 
 pub readers_le : (n : ℕ) (inside : ℕ → Option Access) → readers n inside ≤ n
@@ -54,7 +58,9 @@ readers_le (suc n) inside = let rest = readers_le n inside in let one = at_most_
     at_most_one (Some Writing) = omega arith
 
 -- what a word counts was logged, so it fits
-pub logged_fits : (f : Flat) (o : ℕ) → IsFlat f → o < length f.objects → (cell_of f o).fields.version + (cell_of f o).fields.left + (cell_of f o).fields.inside + bit_of (cell_of f o).fields.writer ≤ 8 * most_events
+pub logged_fits : (f : Flat) (o : ℕ) → IsFlat f → o < length f.objects
+    → (cell_of f o).fields.version + (cell_of f o).fields.left + (cell_of f o).fields.inside + bit_of (cell_of f o).fields.writer ≤ 8 *
+    most_events
 logged_fits f o flat l =
     let c = (flat.objects o l).counts in
     let seen = flat.kept.logged o in
@@ -72,40 +78,54 @@ few_inside f o flat l =
     omega (arith, inside, most, few)
 
 pub enter_fits : (f : Flat) (o : ℕ) (a : Access) → IsFlat f → o < length f.objects → IsFields (entered a (cell_of f o).fields)
-enter_fits f o Reading flat l = let all = logged_fits f o flat l in let few = few_inside f o flat l in record { version = omega (arith, all); left = omega (arith, all); inside = omega (arith, few) }
-enter_fits f o Writing flat l = let all = logged_fits f o flat l in let few = few_inside f o flat l in record { version = omega (arith, all); left = omega (arith, all); inside = omega (arith, few) }
+enter_fits f o Reading flat l = let all = logged_fits f o flat l in let few = few_inside f o flat l in
+    record { version = omega (arith, all); left = omega (arith, all); inside = omega (arith, few) }
+enter_fits f o Writing flat l = let all = logged_fits f o flat l in let few = few_inside f o flat l in
+    record { version = omega (arith, all); left = omega (arith, all); inside = omega (arith, few) }
 
 pub leave_fits : (f : Flat) (o : ℕ) (a : Access) → IsFlat f → o < length f.objects → IsFields (left_by a (cell_of f o).fields)
-leave_fits f o Reading flat l = let all = logged_fits f o flat l in let few = few_inside f o flat l in record { version = omega (arith, all); left = omega (arith, all); inside = omega (arith, few) }
-leave_fits f o Writing flat l = let all = logged_fits f o flat l in record { version = omega (arith, all); left = omega arith; inside = omega arith }
+leave_fits f o Reading flat l = let all = logged_fits f o flat l in let few = few_inside f o flat l in
+    record { version = omega (arith, all); left = omega (arith, all); inside = omega (arith, few) }
+leave_fits f o Writing flat l = let all = logged_fits f o flat l in
+    record { version = omega (arith, all); left = omega arith; inside = omega arith }
 
-pub leave_allowed : (f : Flat) (t o : ℕ) (a : Access) → IsFlat f → t < length f.threads → o < length f.objects → inside_of f o t ≡ Some a → CanLeave a (cell_of f o).fields
+pub leave_allowed : (f : Flat) (t o : ℕ) (a : Access) → IsFlat f → t < length f.threads → o < length f.objects → inside_of f o t ≡ Some a
+    → CanLeave a (cell_of f o).fields
 leave_allowed f t o a flat l k e = can_leave (length f.threads) (cell_of f o).fields (inside_of f o) t a l e (flat.objects o k).counts
 
 -- what doesn't touch an object leaves all objects
-quiet_shared : (f : Flat) (t : ℕ) (y : thread.State) → t < length f.threads → y.held ≡ (thread_of f t).held → (o : ℕ) → IsShared f o → IsShared (with_thread f t y) o
+quiet_shared : (f : Flat) (t : ℕ) (y : thread.State) → t < length f.threads → y.held ≡ (thread_of f t).held → (o : ℕ) → IsShared f o
+    → IsShared (with_thread f t y) o
 quiet_shared f t y l same o old = record {
   counts = subst (λ n. Counts n (cell_of f o).fields (inside_of (with_thread f t y) o)) (sym (length-set f.threads t y))
-      (subst (Counts (length f.threads) (cell_of f o).fields) (sym (inside-set f t y o l ∙ upd_id (inside_of f o) t (held_at y.held o) (ap (λ h. held_at h o) (sym same)))) old.counts);
+      (subst (Counts (length f.threads) (cell_of f o).fields)
+          (sym (inside-set f t y o l ∙ upd_id (inside_of f o) t (held_at y.held o) (ap (λ h. held_at h o) (sym same)))) old.counts);
   words = old.words;
 }
 
 -- what touches one object leaves the others
-touched : (f : Flat) (t : ℕ) (y : thread.State) (o : ℕ) (c : Cell) → t < length f.threads → o < length f.objects → ((i : ℕ) → i ≢ o → held_at y.held i ≡ held_at (thread_of f t).held i)
-    → Counts (length f.threads) c.fields (upd (inside_of f o) t (held_at y.held o)) → length c.words ≡ 8 → (i : ℕ) → IsShared f i → IsShared (with_object (with_thread f t y) o c) i
+touched : (f : Flat) (t : ℕ) (y : thread.State) (o : ℕ) (c : Cell) → t < length f.threads → o < length f.objects
+    → ((i : ℕ) → i ≢ o → held_at y.held i ≡ held_at (thread_of f t).held i)
+    → Counts (length f.threads) c.fields (upd (inside_of f o) t (held_at y.held o)) → length c.words ≡ 8 → (i : ℕ) → IsShared f i
+    → IsShared (with_object (with_thread f t y) o c) i
 touched f t y o c l k same counts count i old =
-    let cell : cell_of (with_object (with_thread f t y) o c) i ≡ upd (cell_of f) o c i = ap (λ table. table i) (table-set f.objects o c empty k) in
+    let cell : cell_of (with_object (with_thread f t y) o c) i ≡ upd (cell_of f) o c i =
+        ap (λ table. table i) (table-set f.objects o c empty k) in
     record {
-      counts = subst (λ n. Counts n (cell_of (with_object (with_thread f t y) o c) i).fields (inside_of (with_thread f t y) i)) (sym (length-set f.threads t y))
+      counts = subst (λ n. Counts n (cell_of (with_object (with_thread f t y) o c) i).fields (inside_of (with_thread f t y) i))
+          (sym (length-set f.threads t y))
           (subst (λ z. Counts (length f.threads) z.fields (inside_of (with_thread f t y) i)) (sym cell)
           (subst (Counts (length f.threads) (upd (cell_of f) o c i).fields) (sym (inside-set f t y i l))
           (upd_elim (cell_of f) o c i (λ z. Counts (length f.threads) z.fields (upd (inside_of f i) t (held_at y.held i)))
           (λ e. subst (λ j. Counts (length f.threads) c.fields (upd (inside_of f j) t (held_at y.held j))) (sym e) counts)
-          (λ ne. subst (Counts (length f.threads) (cell_of f i).fields) (sym (upd_id (inside_of f i) t (held_at y.held i) (sym (same i ne)))) old.counts))));
-      words = subst (λ z. length z.words ≡ 8) (sym cell) (upd_elim (cell_of f) o c i (λ z. length z.words ≡ 8) (λ _. count) (λ _. old.words));
+          (λ ne. subst (Counts (length f.threads) (cell_of f i).fields)
+              (sym (upd_id (inside_of f i) t (held_at y.held i) (sym (same i ne)))) old.counts))));
+      words = subst (λ z. length z.words ≡ 8) (sym cell)
+          (upd_elim (cell_of f) o c i (λ z. length z.words ≡ 8) (λ _. count) (λ _. old.words));
     }
 
-next_shared : (f : Flat) (t r : ℕ) (q : Ask) → IsFlat f → t < length f.threads → Permits (thread_of f t) q → MayStep f r q → (i : ℕ) → i < length f.objects → IsShared (next f t r q) i
+next_shared : (f : Flat) (t r : ℕ) (q : Ask) → IsFlat f → t < length f.threads → Permits (thread_of f t) q → MayStep f r q → (i : ℕ)
+    → i < length f.objects → IsShared (next f t r q) i
 next_shared f t r Private flat l p may i h = quiet_shared f t _ l refl i (flat.objects i h)
 next_shared f t r (Env kind) flat l p may i h = quiet_shared f t _ l refl i (flat.objects i h)
 next_shared f t r Print flat l p may i h = quiet_shared f t _ l refl i (flat.objects i h)
@@ -116,18 +136,23 @@ next_shared f t r (Enter o a) flat l p may i h =
     let k : o < length f.objects = omega (arith, p.2, flat.places t l) in
     let none : inside_of f o t ≡ None = above_held (thread_of f t).held o p.3 o (le_refl o) in
     touched f t _ o _ l k (still (thread_of f t).held o (Some a))
-    (subst (λ x. Counts (length f.threads) (entered a (cell_of f o).fields) (upd (inside_of f o) t x)) (sym (get_or-set_same (thread_of f t).held o (Some a) None p.2))
-    (entry_counts (length f.threads) (cell_of f o).fields (inside_of f o) t a l none (flat.objects o k).counts)) (flat.objects o k).words i (flat.objects i h)
+    (subst (λ x. Counts (length f.threads) (entered a (cell_of f o).fields) (upd (inside_of f o) t x))
+        (sym (get_or-set_same (thread_of f t).held o (Some a) None p.2))
+    (entry_counts (length f.threads) (cell_of f o).fields (inside_of f o) t a l none (flat.objects o k).counts)) (flat.objects o k).words i
+        (flat.objects i h)
 next_shared f t r (Leave o a) flat l p may i h =
     let k : o < length f.objects = omega (arith, p.1, flat.places t l) in
     touched f t _ o _ l k (still (thread_of f t).held o None)
-    (subst (λ x. Counts (length f.threads) (left_by a (cell_of f o).fields) (upd (inside_of f o) t x)) (sym (get_or-set_same (thread_of f t).held o None None p.1))
+    (subst (λ x. Counts (length f.threads) (left_by a (cell_of f o).fields) (upd (inside_of f o) t x))
+        (sym (get_or-set_same (thread_of f t).held o None None p.1))
     (leave_counts (length f.threads) (cell_of f o).fields (inside_of f o) t a l p.2
-    (λ e u ne. flat.kept.exclusive o t u (λ s. ne (sym s)) (p.2 ∙ ap Some e)) (flat.objects o k).counts)) (flat.objects o k).words i (flat.objects i h)
+    (λ e u ne. flat.kept.exclusive o t u (λ s. ne (sym s)) (p.2 ∙ ap Some e)) (flat.objects o k).counts)) (flat.objects o k).words i
+        (flat.objects i h)
 next_shared f t r (Put o j w) flat l p may i h =
     let k : o < length f.objects = omega (arith, p.1, flat.places t l) in
     touched f t _ o _ l k (λ _ _. refl)
-    (subst (Counts (length f.threads) (cell_of f o).fields) (sym (upd_id (inside_of f o) t (inside_of f o t) refl)) (flat.objects o k).counts)
+    (subst (Counts (length f.threads) (cell_of f o).fields) (sym (upd_id (inside_of f o) t (inside_of f o t) refl))
+        (flat.objects o k).counts)
     (length-set (cell_of f o).words j w ∙ (flat.objects o k).words) i (flat.objects i h)
 
 pub thread_count : (f : Flat) (t r : ℕ) (q : Ask) → length (next f t r q).threads ≡ length f.threads
@@ -153,10 +178,14 @@ object_count f t r (End e) = refl
 object_count f t r Done = refl
 
 -- a thread that is written keeps its places
-place : (f : Flat) (t : ℕ) (y : thread.State) → t < length f.threads → length y.held ≡ length (thread_of f t).held → (u : ℕ) → length (thread_of (with_thread f t y) u).held ≡ length (thread_of f u).held
-place f t y l same u = ap (λ table. length (table u).held) (table-set f.threads t y idle l) ∙ upd_elim (thread_of f) t y u (λ z. length z.held ≡ length (thread_of f u).held) (λ e. same ∙ ap (λ j. length (thread_of f j).held) (sym e)) (λ _. refl)
+place : (f : Flat) (t : ℕ) (y : thread.State) → t < length f.threads → length y.held ≡ length (thread_of f t).held → (u : ℕ)
+    → length (thread_of (with_thread f t y) u).held ≡ length (thread_of f u).held
+place f t y l same u = ap (λ table. length (table u).held) (table-set f.threads t y idle l)
+    ∙ upd_elim (thread_of f) t y u (λ z. length z.held ≡ length (thread_of f u).held)
+    (λ e. same ∙ ap (λ j. length (thread_of f j).held) (sym e)) (λ _. refl)
 
-place_count : (f : Flat) (t r : ℕ) (q : Ask) → t < length f.threads → (u : ℕ) → length (thread_of (next f t r q) u).held ≡ length (thread_of f u).held
+place_count : (f : Flat) (t r : ℕ) (q : Ask) → t < length f.threads → (u : ℕ)
+    → length (thread_of (next f t r q) u).held ≡ length (thread_of f u).held
 place_count f t r Private l = place f t _ l (held_length f.code (thread_of f t) Private Go)
 place_count f t r (Env kind) l = place f t _ l (held_length f.code (thread_of f t) (Env kind) (Value r))
 place_count f t r (Enter o a) l = place f t _ l (held_length f.code (thread_of f t) (Enter o a) Go)
@@ -167,7 +196,8 @@ place_count f t r Print l = place f t _ l (held_length f.code (thread_of f t) Pr
 place_count f t r (End e) l = place f t _ l (held_length f.code (thread_of f t) (End e) Go)
 place_count f t r Done l = place f t _ l (held_length f.code (thread_of f t) Done Go)
 
-pub next_flat : (f : Flat) (t r : ℕ) (q : Ask) → q ≡ ask_of f.code (thread_of f t) → IsFlat f → t < length f.threads → MayStep f r q → IsFlat (next f t r q)
+pub next_flat : (f : Flat) (t r : ℕ) (q : Ask) → q ≡ ask_of f.code (thread_of f t) → IsFlat f → t < length f.threads → MayStep f r q
+    → IsFlat (next f t r q)
 next_flat f t r q is flat l may =
     let p : Permits (thread_of f t) q = subst (Permits (thread_of f t)) (sym is) (ask_permits f.code (thread_of f t)) in
     let can : Can (machine f) (tables f) (t, r) = (may_can f t r flat l).0 (subst (MayStep f r) is may) in
@@ -178,40 +208,61 @@ next_flat f t r q is flat l may =
       few_objects = omega (arith, m, flat.few_objects);
       places = λ u h. place_count f t r q l u ∙ flat.places u (omega (arith, n, h)) ∙ sym m;
       objects = λ i h. next_shared f t r q flat l p may i (omega (arith, m, h));
-      kept = subst (λ k. IsKept k (tables (next f t r q))) (sym n) (subst (IsKept (length f.threads)) (sym (next_after f t r q (sym is) flat l p may)) (stays_kept f.code (length f.threads) (tables f) (t, r) l flat.kept can));
+      kept = subst (λ k. IsKept k (tables (next f t r q))) (sym n)
+          (subst (IsKept (length f.threads)) (sym (next_after f t r q (sym is) flat l p may))
+          (stays_kept f.code (length f.threads) (tables f) (t, r) l flat.kept can));
     }
 
 -- what is known where the step is taken
 -- the object that is entered is one of the guest's
-pub enter_object : (f : Flat) (t o : ℕ) (a : Access) → IsFlat f → t < length f.threads → ask_of f.code (thread_of f t) ≡ Enter o a → o < length f.objects
-enter_object f t o a flat l is = let p = subst (Permits (thread_of f t)) is (ask_permits f.code (thread_of f t)) in omega (arith, p.2, flat.places t l)
+pub enter_object : (f : Flat) (t o : ℕ) (a : Access) → IsFlat f → t < length f.threads → ask_of f.code (thread_of f t) ≡ Enter o a
+    → o < length f.objects
+enter_object f t o a flat l is = let p = subst (Permits (thread_of f t)) is (ask_permits f.code (thread_of f t)) in
+    omega (arith, p.2, flat.places t l)
 
-pub enters_fit : (f : Flat) (t : ℕ) (q : Ask) (o : ℕ) (a : Access) → IsFlat f → t < length f.threads → Permits (thread_of f t) q → q ≡ Enter o a → IsFields (entered a (cell_of f o).fields)
-enters_fit f t q o a flat l permits is = let p = subst (Permits (thread_of f t)) is permits in enter_fits f o a flat (omega (arith, p.2, flat.places t l))
+pub enters_fit : (f : Flat) (t : ℕ) (q : Ask) (o : ℕ) (a : Access) → IsFlat f → t < length f.threads → Permits (thread_of f t) q
+    → q ≡ Enter o a → IsFields (entered a (cell_of f o).fields)
+enters_fit f t q o a flat l permits is = let p = subst (Permits (thread_of f t)) is permits in
+    enter_fits f o a flat (omega (arith, p.2, flat.places t l))
 
-pub leaves_fit : (f : Flat) (t : ℕ) (q : Ask) (o : ℕ) (a : Access) → IsFlat f → t < length f.threads → Permits (thread_of f t) q → q ≡ Leave o a → IsFields (left_by a (cell_of f o).fields)
-leaves_fit f t q o a flat l permits is = let p = subst (Permits (thread_of f t)) is permits in leave_fits f o a flat (omega (arith, p.1, flat.places t l))
+pub leaves_fit : (f : Flat) (t : ℕ) (q : Ask) (o : ℕ) (a : Access) → IsFlat f → t < length f.threads → Permits (thread_of f t) q
+    → q ≡ Leave o a → IsFields (left_by a (cell_of f o).fields)
+leaves_fit f t q o a flat l permits is = let p = subst (Permits (thread_of f t)) is permits in
+    leave_fits f o a flat (omega (arith, p.1, flat.places t l))
 
-pub leaves_inside : (f : Flat) (t : ℕ) (q : Ask) (o : ℕ) (a : Access) → IsFlat f → t < length f.threads → Permits (thread_of f t) q → q ≡ Leave o a → CanLeave a (cell_of f o).fields
-leaves_inside f t q o a flat l permits is = let p = subst (Permits (thread_of f t)) is permits in leave_allowed f t o a flat l (omega (arith, p.1, flat.places t l)) p.2
+pub leaves_inside : (f : Flat) (t : ℕ) (q : Ask) (o : ℕ) (a : Access) → IsFlat f → t < length f.threads → Permits (thread_of f t) q
+    → q ≡ Leave o a → CanLeave a (cell_of f o).fields
+leaves_inside f t q o a flat l permits is = let p = subst (Permits (thread_of f t)) is permits in
+    leave_allowed f t o a flat l (omega (arith, p.1, flat.places t l)) p.2
 
-pub can_by_may : (f : Flat) (t r : ℕ) (q : Ask) → IsFlat f → t < length f.threads → q ≡ ask_of f.code (thread_of f t) → MayStep f r q ↔ Can (machine f) (tables f) (t, r)
+pub can_by_may : (f : Flat) (t r : ℕ) (q : Ask) → IsFlat f → t < length f.threads → q ≡ ask_of f.code (thread_of f t)
+    → MayStep f r q ↔ Can (machine f) (tables f) (t, r)
 can_by_may f t r q flat l is = subst (λ z. MayStep f r z ↔ Can (machine f) (tables f) (t, r)) (sym is) (may_can f t r flat l)
 
-pub taken_by : (f : Flat) (t r : ℕ) (q : Ask) → IsFlat f → t < length f.threads → q ≡ ask_of f.code (thread_of f t) → MayStep f r q → tables (next f t r q) ≡ after (machine f) (tables f) (t, r)
-taken_by f t r q flat l is may = next_after f t r q (sym is) flat l (subst (Permits (thread_of f t)) (sym is) (ask_permits f.code (thread_of f t))) may
+pub taken_by : (f : Flat) (t r : ℕ) (q : Ask) → IsFlat f → t < length f.threads → q ≡ ask_of f.code (thread_of f t) → MayStep f r q
+    → tables (next f t r q) ≡ after (machine f) (tables f) (t, r)
+taken_by f t r q flat l is may = next_after f t r q (sym is) flat l
+    (subst (Permits (thread_of f t)) (sym is) (ask_permits f.code (thread_of f t))) may
 
 -- the same, of the value that the code's parts are
-pub step_can : (p f : Flat) (t r : ℕ) (q : Ask) (b : Bool) → p ≡ f → t < length f.threads → IsFlat p → q ≡ ask_of p.code (thread_of p t) → IsTrue b ↔ MayStep p r q → IsTrue b ↔ Can (machine f) (tables f) (t, r)
+pub step_can : (p f : Flat) (t r : ℕ) (q : Ask) (b : Bool) → p ≡ f → t < length f.threads → IsFlat p → q ≡ ask_of p.code (thread_of p t)
+    → IsTrue b ↔ MayStep p r q → IsTrue b ↔ Can (machine f) (tables f) (t, r)
 step_can p f t r q b same l flat is may = subst (λ z. IsTrue b ↔ Can (machine z) (tables z) (t, r)) same
-    (let can = can_by_may p t r q flat (subst (λ z. t < length z.threads) (sym same) l) is in ((λ h. can.0 (may.0 h)), λ h. may.1 (can.1 h)))
+    (let can = can_by_may p t r q flat (subst (λ z. t < length z.threads) (sym same) l) is in
+        ((λ h. can.0 (may.0 h)), λ h. may.1 (can.1 h)))
 
-pub step_refused : (p f : Flat) (t r : ℕ) (q : Ask) (b : Bool) → p ≡ f → t < length f.threads → IsFlat p → q ≡ ask_of p.code (thread_of p t) → IsTrue b ↔ MayStep p r q → b ≡ false → Can (machine f) (tables f) (t, r) → ⊥
+pub step_refused : (p f : Flat) (t r : ℕ) (q : Ask) (b : Bool) → p ≡ f → t < length f.threads → IsFlat p → q ≡ ask_of p.code (thread_of p t)
+    → IsTrue b ↔ MayStep p r q → b ≡ false → Can (machine f) (tables f) (t, r) → ⊥
 step_refused p f t r q b same l flat is may no' can = let h : IsTrue b = (step_can p f t r q b same l flat is may).1 can in cc (no', h)
 
-pub step_flat : (p f new : Flat) (t r : ℕ) (q : Ask) (b : Bool) → p ≡ f → t < length f.threads → IsFlat p → q ≡ ask_of p.code (thread_of p t) → IsTrue b ↔ MayStep p r q → b ≡ true → new ≡ next p t r q → IsFlat new
-step_flat p f new t r q b same l flat is may yes' e = subst IsFlat (sym e) (next_flat p t r q is flat (subst (λ z. t < length z.threads) (sym same) l) (may.0 yes'))
+pub step_flat : (p f new : Flat) (t r : ℕ) (q : Ask) (b : Bool) → p ≡ f → t < length f.threads → IsFlat p
+    → q ≡ ask_of p.code (thread_of p t) → IsTrue b ↔ MayStep p r q → b ≡ true → new ≡ next p t r q → IsFlat new
+step_flat p f new t r q b same l flat is may yes' e =
+    subst IsFlat (sym e) (next_flat p t r q is flat (subst (λ z. t < length z.threads) (sym same) l) (may.0 yes'))
 
-pub step_taken : (p f new : Flat) (t r : ℕ) (q : Ask) (b : Bool) → p ≡ f → t < length f.threads → IsFlat p → q ≡ ask_of p.code (thread_of p t) → IsTrue b ↔ MayStep p r q → b ≡ true → new ≡ next p t r q → tables new ≡ after (machine f) (tables f) (t, r)
+pub step_taken : (p f new : Flat) (t r : ℕ) (q : Ask) (b : Bool) → p ≡ f → t < length f.threads → IsFlat p
+    → q ≡ ask_of p.code (thread_of p t) → IsTrue b ↔ MayStep p r q → b ≡ true → new ≡ next p t r q
+    → tables new ≡ after (machine f) (tables f) (t, r)
 step_taken p f new t r q b same l flat is may yes' e =
-    ap tables e ∙ subst (λ z. tables (next p t r q) ≡ after (machine z) (tables z) (t, r)) same (taken_by p t r q flat (subst (λ z. t < length z.threads) (sym same) l) is (may.0 yes'))
+    ap tables e ∙ subst (λ z. tables (next p t r q) ≡ after (machine z) (tables z) (t, r)) same
+        (taken_by p t r q flat (subst (λ z. t < length z.threads) (sym same) l) is (may.0 yes'))

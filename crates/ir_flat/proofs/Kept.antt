@@ -65,7 +65,8 @@ events_past (suc n) now t y l =
     let rest = events_past n now t y (omega arith) in
     omega (arith, here, rest)
 
-pub events_upd : (n : ℕ) (now : ℕ → thread.State) (t : ℕ) (y : thread.State) → t < n → events_below n (upd now t y) + (now t).events ≡ events_below n now + y.events
+pub events_upd : (n : ℕ) (now : ℕ → thread.State) (t : ℕ) (y : thread.State) → t < n
+    → events_below n (upd now t y) + (now t).events ≡ events_below n now + y.events
 events_upd zero now t y l = absurd (omega arith)
 events_upd (suc n) now t y l = elim (cases_eq n t) [
   | inl e ↦
@@ -81,12 +82,15 @@ events_upd (suc n) now t y l = elim (cases_eq n t) [
 
 pub events_most : (n : ℕ) (now : ℕ → thread.State) → ((t : ℕ) → t < n → (now t).events ≤ most_events) → events_below n now ≤ n * most_events
 events_most zero now h = omega arith
-events_most (suc n) now h = let rest = events_most n now (λ t l. h t (omega arith)) in let here = h n (omega arith) in omega (arith, rest, here)
+events_most (suc n) now h = let rest = events_most n now (λ t l. h t (omega arith)) in let here = h n (omega arith) in
+    omega (arith, rest, here)
 
 -- the entries that an object has seen grow by those that are logged
-pub seen_grows : (code : List ℕ) (n : ℕ) (x : thread.State) (r : ℕ) (b : Object) (t : ℕ) (q : Ask) → t < n → Permits x q → b.inside t ≡ held_at x.held (target (act_of (shared_ask q) r))
+pub seen_grows : (code : List ℕ) (n : ℕ) (x : thread.State) (r : ℕ) (b : Object) (t : ℕ) (q : Ask) → t < n → Permits x q
+    → b.inside t ≡ held_at x.held (target (act_of (shared_ask q) r))
     → ((u v : ℕ) → u ≢ v → b.inside u ≡ Some Writing → b.inside v ≡ None)
-    → Admits (thread_machine code) (act_of (shared_ask q) r) b → entries_seen n (acted (act_of (shared_ask q) r) t b) ≤ entries_seen n b + added q
+    → Admits (thread_machine code) (act_of (shared_ask q) r) b
+    → entries_seen n (acted (act_of (shared_ask q) r) t b) ≤ entries_seen n b + added q
 seen_grows code n x r b t Private l p link ex can = omega arith
 seen_grows code n x r b t (Env kind) l p link ex can = omega arith
 seen_grows code n x r b t (Get object index) l p link ex can = omega arith
@@ -98,26 +102,30 @@ seen_grows code n x r b t (Enter object Reading) l p link ex can =
     let none : b.inside t ≡ None = link ∙ above_held x.held object p.3 object (le_refl object) in
     let sums = readers_upd n b.inside t (Some Reading) l in
     let was : one_if_reading (b.inside t) ≡ 0 = ap one_if_reading none in
-    let same : bit_of (has_writer n (upd b.inside t (Some Reading))) ≡ bit_of (has_writer n b.inside) = ap bit_of (writer_upd n b.inside t (Some Reading) (sym (ap is_writing none))) in
+    let same : bit_of (has_writer n (upd b.inside t (Some Reading))) ≡ bit_of (has_writer n b.inside) =
+        ap bit_of (writer_upd n b.inside t (Some Reading) (sym (ap is_writing none))) in
     omega (arith, sums, was, same)
 seen_grows code n x r b t (Enter object Writing) l p link ex can =
     let none : b.inside t ≡ None = link ∙ above_held x.held object p.3 object (le_refl object) in
     let sums = readers_upd n b.inside t (Some Writing) l in
     let was : one_if_reading (b.inside t) ≡ 0 = ap one_if_reading none in
-    let now : bit_of (has_writer n (upd b.inside t (Some Writing))) ≡ 1 = ap bit_of (one_writes n (upd b.inside t (Some Writing)) t l (upd_same b.inside t (Some Writing))) in
+    let now : bit_of (has_writer n (upd b.inside t (Some Writing))) ≡ 1 =
+        ap bit_of (one_writes n (upd b.inside t (Some Writing)) t l (upd_same b.inside t (Some Writing))) in
     omega (arith, sums, was, now)
 seen_grows code n x r b t (Leave object Reading) l p link ex can =
     let is : b.inside t ≡ Some Reading = link ∙ p.2 in
     let sums = readers_upd n b.inside t None l in
     let was : one_if_reading (b.inside t) ≡ 1 = ap one_if_reading is in
-    let same : bit_of (has_writer n (upd b.inside t None)) ≡ bit_of (has_writer n b.inside) = ap bit_of (writer_upd n b.inside t None (sym (ap is_writing is))) in
+    let same : bit_of (has_writer n (upd b.inside t None)) ≡ bit_of (has_writer n b.inside) =
+        ap bit_of (writer_upd n b.inside t None (sym (ap is_writing is))) in
     omega (arith, sums, was, same)
 seen_grows code n x r b t (Leave object Writing) l p link ex can =
     let is : b.inside t ≡ Some Writing = link ∙ p.2 in
     let sums = readers_upd n b.inside t None l in
     let was : one_if_reading (b.inside t) ≡ 0 = ap one_if_reading is in
     let had : bit_of (has_writer n b.inside) ≡ 1 = ap bit_of (one_writes n b.inside t l is) in
-    let has : bit_of (has_writer n (upd b.inside t None)) ≡ 0 = ap bit_of (none_write n (upd b.inside t None) (λ u _ h. cc (nobody is u, h))) in
+    let has : bit_of (has_writer n (upd b.inside t None)) ≡ 0 =
+        ap bit_of (none_write n (upd b.inside t None) (λ u _ h. cc (nobody is u, h))) in
     omega (arith, sums, was, had, has)
   where
     nobody : b.inside t ≡ Some Writing → (u : ℕ) → upd b.inside t None u ≡ None
@@ -126,7 +134,8 @@ seen_grows code n x r b t (Leave object Writing) l p link ex can =
 pub as_good : (code : List ℕ) (n : ℕ) (s : State thread.State) → IsKept n s → Good (thread_machine code) s
 as_good code n s k = record { linked = k.linked; exclusive = k.exclusive }
 
-pub stays_kept : (code : List ℕ) (n : ℕ) (s : State thread.State) (e : Step) → e.0 < n → IsKept n s → Can (thread_machine code) s e → IsKept n (after (thread_machine code) s e)
+pub stays_kept : (code : List ℕ) (n : ℕ) (s : State thread.State) (e : Step) → e.0 < n → IsKept n s → Can (thread_machine code) s e
+    → IsKept n (after (thread_machine code) s e)
 unfolding after after_reply
 stays_kept code n s e l k can =
     let m = thread_machine code in
@@ -139,12 +148,14 @@ stays_kept code n s e l k can =
     let good = stays_good m (lawful code) s (as_good code n s k) e can in
     let one : y.events ≡ x.events + added q = events_added code x q (reply_of q (reply (act m s e) b)) in
     let sums : events_below n (upd s.now t y) + x.events ≡ events_below n s.now + y.events = events_upd n s.now t y l in
-    let seen : entries_seen n (acted (act m s e) t b) ≤ entries_seen n b + added q = seen_grows code n x e.1 b t q l (ask_permits code x) (k.linked t o) (k.exclusive o) can in
+    let seen : entries_seen n (acted (act m s e) t b) ≤ entries_seen n b + added q =
+        seen_grows code n x e.1 b t q l (ask_permits code x) (k.linked t o) (k.exclusive o) can in
     let more : events_below n (upd s.now t y) ≡ events_below n s.now + added q = omega (arith, one, sums) in
     record {
       linked = good.linked;
       exclusive = good.exclusive;
-      others = λ u i h. good.linked u i ∙ ap (λ z. held_at z.held i) (upd_other s.now t u y (λ p. omega (arith, p, h, l))) ∙ sym (k.linked u i) ∙ k.others u i h;
+      others = λ u i h. good.linked u i ∙ ap (λ z. held_at z.held i) (upd_other s.now t u y (λ p. omega (arith, p, h, l)))
+          ∙ sym (k.linked u i) ∙ k.others u i h;
       logged = λ i. upd_elim s.objects o (acted (act m s e) t b) i (λ z. entries_seen n z ≤ events_below n (upd s.now t y))
           (λ _. let was = k.logged o in omega (arith, seen, was, more))
           (λ _. let was = k.logged i in omega (arith, was, more));

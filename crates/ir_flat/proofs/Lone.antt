@@ -25,9 +25,11 @@ all_suit : (code : List ℕ) (x : thread.State) (vs : List ℕ) → MayRun (thre
 all_suit code x [] may = tt
 all_suit code x (v ∷ vs) may = (suits code (ask_of code x) v may.0, all_suit code ((thread_machine code).take x v) vs may.1)
 
-same_end : (code : List ℕ) (x : thread.State) (vs : List ℕ) → after_replies code x (replies_to code x vs) ≡ alone_after (thread_machine code) x vs
+same_end : (code : List ℕ) (x : thread.State) (vs : List ℕ)
+    → after_replies code x (replies_to code x vs) ≡ alone_after (thread_machine code) x vs
 same_end code x [] = refl
 same_end code x (v ∷ vs) = same_end code ((thread_machine code).take x v) vs
 
 pub is_lone : AloneIsLone
-is_lone code x vs may = alone code x (replies_to code x vs) (all_suit code x vs may) ∙ ap (λ z. Some (record { thread = z; values = [] })) (same_end code x vs)
+is_lone code x vs may = alone code x (replies_to code x vs) (all_suit code x vs may)
+    ∙ ap (λ z. Some (record { thread = z; values = [] })) (same_end code x vs)

@@ -25,22 +25,27 @@ use Rattle.ir_flat.proofs.Keeps.{readers_le}
 use Rattle.ir_flat.proofs.Fresh.{start_kept, threads_length, places_at}
 
 -- who steps is one of the threads
-steps_below : (code : List ℕ) (n : ℕ) (s : State thread.State) (e : Step) → IsIdle (thread_machine code) s n → Can (thread_machine code) s e → e.0 < n
+steps_below : (code : List ℕ) (n : ℕ) (s : State thread.State) (e : Step) → IsIdle (thread_machine code) s n → Can (thread_machine code) s e
+    → e.0 < n
 steps_below code n s e rest can = elim (cases_lt e.0 n) [
   | inl l ↦ l
-  | inr g ↦ absurd (subst (λ q. Admits (thread_machine code) (machine.act_of q e.1) (s.objects (target (machine.act_of q e.1)))) (rest e.0 g) can)
+  | inr g ↦ absurd (subst (λ q. Admits (thread_machine code) (machine.act_of q e.1) (s.objects (target (machine.act_of q e.1))))
+      (rest e.0 g) can)
 ]
 
-pub run_kept : (code : List ℕ) (n : ℕ) (s : State thread.State) (run : List Step) → IsIdle (thread_machine code) s n → IsKept n s → IsRun (thread_machine code) s run → IsKept n (end (thread_machine code) s run)
+pub run_kept : (code : List ℕ) (n : ℕ) (s : State thread.State) (run : List Step) → IsIdle (thread_machine code) s n → IsKept n s
+    → IsRun (thread_machine code) s run → IsKept n (end (thread_machine code) s run)
 run_kept code n s [] rest k ok = k
 run_kept code n s (e ∷ run) rest k ok =
-    run_kept code n (after (thread_machine code) s e) run (stays_idle (thread_machine code) s n rest e ok.0) (stays_kept code n s e (steps_below code n s e rest ok.0) k ok.0) ok.1
+    run_kept code n (after (thread_machine code) s e) run (stays_idle (thread_machine code) s n rest e ok.0)
+        (stays_kept code n s e (steps_below code n s e rest ok.0) k ok.0) ok.1
 
 -- the threads have no more places than there are objects
 abbrev pub HasPlaces : ℕ → State thread.State → Type 0
 HasPlaces count s = (t : ℕ) → length (s.now t).held ≤ count
 
-stays_placed : (code : List ℕ) (count : ℕ) (s : State thread.State) (e : Step) → HasPlaces count s → HasPlaces count (after (thread_machine code) s e)
+stays_placed : (code : List ℕ) (count : ℕ) (s : State thread.State) (e : Step) → HasPlaces count s
+    → HasPlaces count (after (thread_machine code) s e)
 unfolding after after_reply
 stays_placed code count s e h t =
     let x : thread.State = s.now e.0 in
@@ -50,7 +55,8 @@ stays_placed code count s e h t =
     (λ _. let same = held_length code x q (reply_of q v) in let was = h e.0 in omega (arith, same, was))
     (λ _. h t)
 
-run_placed : (code : List ℕ) (count : ℕ) (s : State thread.State) (run : List Step) → HasPlaces count s → HasPlaces count (end (thread_machine code) s run)
+run_placed : (code : List ℕ) (count : ℕ) (s : State thread.State) (run : List Step) → HasPlaces count s
+    → HasPlaces count (end (thread_machine code) s run)
 run_placed code count s [] h = h
 run_placed code count s (e ∷ run) h = run_placed code count (after (thread_machine code) s e) run (stays_placed code count s e h)
 
@@ -66,7 +72,8 @@ enters_below x (End e) o a p h = absurd (cc h)
 enters_below x Done o a p h = absurd (cc h)
 
 bounded : (code : List ℕ) (count : ℕ) (s : State thread.State) → HasPlaces count s → IsBounded (thread_machine code) s count
-bounded code count s h t o a e = let below = enters_below (s.now t) (ask_of code (s.now t)) o a (ask_permits code (s.now t)) e in let most = h t in omega (arith, below, most)
+bounded code count s h t o a e = let below = enters_below (s.now t) (ask_of code (s.now t)) o a (ask_permits code (s.now t)) e in let most =
+    h t in omega (arith, below, most)
 
 zero_suits : (kind : EnvKind) → is_result kind 0 ≡ true
 zero_suits Clock = refl
@@ -75,25 +82,32 @@ zero_suits Input = refl
 
 pub start_idle : (g : Guest) (budget : ℕ) → IsIdle (thread_machine g.code) (tables (start_flat g budget)) (length g.entries)
 start_idle g budget t l =
-    ap (λ x. shared_ask (ask_of g.code x)) (get_or_past (start_threads g budget 0 (length g.entries)) t idle (let n = threads_length g budget 0 (length g.entries) in omega (arith, n, l)))
+    ap (λ x. shared_ask (ask_of g.code x)) (get_or_past (start_threads g budget 0 (length g.entries)) t idle
+        (let n = threads_length g budget 0 (length g.entries) in omega (arith, n, l)))
 
 start_placed : (g : Guest) (budget : ℕ) → HasPlaces (object_count g) (tables (start_flat g budget))
 start_placed g budget t = elim (cases_lt t (length g.entries)) [
   | inl l ↦ let same = places_at g budget 0 (length g.entries) t l in omega (arith, same)
   | inr past ↦
-      let none : length (thread_of (start_flat g budget) t).held ≡ 0 = ap (λ x. length x.held) (get_or_past (start_threads g budget 0 (length g.entries)) t idle (let n = threads_length g budget 0 (length g.entries) in omega (arith, n, past))) in
+      let none : length (thread_of (start_flat g budget) t).held ≡ 0 =
+          ap (λ x. length x.held) (get_or_past (start_threads g budget 0 (length g.entries)) t idle
+          (let n = threads_length g budget 0 (length g.entries) in omega (arith, n, past))) in
       omega (arith, none)
 ]
 
-pub kept_at_end : (g : Guest) (budget : ℕ) (run : List Step) → IsRun (thread_machine g.code) (tables (start_flat g budget)) run → IsKept (length g.entries) (end (thread_machine g.code) (tables (start_flat g budget)) run)
-kept_at_end g budget run ok = run_kept g.code (length g.entries) (tables (start_flat g budget)) run (start_idle g budget) (start_kept g budget) ok
+pub kept_at_end : (g : Guest) (budget : ℕ) (run : List Step) → IsRun (thread_machine g.code) (tables (start_flat g budget)) run
+    → IsKept (length g.entries) (end (thread_machine g.code) (tables (start_flat g budget)) run)
+kept_at_end g budget run ok = run_kept g.code (length g.entries) (tables (start_flat g budget)) run (start_idle g budget)
+    (start_kept g budget) ok
 
 pub nothing_is_stuck : NothingStuck
 nothing_is_stuck g budget run ok t ne =
     let s : State thread.State = end (thread_machine g.code) (tables (start_flat g budget)) run in
-    some_step (thread_machine g.code) (lawful g.code) s (as_good g.code (length g.entries) s (kept_at_end g budget run ok)) (length g.entries) (object_count g)
+    some_step (thread_machine g.code) (lawful g.code) s (as_good g.code (length g.entries) s (kept_at_end g budget run ok))
+        (length g.entries) (object_count g)
     (run_idle (thread_machine g.code) (tables (start_flat g budget)) (length g.entries) (start_idle g budget) run ok)
-    (bounded g.code (object_count g) s (run_placed g.code (object_count g) (tables (start_flat g budget)) run (start_placed g budget))) zero_suits t ne
+    (bounded g.code (object_count g) s (run_placed g.code (object_count g) (tables (start_flat g budget)) run (start_placed g budget)))
+        zero_suits t ne
 
 pub writers_are_alone : WritersAlone
 writers_are_alone g budget run ok o t u ne h = (kept_at_end g budget run ok).exclusive o t u ne h

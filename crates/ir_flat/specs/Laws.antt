@@ -11,7 +11,8 @@ use Rattle.ir_runs.specs.Run.{Step, IsRun, end, asked, Can}
 -- in each state that a run reaches and in which a thread isn't done, some thread has a step with result 0
 abbrev pub NothingStuck : Type 0
 NothingStuck = (guest : Guest) (budget : ℕ) (steps : List Step) → let f = start_flat guest budget in IsRun (machine f) (tables f) steps
-    → (t : ℕ) → asked (machine f) (end (machine f) (tables f) steps) t ≢ Done → (u : ℕ) × Can (machine f) (end (machine f) (tables f) steps) (u, 0)
+    → (t : ℕ) → asked (machine f) (end (machine f) (tables f) steps) t ≢ Done → (u : ℕ)
+    × Can (machine f) (end (machine f) (tables f) steps) (u, 0)
 
 -- an object has a writer or readers, never both, and one writer at most
 abbrev pub WritersAlone : Type 0
@@ -31,5 +32,6 @@ pub record Fits (n : ℕ) (b : Object) : Type 0 where
 
 -- what any run has counted fits
 abbrev pub CountsFit : Type 0
-CountsFit = (guest : Guest) (budget : ℕ) (steps : List Step) → let f = start_flat guest budget in length guest.entries ≤ 8 → IsRun (machine f) (tables f) steps
+CountsFit = (guest : Guest) (budget : ℕ) (steps : List Step) → let f = start_flat guest budget in length guest.entries ≤ 8
+    → IsRun (machine f) (tables f) steps
     → (o : ℕ) → Fits (length guest.entries) ((end (machine f) (tables f) steps).objects o)

@@ -81,10 +81,12 @@ labels_left true (k ∷ ks) = ks
 -- the steps of a thread alone, with what they tell
 abbrev pub alone_trail : {T : Type 0} → Machine T → T → List ℕ → List Label → List (T × Label)
 alone_trail m x [] ks = []
-alone_trail m x (v ∷ vs) ks = (x, alone_label (act_of (m.ask x) v) ks) ∷ alone_trail m (m.take x v) vs (labels_left (is_shared (act_of (m.ask x) v)) ks)
+alone_trail m x (v ∷ vs) ks = (x, alone_label (act_of (m.ask x) v) ks)
+    ∷ alone_trail m (m.take x v) vs (labels_left (is_shared (act_of (m.ask x) v)) ks)
 
 -- a run in which each thread takes the steps that it takes alone, answered so, and the objects are stepped on in this order
-pub record IsSplice {T : Type 0} (m : Machine T) (s : State T) (replies : ℕ → List ℕ) (order : List (ℕ × Shared)) (run : List Step) : Type 0 where
+pub record IsSplice {T : Type 0} (m : Machine T) (s : State T) (replies : ℕ → List ℕ) (order : List (ℕ × Shared)) (run : List Step) : Type
+    0 where
   pub runs : IsRun m s run
   pub trails : (t : ℕ) → trail m s run t ≡ alone_trail m (s.now t) (replies t) (of_thread t (order_labels s.objects order))
   pub threads : (t : ℕ) → (end m s run).now t ≡ alone_after m (s.now t) (replies t)
@@ -92,10 +94,13 @@ pub record IsSplice {T : Type 0} (m : Machine T) (s : State T) (replies : ℕ �
   -- it is complete where each thread is done
   pub complete : ((t : ℕ) → m.ask (alone_after m (s.now t) (replies t)) ≡ Done) → IsDone m (end m s run)
 
--- where each of n threads, alone, has the object steps that the order has of it, and no other thread has a step, there is such a run: each thread's private steps before its next object step, and its last ones at the end
+-- where each of n threads, alone, has the object steps that the order has of it, and no other thread has a step, there is such a run: each
+-- thread's private steps before its next object step, and its last ones at the end
 abbrev pub Splices : Type 0 → Type 0
-Splices T = (m : Machine T) (s : State T) (replies : ℕ → List ℕ) (n : ℕ) (order : List (ℕ × Shared)) → ((t : ℕ) → n ≤ t → replies t ≡ []) → ((t : ℕ) → MayRun m (s.now t) (replies t))
-    → ((t : ℕ) → shared_steps m (s.now t) (replies t) ≡ of_thread t order) → IsAllowed m s.objects order → IsSplice m s replies order (splice m s.now replies n order)
+Splices T = (m : Machine T) (s : State T) (replies : ℕ → List ℕ) (n : ℕ) (order : List (ℕ × Shared)) → ((t : ℕ) → n ≤ t → replies t ≡ [])
+    → ((t : ℕ) → MayRun m (s.now t) (replies t))
+    → ((t : ℕ) → shared_steps m (s.now t) (replies t) ≡ of_thread t order) → IsAllowed m s.objects order
+    → IsSplice m s replies order (splice m s.now replies n order)
 
 -- the replies to a thread that runs alone, as it takes them
 abbrev pub replies_to : List ℕ → thread.State → List ℕ → List Reply
@@ -105,4 +110,5 @@ replies_to code x (v ∷ vs) = reply_of (ask_of code x) v ∷ replies_to code ((
 -- a thread of a guest that may be given these replies is, after them, the thread run alone with the values among them
 abbrev pub AloneIsLone : Type 0
 AloneIsLone = (code : List ℕ) (x : thread.State) (vs : List ℕ) → MayRun (thread_machine code) x vs
-    → lone_run code (length (replies_to code x vs)) (record { thread = x; values = values_of (replies_to code x vs) }) ≡ Some (record { thread = alone_after (thread_machine code) x vs; values = [] })
+    → lone_run code (length (replies_to code x vs)) (record { thread = x; values = values_of (replies_to code x vs) }) ≡ Some
+    (record { thread = alone_after (thread_machine code) x vs; values = [] })

@@ -18,7 +18,8 @@ use Rattle.ir_isa.specs.declared.inst.ShiftOp.TheVariants.{Slli, Srli, Srai}
 use Rattle.ir_isa.specs.declared.inst.RegisterOp.{RegisterOp}
 use Rattle.ir_isa.specs.declared.inst.RegisterOp.TheVariants.{Add, Sub, Sll, Slt, Sltu, Xor, Srl, Sra, Or, And, Mul, Mulh, Mulhsu, Mulhu, Div, Divu, Rem, Remu}
 
-passes_here : {A : Type 0} (p : A → Bool) (y x : A) (rest : Option A) (b : Bool) → p y ≡ b → cond b (Some y) rest ≡ Some x → (rest ≡ Some x → p x ≡ true) → p x ≡ true
+passes_here : {A : Type 0} (p : A → Bool) (y x : A) (rest : Option A) (b : Bool) → p y ≡ b → cond b (Some y) rest ≡ Some x
+    → (rest ≡ Some x → p x ≡ true) → p x ≡ true
 passes_here p y x rest true t h later = ap p (sym (same_Some y x h)) ∙ t
 passes_here p y x rest false t h later = later h
 
@@ -84,13 +85,16 @@ shift_again Slli = refl
 shift_again Srli = refl
 shift_again Srai = refl
 
-pub shift_found : (seven three : ℕ) (op : ShiftOp) → shift_op_of seven three ≡ Some op → ((shift_functs op).seven ≡ seven) × ((shift_functs op).three ≡ three)
+pub shift_found : (seven three : ℕ) (op : ShiftOp) → shift_op_of seven three ≡ Some op → ((shift_functs op).seven ≡ seven)
+    × ((shift_functs op).three ≡ three)
 shift_found seven three op e =
-    let both = and_parts _ _ (passes (λ op. (eqb (shift_functs op).seven seven) && (eqb (shift_functs op).three three)) (Slli ∷ Srli ∷ Srai ∷ []) op e) in
+    let both = and_parts _ _ (passes (λ op. (eqb (shift_functs op).seven seven) && (eqb (shift_functs op).three three))
+        (Slli ∷ Srli ∷ Srai ∷ []) op e) in
     (eqb-true _ _ both.0, eqb-true _ _ both.1)
 
 pub shift_one : (a b : ShiftOp) → (shift_functs a).seven ≡ (shift_functs b).seven → (shift_functs a).three ≡ (shift_functs b).three → a ≡ b
-shift_one a b e f = same_Some a b (sym (shift_again a) ∙ ap (λ (n : ℕ). shift_op_of n (shift_functs a).three) e ∙ ap (λ (n : ℕ). shift_op_of (shift_functs b).seven n) f ∙ shift_again b)
+shift_one a b e f = same_Some a b (sym (shift_again a) ∙ ap (λ (n : ℕ). shift_op_of n (shift_functs a).three) e
+    ∙ ap (λ (n : ℕ). shift_op_of (shift_functs b).seven n) f ∙ shift_again b)
 
 pub reg_again : (op : RegisterOp) → reg_op_of (reg_functs op).seven (reg_functs op).three ≡ Some op
 reg_again Add = refl
@@ -112,10 +116,13 @@ reg_again Divu = refl
 reg_again Rem = refl
 reg_again Remu = refl
 
-pub reg_found : (seven three : ℕ) (op : RegisterOp) → reg_op_of seven three ≡ Some op → ((reg_functs op).seven ≡ seven) × ((reg_functs op).three ≡ three)
+pub reg_found : (seven three : ℕ) (op : RegisterOp) → reg_op_of seven three ≡ Some op → ((reg_functs op).seven ≡ seven)
+    × ((reg_functs op).three ≡ three)
 reg_found seven three op e =
-    let both = and_parts _ _ (passes (λ op. (eqb (reg_functs op).seven seven) && (eqb (reg_functs op).three three)) (Add ∷ Sub ∷ Sll ∷ Slt ∷ Sltu ∷ Xor ∷ Srl ∷ Sra ∷ Or ∷ And ∷ Mul ∷ Mulh ∷ Mulhsu ∷ Mulhu ∷ Div ∷ Divu ∷ Rem ∷ Remu ∷ []) op e) in
+    let both = and_parts _ _ (passes (λ op. (eqb (reg_functs op).seven seven) && (eqb (reg_functs op).three three))
+        (Add ∷ Sub ∷ Sll ∷ Slt ∷ Sltu ∷ Xor ∷ Srl ∷ Sra ∷ Or ∷ And ∷ Mul ∷ Mulh ∷ Mulhsu ∷ Mulhu ∷ Div ∷ Divu ∷ Rem ∷ Remu ∷ []) op e) in
     (eqb-true _ _ both.0, eqb-true _ _ both.1)
 
 pub reg_one : (a b : RegisterOp) → (reg_functs a).seven ≡ (reg_functs b).seven → (reg_functs a).three ≡ (reg_functs b).three → a ≡ b
-reg_one a b e f = same_Some a b (sym (reg_again a) ∙ ap (λ (n : ℕ). reg_op_of n (reg_functs a).three) e ∙ ap (λ (n : ℕ). reg_op_of (reg_functs b).seven n) f ∙ reg_again b)
+reg_one a b e f = same_Some a b (sym (reg_again a) ∙ ap (λ (n : ℕ). reg_op_of n (reg_functs a).three) e
+    ∙ ap (λ (n : ℕ). reg_op_of (reg_functs b).seven n) f ∙ reg_again b)

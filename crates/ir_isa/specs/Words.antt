@@ -24,7 +24,8 @@ s_word imm rs2 rs1 three opcode = r_word (bits 11 5 (low_bits 12 imm)) rs2 rs1 t
 
 -- two registers and the distance of a branch
 abbrev pub b_word : ℤ → ℕ → ℕ → ℕ → ℕ → ℕ
-b_word imm rs2 rs1 three opcode = r_word (2 ^ 6 * bits 12 12 (low_bits 13 imm) + bits 10 5 (low_bits 13 imm)) rs2 rs1 three (2 * bits 4 1 (low_bits 13 imm) + bits 11 11 (low_bits 13 imm)) opcode
+b_word imm rs2 rs1 three opcode = r_word (2 ^ 6 * bits 12 12 (low_bits 13 imm) + bits 10 5 (low_bits 13 imm)) rs2 rs1 three
+    (2 * bits 4 1 (low_bits 13 imm) + bits 11 11 (low_bits 13 imm)) opcode
 
 -- the upper twenty bits of a value and a destination
 abbrev pub u_word : ℕ → ℕ → ℕ → ℕ
@@ -32,7 +33,8 @@ u_word upper rd opcode = 2 ^ 12 * upper + 2 ^ 7 * rd + opcode
 
 -- the distance of a jump and a destination
 abbrev pub j_word : ℤ → ℕ → ℕ → ℕ
-j_word imm rd opcode = 2 ^ 31 * bits 20 20 (low_bits 21 imm) + 2 ^ 21 * bits 10 1 (low_bits 21 imm) + 2 ^ 20 * bits 11 11 (low_bits 21 imm) + 2 ^ 12 * bits 19 12 (low_bits 21 imm) + 2 ^ 7 * rd + opcode
+j_word imm rd opcode = 2 ^ 31 * bits 20 20 (low_bits 21 imm) + 2 ^ 21 * bits 10 1 (low_bits 21 imm) + 2 ^ 20 * bits 11 11 (low_bits 21 imm)
+    + 2 ^ 12 * bits 19 12 (low_bits 21 imm) + 2 ^ 7 * rd + opcode
 
 -- the word that is the code of an instruction, one row for each
 abbrev pub word_of : Inst → ℕ

@@ -28,28 +28,35 @@ append_none [] = refl
 append_none (x ∷ xs) = ap (λ z. x ∷ z) (append_none xs)
 
 pub of_other : {A : Type 0} (t u : ℕ) (xs : List (ℕ × A)) (x : A) → u ≢ t → of_thread u (xs ++ (t, x) ∷ []) ≡ of_thread u xs
-of_other t u xs x ne = of_append u xs ((t, x) ∷ []) ∙ ap (λ b. of_thread u xs ++ keep_if b x []) (ne_eqb u t ne) ∙ append_none (of_thread u xs)
+of_other t u xs x ne = of_append u xs ((t, x) ∷ []) ∙ ap (λ b. of_thread u xs ++ keep_if b x []) (ne_eqb u t ne)
+    ∙ append_none (of_thread u xs)
 
-pub after_more : (f : ℕ → Object) (xs : List (ℕ × Shared)) (x : ℕ × Shared) → objects_after f (xs ++ x ∷ []) ≡ objects_then (objects_after f xs) x
+pub after_more : (f : ℕ → Object) (xs : List (ℕ × Shared)) (x : ℕ × Shared)
+    → objects_after f (xs ++ x ∷ []) ≡ objects_then (objects_after f xs) x
 after_more f [] x = refl
 after_more f (y ∷ xs) x = after_more (objects_then f y) xs x
 
-pub labels_more : (f : ℕ → Object) (xs : List (ℕ × Shared)) (x : ℕ × Shared) → order_labels f (xs ++ x ∷ []) ≡ order_labels f xs ++ (x.0, told x.1.0 (objects_after f xs (target x.1.0))) ∷ []
+pub labels_more : (f : ℕ → Object) (xs : List (ℕ × Shared)) (x : ℕ × Shared)
+    → order_labels f (xs ++ x ∷ []) ≡ order_labels f xs ++ (x.0, told x.1.0 (objects_after f xs (target x.1.0))) ∷ []
 labels_more f [] x = refl
 labels_more f (y ∷ xs) x = ap (λ z. (y.0, told y.1.0 (f (target y.1.0))) ∷ z) (labels_more (objects_then f y) xs x)
 
-pub legal_more : {T : Type 0} (m : Machine T) (n count : ℕ) (f : ℕ → Object) (xs : List (ℕ × Shared)) (x : ℕ × Shared) → IsLegal m n count f xs → IsStep m n count (objects_after f xs) x → IsLegal m n count f (xs ++ x ∷ [])
+pub legal_more : {T : Type 0} (m : Machine T) (n count : ℕ) (f : ℕ → Object) (xs : List (ℕ × Shared)) (x : ℕ × Shared)
+    → IsLegal m n count f xs → IsStep m n count (objects_after f xs) x → IsLegal m n count f (xs ++ x ∷ [])
 legal_more m n count f [] x l s = (s, tt)
 legal_more m n count f (y ∷ xs) x l s = (l.0, legal_more m n count (objects_then f y) xs x l.1 s)
 
-pub allowed : {T : Type 0} (m : Machine T) (n count : ℕ) (f : ℕ → Object) (xs : List (ℕ × Shared)) → IsLegal m n count f xs → IsAllowed m f xs
+pub allowed : {T : Type 0} (m : Machine T) (n count : ℕ) (f : ℕ → Object) (xs : List (ℕ × Shared)) → IsLegal m n count f xs
+    → IsAllowed m f xs
 allowed m n count f [] l = tt
 allowed m n count f (x ∷ xs) l = (l.0.admits, l.0.answers, allowed m n count (objects_then f x) xs l.1)
 
 -- no thread from n on has a step
-pub none_beyond : {T : Type 0} (m : Machine T) (n count : ℕ) (f : ℕ → Object) (xs : List (ℕ × Shared)) → IsLegal m n count f xs → (t : ℕ) → n ≤ t → of_thread t xs ≡ []
+pub none_beyond : {T : Type 0} (m : Machine T) (n count : ℕ) (f : ℕ → Object) (xs : List (ℕ × Shared)) → IsLegal m n count f xs → (t : ℕ)
+    → n ≤ t → of_thread t xs ≡ []
 none_beyond m n count f [] l t g = refl
-none_beyond m n count f (x ∷ xs) l t g = ap (λ b. keep_if b x.1 (of_thread t xs)) (ne_eqb t x.0 (λ e. let h = l.0.thread in omega (arith, e, g))) ∙ none_beyond m n count (objects_then f x) xs l.1 t g
+none_beyond m n count f (x ∷ xs) l t g = ap (λ b. keep_if b x.1 (of_thread t xs))
+    (ne_eqb t x.0 (λ e. let h = l.0.thread in omega (arith, e, g))) ∙ none_beyond m n count (objects_then f x) xs l.1 t g
 
 -- ---- how a thread is inside an object, by its own steps
 
@@ -81,28 +88,36 @@ then_same f x = upd_same f (target x.1.0) (acted x.1.0 x.0 (f (target x.1.0)))
 pub then_other : (f : ℕ → Object) (x : ℕ × Shared) (o : ℕ) → o ≢ target x.1.0 → objects_then f x o ≡ f o
 then_other f x o ne = upd_other f (target x.1.0) o (acted x.1.0 x.0 (f (target x.1.0))) ne
 
-inside_own : (f : ℕ → Object) (t : ℕ) (q : Act) (v o : ℕ) → (objects_then f (t, (q, v)) o).inside t ≡ inside_if (eqb o (target q)) q ((f o).inside t)
+inside_own : (f : ℕ → Object) (t : ℕ) (q : Act) (v o : ℕ)
+    → (objects_then f (t, (q, v)) o).inside t ≡ inside_if (eqb o (target q)) q ((f o).inside t)
 inside_own f t q v o = elim (cases_eq o (target q)) [
-  | inl e ↦ ap (λ z. (objects_then f (t, (q, v)) z).inside t) e ∙ ap (λ b. b.inside t) (then_same f (t, (q, v))) ∙ acted_own q t (f (target q))
+  | inl e ↦ ap (λ z. (objects_then f (t, (q, v)) z).inside t) e ∙ ap (λ b. b.inside t) (then_same f (t, (q, v)))
+      ∙ acted_own q t (f (target q))
       ∙ ap (λ z. inside_then q ((f z).inside t)) (sym e) ∙ sym (ap (λ b. inside_if b q ((f o).inside t)) (eq-eqb o (target q) e))
   | inr ne ↦ ap (λ b. b.inside t) (then_other f (t, (q, v)) o ne) ∙ sym (ap (λ b. inside_if b q ((f o).inside t)) (ne_eqb o (target q) ne))
 ]
 
 inside_others : (f : ℕ → Object) (x : ℕ × Shared) (t o : ℕ) → t ≢ x.0 → (objects_then f x o).inside t ≡ (f o).inside t
 inside_others f x t o ne = elim (cases_eq o (target x.1.0)) [
-  | inl e ↦ ap (λ z. (objects_then f x z).inside t) e ∙ ap (λ b. b.inside t) (then_same f x) ∙ acted_other x.1.0 x.0 t (f (target x.1.0)) ne ∙ ap (λ z. (f z).inside t) (sym e)
+  | inl e ↦ ap (λ z. (objects_then f x z).inside t) e ∙ ap (λ b. b.inside t) (then_same f x) ∙ acted_other x.1.0 x.0 t (f (target x.1.0)) ne
+      ∙ ap (λ z. (f z).inside t) (sym e)
   | inr nq ↦ ap (λ b. b.inside t) (then_other f x o nq)
 ]
 
-pub inside_run : (f : ℕ → Object) (xs : List (ℕ × Shared)) (t o : ℕ) → (objects_after f xs o).inside t ≡ inside_after o ((f o).inside t) (of_thread t xs)
+pub inside_run : (f : ℕ → Object) (xs : List (ℕ × Shared)) (t o : ℕ)
+    → (objects_after f xs o).inside t ≡ inside_after o ((f o).inside t) (of_thread t xs)
 inside_run f [] t o = refl
 inside_run f (x ∷ xs) t o = inside_run (objects_then f x) xs t o ∙ elim (cases_eq t x.0) [
-  | inl e ↦ subst (λ z. inside_after o ((objects_then f x o).inside z) (of_thread z xs) ≡ inside_after o ((f o).inside z) (keep_if (eqb z x.0) x.1 (of_thread z xs))) (sym e)
-      (ap (λ i. inside_after o i (of_thread x.0 xs)) (inside_own f x.0 x.1.0 x.1.1 o) ∙ sym (ap (λ b. inside_after o ((f o).inside x.0) (keep_if b x.1 (of_thread x.0 xs))) (eq-eqb x.0 x.0 refl)))
-  | inr ne ↦ ap (λ i. inside_after o i (of_thread t xs)) (inside_others f x t o ne) ∙ sym (ap (λ b. inside_after o ((f o).inside t) (keep_if b x.1 (of_thread t xs))) (ne_eqb t x.0 ne))
+  | inl e ↦ subst (λ z. inside_after o ((objects_then f x o).inside z) (of_thread z xs) ≡ inside_after o ((f o).inside z)
+      (keep_if (eqb z x.0) x.1 (of_thread z xs))) (sym e)
+      (ap (λ i. inside_after o i (of_thread x.0 xs)) (inside_own f x.0 x.1.0 x.1.1 o)
+          ∙ sym (ap (λ b. inside_after o ((f o).inside x.0) (keep_if b x.1 (of_thread x.0 xs))) (eq-eqb x.0 x.0 refl)))
+  | inr ne ↦ ap (λ i. inside_after o i (of_thread t xs)) (inside_others f x t o ne)
+      ∙ sym (ap (λ b. inside_after o ((f o).inside t) (keep_if b x.1 (of_thread t xs))) (ne_eqb t x.0 ne))
 ]
 
-pub inside_more : (o : ℕ) (i : Option Access) (xs : List Shared) (x : Shared) → inside_after o i (xs ++ x ∷ []) ≡ inside_if (eqb o (target x.0)) x.0 (inside_after o i xs)
+pub inside_more : (o : ℕ) (i : Option Access) (xs : List Shared) (x : Shared)
+    → inside_after o i (xs ++ x ∷ []) ≡ inside_if (eqb o (target x.0)) x.0 (inside_after o i xs)
 inside_more o i [] x = refl
 inside_more o i (y ∷ xs) x = inside_more o (inside_if (eqb o (target y.0)) y.0 i) xs x
 
@@ -111,7 +126,8 @@ inside_more o i (y ∷ xs) x = inside_more o (inside_if (eqb o (target y.0)) y.0
 abbrev pub Alone : (ℕ → Option Access) → Type 0
 Alone inside = (t u : ℕ) → t ≢ u → inside t ≡ Some Writing → inside u ≡ None
 
-alone_entry : {T : Type 0} (m : Machine T) (o t v : ℕ) (a : Access) (b : Object) → Admits m (Entry o a v) b → Alone b.inside → Alone (upd b.inside t (Some a))
+alone_entry : {T : Type 0} (m : Machine T) (o t v : ℕ) (a : Access) (b : Object) → Admits m (Entry o a v) b → Alone b.inside
+    → Alone (upd b.inside t (Some a))
 alone_entry m o t v Reading b can h u w ne is = elim (cases_eq u t) [
   | inl e ↦ absurd (cc (sym (upd_same b.inside t (Some Reading)) ∙ ap (upd b.inside t (Some Reading)) (sym e) ∙ is))
   | inr nq ↦ absurd (can u (sym (upd_other b.inside t u (Some Reading) nq) ∙ is))

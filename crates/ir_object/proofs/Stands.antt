@@ -37,7 +37,8 @@ readers_past (suc n) f t x l =
     omega (arith, here, rest)
 
 -- one thread changed
-pub readers_upd : (n : ℕ) (f : ℕ → Option Access) (t : ℕ) (x : Option Access) → t < n → readers n (upd f t x) + one_if_reading (f t) ≡ readers n f + one_if_reading x
+pub readers_upd : (n : ℕ) (f : ℕ → Option Access) (t : ℕ) (x : Option Access) → t < n
+    → readers n (upd f t x) + one_if_reading (f t) ≡ readers n f + one_if_reading x
 readers_upd zero f t x l = absurd (omega arith)
 readers_upd (suc n) f t x l = elim (cases_eq n t) [
   | inl e ↦
@@ -76,7 +77,8 @@ reads_one n f t l e = elim (cases_eq (readers n f) 0) [ inl z ↦ absurd (nobody
 pub nobody_writes : (n : ℕ) (f : ℕ → Option Access) → has_writer n f ≡ false → (t : ℕ) → t < n → f t ≢ Some Writing
 nobody_writes zero f e t l = absurd (omega arith)
 nobody_writes (suc n) f e t l = elim (cases_eq t n) [
-  | inl same ↦ λ h. let one : is_writing (f n) ≡ true = ap is_writing (ap f (sym same) ∙ h) in cc (one, (or_false (has_writer n f) (is_writing (f n)) e).1)
+  | inl same ↦ λ h. let one : is_writing (f n) ≡ true = ap is_writing (ap f (sym same) ∙ h) in
+      cc (one, (or_false (has_writer n f) (is_writing (f n)) e).1)
   | inr ne ↦ nobody_writes n f (or_false _ _ e).0 t (omega (arith, ne, l))
 ]
 
@@ -97,20 +99,25 @@ one_writes (suc n) f t l e = elim (cases_eq t n) [
 ]
 
 -- a change that puts no writer in and takes none out
-pub writer_upd : (n : ℕ) (f : ℕ → Option Access) (t : ℕ) (x : Option Access) → is_writing x ≡ is_writing (f t) → has_writer n (upd f t x) ≡ has_writer n f
+pub writer_upd : (n : ℕ) (f : ℕ → Option Access) (t : ℕ) (x : Option Access) → is_writing x ≡ is_writing (f t)
+    → has_writer n (upd f t x) ≡ has_writer n f
 writer_upd zero f t x e = refl
 writer_upd (suc n) f t x e =
     ap (λ a. a || is_writing (upd f t x n)) (writer_upd n f t x e) ∙ ap (λ b. has_writer n f || b)
     (upd_elim f t x n (λ y. is_writing y ≡ is_writing (f n)) (λ same. e ∙ ap (λ z. is_writing (f z)) (sym same)) (λ _. refl))
 
-others_upd : (n : ℕ) (f : ℕ → Option Access) (t : ℕ) (x : Option Access) → t < n → ((u : ℕ) → n ≤ u → f u ≡ None) → (u : ℕ) → n ≤ u → upd f t x u ≡ None
+others_upd : (n : ℕ) (f : ℕ → Option Access) (t : ℕ) (x : Option Access) → t < n → ((u : ℕ) → n ≤ u → f u ≡ None) → (u : ℕ) → n ≤ u
+    → upd f t x u ≡ None
 others_upd n f t x l h u g = upd_other f t u x (λ e. omega (arith, e, l, g)) ∙ h u g
 
 -- a reader may enter where no writer is inside
-pub admits_reader : (n : ℕ) (f : Fields) (inside : ℕ → Option Access) → Counts n f inside → Admitted Reading f → (u : ℕ) → inside u ≢ Some Writing
-admits_reader n f inside c e u = elim (cases_lt u n) [ inl l ↦ nobody_writes n inside (sym c.writer ∙ e) u l | inr g ↦ λ h. cc (h, c.others u g) ]
+pub admits_reader : (n : ℕ) (f : Fields) (inside : ℕ → Option Access) → Counts n f inside → Admitted Reading f → (u : ℕ)
+    → inside u ≢ Some Writing
+admits_reader n f inside c e u = elim (cases_lt u n)
+    [ inl l ↦ nobody_writes n inside (sym c.writer ∙ e) u l | inr g ↦ λ h. cc (h, c.others u g) ]
 
-pub reader_admitted : (n : ℕ) (f : Fields) (inside : ℕ → Option Access) → Counts n f inside → ((u : ℕ) → inside u ≢ Some Writing) → Admitted Reading f
+pub reader_admitted : (n : ℕ) (f : Fields) (inside : ℕ → Option Access) → Counts n f inside → ((u : ℕ) → inside u ≢ Some Writing)
+    → Admitted Reading f
 reader_admitted n f inside c h = c.writer ∙ none_write n inside (λ t l. h t)
 
 neither : (x : Option Access) → x ≢ Some Reading → x ≢ Some Writing → x ≡ None
@@ -125,11 +132,14 @@ admits_writer n f inside c e u = elim (cases_lt u n) [
   | inr g ↦ c.others u g
 ]
 
-pub writer_admitted : (n : ℕ) (f : Fields) (inside : ℕ → Option Access) → Counts n f inside → ((u : ℕ) → inside u ≡ None) → Admitted Writing f
-writer_admitted n f inside c h = (c.writer ∙ none_write n inside (λ t l e. cc (h t, e)), c.readers ∙ none_read n inside (λ t l e. cc (h t, e)))
+pub writer_admitted : (n : ℕ) (f : Fields) (inside : ℕ → Option Access) → Counts n f inside → ((u : ℕ) → inside u ≡ None)
+    → Admitted Writing f
+writer_admitted n f inside c h = (c.writer ∙ none_write n inside (λ t l e. cc (h t, e)), c.readers
+    ∙ none_read n inside (λ t l e. cc (h t, e)))
 
 -- a thread that isn't inside enters
-pub entry_counts : (n : ℕ) (f : Fields) (inside : ℕ → Option Access) (t : ℕ) (a : Access) → t < n → inside t ≡ None → Counts n f inside → Counts n (entered a f) (upd inside t (Some a))
+pub entry_counts : (n : ℕ) (f : Fields) (inside : ℕ → Option Access) (t : ℕ) (a : Access) → t < n → inside t ≡ None → Counts n f inside
+    → Counts n (entered a f) (upd inside t (Some a))
 entry_counts n f inside t Reading l e c = record {
   readers =
       let was : one_if_reading (inside t) ≡ 0 = ap one_if_reading e in
@@ -150,12 +160,14 @@ entry_counts n f inside t Writing l e c = record {
 }
 
 -- whoever is inside may leave
-pub can_leave : (n : ℕ) (f : Fields) (inside : ℕ → Option Access) (t : ℕ) (a : Access) → t < n → inside t ≡ Some a → Counts n f inside → CanLeave a f
+pub can_leave : (n : ℕ) (f : Fields) (inside : ℕ → Option Access) (t : ℕ) (a : Access) → t < n → inside t ≡ Some a → Counts n f inside
+    → CanLeave a f
 can_leave n f inside t Reading l e c = let some = reads_one n inside t l e in let counted = c.readers in omega (arith, some, counted)
 can_leave n f inside t Writing l e c = c.writer ∙ one_writes n inside t l e
 
 -- a thread that is inside leaves; a writer is alone inside
-pub leave_counts : (n : ℕ) (f : Fields) (inside : ℕ → Option Access) (t : ℕ) (a : Access) → t < n → inside t ≡ Some a → (a ≡ Writing → (u : ℕ) → u ≢ t → inside u ≡ None) → Counts n f inside → Counts n (left_by a f) (upd inside t None)
+pub leave_counts : (n : ℕ) (f : Fields) (inside : ℕ → Option Access) (t : ℕ) (a : Access) → t < n → inside t ≡ Some a
+    → (a ≡ Writing → (u : ℕ) → u ≢ t → inside u ≡ None) → Counts n f inside → Counts n (left_by a f) (upd inside t None)
 leave_counts n f inside t Reading l e alone c = record {
   readers =
       let was : one_if_reading (inside t) ≡ 1 = ap one_if_reading e in
@@ -184,21 +196,30 @@ stands = record {
   store = stores;
 }
   where
-    entries : (n : ℕ) (c : Cell) (b : Object) (t : ℕ) (a : Access) (v : ℕ) → t < n → b.inside t ≡ None → StandsFor n c b → StandsFor n (record c { fields = entered a c.fields }) (acted (Entry 0 a v) t b)
-    entries n c b t Reading v l e s = record { version = s.version; left = s.left; inside = entry_counts n c.fields b.inside t Reading l e s.inside; words = s.words }
-    entries n c b t Writing v l e s = record { version = s.version; left = s.left; inside = entry_counts n c.fields b.inside t Writing l e s.inside; words = s.words }
+    entries : (n : ℕ) (c : Cell) (b : Object) (t : ℕ) (a : Access) (v : ℕ) → t < n → b.inside t ≡ None → StandsFor n c b
+        → StandsFor n (record c { fields = entered a c.fields }) (acted (Entry 0 a v) t b)
+    entries n c b t Reading v l e s = record { version = s.version; left = s.left; inside =
+        entry_counts n c.fields b.inside t Reading l e s.inside; words = s.words }
+    entries n c b t Writing v l e s = record { version = s.version; left = s.left; inside =
+        entry_counts n c.fields b.inside t Writing l e s.inside; words = s.words }
 
-    exits : (n : ℕ) (c : Cell) (b : Object) (t : ℕ) (a : Access) → t < n → b.inside t ≡ Some a → (a ≡ Writing → (u : ℕ) → u ≢ t → b.inside u ≡ None) → StandsFor n c b → StandsFor n (record c { fields = left_by a c.fields }) (acted (Exit 0 a) t b)
-    exits n c b t Reading l e alone s = record { version = s.version; left = let was = s.left in omega (arith, was); inside = leave_counts n c.fields b.inside t Reading l e alone s.inside; words = s.words }
-    exits n c b t Writing l e alone s = record { version = let was = s.version in omega (arith, was); left = refl; inside = leave_counts n c.fields b.inside t Writing l e alone s.inside; words = s.words }
+    exits : (n : ℕ) (c : Cell) (b : Object) (t : ℕ) (a : Access) → t < n → b.inside t ≡ Some a
+        → (a ≡ Writing → (u : ℕ) → u ≢ t → b.inside u ≡ None) → StandsFor n c b
+        → StandsFor n (record c { fields = left_by a c.fields }) (acted (Exit 0 a) t b)
+    exits n c b t Reading l e alone s = record { version = s.version; left = let was = s.left in omega (arith, was); inside =
+        leave_counts n c.fields b.inside t Reading l e alone s.inside; words = s.words }
+    exits n c b t Writing l e alone s = record { version = let was = s.version in omega (arith, was); left = refl; inside =
+        leave_counts n c.fields b.inside t Writing l e alone s.inside; words = s.words }
 
-    stores : (n : ℕ) (c : Cell) (b : Object) (t i v : ℕ) → length c.words ≡ 8 → i < 8 → StandsFor n c b → StandsFor n (record c { words = slice_set c.words i v }) (acted (Store 0 i v) t b)
+    stores : (n : ℕ) (c : Cell) (b : Object) (t i v : ℕ) → length c.words ≡ 8 → i < 8 → StandsFor n c b
+        → StandsFor n (record c { words = slice_set c.words i v }) (acted (Store 0 i v) t b)
     stores n c b t i v count l s = record {
       version = s.version;
       left = s.left;
       inside = s.inside;
       words = λ j k. elim (cases_eq j i) [
-        | inl e ↦ subst (λ z. slice_index (slice_set c.words i v) z ≡ upd b.words i v z) (sym e) (get_or-set_same c.words i v 0 (omega (arith, count, l)) ∙ sym (upd_same b.words i v))
+        | inl e ↦ subst (λ z. slice_index (slice_set c.words i v) z ≡ upd b.words i v z) (sym e)
+            (get_or-set_same c.words i v 0 (omega (arith, count, l)) ∙ sym (upd_same b.words i v))
         | inr ne ↦ get_or-set_other c.words i j v 0 ne ∙ s.words j k ∙ sym (upd_other b.words i j v ne)
       ];
     }

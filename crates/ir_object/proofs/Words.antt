@@ -11,7 +11,8 @@ even : (w : ℕ) → (fields_of w).writer ≡ false → w % 2 ≡ 0
 even w off = elim (cases_eq (w % 2) 1) [ inl is ↦ absurd (cc (sym (eq-eqb (w % 2) 1 is) ∙ off)) | inr ne ↦ omega (arith, ne) ]
 
 -- a reader enters, with room for one more
-pub read_entry_word : (w : ℕ) → Admitted Reading (fields_of w) → (fields_of w).inside + 1 < 2 ^ 7 → fields_of (w + 2) ≡ entered Reading (fields_of w)
+pub read_entry_word : (w : ℕ) → Admitted Reading (fields_of w) → (fields_of w).inside + 1 < 2 ^ 7
+    → fields_of (w + 2) ≡ entered Reading (fields_of w)
 read_entry_word w free room =
     let e = even w free in
     let version : (w + 2) / 2 ^ 32 ≡ w / 2 ^ 32 = omega (arith, e, room) in
@@ -32,7 +33,8 @@ write_entry_word w free =
     λ i. record { version = version i; left = left i; inside = inside i; writer = writer i == 1 }
 
 -- a reader who is inside leaves, with room for one more that has left; the sum doesn't pass 64 bits
-pub read_leave_word : (w : ℕ) → 0 < (fields_of w).inside → (fields_of w).left + 1 < 2 ^ 24 → (fields_of w).version < 2 ^ 31 → fields_of ((w + 254) % 2 ^ 64) ≡ left_by Reading (fields_of w)
+pub read_leave_word : (w : ℕ) → 0 < (fields_of w).inside → (fields_of w).left + 1 < 2 ^ 24 → (fields_of w).version < 2 ^ 31
+    → fields_of ((w + 254) % 2 ^ 64) ≡ left_by Reading (fields_of w)
 read_leave_word w inside_one room small =
     let version : (w + 254) % 2 ^ 64 / 2 ^ 32 ≡ w / 2 ^ 32 = omega (arith, small, room, inside_one) in
     let left : (w + 254) % 2 ^ 64 / 2 ^ 8 % 2 ^ 24 ≡ w / 2 ^ 8 % 2 ^ 24 + 1 = omega (arith, small, room, inside_one) in

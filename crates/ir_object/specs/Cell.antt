@@ -60,10 +60,15 @@ pub record StandsFor (n : ℕ) (c : Cell) (b : Object) : Type 0 where
 
 -- the word tells who may enter and leave, and the code's object goes on standing for the object after each step of a thread
 pub record WordsStand : Type 0 where
-  pub reads : (n : ℕ) (f : Fields) (inside : ℕ → Option Access) → Counts n f inside → Admitted Reading f ↔ ((u : ℕ) → inside u ≢ Some Writing)
+  pub reads : (n : ℕ) (f : Fields) (inside : ℕ → Option Access) → Counts n f inside
+      → Admitted Reading f ↔ ((u : ℕ) → inside u ≢ Some Writing)
   pub writes : (n : ℕ) (f : Fields) (inside : ℕ → Option Access) → Counts n f inside → Admitted Writing f ↔ ((u : ℕ) → inside u ≡ None)
-  pub leaves : (n : ℕ) (f : Fields) (inside : ℕ → Option Access) (t : ℕ) (a : Access) → t < n → inside t ≡ Some a → Counts n f inside → CanLeave a f
-  pub entry : (n : ℕ) (c : Cell) (b : Object) (t : ℕ) (a : Access) (v : ℕ) → t < n → b.inside t ≡ None → StandsFor n c b → StandsFor n (record c { fields = entered a c.fields }) (acted (Entry 0 a v) t b)
-  pub exit : (n : ℕ) (c : Cell) (b : Object) (t : ℕ) (a : Access) → t < n → b.inside t ≡ Some a → (a ≡ Writing → (u : ℕ) → u ≢ t → b.inside u ≡ None) → StandsFor n c b
+  pub leaves : (n : ℕ) (f : Fields) (inside : ℕ → Option Access) (t : ℕ) (a : Access) → t < n → inside t ≡ Some a → Counts n f inside
+      → CanLeave a f
+  pub entry : (n : ℕ) (c : Cell) (b : Object) (t : ℕ) (a : Access) (v : ℕ) → t < n → b.inside t ≡ None → StandsFor n c b
+      → StandsFor n (record c { fields = entered a c.fields }) (acted (Entry 0 a v) t b)
+  pub exit : (n : ℕ) (c : Cell) (b : Object) (t : ℕ) (a : Access) → t < n → b.inside t ≡ Some a
+      → (a ≡ Writing → (u : ℕ) → u ≢ t → b.inside u ≡ None) → StandsFor n c b
       → StandsFor n (record c { fields = left_by a c.fields }) (acted (Exit 0 a) t b)
-  pub store : (n : ℕ) (c : Cell) (b : Object) (t i v : ℕ) → length c.words ≡ 8 → i < 8 → StandsFor n c b → StandsFor n (record c { words = slice_set c.words i v }) (acted (Store 0 i v) t b)
+  pub store : (n : ℕ) (c : Cell) (b : Object) (t i v : ℕ) → length c.words ≡ 8 → i < 8 → StandsFor n c b
+      → StandsFor n (record c { words = slice_set c.words i v }) (acted (Store 0 i v) t b)

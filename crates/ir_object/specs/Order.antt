@@ -61,7 +61,8 @@ Uses (Load o j) i = (j < 8) × (i ≢ None)
 Uses (Store o j w) i = (j < 8) × (w < 2 ^ 32) × (i ≡ Some Writing)
 Uses Never i = ⊥
 
--- the object step is one of n threads' and of so many objects', its thread is inside as it has to be, it is admitted, and this is its answer
+-- the object step is one of n threads' and of so many objects', its thread is inside as it has to be, it is admitted, and this is its
+-- answer
 pub record IsStep {T : Type 0} (m : Machine T) (n count : ℕ) (f : ℕ → Object) (x : ℕ × Shared) : Type 0 where
   pub thread : x.0 < n
   pub object : target x.1.0 < count

@@ -20,8 +20,10 @@ use Rattle.ir_record.proofs.Running.{flat_few}
 use Rattle.ir_record.proofs.Logs.{tape_pushed, labels_pushed, labels_other, result_fits}
 
 -- there is the step
-pub answer_can : (f : Flat) (t value : ℕ) (kind : EnvKind) → ask_of f.code (thread_of f t) ≡ Env kind → is_result kind value ≡ true → Can (machine f) (tables f) (t, value)
-answer_can f t value kind is fits = subst (λ q. Admits (machine f) (act_of (shared_ask q) value) ((tables f).objects (target (act_of (shared_ask q) value)))) (sym is) fits
+pub answer_can : (f : Flat) (t value : ℕ) (kind : EnvKind) → ask_of f.code (thread_of f t) ≡ Env kind → is_result kind value ≡ true
+    → Can (machine f) (tables f) (t, value)
+answer_can f t value kind is fits = subst (λ q. Admits (machine f) (act_of (shared_ask q) value)
+    ((tables f).objects (target (act_of (shared_ask q) value)))) (sym is) fits
 
 pub answer_room : (f : Flat) (t : ℕ) (kind : EnvKind) → ask_of f.code (thread_of f t) ≡ Env kind → (thread_of f t).events < most_events
 answer_room f t kind is = (subst (Permits (thread_of f t)) is (ask_permits f.code (thread_of f t))).1
@@ -41,14 +43,18 @@ pub record Answering (f g : Flat) (logs more : List Logged) (t value : ℕ) (kin
   pub pushed : new ≡ record (log_at logs t) { events = (log_at logs t).events ++ event.Answer kind value ∷ [] }
   pub logged : more ≡ set logs t new
 
-pub answer_tape : (f g : Flat) (logs more : List Logged) (t value : ℕ) (kind : EnvKind) → Answering f g logs more t value kind → IsTape g more
+pub answer_tape : (f g : Flat) (logs more : List Logged) (t value : ℕ) (kind : EnvKind) → Answering f g logs more t value kind
+    → IsTape g more
 answer_tape f g logs more t value kind a =
-    subst (IsTape g) (sym a.logged) (tape_pushed f g logs t value (event.Answer kind value) a.new a.tape a.below a.taken a.threads a.objects (ap added a.asked) (result_fits kind value a.fits) a.pushed)
+    subst (IsTape g) (sym a.logged) (tape_pushed f g logs t value (event.Answer kind value) a.new a.tape a.below a.taken a.threads a.objects
+        (ap added a.asked) (result_fits kind value a.fits) a.pushed)
 
-pub answer_took : (f g : Flat) (logs more : List Logged) (t value : ℕ) (kind : EnvKind) → Answering f g logs more t value kind → (answers given : List (List Answered)) → t < length answers → given ≡ set answers t (answers_at answers t ++ (kind, value) ∷ [])
+pub answer_took : (f g : Flat) (logs more : List Logged) (t value : ℕ) (kind : EnvKind) → Answering f g logs more t value kind
+    → (answers given : List (List Answered)) → t < length answers → given ≡ set answers t (answers_at answers t ++ (kind, value) ∷ [])
     → TookIf true (t ∷ []) (record { flat = f; logs = logs; answers = answers }) (record { flat = g; logs = more; answers = given })
 answer_took f g logs more t value kind a answers given l e =
-    took_one t value (Answer kind value) (record { flat = f; logs = logs; answers = answers }) (record { flat = g; logs = more; answers = given }) (record {
+    took_one t value (Answer kind value) (record { flat = f; logs = logs; answers = answers })
+        (record { flat = g; logs = more; answers = given }) (record {
       below = a.below;
       few = flat_few f a.flat;
       can = answer_can f t value kind a.asked a.fits;
@@ -57,7 +63,8 @@ answer_took f g logs more t value kind a answers given l e =
       threads = a.threads;
       objects = a.objects;
       tells = ap (λ q. told (act_of (shared_ask q) value) ((tables f).objects (target (act_of (shared_ask q) value)))) a.asked;
-      own_log = subst (λ z. labels_at z t ≡ labels_at logs t ++ Answer kind value ∷ []) (sym a.logged) (labels_pushed logs t (event.Answer kind value) a.new (omega (arith, a.below, a.tape.one_each)) a.pushed);
+      own_log = subst (λ z. labels_at z t ≡ labels_at logs t ++ Answer kind value ∷ []) (sym a.logged)
+          (labels_pushed logs t (event.Answer kind value) a.new (omega (arith, a.below, a.tape.one_each)) a.pushed);
       own_answers = ap (λ z. answers_at z t) e ∙ get_or-set_same answers t (answers_at answers t ++ (kind, value) ∷ []) [] l;
       other_logs = λ u ne. subst (λ z. labels_at z u ≡ labels_at logs u) (sym a.logged) (labels_other logs t u a.new ne);
       other_answers = λ u ne. ap (λ z. answers_at z u) e ∙ get_or-set_other answers t u (answers_at answers t ++ (kind, value) ∷ []) [] ne;

@@ -6,21 +6,28 @@ use Rattle.ir_record.specs.Worlds.{Answered, NoneFailed, IsFirstFailed, Extends}
 use Rattle.ir_record.specs.Progress.{answers_at}
 
 -- a world that is asked has not failed
-pub works_at : {W : Type 0} (broken : W → Bool) (worlds : List W) (t : ℕ) (w : W) → NoneFailed (map broken worlds) → t < length worlds → w ≡ get_or worlds t w → broken w ≡ false
+pub works_at : {W : Type 0} (broken : W → Bool) (worlds : List W) (t : ℕ) (w : W) → NoneFailed (map broken worlds) → t < length worlds
+    → w ≡ get_or worlds t w → broken w ≡ false
 works_at broken worlds t w works l e = ap broken e ∙ sym (get_or-map broken worlds t w false l) ∙ works t
 
-pub gained_at : {W : Type 0} (answers : W → List Answered) (worlds : List W) (t : ℕ) (w new : W) (given : Answered) → t < length worlds → w ≡ get_or worlds t w → answers new ≡ answers w ++ given ∷ []
+pub gained_at : {W : Type 0} (answers : W → List Answered) (worlds : List W) (t : ℕ) (w new : W) (given : Answered) → t < length worlds
+    → w ≡ get_or worlds t w → answers new ≡ answers w ++ given ∷ []
     → map answers (set worlds t new) ≡ set (map answers worlds) t (answers_at (map answers worlds) t ++ given ∷ [])
 gained_at answers worlds t w new given l e h =
-    map-set answers worlds t new ∙ ap (set (map answers worlds) t) (h ∙ ap (λ z. z ++ given ∷ []) (ap answers e ∙ sym (get_or-map answers worlds t w [] l)))
+    map-set answers worlds t new ∙ ap (set (map answers worlds) t)
+        (h ∙ ap (λ z. z ++ given ∷ []) (ap answers e ∙ sym (get_or-map answers worlds t w [] l)))
 
-pub still_works : {W : Type 0} (broken : W → Bool) (worlds : List W) (t : ℕ) (new : W) → NoneFailed (map broken worlds) → t < length worlds → broken new ≡ false → NoneFailed (map broken (set worlds t new))
-still_works broken worlds t new works l h u = subst (λ z. get_or z u false ≡ false) (sym (map-set broken worlds t new)) (elim (cases_eq u t) [
-  | inl e ↦ ap (λ z. get_or (set (map broken worlds) t (broken new)) z false) e ∙ get_or-set_same (map broken worlds) t (broken new) false (let n = length-map worlds broken in omega (arith, n, l)) ∙ h
+pub still_works : {W : Type 0} (broken : W → Bool) (worlds : List W) (t : ℕ) (new : W) → NoneFailed (map broken worlds) → t < length worlds
+    → broken new ≡ false → NoneFailed (map broken (set worlds t new))
+still_works broken worlds t new works l h u = subst (λ z. get_or z u false ≡ false) (sym (map-set broken worlds t new))
+    (elim (cases_eq u t) [
+  | inl e ↦ ap (λ z. get_or (set (map broken worlds) t (broken new)) z false) e
+      ∙ get_or-set_same (map broken worlds) t (broken new) false (let n = length-map worlds broken in omega (arith, n, l)) ∙ h
   | inr ne ↦ get_or-set_other (map broken worlds) t u (broken new) false ne ∙ works u
 ])
 
-pub first_failed : {W : Type 0} (broken : W → Bool) (worlds : List W) (t : ℕ) (new : W) → NoneFailed (map broken worlds) → t < length worlds → broken new ≡ true → IsFirstFailed (map broken (set worlds t new)) t
+pub first_failed : {W : Type 0} (broken : W → Bool) (worlds : List W) (t : ℕ) (new : W) → NoneFailed (map broken worlds) → t < length worlds
+    → broken new ≡ true → IsFirstFailed (map broken (set worlds t new)) t
 first_failed broken worlds t new works l h = subst (λ z. IsFirstFailed z t) (sym (map-set broken worlds t new)) (
   get_or-set_same (map broken worlds) t (broken new) false (let n = length-map worlds broken in omega (arith, n, l)) ∙ h,
   λ u below. get_or-set_other (map broken worlds) t u (broken new) false (λ e. omega (arith, e, below)) ∙ works u,
@@ -33,7 +40,8 @@ extends_same a = record { worlds = refl; more = λ t. ([], sym (append-nil (get_
 pub extends_both : (a b c : List (List Answered)) → Extends a b → Extends b c → Extends a c
 extends_both a b c p q = record {
   worlds = q.worlds ∙ p.worlds;
-  more = λ t. ((p.more t).0 ++ (q.more t).0, (q.more t).1 ∙ ap (λ z. z ++ (q.more t).0) (p.more t).1 ∙ append_assoc (get_or a t []) (p.more t).0 (q.more t).0);
+  more = λ t. ((p.more t).0 ++ (q.more t).0, (q.more t).1 ∙ ap (λ z. z ++ (q.more t).0) (p.more t).1
+      ∙ append_assoc (get_or a t []) (p.more t).0 (q.more t).0);
 }
 
 -- one world has answered so many more
@@ -42,7 +50,8 @@ extends_at a t added = record {
   worlds = length-set a t (get_or a t [] ++ added);
   more = λ u. elim (cases_eq u t) [
     | inl e ↦ elim (cases_lt t (length a)) [
-      | inl l ↦ (added, subst (λ z. get_or (set a t (get_or a t [] ++ added)) z [] ≡ get_or a z [] ++ added) (sym e) (get_or-set_same a t (get_or a t [] ++ added) [] l))
+      | inl l ↦ (added, subst (λ z. get_or (set a t (get_or a t [] ++ added)) z [] ≡ get_or a z [] ++ added) (sym e)
+          (get_or-set_same a t (get_or a t [] ++ added) [] l))
       | inr past ↦ ([], ap (λ z. get_or z u []) (set_past a t (get_or a t [] ++ added) past) ∙ sym (append-nil (get_or a u [])))
     ]
     | inr ne ↦ ([], get_or-set_other a t u (get_or a t [] ++ added) [] ne ∙ sym (append-nil (get_or a u [])))
@@ -54,13 +63,17 @@ extends_at a t added = record {
     set_past (y ∷ xs) zero x l = absurd (omega arith)
     set_past (y ∷ xs) (suc i) x l = ap (λ z. y ∷ z) (set_past xs i x (omega arith))
 
-pub asked_extends : {W : Type 0} (answers : W → List Answered) (worlds : List W) (t : ℕ) (w new : W) (added : List Answered) → t < length worlds → w ≡ get_or worlds t w → answers new ≡ answers w ++ added → Extends (map answers worlds) (map answers (set worlds t new))
+pub asked_extends : {W : Type 0} (answers : W → List Answered) (worlds : List W) (t : ℕ) (w new : W) (added : List Answered)
+    → t < length worlds → w ≡ get_or worlds t w → answers new ≡ answers w ++ added
+    → Extends (map answers worlds) (map answers (set worlds t new))
 asked_extends answers worlds t w new added l e h =
-    subst (Extends (map answers worlds)) (sym (map-set answers worlds t new ∙ ap (set (map answers worlds) t) (h ∙ ap (λ z. z ++ added) (ap answers e ∙ sym (get_or-map answers worlds t w [] l)))))
+    subst (Extends (map answers worlds)) (sym (map-set answers worlds t new
+        ∙ ap (set (map answers worlds) t) (h ∙ ap (λ z. z ++ added) (ap answers e ∙ sym (get_or-map answers worlds t w [] l)))))
     (extends_at (map answers worlds) t added)
 
 -- one world more that has not failed
-pub one_more_works : {W : Type 0} (broken : W → Bool) (worlds new : List W) (w : W) → NoneFailed (map broken worlds) → new ≡ worlds ++ w ∷ [] → broken w ≡ false → NoneFailed (map broken new)
+pub one_more_works : {W : Type 0} (broken : W → Bool) (worlds new : List W) (w : W) → NoneFailed (map broken worlds) → new ≡ worlds ++ w
+    ∷ [] → broken w ≡ false → NoneFailed (map broken new)
 one_more_works {W} broken worlds new w works e h t = ap (λ z. get_or (map broken z) t false) e ∙ go worlds t (works t)
   where
     go : (xs : List W) (t : ℕ) → get_or (map broken xs) t false ≡ false → get_or (map broken (xs ++ w ∷ [])) t false ≡ false
@@ -70,10 +83,12 @@ one_more_works {W} broken worlds new w works e h t = ap (λ z. get_or (map broke
     go (x ∷ xs) (suc t) k = go xs t k
 
 pub one_more_long : {W : Type 0} (worlds new : List W) (w : W) (n : ℕ) → length worlds ≡ n → new ≡ worlds ++ w ∷ [] → length new ≡ n + 1
-one_more_long worlds new w n h e = let k = length-append worlds (w ∷ []) in let m : length new ≡ length (worlds ++ w ∷ []) = ap (λ xs. length xs) e in omega (arith, h, k, m)
+one_more_long worlds new w n h e = let k = length-append worlds (w ∷ []) in let m : length new ≡ length (worlds ++ w ∷ []) =
+    ap (λ xs. length xs) e in omega (arith, h, k, m)
 
 -- a world that is as before, seen by a function
-pub same_at : {W B : Type 0} (f : W → B) (worlds : List W) (t : ℕ) (w new : W) → w ≡ get_or worlds t w → f new ≡ f w → map f (set worlds t new) ≡ map f worlds
+pub same_at : {W B : Type 0} (f : W → B) (worlds : List W) (t : ℕ) (w new : W) → w ≡ get_or worlds t w → f new ≡ f w
+    → map f (set worlds t new) ≡ map f worlds
 same_at f [] t w new e h = refl
 same_at f (x ∷ worlds) zero w new e h = ap (λ z. z ∷ map f worlds) (h ∙ ap f e)
 same_at f (x ∷ worlds) (suc t) w new e h = ap (λ z. f x ∷ z) (same_at f worlds t w new e h)

@@ -6,5 +6,7 @@ use Rattle.ir_record.specs.Recording.{IsRecordingOfSome, IsRecording}
 use Rattle.ir_record.specs.Worlds.{Answered}
 
 -- a recording by an order is one of some run
-pub of_some : (guest : Guest) (budget : ℕ) (order : List ℕ) (before : List (List Answered)) (trace : Recorded) (outputs : List (List ℕ)) (answers : List (List Answered)) → IsRecording guest budget order before trace outputs answers → IsRecordingOfSome guest budget before trace outputs answers
+pub of_some : (guest : Guest) (budget : ℕ) (order : List ℕ) (before : List (List Answered)) (trace : Recorded) (outputs : List (List ℕ))
+    (answers : List (List Answered)) → IsRecording guest budget order before trace outputs answers
+    → IsRecordingOfSome guest budget before trace outputs answers
 of_some guest budget order before trace outputs answers r = record { run = r.run; of = r.of }

@@ -36,10 +36,12 @@ use Rattle.ir_record.proofs.Telling.{StandAtEnd, told_there, printed_there, answ
 
 -- ---- the start
 
-thread_at : (g : Guest) (budget from n t : ℕ) → t < n → get_or (start_threads g budget from n) t idle ≡ thread.start_state g (from + t) budget
+thread_at : (g : Guest) (budget from n t : ℕ) → t < n
+    → get_or (start_threads g budget from n) t idle ≡ thread.start_state g (from + t) budget
 thread_at g budget from zero t l = absurd (omega arith)
 thread_at g budget from (suc n) zero l = ap (λ z. thread.start_state g z budget) (let e : from ≡ from + 0 = omega arith in e)
-thread_at g budget from (suc n) (suc t) l = thread_at g budget (suc from) n t (omega (arith, l)) ∙ ap (λ z. thread.start_state g z budget) (let e : suc from + t ≡ from + suc t = omega arith in e)
+thread_at g budget from (suc n) (suc t) l = thread_at g budget (suc from) n t (omega (arith, l))
+    ∙ ap (λ z. thread.start_state g z budget) (let e : suc from + t ≡ from + suc t = omega arith in e)
 
 drop_nil : (k : ℕ) → drop {A = ℕ} k [] ≡ []
 drop_nil zero = refl
@@ -59,9 +61,11 @@ drop_all (suc k) (w ∷ ws) l = drop_all k ws (omega (arith, l))
 words_at : (ws : List ℕ) (n o : ℕ) → o < n → (get_or (start_cells ws n) o empty).words ≡ take 8 (drop (8 * o) ws)
 words_at ws zero o l = absurd (omega arith)
 words_at ws (suc n) zero l = refl
-words_at ws (suc n) (suc o) l = words_at (drop 8 ws) n o (omega (arith, l)) ∙ ap (take 8) (drop_twice 8 (8 * o) ws ∙ ap (λ k. drop k ws) (let e : 8 + 8 * o ≡ 8 * suc o = omega arith in e))
+words_at ws (suc n) (suc o) l = words_at (drop 8 ws) n o (omega (arith, l))
+    ∙ ap (take 8) (drop_twice 8 (8 * o) ws ∙ ap (λ k. drop k ws) (let e : 8 + 8 * o ≡ 8 * suc o = omega arith in e))
 
-fields_none : (ws : List ℕ) (n o : ℕ) → (get_or (start_cells ws n) o empty).fields ≡ record { version = 0; left = 0; inside = 0; writer = false }
+fields_none : (ws : List ℕ) (n o : ℕ) → (get_or (start_cells ws n) o empty).fields ≡
+    record { version = 0; left = 0; inside = 0; writer = false }
 fields_none ws zero o = refl
 fields_none ws (suc n) zero = refl
 fields_none ws (suc n) (suc o) = fields_none (drop 8 ws) n o
@@ -84,8 +88,10 @@ objects_same g budget guest = fun_ext (λ o. let c = cell_of (start_flat g budge
     contents : (o : ℕ) → (cell_of (start_flat g budget) o).words ≡ take object_words (drop (object_words * o) g.words)
     contents o = elim (cases_lt o (object_count g)) [
       | inl l ↦ words_at g.words (object_count g) o l
-      | inr past ↦ ap (λ c. c.words) (get_or_past (start_cells g.words (object_count g)) o empty (let n = cells_count g.words (object_count g) in omega (arith, n, past)))
-          ∙ sym (ap (take object_words) (drop_all (object_words * o) g.words (let whole = guest.whole_objects in omega (arith, whole, past))))
+      | inr past ↦ ap (λ c. c.words) (get_or_past (start_cells g.words (object_count g)) o empty
+          (let n = cells_count g.words (object_count g) in omega (arith, n, past)))
+          ∙ sym (ap (take object_words) (drop_all (object_words * o) g.words
+          (let whole = guest.whole_objects in omega (arith, whole, past))))
     ]
 
 -- ---- the workers at the end
@@ -109,7 +115,8 @@ tracks_right : (g : Guest) (es : List (ℕ × Shared)) (v w : View) → AreTrack
 tracks_right g es [] w h = h
 tracks_right g es (k ∷ v) w h = tracks_right g es v w h.1
 
-tracks_at : (g : Guest) (es : List (ℕ × Shared)) (ws : List Work) (t : ℕ) → t < length ws → AreTracks g es (tracks_of ws) → AreTracks g es (work_at ws t).me.0
+tracks_at : (g : Guest) (es : List (ℕ × Shared)) (ws : List Work) (t : ℕ) → t < length ws → AreTracks g es (tracks_of ws)
+    → AreTracks g es (work_at ws t).me.0
 tracks_at g es [] t l h = absurd (omega arith)
 tracks_at g es (w ∷ ws) zero l h = tracks_left g es w.me.0 (tracks_of ws) h
 tracks_at g es (w ∷ ws) (suc t) l h = tracks_at g es ws t (omega (arith, l)) (tracks_right g es w.me.0 (tracks_of ws) h)
@@ -128,16 +135,21 @@ record Part (g : Guest) (budget : ℕ) (ws : List Work) (es : List (ℕ × Share
   steps_are : shared_steps (thread_machine g.code) (thread_of (start_flat g budget) t) replies ≡ of_thread t es
   none : length g.entries ≤ t → replies ≡ []
   done : shared_ask (ask_of g.code (alone_after (thread_machine g.code) (thread_of (start_flat g budget) t) replies)) ≡ machine.Done
-  threads_are : t < length g.entries → alone_after (thread_machine g.code) (thread_of (start_flat g budget) t) replies ≡ (work_at ws t).thread
-  logged : t < length g.entries → events (alone_trail (thread_machine g.code) (thread_of (start_flat g budget) t) replies (of_thread t (order_labels (start_objects g) es))) ≡ map logging.label_of (work_at ws t).log.events
+  threads_are : t < length g.entries → alone_after (thread_machine g.code) (thread_of (start_flat g budget) t) replies ≡
+      (work_at ws t).thread
+  logged : t < length g.entries → events (alone_trail (thread_machine g.code) (thread_of (start_flat g budget) t) replies
+      (of_thread t (order_labels (start_objects g) es))) ≡ map logging.label_of (work_at ws t).log.events
 
-part : (g : Guest) (budget : ℕ) (before : List (List Answered)) (ws : List Work) (v : View) (objects : List Cell) → AllOver g budget before ws → (e : IsEnd g v objects) → v ≡ tracks_of ws → (t : ℕ) → Part g budget ws e.steps t
+part : (g : Guest) (budget : ℕ) (before : List (List Answered)) (ws : List Work) (v : View) (objects : List Cell)
+    → AllOver g budget before ws → (e : IsEnd g v objects) → v ≡ tracks_of ws → (t : ℕ) → Part g budget ws e.steps t
 part g budget before ws v objects over e view t = elim (cases_lt t (length g.entries)) [
   | inl l ↦
       let i = over.working t l in
-      let x0 : thread_of (start_flat g budget) t ≡ thread.start_state g t budget = thread_at g budget 0 (length g.entries) t l ∙ ap (λ z. thread.start_state g z budget) (let z : 0 + t ≡ t = omega arith in z) in
+      let x0 : thread_of (start_flat g budget) t ≡ thread.start_state g t budget = thread_at g budget 0 (length g.entries) t l
+          ∙ ap (λ z. thread.start_state g z budget) (let z : 0 + t ≡ t = omega arith in z) in
       let track : IsTrack (length g.entries) (start_objects g) e.steps (record { thread = t; steps = i.track }) =
-      (subst (AreTracks g e.steps) (ap (λ (z : M). z.0) i.view) (tracks_at g e.steps ws t (let n = over.size in omega (arith, n, l)) (subst (AreTracks g e.steps) view e.tracks))).0 in
+      (subst (AreTracks g e.steps) (ap (λ (z : M). z.0) i.view)
+          (tracks_at g e.steps ws t (let n = over.size in omega (arith, n, l)) (subst (AreTracks g e.steps) view e.tracks))).0 in
       let m = thread_machine g.code in
       let w = i.worked in
       record {
@@ -145,9 +157,11 @@ part g budget before ws v objects over e view t = elim (cases_lt t (length g.ent
         may = subst (λ x. MayRun m x w.replies) (sym x0) w.may;
         steps_are = ap (λ x. shared_steps m x w.replies) x0 ∙ w.steps_are ∙ sym track.steps_are;
         none = λ past. absurd (omega (arith, past, l));
-        done = ap (λ x. shared_ask (ask_of g.code (alone_after m x w.replies))) x0 ∙ ap (λ x. shared_ask (ask_of g.code x)) w.now ∙ ap shared_ask (over.done t l);
+        done = ap (λ x. shared_ask (ask_of g.code (alone_after m x w.replies))) x0 ∙ ap (λ x. shared_ask (ask_of g.code x)) w.now
+            ∙ ap shared_ask (over.done t l);
         threads_are = λ _. ap (λ x. alone_after m x w.replies) x0 ∙ w.now;
-        logged = λ _. ap (λ x. events (alone_trail m x w.replies (of_thread t (order_labels (start_objects g) e.steps)))) x0 ∙ ap (λ z. events (alone_trail m (thread.start_state g t budget) w.replies z)) track.labels_are ∙ w.logged;
+        logged = λ _. ap (λ x. events (alone_trail m x w.replies (of_thread t (order_labels (start_objects g) e.steps)))) x0
+            ∙ ap (λ z. events (alone_trail m (thread.start_state g t budget) w.replies z)) track.labels_are ∙ w.logged;
       }
   | inr past ↦ record {
     replies = [];
@@ -162,9 +176,12 @@ part g budget before ws v objects over e view t = elim (cases_lt t (length g.ent
 
 -- ---- the run
 
-pub recorded_of : (g : Guest) (budget : ℕ) (before : List (List Answered)) (ws : List Work) (v : View) (objects : List Cell) → AllOver g budget before ws → (e : IsEnd g v objects) → v ≡ tracks_of ws
-    → (trace : Recorded) → trace.objects ≡ object_count g → trace.budget ≡ budget → length trace.threads ≡ length g.entries → ((t : ℕ) → t < length g.entries → IsThreadTrace (work_at ws t).thread (work_at ws t).log (get_or trace.threads t absent))
-    → (outputs : List (List ℕ)) → outputs ≡ map (λ w. w.thread.output) ws → (answers : List (List Answered)) → answers ≡ map (λ w. w.answers) ws → IsRecordingOfSome g budget before trace outputs answers
+pub recorded_of : (g : Guest) (budget : ℕ) (before : List (List Answered)) (ws : List Work) (v : View) (objects : List Cell)
+    → AllOver g budget before ws → (e : IsEnd g v objects) → v ≡ tracks_of ws
+    → (trace : Recorded) → trace.objects ≡ object_count g → trace.budget ≡ budget → length trace.threads ≡ length g.entries
+    → ((t : ℕ) → t < length g.entries → IsThreadTrace (work_at ws t).thread (work_at ws t).log (get_or trace.threads t absent))
+    → (outputs : List (List ℕ)) → outputs ≡ map (λ w. w.thread.output) ws → (answers : List (List Answered))
+    → answers ≡ map (λ w. w.answers) ws → IsRecordingOfSome g budget before trace outputs answers
 recorded_of g budget before ws v objects over e view trace counted limit all traces outputs printed answers given =
     let m : Machine thread.State = thread_machine g.code in
     let f : Flat = start_flat g budget in
@@ -179,7 +196,8 @@ recorded_of g budget before ws v objects over e view trace counted limit all tra
     let logs : ℕ → Logged = λ t. (work_at ws t).log in
     let told : ℕ → List Answered = λ t. (work_at ws t).answers in
     let own_log : (t : ℕ) → t < length g.entries → map logging.label_of (logs t).events ≡ log m s run t = λ t l.
-    sym (ap events (k.trails t) ∙ ap (λ z. events (alone_trail m (s.now t) (rs t) (of_thread t (order_labels z e.steps)))) same ∙ (p t).logged l) in
+    sym (ap events (k.trails t) ∙ ap (λ z. events (alone_trail m (s.now t) (rs t) (of_thread t (order_labels z e.steps)))) same
+        ∙ (p t).logged l) in
     let stand : StandAtEnd g budget run before now logs told = record {
       runs = k.ok;
       threads = λ t l. sym (k.threads t ∙ (p t).threads_are l);
@@ -190,12 +208,15 @@ recorded_of g budget before ws v objects over e view trace counted limit all tra
     record {
       run = run;
       of = record {
-        told = told_there g budget run before now logs told stand (λ t. ap (λ x. shared_ask (ask_of g.code x)) (k.threads t) ∙ (p t).done) trace counted limit all traces;
+        told = told_there g budget run before now logs told stand (λ t. ap (λ x. shared_ask (ask_of g.code x)) (k.threads t) ∙ (p t).done)
+            trace counted limit all traces;
         printed = printed_there g budget run before now logs told stand outputs
             (ap (λ z. length z) printed ∙ length-map ws (λ w. w.thread.output) ∙ size)
-            (λ t l. ap (λ z. slice_get z t) printed ∙ slice_get-map (λ w. w.thread.output) ws t ∙ ap (option_map (λ w. w.thread.output)) (slice_get-get_or ws t no_work (omega (arith, l, size))));
+            (λ t l. ap (λ z. slice_get z t) printed ∙ slice_get-map (λ w. w.thread.output) ws t
+                ∙ ap (option_map (λ w. w.thread.output)) (slice_get-get_or ws t no_work (omega (arith, l, size))));
         answered = answered_there g budget run before now logs told stand answers
             (ap (λ z. length z) given ∙ length-map ws (λ w. w.answers) ∙ size)
-            (λ t l. ap (λ z. slice_get z t) given ∙ slice_get-map (λ w. w.answers) ws t ∙ ap (option_map (λ w. w.answers)) (slice_get-get_or ws t no_work (omega (arith, l, size))));
+            (λ t l. ap (λ z. slice_get z t) given ∙ slice_get-map (λ w. w.answers) ws t
+                ∙ ap (option_map (λ w. w.answers)) (slice_get-get_or ws t no_work (omega (arith, l, size))));
       };
     }

@@ -25,11 +25,13 @@ use Rattle.ir_record.proofs.Working.{worked_starts}
 
 -- ---- before the first step
 
-new_working : {W : Type 0} (answers : W → List Answered) (g : Guest) (budget t : ℕ) (id : TableId) (w : Worker W) → IsNew g budget id t w → IsWorking g budget t (answers w.world) (work_of answers w)
+new_working : {W : Type 0} (answers : W → List Answered) (g : Guest) (budget t : ℕ) (id : TableId) (w : Worker W) → IsNew g budget id t w
+    → IsWorking g budget t (answers w.world) (work_of answers w)
 new_working answers g budget t id w new = record {
   track = [];
   view = new.me;
-  worked = subst (λ (z : thread.State × Logged). Rattle.ir_record.specs.Working.Worked (thread_machine g.code) (thread.start_state g t budget) z.0 [] [] (map Rattle.ir_log.specs.Logging.label_of z.1.events))
+  worked = subst (λ (z : thread.State × Logged). Rattle.ir_record.specs.Working.Worked (thread_machine g.code)
+      (thread.start_state g t budget) z.0 [] [] (map Rattle.ir_log.specs.Logging.label_of z.1.events))
       (λ i. (sym new.thread i, sym new.log i)) (worked_starts (thread_machine g.code) (thread.start_state g t budget));
   held = λ o. sym (ap (λ x. held_at x.held o) new.thread ∙ none o);
   places = ap (λ x. length x.held) new.thread ∙ length-replicate (object_count g) None;
@@ -37,7 +39,8 @@ new_working answers g budget t id w new = record {
   room = ap (λ l. l.room) new.log;
   count = ap (λ l. length l.events) new.log ∙ sym (ap (λ x. x.events) new.thread);
   events_fit = subst (λ l. AllByRecursion (Rattle.ir_trace.specs.Recorded.IsEvent (object_count g)) l.events) (sym new.log) tt;
-  answered = sym (ap (λ l. answers w.world ++ Rattle.ir_record.specs.Worlds.answers_in (map Rattle.ir_log.specs.Logging.label_of l.events)) new.log ∙ append-nil (answers w.world));
+  answered = sym (ap (λ l. answers w.world ++ Rattle.ir_record.specs.Worlds.answers_in (map Rattle.ir_log.specs.Logging.label_of l.events))
+      new.log ∙ append-nil (answers w.world));
 }
   where
     none : (o : ℕ) → held_at (replicate (object_count g) None) o ≡ None
@@ -48,15 +51,18 @@ new_working answers g budget t id w new = record {
         go (suc n) zero = refl
         go (suc n) (suc o) = go n o
 
-pub ready : {W : Type 0} (answers : W → List Answered) (broken : W → Bool) (g : Guest) (budget t : ℕ) (id : TableId) (ws : List (Worker W)) (worlds : List W) → AreNew g budget id t ws → map (λ w. w.world) ws ≡ worlds → NoneFailed (map broken worlds)
+pub ready : {W : Type 0} (answers : W → List Answered) (broken : W → Bool) (g : Guest) (budget t : ℕ) (id : TableId) (ws : List (Worker W))
+    (worlds : List W) → AreNew g budget id t ws → map (λ w. w.world) ws ≡ worlds → NoneFailed (map broken worlds)
     → (k : ℕ) (d : Worker W) → k < length ws → IsReadyWorker answers broken g id g.code (get_or ws k d)
 ready answers broken g budget t id [] worlds new e works k d l = absurd (omega arith)
 ready answers broken g budget t id (w ∷ ws) worlds new e works zero d l = record {
-  seated = record { seat = new.0.table; same_code = refl; worker = (budget, t, answers w.world, new_working answers g budget t id w new.0) };
+  seated = record { seat = new.0.table; same_code = refl; worker =
+      (budget, t, answers w.world, new_working answers g budget t id w new.0) };
   works = ap (λ z. get_or (map broken z) 0 false) e ∙ works 0;
 }
 ready answers broken g budget t id (w ∷ ws) worlds new e works (suc k) d l =
-    ready answers broken g budget (suc t) id ws (map (λ z. z.world) ws) new.1 refl (λ u. ap (λ z. get_or (map broken z) (suc u) false) e ∙ works (suc u)) k d (omega (arith, l))
+    ready answers broken g budget (suc t) id ws (map (λ z. z.world) ws) new.1
+        refl (λ u. ap (λ z. get_or (map broken z) (suc u) false) e ∙ works (suc u)) k d (omega (arith, l))
 
 -- ---- after the last
 
@@ -75,25 +81,31 @@ module _ {W O : Type 0} (answers : W → List Answered) (broken : W → Bool) (o
   R = RanToEnd answers broken origin g
 
   pub at_end : (t : ℕ) (vs ws : List (Worker W)) → AreNew g budget id t vs → Pairs R vs ws → NoneBroken broken ws → (k : ℕ) → k < length vs
-      → IsWorking g budget (t + k) (answers_at (map answers (map (λ w. w.world) vs)) k) (work_at (map (work_of answers) ws) k) × (ask_of g.code (work_at (map (work_of answers) ws) k).thread ≡ ask.Done)
+      → IsWorking g budget (t + k) (answers_at (map answers (map (λ w. w.world) vs)) k) (work_at (map (work_of answers) ws) k)
+      × (ask_of g.code (work_at (map (work_of answers) ws) k).thread ≡ ask.Done)
   at_end t [] ws new p works k l = absurd (omega arith)
   at_end t (v ∷ vs) [] new p works k l = absurd p
   at_end t (v ∷ vs) (w ∷ ws) new p works zero l =
-      (subst (λ z. IsWorking g budget z (answers v.world) (work_of answers w)) (let e : t ≡ t + 0 = omega arith in e) ((p.0.stays (works 0)).still budget t (answers v.world) (new_working answers g budget t id v new.0)), p.0.done (works 0))
+      (subst (λ z. IsWorking g budget z (answers v.world) (work_of answers w)) (let e : t ≡ t + 0 = omega arith in e)
+          ((p.0.stays (works 0)).still budget t (answers v.world) (new_working answers g budget t id v new.0)), p.0.done (works 0))
   at_end t (v ∷ vs) (w ∷ ws) new p works (suc k) l =
       let r = at_end (suc t) vs ws new.1 p.1 (λ u. works (suc u)) k (omega (arith, l)) in
-      (subst (λ z. IsWorking g budget z (answers_at (map answers (map (λ w. w.world) vs)) k) (work_at (map (work_of answers) ws) k)) (let e : suc t + k ≡ t + suc k = omega arith in e) r.0, r.1)
+      (subst (λ z. IsWorking g budget z (answers_at (map answers (map (λ w. w.world) vs)) k) (work_at (map (work_of answers) ws) k))
+          (let e : suc t + k ≡ t + suc k = omega arith in e) r.0, r.1)
 
   -- the seats, and what is gathered
-  pub seats_end : (t : ℕ) (vs ws : List (Worker W)) → AreNew g budget id t vs → Pairs R vs ws → NoneBroken broken ws → AllByRecursion (IsSeatOf id) (map (λ w. w.seat) ws)
+  pub seats_end : (t : ℕ) (vs ws : List (Worker W)) → AreNew g budget id t vs → Pairs R vs ws → NoneBroken broken ws
+      → AllByRecursion (IsSeatOf id) (map (λ w. w.seat) ws)
   seats_end t [] [] new p works = tt
   seats_end t [] (w ∷ ws) new p works = absurd p
   seats_end t (v ∷ vs) [] new p works = tt
   seats_end t (v ∷ vs) (w ∷ ws) new p works =
       let i = (p.0.stays (works 0)).still budget t (answers v.world) (new_working answers g budget t id v new.0) in
-      (record { table = (p.0.stays (works 0)).seat ∙ new.0.table; empty = ap (λ (z : M). z.1) i.view }, seats_end (suc t) vs ws new.1 p.1 (λ u. works (suc u)))
+      (record { table = (p.0.stays (works 0)).seat ∙ new.0.table; empty = ap (λ (z : M). z.1) i.view }, seats_end (suc t) vs ws new.1 p.1
+          (λ u. works (suc u)))
 
-  pub over_end : (objects t : ℕ) (vs ws : List (Worker W)) → objects ≡ object_count g → AreNew g budget id t vs → Pairs R vs ws → NoneBroken broken ws → AllByRecursion (IsOver objects) ws
+  pub over_end : (objects t : ℕ) (vs ws : List (Worker W)) → objects ≡ object_count g → AreNew g budget id t vs → Pairs R vs ws
+      → NoneBroken broken ws → AllByRecursion (IsOver objects) ws
   over_end objects t [] [] n new p works = tt
   over_end objects t [] (w ∷ ws) n new p works = absurd p
   over_end objects t (v ∷ vs) [] n new p works = tt
@@ -106,14 +118,18 @@ module _ {W O : Type 0} (answers : W → List Answered) (broken : W → Bool) (o
         over_end objects (suc t) vs ws n new.1 p.1 (λ u. works (suc u)),
       )
 
-  pub kept_end : (vs ws : List (Worker W)) → Pairs R vs ws → Extends (map answers (map (λ w. w.world) vs)) (map answers (map (λ w. w.world) ws))
+  pub kept_end : (vs ws : List (Worker W)) → Pairs R vs ws
+      → Extends (map answers (map (λ w. w.world) vs)) (map answers (map (λ w. w.world) ws))
   kept_end [] [] p = record { worlds = refl; more = λ t. ([], refl) }
   kept_end [] (w ∷ ws) p = absurd p
   kept_end (v ∷ vs) [] p = absurd p
   kept_end (v ∷ vs) (w ∷ ws) p = let r = kept_end vs ws p.1 in record { worlds = ap suc r.worlds; more = λ t. by t p.0.world.more r.more }
     where
-      by : (t : ℕ) → ((more : List Answered) × (answers w.world ≡ answers v.world ++ more)) → ((u : ℕ) → (added : List Answered) × (get_or (map answers (map (λ w. w.world) ws)) u [] ≡ get_or (map answers (map (λ w. w.world) vs)) u [] ++ added))
-          → (added : List Answered) × (get_or (map answers (map (λ w. w.world) (w ∷ ws))) t [] ≡ get_or (map answers (map (λ w. w.world) (v ∷ vs))) t [] ++ added)
+      by : (t : ℕ) → ((more : List Answered) × (answers w.world ≡ answers v.world ++ more))
+          → ((u : ℕ) → (added : List Answered)
+          × (get_or (map answers (map (λ w. w.world) ws)) u [] ≡ get_or (map answers (map (λ w. w.world) vs)) u [] ++ added))
+          → (added : List Answered) × (get_or (map answers (map (λ w. w.world) (w ∷ ws))) t [] ≡ get_or
+          (map answers (map (λ w. w.world) (v ∷ vs))) t [] ++ added)
       by zero h r = h
       by (suc t) h r = r t
 
@@ -123,20 +139,26 @@ module _ {W O : Type 0} (answers : W → List Answered) (broken : W → Bool) (o
   origins_end (v ∷ vs) [] p = absurd p
   origins_end (v ∷ vs) (w ∷ ws) p = λ i. p.0.world.same_origin i ∷ origins_end vs ws p.1 i
 
-  pub all_over : (vs ws : List (Worker W)) (worlds : List W) → IsGuest g → AreNew g budget id 0 vs → Pairs R vs ws → NoneBroken broken ws → map (λ w. w.world) vs ≡ worlds → length worlds ≡ length g.entries → AllOver g budget (map answers worlds) (map (work_of answers) ws)
+  pub all_over : (vs ws : List (Worker W)) (worlds : List W) → IsGuest g → AreNew g budget id 0 vs → Pairs R vs ws → NoneBroken broken ws
+      → map (λ w. w.world) vs ≡ worlds → length worlds ≡ length g.entries → AllOver g budget (map answers worlds) (map (work_of answers) ws)
   all_over vs ws worlds guest new p works e n =
       let long : length vs ≡ length g.entries = sym (length-map vs (λ w. w.world)) ∙ ap (λ z. length z) e ∙ n in record {
         guest = guest;
         size = length-map ws (work_of answers) ∙ ran_size R vs ws p ∙ long;
-        working = λ t l. subst (λ z. IsWorking g budget t (answers_at (map answers z) t) (work_at (map (work_of answers) ws) t)) e (subst (λ k. IsWorking g budget k (answers_at (map answers (map (λ w. w.world) vs)) t) (work_at (map (work_of answers) ws) t)) (let z : 0 + t ≡ t = omega arith in z) (at_end 0 vs ws new p works t (omega (arith, l, long))).0);
+        working = λ t l. subst (λ z. IsWorking g budget t (answers_at (map answers z) t) (work_at (map (work_of answers) ws) t)) e
+            (subst (λ k. IsWorking g budget k (answers_at (map answers (map (λ w. w.world) vs)) t) (work_at (map (work_of answers) ws) t))
+            (let z : 0 + t ≡ t = omega arith in z) (at_end 0 vs ws new p works t (omega (arith, l, long))).0);
         done = λ t l. (at_end 0 vs ws new p works t (omega (arith, l, long))).1;
       }
 
-pub views_tracks : {W : Type 0} (answers : W → List Answered) (ws : List (Worker W)) → views_of (map (λ w. w.seat) ws) ≡ tracks_of (map (work_of answers) ws)
+pub views_tracks : {W : Type 0} (answers : W → List Answered) (ws : List (Worker W))
+    → views_of (map (λ w. w.seat) ws) ≡ tracks_of (map (work_of answers) ws)
 views_tracks answers [] = refl
 views_tracks answers (w ∷ ws) = ap (λ z. w.seat.me.0 ++ z) (views_tracks answers ws)
 
-pub traces_at : {W : Type 0} (answers : W → List Answered) (ws : List (Worker W)) (rs : List RecordedThread) → AreTraces ws rs → (t : ℕ) → t < length ws → IsThreadTrace (work_at (map (work_of answers) ws) t).thread (work_at (map (work_of answers) ws) t).log (get_or rs t absent)
+pub traces_at : {W : Type 0} (answers : W → List Answered) (ws : List (Worker W)) (rs : List RecordedThread) → AreTraces ws rs → (t : ℕ)
+    → t < length ws → IsThreadTrace (work_at (map (work_of answers) ws) t).thread (work_at (map (work_of answers) ws) t).log
+    (get_or rs t absent)
 traces_at answers [] rs h t l = absurd (omega arith)
 traces_at answers (w ∷ ws) [] h t l = absurd h
 traces_at answers (w ∷ ws) (r ∷ rs) h zero l = h.0

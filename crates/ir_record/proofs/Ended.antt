@@ -36,10 +36,14 @@ new_log = record { events = []; room = most_events }
 abbrev pub start : Guest → ℕ → List (List Answered) → Progress
 start guest budget answers = record { flat = start_flat guest budget; logs = replicate (length guest.entries) new_log; answers = answers }
 
-pub start_ready : (guest : Guest) (budget : ℕ) (answers : List (List Answered)) (failed : List Bool) → length answers ≡ length guest.entries → NoneFailed failed → IsReady (start guest budget answers) failed
+pub start_ready : (guest : Guest) (budget : ℕ) (answers : List (List Answered)) (failed : List Bool) → length answers ≡ length guest.entries
+    → NoneFailed failed → IsReady (start guest budget answers) failed
 start_ready guest budget answers failed size works =
-    let n : length (start_threads guest budget 0 (length guest.entries)) ≡ length guest.entries = threads_length guest budget 0 (length guest.entries) in
-    let own : (t : ℕ) → t < length (start_threads guest budget 0 (length guest.entries)) → log_at (replicate (length guest.entries) new_log) t ≡ new_log = λ t l. get_or-replicate (length guest.entries) t new_log no_log (omega (arith, l, n)) in
+    let n : length (start_threads guest budget 0 (length guest.entries)) ≡ length guest.entries =
+        threads_length guest budget 0 (length guest.entries) in
+    let own : (t : ℕ) → t < length (start_threads guest budget 0 (length guest.entries))
+        → log_at (replicate (length guest.entries) new_log) t ≡ new_log =
+        λ t l. get_or-replicate (length guest.entries) t new_log no_log (omega (arith, l, n)) in
     record {
       tape = record {
         one_each = length-replicate (length guest.entries) new_log ∙ sym n;
@@ -65,7 +69,9 @@ done_or machine.Done = inl refl
 
 -- where none of the guest's threads has a step, all threads are done
 all_done : (guest : Guest) (budget : ℕ) (run : List Step) → IsRun (thread_machine guest.code) (tables (start_flat guest budget)) run
-    → ((t : ℕ) → t < length guest.entries → HasNone (thread_machine guest.code) (end (thread_machine guest.code) (tables (start_flat guest budget)) run) t) → IsDone (thread_machine guest.code) (end (thread_machine guest.code) (tables (start_flat guest budget)) run)
+    → ((t : ℕ) → t < length guest.entries → HasNone (thread_machine guest.code)
+    (end (thread_machine guest.code) (tables (start_flat guest budget)) run) t)
+    → IsDone (thread_machine guest.code) (end (thread_machine guest.code) (tables (start_flat guest budget)) run)
 all_done guest budget run ok none t =
     let s : State thread.State = end (thread_machine guest.code) (tables (start_flat guest budget)) run in
     elim (done_or (asked (thread_machine guest.code) s t)) [
@@ -76,8 +82,10 @@ all_done guest budget run ok none t =
     stuck : ((u : ℕ) × Can (thread_machine guest.code) (end (thread_machine guest.code) (tables (start_flat guest budget)) run) (u, 0)) → ⊥
     stuck step = elim (cases_lt step.0 (length guest.entries)) [
       | inl l ↦ none step.0 l 0 step.1
-      | inr past ↦ subst (λ q. Admits (thread_machine guest.code) (machine.act_of q 0) ((end (thread_machine guest.code) (tables (start_flat guest budget)) run).objects (target (machine.act_of q 0))))
-          (run_idle (thread_machine guest.code) (tables (start_flat guest budget)) (length guest.entries) (start_idle guest budget) run ok step.0 past) step.1
+      | inr past ↦ subst (λ q. Admits (thread_machine guest.code) (machine.act_of q 0)
+          ((end (thread_machine guest.code) (tables (start_flat guest budget)) run).objects (target (machine.act_of q 0))))
+          (run_idle (thread_machine guest.code) (tables (start_flat guest budget)) (length guest.entries) (start_idle guest budget) run ok
+              step.0 past) step.1
     ]
 
 -- a thread that is done has ended
@@ -92,34 +100,50 @@ pub record Over (guest : Guest) (budget : ℕ) (order : List ℕ) (before : List
   pub took : Took (order ++ rounds (length guest.entries) count) (start guest budget before) b
   pub none : (t : ℕ) → t < length b.flat.threads → HasNone (machine b.flat) (tables b.flat) t
 
-pub threads_there : (guest : Guest) (budget : ℕ) (order : List ℕ) (before : List (List Answered)) (b : Progress) → Over guest budget order before b → length b.flat.threads ≡ length guest.entries
+pub threads_there : (guest : Guest) (budget : ℕ) (order : List ℕ) (before : List (List Answered)) (b : Progress)
+    → Over guest budget order before b → length b.flat.threads ≡ length guest.entries
 threads_there guest budget order before b o = o.took.threads ∙ threads_length guest budget 0 (length guest.entries)
 
-run_of_it : (guest : Guest) (budget : ℕ) (order : List ℕ) (before : List (List Answered)) (b : Progress) → (o : Over guest budget order before b) → IsRun (thread_machine guest.code) (tables (start_flat guest budget)) o.took.run
-run_of_it guest budget order before b o = turns_run (thread_machine guest.code) (tables (start_flat guest budget)) (order ++ rounds (length guest.entries) o.count) o.took.run o.took.turns
+run_of_it : (guest : Guest) (budget : ℕ) (order : List ℕ) (before : List (List Answered)) (b : Progress)
+    → (o : Over guest budget order before b) → IsRun (thread_machine guest.code) (tables (start_flat guest budget)) o.took.run
+run_of_it guest budget order before b o = turns_run (thread_machine guest.code) (tables (start_flat guest budget))
+    (order ++ rounds (length guest.entries) o.count) o.took.run o.took.turns
 
-done_there : (guest : Guest) (budget : ℕ) (order : List ℕ) (before : List (List Answered)) (b : Progress) → (o : Over guest budget order before b) → IsDone (thread_machine guest.code) (end (thread_machine guest.code) (tables (start_flat guest budget)) o.took.run)
+done_there : (guest : Guest) (budget : ℕ) (order : List ℕ) (before : List (List Answered)) (b : Progress)
+    → (o : Over guest budget order before b) → IsDone (thread_machine guest.code)
+    (end (thread_machine guest.code) (tables (start_flat guest budget)) o.took.run)
 done_there guest budget order before b o = all_done guest budget o.took.run (run_of_it guest budget order before b o)
-    (λ t l. subst (λ s. HasNone (thread_machine guest.code) s t) o.took.ends (subst (λ c. HasNone (thread_machine c) (tables b.flat) t) o.took.code (o.none t (let n = threads_there guest budget order before b o in omega (arith, l, n)))))
+    (λ t l. subst (λ s. HasNone (thread_machine guest.code) s t) o.took.ends
+        (subst (λ c. HasNone (thread_machine c) (tables b.flat) t) o.took.code
+        (o.none t (let n = threads_there guest budget order before b o in omega (arith, l, n)))))
 
-pub ended_there : (guest : Guest) (budget : ℕ) (order : List ℕ) (before : List (List Answered)) (b : Progress) → Over guest budget order before b → (t : ℕ) → (thread_of b.flat t).ended ≢ None
+pub ended_there : (guest : Guest) (budget : ℕ) (order : List ℕ) (before : List (List Answered)) (b : Progress)
+    → Over guest budget order before b → (t : ℕ) → (thread_of b.flat t).ended ≢ None
 ended_there guest budget order before b o t =
-    has_ended guest.code (thread_of b.flat t) (ap (λ s. shared_ask (ask_of guest.code (s.now t))) o.took.ends ∙ done_there guest budget order before b o t)
+    has_ended guest.code (thread_of b.flat t) (ap (λ s. shared_ask (ask_of guest.code (s.now t))) o.took.ends
+        ∙ done_there guest budget order before b o t)
 
 -- what is at hand at its end
-at_end : (guest : Guest) (budget : ℕ) (order : List ℕ) (before : List (List Answered)) (b : Progress) → (o : Over guest budget order before b) → StandAtEnd guest budget o.took.run before (thread_of b.flat) (log_at b.logs) (answers_at b.answers)
+at_end : (guest : Guest) (budget : ℕ) (order : List ℕ) (before : List (List Answered)) (b : Progress)
+    → (o : Over guest budget order before b) → StandAtEnd guest budget o.took.run before (thread_of b.flat) (log_at b.logs)
+    (answers_at b.answers)
 at_end guest budget order before b o =
-    let n : length (start_threads guest budget 0 (length guest.entries)) ≡ length guest.entries = threads_length guest budget 0 (length guest.entries) in
+    let n : length (start_threads guest budget 0 (length guest.entries)) ≡ length guest.entries =
+        threads_length guest budget 0 (length guest.entries) in
     let f0 : Flat = start_flat guest budget in
     record {
       runs = run_of_it guest budget order before b o;
       threads = λ t l. ap (λ s. s.now t) o.took.ends;
-      logged = λ t l. o.took.logs t (omega (arith, l, n)) ∙ ap (λ z. map label_of z.events ++ log (machine f0) (tables f0) o.took.run t) (get_or-replicate (length guest.entries) t new_log no_log l);
+      logged = λ t l. o.took.logs t (omega (arith, l, n))
+          ∙ ap (λ z. map label_of z.events ++ log (machine f0) (tables f0) o.took.run t)
+          (get_or-replicate (length guest.entries) t new_log no_log l);
       answered = λ t l. o.took.answers t (omega (arith, l, n));
     }
 
-pub recorded_there : (guest : Guest) (budget : ℕ) (order : List ℕ) (before : List (List Answered)) (b : Progress) → Over guest budget order before b → (failed : List Bool) → IsReady b failed
-    → (trace : Recorded) → trace.objects ≡ length b.flat.objects → trace.budget ≡ budget → AreThreadTraces b.flat b.logs trace.threads → (outputs : List (List ℕ)) → outputs ≡ map (λ x. x.output) b.flat.threads
+pub recorded_there : (guest : Guest) (budget : ℕ) (order : List ℕ) (before : List (List Answered)) (b : Progress)
+    → Over guest budget order before b → (failed : List Bool) → IsReady b failed
+    → (trace : Recorded) → trace.objects ≡ length b.flat.objects → trace.budget ≡ budget → AreThreadTraces b.flat b.logs trace.threads
+    → (outputs : List (List ℕ)) → outputs ≡ map (λ x. x.output) b.flat.threads
     → (answers : List (List Answered)) → answers ≡ b.answers → IsRecording guest budget order before trace outputs answers
 recorded_there guest budget order before b o failed ready trace objects limit traces outputs printed answers given =
     let n : length b.flat.threads ≡ length guest.entries = threads_there guest budget order before b o in
@@ -130,25 +154,35 @@ recorded_there guest budget order before b o failed ready trace objects limit tr
       run = o.took.run;
       by_order = record { count = o.count; turns = o.took.turns; done = done_there guest budget order before b o };
       of = record {
-        told = told_there guest budget o.took.run before (thread_of b.flat) (log_at b.logs) (answers_at b.answers) stand (done_there guest budget order before b o) trace
-            (objects ∙ o.took.objects ∙ cells_length guest.words (object_count guest)) limit (traces.count ∙ logs) (λ t l. traces.each t (omega (arith, l, logs)));
+        told = told_there guest budget o.took.run before (thread_of b.flat) (log_at b.logs) (answers_at b.answers) stand
+            (done_there guest budget order before b o) trace
+            (objects ∙ o.took.objects ∙ cells_length guest.words (object_count guest)) limit (traces.count ∙ logs)
+                (λ t l. traces.each t (omega (arith, l, logs)));
         printed = printed_there guest budget o.took.run before (thread_of b.flat) (log_at b.logs) (answers_at b.answers) stand outputs
             (ap (λ z. length z) printed ∙ length-map b.flat.threads (λ x. x.output) ∙ n)
-            (λ t l. ap (λ z. slice_get z t) printed ∙ slice_get-map (λ x. x.output) b.flat.threads t ∙ ap (option_map (λ x. x.output)) (slice_get-get_or b.flat.threads t idle (omega (arith, l, n))));
-        answered = answered_there guest budget o.took.run before (thread_of b.flat) (log_at b.logs) (answers_at b.answers) stand answers size
+            (λ t l. ap (λ z. slice_get z t) printed ∙ slice_get-map (λ x. x.output) b.flat.threads t
+                ∙ ap (option_map (λ x. x.output)) (slice_get-get_or b.flat.threads t idle (omega (arith, l, n))));
+        answered = answered_there guest budget o.took.run before (thread_of b.flat) (log_at b.logs) (answers_at b.answers) stand answers
+            size
             (λ t l. slice_get-get_or answers t [] (omega (arith, l, size)) ∙ ap (λ z. Some (answers_at z t)) given);
       };
     }
 
 -- the same, where it began with the recording that was made
-pub over_from : (guest : Guest) (budget : ℕ) (order : List ℕ) (before : List (List Answered)) (a b : Progress) → a ≡ start guest budget before → ((count : ℕ) × Took (order ++ rounds (length a.flat.threads) count) a b) → ((t : ℕ) → t < length b.flat.threads → HasNone (machine b.flat) (tables b.flat) t) → Over guest budget order before b
+pub over_from : (guest : Guest) (budget : ℕ) (order : List ℕ) (before : List (List Answered)) (a b : Progress)
+    → a ≡ start guest budget before → ((count : ℕ) × Took (order ++ rounds (length a.flat.threads) count) a b)
+    → ((t : ℕ) → t < length b.flat.threads → HasNone (machine b.flat) (tables b.flat) t) → Over guest budget order before b
 over_from guest budget order before a b e k none = record {
   count = k.0;
-  took = subst (λ n. Took (order ++ rounds n k.0) (start guest budget before) b) (ap (λ z. length z.flat.threads) e ∙ threads_length guest budget 0 (length guest.entries)) (subst (λ z. Took (order ++ rounds (length a.flat.threads) k.0) z b) e k.1);
+  took = subst (λ n. Took (order ++ rounds n k.0) (start guest budget before) b)
+      (ap (λ z. length z.flat.threads) e ∙ threads_length guest budget 0 (length guest.entries))
+      (subst (λ z. Took (order ++ rounds (length a.flat.threads) k.0) z b) e k.1);
   none = none;
 }
 
-pub started : (guest : Guest) (budget : ℕ) (answers : List (List Answered)) (f : Flat) (logs : List Logged) → f ≡ start_flat guest budget → logs ≡ replicate (length guest.entries) new_log → ◌≡◌ {A = Progress} (record { flat = f; logs = logs; answers = answers }) (start guest budget answers)
+pub started : (guest : Guest) (budget : ℕ) (answers : List (List Answered)) (f : Flat) (logs : List Logged) → f ≡ start_flat guest budget
+    → logs ≡ replicate (length guest.entries) new_log
+    → ◌≡◌ {A = Progress} (record { flat = f; logs = logs; answers = answers }) (start guest budget answers)
 started guest budget answers f logs p q = λ i. record { flat = p i; logs = q i; answers = answers }
 
 pub mapped_twice : {A B C : Type 0} (f : B → C) (h : A → B) (xs : List A) (ys : List B) → map h xs ≡ ys → map (λ x. f (h x)) xs ≡ map f ys

@@ -27,7 +27,8 @@ use Rattle.ir_record.proofs.Running.{flat_few}
 
 -- whether a step can be taken is no matter of its result, unless it calls the environment
 abbrev pub IgnoresResult : Ask → Type 0
-IgnoresResult q = (f : Flat) (r : ℕ) → Admits (machine f) (act_of (shared_ask q) r) ((tables f).objects (target (act_of (shared_ask q) r))) → Admits (machine f) (act_of (shared_ask q) 0) ((tables f).objects (target (act_of (shared_ask q) 0)))
+IgnoresResult q = (f : Flat) (r : ℕ) → Admits (machine f) (act_of (shared_ask q) r) ((tables f).objects (target (act_of (shared_ask q) r)))
+    → Admits (machine f) (act_of (shared_ask q) 0) ((tables f).objects (target (act_of (shared_ask q) 0)))
 
 enter_ignores : (o : ℕ) (a : Access) → IgnoresResult (Enter o a)
 enter_ignores o Reading f r h = h
@@ -44,13 +45,16 @@ quiet_ignores Print k f r h = tt
 quiet_ignores (End e) k f r h = tt
 quiet_ignores Done k f r h = absurd h
 
-none_by : (f : Flat) (t : ℕ) → IgnoresResult (ask_of f.code (thread_of f t)) → (Can (machine f) (tables f) (t, 0) → ⊥) → HasNone (machine f) (tables f) t
+none_by : (f : Flat) (t : ℕ) → IgnoresResult (ask_of f.code (thread_of f t)) → (Can (machine f) (tables f) (t, 0) → ⊥)
+    → HasNone (machine f) (tables f) t
 none_by f t ignores never r can = never (ignores f r can)
 
-pub enter_none : (f : Flat) (t o : ℕ) (a : Access) → ask_of f.code (thread_of f t) ≡ Enter o a → (Can (machine f) (tables f) (t, 0) → ⊥) → HasNone (machine f) (tables f) t
+pub enter_none : (f : Flat) (t o : ℕ) (a : Access) → ask_of f.code (thread_of f t) ≡ Enter o a → (Can (machine f) (tables f) (t, 0) → ⊥)
+    → HasNone (machine f) (tables f) t
 enter_none f t o a is never = none_by f t (subst IgnoresResult (sym is) (enter_ignores o a)) never
 
-pub quiet_none : (f : Flat) (t : ℕ) → IsQuiet (ask_of f.code (thread_of f t)) → (Can (machine f) (tables f) (t, 0) → ⊥) → HasNone (machine f) (tables f) t
+pub quiet_none : (f : Flat) (t : ℕ) → IsQuiet (ask_of f.code (thread_of f t)) → (Can (machine f) (tables f) (t, 0) → ⊥)
+    → HasNone (machine f) (tables f) t
 quiet_none f t quiet never = none_by f t (quiet_ignores (ask_of f.code (thread_of f t)) quiet) never
 
 -- there is room to log the entry
@@ -85,7 +89,8 @@ pub record Entering (f g : Flat) (logs more : List Logged) (t o : ℕ) (a : Acce
 
 pub enter_tape : (f g : Flat) (logs more : List Logged) (t o : ℕ) (a : Access) (e : Event) → Entering f g logs more t o a e → IsTape g more
 enter_tape f g logs more t o a e x =
-    subst (IsTape g) (sym x.logged) (tape_pushed f g logs t 0 e x.new x.tape x.below x.taken x.threads x.objects (ap added x.asked) x.fits x.pushed)
+    subst (IsTape g) (sym x.logged) (tape_pushed f g logs t 0 e x.new x.tape x.below x.taken x.threads x.objects (ap added x.asked) x.fits
+        x.pushed)
 
 -- what an entry tells is logged, and is no answer
 entry_logged : (o : ℕ) (a : Access) (b : Object) → logged (told (machine.Entry o a 0) b) [] ≡ told (machine.Entry o a 0) b ∷ []
@@ -96,7 +101,8 @@ entry_unanswered : (o : ℕ) (a : Access) (b : Object) → answers_in (logged (t
 entry_unanswered o Reading b = refl
 entry_unanswered o Writing b = refl
 
-pub enter_took : (f g : Flat) (logs more : List Logged) (t o : ℕ) (a : Access) (e : Event) → Entering f g logs more t o a e → (answers : List (List Answered))
+pub enter_took : (f g : Flat) (logs more : List Logged) (t o : ℕ) (a : Access) (e : Event) → Entering f g logs more t o a e
+    → (answers : List (List Answered))
     → TookIf true (t ∷ []) (record { flat = f; logs = logs; answers = answers }) (record { flat = g; logs = more; answers = answers })
 enter_took f g logs more t o a e x answers =
     let k : Label = told (machine.Entry o a 0) ((tables f).objects o) in
@@ -110,8 +116,10 @@ enter_took f g logs more t o a e x answers =
       objects = x.objects;
       tells = ap (λ q. told (act_of (shared_ask q) 0) ((tables f).objects (target (act_of (shared_ask q) 0)))) x.asked;
       own_log = subst (λ z. labels_at z t ≡ labels_at logs t ++ logged k []) (sym x.logged)
-          (labels_pushed logs t e x.new (omega (arith, x.below, x.tape.one_each)) x.pushed ∙ ap (λ z. labels_at logs t ++ z) (ap (λ z. z ∷ []) x.tells ∙ sym (entry_logged o a ((tables f).objects o))));
-      own_answers = sym (append-nil (answers_at answers t)) ∙ ap (λ z. answers_at answers t ++ z) (sym (entry_unanswered o a ((tables f).objects o)));
+          (labels_pushed logs t e x.new (omega (arith, x.below, x.tape.one_each)) x.pushed
+              ∙ ap (λ z. labels_at logs t ++ z) (ap (λ z. z ∷ []) x.tells ∙ sym (entry_logged o a ((tables f).objects o))));
+      own_answers = sym (append-nil (answers_at answers t))
+          ∙ ap (λ z. answers_at answers t ++ z) (sym (entry_unanswered o a ((tables f).objects o)));
       other_logs = λ u ne. subst (λ z. labels_at z u ≡ labels_at logs u) (sym x.logged) (labels_other logs t u x.new ne);
       other_answers = λ u ne. refl;
     })
@@ -176,21 +184,27 @@ go_took f g logs t x answers =
 -- where the thread waits, or is done, nothing changes
 pub waits_took : (f g : Flat) (logs : List Logged) (t : ℕ) → HasNone (machine f) (tables f) t → g ≡ f → (answers : List (List Answered))
     → TookIf false (t ∷ []) (record { flat = f; logs = logs; answers = answers }) (record { flat = g; logs = logs; answers = answers })
-waits_took f g logs t none same answers = took_none t (record { flat = f; logs = logs; answers = answers }) (record { flat = g; logs = logs; answers = answers }) none (ap (λ z. record { flat = z; logs = logs; answers = answers }) same)
+waits_took f g logs t none same answers = took_none t (record { flat = f; logs = logs; answers = answers })
+    (record { flat = g; logs = logs; answers = answers }) none (ap (λ z. record { flat = z; logs = logs; answers = answers }) same)
 
 pub waits_tape : (f g : Flat) (logs : List Logged) → IsTape f logs → g ≡ f → IsTape g logs
 waits_tape f g logs tape same = subst (λ z. IsTape z logs) (sym same) tape
 
 -- a step that nothing is logged of, if there is one
 pub record Gone (f g : Flat) (logs : List Logged) (t : ℕ) (moved : Bool) : Type 0 where
-  pub took : (answers : List (List Answered)) → TookIf moved (t ∷ []) (record { flat = f; logs = logs; answers = answers }) (record { flat = g; logs = logs; answers = answers })
+  pub took : (answers : List (List Answered)) → TookIf moved (t ∷ []) (record { flat = f; logs = logs; answers = answers })
+      (record { flat = g; logs = logs; answers = answers })
   pub tape : IsTape g logs
 
-pub gone : {X E : Type 0} (result : Result X E) (f g : Flat) (logs : List Logged) (t : ℕ) (moved : Bool) → moved ≡ is_ok result → IsTape f logs → IsFlat f → t < length f.threads → IsQuiet (ask_of f.code (thread_of f t))
-    → OnOk result (Can (machine f) (tables f) (t, 0)) → OnOk result (tables g ≡ after (machine f) (tables f) (t, 0)) → g.code ≡ f.code → length g.threads ≡ length f.threads → length g.objects ≡ length f.objects
+pub gone : {X E : Type 0} (result : Result X E) (f g : Flat) (logs : List Logged) (t : ℕ) (moved : Bool) → moved ≡ is_ok result
+    → IsTape f logs → IsFlat f → t < length f.threads → IsQuiet (ask_of f.code (thread_of f t))
+    → OnOk result (Can (machine f) (tables f) (t, 0)) → OnOk result (tables g ≡ after (machine f) (tables f) (t, 0)) → g.code ≡ f.code
+    → length g.threads ≡ length f.threads → length g.objects ≡ length f.objects
     → OnErr result (Can (machine f) (tables f) (t, 0) → ⊥) → OnErr result (g ≡ f) → Gone f g logs t moved
 gone (Ok x) f g logs t moved e tape flat l quiet can taken code threads objects never same =
-    let going : Going f g logs t = record { tape = tape; flat = flat; below = l; quiet = quiet; can = can; taken = taken; code = code; threads = threads; objects = objects } in
+    let going : Going f g logs t = record { tape = tape; flat = flat; below = l; quiet = quiet; can = can; taken = taken; code =
+        code; threads = threads; objects = objects } in
     subst (Gone f g logs t) (sym e) (record { took = go_took f g logs t going; tape = go_tape f g logs t going })
 gone (Err x) f g logs t moved e tape flat l quiet can taken code threads objects never same =
-    subst (Gone f g logs t) (sym e) (record { took = waits_took f g logs t (quiet_none f t quiet never) same; tape = waits_tape f g logs tape same })
+    subst (Gone f g logs t) (sym e) (record { took = waits_took f g logs t (quiet_none f t quiet never) same; tape =
+        waits_tape f g logs tape same })

@@ -43,7 +43,8 @@ quiet_log m s t r u is = ap (λ k. events (join_if (eqb u t) (s.now u, k) [])) i
     none true = refl
     none false = refl
 
-same_log : {T : Type 0} (m : Machine T) (s later : State T) (t r u : ℕ) → label m later (t, r) ≡ label m s (t, r) → log m later ((t, r) ∷ []) u ≡ log m s ((t, r) ∷ []) u
+same_log : {T : Type 0} (m : Machine T) (s later : State T) (t r u : ℕ) → label m later (t, r) ≡ label m s (t, r)
+    → log m later ((t, r) ∷ []) u ≡ log m s ((t, r) ∷ []) u
 same_log m s later t r u is = by_case (eqb u t)
   where
     by_case : (b : Bool) → events (join_if b (later.now u, label m later (t, r)) []) ≡ events (join_if b (s.now u, label m s (t, r)) [])
@@ -53,10 +54,12 @@ same_log m s later t r u is = by_case (eqb u t)
 -- ---- one turn
 
 -- a thread that is ahead has its step behind it
-pub turn_spent : (s : State thread.State) (a : Progress) (c : List ℕ) (t k : ℕ) → t < length c → lead c t ≡ suc k → IsAhead (machine a.flat) c s (tables a.flat) → WentIf true (t ∷ []) s a c a (set c t k)
+pub turn_spent : (s : State thread.State) (a : Progress) (c : List ℕ) (t k : ℕ) → t < length c → lead c t ≡ suc k
+    → IsAhead (machine a.flat) c s (tables a.flat) → WentIf true (t ∷ []) s a c a (set c t k)
 turn_spent s a c t k l is h =
     let private = h.each t 0 (omega (arith, is)) in
-    let quiet : (u : ℕ) → log (machine a.flat) s ((t, 0) ∷ []) u ≡ [] = λ u. quiet_log (machine a.flat) s t 0 u (quiet_alone (machine a.flat) s t private) in
+    let quiet : (u : ℕ) → log (machine a.flat) s ((t, 0) ∷ []) u ≡ [] =
+        λ u. quiet_log (machine a.flat) s t 0 u (quiet_alone (machine a.flat) s t private) in
     record {
       went = record {
         run = (t, 0) ∷ [];
@@ -81,25 +84,31 @@ no_turn m s t run (inr some) z = absurd (cc (some.2, z))
 pub nothing_changes : (a b : Progress) (t : ℕ) (moved : Bool) → moved ≡ false → TookIf moved (t ∷ []) a b → tables b.flat ≡ tables a.flat
 nothing_changes a b t moved e k = k.took.ends ∙ ap (end (machine a.flat) (tables a.flat)) (k.none e)
 
-pub has_none : (a b : Progress) (t : ℕ) (moved : Bool) → moved ≡ false → TookIf moved (t ∷ []) a b → HasNone (machine b.flat) (tables b.flat) t
+pub has_none : (a b : Progress) (t : ℕ) (moved : Bool) → moved ≡ false → TookIf moved (t ∷ []) a b
+    → HasNone (machine b.flat) (tables b.flat) t
 has_none a b t moved e k =
-    let before : HasNone (machine a.flat) (tables a.flat) t = no_turn (machine a.flat) (tables a.flat) t k.took.run k.took.turns (k.none e) in
-    subst (λ s. HasNone (machine b.flat) s t) (sym (nothing_changes a b t moved e k)) (subst (λ code. HasNone (thread_machine code) (tables a.flat) t) (sym k.took.code) before)
+    let before : HasNone (machine a.flat) (tables a.flat) t =
+        no_turn (machine a.flat) (tables a.flat) t k.took.run k.took.turns (k.none e) in
+    subst (λ s. HasNone (machine b.flat) s t) (sym (nothing_changes a b t moved e k))
+        (subst (λ code. HasNone (thread_machine code) (tables a.flat) t) (sym k.took.code) before)
 
 -- a thread that is not ahead has no step
-pub turn_stays : (s : State thread.State) (a b : Progress) (c : List ℕ) (t : ℕ) (moved : Bool) → moved ≡ false → lead c t ≡ 0 → IsAhead (machine a.flat) c s (tables a.flat) → TookIf moved (t ∷ []) a b → WentIf false (t ∷ []) s a c b c
+pub turn_stays : (s : State thread.State) (a b : Progress) (c : List ℕ) (t : ℕ) (moved : Bool) → moved ≡ false → lead c t ≡ 0
+    → IsAhead (machine a.flat) c s (tables a.flat) → TookIf moved (t ∷ []) a b → WentIf false (t ∷ []) s a c b c
 turn_stays s a b c t moved e is h k =
     let none : k.took.run ≡ [] = k.none e in
     record {
       went = record {
         run = [];
-        turns = inl (none_there (machine a.flat) c s (tables a.flat) t is h (no_turn (machine a.flat) (tables a.flat) t k.took.run k.took.turns none), refl);
+        turns = inl (none_there (machine a.flat) c s (tables a.flat) t is h
+            (no_turn (machine a.flat) (tables a.flat) t k.took.run k.took.turns none), refl);
         ahead = subst (IsAhead (machine a.flat) c s) (sym (nothing_changes a b t moved e k)) h;
         code = k.took.code;
         threads = k.took.threads;
         objects = k.took.objects;
         logs = λ u l. k.took.logs u l ∙ ap (λ z. labels_at a.logs u ++ log (machine a.flat) (tables a.flat) z u) none;
-        answers = λ u l. k.took.answers u l ∙ ap (λ z. answers_at a.answers u ++ answers_in (log (machine a.flat) (tables a.flat) z u)) none;
+        answers = λ u l. k.took.answers u l ∙ ap (λ z. answers_at a.answers u ++ answers_in (log (machine a.flat) (tables a.flat) z u))
+            none;
         fewer = let less = k.took.fewer in omega (arith, less);
       };
       some = λ m. absurd cc;
@@ -107,24 +116,31 @@ turn_stays s a b c t moved e is h k =
     }
 
 -- its step, and private steps behind it
-pub turn_steps : (s : State thread.State) (a b : Progress) (g : Flat) (c : List ℕ) (t k : ℕ) → t < length c → t < length a.flat.threads → IsFlat b.flat → lead c t ≡ 0 → IsAhead (machine a.flat) c s (tables a.flat) → TookIf true (t ∷ []) a b
+pub turn_steps : (s : State thread.State) (a b : Progress) (g : Flat) (c : List ℕ) (t k : ℕ) → t < length c → t < length a.flat.threads
+    → IsFlat b.flat → lead c t ≡ 0 → IsAhead (machine a.flat) c s (tables a.flat) → TookIf true (t ∷ []) a b
     → WentAlone b.flat g t k → WentIf true (t ∷ []) s a c (record b { flat = g }) (set c t k)
 turn_steps s a b g c t k l below flat is h took w = by_turn took.took.turns
   where
-    here : (r : ℕ) (rest : List Step) → took.took.run ≡ (t, r) ∷ rest → Can (machine a.flat) (tables a.flat) (t, r) → rest ≡ [] → WentIf true (t ∷ []) s a c (record b { flat = g }) (set c t k)
+    here : (r : ℕ) (rest : List Step) → took.took.run ≡ (t, r) ∷ rest → Can (machine a.flat) (tables a.flat) (t, r) → rest ≡ []
+        → WentIf true (t ∷ []) s a c (record b { flat = g }) (set c t k)
     here r rest e can last =
         let m = machine a.flat in
         let one : took.took.run ≡ (t, r) ∷ [] = e ∙ ap (λ z. (t, r) ∷ z) last in
         let is_after : tables b.flat ≡ after m (tables a.flat) (t, r) = took.took.ends ∙ ap (end m (tables a.flat)) one in
         let same_machine : machine b.flat ≡ m = ap thread_machine took.took.code in
-        let h' : IsAhead m c (after m s (t, r)) (tables b.flat) = subst (IsAhead m c (after m s (t, r))) (sym is_after) (stepped m c s (tables a.flat) t r is h) in
-        let told : (u : ℕ) → log m (tables a.flat) took.took.run u ≡ log m s ((t, r) ∷ []) u = λ u. ap (λ z. log m (tables a.flat) z u) one ∙ same_log m s (tables a.flat) t r u (label_there m c s (tables a.flat) t r is h) in
+        let h' : IsAhead m c (after m s (t, r)) (tables b.flat) =
+            subst (IsAhead m c (after m s (t, r))) (sym is_after) (stepped m c s (tables a.flat) t r is h) in
+        let told : (u : ℕ) → log m (tables a.flat) took.took.run u ≡ log m s ((t, r) ∷ []) u = λ u. ap (λ z. log m (tables a.flat) z u) one
+            ∙ same_log m s (tables a.flat) t r u (label_there m c s (tables a.flat) t r is h) in
         record {
           went = record {
             run = (t, r) ∷ [];
             turns = inr (r, [], refl, can_there m c s (tables a.flat) t r is h can, refl);
-            ahead = subst (IsAhead m (set c t k) (after m s (t, r))) (sym (w.ends ∙ ap (λ n. end n (tables b.flat) (replicate k (t, 0))) same_machine))
-                (gone_ahead m c (after m s (t, r)) (tables b.flat) t k l is h' (λ j less. subst (λ n. n.ask ((end n (tables b.flat) (replicate j (t, 0))).now t) ≡ Private) same_machine (ap shared_ask (w.each j less))));
+            ahead = subst (IsAhead m (set c t k) (after m s (t, r)))
+                (sym (w.ends ∙ ap (λ n. end n (tables b.flat) (replicate k (t, 0))) same_machine))
+                (gone_ahead m c (after m s (t, r)) (tables b.flat) t k l is h'
+                    (λ j less. subst (λ n. n.ask ((end n (tables b.flat) (replicate j (t, 0))).now t) ≡ Private) same_machine
+                    (ap shared_ask (w.each j less))));
             code = w.code ∙ took.took.code;
             threads = w.threads ∙ took.took.threads;
             objects = w.objects ∙ took.took.objects;
@@ -135,7 +151,8 @@ turn_steps s a b g c t k l below flat is h took w = by_turn took.took.turns
                 let first = took.took.fewer in
                 let size : length took.took.run ≡ 1 = ap length one in
                 let alone_fewer = alone_less b.flat.code n t k (tables b.flat) (flat_few b.flat flat) below w.runs in
-                let ended : all_left n (tables g).now ≡ all_left n (end (machine b.flat) (tables b.flat) (replicate k (t, 0))).now = ap (λ z. all_left n z.now) w.ends in
+                let ended : all_left n (tables g).now ≡ all_left n (end (machine b.flat) (tables b.flat) (replicate k (t, 0))).now =
+                    ap (λ z. all_left n z.now) w.ends in
                 let lead_set = one_set c t k l in
                 omega (arith, first, size, alone_fewer, ended, lead_set, is);
           };
@@ -143,17 +160,21 @@ turn_steps s a b g c t k l below flat is h took w = by_turn took.took.turns
           none = λ e. absurd cc;
         }
 
-    by_turn : InTurn (machine a.flat) (tables a.flat) (t ∷ []) took.took.run → WentIf true (t ∷ []) s a c (record b { flat = g }) (set c t k)
-    by_turn (inl none) = absurd (let some = took.some refl in let size : length took.took.run ≡ 0 = ap length none.1 in omega (arith, some, size))
+    by_turn : InTurn (machine a.flat) (tables a.flat) (t ∷ []) took.took.run
+        → WentIf true (t ∷ []) s a c (record b { flat = g }) (set c t k)
+    by_turn (inl none) = absurd (let some = took.some refl in let size : length took.took.run ≡ 0 = ap length none.1 in
+        omega (arith, some, size))
     by_turn (inr some) = here some.0 some.1 some.2 some.3 some.4
 
 -- so many numbers and the next one
 pub range_last : (t : ℕ) → range_with_len 0 t ++ t ∷ [] ≡ range_with_len 0 (t + 1)
-range_last t = ap (λ k. range_with_len 0 t ++ k ∷ []) (let e : t ≡ 0 + t = omega arith in e) ∙ range_more 0 t ∙ ap (range_with_len 0) (let e : suc t ≡ t + 1 = omega arith in e)
+range_last t = ap (λ k. range_with_len 0 t ++ k ∷ []) (let e : t ≡ 0 + t = omega arith in e) ∙ range_more 0 t
+    ∙ ap (range_with_len 0) (let e : suc t ≡ t + 1 = omega arith in e)
 
 -- ---- turns one after the other
 
-unfoldable pub went_nothing : (s : State thread.State) (a : Progress) (c : List ℕ) → IsAhead (machine a.flat) c s (tables a.flat) → Went [] s a c a c
+unfoldable pub went_nothing : (s : State thread.State) (a : Progress) (c : List ℕ) → IsAhead (machine a.flat) c s (tables a.flat)
+    → Went [] s a c a c
 went_nothing s a c h = record {
   run = [];
   turns = refl;
@@ -171,27 +192,40 @@ abbrev pub reached : {order : List ℕ} {s : State thread.State} {a b : Progress
 reached {order} {s} {a} p = end (machine a.flat) s p.run
 
 -- they are ahead of it on the machine that they lead to
-pub ahead_there : (order : List ℕ) (s : State thread.State) (a b : Progress) (c d : List ℕ) (p : Went order s a c b d) → IsAhead (machine b.flat) d (reached p) (tables b.flat)
-ahead_there order s a b c d p = subst (λ k. IsAhead (thread_machine k) d (end (machine a.flat) s p.run) (tables b.flat)) (sym p.code) p.ahead
+pub ahead_there : (order : List ℕ) (s : State thread.State) (a b : Progress) (c d : List ℕ) (p : Went order s a c b d)
+    → IsAhead (machine b.flat) d (reached p) (tables b.flat)
+ahead_there order s a b c d p = subst (λ k. IsAhead (thread_machine k) d (end (machine a.flat) s p.run) (tables b.flat)) (sym p.code)
+    p.ahead
 
-unfoldable pub went_both : (order more : List ℕ) (s : State thread.State) (a b e : Progress) (c d f : List ℕ) (p : Went order s a c b d) → Went more (reached p) b d e f → Went (order ++ more) s a c e f
+unfoldable pub went_both : (order more : List ℕ) (s : State thread.State) (a b e : Progress) (c d f : List ℕ) (p : Went order s a c b d)
+    → Went more (reached p) b d e f → Went (order ++ more) s a c e f
 went_both order more s a b e c d f p q =
-    let there : (u : ℕ) → log (machine b.flat) (reached p) q.run u ≡ log (machine a.flat) (reached p) q.run u = λ u. ap (λ k. log (thread_machine k) (reached p) q.run u) p.code in
-    let logs_of : (u : ℕ) → log (machine a.flat) s (p.run ++ q.run) u ≡ log (machine a.flat) s p.run u ++ log (machine b.flat) (reached p) q.run u =
+    let there : (u : ℕ) → log (machine b.flat) (reached p) q.run u ≡ log (machine a.flat) (reached p) q.run u =
+        λ u. ap (λ k. log (thread_machine k) (reached p) q.run u) p.code in
+    let logs_of : (u : ℕ) → log (machine a.flat) s (p.run ++ q.run) u ≡ log (machine a.flat) s p.run u ++ log (machine b.flat) (reached p)
+        q.run u =
     λ u. log_append (machine a.flat) s p.run q.run u ∙ ap (λ z. log (machine a.flat) s p.run u ++ z) (sym (there u)) in
     record {
       run = p.run ++ q.run;
-      turns = turns_append (machine a.flat) s order more p.run q.run p.turns (subst (λ k. InTurn (thread_machine k) (reached p) more q.run) p.code q.turns);
-      ahead = subst (λ z. IsAhead (machine a.flat) f z (tables e.flat)) (sym (end_append (machine a.flat) s p.run q.run)) (subst (λ k. IsAhead (thread_machine k) f (end (thread_machine k) (reached p) q.run) (tables e.flat)) p.code q.ahead);
+      turns = turns_append (machine a.flat) s order more p.run q.run p.turns
+          (subst (λ k. InTurn (thread_machine k) (reached p) more q.run) p.code q.turns);
+      ahead = subst (λ z. IsAhead (machine a.flat) f z (tables e.flat)) (sym (end_append (machine a.flat) s p.run q.run))
+          (subst (λ k. IsAhead (thread_machine k) f (end (thread_machine k) (reached p) q.run) (tables e.flat)) p.code q.ahead);
       code = q.code ∙ p.code;
       threads = q.threads ∙ p.threads;
       objects = q.objects ∙ p.objects;
       logs = λ u l. q.logs u (omega (arith, l, p.threads)) ∙ ap (λ z. z ++ log (machine b.flat) (reached p) q.run u) (p.logs u l)
-          ∙ append_assoc (labels_at a.logs u) (log (machine a.flat) s p.run u) (log (machine b.flat) (reached p) q.run u) ∙ ap (λ z. labels_at a.logs u ++ z) (sym (logs_of u));
-      answers = λ u l. q.answers u (omega (arith, l, p.threads)) ∙ ap (λ z. z ++ answers_in (log (machine b.flat) (reached p) q.run u)) (p.answers u l)
-          ∙ append_assoc (answers_at a.answers u) (answers_in (log (machine a.flat) s p.run u)) (answers_in (log (machine b.flat) (reached p) q.run u))
-          ∙ ap (λ z. answers_at a.answers u ++ z) (sym (answers_append (log (machine a.flat) s p.run u) (log (machine b.flat) (reached p) q.run u)) ∙ ap answers_in (sym (logs_of u)));
-      fewer = let more_left = subst (λ n. all_left n (tables e.flat).now + all_ahead f + length q.run ≤ all_left n (tables b.flat).now + all_ahead d) p.threads q.fewer in
+          ∙ append_assoc (labels_at a.logs u) (log (machine a.flat) s p.run u) (log (machine b.flat) (reached p) q.run u)
+          ∙ ap (λ z. labels_at a.logs u ++ z) (sym (logs_of u));
+      answers = λ u l. q.answers u (omega (arith, l, p.threads))
+          ∙ ap (λ z. z ++ answers_in (log (machine b.flat) (reached p) q.run u)) (p.answers u l)
+          ∙ append_assoc (answers_at a.answers u) (answers_in (log (machine a.flat) s p.run u))
+          (answers_in (log (machine b.flat) (reached p) q.run u))
+          ∙ ap (λ z. answers_at a.answers u ++ z)
+          (sym (answers_append (log (machine a.flat) s p.run u) (log (machine b.flat) (reached p) q.run u))
+          ∙ ap answers_in (sym (logs_of u)));
+      fewer = let more_left = subst (λ n. all_left n (tables e.flat).now + all_ahead f + length q.run ≤ all_left n (tables b.flat).now +
+          all_ahead d) p.threads q.fewer in
           let first_left = p.fewer in
           let both = length-append p.run q.run in
           omega (arith, more_left, first_left, both);
@@ -207,7 +241,8 @@ none_append [] more ahead h g = g
 none_append (t ∷ order) more ahead h g = (h.0, none_append order more ahead h.1 g)
 
 -- turns, and one that takes a step
-pub still_moved : (moved : Bool) (order more : List ℕ) (s : State thread.State) (a b e : Progress) (c d f : List ℕ) (p : WentIf moved order s a c b d) → WentIf true more (reached p.went) b d e f → WentIf true (order ++ more) s a c e f
+pub still_moved : (moved : Bool) (order more : List ℕ) (s : State thread.State) (a b e : Progress) (c d f : List ℕ)
+    (p : WentIf moved order s a c b d) → WentIf true more (reached p.went) b d e f → WentIf true (order ++ more) s a c e f
 unfolding went_both
 still_moved moved order more s a b e c d f p q = record {
   went = went_both order more s a b e c d f p.went q.went;
@@ -216,7 +251,8 @@ still_moved moved order more s a b e c d f p q = record {
 }
 
 -- turns, and one that takes none
-pub still_stayed : (moved : Bool) (order more : List ℕ) (s : State thread.State) (a b e : Progress) (c d f : List ℕ) (p : WentIf moved order s a c b d) → WentIf false more (reached p.went) b d e f → WentIf moved (order ++ more) s a c e f
+pub still_stayed : (moved : Bool) (order more : List ℕ) (s : State thread.State) (a b e : Progress) (c d f : List ℕ)
+    (p : WentIf moved order s a c b d) → WentIf false more (reached p.went) b d e f → WentIf moved (order ++ more) s a c e f
 unfolding went_both
 still_stayed moved order more s a b e c d f p q = record {
   went = went_both order more s a b e c d f p.went q.went;
@@ -224,13 +260,20 @@ still_stayed moved order more s a b e c d f p q = record {
   none = λ m.
       let first = p.none m in
       let last = q.none refl in
-      (ap (λ z. z ++ q.went.run) first.0 ∙ last.0, last.1 ∙ first.1, none_append order more c first.2 (subst (NoneAhead more) first.1 last.2));
+      (ap (λ z. z ++ q.went.run) first.0 ∙ last.0, last.1
+          ∙ first.1, none_append order more c first.2 (subst (NoneAhead more) first.1 last.2));
 }
 
 -- one turn more of a round
-pub turn_more : (was now stepped : Bool) (t : ℕ) (s : State thread.State) (a b e : Progress) (c d f : List ℕ) (p : WentIf was (range_with_len 0 t) s a c b d) → WentIf stepped (t ∷ []) (reached p.went) b d e f → (stepped ≡ true → now ≡ true) → (stepped ≡ false → now ≡ was) → WentIf now (range_with_len 0 (t + 1)) s a c e f
-turn_more was now true t s a b e c d f p q taken same = subst (λ z. WentIf z (range_with_len 0 (t + 1)) s a c e f) (sym (taken refl)) (subst (λ order. WentIf true order s a c e f) (range_last t) (still_moved was (range_with_len 0 t) (t ∷ []) s a b e c d f p q))
-turn_more was now false t s a b e c d f p q taken same = subst (λ z. WentIf z (range_with_len 0 (t + 1)) s a c e f) (sym (same refl)) (subst (λ order. WentIf was order s a c e f) (range_last t) (still_stayed was (range_with_len 0 t) (t ∷ []) s a b e c d f p q))
+pub turn_more : (was now stepped : Bool) (t : ℕ) (s : State thread.State) (a b e : Progress) (c d f : List ℕ)
+    (p : WentIf was (range_with_len 0 t) s a c b d) → WentIf stepped (t ∷ []) (reached p.went) b d e f → (stepped ≡ true → now ≡ true)
+    → (stepped ≡ false → now ≡ was) → WentIf now (range_with_len 0 (t + 1)) s a c e f
+turn_more was now true t s a b e c d f p q taken same =
+    subst (λ z. WentIf z (range_with_len 0 (t + 1)) s a c e f) (sym (taken refl))
+    (subst (λ order. WentIf true order s a c e f) (range_last t) (still_moved was (range_with_len 0 t) (t ∷ []) s a b e c d f p q))
+turn_more was now false t s a b e c d f p q taken same =
+    subst (λ z. WentIf z (range_with_len 0 (t + 1)) s a c e f) (sym (same refl))
+    (subst (λ order. WentIf was order s a c e f) (range_last t) (still_stayed was (range_with_len 0 t) (t ∷ []) s a b e c d f p q))
 
 -- ---- rounds
 
@@ -239,7 +282,8 @@ abbrev pub Rounding : ℕ → Progress → Progress → List ℕ → Type 0
 Rounding n a b ahead = (count : ℕ) × Went (rounds n count) (tables a.flat) a (replicate n 0) b ahead
 
 no_lead : (n t : ℕ) → lead (replicate n 0) t ≡ 0
-no_lead n t = elim (cases_lt t n) [ inl l ↦ get_or-replicate n t 0 0 l | inr past ↦ get_or_past (replicate n 0) t 0 (let size : length (replicate n 0) ≡ n = length-replicate {A = ℕ} n 0 in omega (arith, size, past)) ]
+no_lead n t = elim (cases_lt t n) [ inl l ↦ get_or-replicate n t 0 0 l | inr past ↦ get_or_past (replicate n 0) t 0
+    (let size : length (replicate n 0) ≡ n = length-replicate {A = ℕ} n 0 in omega (arith, size, past)) ]
 
 nothing_ahead : (n : ℕ) → all_ahead (replicate n 0) ≡ 0
 nothing_ahead zero = refl
@@ -249,8 +293,10 @@ pub first_round : (n : ℕ) (a : Progress) → Rounding n a a (replicate n 0)
 first_round n a = (0, went_nothing (tables a.flat) a (replicate n 0) (level (machine a.flat) (replicate n 0) (tables a.flat) (no_lead n)))
 
 -- a round more, from where the rounds before it lead
-pub round_more : (n : ℕ) (moved : Bool) (a b e : Progress) (d f : List ℕ) (p : Rounding n a b d) → WentIf moved (range_with_len 0 n) (reached p.1) b d e f → Rounding n a e f
-round_more n moved a b e d f p q = (suc p.0, subst (λ order. Went order (tables a.flat) a (replicate n 0) e f) (rounds_more n p.0) (went_both (rounds n p.0) (range_with_len 0 n) (tables a.flat) a b e (replicate n 0) d f p.1 q.went))
+pub round_more : (n : ℕ) (moved : Bool) (a b e : Progress) (d f : List ℕ) (p : Rounding n a b d)
+    → WentIf moved (range_with_len 0 n) (reached p.1) b d e f → Rounding n a e f
+round_more n moved a b e d f p q = (suc p.0, subst (λ order. Went order (tables a.flat) a (replicate n 0) e f) (rounds_more n p.0)
+    (went_both (rounds n p.0) (range_with_len 0 n) (tables a.flat) a b e (replicate n 0) d f p.1 q.went))
 
 none_in : (from n : ℕ) (ahead : List ℕ) → NoneAhead (range_with_len from n) ahead → (t : ℕ) → from ≤ t → t < from + n → lead ahead t ≡ 0
 none_in from zero ahead h t low high = absurd (omega (arith, low, high))
@@ -260,7 +306,8 @@ none_in from (suc n) ahead h t low high = elim (cases_eq t from) [
 ]
 
 -- nobody is ahead after a round in which nobody took a step
-pub none_ahead : (n : ℕ) (moved : Bool) (s : State thread.State) (b e : Progress) (d f : List ℕ) → moved ≡ false → length d ≡ n → WentIf moved (range_with_len 0 n) s b d e f → (t : ℕ) → lead f t ≡ 0
+pub none_ahead : (n : ℕ) (moved : Bool) (s : State thread.State) (b e : Progress) (d f : List ℕ) → moved ≡ false → length d ≡ n
+    → WentIf moved (range_with_len 0 n) s b d e f → (t : ℕ) → lead f t ≡ 0
 none_ahead n moved s b e d f is size q t =
     let h = q.none is in
     ap (λ z. lead z t) h.1 ∙ elim (cases_lt t n) [
@@ -283,17 +330,25 @@ caught n a b ahead p none = record {
 }
 
 -- and nobody has a step
-pub all_over : (n : ℕ) (moved : Bool) (a b e : Progress) (d f : List ℕ) (p : Rounding n a b d) (q : WentIf moved (range_with_len 0 n) (reached p.1) b d e f) → moved ≡ false → ((t : ℕ) → lead f t ≡ 0) → (t : ℕ) → t < n → HasNone (machine e.flat) (tables e.flat) t
+pub all_over : (n : ℕ) (moved : Bool) (a b e : Progress) (d f : List ℕ) (p : Rounding n a b d)
+    (q : WentIf moved (range_with_len 0 n) (reached p.1) b d e f) → moved ≡ false → ((t : ℕ) → lead f t ≡ 0) → (t : ℕ) → t < n
+    → HasNone (machine e.flat) (tables e.flat) t
 all_over n moved a b e d f p q is none t l =
     let nothing = (q.none is).0 in
-    let nobody : InTurn (machine b.flat) (reached p.1) (range_with_len 0 n) [] = subst (InTurn (machine b.flat) (reached p.1) (range_with_len 0 n)) nothing q.went.turns in
-    let there : HasNone (machine b.flat) (reached p.1) t = none_in_turn (machine b.flat) (reached p.1) 0 n nobody t (omega arith) (omega (arith, l)) in
-    let same : tables e.flat ≡ reached p.1 = caught_up (machine b.flat) f (reached q.went) (tables e.flat) none q.went.ahead ∙ ap (end (machine b.flat) (reached p.1)) nothing in
+    let nobody : InTurn (machine b.flat) (reached p.1) (range_with_len 0 n) [] =
+        subst (InTurn (machine b.flat) (reached p.1) (range_with_len 0 n)) nothing q.went.turns in
+    let there : HasNone (machine b.flat) (reached p.1) t =
+        none_in_turn (machine b.flat) (reached p.1) 0 n nobody t (omega arith) (omega (arith, l)) in
+    let same : tables e.flat ≡ reached p.1 = caught_up (machine b.flat) f (reached q.went) (tables e.flat) none q.went.ahead
+        ∙ ap (end (machine b.flat) (reached p.1)) nothing in
     subst (λ s. HasNone (machine e.flat) s t) (sym same) (subst (λ c. HasNone (thread_machine c) (reached p.1) t) (sym q.went.code) there)
 
 -- a round that takes a step leaves fewer
-pub fewer_left : (n : ℕ) (moved : Bool) (s : State thread.State) (b e : Progress) (d f : List ℕ) → moved ≡ true → length b.flat.threads ≡ n → WentIf moved (range_with_len 0 n) s b d e f → all_left n (tables e.flat).now + all_ahead f < all_left n (tables b.flat).now + all_ahead d
+pub fewer_left : (n : ℕ) (moved : Bool) (s : State thread.State) (b e : Progress) (d f : List ℕ) → moved ≡ true → length b.flat.threads ≡ n
+    → WentIf moved (range_with_len 0 n) s b d e f
+    → all_left n (tables e.flat).now + all_ahead f < all_left n (tables b.flat).now + all_ahead d
 fewer_left n moved s b e d f is size q =
     let some = q.some is in
-    let less = subst (λ k. all_left k (tables e.flat).now + all_ahead f + length q.went.run ≤ all_left k (tables b.flat).now + all_ahead d) size q.went.fewer in
+    let less = subst (λ k. all_left k (tables e.flat).now + all_ahead f + length q.went.run ≤ all_left k (tables b.flat).now + all_ahead d)
+        size q.went.fewer in
     omega (arith, some, less)

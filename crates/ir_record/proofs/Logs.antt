@@ -25,26 +25,33 @@ stepped (Ok x) P Q p err ok = ok
 stepped (Err e) P Q p err ok = absurd (err p)
 
 -- what a thread counts of its events after a step
-pub own_events : (f g : Flat) (t r : ℕ) → tables g ≡ after (machine f) (tables f) (t, r) → (thread_of g t).events ≡ (thread_of f t).events + added (ask_of f.code (thread_of f t))
+pub own_events : (f g : Flat) (t r : ℕ) → tables g ≡ after (machine f) (tables f) (t, r)
+    → (thread_of g t).events ≡ (thread_of f t).events + added (ask_of f.code (thread_of f t))
 own_events f g t r taken =
-    ap (λ s. (s.now t).events) taken ∙ ap (λ now. (now t).events) (now_after f.code (tables f) (t, r)) ∙ ap (λ x. x.events) (upd_same (thread_of f) t (moved_thread f.code (tables f) (t, r)))
+    ap (λ s. (s.now t).events) taken ∙ ap (λ now. (now t).events) (now_after f.code (tables f) (t, r))
+        ∙ ap (λ x. x.events) (upd_same (thread_of f) t (moved_thread f.code (tables f) (t, r)))
     ∙ events_added f.code (thread_of f t) (ask_of f.code (thread_of f t)) _
 
-pub other_events : (f g : Flat) (t r u : ℕ) → tables g ≡ after (machine f) (tables f) (t, r) → u ≢ t → (thread_of g u).events ≡ (thread_of f u).events
+pub other_events : (f g : Flat) (t r u : ℕ) → tables g ≡ after (machine f) (tables f) (t, r) → u ≢ t
+    → (thread_of g u).events ≡ (thread_of f u).events
 other_events f g t r u taken ne =
-    ap (λ s. (s.now u).events) taken ∙ ap (λ now. (now u).events) (now_after f.code (tables f) (t, r)) ∙ ap (λ x. x.events) (upd_other (thread_of f) t u (moved_thread f.code (tables f) (t, r)) ne)
+    ap (λ s. (s.now u).events) taken ∙ ap (λ now. (now u).events) (now_after f.code (tables f) (t, r))
+        ∙ ap (λ x. x.events) (upd_other (thread_of f) t u (moved_thread f.code (tables f) (t, r)) ne)
 
 -- a step that logs nothing
-pub tape_kept : (f g : Flat) (logs : List Logged) (t r : ℕ) → IsTape f logs → tables g ≡ after (machine f) (tables f) (t, r) → length g.threads ≡ length f.threads → length g.objects ≡ length f.objects
+pub tape_kept : (f g : Flat) (logs : List Logged) (t r : ℕ) → IsTape f logs → tables g ≡ after (machine f) (tables f) (t, r)
+    → length g.threads ≡ length f.threads → length g.objects ≡ length f.objects
     → added (ask_of f.code (thread_of f t)) ≡ 0 → IsTape g logs
 tape_kept f g logs t r tape taken threads objects none = record {
   one_each = tape.one_each ∙ sym threads;
   rooms = λ u l. tape.rooms u (omega (arith, l, threads));
   counts = λ u l. tape.counts u (omega (arith, l, threads)) ∙ sym (elim (cases_eq u t) [
-    | inl e ↦ subst (λ z. (thread_of g z).events ≡ (thread_of f z).events) (sym e) (let own = own_events f g t r taken in omega (arith, own, none))
+    | inl e ↦ subst (λ z. (thread_of g z).events ≡ (thread_of f z).events) (sym e)
+        (let own = own_events f g t r taken in omega (arith, own, none))
     | inr ne ↦ other_events f g t r u taken ne
   ]);
-  events_fit = λ u l. subst (λ n. AllByRecursion (IsEvent n) (log_at logs u).events) (sym objects) (tape.events_fit u (omega (arith, l, threads)));
+  events_fit = λ u l. subst (λ n. AllByRecursion (IsEvent n) (log_at logs u).events) (sym objects)
+      (tape.events_fit u (omega (arith, l, threads)));
 }
 
 pub all_append : {X : Type 0} (P : X → Type 0) (xs : List X) (x : X) → AllByRecursion P xs → P x → AllByRecursion P (xs ++ x ∷ [])
@@ -52,27 +59,35 @@ all_append P [] x h p = (p, tt)
 all_append P (y ∷ xs) x h p = (h.0, all_append P xs x h.1 p)
 
 -- a step that logs an event
-pub tape_pushed : (f g : Flat) (logs : List Logged) (t r : ℕ) (e : Event) (new : Logged) → IsTape f logs → t < length f.threads → tables g ≡ after (machine f) (tables f) (t, r) → length g.threads ≡ length f.threads → length g.objects ≡ length f.objects
-    → added (ask_of f.code (thread_of f t)) ≡ 1 → IsEvent (length f.objects) e → new ≡ record (log_at logs t) { events = (log_at logs t).events ++ e ∷ [] } → IsTape g (set logs t new)
+pub tape_pushed : (f g : Flat) (logs : List Logged) (t r : ℕ) (e : Event) (new : Logged) → IsTape f logs → t < length f.threads
+    → tables g ≡ after (machine f) (tables f) (t, r) → length g.threads ≡ length f.threads → length g.objects ≡ length f.objects
+    → added (ask_of f.code (thread_of f t)) ≡ 1 → IsEvent (length f.objects) e
+    → new ≡ record (log_at logs t) { events = (log_at logs t).events ++ e ∷ [] } → IsTape g (set logs t new)
 tape_pushed f g logs t r e new tape below taken threads objects one fits is =
     let here : log_at (set logs t new) t ≡ new = get_or-set_same logs t new no_log (omega (arith, below, tape.one_each)) in
     let there : (u : ℕ) → u ≢ t → log_at (set logs t new) u ≡ log_at logs u = λ u ne. get_or-set_other logs t u new no_log ne in
-    let longer : length new.events ≡ length (log_at logs t).events + 1 = ap (λ l. length l.events) is ∙ length-append (log_at logs t).events (e ∷ []) in
+    let longer : length new.events ≡ length (log_at logs t).events + 1 = ap (λ l. length l.events) is
+        ∙ length-append (log_at logs t).events (e ∷ []) in
     record {
       one_each = length-set logs t new ∙ tape.one_each ∙ sym threads;
       rooms = λ u l. elim (cases_eq u t) [
-        | inl same ↦ subst (λ z. (log_at (set logs t new) z).room ≡ most_events) (sym same) (ap (λ z. z.room) here ∙ ap (λ z. z.room) is ∙ tape.rooms t below)
+        | inl same ↦ subst (λ z. (log_at (set logs t new) z).room ≡ most_events) (sym same)
+            (ap (λ z. z.room) here ∙ ap (λ z. z.room) is ∙ tape.rooms t below)
         | inr ne ↦ ap (λ z. z.room) (there u ne) ∙ tape.rooms u (omega (arith, l, threads))
       ];
       counts = λ u l. elim (cases_eq u t) [
         | inl same ↦ subst (λ z. length (log_at (set logs t new) z).events ≡ (thread_of g z).events) (sym same)
-            (ap (λ z. length z.events) here ∙ longer ∙ (let own = own_events f g t r taken in let was = tape.counts t below in omega (arith, own, was, one)))
-        | inr ne ↦ ap (λ z. length z.events) (there u ne) ∙ tape.counts u (omega (arith, l, threads)) ∙ sym (other_events f g t r u taken ne)
+            (ap (λ z. length z.events) here ∙ longer
+                ∙ (let own = own_events f g t r taken in let was = tape.counts t below in omega (arith, own, was, one)))
+        | inr ne ↦ ap (λ z. length z.events) (there u ne) ∙ tape.counts u (omega (arith, l, threads))
+            ∙ sym (other_events f g t r u taken ne)
       ];
       events_fit = λ u l. subst (λ n. AllByRecursion (IsEvent n) (log_at (set logs t new) u).events) (sym objects) (elim (cases_eq u t) [
         | inl same ↦ subst (λ z. AllByRecursion (IsEvent (length f.objects)) (log_at (set logs t new) z).events) (sym same)
-            (subst (λ z. AllByRecursion (IsEvent (length f.objects)) z.events) (sym (here ∙ is)) (all_append (IsEvent (length f.objects)) (log_at logs t).events e (tape.events_fit t below) fits))
-        | inr ne ↦ subst (λ z. AllByRecursion (IsEvent (length f.objects)) z.events) (sym (there u ne)) (tape.events_fit u (omega (arith, l, threads)))
+            (subst (λ z. AllByRecursion (IsEvent (length f.objects)) z.events) (sym (here ∙ is))
+                (all_append (IsEvent (length f.objects)) (log_at logs t).events e (tape.events_fit t below) fits))
+        | inr ne ↦ subst (λ z. AllByRecursion (IsEvent (length f.objects)) z.events) (sym (there u ne))
+            (tape.events_fit u (omega (arith, l, threads)))
       ]);
     }
 
@@ -81,7 +96,9 @@ map_append f [] x = refl
 map_append f (y ∷ xs) x = ap (λ z. f y ∷ z) (map_append f xs x)
 
 -- the labels in a log with an event more
-pub labels_pushed : (logs : List Logged) (t : ℕ) (e : Event) (new : Logged) → t < length logs → new ≡ record (log_at logs t) { events = (log_at logs t).events ++ e ∷ [] } → labels_at (set logs t new) t ≡ labels_at logs t ++ label_of e ∷ []
+pub labels_pushed : (logs : List Logged) (t : ℕ) (e : Event) (new : Logged) → t < length logs
+    → new ≡ record (log_at logs t) { events = (log_at logs t).events ++ e ∷ [] }
+    → labels_at (set logs t new) t ≡ labels_at logs t ++ label_of e ∷ []
 labels_pushed logs t e new l is =
     ap (λ z. map label_of z.events) (get_or-set_same logs t new no_log l ∙ is) ∙ map_append label_of (log_at logs t).events e
 
@@ -100,12 +117,14 @@ result_fits Input value h = input_fits (nat_lt value (2 ^ 8)) (value == 0xFFFFFF
     input_fits false false p q h = absurd cc
 
 -- there is room for an event
-pub has_room : (f : Flat) (logs : List Logged) (t : ℕ) (l : Logged) → IsTape f logs → t < length f.threads → l ≡ log_at logs t → (thread_of f t).events < most_events → length l.events < l.room
+pub has_room : (f : Flat) (logs : List Logged) (t : ℕ) (l : Logged) → IsTape f logs → t < length f.threads → l ≡ log_at logs t
+    → (thread_of f t).events < most_events → length l.events < l.room
 has_room f logs t l tape below is can =
     let count : length l.events ≡ (thread_of f t).events = ap (λ z. length z.events) is ∙ tape.counts t below in
     let room : l.room ≡ most_events = ap (λ z. z.room) is ∙ tape.rooms t below in
     omega (arith, count, room, can)
 
 -- the log that was read
-pub log_found : (f : Flat) (logs : List Logged) (t : ℕ) (l : Logged) → IsTape f logs → t < length f.threads → l ≡ get_or logs t l → l ≡ log_at logs t
+pub log_found : (f : Flat) (logs : List Logged) (t : ℕ) (l : Logged) → IsTape f logs → t < length f.threads → l ≡ get_or logs t l
+    → l ≡ log_at logs t
 log_found f logs t l tape below e = e ∙ get_or_default logs t l no_log (omega (arith, below, tape.one_each))

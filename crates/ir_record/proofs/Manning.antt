@@ -13,21 +13,25 @@ use Rattle.ir_record.specs.Gathered.{IsThreadTrace}
 use Rattle.ir_record.specs.Threads.{IsNew, AreNew, AreTraces, views_of, Pairs}
 use Rattle.ir_record.specs.declared.worker.Worker.{Worker}
 
-pub new_more : {W : Type 0} (g : Guest) (budget : ℕ) (id : TableId) (t n : ℕ) (ws : List (Worker W)) (w : Worker W) → AreNew g budget id t ws → n ≡ t + length ws → IsNew g budget id n w → AreNew g budget id t (ws ++ w ∷ [])
+pub new_more : {W : Type 0} (g : Guest) (budget : ℕ) (id : TableId) (t n : ℕ) (ws : List (Worker W)) (w : Worker W)
+    → AreNew g budget id t ws → n ≡ t + length ws → IsNew g budget id n w → AreNew g budget id t (ws ++ w ∷ [])
 new_more g budget id t n [] w h e new = (subst (λ z. IsNew g budget id z w) (let q : n ≡ t = omega (arith, e) in q) new, tt)
 new_more g budget id t n (x ∷ ws) w h e new = (h.0, new_more g budget id (suc t) n ws w h.1 (omega (arith, e)) new)
 
 -- the first seat, and those left
-pub seats_first : (id : TableId) (t : ℕ) (ss rest : List (Seat (Unit {0}) View)) (s : Seat (Unit {0}) View) → 0 < length ss → s ≡ get_or ss 0 s → rest ≡ take 0 ss ++ drop 1 ss → AreSeats id t ss
+pub seats_first : (id : TableId) (t : ℕ) (ss rest : List (Seat (Unit {0}) View)) (s : Seat (Unit {0}) View) → 0 < length ss
+    → s ≡ get_or ss 0 s → rest ≡ take 0 ss ++ drop 1 ss → AreSeats id t ss
     → ((s.table_id ≡ id) × (s.me ≡ (record { thread = t; steps = [] } ∷ [], []))) × AreSeats id (suc t) rest
 seats_first id t [] rest s l is left h = absurd (omega arith)
-seats_first id t (x ∷ ss) rest s l is left h = ((ap (λ z. z.table_id) is ∙ h.0.0, ap (λ z. z.me) is ∙ h.0.1), subst (AreSeats id (suc t)) (sym left) h.1)
+seats_first id t (x ∷ ss) rest s l is left h =
+    ((ap (λ z. z.table_id) is ∙ h.0.0, ap (λ z. z.me) is ∙ h.0.1), subst (AreSeats id (suc t)) (sym left) h.1)
 
 pub seats_left : {A : Type 0} (ss rest : List A) → 0 < length ss → rest ≡ take 0 ss ++ drop 1 ss → length rest + 1 ≡ length ss
 seats_left [] rest l left = absurd (omega arith)
 seats_left (x ∷ ss) rest l left = let e : length rest ≡ length ss = ap (λ z. length z) left in omega (arith, e)
 
-pub traces_more : {W : Type 0} (ws : List (Worker W)) (rs : List RecordedThread) (w : Worker W) (r : RecordedThread) → AreTraces ws rs → IsThreadTrace w.thread w.log r → AreTraces (ws ++ w ∷ []) (rs ++ r ∷ [])
+pub traces_more : {W : Type 0} (ws : List (Worker W)) (rs : List RecordedThread) (w : Worker W) (r : RecordedThread) → AreTraces ws rs
+    → IsThreadTrace w.thread w.log r → AreTraces (ws ++ w ∷ []) (rs ++ r ∷ [])
 traces_more [] [] w r h i = (i, tt)
 traces_more [] (q ∷ rs) w r h i = absurd h
 traces_more (x ∷ ws) [] w r h i = absurd h
@@ -52,17 +56,21 @@ views_more [] s = append-nil s.me.0
 views_more (x ∷ ss) s = ap (λ z. x.me.0 ++ z) (views_more ss s) ∙ sym (append_assoc x.me.0 (views_of ss) s.me.0)
 
 -- a seat more is joined
-pub views_on : (old rest : List (Seat (Unit {0}) View)) (s all new : Seat (Unit {0}) View) (whole : View) → views_of old ++ all.me.0 ≡ whole → old ≡ rest ++ s ∷ [] → new.me ≡ (s.me.0 ++ all.me.0, []) → views_of rest ++ new.me.0 ≡ whole
+pub views_on : (old rest : List (Seat (Unit {0}) View)) (s all new : Seat (Unit {0}) View) (whole : View) → views_of old ++ all.me.0 ≡ whole
+    → old ≡ rest ++ s ∷ [] → new.me ≡ (s.me.0 ++ all.me.0, []) → views_of rest ++ new.me.0 ≡ whole
 views_on old rest s all new whole h e is =
-    ap (λ z. views_of rest ++ z.0) is ∙ sym (append_assoc (views_of rest) s.me.0 all.me.0) ∙ ap (λ z. z ++ all.me.0) (sym (views_more rest s) ∙ ap views_of (sym e)) ∙ h
+    ap (λ z. views_of rest ++ z.0) is ∙ sym (append_assoc (views_of rest) s.me.0 all.me.0)
+        ∙ ap (λ z. z ++ all.me.0) (sym (views_more rest s) ∙ ap views_of (sym e)) ∙ h
 
-pub none_past : {W : Type 0} (f : W → Bool) (ws : List W) (n : ℕ) → length ws ≤ n → ((u : ℕ) → u < n → get_or (map f ws) u false ≡ false) → (t : ℕ) → get_or (map f ws) t false ≡ false
+pub none_past : {W : Type 0} (f : W → Bool) (ws : List W) (n : ℕ) → length ws ≤ n → ((u : ℕ) → u < n → get_or (map f ws) u false ≡ false)
+    → (t : ℕ) → get_or (map f ws) t false ≡ false
 none_past f ws n l h t = elim (cases_lt t n) [
   | inl below ↦ h t below
   | inr past ↦ get_or_past (map f ws) t false (let m = length-map ws f in omega (arith, m, l, past))
 ]
 
-pub mapped_last : {A B : Type 0} (f : A → B) (xs : List A) (x : A) (ys : List B) (y : B) → ys ≡ map f xs → y ≡ f x → ys ++ y ∷ [] ≡ map f (xs ++ x ∷ [])
+pub mapped_last : {A B : Type 0} (f : A → B) (xs : List A) (x : A) (ys : List B) (y : B) → ys ≡ map f xs → y ≡ f x → ys ++ y
+    ∷ [] ≡ map f (xs ++ x ∷ [])
 mapped_last f xs x ys y e h = (λ i. e i ++ h i ∷ []) ∙ go xs
   where
     go : (zs : _) → map f zs ++ f x ∷ [] ≡ map f (zs ++ x ∷ [])
@@ -76,7 +84,8 @@ pub nil_of : {A : Type 0} (xs : List A) (n : ℕ) → n ≡ length xs → n ≡ 
 nil_of [] n e z = refl
 nil_of (x ∷ xs) n e z = absurd (omega (arith, e, z))
 
-pub pairs_by : {A : Type 0} (P : A → A → Type 0) (xs ys : List A) → length ys ≡ length xs → ((i : ℕ) (d : A) → i < length xs → P (get_or xs i d) (get_or ys i d)) → Pairs P xs ys
+pub pairs_by : {A : Type 0} (P : A → A → Type 0) (xs ys : List A) → length ys ≡ length xs
+    → ((i : ℕ) (d : A) → i < length xs → P (get_or xs i d) (get_or ys i d)) → Pairs P xs ys
 pairs_by P [] [] e h = tt
 pairs_by P [] (y ∷ ys) e h = absurd (omega (arith, e))
 pairs_by P (x ∷ xs) [] e h = absurd (omega (arith, e))
@@ -87,5 +96,6 @@ take_prefix [] ys = refl
 take_prefix (x ∷ xs) ys = ap (λ z. x ∷ z) (take_prefix xs ys)
 
 -- what is left in a list of which a part was changed in place
-pub changed_all : {A : Type 0} (new old : List A) (n : ℕ) → n ≡ length old → length new ≡ length old → take n (new ++ drop (length new) old) ≡ new
+pub changed_all : {A : Type 0} (new old : List A) (n : ℕ) → n ≡ length old → length new ≡ length old
+    → take n (new ++ drop (length new) old) ≡ new
 changed_all new old n e f = ap (λ k. take k (new ++ drop (length new) old)) (e ∙ sym f) ∙ take_prefix new (drop (length new) old)

@@ -16,17 +16,20 @@ use Rattle.ir_flat.proofs.CallerLemmas.{tally}
 use Rattle.ir_record.proofs.Tally.{Few, alone_less}
 
 -- steps of one thread are its turns
-alone_turns : {T : Type 0} (m : Machine T) (t k : ℕ) (s : State T) → IsRun m s (replicate k (t, 0)) → InTurn m s (replicate k t) (replicate k (t, 0))
+alone_turns : {T : Type 0} (m : Machine T) (t k : ℕ) (s : State T) → IsRun m s (replicate k (t, 0))
+    → InTurn m s (replicate k t) (replicate k (t, 0))
 alone_turns m t zero s ok = refl
 alone_turns m t (suc k) s ok = inr (0, replicate k (t, 0), refl, ok.0, alone_turns m t k (after m s (t, 0)) ok.1)
 
 pub flat_few : (f : Flat) → IsFlat f → Few (tables f)
 flat_few f flat t = elim (cases_lt t (length f.threads)) [
   | inl l ↦ omega (arith, flat.places t l, flat.few_objects)
-  | inr past ↦ let none : length (thread_of f t).held ≡ 0 = ap (λ x. length x.held) (get_or_past f.threads t idle past) in omega (arith, none)
+  | inr past ↦ let none : length (thread_of f t).held ≡ 0 = ap (λ x. length x.held) (get_or_past f.threads t idle past) in
+      omega (arith, none)
 ]
 
-pub run_took : (f g : Flat) (logs : List Logged) (t k : ℕ) → IsFlat f → t < length f.threads → WentAlone f g t k → (answers : List (List Answered))
+pub run_took : (f g : Flat) (logs : List Logged) (t k : ℕ) → IsFlat f → t < length f.threads → WentAlone f g t k
+    → (answers : List (List Answered))
     → Took (replicate k t) (record { flat = f; logs = logs; answers = answers }) (record { flat = g; logs = logs; answers = answers })
 run_took f g logs t k flat l w answers = record {
   run = replicate k (t, 0);
@@ -41,7 +44,8 @@ run_took f g logs t k flat l w answers = record {
       let step : Step = (t, 0) in
       let size : length (replicate k step) ≡ k = length-replicate k step in
       let less = alone_less f.code (length f.threads) t k (tables f) (flat_few f flat) l w.runs in
-      let same : all_left (length f.threads) (tables g).now ≡ all_left (length f.threads) (end (machine f) (tables f) (replicate k (t, 0))).now = ap (λ s. all_left (length f.threads) s.now) w.ends in
+      let same : all_left (length f.threads) (tables g).now ≡ all_left (length f.threads)
+          (end (machine f) (tables f) (replicate k (t, 0))).now = ap (λ s. all_left (length f.threads) s.now) w.ends in
       omega (arith, size, less, same);
 }
 
@@ -50,6 +54,9 @@ run_tape f g logs t k w tape = record {
   one_each = tape.one_each ∙ sym w.threads;
   rooms = λ u l. tape.rooms u (omega (arith, l, w.threads));
   counts = λ u l. tape.counts u (omega (arith, l, w.threads)) ∙ sym (
-      ap (λ s. (s.now u).events) w.ends ∙ (tally f.code (tables f) (replicate k (t, 0)) w.runs u).events ∙ ap (λ z. (thread_of f u).events + length z) (w.quiet u) ∙ (let e : (thread_of f u).events + 0 ≡ (thread_of f u).events = omega arith in e));
-  events_fit = λ u l. subst (λ n. AllByRecursion (IsEvent n) (log_at logs u).events) (sym w.objects) (tape.events_fit u (omega (arith, l, w.threads)));
+      ap (λ s. (s.now u).events) w.ends ∙ (tally f.code (tables f) (replicate k (t, 0)) w.runs u).events
+          ∙ ap (λ z. (thread_of f u).events + length z) (w.quiet u)
+          ∙ (let e : (thread_of f u).events + 0 ≡ (thread_of f u).events = omega arith in e));
+  events_fit = λ u l. subst (λ n. AllByRecursion (IsEvent n) (log_at logs u).events) (sym w.objects)
+      (tape.events_fit u (omega (arith, l, w.threads)));
 }

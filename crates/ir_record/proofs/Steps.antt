@@ -65,19 +65,24 @@ took_step t r k a b s = record {
   logs = λ u l. elim (cases_eq u t) [
     | inl e ↦ subst (λ z. labels_at b.logs z ≡ labels_at a.logs z ++ log (machine a.flat) (tables a.flat) ((t, r) ∷ []) z) (sym e)
         (s.own_log ∙ ap (λ z. labels_at a.logs t ++ z) (sym (log_own a.flat t r ∙ ap (λ z. logged z []) s.tells)))
-    | inr ne ↦ s.other_logs u ne ∙ sym (append-nil (labels_at a.logs u)) ∙ ap (λ z. labels_at a.logs u ++ z) (sym (log_other a.flat t r u ne))
+    | inr ne ↦ s.other_logs u ne ∙ sym (append-nil (labels_at a.logs u))
+        ∙ ap (λ z. labels_at a.logs u ++ z) (sym (log_other a.flat t r u ne))
   ];
   answers = λ u l. elim (cases_eq u t) [
-    | inl e ↦ subst (λ z. answers_at b.answers z ≡ answers_at a.answers z ++ answers_in (log (machine a.flat) (tables a.flat) ((t, r) ∷ []) z)) (sym e)
+    | inl e ↦ subst (λ z. answers_at b.answers z ≡ answers_at a.answers z ++ answers_in
+        (log (machine a.flat) (tables a.flat) ((t, r) ∷ []) z)) (sym e)
         (s.own_answers ∙ ap (λ z. answers_at a.answers t ++ answers_in z) (sym (log_own a.flat t r ∙ ap (λ z. logged z []) s.tells)))
-    | inr ne ↦ s.other_answers u ne ∙ sym (append-nil (answers_at a.answers u)) ∙ ap (λ z. answers_at a.answers u ++ answers_in z) (sym (log_other a.flat t r u ne))
+    | inr ne ↦ s.other_answers u ne ∙ sym (append-nil (answers_at a.answers u))
+        ∙ ap (λ z. answers_at a.answers u ++ answers_in z) (sym (log_other a.flat t r u ne))
   ];
-  fewer = subst (λ z. all_left (length a.flat.threads) z.now + 1 ≤ all_left (length a.flat.threads) (thread_of a.flat)) (sym s.taken) (step_less a.flat.code (length a.flat.threads) (tables a.flat) (t, r) s.few s.below s.can);
+  fewer = subst (λ z. all_left (length a.flat.threads) z.now + 1 ≤ all_left (length a.flat.threads) (thread_of a.flat)) (sym s.taken)
+      (step_less a.flat.code (length a.flat.threads) (tables a.flat) (t, r) s.few s.below s.can);
 }
 
 pub took_one : (t r : ℕ) (k : Label) (a b : Progress) → OneStep t r k a b → TookIf true (t ∷ []) a b
 unfolding took_step
-took_one t r k a b s = record { took = took_step t r k a b s; some = λ e. (let one : 0 < suc zero = omega arith in one); none = λ e. absurd cc }
+took_one t r k a b s = record { took = took_step t r k a b s; some = λ e. (let one : 0 < suc zero = omega arith in one); none =
+    λ e. absurd cc }
 
 answers_logged : (k : Label) (ys : List Label) → answers_in (logged k ys) ≡ answers_in (logged k []) ++ answers_in ys
 answers_logged Quiet ys = refl
@@ -110,28 +115,40 @@ took_nothing a = record {
 }
 
 -- the same run on the machine and state at which it begins
-pub log_there : (a b : Progress) (first : List Step) (run : List Step) (t : ℕ) → b.flat.code ≡ a.flat.code → tables b.flat ≡ end (machine a.flat) (tables a.flat) first
+pub log_there : (a b : Progress) (first : List Step) (run : List Step) (t : ℕ) → b.flat.code ≡ a.flat.code
+    → tables b.flat ≡ end (machine a.flat) (tables a.flat) first
     → log (machine b.flat) (tables b.flat) run t ≡ log (machine a.flat) (end (machine a.flat) (tables a.flat) first) run t
-log_there a b first run t code ends = ap (λ c. log (thread_machine c) (tables b.flat) run t) code ∙ ap (λ s. log (machine a.flat) s run t) ends
+log_there a b first run t code ends = ap (λ c. log (thread_machine c) (tables b.flat) run t) code
+    ∙ ap (λ s. log (machine a.flat) s run t) ends
 
 unfoldable pub took_both : (order more : List ℕ) (a b c : Progress) → Took order a b → Took more b c → Took (order ++ more) a c
 took_both order more a b c p q =
-    let logs_of : (t : ℕ) → log (machine a.flat) (tables a.flat) (p.run ++ q.run) t ≡ log (machine a.flat) (tables a.flat) p.run t ++ log (machine b.flat) (tables b.flat) q.run t =
-    λ t. log_append (machine a.flat) (tables a.flat) p.run q.run t ∙ ap (λ z. log (machine a.flat) (tables a.flat) p.run t ++ z) (sym (log_there a b p.run q.run t p.code p.ends)) in
+    let logs_of : (t : ℕ) → log (machine a.flat) (tables a.flat) (p.run ++ q.run) t ≡ log (machine a.flat) (tables a.flat) p.run t ++ log
+        (machine b.flat) (tables b.flat) q.run t =
+    λ t. log_append (machine a.flat) (tables a.flat) p.run q.run t
+        ∙ ap (λ z. log (machine a.flat) (tables a.flat) p.run t ++ z) (sym (log_there a b p.run q.run t p.code p.ends)) in
     record {
       run = p.run ++ q.run;
       turns = turns_append (machine a.flat) (tables a.flat) order more p.run q.run p.turns
-          (subst (λ s. InTurn (machine a.flat) s more q.run) p.ends (subst (λ k. InTurn (thread_machine k) (tables b.flat) more q.run) p.code q.turns));
-      ends = q.ends ∙ ap (λ k. end (thread_machine k) (tables b.flat) q.run) p.code ∙ ap (λ s. end (machine a.flat) s q.run) p.ends ∙ sym (end_append (machine a.flat) (tables a.flat) p.run q.run);
+          (subst (λ s. InTurn (machine a.flat) s more q.run) p.ends
+              (subst (λ k. InTurn (thread_machine k) (tables b.flat) more q.run) p.code q.turns));
+      ends = q.ends ∙ ap (λ k. end (thread_machine k) (tables b.flat) q.run) p.code ∙ ap (λ s. end (machine a.flat) s q.run) p.ends
+          ∙ sym (end_append (machine a.flat) (tables a.flat) p.run q.run);
       code = q.code ∙ p.code;
       threads = q.threads ∙ p.threads;
       objects = q.objects ∙ p.objects;
       logs = λ t l. q.logs t (omega (arith, l, p.threads)) ∙ ap (λ z. z ++ log (machine b.flat) (tables b.flat) q.run t) (p.logs t l)
-          ∙ append_assoc (labels_at a.logs t) (log (machine a.flat) (tables a.flat) p.run t) (log (machine b.flat) (tables b.flat) q.run t) ∙ ap (λ z. labels_at a.logs t ++ z) (sym (logs_of t));
-      answers = λ t l. q.answers t (omega (arith, l, p.threads)) ∙ ap (λ z. z ++ answers_in (log (machine b.flat) (tables b.flat) q.run t)) (p.answers t l)
-          ∙ append_assoc (answers_at a.answers t) (answers_in (log (machine a.flat) (tables a.flat) p.run t)) (answers_in (log (machine b.flat) (tables b.flat) q.run t))
-          ∙ ap (λ z. answers_at a.answers t ++ z) (sym (answers_append (log (machine a.flat) (tables a.flat) p.run t) (log (machine b.flat) (tables b.flat) q.run t)) ∙ ap answers_in (sym (logs_of t)));
-      fewer = let more_left = subst (λ n. all_left n (tables c.flat).now + length q.run ≤ all_left n (tables b.flat).now) p.threads q.fewer in
+          ∙ append_assoc (labels_at a.logs t) (log (machine a.flat) (tables a.flat) p.run t) (log (machine b.flat) (tables b.flat) q.run t)
+          ∙ ap (λ z. labels_at a.logs t ++ z) (sym (logs_of t));
+      answers = λ t l. q.answers t (omega (arith, l, p.threads))
+          ∙ ap (λ z. z ++ answers_in (log (machine b.flat) (tables b.flat) q.run t)) (p.answers t l)
+          ∙ append_assoc (answers_at a.answers t) (answers_in (log (machine a.flat) (tables a.flat) p.run t))
+          (answers_in (log (machine b.flat) (tables b.flat) q.run t))
+          ∙ ap (λ z. answers_at a.answers t ++ z)
+          (sym (answers_append (log (machine a.flat) (tables a.flat) p.run t) (log (machine b.flat) (tables b.flat) q.run t))
+          ∙ ap answers_in (sym (logs_of t)));
+      fewer = let more_left = subst (λ n. all_left n (tables c.flat).now + length q.run ≤ all_left n (tables b.flat).now) p.threads
+          q.fewer in
           let first_left = p.fewer in
           let both = length-append p.run q.run in
           omega (arith, more_left, first_left, both);

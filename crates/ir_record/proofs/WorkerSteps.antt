@@ -57,9 +57,11 @@ all_join P [] ys p q = q
 all_join P (x ∷ xs) ys p q = (p.0, all_join P xs ys p.1 q)
 
 -- how a thread is inside an object after a step, which is an object step if b
-inside_keep : (q : Act) (v o : ℕ) (h : ℕ → Option Access) (xs : List Shared) (b : Bool) → is_shared q ≡ b → inside_after o None xs ≡ h o → inside_after o None (xs ++ keep_if b (q, v) []) ≡ held_after q h o
+inside_keep : (q : Act) (v o : ℕ) (h : ℕ → Option Access) (xs : List Shared) (b : Bool) → is_shared q ≡ b → inside_after o None xs ≡ h o
+    → inside_after o None (xs ++ keep_if b (q, v) []) ≡ held_after q h o
 inside_keep q v o h xs false is e = ap (inside_after o None) (append-nil xs) ∙ e ∙ sym (held_own q h o is)
-inside_keep q v o h xs true is e = inside_more o None xs (q, v) ∙ ap (inside_if (eqb o (Rattle.ir_runs.specs.Object.target q)) q) e ∙ sym (held_inside q h o is)
+inside_keep q v o h xs true is e = inside_more o None xs (q, v) ∙ ap (inside_if (eqb o (Rattle.ir_runs.specs.Object.target q)) q) e
+    ∙ sym (held_inside q h o is)
 
 entries_keep : (q : Act) (v : ℕ) (xs : List Shared) (b : Bool) → entries (xs ++ keep_if b (q, v) []) ≤ entries xs + one_if_entry q
 entries_keep q v xs false = let e = ap entries (append-nil xs) in omega (arith, e)
@@ -91,7 +93,8 @@ pub record IsStep (g : Guest) (t : ℕ) (w w' : Work) (q : Ask) (v : ℕ) (es : 
   pub log : w'.log ≡ record w.log { events = w.log.events ++ evs }
   pub answers : w'.answers ≡ w.answers ++ answers_in (map logging.label_of evs)
 
-pub works_on : (g : Guest) (budget t : ℕ) (before : List Answered) (w w' : Work) (q : Ask) (v : ℕ) (es : List ObjectStep) (evs : List Event) → (i : IsWorking g budget t before w) → IsStep g t w w' q v es evs
+pub works_on : (g : Guest) (budget t : ℕ) (before : List Answered) (w w' : Work) (q : Ask) (v : ℕ) (es : List ObjectStep) (evs : List Event)
+    → (i : IsWorking g budget t before w) → IsStep g t w w' q v es evs
     → w'.me ≡ (track t (i.track ++ es) ∷ [], []) → IsWorking g budget t before w'
 unfolding after_reply
 works_on g budget t before w w' q v es evs i s view =
@@ -99,12 +102,17 @@ works_on g budget t before w w' q v es evs i s view =
     let a : Act = act_of (shared_ask q) v in
     let is : act_of (m.ask w.thread) v ≡ a = ap (λ z. act_of (shared_ask z) v) s.asked in
     let next : m.take w.thread v ≡ w'.thread = ap (λ z. after_reply g.code w.thread (reply_of z v)) s.asked ∙ sym s.took in
-    let after : w'.thread ≡ after_ask g.code w.thread q (reply_of q v) = s.took ∙ ap (λ z. after_ask g.code w.thread z (reply_of q v)) s.asked in
-    let even : length (map label_of i.track) ≡ length (map shared_of i.track) = length-map i.track label_of ∙ sym (length-map i.track shared_of) in
-    let steps : map shared_of (i.track ++ es) ≡ map shared_of i.track ++ keep_if (is_shared a) (a, v) [] = map_join shared_of i.track es ∙ ap (λ z. map shared_of i.track ++ z) s.shares in
-    let more = worked_more m (thread.start_state g t budget) w.thread (map shared_of i.track) (map label_of i.track) (map logging.label_of w.log.events) v (map label_of es) i.worked even (subst (λ z. MayReply m z v) (sym is) s.may) in
+    let after : w'.thread ≡ after_ask g.code w.thread q (reply_of q v) = s.took
+        ∙ ap (λ z. after_ask g.code w.thread z (reply_of q v)) s.asked in
+    let even : length (map label_of i.track) ≡ length (map shared_of i.track) = length-map i.track label_of
+        ∙ sym (length-map i.track shared_of) in
+    let steps : map shared_of (i.track ++ es) ≡ map shared_of i.track ++ keep_if (is_shared a) (a, v) [] = map_join shared_of i.track es
+        ∙ ap (λ z. map shared_of i.track ++ z) s.shares in
+    let more = worked_more m (thread.start_state g t budget) w.thread (map shared_of i.track) (map label_of i.track)
+        (map logging.label_of w.log.events) v (map label_of es) i.worked even (subst (λ z. MayReply m z v) (sym is) s.may) in
     let events : w'.log.events ≡ w.log.events ++ evs = ap (λ z. z.events) s.log in
-    let labels : map logging.label_of w'.log.events ≡ map logging.label_of w.log.events ++ map logging.label_of evs = ap (map logging.label_of) events ∙ map_join logging.label_of w.log.events evs in
+    let labels : map logging.label_of w'.log.events ≡ map logging.label_of w.log.events ++ map logging.label_of evs =
+        ap (map logging.label_of) events ∙ map_join logging.label_of w.log.events evs in
     let sum : w'.thread.events ≡ w.thread.events + added q = ap (λ z. z.events) after ∙ events_added g.code w.thread q (reply_of q v) in
     record {
       track = i.track ++ es;
@@ -114,11 +122,15 @@ works_on g budget t before w w' q v es evs i s view =
         may = more.may;
         now = more.now ∙ next;
         steps_are = more.steps_are ∙ ap (λ z. map shared_of i.track ++ keep_if (is_shared z) (z, v) []) is ∙ sym steps;
-        logged = ap (λ z. Rattle.ir_runs.specs.Run.events (Rattle.ir_flat.specs.Splice.alone_trail m (thread.start_state g t budget) more.replies z)) (map_join label_of i.track es)
-            ∙ more.logged ∙ ap (λ z. map logging.label_of w.log.events ++ logged (alone_label z (map label_of es)) []) is ∙ ap (λ z. map logging.label_of w.log.events ++ z) (sym s.logs) ∙ sym labels;
+        logged = ap (λ z. Rattle.ir_runs.specs.Run.events
+            (Rattle.ir_flat.specs.Splice.alone_trail m (thread.start_state g t budget) more.replies z)) (map_join label_of i.track es)
+            ∙ more.logged ∙ ap (λ z. map logging.label_of w.log.events ++ logged (alone_label z (map label_of es)) []) is
+            ∙ ap (λ z. map logging.label_of w.log.events ++ z) (sym s.logs) ∙ sym labels;
       };
-      held = λ o. ap (inside_after o None) steps ∙ inside_keep a v o (held_at w.thread.held) (map shared_of i.track) (is_shared a) refl (i.held o)
-          ∙ ap (λ z. held_after z (held_at w.thread.held) o) (sym is) ∙ sym ((lawful g.code).takes w.thread v o) ∙ ap (λ z. held_at z.held o) next;
+      held = λ o. ap (inside_after o None) steps
+          ∙ inside_keep a v o (held_at w.thread.held) (map shared_of i.track) (is_shared a) refl (i.held o)
+          ∙ ap (λ z. held_after z (held_at w.thread.held) o) (sym is) ∙ sym ((lawful g.code).takes w.thread v o)
+          ∙ ap (λ z. held_at z.held o) next;
       places = ap (λ z. length z.held) after ∙ held_length g.code w.thread q (reply_of q v) ∙ i.places;
       few =
           let here = entries_keep a v (map shared_of i.track) (is_shared a) in
@@ -132,9 +144,12 @@ works_on g budget t before w w' q v es evs i s view =
           let was = i.count in
           let new = s.events in
           omega (arith, long, was, new, sum);
-      events_fit = subst (AllByRecursion (IsEvent (object_count g))) (sym events) (all_join (IsEvent (object_count g)) w.log.events evs i.events_fit s.fit);
-      answered = s.answers ∙ ap (λ z. z ++ answers_in (map logging.label_of evs)) i.answered ∙ append_assoc before (answers_in (map logging.label_of w.log.events)) (answers_in (map logging.label_of evs))
-          ∙ ap (λ z. before ++ z) (sym (answers_join (map logging.label_of w.log.events) (map logging.label_of evs)) ∙ ap answers_in (sym labels));
+      events_fit = subst (AllByRecursion (IsEvent (object_count g))) (sym events)
+          (all_join (IsEvent (object_count g)) w.log.events evs i.events_fit s.fit);
+      answered = s.answers ∙ ap (λ z. z ++ answers_in (map logging.label_of evs)) i.answered
+          ∙ append_assoc before (answers_in (map logging.label_of w.log.events)) (answers_in (map logging.label_of evs))
+          ∙ ap (λ z. before ++ z) (sym (answers_join (map logging.label_of w.log.events) (map logging.label_of evs))
+          ∙ ap answers_in (sym labels));
     }
 
 -- ---- the kinds of steps
@@ -142,68 +157,107 @@ works_on g budget t before w w' q v es evs i s view =
 nothing_more : {A : Type 0} (xs ys : List A) → ys ≡ xs → ys ≡ xs ++ []
 nothing_more xs ys e = e ∙ sym (append-nil xs)
 
-same_view : (t : ℕ) (steps : List ObjectStep) (me me' : M) → me' ≡ me → me ≡ (track t steps ∷ [], []) → me' ≡ (track t (steps ++ []) ∷ [], [])
+same_view : (t : ℕ) (steps : List ObjectStep) (me me' : M) → me' ≡ me → me ≡ (track t steps ∷ [], [])
+    → me' ≡ (track t (steps ++ []) ∷ [], [])
 same_view t steps me me' e is = e ∙ is ∙ (λ i. (track t (sym (append-nil steps) i) ∷ [], []))
 
-did_view : (t o : ℕ) (d : Deed) (steps : List ObjectStep) (me me' : M) → me' ≡ (did me.0 o d, me.1) → me ≡ (track t steps ∷ [], []) → me' ≡ (track t (steps ++ act o d ∷ []) ∷ [], [])
+did_view : (t o : ℕ) (d : Deed) (steps : List ObjectStep) (me me' : M) → me' ≡ (did me.0 o d, me.1) → me ≡ (track t steps ∷ [], [])
+    → me' ≡ (track t (steps ++ act o d ∷ []) ∷ [], [])
 did_view t o d steps me me' e is = e ∙ ap (λ (z : M). (did z.0 o d, z.1)) is
 
 same_log : (l l' : Logged) → l' ≡ l → l' ≡ record l { events = l.events ++ [] }
 same_log l l' e = e ∙ (λ i. record l { events = sym (append-nil l.events) i })
 
-own_is_step : (g : Guest) (t : ℕ) (w w' : Work) (q : Ask) → IsOwn q → ask_of g.code w.thread ≡ q → w'.thread ≡ after_reply g.code w.thread Go → w'.log ≡ w.log → w'.answers ≡ w.answers → IsStep g t w w' q 0 [] []
-own_is_step g t w w' ask.Private own asked took log answers = record { asked = asked; may = refl; took = took; shares = refl; logs = refl; events = refl; fit = tt; log = same_log w.log w'.log log; answers = nothing_more w.answers w'.answers answers }
+own_is_step : (g : Guest) (t : ℕ) (w w' : Work) (q : Ask) → IsOwn q → ask_of g.code w.thread ≡ q
+    → w'.thread ≡ after_reply g.code w.thread Go → w'.log ≡ w.log → w'.answers ≡ w.answers → IsStep g t w w' q 0 [] []
+own_is_step g t w w' ask.Private own asked took log answers =
+    record { asked = asked; may = refl; took = took; shares = refl; logs = refl; events = refl; fit = tt; log =
+    same_log w.log w'.log log; answers = nothing_more w.answers w'.answers answers }
 own_is_step g t w w' (ask.Env kind) own asked took log answers = absurd own
 own_is_step g t w w' (ask.Enter object access) own asked took log answers = absurd own
 own_is_step g t w w' (ask.Leave object access) own asked took log answers = absurd own
 own_is_step g t w w' (ask.Get object index) own asked took log answers = absurd own
 own_is_step g t w w' (ask.Put object index value) own asked took log answers = absurd own
-own_is_step g t w w' ask.Print own asked took log answers = record { asked = asked; may = refl; took = took; shares = refl; logs = refl; events = refl; fit = tt; log = same_log w.log w'.log log; answers = nothing_more w.answers w'.answers answers }
-own_is_step g t w w' (ask.End e) own asked took log answers = record { asked = asked; may = refl; took = took; shares = refl; logs = refl; events = refl; fit = tt; log = same_log w.log w'.log log; answers = nothing_more w.answers w'.answers answers }
+own_is_step g t w w' ask.Print own asked took log answers =
+    record { asked = asked; may = refl; took = took; shares = refl; logs = refl; events = refl; fit = tt; log =
+    same_log w.log w'.log log; answers = nothing_more w.answers w'.answers answers }
+own_is_step g t w w' (ask.End e) own asked took log answers =
+    record { asked = asked; may = refl; took = took; shares = refl; logs = refl; events = refl; fit = tt; log =
+    same_log w.log w'.log log; answers = nothing_more w.answers w'.answers answers }
 own_is_step g t w w' ask.Done own asked took log answers = absurd own
 
-pub own_step : (g : Guest) (budget t : ℕ) (before : List Answered) (w w' : Work) (q : Ask) → IsOwn q → ask_of g.code w.thread ≡ q → w'.me ≡ w.me → w'.thread ≡ after_reply g.code w.thread Go → w'.log ≡ w.log → w'.answers ≡ w.answers
+pub own_step : (g : Guest) (budget t : ℕ) (before : List Answered) (w w' : Work) (q : Ask) → IsOwn q → ask_of g.code w.thread ≡ q
+    → w'.me ≡ w.me → w'.thread ≡ after_reply g.code w.thread Go → w'.log ≡ w.log → w'.answers ≡ w.answers
     → IsWorking g budget t before w → IsWorking g budget t before w'
-own_step g budget t before w w' q own asked me took log answers i = works_on g budget t before w w' q 0 [] [] i (own_is_step g t w w' q own asked took log answers) (same_view t i.track w.me w'.me me i.view)
-
-pub answer_step : (g : Guest) (budget t : ℕ) (before : List Answered) (w w' : Work) (kind : EnvKind) (value : ℕ) → ask_of g.code w.thread ≡ ask.Env kind → is_result kind value ≡ true → w'.me ≡ w.me → w'.thread ≡ after_reply g.code w.thread (Value value)
-    → w'.log ≡ record w.log { events = w.log.events ++ event.Answer kind value ∷ [] } → w'.answers ≡ w.answers ++ (kind, value) ∷ [] → IsWorking g budget t before w → IsWorking g budget t before w'
-answer_step g budget t before w w' kind value asked fits me took log answers i = works_on g budget t before w w' (ask.Env kind) value [] (event.Answer kind value ∷ []) i
-    (record { asked = asked; may = fits; took = took; shares = refl; logs = refl; events = refl; fit = (result_fits kind value fits, tt); log = log; answers = answers })
+own_step g budget t before w w' q own asked me took log answers i =
+    works_on g budget t before w w' q 0 [] [] i (own_is_step g t w w' q own asked took log answers)
     (same_view t i.track w.me w'.me me i.view)
 
-pub read_step : (g : Guest) (budget t : ℕ) (before : List Answered) (w w' : Work) (o version : ℕ) → o < object_count g → version < 2 ^ 32 → ask_of g.code w.thread ≡ ask.Enter o Reading → w'.me ≡ (did w.me.0 o (Enter Reading version 0), w.me.1)
-    → w'.thread ≡ after_reply g.code w.thread Go → w'.log ≡ record w.log { events = w.log.events ++ event.Read o version ∷ [] } → w'.answers ≡ w.answers → IsWorking g budget t before w → IsWorking g budget t before w'
-read_step g budget t before w w' o version below fits asked me took log answers i = works_on g budget t before w w' (ask.Enter o Reading) 0 (act o (Enter Reading version 0) ∷ []) (event.Read o version ∷ []) i
-    (record { asked = asked; may = refl; took = took; shares = refl; logs = refl; events = refl; fit = ((below, fits), tt); log = log; answers = nothing_more w.answers w'.answers answers })
+pub answer_step : (g : Guest) (budget t : ℕ) (before : List Answered) (w w' : Work) (kind : EnvKind) (value : ℕ)
+    → ask_of g.code w.thread ≡ ask.Env kind → is_result kind value ≡ true → w'.me ≡ w.me
+    → w'.thread ≡ after_reply g.code w.thread (Value value)
+    → w'.log ≡ record w.log { events = w.log.events ++ event.Answer kind value ∷ [] } → w'.answers ≡ w.answers ++ (kind, value) ∷ []
+    → IsWorking g budget t before w → IsWorking g budget t before w'
+answer_step g budget t before w w' kind value asked fits me took log answers i =
+    works_on g budget t before w w' (ask.Env kind) value [] (event.Answer kind value ∷ []) i
+    (record { asked = asked; may = fits; took = took; shares = refl; logs = refl; events = refl; fit =
+        (result_fits kind value fits, tt); log = log; answers = answers })
+    (same_view t i.track w.me w'.me me i.view)
+
+pub read_step : (g : Guest) (budget t : ℕ) (before : List Answered) (w w' : Work) (o version : ℕ) → o < object_count g → version < 2 ^ 32
+    → ask_of g.code w.thread ≡ ask.Enter o Reading → w'.me ≡ (did w.me.0 o (Enter Reading version 0), w.me.1)
+    → w'.thread ≡ after_reply g.code w.thread Go → w'.log ≡ record w.log { events = w.log.events ++ event.Read o version ∷ [] }
+    → w'.answers ≡ w.answers → IsWorking g budget t before w → IsWorking g budget t before w'
+read_step g budget t before w w' o version below fits asked me took log answers i =
+    works_on g budget t before w w' (ask.Enter o Reading) 0 (act o (Enter Reading version 0) ∷ []) (event.Read o version ∷ []) i
+    (record { asked = asked; may = refl; took = took; shares = refl; logs = refl; events = refl; fit = ((below, fits), tt); log =
+        log; answers = nothing_more w.answers w'.answers answers })
     (did_view t o (Enter Reading version 0) i.track w.me w'.me me i.view)
 
-pub write_step : (g : Guest) (budget t : ℕ) (before : List Answered) (w w' : Work) (o version left : ℕ) → o < object_count g → version < 2 ^ 32 → left < 2 ^ 32 → ask_of g.code w.thread ≡ ask.Enter o Writing → w'.me ≡ (did w.me.0 o (Enter Writing version left), w.me.1)
-    → w'.thread ≡ after_reply g.code w.thread Go → w'.log ≡ record w.log { events = w.log.events ++ event.Write o version left ∷ [] } → w'.answers ≡ w.answers → IsWorking g budget t before w → IsWorking g budget t before w'
-write_step g budget t before w w' o version left below fits small asked me took log answers i = works_on g budget t before w w' (ask.Enter o Writing) 0 (act o (Enter Writing version left) ∷ []) (event.Write o version left ∷ []) i
-    (record { asked = asked; may = refl; took = took; shares = refl; logs = refl; events = refl; fit = ((below, fits, small), tt); log = log; answers = nothing_more w.answers w'.answers answers })
+pub write_step : (g : Guest) (budget t : ℕ) (before : List Answered) (w w' : Work) (o version left : ℕ) → o < object_count g
+    → version < 2 ^ 32 → left < 2 ^ 32 → ask_of g.code w.thread ≡ ask.Enter o Writing
+    → w'.me ≡ (did w.me.0 o (Enter Writing version left), w.me.1)
+    → w'.thread ≡ after_reply g.code w.thread Go → w'.log ≡ record w.log { events = w.log.events ++ event.Write o version left ∷ [] }
+    → w'.answers ≡ w.answers → IsWorking g budget t before w → IsWorking g budget t before w'
+write_step g budget t before w w' o version left below fits small asked me took log answers i =
+    works_on g budget t before w w' (ask.Enter o Writing) 0 (act o (Enter Writing version left) ∷ []) (event.Write o version left ∷ []) i
+    (record { asked = asked; may = refl; took = took; shares = refl; logs = refl; events = refl; fit = ((below, fits, small), tt); log =
+        log; answers = nothing_more w.answers w'.answers answers })
     (did_view t o (Enter Writing version left) i.track w.me w'.me me i.view)
 
-pub leave_step : (g : Guest) (budget t : ℕ) (before : List Answered) (w w' : Work) (o version : ℕ) (a : Access) → ask_of g.code w.thread ≡ ask.Leave o a → w'.me ≡ (did w.me.0 o (Leave a version), w.me.1)
-    → w'.thread ≡ after_reply g.code w.thread Go → w'.log ≡ w.log → w'.answers ≡ w.answers → IsWorking g budget t before w → IsWorking g budget t before w'
-leave_step g budget t before w w' o version a asked me took log answers i = works_on g budget t before w w' (ask.Leave o a) 0 (act o (Leave a version) ∷ []) [] i
-    (record { asked = asked; may = refl; took = took; shares = refl; logs = refl; events = refl; fit = tt; log = same_log w.log w'.log log; answers = nothing_more w.answers w'.answers answers })
+pub leave_step : (g : Guest) (budget t : ℕ) (before : List Answered) (w w' : Work) (o version : ℕ) (a : Access)
+    → ask_of g.code w.thread ≡ ask.Leave o a → w'.me ≡ (did w.me.0 o (Leave a version), w.me.1)
+    → w'.thread ≡ after_reply g.code w.thread Go → w'.log ≡ w.log → w'.answers ≡ w.answers → IsWorking g budget t before w
+    → IsWorking g budget t before w'
+leave_step g budget t before w w' o version a asked me took log answers i =
+    works_on g budget t before w w' (ask.Leave o a) 0 (act o (Leave a version) ∷ []) [] i
+    (record { asked = asked; may = refl; took = took; shares = refl; logs = refl; events = refl; fit = tt; log =
+        same_log w.log w'.log log; answers = nothing_more w.answers w'.answers answers })
     (did_view t o (Leave a version) i.track w.me w'.me me i.view)
 
-pub get_step : (g : Guest) (budget t : ℕ) (before : List Answered) (w w' : Work) (o index value : ℕ) → ask_of g.code w.thread ≡ ask.Get o index → w'.me ≡ (did w.me.0 o (Get index value), w.me.1)
-    → w'.thread ≡ after_reply g.code w.thread (Value value) → w'.log ≡ w.log → w'.answers ≡ w.answers → IsWorking g budget t before w → IsWorking g budget t before w'
-get_step g budget t before w w' o index value asked me took log answers i = works_on g budget t before w w' (ask.Get o index) value (act o (Get index value) ∷ []) [] i
-    (record { asked = asked; may = tt; took = took; shares = refl; logs = refl; events = refl; fit = tt; log = same_log w.log w'.log log; answers = nothing_more w.answers w'.answers answers })
+pub get_step : (g : Guest) (budget t : ℕ) (before : List Answered) (w w' : Work) (o index value : ℕ)
+    → ask_of g.code w.thread ≡ ask.Get o index → w'.me ≡ (did w.me.0 o (Get index value), w.me.1)
+    → w'.thread ≡ after_reply g.code w.thread (Value value) → w'.log ≡ w.log → w'.answers ≡ w.answers → IsWorking g budget t before w
+    → IsWorking g budget t before w'
+get_step g budget t before w w' o index value asked me took log answers i =
+    works_on g budget t before w w' (ask.Get o index) value (act o (Get index value) ∷ []) [] i
+    (record { asked = asked; may = tt; took = took; shares = refl; logs = refl; events = refl; fit = tt; log =
+        same_log w.log w'.log log; answers = nothing_more w.answers w'.answers answers })
     (did_view t o (Get index value) i.track w.me w'.me me i.view)
 
-pub put_step : (g : Guest) (budget t : ℕ) (before : List Answered) (w w' : Work) (o index value : ℕ) → ask_of g.code w.thread ≡ ask.Put o index value → w'.me ≡ (did w.me.0 o (Put index value), w.me.1)
-    → w'.thread ≡ after_reply g.code w.thread Go → w'.log ≡ w.log → w'.answers ≡ w.answers → IsWorking g budget t before w → IsWorking g budget t before w'
-put_step g budget t before w w' o index value asked me took log answers i = works_on g budget t before w w' (ask.Put o index value) 0 (act o (Put index value) ∷ []) [] i
-    (record { asked = asked; may = refl; took = took; shares = refl; logs = refl; events = refl; fit = tt; log = same_log w.log w'.log log; answers = nothing_more w.answers w'.answers answers })
+pub put_step : (g : Guest) (budget t : ℕ) (before : List Answered) (w w' : Work) (o index value : ℕ)
+    → ask_of g.code w.thread ≡ ask.Put o index value → w'.me ≡ (did w.me.0 o (Put index value), w.me.1)
+    → w'.thread ≡ after_reply g.code w.thread Go → w'.log ≡ w.log → w'.answers ≡ w.answers → IsWorking g budget t before w
+    → IsWorking g budget t before w'
+put_step g budget t before w w' o index value asked me took log answers i =
+    works_on g budget t before w w' (ask.Put o index value) 0 (act o (Put index value) ∷ []) [] i
+    (record { asked = asked; may = refl; took = took; shares = refl; logs = refl; events = refl; fit = tt; log =
+        same_log w.log w'.log log; answers = nothing_more w.answers w'.answers answers })
     (did_view t o (Put index value) i.track w.me w'.me me i.view)
 
 -- so many private steps
-pub run_steps : (g : Guest) (budget t : ℕ) (before : List Answered) (w w' : Work) (count : ℕ) → PrivateSteps g.code count w.thread w'.thread → w'.me ≡ w.me → w'.log ≡ w.log → w'.answers ≡ w.answers → IsWorking g budget t before w → IsWorking g budget t before w'
+pub run_steps : (g : Guest) (budget t : ℕ) (before : List Answered) (w w' : Work) (count : ℕ) → PrivateSteps g.code count w.thread w'.thread
+    → w'.me ≡ w.me → w'.log ≡ w.log → w'.answers ≡ w.answers → IsWorking g budget t before w → IsWorking g budget t before w'
 unfolding run_of step_of
 run_steps g budget t before w w' zero p me log answers i =
     subst (IsWorking g budget t before) (λ j. record { me = sym me j; thread = sym p.steps j; log = sym log j; answers = sym answers j }) i
@@ -226,26 +280,35 @@ below_enter g w o a i asked = subst (λ n. o < n) i.3.places (permits g w (ask.E
 pub below_leave : (g : Guest) (w : Work) (o : ℕ) (a : Access) → IsWorker g w → ask_of g.code w.thread ≡ ask.Leave o a → o < object_count g
 below_leave g w o a i asked = subst (λ n. o < n) i.3.places (permits g w (ask.Leave o a) asked).1
 
-pub below_get : (g : Guest) (w : Work) (o index : ℕ) → IsWorker g w → ask_of g.code w.thread ≡ ask.Get o index → (o < object_count g) × (index < 8)
+pub below_get : (g : Guest) (w : Work) (o index : ℕ) → IsWorker g w → ask_of g.code w.thread ≡ ask.Get o index → (o < object_count g)
+    × (index < 8)
 below_get g w o index i asked = let p = permits g w (ask.Get o index) asked in (subst (λ n. o < n) i.3.places p.1, p.2)
 
-pub below_put : (g : Guest) (w : Work) (o index value : ℕ) → IsWorker g w → ask_of g.code w.thread ≡ ask.Put o index value → (o < object_count g) × (index < 8)
+pub below_put : (g : Guest) (w : Work) (o index value : ℕ) → IsWorker g w → ask_of g.code w.thread ≡ ask.Put o index value
+    → (o < object_count g) × (index < 8)
 below_put g w o index value i asked = let p = permits g w (ask.Put o index value) asked in (subst (λ n. o < n) i.3.places p.1, p.2)
 
-pub outside : (g : Guest) (w : Work) (o : ℕ) (a : Access) → IsWorker g w → ask_of g.code w.thread ≡ ask.Enter o a → inside_by o (history w.me.0) ≡ None
-outside g w o a i asked = inside_view g w o i ∙ subst (λ q. machine.Holds (shared_ask q) (held_at w.thread.held)) asked ((lawful g.code).holds w.thread) o (omega arith)
+pub outside : (g : Guest) (w : Work) (o : ℕ) (a : Access) → IsWorker g w → ask_of g.code w.thread ≡ ask.Enter o a
+    → inside_by o (history w.me.0) ≡ None
+outside g w o a i asked = inside_view g w o i ∙ subst (λ q. machine.Holds (shared_ask q) (held_at w.thread.held)) asked
+    ((lawful g.code).holds w.thread) o (omega arith)
 
-pub inside_leave : (g : Guest) (w : Work) (o : ℕ) (a : Access) → IsWorker g w → ask_of g.code w.thread ≡ ask.Leave o a → inside_by o (history w.me.0) ≡ Some a
+pub inside_leave : (g : Guest) (w : Work) (o : ℕ) (a : Access) → IsWorker g w → ask_of g.code w.thread ≡ ask.Leave o a
+    → inside_by o (history w.me.0) ≡ Some a
 inside_leave g w o a i asked = inside_view g w o i ∙ (permits g w (ask.Leave o a) asked).2
 
-pub inside_get : (g : Guest) (w : Work) (o index : ℕ) → IsWorker g w → ask_of g.code w.thread ≡ ask.Get o index → inside_by o (history w.me.0) ≢ None
+pub inside_get : (g : Guest) (w : Work) (o index : ℕ) → IsWorker g w → ask_of g.code w.thread ≡ ask.Get o index
+    → inside_by o (history w.me.0) ≢ None
 inside_get g w o index i asked e = (permits g w (ask.Get o index) asked).3 (sym (inside_view g w o i) ∙ e)
 
-pub inside_put : (g : Guest) (w : Work) (o index value : ℕ) → IsWorker g w → ask_of g.code w.thread ≡ ask.Put o index value → inside_by o (history w.me.0) ≡ Some Writing
+pub inside_put : (g : Guest) (w : Work) (o index value : ℕ) → IsWorker g w → ask_of g.code w.thread ≡ ask.Put o index value
+    → inside_by o (history w.me.0) ≡ Some Writing
 inside_put g w o index value i asked = inside_view g w o i ∙ (permits g w (ask.Put o index value) asked).3
 
-pub log_room : (g : Guest) (w : Work) (kind : EnvKind) → IsWorker g w → ask_of g.code w.thread ≡ ask.Env kind → length w.log.events < w.log.room
-log_room g w kind i asked = let can = (permits g w (ask.Env kind) asked).1 in let n = i.3.count in let r = i.3.room in omega (arith, can, n, r)
+pub log_room : (g : Guest) (w : Work) (kind : EnvKind) → IsWorker g w → ask_of g.code w.thread ≡ ask.Env kind
+    → length w.log.events < w.log.room
+log_room g w kind i asked = let can = (permits g w (ask.Env kind) asked).1 in let n = i.3.count in let r = i.3.room in
+    omega (arith, can, n, r)
 
 -- ---- giving back
 
@@ -258,12 +321,14 @@ did_alone me me' o d e h = subst (λ (z : M). IsAlone z.0) (sym e) (go me.0 h)
     go (k ∷ l ∷ ks) h = h
 
 -- a step on another object
-pub did_elsewhere : (me me' : M) (o p : ℕ) (d : Deed) → me' ≡ (did me.0 o d, me.1) → IsAlone me.0 → p ≢ o → inside_by p (history me'.0) ≡ inside_by p (history me.0)
+pub did_elsewhere : (me me' : M) (o p : ℕ) (d : Deed) → me' ≡ (did me.0 o d, me.1) → IsAlone me.0 → p ≢ o
+    → inside_by p (history me'.0) ≡ inside_by p (history me.0)
 did_elsewhere me me' o p d e h ne = ap (λ (z : M). inside_by p (history z.0)) e ∙ go me.0 h
   where
     go : (v : _) → IsAlone v → inside_by p (history (did v o d)) ≡ inside_by p (history v)
     go [] h = absurd h
-    go (k ∷ []) h = ap (inside_after p None) (map_join shared_of k.steps (act o d ∷ [])) ∙ inside_more p None (map shared_of k.steps) (shared_by o d)
+    go (k ∷ []) h = ap (inside_after p None) (map_join shared_of k.steps (act o d ∷ []))
+        ∙ inside_more p None (map shared_of k.steps) (shared_by o d)
         ∙ ap (λ z. inside_if (eqb p z) (shared_by o d).0 (inside_after p None (map shared_of k.steps))) (target_by o d)
         ∙ ap (λ b. inside_if b (shared_by o d).0 (inside_after p None (map shared_of k.steps))) (ne_eqb p o ne)
     go (k ∷ l ∷ ks) h = absurd h
@@ -283,7 +348,8 @@ inside_worker g w me x i e f = subst (λ (z : M × thread.State). IsInside g z.0
 pub more_none : {A : Type 0} (xs ys : List A) → ys ≡ xs → (more : List A) × (ys ≡ xs ++ more)
 more_none xs ys e = ([], nothing_more xs ys e)
 
-pub more_both : {A : Type 0} (xs ys zs : List A) → (more : List A) × (ys ≡ xs ++ more) → (more : List A) × (zs ≡ ys ++ more) → (more : List A) × (zs ≡ xs ++ more)
+pub more_both : {A : Type 0} (xs ys zs : List A) → (more : List A) × (ys ≡ xs ++ more) → (more : List A) × (zs ≡ ys ++ more)
+    → (more : List A) × (zs ≡ xs ++ more)
 more_both xs ys zs p q = (p.0 ++ q.0, q.1 ∙ ap (λ z. z ++ q.0) p.1 ∙ append_assoc xs p.0 q.0)
 
 -- a world that was not asked
@@ -291,12 +357,18 @@ pub same_world : {W O : Type 0} (answers : W → List Answered) (origin : W → 
 same_world answers origin v w e = record { more = more_none (answers v) (answers w) (ap answers e); same_origin = ap origin e }
 
 -- a world that was asked, and then again
-pub worlds_on : {W O : Type 0} (answers : W → List Answered) (origin : W → O) (u v w : W) → IsSameWorld answers origin u v → IsSameWorld answers origin v w → IsSameWorld answers origin u w
-worlds_on answers origin u v w p q = record { more = more_both (answers u) (answers v) (answers w) p.more q.more; same_origin = q.same_origin ∙ p.same_origin }
+pub worlds_on : {W O : Type 0} (answers : W → List Answered) (origin : W → O) (u v w : W) → IsSameWorld answers origin u v
+    → IsSameWorld answers origin v w → IsSameWorld answers origin u w
+worlds_on answers origin u v w p q = record { more = more_both (answers u) (answers v) (answers w) p.more q.more; same_origin =
+    q.same_origin ∙ p.same_origin }
 
-pub stays_on : {W : Type 0} (answers : W → List Answered) (g : Guest) (u v w : Worker W) → Stays answers g u v → Stays answers g v w → Stays answers g u w
-stays_on answers g u v w p q = record { seat = q.seat ∙ p.seat; still = λ budget t before i. q.still budget t before (p.still budget t before i) }
+pub stays_on : {W : Type 0} (answers : W → List Answered) (g : Guest) (u v w : Worker W) → Stays answers g u v → Stays answers g v w
+    → Stays answers g u w
+stays_on answers g u v w p q = record { seat = q.seat ∙ p.seat; still =
+    λ budget t before i. q.still budget t before (p.still budget t before i) }
 
 -- a worker that stays is at work
-pub seated_on : {W : Type 0} (answers : W → List Answered) (g : Guest) (id : TableId) (code : List ℕ) (v w : Worker W) → IsSeated answers g id code v → Stays answers g v w → IsSeated answers g id code w
-seated_on answers g id code v w s on = record { seat = on.seat ∙ s.seat; same_code = s.same_code; worker = worker_on g (work_of answers v) (work_of answers w) s.worker on.still }
+pub seated_on : {W : Type 0} (answers : W → List Answered) (g : Guest) (id : TableId) (code : List ℕ) (v w : Worker W)
+    → IsSeated answers g id code v → Stays answers g v w → IsSeated answers g id code w
+seated_on answers g id code v w s on = record { seat = on.seat ∙ s.seat; same_code = s.same_code; worker =
+    worker_on g (work_of answers v) (work_of answers w) s.worker on.still }

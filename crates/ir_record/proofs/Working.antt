@@ -10,7 +10,8 @@ use Rattle.ir_flat.specs.Splice.{MayReply, MayRun, alone_after, shared_steps, al
 use Rattle.ir_runs.proofs.CallerLemmas.{events_append}
 use Rattle.ir_record.specs.Working.{Worked}
 
-may_more : {T : Type 0} (m : Machine T) (x : T) (vs : List ℕ) (v : ℕ) → MayRun m x vs → MayReply m (act_of (m.ask (alone_after m x vs)) v) v → MayRun m x (vs ++ v ∷ [])
+may_more : {T : Type 0} (m : Machine T) (x : T) (vs : List ℕ) (v : ℕ) → MayRun m x vs → MayReply m (act_of (m.ask (alone_after m x vs)) v) v
+    → MayRun m x (vs ++ v ∷ [])
 may_more m x [] v h r = (r, tt)
 may_more m x (u ∷ vs) v h r = (h.0, may_more m (m.take x u) vs v h.1 r)
 
@@ -23,7 +24,8 @@ keep_append true x xs ys = refl
 keep_append false x xs ys = refl
 
 shared_more : {T : Type 0} (m : Machine T) (x : T) (vs : List ℕ) (v : ℕ)
-    → shared_steps m x (vs ++ v ∷ []) ≡ shared_steps m x vs ++ keep_if (is_shared (act_of (m.ask (alone_after m x vs)) v)) (act_of (m.ask (alone_after m x vs)) v, v) []
+    → shared_steps m x (vs ++ v ∷ []) ≡ shared_steps m x vs ++ keep_if (is_shared (act_of (m.ask (alone_after m x vs)) v))
+    (act_of (m.ask (alone_after m x vs)) v, v) []
 shared_more m x [] v = refl
 shared_more m x (u ∷ vs) v = ap (keep_if (is_shared (act_of (m.ask x) u)) (act_of (m.ask x) u, u)) (shared_more m (m.take x u) vs v)
     ∙ keep_append (is_shared (act_of (m.ask x) u)) (act_of (m.ask x) u, u) (shared_steps m (m.take x u) vs) _
@@ -50,42 +52,54 @@ first_label Never k ks ls = refl
 
 -- what the trail of more replies says
 abbrev TrailMore : {T : Type 0} → Machine T → T → List ℕ → ℕ → List Label → List Label → Type 0
-TrailMore m x vs v ks ls = alone_trail m x (vs ++ v ∷ []) (ks ++ ls) ≡ alone_trail m x vs ks ++ (alone_after m x vs, alone_label (act_of (m.ask (alone_after m x vs)) v) ls) ∷ []
+TrailMore m x vs v ks ls = alone_trail m x (vs ++ v ∷ []) (ks ++ ls) ≡ alone_trail m x vs ks ++
+    (alone_after m x vs, alone_label (act_of (m.ask (alone_after m x vs)) v) ls) ∷ []
 
-trail_step : {T : Type 0} (m : Machine T) (x : T) (u : ℕ) (vs : List ℕ) (v : ℕ) (ls : List Label) → ((ks : List Label) → length ks ≡ length (shared_steps m (m.take x u) vs) → TrailMore m (m.take x u) vs v ks ls) → (b : Bool) → is_shared (act_of (m.ask x) u) ≡ b
-    → (ks : List Label) → length ks ≡ length (keep_if b (act_of (m.ask x) u, u) (shared_steps m (m.take x u) vs)) → TrailMore m x (u ∷ vs) v ks ls
+trail_step : {T : Type 0} (m : Machine T) (x : T) (u : ℕ) (vs : List ℕ) (v : ℕ) (ls : List Label)
+    → ((ks : List Label) → length ks ≡ length (shared_steps m (m.take x u) vs) → TrailMore m (m.take x u) vs v ks ls) → (b : Bool)
+    → is_shared (act_of (m.ask x) u) ≡ b
+    → (ks : List Label) → length ks ≡ length (keep_if b (act_of (m.ask x) u, u) (shared_steps m (m.take x u) vs))
+    → TrailMore m x (u ∷ vs) v ks ls
 trail_step m x u vs v ls rest false is ks n =
     let q = act_of (m.ask x) u in
     ap (λ z. (x, z) ∷ alone_trail m (m.take x u) (vs ++ v ∷ []) (labels_left (is_shared q) (ks ++ ls))) (own_label q (ks ++ ls) ks is)
     ∙ ap (λ b. (x, alone_label q ks) ∷ alone_trail m (m.take x u) (vs ++ v ∷ []) (labels_left b (ks ++ ls))) is
     ∙ ap (λ z. (x, alone_label q ks) ∷ z) (rest ks n)
-    ∙ sym (ap (λ b. ((x, alone_label q ks) ∷ alone_trail m (m.take x u) vs (labels_left b ks)) ++ (alone_after m (m.take x u) vs, alone_label (act_of (m.ask (alone_after m (m.take x u) vs)) v) ls) ∷ []) is)
+    ∙ sym (ap (λ b. ((x, alone_label q ks) ∷ alone_trail m (m.take x u) vs (labels_left b ks)) ++
+    (alone_after m (m.take x u) vs, alone_label (act_of (m.ask (alone_after m (m.take x u) vs)) v) ls) ∷ []) is)
 trail_step m x u vs v ls rest true is [] n = absurd (omega (arith, n))
 trail_step m x u vs v ls rest true is (k ∷ ks) n =
     let q = act_of (m.ask x) u in
     ap (λ z. (x, z) ∷ alone_trail m (m.take x u) (vs ++ v ∷ []) (labels_left (is_shared q) (k ∷ ks ++ ls))) (first_label q k (ks ++ ls) ks)
     ∙ ap (λ b. (x, alone_label q (k ∷ ks)) ∷ alone_trail m (m.take x u) (vs ++ v ∷ []) (labels_left b (k ∷ ks ++ ls))) is
     ∙ ap (λ z. (x, alone_label q (k ∷ ks)) ∷ z) (rest ks (omega (arith, n)))
-    ∙ sym (ap (λ b. ((x, alone_label q (k ∷ ks)) ∷ alone_trail m (m.take x u) vs (labels_left b (k ∷ ks))) ++ (alone_after m (m.take x u) vs, alone_label (act_of (m.ask (alone_after m (m.take x u) vs)) v) ls) ∷ []) is)
+    ∙ sym (ap (λ b. ((x, alone_label q (k ∷ ks)) ∷ alone_trail m (m.take x u) vs (labels_left b (k ∷ ks))) ++
+    (alone_after m (m.take x u) vs, alone_label (act_of (m.ask (alone_after m (m.take x u) vs)) v) ls) ∷ []) is)
 
-trail_more : {T : Type 0} (m : Machine T) (x : T) (vs : List ℕ) (v : ℕ) (ks ls : List Label) → length ks ≡ length (shared_steps m x vs) → TrailMore m x vs v ks ls
+trail_more : {T : Type 0} (m : Machine T) (x : T) (vs : List ℕ) (v : ℕ) (ks ls : List Label) → length ks ≡ length (shared_steps m x vs)
+    → TrailMore m x vs v ks ls
 trail_more m x [] v [] ls e = refl
 trail_more m x [] v (k ∷ ks) ls e = absurd (omega (arith, e))
-trail_more m x (u ∷ vs) v ks ls e = trail_step m x u vs v ls (λ is n. trail_more m (m.take x u) vs v is ls n) (is_shared (act_of (m.ask x) u)) refl ks e
+trail_more m x (u ∷ vs) v ks ls e = trail_step m x u vs v ls (λ is n. trail_more m (m.take x u) vs v is ls n)
+    (is_shared (act_of (m.ask x) u)) refl ks e
 
 pub worked_starts : {T : Type 0} (m : Machine T) (x : T) → Worked m x x [] [] []
 worked_starts m x = record { replies = []; may = tt; now = refl; steps_are = refl; logged = refl }
 
 -- one step more: its object step, if it is one, with what it told, and what is logged of it
-pub worked_more : {T : Type 0} (m : Machine T) (x y : T) (steps : List Shared) (labels log : List Label) (v : ℕ) (ls : List Label) → Worked m x y steps labels log → length labels ≡ length steps → MayReply m (act_of (m.ask y) v) v
-    → Worked m x (m.take y v) (steps ++ keep_if (is_shared (act_of (m.ask y) v)) (act_of (m.ask y) v, v) []) (labels ++ ls) (log ++ logged (alone_label (act_of (m.ask y) v) ls) [])
+pub worked_more : {T : Type 0} (m : Machine T) (x y : T) (steps : List Shared) (labels log : List Label) (v : ℕ) (ls : List Label)
+    → Worked m x y steps labels log → length labels ≡ length steps → MayReply m (act_of (m.ask y) v) v
+    → Worked m x (m.take y v) (steps ++ keep_if (is_shared (act_of (m.ask y) v)) (act_of (m.ask y) v, v) []) (labels ++ ls)
+    (log ++ logged (alone_label (act_of (m.ask y) v) ls) [])
 worked_more m x y steps labels log v ls w n may = record {
   replies = w.replies ++ v ∷ [];
   may = may_more m x w.replies v w.may (subst (λ z. MayReply m (act_of (m.ask z) v) v) (sym w.now) may);
   now = after_more m x w.replies v ∙ ap (λ z. m.take z v) w.now;
-  steps_are = shared_more m x w.replies v ∙ (λ i. w.steps_are i ++ keep_if (is_shared (act_of (m.ask (w.now i)) v)) (act_of (m.ask (w.now i)) v, v) []);
+  steps_are = shared_more m x w.replies v ∙ (λ i. w.steps_are i ++ keep_if (is_shared (act_of (m.ask (w.now i)) v))
+      (act_of (m.ask (w.now i)) v, v) []);
   logged = ap events (trail_more m x w.replies v labels ls (n ∙ ap (λ z. length z) (sym w.steps_are)))
-      ∙ events_append (alone_trail m x w.replies labels) ((alone_after m x w.replies, alone_label (act_of (m.ask (alone_after m x w.replies)) v) ls) ∷ [])
+      ∙ events_append (alone_trail m x w.replies labels)
+      ((alone_after m x w.replies, alone_label (act_of (m.ask (alone_after m x w.replies)) v) ls) ∷ [])
       ∙ (λ i. w.logged i ++ logged (alone_label (act_of (m.ask (w.now i)) v) ls) []);
 }
 

@@ -49,11 +49,14 @@ pub record Went (order : List ℕ) (s : State thread.State) (a : Progress) (old 
   pub objects : length b.flat.objects ≡ length a.flat.objects
   -- what its steps log is added to each thread's log, and the answers among it to those of the thread's world
   pub logs : (t : ℕ) → t < length a.flat.threads → labels_at b.logs t ≡ labels_at a.logs t ++ log (machine a.flat) s run t
-  pub answers : (t : ℕ) → t < length a.flat.threads → answers_at b.answers t ≡ answers_at a.answers t ++ answers_in (log (machine a.flat) s run t)
-  pub fewer : all_left (length a.flat.threads) (tables b.flat).now + all_ahead new + length run ≤ all_left (length a.flat.threads) (tables a.flat).now + all_ahead old
+  pub answers : (t : ℕ) → t < length a.flat.threads
+      → answers_at b.answers t ≡ answers_at a.answers t ++ answers_in (log (machine a.flat) s run t)
+  pub fewer : all_left (length a.flat.threads) (tables b.flat).now + all_ahead new + length run ≤ all_left (length a.flat.threads)
+      (tables a.flat).now + all_ahead old
 
 -- the same, and whether a step was taken
-pub record WentIf (moved : Bool) (order : List ℕ) (s : State thread.State) (a : Progress) (old : List ℕ) (b : Progress) (new : List ℕ) : Type 0 where
+pub record WentIf (moved : Bool) (order : List ℕ) (s : State thread.State) (a : Progress) (old : List ℕ) (b : Progress) (new : List ℕ) :
+    Type 0 where
   pub went : Went order s a old b new
   pub some : moved ≡ true → 0 < length went.run
   pub none : moved ≡ false → (went.run ≡ []) × (new ≡ old) × NoneAhead order old

@@ -14,5 +14,6 @@ has_moved Waited = false
 -- thread had none leaves no such round
 abbrev pub Noted : Turned → ℕ → Pass → Pass → Type 0
 Noted Spent lead old new = (new.moved ≡ true) × (new.waited ≡ old.waited) × (new.free ≡ min old.free lead)
-Noted Stepped lead old new = (new.moved ≡ true) × (new.waited ≡ old.waited) × (old.waited ≡ true → new.free ≡ 0) × (old.waited ≡ false → new.free ≡ min old.free lead)
+Noted Stepped lead old new = (new.moved ≡ true) × (new.waited ≡ old.waited) × (old.waited ≡ true → new.free ≡ 0)
+    × (old.waited ≡ false → new.free ≡ min old.free lead)
 Noted Waited lead old new = (new.moved ≡ old.moved) × (new.waited ≡ true) × (new.free ≡ old.free)

@@ -63,7 +63,8 @@ pub record Took (order : List ℕ) (a b : Progress) : Type 0 where
   pub objects : length b.flat.objects ≡ length a.flat.objects
   -- what its steps log is added to each thread's log, and the answers among it to those of the thread's world
   pub logs : (t : ℕ) → t < length a.flat.threads → labels_at b.logs t ≡ labels_at a.logs t ++ log (machine a.flat) (tables a.flat) run t
-  pub answers : (t : ℕ) → t < length a.flat.threads → answers_at b.answers t ≡ answers_at a.answers t ++ answers_in (log (machine a.flat) (tables a.flat) run t)
+  pub answers : (t : ℕ) → t < length a.flat.threads
+      → answers_at b.answers t ≡ answers_at a.answers t ++ answers_in (log (machine a.flat) (tables a.flat) run t)
   pub fewer : all_left (length a.flat.threads) (tables b.flat).now + length run ≤ all_left (length a.flat.threads) (tables a.flat).now
 
 -- the same, and whether a step was taken

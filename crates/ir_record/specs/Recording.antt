@@ -22,26 +22,32 @@ pub record IsTraceOf (guest : Guest) (budget : ℕ) (run : List Step) (recorded 
 -- what each thread of the run printed
 pub record AreOutputs (guest : Guest) (budget : ℕ) (run : List Step) (outputs : List (List ℕ)) : Type 0 where
   pub threads : length outputs ≡ length guest.entries
-  pub each : (t : ℕ) → t < length guest.entries → slice_get outputs t ≡ Some ((end (machine (start_flat guest budget)) (tables (start_flat guest budget)) run).now t).output
+  pub each : (t : ℕ) → t < length guest.entries
+      → slice_get outputs t ≡ Some ((end (machine (start_flat guest budget)) (tables (start_flat guest budget)) run).now t).output
 
 -- what the world of each thread had answered, and then the answers that the run logged of it
 pub record AreAnswers (guest : Guest) (budget : ℕ) (run : List Step) (before answers : List (List Answered)) : Type 0 where
   pub threads : length answers ≡ length guest.entries
-  pub each : (t : ℕ) → t < length guest.entries → slice_get answers t ≡ Some (answers_at before t ++ answers_in (log (machine (start_flat guest budget)) (tables (start_flat guest budget)) run t))
+  pub each : (t : ℕ) → t < length guest.entries
+      → slice_get answers t ≡ Some (answers_at before t ++ answers_in
+      (log (machine (start_flat guest budget)) (tables (start_flat guest budget)) run t))
 
 -- the trace, the outputs and the worlds' answers of this run of the guest, which is complete
-pub record IsRecordingOf (guest : Guest) (budget : ℕ) (run : List Step) (before : List (List Answered)) (trace : Recorded) (outputs : List (List ℕ)) (answers : List (List Answered)) : Type 0 where
+pub record IsRecordingOf (guest : Guest) (budget : ℕ) (run : List Step) (before : List (List Answered)) (trace : Recorded)
+    (outputs : List (List ℕ)) (answers : List (List Answered)) : Type 0 where
   pub told : IsTraceOf guest budget run trace
   pub printed : AreOutputs guest budget run outputs
   pub answered : AreAnswers guest budget run before answers
 
 -- the same of some run of the guest
-pub record IsRecordingOfSome (guest : Guest) (budget : ℕ) (before : List (List Answered)) (trace : Recorded) (outputs : List (List ℕ)) (answers : List (List Answered)) : Type 0 where
+pub record IsRecordingOfSome (guest : Guest) (budget : ℕ) (before : List (List Answered)) (trace : Recorded) (outputs : List (List ℕ))
+    (answers : List (List Answered)) : Type 0 where
   pub run : List Step
   pub of : IsRecordingOf guest budget run before trace outputs answers
 
 -- the same of the run of the guest by the order
-pub record IsRecording (guest : Guest) (budget : ℕ) (order : List ℕ) (before : List (List Answered)) (trace : Recorded) (outputs : List (List ℕ)) (answers : List (List Answered)) : Type 0 where
+pub record IsRecording (guest : Guest) (budget : ℕ) (order : List ℕ) (before : List (List Answered)) (trace : Recorded)
+    (outputs : List (List ℕ)) (answers : List (List Answered)) : Type 0 where
   pub run : List Step
   pub by_order : IsByOrder (machine (start_flat guest budget)) (tables (start_flat guest budget)) (length guest.entries) order run
   pub of : IsRecordingOf guest budget run before trace outputs answers
@@ -49,4 +55,5 @@ pub record IsRecording (guest : Guest) (budget : ℕ) (order : List ℕ) (before
 -- want of memory; or a world has failed, those of lower threads have not, and all worlds are there, with their answers
 abbrev pub IsFailure : {W : Type 0} → (W → List Answered) → (W → Bool) → List W → RecordErr W → Type 0
 IsFailure answers broken before NoMem = ⊤
-IsFailure answers broken before (World thread worlds) = IsFirstFailed (map broken worlds.items) thread × Extends (map answers before) (map answers worlds.items)
+IsFailure answers broken before (World thread worlds) = IsFirstFailed (map broken worlds.items) thread
+    × Extends (map answers before) (map answers worlds.items)

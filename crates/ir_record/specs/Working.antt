@@ -49,7 +49,8 @@ pub record IsWorking (g : Guest) (budget t : ℕ) (before : List Answered) (w : 
   pub track : List ObjectStep
   pub view : w.me ≡ (record { thread = t; steps = track } ∷ [], [])
   -- its thread has taken its own steps from the start; these are its object steps, and its log
-  pub worked : Worked (thread_machine g.code) (thread.start_state g t budget) w.thread (map shared_of track) (map rule.label_of track) (map label_of w.log.events)
+  pub worked : Worked (thread_machine g.code) (thread.start_state g t budget) w.thread (map shared_of track) (map rule.label_of track)
+      (map label_of w.log.events)
   -- it is inside what it holds
   pub held : (o : ℕ) → inside_by o track ≡ held_at w.thread.held o
   pub places : length w.thread.held ≡ object_count g
@@ -116,7 +117,8 @@ pub record IsStopped {W : Type 0} (broken : W → Bool) (v w : Worker W) : Type 
   pub thread : w.thread ≡ v.thread
 
 -- a worker whose world has not failed, before it runs
-pub record IsReadyWorker {W : Type 0} (answers : W → List Answered) (broken : W → Bool) (g : Guest) (id : TableId) (code : List ℕ) (w : Worker W) : Type 0 where
+pub record IsReadyWorker {W : Type 0} (answers : W → List Answered) (broken : W → Bool) (g : Guest) (id : TableId) (code : List ℕ)
+    (w : Worker W) : Type 0 where
   pub seated : IsSeated answers g id code w
   pub works : broken w.world ≡ false
 
@@ -125,7 +127,8 @@ abbrev pub AreReady : {W : Type 0} → (W → List Answered) → (W → Bool) �
 AreReady answers broken crew code ws = All (IsReadyWorker answers broken crew.table.shared.key crew.table.shared.table_id code) ws
 
 -- a worker that ran until its thread was done, unless its world has failed
-pub record RanToEnd {W O : Type 0} (answers : W → List Answered) (broken : W → Bool) (origin : W → O) (g : Guest) (v w : Worker W) : Type 0 where
+pub record RanToEnd {W O : Type 0} (answers : W → List Answered) (broken : W → Bool) (origin : W → O) (g : Guest) (v w : Worker W) : Type
+    0 where
   pub stays : broken w.world ≡ false → Stays answers g v w
   pub done : broken w.world ≡ false → ask_of g.code w.thread ≡ ask.Done
   pub world : IsSameWorld answers origin v.world w.world

@@ -32,7 +32,8 @@ pub record Starts (f : FittedTrace) (target : List ℕ) (s : Standing) : Type 0 
   pub consistent : IsConsistentCut f target
   pub below : (t : ℕ) → positions (flat_in f s) t ≤ cut_of target t
 
-pub starts_in : (k : Plan) (f : FittedTrace) (target : List ℕ) (s : Standing) → trace_in k ≡ f → k.opened.value ≡ s → Starts f target s → Starts (trace_in k) target k.opened.value
+pub starts_in : (k : Plan) (f : FittedTrace) (target : List ℕ) (s : Standing) → trace_in k ≡ f → k.opened.value ≡ s → Starts f target s
+    → Starts (trace_in k) target k.opened.value
 starts_in k f target s for is h = subst (λ (z : FittedTrace × Standing). Starts z.0 target z.1) (λ i. (sym for i, sym is i)) h
 
 -- ---- before the workers go on
@@ -43,9 +44,13 @@ pub record IsAssigned (id : TableId) (k : Plan) (target : List ℕ) (t : ℕ) (w
   pub number : w.thread.number ≡ t
   pub steps : w.thread.steps ≡ opened_at k t
 
-assigned_one : (id : TableId) (k : Plan) (target : List ℕ) (t : ℕ) (w : Worker) → Starts (trace_in k) target k.opened.value → t < length k.opened.value.threads → IsFirst id k t w.seat → w.thread ≡ slice_index_or k.opened.value.threads t idle → IsAssigned id k target t w
+assigned_one : (id : TableId) (k : Plan) (target : List ℕ) (t : ℕ) (w : Worker) → Starts (trace_in k) target k.opened.value
+    → t < length k.opened.value.threads → IsFirst id k t w.seat → w.thread ≡ slice_index_or k.opened.value.threads t idle
+    → IsAssigned id k target t w
 assigned_one id k target t w h there first same =
-    let ahead : IsAhead (trace_in k) t (opened_at k t) w.thread = subst (IsAhead (trace_in k) t (opened_at k t)) (sym same) (ahead_at (trace_in k) (opened_in k) t h.run h.stands.flat h.stands.at there) in
+    let ahead : IsAhead (trace_in k) t (opened_at k t) w.thread =
+        subst (IsAhead (trace_in k) t (opened_at k t)) (sym same)
+        (ahead_at (trace_in k) (opened_in k) t h.run h.stands.flat h.stands.at there) in
     let steps : w.thread.steps ≡ opened_at k t = ap (λ (x : thread.State). x.steps) same in
     record {
       ready = record {
@@ -58,15 +63,19 @@ assigned_one id k target t w h there first same =
       steps = steps;
     }
 
-pub assigned : (id : TableId) (k : Plan) (target : List ℕ) (ws : List Worker) (seats : List (Seat (Unit {0}) View)) → Starts (trace_in k) target k.opened.value → AreSeats id k 0 seats → backwards (seats_of ws) ≡ seats → backwards (threads_of ws) ≡ k.opened.value.threads → Down (IsAssigned id k target) ws
+pub assigned : (id : TableId) (k : Plan) (target : List ℕ) (ws : List Worker) (seats : List (Seat (Unit {0}) View))
+    → Starts (trace_in k) target k.opened.value → AreSeats id k 0 seats → backwards (seats_of ws) ≡ seats
+    → backwards (threads_of ws) ≡ k.opened.value.threads → Down (IsAssigned id k target) ws
 assigned id k target ws seats h are of_seats of_threads =
     let size : length ws ≡ length k.opened.value.threads = sym (back_threads ws) ∙ ap (λ z. length z) of_threads in
-    down_map (λ t w. IsFirst id k t w.seat × (w.thread ≡ slice_index_or k.opened.value.threads t idle)) (IsAssigned id k target) ws (λ t w l x. assigned_one id k target t w h (omega (arith, l, size)) x.0 x.1)
+    down_map (λ t w. IsFirst id k t w.seat × (w.thread ≡ slice_index_or k.opened.value.threads t idle)) (IsAssigned id k target) ws
+        (λ t w l x. assigned_one id k target t w h (omega (arith, l, size)) x.0 x.1)
     (down_both (λ t w. IsFirst id k t w.seat) (λ t w. w.thread ≡ slice_index_or k.opened.value.threads t idle) ws
     (down_seats id k ws [] (subst (AreSeats id k 0) (sym (append-nil (backwards (seats_of ws)) ∙ of_seats)) are))
     (down_threads ws [] k.opened.value.threads (append-nil (backwards (threads_of ws)) ∙ of_threads)))
 
-pub all_ready : (id : TableId) (k : Plan) (target : List ℕ) (ws : List Worker) → Down (IsAssigned id k target) ws → AllByRecursion (IsReady id k target) ws
+pub all_ready : (id : TableId) (k : Plan) (target : List ℕ) (ws : List Worker) → Down (IsAssigned id k target) ws
+    → AllByRecursion (IsReady id k target) ws
 all_ready id k target ws h = down_all (IsAssigned id k target) (IsReady id k target) ws (λ t w l m. m.ready) h
 
 -- ---- and after that
@@ -78,7 +87,8 @@ pub record IsAfterRound (id : TableId) (k : Plan) (target : List ℕ) (t : ℕ) 
   pub up : opened_at k t ≤ w.thread.steps
   pub rests : (w.thread.steps ≡ cut_of target t) ⊎ WasStopped k t w.thread.steps
 
-after_one : (id : TableId) (k : Plan) (target : List ℕ) (t : ℕ) (v w : Worker) → IsAssigned id k target t v → HasWorked id k target v w → IsAfterRound id k target t w
+after_one : (id : TableId) (k : Plan) (target : List ℕ) (t : ℕ) (v w : Worker) → IsAssigned id k target t v → HasWorked id k target v w
+    → IsAfterRound id k target t w
 after_one id k target t v w m h = record {
   ready = h.ready;
   number = h.number ∙ m.number;
@@ -86,11 +96,16 @@ after_one id k target t v w m h = record {
   rests = subst (λ n. (w.thread.steps ≡ cut_of target n) ⊎ WasStopped k n w.thread.steps) (h.number ∙ m.number) h.rests;
 }
 
-pub after_all : (id : TableId) (k : Plan) (target : List ℕ) (vs ws : List Worker) → Down (IsAssigned id k target) vs → Pairs (HasWorked id k target) vs ws → Down (IsAfterRound id k target) ws
-after_all id k target vs ws h p = down_map (λ t w. (v : Worker) × IsAssigned id k target t v × HasWorked id k target v w) (IsAfterRound id k target) ws (λ t w l x. after_one id k target t x.0 w x.1 x.2) (down_pairs (IsAssigned id k target) (HasWorked id k target) vs ws h p)
+pub after_all : (id : TableId) (k : Plan) (target : List ℕ) (vs ws : List Worker) → Down (IsAssigned id k target) vs
+    → Pairs (HasWorked id k target) vs ws → Down (IsAfterRound id k target) ws
+after_all id k target vs ws h p = down_map (λ t w. (v : Worker) × IsAssigned id k target t v × HasWorked id k target v w)
+    (IsAfterRound id k target) ws (λ t w l x. after_one id k target t x.0 w x.1 x.2)
+    (down_pairs (IsAssigned id k target) (HasWorked id k target) vs ws h p)
 
-pub of_table : (id : TableId) (k : Plan) (target : List ℕ) (ws : List Worker) → Down (IsAfterRound id k target) ws → AllByRecursion (IsOfTable id) ws
-of_table id k target ws h = down_all (IsAfterRound id k target) (IsOfTable id) ws (λ t w l p. record { table = p.ready.table; slots = p.ready.slots }) h
+pub of_table : (id : TableId) (k : Plan) (target : List ℕ) (ws : List Worker) → Down (IsAfterRound id k target) ws
+    → AllByRecursion (IsOfTable id) ws
+of_table id k target ws h = down_all (IsAfterRound id k target) (IsOfTable id) ws
+    (λ t w l p. record { table = p.ready.table; slots = p.ready.slots }) h
 
 -- ---- where the threads stand
 
@@ -102,7 +117,8 @@ down_views : (p : Cut) (ws : List Worker) → AreAt p (views_of ws) → Down (λ
 down_views p [] h = tt
 down_views p (w ∷ ws) h = let r = are_parts p (views_of ws) w.seat.me.0 h in (r.1, down_views p ws r.0)
 
-ahead_of : (k : Plan) (p : Cut) (v : View) (x : thread.State) (t : ℕ) → IsSeated k v x → AreAt p v → x.number ≡ t → IsAhead (trace_in k) t (p t) x
+ahead_of : (k : Plan) (p : Cut) (v : View) (x : thread.State) (t : ℕ) → IsSeated k v x → AreAt p v → x.number ≡ t
+    → IsAhead (trace_in k) t (p t) x
 ahead_of k p [] x t seated at e = absurd seated
 ahead_of k p (q ∷ r ∷ qs) x t seated at e = absurd seated
 ahead_of k p (q ∷ []) x t seated at e =
@@ -117,7 +133,8 @@ record IsLeft (k : Plan) (target : List ℕ) (p : Cut) (t : ℕ) (x : thread.Sta
   below : x.steps ≤ cut_of target t
   rests : (x.steps ≡ cut_of target t) ⊎ WasStopped k t x.steps
 
-left_one : (id : TableId) (k : Plan) (target : List ℕ) (p : Cut) (t : ℕ) (w : Worker) → IsAfterRound id k target t w → AreAt p w.seat.me.0 → IsLeft k target p t w.thread
+left_one : (id : TableId) (k : Plan) (target : List ℕ) (p : Cut) (t : ℕ) (w : Worker) → IsAfterRound id k target t w → AreAt p w.seat.me.0
+    → IsLeft k target p t w.thread
 left_one id k target p t w h at = record {
   ahead = ahead_of k p w.seat.me.0 w.thread t h.ready.seated at h.number;
   up = h.up;
@@ -125,13 +142,17 @@ left_one id k target p t w h at = record {
   rests = h.rests;
 }
 
-left_at : (id : TableId) (k : Plan) (target : List ℕ) (p : Cut) (ws : List Worker) → Down (IsAfterRound id k target) ws → AreAt p (views_of ws) → (t : ℕ) → t < length ws → IsLeft k target p t (slice_index_or (backwards (threads_of ws)) t idle)
+left_at : (id : TableId) (k : Plan) (target : List ℕ) (p : Cut) (ws : List Worker) → Down (IsAfterRound id k target) ws
+    → AreAt p (views_of ws) → (t : ℕ) → t < length ws → IsLeft k target p t (slice_index_or (backwards (threads_of ws)) t idle)
 left_at id k target p ws h at t l =
     let xs : List thread.State = backwards (threads_of ws) in
     let all : Down (λ n w. IsLeft k target p n (slice_index_or xs n idle)) ws =
-    down_map (λ n w. (IsAfterRound id k target n w × AreAt p w.seat.me.0) × (w.thread ≡ slice_index_or xs n idle)) (λ n w. IsLeft k target p n (slice_index_or xs n idle)) ws
+    down_map (λ n w. (IsAfterRound id k target n w × AreAt p w.seat.me.0) × (w.thread ≡ slice_index_or xs n idle))
+        (λ n w. IsLeft k target p n (slice_index_or xs n idle)) ws
     (λ n w less x. subst (IsLeft k target p n) x.1 (left_one id k target p n w x.0.0 x.0.1))
-    (down_both (λ n w. IsAfterRound id k target n w × AreAt p w.seat.me.0) (λ n w. w.thread ≡ slice_index_or xs n idle) ws (down_both (IsAfterRound id k target) (λ n w. AreAt p w.seat.me.0) ws h (down_views p ws at)) (down_threads ws [] xs (append-nil xs))) in
+    (down_both (λ n w. IsAfterRound id k target n w × AreAt p w.seat.me.0) (λ n w. w.thread ≡ slice_index_or xs n idle) ws
+        (down_both (IsAfterRound id k target) (λ n w. AreAt p w.seat.me.0) ws h (down_views p ws at))
+        (down_threads ws [] xs (append-nil xs))) in
     (down_at (λ n w. IsLeft k target p n (slice_index_or xs n idle)) ws all t l).1
 
 none_there : (xs : List thread.State) (t : ℕ) → length xs ≤ t → (slice_index_or xs t idle).steps ≡ 0
@@ -142,15 +163,19 @@ none_there xs t l = ap (λ (x : thread.State). x.steps) (get_or_past xs t idle l
 abbrev after_round : List Worker → List Cell → Standing
 after_round ws cells = record { threads = backwards (threads_of ws); objects = cells }
 
-between : (id : TableId) (k : Plan) (target : List ℕ) (ws : List Worker) (cells : List Cell) → Starts (trace_in k) target k.opened.value → length ws ≡ length k.opened.value.threads → Down (IsAfterRound id k target) ws → IsClosed k (views_of ws) cells → IsBetween (trace_in k) target k.opened.value (after_round ws cells)
+between : (id : TableId) (k : Plan) (target : List ℕ) (ws : List Worker) (cells : List Cell) → Starts (trace_in k) target k.opened.value
+    → length ws ≡ length k.opened.value.threads → Down (IsAfterRound id k target) ws → IsClosed k (views_of ws) cells
+    → IsBetween (trace_in k) target k.opened.value (after_round ws cells)
 between id k target ws cells h size p c =
     let xs : List thread.State = backwards (threads_of ws) in
     let back : length xs ≡ length ws = back_threads ws in
     let there = h.stands.at.threads in
     let closed = c.at.threads in
-    let left : (t : ℕ) → t < length ws → IsLeft k target (positions c.state) t (slice_index_or xs t idle) = left_at id k target (positions c.state) ws p c.view in
+    let left : (t : ℕ) → t < length ws → IsLeft k target (positions c.state) t (slice_index_or xs t idle) =
+        left_at id k target (positions c.state) ws p c.view in
     record {
-      stands = stands_there (trace_in k) c.state xs cells h.run c.flat c.at (λ t l. (left t (omega (arith, l, size, there, closed))).ahead) (omega (arith, back, size, there, closed)) c.objects;
+      stands = stands_there (trace_in k) c.state xs cells h.run c.flat c.at (λ t l. (left t (omega (arith, l, size, there, closed))).ahead)
+          (omega (arith, back, size, there, closed)) c.objects;
       above = λ t. elim (cases_lt t (length ws)) [
         | inl l ↦ (left t l).up
         | inr past ↦ let none = none_there k.opened.value.threads t (omega (arith, past, size)) in omega (arith, none)
@@ -175,7 +200,9 @@ moved_or_none (suc n) a b up = elim (cases_lt (a n) (b n)) [
   ]
 ]
 
-goes : (id : TableId) (k : Plan) (target : List ℕ) (ws : List Worker) (cells : List Cell) → Starts (trace_in k) target k.opened.value → length ws ≡ length k.opened.value.threads → Down (IsAfterRound id k target) ws → IsClosed k (views_of ws) cells → IsBetween (trace_in k) target k.opened.value (after_round ws cells) → Goes (trace_in k) target k.opened.value (after_round ws cells)
+goes : (id : TableId) (k : Plan) (target : List ℕ) (ws : List Worker) (cells : List Cell) → Starts (trace_in k) target k.opened.value
+    → length ws ≡ length k.opened.value.threads → Down (IsAfterRound id k target) ws → IsClosed k (views_of ws) cells
+    → IsBetween (trace_in k) target k.opened.value (after_round ws cells) → Goes (trace_in k) target k.opened.value (after_round ws cells)
 goes id k target ws cells h size p c b t less =
     let new : Flat = flat_in (trace_in k) (after_round ws cells) in
     let there = h.stands.at.threads in
@@ -185,16 +212,20 @@ goes id k target ws cells h size p c b t less =
           (let up = some.2 in let below = b.below some.0 in omega (arith, up, below)) (λ u. let up = b.above u in omega (arith, up))
       | inl same ↦
           let rests : (u : ℕ) → u < length target → (opened_at k u ≡ cut_of target u) ⊎ WasStopped k u (opened_at k u) =
-          λ u l. subst (λ n. (n ≡ cut_of target u) ⊎ WasStopped k u n) (sym (same u l)) (left_at id k target (positions c.state) ws p c.view u (omega (arith, l, size, there, whole))).rests in
+          λ u l. subst (λ n. (n ≡ cut_of target u) ⊎ WasStopped k u n) (sym (same u l))
+              (left_at id k target (positions c.state) ws p c.view u (omega (arith, l, size, there, whole))).rests in
           let at = still_reached k target h.run h.stands.at h.size h.consistent h.below rests t in
           absurd (omega (arith, at, less))
     ]
 
-pub round_leaves : (id : TableId) (k : Plan) (f : FittedTrace) (target : List ℕ) (s new : Standing) (ws : List Worker) (cells : List Cell) → trace_in k ≡ f → k.opened.value ≡ s → Starts f target s → length ws ≡ length s.threads → Down (IsAfterRound id k target) ws → IsClosed k (views_of ws) cells → new ≡ record { threads = backwards (threads_of ws); objects = cells }
+pub round_leaves : (id : TableId) (k : Plan) (f : FittedTrace) (target : List ℕ) (s new : Standing) (ws : List Worker) (cells : List Cell)
+    → trace_in k ≡ f → k.opened.value ≡ s → Starts f target s → length ws ≡ length s.threads → Down (IsAfterRound id k target) ws
+    → IsClosed k (views_of ws) cells → new ≡ record { threads = backwards (threads_of ws); objects = cells }
     → IsBetween f target s new × Goes f target s new
 round_leaves id k f target s new ws cells for is h size p c e =
     let start : Starts (trace_in k) target k.opened.value = starts_in k f target s for is h in
     let long : length ws ≡ length k.opened.value.threads = size ∙ ap (λ (z : Standing). length z.threads) (sym is) in
     let b : IsBetween (trace_in k) target k.opened.value (after_round ws cells) = between id k target ws cells start long p c in
     subst (λ (z : FittedTrace × Standing). IsBetween z.0 target z.1 new × Goes z.0 target z.1 new) (λ i. (for i, is i))
-    (subst (λ z. IsBetween (trace_in k) target k.opened.value z × Goes (trace_in k) target k.opened.value z) (sym e) (b, goes id k target ws cells start long p c b))
+    (subst (λ z. IsBetween (trace_in k) target k.opened.value z × Goes (trace_in k) target k.opened.value z) (sym e)
+        (b, goes id k target ws cells start long p c b))

@@ -19,14 +19,20 @@ seats-snoc : (ws : List Worker) (w : Worker) → seats_of (ws ++ w ∷ []) ≡ s
 seats-snoc [] w = refl
 seats-snoc (v ∷ ws) w = ap (λ z. v.seat ∷ z) (seats-snoc ws w)
 
-one_more : {A : Type 0} (old new back all : List A) (x : A) → old ≡ new ++ x ∷ [] → old ++ backwards back ≡ all → new ++ backwards (back ++ x ∷ []) ≡ all
-one_more old new back all x taken h = ap (λ z. new ++ z) (backwards-snoc back x) ∙ sym (append_assoc new (x ∷ []) (backwards back)) ∙ ap (λ z. z ++ backwards back) (sym taken) ∙ h
+one_more : {A : Type 0} (old new back all : List A) (x : A) → old ≡ new ++ x ∷ [] → old ++ backwards back ≡ all
+    → new ++ backwards (back ++ x ∷ []) ≡ all
+one_more old new back all x taken h = ap (λ z. new ++ z) (backwards-snoc back x) ∙ sym (append_assoc new (x ∷ []) (backwards back))
+    ∙ ap (λ z. z ++ backwards back) (sym taken) ∙ h
 
-pub threads_more : (old new all : List thread.State) (ws ws' : List Worker) (w : Worker) → old ≡ new ++ w.thread ∷ [] → ws' ≡ ws ++ w ∷ [] → old ++ backwards (threads_of ws) ≡ all → new ++ backwards (threads_of ws') ≡ all
-threads_more old new all ws ws' w taken made h = ap (λ z. new ++ backwards z) (ap threads_of made ∙ threads-snoc ws w) ∙ one_more old new (threads_of ws) all w.thread taken h
+pub threads_more : (old new all : List thread.State) (ws ws' : List Worker) (w : Worker) → old ≡ new ++ w.thread ∷ [] → ws' ≡ ws ++ w ∷ []
+    → old ++ backwards (threads_of ws) ≡ all → new ++ backwards (threads_of ws') ≡ all
+threads_more old new all ws ws' w taken made h = ap (λ z. new ++ backwards z) (ap threads_of made ∙ threads-snoc ws w)
+    ∙ one_more old new (threads_of ws) all w.thread taken h
 
-pub seats_more : (old new all : List (Seat (Unit {0}) View)) (ws ws' : List Worker) (w : Worker) → old ≡ new ++ w.seat ∷ [] → ws' ≡ ws ++ w ∷ [] → old ++ backwards (seats_of ws) ≡ all → new ++ backwards (seats_of ws') ≡ all
-seats_more old new all ws ws' w taken made h = ap (λ z. new ++ backwards z) (ap seats_of made ∙ seats-snoc ws w) ∙ one_more old new (seats_of ws) all w.seat taken h
+pub seats_more : (old new all : List (Seat (Unit {0}) View)) (ws ws' : List Worker) (w : Worker) → old ≡ new ++ w.seat ∷ [] → ws' ≡ ws ++ w
+    ∷ [] → old ++ backwards (seats_of ws) ≡ all → new ++ backwards (seats_of ws') ≡ all
+seats_more old new all ws ws' w taken made h = ap (λ z. new ++ backwards z) (ap seats_of made ∙ seats-snoc ws w)
+    ∙ one_more old new (seats_of ws) all w.seat taken h
 
 -- ---- and again
 
@@ -38,14 +44,18 @@ pub first_view : (ws rest : List Worker) (w : Worker) → ws ≡ rest ++ w ∷ [
 first_view ws rest w e = sym (views-snoc rest w) ∙ ap views_of (sym e)
 
 -- a seat more is joined
-pub view_more : (old rest : List Worker) (w : Worker) (all new : Seat (Unit {0}) View) (whole : View) → all.me.0 ++ views_of old ≡ whole → old ≡ rest ++ w ∷ [] → new.me ≡ (all.me.0 ++ w.seat.me.0, []) → new.me.0 ++ views_of rest ≡ whole
-view_more old rest w all new whole h e is = ap (λ z. z.0 ++ views_of rest) is ∙ append_assoc all.me.0 w.seat.me.0 (views_of rest) ∙ ap (λ z. all.me.0 ++ z) (first_view old rest w e) ∙ h
+pub view_more : (old rest : List Worker) (w : Worker) (all new : Seat (Unit {0}) View) (whole : View) → all.me.0 ++ views_of old ≡ whole
+    → old ≡ rest ++ w ∷ [] → new.me ≡ (all.me.0 ++ w.seat.me.0, []) → new.me.0 ++ views_of rest ≡ whole
+view_more old rest w all new whole h e is = ap (λ z. z.0 ++ views_of rest) is ∙ append_assoc all.me.0 w.seat.me.0 (views_of rest)
+    ∙ ap (λ z. all.me.0 ++ z) (first_view old rest w e) ∙ h
 
 -- a thread more rises
-pub thread_more : (old rest : List Worker) (w : Worker) (xs ys whole : List thread.State) → xs ++ backwards (threads_of old) ≡ whole → old ≡ rest ++ w ∷ [] → ys ≡ xs ++ w.thread ∷ [] → ys ++ backwards (threads_of rest) ≡ whole
+pub thread_more : (old rest : List Worker) (w : Worker) (xs ys whole : List thread.State) → xs ++ backwards (threads_of old) ≡ whole
+    → old ≡ rest ++ w ∷ [] → ys ≡ xs ++ w.thread ∷ [] → ys ++ backwards (threads_of rest) ≡ whole
 thread_more old rest w xs ys whole h e is =
     ap (λ z. z ++ backwards (threads_of rest)) is ∙ append_assoc xs (w.thread ∷ []) (backwards (threads_of rest))
-    ∙ ap (λ z. xs ++ z) (sym (backwards-snoc (threads_of rest) w.thread) ∙ ap backwards (sym (threads-snoc rest w)) ∙ ap (λ z. backwards (threads_of z)) (sym e)) ∙ h
+    ∙ ap (λ z. xs ++ z) (sym (backwards-snoc (threads_of rest) w.thread) ∙ ap backwards (sym (threads-snoc rest w))
+    ∙ ap (λ z. backwards (threads_of z)) (sym e)) ∙ h
 
 pub all_last : {X : Type 0} (P : X → Type 0) (xs : List X) (x : X) → AllByRecursion P (xs ++ x ∷ []) → AllByRecursion P xs × P x
 all_last P [] x h = (tt, h.0)
@@ -59,5 +69,6 @@ take_prefix [] ys = refl
 take_prefix (x ∷ xs) ys = ap (λ z. x ∷ z) (take_prefix xs ys)
 
 -- a list that was changed in place
-pub changed_all : {A : Type 0} (new old : List A) (n : ℕ) → n ≡ length old → length new ≡ length old → take n (new ++ drop (length new) old) ≡ new
+pub changed_all : {A : Type 0} (new old : List A) (n : ℕ) → n ≡ length old → length new ≡ length old
+    → take n (new ++ drop (length new) old) ≡ new
 changed_all new old n e f = ap (λ k. take k (new ++ drop (length new) old)) (e ∙ sym f) ∙ take_prefix new (drop (length new) old)

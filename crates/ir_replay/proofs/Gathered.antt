@@ -30,10 +30,13 @@ pub record Gathered (f : FittedTrace) (s : Flat) (xs : List thread.State) (m : �
   pub others : (t : ℕ) → m ≤ t → positions state t ≡ positions s t
 
 -- threads at the same position are the same
-same_thread : (f : FittedTrace) (a b : Flat) (t : ℕ) → HasRun f → IsStateAt f (positions a) a → IsStateAt f (positions b) b → positions a t ≡ positions b t → thread_of a t ≡ thread_of b t
-same_thread f a b t h at bt same = (at.each h.run h.whole).threads t ∙ ap (thread_at f h.run t) same ∙ sym ((bt.each h.run h.whole).threads t)
+same_thread : (f : FittedTrace) (a b : Flat) (t : ℕ) → HasRun f → IsStateAt f (positions a) a → IsStateAt f (positions b) b
+    → positions a t ≡ positions b t → thread_of a t ≡ thread_of b t
+same_thread f a b t h at bt same = (at.each h.run h.whole).threads t ∙ ap (thread_at f h.run t) same
+    ∙ sym ((bt.each h.run h.whole).threads t)
 
-pub gather : (m : ℕ) (f : FittedTrace) (s : Flat) (xs : List thread.State) → HasRun f → IsFlat s → IsStateAt f (positions s) s → m ≤ length s.threads → ((t : ℕ) → t < length s.threads → IsAhead f t (positions s t) (slice_index_or xs t idle)) → Gathered f s xs m
+pub gather : (m : ℕ) (f : FittedTrace) (s : Flat) (xs : List thread.State) → HasRun f → IsFlat s → IsStateAt f (positions s) s
+    → m ≤ length s.threads → ((t : ℕ) → t < length s.threads → IsAhead f t (positions s t) (slice_index_or xs t idle)) → Gathered f s xs m
 gather zero f s xs h flat at few ahead = record {
   state = s;
   flat = flat;
@@ -49,7 +52,8 @@ gather (suc m) f s xs h flat at few ahead =
     let a : IsAhead f m (positions s m) x = ahead m (omega (arith, few)) in
     let here : positions g.state m ≡ positions s m = g.others m (omega arith) in
     let size = g.size in
-    let c : CaughtUp f g.state m x = catch_up f g.state m x h g.flat g.at (omega (arith, few, size)) a.at (subst (λ i. AreAlone f m i x.steps) (sym here) a.alone) (subst (λ i. i ≤ x.steps) (sym here) a.past) in
+    let c : CaughtUp f g.state m x = catch_up f g.state m x h g.flat g.at (omega (arith, few, size)) a.at
+        (subst (λ i. AreAlone f m i x.steps) (sym here) a.alone) (subst (λ i. i ≤ x.steps) (sym here) a.past) in
     record {
       state = c.state;
       flat = c.flat;
@@ -64,19 +68,26 @@ gather (suc m) f s xs h flat at few ahead =
     }
 
 -- the state of these threads and of the objects at the end of the table
-pub stands_there : (f : FittedTrace) (s : Flat) (xs : List thread.State) (cells : List Cell) → HasRun f → IsFlat s → IsStateAt f (positions s) s → ((t : ℕ) → t < length s.threads → IsAhead f t (positions s t) (slice_index_or xs t idle)) → length xs ≡ length s.threads → cells ≡ s.objects
+pub stands_there : (f : FittedTrace) (s : Flat) (xs : List thread.State) (cells : List Cell) → HasRun f → IsFlat s
+    → IsStateAt f (positions s) s → ((t : ℕ) → t < length s.threads → IsAhead f t (positions s t) (slice_index_or xs t idle))
+    → length xs ≡ length s.threads → cells ≡ s.objects
     → StandsAt f (positions (flat_in f (record { threads = xs; objects = cells }))) (record { threads = xs; objects = cells })
 stands_there f s xs cells h flat at ahead size objects =
-    let g : Gathered f s xs (length s.threads) = gather (length s.threads) f s xs h flat at (let e : length s.threads ≤ length s.threads = omega arith in e) ahead in
-    let threads : g.state.threads ≡ xs = ext_get_or idle g.state.threads xs (g.size ∙ sym size) (λ t l. g.own t (let e = g.size in omega (arith, l, e))) in
-    let same : g.state ≡ flat_in f (record { threads = xs; objects = cells }) = λ i. record { code = g.at.code i; threads = threads i; objects = (g.objects ∙ sym objects) i } in
+    let g : Gathered f s xs (length s.threads) =
+        gather (length s.threads) f s xs h flat at (let e : length s.threads ≤ length s.threads = omega arith in e) ahead in
+    let threads : g.state.threads ≡ xs = ext_get_or idle g.state.threads xs (g.size ∙ sym size)
+        (λ t l. g.own t (let e = g.size in omega (arith, l, e))) in
+    let same : g.state ≡ flat_in f (record { threads = xs; objects = cells }) =
+        λ i. record { code = g.at.code i; threads = threads i; objects = (g.objects ∙ sym objects) i } in
     record { flat = subst IsFlat same g.flat; at = subst (λ z. IsStateAt f (positions z) z) same g.at }
 
 -- ---- a round in which nobody moves
 
 -- where no thread has gone on and each rests, all are at their targets
-pub still_reached : (k : Plan) (target : List ℕ) → HasRun (trace_in k) → IsStateAt (trace_in k) (opened_at k) (opened_in k) → length target ≡ length (trace_in k).guest.entries → IsConsistentCut (trace_in k) target → ((t : ℕ) → opened_at k t ≤ cut_of target t)
-    → ((t : ℕ) → t < length target → (opened_at k t ≡ cut_of target t) ⊎ WasStopped k t (opened_at k t)) → (t : ℕ) → opened_at k t ≡ cut_of target t
+pub still_reached : (k : Plan) (target : List ℕ) → HasRun (trace_in k) → IsStateAt (trace_in k) (opened_at k) (opened_in k)
+    → length target ≡ length (trace_in k).guest.entries → IsConsistentCut (trace_in k) target → ((t : ℕ) → opened_at k t ≤ cut_of target t)
+    → ((t : ℕ) → t < length target → (opened_at k t ≡ cut_of target t) ⊎ WasStopped k t (opened_at k t)) → (t : ℕ)
+    → opened_at k t ≡ cut_of target t
 still_reached k target h at size consistent below rests t = elim (cases_lt (opened_at k t) (cut_of target t)) [
   | inr past ↦ let b = below t in omega (arith, b, past)
   | inl less ↦
@@ -84,7 +95,9 @@ still_reached k target h at size consistent below rests t = elim (cases_lt (open
       let run : List Step = h.run in
       let of : IsRunOf f.guest f.recorded run = h.whole in
       let goal = consistent run of in
-      let p : Progress (machine_of f) (start_of f) run (opened_at k) (cut_of target) = progress (machine_of f) (law f) (start_of f) (good f) run of.1.runs (opened_at k) (cut_of target) (at.each run of).consistent goal.1 goal.0 t less in
+      let p : Progress (machine_of f) (start_of f) run (opened_at k) (cut_of target) =
+          progress (machine_of f) (law f) (start_of f) (good f) run of.1.runs (opened_at k) (cut_of target) (at.each run of).consistent
+          goal.1 goal.0 t less in
       let before : opened_at k p.thread < cut_of target p.thread = p.below in
       let inside : p.thread < length target = elim (cases_lt p.thread (length target)) [
         | inl l ↦ l
@@ -92,6 +105,7 @@ still_reached k target h at size consistent below rests t = elim (cases_lt (open
       ] in
       absurd (elim (rests p.thread inside) [
         | inl done ↦ omega (arith, done, before)
-        | inr w ↦ w.stopped run of (persists (machine_of f) (start_of f) run (opened_at k) w.cut p.thread (let b = goal.0 p.thread in omega (arith, before, b), p.consistent) (w.consistent run of) w.above w.here)
+        | inr w ↦ w.stopped run of (persists (machine_of f) (start_of f) run (opened_at k) w.cut p.thread
+            (let b = goal.0 p.thread in omega (arith, before, b), p.consistent) (w.consistent run of) w.above w.here)
       ])
 ]

@@ -52,12 +52,16 @@ gone_same old new t n h none u = elim (cases_eq u t) [
 
 -- ---- how many steps are left
 
-pub left_above : (target : List ℕ) (old new : Flat) → ((t : ℕ) → positions old t ≤ positions new t) → steps_left target new ≤ steps_left target old
-left_above target old new above = sum_le (length target) (λ t. cut_of target t - positions new t) (λ t. cut_of target t - positions old t) (λ t. let a = above t in omega (arith, a))
+pub left_above : (target : List ℕ) (old new : Flat) → ((t : ℕ) → positions old t ≤ positions new t)
+    → steps_left target new ≤ steps_left target old
+left_above target old new above = sum_le (length target) (λ t. cut_of target t - positions new t) (λ t. cut_of target t - positions old t)
+    (λ t. let a = above t in omega (arith, a))
 
-fewer_left : (target : List ℕ) (old new : Flat) (t n : ℕ) → t < length target → HasGone old new t n → 0 < n → positions new t ≤ cut_of target t → steps_left target new < steps_left target old
+fewer_left : (target : List ℕ) (old new : Flat) (t n : ℕ) → t < length target → HasGone old new t n → 0 < n
+    → positions new t ≤ cut_of target t → steps_left target new < steps_left target old
 fewer_left target old new t n l gone some below =
-    sum_less (length target) t (λ u. cut_of target u - positions new u) (λ u. cut_of target u - positions old u) l (let own = gone.own in omega (arith, own, some, below)) (λ u. let a = gone_above old new t n gone u in omega (arith, a))
+    sum_less (length target) t (λ u. cut_of target u - positions new u) (λ u. cut_of target u - positions old u) l
+        (let own = gone.own in omega (arith, own, some, below)) (λ u. let a = gone_above old new t n gone u in omega (arith, a))
 
 -- ---- a pass
 
@@ -71,18 +75,23 @@ first_pass f target s most under = record {
 }
 
 -- the next thread has gone on
-pub pass_on : (f : FittedTrace) (target : List ℕ) (old s new : Flat) (taken most t more : ℕ) → IsPass f target old s taken most t → t < length target → IsUnder f target new → HasGone s new t more → (more < most - taken → Rests f target new t) → IsPass f target old new (taken + more) most (t + 1)
+pub pass_on : (f : FittedTrace) (target : List ℕ) (old s new : Flat) (taken most t more : ℕ) → IsPass f target old s taken most t
+    → t < length target → IsUnder f target new → HasGone s new t more → (more < most - taken → Rests f target new t)
+    → IsPass f target old new (taken + more) most (t + 1)
 pass_on f target old s new taken most t more k l under gone rests = record {
   under = under;
   above = λ u. let a = k.above u in let b = gone_above s new t more gone u in omega (arith, a, b);
   fewer = λ some. elim (cases_lt 0 more) [
-    | inl moved ↦ let a = fewer_left target s new t more l gone moved (under.below t) in let b = left_above target old s k.above in omega (arith, a, b)
-    | inr still ↦ let a = left_above target s new (gone_above s new t more gone) in let b = k.fewer (omega (arith, some, still)) in omega (arith, a, b)
+    | inl moved ↦ let a = fewer_left target s new t more l gone moved (under.below t) in let b = left_above target old s k.above in
+        omega (arith, a, b)
+    | inr still ↦ let a = left_above target s new (gone_above s new t more gone) in let b = k.fewer (omega (arith, some, still)) in
+        omega (arith, a, b)
   ];
   same = λ none u. gone_same s new t more gone (omega (arith, none)) u ∙ k.same (omega (arith, none)) u;
   rest = λ none some u less. elim (cases_eq u t) [
     | inl here ↦ subst (Rests f target new) (sym here) (rests (omega (arith, none, some)))
-    | inr ne ↦ rests_same f target s new u (gone_same s new t more gone (omega (arith, none))) (k.rest (omega (arith, none)) some u (omega (arith, less, ne)))
+    | inr ne ↦ rests_same f target s new u (gone_same s new t more gone (omega (arith, none)))
+        (k.rest (omega (arith, none)) some u (omega (arith, less, ne)))
   ];
 }
 
@@ -105,17 +114,21 @@ no_passes f target s most under = record {
   same = λ e u. refl;
 }
 
-pub passes_on : (f : FittedTrace) (target : List ℕ) (old s new : Flat) (most left taken n : ℕ) → ArePasses f target old s most left → IsPass f target s new taken left n → taken ≤ left → (taken ≡ 0 → ⊥) → ArePasses f target old new most (left - taken)
+pub passes_on : (f : FittedTrace) (target : List ℕ) (old s new : Flat) (most left taken n : ℕ) → ArePasses f target old s most left
+    → IsPass f target s new taken left n → taken ≤ left → (taken ≡ 0 → ⊥) → ArePasses f target old new most (left - taken)
 passes_on f target old s new most left taken n k p few some = record {
   under = p.under;
   above = λ t. let a = k.above t in let b = p.above t in omega (arith, a, b);
   within = let a = k.within in omega (arith, a);
-  fewer = λ l. let a = p.fewer (elim (cases_lt 0 taken) [ inl l ↦ l | inr none ↦ absurd (some (omega (arith, none))) ]) in let b = left_above target old s k.above in omega (arith, a, b);
+  fewer = λ l. let a = p.fewer (elim (cases_lt 0 taken) [ inl l ↦ l | inr none ↦ absurd (some (omega (arith, none))) ]) in let b =
+      left_above target old s k.above in omega (arith, a, b);
   same = λ e. let a = k.within in absurd (some (omega (arith, a, e, few)));
 }
 
 -- where a pass takes no step, none was left to those before, or these took some
-pub passes_done : (f : FittedTrace) (target : List ℕ) (old s new : Flat) (most left taken : ℕ) → IsTarget f target → ArePasses f target old s most left → IsPass f target s new taken left (length target) → taken ≡ 0 → 0 < left → (t : ℕ) → positions old t < cut_of target t → steps_left target new < steps_left target old
+pub passes_done : (f : FittedTrace) (target : List ℕ) (old s new : Flat) (most left taken : ℕ) → IsTarget f target
+    → ArePasses f target old s most left → IsPass f target s new taken left (length target) → taken ≡ 0 → 0 < left → (t : ℕ)
+    → positions old t < cut_of target t → steps_left target new < steps_left target old
 passes_done f target old s new most left taken aim k p none some t less = elim (cases_lt left most) [
   | inl l ↦ let a = k.fewer l in let b = left_above target s new p.above in omega (arith, a, b)
   | inr all ↦

@@ -20,25 +20,33 @@ start_number g budget from zero t l = absurd (omega (arith, l))
 start_number g budget from (suc n) zero l = omega arith
 start_number g budget from (suc n) (suc t) l = let e = start_number g budget (suc from) n t (omega (arith, l)) in omega (arith, e)
 
-taken : (code : List ℕ) (x : thread.State) (n : ℕ) → (thread_machine code).take x n ≡ after_ask code x (ask_of code x) (reply_of (ask_of code x) n)
+taken : (code : List ℕ) (x : thread.State) (n : ℕ)
+    → (thread_machine code).take x n ≡ after_ask code x (ask_of code x) (reply_of (ask_of code x) n)
 unfolding after_reply
 taken code x n = refl
 
-numbered : (f : FittedTrace) (run : List Step) → IsRunOf f.guest f.recorded run → (t k : ℕ) → t < length f.guest.entries → k ≤ count (machine_of f) (start_of f) run t → (thread_at f run t k).number ≡ t
-numbered f run of t zero there l = ap (λ (z : thread.State). z.number) (first_thread (machine_of f) (start_of f) run t) ∙ (let e = start_number f.guest f.recorded.budget 0 (length f.guest.entries) t there in omega (arith, e))
+numbered : (f : FittedTrace) (run : List Step) → IsRunOf f.guest f.recorded run → (t k : ℕ) → t < length f.guest.entries
+    → k ≤ count (machine_of f) (start_of f) run t → (thread_at f run t k).number ≡ t
+numbered f run of t zero there l = ap (λ (z : thread.State). z.number) (first_thread (machine_of f) (start_of f) run t)
+    ∙ (let e = start_number f.guest f.recorded.budget 0 (length f.guest.entries) t there in omega (arith, e))
 numbered f run of t (suc k) there l =
     let at = step_there f run t k (omega (arith, l)) in
-    let z : StepOf (machine_of f) (thread_at f run t k) (thread_at f run t (suc k)) at.0 = step_at (machine_of f) (start_of f) run of.1.runs t k at.0 at.1 in
+    let z : StepOf (machine_of f) (thread_at f run t k) (thread_at f run t (suc k)) at.0 =
+        step_at (machine_of f) (start_of f) run of.1.runs t k at.0 at.1 in
     let n : ℕ = reply (act_of (shared_ask (ask_at f run t k)) z.result) z.object in
-    ap (λ (x : thread.State). x.number) (z.next ∙ taken f.guest.code (thread_at f run t k) n) ∙ same_number f.guest.code (thread_at f run t k) (ask_at f run t k) (reply_of (ask_at f run t k) n) ∙ numbered f run of t k there (omega (arith, l))
+    ap (λ (x : thread.State). x.number) (z.next ∙ taken f.guest.code (thread_at f run t k) n)
+        ∙ same_number f.guest.code (thread_at f run t k) (ask_at f run t k) (reply_of (ask_at f run t k) n)
+        ∙ numbered f run of t k there (omega (arith, l))
 
 -- a thread of a state is where it is
-pub ahead_at : (f : FittedTrace) (s : Flat) (t : ℕ) → HasRun f → IsFlat s → IsStateAt f (positions s) s → t < length s.threads → IsAhead f t (positions s t) (thread_of s t)
+pub ahead_at : (f : FittedTrace) (s : Flat) (t : ℕ) → HasRun f → IsFlat s → IsStateAt f (positions s) s → t < length s.threads
+    → IsAhead f t (positions s t) (thread_of s t)
 ahead_at f s t h flat at there =
     let inside : t < length f.guest.entries = (let e = at.threads in omega (arith, there, e)) in record {
       run = h;
       there = inside;
-      number = ap (λ (x : thread.State). x.number) ((at.each h.run h.whole).threads t) ∙ numbered f h.run h.whole t (positions s t) inside ((at.each h.run h.whole).cut t);
+      number = ap (λ (x : thread.State). x.number) ((at.each h.run h.whole).threads t)
+          ∙ numbered f h.run h.whole t (positions s t) inside ((at.each h.run h.whole).cut t);
       held = flat.places t there ∙ at.objects;
       past = omega arith;
       at = λ run of. ((at.each run of).cut t, (at.each run of).threads t);

@@ -19,7 +19,8 @@ pub record IsBetween (f : FittedTrace) (target : List ℕ) (old new : Standing) 
 
 -- fewer steps are left, if any were
 abbrev pub Goes : FittedTrace → List ℕ → Standing → Standing → Type 0
-Goes f target old new = (t : ℕ) → positions (flat_in f old) t < cut_of target t → steps_left target (flat_in f new) < steps_left target (flat_in f old)
+Goes f target old new = (t : ℕ) → positions (flat_in f old) t < cut_of target t
+    → steps_left target (flat_in f new) < steps_left target (flat_in f old)
 
 -- the list from its end
 abbrev pub backwards : {A : Type 0} → List A → List A

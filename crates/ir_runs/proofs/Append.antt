@@ -8,11 +8,14 @@ pub join_append : {A : Type 0} (b : Bool) (x : A) (xs ys : List A) → join_if b
 join_append true x xs ys = refl
 join_append false x xs ys = refl
 
-pub trail_append : {T : Type 0} (m : Machine T) (s : State T) (run more : List Step) (t : ℕ) → trail m s (run ++ more) t ≡ trail m s run t ++ trail m (end m s run) more t
+pub trail_append : {T : Type 0} (m : Machine T) (s : State T) (run more : List Step) (t : ℕ)
+    → trail m s (run ++ more) t ≡ trail m s run t ++ trail m (end m s run) more t
 trail_append m s [] more t = refl
-trail_append m s (e ∷ run) more t = ap (join_if (eqb t e.0) (s.now t, label m s e)) (trail_append m (after m s e) run more t) ∙ join_append (eqb t e.0) (s.now t, label m s e) (trail m (after m s e) run t) (trail m (end m (after m s e) run) more t)
+trail_append m s (e ∷ run) more t = ap (join_if (eqb t e.0) (s.now t, label m s e)) (trail_append m (after m s e) run more t)
+    ∙ join_append (eqb t e.0) (s.now t, label m s e) (trail m (after m s e) run t) (trail m (end m (after m s e) run) more t)
 
-pub run_append : {T : Type 0} (m : Machine T) (s : State T) (run more : List Step) → IsRun m s run → IsRun m (end m s run) more → IsRun m s (run ++ more)
+pub run_append : {T : Type 0} (m : Machine T) (s : State T) (run more : List Step) → IsRun m s run → IsRun m (end m s run) more
+    → IsRun m s (run ++ more)
 run_append m s [] more ok ok' = ok'
 run_append m s (e ∷ run) more ok ok' = (ok.0, run_append m (after m s e) run more ok.1 ok')
 
@@ -31,5 +34,6 @@ pub events_append : {T : Type 0} (xs ys : List (T × Label)) → events (xs ++ y
 events_append [] ys = refl
 events_append (x ∷ xs) ys = ap (logged x.1) (events_append xs ys) ∙ logged_append x.1 (events xs) (events ys)
 
-pub log_append : {T : Type 0} (m : Machine T) (s : State T) (run more : List Step) (t : ℕ) → log m s (run ++ more) t ≡ log m s run t ++ log m (end m s run) more t
+pub log_append : {T : Type 0} (m : Machine T) (s : State T) (run more : List Step) (t : ℕ)
+    → log m s (run ++ more) t ≡ log m s run t ++ log m (end m s run) more t
 log_append m s run more t = ap events (trail_append m s run more t) ∙ events_append (trail m s run t) (trail m (end m s run) more t)

@@ -16,14 +16,16 @@ use Rattle.ir_runs.proofs.Steps.{Clashes, Keeps, keeps, commute}
 use Rattle.ir_runs.proofs.Swap.{Clash}
 use Rattle.ir_runs.specs.Cuts.{At, Needs}
 
-before_entry : {T : Type 0} (m : Machine T) (b : Object) (t : ℕ) (x : Option Access) → (x ≡ Some Writing → ⊥) → b.inside t ≡ x → (a : Option Access) → ((w : ℕ) → upd b.inside t a w ≢ Some Writing) → (w : ℕ) → b.inside w ≢ Some Writing
+before_entry : {T : Type 0} (m : Machine T) (b : Object) (t : ℕ) (x : Option Access) → (x ≡ Some Writing → ⊥) → b.inside t ≡ x
+    → (a : Option Access) → ((w : ℕ) → upd b.inside t a w ≢ Some Writing) → (w : ℕ) → b.inside w ≢ Some Writing
 before_entry m b t x ne i a h w e = elim (cases_eq w t) [
   | inl same ↦ ne (sym i ∙ ap b.inside (sym same) ∙ e)
   | inr other ↦ h w (upd_other b.inside t w a other ∙ e)
 ]
 
 -- The step of u was admitted before that of t, unless it needs that.
-back1 : {T : Type 0} (m : Machine T) (b : Object) (t u : ℕ) (q q' : Act) → target q' ≡ target q → Inside q (b.inside t) → Admits m q b → Admits m q' (acted q t b) → (Needs (told q b) (told q' (acted q t b)) → ⊥) → Admits m q' b × (Clash q q' → ⊥)
+back1 : {T : Type 0} (m : Machine T) (b : Object) (t u : ℕ) (q q' : Act) → target q' ≡ target q → Inside q (b.inside t) → Admits m q b
+    → Admits m q' (acted q t b) → (Needs (told q b) (told q' (acted q t b)) → ⊥) → Admits m q' b × (Clash q q' → ⊥)
 back1 m b t u Silent q' same i h h' free = (h', λ c. c)
 back1 m b t u (Refusal _) q' same i h h' free = (h', λ c. c)
 back1 m b t u (Result k res) q' same i h h' free = (h', λ c. c)
@@ -70,18 +72,22 @@ back1 m b t u (Exit o a) (Store p k v) same i h h' free = (tt, λ c. c)
 back1 m b t u (Exit o a) Never same i h h' free = absurd h'
 
 -- The step e' was there before e, unless it needs e.
-pub back : {T : Type 0} (m : Machine T) → IsLawful m → (s : State T) → Good m s → (e e' : Step) → e'.0 ≢ e.0 → Can m s e → Can m (after m s e) e' → (Needs (label m s e) (label m (after m s e) e') → ⊥) → Can m s e' × (Clashes m s e e' → ⊥)
+pub back : {T : Type 0} (m : Machine T) → IsLawful m → (s : State T) → Good m s → (e e' : Step) → e'.0 ≢ e.0 → Can m s e
+    → Can m (after m s e) e' → (Needs (label m s e) (label m (after m s e) e') → ⊥) → Can m s e' × (Clashes m s e e' → ⊥)
 unfolding after
 back m law s good e e' ne can can' free =
     let q : Act = act m s e in let q' : Act = act m s e' in
     let s1 = after m s e in
     let p : s1.now e'.0 ≡ s.now e'.0 = now_other m s e e'.0 ne in
-    let h : Admits m q' (s1.objects (target q')) = subst (λ z. Admits m (act_of (m.ask z) e'.1) (s1.objects (target (act_of (m.ask z) e'.1)))) p can' in
-    let f : Needs (label m s e) (told q' (s1.objects (target q'))) → ⊥ = subst (λ z. Needs (label m s e) (told (act_of (m.ask z) e'.1) (s1.objects (target (act_of (m.ask z) e'.1)))) → ⊥) p free in
+    let h : Admits m q' (s1.objects (target q')) =
+        subst (λ z. Admits m (act_of (m.ask z) e'.1) (s1.objects (target (act_of (m.ask z) e'.1)))) p can' in
+    let f : Needs (label m s e) (told q' (s1.objects (target q'))) → ⊥ =
+        subst (λ z. Needs (label m s e) (told (act_of (m.ask z) e'.1) (s1.objects (target (act_of (m.ask z) e'.1)))) → ⊥) p free in
     elim (cases_eq (target q') (target q)) [
       | inl same ↦
           let c : s1.objects (target q') ≡ acted q e.0 (s.objects (target q)) = ap s1.objects same ∙ upd_same s.objects (target q) _ in
-          let z : Admits m q' (s.objects (target q)) × (Clash q q' → ⊥) = back1 m (s.objects (target q)) e.0 e'.0 q q' same (inside_now m law s good e) can
+          let z : Admits m q' (s.objects (target q)) × (Clash q q' → ⊥) =
+              back1 m (s.objects (target q)) e.0 e'.0 q q' same (inside_now m law s good e) can
           (subst (Admits m q') c h) (subst (λ y. Needs (label m s e) (told q' y) → ⊥) c f) in
           (subst (λ y. Admits m q' (s.objects y)) (sym same) z.0, λ y. z.1 y.1)
       | inr other ↦ (subst (Admits m q') (upd_other s.objects (target q) (target q') _ other) h, λ y. other y.0)
@@ -92,20 +98,29 @@ pub record Skipped {T : Type 0} (m : Machine T) (s : State T) (e : Step) (run : 
   pub ok : IsRun m s run
   pub same_trail : (u : ℕ) → trail m s run u ≡ trail m (after m s e) run u
 
-pub skip : {T : Type 0} (m : Machine T) → IsLawful m → (s : State T) → Good m s → (e : Step) → Can m s e → (run : List Step) → IsRun m (after m s e) run → trail m (after m s e) run e.0 ≡ []
+pub skip : {T : Type 0} (m : Machine T) → IsLawful m → (s : State T) → Good m s → (e : Step) → Can m s e → (run : List Step)
+    → IsRun m (after m s e) run → trail m (after m s e) run e.0 ≡ []
     → ((u k : ℕ) (x : T) (a : Label) → At (trail m (after m s e) run u) k (x, a) → Needs (label m s e) a → ⊥) → Skipped m s e run
 skip m law s good e can [] ok none free = record { ok = tt; same_trail = λ u. refl }
 skip {T} m law s good e can (d ∷ run) ok none free =
     let s1 = after m s e in
-    let other : d.0 ≢ e.0 = λ p. cc (subst (λ b. join_if b (s1.now e.0, label m s1 d) (trail m (after m s1 d) run e.0) ≡ []) (eq-eqb e.0 d.0 (sym p)) none) in
-    let none' : trail m (after m s1 d) run e.0 ≡ [] = subst (λ b. join_if b (s1.now e.0, label m s1 d) (trail m (after m s1 d) run e.0) ≡ []) (ne_eqb e.0 d.0 (λ p. other (sym p))) none in
-    let b = back m law s good e d other can ok.0 (free d.0 0 (s1.now d.0) (label m s1 d) (subst (λ b. At (join_if b (s1.now d.0, label m s1 d) (trail m (after m s1 d) run d.0)) 0 (s1.now d.0, label m s1 d)) (sym (eq-eqb d.0 d.0 refl)) refl)) in
+    let other : d.0 ≢ e.0 = λ p. cc (subst (λ b. join_if b (s1.now e.0, label m s1 d) (trail m (after m s1 d) run e.0) ≡ [])
+        (eq-eqb e.0 d.0 (sym p)) none) in
+    let none' : trail m (after m s1 d) run e.0 ≡ [] =
+        subst (λ b. join_if b (s1.now e.0, label m s1 d) (trail m (after m s1 d) run e.0) ≡ []) (ne_eqb e.0 d.0 (λ p. other (sym p)))
+        none in
+    let b = back m law s good e d other can ok.0
+        (free d.0 0 (s1.now d.0) (label m s1 d)
+        (subst (λ b. At (join_if b (s1.now d.0, label m s1 d) (trail m (after m s1 d) run d.0)) 0 (s1.now d.0, label m s1 d))
+        (sym (eq-eqb d.0 d.0 refl)) refl)) in
     let free2 : Clashes m s d e → ⊥ = λ c. b.1 (sym c.0, clash_sym _ _ c.1) in
     let k : Keeps m s e d = keeps m law s good e d (λ p. other (sym p)) can b.0 b.1 in
     let k' : Keeps m s d e = keeps m law s good d e other b.0 can free2 in
     let p : after m s1 d ≡ after m (after m s d) e = commute m law s good e d (λ p. other (sym p)) can b.0 b.1 free2 in
-    let z : Skipped m (after m s d) e run = skip m law (after m s d) (stays_good m law s good d b.0) e k'.can run (subst (λ z. IsRun m z run) p ok.1) (subst (λ z. trail m z run e.0 ≡ []) p none')
-    (λ u k x a h n. skip_free s1 d run p e u k x a free (subst (λ z. At (trail m z run u) k (x, a)) (sym p) h) (subst (λ z. Needs z a) k'.label_same n)) in
+    let z : Skipped m (after m s d) e run = skip m law (after m s d) (stays_good m law s good d b.0) e k'.can run
+        (subst (λ z. IsRun m z run) p ok.1) (subst (λ z. trail m z run e.0 ≡ []) p none')
+    (λ u k x a h n. skip_free s1 d run p e u k x a free (subst (λ z. At (trail m z run u) k (x, a)) (sym p) h)
+        (subst (λ z. Needs z a) k'.label_same n)) in
     record {
       ok = (b.0, z.ok);
       same_trail = λ u. ap (join_if (eqb u d.0) (s.now u, label m s d)) (z.same_trail u ∙ ap (λ y. trail m y run u) (sym p))
@@ -121,5 +136,8 @@ skip {T} m law s good e can (d ∷ run) ok none free =
     at_later true x y xs k h = (suc k, h)
     at_later false x y xs k h = (k, h)
 
-    skip_free : (s1 : State T) (d : Step) (run : List Step) {s2 : State T} → after m s1 d ≡ s2 → (e : Step) (u k : ℕ) (x : T) (a : Label) → ((u k : ℕ) (x : T) (a : Label) → At (trail m s1 (d ∷ run) u) k (x, a) → Needs (label m s e) a → ⊥) → At (trail m (after m s1 d) run u) k (x, a) → Needs (label m s e) a → ⊥
-    skip_free s1 d run p e u k x a free h n = let j = at_later (eqb u d.0) (s1.now u, label m s1 d) (x, a) (trail m (after m s1 d) run u) k h in free u j.0 x a j.1 n
+    skip_free : (s1 : State T) (d : Step) (run : List Step) {s2 : State T} → after m s1 d ≡ s2 → (e : Step) (u k : ℕ) (x : T) (a : Label)
+        → ((u k : ℕ) (x : T) (a : Label) → At (trail m s1 (d ∷ run) u) k (x, a) → Needs (label m s e) a → ⊥)
+        → At (trail m (after m s1 d) run u) k (x, a) → Needs (label m s e) a → ⊥
+    skip_free s1 d run p e u k x a free h n = let j =
+        at_later (eqb u d.0) (s1.now u, label m s1 d) (x, a) (trail m (after m s1 d) run u) k h in free u j.0 x a j.1 n

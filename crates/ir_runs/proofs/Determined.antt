@@ -12,31 +12,41 @@ use Rattle.ir_runs.specs.Alike.{SameTrace, SameRun}
 use Rattle.ir_runs.specs.Cuts.{AtCut, At, Tells, Cut, IsCut, Consistent, part, further, Admitted}
 
 -- the cuts of two runs with the same trails
-pub trails_cut : {T : Type 0} (m : Machine T) (s : State T) (run run' : List Step) → ((u : ℕ) → trail m s run u ≡ trail m s run' u) → (p : Cut) → Consistent m s run p → Consistent m s run' p
-trails_cut m s run run' same p c = λ t k u j a b h g n l. c t k u j a b (h.0, subst (λ z. At z k (h.0, a)) (sym (same t)) h.1) (g.0, subst (λ z. At z j (g.0, b)) (sym (same u)) g.1) n l
+pub trails_cut : {T : Type 0} (m : Machine T) (s : State T) (run run' : List Step) → ((u : ℕ) → trail m s run u ≡ trail m s run' u)
+    → (p : Cut) → Consistent m s run p → Consistent m s run' p
+trails_cut m s run run' same p c = λ t k u j a b h g n l. c t k u j a b (h.0, subst (λ z. At z k (h.0, a)) (sym (same t)) h.1)
+    (g.0, subst (λ z. At z j (g.0, b)) (sym (same u)) g.1) n l
 
 -- what the first steps log is a prefix of the log
 -- a part of the run, and then the rest
-pub part_goes : {T : Type 0} (m : Machine T) → IsLawful m → (s : State T) → Good m s → (prefix run : List Step) → IsRun m s prefix → IsRun m s run → (n : ℕ → ℕ) → ((t : ℕ) → trail m s prefix t ≡ take (n t) (trail m s run t)) → Goes m s prefix run
+pub part_goes : {T : Type 0} (m : Machine T) → IsLawful m → (s : State T) → Good m s → (prefix run : List Step) → IsRun m s prefix
+    → IsRun m s run → (n : ℕ → ℕ) → ((t : ℕ) → trail m s prefix t ≡ take (n t) (trail m s run t)) → Goes m s prefix run
 part_goes m law s good prefix run ok ok' n same = goes m law s good prefix run ok ok' (λ t. events (drop (n t) (trail m s run t)))
-    (λ t. ap (λ z. events z ++ events (drop (n t) (trail m s run t))) (same t) ∙ sym (events_append (take (n t) (trail m s run t)) (drop (n t) (trail m s run t))) ∙ ap events (take-append-drop (n t) (trail m s run t)))
+    (λ t. ap (λ z. events z ++ events (drop (n t) (trail m s run t))) (same t)
+        ∙ sym (events_append (take (n t) (trail m s run t)) (drop (n t) (trail m s run t)))
+        ∙ ap events (take-append-drop (n t) (trail m s run t)))
     (λ t. omega (arith, ap length (same t), length-take (n t) (trail m s run t)))
 
-first_thread : {T : Type 0} (m : Machine T) (s : State T) (run : List Step) (t : ℕ) → thread_in (trail m s run t) 0 ((end m s run).now t) ≡ s.now t
+first_thread : {T : Type 0} (m : Machine T) (s : State T) (run : List Step) (t : ℕ)
+    → thread_in (trail m s run t) 0 ((end m s run).now t) ≡ s.now t
 first_thread m s [] t = refl
 first_thread m s (e ∷ run) t = elim (cases_eq t e.0) [
-  | inl same ↦ subst (λ b. thread_in (join_if b (s.now t, label m s e) (trail m (after m s e) run t)) 0 ((end m (after m s e) run).now t) ≡ s.now t) (sym (eq-eqb t e.0 same)) refl
-  | inr other ↦ subst (λ b. thread_in (join_if b (s.now t, label m s e) (trail m (after m s e) run t)) 0 ((end m (after m s e) run).now t) ≡ s.now t) (sym (ne_eqb t e.0 other)) (first_thread m (after m s e) run t ∙ now_other m s e t other)
+  | inl same ↦ subst (λ b. thread_in (join_if b (s.now t, label m s e) (trail m (after m s e) run t)) 0 ((end m (after m s e) run).now t) ≡
+      s.now t) (sym (eq-eqb t e.0 same)) refl
+  | inr other ↦ subst (λ b. thread_in (join_if b (s.now t, label m s e) (trail m (after m s e) run t)) 0 ((end m (after m s e) run).now t) ≡
+      s.now t) (sym (ne_eqb t e.0 other)) (first_thread m (after m s e) run t ∙ now_other m s e t other)
 ]
 
-thread_append : {T : Type 0} (xs ys : List (T × Label)) (k : ℕ) (last : T) → length xs ≡ k → thread_in (xs ++ ys) k last ≡ thread_in ys 0 last
+thread_append : {T : Type 0} (xs ys : List (T × Label)) (k : ℕ) (last : T) → length xs ≡ k
+    → thread_in (xs ++ ys) k last ≡ thread_in ys 0 last
 thread_append [] ys zero last h = refl
 thread_append [] ys (suc k) last h = absurd (omega arith)
 thread_append (x ∷ xs) ys zero last h = absurd (omega arith)
 thread_append (x ∷ xs) ys (suc k) last h = thread_append xs ys k last (omega arith)
 
 -- the thread at a cut
-thread_at : {T : Type 0} (m : Machine T) (s : State T) (prefix run : List Step) → Goes m s prefix run → (t k : ℕ) → count m s prefix t ≡ k → (end m s prefix).now t ≡ th m s run t k
+thread_at : {T : Type 0} (m : Machine T) (s : State T) (prefix run : List Step) → Goes m s prefix run → (t k : ℕ) → count m s prefix t ≡ k
+    → (end m s prefix).now t ≡ th m s run t k
 thread_at m s prefix run g t k h =
     sym (first_thread m (end m s prefix) g.rest t)
     ∙ sym (thread_append (trail m s prefix t) (trail m (end m s prefix) g.rest t) k ((end m (end m s prefix) g.rest).now t) h)
@@ -50,27 +60,33 @@ pub record Single {T : Type 0} (m : Machine T) (s : State T) (run : List Step) (
   pub same_end : after m s (t, result) ≡ end m s run
   pub tells : At (trail m s run t) 0 (s.now t, label m s (t, result))
 
-pub count_head : {T : Type 0} (m : Machine T) (s : State T) (e : Step) (run : List Step) (u : ℕ) → count m s (e ∷ run) u ≡ cond (eqb u e.0) (suc (count m (after m s e) run u)) (count m (after m s e) run u)
+pub count_head : {T : Type 0} (m : Machine T) (s : State T) (e : Step) (run : List Step) (u : ℕ)
+    → count m s (e ∷ run) u ≡ cond (eqb u e.0) (suc (count m (after m s e) run u)) (count m (after m s e) run u)
 count_head m s e run u = lengthen (eqb u e.0) (s.now u, label m s e) (trail m (after m s e) run u)
   where
     lengthen : {A : Type 0} (b : Bool) (x : A) (xs : List A) → length (join_if b x xs) ≡ cond b (suc (length xs)) (length xs)
     lengthen true x xs = refl
     lengthen false x xs = refl
 
-single : {T : Type 0} (m : Machine T) (s : State T) (run : List Step) → IsRun m s run → (t : ℕ) → count m s run t ≡ 1 → ((u : ℕ) → u ≢ t → count m s run u ≡ 0) → Single m s run t
+single : {T : Type 0} (m : Machine T) (s : State T) (run : List Step) → IsRun m s run → (t : ℕ) → count m s run t ≡ 1
+    → ((u : ℕ) → u ≢ t → count m s run u ≡ 0) → Single m s run t
 single m s [] ok t one none = absurd (omega arith)
 single m s (e ∷ run) ok t one none = elim (cases_eq e.0 t) [
-  | inr other ↦ absurd (some_step (eqb e.0 e.0) (eq-eqb e.0 e.0 refl) (count m (after m s e) run e.0) (sym (count_head m s e run e.0) ∙ none e.0 other))
+  | inr other ↦ absurd (some_step (eqb e.0 e.0) (eq-eqb e.0 e.0 refl) (count m (after m s e) run e.0)
+      (sym (count_head m s e run e.0) ∙ none e.0 other))
   | inl same ↦
       let empty : run ≡ [] = no_steps m (after m s e) run (λ u. elim (cases_eq u t) [
-        | inl p ↦ last_step (eqb u e.0) (eq-eqb u e.0 (p ∙ sym same)) (count m (after m s e) run u) (sym (count_head m s e run u) ∙ ap (count m s (e ∷ run)) p ∙ one)
-        | inr p ↦ no_step (eqb u e.0) (ne_eqb u e.0 (λ q. p (q ∙ same))) (count m (after m s e) run u) (sym (count_head m s e run u) ∙ none u p)
+        | inl p ↦ last_step (eqb u e.0) (eq-eqb u e.0 (p ∙ sym same)) (count m (after m s e) run u)
+            (sym (count_head m s e run u) ∙ ap (count m s (e ∷ run)) p ∙ one)
+        | inr p ↦ no_step (eqb u e.0) (ne_eqb u e.0 (λ q. p (q ∙ same))) (count m (after m s e) run u)
+            (sym (count_head m s e run u) ∙ none u p)
       ]) in
       subst (λ z. Single m s (e ∷ run) z) same (record {
         result = e.1;
         can = ok.0;
         same_end = ap (end m (after m s e)) (sym empty);
-        tells = subst (λ b. At (join_if b (s.now e.0, label m s e) (trail m (after m s e) run e.0)) 0 (s.now e.0, label m s e)) (sym (eq-eqb e.0 e.0 refl)) refl;
+        tells = subst (λ b. At (join_if b (s.now e.0, label m s e) (trail m (after m s e) run e.0)) 0 (s.now e.0, label m s e))
+            (sym (eq-eqb e.0 e.0 refl)) refl;
       })
 ]
   where
@@ -95,7 +111,8 @@ take_less (suc n) (suc k) (x ∷ xs) h = ap (λ z. x ∷ z) (take_less n k xs (o
 at_more : {A : Type 0} (xs ys : List A) (k n : ℕ) (x : A) → length xs ≡ n → At ys k x → At (xs ++ ys) (n + k) x
 at_more [] ys k n x h a = let e : k ≡ n + k = omega arith in subst (λ z. At ys z x) e a
 at_more (y ∷ xs) ys k zero x h a = absurd (omega arith)
-at_more (y ∷ xs) ys k (suc n) x h a = let e : suc (n + k) ≡ suc n + k = omega arith in subst (λ z. At (y ∷ (xs ++ ys)) z x) e (at_more xs ys k n x (omega arith) a)
+at_more (y ∷ xs) ys k (suc n) x h a = let e : suc (n + k) ≡ suc n + k = omega arith in
+    subst (λ z. At (y ∷ (xs ++ ys)) z x) e (at_more xs ys k n x (omega arith) a)
 
 at_of_take : {A : Type 0} (n : ℕ) (xs : List A) (k : ℕ) (x : A) → At (take n xs) k x → At xs k x
 at_of_take zero xs k x h = absurd h
@@ -116,45 +133,65 @@ further_same p t = rw (eq-eqb t t refl) refl
 pub further_other : (p : Cut) (t u : ℕ) → u ≢ t → further p t u ≡ p u
 further_other p t u ne = rw (ne_eqb u t ne) refl
 
-pub at_cut : {T : Type 0} (m : Machine T) → IsLawful m → (s : State T) → Good m s → (run : List Step) → IsRun m s run → (p : Cut) → IsCut m s run p → Consistent m s run p → AtCut m s run p
+pub at_cut : {T : Type 0} (m : Machine T) → IsLawful m → (s : State T) → Good m s → (run : List Step) → IsRun m s run → (p : Cut)
+    → IsCut m s run p → Consistent m s run p → AtCut m s run p
 at_cut m law s good run ok p cut c =
     let z : Sorted m s run p = sort m law s good run ok p c in
     record {
       runs = z.ok;
-      threads = λ t. thread_at m s (part run p) run (part_goes m law s good (part run p) run z.ok ok p z.same_trail) t (p t) (omega (arith, ap length (z.same_trail t), length-take (p t) (trail m s run t), cut t));
+      threads = λ t. thread_at m s (part run p) run (part_goes m law s good (part run p) run z.ok ok p z.same_trail) t (p t)
+          (omega (arith, ap length (z.same_trail t), length-take (p t) (trail m s run t), cut t));
       steps = λ t ad. one_step t ad z;
     }
   where
-    one_step : (t : ℕ) → Admitted m s run p t → Sorted m s run p → (r : ℕ) × Can m (end m s (part run p)) (t, r) × (after m (end m s (part run p)) (t, r) ≡ end m s (part run (further p t))) × Tells m s run t (p t) (label m (end m s (part run p)) (t, r))
+    one_step : (t : ℕ) → Admitted m s run p t → Sorted m s run p → (r : ℕ) × Can m (end m s (part run p)) (t, r)
+        × (after m (end m s (part run p)) (t, r) ≡ end m s (part run (further p t)))
+        × Tells m s run t (p t) (label m (end m s (part run p)) (t, r))
     one_step t ad z =
         let q : Cut = further p t in
         let y : Sorted m s run q = sort m law s good run ok q ad.1 in
-        let g : Goes m s (part run p) (part run q) = part_goes m law s good (part run p) (part run q) z.ok y.ok p (λ u. z.same_trail u ∙ sym (take_less (p u) (q u) (trail m s run u) (further_more p t u)) ∙ ap (take (p u)) (sym (y.same_trail u))) in
-        let lengths : (u : ℕ) → p u + count m (end m s (part run p)) g.rest u ≡ min (q u) (count m s run u) = λ u. omega (arith, ap length (z.same_trail u), length-take (p u) (trail m s run u), cut u, ap length (y.same_trail u), length-take (q u) (trail m s run u), ap length (g.same_trail u), length-append (trail m s (part run p) u) (trail m (end m s (part run p)) g.rest u)) in
-        let k : Single m (end m s (part run p)) g.rest t = single m (end m s (part run p)) g.rest g.ok t (omega (arith, lengths t, further_same p t, ad.0)) (λ u ne. omega (arith, lengths u, further_other p t u ne, cut u)) in (
+        let g : Goes m s (part run p) (part run q) =
+            part_goes m law s good (part run p) (part run q) z.ok y.ok p
+            (λ u. z.same_trail u ∙ sym (take_less (p u) (q u) (trail m s run u) (further_more p t u))
+            ∙ ap (take (p u)) (sym (y.same_trail u))) in
+        let lengths : (u : ℕ) → p u + count m (end m s (part run p)) g.rest u ≡ min (q u) (count m s run u) =
+            λ u. omega (arith, ap length (z.same_trail u), length-take (p u) (trail m s run u), cut u, ap length (y.same_trail u),
+            length-take (q u) (trail m s run u), ap length (g.same_trail u), length-append (trail m s (part run p) u)
+            (trail m (end m s (part run p)) g.rest u)) in
+        let k : Single m (end m s (part run p)) g.rest t =
+            single m (end m s (part run p)) g.rest g.ok t (omega (arith, lengths t, further_same p t, ad.0))
+            (λ u ne. omega (arith, lengths u, further_other p t u ne, cut u)) in (
           k.result,
           k.can,
           k.same_end ∙ g.same_end,
           (
             (end m s (part run p)).now t,
-            subst (λ i. At (trail m s run t) i ((end m s (part run p)).now t, label m (end m s (part run p)) (t, k.result))) (add_zero (p t))
-                (at_of_take (q t) (trail m s run t) (p t + 0) _ (subst (λ w. At w (p t + 0) ((end m s (part run p)).now t, label m (end m s (part run p)) (t, k.result))) (g.same_trail t ∙ y.same_trail t)
-                (at_more (trail m s (part run p) t) (trail m (end m s (part run p)) g.rest t) 0 (p t) _ (omega (arith, ap length (z.same_trail t), length-take (p t) (trail m s run t), cut t)) k.tells))),
+            subst (λ i. At (trail m s run t) i ((end m s (part run p)).now t, label m (end m s (part run p)) (t, k.result)))
+                (add_zero (p t))
+                (at_of_take (q t) (trail m s run t) (p t + 0) _
+                    (subst (λ w. At w (p t + 0) ((end m s (part run p)).now t, label m (end m s (part run p)) (t, k.result)))
+                    (g.same_trail t ∙ y.same_trail t)
+                (at_more (trail m s (part run p) t) (trail m (end m s (part run p)) g.rest t) 0 (p t) _
+                    (omega (arith, ap length (z.same_trail t), length-take (p t) (trail m s run t), cut t)) k.tells))),
           ),
         )
       where
         add_zero : (n : ℕ) → n + 0 ≡ n
         add_zero n = omega arith
 
-pub determined : {T : Type 0} (m : Machine T) → IsLawful m → (s : State T) → Good m s → (run run' : List Step) → IsRun m s run → IsRun m s run' → SameTrace m s run run' → SameRun m s run run'
+pub determined : {T : Type 0} (m : Machine T) → IsLawful m → (s : State T) → Good m s → (run run' : List Step) → IsRun m s run
+    → IsRun m s run' → SameTrace m s run run' → SameRun m s run run'
 determined m law s good run run' ok ok' same =
     let a : Alike m s run run' = alike m law s good run run' ok ok' (λ t. (same t).0) (λ t. (same t).1) in
     record {
-      threads = λ t k. ap (λ z. thread_in z k ((end m s run).now t)) (a.same_trail t) ∙ ap (λ z. thread_in (trail m s run' t) k (z.now t)) a.same_end;
+      threads = λ t k. ap (λ z. thread_in z k ((end m s run).now t)) (a.same_trail t)
+          ∙ ap (λ z. thread_in (trail m s run' t) k (z.now t)) a.same_end;
       cuts = λ p. (trails_cut m s run run' a.same_trail p, trails_cut m s run' run (λ u. sym (a.same_trail u)) p);
       objects = λ p c o.
           let z : Sorted m s run p = sort m law s good run ok p c in
           let z' : Sorted m s run' p = sort m law s good run' ok' p (trails_cut m s run run' a.same_trail p c) in
-          let e : (u : ℕ) → trail m s (part run p) u ≡ trail m s (part run' p) u = λ u. z.same_trail u ∙ ap (take (p u)) (a.same_trail u) ∙ sym (z'.same_trail u) in
-          ap (λ y. y.objects o) (alike m law s good (part run p) (part run' p) z.ok z'.ok (λ u. ap events (e u)) (λ u. ap length (e u))).same_end;
+          let e : (u : ℕ) → trail m s (part run p) u ≡ trail m s (part run' p) u = λ u. z.same_trail u ∙ ap (take (p u)) (a.same_trail u)
+              ∙ sym (z'.same_trail u) in
+          ap (λ y. y.objects o) (alike m law s good (part run p) (part run' p) z.ok z'.ok (λ u. ap events (e u))
+              (λ u. ap length (e u))).same_end;
     }

@@ -13,8 +13,10 @@ use Rattle.ir_runs.proofs.Sort.{later, foremost, consistent_later, lower_up}
 use Rattle.ir_runs.specs.Cuts.{Tells, Needs, Cut, IsCut, Consistent, lower, further}
 
 pub needs_or : (a b : Label) → Needs a b ⊎ (Needs a b → ⊥)
-needs_or (Out o Writing w) (In p c v l) = elim (cases_eq o p) [ inl e ↦ elim (cases_eq v (suc w)) [ inl d ↦ inl (e, d) | inr ne ↦ inr (λ h. ne h.1) ] | inr ne ↦ inr (λ h. ne h.0) ]
-needs_or (Out o Reading w) (In p Writing v l) = elim (cases_eq o p) [ inl e ↦ elim (cases_eq v w) [ inl d ↦ inl (e, d) | inr ne ↦ inr (λ h. ne h.1) ] | inr ne ↦ inr (λ h. ne h.0) ]
+needs_or (Out o Writing w) (In p c v l) = elim (cases_eq o p)
+    [ inl e ↦ elim (cases_eq v (suc w)) [ inl d ↦ inl (e, d) | inr ne ↦ inr (λ h. ne h.1) ] | inr ne ↦ inr (λ h. ne h.0) ]
+needs_or (Out o Reading w) (In p Writing v l) =
+    elim (cases_eq o p) [ inl e ↦ elim (cases_eq v w) [ inl d ↦ inl (e, d) | inr ne ↦ inr (λ h. ne h.1) ] | inr ne ↦ inr (λ h. ne h.0) ]
 needs_or (Out o Reading w) _ = inr (λ h. h)
 needs_or (Out o Writing w) _ = inr (λ h. h)
 needs_or _ _ = inr (λ h. h)
@@ -28,10 +30,13 @@ pub record Wants {T : Type 0} (m : Machine T) (s : State T) (run : List Step) (q
   pub inside : place < q thread
   pub needs : Needs k told
 
-wants_or : {T : Type 0} (m : Machine T) (s : State T) (run : List Step) (q : Cut) (k : Label) → Wants m s run q k ⊎ ((t j : ℕ) (a : Label) → Tells m s run t j a → j < q t → Needs k a → ⊥)
+wants_or : {T : Type 0} (m : Machine T) (s : State T) (run : List Step) (q : Cut) (k : Label) → Wants m s run q k
+    ⊎ ((t j : ℕ) (a : Label) → Tells m s run t j a → j < q t → Needs k a → ⊥)
 wants_or m s [] q k = inr (λ t j a h l n. h.1)
 wants_or m s (e ∷ run) q k = elim (wants_or m (after m s e) run (lower q e.0) k) [
-  | inl w ↦ inl (record { thread = w.thread; place = cond (eqb w.thread e.0) (suc w.place) w.place; told = w.told; tells = later m s e run w.thread w.place w.told w.tells; inside = lower_up (eqb w.thread e.0) w.place (q w.thread) w.inside; needs = w.needs })
+  | inl w ↦ inl (record { thread = w.thread; place = cond (eqb w.thread e.0) (suc w.place) w.place; told = w.told; tells =
+      later m s e run w.thread w.place w.told w.tells; inside = lower_up (eqb w.thread e.0) w.place (q w.thread) w.inside; needs =
+      w.needs })
   | inr none ↦ elim (cases_lt 0 (q e.0)) [
     | inr out ↦ inr (λ t j a h l n. elim (placed m s e run t j a h) [
       | inl p ↦ absurd (omega (arith, out, l, p.1, ap q p.0))
@@ -63,19 +68,24 @@ below_lower true x y h = let g : pred x ≤ pred y = omega arith in g
 below_lower false x y h = h
 
 -- with the first step
-with_first : {T : Type 0} (m : Machine T) → IsLawful m → (s : State T) → Good m s → (e : Step) (run : List Step) → IsRun m s (e ∷ run) → (b q : Cut) → Closed m (after m s e) run (lower b e.0) q
-    → ((c : Cut) → Consistent m s (e ∷ run) c → ((u : ℕ) → b u ≤ c u) → ((u : ℕ) → q u ≤ lower c e.0 u) → 0 < c e.0) → Closed m s (e ∷ run) b (further q e.0)
+with_first : {T : Type 0} (m : Machine T) → IsLawful m → (s : State T) → Good m s → (e : Step) (run : List Step) → IsRun m s (e ∷ run)
+    → (b q : Cut) → Closed m (after m s e) run (lower b e.0) q
+    → ((c : Cut) → Consistent m s (e ∷ run) c → ((u : ℕ) → b u ≤ c u) → ((u : ℕ) → q u ≤ lower c e.0 u) → 0 < c e.0)
+    → Closed m s (e ∷ run) b (further q e.0)
 with_first m law s good e run ok b q k must = record {
   cut = λ u. omega (arith, count_head m s e run u, up (eqb u e.0) (q u) (count m (after m s e) run u) (k.cut u));
   consistent = λ t i u j a d h g n l. elim (placed m s e run u j d g) [
     | inl p ↦ subst (λ z. z < further q e.0 u) (sym p.1) (subst (λ z. 0 < cond z (suc (q u)) (q u)) (sym (eq-eqb u e.0 p.0)) (first (q u)))
     | inr p ↦ elim (placed m s e run t i a h) [
       | inl c ↦ absurd (no_later m law s good e ok.0 run ok.1 u p.place p.tells.0 d (act m s e) refl p.tells.1 (subst (Needs d) c.2 n))
-      | inr c ↦ subst (λ z. z < further q e.0 u) (sym p.is) (both_up (eqb u e.0) p.place (q u) (k.consistent t c.place u p.place a d c.tells p.tells n (both_down (eqb t e.0) c.place (q t) (subst (λ z. z < further q e.0 t) c.is l))))
+      | inr c ↦ subst (λ z. z < further q e.0 u) (sym p.is)
+          (both_up (eqb u e.0) p.place (q u) (k.consistent t c.place u p.place a d c.tells p.tells n
+          (both_down (eqb t e.0) c.place (q t) (subst (λ z. z < further q e.0 t) c.is l))))
     ]
   ];
   above = λ u. over (eqb u e.0) (b u) (q u) (k.above u);
-  least = λ c con up'. let low : (u : ℕ) → q u ≤ lower c e.0 u = k.least (lower c e.0) (consistent_later m s e run c con) (λ u. below_lower (eqb u e.0) (b u) (c u) (up' u)) in
+  least = λ c con up'. let low : (u : ℕ) → q u ≤ lower c e.0 u =
+      k.least (lower c e.0) (consistent_later m s e run c con) (λ u. below_lower (eqb u e.0) (b u) (c u) (up' u)) in
       λ u. fill (eqb u e.0) (q u) (c u) (low u) (λ p. subst (λ z. 0 < c z) (sym (eqb-true u e.0 p)) (must c con up' low));
 }
   where
@@ -103,7 +113,9 @@ with_first m law s good e run ok b q k must = record {
     fill false x y h f = h
 
 -- without the first step
-without_first : {T : Type 0} (m : Machine T) (s : State T) (e : Step) (run : List Step) (b q : Cut) → Closed m (after m s e) run (lower b e.0) q → b e.0 ≡ 0 → q e.0 ≡ 0 → ((t j : ℕ) (a : Label) → Tells m (after m s e) run t j a → j < q t → Needs (label m s e) a → ⊥) → Closed m s (e ∷ run) b q
+without_first : {T : Type 0} (m : Machine T) (s : State T) (e : Step) (run : List Step) (b q : Cut)
+    → Closed m (after m s e) run (lower b e.0) q → b e.0 ≡ 0 → q e.0 ≡ 0
+    → ((t j : ℕ) (a : Label) → Tells m (after m s e) run t j a → j < q t → Needs (label m s e) a → ⊥) → Closed m s (e ∷ run) b q
 without_first m s e run b q k none zero' free = record {
   cut = λ u. omega (arith, count_head m s e run u, more (eqb u e.0) (count m (after m s e) run u), k.cut u);
   consistent = λ t i u j a d h g n l. elim (placed m s e run t i a h) [
@@ -123,8 +135,10 @@ without_first m s e run b q k none zero' free = record {
           ]
     ]
   ];
-  above = λ u. elim (cases_eq u e.0) [ inl same ↦ omega (arith, ap b same, none) | inr other ↦ subst (λ z. cond z (pred (b u)) (b u) ≤ q u) (ne_eqb u e.0 other) (k.above u) ];
-  least = λ c con up u. lower_le (eqb u e.0) (q u) (c u) (k.least (lower c e.0) (consistent_later m s e run c con) (λ u. below_lower (eqb u e.0) (b u) (c u) (up u)) u);
+  above = λ u. elim (cases_eq u e.0) [ inl same ↦ omega (arith, ap b same, none) | inr other ↦ subst (λ z. cond z (pred (b u)) (b u) ≤ q u)
+      (ne_eqb u e.0 other) (k.above u) ];
+  least = λ c con up u. lower_le (eqb u e.0) (q u) (c u)
+      (k.least (lower c e.0) (consistent_later m s e run c con) (λ u. below_lower (eqb u e.0) (b u) (c u) (up u)) u);
 }
   where
     more : (b : Bool) (n : ℕ) → n ≤ cond b (suc n) n
@@ -135,19 +149,24 @@ without_first m s e run b q k none zero' free = record {
     lower_le true x y h = let h' : x ≤ pred y = h in omega arith
     lower_le false x y h = h
 
-pub closed : {T : Type 0} (m : Machine T) → IsLawful m → (s : State T) → Good m s → (run : List Step) → IsRun m s run → (b : Cut) → IsCut m s run b → (q : Cut) × Closed m s run b q
-closed m law s good [] ok b cut = ((λ u. 0), record { cut = λ u. omega arith; consistent = λ t i u j a d h g n l. absurd h.1; above = λ u. cut u; least = λ c con up u. omega arith })
+pub closed : {T : Type 0} (m : Machine T) → IsLawful m → (s : State T) → Good m s → (run : List Step) → IsRun m s run → (b : Cut)
+    → IsCut m s run b → (q : Cut) × Closed m s run b q
+closed m law s good [] ok b cut = ((λ u. 0), record { cut = λ u. omega arith; consistent = λ t i u j a d h g n l. absurd h.1; above =
+    λ u. cut u; least = λ c con up u. omega arith })
 closed m law s good (e ∷ run) ok b cut =
-    let k = closed m law (after m s e) (stays_good m law s good e ok.0) run ok.1 (lower b e.0) (λ u. shorter (eqb u e.0) (b u) (count m (after m s e) run u) (subst (λ z. b u ≤ z) (count_head m s e run u) (cut u))) in
+    let k = closed m law (after m s e) (stays_good m law s good e ok.0) run ok.1 (lower b e.0)
+        (λ u. shorter (eqb u e.0) (b u) (count m (after m s e) run u) (subst (λ z. b u ≤ z) (count_head m s e run u) (cut u))) in
     elim (cases_lt 0 (b e.0)) [
       | inl h ↦ (further k.0 e.0, with_first m law s good e run ok b k.0 k.1 (λ c con up low. omega (arith, h, up e.0)))
       | inr h ↦ elim (cases_lt 0 (k.0 e.0)) [
-        | inl g ↦ (further k.0 e.0, with_first m law s good e run ok b k.0 k.1 (λ c con up low. omega (arith, g, lower_le (eqb e.0 e.0) (k.0 e.0) (c e.0) (low e.0))))
+        | inl g ↦ (further k.0 e.0, with_first m law s good e run ok b k.0 k.1
+            (λ c con up low. omega (arith, g, lower_le (eqb e.0 e.0) (k.0 e.0) (c e.0) (low e.0))))
         | inr g ↦ elim (wants_or m (after m s e) run k.0 (label m s e)) [
           | inl w ↦ (
             further k.0 e.0,
             with_first m law s good e run ok b k.0 k.1 (λ c con up low.
-                con w.thread (cond (eqb w.thread e.0) (suc w.place) w.place) e.0 0 w.told (label m s e) (later m s e run w.thread w.place w.told w.tells) (foremost m s e run) w.needs
+                con w.thread (cond (eqb w.thread e.0) (suc w.place) w.place) e.0 0 w.told (label m s e)
+                    (later m s e run w.thread w.place w.told w.tells) (foremost m s e run) w.needs
                 (lower_up (eqb w.thread e.0) w.place (c w.thread) (omega (arith, w.inside, low w.thread)))),
           )
           | inr free ↦ (k.0, without_first m s e run b k.0 k.1 (omega arith) (omega arith) free)
@@ -167,16 +186,19 @@ closed m law s good (e ∷ run) ok b cut =
 abbrev pub raised : Cut → ℕ → ℕ → Cut
 raised p t k u = max (p u) (cond (eqb u t) k 0)
 
-pub least_exists : {T : Type 0} (m : Machine T) → IsLawful m → (s : State T) → Good m s → (run : List Step) → IsRun m s run → (p : Cut) (t k : ℕ) → IsCut m s run p → k ≤ count m s run t → (q : Cut) × IsLeast m s run p t k q
+pub least_exists : {T : Type 0} (m : Machine T) → IsLawful m → (s : State T) → Good m s → (run : List Step) → IsRun m s run
+    → (p : Cut) (t k : ℕ) → IsCut m s run p → k ≤ count m s run t → (q : Cut) × IsLeast m s run p t k q
 least_exists m law s good run ok p t k cut hi =
-    let c = closed m law s good run ok (raised p t k) (λ u. most (eqb u t) (p u) k (count m s run u) (cut u) (λ h. subst (λ z. k ≤ count m s run z) (sym (eqb-true u t h)) hi)) in (
+    let c = closed m law s good run ok (raised p t k)
+        (λ u. most (eqb u t) (p u) k (count m s run u) (cut u) (λ h. subst (λ z. k ≤ count m s run z) (sym (eqb-true u t h)) hi)) in (
       c.0,
       record {
         cut = c.1.cut;
         consistent = c.1.consistent;
         above = λ u. omega (arith, c.1.above u);
         reaches = subst (λ b. max (p t) (cond b k 0) ≤ c.0 t → k ≤ c.0 t) (sym (eq-eqb t t refl)) (λ h. omega arith) (c.1.above t);
-        least = λ d _ con up reach. c.1.least d con (λ u. most (eqb u t) (p u) k (d u) (up u) (λ h. subst (λ z. k ≤ d z) (sym (eqb-true u t h)) reach));
+        least = λ d _ con up reach. c.1.least d con
+            (λ u. most (eqb u t) (p u) k (d u) (up u) (λ h. subst (λ z. k ≤ d z) (sym (eqb-true u t h)) reach));
       },
     )
   where

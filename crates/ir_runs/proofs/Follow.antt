@@ -16,9 +16,11 @@ logged_prefix (Label.In o a v l) xs ys zs h = ap (λ z. Label.In o a v l ∷ z) 
 logged_prefix (Label.Refused o) xs ys zs h = ap (λ z. Label.Refused o ∷ z) h
 logged_prefix (Label.Out o a v) xs ys zs h = h
 
-pub fits_prefix : {T : Type 0} (E : Check T) (n : ℕ) (es : List Label) (xs : List (T × Label)) → Fits E n es xs → events xs ++ left_log xs es ≡ es
+pub fits_prefix : {T : Type 0} (E : Check T) (n : ℕ) (es : List Label) (xs : List (T × Label)) → Fits E n es xs
+    → events xs ++ left_log xs es ≡ es
 fits_prefix E n es [] h = refl
-fits_prefix E n es (x ∷ xs) h = logged_prefix x.1 (events xs) (left_log xs (unlogged x.1 es)) (unlogged x.1 es) (fits_prefix E (pred n) (unlogged x.1 es) xs h.3) ∙ h.1
+fits_prefix E n es (x ∷ xs) h = logged_prefix x.1 (events xs) (left_log xs (unlogged x.1 es)) (unlogged x.1 es)
+    (fits_prefix E (pred n) (unlogged x.1 es) xs h.3) ∙ h.1
 
 pub fits_length : {T : Type 0} (E : Check T) (n : ℕ) (es : List Label) (xs : List (T × Label)) → Fits E n es xs → length xs ≤ n
 fits_length E n es [] h = omega arith
@@ -29,8 +31,11 @@ fits_part E n es [] ys h = tt
 fits_part E n es (x ∷ xs) ys h = (h.0, h.1, h.2, fits_part E (pred n) (unlogged x.1 es) xs ys h.3)
 
 -- where the follower stops nothing is left
-stops : {T : Type 0} (E : Ending T) (m : Machine T) (s : State T) (run follower : List Step) → ((t : ℕ) → Fits (E t) (count m s run t) (log m s run t) (trail m s run t)) → IsRun m s follower → IsMaximal E m s (trace m s run) follower
-    → (rest : List Step) → IsRun m (end m s follower) rest → ((u : ℕ) → trail m s follower u ++ trail m (end m s follower) rest u ≡ trail m s run u) → rest ≡ []
+stops : {T : Type 0} (E : Ending T) (m : Machine T) (s : State T) (run follower : List Step)
+    → ((t : ℕ) → Fits (E t) (count m s run t) (log m s run t) (trail m s run t)) → IsRun m s follower
+    → IsMaximal E m s (trace m s run) follower
+    → (rest : List Step) → IsRun m (end m s follower) rest
+    → ((u : ℕ) → trail m s follower u ++ trail m (end m s follower) rest u ≡ trail m s run u) → rest ≡ []
 stops E m s run follower own ok top [] okr same = refl
 stops E m s run follower own ok top (e ∷ rest) okr same = absurd (top e (
   run_append m s follower (e ∷ []) ok (okr.0, tt),
@@ -38,15 +43,21 @@ stops E m s run follower own ok top (e ∷ rest) okr same = absurd (top e (
       (subst (Fits (E t) (count m s run t) (log m s run t)) (sym (same t) ∙ whole t) (own t)),
 ))
   where
-    whole : (t : ℕ) → trail m s follower t ++ trail m (end m s follower) (e ∷ rest) t ≡ trail m s (follower ++ e ∷ []) t ++ trail m (after m (end m s follower) e) rest t
-    whole t = ap (λ z. trail m s follower t ++ z) (join_append (eqb t e.0) ((end m s follower).now t, label m (end m s follower) e) [] (trail m (after m (end m s follower) e) rest t))
+    whole : (t : ℕ) → trail m s follower t ++ trail m (end m s follower) (e ∷ rest) t ≡ trail m s (follower ++ e ∷ []) t ++ trail m
+        (after m (end m s follower) e) rest t
+    whole t = ap (λ z. trail m s follower t ++ z)
+        (join_append (eqb t e.0) ((end m s follower).now t, label m (end m s follower) e) []
+        (trail m (after m (end m s follower) e) rest t))
         ∙ sym (append_assoc (trail m s follower t) (trail m (end m s follower) (e ∷ []) t) (trail m (after m (end m s follower) e) rest t))
         ∙ ap (λ z. z ++ trail m (after m (end m s follower) e) rest t) (sym (trail_append m s follower (e ∷ []) t))
 
-pub own_fits : {T : Type 0} (E : Ending T) (m : Machine T) → IsLawful m → (s : State T) → Good m s → (run : List Step) → Follows E m s (trace m s run) run → (follower : List Step) → Follows E m s (trace m s run) follower → IsMaximal E m s (trace m s run) follower → Reaches m s follower run
+pub own_fits : {T : Type 0} (E : Ending T) (m : Machine T) → IsLawful m → (s : State T) → Good m s → (run : List Step)
+    → Follows E m s (trace m s run) run → (follower : List Step) → Follows E m s (trace m s run) follower
+    → IsMaximal E m s (trace m s run) follower → Reaches m s follower run
 own_fits E m law s good run own follower f top =
     let g : Goes m s follower run = goes m law s good follower run f.0 own.0 (λ t. left_log (trail m s follower t) (log m s run t))
-    (λ t. fits_prefix (E t) (count m s run t) (log m s run t) (trail m s follower t) (f.1 t)) (λ t. fits_length (E t) (count m s run t) (log m s run t) (trail m s follower t) (f.1 t)) in
+    (λ t. fits_prefix (E t) (count m s run t) (log m s run t) (trail m s follower t) (f.1 t))
+        (λ t. fits_length (E t) (count m s run t) (log m s run t) (trail m s follower t) (f.1 t)) in
     let none : g.rest ≡ [] = stops E m s run follower own.1 f.0 top g.rest g.ok g.same_trail in
     record {
       trails = λ u. sym (append-nil _) ∙ ap (λ z. trail m s follower u ++ trail m (end m s follower) z u) (sym none) ∙ g.same_trail u;
@@ -63,4 +74,5 @@ unlogged_logged (Label.Out o a v) es = refl
 -- a thread's steps follow their own number and log
 pub fits_own : {T : Type 0} (E : Check T) (xs : List (T × Label)) → Ends E xs → Fits E (length xs) (events xs) xs
 fits_own E [] h = tt
-fits_own E (x ∷ xs) h = (omega arith, ap (logged x.1) (unlogged_logged x.1 (events xs)), h.0, subst (λ z. Fits E (length xs) z xs) (sym (unlogged_logged x.1 (events xs))) (fits_own E xs h.1))
+fits_own E (x ∷ xs) h = (omega arith, ap (logged x.1) (unlogged_logged x.1 (events xs)), h.0, subst (λ z. Fits E (length xs) z xs)
+    (sym (unlogged_logged x.1 (events xs))) (fits_own E xs h.1))

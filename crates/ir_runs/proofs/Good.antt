@@ -41,7 +41,8 @@ inside_at (Put o j w) r h i e k = e ∙ k
 inside_at Done r h i e k = tt
 
 -- what the thread holds goes by the answer as by the result
-held_reply : (q : Ask) (r : ℕ) (b : Object) (h : ℕ → Option Access) (o : ℕ) → held_after (act_of q (reply (act_of q r) b)) h o ≡ held_after (act_of q r) h o
+held_reply : (q : Ask) (r : ℕ) (b : Object) (h : ℕ → Option Access) (o : ℕ)
+    → held_after (act_of q (reply (act_of q r) b)) h o ≡ held_after (act_of q r) h o
 held_reply Private r b h o = refl
 held_reply (Env k) r b h o = refl
 held_reply (Enter i a) r b h o = refl
@@ -53,8 +54,10 @@ held_reply (Get i j) r b h o = refl
 held_reply (Put i j w) r b h o = refl
 held_reply Done r b h o = refl
 
-pub inside_now : {T : Type 0} (m : Machine T) → IsLawful m → (s : State T) → Good m s → (e : Step) → Inside (act m s e) ((s.objects (target (act m s e))).inside e.0)
-inside_now m law s good e = inside_at (asked m s e.0) e.1 (m.held (s.now e.0)) _ (good.linked e.0 (target (act m s e))) (law.holds (s.now e.0))
+pub inside_now : {T : Type 0} (m : Machine T) → IsLawful m → (s : State T) → Good m s → (e : Step)
+    → Inside (act m s e) ((s.objects (target (act m s e))).inside e.0)
+inside_now m law s good e = inside_at (asked m s e.0) e.1 (m.held (s.now e.0)) _ (good.linked e.0 (target (act m s e)))
+    (law.holds (s.now e.0))
 
 -- a step moves no other thread
 acted_other : (q : Act) (t : ℕ) (b : Object) (u : ℕ) → u ≢ t → (acted q t b).inside u ≡ b.inside u
@@ -68,7 +71,8 @@ acted_other (Load o j) t b u ne = refl
 acted_other (Store o j w) t b u ne = refl
 acted_other Never t b u ne = refl
 
-acted_same : (q : Act) (t : ℕ) (b : Object) (h : ℕ → Option Access) → b.inside t ≡ h (target q) → (acted q t b).inside t ≡ held_after q h (target q)
+acted_same : (q : Act) (t : ℕ) (b : Object) (h : ℕ → Option Access) → b.inside t ≡ h (target q)
+    → (acted q t b).inside t ≡ held_after q h (target q)
 acted_same Silent t b h e = e
 acted_same (Refusal _) t b h e = e
 acted_same (Result k res) t b h e = e
@@ -89,11 +93,13 @@ held_other (Load i j) h o ne = refl
 held_other (Store i j w) h o ne = refl
 held_other Never h o ne = refl
 
-entered_writing : (b : Object) (t : ℕ) → ((u : ℕ) → b.inside u ≡ None) → (v w : ℕ) → v ≢ w → upd b.inside t (Some Writing) v ≡ Some Writing → upd b.inside t (Some Writing) w ≡ None
+entered_writing : (b : Object) (t : ℕ) → ((u : ℕ) → b.inside u ≡ None) → (v w : ℕ) → v ≢ w → upd b.inside t (Some Writing) v ≡ Some Writing
+    → upd b.inside t (Some Writing) w ≡ None
 unfolding upd
 entered_writing b t h v w ne e = grind (arith, nat_tests, h v, h w)
 
-entered_reading : (b : Object) (t : ℕ) → ((u : ℕ) → b.inside u ≢ Some Writing) → (v w : ℕ) → v ≢ w → upd b.inside t (Some Reading) v ≡ Some Writing → upd b.inside t (Some Reading) w ≡ None
+entered_reading : (b : Object) (t : ℕ) → ((u : ℕ) → b.inside u ≢ Some Writing) → (v w : ℕ) → v ≢ w
+    → upd b.inside t (Some Reading) v ≡ Some Writing → upd b.inside t (Some Reading) w ≡ None
 unfolding upd
 entered_reading b t h v w ne e = grind (arith, nat_tests, h v)
 
@@ -113,7 +119,8 @@ stays_exclusive m (Load o j) t b ex h = ex
 stays_exclusive m (Store o j w) t b ex h = ex
 stays_exclusive m Never t b ex h = ex
 
-stays_linked : {T : Type 0} (m : Machine T) → IsLawful m → (s : State T) → Good m s → (e : Step) → (u o : ℕ) → ((after m s e).objects o).inside u ≡ m.held ((after m s e).now u) o
+stays_linked : {T : Type 0} (m : Machine T) → IsLawful m → (s : State T) → Good m s → (e : Step) → (u o : ℕ)
+    → ((after m s e).objects o).inside u ≡ m.held ((after m s e).now u) o
 unfolding after
 stays_linked m law s good e u o =
     let t : ℕ = e.0 in
@@ -124,8 +131,10 @@ stays_linked m law s good e u o =
     let takes : held_after q (m.held x) o ≡ m.held (m.take x v) o = sym (held_reply (m.ask x) e.1 b (m.held x) o) ∙ sym (law.takes x v o) in
     upd_elim s.now t (m.take x v) u (λ z. (upd s.objects (target q) (acted q t b) o).inside u ≡ m.held z o)
     (λ same. upd_elim s.objects (target q) (acted q t b) o (λ c. c.inside u ≡ m.held (m.take x v) o)
-    (λ here. subst (λ z. (acted q t b).inside z ≡ m.held (m.take x v) o) (sym same) (acted_same q t b (m.held x) (good.linked t (target q)) ∙ ap (held_after q (m.held x)) (sym here) ∙ takes))
-    (λ other. subst (λ z. (s.objects o).inside z ≡ m.held (m.take x v) o) (sym same) (good.linked t o ∙ sym (held_other q (m.held x) o other) ∙ takes)))
+    (λ here. subst (λ z. (acted q t b).inside z ≡ m.held (m.take x v) o) (sym same)
+        (acted_same q t b (m.held x) (good.linked t (target q)) ∙ ap (held_after q (m.held x)) (sym here) ∙ takes))
+    (λ other. subst (λ z. (s.objects o).inside z ≡ m.held (m.take x v) o) (sym same)
+        (good.linked t o ∙ sym (held_other q (m.held x) o other) ∙ takes)))
     (λ differ. upd_elim s.objects (target q) (acted q t b) o (λ c. c.inside u ≡ m.held (s.now u) o)
     (λ here. acted_other q t b u differ ∙ good.linked u (target q) ∙ ap (m.held (s.now u)) (sym here))
     (λ other. good.linked u o))
@@ -143,6 +152,7 @@ pub start_good : {T : Type 0} (m : Machine T) (s : State T) → IsStart m s → 
 start_good m s h = record { linked = λ t o. h.inside o t ∙ sym (h.held t o); exclusive = λ o t u ne w. h.inside o u }
 
 -- what holds at the start holds at a run's end
-pub run_good : {T : Type 0} (m : Machine T) → IsLawful m → (s : State T) → Good m s → (run : List Step) → IsRun m s run → Good m (end m s run)
+pub run_good : {T : Type 0} (m : Machine T) → IsLawful m → (s : State T) → Good m s → (run : List Step) → IsRun m s run
+    → Good m (end m s run)
 run_good m law s good [] ok = good
 run_good m law s good (e ∷ run) ok = run_good m law (after m s e) (stays_good m law s good e ok.0) run ok.1

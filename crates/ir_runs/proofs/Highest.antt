@@ -38,21 +38,27 @@ pub record Highest {T : Type 0} (m : Machine T) (s : State T) (run : List Step) 
   pub below : (u : ℕ) → q u ≤ b u
   pub greatest : (c : Cut) → Consistent m s run c → Avoids m s run c out → ((u : ℕ) → c u ≤ b u) → (u : ℕ) → c u ≤ q u
 
-avoids_later : {T : Type 0} (m : Machine T) (s : State T) (e : Step) (run : List Step) (c : Cut) (out : List Label) → Avoids m s (e ∷ run) c out → Avoids m (after m s e) run (lower c e.0) out
-avoids_later m s e run c out f t i a k h l g n = f t (cond (eqb t e.0) (suc i) i) a k (later m s e run t i a h) (lower_up (eqb t e.0) i (c t) l) g n
+avoids_later : {T : Type 0} (m : Machine T) (s : State T) (e : Step) (run : List Step) (c : Cut) (out : List Label)
+    → Avoids m s (e ∷ run) c out → Avoids m (after m s e) run (lower c e.0) out
+avoids_later m s e run c out f t i a k h l g n =
+    f t (cond (eqb t e.0) (suc i) i) a k (later m s e run t i a h) (lower_up (eqb t e.0) i (c t) l) g n
 
 first_less : (n : ℕ) → 0 < suc n
 first_less n = omega arith
 
 -- with the first step
-with_first : {T : Type 0} (m : Machine T) → IsLawful m → (s : State T) → Good m s → (e : Step) (run : List Step) → IsRun m s (e ∷ run) → (b q : Cut) (out : List Label) → 0 < b e.0 → ((k : Label) → Among k out → Needs k (label m s e) → ⊥)
+with_first : {T : Type 0} (m : Machine T) → IsLawful m → (s : State T) → Good m s → (e : Step) (run : List Step) → IsRun m s (e ∷ run)
+    → (b q : Cut) (out : List Label) → 0 < b e.0 → ((k : Label) → Among k out → Needs k (label m s e) → ⊥)
     → Highest m (after m s e) run (lower b e.0) out q → Highest m s (e ∷ run) b out (further q e.0)
 with_first m law s good e run ok b q out more free k = record {
   consistent = λ t i u j a d h g n l. elim (placed m s e run u j d g) [
-    | inl p ↦ subst (λ z. z < further q e.0 u) (sym p.1) (subst (λ z. 0 < cond z (suc (q u)) (q u)) (sym (eq-eqb u e.0 p.0)) (first_less (q u)))
+    | inl p ↦ subst (λ z. z < further q e.0 u) (sym p.1)
+        (subst (λ z. 0 < cond z (suc (q u)) (q u)) (sym (eq-eqb u e.0 p.0)) (first_less (q u)))
     | inr p ↦ elim (placed m s e run t i a h) [
       | inl c ↦ absurd (no_later m law s good e ok.0 run ok.1 u p.place p.tells.0 d (act m s e) refl p.tells.1 (subst (Needs d) c.2 n))
-      | inr c ↦ subst (λ z. z < further q e.0 u) (sym p.is) (both_up (eqb u e.0) p.place (q u) (k.consistent t c.place u p.place a d c.tells p.tells n (both_down (eqb t e.0) c.place (q t) (subst (λ z. z < further q e.0 t) c.is l))))
+      | inr c ↦ subst (λ z. z < further q e.0 u) (sym p.is)
+          (both_up (eqb u e.0) p.place (q u) (k.consistent t c.place u p.place a d c.tells p.tells n
+          (both_down (eqb t e.0) c.place (q t) (subst (λ z. z < further q e.0 t) c.is l))))
     ]
   ];
   avoids = λ t i a x h l g n. elim (placed m s e run t i a h) [
@@ -60,7 +66,9 @@ with_first m law s good e run ok b q out more free k = record {
     | inr c ↦ k.avoids t c.place a x c.tells (both_down (eqb t e.0) c.place (q t) (subst (λ z. z < further q e.0 t) c.is l)) g n
   ];
   below = λ u. under (eqb u e.0) (q u) (b u) (k.below u) (λ p. subst (λ z. 0 < b z) (sym (eqb-true u e.0 p)) more);
-  greatest = λ c con av down u. over (eqb u e.0) (c u) (q u) (k.greatest (lower c e.0) (consistent_later m s e run c con) (avoids_later m s e run c out av) (λ w. below_lower (eqb w e.0) (c w) (b w) (down w)) u);
+  greatest = λ c con av down u. over (eqb u e.0) (c u) (q u)
+      (k.greatest (lower c e.0) (consistent_later m s e run c con) (avoids_later m s e run c out av)
+      (λ w. below_lower (eqb w e.0) (c w) (b w) (down w)) u);
 }
   where
     under : (b : Bool) (x y : ℕ) → x ≤ cond b (pred y) y → (b ≡ true → 0 < y) → cond b (suc x) x ≤ y
@@ -80,7 +88,8 @@ abbrev pub without : Cut → ℕ → Cut
 without b t u = cond (eqb u t) 0 (b u)
 
 -- without the first step
-without_first : {T : Type 0} (m : Machine T) (s : State T) (e : Step) (run : List Step) (b q : Cut) (out : List Label) → ((c : Cut) → Avoids m s (e ∷ run) c out → ((u : ℕ) → c u ≤ b u) → c e.0 ≡ 0)
+without_first : {T : Type 0} (m : Machine T) (s : State T) (e : Step) (run : List Step) (b q : Cut) (out : List Label)
+    → ((c : Cut) → Avoids m s (e ∷ run) c out → ((u : ℕ) → c u ≤ b u) → c e.0 ≡ 0)
     → Highest m (after m s e) run (without b e.0) (label m s e ∷ out) q → Highest m s (e ∷ run) b out q
 without_first m s e run b q out never k = record {
   consistent = λ t i u j a d h g n l. elim (placed m s e run t i a h) [
@@ -98,12 +107,16 @@ without_first m s e run b q out never k = record {
   ];
   below = λ u. nothing_less (eqb u e.0) (q u) (b u) (k.below u);
   greatest = λ c con av down u. k.greatest c
-      (λ t i w j a d h g n l. from_later c (never c av down) w j (con t (cond (eqb t e.0) (suc i) i) w (cond (eqb w e.0) (suc j) j) a d (later m s e run t i a h) (later m s e run w j d g) n (to_later c (never c av down) t i l)))
+      (λ t i w j a d h g n l. from_later c (never c av down) w j
+          (con t (cond (eqb t e.0) (suc i) i) w (cond (eqb w e.0) (suc j) j) a d (later m s e run t i a h) (later m s e run w j d g) n
+          (to_later c (never c av down) t i l)))
       (λ t i a x h l g n. elim g [
-        | inl same ↦ omega (arith, never c av down, con t (cond (eqb t e.0) (suc i) i) e.0 0 a x (later m s e run t i a h) (subst (Tells m s (e ∷ run) e.0 0) same (foremost m s e run)) n (to_later c (never c av down) t i l))
+        | inl same ↦ omega (arith, never c av down, con t (cond (eqb t e.0) (suc i) i) e.0 0 a x (later m s e run t i a h)
+            (subst (Tells m s (e ∷ run) e.0 0) same (foremost m s e run)) n (to_later c (never c av down) t i l))
         | inr among ↦ av t (cond (eqb t e.0) (suc i) i) a x (later m s e run t i a h) (to_later c (never c av down) t i l) among n
       ])
-      (λ w. elim (cases_eq w e.0) [ inl same ↦ omega (arith, ap c same, never c av down) | inr other ↦ subst (λ z. c w ≤ cond z 0 (b w)) (sym (ne_eqb w e.0 other)) (down w) ]) u;
+      (λ w. elim (cases_eq w e.0) [ inl same ↦ omega (arith, ap c same, never c av down) | inr other ↦ subst (λ z. c w ≤ cond z 0 (b w))
+          (sym (ne_eqb w e.0 other)) (down w) ]) u;
 }
   where
     none : q e.0 ≡ 0
@@ -114,13 +127,19 @@ without_first m s e run b q out never k = record {
     nothing_less false x y h = h
 
     at_other : (t i j : ℕ) → i ≡ cond (eqb t e.0) (suc j) j → i < q t → j < q t
-    at_other t i j is l = elim (cases_eq t e.0) [ inl same ↦ absurd (omega (arith, l, ap q same, none)) | inr other ↦ subst (λ z. z < q t) (is ∙ ap (λ z. cond z (suc j) j) (ne_eqb t e.0 other)) l ]
+    at_other t i j is l = elim (cases_eq t e.0)
+        [ inl same ↦ absurd (omega (arith, l, ap q same, none)) | inr other ↦ subst (λ z. z < q t)
+        (is ∙ ap (λ z. cond z (suc j) j) (ne_eqb t e.0 other)) l ]
 
     from_other : (t i j : ℕ) → i ≡ cond (eqb t e.0) (suc j) j → j < q t → i < q t
-    from_other t i j is l = elim (cases_eq t e.0) [ inl same ↦ absurd (omega (arith, l, ap q same, none)) | inr other ↦ subst (λ z. z < q t) (sym (is ∙ ap (λ z. cond z (suc j) j) (ne_eqb t e.0 other))) l ]
+    from_other t i j is l = elim (cases_eq t e.0)
+        [ inl same ↦ absurd (omega (arith, l, ap q same, none)) | inr other ↦ subst (λ z. z < q t)
+        (sym (is ∙ ap (λ z. cond z (suc j) j) (ne_eqb t e.0 other))) l ]
 
     to_later : (c : Cut) → c e.0 ≡ 0 → (t i : ℕ) → i < c t → cond (eqb t e.0) (suc i) i < c t
-    to_later c zero' t i l = elim (cases_eq t e.0) [ inl same ↦ absurd (omega (arith, l, ap c same, zero')) | inr other ↦ subst (λ z. cond z (suc i) i < c t) (sym (ne_eqb t e.0 other)) l ]
+    to_later c zero' t i l = elim (cases_eq t e.0)
+        [ inl same ↦ absurd (omega (arith, l, ap c same, zero')) | inr other ↦ subst (λ z. cond z (suc i) i < c t)
+        (sym (ne_eqb t e.0 other)) l ]
 
     from_later : (c : Cut) → c e.0 ≡ 0 → (t i : ℕ) → cond (eqb t e.0) (suc i) i < c t → i < c t
     from_later c zero' t i l = below_it (eqb t e.0) i (c t) l
@@ -129,16 +148,22 @@ without_first m s e run b q out never k = record {
         below_it true i n h = let h' : suc i < n = h in omega arith
         below_it false i n h = h
 
-pub highest : {T : Type 0} (m : Machine T) → IsLawful m → (s : State T) → Good m s → (run : List Step) → IsRun m s run → (b : Cut) (out : List Label) → ((u : ℕ) → b u ≤ count m s run u) → (q : Cut) × Highest m s run b out q
-highest m law s good [] ok b out cut = (b, record { consistent = λ t i u j a d h g n l. absurd h.1; avoids = λ t i a k h l g n. h.1; below = λ u. le_refl (b u); greatest = λ c con av down u. down u })
+pub highest : {T : Type 0} (m : Machine T) → IsLawful m → (s : State T) → Good m s → (run : List Step) → IsRun m s run
+    → (b : Cut) (out : List Label) → ((u : ℕ) → b u ≤ count m s run u) → (q : Cut) × Highest m s run b out q
+highest m law s good [] ok b out cut = (b, record { consistent = λ t i u j a d h g n l. absurd h.1; avoids = λ t i a k h l g n. h.1; below =
+    λ u. le_refl (b u); greatest = λ c con av down u. down u })
 highest m law s good (e ∷ run) ok b out cut =
     let good' = stays_good m law s good e ok.0 in
-    let gone = highest m law (after m s e) good' run ok.1 (without b e.0) (label m s e ∷ out) (λ u. cut_without (eqb u e.0) (b u) (count m (after m s e) run u) (subst (λ z. b u ≤ z) (count_head m s e run u) (cut u))) in
-    let kept = highest m law (after m s e) good' run ok.1 (lower b e.0) out (λ u. shorter (eqb u e.0) (b u) (count m (after m s e) run u) (subst (λ z. b u ≤ z) (count_head m s e run u) (cut u))) in
+    let gone = highest m law (after m s e) good' run ok.1 (without b e.0) (label m s e ∷ out)
+        (λ u. cut_without (eqb u e.0) (b u) (count m (after m s e) run u) (subst (λ z. b u ≤ z) (count_head m s e run u) (cut u))) in
+    let kept = highest m law (after m s e) good' run ok.1 (lower b e.0) out
+        (λ u. shorter (eqb u e.0) (b u) (count m (after m s e) run u) (subst (λ z. b u ≤ z) (count_head m s e run u) (cut u))) in
     elim (cases_lt 0 (b e.0)) [
       | inr h ↦ (gone.0, without_first m s e run b gone.0 out (λ c av down. omega (arith, h, down e.0)) gone.1)
       | inl h ↦ elim (needs_any out (label m s e)) [
-        | inl w ↦ (gone.0, without_first m s e run b gone.0 out (λ c av down. elim (cases_lt 0 (c e.0)) [ inl l ↦ absurd (av e.0 0 (label m s e) w.0 (foremost m s e run) l w.1 w.2) | inr l ↦ omega arith ]) gone.1)
+        | inl w ↦ (gone.0, without_first m s e run b gone.0 out
+            (λ c av down. elim (cases_lt 0 (c e.0))
+            [ inl l ↦ absurd (av e.0 0 (label m s e) w.0 (foremost m s e run) l w.1 w.2) | inr l ↦ omega arith ]) gone.1)
         | inr free ↦ (further kept.0 e.0, with_first m law s good e run ok b kept.0 out h free kept.1)
       ]
     ]
@@ -151,7 +176,8 @@ highest m law s good (e ∷ run) ok b out cut =
     cut_without true x n h = let g : 0 ≤ n = omega arith in g
     cut_without false x n h = h
 
-pub greatest_exists : {T : Type 0} (m : Machine T) → IsLawful m → (s : State T) → Good m s → (run : List Step) → IsRun m s run → (p : Cut) (t k : ℕ) → IsCut m s run p → (q : Cut) × IsGreatest m s run p t k q
+pub greatest_exists : {T : Type 0} (m : Machine T) → IsLawful m → (s : State T) → Good m s → (run : List Step) → IsRun m s run
+    → (p : Cut) (t k : ℕ) → IsCut m s run p → (q : Cut) × IsGreatest m s run p t k q
 greatest_exists m law s good run ok p t k cut =
     let g = highest m law s good run ok (λ u. min (p u) (cond (eqb u t) k (p u))) [] (λ u. omega (arith, cut u)) in (
       g.0,
@@ -160,7 +186,8 @@ greatest_exists m law s good run ok p t k cut =
         consistent = g.1.consistent;
         below = λ u. omega (arith, g.1.below u);
         reaches = subst (λ b. g.0 t ≤ min (p t) (cond b k (p t)) → g.0 t ≤ k) (sym (eq-eqb t t refl)) (λ h. omega arith) (g.1.below t);
-        greatest = λ c _ con down reach. g.1.greatest c con (λ t i a x h l among n. among) (λ u. most (eqb u t) (c u) (p u) k (down u) (λ h. subst (λ z. c z ≤ k) (sym (eqb-true u t h)) reach));
+        greatest = λ c _ con down reach. g.1.greatest c con (λ t i a x h l among n. among)
+            (λ u. most (eqb u t) (c u) (p u) k (down u) (λ h. subst (λ z. c z ≤ k) (sym (eqb-true u t h)) reach));
       },
     )
   where

@@ -12,7 +12,8 @@ use Rattle.ir_runs.proofs.Judge.{goes_further}
 use Rattle.ir_runs.specs.Following.{Check, unlogged, Fits, Follows, IsMaximal, left_log, left_steps, closing}
 use Rattle.ir_runs.specs.Verdicts.{result_of}
 
-pub one_act : {T : Type 0} (m : Machine T) (q : Ask) (r : ℕ) (b : Object) (es : List Label) → Admits m (act_of q r) b → logged (told (act_of q r) b) (unlogged (told (act_of q r) b) es) ≡ es → act_of q r ≡ act_of q (result_of q es)
+pub one_act : {T : Type 0} (m : Machine T) (q : Ask) (r : ℕ) (b : Object) (es : List Label) → Admits m (act_of q r) b
+    → logged (told (act_of q r) b) (unlogged (told (act_of q r) b) es) ≡ es → act_of q r ≡ act_of q (result_of q es)
 one_act m Private r b es can h = refl
 one_act m (Env k) r b [] can h = absurd (cc h)
 one_act m (Env k) r b (Quiet ∷ es) can h = absurd (cc h)
@@ -40,7 +41,8 @@ one_act m (Put o i w) r b es can h = refl
 one_act m Done r b es can h = refl
 
 -- what a thread's last step met
-pub fits_last : {T : Type 0} (E : Check T) (n : ℕ) (es : List Label) (xs : List (T × Label)) (y : T × Label) → Fits E n es (xs ++ y ∷ []) → (0 < left_steps xs n) × (logged y.1 (unlogged y.1 (left_log xs es)) ≡ left_log xs es) × E y.0 (left_steps xs n) (left_log xs es)
+pub fits_last : {T : Type 0} (E : Check T) (n : ℕ) (es : List Label) (xs : List (T × Label)) (y : T × Label) → Fits E n es (xs ++ y ∷ [])
+    → (0 < left_steps xs n) × (logged y.1 (unlogged y.1 (left_log xs es)) ≡ left_log xs es) × E y.0 (left_steps xs n) (left_log xs es)
 fits_last E n es [] y h = (h.0, h.1, h.2)
 fits_last E n es (x ∷ xs) y h = fits_last E (pred n) (unlogged x.1 es) xs y h.3
 
@@ -52,25 +54,33 @@ run_prefix m s (e ∷ run) more h = (h.0, run_prefix m (after m s e) run more h.
 pub record Last {T : Type 0} (m : Machine T) (s : State T) (tr : Trace) (run : List Step) (e : Step) : Type 0 where
   pub can : Can m (end m s run) e
   pub left : 0 < left_steps (trail m s run e.0) (tr.steps e.0)
-  pub logs : logged (label m (end m s run) e) (unlogged (label m (end m s run) e) (left_log (trail m s run e.0) (tr.logs e.0))) ≡ left_log (trail m s run e.0) (tr.logs e.0)
-  pub closes : closing m tr e.0 ((end m s run).now e.0) (left_steps (trail m s run e.0) (tr.steps e.0)) (left_log (trail m s run e.0) (tr.logs e.0))
+  pub logs : logged (label m (end m s run) e) (unlogged (label m (end m s run) e) (left_log (trail m s run e.0) (tr.logs e.0))) ≡ left_log
+      (trail m s run e.0) (tr.logs e.0)
+  pub closes : closing m tr e.0 ((end m s run).now e.0) (left_steps (trail m s run e.0) (tr.steps e.0))
+      (left_log (trail m s run e.0) (tr.logs e.0))
 
-pub last_of : {T : Type 0} (m : Machine T) (tr : Trace) (s : State T) (run : List Step) (e : Step) → Follows (closing m tr) m s tr (run ++ e ∷ []) → Last m s tr run e
+pub last_of : {T : Type 0} (m : Machine T) (tr : Trace) (s : State T) (run : List Step) (e : Step)
+    → Follows (closing m tr) m s tr (run ++ e ∷ []) → Last m s tr run e
 last_of m tr s run e f =
     let t : ℕ = e.0 in
     let last = fits_last (closing m tr t) (tr.steps t) (tr.logs t) (trail m s run t) ((end m s run).now t, label m (end m s run) e)
-    (subst (Fits (closing m tr t) (tr.steps t) (tr.logs t)) (trail_append m s run (e ∷ []) t ∙ ap (λ z. trail m s run t ++ z) (trail_same m (end m s run) e [])) (f.1 t)) in
+    (subst (Fits (closing m tr t) (tr.steps t) (tr.logs t))
+        (trail_append m s run (e ∷ []) t ∙ ap (λ z. trail m s run t ++ z) (trail_same m (end m s run) e [])) (f.1 t)) in
     record { can = run_last m s run e f.0; left = last.0; logs = last.1; closes = last.2 }
 
 -- a run that follows does so without its last step
-pub follows_prefix : {T : Type 0} (m : Machine T) (tr : Trace) (s : State T) (run : List Step) (e : Step) → Follows (closing m tr) m s tr (run ++ e ∷ []) → Follows (closing m tr) m s tr run
+pub follows_prefix : {T : Type 0} (m : Machine T) (tr : Trace) (s : State T) (run : List Step) (e : Step)
+    → Follows (closing m tr) m s tr (run ++ e ∷ []) → Follows (closing m tr) m s tr run
 follows_prefix m tr s run e f = (
   run_prefix m s run (e ∷ []) f.0,
-  λ u. fits_part (closing m tr u) (tr.steps u) (tr.logs u) (trail m s run u) (trail m (end m s run) (e ∷ []) u) (subst (Fits (closing m tr u) (tr.steps u) (tr.logs u)) (trail_append m s run (e ∷ []) u) (f.1 u)),
+  λ u. fits_part (closing m tr u) (tr.steps u) (tr.logs u) (trail m s run u) (trail m (end m s run) (e ∷ []) u)
+      (subst (Fits (closing m tr u) (tr.steps u) (tr.logs u)) (trail_append m s run (e ∷ []) u) (f.1 u)),
 )
 
 pub one_step_each : {T : Type 0} (m : Machine T) (tr : Trace) (s : State T) (run : List Step)
-    → ((t : ℕ) → Follows (closing m tr) m s tr (run ++ (t, result_of (asked m (end m s run) t) (left_log (trail m s run t) (tr.logs t))) ∷ []) → ⊥) → IsMaximal (closing m tr) m s tr run
+    → ((t : ℕ) → Follows (closing m tr) m s tr
+    (run ++ (t, result_of (asked m (end m s run) t) (left_log (trail m s run t) (tr.logs t))) ∷ []) → ⊥)
+    → IsMaximal (closing m tr) m s tr run
 one_step_each m tr s run none e f =
     let s1 = end m s run in
     let t : ℕ = e.0 in
@@ -79,4 +89,5 @@ one_step_each m tr s run none e f =
     let last : Last m s tr run e = last_of m tr s run e f in
     let p : act m s1 e ≡ act m s1 (t, r) = one_act m (asked m s1 t) e.1 (s1.objects (target (act m s1 e))) es last.can last.logs in
     none t (goes_further m s tr run (follows_prefix m tr s run e f) t r (subst (λ z. Admits m z (s1.objects (target z))) p last.can)
-    (last.left, subst (λ z. logged (told z (s1.objects (target z))) (unlogged (told z (s1.objects (target z))) es) ≡ es) p last.logs, last.closes))
+    (last.left, subst (λ z. logged (told z (s1.objects (target z))) (unlogged (told z (s1.objects (target z))) es) ≡ es) p last.logs,
+        last.closes))

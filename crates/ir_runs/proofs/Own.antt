@@ -31,11 +31,13 @@ shift true (Refused o) i = suc i
 shift true (Out o a v) i = i
 shift false k i = i
 
-event_in : {T : Type 0} (b : Bool) (x : T × Label) (xs : List (T × Label)) (i : ℕ) (k : Label) → At (events (join_if b x xs)) i k → ((b ≡ true) × (i ≡ 0) × (k ≡ x.1)) ⊎ ((j : ℕ) × (i ≡ shift b x.1 j) × At (events xs) j k)
+event_in : {T : Type 0} (b : Bool) (x : T × Label) (xs : List (T × Label)) (i : ℕ) (k : Label) → At (events (join_if b x xs)) i k
+    → ((b ≡ true) × (i ≡ 0) × (k ≡ x.1)) ⊎ ((j : ℕ) × (i ≡ shift b x.1 j) × At (events xs) j k)
 event_in false x xs i k h = inr (i, refl, h)
 event_in true x xs i k h = in_logged x.1 i h
   where
-    in_logged : (y : Label) (i : ℕ) → At (logged y (events xs)) i k → ((true ≡ true) × (i ≡ 0) × (k ≡ y)) ⊎ ((j : ℕ) × (i ≡ shift true y j) × At (events xs) j k)
+    in_logged : (y : Label) (i : ℕ) → At (logged y (events xs)) i k → ((true ≡ true) × (i ≡ 0) × (k ≡ y))
+        ⊎ ((j : ℕ) × (i ≡ shift true y j) × At (events xs) j k)
     in_logged Quiet i h = inr (i, refl, h)
     in_logged (Answer a v) zero h = inl (refl, refl, sym h)
     in_logged (Answer a v) (suc i) h = inr (i, refl, h)
@@ -45,14 +47,17 @@ event_in true x xs i k h = in_logged x.1 i h
     in_logged (Refused o) (suc i) h = inr (i, refl, h)
     in_logged (Out o a v) i h = inr (i, refl, h)
 
-event_cases : {T : Type 0} (m : Machine T) (s : State T) (e : Step) (run : List Step) (t i : ℕ) (k : Label) → At (log m s (e ∷ run) t) i k → First m s e t i k ⊎ ((j : ℕ) × (i ≡ shift (eqb t e.0) (label m s e) j) × At (log m (after m s e) run t) j k)
+event_cases : {T : Type 0} (m : Machine T) (s : State T) (e : Step) (run : List Step) (t i : ℕ) (k : Label) → At (log m s (e ∷ run) t) i k
+    → First m s e t i k ⊎ ((j : ℕ) × (i ≡ shift (eqb t e.0) (label m s e) j) × At (log m (after m s e) run t) j k)
 event_cases m s e run t i k h = elim (event_in (eqb t e.0) (s.now t, label m s e) (trail m (after m s e) run t) i k h) [
   | inl p ↦ inl (record { who = eqb-true t e.0 p.0; place = p.1; is = p.2 })
   | inr p ↦ inr p
 ]
 
 -- an event stands in the trail
-event_in_trail : {T : Type 0} (y : T × Label) (ys : List (T × Label)) (k : Label) → ((i : ℕ) → At (events ys) i k → (x : T) × (j : ℕ) × At ys j (x, k)) → (z : Label) (i : ℕ) → y.1 ≡ z → At (logged z (events ys)) i k → (x : T) × (j : ℕ) × At (y ∷ ys) j (x, k)
+event_in_trail : {T : Type 0} (y : T × Label) (ys : List (T × Label)) (k : Label)
+    → ((i : ℕ) → At (events ys) i k → (x : T) × (j : ℕ) × At ys j (x, k)) → (z : Label) (i : ℕ) → y.1 ≡ z → At (logged z (events ys)) i k
+    → (x : T) × (j : ℕ) × At (y ∷ ys) j (x, k)
 event_in_trail y ys k ih Quiet i p h = let g = ih i h in (g.0, suc g.1, g.2)
 event_in_trail y ys k ih (Answer a v) zero p h = (y.0, 0, λ w. (y.0, (p ∙ h) w))
 event_in_trail y ys k ih (Answer a v) (suc i) p h = let g = ih i h in (g.0, suc g.1, g.2)
@@ -67,18 +72,24 @@ event_at [] i k h = absurd h
 event_at (y ∷ ys) i k h = event_in_trail y ys k (λ j g. event_at ys j k g) y.1 i refl h
 
 -- after a write entry no other entry has its version
-after_writer : {T : Type 0} (m : Machine T) → IsLawful m → (s : State T) → Good m s → (e : Step) → Can m s e → (run : List Step) → IsRun m (after m s e) run → (o v l : ℕ) → In o Writing v l ≡ label m s e → (t i : ℕ) (a : Access) (k : ℕ) → At (log m (after m s e) run t) i (In o a v k) → ⊥
+after_writer : {T : Type 0} (m : Machine T) → IsLawful m → (s : State T) → Good m s → (e : Step) → Can m s e → (run : List Step)
+    → IsRun m (after m s e) run → (o v l : ℕ) → In o Writing v l ≡ label m s e → (t i : ℕ) (a : Access) (k : ℕ)
+    → At (log m (after m s e) run t) i (In o a v k) → ⊥
 after_writer m law s good e can run ok o v l is t i a k h =
     let q : Act = act m s e in
     let en : Entering m (s.objects (target q)) o Writing v l q = told_in m q (s.objects (target q)) o Writing v l (sym is) in
     let ver : (s.objects o).version ≡ v = ap (λ z. (s.objects (target z)).version) (sym en.does) ∙ en.version in
     let g = event_at (trail m (after m s e) run t) i (In o a v k) h in
-    past_writer m v e.0 o a k (entered m (Writes v e.0) o a v k t (taken m law (Writes v e.0) (Writes_kept m v e.0) (after m s e) (stays_good m law s good e can) run ok o
-    (inr (ap (λ z. z.version) (objects_after m s e (Entry o Writing en.answer) en.does) ∙ ver, ap (λ z. z.inside e.0) (objects_after m s e (Entry o Writing en.answer) en.does) ∙ upd_same (s.objects o).inside e.0 (Some Writing)))
+    past_writer m v e.0 o a k (entered m (Writes v e.0) o a v k t
+        (taken m law (Writes v e.0) (Writes_kept m v e.0) (after m s e) (stays_good m law s good e can) run ok o
+    (inr (ap (λ z. z.version) (objects_after m s e (Entry o Writing en.answer) en.does)
+        ∙ ver, ap (λ z. z.inside e.0) (objects_after m s e (Entry o Writing en.answer) en.does)
+        ∙ upd_same (s.objects o).inside e.0 (Some Writing)))
     t g.1 g.0 (In o a v k) g.2))
 
 -- at most one write entry at a version
-pub one_writer : {T : Type 0} (m : Machine T) → IsLawful m → (s : State T) → Good m s → (run : List Step) → IsRun m s run → (t i u j o v l k : ℕ) → At (log m s run t) i (In o Writing v l) → At (log m s run u) j (In o Writing v k) → (t ≡ u) × (i ≡ j)
+pub one_writer : {T : Type 0} (m : Machine T) → IsLawful m → (s : State T) → Good m s → (run : List Step) → IsRun m s run
+    → (t i u j o v l k : ℕ) → At (log m s run t) i (In o Writing v l) → At (log m s run u) j (In o Writing v k) → (t ≡ u) × (i ≡ j)
 one_writer m law s good [] ok t i u j o v l k h g = absurd h
 one_writer m law s good (e ∷ run) ok t i u j o v l k h g = elim (event_cases m s e run t i (In o Writing v l) h) [
   | inl p ↦ elim (event_cases m s e run u j (In o Writing v k) g) [
@@ -92,7 +103,8 @@ one_writer m law s good (e ∷ run) ok t i u j o v l k h g = elim (event_cases m
   ]
 ]
 
-reads_join : {T : Type 0} (o v : ℕ) (b : Bool) (x : T × Label) (xs : List (T × Label)) → reads o v (events (join_if b x xs)) ≡ cond b (reads_one o v x.1) 0 + reads o v (events xs)
+reads_join : {T : Type 0} (o v : ℕ) (b : Bool) (x : T × Label) (xs : List (T × Label))
+    → reads o v (events (join_if b x xs)) ≡ cond b (reads_one o v x.1) 0 + reads o v (events xs)
 reads_join o v true x xs = by_label x.1
   where
     by_label : (k : Label) → reads o v (logged k (events xs)) ≡ reads_one o v k + reads o v (events xs)
@@ -111,29 +123,36 @@ no_reads o v (Quiet ∷ es) h = no_more (reads o v es) (no_reads o v es (λ i k 
     no_more : (n : ℕ) → n ≡ 0 → 0 + n ≡ 0
     no_more n p = omega arith
 no_reads o v (Answer a w ∷ es) h = let g = no_reads o v es (λ i k a. h (suc i) k a) in let z : 0 + reads o v es ≡ 0 = omega (arith, g) in z
-no_reads o v (In p Writing w l ∷ es) h = let g = no_reads o v es (λ i k a. h (suc i) k a) in let z : 0 + reads o v es ≡ 0 = omega (arith, g) in z
+no_reads o v (In p Writing w l ∷ es) h = let g = no_reads o v es (λ i k a. h (suc i) k a) in let z : 0 + reads o v es ≡ 0 =
+    omega (arith, g) in z
 no_reads o v (Refused p ∷ es) h = let g = no_reads o v es (λ i k a. h (suc i) k a) in let z : 0 + reads o v es ≡ 0 = omega (arith, g) in z
 no_reads o v (Out p a w ∷ es) h = let g = no_reads o v es (λ i k a. h (suc i) k a) in let z : 0 + reads o v es ≡ 0 = omega (arith, g) in z
 no_reads o v (In p Reading w l ∷ es) h =
     let g = no_reads o v es (λ i k a. h (suc i) k a) in
     elim (cases_eq p o) [
-      | inr ne ↦ let z : reads_one o v (In p Reading w l) ≡ 0 = ap (λ b. cond b (cond (eqb w v) 1 0) 0) (ne_eqb p o ne) in omega (arith, g, z)
+      | inr ne ↦ let z : reads_one o v (In p Reading w l) ≡ 0 = ap (λ b. cond b (cond (eqb w v) 1 0) 0) (ne_eqb p o ne) in
+          omega (arith, g, z)
       | inl e ↦ elim (cases_eq w v) [
         | inl d ↦ absurd (h 0 l (λ y. In (e y) Reading (d y) l))
-        | inr ne ↦ let z : reads_one o v (In p Reading w l) ≡ 0 = ap (λ b. cond b (cond (eqb w v) 1 0) 0) (eq-eqb p o e) ∙ ap (λ b. cond b 1 0) (ne_eqb w v ne) in omega (arith, g, z)
+        | inr ne ↦ let z : reads_one o v (In p Reading w l) ≡ 0 = ap (λ b. cond b (cond (eqb w v) 1 0) 0) (eq-eqb p o e)
+            ∙ ap (λ b. cond b 1 0) (ne_eqb w v ne) in omega (arith, g, z)
       ]
     ]
 
-pub below_idle : {T : Type 0} (m : Machine T) (s : State T) (n : ℕ) → ((t : ℕ) → n ≤ t → asked m s t ≡ Done) → (e : Step) → Can m s e → (e.0 < n) × ((t : ℕ) → n ≤ t → asked m (after m s e) t ≡ Done)
+pub below_idle : {T : Type 0} (m : Machine T) (s : State T) (n : ℕ) → ((t : ℕ) → n ≤ t → asked m s t ≡ Done) → (e : Step) → Can m s e
+    → (e.0 < n) × ((t : ℕ) → n ≤ t → asked m (after m s e) t ≡ Done)
 below_idle m s n idle e can =
-    let below : e.0 < n = elim (cases_lt e.0 n) [ inl l ↦ l | inr g ↦ absurd (subst (λ q. Admits m (act_of q e.1) (s.objects (target (act_of q e.1)))) (idle e.0 g) can) ] in
+    let below : e.0 < n = elim (cases_lt e.0 n)
+        [ inl l ↦ l | inr g ↦ absurd (subst (λ q. Admits m (act_of q e.1) (s.objects (target (act_of q e.1)))) (idle e.0 g) can) ] in
     (below, λ t l. ap m.ask (now_other m s e t (λ p. differ e.0 t n below l p)) ∙ idle t l)
   where
     differ : (a t n : ℕ) → a < n → n ≤ t → t ≡ a → ⊥
     differ a t n l g e = omega arith
 
 -- a write entry's readers are those of its version
-pub all_readers : {T : Type 0} (m : Machine T) → IsLawful m → (n : ℕ) (s : State T) → Good m s → ((t : ℕ) → n ≤ t → asked m s t ≡ Done) → (c : ℕ → ℕ → ℕ → ℕ) → Tally n s c → (run : List Step) → IsRun m s run → (t i o v l : ℕ) → At (log m s run t) i (In o Writing v l) → l ≡ sum_below n (λ u. c o v u + reads o v (log m s run u))
+pub all_readers : {T : Type 0} (m : Machine T) → IsLawful m → (n : ℕ) (s : State T) → Good m s → ((t : ℕ) → n ≤ t → asked m s t ≡ Done)
+    → (c : ℕ → ℕ → ℕ → ℕ) → Tally n s c → (run : List Step) → IsRun m s run → (t i o v l : ℕ) → At (log m s run t) i (In o Writing v l)
+    → l ≡ sum_below n (λ u. c o v u + reads o v (log m s run u))
 all_readers m law n s good idle c tally [] ok t i o v l h = absurd h
 all_readers m law n s good idle c tally (e ∷ run) ok t i o v l h = elim (event_cases m s e run t i (In o Writing v l) h) [
   | inl p ↦
@@ -157,7 +176,8 @@ all_readers m law n s good idle c tally (e ∷ run) ok t i o v l h = elim (event
       )
   | inr p ↦
       let st = below_idle m s n idle e ok.0 in
-      all_readers m law n (after m s e) (stays_good m law s good e ok.0) st.1 (λ o v u. c o v u + counted o v (label m s e) e.0 u) (tally_step m law n s good c tally e ok.0 st.0) run ok.1 t p.0 o v l p.2
+      all_readers m law n (after m s e) (stays_good m law s good e ok.0) st.1 (λ o v u. c o v u + counted o v (label m s e) e.0 u)
+          (tally_step m law n s good c tally e ok.0 st.0) run ok.1 t p.0 o v l p.2
       ∙ sum_same n _ _ (λ u _. omega (arith, reads_join o v (eqb u e.0) (s.now u, label m s e) (trail m (after m s e) run u)))
 ]
   where
@@ -171,12 +191,15 @@ pub record Made {T : Type 0} (s : State T) (Q : ℕ → ℕ → Type 0) : Type 0
   pub inside : (o t : ℕ) → (s.objects o).inside t ≡ Some Writing → Q o (s.objects o).version
 
 enters : (b : Object) (t u : ℕ) (a : Access) → upd b.inside t (Some a) u ≡ Some Writing → (b.inside u ≡ Some Writing) ⊎ (a ≡ Writing)
-enters b t u a = upd_elim b.inside t (Some a) u (λ z. z ≡ Some Writing → (b.inside u ≡ Some Writing) ⊎ (a ≡ Writing)) (λ _ h. inr (cc h)) (λ _ h. inl h)
+enters b t u a = upd_elim b.inside t (Some a) u (λ z. z ≡ Some Writing → (b.inside u ≡ Some Writing) ⊎ (a ≡ Writing)) (λ _ h. inr (cc h))
+    (λ _ h. inl h)
 
 leaves : (b : Object) (t u : ℕ) → upd b.inside t None u ≡ Some Writing → b.inside u ≡ Some Writing
 leaves b t u = upd_elim b.inside t None u (λ z. z ≡ Some Writing → b.inside u ≡ Some Writing) (λ _ h. absurd (cc h)) (λ _ h. h)
 
-made1 : {T : Type 0} (m : Machine T) (q : Act) (t : ℕ) (b : Object) → Exclusive b → Inside q (b.inside t) → (P : ℕ → Type 0) → ((v : ℕ) → v < b.version → P v) → ((u : ℕ) → b.inside u ≡ Some Writing → P b.version) → ((o ans : ℕ) → q ≡ Entry o Writing ans → P b.version)
+made1 : {T : Type 0} (m : Machine T) (q : Act) (t : ℕ) (b : Object) → Exclusive b → Inside q (b.inside t) → (P : ℕ → Type 0)
+    → ((v : ℕ) → v < b.version → P v) → ((u : ℕ) → b.inside u ≡ Some Writing → P b.version)
+    → ((o ans : ℕ) → q ≡ Entry o Writing ans → P b.version)
     → ((v : ℕ) → v < (acted q t b).version → P v) × ((u : ℕ) → (acted q t b).inside u ≡ Some Writing → P (acted q t b).version)
 made1 m Silent t b ex i P p w new = (p, w)
 made1 m (Refusal _) t b ex i P p w new = (p, w)
@@ -184,7 +207,8 @@ made1 m (Result k res) t b ex i P p w new = (p, w)
 made1 m (Entry o Reading ans) t b ex i P p w new = (p, λ u h. elim (enters b t u Reading h) [ inl g ↦ w u g | inr g ↦ absurd (cc g) ])
 made1 m (Entry o Writing ans) t b ex i P p w new = (p, λ u h. new o ans refl)
 made1 m (Exit o Reading) t b ex i P p w new = (p, λ u h. w u (leaves b t u h))
-made1 m (Exit o Writing) t b ex i P p w new = (λ v l. elim (cases_lt v b.version) [ inl g ↦ p v g | inr g ↦ let e : b.version ≡ v = omega arith in subst P e (w t i) ], λ u h. absurd (gone u h))
+made1 m (Exit o Writing) t b ex i P p w new = (λ v l. elim (cases_lt v b.version)
+    [ inl g ↦ p v g | inr g ↦ let e : b.version ≡ v = omega arith in subst P e (w t i) ], λ u h. absurd (gone u h))
   where
     gone : (u : ℕ) → upd b.inside t None u ≡ Some Writing → ⊥
     gone u h = absurd (upd_elim b.inside t None u (λ z. z ≡ Some Writing → ⊥) (λ _ g. cc g) (λ ne g. cc (ex t u (λ e. ne (sym e)) i, g)) h)
@@ -192,19 +216,25 @@ made1 m (Load o j) t b ex i P p w new = (p, w)
 made1 m (Store o j x) t b ex i P p w new = (p, w)
 made1 m Never t b ex i P p w new = (p, w)
 
-made_step : {T : Type 0} (m : Machine T) → IsLawful m → (s : State T) → Good m s → (Q : ℕ → ℕ → Type 0) → Made s Q → (e : Step) → ((o v l : ℕ) → label m s e ≡ In o Writing v l → Q o v) → Made (after m s e) Q
+made_step : {T : Type 0} (m : Machine T) → IsLawful m → (s : State T) → Good m s → (Q : ℕ → ℕ → Type 0) → Made s Q → (e : Step)
+    → ((o v l : ℕ) → label m s e ≡ In o Writing v l → Q o v) → Made (after m s e) Q
 unfolding after
 made_step m law s good Q made e new =
     let q : Act = act m s e in
     let b : Object = s.objects (target q) in
-    let z = made1 m q e.0 b (good.exclusive (target q)) (inside_now m law s good e) (Q (target q)) (made.past (target q)) (made.inside (target q))
-    (λ o ans is. subst (λ w. Q (target w) (s.objects (target w)).version) (sym is) (new o (s.objects o).version (s.objects o).left (ap (λ w. told w (s.objects (target w))) is))) in
+    let z = made1 m q e.0 b (good.exclusive (target q)) (inside_now m law s good e) (Q (target q)) (made.past (target q))
+        (made.inside (target q))
+    (λ o ans is. subst (λ w. Q (target w) (s.objects (target w)).version) (sym is)
+        (new o (s.objects o).version (s.objects o).left (ap (λ w. told w (s.objects (target w))) is))) in
     record {
-      past = λ o v. upd_elim s.objects (target q) (acted q e.0 b) o (λ d. v < d.version → Q o v) (λ here l. subst (λ w. Q w v) (sym here) (z.0 v l)) (λ _ l. made.past o v l);
-      inside = λ o t. upd_elim s.objects (target q) (acted q e.0 b) o (λ d. d.inside t ≡ Some Writing → Q o d.version) (λ here h. subst (λ w. Q w (acted q e.0 b).version) (sym here) (z.1 t h)) (λ _ h. made.inside o t h);
+      past = λ o v. upd_elim s.objects (target q) (acted q e.0 b) o (λ d. v < d.version → Q o v)
+          (λ here l. subst (λ w. Q w v) (sym here) (z.0 v l)) (λ _ l. made.past o v l);
+      inside = λ o t. upd_elim s.objects (target q) (acted q e.0 b) o (λ d. d.inside t ≡ Some Writing → Q o d.version)
+          (λ here h. subst (λ w. Q w (acted q e.0 b).version) (sym here) (z.1 t h)) (λ _ h. made.inside o t h);
     }
 
-event_later : {T : Type 0} (b : Bool) (x : T × Label) (xs : List (T × Label)) (i : ℕ) (k : Label) → At (events xs) i k → At (events (join_if b x xs)) (shift b x.1 i) k
+event_later : {T : Type 0} (b : Bool) (x : T × Label) (xs : List (T × Label)) (i : ℕ) (k : Label) → At (events xs) i k
+    → At (events (join_if b x xs)) (shift b x.1 i) k
 event_later false x xs i k h = h
 event_later true x xs i k h = by_label x.1
   where
@@ -215,11 +245,14 @@ event_later true x xs i k h = by_label x.1
     by_label (Refused o) = h
     by_label (Out o a v) = h
 
-event_first : {T : Type 0} (m : Machine T) (s : State T) (e : Step) (run : List Step) (o v l : ℕ) → label m s e ≡ In o Writing v l → At (log m s (e ∷ run) e.0) 0 (In o Writing v l)
-event_first m s e run o v l is = subst (λ b. At (events (join_if b (s.now e.0, label m s e) (trail m (after m s e) run e.0))) 0 (In o Writing v l)) (sym (eq-eqb e.0 e.0 refl))
+event_first : {T : Type 0} (m : Machine T) (s : State T) (e : Step) (run : List Step) (o v l : ℕ) → label m s e ≡ In o Writing v l
+    → At (log m s (e ∷ run) e.0) 0 (In o Writing v l)
+event_first m s e run o v l is = subst (λ b. At (events (join_if b (s.now e.0, label m s e) (trail m (after m s e) run e.0))) 0
+    (In o Writing v l)) (sym (eq-eqb e.0 e.0 refl))
     (subst (λ z. At (logged z (log m (after m s e) run e.0)) 0 (In o Writing v l)) (sym is) refl)
 
-pub made_by : {T : Type 0} (m : Machine T) → IsLawful m → (s : State T) → Good m s → (Q : ℕ → ℕ → Type 0) → Made s Q → (run : List Step) → IsRun m s run → ((t i o v l : ℕ) → At (log m s run t) i (In o Writing v l) → Q o v)
+pub made_by : {T : Type 0} (m : Machine T) → IsLawful m → (s : State T) → Good m s → (Q : ℕ → ℕ → Type 0) → Made s Q → (run : List Step)
+    → IsRun m s run → ((t i o v l : ℕ) → At (log m s run t) i (In o Writing v l) → Q o v)
     → (t i o v l : ℕ) (a : Access) → At (log m s run t) i (In o a (suc v) l) → Q o v
 made_by m law s good Q made [] ok all t i o v l a h = absurd h
 made_by m law s good Q made (e ∷ run) ok all t i o v l a h = elim (event_cases m s e run t i (In o a (suc v) l) h) [
@@ -228,15 +261,21 @@ made_by m law s good Q made (e ∷ run) ok all t i o v l a h = elim (event_cases
       let en : Entering m (s.objects (target q)) o a (suc v) l q = told_in m q (s.objects (target q)) o a (suc v) l (sym p.is) in
       let ver : (s.objects o).version ≡ suc v = ap (λ z. (s.objects (target z)).version) (sym en.does) ∙ en.version in
       made.past o v (omega arith)
-  | inr p ↦ made_by m law (after m s e) (stays_good m law s good e ok.0) Q (made_step m law s good Q made e (λ o v l is. all e.0 0 o v l (event_first m s e run o v l is))) run ok.1
-      (λ t i o v l g. all t (shift (eqb t e.0) (label m s e) i) o v l (event_later (eqb t e.0) (s.now t, label m s e) (trail m (after m s e) run t) i (In o Writing v l) g)) t p.0 o v l a p.2
+  | inr p ↦ made_by m law (after m s e) (stays_good m law s good e ok.0) Q
+      (made_step m law s good Q made e (λ o v l is. all e.0 0 o v l (event_first m s e run o v l is))) run ok.1
+      (λ t i o v l g. all t (shift (eqb t e.0) (label m s e) i) o v l
+          (event_later (eqb t e.0) (s.now t, label m s e) (trail m (after m s e) run t) i (In o Writing v l) g)) t p.0 o v l a p.2
 ]
 
-pub own_coherent : (n : ℕ) {T : Type 0} (m : Machine T) → IsLawful m → (s : State T) → Good m s → IsStart m s → IsIdle m s n → (run : List Step) → IsRun m s run → IsCoherent n (trace m s run)
+pub own_coherent : (n : ℕ) {T : Type 0} (m : Machine T) → IsLawful m → (s : State T) → Good m s → IsStart m s → IsIdle m s n
+    → (run : List Step) → IsRun m s run → IsCoherent n (trace m s run)
 own_coherent n m law s good st im run ok = record {
-  made = λ t i o v l a h. made_by m law s good (λ o v. (u j k : ℕ) × At (log m s run u) j (In o Writing v k)) (record { past = λ o v l. absurd (omega (arith, st.version o)); inside = λ o t h. absurd (cc (st.inside o t, h)) }) run ok (λ t i o v l g. (t, i, l, g)) t i o v l a h;
+  made = λ t i o v l a h. made_by m law s good (λ o v. (u j k : ℕ) × At (log m s run u) j (In o Writing v k))
+      (record { past = λ o v l. absurd (omega (arith, st.version o)); inside = λ o t h. absurd (cc (st.inside o t, h)) }) run ok
+      (λ t i o v l g. (t, i, l, g)) t i o v l a h;
   writer = λ t i u j o v l k h g. one_writer m law s good run ok t i u j o v l k h g;
-  readers = λ t i o v l h. all_readers m law n s good im (λ o v u. 0) (tally_start m n s st) run ok t i o v l h ∙ sum_same n _ _ (λ u _. zero_plus (reads o v (log m s run u)));
+  readers = λ t i o v l h. all_readers m law n s good im (λ o v u. 0) (tally_start m n s st) run ok t i o v l h
+      ∙ sum_same n _ _ (λ u _. zero_plus (reads o v (log m s run u)));
 }
   where
     zero_plus : (n : ℕ) → 0 + n ≡ n

@@ -23,7 +23,8 @@ pub record Entered {T : Type 0} (m : Machine T) (R : Object → Type 0) (o : ℕ
   pub version : object.version ≡ v
   pub left : a ≡ Writing → object.left ≡ l
 
-pub entered : {T : Type 0} (m : Machine T) (R : Object → Type 0) (o : ℕ) (a : Access) (v l t : ℕ) → Taken m R o t (In o a v l) → Entered m R o a v l
+pub entered : {T : Type 0} (m : Machine T) (R : Object → Type 0) (o : ℕ) (a : Access) (v l t : ℕ) → Taken m R o t (In o a v l)
+    → Entered m R o a v l
 entered m R o a v l t k =
     let q : Act = act m k.state k.step in
     let e : Entering m (k.state.objects (target q)) o a v l q = told_in m q (k.state.objects (target q)) o a v l k.tells in
@@ -41,32 +42,45 @@ past_writer m v u o Reading l e = elim e.kept [ inl p ↦ omega (arith, p, e.ver
 past_writer m v u o Writing l e = elim e.kept [ inl p ↦ omega (arith, p, e.version) | inr p ↦ cc (e.admits u, p.1) ]
 
 pub past_reader : {T : Type 0} (m : Machine T) (v u o l : ℕ) → Entered m (Reads v l u) o Writing v l → ⊥
-past_reader m v u o l e = elim e.kept [ inl p ↦ omega (arith, p, e.version) | inr p ↦ elim p.1 [ inl q ↦ omega (arith, q, e.left refl) | inr q ↦ cc (e.admits u, q.1) ] ]
+past_reader m v u o l e = elim e.kept [ inl p ↦ omega (arith, p, e.version) | inr p ↦ elim p.1
+    [ inl q ↦ omega (arith, q, e.left refl) | inr q ↦ cc (e.admits u, q.1) ] ]
 
-pub objects_after : {T : Type 0} (m : Machine T) (s : State T) (e : Step) (q : Act) → act m s e ≡ q → (after m s e).objects (target q) ≡ acted q e.0 (s.objects (target q))
+pub objects_after : {T : Type 0} (m : Machine T) (s : State T) (e : Step) (q : Act) → act m s e ≡ q
+    → (after m s e).objects (target q) ≡ acted q e.0 (s.objects (target q))
 unfolding after
-objects_after m s e q p = subst (λ z. (after m s e).objects (target z) ≡ acted z e.0 (s.objects (target z))) p (upd_same s.objects (target (act m s e)) _)
+objects_after m s e q p = subst (λ z. (after m s e).objects (target z) ≡ acted z e.0 (s.objects (target z))) p
+    (upd_same s.objects (target (act m s e)) _)
 
 -- after an entry, another that clashed with it tells something else
-never : {T : Type 0} (m : Machine T) → IsLawful m → (s : State T) → Good m s → (e : Step) → Can m s e → (run : List Step) → IsRun m (after m s e) run → (t k : ℕ) (x : T)
-    → (q' q : Act) → act m s e ≡ q' → target q ≡ target q' → Clash q' q → At (trail m (after m s e) run t) k (x, told q (s.objects (target q))) → ⊥
+never : {T : Type 0} (m : Machine T) → IsLawful m → (s : State T) → Good m s → (e : Step) → Can m s e → (run : List Step)
+    → IsRun m (after m s e) run → (t k : ℕ) (x : T)
+    → (q' q : Act) → act m s e ≡ q' → target q ≡ target q' → Clash q' q
+    → At (trail m (after m s e) run t) k (x, told q (s.objects (target q))) → ⊥
 never m law s good e can run ok t k x (Entry o Writing ans) (Entry p Reading ans') is same c h =
     past_writer m (s.objects p).version e.0 p Reading 0 (entered m (Writes (s.objects p).version e.0) p Reading _ _ t
     (taken m law (Writes (s.objects p).version e.0) (Writes_kept m _ _) (after m s e) (stays_good m law s good e can) run ok p
-    (inr (subst (λ z. (((after m s e).objects z).version ≡ (s.objects z).version) × (((after m s e).objects z).inside e.0 ≡ Some Writing)) (sym same)
-    (ap (λ z. z.version) (objects_after m s e (Entry o Writing ans) is), ap (λ z. z.inside e.0) (objects_after m s e (Entry o Writing ans) is) ∙ upd_same (s.objects o).inside e.0 (Some Writing))))
+    (inr (subst (λ z. (((after m s e).objects z).version ≡ (s.objects z).version) × (((after m s e).objects z).inside e.0 ≡ Some Writing))
+        (sym same)
+    (ap (λ z. z.version) (objects_after m s e (Entry o Writing ans) is), ap (λ z. z.inside e.0)
+        (objects_after m s e (Entry o Writing ans) is) ∙ upd_same (s.objects o).inside e.0 (Some Writing))))
     t k x _ h))
 never m law s good e can run ok t k x (Entry o Writing ans) (Entry p Writing ans') is same c h =
     past_writer m (s.objects p).version e.0 p Writing (s.objects p).left (entered m (Writes (s.objects p).version e.0) p Writing _ _ t
     (taken m law (Writes (s.objects p).version e.0) (Writes_kept m _ _) (after m s e) (stays_good m law s good e can) run ok p
-    (inr (subst (λ z. (((after m s e).objects z).version ≡ (s.objects z).version) × (((after m s e).objects z).inside e.0 ≡ Some Writing)) (sym same)
-    (ap (λ z. z.version) (objects_after m s e (Entry o Writing ans) is), ap (λ z. z.inside e.0) (objects_after m s e (Entry o Writing ans) is) ∙ upd_same (s.objects o).inside e.0 (Some Writing))))
+    (inr (subst (λ z. (((after m s e).objects z).version ≡ (s.objects z).version) × (((after m s e).objects z).inside e.0 ≡ Some Writing))
+        (sym same)
+    (ap (λ z. z.version) (objects_after m s e (Entry o Writing ans) is), ap (λ z. z.inside e.0)
+        (objects_after m s e (Entry o Writing ans) is) ∙ upd_same (s.objects o).inside e.0 (Some Writing))))
     t k x _ h))
 never m law s good e can run ok t k x (Entry o Reading ans) (Entry p Writing ans') is same c h =
-    past_reader m (s.objects p).version e.0 p (s.objects p).left (entered m (Reads (s.objects p).version (s.objects p).left e.0) p Writing _ _ t
-    (taken m law (Reads (s.objects p).version (s.objects p).left e.0) (Reads_kept m _ _ _) (after m s e) (stays_good m law s good e can) run ok p
+    past_reader m (s.objects p).version e.0 p (s.objects p).left
+        (entered m (Reads (s.objects p).version (s.objects p).left e.0) p Writing _ _ t
+    (taken m law (Reads (s.objects p).version (s.objects p).left e.0) (Reads_kept m _ _ _) (after m s e) (stays_good m law s good e can) run
+        ok p
     (subst (λ z. Reads (s.objects z).version (s.objects z).left e.0 ((after m s e).objects z)) (sym same)
-    (inr (ap (λ z. z.version) (objects_after m s e (Entry o Reading ans) is), inr (ap (λ z. z.left) (objects_after m s e (Entry o Reading ans) is), ap (λ z. z.inside e.0) (objects_after m s e (Entry o Reading ans) is) ∙ upd_same (s.objects o).inside e.0 (Some Reading)))))
+    (inr (ap (λ z. z.version) (objects_after m s e (Entry o Reading ans) is), inr
+        (ap (λ z. z.left) (objects_after m s e (Entry o Reading ans) is), ap (λ z. z.inside e.0)
+        (objects_after m s e (Entry o Reading ans) is) ∙ upd_same (s.objects o).inside e.0 (Some Reading)))))
     t k x _ h))
 never m law s good e can run ok t k x (Entry o Reading ans) (Entry p Reading ans') is same c h = c
 never m law s good e can run ok t k x _ _ is same c h = absurd c
@@ -79,7 +93,8 @@ clash_sym (Entry o Reading ans) (Entry p Reading ans') c = c
 clash_sym _ _ c = absurd c
 
 -- results with which an ask logs the same are one act
-pub same_act : {T : Type 0} (m : Machine T) (q : Ask) (r r' : ℕ) (b b' : Object) (xs ys zs : List Label) → Admits m (act_of q r) b → Admits m (act_of q r') b' → logged (told (act_of q r) b) xs ++ ys ≡ logged (told (act_of q r') b') zs → act_of q r ≡ act_of q r'
+pub same_act : {T : Type 0} (m : Machine T) (q : Ask) (r r' : ℕ) (b b' : Object) (xs ys zs : List Label) → Admits m (act_of q r) b
+    → Admits m (act_of q r') b' → logged (told (act_of q r) b) xs ++ ys ≡ logged (told (act_of q r') b') zs → act_of q r ≡ act_of q r'
 same_act m Private r r' b b' xs ys zs can can' h = refl
 same_act m (Env k) r r' b b' xs ys zs can can' h = cc h
 same_act m (Enter o a) r r' b b' xs ys zs can can' h = refl
@@ -95,7 +110,8 @@ same_act m (Get o j) r r' b b' xs ys zs can can' h = refl
 same_act m (Put o j w) r r' b b' xs ys zs can can' h = refl
 same_act m Done r r' b b' xs ys zs can can' h = refl
 
-pub same_after : {T : Type 0} (m : Machine T) (s : State T) (t r r' : ℕ) → act m s (t, r) ≡ act m s (t, r') → after m s (t, r) ≡ after m s (t, r')
+pub same_after : {T : Type 0} (m : Machine T) (s : State T) (t r r' : ℕ) → act m s (t, r) ≡ act m s (t, r')
+    → after m s (t, r) ≡ after m s (t, r')
 unfolding after
 same_after m s t r r' h = ap (moved m s t (s.now t)) h
 
@@ -106,7 +122,8 @@ pub record Pulled {T : Type 0} (m : Machine T) (s : State T) (run : List Step) (
   pub same_end : end m (after m s (t, r)) rest ≡ end m s run
   pub same_trail : (u : ℕ) → trail m s ((t, r) ∷ rest) u ≡ trail m s run u
 
-join_swap : {A : Type 0} (b c : Bool) (x x' y y' : A) (xs : List A) → (b ≡ true → c ≡ true → ⊥) → (b ≡ true → x ≡ x') → (c ≡ true → y ≡ y') → join_if b x (join_if c y xs) ≡ join_if c y' (join_if b x' xs)
+join_swap : {A : Type 0} (b c : Bool) (x x' y y' : A) (xs : List A) → (b ≡ true → c ≡ true → ⊥) → (b ≡ true → x ≡ x') → (c ≡ true → y ≡ y')
+    → join_if b x (join_if c y xs) ≡ join_if c y' (join_if b x' xs)
 join_swap true true x x' y y' xs f p q = absurd (f refl refl)
 join_swap true false x x' y y' xs f p q = ap (λ z. z ∷ xs) (p refl)
 join_swap false true x x' y y' xs f p q = ap (λ z. z ∷ xs) (q refl)
@@ -130,22 +147,29 @@ clash_told (Entry p Reading x) _ b k c h = absurd c
 clash_told (Entry p Writing x) _ b k c h = absurd c
 clash_told _ _ b k c h = absurd c
 
-pull_first : {T : Type 0} (m : Machine T) (s : State T) (e : Step) (run : List Step) → IsRun m s (e ∷ run) → (r : ℕ) → Can m s (e.0, r) → logged (label m s e) [] ≡ logged (label m s (e.0, r)) [] → Pulled m s (e ∷ run) e.0 r
+pull_first : {T : Type 0} (m : Machine T) (s : State T) (e : Step) (run : List Step) → IsRun m s (e ∷ run) → (r : ℕ) → Can m s (e.0, r)
+    → logged (label m s e) [] ≡ logged (label m s (e.0, r)) [] → Pulled m s (e ∷ run) e.0 r
 pull_first m s e run ok r can h =
-    let a : act m s (e.0, r) ≡ act m s e = sym (same_act m (asked m s e.0) e.1 r (s.objects (target (act m s e))) (s.objects (target (act m s (e.0, r)))) [] [] [] ok.0 can (append-nil _ ∙ h)) in
+    let a : act m s (e.0, r) ≡ act m s e = sym (same_act m (asked m s e.0) e.1 r (s.objects (target (act m s e)))
+        (s.objects (target (act m s (e.0, r)))) [] [] [] ok.0 can (append-nil _ ∙ h)) in
     let p : after m s (e.0, r) ≡ after m s e = same_after m s e.0 r e.1 a in
     record {
       rest = run;
       ok = subst (λ z. IsRun m z run) (sym p) ok.1;
       same_end = ap (λ z. end m z run) p;
-      same_trail = λ u. ap (λ z. join_if (eqb u e.0) (s.now u, label m s (e.0, r)) (trail m z run u)) p ∙ ap (λ z. join_if (eqb u e.0) (s.now u, told z (s.objects (target z))) (trail m (after m s e) run u)) a;
+      same_trail = λ u. ap (λ z. join_if (eqb u e.0) (s.now u, label m s (e.0, r)) (trail m z run u)) p
+          ∙ ap (λ z. join_if (eqb u e.0) (s.now u, told z (s.objects (target z))) (trail m (after m s e) run u)) a;
     }
 
-pull_later : {T : Type 0} (m : Machine T) → IsLawful m → (s : State T) → Good m s → (e : Step) (run : List Step) → IsRun m s (e ∷ run) → (t r : ℕ) → t ≢ e.0 → Can m s (t, r) → (x : T) (j : Label) → At (trail m (after m s e) run t) 0 (x, j)
-    → logged j [] ≡ logged (label m s (t, r)) [] → (Can m (after m s e) (t, r) → logged j [] ≡ logged (label m (after m s e) (t, r)) [] → Pulled m (after m s e) run t r) → Pulled m s (e ∷ run) t r
+pull_later : {T : Type 0} (m : Machine T) → IsLawful m → (s : State T) → Good m s → (e : Step) (run : List Step) → IsRun m s (e ∷ run)
+    → (t r : ℕ) → t ≢ e.0 → Can m s (t, r) → (x : T) (j : Label) → At (trail m (after m s e) run t) 0 (x, j)
+    → logged j [] ≡ logged (label m s (t, r)) []
+    → (Can m (after m s e) (t, r) → logged j [] ≡ logged (label m (after m s e) (t, r)) [] → Pulled m (after m s e) run t r)
+    → Pulled m s (e ∷ run) t r
 pull_later m law s good e run ok t r other can x j h l ih =
     let free : Clashes m s e (t, r) → ⊥ = λ c. never m law s good e ok.0 run ok.1 t 0 x (act m s e) (act m s (t, r)) refl c.0 c.1
-    (subst (λ z. At (trail m (after m s e) run t) 0 (x, z)) (clash_told (act m s e) (act m s (t, r)) (s.objects (target (act m s (t, r)))) j c.1 l) h) in
+    (subst (λ z. At (trail m (after m s e) run t) 0 (x, z))
+        (clash_told (act m s e) (act m s (t, r)) (s.objects (target (act m s (t, r)))) j c.1 l) h) in
     let free' : Clashes m s (t, r) e → ⊥ = λ c. free (sym c.0, clash_sym _ _ c.1) in
     let k : Keeps m s e (t, r) = keeps m law s good e (t, r) (λ p. other (sym p)) ok.0 can free in
     let k' : Keeps m s (t, r) e = keeps m law s good (t, r) e other can ok.0 free' in
@@ -156,8 +180,10 @@ pull_later m law s good e run ok t r other can x j h l ih =
       ok = (k'.can, subst (λ z. IsRun m z q.rest) (sym p) q.ok);
       same_end = ap (λ z. end m z q.rest) p ∙ q.same_end;
       same_trail = λ u.
-          ap (λ z. join_if (eqb u t) (s.now u, label m s (t, r)) (join_if (eqb u e.0) ((after m s (t, r)).now u, label m (after m s (t, r)) e) (trail m z q.rest u))) p
-          ∙ join_swap (eqb u t) (eqb u e.0) (s.now u, label m s (t, r)) ((after m s e).now u, label m (after m s e) (t, r)) ((after m s (t, r)).now u, label m (after m s (t, r)) e) (s.now u, label m s e) (trail m (after m (after m s e) (t, r)) q.rest u)
+          ap (λ z. join_if (eqb u t) (s.now u, label m s (t, r))
+              (join_if (eqb u e.0) ((after m s (t, r)).now u, label m (after m s (t, r)) e) (trail m z q.rest u))) p
+          ∙ join_swap (eqb u t) (eqb u e.0) (s.now u, label m s (t, r)) ((after m s e).now u, label m (after m s e) (t, r))
+          ((after m s (t, r)).now u, label m (after m s (t, r)) e) (s.now u, label m s e) (trail m (after m (after m s e) (t, r)) q.rest u)
           (λ a b. other (sym (eqb-true u t a) ∙ eqb-true u e.0 b))
           (λ a. λ i. (subst (λ z. s.now z ≡ (after m s e).now z) (sym (eqb-true u t a)) (sym k.now_same) i, sym k.label_same i))
           (λ b. λ i. (subst (λ z. (after m s (t, r)).now z ≡ s.now z) (sym (eqb-true u e.0 b)) k'.now_same i, k'.label_same i))
@@ -165,12 +191,14 @@ pull_later m law s good e run ok t r other can x j h l ih =
     }
 
 -- A step that can be taken, and that logs what the thread's first step in the run logs, may come first.
-pub pull : {T : Type 0} (m : Machine T) → IsLawful m → (s : State T) → Good m s → (run : List Step) → IsRun m s run → (t r : ℕ) → Can m s (t, r) → (x : T) (j : Label) → At (trail m s run t) 0 (x, j) → logged j [] ≡ logged (label m s (t, r)) [] → Pulled m s run t r
+pub pull : {T : Type 0} (m : Machine T) → IsLawful m → (s : State T) → Good m s → (run : List Step) → IsRun m s run → (t r : ℕ)
+    → Can m s (t, r) → (x : T) (j : Label) → At (trail m s run t) 0 (x, j) → logged j [] ≡ logged (label m s (t, r)) [] → Pulled m s run t r
 pull m law s good [] ok t r can x j h l = absurd h
 pull m law s good (e ∷ run) ok t r can x j h l = elim (cases_eq t e.0) [
   | inl same ↦ subst (λ z. Pulled m s (e ∷ run) z r) (sym same) (pull_first m s e run ok r
       (subst (λ z. Can m s (z, r)) same can)
-      (ap (λ z. logged z.1 []) (subst (λ b. At (join_if b (s.now t, label m s e) (trail m (after m s e) run t)) 0 (x, j)) (eq-eqb t e.0 same) h) ∙ subst (λ z. logged j [] ≡ logged (label m s (z, r)) []) same l))
+      (ap (λ z. logged z.1 []) (subst (λ b. At (join_if b (s.now t, label m s e) (trail m (after m s e) run t)) 0 (x, j))
+          (eq-eqb t e.0 same) h) ∙ subst (λ z. logged j [] ≡ logged (label m s (z, r)) []) same l))
   | inr other ↦ pull_later m law s good e run ok t r other can x j
       (subst (λ b. At (join_if b (s.now t, label m s e) (trail m (after m s e) run t)) 0 (x, j)) (ne_eqb t e.0 other) h) l
       (λ c a. pull m law (after m s e) (stays_good m law s good e ok.0) run ok.1 t r c x j

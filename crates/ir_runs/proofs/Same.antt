@@ -22,26 +22,34 @@ pub now_other : {T : Type 0} (m : Machine T) (s : State T) (e : Step) (t : ℕ) 
 unfolding after
 now_other m s e t ne = upd_other s.now e.0 t _ ne
 
-pub heads : {T : Type 0} (m : Machine T) (s : State T) (run : List Step) → IsRun m s run → (t : ℕ) (x : T) (j : Label) → At (trail m s run t) 0 (x, j) → Heads m s t x j
+pub heads : {T : Type 0} (m : Machine T) (s : State T) (run : List Step) → IsRun m s run → (t : ℕ) (x : T) (j : Label)
+    → At (trail m s run t) 0 (x, j) → Heads m s t x j
 heads m s [] ok t x j h = absurd h
 heads m s (e ∷ run) ok t x j h = elim (cases_eq t e.0) [
   | inl same ↦ record {
     result = e.1;
     object = s.objects (target (act m s (t, e.1)));
     admits = subst (λ z. Can m s (z, e.1)) (sym same) ok.0;
-    tells = subst (λ z. j ≡ label m s (z, e.1)) (sym same) (sym (ap (λ z. z.1) (subst (λ b. At (join_if b (s.now t, label m s e) (trail m (after m s e) run t)) 0 (x, j)) (eq-eqb t e.0 same) h)));
+    tells = subst (λ z. j ≡ label m s (z, e.1)) (sym same)
+        (sym (ap (λ z. z.1) (subst (λ b. At (join_if b (s.now t, label m s e) (trail m (after m s e) run t)) 0 (x, j)) (eq-eqb t e.0 same)
+        h)));
   }
   | inr other ↦
-      let k : Heads m (after m s e) t x j = heads m (after m s e) run ok.1 t x j (subst (λ b. At (join_if b (s.now t, label m s e) (trail m (after m s e) run t)) 0 (x, j)) (ne_eqb t e.0 other) h) in
+      let k : Heads m (after m s e) t x j = heads m (after m s e) run ok.1 t x j
+          (subst (λ b. At (join_if b (s.now t, label m s e) (trail m (after m s e) run t)) 0 (x, j)) (ne_eqb t e.0 other) h) in
       let p : act m (after m s e) (t, k.result) ≡ act m s (t, k.result) = ap (λ z. act_of (m.ask z) k.result) (now_other m s e t other) in
-      record { result = k.result; object = k.object; admits = subst (λ z. Admits m z k.object) p k.admits; tells = k.tells ∙ ap (λ z. told z k.object) p }
+      record { result = k.result; object = k.object; admits = subst (λ z. Admits m z k.object) p k.admits; tells = k.tells
+          ∙ ap (λ z. told z k.object) p }
 ]
 
 -- where both log, the logs of one step are one
-pub agree : {T : Type 0} (m : Machine T) (q : Ask) (r r' : ℕ) (b b' : Object) (xs ys zs : List Label) → Admits m (act_of q r) b → Admits m (act_of q r') b' → logged (told (act_of q r) b) xs ++ ys ≡ logged (told (act_of q r') b') zs → logged (told (act_of q r') b') [] ≡ logged (told (act_of q r) b) []
+pub agree : {T : Type 0} (m : Machine T) (q : Ask) (r r' : ℕ) (b b' : Object) (xs ys zs : List Label) → Admits m (act_of q r) b
+    → Admits m (act_of q r') b' → logged (told (act_of q r) b) xs ++ ys ≡ logged (told (act_of q r') b') zs
+    → logged (told (act_of q r') b') [] ≡ logged (told (act_of q r) b) []
 agree m q r r' b b' xs ys zs can can' h = by_act (act_of q r) (act_of q r') (same_act m q r r' b b' xs ys zs can can' h) h
   where
-    one : (a : Act) (b b' : Object) (xs ys zs : List Label) → logged (told a b) xs ++ ys ≡ logged (told a b') zs → logged (told a b') [] ≡ logged (told a b) []
+    one : (a : Act) (b b' : Object) (xs ys zs : List Label) → logged (told a b) xs ++ ys ≡ logged (told a b') zs
+        → logged (told a b') [] ≡ logged (told a b) []
     one Silent b b' xs ys zs h = refl
     one (Refusal o) b b' xs ys zs h = refl
     one (Result k v) b b' xs ys zs h = refl
@@ -53,7 +61,8 @@ agree m q r r' b b' xs ys zs can can' h = by_act (act_of q r) (act_of q r') (sam
     one Never b b' xs ys zs h = refl
 
     by_act : (a a' : Act) → a ≡ a' → logged (told a b) xs ++ ys ≡ logged (told a' b') zs → logged (told a' b') [] ≡ logged (told a b) []
-    by_act a a' p h = subst (λ z. logged (told z b') [] ≡ logged (told a b) []) p (one a b b' xs ys zs (subst (λ z. logged (told a b) xs ++ ys ≡ logged (told z b') zs) (sym p) h))
+    by_act a a' p h = subst (λ z. logged (told z b') [] ≡ logged (told a b) []) p
+        (one a b b' xs ys zs (subst (λ z. logged (told a b) xs ++ ys ≡ logged (told z b') zs) (sym p) h))
 
 logged_tail : (k : Label) (xs ys zs : List Label) → logged k xs ++ ys ≡ logged k zs → xs ++ ys ≡ zs
 logged_tail Quiet xs ys zs h = h
@@ -62,7 +71,8 @@ logged_tail (In o a v l) xs ys zs h = cc h
 logged_tail (Refused o) xs ys zs h = cc h
 logged_tail (Out o a v) xs ys zs h = h
 
-events_join : {T : Type 0} (b : Bool) (x : T × Label) (xs ys : List (T × Label)) (zs : List Label) → events (join_if b x xs) ++ zs ≡ events (join_if b x ys) → events xs ++ zs ≡ events ys
+events_join : {T : Type 0} (b : Bool) (x : T × Label) (xs ys : List (T × Label)) (zs : List Label)
+    → events (join_if b x xs) ++ zs ≡ events (join_if b x ys) → events xs ++ zs ≡ events ys
 events_join true x xs ys zs h = logged_tail x.1 (events xs) zs (events ys) h
 events_join false x xs ys zs h = h
 
@@ -91,38 +101,48 @@ pub record Goes {T : Type 0} (m : Machine T) (s : State T) (prefix run : List St
   pub same_trail : (u : ℕ) → trail m s prefix u ++ trail m (end m s prefix) rest u ≡ trail m s run u
 
 -- what the thread's first step logs is what the step e logs
-first_logs : {T : Type 0} (m : Machine T) (s : State T) (e : Step) (prefix run : List Step) → Can m s e → IsRun m s run → (x : T) (j : Label) (xs : List (T × Label)) (ys : List Label) → trail m s run e.0 ≡ (x, j) ∷ xs
+first_logs : {T : Type 0} (m : Machine T) (s : State T) (e : Step) (prefix run : List Step) → Can m s e → IsRun m s run
+    → (x : T) (j : Label) (xs : List (T × Label)) (ys : List Label) → trail m s run e.0 ≡ (x, j) ∷ xs
     → events (trail m s (e ∷ prefix) e.0) ++ ys ≡ events (trail m s run e.0) → logged j [] ≡ logged (label m s e) []
 first_logs m s e prefix run can ok x j xs ys is h =
     let k : Heads m s e.0 x j = heads m s run ok e.0 x j (subst (λ z. At z 0 (x, j)) (sym is) refl) in
     ap (λ z. logged z []) k.tells
-    ∙ agree m (asked m s e.0) e.1 k.result (s.objects (target (act m s e))) k.object (events (trail m (after m s e) prefix e.0)) ys (events xs) can k.admits
-    (subst (λ b. events (join_if b (s.now e.0, label m s e) (trail m (after m s e) prefix e.0)) ++ ys ≡ logged (told (act m s (e.0, k.result)) k.object) (events xs)) (eq-eqb e.0 e.0 refl)
+    ∙ agree m (asked m s e.0) e.1 k.result (s.objects (target (act m s e))) k.object (events (trail m (after m s e) prefix e.0)) ys
+    (events xs) can k.admits
+    (subst (λ b. events (join_if b (s.now e.0, label m s e) (trail m (after m s e) prefix e.0)) ++ ys ≡ logged
+        (told (act m s (e.0, k.result)) k.object) (events xs)) (eq-eqb e.0 e.0 refl)
     (h ∙ ap events is ∙ ap (λ z. logged z (events xs)) k.tells))
 
-pub goes : {T : Type 0} (m : Machine T) → IsLawful m → (s : State T) → Good m s → (prefix run : List Step) → IsRun m s prefix → IsRun m s run → (left : ℕ → List Label)
+pub goes : {T : Type 0} (m : Machine T) → IsLawful m → (s : State T) → Good m s → (prefix run : List Step) → IsRun m s prefix
+    → IsRun m s run → (left : ℕ → List Label)
     → ((t : ℕ) → log m s prefix t ++ left t ≡ log m s run t) → ((t : ℕ) → count m s prefix t ≤ count m s run t) → Goes m s prefix run
 goes m law s good [] run ok ok' left logs counts = record { rest = run; ok = ok'; same_end = refl; same_trail = λ u. refl }
 goes m law s good (e ∷ prefix) run ok ok' left logs counts =
-    let c : 1 ≤ count m s run e.0 = subst (λ b. length (join_if b (s.now e.0, label m s e) (trail m (after m s e) prefix e.0)) ≤ count m s run e.0 → 1 ≤ count m s run e.0) (sym (eq-eqb e.0 e.0 refl)) (λ h. omega arith) (counts e.0) in
+    let c : 1 ≤ count m s run e.0 = subst (λ b. length (join_if b (s.now e.0, label m s e) (trail m (after m s e) prefix e.0)) ≤ count m s
+        run e.0 → 1 ≤ count m s run e.0) (sym (eq-eqb e.0 e.0 refl)) (λ h. omega arith) (counts e.0) in
     let st : Starts (trail m s run e.0) = starts (trail m s run e.0) c in
-    let p : Pulled m s run e.0 e.1 = pull m law s good run ok' e.0 e.1 ok.0 st.head.0 st.head.1 (subst (λ z. At z 0 st.head) (sym st.is) refl)
+    let p : Pulled m s run e.0 e.1 = pull m law s good run ok' e.0 e.1 ok.0 st.head.0 st.head.1
+        (subst (λ z. At z 0 st.head) (sym st.is) refl)
     (first_logs m s e prefix run ok.0 ok' st.head.0 st.head.1 st.rest (left e.0) st.is (logs e.0)) in
     let g : Goes m (after m s e) prefix p.rest = goes m law (after m s e) (stays_good m law s good e ok.0) prefix p.rest ok.1 p.ok left
-    (λ u. events_join (eqb u e.0) (s.now u, label m s e) (trail m (after m s e) prefix u) (trail m (after m s e) p.rest u) (left u) (logs u ∙ ap events (sym (p.same_trail u))))
-    (λ u. length_join (eqb u e.0) (s.now u, label m s e) (trail m (after m s e) prefix u) (trail m (after m s e) p.rest u) (subst (λ z. count m s (e ∷ prefix) u ≤ length z) (sym (p.same_trail u)) (counts u))) in
+    (λ u. events_join (eqb u e.0) (s.now u, label m s e) (trail m (after m s e) prefix u) (trail m (after m s e) p.rest u) (left u)
+        (logs u ∙ ap events (sym (p.same_trail u))))
+    (λ u. length_join (eqb u e.0) (s.now u, label m s e) (trail m (after m s e) prefix u) (trail m (after m s e) p.rest u)
+        (subst (λ z. count m s (e ∷ prefix) u ≤ length z) (sym (p.same_trail u)) (counts u))) in
     record {
       rest = g.rest;
       ok = g.ok;
       same_end = g.same_end ∙ p.same_end;
-      same_trail = λ u. join_append (eqb u e.0) (s.now u, label m s e) (trail m (after m s e) prefix u) (trail m (end m (after m s e) prefix) g.rest u)
+      same_trail = λ u. join_append (eqb u e.0) (s.now u, label m s e) (trail m (after m s e) prefix u)
+          (trail m (end m (after m s e) prefix) g.rest u)
           ∙ ap (join_if (eqb u e.0) (s.now u, label m s e)) (g.same_trail u) ∙ p.same_trail u;
     }
 
 -- a run without steps
 pub no_steps : {T : Type 0} (m : Machine T) (s : State T) (run : List Step) → ((t : ℕ) → count m s run t ≡ 0) → run ≡ []
 no_steps m s [] h = refl
-no_steps m s (e ∷ run) h = absurd (subst (λ b. length (join_if b (s.now e.0, label m s e) (trail m (after m s e) run e.0)) ≡ 0 → ⊥) (sym (eq-eqb e.0 e.0 refl)) (λ z. omega arith) (h e.0))
+no_steps m s (e ∷ run) h = absurd (subst (λ b. length (join_if b (s.now e.0, label m s e) (trail m (after m s e) run e.0)) ≡ 0 → ⊥)
+    (sym (eq-eqb e.0 e.0 refl)) (λ z. omega arith) (h e.0))
 
 -- Two runs with the same logs and numbers of steps have the same threads, labels and end.
 pub record Alike {T : Type 0} (m : Machine T) (s : State T) (run run' : List Step) : Type 0 where
@@ -133,7 +153,8 @@ pub alike : {T : Type 0} (m : Machine T) → IsLawful m → (s : State T) → Go
     → ((t : ℕ) → log m s run t ≡ log m s run' t) → ((t : ℕ) → count m s run t ≡ count m s run' t) → Alike m s run run'
 alike m law s good run run' ok ok' logs counts =
     let g : Goes m s run run' = goes m law s good run run' ok ok' (λ _. []) (λ t. append-nil _ ∙ logs t) (λ t. omega (arith, counts t)) in
-    let none : g.rest ≡ [] = no_steps m (end m s run) g.rest (λ t. omega (arith, counts t, ap length (g.same_trail t), length-append (trail m s run t) (trail m (end m s run) g.rest t))) in
+    let none : g.rest ≡ [] = no_steps m (end m s run) g.rest
+        (λ t. omega (arith, counts t, ap length (g.same_trail t), length-append (trail m s run t) (trail m (end m s run) g.rest t))) in
     record {
       same_trail = λ u. sym (append-nil _) ∙ ap (λ z. trail m s run u ++ trail m (end m s run) z u) (sym none) ∙ g.same_trail u;
       same_end = ap (end m (end m s run)) (sym none) ∙ g.same_end;

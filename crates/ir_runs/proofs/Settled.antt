@@ -19,7 +19,8 @@ use Rattle.ir_runs.specs.declared.thread_verdict.ThreadVerdict.{ThreadVerdict}
 use Rattle.ir_runs.specs.declared.thread_verdict.ThreadVerdict.TheVariants.{Same, Disagrees, Starves}
 
 -- what is logged of a step that follows suits what was asked
-suits_of : {T : Type 0} (m : Machine T) (q : Ask) (r : ℕ) (b : Object) (es : List Label) → Admits m (act_of q r) b → logged (told (act_of q r) b) (unlogged (told (act_of q r) b) es) ≡ es → Suits q es
+suits_of : {T : Type 0} (m : Machine T) (q : Ask) (r : ℕ) (b : Object) (es : List Label) → Admits m (act_of q r) b
+    → logged (told (act_of q r) b) (unlogged (told (act_of q r) b) es) ≡ es → Suits q es
 suits_of m Private r b es can h = tt
 suits_of m (Env k) r b [] can h = absurd (cc h)
 suits_of m (Env k) r b (Quiet ∷ es) can h = absurd (cc h)
@@ -58,27 +59,34 @@ suits_of m (Put o i w) r b es can h = tt
 suits_of m Done r b es can h = tt
 
 -- a step that follows is the trace's
-pub agrees_last : {T : Type 0} (m : Machine T) (s : State T) (tr : Trace) (run : List Step) (e : Step) → Last m s tr run e → AgreesNow m s tr run e.0
-agrees_last m s tr run e last = (last.left, suits_of m (asked m (end m s run) e.0) e.1 ((end m s run).objects (target (act_of (asked m (end m s run) e.0) e.1))) _ last.can last.logs, last.closes)
+pub agrees_last : {T : Type 0} (m : Machine T) (s : State T) (tr : Trace) (run : List Step) (e : Step) → Last m s tr run e
+    → AgreesNow m s tr run e.0
+agrees_last m s tr run e last = (last.left, suits_of m (asked m (end m s run) e.0) e.1
+    ((end m s run).objects (target (act_of (asked m (end m s run) e.0) e.1))) _ last.can last.logs, last.closes)
 
-stops : {T : Type 0} (m : Machine T) (s : State T) (tr : Trace) (run : List Step) (t : ℕ) (v : ThreadVerdict) → StandsAs m s tr run t v → GoesOn m s tr run t → ⊥
+stops : {T : Type 0} (m : Machine T) (s : State T) (tr : Trace) (run : List Step) (t : ℕ) (v : ThreadVerdict) → StandsAs m s tr run t v
+    → GoesOn m s tr run t → ⊥
 stops m s tr run t Same h g = not_done m (end m s run) _ (last_of m tr s run _ g).can h
 stops m s tr run t (Disagrees j k) h g = h.1 (agrees_last m s tr run _ (last_of m tr s run _ g))
 stops m s tr run t (Starves j) h g = h.2 g
 
 -- a run has gone as far as any can where each thread stands so
-pub settled : {T : Type 0} (n : ℕ) (m : Machine T) (s : State T) → IsIdle m s n → (tr : Trace) (run : List Step) → Follows (closing m tr) m s tr run → ((t : ℕ) → t < n → (v : ThreadVerdict) × StandsAs m s tr run t v) → IsMaximal (closing m tr) m s tr run
+pub settled : {T : Type 0} (n : ℕ) (m : Machine T) (s : State T) → IsIdle m s n → (tr : Trace) (run : List Step)
+    → Follows (closing m tr) m s tr run → ((t : ℕ) → t < n → (v : ThreadVerdict) × StandsAs m s tr run t v)
+    → IsMaximal (closing m tr) m s tr run
 settled n m s im tr run f stands = one_step_each m tr s run (λ t g. elim (cases_lt t n) [
   | inl l ↦ stops m s tr run t (stands t l).0 (stands t l).1 g
   | inr le ↦ not_done m (end m s run) _ (last_of m tr s run _ g).can (run_idle m s n im run f.0 t le)
 ])
 
 -- then what is said of a thread is how it stands
-pub verdict_at : {T : Type 0} (n : ℕ) (m : Machine T) → IsLawful m → (tr : Trace) → IsCoherent n tr → HoldsEvents m tr → (s : State T) → Good m s → IsStart m s → IsIdle m s n → (run : List Step) → Follows (closing m tr) m s tr run → IsMaximal (closing m tr) m s tr run
+pub verdict_at : {T : Type 0} (n : ℕ) (m : Machine T) → IsLawful m → (tr : Trace) → IsCoherent n tr → HoldsEvents m tr → (s : State T)
+    → Good m s → IsStart m s → IsIdle m s n → (run : List Step) → Follows (closing m tr) m s tr run → IsMaximal (closing m tr) m s tr run
     → (t : ℕ) (v : ThreadVerdict) → StandsAs m s tr run t v → IsVerdict m s tr run t v
 verdict_at n m law tr co ev s good st im run f top t Same h = h
 verdict_at n m law tr co ev s good st im run f top t (Disagrees j k) h = h
-verdict_at n m law tr co ev s good st im run f top t (Starves j) h = starving (judged n m law tr co ev s good st im run f top t).0 (judged n m law tr co ev s good st im run f top t).1
+verdict_at n m law tr co ev s good st im run f top t (Starves j) h =
+    starving (judged n m law tr co ev s good st im run f top t).0 (judged n m law tr co ev s good st im run f top t).1
   where
     starving : (v : ThreadVerdict) → IsVerdict m s tr run t v → IsVerdict m s tr run t (Starves j)
     starving Same g = absurd (h.0 g)
@@ -86,11 +94,13 @@ verdict_at n m law tr co ev s good st im run f top t (Starves j) h = starving (j
     starving (Starves i) g = (h.0, h.1, g.2, g.3, h.3)
 
 -- a thread that isn't the same has a step left
-pub goes_on : {T : Type 0} (m : Machine T) (s : State T) (tr : Trace) (run : List Step) (t : ℕ) (v : ThreadVerdict) → StandsAs m s tr run t v → v ≢ Same → asked m (end m s run) t ≢ Done
+pub goes_on : {T : Type 0} (m : Machine T) (s : State T) (tr : Trace) (run : List Step) (t : ℕ) (v : ThreadVerdict)
+    → StandsAs m s tr run t v → v ≢ Same → asked m (end m s run) t ≢ Done
 goes_on m s tr run t Same h ne = absurd (ne refl)
 goes_on m s tr run t (Disagrees j k) h ne = h.0
 goes_on m s tr run t (Starves j) h ne = h.0
 
 -- where each of the n threads is the same, all are done
-pub all_done : {T : Type 0} (n : ℕ) (m : Machine T) (s : State T) → IsIdle m s n → (tr : Trace) (run : List Step) → Follows (closing m tr) m s tr run → ((t : ℕ) → t < n → StandsAs m s tr run t Same) → IsDone m (end m s run)
+pub all_done : {T : Type 0} (n : ℕ) (m : Machine T) (s : State T) → IsIdle m s n → (tr : Trace) (run : List Step)
+    → Follows (closing m tr) m s tr run → ((t : ℕ) → t < n → StandsAs m s tr run t Same) → IsDone m (end m s run)
 all_done n m s im tr run f same t = elim (cases_lt t n) [ inl l ↦ same t l | inr le ↦ run_idle m s n im run f.0 t le ]

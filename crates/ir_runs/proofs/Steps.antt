@@ -9,11 +9,14 @@ use Rattle.ir_runs.specs.Run.{act, State, moved, Step, Can, after, label}
 use Rattle.ir_runs.proofs.Good.{Inside, Good, inside_now}
 use Rattle.ir_runs.proofs.Swap.{upd_comm, upd_upd, Clash, Commutes, swap1}
 
-tables : {A : Type 0} (f : ℕ → A) (o p : ℕ) (F G : A → A) → (p ≡ o → G (F (f o)) ≡ F (G (f o))) → upd (upd f o (F (f o))) p (G (upd f o (F (f o)) p)) ≡ upd (upd f p (G (f p))) o (F (upd f p (G (f p)) o))
+tables : {A : Type 0} (f : ℕ → A) (o p : ℕ) (F G : A → A) → (p ≡ o → G (F (f o)) ≡ F (G (f o)))
+    → upd (upd f o (F (f o))) p (G (upd f o (F (f o)) p)) ≡ upd (upd f p (G (f p))) o (F (upd f p (G (f p)) o))
 tables f o p F G h = elim (cases_eq p o) [
   | inl e ↦ subst (λ z. upd (upd f o (F (f o))) z (G (upd f o (F (f o)) z)) ≡ upd (upd f z (G (f z))) o (F (upd f z (G (f z)) o))) (sym e)
-      (upd_upd f o _ _ ∙ ap (λ z. upd f o (G z)) (upd_same f o _) ∙ ap (upd f o) (h e) ∙ ap (λ z. upd f o (F z)) (sym (upd_same f o _)) ∙ sym (upd_upd f o _ _))
-  | inr ne ↦ ap (λ z. upd (upd f o (F (f o))) p (G z)) (upd_other f o p _ ne) ∙ upd_comm f o p _ _ (λ e. ne (sym e)) ∙ ap (λ z. upd (upd f p (G (f p))) o (F z)) (sym (upd_other f p o _ (λ e. ne (sym e))))
+      (upd_upd f o _ _ ∙ ap (λ z. upd f o (G z)) (upd_same f o _) ∙ ap (upd f o) (h e) ∙ ap (λ z. upd f o (F z)) (sym (upd_same f o _))
+          ∙ sym (upd_upd f o _ _))
+  | inr ne ↦ ap (λ z. upd (upd f o (F (f o))) p (G z)) (upd_other f o p _ ne) ∙ upd_comm f o p _ _ (λ e. ne (sym e))
+      ∙ ap (λ z. upd (upd f p (G (f p))) o (F z)) (sym (upd_other f p o _ (λ e. ne (sym e))))
 ]
 
 -- both enter one object, and one of them for writing
@@ -28,18 +31,22 @@ pub record Keeps {T : Type 0} (m : Machine T) (s : State T) (e e' : Step) : Type
   pub reply_same : reply (act m s e') ((after m s e).objects (target (act m s e'))) ≡ reply (act m s e') (s.objects (target (act m s e')))
 
 -- the object that q' is about, where another changes the one that q is about
-pub sees : {T : Type 0} (m : Machine T) (f : ℕ → Object) (o : ℕ) (F : Object → Object) (u : ℕ) (q : Act) → Admits m q (f (target q)) → (target q ≡ o → Commutes m (f o) F u q)
-    → Admits m q (upd f o (F (f o)) (target q)) × (told q (upd f o (F (f o)) (target q)) ≡ told q (f (target q))) × (reply q (upd f o (F (f o)) (target q)) ≡ reply q (f (target q)))
+pub sees : {T : Type 0} (m : Machine T) (f : ℕ → Object) (o : ℕ) (F : Object → Object) (u : ℕ) (q : Act) → Admits m q (f (target q))
+    → (target q ≡ o → Commutes m (f o) F u q)
+    → Admits m q (upd f o (F (f o)) (target q)) × (told q (upd f o (F (f o)) (target q)) ≡ told q (f (target q)))
+    × (reply q (upd f o (F (f o)) (target q)) ≡ reply q (f (target q)))
 sees m f o F u q h same = elim (cases_eq (target q) o) [
   | inl e ↦ let c : Commutes m (f o) F u q = same e in
       let p : upd f o (F (f o)) (target q) ≡ F (f o) = ap (upd f o (F (f o))) e ∙ upd_same f o _ in
-      (subst (Admits m q) (sym p) c.admits, ap (told q) p ∙ c.told_same ∙ ap (λ z. told q (f z)) (sym e), ap (reply q) p ∙ c.reply_same ∙ ap (λ z. reply q (f z)) (sym e))
+      (subst (Admits m q) (sym p) c.admits, ap (told q) p ∙ c.told_same ∙ ap (λ z. told q (f z)) (sym e), ap (reply q) p ∙ c.reply_same
+          ∙ ap (λ z. reply q (f z)) (sym e))
   | inr ne ↦ let p : upd f o (F (f o)) (target q) ≡ f (target q) = upd_other f o (target q) _ ne in
       (subst (Admits m q) (sym p) h, ap (told q) p, ap (reply q) p)
 ]
 
 -- the object facts at the state s
-commutes_at : {T : Type 0} (m : Machine T) → IsLawful m → (s : State T) → Good m s → (e e' : Step) → e.0 ≢ e'.0 → Can m s e → Can m s e' → (Clashes m s e e' → ⊥)
+commutes_at : {T : Type 0} (m : Machine T) → IsLawful m → (s : State T) → Good m s → (e e' : Step) → e.0 ≢ e'.0 → Can m s e → Can m s e'
+    → (Clashes m s e e' → ⊥)
     → target (act m s e') ≡ target (act m s e) → Commutes m (s.objects (target (act m s e))) (acted (act m s e) e.0) e'.0 (act m s e')
 commutes_at m law s good e e' ne can can' free p =
     swap1 m (s.objects (target (act m s e))) (good.exclusive _) e.0 e'.0 ne (act m s e) (act m s e')
@@ -49,7 +56,8 @@ commutes_at m law s good e e' ne can can' free p =
     (subst (λ o. Admits m (act m s e') (s.objects o)) p can')
     (λ c. free (p, c))
 
-pub keeps : {T : Type 0} (m : Machine T) → IsLawful m → (s : State T) → Good m s → (e e' : Step) → e.0 ≢ e'.0 → Can m s e → Can m s e' → (Clashes m s e e' → ⊥) → Keeps m s e e'
+pub keeps : {T : Type 0} (m : Machine T) → IsLawful m → (s : State T) → Good m s → (e e' : Step) → e.0 ≢ e'.0 → Can m s e → Can m s e'
+    → (Clashes m s e e' → ⊥) → Keeps m s e e'
 unfolding after
 keeps m law s good e e' ne can can' free =
     let x = s.now e.0 in let q : Act = act m s e in
@@ -65,7 +73,8 @@ keeps m law s good e e' ne can can' free =
 same_state : {T : Type 0} (s s' : State T) → s.now ≡ s'.now → s.objects ≡ s'.objects → s ≡ s'
 same_state s s' p q = λ i. record { now = p i; objects = q i }
 
-pub commute : {T : Type 0} (m : Machine T) → IsLawful m → (s : State T) → Good m s → (e e' : Step) → e.0 ≢ e'.0 → Can m s e → Can m s e' → (Clashes m s e e' → ⊥) → (Clashes m s e' e → ⊥)
+pub commute : {T : Type 0} (m : Machine T) → IsLawful m → (s : State T) → Good m s → (e e' : Step) → e.0 ≢ e'.0 → Can m s e → Can m s e'
+    → (Clashes m s e e' → ⊥) → (Clashes m s e' e → ⊥)
     → after m (after m s e) e' ≡ after m (after m s e') e
 unfolding after
 commute m law s good e e' ne can can' free free' =

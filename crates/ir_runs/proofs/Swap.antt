@@ -40,7 +40,8 @@ idle : {T : Type 0} (m : Machine T) (b : Object) (u : ℕ) (q : Act) → Admits 
 idle m b u q h = record { admits = h; told_same = refl; reply_same = refl; order = refl }
 
 -- beside one that is alone inside there are only asks about nothing
-alone : {T : Type 0} (m : Machine T) (b : Object) (f : Object → Object) (u : ℕ) (q : Act) → b.inside u ≡ None → Inside q (b.inside u) → Admits m q b → (IsEntry q → ⊥) → Commutes m b f u q
+alone : {T : Type 0} (m : Machine T) (b : Object) (f : Object → Object) (u : ℕ) (q : Act) → b.inside u ≡ None → Inside q (b.inside u)
+    → Admits m q b → (IsEntry q → ⊥) → Commutes m b f u q
 alone m b f u Silent none i h free = record { admits = tt; told_same = refl; reply_same = refl; order = refl }
 alone m b f u (Refusal _) none i h free = record { admits = tt; told_same = refl; reply_same = refl; order = refl }
 alone m b f u (Result k res) none i h free = record { admits = h; told_same = refl; reply_same = refl; order = refl }
@@ -76,15 +77,18 @@ left_reading : (b : Object) (t : ℕ) → ((u : ℕ) → b.inside u ≢ Some Wri
 unfolding upd
 left_reading b t h u = grind (arith, nat_tests, h u)
 
-pub swap1 : {T : Type 0} (m : Machine T) (b : Object) (ex : Exclusive b) (t u : ℕ) → t ≢ u → (q q' : Act) → Inside q (b.inside t) → Inside q' (b.inside u) → Admits m q b → Admits m q' b → (Clash q q' → ⊥) → Commutes m b (acted q t) u q'
+pub swap1 : {T : Type 0} (m : Machine T) (b : Object) (ex : Exclusive b) (t u : ℕ) → t ≢ u → (q q' : Act) → Inside q (b.inside t)
+    → Inside q' (b.inside u) → Admits m q b → Admits m q' b → (Clash q q' → ⊥) → Commutes m b (acted q t) u q'
 swap1 m b ex t u ne Silent q' i i' h h' free = idle m b u q' h'
 swap1 m b ex t u ne (Refusal _) q' i i' h h' free = idle m b u q' h'
 swap1 m b ex t u ne (Result k res) q' i i' h h' free = idle m b u q' h'
 swap1 m b ex t u ne (Load o j) q' i i' h h' free = idle m b u q' h'
 swap1 m b ex t u ne Never q' i i' h h' free = absurd h
 swap1 m b ex t u ne (Store o j w) q' i i' h h' free = alone m b (acted (Store o j w) t) u q' (ex t u ne i) i' h' (no_entry m b t q' i h')
-swap1 m b ex t u ne (Exit o Writing) q' i i' h h' free = alone m b (acted (Exit o Writing) t) u q' (ex t u ne i) i' h' (no_entry m b t q' i h')
-swap1 m b ex t u ne (Entry o Writing ans) q' i i' h h' free = alone m b (acted (Entry o Writing ans) t) u q' (h u) i' h' (entry_clash q' free)
+swap1 m b ex t u ne (Exit o Writing) q' i i' h h' free =
+    alone m b (acted (Exit o Writing) t) u q' (ex t u ne i) i' h' (no_entry m b t q' i h')
+swap1 m b ex t u ne (Entry o Writing ans) q' i i' h h' free =
+    alone m b (acted (Entry o Writing ans) t) u q' (h u) i' h' (entry_clash q' free)
   where
     entry_clash : (q' : Act) → (Clash (Entry o Writing ans) q' → ⊥) → IsEntry q' → ⊥
     entry_clash (Entry p a ans') free e = free tt
@@ -97,13 +101,17 @@ swap1 m b ex t u ne (Entry o Writing ans) q' i i' h h' free = alone m b (acted (
     entry_clash Never free e = e
 swap1 m b ex t u ne (Entry o Reading ans) q' i i' h h' free = enter_read q' i' h' free
   where
-    enter_read : (q' : Act) → Inside q' (b.inside u) → Admits m q' b → (Clash (Entry o Reading ans) q' → ⊥) → Commutes m b (acted (Entry o Reading ans) t) u q'
+    enter_read : (q' : Act) → Inside q' (b.inside u) → Admits m q' b → (Clash (Entry o Reading ans) q' → ⊥)
+        → Commutes m b (acted (Entry o Reading ans) t) u q'
     enter_read Silent i' h' free = record { admits = tt; told_same = refl; reply_same = refl; order = refl }
     enter_read (Refusal _) i' h' free = record { admits = tt; told_same = refl; reply_same = refl; order = refl }
     enter_read (Result k res) i' h' free = record { admits = h'; told_same = refl; reply_same = refl; order = refl }
-    enter_read (Entry p Reading ans') i' h' free = record { admits = entered_reading b t h'; told_same = refl; reply_same = refl; order = some_path _ _ refl refl (upd_comm b.inside t u _ _ ne) refl }
+    enter_read (Entry p Reading ans') i' h' free =
+        record { admits = entered_reading b t h'; told_same = refl; reply_same = refl; order =
+        some_path _ _ refl refl (upd_comm b.inside t u _ _ ne) refl }
     enter_read (Entry p Writing ans') i' h' free = absurd (free tt)
-    enter_read (Exit p Reading) i' h' free = record { admits = tt; told_same = refl; reply_same = refl; order = some_path _ _ refl refl (upd_comm b.inside t u _ _ ne) refl }
+    enter_read (Exit p Reading) i' h' free = record { admits = tt; told_same = refl; reply_same = refl; order =
+        some_path _ _ refl refl (upd_comm b.inside t u _ _ ne) refl }
     enter_read (Exit p Writing) i' h' free = absurd (h u i')
     enter_read (Load p j) i' h' free = record { admits = tt; told_same = refl; reply_same = refl; order = refl }
     enter_read (Store p j w) i' h' free = absurd (h u i')
@@ -114,9 +122,11 @@ swap1 m b ex t u ne (Exit o Reading) q' i i' h h' free = leave_read q' i' h'
     leave_read Silent i' h' = record { admits = tt; told_same = refl; reply_same = refl; order = refl }
     leave_read (Refusal _) i' h' = record { admits = tt; told_same = refl; reply_same = refl; order = refl }
     leave_read (Result k res) i' h' = record { admits = h'; told_same = refl; reply_same = refl; order = refl }
-    leave_read (Entry p Reading ans') i' h' = record { admits = left_reading b t h'; told_same = refl; reply_same = refl; order = some_path _ _ refl refl (upd_comm b.inside t u _ _ ne) refl }
+    leave_read (Entry p Reading ans') i' h' = record { admits = left_reading b t h'; told_same = refl; reply_same = refl; order =
+        some_path _ _ refl refl (upd_comm b.inside t u _ _ ne) refl }
     leave_read (Entry p Writing ans') i' h' = absurd (cc (i, h' t))
-    leave_read (Exit p Reading) i' h' = record { admits = tt; told_same = refl; reply_same = refl; order = some_path _ _ refl refl (upd_comm b.inside t u _ _ ne) refl }
+    leave_read (Exit p Reading) i' h' = record { admits = tt; told_same = refl; reply_same = refl; order =
+        some_path _ _ refl refl (upd_comm b.inside t u _ _ ne) refl }
     leave_read (Exit p Writing) i' h' = absurd (cc (ex u t (λ e. ne (sym e)) i', i))
     leave_read (Load p j) i' h' = record { admits = tt; told_same = refl; reply_same = refl; order = refl }
     leave_read (Store p j w) i' h' = absurd (cc (ex u t (λ e. ne (sym e)) i', i))

@@ -11,7 +11,8 @@ turns_run m s (t ∷ order) run (inl none) = turns_run m s order run none.1
 turns_run m s (t ∷ order) run (inr some) = subst (IsRun m s) (sym some.2) (some.3, turns_run m (after m s (t, some.0)) order some.1 some.4)
 
 -- turns, and then others
-pub turns_append : {T : Type 0} (m : Machine T) (s : State T) (order more : List ℕ) (run rest : List Step) → InTurn m s order run → InTurn m (end m s run) more rest → InTurn m s (order ++ more) (run ++ rest)
+pub turns_append : {T : Type 0} (m : Machine T) (s : State T) (order more : List ℕ) (run rest : List Step) → InTurn m s order run
+    → InTurn m (end m s run) more rest → InTurn m s (order ++ more) (run ++ rest)
 turns_append m s [] more run rest e h = subst (λ z. InTurn m s more (z ++ rest)) (sym e) (subst (λ z. InTurn m (end m s z) more rest) e h)
 turns_append m s (t ∷ order) more run rest (inl none) h = inl (none.0, turns_append m s order more run rest none.1 h)
 turns_append m s (t ∷ order) more run rest (inr some) h = inr (
@@ -23,9 +24,12 @@ turns_append m s (t ∷ order) more run rest (inr some) h = inr (
 )
 
 -- an entry more: a step of its thread
-pub turn_taken : {T : Type 0} (m : Machine T) (s : State T) (order : List ℕ) (run : List Step) (t r : ℕ) → InTurn m s order run → Can m (end m s run) (t, r) → InTurn m s (order ++ t ∷ []) (run ++ (t, r) ∷ [])
+pub turn_taken : {T : Type 0} (m : Machine T) (s : State T) (order : List ℕ) (run : List Step) (t r : ℕ) → InTurn m s order run
+    → Can m (end m s run) (t, r) → InTurn m s (order ++ t ∷ []) (run ++ (t, r) ∷ [])
 turn_taken m s order run t r h can = turns_append m s order (t ∷ []) run ((t, r) ∷ []) h (inr (r, [], refl, can, refl))
 
 -- an entry more, of a thread that has no step
-pub turn_skipped : {T : Type 0} (m : Machine T) (s : State T) (order : List ℕ) (run : List Step) (t : ℕ) → InTurn m s order run → HasNone m (end m s run) t → InTurn m s (order ++ t ∷ []) run
-turn_skipped m s order run t h none = subst (InTurn m s (order ++ t ∷ [])) (append-nil run) (turns_append m s order (t ∷ []) run [] h (inl (none, refl)))
+pub turn_skipped : {T : Type 0} (m : Machine T) (s : State T) (order : List ℕ) (run : List Step) (t : ℕ) → InTurn m s order run
+    → HasNone m (end m s run) t → InTurn m s (order ++ t ∷ []) run
+turn_skipped m s order run t h none = subst (InTurn m s (order ++ t ∷ [])) (append-nil run)
+    (turns_append m s order (t ∷ []) run [] h (inl (none, refl)))

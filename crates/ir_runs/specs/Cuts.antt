@@ -16,7 +16,8 @@ At (y ∷ ys) (suc k) x = At ys k x
 abbrev pub Tells : {T : Type 0} → Machine T → State T → List Step → ℕ → ℕ → Label → Type 0
 Tells {T} m s run t k told = (x : T) × At (trail m s run t) k (x, told)
 
--- what tells the second needs what tells the first: an entry needs the writer's leave that made its version, an entry for writing each reader's leave of its version
+-- what tells the second needs what tells the first: an entry needs the writer's leave that made its version, an entry for writing each
+-- reader's leave of its version
 abbrev pub Needs : Label → Label → Type 0
 Needs (Out o Writing w) (In p a v l) = (o ≡ p) × (v ≡ suc w)
 Needs (Out o Reading w) (In p Writing v l) = (o ≡ p) × (v ≡ w)
@@ -56,9 +57,11 @@ further p t u = cond (eqb u t) (suc (p u)) (p u)
 abbrev pub Admitted : {T : Type 0} → Machine T → State T → List Step → Cut → ℕ → Type 0
 Admitted m s run p t = (p t < count m s run t) × Consistent m s run (further p t)
 
--- the part of the run in a consistent cut is a run, at whose end each thread is as it was at its position, and a step of a thread that is admitted leads to the cut one further
+-- the part of the run in a consistent cut is a run, at whose end each thread is as it was at its position, and a step of a thread that is
+-- admitted leads to the cut one further
 pub record AtCut {T : Type 0} (m : Machine T) (s : State T) (run : List Step) (p : Cut) : Type 0 where
   pub runs : IsRun m s (part run p)
   pub threads : (t : ℕ) → (end m s (part run p)).now t ≡ th m s run t (p t)
-  pub steps : (t : ℕ) → Admitted m s run p t → (r : ℕ) × Can m (end m s (part run p)) (t, r) × (after m (end m s (part run p)) (t, r) ≡ end m s (part run (further p t)))
+  pub steps : (t : ℕ) → Admitted m s run p t → (r : ℕ) × Can m (end m s (part run p)) (t, r)
+      × (after m (end m s (part run p)) (t, r) ≡ end m s (part run (further p t)))
       × Tells m s run t (p t) (label m (end m s (part run p)) (t, r))

@@ -4,7 +4,8 @@ use Rattle.ir_runs.specs.Machine.{Machine}
 use Rattle.ir_runs.specs.Labels.{Label, Quiet, Answer, In, Refused, Out, logged, Trace}
 use Rattle.ir_runs.specs.Run.{State, Step, IsRun, trail, events}
 
--- what a step of one thread needs of the trace beside its event, as where it ends: by the thread before it and by the steps and the log that are left
+-- what a step of one thread needs of the trace beside its event, as where it ends: by the thread before it and by the steps and the log
+-- that are left
 abbrev pub Check : Type 0 → Type 1
 Check T = T → ℕ → List Label → Type 0
 

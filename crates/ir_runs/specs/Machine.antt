@@ -39,7 +39,8 @@ act_of (Get o i) r = Load o i
 act_of (Put o i w) r = Store o i w
 act_of Done r = Never
 
--- a thread's machine, where T is the state of a thread: what it asks, the thread after a reply, what it holds, which results suit a call of the environment, its end and code once it has ended, and how many objects it holds
+-- a thread's machine, where T is the state of a thread: what it asks, the thread after a reply, what it holds, which results suit a call of
+-- the environment, its end and code once it has ended, and how many objects it holds
 pub record Machine (T : Type 0) : Type 0 where
   pub ask : T → Ask
   pub take : T → ℕ → T
@@ -81,7 +82,9 @@ pub record IsLawful {T : Type 0} (m : Machine T) : Type 0 where
 
 -- a machine that ends by a private step, then leaves what it holds, one object a step, and then is done
 pub record IsClosing {T : Type 0} (m : Machine T) : Type 0 where
-  pub ends : (x : T) (r : ℕ) (e : ℕ × ℕ) → m.ended x ≡ None → m.ended (m.take x r) ≡ Some e → (m.ask x ≡ Private) × (m.size (m.take x r) ≡ m.size x)
+  pub ends : (x : T) (r : ℕ) (e : ℕ × ℕ) → m.ended x ≡ None → m.ended (m.take x r) ≡ Some e → (m.ask x ≡ Private)
+      × (m.size (m.take x r) ≡ m.size x)
   pub stays : (x : T) (r : ℕ) (e : ℕ × ℕ) → m.ended x ≡ Some e → m.ended (m.take x r) ≡ Some e
-  pub leaves : (x : T) (r : ℕ) (e : ℕ × ℕ) → m.ended x ≡ Some e → m.ask x ≢ Done → (o : ℕ) × (a : Access) × (m.ask x ≡ Leave o a) × (m.size x ≡ suc (m.size (m.take x r)))
+  pub leaves : (x : T) (r : ℕ) (e : ℕ × ℕ) → m.ended x ≡ Some e → m.ask x ≢ Done → (o : ℕ) × (a : Access) × (m.ask x ≡ Leave o a)
+      × (m.size x ≡ suc (m.size (m.take x r)))
   pub done : (x : T) → m.ask x ≡ Done → (e : ℕ × ℕ) × (m.ended x ≡ Some e) × (m.size x ≡ 0)

@@ -27,5 +27,7 @@ AgreesNow m s tr run t = Agrees m (tr.ends t) ((end m s run).now t) (steps_over 
 -- thread t has no further step that follows: it is done, its next step isn't the trace's, or it is and can't be taken now
 abbrev pub StandsAs : {T : Type 0} → Machine T → State T → Trace → List Step → ℕ → ThreadVerdict → Type 0
 StandsAs m s tr run t Same = asked m (end m s run) t ≡ Done
-StandsAs m s tr run t (Disagrees j h) = (asked m (end m s run) t ≢ Done) × (AgreesNow m s tr run t → ⊥) × (j ≡ length (log m s run t)) × (h ≡ count m s run t)
-StandsAs m s tr run t (Starves j) = (asked m (end m s run) t ≢ Done) × AgreesNow m s tr run t × (GoesOn m s tr run t → ⊥) × (j ≡ length (log m s run t))
+StandsAs m s tr run t (Disagrees j h) = (asked m (end m s run) t ≢ Done) × (AgreesNow m s tr run t → ⊥) × (j ≡ length (log m s run t))
+    × (h ≡ count m s run t)
+StandsAs m s tr run t (Starves j) = (asked m (end m s run) t ≢ Done) × AgreesNow m s tr run t × (GoesOn m s tr run t → ⊥)
+    × (j ≡ length (log m s run t))

@@ -24,7 +24,8 @@ Suits (Get o i) es = Unit {0}
 Suits (Put o i w) es = Unit {0}
 Suits Done es = Unit {0}
 
--- the next step of a thread that isn't done doesn't disagree, where n steps and the log es are left: its position is below the trace's steps, its event suits, and if it ends, then as the trace says
+-- the next step of a thread that isn't done doesn't disagree, where n steps and the log es are left: its position is below the trace's
+-- steps, its event suits, and if it ends, then as the trace says
 abbrev pub Agrees : {T : Type 0} → Machine T → Option (ℕ × ℕ) → T → ℕ → List Label → Type 0
 Agrees m fin x n es = (0 < n) × Suits (m.ask x) es × Meets (ends_now m x) fin (m.size x) n es
 
@@ -46,7 +47,8 @@ NoneTakes m s tr t k = (run : List Step) → Follows (closing m tr) m s tr run �
 
 -- the verdict on thread t at the end of this run, a maximal one that follows the trace
 abbrev pub IsVerdict : {T : Type 0} → Machine T → State T → Trace → List Step → ℕ → ThreadVerdict → Type 0
-IsVerdict m s tr run t v = Judged m (tr.ends t) (NoneTakes m s tr t (count m s run t)) ((end m s run).now t) (left_steps (trail m s run t) (tr.steps t)) (left_log (trail m s run t) (tr.logs t)) (length (log m s run t)) (count m s run t) v
+IsVerdict m s tr run t v = Judged m (tr.ends t) (NoneTakes m s tr t (count m s run t)) ((end m s run).now t)
+    (left_steps (trail m s run t) (tr.steps t)) (left_log (trail m s run t) (tr.logs t)) (length (log m s run t)) (count m s run t) v
 
 -- what a trace may hold: results that fit, entries and refused tries
 abbrev pub IsEvent : {T : Type 0} → Machine T → Label → Type 0

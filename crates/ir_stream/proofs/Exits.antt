@@ -17,7 +17,8 @@ use Rattle.ir_stream.proofs.Replies.{prefix_after, answered-append, answered-nil
 use Rattle.ir_stream.proofs.Hearing.{consumed_any, leads_quit, leads_end, leads_long}
 
 -- after these bytes: what is left, what was written, the machine and the line that has begun
-pub record At {S : Type 0} (R : Replying S) (quits : List ℕ → Bool) (s0 : S) (input w0 left written : Option (List ℕ)) (s : S) (line : List ℕ) (n : ℕ) : Type 0 where
+pub record At {S : Type 0} (R : Replying S) (quits : List ℕ → Bool) (s0 : S) (input w0 left written : Option (List ℕ)) (s : S)
+    (line : List ℕ) (n : ℕ) : Type 0 where
   pub bytes : List ℕ
   pub count : length bytes ≡ n
   pub parts : Consumes input left bytes
@@ -28,19 +29,25 @@ pub record At {S : Type 0} (R : Replying S) (quits : List ℕ → Bool) (s0 : S)
   pub quiet : some_quits quits (cut bytes).whole ≡ false
 
 -- the line and the count under other names
-pub at_other : {S : Type 0} (R : Replying S) (quits : List ℕ → Bool) (s0 : S) (input w0 left written : Option (List ℕ)) (s : S) (line line' : List ℕ) (n n' : ℕ)
+pub at_other : {S : Type 0} (R : Replying S) (quits : List ℕ → Bool) (s0 : S) (input w0 left written : Option (List ℕ)) (s : S)
+    (line line' : List ℕ) (n n' : ℕ)
     → At R quits s0 input w0 left written s line n → line' ≡ line → n ≡ n' → At R quits s0 input w0 left written s line' n'
-at_other R quits s0 input w0 left written s line line' n n' at e f = record { bytes = at.bytes; count = at.count ∙ f; parts = at.parts; text = at.text; answered = at.answered; grown = at.grown; begun = e ∙ at.begun; quiet = at.quiet }
+at_other R quits s0 input w0 left written s line line' n n' at e f =
+    record { bytes = at.bytes; count = at.count ∙ f; parts = at.parts; text = at.text; answered = at.answered; grown = at.grown; begun = e
+    ∙ at.begun; quiet = at.quiet }
 
-module _ {S : Type 0} (R : Replying S) (quits : List ℕ → Bool) (long_replies : (s : S) (line text : List ℕ) (next : S) → R s (take 1025 line) text next → R s line text next)
+module _ {S : Type 0} (R : Replying S) (quits : List ℕ → Bool)
+    (long_replies : (s : S) (line text : List ℕ) (next : S) → R s (take 1025 line) text next → R s line text next)
     (long_quits : (line : List ℕ) → quits (take 1025 line) ≡ quits line) (s0 : S) (input w0 : Option (List ℕ)) where
   pub at_start : At R quits s0 input w0 input w0 s0 [] 0
   unfolding cut
-  at_start = record { bytes = []; count = refl; parts = Consumes-nil input; text = []; answered = answered-nil R s0; grown = Appends-nil w0; begun = refl; quiet = some_quits-nil quits }
+  at_start = record { bytes = []; count = refl; parts = Consumes-nil input; text = []; answered = answered-nil R s0; grown =
+      Appends-nil w0; begun = refl; quiet = some_quits-nil quits }
 
   module _ (left left' written : Option (List ℕ)) (s : S) (line : List ℕ) (n : ℕ) (at : At R quits s0 input w0 left written s line n) where
     -- a byte that is no line feed
-    pub at_byte : (line' : List ℕ) (b : ℕ) → Consumes left left' (b ∷ []) → eqb b 10 ≡ false → line' ≡ take 1025 (line ++ b ∷ []) → At R quits s0 input w0 left' written s line' (n + 1)
+    pub at_byte : (line' : List ℕ) (b : ℕ) → Consumes left left' (b ∷ []) → eqb b 10 ≡ false → line' ≡ take 1025 (line ++ b ∷ [])
+        → At R quits s0 input w0 left' written s line' (n + 1)
     at_byte line' b took ne kept =
         let k = cut-other at.bytes b ne in
         let P : Cut → Type 0 = λ c. Answered R s0 c.whole at.text s in
@@ -51,29 +58,38 @@ module _ {S : Type 0} (R : Replying S) (quits : List ℕ → Bool) (long_replies
           text = at.text;
           answered = subst P (sym k) at.answered;
           grown = at.grown;
-          begun = kept ∙ ap (λ (r : List ℕ). take 1025 (r ++ b ∷ [])) at.begun ∙ take-again 1025 (cut at.bytes).rest (b ∷ []) ∙ ap (λ (c : Cut). take 1025 c.rest) (sym k);
+          begun = kept ∙ ap (λ (r : List ℕ). take 1025 (r ++ b ∷ [])) at.begun ∙ take-again 1025 (cut at.bytes).rest (b ∷ [])
+              ∙ ap (λ (c : Cut). take 1025 c.rest) (sym k);
           quiet = ap (λ (c : Cut). some_quits quits c.whole) k ∙ at.quiet;
         }
 
     -- the whole line may be answered as what was kept of it
     whole_reply : (text : List ℕ) (next : S) → R s line text next → R s (cut at.bytes).rest text next
-    whole_reply text next is = let P : List ℕ → Type 0 = λ l. R s l text next in long_replies s (cut at.bytes).rest text next (subst P at.begun is)
+    whole_reply text next is = let P : List ℕ → Type 0 = λ l. R s l text next in
+        long_replies s (cut at.bytes).rest text next (subst P at.begun is)
 
     same_quits : quits line ≡ quits (cut at.bytes).rest
     same_quits = ap quits at.begun ∙ long_quits (cut at.bytes).rest
 
     -- the answers with that to the line whose line feed comes
-    fed : (text : List ℕ) (next : S) → R s line text next → Answered R s0 ((cut at.bytes).whole ++ (cut at.bytes).rest ∷ []) (at.text ++ text) next
-    fed text next is = answered-append R s0 (cut at.bytes).whole ((cut at.bytes).rest ∷ []) at.text text s next at.answered (answered-one R s (cut at.bytes).rest text next (whole_reply text next is))
+    fed : (text : List ℕ) (next : S) → R s line text next
+        → Answered R s0 ((cut at.bytes).whole ++ (cut at.bytes).rest ∷ []) (at.text ++ text) next
+    fed text next is = answered-append R s0 (cut at.bytes).whole ((cut at.bytes).rest ∷ []) at.text text s next at.answered
+        (answered-one R s (cut at.bytes).rest text next (whole_reply text next is))
 
-    fed_wrote : (next : S) (written' : Option (List ℕ)) → Replied R s line next written written' → Wrote R s0 ((cut at.bytes).whole ++ (cut at.bytes).rest ∷ []) w0 written'
-    fed_wrote next written' p = record { text = at.text ++ p.text; last = next; answered = fed p.text next p.is; grown = Appends-trans w0 written written' at.text p.text at.grown p.grown }
+    fed_wrote : (next : S) (written' : Option (List ℕ)) → Replied R s line next written written'
+        → Wrote R s0 ((cut at.bytes).whole ++ (cut at.bytes).rest ∷ []) w0 written'
+    fed_wrote next written' p = record { text = at.text ++ p.text; last = next; answered = fed p.text next p.is; grown =
+        Appends-trans w0 written written' at.text p.text at.grown p.grown }
 
-    fed_prefix : (written' : Option (List ℕ)) → RepliedPrefix R s line written written' → WrotePrefix R s0 ((cut at.bytes).whole ++ (cut at.bytes).rest ∷ []) w0 written'
-    fed_prefix written' p = record { text = at.text ++ p.text; last = p.next; answered = fed p.text p.next p.is; grown = prefix_after w0 written written' at.text p.text at.grown p.grown }
+    fed_prefix : (written' : Option (List ℕ)) → RepliedPrefix R s line written written'
+        → WrotePrefix R s0 ((cut at.bytes).whole ++ (cut at.bytes).rest ∷ []) w0 written'
+    fed_prefix written' p = record { text = at.text ++ p.text; last = p.next; answered = fed p.text p.next p.is; grown =
+        prefix_after w0 written written' at.text p.text at.grown p.grown }
 
     -- a line feed, whose line was answered and doesn't quit
-    pub at_feed : (written' : Option (List ℕ)) (s' : S) → Consumes left left' (10 ∷ []) → Replied R s line s' written written' → quits line ≡ false → At R quits s0 input w0 left' written' s' [] (n + 1)
+    pub at_feed : (written' : Option (List ℕ)) (s' : S) → Consumes left left' (10 ∷ []) → Replied R s line s' written written'
+        → quits line ≡ false → At R quits s0 input w0 left' written' s' [] (n + 1)
     unfolding cut
     at_feed written' s' took p q =
         let k = cut-feed at.bytes [] in
@@ -86,7 +102,9 @@ module _ {S : Type 0} (R : Replying S) (quits : List ℕ → Bool) (long_replies
           answered = subst P (sym k) (fed p.text s' p.is);
           grown = Appends-trans w0 written written' at.text p.text at.grown p.grown;
           begun = ap (λ (c : Cut). take 1025 c.rest) (sym k);
-          quiet = ap (λ (c : Cut). some_quits quits c.whole) k ∙ some_quits-append quits (cut at.bytes).whole ((cut at.bytes).rest ∷ []) at.quiet ∙ some_quits-one quits (cut at.bytes).rest ∙ sym same_quits ∙ q;
+          quiet = ap (λ (c : Cut). some_quits quits c.whole) k
+              ∙ some_quits-append quits (cut at.bytes).whole ((cut at.bytes).rest ∷ []) at.quiet ∙ some_quits-one quits (cut at.bytes).rest
+              ∙ sym same_quits ∙ q;
         }
 
     module _ (limit : ℕ) (below : n < limit) where
@@ -94,7 +112,8 @@ module _ {S : Type 0} (R : Replying S) (quits : List ℕ → Bool) (long_replies
       short = omega (arith, at.count)
 
       -- a line feed, whose line was answered and quits
-      pub quit_ended : (next : S) (written' : Option (List ℕ)) → Consumes left left' (10 ∷ []) → Replied R s line next written written' → quits line ≡ true → Reads limit input left' (LeadsTo R quits s0 limit (Ok Quit) w0 written')
+      pub quit_ended : (next : S) (written' : Option (List ℕ)) → Consumes left left' (10 ∷ []) → Replied R s line next written written'
+          → quits line ≡ true → Reads limit input left' (LeadsTo R quits s0 limit (Ok Quit) w0 written')
       quit_ended next written' took p q = record {
         consumed = at.bytes ++ 10 ∷ [];
         taken = Consumes-trans input left left' at.bytes (10 ∷ []) at.parts took;
@@ -102,17 +121,22 @@ module _ {S : Type 0} (R : Replying S) (quits : List ℕ → Bool) (long_replies
         holds = leads_quit R quits s0 limit w0 written' at.bytes at.quiet [] short (sym same_quits ∙ q) (fed_wrote next written' p);
       }
 
-      pub quit_known : (next : S) (written' : Option (List ℕ)) → Consumes left left' (10 ∷ []) → Replied R s line next written written' → quits line ≡ true → IfSome input (LeadsTo R quits s0 limit (Ok Quit) w0 written')
-      quit_known next written' took p q = consumed_any input left' (at.bytes ++ 10 ∷ []) (LeadsTo R quits s0 limit (Ok Quit) w0 written') (Consumes-trans input left left' at.bytes (10 ∷ []) at.parts took)
-          (λ (r : List ℕ). subst (LeadsTo R quits s0 limit (Ok Quit) w0 written') (sym (append_assoc at.bytes (10 ∷ []) r)) (leads_quit R quits s0 limit w0 written' at.bytes at.quiet r short (sym same_quits ∙ q) (fed_wrote next written' p)))
+      pub quit_known : (next : S) (written' : Option (List ℕ)) → Consumes left left' (10 ∷ []) → Replied R s line next written written'
+          → quits line ≡ true → IfSome input (LeadsTo R quits s0 limit (Ok Quit) w0 written')
+      quit_known next written' took p q = consumed_any input left' (at.bytes ++ 10 ∷ []) (LeadsTo R quits s0 limit (Ok Quit) w0 written')
+          (Consumes-trans input left left' at.bytes (10 ∷ []) at.parts took)
+          (λ (r : List ℕ). subst (LeadsTo R quits s0 limit (Ok Quit) w0 written') (sym (append_assoc at.bytes (10 ∷ []) r))
+              (leads_quit R quits s0 limit w0 written' at.bytes at.quiet r short (sym same_quits ∙ q) (fed_wrote next written' p)))
 
       -- the writer failed in the answer to a line whose line feed came
       pub feed_failed : (written' : Option (List ℕ)) → Consumes left left' (10 ∷ []) → RepliedPrefix R s line written written'
-          → Reads limit input left' (λ consumed. (through quits (lines_of consumed) ≡ lines_of consumed) × (((cut consumed).rest ≡ [] → ⊥) → IsAtEnd left') × WrotePrefix R s0 (lines_of consumed) w0 written')
+          → Reads limit input left' (λ consumed. (through quits (lines_of consumed) ≡ lines_of consumed)
+          × (((cut consumed).rest ≡ [] → ⊥) → IsAtEnd left') × WrotePrefix R s0 (lines_of consumed) w0 written')
       unfolding cut
       feed_failed written' took p =
           let k = cut-feed at.bytes [] in
-          let lines : lines_of (at.bytes ++ 10 ∷ []) ≡ (cut at.bytes).whole ++ (cut at.bytes).rest ∷ [] = ap (λ (c : Cut). c.whole ++ last_line c.rest) k ∙ append-nil ((cut at.bytes).whole ++ (cut at.bytes).rest ∷ []) in
+          let lines : lines_of (at.bytes ++ 10 ∷ []) ≡ (cut at.bytes).whole ++ (cut at.bytes).rest ∷ [] =
+              ap (λ (c : Cut). c.whole ++ last_line c.rest) k ∙ append-nil ((cut at.bytes).whole ++ (cut at.bytes).rest ∷ []) in
           let none : (cut (at.bytes ++ 10 ∷ [])).rest ≡ [] = ap (λ (c : Cut). c.rest) k in
           let P : List (List ℕ) → Type 0 = λ x. WrotePrefix R s0 x w0 written' in
           record {
@@ -120,14 +144,16 @@ module _ {S : Type 0} (R : Replying S) (quits : List ℕ → Bool) (long_replies
             taken = Consumes-trans input left left' at.bytes (10 ∷ []) at.parts took;
             within = omega (arith, length-append at.bytes (10 ∷ []), at.count);
             holds = (
-              ap (through quits) lines ∙ through-append quits (cut at.bytes).whole ((cut at.bytes).rest ∷ []) at.quiet ∙ ap (λ (t : List (List ℕ)). (cut at.bytes).whole ++ t) (through-one quits (cut at.bytes).rest) ∙ sym lines,
+              ap (through quits) lines ∙ through-append quits (cut at.bytes).whole ((cut at.bytes).rest ∷ []) at.quiet
+                  ∙ ap (λ (t : List (List ℕ)). (cut at.bytes).whole ++ t) (through-one quits (cut at.bytes).rest) ∙ sym lines,
               λ some. absurd (some none),
               subst P (sym lines) (fed_prefix written' p),
             );
           }
 
       -- the reader failed
-      pub read_failed : Keeps left left' → Reads limit input left' (λ consumed. (some_quits quits (cut consumed).whole ≡ false) × Wrote R s0 (cut consumed).whole w0 written)
+      pub read_failed : Keeps left left' → Reads limit input left'
+          (λ consumed. (some_quits quits (cut consumed).whole ≡ false) × Wrote R s0 (cut consumed).whole w0 written)
       read_failed kept = record {
         consumed = at.bytes;
         taken = Consumes-kept input left left' at.bytes at.parts kept;
@@ -136,70 +162,90 @@ module _ {S : Type 0} (R : Replying S) (quits : List ℕ → Bool) (long_replies
       }
 
       last_quits : some_quits quits (last_line line) ≡ some_quits quits (last_line (cut at.bytes).rest)
-      last_quits = ap (λ (l : List ℕ). some_quits quits (last_line l)) at.begun ∙ some_quits_prefix quits 1024 (cut at.bytes).rest long_quits
+      last_quits = ap (λ (l : List ℕ). some_quits quits (last_line l)) at.begun
+          ∙ some_quits_prefix quits 1024 (cut at.bytes).rest long_quits
 
       -- the answers with that to what the input ended in
       all : (text : List ℕ) (last : S) → Answered R s (last_line line) text last → Answered R s0 (lines_of at.bytes) (at.text ++ text) last
       all text last done =
           let P : List ℕ → Type 0 = λ l. Answered R s (last_line l) text last in
-          answered-append R s0 (cut at.bytes).whole (last_line (cut at.bytes).rest) at.text text s last at.answered (answered_prefix R long_replies s (cut at.bytes).rest text last (subst P at.begun done))
+          answered-append R s0 (cut at.bytes).whole (last_line (cut at.bytes).rest) at.text text s last at.answered
+              (answered_prefix R long_replies s (cut at.bytes).rest text last (subst P at.begun done))
 
       all_wrote : (written' : Option (List ℕ)) → Wrote R s (last_line line) written written' → Wrote R s0 (lines_of at.bytes) w0 written'
-      all_wrote written' p = record { text = at.text ++ p.text; last = p.last; answered = all p.text p.last p.answered; grown = Appends-trans w0 written written' at.text p.text at.grown p.grown }
+      all_wrote written' p = record { text = at.text ++ p.text; last = p.last; answered = all p.text p.last p.answered; grown =
+          Appends-trans w0 written written' at.text p.text at.grown p.grown }
 
-      all_prefix : (written' : Option (List ℕ)) → WrotePrefix R s (last_line line) written written' → WrotePrefix R s0 (lines_of at.bytes) w0 written'
-      all_prefix written' p = record { text = at.text ++ p.text; last = p.last; answered = all p.text p.last p.answered; grown = prefix_after w0 written written' at.text p.text at.grown p.grown }
+      all_prefix : (written' : Option (List ℕ)) → WrotePrefix R s (last_line line) written written'
+          → WrotePrefix R s0 (lines_of at.bytes) w0 written'
+      all_prefix written' p = record { text = at.text ++ p.text; last = p.last; answered = all p.text p.last p.answered; grown =
+          prefix_after w0 written written' at.text p.text at.grown p.grown }
 
       module _ (took : Consumes left left' []) where
         ended_bytes : Consumes input left' at.bytes
         ended_bytes = subst (Consumes input left') (append-nil at.bytes) (Consumes-trans input left left' at.bytes [] at.parts took)
 
         -- the input ended, and what it ended in was answered
-        end_leads : (e : Served) (written' : Option (List ℕ)) → Wrote R s (last_line line) written written' → e ≡ served_after (some_quits quits (last_line line)) → LeadsTo R quits s0 limit (Ok e) w0 written' at.bytes
-        end_leads e written' p served = leads_end R quits s0 limit w0 written' at.bytes at.quiet e short (served ∙ ap served_after last_quits) (all_wrote written' p)
+        end_leads : (e : Served) (written' : Option (List ℕ)) → Wrote R s (last_line line) written written'
+            → e ≡ served_after (some_quits quits (last_line line)) → LeadsTo R quits s0 limit (Ok e) w0 written' at.bytes
+        end_leads e written' p served = leads_end R quits s0 limit w0 written' at.bytes at.quiet e short
+            (served ∙ ap served_after last_quits) (all_wrote written' p)
 
-        pub end_ended : (e : Served) (written' : Option (List ℕ)) → Wrote R s (last_line line) written written' → e ≡ served_after (some_quits quits (last_line line)) → Reads limit input left' (LeadsTo R quits s0 limit (Ok e) w0 written')
-        end_ended e written' p served = record { consumed = at.bytes; taken = ended_bytes; within = omega (arith, at.count); holds = end_leads e written' p served }
+        pub end_ended : (e : Served) (written' : Option (List ℕ)) → Wrote R s (last_line line) written written'
+            → e ≡ served_after (some_quits quits (last_line line)) → Reads limit input left' (LeadsTo R quits s0 limit (Ok e) w0 written')
+        end_ended e written' p served = record { consumed = at.bytes; taken = ended_bytes; within = omega (arith, at.count); holds =
+            end_leads e written' p served }
 
-        pub end_known : (e : Served) (written' : Option (List ℕ)) → IsAtEnd left' → Wrote R s (last_line line) written written' → e ≡ served_after (some_quits quits (last_line line)) → IfSome input (LeadsTo R quits s0 limit (Ok e) w0 written')
-        end_known e written' gone p served = Consumes-whole input left' at.bytes (LeadsTo R quits s0 limit (Ok e) w0 written') ended_bytes gone (end_leads e written' p served)
+        pub end_known : (e : Served) (written' : Option (List ℕ)) → IsAtEnd left' → Wrote R s (last_line line) written written'
+            → e ≡ served_after (some_quits quits (last_line line)) → IfSome input (LeadsTo R quits s0 limit (Ok e) w0 written')
+        end_known e written' gone p served = Consumes-whole input left' at.bytes (LeadsTo R quits s0 limit (Ok e) w0 written') ended_bytes
+            gone (end_leads e written' p served)
 
         -- the writer failed in the answer to what the input ended in
         pub end_failed : (written' : Option (List ℕ)) → IsAtEnd left' → WrotePrefix R s (last_line line) written written'
-            → Reads limit input left' (λ consumed. (through quits (lines_of consumed) ≡ lines_of consumed) × (((cut consumed).rest ≡ [] → ⊥) → IsAtEnd left') × WrotePrefix R s0 (lines_of consumed) w0 written')
+            → Reads limit input left' (λ consumed. (through quits (lines_of consumed) ≡ lines_of consumed)
+            × (((cut consumed).rest ≡ [] → ⊥) → IsAtEnd left') × WrotePrefix R s0 (lines_of consumed) w0 written')
         end_failed written' gone p = record {
           consumed = at.bytes;
           taken = ended_bytes;
           within = omega (arith, at.count);
           holds = (
-            through-append quits (cut at.bytes).whole (last_line (cut at.bytes).rest) at.quiet ∙ ap (λ (t : List (List ℕ)). (cut at.bytes).whole ++ t) (through-last quits (cut at.bytes).rest),
+            through-append quits (cut at.bytes).whole (last_line (cut at.bytes).rest) at.quiet
+                ∙ ap (λ (t : List (List ℕ)). (cut at.bytes).whole ++ t) (through-last quits (cut at.bytes).rest),
             λ _. gone,
             all_prefix written' p,
           );
         }
 
         -- what finishing answered
-        pub finish_ended : (result : Result Served Fault) (written' : Option (List ℕ)) → OnOk result (Wrote R s (last_line line) written written') → IfOk result (λ e. e ≡ served_after (some_quits quits (last_line line)))
+        pub finish_ended : (result : Result Served Fault) (written' : Option (List ℕ))
+            → OnOk result (Wrote R s (last_line line) written written')
+            → IfOk result (λ e. e ≡ served_after (some_quits quits (last_line line)))
             → IfErr result (λ f. f ≡ Write) → IfEnded result (Reads limit input left' (LeadsTo R quits s0 limit result w0 written'))
         finish_ended (Ok e) written' p served fault = end_ended e written' p served
         finish_ended (Err Read) written' p served fault = tt
         finish_ended (Err Write) written' p served fault = tt
         finish_ended (Err TooLong) written' p served fault = absurd cc
 
-        pub finish_known : (result : Result Served Fault) (written' : Option (List ℕ)) → IsAtEnd left' → OnOk result (Wrote R s (last_line line) written written') → IfOk result (λ e. e ≡ served_after (some_quits quits (last_line line)))
+        pub finish_known : (result : Result Served Fault) (written' : Option (List ℕ)) → IsAtEnd left'
+            → OnOk result (Wrote R s (last_line line) written written')
+            → IfOk result (λ e. e ≡ served_after (some_quits quits (last_line line)))
             → IfErr result (λ f. f ≡ Write) → IfEnded result (IfSome input (LeadsTo R quits s0 limit result w0 written'))
         finish_known (Ok e) written' gone p served fault = end_known e written' gone p served
         finish_known (Err Read) written' gone p served fault = tt
         finish_known (Err Write) written' gone p served fault = tt
         finish_known (Err TooLong) written' gone p served fault = absurd cc
 
-        pub finish_failed : (result : Result Served Fault) (written' : Option (List ℕ)) → IsAtEnd left' → result ≡ Err Write → OnErr result (WrotePrefix R s (last_line line) written written')
-            → Reads limit input left' (λ consumed. (through quits (lines_of consumed) ≡ lines_of consumed) × (((cut consumed).rest ≡ [] → ⊥) → IsAtEnd left') × WrotePrefix R s0 (lines_of consumed) w0 written')
+        pub finish_failed : (result : Result Served Fault) (written' : Option (List ℕ)) → IsAtEnd left' → result ≡ Err Write
+            → OnErr result (WrotePrefix R s (last_line line) written written')
+            → Reads limit input left' (λ consumed. (through quits (lines_of consumed) ≡ lines_of consumed)
+            × (((cut consumed).rest ≡ [] → ⊥) → IsAtEnd left') × WrotePrefix R s0 (lines_of consumed) w0 written')
         finish_failed (Ok e) written' gone failed p = absurd cc
         finish_failed (Err x) written' gone failed p = end_failed written' gone p
 
   -- the limit came
-  module _ (left written : Option (List ℕ)) (s : S) (line : List ℕ) (limit : ℕ) (at : At R quits s0 input w0 left written s line limit) where
+  module _ (left written : Option (List ℕ)) (s : S) (line : List ℕ) (limit : ℕ)
+      (at : At R quits s0 input w0 left written s line limit) where
     so_far : Wrote R s0 (cut at.bytes).whole w0 written
     so_far = record { text = at.text; last = s; answered = at.answered; grown = at.grown }
 
@@ -208,8 +254,10 @@ module _ {S : Type 0} (R : Replying S) (quits : List ℕ → Bool) (long_replies
       consumed = at.bytes;
       taken = at.parts;
       within = omega (arith, at.count);
-      holds = subst (LeadsTo R quits s0 limit (Err TooLong) w0 written) (append-nil at.bytes) (leads_long R quits s0 limit w0 written at.bytes at.quiet [] at.count so_far);
+      holds = subst (LeadsTo R quits s0 limit (Err TooLong) w0 written) (append-nil at.bytes)
+          (leads_long R quits s0 limit w0 written at.bytes at.quiet [] at.count so_far);
     }
 
     pub long_known : IfSome input (LeadsTo R quits s0 limit (Err TooLong) w0 written)
-    long_known = consumed_any input left at.bytes (LeadsTo R quits s0 limit (Err TooLong) w0 written) at.parts (λ (r : List ℕ). leads_long R quits s0 limit w0 written at.bytes at.quiet r at.count so_far)
+    long_known = consumed_any input left at.bytes (LeadsTo R quits s0 limit (Err TooLong) w0 written) at.parts
+        (λ (r : List ℕ). leads_long R quits s0 limit w0 written at.bytes at.quiet r at.count so_far)

@@ -9,7 +9,8 @@ use Rattle.ir_stream.specs.Devices.{AppendsPrefix}
 use Rattle.ir_stream.specs.Answers.{Replying, Answered, Wrote, WrotePrefix, Replied, RepliedPrefix, through, some_quits}
 
 -- a prefix of the next text is one of all that was written
-pub prefix_after : (a b c : Option (List ℕ)) (done text : List ℕ) → Appends a b done → AppendsPrefix b c text → AppendsPrefix a c (done ++ text)
+pub prefix_after : (a b c : Option (List ℕ)) (done text : List ℕ) → Appends a b done → AppendsPrefix b c text
+    → AppendsPrefix a c (done ++ text)
 prefix_after a b c done text wrote f = record {
   part = done ++ f.part;
   more = f.more;
@@ -18,7 +19,8 @@ prefix_after a b c done text wrote f = record {
 }
 
 -- the answers to lines, and then to others
-pub answered-append : {S : Type 0} (R : Replying S) (s : S) (ls ms : List (List ℕ)) (t u : List ℕ) (m last : S) → Answered R s ls t m → Answered R m ms u last → Answered R s (ls ++ ms) (t ++ u) last
+pub answered-append : {S : Type 0} (R : Replying S) (s : S) (ls ms : List (List ℕ)) (t u : List ℕ) (m last : S) → Answered R s ls t m
+    → Answered R m ms u last → Answered R s (ls ++ ms) (t ++ u) last
 unfolding Answered
 answered-append {S} R s [] ms t u m last done more =
     let P : S → Type 0 = λ x. Answered R x ms (t ++ u) last in
@@ -49,15 +51,20 @@ wrote_none R s [] w e = record { text = []; last = s; answered = answered-nil R 
 wrote_none R s (b ∷ r) w e = absurd cc
 
 -- any other has that of one line
-pub wrote_some : {S : Type 0} (R : Replying S) (s next : S) (r : List ℕ) (old new : Option (List ℕ)) → (r ≡ [] → ⊥) → Replied R s r next old new → Wrote R s (last_line r) old new
+pub wrote_some : {S : Type 0} (R : Replying S) (s next : S) (r : List ℕ) (old new : Option (List ℕ)) → (r ≡ [] → ⊥)
+    → Replied R s r next old new → Wrote R s (last_line r) old new
 wrote_some R s next [] old new some p = absurd (some refl)
-wrote_some R s next (b ∷ r) old new some p = record { text = p.text; last = next; answered = answered-one R s (b ∷ r) p.text next p.is; grown = p.grown }
+wrote_some R s next (b ∷ r) old new some p = record { text = p.text; last = next; answered =
+    answered-one R s (b ∷ r) p.text next p.is; grown = p.grown }
 
-pub prefix_some : {S : Type 0} (R : Replying S) (s : S) (r : List ℕ) (old new : Option (List ℕ)) → (r ≡ [] → ⊥) → RepliedPrefix R s r old new → WrotePrefix R s (last_line r) old new
+pub prefix_some : {S : Type 0} (R : Replying S) (s : S) (r : List ℕ) (old new : Option (List ℕ)) → (r ≡ [] → ⊥)
+    → RepliedPrefix R s r old new → WrotePrefix R s (last_line r) old new
 prefix_some R s [] old new some p = absurd (some refl)
-prefix_some R s (b ∷ r) old new some p = record { text = p.text; last = p.next; answered = answered-one R s (b ∷ r) p.text p.next p.is; grown = p.grown }
+prefix_some R s (b ∷ r) old new some p = record { text = p.text; last = p.next; answered =
+    answered-one R s (b ∷ r) p.text p.next p.is; grown = p.grown }
 
-one_prefix : {S : Type 0} (R : Replying S) (long : (s : S) (line text : List ℕ) (next : S) → R s (take 1025 line) text next → R s line text next)
+one_prefix : {S : Type 0} (R : Replying S) (long : (s : S) (line text : List ℕ) (next : S) → R s (take 1025 line) text next
+    → R s line text next)
     → (s : S) (l k text : List ℕ) (last : S) → l ≡ take 1025 k → Answered R s (l ∷ []) text last → Answered R s (k ∷ []) text last
 unfolding Answered
 one_prefix {S} R long s l k text last e (first, next, rest, is, done, f) =
@@ -65,7 +72,8 @@ one_prefix {S} R long s l k text last e (first, next, rest, is, done, f) =
     (first, next, rest, long s k first next (subst P e is), done, f)
 
 -- of the last line, too, only a prefix matters
-pub answered_prefix : {S : Type 0} (R : Replying S) (long : (s : S) (line text : List ℕ) (next : S) → R s (take 1025 line) text next → R s line text next)
+pub answered_prefix : {S : Type 0} (R : Replying S)
+    (long : (s : S) (line text : List ℕ) (next : S) → R s (take 1025 line) text next → R s line text next)
     → (s : S) (r text : List ℕ) (last : S) → Answered R s (last_line (take 1025 r)) text last → Answered R s (last_line r) text last
 answered_prefix R long s [] text last p = p
 answered_prefix R long s (b ∷ r) text last p = one_prefix R long s (take 1025 (b ∷ r)) (b ∷ r) text last refl p
@@ -75,10 +83,12 @@ some_by true x y z h k = absurd cc
 some_by false x y z h k = k h
 
 -- after lines of which none quits
-pub some_quits-append : (quits : List ℕ → Bool) (ls ms : List (List ℕ)) → some_quits quits ls ≡ false → some_quits quits (ls ++ ms) ≡ some_quits quits ms
+pub some_quits-append : (quits : List ℕ → Bool) (ls ms : List (List ℕ)) → some_quits quits ls ≡ false
+    → some_quits quits (ls ++ ms) ≡ some_quits quits ms
 unfolding some_quits
 some_quits-append quits [] ms h = refl
-some_quits-append quits (l ∷ ls) ms h = some_by (quits l) (some_quits quits ls) (some_quits quits (ls ++ ms)) (some_quits quits ms) h (some_quits-append quits ls ms)
+some_quits-append quits (l ∷ ls) ms h = some_by (quits l) (some_quits quits ls) (some_quits quits (ls ++ ms)) (some_quits quits ms) h
+    (some_quits-append quits ls ms)
 
 one_by : (b : Bool) → cond b true false ≡ b
 one_by true = refl
@@ -100,10 +110,12 @@ through_by : (b x : Bool) (l : List ℕ) (t u : List (List ℕ)) → cond b true
 through_by true x l t u h k = absurd cc
 through_by false x l t u h k = ap (λ (r : List (List ℕ)). l ∷ r) (k h)
 
-pub through-append : (quits : List ℕ → Bool) (ls ms : List (List ℕ)) → some_quits quits ls ≡ false → through quits (ls ++ ms) ≡ ls ++ through quits ms
+pub through-append : (quits : List ℕ → Bool) (ls ms : List (List ℕ)) → some_quits quits ls ≡ false
+    → through quits (ls ++ ms) ≡ ls ++ through quits ms
 unfolding some_quits through
 through-append quits [] ms h = refl
-through-append quits (l ∷ ls) ms h = through_by (quits l) (some_quits quits ls) l (through quits (ls ++ ms)) (ls ++ through quits ms) h (through-append quits ls ms)
+through-append quits (l ∷ ls) ms h = through_by (quits l) (some_quits quits ls) l (through quits (ls ++ ms)) (ls ++ through quits ms) h
+    (through-append quits ls ms)
 
 pub through-nil : (quits : List ℕ → Bool) → through quits [] ≡ []
 unfolding through
@@ -126,9 +138,11 @@ through-last quits [] = through-nil quits
 through-last quits (b ∷ r) = through-one quits (b ∷ r)
 
 pub through-none : (quits : List ℕ → Bool) (ls : List (List ℕ)) → some_quits quits ls ≡ false → through quits ls ≡ ls
-through-none quits ls h = ap (through quits) (sym (append-nil ls)) ∙ through-append quits ls [] h ∙ ap (λ (r : List (List ℕ)). ls ++ r) (through-nil quits) ∙ append-nil ls
+through-none quits ls h = ap (through quits) (sym (append-nil ls)) ∙ through-append quits ls [] h
+    ∙ ap (λ (r : List (List ℕ)). ls ++ r) (through-nil quits) ∙ append-nil ls
 
-pub some_quits_prefix : (quits : List ℕ → Bool) (m : ℕ) (r : List ℕ) → ((line : List ℕ) → quits (take (suc m) line) ≡ quits line) → some_quits quits (last_line (take (suc m) r)) ≡ some_quits quits (last_line r)
+pub some_quits_prefix : (quits : List ℕ → Bool) (m : ℕ) (r : List ℕ) → ((line : List ℕ) → quits (take (suc m) line) ≡ quits line)
+    → some_quits quits (last_line (take (suc m) r)) ≡ some_quits quits (last_line r)
 some_quits_prefix quits m [] h = refl
 some_quits_prefix quits m (b ∷ r) h = some_quits-one quits (b ∷ take m r) ∙ h (b ∷ r) ∙ sym (some_quits-one quits (b ∷ r))
 

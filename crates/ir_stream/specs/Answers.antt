@@ -11,7 +11,8 @@ Replying S = S → List ℕ → List ℕ → S → Type 0
 -- the machine may answer the lines in turn, with a state between any two, by texts that are joined to this one, and is then the second
 unfoldable pub Answered : {S : Type 0} → Replying S → S → List (List ℕ) → List ℕ → S → Type 0
 Answered R s [] text last = (text ≡ []) × (last ≡ s)
-Answered {S} R s (l ∷ ls) text last = (first : List ℕ) × (next : S) × (rest : List ℕ) × R s l first next × Answered R next ls rest last × (text ≡ first ++ rest)
+Answered {S} R s (l ∷ ls) text last = (first : List ℕ) × (next : S) × (rest : List ℕ) × R s l first next × Answered R next ls rest last
+    × (text ≡ first ++ rest)
 
 -- the machine answered the lines, and the writer took the answers
 pub record Wrote {S : Type 0} (R : Replying S) (s : S) (lines : List (List ℕ)) (old new : Option (List ℕ)) : Type 0 where

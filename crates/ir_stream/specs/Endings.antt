@@ -23,7 +23,8 @@ served_after false = InputEnd
 
 -- how a session over the input ends where no device fails
 abbrev pub ends : (List ℕ → Bool) → ℕ → List ℕ → Result Served Fault
-ends quits limit input = if some_quits quits (heard limit input) then Ok Quit else if nat_lt (length input) limit then Ok InputEnd else Err TooLong
+ends quits limit input = if some_quits quits (heard limit input) then Ok Quit else if nat_lt (length input) limit then Ok InputEnd else Err
+    TooLong
 
 -- unless a device failed
 abbrev pub IfEnded : Result Served Fault → Type 0 → Type 0
@@ -33,6 +34,7 @@ IfEnded (Err Write) P = ⊤
 IfEnded (Err TooLong) P = P
 
 -- the input leads to this result, and the writer took the answers to the lines that count
-pub record LeadsTo {S : Type 0} (R : Replying S) (quits : List ℕ → Bool) (s : S) (limit : ℕ) (result : Result Served Fault) (old new : Option (List ℕ)) (input : List ℕ) : Type 0 where
+pub record LeadsTo {S : Type 0} (R : Replying S) (quits : List ℕ → Bool) (s : S) (limit : ℕ) (result : Result Served Fault)
+    (old new : Option (List ℕ)) (input : List ℕ) : Type 0 where
   pub ending : result ≡ ends quits limit input
   pub wrote : Wrote R s (through quits (heard limit input)) old new

@@ -10,8 +10,10 @@ use Rattle.ir_fit.specs.Fit.{IsRunOf}
 use Rattle.ir_runs.specs.Verdicts.{IsWhole}
 
 -- what is told of a run is its trace, under the budget that is told
-pub told_whole : (guest : Guest) (budget : ℕ) (run : List Step) (trace : Recorded) → IsTraceOf guest budget run trace → IsRunOf guest trace run
+pub told_whole : (guest : Guest) (budget : ℕ) (run : List Step) (trace : Recorded) → IsTraceOf guest budget run trace
+    → IsRunOf guest trace run
 told_whole guest budget run trace told = (
   record { threads = told.threads; objects = told.objects },
-  subst (λ b. IsWhole (machine (start_flat guest b)) (tables (start_flat guest b)) (length guest.entries) (trace_of trace) run) (sym told.limit) told.whole,
+  subst (λ b. IsWhole (machine (start_flat guest b)) (tables (start_flat guest b)) (length guest.entries) (trace_of trace) run)
+      (sym told.limit) told.whole,
 )

@@ -15,12 +15,14 @@ HasTrace guest trace = (run : List Step) × IsRunOf guest trace run
 
 -- what is recorded of some run is a run's trace
 abbrev pub RecordingsFit : Type 0
-RecordingsFit = (guest : Guest) (budget : ℕ) (before : List (List Answered)) (trace : Recorded) (outputs : List (List ℕ)) (answers : List (List Answered))
+RecordingsFit = (guest : Guest) (budget : ℕ) (before : List (List Answered)) (trace : Recorded) (outputs : List (List ℕ))
+    (answers : List (List Answered))
     → IsRecordingOfSome guest budget before trace outputs answers → HasTrace guest trace
 
 -- so is what is recorded of the run by an order
 abbrev pub OrdersFit : Type 0
-OrdersFit = (guest : Guest) (budget : ℕ) (order : List ℕ) (before : List (List Answered)) (trace : Recorded) (outputs : List (List ℕ)) (answers : List (List Answered))
+OrdersFit = (guest : Guest) (budget : ℕ) (order : List ℕ) (before : List (List Answered)) (trace : Recorded) (outputs : List (List ℕ))
+    (answers : List (List Answered))
     → IsRecording guest budget order before trace outputs answers → HasTrace guest trace
 
 -- where a run has the trace, judging it gives up for want of memory alone

@@ -27,7 +27,9 @@ reply_alone (End x) r vs e = go_alone r vs e
 reply_alone Done r vs e = absurd e
 
 pub alone : (code : List ℕ) (s : State) (replies : List Reply) → AllSuit code s replies
-    → lone_run code (length replies) (record { thread = s; values = values_of replies }) ≡ Some (record { thread = after_replies code s replies; values = [] })
+    → lone_run code (length replies) (record { thread = s; values = values_of replies }) ≡ Some
+    (record { thread = after_replies code s replies; values = [] })
 alone code s [] ok = refl
 alone code s (r ∷ rs) ok =
-    ap (λ next. option_and_then (lone_run code (length rs)) (lone_after code s next)) (reply_alone (ask_of code s) r (values_of rs) ok.0) ∙ alone code (after_reply code s r) rs ok.1
+    ap (λ next. option_and_then (lone_run code (length rs)) (lone_after code s next)) (reply_alone (ask_of code s) r (values_of rs) ok.0)
+        ∙ alone code (after_reply code s r) rs ok.1

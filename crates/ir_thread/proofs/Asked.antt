@@ -54,14 +54,16 @@ leaves s runs = tested s (is_object s (a0 s)) _ end.NoSuchObject runs.lives (λ 
 gets : (s : State) → IsRunning s → Permits s (get_ask s)
 gets s runs = tested s (has_word s) _ end.NoSuchObject runs.lives (λ here. by (both _ _ here) (held_at s.held (a0 s)) refl)
   where
-    by : (is_object s (a0 s) ≡ true) × (nat_lt (a1 s) words_each ≡ true) → (h : Option Access) → held_at s.held (a0 s) ≡ h → Permits s (get_held (a0 s) (a1 s) h)
+    by : (is_object s (a0 s) ≡ true) × (nat_lt (a1 s) words_each ≡ true) → (h : Option Access) → held_at s.held (a0 s) ≡ h
+        → Permits s (get_held (a0 s) (a1 s) h)
     by p None e = runs.lives
     by p (Some access) e = (runs, less _ _ p.0, less _ _ p.1, λ none. cc (e, none))
 
 puts : (s : State) → IsRunning s → Permits s (put_ask s)
 puts s runs = tested s (has_word s) _ end.NoSuchObject runs.lives (λ here. by (both _ _ here) (held_at s.held (a0 s)) refl)
   where
-    by : (is_object s (a0 s) ≡ true) × (nat_lt (a1 s) words_each ≡ true) → (h : Option Access) → held_at s.held (a0 s) ≡ h → Permits s (put_held (a0 s) (a1 s) (a2 s) h)
+    by : (is_object s (a0 s) ≡ true) × (nat_lt (a1 s) words_each ≡ true) → (h : Option Access) → held_at s.held (a0 s) ≡ h
+        → Permits s (put_held (a0 s) (a1 s) (a2 s) h)
     by p None e = runs.lives
     by p (Some Reading) e = runs.lives
     by p (Some Writing) e = (runs, less _ _ p.0, less _ _ p.1, e)
@@ -92,8 +94,10 @@ ask_permits code s = by s.ended refl
   where
     by : (e : Option End) → s.ended ≡ e → Permits s (ask_by code e s)
     by (Some e) is = gives_back s (highest s.held) refl (λ none. cc (is, none))
-    by None is = cond_both (nat_le s.budget s.steps) (ask.End end.BudgetSpent) (outcome_ask (outcome_of code s.core) s) (Permits s) (λ _. is)
-        (λ more. goes_on s (outcome_of code s.core) (record { lives = is; has_budget = let l : s.steps < s.budget = grind (arith, nat_tests) in l }))
+    by None is = cond_both (nat_le s.budget s.steps) (ask.End end.BudgetSpent) (outcome_ask (outcome_of code s.core) s) (Permits s)
+        (λ _. is)
+        (λ more. goes_on s (outcome_of code s.core)
+            (record { lives = is; has_budget = let l : s.steps < s.budget = grind (arith, nat_tests) in l }))
 
 pub asked_permits : (code : List ℕ) (s : State) (q : Ask) → q ≡ ask_of code s → Permits s q
 asked_permits code s q is = subst (Permits s) (sym is) (ask_permits code s)

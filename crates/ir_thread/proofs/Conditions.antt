@@ -50,8 +50,10 @@ comes_to (Ends fault) s = refl
 comes_to Calls s = calls (call_at s) s
 
 -- the law
-pub ends_by_the_first : (code : List ℕ) (s : State) → s.ended ≡ None → ask_of code s ≡ first_end_or (step_conditions code s) (outcome_wants (outcome_of code s.core) s)
+pub ends_by_the_first : (code : List ℕ) (s : State) → s.ended ≡ None
+    → ask_of code s ≡ first_end_or (step_conditions code s) (outcome_wants (outcome_of code s.core) s)
 ends_by_the_first code s lives =
     ap (λ e. ask_by code e s) lives
     ∙ ap (λ q. cond (nat_le s.budget s.steps) (ask.End end.BudgetSpent) q) (comes_to (outcome_of code s.core) s)
-    ∙ turned (nat_le s.budget s.steps) (ask.End end.BudgetSpent) (first_end_or (outcome_conditions (outcome_of code s.core) s) (outcome_wants (outcome_of code s.core) s))
+    ∙ turned (nat_le s.budget s.steps) (ask.End end.BudgetSpent)
+    (first_end_or (outcome_conditions (outcome_of code s.core) s) (outcome_wants (outcome_of code s.core) s))

@@ -10,7 +10,8 @@ abbrev pub last_of : ℕ → Option Access → Option (ℕ × Access) → Option
 last_of i (Some access) before = Some (i, access)
 last_of i None before = before
 
-higher_last : (first : Option Access) (i : ℕ) (x : Option Access) (before : Option (ℕ × Access)) → higher_of first (last_of i x before) ≡ last_of (suc i) x (higher_of first before)
+higher_last : (first : Option Access) (i : ℕ) (x : Option Access) (before : Option (ℕ × Access))
+    → higher_of first (last_of i x before) ≡ last_of (suc i) x (higher_of first before)
 higher_last first i (Some access) before = refl
 higher_last first i None before = refl
 
@@ -19,10 +20,12 @@ one_place (Some access) = refl
 one_place None = refl
 
 -- one place more
-pub highest_take : (xs : List (Option Access)) (i : ℕ) → i < length xs → highest (take (suc i) xs) ≡ last_of i (get_or xs i None) (highest (take i xs))
+pub highest_take : (xs : List (Option Access)) (i : ℕ) → i < length xs
+    → highest (take (suc i) xs) ≡ last_of i (get_or xs i None) (highest (take i xs))
 highest_take [] i l = absurd (omega arith)
 highest_take (x ∷ xs) zero l = one_place x
-highest_take (x ∷ xs) (suc i) l = ap (higher_of x) (highest_take xs i (omega arith)) ∙ higher_last x i (get_or xs i None) (highest (take i xs))
+highest_take (x ∷ xs) (suc i) l = ap (higher_of x) (highest_take xs i (omega arith))
+    ∙ higher_last x i (get_or xs i None) (highest (take i xs))
 
 -- the greatest is held, and none above it
 pub record IsTop (xs : List (Option Access)) (top : ℕ × Access) : Type 0 where
@@ -64,10 +67,13 @@ later_is_top x xs top rest = record { below = omega (arith, rest.below); held = 
     above zero l = absurd (omega arith)
     above (suc i) l = rest.others i (omega arith)
 
-top_by : (xs : List (Option Access)) (top : ℕ × Access) → ((t : ℕ × Access) → highest xs ≡ Some t → IsTop xs t) → (x : Option Access) (h : Option (ℕ × Access)) → highest xs ≡ h → higher_of x h ≡ Some top → IsTop (x ∷ xs) top
+top_by : (xs : List (Option Access)) (top : ℕ × Access) → ((t : ℕ × Access) → highest xs ≡ Some t → IsTop xs t)
+    → (x : Option Access) (h : Option (ℕ × Access)) → highest xs ≡ h → higher_of x h ≡ Some top → IsTop (x ∷ xs) top
 top_by xs top rest None None g e = absurd (cc e)
-top_by xs top rest (Some a) None g e = subst (IsTop (Some a ∷ xs)) (let p : ◌≡◌ {A = ℕ × Access} (0, a) top = cc e in p) (first_is_top xs a g)
-top_by xs top rest x (Some t) g e = subst (IsTop (x ∷ xs)) (let p : ◌≡◌ {A = ℕ × Access} (suc t.0, t.1) top = cc e in p) (later_is_top x xs t (rest t g))
+top_by xs top rest (Some a) None g e = subst (IsTop (Some a ∷ xs)) (let p : ◌≡◌ {A = ℕ × Access} (0, a) top = cc e in p)
+    (first_is_top xs a g)
+top_by xs top rest x (Some t) g e = subst (IsTop (x ∷ xs)) (let p : ◌≡◌ {A = ℕ × Access} (suc t.0, t.1) top = cc e in p)
+    (later_is_top x xs t (rest t g))
 
 pub top_held : (xs : List (Option Access)) (top : ℕ × Access) → highest xs ≡ Some top → IsTop xs top
 top_held [] top e = absurd (cc e)
@@ -86,7 +92,8 @@ weight_of None e = absurd (e refl)
 weight_of (Some access) e = refl
 
 -- with one object left, one fewer is held
-pub one_fewer : (xs : List (Option Access)) (object : ℕ) → object < length xs → held_at xs object ≢ None → held_count xs ≡ suc (held_count (set xs object None))
+pub one_fewer : (xs : List (Option Access)) (object : ℕ) → object < length xs → held_at xs object ≢ None
+    → held_count xs ≡ suc (held_count (set xs object None))
 one_fewer xs object l e =
     let weight : one_if_held (get_or xs object None) ≡ 1 = weight_of _ e in
     let sums = sum_by-set one_if_held xs object None None l in
@@ -105,7 +112,8 @@ count_le_length (x ∷ xs) =
     omega (arith, first, rest, sum)
 
 -- the loop that looks at one place after another
-pub one_more : (xs : List (Option Access)) (i : ℕ) (x : Option Access) → i < length xs → get_or xs i None ≡ x → highest (take (i + 1) xs) ≡ last_of i x (highest (take i xs))
+pub one_more : (xs : List (Option Access)) (i : ℕ) (x : Option Access) → i < length xs → get_or xs i None ≡ x
+    → highest (take (i + 1) xs) ≡ last_of i x (highest (take i xs))
 one_more xs i x l e =
     subst (λ n. highest (take n xs) ≡ last_of i x (highest (take i xs))) (let p : suc i ≡ i + 1 = omega arith in p)
     (highest_take xs i l ∙ ap (λ y. last_of i y (highest (take i xs))) e)

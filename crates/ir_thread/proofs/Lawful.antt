@@ -18,7 +18,8 @@ use Rattle.ir_thread.proofs.Asked.{ask_permits}
 use Rattle.ir_thread.proofs.Highest.{none_held, none_counted, above_held, one_fewer}
 
 -- a write to the list is a change of the table
-pub held_at-set : (held : List (Option Access)) (o : ℕ) (x : Option Access) (i : ℕ) → o < length held → held_at (set held o x) i ≡ upd (held_at held) o x i
+pub held_at-set : (held : List (Option Access)) (o : ℕ) (x : Option Access) (i : ℕ) → o < length held
+    → held_at (set held o x) i ≡ upd (held_at held) o x i
 unfolding upd
 held_at-set held o x i l = elim (cases_eq i o) [
   | inl e ↦ subst (λ z. get_or (set held o x) z None ≡ cond (eqb z o) x (held_at held z)) (sym e)
@@ -37,7 +38,8 @@ asks_hold s Print p = tt
 asks_hold s (End e) p = tt
 asks_hold s Done p = none_held s.held p.1
 
-asks_take : (code : List ℕ) (s : State) (reply : Reply) (r i : ℕ) (q : Ask) → Permits s q → held_at (after_ask code s q reply).held i ≡ held_after (act_of (shared_ask q) r) (held_at s.held) i
+asks_take : (code : List ℕ) (s : State) (reply : Reply) (r i : ℕ) (q : Ask) → Permits s q
+    → held_at (after_ask code s q reply).held i ≡ held_after (act_of (shared_ask q) r) (held_at s.held) i
 asks_take code s reply r i Private p = refl
 asks_take code s reply r i (Env kind) p = refl
 asks_take code s reply r i (Enter object access) p = held_at-set s.held object (Some access) i p.2
@@ -70,7 +72,9 @@ over_some (Some x) h = ((end_number x, end_code x), refl)
 clash : (e : Option end.End) (p : ℕ × ℕ) → over e ≡ Some p → e ≢ None
 clash e p h none = cc (h, none)
 
-ends_by : (code : List ℕ) (s : State) (reply : Reply) (q : Ask) (p : ℕ × ℕ) → over s.ended ≡ None → over (after_ask code s q reply).ended ≡ Some p → (shared_ask q ≡ machine.Private) × (held_count (after_ask code s q reply).held ≡ held_count s.held)
+ends_by : (code : List ℕ) (s : State) (reply : Reply) (q : Ask) (p : ℕ × ℕ) → over s.ended ≡ None
+    → over (after_ask code s q reply).ended ≡ Some p → (shared_ask q ≡ machine.Private)
+    × (held_count (after_ask code s q reply).held ≡ held_count s.held)
 ends_by code s reply Private p h g = (refl, refl)
 ends_by code s reply (Env kind) p h g = absurd (clash s.ended p g (over_none s.ended h))
 ends_by code s reply (Enter object access) p h g = absurd (clash s.ended p g (over_none s.ended h))
@@ -81,7 +85,8 @@ ends_by code s reply Print p h g = (refl, refl)
 ends_by code s reply (End e) p h g = (refl, refl)
 ends_by code s reply Done p h g = absurd (clash s.ended p g (over_none s.ended h))
 
-stays_by : (code : List ℕ) (s : State) (reply : Reply) (q : Ask) (p : ℕ × ℕ) → Permits s q → over s.ended ≡ Some p → over (after_ask code s q reply).ended ≡ Some p
+stays_by : (code : List ℕ) (s : State) (reply : Reply) (q : Ask) (p : ℕ × ℕ) → Permits s q → over s.ended ≡ Some p
+    → over (after_ask code s q reply).ended ≡ Some p
 stays_by code s reply Private p k h = h
 stays_by code s reply (Env kind) p k h = h
 stays_by code s reply (Enter object access) p k h = h
@@ -92,7 +97,8 @@ stays_by code s reply Print p k h = h
 stays_by code s reply (End e) p k h = absurd (clash s.ended p h k)
 stays_by code s reply Done p k h = h
 
-leaves_by : (code : List ℕ) (s : State) (reply : Reply) (q : Ask) (p : ℕ × ℕ) → Permits s q → over s.ended ≡ Some p → shared_ask q ≢ machine.Done
+leaves_by : (code : List ℕ) (s : State) (reply : Reply) (q : Ask) (p : ℕ × ℕ) → Permits s q → over s.ended ≡ Some p
+    → shared_ask q ≢ machine.Done
     → (o : ℕ) × (a : Access) × (shared_ask q ≡ machine.Leave o a) × (held_count s.held ≡ suc (held_count (after_ask code s q reply).held))
 leaves_by code s reply Private p k h ne = absurd (clash s.ended p h k.lives)
 leaves_by code s reply (Env kind) p k h ne = absurd (clash s.ended p h k.0.lives)
@@ -104,7 +110,8 @@ leaves_by code s reply Print p k h ne = absurd (clash s.ended p h k.0.lives)
 leaves_by code s reply (End e) p k h ne = absurd (clash s.ended p h k)
 leaves_by code s reply Done p k h ne = absurd (ne refl)
 
-done_by : (s : State) (q : Ask) → Permits s q → shared_ask q ≡ machine.Done → (p : ℕ × ℕ) × (over s.ended ≡ Some p) × (held_count s.held ≡ 0)
+done_by : (s : State) (q : Ask) → Permits s q → shared_ask q ≡ machine.Done → (p : ℕ × ℕ) × (over s.ended ≡ Some p)
+    × (held_count s.held ≡ 0)
 done_by s Private k h = absurd (cc h)
 done_by s (Env kind) k h = absurd (cc h)
 done_by s (Enter object access) k h = absurd (cc h)

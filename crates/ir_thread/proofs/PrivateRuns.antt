@@ -14,14 +14,17 @@ use Rattle.ir_thread.specs.declared.ask.Reply.TheVariants.{Go}
 
 -- the thread with another machine and so many steps more
 abbrev pub advanced : State → Core → ℕ → State
-advanced s core n = record { core = core; number = s.number; held = s.held; budget = s.budget; steps = s.steps + n; events = s.events; output = s.output; ended = s.ended }
+advanced s core n = record { core = core; number = s.number; held = s.held; budget = s.budget; steps = s.steps + n; events =
+    s.events; output = s.output; ended = s.ended }
 
-asks : (code : List ℕ) (s : State) (earlier core : Core) (n : ℕ) → s.ended ≡ None → s.steps + n < s.budget → outcome_of code earlier ≡ Goes core → ask_of code (advanced s earlier n) ≡ ask.Private
+asks : (code : List ℕ) (s : State) (earlier core : Core) (n : ℕ) → s.ended ≡ None → s.steps + n < s.budget
+    → outcome_of code earlier ≡ Goes core → ask_of code (advanced s earlier n) ≡ ask.Private
 asks code s earlier core n running lt goes =
     let within : leb s.budget (s.steps + n) ≡ false = lt-leb s.budget (s.steps + n) lt in
     rw (running, within, goes) refl
 
-takes : (code : List ℕ) (s : State) (earlier core : Core) (n : ℕ) → s.ended ≡ None → s.steps + n < s.budget → outcome_of code earlier ≡ Goes core → step_of code (advanced s earlier n) ≡ advanced s core (n + 1)
+takes : (code : List ℕ) (s : State) (earlier core : Core) (n : ℕ) → s.ended ≡ None → s.steps + n < s.budget
+    → outcome_of code earlier ≡ Goes core → step_of code (advanced s earlier n) ≡ advanced s core (n + 1)
 unfolding step_of after_reply
 takes code s earlier core n running lt goes =
     let e : s.steps + n + 1 ≡ s.steps + (n + 1) = omega arith in
@@ -36,16 +39,20 @@ pub record Ran (code : List ℕ) (s : State) (core : Core) (n : ℕ) : Type 0 wh
   pub ends : run_of code n s ≡ advanced s core n
   pub each : (k : ℕ) → k < n → ask_of code (run_of code k s) ≡ ask.Private
 
-one_more : (code : List ℕ) (s : State) (earlier core : Core) (n : ℕ) → s.ended ≡ None → s.steps + n < s.budget → outcome_of code earlier ≡ Goes core → Ran code s earlier n → Ran code s core (suc n)
+one_more : (code : List ℕ) (s : State) (earlier core : Core) (n : ℕ) → s.ended ≡ None → s.steps + n < s.budget
+    → outcome_of code earlier ≡ Goes core → Ran code s earlier n → Ran code s core (suc n)
 unfolding run_of
 one_more code s earlier core n running lt goes before =
-    let here : ask_of code (run_of code n s) ≡ ask.Private = ap (λ t. ask_of code t) before.ends ∙ asks code s earlier core n running lt goes in
+    let here : ask_of code (run_of code n s) ≡ ask.Private = ap (λ t. ask_of code t) before.ends
+        ∙ asks code s earlier core n running lt goes in
     record {
-      ends = ap (λ t. step_of code t) before.ends ∙ takes code s earlier core n running lt goes ∙ ap (λ (m : ℕ). advanced s core m) (add-one n);
+      ends = ap (λ t. step_of code t) before.ends ∙ takes code s earlier core n running lt goes
+          ∙ ap (λ (m : ℕ). advanced s core m) (add-one n);
       each = λ k below. below_more (λ (j : ℕ). ask_of code (run_of code j s) ≡ ask.Private) n before.each here k (omega arith);
     }
 
-pub runs : (code : List ℕ) (s : State) (n : ℕ) (core : Core) → s.ended ≡ None → s.steps + n ≤ s.budget → machine_after n code s.core ≡ Some core → Ran code s core n
+pub runs : (code : List ℕ) (s : State) (n : ℕ) (core : Core) → s.ended ≡ None → s.steps + n ≤ s.budget
+    → machine_after n code s.core ≡ Some core → Ran code s core n
 unfolding run_of machine_after
 runs code s zero core running le e =
     let same : s.core ≡ core = cc in
@@ -53,14 +60,16 @@ runs code s zero core running le e =
     record { ends = whole ∙ ap (λ (c : Core). advanced s c 0) same; each = λ k below. absurd (omega arith) }
 runs code s (suc n) core running le e =
     option_and_then_some (λ earlier. core_of (outcome_of code earlier)) (machine_after n code s.core) core e
-    (λ earlier g k. one_more code s earlier core n running (omega arith) (goes_of (outcome_of code earlier) core k) (runs code s n earlier running (omega arith) g))
+    (λ earlier g k. one_more code s earlier core n running (omega arith) (goes_of (outcome_of code earlier) core k)
+        (runs code s n earlier running (omega arith) g))
 
 -- the thread that has taken no step
 pub none_taken : (code : List ℕ) (s : State) → PrivateSteps code 0 s s
 unfolding run_of
 none_taken code s = record { steps = refl; each = λ k below. absurd (omega arith) }
 
-pub private_steps : (code : List ℕ) (s : State) (n : ℕ) (core : Core) → s.ended ≡ None → s.steps + n ≤ s.budget → machine_after n code s.core ≡ Some core → PrivateSteps code n s (advanced s core n)
+pub private_steps : (code : List ℕ) (s : State) (n : ℕ) (core : Core) → s.ended ≡ None → s.steps + n ≤ s.budget
+    → machine_after n code s.core ≡ Some core → PrivateSteps code n s (advanced s core n)
 private_steps code s n core running le e = let ran = runs code s n core running le e in record { steps = sym ran.ends; each = ran.each }
 
 -- ---- private steps after others
@@ -70,7 +79,8 @@ unfolding run_of
 run_together code first zero s = rw (add-zero first) refl
 run_together code first (suc more) s = rw (add-suc first more) (ap (λ t. step_of code t) (run_together code first more s))
 
-pub then_others : (code : List ℕ) (first more : ℕ) (s middle t : State) → PrivateSteps code first s middle → PrivateSteps code more middle t → PrivateSteps code (first + more) s t
+pub then_others : (code : List ℕ) (first more : ℕ) (s middle t : State) → PrivateSteps code first s middle → PrivateSteps code more middle t
+    → PrivateSteps code (first + more) s t
 then_others code first more s middle t before after = record {
   steps = after.steps ∙ ap (λ m. run_of code more m) before.steps ∙ sym (run_together code first more s);
   each = λ k below. by k below (nat_lt k first) refl;
@@ -82,16 +92,19 @@ then_others code first more s middle t before after = record {
         let past : first ≤ k = ltb-false k first e in
         let split : first + (k - first) ≡ k = omega (arith, past) in
         let there : run_of code k s ≡ run_of code (k - first) middle =
-        ap (λ (n : ℕ). run_of code n s) (sym split) ∙ run_together code first (k - first) s ∙ ap (λ m. run_of code (k - first) m) (sym before.steps) in
+        ap (λ (n : ℕ). run_of code n s) (sym split) ∙ run_together code first (k - first) s
+            ∙ ap (λ m. run_of code (k - first) m) (sym before.steps) in
         ap (λ u. ask_of code u) there ∙ after.each (k - first) (omega (arith, past, below))
 
 -- a private step more
-pub then_one : (code : List ℕ) (first : ℕ) (s middle t : State) → PrivateSteps code first s middle → ask_of code middle ≡ ask.Private → t ≡ after_reply code middle Go
+pub then_one : (code : List ℕ) (first : ℕ) (s middle t : State) → PrivateSteps code first s middle → ask_of code middle ≡ ask.Private
+    → t ≡ after_reply code middle Go
     → PrivateSteps code (first + 1) s t
 unfolding run_of step_of
 then_one code first s middle t before asks goes =
     let here : middle ≡ run_of code first s = before.steps in
     record {
       steps = goes ∙ ap (λ m. after_reply code m Go) here ∙ ap (λ (n : ℕ). run_of code n s) (sym (add-one first));
-      each = λ k below. below_more (λ (j : ℕ). ask_of code (run_of code j s) ≡ ask.Private) first before.each (ap (λ m. ask_of code m) (sym here) ∙ asks) k (omega arith);
+      each = λ k below. below_more (λ (j : ℕ). ask_of code (run_of code j s) ≡ ask.Private) first before.each
+          (ap (λ m. ask_of code m) (sym here) ∙ asks) k (omega arith);
     }

@@ -61,4 +61,5 @@ values_of (reply ∷ replies) = value_before reply (values_of replies)
 -- whoever answers a thread, it is the thread run alone with the values that it was answered
 abbrev pub RunsAlone : Type 0
 RunsAlone = (code : List ℕ) (s : State) (replies : List Reply) → AllSuit code s replies
-    → lone_run code (length replies) (record { thread = s; values = values_of replies }) ≡ Some (record { thread = after_replies code s replies; values = [] })
+    → lone_run code (length replies) (record { thread = s; values = values_of replies }) ≡ Some
+    (record { thread = after_replies code s replies; values = [] })

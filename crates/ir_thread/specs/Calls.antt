@@ -189,9 +189,11 @@ abbrev pub Permits : State → Ask → Type 0
 Permits s ask.Private = IsRunning s
 Permits s (ask.Env kind) = IsRunning s × CanLog s
 Permits s (ask.Enter object access) = IsRunning s × CanLog s × (object < length s.held) × (is_above (highest s.held) object ≡ true)
-Permits s (ask.Leave object access) = (s.ended ≡ None → s.steps < s.budget) × (object < length s.held) × (held_at s.held object ≡ Some access)
+Permits s (ask.Leave object access) = (s.ended ≡ None → s.steps < s.budget) × (object < length s.held)
+    × (held_at s.held object ≡ Some access)
 Permits s (ask.Get object index) = IsRunning s × (object < length s.held) × (index < words_each) × (held_at s.held object ≢ None)
-Permits s (ask.Put object index value) = IsRunning s × (object < length s.held) × (index < words_each) × (held_at s.held object ≡ Some Writing)
+Permits s (ask.Put object index value) = IsRunning s × (object < length s.held) × (index < words_each)
+    × (held_at s.held object ≡ Some Writing)
 Permits s ask.Print = IsRunning s × (length s.output + length (printed s) ≤ most_output)
 Permits s (ask.End e) = s.ended ≡ None
 Permits s ask.Done = (s.ended ≢ None) × (highest s.held ≡ None)
@@ -232,7 +234,8 @@ after_ask code s ask.Private reply = record s { core = core_after s.number (outc
 after_ask code s (ask.Env kind) reply = record s { core = past_call s.core (answer_of reply); steps = s.steps + 1; events = s.events + 1 }
 after_ask code s (ask.Enter object access) reply =
     record s { core = past_call s.core None; steps = s.steps + 1; events = s.events + 1; held = slice_set s.held object (Some access) }
-after_ask code s (ask.Leave object access) reply = record s { core = core_left s.ended s.core; steps = s.steps + 1; held = slice_set s.held object None }
+after_ask code s (ask.Leave object access) reply =
+    record s { core = core_left s.ended s.core; steps = s.steps + 1; held = slice_set s.held object None }
 after_ask code s (ask.Get object index) reply = record s { core = past_call s.core (answer_of reply); steps = s.steps + 1 }
 after_ask code s (ask.Put object index value) reply = record s { core = past_call s.core None; steps = s.steps + 1 }
 after_ask code s ask.Print reply = record s { core = past_call s.core None; steps = s.steps + 1; output = s.output ++ printed s }

@@ -116,4 +116,5 @@ step_conditions code s = budget_has_step s ∷ outcome_conditions (outcome_of co
 
 -- a thread that hasn't ended asks what its instruction wants, or else the end of the first condition that isn't met
 abbrev pub EndsByTheFirst : Type 0
-EndsByTheFirst = (code : List ℕ) (s : State) → s.ended ≡ None → ask_of code s ≡ first_end_or (step_conditions code s) (outcome_wants (outcome_of code s.core) s)
+EndsByTheFirst = (code : List ℕ) (s : State) → s.ended ≡ None
+    → ask_of code s ≡ first_end_or (step_conditions code s) (outcome_wants (outcome_of code s.core) s)

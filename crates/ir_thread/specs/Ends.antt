@@ -29,7 +29,8 @@ end_code end = 0
 
 -- the ends that a code may stand beside
 abbrev pub ends_with : ℕ → List End
-ends_with code = Exit code ∷ Breakpoint ∷ IllegalWord ∷ TargetMisaligned ∷ OutsideCode ∷ BadLoad ∷ BadStore ∷ UnknownCall ∷ NoSuchObject ∷ EntryOutOfOrder ∷ NotHeld ∷ OutputFull ∷ BudgetSpent ∷ LogFull ∷ []
+ends_with code = Exit code ∷ Breakpoint ∷ IllegalWord ∷ TargetMisaligned ∷ OutsideCode ∷ BadLoad ∷ BadStore ∷ UnknownCall ∷ NoSuchObject
+    ∷ EntryOutOfOrder ∷ NotHeld ∷ OutputFull ∷ BudgetSpent ∷ LogFull ∷ []
 
 -- the end of a number and a code, if there is one
 abbrev pub end_of : ℕ → ℕ → Option End

@@ -47,32 +47,42 @@ use Rattle.ir_weave.proofs.Words.{head_changes, place_changes, same_words}
 
 -- ---- the seat's thread, where it is ahead
 
-caught : (k : Plan) (x : State (Unit {0}) View) (h : Woven k x) (id : ℕ) (q : Progress) (y : thread.State) → get_elem? x.views id ≡ some (q ∷ []) → IsAhead (trace_in k) q.thread q.position y → CaughtUp (trace_in k) h.state q.thread y
+caught : (k : Plan) (x : State (Unit {0}) View) (h : Woven k x) (id : ℕ) (q : Progress) (y : thread.State)
+    → get_elem? x.views id ≡ some (q ∷ []) → IsAhead (trace_in k) q.thread q.position y → CaughtUp (trace_in k) h.state q.thread y
 caught k x h id q y at ahead =
     let own = (h.tracks id (q ∷ []) at).0 in
-    catch_up (trace_in k) h.state q.thread y h.run h.flat h.at own.there ahead.at (subst (λ i. AreAlone (trace_in k) q.thread i y.steps) (sym own.position) ahead.alone) (subst (λ i. i ≤ y.steps) (sym own.position) ahead.past)
+    catch_up (trace_in k) h.state q.thread y h.run h.flat h.at own.there ahead.at
+        (subst (λ i. AreAlone (trace_in k) q.thread i y.steps) (sym own.position) ahead.alone)
+        (subst (λ i. i ≤ y.steps) (sym own.position) ahead.past)
 
-there : (k : Plan) (x : State (Unit {0}) View) (h : Woven k x) (id : ℕ) (q : Progress) (y : thread.State) → get_elem? x.views id ≡ some (q ∷ []) → (cu : CaughtUp (trace_in k) h.state q.thread y) → q.thread < length cu.state.threads
+there : (k : Plan) (x : State (Unit {0}) View) (h : Woven k x) (id : ℕ) (q : Progress) (y : thread.State)
+    → get_elem? x.views id ≡ some (q ∷ []) → (cu : CaughtUp (trace_in k) h.state q.thread y) → q.thread < length cu.state.threads
 there k x h id q y at cu = let a = (h.tracks id (q ∷ []) at).0.there in let b = cu.size in omega (arith, a, b)
 
-further_by : (k : Plan) (x : State (Unit {0}) View) (h : Woven k x) (id : ℕ) (q : Progress) (y : thread.State) → get_elem? x.views id ≡ some (q ∷ []) → IsAhead (trace_in k) q.thread q.position y → (cu : CaughtUp (trace_in k) h.state q.thread y) → IsFurther (trace_in k) h.state cu.state q.thread
+further_by : (k : Plan) (x : State (Unit {0}) View) (h : Woven k x) (id : ℕ) (q : Progress) (y : thread.State)
+    → get_elem? x.views id ≡ some (q ∷ []) → IsAhead (trace_in k) q.thread q.position y → (cu : CaughtUp (trace_in k) h.state q.thread y)
+    → IsFurther (trace_in k) h.state cu.state q.thread
 further_by k x h id q y at ahead cu = record {
   flat = cu.flat;
   at = cu.at;
   size = cu.size;
-  own = (let a = (h.tracks id (q ∷ []) at).0.position in let b = ap (λ (z : thread.State). z.steps) cu.own in let c = ahead.past in omega (arith, a, b, c));
+  own = (let a = (h.tracks id (q ∷ []) at).0.position in let b = ap (λ (z : thread.State). z.steps) cu.own in let c = ahead.past in
+      omega (arith, a, b, c));
   others = cu.others;
 }
 
 -- what it asks
-asks_there : (f : FittedTrace) (s : Flat) (t : ℕ) (y : thread.State) (q : Ask) → (cu : CaughtUp f s t y) → ask_of f.guest.code y ≡ q → ask_of cu.state.code (thread_of cu.state t) ≡ q
+asks_there : (f : FittedTrace) (s : Flat) (t : ℕ) (y : thread.State) (q : Ask) → (cu : CaughtUp f s t y) → ask_of f.guest.code y ≡ q
+    → ask_of cu.state.code (thread_of cu.state t) ≡ q
 asks_there f s t y q cu is = (λ i. ask_of (cu.at.code i) (cu.own i)) ∙ is
 
-has_there : (f : FittedTrace) (s : Flat) (t : ℕ) (y : thread.State) → (cu : CaughtUp f s t y) → HasStep f t y.steps → HasStep f t (positions cu.state t)
+has_there : (f : FittedTrace) (s : Flat) (t : ℕ) (y : thread.State) → (cu : CaughtUp f s t y) → HasStep f t y.steps
+    → HasStep f t (positions cu.state t)
 has_there f s t y cu has run of = subst (λ (z : thread.State). z.steps < count (machine_of f) (start_of f) run t) (sym cu.own) (has run of)
 
 -- where it touches an object, that is its next such step
-pub touches_next : (f : FittedTrace) (t i : ℕ) (y : thread.State) (q : Ask) → IsAhead f t i y → ask_of f.guest.code y ≡ q → (IsAlone q → ⊥) → IsNextObject f t i y.steps
+pub touches_next : (f : FittedTrace) (t i : ℕ) (y : thread.State) (q : Ask) → IsAhead f t i y → ask_of f.guest.code y ≡ q → (IsAlone q → ⊥)
+    → IsNextObject f t i y.steps
 touches_next f t i y q ahead is touches = record {
   past = ahead.past;
   alone = ahead.alone;
@@ -82,14 +92,16 @@ touches_next f t i y q ahead is touches = record {
 -- ---- words
 
 pub cell_fits : (s : Flat) (o : ℕ) → IsFlat s → o < length s.objects → IsFields (cell_of s o).fields
-cell_fits s o flat l = let all = logged_fits s o flat l in let few = few_inside s o flat l in record { version = omega (arith, all); left = omega (arith, all); inside = omega (arith, few) }
+cell_fits s o flat l = let all = logged_fits s o flat l in let few = few_inside s o flat l in
+    record { version = omega (arith, all); left = omega (arith, all); inside = omega (arith, few) }
 
 bit_small : (b : Bool) → bit_of b ≤ 1
 bit_small true = omega arith
 bit_small false = omega arith
 
 word_small : (f : Fields) → IsFields f → word_of f < 2 ^ 64
-word_small f fits = let a = fits.version in let b = fits.left in let c = fits.inside in let d = bit_small f.writer in omega (arith, a, b, c, d)
+word_small f fits = let a = fits.version in let b = fits.left in let c = fits.inside in let d = bit_small f.writer in
+    omega (arith, a, b, c, d)
 
 low_bit : (b : Bool) (w m : ℕ) → w ≡ 2 * m + bit_of b → (w % 2 == 1) ≡ b
 low_bit true w m is = eq-eqb (w % 2) 1 (omega (arith, is))
@@ -104,7 +116,8 @@ one_word f fits =
     let version : word_of f / 2 ^ 32 ≡ f.version = omega (arith, a, b, c, d) in
     let left : word_of f / 2 ^ 8 % 2 ^ 24 ≡ f.left = omega (arith, a, b, c, d) in
     let inside : word_of f / 2 % 2 ^ 7 ≡ f.inside = omega (arith, a, b, c, d) in
-    let writer : (word_of f % 2 == 1) ≡ f.writer = low_bit f.writer (word_of f) (f.version * 2 ^ 31 + f.left * 2 ^ 7 + f.inside) (omega arith) in
+    let writer : (word_of f % 2 == 1) ≡ f.writer =
+        low_bit f.writer (word_of f) (f.version * 2 ^ 31 + f.left * 2 ^ 7 + f.inside) (omega arith) in
     λ i. record { version = version i; left = left i; inside = inside i; writer = writer i }
 
 found_fields : (n : ℕ) (f : Fields) → IsFields f → n ≡ word_of f → fields_of n ≡ f
@@ -112,7 +125,8 @@ found_fields n f fits is = ap fields_of is ∙ one_word f fits
 
 -- ---- a load before an entry
 
-pub looks_at : (slots id o : ℕ) (a : Access) (e : Event) (y : thread.State) (q : Progress) (c : List (ℕ × Unit {0})) → IsAhead (trace_in q.plan) q.thread q.position y → o < object_count (trace_in q.plan).guest → IsEntering (trace_in q.plan) y o a e
+pub looks_at : (slots id o : ℕ) (a : Access) (e : Event) (y : thread.State) (q : Progress) (c : List (ℕ × Unit {0}))
+    → IsAhead (trace_in q.plan) q.thread q.position y → o < object_count (trace_in q.plan).guest → IsEntering (trace_in q.plan) y o a e
     → Allows (Woven q.plan) slots id (q ∷ [], c) (word_place o) (λ n. n) (looked (step slots (word_place o) 0 0 none) (q ∷ [], c))
 looks_at slots id o a e y q c ahead inside entering x h homes at small =
     let k : Plan = q.plan in
@@ -122,21 +136,31 @@ looks_at slots id o a e y q c ahead inside entering x h homes at small =
     let n : ℕ = get_or x.words (word_place o) 0 in
     let l : o < length h.state.objects = (let e' = h.at.objects in omega (arith, e', inside)) in
     let here : positions cu.state t ≡ y.steps = ap (λ (z : thread.State). z.steps) cu.own in
-    let same : fields_of n ≡ (cell_of cu.state o).fields = found_fields n (cell_of h.state o).fields (cell_fits h.state o h.flat l) (h.table.heads o l) ∙ ap (λ cs. (object_in cs o).fields) (sym cu.objects) in
+    let same : fields_of n ≡ (cell_of cu.state o).fields =
+        found_fields n (cell_of h.state o).fields (cell_fits h.state o h.flat l) (h.table.heads o l)
+        ∙ ap (λ cs. (object_in cs o).fields) (sym cu.objects) in
     let ask : ask_of cu.state.code (thread_of cu.state t) ≡ Enter o a = asks_there f h.state t y (Enter o a) cu entering.asking.asks in
-    let has : HasStep f t (positions cu.state t) = has_there f h.state t y cu (subst (λ z. HasStep f z y.steps) ahead.number entering.asking.has) in
-    let own_event : slice_get (recorded_thread f.recorded t).events y.events ≡ Some e = subst (λ z. slice_get (recorded_thread f.recorded z).events y.events ≡ Some e) ahead.number entering.event in
-    let event : slice_get (recorded_thread f.recorded t).events (thread_of cu.state t).events ≡ Some e = ap (λ (z : thread.State). slice_get (recorded_thread f.recorded t).events z.events) cu.own ∙ own_event in
+    let has : HasStep f t (positions cu.state t) =
+        has_there f h.state t y cu (subst (λ z. HasStep f z y.steps) ahead.number entering.asking.has) in
+    let own_event : slice_get (recorded_thread f.recorded t).events y.events ≡ Some e =
+        subst (λ z. slice_get (recorded_thread f.recorded z).events y.events ≡ Some e) ahead.number entering.event in
+    let event : slice_get (recorded_thread f.recorded t).events (thread_of cu.state t).events ≡ Some e =
+        ap (λ (z : thread.State). slice_get (recorded_thread f.recorded t).events z.events) cu.own ∙ own_event in
     let nexts : IsNextObject f t q.position y.steps = touches_next f t q.position y (Enter o a) ahead entering.asking.asks (λ b. b) in
-    let told_event : IsEventAt f t y.steps e = λ run of. ap (λ (z : thread.State). slice_get (recorded_thread f.recorded t).events z.events) (sym (ahead.at run of).1) ∙ own_event in
-    let table : IsTable cu.state.objects (set x.words (word_place o) n) = subst (λ cs. IsTable cs (set x.words (word_place o) n)) (sym cu.objects) (same_words h.state.objects x.words (word_place o) h.table) in
+    let told_event : IsEventAt f t y.steps e =
+        λ run of. ap (λ (z : thread.State). slice_get (recorded_thread f.recorded t).events z.events) (sym (ahead.at run of).1)
+        ∙ own_event in
+    let table : IsTable cu.state.objects (set x.words (word_place o) n) =
+        subst (λ cs. IsTable cs (set x.words (word_place o) n)) (sym cu.objects)
+        (same_words h.state.objects x.words (word_place o) h.table) in
     elim (opens_or (record { fields = fields_of n; words = [] }) e) [
       | inl yes' ↦ (
         progress k t y.steps true ∷ [],
         keeps,
         tt,
         moves k x h id q at cu.state (further_by k x h id q y at ahead cu) y.steps here true
-            (λ on. open_admitted f cu.state t o a e h.run cu.flat cu.at (there k x h id q y at cu) ask has event entering.suits (opens_by (record { fields = fields_of n; words = [] }) (cell_of cu.state o) e same yes'))
+            (λ on. open_admitted f cu.state t o a e h.run cu.flat cu.at (there k x h id q y at cu) ask has event entering.suits
+                (opens_by (record { fields = fields_of n; words = [] }) (cell_of cu.state o) e same yes'))
             (set x.words (word_place o) n) x.homes table,
         (y.steps, e, nexts, told_event, (λ b. refl), (λ no'. absurd (no' yes'))),
       )
@@ -144,7 +168,8 @@ looks_at slots id o a e y q c ahead inside entering x h homes at small =
         progress k t y.steps false ∷ [],
         keeps,
         tt,
-        moves k x h id q at cu.state (further_by k x h id q y at ahead cu) y.steps here false (λ on. absurd (cc on)) (set x.words (word_place o) n) x.homes table,
+        moves k x h id q at cu.state (further_by k x h id q y at ahead cu) y.steps here false (λ on. absurd (cc on))
+            (set x.words (word_place o) n) x.homes table,
         (
           y.steps,
           e,
@@ -157,7 +182,8 @@ looks_at slots id o a e y q c ahead inside entering x h homes at small =
               cut = positions cu.state;
               is_cut = λ run of. (cu.at.each run of).cut;
               consistent = λ run of. (cu.at.each run of).consistent;
-              above = λ u. (let p = h.above u in let r = up f h.state cu.state t (further_by k x h id q y at ahead cu) u in omega (arith, p, r));
+              above = λ u. (let p = h.above u in let r = up f h.state cu.state t (further_by k x h id q y at ahead cu) u in
+                  omega (arith, p, r));
               here = here;
               stopped = shut_stopped f cu.state t o a e h.run cu.flat cu.at (there k x h id q y at cu) ask has event entering.suits
                   (λ yes'. no' (opens_by (cell_of cu.state o) (record { fields = fields_of n; words = [] }) e (sym same) yes'));
@@ -170,25 +196,35 @@ looks_at slots id o a e y q c ahead inside entering x h homes at small =
 -- ---- a step on an object
 
 -- what thread t is answered when it reads a word
-answered_get : (s : Flat) (t v o i : ℕ) → t < length s.threads → thread_of (next s t v (Get o i)) t ≡ after_ask s.code (thread_of s t) (Get o i) (Value (slice_index (cell_of s o).words i))
-answered_get s t v o i l = get_or-set_same s.threads t (after_ask s.code (thread_of s t) (Get o i) (Value (slice_index (cell_of s o).words i))) idle l
+answered_get : (s : Flat) (t v o i : ℕ) → t < length s.threads
+    → thread_of (next s t v (Get o i)) t ≡ after_ask s.code (thread_of s t) (Get o i) (Value (slice_index (cell_of s o).words i))
+answered_get s t v o i l = get_or-set_same s.threads t
+    (after_ask s.code (thread_of s t) (Get o i) (Value (slice_index (cell_of s o).words i))) idle l
 
-answers : (f : FittedTrace) (s : Flat) (t : ℕ) (y : thread.State) (q : Ask) (cu : CaughtUp f s t y) (v n : ℕ) → t < length cu.state.threads → Goes f cu.state t v q → ask_of f.guest.code y ≡ q
+answers : (f : FittedTrace) (s : Flat) (t : ℕ) (y : thread.State) (q : Ask) (cu : CaughtUp f s t y) (v n : ℕ) → t < length cu.state.threads
+    → Goes f cu.state t v q → ask_of f.guest.code y ≡ q
     → ((o i : ℕ) → q ≡ Get o i → (n < 2 ^ 32) × (n ≡ slice_index (cell_of cu.state o).words i)) → Answers f t y.steps n
 answers f s t y q cu v n l g is found run of o i asks =
-    let own : thread_of cu.state t ≡ thread_at f run t y.steps = (cu.at.each run of).threads t ∙ ap (λ (z : thread.State). thread_at f run t z.steps) cu.own in
+    let own : thread_of cu.state t ≡ thread_at f run t y.steps = (cu.at.each run of).threads t
+        ∙ ap (λ (z : thread.State). thread_at f run t z.steps) cu.own in
     let get : q ≡ Get o i = sym is ∙ ap (ask_of f.guest.code) (sym cu.own ∙ own) ∙ asks in
-    let more : positions (next cu.state t v q) t ≡ suc y.steps = g.own ∙ (let e = ap (λ (z : thread.State). z.steps) cu.own in let r : positions cu.state t + 1 ≡ suc y.steps = omega (arith, e) in r) in (
+    let more : positions (next cu.state t v q) t ≡ suc y.steps = g.own
+        ∙ (let e = ap (λ (z : thread.State). z.steps) cu.own in let r : positions cu.state t + 1 ≡ suc y.steps = omega (arith, e) in r) in (
       (found o i get).0,
-      ap (thread_at f run t) (sym more) ∙ sym ((g.at.each run of).threads t) ∙ ap (λ z. thread_of (next cu.state t v z) t) get ∙ answered_get cu.state t v o i l
+      ap (thread_at f run t) (sym more) ∙ sym ((g.at.each run of).threads t) ∙ ap (λ z. thread_of (next cu.state t v z) t) get
+          ∙ answered_get cu.state t v o i l
           ∙ (λ j. after_ask (cu.at.code j) (own j) (Get o i) (Value (sym (found o i get).1 j))),
     )
 
 -- the table after it
-steps_on : (slots id word first second : ℕ) (q : Progress) (c : List (ℕ × Unit {0})) (x : State (Unit {0}) View) (h : Woven q.plan x) → get_elem? x.views id ≡ some (q ∷ []) → (y : thread.State) → IsAhead (trace_in q.plan) q.thread q.position y
-    → (asked : Ask) → (IsAlone asked → ⊥) → ask_of (trace_in q.plan).guest.code y ≡ asked → (cu : CaughtUp (trace_in q.plan) h.state q.thread y) → (v : ℕ) → Goes (trace_in q.plan) cu.state q.thread v asked
-    → (n : ℕ) → ((o i : ℕ) → asked ≡ Get o i → (n < 2 ^ 32) × (n ≡ slice_index (cell_of cu.state o).words i)) → (ws : List ℕ) → IsTable (next cu.state q.thread v asked).objects ws
-    → (w : View) × Woven q.plan (record { words = ws; homes = x.homes; views = set x.views id w }) × stepped_on (step slots word first second none) (q ∷ [], c) n (w, c)
+steps_on : (slots id word first second : ℕ) (q : Progress) (c : List (ℕ × Unit {0})) (x : State (Unit {0}) View) (h : Woven q.plan x)
+    → get_elem? x.views id ≡ some (q ∷ []) → (y : thread.State) → IsAhead (trace_in q.plan) q.thread q.position y
+    → (asked : Ask) → (IsAlone asked → ⊥) → ask_of (trace_in q.plan).guest.code y ≡ asked
+    → (cu : CaughtUp (trace_in q.plan) h.state q.thread y) → (v : ℕ) → Goes (trace_in q.plan) cu.state q.thread v asked
+    → (n : ℕ) → ((o i : ℕ) → asked ≡ Get o i → (n < 2 ^ 32) × (n ≡ slice_index (cell_of cu.state o).words i)) → (ws : List ℕ)
+    → IsTable (next cu.state q.thread v asked).objects ws
+    → (w : View) × Woven q.plan (record { words = ws; homes = x.homes; views = set x.views id w })
+    × stepped_on (step slots word first second none) (q ∷ [], c) n (w, c)
 steps_on slots id word first second q c x h at y ahead asked touches is cu v g n found ws table =
     let k : Plan = q.plan in
     let f : FittedTrace = trace_in q.plan in
@@ -203,7 +239,8 @@ steps_on slots id word first second q c x h at y ahead asked touches is cu v g n
         own = (let a = (h.tracks id (q ∷ []) at).0.position in let b = ahead.past in omega (arith, own, before, a, b));
         others = λ u ne. g.others u ne ∙ cu.others u ne;
       }) (suc y.steps) (omega (arith, own, before)) false (λ on. absurd (cc on)) ws x.homes table,
-      (y.steps, touches_next f t q.position y asked ahead is touches, refl, answers f h.state t y asked cu v n (there k x h id q y at cu) g is found),
+      (y.steps, touches_next f t q.position y asked ahead is touches, refl, answers f h.state t y asked cu v n (there k x h id q y at cu) g
+          is found),
     )
 
 -- an entry that was granted
@@ -211,7 +248,8 @@ abbrev pub added : Access → ℕ
 added Reading = 2
 added Writing = 1
 
-entered_word : (n : ℕ) (a : Access) (s : Flat) (o : ℕ) → IsFlat s → o < length s.objects → n ≡ word_of (cell_of s o).fields → Enters a (cell_of s o).fields → (n + added a) % 2 ^ 64 ≡ word_of (entered a (cell_of s o).fields)
+entered_word : (n : ℕ) (a : Access) (s : Flat) (o : ℕ) → IsFlat s → o < length s.objects → n ≡ word_of (cell_of s o).fields
+    → Enters a (cell_of s o).fields → (n + added a) % 2 ^ 64 ≡ word_of (entered a (cell_of s o).fields)
 entered_word n Reading s o flat l is may =
     let small = word_small (entered Reading (cell_of s o).fields) (enter_fits s o Reading flat l) in
     let e : word_of (entered Reading (cell_of s o).fields) ≡ word_of (cell_of s o).fields + 2 = omega arith in
@@ -225,8 +263,11 @@ entered_word n Writing s o flat l is may =
 never_get : (o : ℕ) (a : Access) (n : ℕ) (s : Flat) (p i : ℕ) → Enter o a ≡ Get p i → (n < 2 ^ 32) × (n ≡ slice_index (cell_of s p).words i)
 never_get o a n s p i e = absurd (cc e)
 
-pub enters_at : (slots id o : ℕ) (a : Access) (y : thread.State) (q : Progress) (c : List (ℕ × Unit {0})) → IsAhead (trace_in q.plan) q.thread q.position y → o < object_count (trace_in q.plan).guest → ask_of (trace_in q.plan).guest.code y ≡ Enter o a
-    → q.granted ≡ true → q.position ≡ y.steps → Allows (Woven q.plan) slots id (q ∷ [], c) (word_place o) (λ n. (n + added a) % 2 ^ 64) (stepped_on (step slots (word_place o) (added a) 0 none) (q ∷ [], c))
+pub enters_at : (slots id o : ℕ) (a : Access) (y : thread.State) (q : Progress) (c : List (ℕ × Unit {0}))
+    → IsAhead (trace_in q.plan) q.thread q.position y → o < object_count (trace_in q.plan).guest
+    → ask_of (trace_in q.plan).guest.code y ≡ Enter o a
+    → q.granted ≡ true → q.position ≡ y.steps → Allows (Woven q.plan) slots id (q ∷ [], c) (word_place o) (λ n. (n + added a) % 2 ^ 64)
+    (stepped_on (step slots (word_place o) (added a) 0 none) (q ∷ [], c))
 enters_at slots id o a y q c ahead inside is granted here x h homes at small =
     let f : FittedTrace = trace_in q.plan in
     let t : ℕ = q.thread in
@@ -236,20 +277,29 @@ enters_at slots id o a y q c ahead inside is granted here x h homes at small =
     let l : o < length h.state.objects = (let e = h.at.objects in omega (arith, e, inside)) in
     let m : o < length cu.state.objects = (let e = ap (λ (cs : List Cell). length cs) cu.objects in omega (arith, e, l)) in
     let still : positions cu.state t ≡ positions h.state t = ap (λ (z : thread.State). z.steps) cu.own ∙ sym here ∙ sym own.position in
-    let ad : AdmittedAt f (positions cu.state) t = λ run of. persists (machine_of f) (start_of f) run (positions h.state) (positions cu.state) t (own.granted granted run of) (cu.at.each run of).consistent (up f h.state cu.state t (further_by q.plan x h id q y at ahead cu)) still in
-    let goes = admitted_on f cu.state t (Enter o a) h.run cu.flat cu.at (there q.plan x h id q y at cu) (sym (asks_there f h.state t y (Enter o a) cu is)) ad in
+    let ad : AdmittedAt f (positions cu.state) t =
+        λ run of. persists (machine_of f) (start_of f) run (positions h.state) (positions cu.state) t (own.granted granted run of)
+        (cu.at.each run of).consistent (up f h.state cu.state t (further_by q.plan x h id q y at ahead cu)) still in
+    let goes = admitted_on f cu.state t (Enter o a) h.run cu.flat cu.at (there q.plan x h id q y at cu)
+        (sym (asks_there f h.state t y (Enter o a) cu is)) ad in
     let found : n ≡ word_of (cell_of cu.state o).fields = h.table.heads o l ∙ ap (λ cs. word_of (object_in cs o).fields) (sym cu.objects) in
     let table : IsTable cu.state.objects x.words = subst (λ cs. IsTable cs x.words) (sym cu.objects) h.table in
     let ws : List ℕ = set x.words (word_place o) ((n + added a) % 2 ^ 64) in
-    let made = steps_on slots id (word_place o) (added a) 0 q c x h at y ahead (Enter o a) (λ b. b) is cu goes.0 goes.1 n (never_get o a n cu.state) ws
-    (head_changes cu.state.objects x.words o ((n + added a) % 2 ^ 64) (record (cell_of cu.state o) { fields = entered a (cell_of cu.state o).fields }) table m (entered_word n a cu.state o cu.flat m found goes.1.may) refl) in
+    let made = steps_on slots id (word_place o) (added a) 0 q c x h at y ahead (Enter o a) (λ b. b) is cu goes.0 goes.1 n
+        (never_get o a n cu.state) ws
+    (head_changes cu.state.objects x.words o ((n + added a) % 2 ^ 64)
+        (record (cell_of cu.state o) { fields = entered a (cell_of cu.state o).fields }) table m
+        (entered_word n a cu.state o cu.flat m found goes.1.may) refl) in
     (made.0, keeps, tt, made.1, made.2)
 
 -- ---- leaves, and words of contents
 
 -- what a step that is no entry may do
-free_goes : (k : Plan) (x : State (Unit {0}) View) (h : Woven k x) (id : ℕ) (q : Progress) (y : thread.State) → get_elem? x.views id ≡ some (q ∷ []) → (cu : CaughtUp (trace_in k) h.state q.thread y) → (asked : Ask) → ((o : ℕ) (a : Access) → asked ≢ Enter o a)
-    → ask_of (trace_in k).guest.code y ≡ asked → HasStep (trace_in k) q.thread y.steps → (v : ℕ) × Goes (trace_in k) cu.state q.thread v asked
+free_goes : (k : Plan) (x : State (Unit {0}) View) (h : Woven k x) (id : ℕ) (q : Progress) (y : thread.State)
+    → get_elem? x.views id ≡ some (q ∷ []) → (cu : CaughtUp (trace_in k) h.state q.thread y) → (asked : Ask)
+    → ((o : ℕ) (a : Access) → asked ≢ Enter o a)
+    → ask_of (trace_in k).guest.code y ≡ asked → HasStep (trace_in k) q.thread y.steps → (v : ℕ)
+    × Goes (trace_in k) cu.state q.thread v asked
 free_goes k x h id q y at cu asked ne is has =
     let ask = asks_there (trace_in k) h.state q.thread y asked cu is in
     admitted_on (trace_in k) cu.state q.thread asked h.run cu.flat cu.at (there k x h id q y at cu) (sym ask)
@@ -259,8 +309,12 @@ free_goes k x h id q y at cu asked ne is has =
 leaves_holding : (s : Flat) (t o : ℕ) (a : Access) → ask_of s.code (thread_of s t) ≡ Leave o a → inside_of s o t ≡ Some a
 leaves_holding s t o a is = (subst (Permits (thread_of s t)) is (ask_permits s.code (thread_of s t))).2
 
-pub left_reading_at : (slots id o : ℕ) (y : thread.State) (q : Progress) (c : List (ℕ × Unit {0})) → IsAhead (trace_in q.plan) q.thread q.position y → o < object_count (trace_in q.plan).guest → ask_of (trace_in q.plan).guest.code y ≡ Leave o Reading
-    → HasStep (trace_in q.plan) q.thread y.steps → Allows (Woven q.plan) slots id (q ∷ [], c) (word_place o) (λ n. (n + 254) % 2 ^ 64) (stepped_on (step slots (word_place o) 254 0 none) (q ∷ [], c))
+pub left_reading_at : (slots id o : ℕ) (y : thread.State) (q : Progress) (c : List (ℕ × Unit {0}))
+    → IsAhead (trace_in q.plan) q.thread q.position y → o < object_count (trace_in q.plan).guest
+    → ask_of (trace_in q.plan).guest.code y ≡ Leave o Reading
+    → HasStep (trace_in q.plan) q.thread y.steps
+    → Allows (Woven q.plan) slots id (q ∷ [], c) (word_place o) (λ n. (n + 254) % 2 ^ 64)
+    (stepped_on (step slots (word_place o) 254 0 none) (q ∷ [], c))
 left_reading_at slots id o y q c ahead inside is has x h homes at small =
     let f : FittedTrace = trace_in q.plan in
     let t : ℕ = q.thread in
@@ -272,22 +326,28 @@ left_reading_at slots id o y q c ahead inside is has x h homes at small =
     let ask = asks_there f h.state t y (Leave o Reading) cu is in
     let found : n ≡ word_of (cell_of cu.state o).fields = h.table.heads o l ∙ ap (λ cs. word_of (object_in cs o).fields) (sym cu.objects) in
     let table : IsTable cu.state.objects x.words = subst (λ cs. IsTable cs x.words) (sym cu.objects) h.table in
-    let allowed : 0 < (cell_of cu.state o).fields.inside = leave_allowed cu.state t o Reading cu.flat (there q.plan x h id q y at cu) m (leaves_holding cu.state t o Reading ask) in
+    let allowed : 0 < (cell_of cu.state o).fields.inside =
+        leave_allowed cu.state t o Reading cu.flat (there q.plan x h id q y at cu) m (leaves_holding cu.state t o Reading ask) in
     let fits = word_small (left_by Reading (cell_of cu.state o).fields) (leave_fits cu.state o Reading cu.flat m) in
     let less : word_of (left_by Reading (cell_of cu.state o).fields) ≡ word_of (cell_of cu.state o).fields + 254 = omega (arith, allowed) in
     let sum : (n + 254) % 2 ^ 64 ≡ word_of (left_by Reading (cell_of cu.state o).fields) = omega (arith, found, less, fits) in
-    let made = steps_on slots id (word_place o) 254 0 q c x h at y ahead (Leave o Reading) (λ b. b) is cu goes.0 goes.1 n (λ p i e. absurd (cc e)) (set x.words (word_place o) ((n + 254) % 2 ^ 64))
-    (head_changes cu.state.objects x.words o ((n + 254) % 2 ^ 64) (record (cell_of cu.state o) { fields = left_by Reading (cell_of cu.state o).fields }) table m sum refl) in
+    let made = steps_on slots id (word_place o) 254 0 q c x h at y ahead (Leave o Reading) (λ b. b) is cu goes.0 goes.1 n
+        (λ p i e. absurd (cc e)) (set x.words (word_place o) ((n + 254) % 2 ^ 64))
+    (head_changes cu.state.objects x.words o ((n + 254) % 2 ^ 64)
+        (record (cell_of cu.state o) { fields = left_by Reading (cell_of cu.state o).fields }) table m sum refl) in
     (made.0, keeps, tt, made.1, made.2)
 
 -- what a writer's leave tells
-leave_tells : (f : FittedTrace) (s : Flat) (t o : ℕ) → IsStateAt f (positions s) s → ask_of s.code (thread_of s t) ≡ Leave o Writing → AdmittedAt f (positions s) t
+leave_tells : (f : FittedTrace) (s : Flat) (t o : ℕ) → IsStateAt f (positions s) s → ask_of s.code (thread_of s t) ≡ Leave o Writing
+    → AdmittedAt f (positions s) t
     → EachRun f (λ run. Tells (machine_of f) (start_of f) run t (positions s t) (Out o Writing (cell_of s o).fields.version))
 leave_tells f s t o at is ad run of =
     let some = (cut_at f run of (positions s) (at.each run of).cut (at.each run of).consistent).steps t (ad run of) in
-    let told_is : label (machine_of f) (end (machine_of f) (start_of f) (part run (positions s))) (t, some.0) ≡ Out o Writing (cell_of s o).fields.version =
+    let told_is : label (machine_of f) (end (machine_of f) (start_of f) (part run (positions s))) (t, some.0) ≡ Out o Writing
+        (cell_of s o).fields.version =
     ap (λ z. label (machine_of f) z (t, some.0)) (sym (tables_at f (positions s) s run of (at.each run of)))
-    ∙ ap (λ a. told (act_of (shared_ask a) some.0) ((tables s).objects (target (act_of (shared_ask a) some.0)))) (ap (λ code. ask_of code (thread_of s t)) (sym at.code) ∙ is) in
+    ∙ ap (λ a. told (act_of (shared_ask a) some.0) ((tables s).objects (target (act_of (shared_ask a) some.0))))
+    (ap (λ code. ask_of code (thread_of s t)) (sym at.code) ∙ is) in
     subst (Tells (machine_of f) (start_of f) run t (positions s t)) told_is some.3
 
 -- one label stands at each content_place
@@ -296,8 +356,11 @@ same_label [] k a b h g = absurd h
 same_label (x ∷ xs) zero a b h g = sym h ∙ g
 same_label (x ∷ xs) (suc k) a b h g = same_label xs k a b h g
 
-pub versions_at : (slots id o : ℕ) (y : thread.State) (q : Progress) (c : List (ℕ × Unit {0})) → IsAhead (trace_in q.plan) q.thread q.position y → o < object_count (trace_in q.plan).guest → ask_of (trace_in q.plan).guest.code y ≡ Leave o Writing
-    → HasStep (trace_in q.plan) q.thread y.steps → Allows (Woven q.plan) slots id (q ∷ [], c) (word_place o) (λ n. n) (read_version (step slots (word_place o) 0 0 none) (q ∷ [], c))
+pub versions_at : (slots id o : ℕ) (y : thread.State) (q : Progress) (c : List (ℕ × Unit {0}))
+    → IsAhead (trace_in q.plan) q.thread q.position y → o < object_count (trace_in q.plan).guest
+    → ask_of (trace_in q.plan).guest.code y ≡ Leave o Writing
+    → HasStep (trace_in q.plan) q.thread y.steps
+    → Allows (Woven q.plan) slots id (q ∷ [], c) (word_place o) (λ n. n) (read_version (step slots (word_place o) 0 0 none) (q ∷ [], c))
 versions_at slots id o y q c ahead inside is has x h homes at small =
     let f : FittedTrace = trace_in q.plan in
     let t : ℕ = q.thread in
@@ -305,10 +368,14 @@ versions_at slots id o y q c ahead inside is has x h homes at small =
     let n : ℕ = get_or x.words (word_place o) 0 in
     let l : o < length h.state.objects = (let e = h.at.objects in omega (arith, e, inside)) in
     let ask = asks_there f h.state t y (Leave o Writing) cu is in
-    let same : fields_of n ≡ (cell_of cu.state o).fields = found_fields n (cell_of h.state o).fields (cell_fits h.state o h.flat l) (h.table.heads o l) ∙ ap (λ cs. (object_in cs o).fields) (sym cu.objects) in
-    let tells = leave_tells f cu.state t o cu.at ask (free_admitted f cu.state t cu.at (has_there f h.state t y cu has) (λ p a e. cc (sym ask ∙ e))) in
+    let same : fields_of n ≡ (cell_of cu.state o).fields =
+        found_fields n (cell_of h.state o).fields (cell_fits h.state o h.flat l) (h.table.heads o l)
+        ∙ ap (λ cs. (object_in cs o).fields) (sym cu.objects) in
+    let tells = leave_tells f cu.state t o cu.at ask
+        (free_admitted f cu.state t cu.at (has_there f h.state t y cu has) (λ p a e. cc (sym ask ∙ e))) in
     let kept : Woven q.plan (record { words = set x.words (word_place o) n; homes = x.homes; views = set x.views id (q ∷ []) }) =
-    subst (λ (z : List ℕ × List View). Woven q.plan (record { words = z.0; homes = x.homes; views = z.1 })) (λ i. (sym (set-get_or x.words (word_place o) 0) i, sym (set_again x.views id (q ∷ []) at) i)) h in (
+    subst (λ (z : List ℕ × List View). Woven q.plan (record { words = z.0; homes = x.homes; views = z.1 }))
+        (λ i. (sym (set-get_or x.words (word_place o) 0) i, sym (set_again x.views id (q ∷ []) at) i)) h in (
       q ∷ [],
       keeps,
       tt,
@@ -321,13 +388,19 @@ versions_at slots id o y q c ahead inside is has x h homes at small =
         (λ run of p word asked.
             let o_is : o ≡ p = omega (arith, word) in
             let v_is : (cell_of cu.state o).fields.version ≡ n / 2 ^ 32 = ap (λ (z : Fields). z.version) (sym same) in
-            subst (λ (z : ℕ × ℕ × ℕ). Tells (machine_of f) (start_of f) run t z.0 (Out z.1 Writing z.2)) (λ i. (ap (λ (z : thread.State). z.steps) cu.own i, o_is i, v_is i)) (tells run of)),
+            subst (λ (z : ℕ × ℕ × ℕ). Tells (machine_of f) (start_of f) run t z.0 (Out z.1 Writing z.2))
+                (λ i. (ap (λ (z : thread.State). z.steps) cu.own i, o_is i, v_is i)) (tells run of)),
       ),
     )
 
-pub left_writing_at : (slots id o v : ℕ) (y : thread.State) (q : Progress) (c : List (ℕ × Unit {0})) → IsAhead (trace_in q.plan) q.thread q.position y → o < object_count (trace_in q.plan).guest → ask_of (trace_in q.plan).guest.code y ≡ Leave o Writing
-    → HasStep (trace_in q.plan) q.thread y.steps → EachRun (trace_in q.plan) (λ run. Tells (machine_of (trace_in q.plan)) (start_of (trace_in q.plan)) run q.thread y.steps (Out o Writing v))
-    → Allows (Woven q.plan) slots id (q ∷ [], c) (word_place o) (λ _. (v + 1) * 2 ^ 32) (λ _. stepped_on (step slots (word_place o) ((v + 1) * 2 ^ 32) 0 none) (q ∷ [], c) ((v + 1) * 2 ^ 32))
+pub left_writing_at : (slots id o v : ℕ) (y : thread.State) (q : Progress) (c : List (ℕ × Unit {0}))
+    → IsAhead (trace_in q.plan) q.thread q.position y → o < object_count (trace_in q.plan).guest
+    → ask_of (trace_in q.plan).guest.code y ≡ Leave o Writing
+    → HasStep (trace_in q.plan) q.thread y.steps
+    → EachRun (trace_in q.plan) (λ run. Tells (machine_of (trace_in q.plan)) (start_of (trace_in q.plan)) run q.thread y.steps
+    (Out o Writing v))
+    → Allows (Woven q.plan) slots id (q ∷ [], c) (word_place o) (λ _. (v + 1) * 2 ^ 32)
+    (λ _. stepped_on (step slots (word_place o) ((v + 1) * 2 ^ 32) 0 none) (q ∷ [], c) ((v + 1) * 2 ^ 32))
 left_writing_at slots id o v y q c ahead inside is has tells x h homes at small =
     let f : FittedTrace = trace_in q.plan in
     let t : ℕ = q.thread in
@@ -337,19 +410,30 @@ left_writing_at slots id o v y q c ahead inside is has tells x h homes at small 
     let m : o < length cu.state.objects = (let e = ap (λ (cs : List Cell). length cs) cu.objects in omega (arith, e, l)) in
     let goes = free_goes q.plan x h id q y at cu (Leave o Writing) (λ p b e. cc e) is has in
     let ask = asks_there f h.state t y (Leave o Writing) cu is in
-    let own = leave_tells f cu.state t o cu.at ask (free_admitted f cu.state t cu.at (has_there f h.state t y cu has) (λ p a e. cc (sym ask ∙ e))) h.run.run h.run.whole in
-    let mine : Tells (machine_of f) (start_of f) h.run.run t y.steps (Out o Writing (cell_of cu.state o).fields.version) = subst (λ z. Tells (machine_of f) (start_of f) h.run.run t z (Out o Writing (cell_of cu.state o).fields.version)) (ap (λ (z : thread.State). z.steps) cu.own) own in
+    let own = leave_tells f cu.state t o cu.at ask
+        (free_admitted f cu.state t cu.at (has_there f h.state t y cu has) (λ p a e. cc (sym ask ∙ e))) h.run.run h.run.whole in
+    let mine : Tells (machine_of f) (start_of f) h.run.run t y.steps (Out o Writing (cell_of cu.state o).fields.version) =
+        subst (λ z. Tells (machine_of f) (start_of f) h.run.run t z (Out o Writing (cell_of cu.state o).fields.version))
+        (ap (λ (z : thread.State). z.steps) cu.own) own in
     let told' = tells h.run.run h.run.whole in
-    let labels : Out o Writing v ≡ Out o Writing (cell_of cu.state o).fields.version = ap (λ z. z.1) (same_label (trail (machine_of f) (start_of f) h.run.run t) y.steps (told'.0, Out o Writing v) (mine.0, Out o Writing (cell_of cu.state o).fields.version) told'.1 mine.1) in
+    let labels : Out o Writing v ≡ Out o Writing (cell_of cu.state o).fields.version =
+        ap (λ z. z.1) (same_label (trail (machine_of f) (start_of f) h.run.run t) y.steps (told'.0, Out o Writing v)
+        (mine.0, Out o Writing (cell_of cu.state o).fields.version) told'.1 mine.1) in
     let version : v ≡ (cell_of cu.state o).fields.version = cc labels in
     let table : IsTable cu.state.objects x.words = subst (λ cs. IsTable cs x.words) (sym cu.objects) h.table in
     let word : w ≡ word_of (left_by Writing (cell_of cu.state o).fields) = omega (arith, version) in
-    let made = steps_on slots id (word_place o) w 0 q c x h at y ahead (Leave o Writing) (λ b. b) is cu goes.0 goes.1 w (λ p i e. absurd (cc e)) (set x.words (word_place o) w)
-    (head_changes cu.state.objects x.words o w (record (cell_of cu.state o) { fields = left_by Writing (cell_of cu.state o).fields }) table m word refl) in
+    let made = steps_on slots id (word_place o) w 0 q c x h at y ahead (Leave o Writing) (λ b. b) is cu goes.0 goes.1 w
+        (λ p i e. absurd (cc e)) (set x.words (word_place o) w)
+    (head_changes cu.state.objects x.words o w (record (cell_of cu.state o) { fields = left_by Writing (cell_of cu.state o).fields }) table
+        m word refl) in
     (made.0, keeps, tt, made.1, made.2)
 
-pub gets_at : (slots id o i : ℕ) (y : thread.State) (q : Progress) (c : List (ℕ × Unit {0})) → IsAhead (trace_in q.plan) q.thread q.position y → o < object_count (trace_in q.plan).guest → i < 8 → ask_of (trace_in q.plan).guest.code y ≡ Get o i
-    → HasStep (trace_in q.plan) q.thread y.steps → Allows (Woven q.plan) slots id (q ∷ [], c) (content_place o i) (λ n. n) (stepped_on (step slots (content_place o i) 0 0 none) (q ∷ [], c))
+pub gets_at : (slots id o i : ℕ) (y : thread.State) (q : Progress) (c : List (ℕ × Unit {0}))
+    → IsAhead (trace_in q.plan) q.thread q.position y → o < object_count (trace_in q.plan).guest → i < 8
+    → ask_of (trace_in q.plan).guest.code y ≡ Get o i
+    → HasStep (trace_in q.plan) q.thread y.steps
+    → Allows (Woven q.plan) slots id (q ∷ [], c) (content_place o i) (λ n. n)
+    (stepped_on (step slots (content_place o i) 0 0 none) (q ∷ [], c))
 gets_at slots id o i y q c ahead inside few is has x h homes at small =
     let f : FittedTrace = trace_in q.plan in
     let t : ℕ = q.thread in
@@ -357,10 +441,14 @@ gets_at slots id o i y q c ahead inside few is has x h homes at small =
     let n : ℕ = get_or x.words (content_place o i) 0 in
     let l : o < length h.state.objects = (let e = h.at.objects in omega (arith, e, inside)) in
     let goes = free_goes q.plan x h id q y at cu (Get o i) (λ p b e. cc e) is has in
-    let found : n ≡ slice_index (cell_of cu.state o).words i = h.table.places o i l few ∙ ap (λ cs. slice_index (object_in cs o).words i) (sym cu.objects) in
-    let table : IsTable cu.state.objects (set x.words (content_place o i) n) = subst (λ cs. IsTable cs (set x.words (content_place o i) n)) (sym cu.objects) (same_words h.state.objects x.words (content_place o i) h.table) in
+    let found : n ≡ slice_index (cell_of cu.state o).words i = h.table.places o i l few
+        ∙ ap (λ cs. slice_index (object_in cs o).words i) (sym cu.objects) in
+    let table : IsTable cu.state.objects (set x.words (content_place o i) n) =
+        subst (λ cs. IsTable cs (set x.words (content_place o i) n)) (sym cu.objects)
+        (same_words h.state.objects x.words (content_place o i) h.table) in
     let made = steps_on slots id (content_place o i) 0 0 q c x h at y ahead (Get o i) (λ b. b) is cu goes.0 goes.1 n
-    (λ p j e. (subst (λ z. z < 2 ^ 32) (sym (h.table.places o i l few)) (h.table.small o i), found ∙ (λ z. slice_index (cell_of cu.state (get_object (e z))).words (get_index (e z))))) (set x.words (content_place o i) n) table in
+    (λ p j e. (subst (λ z. z < 2 ^ 32) (sym (h.table.places o i l few)) (h.table.small o i), found
+        ∙ (λ z. slice_index (cell_of cu.state (get_object (e z))).words (get_index (e z))))) (set x.words (content_place o i) n) table in
     (made.0, keeps, tt, made.1, made.2)
   where
     get_object : Ask → ℕ
@@ -371,8 +459,12 @@ gets_at slots id o i y q c ahead inside few is has x h homes at small =
     get_index (Get o i) = i
     get_index _ = 0
 
-pub puts_at : (slots id o i v : ℕ) (y : thread.State) (q : Progress) (c : List (ℕ × Unit {0})) → v < 2 ^ 32 → IsAhead (trace_in q.plan) q.thread q.position y → o < object_count (trace_in q.plan).guest → i < 8 → ask_of (trace_in q.plan).guest.code y ≡ Put o i v
-    → HasStep (trace_in q.plan) q.thread y.steps → Allows (Woven q.plan) slots id (q ∷ [], c) (content_place o i) (λ _. v) (λ _. stepped_on (step slots (content_place o i) v 0 none) (q ∷ [], c) v)
+pub puts_at : (slots id o i v : ℕ) (y : thread.State) (q : Progress) (c : List (ℕ × Unit {0})) → v < 2 ^ 32
+    → IsAhead (trace_in q.plan) q.thread q.position y → o < object_count (trace_in q.plan).guest → i < 8
+    → ask_of (trace_in q.plan).guest.code y ≡ Put o i v
+    → HasStep (trace_in q.plan) q.thread y.steps
+    → Allows (Woven q.plan) slots id (q ∷ [], c) (content_place o i) (λ _. v)
+    (λ _. stepped_on (step slots (content_place o i) v 0 none) (q ∷ [], c) v)
 puts_at slots id o i v y q c value ahead inside few is has x h homes at small =
     let f : FittedTrace = trace_in q.plan in
     let t : ℕ = q.thread in
@@ -381,6 +473,8 @@ puts_at slots id o i v y q c value ahead inside few is has x h homes at small =
     let m : o < length cu.state.objects = (let e = ap (λ (cs : List Cell). length cs) cu.objects in omega (arith, e, l)) in
     let goes = free_goes q.plan x h id q y at cu (Put o i v) (λ p b e. cc e) is has in
     let table : IsTable cu.state.objects x.words = subst (λ cs. IsTable cs x.words) (sym cu.objects) h.table in
-    let made = steps_on slots id (content_place o i) v 0 q c x h at y ahead (Put o i v) (λ b. b) is cu goes.0 goes.1 v (λ p j e. absurd (cc e)) (set x.words (content_place o i) v)
-    (place_changes cu.state.objects x.words o i v (record (cell_of cu.state o) { words = set (cell_of cu.state o).words i v }) table m few value (cu.flat.objects o m).words refl refl) in
+    let made = steps_on slots id (content_place o i) v 0 q c x h at y ahead (Put o i v) (λ b. b) is cu goes.0 goes.1 v
+        (λ p j e. absurd (cc e)) (set x.words (content_place o i) v)
+    (place_changes cu.state.objects x.words o i v (record (cell_of cu.state o) { words = set (cell_of cu.state o).words i v }) table m few
+        value (cu.flat.objects o m).words refl refl) in
     (made.0, keeps, tt, made.1, made.2)

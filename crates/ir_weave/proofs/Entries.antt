@@ -25,22 +25,31 @@ use Rattle.ir_weave.proofs.Forth.{Goes, logs_on, guest_thread, further_here, fur
 use Rattle.ir_weave.proofs.Results.{entry_next, entry_shut}
 
 -- steps are left in the trace
-left_ahead : (f : FittedTrace) (s : Flat) (t : ℕ) → HasRun f → IsStateAt f (positions s) s → t < length s.threads → HasStep f t (positions s t) → 0 < steps_ahead f.recorded s t
-left_ahead f s t h at l has = let steps = h.whole.1.steps t (guest_thread f s t at l) in let more = has h.run h.whole in omega (arith, steps, more)
+left_ahead : (f : FittedTrace) (s : Flat) (t : ℕ) → HasRun f → IsStateAt f (positions s) s → t < length s.threads
+    → HasStep f t (positions s t) → 0 < steps_ahead f.recorded s t
+left_ahead f s t h at l has = let steps = h.whole.1.steps t (guest_thread f s t at l) in let more = has h.run h.whole in
+    omega (arith, steps, more)
 
-pub open_admitted : (f : FittedTrace) (s : Flat) (t o : ℕ) (a : Access) (e : Event) → HasRun f → IsFlat s → IsStateAt f (positions s) s → t < length s.threads → ask_of s.code (thread_of s t) ≡ Enter o a → HasStep f t (positions s t)
-    → slice_get (recorded_thread f.recorded t).events (thread_of s t).events ≡ Some e → Suits (Enter o a) e → IsOpen (cell_of s o) e → AdmittedAt f (positions s) t
+pub open_admitted : (f : FittedTrace) (s : Flat) (t o : ℕ) (a : Access) (e : Event) → HasRun f → IsFlat s → IsStateAt f (positions s) s
+    → t < length s.threads → ask_of s.code (thread_of s t) ≡ Enter o a → HasStep f t (positions s t)
+    → slice_get (recorded_thread f.recorded t).events (thread_of s t).events ≡ Some e → Suits (Enter o a) e → IsOpen (cell_of s o) e
+    → AdmittedAt f (positions s) t
 open_admitted f s t o a e h flat at l is has event suits opens run of =
-    let g : Goes f s t 0 (Enter o a) = logs_on f s t 0 (Enter o a) flat at l (sym is) has (entry_next f.recorded s t o a e flat l is (left_ahead f s t h at l has) event suits opens) in (
+    let g : Goes f s t 0 (Enter o a) = logs_on f s t 0 (Enter o a) flat at l (sym is) has
+        (entry_next f.recorded s t o a e flat l is (left_ahead f s t h at l has) event suits opens) in (
       has run of,
-      consistent_same (machine_of f) (start_of f) run (positions (next s t 0 (Enter o a))) (further (positions s) t) (λ u. elim (cases_eq u t) [
-        | inl same ↦ subst (λ z. positions (next s t 0 (Enter o a)) z ≡ further (positions s) t z) (sym same) (let b = further_here (positions s) t in let c = g.own in omega (arith, b, c))
+      consistent_same (machine_of f) (start_of f) run (positions (next s t 0 (Enter o a))) (further (positions s) t)
+          (λ u. elim (cases_eq u t) [
+        | inl same ↦ subst (λ z. positions (next s t 0 (Enter o a)) z ≡ further (positions s) t z) (sym same)
+            (let b = further_here (positions s) t in let c = g.own in omega (arith, b, c))
         | inr ne ↦ g.others u ne ∙ sym (further_there (positions s) t u ne)
       ]) (g.at.each run of).consistent,
     )
 
-pub shut_stopped : (f : FittedTrace) (s : Flat) (t o : ℕ) (a : Access) (e : Event) → HasRun f → IsFlat s → IsStateAt f (positions s) s → t < length s.threads → ask_of s.code (thread_of s t) ≡ Enter o a → HasStep f t (positions s t)
-    → slice_get (recorded_thread f.recorded t).events (thread_of s t).events ≡ Some e → Suits (Enter o a) e → (IsOpen (cell_of s o) e → ⊥) → EachRun f (λ run. Admitted (machine_of f) (start_of f) run (positions s) t → ⊥)
+pub shut_stopped : (f : FittedTrace) (s : Flat) (t o : ℕ) (a : Access) (e : Event) → HasRun f → IsFlat s → IsStateAt f (positions s) s
+    → t < length s.threads → ask_of s.code (thread_of s t) ≡ Enter o a → HasStep f t (positions s t)
+    → slice_get (recorded_thread f.recorded t).events (thread_of s t).events ≡ Some e → Suits (Enter o a) e → (IsOpen (cell_of s o) e → ⊥)
+    → EachRun f (λ run. Admitted (machine_of f) (start_of f) run (positions s) t → ⊥)
 shut_stopped f s t o a e h flat at l is has event suits shut run of ad =
     let some = admitted_next f s at run of t (guest_thread f s t at l) ad in
     entry_shut f.recorded s t o a e flat l is (left_ahead f s t h at l has) event suits shut some.0 some.1
@@ -71,4 +80,6 @@ opens_or c (Write object version readers) = elim (cases_eq c.fields.version vers
 pub opens_by : (c d : Cell) (e : Event) → c.fields ≡ d.fields → IsOpen c e → IsOpen d e
 opens_by c d (Answer kind value) same h = h
 opens_by c d (Read object version) same h = (sym (ap (λ z. z.version) same) ∙ h.0, sym (ap (λ z. z.writer) same) ∙ h.1)
-opens_by c d (Write object version readers) same h = (sym (ap (λ z. z.version) same) ∙ h.0, sym (ap (λ z. z.left) same) ∙ h.1, (sym (ap (λ z. z.writer) same) ∙ h.2.0, sym (ap (λ z. z.inside) same) ∙ h.2.1))
+opens_by c d (Write object version readers) same h =
+    (sym (ap (λ z. z.version) same) ∙ h.0, sym (ap (λ z. z.left) same)
+    ∙ h.1, (sym (ap (λ z. z.writer) same) ∙ h.2.0, sym (ap (λ z. z.inside) same) ∙ h.2.1))

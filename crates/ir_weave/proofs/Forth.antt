@@ -50,7 +50,8 @@ pub guest_thread : (f : FittedTrace) (s : Flat) (t : ℕ) → IsStateAt f (posit
 guest_thread f s t at l = let e = at.threads in omega (arith, l, e)
 
 -- by a step that logs what the trace tells next
-pub logs_on : (f : FittedTrace) (s : Flat) (t v : ℕ) (q : Ask) → IsFlat s → IsStateAt f (positions s) s → t < length s.threads → q ≡ ask_of s.code (thread_of s t) → HasStep f t (positions s t) → LogsNext f.recorded s t v → Goes f s t v q
+pub logs_on : (f : FittedTrace) (s : Flat) (t v : ℕ) (q : Ask) → IsFlat s → IsStateAt f (positions s) s → t < length s.threads
+    → q ≡ ask_of s.code (thread_of s t) → HasStep f t (positions s t) → LogsNext f.recorded s t v → Goes f s t v q
 logs_on f s t v q flat at l is has logs =
     let may : MayStep s v q = (can_by_may s t v q flat l is).1 logs.0 in
     let new : Flat = next s t v q in
@@ -67,14 +68,16 @@ logs_on f s t v q flat at l is has logs =
         steps = λ u. refl;
         each = λ run of. leads_at f s new run ((t, v) ∷ []) of at.code (at.each run of)
             (λ u. elim (cases_eq u t) [
-              | inl same ↦ subst (λ w. positions new w ≤ count (machine_of f) (start_of f) run w) (sym same) (let more = has run of in omega (arith, own, more))
+              | inl same ↦ subst (λ w. positions new w ≤ count (machine_of f) (start_of f) run w) (sym same)
+                  (let more = has run of in omega (arith, own, more))
               | inr ne ↦ let within = (at.each run of).cut u in let e = others u ne in omega (arith, within, e)
             ])
             (record {
               runs = (logs.0, tt);
               ends = taken;
               logs = one_logs (machine_in s) (tables s) t v (behind f run (positions s))
-                  (subst (λ es. logged (label (machine_in s) (tables s) (t, v)) (unlogged (label (machine_in s) (tables s) (t, v)) es) ≡ es) (log_behind f (positions s) s run of (at.each run of) t (guest_thread f s t at l)) logs.1);
+                  (subst (λ es. logged (label (machine_in s) (tables s) (t, v)) (unlogged (label (machine_in s) (tables s) (t, v)) es) ≡ es)
+                      (log_behind f (positions s) s run of (at.each run of) t (guest_thread f s t at l)) logs.1);
             });
       };
       own = own;
@@ -82,7 +85,8 @@ logs_on f s t v q flat at l is has logs =
     }
 
 -- by a step that is admitted
-pub admitted_on : (f : FittedTrace) (s : Flat) (t : ℕ) (q : Ask) → HasRun f → IsFlat s → IsStateAt f (positions s) s → t < length s.threads → q ≡ ask_of s.code (thread_of s t) → AdmittedAt f (positions s) t → (v : ℕ) × Goes f s t v q
+pub admitted_on : (f : FittedTrace) (s : Flat) (t : ℕ) (q : Ask) → HasRun f → IsFlat s → IsStateAt f (positions s) s → t < length s.threads
+    → q ≡ ask_of s.code (thread_of s t) → AdmittedAt f (positions s) t → (v : ℕ) × Goes f s t v q
 admitted_on f s t q h flat at l is ad =
     let some = admitted_next f s at h.run h.whole t (guest_thread f s t at l) (ad h.run h.whole) in
     (some.0, logs_on f s t some.0 q flat at l is (λ run of. (ad run of).0) some.1)
@@ -124,25 +128,34 @@ further_le p t u = elim (cases_eq u t) [
 ]
 
 -- what a thread of the state asks
-pub asks_so : (f : FittedTrace) (s : Flat) (t : ℕ) (run : List Step) → IsStateAt f (positions s) s → IsRunOf f.guest f.recorded run → ask_of s.code (thread_of s t) ≡ ask_at f run t (positions s t)
+pub asks_so : (f : FittedTrace) (s : Flat) (t : ℕ) (run : List Step) → IsStateAt f (positions s) s → IsRunOf f.guest f.recorded run
+    → ask_of s.code (thread_of s t) ≡ ask_at f run t (positions s t)
 asks_so f s t run at of = λ i. ask_of (at.code i) ((at.each run of).threads t i)
 
-pub free_admitted : (f : FittedTrace) (s : Flat) (t : ℕ) → IsStateAt f (positions s) s → HasStep f t (positions s t) → ((o : ℕ) (a : Access) → ask_of s.code (thread_of s t) ≢ Enter o a) → AdmittedAt f (positions s) t
+pub free_admitted : (f : FittedTrace) (s : Flat) (t : ℕ) → IsStateAt f (positions s) s → HasStep f t (positions s t)
+    → ((o : ℕ) (a : Access) → ask_of s.code (thread_of s t) ≢ Enter o a) → AdmittedAt f (positions s) t
 free_admitted f s t at has ne run of = (
   has run of,
   λ u k w j a b ha hb need less. elim (cases_lt k (positions s u)) [
-    | inl before ↦ (let c = (at.each run of).consistent u k w j a b ha hb need before in let up = further_le (positions s) t w in omega (arith, c, up))
+    | inl before ↦ (let c = (at.each run of).consistent u k w j a b ha hb need before in let up = further_le (positions s) t w in
+        omega (arith, c, up))
     | inr past ↦ absurd (elim (cases_eq u t) [
-      | inl same ↦ last run of u k w j a b same (let e : k ≡ positions s u = (let up : further (positions s) t u ≡ suc (positions s u) = subst (λ z. further (positions s) t z ≡ suc (positions s z)) (sym same) (further_here (positions s) t) in omega (arith, less, past, up)) in e) ha need
+      | inl same ↦ last run of u k w j a b same
+          (let e : k ≡ positions s u = (let up : further (positions s) t u ≡ suc (positions s u) =
+          subst (λ z. further (positions s) t z ≡ suc (positions s z)) (sym same) (further_here (positions s) t) in
+          omega (arith, less, past, up)) in e) ha need
       | inr other ↦ (let e = further_there (positions s) t u other in omega (arith, e, less, past))
     ])
   ],
 )
   where
-    last : (run : List Step) → IsRunOf f.guest f.recorded run → (u k w j : ℕ) (a b : Label) → u ≡ t → k ≡ positions s u → Tells (machine_of f) (start_of f) run u k a → Needs b a → ⊥
+    last : (run : List Step) → IsRunOf f.guest f.recorded run → (u k w j : ℕ) (a b : Label) → u ≡ t → k ≡ positions s u
+        → Tells (machine_of f) (start_of f) run u k a → Needs b a → ⊥
     last run of u k w j a b same here ha need =
-        let z : StepOf (machine_of f) (th (machine_of f) (start_of f) run u k) (th (machine_of f) (start_of f) run u (suc k)) a = step_at (machine_of f) (start_of f) run of.1.runs u k a ha in
-        let asks : ask_of f.guest.code (th (machine_of f) (start_of f) run u k) ≡ ask_of s.code (thread_of s t) = ap (λ i. ask_at f run u i) here ∙ ap (λ i. ask_at f run i (positions s i)) same ∙ sym (asks_so f s t run at of) in
+        let z : StepOf (machine_of f) (th (machine_of f) (start_of f) run u k) (th (machine_of f) (start_of f) run u (suc k)) a =
+            step_at (machine_of f) (start_of f) run of.1.runs u k a ha in
+        let asks : ask_of f.guest.code (th (machine_of f) (start_of f) run u k) ≡ ask_of s.code (thread_of s t) =
+            ap (λ i. ask_at f run u i) here ∙ ap (λ i. ask_at f run i (positions s i)) same ∙ sym (asks_so f s t run at of) in
         needs_none b (shared_ask (ask_of f.guest.code (th (machine_of f) (start_of f) run u k))) z.result z.object
         (shared_enter (ask_of f.guest.code (th (machine_of f) (start_of f) run u k)) (λ o c e. ne o c (sym asks ∙ e)))
         (shared_try (ask_of f.guest.code (th (machine_of f) (start_of f) run u k)))
@@ -174,7 +187,8 @@ pub record CaughtUp (f : FittedTrace) (s : Flat) (t : ℕ) (x : thread.State) : 
   pub own : thread_of state t ≡ x
   pub others : (u : ℕ) → u ≢ t → positions state u ≡ positions s u
 
-climb : (n : ℕ) (f : FittedTrace) (s : Flat) (t i : ℕ) (x : thread.State) → HasRun f → IsFlat s → IsStateAt f (positions s) s → t < length s.threads → IsThreadAt f t x → AreAlone f t i x.steps → i ≤ positions s t → positions s t + n ≡ x.steps → CaughtUp f s t x
+climb : (n : ℕ) (f : FittedTrace) (s : Flat) (t i : ℕ) (x : thread.State) → HasRun f → IsFlat s → IsStateAt f (positions s) s
+    → t < length s.threads → IsThreadAt f t x → AreAlone f t i x.steps → i ≤ positions s t → positions s t + n ≡ x.steps → CaughtUp f s t x
 climb zero f s t i x h flat at l there alone past sum =
     record {
       state = s;
@@ -182,19 +196,22 @@ climb zero f s t i x h flat at l there alone past sum =
       at = at;
       objects = refl;
       size = refl;
-      own = (at.each h.run h.whole).threads t ∙ ap (λ k. thread_at f h.run t k) (let e : positions s t ≡ x.steps = omega (arith, sum) in e) ∙ sym (there h.run h.whole).1;
+      own = (at.each h.run h.whole).threads t ∙ ap (λ k. thread_at f h.run t k) (let e : positions s t ≡ x.steps = omega (arith, sum) in e)
+          ∙ sym (there h.run h.whole).1;
       others = λ u ne. refl;
     }
 climb (suc n) f s t i x h flat at l there alone past sum =
     let q : Ask = ask_of s.code (thread_of s t) in
-    let own : IsAlone q = subst IsAlone (sym (asks_so f s t h.run at h.whole)) (alone h.run h.whole (positions s t) past (omega (arith, sum))) in
+    let own : IsAlone q = subst IsAlone (sym (asks_so f s t h.run at h.whole))
+        (alone h.run h.whole (positions s t) past (omega (arith, sum))) in
     let has : HasStep f t (positions s t) = λ run of. (let within = (there run of).0 in omega (arith, within, sum)) in
     let goes = admitted_on f s t q h flat at l refl (free_admitted f s t at has (alone_enter q own)) in
     let new : Flat = next s t goes.0 q in
     let g : Goes f s t goes.0 q = goes.1 in
     let more = g.own in
     let size : length new.threads ≡ length s.threads = thread_count s t goes.0 q in
-    let rest : CaughtUp f new t x = climb n f new t i x h g.flat g.at (omega (arith, l, size)) there alone (omega (arith, more, past)) (omega (arith, more, sum)) in
+    let rest : CaughtUp f new t x = climb n f new t i x h g.flat g.at (omega (arith, l, size)) there alone (omega (arith, more, past))
+        (omega (arith, more, sum)) in
     record {
       state = rest.state;
       flat = rest.flat;
@@ -205,6 +222,7 @@ climb (suc n) f s t i x h flat at l there alone past sum =
       others = λ u ne. rest.others u ne ∙ g.others u ne;
     }
 
-pub catch_up : (f : FittedTrace) (s : Flat) (t : ℕ) (x : thread.State) → HasRun f → IsFlat s → IsStateAt f (positions s) s → t < length s.threads → IsThreadAt f t x → AreAlone f t (positions s t) x.steps → positions s t ≤ x.steps → CaughtUp f s t x
+pub catch_up : (f : FittedTrace) (s : Flat) (t : ℕ) (x : thread.State) → HasRun f → IsFlat s → IsStateAt f (positions s) s
+    → t < length s.threads → IsThreadAt f t x → AreAlone f t (positions s t) x.steps → positions s t ≤ x.steps → CaughtUp f s t x
 catch_up f s t x h flat at l there alone past =
     climb (x.steps - positions s t) f s t (positions s t) x h flat at l there alone (le_refl (positions s t)) (omega (arith, past))

@@ -47,7 +47,8 @@ drop_at (y ∷ ys) zero x h = ap (λ z. z ∷ ys) h
 drop_at (y ∷ ys) (suc k) x h = drop_at ys k x h
 
 -- step k of thread t
-pub step_there : (f : FittedTrace) (run : List Step) (t k : ℕ) → k < count (machine_of f) (start_of f) run t → (a : Label) × Tells (machine_of f) (start_of f) run t k a
+pub step_there : (f : FittedTrace) (run : List Step) (t k : ℕ) → k < count (machine_of f) (start_of f) run t → (a : Label)
+    × Tells (machine_of f) (start_of f) run t k a
 step_there f run t k l = let z = at_some (trail (machine_of f) (start_of f) run t) k l in (z.0.1, (z.0.0, z.1))
 
 told_count : (q : Ask) (r : ℕ) (b : Object) → length (logged (told (act_of (shared_ask q) r) b) []) ≡ added q
@@ -62,44 +63,58 @@ told_count Print r b = refl
 told_count (End e) r b = refl
 told_count Done r b = refl
 
-taken : (code : List ℕ) (x : thread.State) (n : ℕ) → (thread_machine code).take x n ≡ after_ask code x (ask_of code x) (reply_of (ask_of code x) n)
+taken : (code : List ℕ) (x : thread.State) (n : ℕ)
+    → (thread_machine code).take x n ≡ after_ask code x (ask_of code x) (reply_of (ask_of code x) n)
 unfolding after_reply
 taken code x n = refl
 
 events_next : (code : List ℕ) (x : thread.State) (n : ℕ) → ((thread_machine code).take x n).events ≡ x.events + added (ask_of code x)
-events_next code x n = ap (λ (z : thread.State). z.events) (taken code x n) ∙ events_added code x (ask_of code x) (reply_of (ask_of code x) n)
+events_next code x n = ap (λ (z : thread.State). z.events) (taken code x n)
+    ∙ events_added code x (ask_of code x) (reply_of (ask_of code x) n)
 
 -- how many events it has logged
-counted : (f : FittedTrace) (run : List Step) → IsRunOf f.guest f.recorded run → (t k : ℕ) → k ≤ count (machine_of f) (start_of f) run t → (thread_at f run t k).events ≡ length (events (take k (trail (machine_of f) (start_of f) run t)))
-counted f run of t zero l = ap (λ (z : thread.State). z.events) (first_thread (machine_of f) (start_of f) run t) ∙ (fresh f.guest f.recorded.budget 0 (length f.guest.entries) t).events
+counted : (f : FittedTrace) (run : List Step) → IsRunOf f.guest f.recorded run → (t k : ℕ) → k ≤ count (machine_of f) (start_of f) run t
+    → (thread_at f run t k).events ≡ length (events (take k (trail (machine_of f) (start_of f) run t)))
+counted f run of t zero l = ap (λ (z : thread.State). z.events) (first_thread (machine_of f) (start_of f) run t)
+    ∙ (fresh f.guest f.recorded.budget 0 (length f.guest.entries) t).events
 counted f run of t (suc k) l =
     let at = step_there f run t k l in
-    let z : StepOf (machine_of f) (thread_at f run t k) (thread_at f run t (suc k)) at.0 = step_at (machine_of f) (start_of f) run of.1.runs t k at.0 at.1 in
+    let z : StepOf (machine_of f) (thread_at f run t k) (thread_at f run t (suc k)) at.0 =
+        step_at (machine_of f) (start_of f) run of.1.runs t k at.0 at.1 in
     let q : Ask = ask_at f run t k in
-    let more : (thread_at f run t (suc k)).events ≡ (thread_at f run t k).events + added q = ap (λ (x : thread.State). x.events) z.next ∙ events_next f.guest.code (thread_at f run t k) (reply (act_of (shared_ask q) z.result) z.object) in
+    let more : (thread_at f run t (suc k)).events ≡ (thread_at f run t k).events + added q = ap (λ (x : thread.State). x.events) z.next
+        ∙ events_next f.guest.code (thread_at f run t k) (reply (act_of (shared_ask q) z.result) z.object) in
     let one : length (logged at.0 []) ≡ added q = ap (λ a. length (logged a [])) z.tells ∙ told_count q z.result z.object in
     let before = counted f run of t k (omega (arith, l)) in
-    let parts : events (take (suc k) (trail (machine_of f) (start_of f) run t)) ≡ events (take k (trail (machine_of f) (start_of f) run t)) ++ logged at.0 [] =
-    ap events (take_at (trail (machine_of f) (start_of f) run t) k (at.1.0, at.0) at.1.1) ∙ events_append (take k (trail (machine_of f) (start_of f) run t)) ((at.1.0, at.0) ∷ []) in
-    let sum = ap (λ (es : List Label). length es) parts ∙ length-append (events (take k (trail (machine_of f) (start_of f) run t))) (logged at.0 []) in
+    let parts : events (take (suc k) (trail (machine_of f) (start_of f) run t)) ≡ events (take k (trail (machine_of f) (start_of f) run t))
+        ++ logged at.0 [] =
+    ap events (take_at (trail (machine_of f) (start_of f) run t) k (at.1.0, at.0) at.1.1)
+        ∙ events_append (take k (trail (machine_of f) (start_of f) run t)) ((at.1.0, at.0) ∷ []) in
+    let sum = ap (λ (es : List Label). length es) parts
+        ∙ length-append (events (take k (trail (machine_of f) (start_of f) run t))) (logged at.0 []) in
     omega (arith, more, one, before, sum)
 
 -- the trace's log behind it
-log_left : (f : FittedTrace) (run : List Step) → IsRunOf f.guest f.recorded run → (t k : ℕ) → t < length f.guest.entries → k ≤ count (machine_of f) (start_of f) run t
-    → drop (thread_at f run t k).events (map label_of (recorded_thread f.recorded t).events) ≡ events (drop k (trail (machine_of f) (start_of f) run t))
+log_left : (f : FittedTrace) (run : List Step) → IsRunOf f.guest f.recorded run → (t k : ℕ) → t < length f.guest.entries
+    → k ≤ count (machine_of f) (start_of f) run t
+    → drop (thread_at f run t k).events (map label_of (recorded_thread f.recorded t).events) ≡ events
+    (drop k (trail (machine_of f) (start_of f) run t))
 log_left f run of t k l within =
     let xs = trail (machine_of f) (start_of f) run t in
     ap (λ n. drop n (map label_of (recorded_thread f.recorded t).events)) (counted f run of t k within)
-    ∙ ap (drop (length (events (take k xs)))) (sym (of.1.logs t l) ∙ ap events (sym (take-append-drop k xs)) ∙ events_append (take k xs) (drop k xs))
+    ∙ ap (drop (length (events (take k xs)))) (sym (of.1.logs t l) ∙ ap events (sym (take-append-drop k xs))
+    ∙ events_append (take k xs) (drop k xs))
     ∙ drop-append_seam (events (take k xs)) (events (drop k xs))
 
-first_label : (xs : List Event) (i : ℕ) (a : Label) (es : List Label) → drop i (map label_of xs) ≡ a ∷ es → (e : Event) × (slice_get xs i ≡ Some e) × (label_of e ≡ a)
+first_label : (xs : List Event) (i : ℕ) (a : Label) (es : List Label) → drop i (map label_of xs) ≡ a ∷ es → (e : Event)
+    × (slice_get xs i ≡ Some e) × (label_of e ≡ a)
 first_label [] zero a es h = absurd (cc h)
 first_label [] (suc i) a es h = absurd (cc h)
 first_label (x ∷ xs) zero a es h = (x, refl, cc h)
 first_label (x ∷ xs) (suc i) a es h = first_label xs i a es h
 
-logs_itself : (q : Ask) (r : ℕ) (b : Object) (es : List Label) → added q ≡ 1 → logged (told (act_of (shared_ask q) r) b) es ≡ told (act_of (shared_ask q) r) b ∷ es
+logs_itself : (q : Ask) (r : ℕ) (b : Object) (es : List Label) → added q ≡ 1
+    → logged (told (act_of (shared_ask q) r) b) es ≡ told (act_of (shared_ask q) r) b ∷ es
 logs_itself Private r b es h = absurd (omega (arith, h))
 logs_itself (Env kind) r b es h = refl
 logs_itself (Enter o Reading) r b es h = refl
@@ -112,15 +127,19 @@ logs_itself (End e) r b es h = absurd (omega (arith, h))
 logs_itself Done r b es h = absurd (omega (arith, h))
 
 -- the event of a step that is logged
-pub event_there : (f : FittedTrace) (run : List Step) → IsRunOf f.guest f.recorded run → (t k : ℕ) → t < length f.guest.entries → k < count (machine_of f) (start_of f) run t → added (ask_at f run t k) ≡ 1
-    → (e : Event) × (slice_get (recorded_thread f.recorded t).events (thread_at f run t k).events ≡ Some e) × Tells (machine_of f) (start_of f) run t k (label_of e)
+pub event_there : (f : FittedTrace) (run : List Step) → IsRunOf f.guest f.recorded run → (t k : ℕ) → t < length f.guest.entries
+    → k < count (machine_of f) (start_of f) run t → added (ask_at f run t k) ≡ 1
+    → (e : Event) × (slice_get (recorded_thread f.recorded t).events (thread_at f run t k).events ≡ Some e)
+    × Tells (machine_of f) (start_of f) run t k (label_of e)
 event_there f run of t k l within one =
     let at = step_there f run t k within in
     let xs = trail (machine_of f) (start_of f) run t in
-    let z : StepOf (machine_of f) (thread_at f run t k) (thread_at f run t (suc k)) at.0 = step_at (machine_of f) (start_of f) run of.1.runs t k at.0 at.1 in
+    let z : StepOf (machine_of f) (thread_at f run t k) (thread_at f run t (suc k)) at.0 =
+        step_at (machine_of f) (start_of f) run of.1.runs t k at.0 at.1 in
     let es : List Label = events (drop (suc k) xs) in
     let first : drop (thread_at f run t k).events (map label_of (recorded_thread f.recorded t).events) ≡ at.0 ∷ es =
-    log_left f run of t k l (omega (arith, within)) ∙ ap events (drop_at xs k (at.1.0, at.0) at.1.1) ∙ ap (λ a. logged a es) z.tells ∙ logs_itself (ask_at f run t k) z.result z.object es one ∙ ap (λ a. a ∷ es) (sym z.tells) in
+    log_left f run of t k l (omega (arith, within)) ∙ ap events (drop_at xs k (at.1.0, at.0) at.1.1) ∙ ap (λ a. logged a es) z.tells
+        ∙ logs_itself (ask_at f run t k) z.result z.object es one ∙ ap (λ a. a ∷ es) (sym z.tells) in
     let found = first_label (recorded_thread f.recorded t).events (thread_at f run t k).events at.0 es first in
     (found.0, found.1, subst (Tells (machine_of f) (start_of f) run t k) (sym found.2) at.1)
 
@@ -144,27 +163,36 @@ goes_on (End e) h n = refl
 goes_on Done h n = refl
 
 -- where nothing is answered
-pub next_go : (f : FittedTrace) (run : List Step) → IsRunOf f.guest f.recorded run → (t k : ℕ) (q : Ask) → k < count (machine_of f) (start_of f) run t → ask_at f run t k ≡ q → is_go q → thread_at f run t (suc k) ≡ after_ask f.guest.code (thread_at f run t k) q Go
+pub next_go : (f : FittedTrace) (run : List Step) → IsRunOf f.guest f.recorded run → (t k : ℕ) (q : Ask)
+    → k < count (machine_of f) (start_of f) run t → ask_at f run t k ≡ q → is_go q
+    → thread_at f run t (suc k) ≡ after_ask f.guest.code (thread_at f run t k) q Go
 next_go f run of t k q l is go =
     let at = step_there f run t k l in
-    let z : StepOf (machine_of f) (thread_at f run t k) (thread_at f run t (suc k)) at.0 = step_at (machine_of f) (start_of f) run of.1.runs t k at.0 at.1 in
+    let z : StepOf (machine_of f) (thread_at f run t k) (thread_at f run t (suc k)) at.0 =
+        step_at (machine_of f) (start_of f) run of.1.runs t k at.0 at.1 in
     let n : ℕ = reply (act_of (shared_ask (ask_at f run t k)) z.result) z.object in
-    z.next ∙ taken f.guest.code (thread_at f run t k) n ∙ ap (λ a. after_ask f.guest.code (thread_at f run t k) a (reply_of a n)) is ∙ ap (after_ask f.guest.code (thread_at f run t k) q) (goes_on q go n)
+    z.next ∙ taken f.guest.code (thread_at f run t k) n ∙ ap (λ a. after_ask f.guest.code (thread_at f run t k) a (reply_of a n)) is
+        ∙ ap (after_ask f.guest.code (thread_at f run t k) q) (goes_on q go n)
 
 told_answer : (kind : EnvKind) (r : ℕ) (b : Object) (j : EnvKind) (v : ℕ) → told (act_of (shared_ask (Env kind)) r) b ≡ Answer j v → r ≡ v
 told_answer kind r b j v h = cc h
 
 -- where a call of the environment is answered as the trace tells
-pub next_answer : (f : FittedTrace) (run : List Step) → IsRunOf f.guest f.recorded run → (t k : ℕ) (kind j : EnvKind) (v : ℕ) → t < length f.guest.entries → k < count (machine_of f) (start_of f) run t → ask_at f run t k ≡ Env kind
-    → slice_get (recorded_thread f.recorded t).events (thread_at f run t k).events ≡ Some (Answered j v) → thread_at f run t (suc k) ≡ after_ask f.guest.code (thread_at f run t k) (Env kind) (Value v)
+pub next_answer : (f : FittedTrace) (run : List Step) → IsRunOf f.guest f.recorded run → (t k : ℕ) (kind j : EnvKind) (v : ℕ)
+    → t < length f.guest.entries → k < count (machine_of f) (start_of f) run t → ask_at f run t k ≡ Env kind
+    → slice_get (recorded_thread f.recorded t).events (thread_at f run t k).events ≡ Some (Answered j v)
+    → thread_at f run t (suc k) ≡ after_ask f.guest.code (thread_at f run t k) (Env kind) (Value v)
 next_answer f run of t k kind j v l within is event =
     let found = event_there f run of t k l within (ap added is) in
     let same : found.0 ≡ Answered j v = cc (found.1, event) in
-    let z : StepOf (machine_of f) (thread_at f run t k) (thread_at f run t (suc k)) (label_of found.0) = step_at (machine_of f) (start_of f) run of.1.runs t k (label_of found.0) found.2 in
-    let tells : told (act_of (shared_ask (Env kind)) z.result) z.object ≡ Answer j v = ap (λ a. told (act_of (shared_ask a) z.result) z.object) (sym is) ∙ sym z.tells ∙ ap label_of same in
+    let z : StepOf (machine_of f) (thread_at f run t k) (thread_at f run t (suc k)) (label_of found.0) =
+        step_at (machine_of f) (start_of f) run of.1.runs t k (label_of found.0) found.2 in
+    let tells : told (act_of (shared_ask (Env kind)) z.result) z.object ≡ Answer j v =
+        ap (λ a. told (act_of (shared_ask a) z.result) z.object) (sym is) ∙ sym z.tells ∙ ap label_of same in
     let r : z.result ≡ v = told_answer kind z.result z.object j v tells in
     z.next ∙ taken f.guest.code (thread_at f run t k) (reply (act_of (shared_ask (ask_at f run t k)) z.result) z.object)
-    ∙ ap (λ a. after_ask f.guest.code (thread_at f run t k) a (reply_of a (reply (act_of (shared_ask a) z.result) z.object))) is ∙ ap (λ n. after_ask f.guest.code (thread_at f run t k) (Env kind) (Value n)) r
+    ∙ ap (λ a. after_ask f.guest.code (thread_at f run t k) a (reply_of a (reply (act_of (shared_ask a) z.result) z.object))) is
+    ∙ ap (λ n. after_ask f.guest.code (thread_at f run t k) (Env kind) (Value n)) r
 
 -- ---- the thread after it
 
@@ -201,13 +229,16 @@ pub record Takes (f : FittedTrace) (t : ℕ) (x : thread.State) (q : Ask) (r : R
   pub has : HasStep f t x.steps
   pub next : EachRun f (λ run. thread_at f run t (suc x.steps) ≡ after_ask f.guest.code (thread_at f run t x.steps) q r)
 
-thread_then : (f : FittedTrace) (t : ℕ) (x : thread.State) (q : Ask) (r : Reply) → IsThreadAt f t x → Takes f t x q r → IsThreadAt f t (after_ask f.guest.code x q r)
+thread_then : (f : FittedTrace) (t : ℕ) (x : thread.State) (q : Ask) (r : Reply) → IsThreadAt f t x → Takes f t x q r
+    → IsThreadAt f t (after_ask f.guest.code x q r)
 thread_then f t x q r at k run of =
     let more = more_steps f.guest.code x q r k.step in
-    ((let a = k.has run of in omega (arith, more, a)), ap (λ z. after_ask f.guest.code z q r) (at run of).1 ∙ sym (k.next run of) ∙ ap (thread_at f run t) (let e : suc x.steps ≡ (after_ask f.guest.code x q r).steps = omega (arith, more) in e))
+    ((let a = k.has run of in omega (arith, more, a)), ap (λ z. after_ask f.guest.code z q r) (at run of).1 ∙ sym (k.next run of)
+        ∙ ap (thread_at f run t) (let e : suc x.steps ≡ (after_ask f.guest.code x q r).steps = omega (arith, more) in e))
 
 -- ahead by one step more that touches no object
-pub ahead_alone : (f : FittedTrace) (t i : ℕ) (x : thread.State) (q : Ask) (r : Reply) → IsAhead f t i x → Takes f t x q r → IsAlone q → IsAhead f t i (after_ask f.guest.code x q r)
+pub ahead_alone : (f : FittedTrace) (t i : ℕ) (x : thread.State) (q : Ask) (r : Reply) → IsAhead f t i x → Takes f t x q r → IsAlone q
+    → IsAhead f t i (after_ask f.guest.code x q r)
 ahead_alone f t i x q r ahead k alone =
     let more = more_steps f.guest.code x q r k.step in record {
       run = ahead.run;
@@ -218,12 +249,14 @@ ahead_alone f t i x q r ahead k alone =
       at = thread_then f t x q r ahead.at k;
       alone = λ run of j past less. elim (cases_lt j x.steps) [
         | inl before ↦ ahead.alone run of j past before
-        | inr last ↦ subst (λ z. IsAlone (ask_at f run t z)) (let e : x.steps ≡ j = omega (arith, last, less, more) in e) (subst IsAlone (sym (ap (ask_of f.guest.code) (sym (ahead.at run of).1) ∙ k.asks)) alone)
+        | inr last ↦ subst (λ z. IsAlone (ask_at f run t z)) (let e : x.steps ≡ j = omega (arith, last, less, more) in e)
+            (subst IsAlone (sym (ap (ask_of f.guest.code) (sym (ahead.at run of).1) ∙ k.asks)) alone)
       ];
     }
 
 -- where the step touched an object, nothing is ahead of it
-pub ahead_none : (f : FittedTrace) (t i : ℕ) (x : thread.State) (q : Ask) (r : Reply) → IsAhead f t i x → Takes f t x q r → IsAhead f t (suc x.steps) (after_ask f.guest.code x q r)
+pub ahead_none : (f : FittedTrace) (t i : ℕ) (x : thread.State) (q : Ask) (r : Reply) → IsAhead f t i x → Takes f t x q r
+    → IsAhead f t (suc x.steps) (after_ask f.guest.code x q r)
 ahead_none f t i x q r ahead k =
     let more = more_steps f.guest.code x q r k.step in record {
       run = ahead.run;
@@ -248,10 +281,12 @@ ahead_here f t i x ahead = record {
 }
 
 -- what it asks in each run
-pub asks_in : (f : FittedTrace) (t i : ℕ) (x : thread.State) (q : Ask) (run : List Step) → IsRunOf f.guest f.recorded run → IsAhead f t i x → ask_of f.guest.code x ≡ q → ask_at f run t x.steps ≡ q
+pub asks_in : (f : FittedTrace) (t i : ℕ) (x : thread.State) (q : Ask) (run : List Step) → IsRunOf f.guest f.recorded run → IsAhead f t i x
+    → ask_of f.guest.code x ≡ q → ask_at f run t x.steps ≡ q
 asks_in f t i x q run of ahead is = ap (ask_of f.guest.code) (sym (ahead.at run of).1) ∙ is
 
-pub takes_go : (f : FittedTrace) (t i : ℕ) (x : thread.State) (q : Ask) → IsAhead f t i x → ask_of f.guest.code x ≡ q → HasStep f t x.steps → is_go q → really q → Takes f t x q Go
+pub takes_go : (f : FittedTrace) (t i : ℕ) (x : thread.State) (q : Ask) → IsAhead f t i x → ask_of f.guest.code x ≡ q → HasStep f t x.steps
+    → is_go q → really q → Takes f t x q Go
 takes_go f t i x q ahead is has go step = record {
   asks = is;
   step = step;
@@ -259,7 +294,9 @@ takes_go f t i x q ahead is has go step = record {
   next = λ run of. next_go f run of t x.steps q (has run of) (asks_in f t i x q run of ahead is) go;
 }
 
-pub takes_answer : (f : FittedTrace) (t i : ℕ) (x : thread.State) (kind j : EnvKind) (v : ℕ) → IsAhead f t i x → ask_of f.guest.code x ≡ Env kind → HasStep f t x.steps → slice_get (recorded_thread f.recorded t).events x.events ≡ Some (Answered j v) → Takes f t x (Env kind) (Value v)
+pub takes_answer : (f : FittedTrace) (t i : ℕ) (x : thread.State) (kind j : EnvKind) (v : ℕ) → IsAhead f t i x
+    → ask_of f.guest.code x ≡ Env kind → HasStep f t x.steps
+    → slice_get (recorded_thread f.recorded t).events x.events ≡ Some (Answered j v) → Takes f t x (Env kind) (Value v)
 takes_answer f t i x kind j v ahead is has event = record {
   asks = is;
   step = tt;
@@ -274,5 +311,6 @@ never_done f t i x ahead has is =
     let run : List Step = ahead.run.run in
     let of = ahead.run.whole in
     let at = step_there f run t x.steps (has run of) in
-    let z : StepOf (machine_of f) (thread_at f run t x.steps) (thread_at f run t (suc x.steps)) at.0 = step_at (machine_of f) (start_of f) run of.1.runs t x.steps at.0 at.1 in
+    let z : StepOf (machine_of f) (thread_at f run t x.steps) (thread_at f run t (suc x.steps)) at.0 =
+        step_at (machine_of f) (start_of f) run of.1.runs t x.steps at.0 at.1 in
     subst (λ q. Admits (machine_of f) (act_of (shared_ask q) z.result) z.object) (asks_in f t i x Done run of ahead is) z.can

@@ -30,11 +30,14 @@ up f old new t g u = elim (cases_eq u t) [
 ]
 
 -- what is admitted stays so while another thread goes on
-pub stays_admitted : (f : FittedTrace) (old new : Flat) (t u : ℕ) → IsFurther f old new t → u ≢ t → AdmittedAt f (positions old) u → AdmittedAt f (positions new) u
-stays_admitted f old new t u g ne ad run of = persists (machine_of f) (start_of f) run (positions old) (positions new) u (ad run of) (g.at.each run of).consistent (up f old new t g) (g.others u ne)
+pub stays_admitted : (f : FittedTrace) (old new : Flat) (t u : ℕ) → IsFurther f old new t → u ≢ t → AdmittedAt f (positions old) u
+    → AdmittedAt f (positions new) u
+stays_admitted f old new t u g ne ad run of = persists (machine_of f) (start_of f) run (positions old) (positions new) u (ad run of)
+    (g.at.each run of).consistent (up f old new t g) (g.others u ne)
 
 -- the tracks of other seats
-pub others_stay : (k : Plan) (old new : Flat) (t : ℕ) (seat : ℕ → ℕ) (j : ℕ) (v : View) → IsFurther (trace_in k) old new t → seat t ≢ j → AreTracks k old seat j v → AreTracks k new seat j v
+pub others_stay : (k : Plan) (old new : Flat) (t : ℕ) (seat : ℕ → ℕ) (j : ℕ) (v : View) → IsFurther (trace_in k) old new t → seat t ≢ j
+    → AreTracks k old seat j v → AreTracks k new seat j v
 others_stay k old new t seat j [] g ne h = tt
 others_stay k old new t seat j (q ∷ qs) g ne h =
     let apart : q.thread ≢ t = λ is. ne (sym (ap seat is) ∙ h.0.mine) in (
@@ -48,8 +51,10 @@ others_stay k old new t seat j (q ∷ qs) g ne h =
       others_stay k old new t seat j qs g ne h.1,
     )
 
-pub moves : (k : Plan) (x : State (Unit {0}) View) (h : Woven k x) (id : ℕ) (q : Progress) → get_elem? x.views id ≡ some (q ∷ []) → (new : Flat) → IsFurther (trace_in k) h.state new q.thread → (i : ℕ) → positions new q.thread ≡ i
-    → (granted : Bool) → (granted ≡ true → AdmittedAt (trace_in k) (positions new) q.thread) → (ws : List ℕ) (hs : List _) → IsTable new.objects ws → Woven k (record { words = ws; homes = hs; views = set x.views id (progress k q.thread i granted ∷ []) })
+pub moves : (k : Plan) (x : State (Unit {0}) View) (h : Woven k x) (id : ℕ) (q : Progress) → get_elem? x.views id ≡ some (q ∷ [])
+    → (new : Flat) → IsFurther (trace_in k) h.state new q.thread → (i : ℕ) → positions new q.thread ≡ i
+    → (granted : Bool) → (granted ≡ true → AdmittedAt (trace_in k) (positions new) q.thread) → (ws : List ℕ) (hs : List _)
+    → IsTable new.objects ws → Woven k (record { words = ws; homes = hs; views = set x.views id (progress k q.thread i granted ∷ []) })
 moves k x h id q at new g i here granted ad ws hs table =
     let own : IsTrack k h.state h.seat id q = (h.tracks id (q ∷ []) at).0 in record {
       run = h.run;

@@ -21,11 +21,16 @@ use Rattle.ir_weave.proofs.Behind.{law, good, sorted, at_tables, steps_counted, 
 -- ---- the end of a prefix
 
 -- the tables at the end of a prefix of the run, whose threads are not past their last steps
-at_end : (f : FittedTrace) (s : Flat) (run prefix : List Step) → IsRunOf f.guest f.recorded run → IsRun (machine_of f) (start_of f) prefix → (left : ℕ → List Label) → ((t : ℕ) → log (machine_of f) (start_of f) prefix t ++ left t ≡ log (machine_of f) (start_of f) run t)
-    → tables s ≡ end (machine_of f) (start_of f) prefix → ((t : ℕ) → positions s t ≤ count (machine_of f) (start_of f) run t) → IsAt f (positions s) s run
+at_end : (f : FittedTrace) (s : Flat) (run prefix : List Step) → IsRunOf f.guest f.recorded run → IsRun (machine_of f) (start_of f) prefix
+    → (left : ℕ → List Label) → ((t : ℕ) → log (machine_of f) (start_of f) prefix t ++ left t ≡ log (machine_of f) (start_of f) run t)
+    → tables s ≡ end (machine_of f) (start_of f) prefix → ((t : ℕ) → positions s t ≤ count (machine_of f) (start_of f) run t)
+    → IsAt f (positions s) s run
 at_end f s run prefix is ok left logs ends within =
-    let counted : (t : ℕ) → count (machine_of f) (start_of f) prefix t ≡ positions s t = λ t. sym (ap (λ z. (z.now t).steps) ends ∙ steps_counted f prefix ok t) in
-    let at : IsPrefix (machine_of f) (start_of f) run prefix (positions s) = prefix_at (machine_of f) (law f) (start_of f) (good f) run prefix is.1.runs ok left logs (λ t. subst (λ n. n ≤ count (machine_of f) (start_of f) run t) (sym (counted t)) (within t)) (positions s) counted in
+    let counted : (t : ℕ) → count (machine_of f) (start_of f) prefix t ≡ positions s t =
+        λ t. sym (ap (λ z. (z.now t).steps) ends ∙ steps_counted f prefix ok t) in
+    let at : IsPrefix (machine_of f) (start_of f) run prefix (positions s) =
+        prefix_at (machine_of f) (law f) (start_of f) (good f) run prefix is.1.runs ok left logs
+        (λ t. subst (λ n. n ≤ count (machine_of f) (start_of f) run t) (sym (counted t)) (within t)) (positions s) counted in
     at_tables f (positions s) s run is at.cut at.consistent (ends ∙ at.same_end)
 
 -- ---- the start
@@ -41,37 +46,49 @@ starts_at f s same = subst (IsStateAt f (λ t. 0)) (sym same) (record {
   steps = none_taken f;
   each = λ run is.
       subst (λ p. IsAt f p (start_flat f.guest f.recorded.budget) run) (λ i t. none_taken f t i)
-      (at_end f (start_flat f.guest f.recorded.budget) run [] is tt (log (machine_of f) (start_of f) run) (λ t. refl) refl (λ t. let none = none_taken f t in omega (arith, none)));
+      (at_end f (start_flat f.guest f.recorded.budget) run [] is tt (log (machine_of f) (start_of f) run) (λ t. refl)
+          refl (λ t. let none = none_taken f t in omega (arith, none)));
 })
 
 -- ---- further steps
 
 -- steps from a state that lead to another, and log the first of what the run has left
-pub record Leads (more : List Step) (new : State thread.State) (left : ℕ → List Label) (m : Machine thread.State) (s : State thread.State) : Type 0 where
+pub record Leads (more : List Step) (new : State thread.State) (left : ℕ → List Label) (m : Machine thread.State) (s : State thread.State) :
+    Type 0 where
   pub runs : IsRun m s more
   pub ends : new ≡ end m s more
   pub logs : (t : ℕ) → (rest : List Label) × (log m s more t ++ rest ≡ left t)
 
-pub leads_at : (f : FittedTrace) (s new : Flat) (run more : List Step) → IsRunOf f.guest f.recorded run → s.code ≡ f.guest.code → IsAt f (positions s) s run → ((t : ℕ) → positions new t ≤ count (machine_of f) (start_of f) run t)
+pub leads_at : (f : FittedTrace) (s new : Flat) (run more : List Step) → IsRunOf f.guest f.recorded run → s.code ≡ f.guest.code
+    → IsAt f (positions s) s run → ((t : ℕ) → positions new t ≤ count (machine_of f) (start_of f) run t)
     → Leads more (tables new) (behind f run (positions s)) (machine s) (tables s) → IsAt f (positions new) new run
 leads_at f s new run more is code at within leads =
-    let k : Leads more (tables new) (behind f run (positions s)) (machine_of f) (end (machine_of f) (start_of f) (part run (positions s))) = there f (positions s) s run is code at (Leads more (tables new) (behind f run (positions s))) leads in
-    at_end f new run (part run (positions s) ++ more) is (run_append (machine_of f) (start_of f) (part run (positions s)) more (sorted f run is (positions s) at.consistent).ok k.runs) (λ t. (k.logs t).0)
+    let k : Leads more (tables new) (behind f run (positions s)) (machine_of f) (end (machine_of f) (start_of f) (part run (positions s))) =
+        there f (positions s) s run is code at (Leads more (tables new) (behind f run (positions s))) leads in
+    at_end f new run (part run (positions s) ++ more) is
+        (run_append (machine_of f) (start_of f) (part run (positions s)) more (sorted f run is (positions s) at.consistent).ok k.runs)
+        (λ t. (k.logs t).0)
     (λ t. ap (λ z. z ++ (k.logs t).0) (log_append (machine_of f) (start_of f) (part run (positions s)) more t)
-    ∙ append_assoc (log (machine_of f) (start_of f) (part run (positions s)) t) (log (machine_of f) (end (machine_of f) (start_of f) (part run (positions s))) more t) (k.logs t).0
-    ∙ ap (λ z. log (machine_of f) (start_of f) (part run (positions s)) t ++ z) (k.logs t).1 ∙ log_parts f run is (positions s) at.consistent t)
+    ∙ append_assoc (log (machine_of f) (start_of f) (part run (positions s)) t)
+    (log (machine_of f) (end (machine_of f) (start_of f) (part run (positions s))) more t) (k.logs t).0
+    ∙ ap (λ z. log (machine_of f) (start_of f) (part run (positions s)) t ++ z) (k.logs t).1
+    ∙ log_parts f run is (positions s) at.consistent t)
     (k.ends ∙ sym (end_append (machine_of f) (start_of f) (part run (positions s)) more)) within
 
 -- a state that isn't past the target, by such steps
-leads_under : (f : FittedTrace) (target : List ℕ) (s new : Flat) (more : List Step) → IsTarget f target → IsUnder f target s → new.code ≡ s.code → length new.threads ≡ length s.threads → length new.objects ≡ length s.objects
-    → ((t : ℕ) → positions new t ≤ cut_of target t) → ((run : List Step) → IsRunOf f.guest f.recorded run → Leads more (tables new) (behind f run (positions s)) (machine s) (tables s)) → IsUnder f target new
+leads_under : (f : FittedTrace) (target : List ℕ) (s new : Flat) (more : List Step) → IsTarget f target → IsUnder f target s
+    → new.code ≡ s.code → length new.threads ≡ length s.threads → length new.objects ≡ length s.objects
+    → ((t : ℕ) → positions new t ≤ cut_of target t)
+    → ((run : List Step) → IsRunOf f.guest f.recorded run → Leads more (tables new) (behind f run (positions s)) (machine s) (tables s))
+    → IsUnder f target new
 leads_under f target s new more aim under code threads objects below leads = record {
   state = record {
     code = code ∙ under.state.code;
     threads = threads ∙ under.state.threads;
     objects = objects ∙ under.state.objects;
     steps = λ t. refl;
-    each = λ run is. leads_at f s new run more is under.state.code (under.state.each run is) (λ t. let a = below t in let b = (aim.consistent run is).0 t in omega (arith, a, b)) (leads run is);
+    each = λ run is. leads_at f s new run more is under.state.code (under.state.each run is)
+        (λ t. let a = below t in let b = (aim.consistent run is).0 t in omega (arith, a, b)) (leads run is);
   };
   below = below;
 }
@@ -86,22 +103,31 @@ logged_any (Refused o) es = refl
 logged_any (Out o a v) es = refl
 
 -- what a step of thread t logs
-pub one_logs : {T : Type 0} (m : Machine T) (s : State T) (t v : ℕ) (left : ℕ → List Label) → logged (label m s (t, v)) (unlogged (label m s (t, v)) (left t)) ≡ left t → (u : ℕ) → (rest : List Label) × (log m s ((t, v) ∷ []) u ++ rest ≡ left u)
+pub one_logs : {T : Type 0} (m : Machine T) (s : State T) (t v : ℕ) (left : ℕ → List Label)
+    → logged (label m s (t, v)) (unlogged (label m s (t, v)) (left t)) ≡ left t → (u : ℕ) → (rest : List Label)
+    × (log m s ((t, v) ∷ []) u ++ rest ≡ left u)
 one_logs m s t v left own u = elim (cases_eq u t) [
   | inl same ↦ subst (λ w. (rest : List Label) × (log m s ((t, v) ∷ []) w ++ rest ≡ left w)) (sym same)
-      (unlogged (label m s (t, v)) (left t), ap (λ z. events z ++ unlogged (label m s (t, v)) (left t)) (trail_same m s (t, v) []) ∙ logged_any (label m s (t, v)) (unlogged (label m s (t, v)) (left t)) ∙ own)
+      (unlogged (label m s (t, v)) (left t), ap (λ z. events z ++ unlogged (label m s (t, v)) (left t)) (trail_same m s (t, v) [])
+          ∙ logged_any (label m s (t, v)) (unlogged (label m s (t, v)) (left t)) ∙ own)
   | inr other ↦ (left u, ap (λ z. events z ++ left u) (trail_other m s (t, v) [] u other))
 ]
 
 -- how far each thread is after it
-pub own_step : (s new : Flat) (t v : ℕ) → Can (machine s) (tables s) (t, v) → tables new ≡ after (machine s) (tables s) (t, v) → positions new t ≡ positions s t + 1
-own_step s new t v can taken = ap (λ z. (z.now t).steps) taken ∙ (tally s.code (tables s) ((t, v) ∷ []) (can, tt) t).steps ∙ ap (λ z. positions s t + length z) (trail_same (machine s) (tables s) (t, v) [])
+pub own_step : (s new : Flat) (t v : ℕ) → Can (machine s) (tables s) (t, v) → tables new ≡ after (machine s) (tables s) (t, v)
+    → positions new t ≡ positions s t + 1
+own_step s new t v can taken = ap (λ z. (z.now t).steps) taken ∙ (tally s.code (tables s) ((t, v) ∷ []) (can, tt) t).steps
+    ∙ ap (λ z. positions s t + length z) (trail_same (machine s) (tables s) (t, v) [])
 
-pub other_steps : (s new : Flat) (t v : ℕ) → Can (machine s) (tables s) (t, v) → tables new ≡ after (machine s) (tables s) (t, v) → (u : ℕ) → u ≢ t → positions new u ≡ positions s u
-other_steps s new t v can taken u ne = ap (λ z. (z.now u).steps) taken ∙ (tally s.code (tables s) ((t, v) ∷ []) (can, tt) u).steps ∙ ap (λ z. positions s u + length z) (trail_other (machine s) (tables s) (t, v) [] u ne) ∙ (let e : positions s u + 0 ≡ positions s u = omega arith in e)
+pub other_steps : (s new : Flat) (t v : ℕ) → Can (machine s) (tables s) (t, v) → tables new ≡ after (machine s) (tables s) (t, v) → (u : ℕ)
+    → u ≢ t → positions new u ≡ positions s u
+other_steps s new t v can taken u ne = ap (λ z. (z.now u).steps) taken ∙ (tally s.code (tables s) ((t, v) ∷ []) (can, tt) u).steps
+    ∙ ap (λ z. positions s u + length z) (trail_other (machine s) (tables s) (t, v) [] u ne)
+    ∙ (let e : positions s u + 0 ≡ positions s u = omega arith in e)
 
 -- positions of which one is changed stay below the target
-below_still : (target : List ℕ) (s new : Flat) (t : ℕ) → ((u : ℕ) → positions s u ≤ cut_of target u) → positions new t ≤ cut_of target t → ((u : ℕ) → u ≢ t → positions new u ≡ positions s u) → (u : ℕ) → positions new u ≤ cut_of target u
+below_still : (target : List ℕ) (s new : Flat) (t : ℕ) → ((u : ℕ) → positions s u ≤ cut_of target u) → positions new t ≤ cut_of target t
+    → ((u : ℕ) → u ≢ t → positions new u ≡ positions s u) → (u : ℕ) → positions new u ≤ cut_of target u
 below_still target s new t below own others u = elim (cases_eq u t) [
   | inl same ↦ subst (λ w. positions new w ≤ cut_of target w) (sym same) own
   | inr ne ↦ let a = others u ne in let b = below u in omega (arith, a, b)
@@ -112,26 +138,33 @@ pub record Stepped (f : FittedTrace) (target : List ℕ) (s new : Flat) (t : ℕ
   pub under : IsUnder f target new
   pub gone : HasGone s new t 1
 
-stepped : (f : FittedTrace) (target : List ℕ) (s new : Flat) (t v : ℕ) → IsTarget f target → IsUnder f target s → t < length target → positions s t < cut_of target t → LogsNext f.recorded s t v
-    → tables new ≡ after (machine s) (tables s) (t, v) → new.code ≡ s.code → length new.threads ≡ length s.threads → length new.objects ≡ length s.objects → Stepped f target s new t
+stepped : (f : FittedTrace) (target : List ℕ) (s new : Flat) (t v : ℕ) → IsTarget f target → IsUnder f target s → t < length target
+    → positions s t < cut_of target t → LogsNext f.recorded s t v
+    → tables new ≡ after (machine s) (tables s) (t, v) → new.code ≡ s.code → length new.threads ≡ length s.threads
+    → length new.objects ≡ length s.objects → Stepped f target s new t
 stepped f target s new t v aim under there_is before next taken code threads objects =
     let own : positions new t ≡ positions s t + 1 = own_step s new t v next.0 taken in
     let others : (u : ℕ) → u ≢ t → positions new u ≡ positions s u = other_steps s new t v next.0 taken in
     record {
-      under = leads_under f target s new ((t, v) ∷ []) aim under code threads objects (below_still target s new t under.below (omega (arith, own, before)) others)
+      under = leads_under f target s new ((t, v) ∷ []) aim under code threads objects
+          (below_still target s new t under.below (omega (arith, own, before)) others)
           (λ run is. record {
             runs = (next.0, tt);
             ends = taken;
             logs = one_logs (machine s) (tables s) t v (behind f run (positions s))
-                (subst (λ es. logged (label (machine s) (tables s) (t, v)) (unlogged (label (machine s) (tables s) (t, v)) es) ≡ es) (log_behind f (positions s) s run is (under.state.each run is) t (subst (λ n. t < n) aim.size there_is)) next.1);
+                (subst (λ es. logged (label (machine s) (tables s) (t, v)) (unlogged (label (machine s) (tables s) (t, v)) es) ≡ es)
+                    (log_behind f (positions s) s run is (under.state.each run is) t (subst (λ n. t < n) aim.size there_is)) next.1);
           });
       gone = record { own = own; others = others };
     }
 
 -- the same by what the step answers
-pub step_taken : {X E : Type 0} (result : Result X E) (f : FittedTrace) (target : List ℕ) (s new : Flat) (t v : ℕ) → IsTarget f target → IsUnder f target s → t < length target → positions s t < cut_of target t → LogsNext f.recorded s t v
-    → OnOk result (tables new ≡ after (machine s) (tables s) (t, v)) → new.code ≡ s.code → length new.threads ≡ length s.threads → length new.objects ≡ length s.objects → OnErr result (Can (machine s) (tables s) (t, v) → ⊥) → Stepped f target s new t
-step_taken (Ok x) f target s new t v aim under there_is before next taken code threads objects never = stepped f target s new t v aim under there_is before next taken code threads objects
+pub step_taken : {X E : Type 0} (result : Result X E) (f : FittedTrace) (target : List ℕ) (s new : Flat) (t v : ℕ) → IsTarget f target
+    → IsUnder f target s → t < length target → positions s t < cut_of target t → LogsNext f.recorded s t v
+    → OnOk result (tables new ≡ after (machine s) (tables s) (t, v)) → new.code ≡ s.code → length new.threads ≡ length s.threads
+    → length new.objects ≡ length s.objects → OnErr result (Can (machine s) (tables s) (t, v) → ⊥) → Stepped f target s new t
+step_taken (Ok x) f target s new t v aim under there_is before next taken code threads objects never =
+    stepped f target s new t v aim under there_is before next taken code threads objects
 step_taken (Err x) f target s new t v aim under there_is before next taken code threads objects never = absurd (never next.0)
 
 -- ---- private steps
@@ -145,16 +178,21 @@ count_others m s t zero u ne = refl
 count_others m s t (suc n) u ne = ap length (trail_other m s (t, 0) (replicate n (t, 0)) u ne) ∙ count_others m (after m s (t, 0)) t n u ne
 
 pub alone_own : (s new : Flat) (t n : ℕ) → WentAlone s new t n → positions new t ≡ positions s t + n
-alone_own s new t n w = ap (λ z. (z.now t).steps) w.ends ∙ (tally s.code (tables s) (replicate n (t, 0)) w.runs t).steps ∙ ap (λ z. positions s t + z) (count_alone (machine s) (tables s) t n)
+alone_own s new t n w = ap (λ z. (z.now t).steps) w.ends ∙ (tally s.code (tables s) (replicate n (t, 0)) w.runs t).steps
+    ∙ ap (λ z. positions s t + z) (count_alone (machine s) (tables s) t n)
 
 pub alone_others : (s new : Flat) (t n : ℕ) → WentAlone s new t n → (u : ℕ) → u ≢ t → positions new u ≡ positions s u
-alone_others s new t n w u ne = ap (λ z. (z.now u).steps) w.ends ∙ (tally s.code (tables s) (replicate n (t, 0)) w.runs u).steps ∙ ap (λ z. positions s u + z) (count_others (machine s) (tables s) t n u ne) ∙ (let e : positions s u + 0 ≡ positions s u = omega arith in e)
+alone_others s new t n w u ne = ap (λ z. (z.now u).steps) w.ends ∙ (tally s.code (tables s) (replicate n (t, 0)) w.runs u).steps
+    ∙ ap (λ z. positions s u + z) (count_others (machine s) (tables s) t n u ne)
+    ∙ (let e : positions s u + 0 ≡ positions s u = omega arith in e)
 
 -- a thread that goes on by private steps, not past its target
-pub alone_under : (f : FittedTrace) (target : List ℕ) (s new : Flat) (t n : ℕ) → IsTarget f target → IsUnder f target s → n ≤ cut_of target t - positions s t → WentAlone s new t n → IsUnder f target new
+pub alone_under : (f : FittedTrace) (target : List ℕ) (s new : Flat) (t n : ℕ) → IsTarget f target → IsUnder f target s
+    → n ≤ cut_of target t - positions s t → WentAlone s new t n → IsUnder f target new
 alone_under f target s new t n aim under few w =
     leads_under f target s new (replicate n (t, 0)) aim under w.code w.threads w.objects
-    (below_still target s new t under.below (let own = alone_own s new t n w in let b = under.below t in omega (arith, own, few, b)) (alone_others s new t n w))
+    (below_still target s new t under.below (let own = alone_own s new t n w in let b = under.below t in omega (arith, own, few, b))
+        (alone_others s new t n w))
     (λ run is. record {
       runs = w.runs;
       ends = w.ends;

@@ -29,9 +29,11 @@ use Rattle.ir_weave.specs.declared.plan.Plan.{Plan}
 
 tracks_fit : (k : Plan) (u m : ℕ) → u + m ≤ length k.opened.value.threads → AreTracks k (opened_in k) (λ _. 0) 0 (tracks_from k u m)
 tracks_fit k u zero le = tt
-tracks_fit k u (suc m) le = (record { plan = refl; there = omega (arith, le); mine = refl; position = refl; granted = λ on. absurd (cc on) }, tracks_fit k (suc u) m (omega (arith, le)))
+tracks_fit k u (suc m) le = (record { plan = refl; there = omega (arith, le); mine = refl; position = refl; granted =
+    λ on. absurd (cc on) }, tracks_fit k (suc u) m (omega (arith, le)))
 
-pub opens : (k : Plan) (ws : List ℕ) → HasRun (trace_in k) → IsFlat (opened_in k) → IsStateAt (trace_in k) (opened_at k) (opened_in k) → IsTable k.opened.value.objects ws → Woven k (opening ws [] (tracks_from k 0 (length k.opened.value.threads)))
+pub opens : (k : Plan) (ws : List ℕ) → HasRun (trace_in k) → IsFlat (opened_in k) → IsStateAt (trace_in k) (opened_at k) (opened_in k)
+    → IsTable k.opened.value.objects ws → Woven k (opening ws [] (tracks_from k 0 (length k.opened.value.threads)))
 opens k ws run flat at table = record {
   run = run;
   state = opened_in k;
@@ -43,33 +45,44 @@ opens k ws run flat at table = record {
   table = table;
 }
   where
-    first : (id : ℕ) (v : View) → get_elem? (tracks_from k 0 (length k.opened.value.threads) ∷ []) id ≡ some v → AreTracks k (opened_in k) (λ _. 0) id v
-    first zero v e = subst (AreTracks k (opened_in k) (λ _. 0) 0) (some-injective (tracks_from k 0 (length k.opened.value.threads)) v e) (tracks_fit k 0 (length k.opened.value.threads) (omega arith))
+    first : (id : ℕ) (v : View) → get_elem? (tracks_from k 0 (length k.opened.value.threads) ∷ []) id ≡ some v
+        → AreTracks k (opened_in k) (λ _. 0) id v
+    first zero v e = subst (AreTracks k (opened_in k) (λ _. 0) 0) (some-injective (tracks_from k 0 (length k.opened.value.threads)) v e)
+        (tracks_fit k 0 (length k.opened.value.threads) (omega arith))
     first (suc id) v e = absurd (some-ne-none v (sym e))
 
 -- the plan of a guest and its state
-pub opens_for : (k : Plan) (f : FittedTrace) (s : Standing) (ws : List ℕ) → k.fitted.value ≡ f → k.opened.value ≡ s → HasRun f → StandsAt f (positions (flat_in f s)) s → IsTable s.objects ws → Woven k (opening ws [] (tracks_from k 0 (length k.opened.value.threads)))
+pub opens_for : (k : Plan) (f : FittedTrace) (s : Standing) (ws : List ℕ) → k.fitted.value ≡ f → k.opened.value ≡ s → HasRun f
+    → StandsAt f (positions (flat_in f s)) s → IsTable s.objects ws
+    → Woven k (opening ws [] (tracks_from k 0 (length k.opened.value.threads)))
 opens_for k f s ws for is run stands table =
-    let both : StandsAt (trace_in k) (positions (flat_in (trace_in k) k.opened.value)) k.opened.value = subst (λ (z : FittedTrace × Standing). StandsAt z.0 (positions (flat_in z.0 z.1)) z.1) (λ i. (sym for i, sym is i)) stands in
+    let both : StandsAt (trace_in k) (positions (flat_in (trace_in k) k.opened.value)) k.opened.value =
+        subst (λ (z : FittedTrace × Standing). StandsAt z.0 (positions (flat_in z.0 z.1)) z.1) (λ i. (sym for i, sym is i)) stands in
     opens k ws (subst HasRun (sym for) run) both.flat both.at (subst (λ (z : Standing). IsTable z.objects ws) (sym is) table)
 
 -- ---- cutting off the first thread
 
-later : (k : Plan) (s : Flat) (seat : ℕ → ℕ) (t new id u m : ℕ) → t < u → AreTracks k s seat id (tracks_from k u m) → AreTracks k s (λ z. if z == t then new else seat z) id (tracks_from k u m)
+later : (k : Plan) (s : Flat) (seat : ℕ → ℕ) (t new id u m : ℕ) → t < u → AreTracks k s seat id (tracks_from k u m)
+    → AreTracks k s (λ z. if z == t then new else seat z) id (tracks_from k u m)
 later k s seat t new id u zero lt h = tt
 later k s seat t new id u (suc m) lt h = (
-  record { plan = h.0.plan; there = h.0.there; mine = ap (λ (b : Bool). if b then new else seat u) (ne_eqb u t (λ e. omega (arith, e, lt))) ∙ h.0.mine; position = h.0.position; granted = h.0.granted },
+  record { plan = h.0.plan; there = h.0.there; mine = ap (λ (b : Bool). if b then new else seat u) (ne_eqb u t (λ e. omega (arith, e, lt)))
+      ∙ h.0.mine; position = h.0.position; granted = h.0.granted },
   later k s seat t new id (suc u) m (omega (arith, lt)) h.1,
 )
 
-elsewhere : (k : Plan) (s : Flat) (seat : ℕ → ℕ) (t new j : ℕ) (v : View) → seat t ≢ j → AreTracks k s seat j v → AreTracks k s (λ z. if z == t then new else seat z) j v
+elsewhere : (k : Plan) (s : Flat) (seat : ℕ → ℕ) (t new j : ℕ) (v : View) → seat t ≢ j → AreTracks k s seat j v
+    → AreTracks k s (λ z. if z == t then new else seat z) j v
 elsewhere k s seat t new j [] ne h = tt
 elsewhere k s seat t new j (q ∷ qs) ne h = (
-  record { plan = h.0.plan; there = h.0.there; mine = ap (λ (b : Bool). if b then new else seat q.thread) (ne_eqb q.thread t (λ e. ne (ap seat (sym e) ∙ h.0.mine))) ∙ h.0.mine; position = h.0.position; granted = h.0.granted },
+  record { plan = h.0.plan; there = h.0.there; mine =
+      ap (λ (b : Bool). if b then new else seat q.thread) (ne_eqb q.thread t (λ e. ne (ap seat (sym e) ∙ h.0.mine))) ∙ h.0.mine; position =
+      h.0.position; granted = h.0.granted },
   elsewhere k s seat t new j qs ne h.1,
 )
 
-at_end : {A : Type 0} (l : List A) (a b : A) (j : ℕ) → get_elem? (l ++ a ∷ []) j ≡ some b → (get_elem? l j ≡ some b) ⊎ ((j ≡ length l) × (a ≡ b))
+at_end : {A : Type 0} (l : List A) (a b : A) (j : ℕ) → get_elem? (l ++ a ∷ []) j ≡ some b → (get_elem? l j ≡ some b)
+    ⊎ ((j ≡ length l) × (a ≡ b))
 at_end [] a b zero e = inr (refl, some-injective a b e)
 at_end [] a b (suc j) e = absurd (some-ne-none b (sym e))
 at_end (x ∷ xs) a b zero e = inl e
@@ -82,7 +95,8 @@ splits k id t m v is x h at =
     let new : ℕ = length x.views in
     let seat' : ℕ → ℕ = λ z. if z == t then new else h.seat z in
     let wide : length (set x.views id (tracks_from k (suc t) m)) ≡ new = length-set x.views id (tracks_from k (suc t) m) in
-    let done : Woven k (record { words = x.words; homes = x.homes; views = set x.views id (tracks_from k (suc t) m) ++ (progress k t (opened_at k t) false ∷ []) ∷ [] }) = record {
+    let done : Woven k (record { words = x.words; homes = x.homes; views =
+        set x.views id (tracks_from k (suc t) m) ++ (progress k t (opened_at k t) false ∷ []) ∷ [] }) = record {
       run = h.run;
       state = h.state;
       flat = h.flat;
@@ -91,35 +105,46 @@ splits k id t m v is x h at =
       seat = seat';
       tracks = λ j u e. elim (at_end (set x.views id (tracks_from k (suc t) m)) (progress k t (opened_at k t) false ∷ []) u j e) [
         | inl was ↦ elim (at_set x.views id j (tracks_from k (suc t) m) u was) [
-          | inl r ↦ subst (λ (z : ℕ). AreTracks k h.state seat' z u) (sym r.0) (subst (AreTracks k h.state seat' id) r.1 (later k h.state h.seat t new id (suc t) m (omega arith) f.1))
+          | inl r ↦ subst (λ (z : ℕ). AreTracks k h.state seat' z u) (sym r.0)
+              (subst (AreTracks k h.state seat' id) r.1 (later k h.state h.seat t new id (suc t) m (omega arith) f.1))
           | inr r ↦ elsewhere k h.state h.seat t new j u (λ e'. r.0 (sym e' ∙ f.0.mine)) (h.tracks j u r.1)
         ]
         | inr q ↦ subst (AreTracks k h.state seat' j) q.1
-            (record { plan = refl; there = f.0.there; mine = ap (λ (b : Bool). if b then new else h.seat t) (eq-eqb t t refl) ∙ (sym wide ∙ sym q.0); position = f.0.position; granted = λ on. absurd (cc on) }, tt)
+            (record { plan = refl; there = f.0.there; mine = ap (λ (b : Bool). if b then new else h.seat t) (eq-eqb t t refl)
+                ∙ (sym wide ∙ sym q.0); position = f.0.position; granted = λ on. absurd (cc on) }, tt)
       ];
       table = h.table;
     } in
-    subst (λ (z : View). Woven k (record { words = x.words; homes = x.homes; views = set x.views id (all_but_first z) ++ first_alone z ∷ [] })) (sym is) done
+    subst (λ (z : View). Woven k (record { words = x.words; homes = x.homes; views = set x.views id (all_but_first z) ++ first_alone z
+        ∷ [] })) (sym is) done
 
 -- ---- two seats become one
 
-moved : (k : Plan) (s : Flat) (seat : ℕ → ℕ) (id other j : ℕ) (v : View) → j ≢ other → AreTracks k s seat j v → AreTracks k s (λ u. if seat u == other then id else seat u) j v
+moved : (k : Plan) (s : Flat) (seat : ℕ → ℕ) (id other j : ℕ) (v : View) → j ≢ other → AreTracks k s seat j v
+    → AreTracks k s (λ u. if seat u == other then id else seat u) j v
 moved k s seat id other j [] ne h = tt
 moved k s seat id other j (q ∷ qs) ne h = (
-  record { plan = h.0.plan; there = h.0.there; mine = ap (λ (b : Bool). if b then id else seat q.thread) (ne_eqb (seat q.thread) other (λ e. ne (sym h.0.mine ∙ e))) ∙ h.0.mine; position = h.0.position; granted = h.0.granted },
+  record { plan = h.0.plan; there = h.0.there; mine =
+      ap (λ (b : Bool). if b then id else seat q.thread) (ne_eqb (seat q.thread) other (λ e. ne (sym h.0.mine ∙ e))) ∙ h.0.mine; position =
+      h.0.position; granted = h.0.granted },
   moved k s seat id other j qs ne h.1,
 )
 
-taken_in : (k : Plan) (s : Flat) (seat : ℕ → ℕ) (id other : ℕ) (v w : View) → AreTracks k s (λ u. if seat u == other then id else seat u) id v → AreTracks k s seat other w → AreTracks k s (λ u. if seat u == other then id else seat u) id (v ++ w)
+taken_in : (k : Plan) (s : Flat) (seat : ℕ → ℕ) (id other : ℕ) (v w : View)
+    → AreTracks k s (λ u. if seat u == other then id else seat u) id v → AreTracks k s seat other w
+    → AreTracks k s (λ u. if seat u == other then id else seat u) id (v ++ w)
 taken_in k s seat id other [] [] f g = tt
 taken_in k s seat id other [] (q ∷ qs) f g =
-    (record { plan = g.0.plan; there = g.0.there; mine = ap (λ (b : Bool). if b then id else seat q.thread) (eq-eqb (seat q.thread) other g.0.mine); position = g.0.position; granted = g.0.granted }, taken_in k s seat id other [] qs tt g.1)
+    (record { plan = g.0.plan; there = g.0.there; mine =
+        ap (λ (b : Bool). if b then id else seat q.thread) (eq-eqb (seat q.thread) other g.0.mine); position = g.0.position; granted =
+        g.0.granted }, taken_in k s seat id other [] qs tt g.1)
 taken_in k s seat id other (q ∷ qs) w f g = (f.0, taken_in k s seat id other qs w f.1 g)
 
 pub joins : (k : Plan) (id other : ℕ) (v w : View) → Joins (Woven k) id v other w (v ++ w) []
 joins k id other v w x h at apart at' =
     let seat' : ℕ → ℕ = λ u. if h.seat u == other then id else h.seat u in
-    let was : get_elem? x.views other ≡ some w = elim (at_set x.views id other (v ++ w) w at') [ inl q ↦ absurd (apart q.0) | inr q ↦ q.1 ] in
+    let was : get_elem? x.views other ≡ some w =
+        elim (at_set x.views id other (v ++ w) w at') [ inl q ↦ absurd (apart q.0) | inr q ↦ q.1 ] in
     let mine : AreTracks k h.state seat' id v = moved k h.state h.seat id other id v (λ e. apart (sym e)) (h.tracks id v at) in record {
       run = h.run;
       state = h.state;
@@ -130,7 +155,8 @@ joins k id other v w x h at apart at' =
       tracks = λ j u e. elim (at_set (set x.views id (v ++ w)) other j [] u e) [
         | inl q ↦ subst (AreTracks k h.state seat' j) q.1 tt
         | inr q ↦ elim (at_set x.views id j (v ++ w) u q.1) [
-          | inl r ↦ subst (λ (z : ℕ). AreTracks k h.state seat' z u) (sym r.0) (subst (AreTracks k h.state seat' id) r.1 (taken_in k h.state h.seat id other v w mine (h.tracks other w was)))
+          | inl r ↦ subst (λ (z : ℕ). AreTracks k h.state seat' z u) (sym r.0)
+              (subst (AreTracks k h.state seat' id) r.1 (taken_in k h.state h.seat id other v w mine (h.tracks other w was)))
           | inr r ↦ moved k h.state h.seat id other j u q.0 (h.tracks j u r.1)
         ]
       ];
@@ -139,14 +165,18 @@ joins k id other v w x h at apart at' =
 
 -- ---- dealing
 
-pub seats-snoc : (id : TableId) (k : Plan) (t u : ℕ) (xs : List (Seat (Unit {0}) View)) (x : Seat (Unit {0}) View) → AreSeats id k t xs → u ≡ t + length xs → x.table_id ≡ id → x.me ≡ (progress k u (opened_at k u) false ∷ [], []) → AreSeats id k t (xs ++ x ∷ [])
-seats-snoc id k t u [] x h e i m = ((i, m ∙ (λ j. (progress k ((let q : u ≡ t = omega (arith, e) in q) j) (opened_at k ((let q : u ≡ t = omega (arith, e) in q) j)) false ∷ [], []))), tt)
+pub seats-snoc : (id : TableId) (k : Plan) (t u : ℕ) (xs : List (Seat (Unit {0}) View)) (x : Seat (Unit {0}) View) → AreSeats id k t xs
+    → u ≡ t + length xs → x.table_id ≡ id → x.me ≡ (progress k u (opened_at k u) false ∷ [], []) → AreSeats id k t (xs ++ x ∷ [])
+seats-snoc id k t u [] x h e i m = ((i, m ∙ (λ j.
+    (progress k ((let q : u ≡ t = omega (arith, e) in q) j) (opened_at k ((let q : u ≡ t = omega (arith, e) in q) j)) false ∷ [], []))), tt)
 seats-snoc id k t u (y ∷ ys) x h e i m = (h.0, seats-snoc id k (suc t) u ys x h.1 (omega (arith, e)) i m)
 
-pub dealt : (k : Plan) (l m n : ℕ) (me w : M) → me ≡ (tracks_from k l (suc m), []) → w ≡ (all_but_first me.0, me.1) → n ≡ suc l → w ≡ (tracks_from k n m, [])
+pub dealt : (k : Plan) (l m n : ℕ) (me w : M) → me ≡ (tracks_from k l (suc m), []) → w ≡ (all_but_first me.0, me.1) → n ≡ suc l
+    → w ≡ (tracks_from k n m, [])
 dealt k l m n me w is told long = told ∙ (λ i. (all_but_first (is i).0, (is i).1)) ∙ (λ i. (tracks_from k (sym long i) m, []))
 
-pub dealt_first : (k : Plan) (l m : ℕ) (me w : M) → me ≡ (tracks_from k l (suc m), []) → w ≡ (first_alone me.0, []) → w ≡ (progress k l (opened_at k l) false ∷ [], [])
+pub dealt_first : (k : Plan) (l m : ℕ) (me w : M) → me ≡ (tracks_from k l (suc m), []) → w ≡ (first_alone me.0, [])
+    → w ≡ (progress k l (opened_at k l) false ∷ [], [])
 dealt_first k l m me w is told = told ∙ (λ i. (first_alone (is i).0, []))
 
 pub all_but : (k : Plan) (l m n : ℕ) (me : M) → me ≡ (tracks_from k l m, []) → m ≡ suc n → me ≡ (tracks_from k l (suc n), [])
@@ -165,7 +195,8 @@ ends k id v ws xs f =
       table = subst (IsTable h.state.objects) f.2 h.table;
       eight = λ o l. (h.flat.objects o l).words;
       fits = λ o l. one_word (object_in h.state.objects o).fields (cell_fits h.state o h.flat l);
-      closed = record { state = h.state; flat = h.flat; at = h.at; above = h.above; view = tracks_at k h.state h.seat id v (h.tracks id v f.1.1); objects = refl };
+      closed = record { state = h.state; flat = h.flat; at = h.at; above = h.above; view =
+          tracks_at k h.state h.seat id v (h.tracks id v f.1.1); objects = refl };
     }
 
 -- ---- laying the words
@@ -178,35 +209,43 @@ rem o r l = omega (arith, l)
 
 laid_at : (cells : List Cell) (o r : ℕ) → r < 24 → laid cells (8 + 24 * o + r) ≡ word_in (object_in cells o) r
 laid_at cells o r l =
-    ap (λ (b : Bool). cond b 0 (word_in (object_in cells ((8 + 24 * o + r - 8) / 24)) ((8 + 24 * o + r - 8) % 24))) (le-ltb (8 + 24 * o + r) 8 (omega arith))
+    ap (λ (b : Bool). cond b 0 (word_in (object_in cells ((8 + 24 * o + r - 8) / 24)) ((8 + 24 * o + r - 8) % 24)))
+        (le-ltb (8 + 24 * o + r) 8 (omega arith))
     ∙ (λ i. word_in (object_in cells (quot o r l i)) (rem o r l i))
 
 content_at : (c : Cell) (i : ℕ) → i < 8 → word_in c (8 + i) ≡ get_or c.words i 0
 content_at c i l =
-    ap (λ (b : Bool). cond b (word_of c.fields) (cond (ltb (8 + i) 8) 0 (cond (ltb (8 + i) 16) (get_or c.words (8 + i - 8) 0) 0))) (ne_eqb (8 + i) 0 (λ e. omega (arith, e)))
+    ap (λ (b : Bool). cond b (word_of c.fields) (cond (ltb (8 + i) 8) 0 (cond (ltb (8 + i) 16) (get_or c.words (8 + i - 8) 0) 0)))
+        (ne_eqb (8 + i) 0 (λ e. omega (arith, e)))
     ∙ ap (λ (b : Bool). cond b 0 (cond (ltb (8 + i) 16) (get_or c.words (8 + i - 8) 0) 0)) (le-ltb (8 + i) 8 (omega arith))
     ∙ ap (λ (b : Bool). cond b (get_or c.words (8 + i - 8) 0) 0) (lt-ltb (8 + i) 16 (omega (arith, l)))
     ∙ ap (λ n. get_or c.words n 0) (let e : 8 + i - 8 ≡ i = omega arith in e)
 
-pub table_of : (cells : List Cell) (ws : List ℕ) → IsLaid cells ws (table_length (length cells)) → ((o : ℕ) → o < length cells → length (object_in cells o).words ≡ 8) → IsTable cells ws
+pub table_of : (cells : List Cell) (ws : List ℕ) → IsLaid cells ws (table_length (length cells))
+    → ((o : ℕ) → o < length cells → length (object_in cells o).words ≡ 8) → IsTable cells ws
 table_of cells ws h eight = record {
   size = h.count;
-  heads = λ o l. ap (λ z. get_or ws z 0) (let e : word_place o ≡ 8 + 24 * o + 0 = omega arith in e) ∙ h.each (8 + 24 * o + 0) (omega (arith, l)) ∙ laid_at cells o 0 (omega arith);
+  heads = λ o l. ap (λ z. get_or ws z 0) (let e : word_place o ≡ 8 + 24 * o + 0 = omega arith in e)
+      ∙ h.each (8 + 24 * o + 0) (omega (arith, l)) ∙ laid_at cells o 0 (omega arith);
   places = placed;
   small = λ o i. elim (cases_lt o (length cells)) [
     | inl l ↦ elim (cases_lt i 8) [
       | inl few ↦ subst (λ n. n < 2 ^ 32) (placed o i l few) (h.small o i (omega (arith, l, few)) few)
-      | inr past ↦ subst (λ n. n < 2 ^ 32) (sym (get_or_past (object_in cells o).words i 0 (let e = eight o l in omega (arith, e, past)))) (omega arith)
+      | inr past ↦ subst (λ n. n < 2 ^ 32) (sym (get_or_past (object_in cells o).words i 0 (let e = eight o l in omega (arith, e, past))))
+          (omega arith)
     ]
     | inr past ↦ subst (λ (c : Cell). get_or c.words i 0 < 2 ^ 32) (sym (get_or_past cells o empty past)) (omega arith)
   ];
 }
   where
     placed : (o i : ℕ) → o < length cells → i < 8 → get_or ws (content_place o i) 0 ≡ get_or (object_in cells o).words i 0
-    placed o i l few = ap (λ z. get_or ws z 0) (let e : content_place o i ≡ 8 + 24 * o + (8 + i) = omega arith in e) ∙ h.each (8 + 24 * o + (8 + i)) (omega (arith, l, few)) ∙ laid_at cells o (8 + i) (omega (arith, few)) ∙ content_at (object_in cells o) i few
+    placed o i l few = ap (λ z. get_or ws z 0) (let e : content_place o i ≡ 8 + 24 * o + (8 + i) = omega arith in e)
+        ∙ h.each (8 + 24 * o + (8 + i)) (omega (arith, l, few)) ∙ laid_at cells o (8 + i) (omega (arith, few))
+        ∙ content_at (object_in cells o) i few
 
 -- one word more
-pub laid_more : (cells : List Cell) (ws ws' : List ℕ) (k w : ℕ) → IsLaid cells ws k → w ≡ laid cells k → ((o i : ℕ) → i < 8 → k ≡ content_place o i → w < 2 ^ 32) → ws' ≡ ws ++ w ∷ [] → IsLaid cells ws' (k + 1)
+pub laid_more : (cells : List Cell) (ws ws' : List ℕ) (k w : ℕ) → IsLaid cells ws k → w ≡ laid cells k
+    → ((o i : ℕ) → i < 8 → k ≡ content_place o i → w < 2 ^ 32) → ws' ≡ ws ++ w ∷ [] → IsLaid cells ws' (k + 1)
 laid_more cells ws ws' k w h is small same = subst (λ z. IsLaid cells z (k + 1)) (sym same) (record {
   count = length-append ws (w ∷ []) ∙ (let c = h.count in omega (arith, c));
   each = λ j l. elim (cases_lt j k) [
@@ -214,16 +253,20 @@ laid_more cells ws ws' k w h is small same = subst (λ z. IsLaid cells z (k + 1)
     | inr past ↦ subst (λ z. get_or (ws ++ w ∷ []) z 0 ≡ laid cells z) (let e : k ≡ j = omega (arith, l, past) in e) (last ∙ is)
   ];
   small = λ o i l few. elim (cases_lt (content_place o i) k) [
-    | inl less ↦ subst (λ z. z < 2 ^ 32) (sym (get_or-append ws (w ∷ []) 0 (content_place o i) (let c = h.count in omega (arith, c, less)))) (h.small o i less few)
-    | inr past ↦ subst (λ z. get_or (ws ++ w ∷ []) z 0 < 2 ^ 32) (let e : k ≡ content_place o i = omega (arith, l, past) in e) (subst (λ z. z < 2 ^ 32) (sym last) (small o i few (omega (arith, l, past))))
+    | inl less ↦ subst (λ z. z < 2 ^ 32) (sym (get_or-append ws (w ∷ []) 0 (content_place o i) (let c = h.count in omega (arith, c, less))))
+        (h.small o i less few)
+    | inr past ↦ subst (λ z. get_or (ws ++ w ∷ []) z 0 < 2 ^ 32) (let e : k ≡ content_place o i = omega (arith, l, past) in e)
+        (subst (λ z. z < 2 ^ 32) (sym last) (small o i few (omega (arith, l, past))))
   ];
 })
   where
     last : get_or (ws ++ w ∷ []) k 0 ≡ w
-    last = ap (λ z. get_or (ws ++ w ∷ []) z 0) (let c = h.count in let e : k ≡ length ws + 0 = omega (arith, c) in e) ∙ get_or-append-add ws (w ∷ []) 0 0
+    last = ap (λ z. get_or (ws ++ w ∷ []) z 0) (let c = h.count in let e : k ≡ length ws + 0 = omega (arith, c) in e)
+        ∙ get_or-append-add ws (w ∷ []) 0 0
 
 pub none_laid : (cells : List Cell) (ws : List ℕ) → ws ≡ [] → IsLaid cells ws 0
-none_laid cells ws is = subst (λ z. IsLaid cells z 0) (sym is) (record { count = refl; each = λ j l. absurd (omega (arith, l)); small = λ o i l few. absurd (omega (arith, l)) })
+none_laid cells ws is = subst (λ z. IsLaid cells z 0) (sym is)
+    (record { count = refl; each = λ j l. absurd (omega (arith, l)); small = λ o i l few. absurd (omega (arith, l)) })
 
 -- a word that was found
 pub found_word : (ws : List ℕ) (i n : ℕ) → get_elem? ws i ≡ some n → get_or ws i 0 ≡ n
@@ -232,27 +275,34 @@ found_word (w ∷ ws) zero n e = some-injective w n e
 found_word (w ∷ ws) (suc i) n e = found_word ws i n e
 
 -- a guest has a thread
-pub some_threads : (f : FittedTrace) (s : Standing) (ts : List thread.State) (g : Guest) → IsGuest g → g ≡ f.guest → ts ≡ s.threads → length s.threads ≡ length f.guest.entries → 0 < length ts
-some_threads f s ts g guest is same size = let some = guest.some_thread in let a = ap (λ (z : Guest). length z.entries) is in let b = ap (λ (z : List thread.State). length z) same in omega (arith, some, a, b, size)
+pub some_threads : (f : FittedTrace) (s : Standing) (ts : List thread.State) (g : Guest) → IsGuest g → g ≡ f.guest → ts ≡ s.threads
+    → length s.threads ≡ length f.guest.entries → 0 < length ts
+some_threads f s ts g guest is same size = let some = guest.some_thread in let a = ap (λ (z : Guest). length z.entries) is in let b =
+    ap (λ (z : List thread.State). length z) same in omega (arith, some, a, b, size)
 
 -- ---- the objects at the end
 
-pub read_more : (ws : List ℕ) (from : ℕ) (xs : List ℕ) (n w : ℕ) → AreRead ws from xs n → n < 8 → w ≡ get_or ws (from + n) 0 → AreRead ws from (set xs n w) (n + 1)
+pub read_more : (ws : List ℕ) (from : ℕ) (xs : List ℕ) (n w : ℕ) → AreRead ws from xs n → n < 8 → w ≡ get_or ws (from + n) 0
+    → AreRead ws from (set xs n w) (n + 1)
 read_more ws from xs n w h inside is = record {
   size = length-set xs n w ∙ h.size;
   each = λ i l. elim (cases_eq i n) [
-    | inl here ↦ subst (λ z. get_or (set xs n w) z 0 ≡ get_or ws (from + z) 0) (sym here) (get_or-set_same xs n w 0 (let s = h.size in omega (arith, inside, s)) ∙ is)
+    | inl here ↦ subst (λ z. get_or (set xs n w) z 0 ≡ get_or ws (from + z) 0) (sym here)
+        (get_or-set_same xs n w 0 (let s = h.size in omega (arith, inside, s)) ∙ is)
     | inr ne ↦ get_or-set_other xs n i w 0 ne ∙ h.each i (omega (arith, l, ne))
   ];
 }
 
 -- an object that is read from the words is the table's
-pub object_read : (cells : List Cell) (ws : List ℕ) (o w : ℕ) (xs : List ℕ) (c : Cell) → IsTable cells ws → o < length cells → length (object_in cells o).words ≡ 8 → fields_of (word_of (object_in cells o).fields) ≡ (object_in cells o).fields
+pub object_read : (cells : List Cell) (ws : List ℕ) (o w : ℕ) (xs : List ℕ) (c : Cell) → IsTable cells ws → o < length cells
+    → length (object_in cells o).words ≡ 8 → fields_of (word_of (object_in cells o).fields) ≡ (object_in cells o).fields
     → w ≡ get_or ws (8 + 24 * o) 0 → AreRead ws (16 + 24 * o) xs 8 → c ≡ record { fields = fields_of w; words = xs } → c ≡ object_in cells o
 object_read cells ws o w xs c t l eight fits word read is =
     let long : length xs ≡ 8 = read.size in
     let fields : fields_of w ≡ (object_in cells o).fields = ap fields_of (word ∙ t.heads o l) ∙ fits in
-    let words : xs ≡ (object_in cells o).words = ext_get_or 0 xs (object_in cells o).words (long ∙ sym eight) (λ i inside. read.each i (omega (arith, inside, long)) ∙ t.places o i l (omega (arith, inside, long))) in
+    let words : xs ≡ (object_in cells o).words =
+        ext_get_or 0 xs (object_in cells o).words (long ∙ sym eight)
+        (λ i inside. read.each i (omega (arith, inside, long)) ∙ t.places o i l (omega (arith, inside, long))) in
     is ∙ (λ i. record { fields = fields i; words = words i })
 
 -- the objects up to o are the table's
@@ -260,7 +310,8 @@ pub record AreObjects (cells xs : List Cell) (n : ℕ) : Type 0 where
   pub size : length xs ≡ length cells
   pub each : (o : ℕ) → o < n → object_in xs o ≡ object_in cells o
 
-pub objects_more : (cells xs : List Cell) (n : ℕ) (c : Cell) → AreObjects cells xs n → n < length xs → c ≡ object_in cells n → AreObjects cells (set xs n c) (n + 1)
+pub objects_more : (cells xs : List Cell) (n : ℕ) (c : Cell) → AreObjects cells xs n → n < length xs → c ≡ object_in cells n
+    → AreObjects cells (set xs n c) (n + 1)
 objects_more cells xs n c h inside is = record {
   size = length-set xs n c ∙ h.size;
   each = λ o l. elim (cases_eq o n) [
@@ -275,16 +326,21 @@ all_objects cells xs n h all = ext_get_or empty xs cells h.size (λ o l. h.each 
 pub end_count : (k : Plan) (v : View) (ws : List ℕ) (e : IsEnd k v ws) → length e.cells ≡ object_count (trace_in k).guest
 end_count k v ws e = ap (λ (cs : List Cell). length cs) e.closed.objects ∙ e.closed.at.objects
 
-pub none_read : (k : Plan) (v : View) (ws : List ℕ) (e : IsEnd k v ws) (xs : List Cell) → length xs ≡ object_count (trace_in k).guest → AreObjects e.cells xs 0
+pub none_read : (k : Plan) (v : View) (ws : List ℕ) (e : IsEnd k v ws) (xs : List Cell) → length xs ≡ object_count (trace_in k).guest
+    → AreObjects e.cells xs 0
 none_read k v ws e xs room = record { size = room ∙ sym (end_count k v ws e); each = λ o l. absurd (omega (arith, l)) }
 
-pub closes : (k : Plan) (v : View) (ws : List ℕ) (e : IsEnd k v ws) (xs : List Cell) (n : ℕ) → AreObjects e.cells xs n → length xs ≤ n → IsClosed k v xs
+pub closes : (k : Plan) (v : View) (ws : List ℕ) (e : IsEnd k v ws) (xs : List Cell) (n : ℕ) → AreObjects e.cells xs n → length xs ≤ n
+    → IsClosed k v xs
 closes k v ws e xs n h all = subst (IsClosed k v) (sym (all_objects e.cells xs n h all)) e.closed
 
 -- the state before the first step
-pub stands_first : (f : FittedTrace) (first : Flat) (s : Standing) → first ≡ start_flat f.guest f.recorded.budget → IsFlat first → s.threads ≡ first.threads → s.objects ≡ first.objects → StandsAt f (λ t. 0) s
+pub stands_first : (f : FittedTrace) (first : Flat) (s : Standing) → first ≡ start_flat f.guest f.recorded.budget → IsFlat first
+    → s.threads ≡ first.threads → s.objects ≡ first.objects → StandsAt f (λ t. 0) s
 stands_first f first s is flat threads objects =
-    let same : flat_in f s ≡ start_flat f.guest f.recorded.budget = λ i. record { code = f.guest.code; threads = (threads ∙ ap (λ z. z.threads) is) i; objects = (objects ∙ ap (λ z. z.objects) is) i } in
+    let same : flat_in f s ≡ start_flat f.guest f.recorded.budget =
+        λ i. record { code = f.guest.code; threads = (threads ∙ ap (λ z. z.threads) is) i; objects =
+        (objects ∙ ap (λ z. z.objects) is) i } in
     record { flat = subst IsFlat (is ∙ sym same) flat; at = starts_at f (flat_in f s) same }
 
 -- it stands at its own positions, below all others

@@ -42,16 +42,20 @@ one_next f t i j k h a b = elim (cases_lt j k) [
 permits : (f : FittedTrace) (x : thread.State) (q : Ask) → ask_of f.guest.code x ≡ q → Permits x q
 permits f x q is = subst (Permits x) is (ask_permits f.guest.code x)
 
-pub entered_inside : (f : FittedTrace) (t i : ℕ) (x : thread.State) (o : ℕ) (a : Access) → IsAhead f t i x → ask_of f.guest.code x ≡ Enter o a → o < object_count f.guest
+pub entered_inside : (f : FittedTrace) (t i : ℕ) (x : thread.State) (o : ℕ) (a : Access) → IsAhead f t i x
+    → ask_of f.guest.code x ≡ Enter o a → o < object_count f.guest
 entered_inside f t i x o a ahead is = let p = (permits f x (Enter o a) is).2 in let e = ahead.held in omega (arith, p, e)
 
-pub left_inside : (f : FittedTrace) (t i : ℕ) (x : thread.State) (o : ℕ) (a : Access) → IsAhead f t i x → ask_of f.guest.code x ≡ Leave o a → o < object_count f.guest
+pub left_inside : (f : FittedTrace) (t i : ℕ) (x : thread.State) (o : ℕ) (a : Access) → IsAhead f t i x → ask_of f.guest.code x ≡ Leave o a
+    → o < object_count f.guest
 left_inside f t i x o a ahead is = let p = (permits f x (Leave o a) is).1 in let e = ahead.held in omega (arith, p, e)
 
-pub read_inside : (f : FittedTrace) (t i : ℕ) (x : thread.State) (o j : ℕ) → IsAhead f t i x → ask_of f.guest.code x ≡ Get o j → (o < object_count f.guest) × (j < 8)
+pub read_inside : (f : FittedTrace) (t i : ℕ) (x : thread.State) (o j : ℕ) → IsAhead f t i x → ask_of f.guest.code x ≡ Get o j
+    → (o < object_count f.guest) × (j < 8)
 read_inside f t i x o j ahead is = let p = permits f x (Get o j) is in let e = ahead.held in (omega (arith, p.1, e), p.2)
 
-pub put_inside : (f : FittedTrace) (t i : ℕ) (x : thread.State) (o j v : ℕ) → IsAhead f t i x → ask_of f.guest.code x ≡ Put o j v → (o < object_count f.guest) × (j < 8)
+pub put_inside : (f : FittedTrace) (t i : ℕ) (x : thread.State) (o j v : ℕ) → IsAhead f t i x → ask_of f.guest.code x ≡ Put o j v
+    → (o < object_count f.guest) × (j < 8)
 put_inside f t i x o j v ahead is = let p = permits f x (Put o j v) is in let e = ahead.held in (omega (arith, p.1, e), p.2)
 
 -- ---- seats of one thread
@@ -69,22 +73,28 @@ there k q P same h = subst (λ z. P (trace_in z)) (sym same) h
 
 -- ---- what it may do
 
-pub look_allows : (k : Plan) (slots id o : ℕ) (a : Access) (e : Event) (x : thread.State) (me : M) → IsSeated k me.0 x → IsEntering (trace_in k) x o a e → Allows (Woven k) slots id me (word_place o) (λ n. n) (looked (step slots (word_place o) 0 0 none) me)
+pub look_allows : (k : Plan) (slots id o : ℕ) (a : Access) (e : Event) (x : thread.State) (me : M) → IsSeated k me.0 x
+    → IsEntering (trace_in k) x o a e → Allows (Woven k) slots id me (word_place o) (λ n. n)
+    (looked (step slots (word_place o) 0 0 none) me)
 look_allows k slots id o a e x ([], c) seated entering = absurd seated
 look_allows k slots id o a e x (q ∷ r ∷ qs, c) seated entering = absurd seated
 look_allows k slots id o a e x (q ∷ [], c) seated entering =
     let ent : IsEntering (trace_in q.plan) x o a e = there k q (λ f. IsEntering f x o a e) seated.0 entering in
-    keyed k q (λ z. Allows (Woven z) slots id (q ∷ [], c) (word_place o) (λ n. n) (looked (step slots (word_place o) 0 0 none) (q ∷ [], c))) seated.0
+    keyed k q (λ z. Allows (Woven z) slots id (q ∷ [], c) (word_place o) (λ n. n) (looked (step slots (word_place o) 0 0 none) (q ∷ [], c)))
+        seated.0
     (looks_at slots id o a e x q c seated.1 (entered_inside (trace_in q.plan) q.thread q.position x o a seated.1 ent.asking.asks) ent)
 
-pub enter_allows : (k : Plan) (slots id o : ℕ) (a : Access) (x : thread.State) (me : M) → IsGranted k me.0 x → IsAsking (trace_in k) x (Enter o a)
+pub enter_allows : (k : Plan) (slots id o : ℕ) (a : Access) (x : thread.State) (me : M) → IsGranted k me.0 x
+    → IsAsking (trace_in k) x (Enter o a)
     → Allows (Woven k) slots id me (word_place o) (λ n. (n + added a) % 2 ^ 64) (stepped_on (step slots (word_place o) (added a) 0 none) me)
 enter_allows k slots id o a x ([], c) g asking = absurd g.seated
 enter_allows k slots id o a x (q ∷ r ∷ qs, c) g asking = absurd g.seated
 enter_allows k slots id o a x (q ∷ [], c) g asking =
     let ask : IsAsking (trace_in q.plan) x (Enter o a) = there k q (λ f. IsAsking f x (Enter o a)) g.seated.0 asking in
-    keyed k q (λ z. Allows (Woven z) slots id (q ∷ [], c) (word_place o) (λ n. (n + added a) % 2 ^ 64) (stepped_on (step slots (word_place o) (added a) 0 none) (q ∷ [], c))) g.seated.0
-    (enters_at slots id o a x q c g.seated.1 (entered_inside (trace_in q.plan) q.thread q.position x o a g.seated.1 ask.asks) ask.asks (ap first_granted g.view) (ap first_position g.view))
+    keyed k q (λ z. Allows (Woven z) slots id (q ∷ [], c) (word_place o) (λ n. (n + added a) % 2 ^ 64)
+        (stepped_on (step slots (word_place o) (added a) 0 none) (q ∷ [], c))) g.seated.0
+    (enters_at slots id o a x q c g.seated.1 (entered_inside (trace_in q.plan) q.thread q.position x o a g.seated.1 ask.asks) ask.asks
+        (ap first_granted g.view) (ap first_position g.view))
   where
     first_granted : View → Bool
     first_granted [] = true
@@ -94,14 +104,17 @@ enter_allows k slots id o a x (q ∷ [], c) g asking =
     first_position [] = 0
     first_position (q ∷ qs) = q.position
 
-pub read_leave_allows : (k : Plan) (slots id o : ℕ) (x : thread.State) (me : M) → IsSeated k me.0 x → IsAsking (trace_in k) x (Leave o Reading)
+pub read_leave_allows : (k : Plan) (slots id o : ℕ) (x : thread.State) (me : M) → IsSeated k me.0 x
+    → IsAsking (trace_in k) x (Leave o Reading)
     → Allows (Woven k) slots id me (word_place o) (λ n. (n + 254) % 2 ^ 64) (stepped_on (step slots (word_place o) 254 0 none) me)
 read_leave_allows k slots id o x ([], c) seated asking = absurd seated
 read_leave_allows k slots id o x (q ∷ r ∷ qs, c) seated asking = absurd seated
 read_leave_allows k slots id o x (q ∷ [], c) seated asking =
     let ask : IsAsking (trace_in q.plan) x (Leave o Reading) = there k q (λ f. IsAsking f x (Leave o Reading)) seated.0 asking in
-    keyed k q (λ z. Allows (Woven z) slots id (q ∷ [], c) (word_place o) (λ n. (n + 254) % 2 ^ 64) (stepped_on (step slots (word_place o) 254 0 none) (q ∷ [], c))) seated.0
-    (left_reading_at slots id o x q c seated.1 (left_inside (trace_in q.plan) q.thread q.position x o Reading seated.1 ask.asks) ask.asks (own_has (trace_in q.plan) q.thread q.position x seated.1 ask.has))
+    keyed k q (λ z. Allows (Woven z) slots id (q ∷ [], c) (word_place o) (λ n. (n + 254) % 2 ^ 64)
+        (stepped_on (step slots (word_place o) 254 0 none) (q ∷ [], c))) seated.0
+    (left_reading_at slots id o x q c seated.1 (left_inside (trace_in q.plan) q.thread q.position x o Reading seated.1 ask.asks) ask.asks
+        (own_has (trace_in q.plan) q.thread q.position x seated.1 ask.has))
 
 pub version_allows : (k : Plan) (slots id o : ℕ) (x : thread.State) (me : M) → IsSeated k me.0 x → IsAsking (trace_in k) x (Leave o Writing)
     → Allows (Woven k) slots id me (word_place o) (λ n. n) (read_version (step slots (word_place o) 0 0 none) me)
@@ -109,20 +122,29 @@ version_allows k slots id o x ([], c) seated asking = absurd seated
 version_allows k slots id o x (q ∷ r ∷ qs, c) seated asking = absurd seated
 version_allows k slots id o x (q ∷ [], c) seated asking =
     let ask : IsAsking (trace_in q.plan) x (Leave o Writing) = there k q (λ f. IsAsking f x (Leave o Writing)) seated.0 asking in
-    keyed k q (λ z. Allows (Woven z) slots id (q ∷ [], c) (word_place o) (λ n. n) (read_version (step slots (word_place o) 0 0 none) (q ∷ [], c))) seated.0
-    (versions_at slots id o x q c seated.1 (left_inside (trace_in q.plan) q.thread q.position x o Writing seated.1 ask.asks) ask.asks (own_has (trace_in q.plan) q.thread q.position x seated.1 ask.has))
+    keyed k q (λ z. Allows (Woven z) slots id (q ∷ [], c) (word_place o) (λ n. n)
+        (read_version (step slots (word_place o) 0 0 none) (q ∷ [], c))) seated.0
+    (versions_at slots id o x q c seated.1 (left_inside (trace_in q.plan) q.thread q.position x o Writing seated.1 ask.asks) ask.asks
+        (own_has (trace_in q.plan) q.thread q.position x seated.1 ask.has))
 
-pub write_leave_allows : (k : Plan) (slots id o v : ℕ) (x : thread.State) (me : M) → IsSeated k me.0 x → IsAsking (trace_in k) x (Leave o Writing) → EachRun (trace_in k) (λ run. Tells (machine_of (trace_in k)) (start_of (trace_in k)) run x.number x.steps (Out o Writing v))
-    → Allows (Woven k) slots id me (word_place o) (λ _. (v + 1) * 2 ^ 32) (λ _. stepped_on (step slots (word_place o) ((v + 1) * 2 ^ 32) 0 none) me ((v + 1) * 2 ^ 32))
+pub write_leave_allows : (k : Plan) (slots id o v : ℕ) (x : thread.State) (me : M) → IsSeated k me.0 x
+    → IsAsking (trace_in k) x (Leave o Writing)
+    → EachRun (trace_in k) (λ run. Tells (machine_of (trace_in k)) (start_of (trace_in k)) run x.number x.steps (Out o Writing v))
+    → Allows (Woven k) slots id me (word_place o) (λ _. (v + 1) * 2 ^ 32)
+    (λ _. stepped_on (step slots (word_place o) ((v + 1) * 2 ^ 32) 0 none) me ((v + 1) * 2 ^ 32))
 write_leave_allows k slots id o v x ([], c) seated asking tells = absurd seated
 write_leave_allows k slots id o v x (q ∷ r ∷ qs, c) seated asking tells = absurd seated
 write_leave_allows k slots id o v x (q ∷ [], c) seated asking tells =
     let ask : IsAsking (trace_in q.plan) x (Leave o Writing) = there k q (λ f. IsAsking f x (Leave o Writing)) seated.0 asking in
-    let told : EachRun (trace_in q.plan) (λ run. Tells (machine_of (trace_in q.plan)) (start_of (trace_in q.plan)) run q.thread x.steps (Out o Writing v)) =
-    subst (λ z. EachRun (trace_in q.plan) (λ run. Tells (machine_of (trace_in q.plan)) (start_of (trace_in q.plan)) run z x.steps (Out o Writing v))) seated.1.number
+    let told : EachRun (trace_in q.plan) (λ run. Tells (machine_of (trace_in q.plan)) (start_of (trace_in q.plan)) run q.thread x.steps
+        (Out o Writing v)) =
+    subst (λ z. EachRun (trace_in q.plan) (λ run. Tells (machine_of (trace_in q.plan)) (start_of (trace_in q.plan)) run z x.steps
+        (Out o Writing v))) seated.1.number
     (there k q (λ f. EachRun f (λ run. Tells (machine_of f) (start_of f) run x.number x.steps (Out o Writing v))) seated.0 tells) in
-    keyed k q (λ z. Allows (Woven z) slots id (q ∷ [], c) (word_place o) (λ _. (v + 1) * 2 ^ 32) (λ _. stepped_on (step slots (word_place o) ((v + 1) * 2 ^ 32) 0 none) (q ∷ [], c) ((v + 1) * 2 ^ 32))) seated.0
-    (left_writing_at slots id o v x q c seated.1 (left_inside (trace_in q.plan) q.thread q.position x o Writing seated.1 ask.asks) ask.asks (own_has (trace_in q.plan) q.thread q.position x seated.1 ask.has) told)
+    keyed k q (λ z. Allows (Woven z) slots id (q ∷ [], c) (word_place o) (λ _. (v + 1) * 2 ^ 32)
+        (λ _. stepped_on (step slots (word_place o) ((v + 1) * 2 ^ 32) 0 none) (q ∷ [], c) ((v + 1) * 2 ^ 32))) seated.0
+    (left_writing_at slots id o v x q c seated.1 (left_inside (trace_in q.plan) q.thread q.position x o Writing seated.1 ask.asks) ask.asks
+        (own_has (trace_in q.plan) q.thread q.position x seated.1 ask.has) told)
 
 pub get_allows : (k : Plan) (slots id o i : ℕ) (x : thread.State) (me : M) → IsSeated k me.0 x → IsAsking (trace_in k) x (Get o i)
     → Allows (Woven k) slots id me (content_place o i) (λ n. n) (stepped_on (step slots (content_place o i) 0 0 none) me)
@@ -131,18 +153,22 @@ get_allows k slots id o i x (q ∷ r ∷ qs, c) seated asking = absurd seated
 get_allows k slots id o i x (q ∷ [], c) seated asking =
     let ask : IsAsking (trace_in q.plan) x (Get o i) = there k q (λ f. IsAsking f x (Get o i)) seated.0 asking in
     let inside = read_inside (trace_in q.plan) q.thread q.position x o i seated.1 ask.asks in
-    keyed k q (λ z. Allows (Woven z) slots id (q ∷ [], c) (content_place o i) (λ n. n) (stepped_on (step slots (content_place o i) 0 0 none) (q ∷ [], c))) seated.0
+    keyed k q (λ z. Allows (Woven z) slots id (q ∷ [], c) (content_place o i) (λ n. n)
+        (stepped_on (step slots (content_place o i) 0 0 none) (q ∷ [], c))) seated.0
     (gets_at slots id o i x q c seated.1 inside.0 inside.1 ask.asks (own_has (trace_in q.plan) q.thread q.position x seated.1 ask.has))
 
-pub put_allows : (k : Plan) (slots id o i v : ℕ) (x : thread.State) (me : M) → v < 2 ^ 32 → IsSeated k me.0 x → IsAsking (trace_in k) x (Put o i v)
+pub put_allows : (k : Plan) (slots id o i v : ℕ) (x : thread.State) (me : M) → v < 2 ^ 32 → IsSeated k me.0 x
+    → IsAsking (trace_in k) x (Put o i v)
     → Allows (Woven k) slots id me (content_place o i) (λ _. v) (λ _. stepped_on (step slots (content_place o i) v 0 none) me v)
 put_allows k slots id o i v x ([], c) value seated asking = absurd seated
 put_allows k slots id o i v x (q ∷ r ∷ qs, c) value seated asking = absurd seated
 put_allows k slots id o i v x (q ∷ [], c) value seated asking =
     let ask : IsAsking (trace_in q.plan) x (Put o i v) = there k q (λ f. IsAsking f x (Put o i v)) seated.0 asking in
     let inside = put_inside (trace_in q.plan) q.thread q.position x o i v seated.1 ask.asks in
-    keyed k q (λ z. Allows (Woven z) slots id (q ∷ [], c) (content_place o i) (λ _. v) (λ _. stepped_on (step slots (content_place o i) v 0 none) (q ∷ [], c) v)) seated.0
-    (puts_at slots id o i v x q c value seated.1 inside.0 inside.1 ask.asks (own_has (trace_in q.plan) q.thread q.position x seated.1 ask.has))
+    keyed k q (λ z. Allows (Woven z) slots id (q ∷ [], c) (content_place o i) (λ _. v)
+        (λ _. stepped_on (step slots (content_place o i) v 0 none) (q ∷ [], c) v)) seated.0
+    (puts_at slots id o i v x q c value seated.1 inside.0 inside.1 ask.asks
+        (own_has (trace_in q.plan) q.thread q.position x seated.1 ask.has))
 
 -- ---- what it is told
 
@@ -150,7 +176,8 @@ put_allows k slots id o i v x (q ∷ [], c) value seated asking =
 abbrev pub view_at : Plan → thread.State → ℕ → Bool → View
 view_at k x i granted = progress k x.number i granted ∷ []
 
-same_view : (k : Plan) (q : Progress) (x : thread.State) (i j : ℕ) (g : Bool) → q.plan ≡ k → x.number ≡ q.thread → i ≡ j → progress q.plan q.thread i g ∷ [] ≡ view_at k x j g
+same_view : (k : Plan) (q : Progress) (x : thread.State) (i j : ℕ) (g : Bool) → q.plan ≡ k → x.number ≡ q.thread → i ≡ j
+    → progress q.plan q.thread i g ∷ [] ≡ view_at k x j g
 same_view k q x i j g plan number here = λ z. progress (plan z) (sym number z) (here z) g ∷ []
 
 -- what is told of these steps doesn't depend on their words
@@ -162,13 +189,15 @@ pub record WasTold (k : Plan) (x : thread.State) (me w : M) (n : ℕ) : Type 0 w
   pub view : ◌≡◌ {A = M} w (view_at k x (suc x.steps) false, me.1)
   pub answers : Answers (trace_in k) x.number x.steps n
 
-pub step_told : (k : Plan) (x : thread.State) (asked : Ask) (me w : M) (n : ℕ) → IsSeated k me.0 x → ask_of (trace_in k).guest.code x ≡ asked → (IsAlone asked → ⊥) → stepped_on any_step me n w → WasTold k x me w n
+pub step_told : (k : Plan) (x : thread.State) (asked : Ask) (me w : M) (n : ℕ) → IsSeated k me.0 x
+    → ask_of (trace_in k).guest.code x ≡ asked → (IsAlone asked → ⊥) → stepped_on any_step me n w → WasTold k x me w n
 step_told k x asked ([], c) w n seated is touches told = absurd seated
 step_told k x asked (q ∷ r ∷ qs, c) w n seated is touches told = absurd seated
 step_told k x asked (q ∷ [], c) w n seated is touches told =
     let f : FittedTrace = trace_in q.plan in
     let ask : ask_of f.guest.code x ≡ asked = there k q (λ f. ask_of f.guest.code x ≡ asked) seated.0 is in
-    let here : told.0 ≡ x.steps = one_next f q.thread q.position told.0 x.steps seated.1.run told.1 (touches_next f q.thread q.position x asked seated.1 ask touches) in record {
+    let here : told.0 ≡ x.steps = one_next f q.thread q.position told.0 x.steps seated.1.run told.1
+        (touches_next f q.thread q.position x asked seated.1 ask touches) in record {
       view = told.2 ∙ (λ i. (same_view k q x (suc told.0) (suc x.steps) false seated.0 seated.1.number (ap suc here) i, c));
       answers = subst (λ (z : Plan × ℕ × ℕ). Answers (trace_in z.0) z.1 z.2 n) (λ i. (seated.0 i, sym seated.1.number i, here i)) told.3;
     }
@@ -178,22 +207,28 @@ pub record WasShown (k : Plan) (x : thread.State) (e : Event) (me w : M) (n : �
   pub opened : Opens n e → ◌≡◌ {A = M} w (view_at k x x.steps true, me.1)
   pub shut : (Opens n e → ⊥) → (◌≡◌ {A = M} w (view_at k x x.steps false, me.1)) × WasStopped k x.number x.steps
 
-pub look_told : (k : Plan) (x : thread.State) (o : ℕ) (a : Access) (e : Event) (me w : M) (n : ℕ) → IsSeated k me.0 x → IsEntering (trace_in k) x o a e → looked any_step me n w → WasShown k x e me w n
+pub look_told : (k : Plan) (x : thread.State) (o : ℕ) (a : Access) (e : Event) (me w : M) (n : ℕ) → IsSeated k me.0 x
+    → IsEntering (trace_in k) x o a e → looked any_step me n w → WasShown k x e me w n
 look_told k x o a e ([], c) w n seated entering told = absurd seated
 look_told k x o a e (q ∷ r ∷ qs, c) w n seated entering told = absurd seated
 look_told k x o a e (q ∷ [], c) w n seated entering told =
     let f : FittedTrace = trace_in q.plan in
     let ent : IsEntering f x o a e = there k q (λ f. IsEntering f x o a e) seated.0 entering in
-    let here : told.0 ≡ x.steps = one_next f q.thread q.position told.0 x.steps seated.1.run told.2 (touches_next f q.thread q.position x (Enter o a) seated.1 ent.asking.asks (λ b. b)) in
+    let here : told.0 ≡ x.steps = one_next f q.thread q.position told.0 x.steps seated.1.run told.2
+        (touches_next f q.thread q.position x (Enter o a) seated.1 ent.asking.asks (λ b. b)) in
     let event : told.1 ≡ e =
-    same_event (recorded_thread f.recorded q.thread).events (thread_at f seated.1.run.run q.thread told.0).events told.1 e (told.3 seated.1.run.run seated.1.run.whole)
+    same_event (recorded_thread f.recorded q.thread).events (thread_at f seated.1.run.run q.thread told.0).events told.1 e
+        (told.3 seated.1.run.run seated.1.run.whole)
     (ap (λ i. slice_get (recorded_thread f.recorded q.thread).events (thread_at f seated.1.run.run q.thread i).events) here
-    ∙ ap (λ (z : thread.State). slice_get (recorded_thread f.recorded q.thread).events z.events) (sym (seated.1.at seated.1.run.run seated.1.run.whole).1)
+    ∙ ap (λ (z : thread.State). slice_get (recorded_thread f.recorded q.thread).events z.events)
+    (sym (seated.1.at seated.1.run.run seated.1.run.whole).1)
     ∙ subst (λ t. slice_get (recorded_thread f.recorded t).events x.events ≡ Some e) seated.1.number ent.event) in record {
-      opened = λ on. told.4 (subst (Opens n) (sym event) on) ∙ (λ i. (same_view k q x told.0 x.steps true seated.0 seated.1.number here i, c));
+      opened = λ on. told.4 (subst (Opens n) (sym event) on)
+          ∙ (λ i. (same_view k q x told.0 x.steps true seated.0 seated.1.number here i, c));
       shut = λ off.
           let z = told.5 (λ on. off (subst (Opens n) event on)) in
-          (z.0 ∙ (λ i. (same_view k q x told.0 x.steps false seated.0 seated.1.number here i, c)), subst (λ (z : Plan × ℕ × ℕ). WasStopped z.0 z.1 z.2) (λ i. (seated.0 i, sym seated.1.number i, here i)) z.1);
+          (z.0 ∙ (λ i. (same_view k q x told.0 x.steps false seated.0 seated.1.number here i, c)),
+              subst (λ (z : Plan × ℕ × ℕ). WasStopped z.0 z.1 z.2) (λ i. (seated.0 i, sym seated.1.number i, here i)) z.1);
     }
   where
     same_event : (es : List Event) (i : ℕ) (a b : Event) → slice_get es i ≡ Some a → slice_get es i ≡ Some b → a ≡ b
@@ -203,23 +238,31 @@ look_told k x o a e (q ∷ [], c) w n seated entering told =
 pub record WasSeen (k : Plan) (x : thread.State) (o : ℕ) (me w : M) (n : ℕ) : Type 0 where
   pub view : ◌≡◌ {A = M} w me
   pub small : n < 2 ^ 63
-  pub version : EachRun (trace_in k) (λ run. Tells (machine_of (trace_in k)) (start_of (trace_in k)) run x.number x.steps (Out o Writing (n / 2 ^ 32)))
+  pub version : EachRun (trace_in k) (λ run. Tells (machine_of (trace_in k)) (start_of (trace_in k)) run x.number x.steps
+      (Out o Writing (n / 2 ^ 32)))
 
-pub version_told : (k : Plan) (o : ℕ) (x : thread.State) (me w : M) (n : ℕ) → IsSeated k me.0 x → IsAsking (trace_in k) x (Leave o Writing) → read_version (step 0 (word_place o) 0 0 none) me n w → WasSeen k x o me w n
+pub version_told : (k : Plan) (o : ℕ) (x : thread.State) (me w : M) (n : ℕ) → IsSeated k me.0 x → IsAsking (trace_in k) x (Leave o Writing)
+    → read_version (step 0 (word_place o) 0 0 none) me n w → WasSeen k x o me w n
 version_told k o x ([], c) w n seated asking told = absurd seated
 version_told k o x (q ∷ r ∷ qs, c) w n seated asking told = absurd seated
 version_told k o x (q ∷ [], c) w n seated asking told =
     let f : FittedTrace = trace_in q.plan in
     let ask : IsAsking f x (Leave o Writing) = there k q (λ f. IsAsking f x (Leave o Writing)) seated.0 asking in
-    let here : told.0 ≡ x.steps = one_next f q.thread q.position told.0 x.steps seated.1.run told.1 (touches_next f q.thread q.position x (Leave o Writing) seated.1 ask.asks (λ b. b)) in
-    let all : EachRun f (λ run. Tells (machine_of f) (start_of f) run q.thread told.0 (Out o Writing (n / 2 ^ 32))) = λ run of. told.4 run of o refl (ap (ask_at f run q.thread) here ∙ ap (ask_of f.guest.code) (sym (seated.1.at run of).1) ∙ ask.asks) in record {
+    let here : told.0 ≡ x.steps = one_next f q.thread q.position told.0 x.steps seated.1.run told.1
+        (touches_next f q.thread q.position x (Leave o Writing) seated.1 ask.asks (λ b. b)) in
+    let all : EachRun f (λ run. Tells (machine_of f) (start_of f) run q.thread told.0 (Out o Writing (n / 2 ^ 32))) =
+        λ run of. told.4 run of o refl (ap (ask_at f run q.thread) here ∙ ap (ask_of f.guest.code) (sym (seated.1.at run of).1)
+        ∙ ask.asks) in record {
       view = told.2;
       small = told.3;
-      version = subst (λ (z : Plan × ℕ × ℕ). EachRun (trace_in z.0) (λ run. Tells (machine_of (trace_in z.0)) (start_of (trace_in z.0)) run z.1 z.2 (Out o Writing (n / 2 ^ 32)))) (λ i. (seated.0 i, sym seated.1.number i, here i)) all;
+      version = subst (λ (z : Plan × ℕ × ℕ). EachRun (trace_in z.0)
+          (λ run. Tells (machine_of (trace_in z.0)) (start_of (trace_in z.0)) run z.1 z.2 (Out o Writing (n / 2 ^ 32))))
+          (λ i. (seated.0 i, sym seated.1.number i, here i)) all;
     }
 
 -- what is read is a word of 32 bits
-pub word_read : (k : Plan) (x : thread.State) (v : View) (o i n : ℕ) → IsSeated k v x → IsAsking (trace_in k) x (Get o i) → Answers (trace_in k) x.number x.steps n → n < 2 ^ 32
+pub word_read : (k : Plan) (x : thread.State) (v : View) (o i n : ℕ) → IsSeated k v x → IsAsking (trace_in k) x (Get o i)
+    → Answers (trace_in k) x.number x.steps n → n < 2 ^ 32
 word_read k x [] o i n seated asking answers = absurd seated
 word_read k x (q ∷ r ∷ qs) o i n seated asking answers = absurd seated
 word_read k x (q ∷ []) o i n seated asking answers =
@@ -227,39 +270,52 @@ word_read k x (q ∷ []) o i n seated asking answers =
     let ask : IsAsking f x (Get o i) = there k q (λ f. IsAsking f x (Get o i)) seated.0 asking in
     let all : Answers f x.number x.steps n = there k q (λ f. Answers f x.number x.steps n) seated.0 answers in
     let run = seated.1.run.run in
-    (all run seated.1.run.whole o i (subst (λ t. ask_at f run t x.steps ≡ Get o i) (sym seated.1.number) (ap (ask_of f.guest.code) (sym (seated.1.at run seated.1.run.whole).1) ∙ ask.asks))).0
+    (all run seated.1.run.whole o i (subst (λ t. ask_at f run t x.steps ≡ Get o i) (sym seated.1.number)
+        (ap (ask_of f.guest.code) (sym (seated.1.at run seated.1.run.whole).1) ∙ ask.asks))).0
 
 -- the words that there are
-pub head_there : (k : Plan) (x : thread.State) (v : View) (o words : ℕ) (a : Access) (q : Ask) → IsSeated k v x → IsAsking (trace_in k) x q → (q ≡ Enter o a) → words ≡ table_length (object_count (trace_in k).guest) → 8 + 24 * o < words
+pub head_there : (k : Plan) (x : thread.State) (v : View) (o words : ℕ) (a : Access) (q : Ask) → IsSeated k v x → IsAsking (trace_in k) x q
+    → (q ≡ Enter o a) → words ≡ table_length (object_count (trace_in k).guest) → 8 + 24 * o < words
 head_there k x [] o words a q seated asking is size = absurd seated
 head_there k x (p ∷ r ∷ ps) o words a q seated asking is size = absurd seated
 head_there k x (p ∷ []) o words a q seated asking is size =
-    let inside = entered_inside (trace_in p.plan) p.thread p.position x o a seated.1 (there k p (λ f. ask_of f.guest.code x ≡ Enter o a) seated.0 (asking.asks ∙ is)) in
-    let same : object_count (trace_in p.plan).guest ≡ object_count (trace_in k).guest = ap (λ z. object_count (trace_in z).guest) seated.0 in
+    let inside = entered_inside (trace_in p.plan) p.thread p.position x o a seated.1
+        (there k p (λ f. ask_of f.guest.code x ≡ Enter o a) seated.0 (asking.asks ∙ is)) in
+    let same : object_count (trace_in p.plan).guest ≡ object_count (trace_in k).guest =
+        ap (λ z. object_count (trace_in z).guest) seated.0 in
     omega (arith, inside, same, size)
 
-pub left_there : (k : Plan) (x : thread.State) (v : View) (o words : ℕ) (a : Access) → IsSeated k v x → IsAsking (trace_in k) x (Leave o a) → words ≡ table_length (object_count (trace_in k).guest) → 8 + 24 * o < words
+pub left_there : (k : Plan) (x : thread.State) (v : View) (o words : ℕ) (a : Access) → IsSeated k v x → IsAsking (trace_in k) x (Leave o a)
+    → words ≡ table_length (object_count (trace_in k).guest) → 8 + 24 * o < words
 left_there k x [] o words a seated asking size = absurd seated
 left_there k x (p ∷ r ∷ ps) o words a seated asking size = absurd seated
 left_there k x (p ∷ []) o words a seated asking size =
-    let inside = left_inside (trace_in p.plan) p.thread p.position x o a seated.1 (there k p (λ f. ask_of f.guest.code x ≡ Leave o a) seated.0 asking.asks) in
-    let same : object_count (trace_in p.plan).guest ≡ object_count (trace_in k).guest = ap (λ z. object_count (trace_in z).guest) seated.0 in
+    let inside = left_inside (trace_in p.plan) p.thread p.position x o a seated.1
+        (there k p (λ f. ask_of f.guest.code x ≡ Leave o a) seated.0 asking.asks) in
+    let same : object_count (trace_in p.plan).guest ≡ object_count (trace_in k).guest =
+        ap (λ z. object_count (trace_in z).guest) seated.0 in
     omega (arith, inside, same, size)
 
-pub read_there : (k : Plan) (x : thread.State) (v : View) (o i words : ℕ) → IsSeated k v x → IsAsking (trace_in k) x (Get o i) → words ≡ table_length (object_count (trace_in k).guest) → 16 + 24 * o + i < words
+pub read_there : (k : Plan) (x : thread.State) (v : View) (o i words : ℕ) → IsSeated k v x → IsAsking (trace_in k) x (Get o i)
+    → words ≡ table_length (object_count (trace_in k).guest) → 16 + 24 * o + i < words
 read_there k x [] o i words seated asking size = absurd seated
 read_there k x (p ∷ r ∷ ps) o i words seated asking size = absurd seated
 read_there k x (p ∷ []) o i words seated asking size =
-    let inside = read_inside (trace_in p.plan) p.thread p.position x o i seated.1 (there k p (λ f. ask_of f.guest.code x ≡ Get o i) seated.0 asking.asks) in
-    let same : object_count (trace_in p.plan).guest ≡ object_count (trace_in k).guest = ap (λ z. object_count (trace_in z).guest) seated.0 in
+    let inside = read_inside (trace_in p.plan) p.thread p.position x o i seated.1
+        (there k p (λ f. ask_of f.guest.code x ≡ Get o i) seated.0 asking.asks) in
+    let same : object_count (trace_in p.plan).guest ≡ object_count (trace_in k).guest =
+        ap (λ z. object_count (trace_in z).guest) seated.0 in
     omega (arith, inside.0, inside.1, same, size)
 
-pub put_there : (k : Plan) (x : thread.State) (v : View) (o i n words : ℕ) → IsSeated k v x → IsAsking (trace_in k) x (Put o i n) → words ≡ table_length (object_count (trace_in k).guest) → 16 + 24 * o + i < words
+pub put_there : (k : Plan) (x : thread.State) (v : View) (o i n words : ℕ) → IsSeated k v x → IsAsking (trace_in k) x (Put o i n)
+    → words ≡ table_length (object_count (trace_in k).guest) → 16 + 24 * o + i < words
 put_there k x [] o i n words seated asking size = absurd seated
 put_there k x (p ∷ r ∷ ps) o i n words seated asking size = absurd seated
 put_there k x (p ∷ []) o i n words seated asking size =
-    let inside = put_inside (trace_in p.plan) p.thread p.position x o i n seated.1 (there k p (λ f. ask_of f.guest.code x ≡ Put o i n) seated.0 asking.asks) in
-    let same : object_count (trace_in p.plan).guest ≡ object_count (trace_in k).guest = ap (λ z. object_count (trace_in z).guest) seated.0 in
+    let inside = put_inside (trace_in p.plan) p.thread p.position x o i n seated.1
+        (there k p (λ f. ask_of f.guest.code x ≡ Put o i n) seated.0 asking.asks) in
+    let same : object_count (trace_in p.plan).guest ≡ object_count (trace_in k).guest =
+        ap (λ z. object_count (trace_in z).guest) seated.0 in
     omega (arith, inside.0, inside.1, same, size)
 
 -- ---- an entry in two steps
@@ -268,9 +324,11 @@ put_there k x (p ∷ []) o i n words seated asking size =
 pub seat_here : (k : Plan) (v : View) (x : thread.State) (g : Bool) → IsSeated k v x → IsSeated k (view_at k x x.steps g) x
 seat_here k [] x g seated = absurd seated
 seat_here k (q ∷ r ∷ qs) x g seated = absurd seated
-seat_here k (q ∷ []) x g seated = (refl, subst (λ (z : Plan × ℕ). IsAhead (trace_in z.0) z.1 x.steps x) (λ i. (seated.0 i, sym seated.1.number i)) (ahead_here (trace_in q.plan) q.thread q.position x seated.1))
+seat_here k (q ∷ []) x g seated = (refl, subst (λ (z : Plan × ℕ). IsAhead (trace_in z.0) z.1 x.steps x)
+    (λ i. (seated.0 i, sym seated.1.number i)) (ahead_here (trace_in q.plan) q.thread q.position x seated.1))
 
-pub granted_by : (k : Plan) (x : thread.State) (e : Event) (me w : M) (n : ℕ) → IsSeated k me.0 x → WasShown k x e me w n → Opens n e → IsGranted k w.0 x
+pub granted_by : (k : Plan) (x : thread.State) (e : Event) (me w : M) (n : ℕ) → IsSeated k me.0 x → WasShown k x e me w n → Opens n e
+    → IsGranted k w.0 x
 granted_by k x e me w n seated shown on =
     let view : w.0 ≡ view_at k x x.steps true = ap (λ (z : M). z.0) (shown.opened on) in
     record { seated = subst (λ v. IsSeated k v x) (sym view) (seat_here k me.0 x true seated); view = view }
@@ -282,7 +340,8 @@ pub test_false : (b : Bool) (P : Type 0) → IsTrue b ↔ P → b ≡ false → 
 test_false b P h e p = true≢false (sym (h.1 p) ∙ e)
 
 -- after the second
-pub entered_then : (k : Plan) (x : thread.State) (e : Event) (me w u : M) (n m : ℕ) → WasShown k x e me w n → Opens n e → WasTold k x w u m → ◌≡◌ {A = M} u (view_at k x (suc x.steps) false, me.1)
+pub entered_then : (k : Plan) (x : thread.State) (e : Event) (me w u : M) (n m : ℕ) → WasShown k x e me w n → Opens n e → WasTold k x w u m
+    → ◌≡◌ {A = M} u (view_at k x (suc x.steps) false, me.1)
 entered_then k x e me w u n m shown on told = told.view ∙ (λ i. (view_at k x (suc x.steps) false, (shown.opened on i).1))
 
 -- ---- a writer's leave in two steps
@@ -290,5 +349,6 @@ entered_then k x e me w u n m shown on told = told.view ∙ (λ i. (view_at k x 
 pub seated_still : (k : Plan) (x : thread.State) (o : ℕ) (me w : M) (n : ℕ) → IsSeated k me.0 x → WasSeen k x o me w n → IsSeated k w.0 x
 seated_still k x o me w n seated seen = subst (λ (z : M). IsSeated k z.0 x) (sym seen.view) seated
 
-pub left_then : (k : Plan) (x : thread.State) (o : ℕ) (me w u : M) (n m : ℕ) → WasSeen k x o me w n → WasTold k x w u m → ◌≡◌ {A = M} u (view_at k x (suc x.steps) false, me.1)
+pub left_then : (k : Plan) (x : thread.State) (o : ℕ) (me w u : M) (n m : ℕ) → WasSeen k x o me w n → WasTold k x w u m
+    → ◌≡◌ {A = M} u (view_at k x (suc x.steps) false, me.1)
 left_then k x o me w u n m seen told = told.view ∙ (λ i. (view_at k x (suc x.steps) false, (seen.view i).1))

@@ -38,37 +38,47 @@ seated_at (q ∷ qs) = q.position
 pub seated_ahead : (k : Plan) (v : View) (x : thread.State) → IsSeated k v x → IsAhead (trace_in k) x.number (seated_at v) x
 seated_ahead k [] x seated = absurd seated
 seated_ahead k (q ∷ r ∷ qs) x seated = absurd seated
-seated_ahead k (q ∷ []) x seated = subst (λ (z : Plan × ℕ). IsAhead (trace_in z.0) z.1 q.position x) (λ i. (seated.0 i, sym seated.1.number i)) seated.1
+seated_ahead k (q ∷ []) x seated = subst (λ (z : Plan × ℕ). IsAhead (trace_in z.0) z.1 q.position x)
+    (λ i. (seated.0 i, sym seated.1.number i)) seated.1
 
 -- the thread goes on, and the view stays
-pub seated_on : (k : Plan) (v : View) (x y : thread.State) → IsSeated k v x → ((i : ℕ) → IsAhead (trace_in k) x.number i x → IsAhead (trace_in k) x.number i y) → IsSeated k v y
+pub seated_on : (k : Plan) (v : View) (x y : thread.State) → IsSeated k v x
+    → ((i : ℕ) → IsAhead (trace_in k) x.number i x → IsAhead (trace_in k) x.number i y) → IsSeated k v y
 seated_on k [] x y seated on = absurd seated
 seated_on k (q ∷ r ∷ qs) x y seated on = absurd seated
 seated_on k (q ∷ []) x y seated on =
-    (seated.0, subst (λ (z : Plan × ℕ). IsAhead (trace_in z.0) z.1 q.position y) (λ i. (sym seated.0 i, seated.1.number i)) (on q.position (seated_ahead k (q ∷ []) x seated)))
+    (seated.0, subst (λ (z : Plan × ℕ). IsAhead (trace_in z.0) z.1 q.position y) (λ i. (sym seated.0 i, seated.1.number i))
+        (on q.position (seated_ahead k (q ∷ []) x seated)))
 
 -- ---- what the thread is after its reply
 
-replied : (code : List ℕ) (f : FittedTrace) (x : thread.State) (q : Ask) (r : Reply) → code ≡ f.guest.code → ask_of f.guest.code x ≡ q → after_reply code x r ≡ after_ask f.guest.code x q r
+replied : (code : List ℕ) (f : FittedTrace) (x : thread.State) (q : Ask) (r : Reply) → code ≡ f.guest.code → ask_of f.guest.code x ≡ q
+    → after_reply code x r ≡ after_ask f.guest.code x q r
 unfolding after_reply
 replied code f x q r same is = (λ i. after_ask (same i) x (ask_of (same i) x) r) ∙ ap (λ a. after_ask f.guest.code x a r) is
 
 -- a step that touches no object
-pub stepped_alone : (k : Plan) (f : FittedTrace) (code : List ℕ) (me : M) (x y : thread.State) (q : Ask) (r : Reply) → IsFor k f → code ≡ f.guest.code → IsSeated k me.0 x → IsAlone q → really q → Takes (trace_in k) x.number x q r → y ≡ after_reply code x r → HasStepped k me me x y
+pub stepped_alone : (k : Plan) (f : FittedTrace) (code : List ℕ) (me : M) (x y : thread.State) (q : Ask) (r : Reply) → IsFor k f
+    → code ≡ f.guest.code → IsSeated k me.0 x → IsAlone q → really q → Takes (trace_in k) x.number x q r → y ≡ after_reply code x r
+    → HasStepped k me me x y
 stepped_alone k f code me x y q r for same seated alone step takes is =
-    let y_is : y ≡ after_ask (trace_in k).guest.code x q r = is ∙ replied code (trace_in k) x q r (same ∙ ap (λ z. z.guest.code) (sym for)) takes.asks in
+    let y_is : y ≡ after_ask (trace_in k).guest.code x q r = is
+        ∙ replied code (trace_in k) x q r (same ∙ ap (λ z. z.guest.code) (sym for)) takes.asks in
     subst (λ z. HasStepped k me me x z) (sym y_is) (record {
-      seated = seated_on k me.0 x (after_ask (trace_in k).guest.code x q r) seated (λ i ahead. ahead_alone (trace_in k) x.number i x q r ahead takes alone);
+      seated = seated_on k me.0 x (after_ask (trace_in k).guest.code x q r) seated
+          (λ i ahead. ahead_alone (trace_in k) x.number i x q r ahead takes alone);
       slots = refl;
       steps = more_steps (trace_in k).guest.code x q r step;
       number = same_number (trace_in k).guest.code x q r;
     })
 
 -- a step on an object
-pub stepped_object : (k : Plan) (f : FittedTrace) (code : List ℕ) (me me' : M) (x y : thread.State) (q : Ask) (r : Reply) → IsFor k f → code ≡ f.guest.code → IsSeated k me.0 x → really q → Takes (trace_in k) x.number x q r → y ≡ after_reply code x r
+pub stepped_object : (k : Plan) (f : FittedTrace) (code : List ℕ) (me me' : M) (x y : thread.State) (q : Ask) (r : Reply) → IsFor k f
+    → code ≡ f.guest.code → IsSeated k me.0 x → really q → Takes (trace_in k) x.number x q r → y ≡ after_reply code x r
     → ◌≡◌ {A = M} me' (progress k x.number (suc x.steps) false ∷ [], me.1) → HasStepped k me me' x y
 stepped_object k f code me me' x y q r for same seated step takes is moved =
-    let y_is : y ≡ after_ask (trace_in k).guest.code x q r = is ∙ replied code (trace_in k) x q r (same ∙ ap (λ z. z.guest.code) (sym for)) takes.asks in
+    let y_is : y ≡ after_ask (trace_in k).guest.code x q r = is
+        ∙ replied code (trace_in k) x q r (same ∙ ap (λ z. z.guest.code) (sym for)) takes.asks in
     subst (λ (z : thread.State × M). HasStepped k me z.1 x z.0) (λ i. (sym y_is i, sym moved i)) (record {
       seated = (refl, ahead_none (trace_in k) x.number (seated_at me.0) x q r (seated_ahead k me.0 x seated) takes);
       slots = refl;
@@ -82,18 +92,25 @@ stepped_object k f code me me' x y q r for same seated step takes is moved =
 pub asking_for : (k : Plan) (f : FittedTrace) (x : thread.State) (q : Ask) → IsFor k f → IsAsking f x q → IsAsking (trace_in k) x q
 asking_for k f x q for asking = subst (λ z. IsAsking z x q) (sym for) asking
 
-pub go_takes : (k : Plan) (v : View) (x : thread.State) (q : Ask) → IsSeated k v x → IsAsking (trace_in k) x q → is_go q → really q → Takes (trace_in k) x.number x q Go
-go_takes k v x q seated asking go step = takes_go (trace_in k) x.number (seated_at v) x q (seated_ahead k v x seated) asking.asks asking.has go step
+pub go_takes : (k : Plan) (v : View) (x : thread.State) (q : Ask) → IsSeated k v x → IsAsking (trace_in k) x q → is_go q → really q
+    → Takes (trace_in k) x.number x q Go
+go_takes k v x q seated asking go step = takes_go (trace_in k) x.number (seated_at v) x q (seated_ahead k v x seated) asking.asks asking.has
+    go step
 
-pub answer_takes : (k : Plan) (v : View) (x : thread.State) (kind j : EnvKind) (n : ℕ) → IsSeated k v x → IsAsking (trace_in k) x (Env kind) → slice_get (recorded_thread (trace_in k).recorded x.number).events x.events ≡ Some (Answered j n) → Takes (trace_in k) x.number x (Env kind) (Value n)
-answer_takes k v x kind j n seated asking event = takes_answer (trace_in k) x.number (seated_at v) x kind j n (seated_ahead k v x seated) asking.asks asking.has event
+pub answer_takes : (k : Plan) (v : View) (x : thread.State) (kind j : EnvKind) (n : ℕ) → IsSeated k v x → IsAsking (trace_in k) x (Env kind)
+    → slice_get (recorded_thread (trace_in k).recorded x.number).events x.events ≡ Some (Answered j n)
+    → Takes (trace_in k) x.number x (Env kind) (Value n)
+answer_takes k v x kind j n seated asking event =
+    takes_answer (trace_in k) x.number (seated_at v) x kind j n (seated_ahead k v x seated) asking.asks asking.has event
 
-pub get_takes : (k : Plan) (v : View) (x : thread.State) (o i n : ℕ) → IsSeated k v x → IsAsking (trace_in k) x (Get o i) → Answers (trace_in k) x.number x.steps n → Takes (trace_in k) x.number x (Get o i) (Value n)
+pub get_takes : (k : Plan) (v : View) (x : thread.State) (o i n : ℕ) → IsSeated k v x → IsAsking (trace_in k) x (Get o i)
+    → Answers (trace_in k) x.number x.steps n → Takes (trace_in k) x.number x (Get o i) (Value n)
 get_takes k v x o i n seated asking answers = record {
   asks = asking.asks;
   step = tt;
   has = asking.has;
-  next = λ run of. (answers run of o i (asks_in (trace_in k) x.number (seated_at v) x (Get o i) run of (seated_ahead k v x seated) asking.asks)).1;
+  next = λ run of. (answers run of o i (asks_in (trace_in k) x.number (seated_at v) x (Get o i) run of (seated_ahead k v x seated)
+      asking.asks)).1;
 }
 
 -- ---- the next event
@@ -126,14 +143,16 @@ event_suits k v x q seated asking one =
     let of = ahead.run.whole in
     let asks : ask_at f run x.number x.steps ≡ q = asks_in f x.number (seated_at v) x q run of ahead asking.asks in
     let found = event_there f run of x.number x.steps ahead.there (asking.has run of) (ap added asks ∙ one) in
-    let z : StepOf (machine_of f) (thread_at f run x.number x.steps) (thread_at f run x.number (suc x.steps)) (label_of found.0) = step_at (machine_of f) (start_of f) run of.1.runs x.number x.steps (label_of found.0) found.2 in (
+    let z : StepOf (machine_of f) (thread_at f run x.number x.steps) (thread_at f run x.number (suc x.steps)) (label_of found.0) =
+        step_at (machine_of f) (start_of f) run of.1.runs x.number x.steps (label_of found.0) found.2 in (
       found.0,
       ap (λ (y : thread.State). slice_get (recorded_thread f.recorded x.number).events y.events) (ahead.at run of).1 ∙ found.1,
       suits_by q found.0 z.result z.object (z.tells ∙ ap (λ a. told (act_of (shared_ask a) z.result) z.object) asks) one,
     )
 
 -- so that it is never missing
-pub never_disagrees : (k : Plan) (f : FittedTrace) (v : View) (x : thread.State) (q : Ask) → IsFor k f → IsSeated k v x → IsAsking f x q → added q ≡ 1
+pub never_disagrees : (k : Plan) (f : FittedTrace) (v : View) (x : thread.State) (q : Ask) → IsFor k f → IsSeated k v x → IsAsking f x q
+    → added q ≡ 1
     → ((e : Event) → slice_get (recorded_thread f.recorded x.number).events x.events ≡ Some e → Suits q e → ⊥) → ⊥
 never_disagrees k f v x q for seated asking one none =
     let some = event_suits k v x q seated (asking_for k f x q for asking) one in
@@ -141,42 +160,55 @@ never_disagrees k f v x q for seated asking one none =
 
 -- ---- below the target
 
-pub below_has : (k : Plan) (f : FittedTrace) (target : List ℕ) (x : thread.State) → IsFor k f → IsConsistentCut f target → x.steps < cut_of target x.number → HasStep f x.number x.steps
+pub below_has : (k : Plan) (f : FittedTrace) (target : List ℕ) (x : thread.State) → IsFor k f → IsConsistentCut f target
+    → x.steps < cut_of target x.number → HasStep f x.number x.steps
 below_has k f target x for consistent less run of = let within = (consistent run of).0 x.number in omega (arith, within, less)
 
 pub not_done : (k : Plan) (f : FittedTrace) (v : View) (x : thread.State) → IsFor k f → IsSeated k v x → IsAsking f x Done → ⊥
-not_done k f v x for seated asking = let ask : IsAsking (trace_in k) x Done = asking_for k f x Done for asking in never_done (trace_in k) x.number (seated_at v) x (seated_ahead k v x seated) ask.has ask.asks
+not_done k f v x for seated asking = let ask : IsAsking (trace_in k) x Done = asking_for k f x Done for asking in
+    never_done (trace_in k) x.number (seated_at v) x (seated_ahead k v x seated) ask.has ask.asks
 
 -- ---- many private steps
 
-run_steps : (f : FittedTrace) (t i n : ℕ) (x y : thread.State) → IsAhead f t i x → PrivateSteps f.guest.code n x y → ((run : List Step) → IsRunOf f.guest f.recorded run → x.steps + n ≤ count (machine_of f) (start_of f) run t) → IsAhead f t i (run_of f.guest.code n x) × ((run_of f.guest.code n x).steps ≡ x.steps + n)
+run_steps : (f : FittedTrace) (t i n : ℕ) (x y : thread.State) → IsAhead f t i x → PrivateSteps f.guest.code n x y
+    → ((run : List Step) → IsRunOf f.guest f.recorded run → x.steps + n ≤ count (machine_of f) (start_of f) run t)
+    → IsAhead f t i (run_of f.guest.code n x) × ((run_of f.guest.code n x).steps ≡ x.steps + n)
 unfolding run_of step_of
 run_steps f t i zero x y ahead steps room = (ahead, omega arith)
 run_steps f t i (suc n) x y ahead steps room =
     let z : thread.State = run_of f.guest.code n x in
-    let before = run_steps f t i n x z ahead (record { steps = refl; each = λ k l. steps.each k (omega (arith, l)) }) (λ run of. (let r = room run of in omega (arith, r))) in
+    let before = run_steps f t i n x z ahead (record { steps = refl; each = λ k l. steps.each k (omega (arith, l)) })
+        (λ run of. (let r = room run of in omega (arith, r))) in
     let asks : ask_of f.guest.code z ≡ Private = steps.each n (omega arith) in
-    let takes : Takes f t z Private Go = takes_go f t i z Private before.0 asks (λ run of. (let r = room run of in let s = before.1 in omega (arith, r, s))) tt tt in
+    let takes : Takes f t z Private Go = takes_go f t i z Private before.0 asks
+        (λ run of. (let r = room run of in let s = before.1 in omega (arith, r, s))) tt tt in
     let next : after_reply f.guest.code z Go ≡ after_ask f.guest.code z Private Go = replied f.guest.code f z Private Go refl asks in
     let more = more_steps f.guest.code z Private Go tt in
-    (subst (IsAhead f t i) (sym next) (ahead_alone f t i z Private Go before.0 takes tt), ap (λ (w : thread.State). w.steps) next ∙ more ∙ (let s = before.1 in omega (arith, s)))
+    (subst (IsAhead f t i) (sym next) (ahead_alone f t i z Private Go before.0 takes tt), ap (λ (w : thread.State). w.steps) next ∙ more
+        ∙ (let s = before.1 in omega (arith, s)))
 
-pub runs_on : (k : Plan) (f : FittedTrace) (code : List ℕ) (target : List ℕ) (v : View) (x y : thread.State) (n : ℕ) → IsFor k f → code ≡ f.guest.code → IsConsistentCut f target → x.steps + n ≤ cut_of target x.number → IsSeated k v x → PrivateSteps code n x y → HasRunOn k v x y n
+pub runs_on : (k : Plan) (f : FittedTrace) (code : List ℕ) (target : List ℕ) (v : View) (x y : thread.State) (n : ℕ) → IsFor k f
+    → code ≡ f.guest.code → IsConsistentCut f target → x.steps + n ≤ cut_of target x.number → IsSeated k v x → PrivateSteps code n x y
+    → HasRunOn k v x y n
 runs_on k f code target v x y n for same consistent below seated steps =
     let g : FittedTrace = trace_in k in
     let own : PrivateSteps g.guest.code n x y = subst (λ c. PrivateSteps c n x y) (same ∙ ap (λ z. z.guest.code) (sym for)) steps in
     let cut : IsConsistentCut g target = subst (λ z. IsConsistentCut z target) (sym for) consistent in
-    let room : (run : List Step) → IsRunOf g.guest g.recorded run → x.steps + n ≤ count (machine_of g) (start_of g) run x.number = λ run of. (let within = (cut run of).0 x.number in omega (arith, within, below)) in
-    let all : (i : ℕ) → IsAhead g x.number i x → IsAhead g x.number i y = λ i ahead. subst (IsAhead g x.number i) (sym own.steps) (run_steps g x.number i n x y ahead own room).0 in
+    let room : (run : List Step) → IsRunOf g.guest g.recorded run → x.steps + n ≤ count (machine_of g) (start_of g) run x.number =
+        λ run of. (let within = (cut run of).0 x.number in omega (arith, within, below)) in
+    let all : (i : ℕ) → IsAhead g x.number i x → IsAhead g x.number i y =
+        λ i ahead. subst (IsAhead g x.number i) (sym own.steps) (run_steps g x.number i n x y ahead own room).0 in
     record {
       seated = seated_on k v x y seated all;
-      steps = ap (λ (z : thread.State). z.steps) own.steps ∙ (run_steps g x.number (seated_at v) n x y (seated_ahead k v x seated) own room).1;
+      steps = ap (λ (z : thread.State). z.steps) own.steps
+          ∙ (run_steps g x.number (seated_at v) n x y (seated_ahead k v x seated) own room).1;
       number = (all (seated_at v) (seated_ahead k v x seated)).number;
     }
 
 -- ---- a thread that waits
 
-pub waited : (k : Plan) (me me' : M) (x : thread.State) → IsSeated k me.0 x → ◌≡◌ {A = M} me' (progress k x.number x.steps false ∷ [], me.1) → WasStopped k x.number x.steps → HasWaited k me me' x x
+pub waited : (k : Plan) (me me' : M) (x : thread.State) → IsSeated k me.0 x → ◌≡◌ {A = M} me' (progress k x.number x.steps false ∷ [], me.1)
+    → WasStopped k x.number x.steps → HasWaited k me me' x x
 waited k me me' x seated is stopped = subst (λ (z : M). HasWaited k me z x x) (sym is) (record {
   seated = (refl, ahead_here (trace_in k) x.number (seated_at me.0) x (seated_ahead k me.0 x seated));
   slots = refl;
@@ -186,7 +218,9 @@ waited k me me' x seated is stopped = subst (λ (z : M). HasWaited k me z x x) (
 
 -- ---- what the calls of a step promise
 
-pub own_stepped : (k : Plan) (f : FittedTrace) (code : List ℕ) (me : M) (x y : thread.State) (q : Ask) → IsFor k f → code ≡ f.guest.code → IsSeated k me.0 x → IsAsking f x q → (q ≡ Private) ⊎ ((q ≡ Print) ⊎ ((e : end.End) × (q ≡ End e))) → y ≡ after_reply code x Go → HasStepped k me me x y
+pub own_stepped : (k : Plan) (f : FittedTrace) (code : List ℕ) (me : M) (x y : thread.State) (q : Ask) → IsFor k f → code ≡ f.guest.code
+    → IsSeated k me.0 x → IsAsking f x q → (q ≡ Private) ⊎ ((q ≡ Print) ⊎ ((e : end.End) × (q ≡ End e))) → y ≡ after_reply code x Go
+    → HasStepped k me me x y
 own_stepped k f code me x y q for same seated asking own is = elim own [
   | inl a ↦ step Private a tt tt tt
   | inr rest ↦ elim rest [ inl a ↦ step Print a tt tt tt | inr a ↦ step (End a.0) a.1 tt tt tt ]
@@ -197,25 +231,37 @@ own_stepped k f code me x y q for same seated asking own is = elim own [
         let ask : IsAsking (trace_in k) x p = subst (IsAsking (trace_in k) x) a (asking_for k f x q for asking) in
         stepped_alone k f code me x y p Go for same seated alone real (go_takes k me.0 x p seated ask go real) is
 
-pub answer_stepped : (k : Plan) (f : FittedTrace) (code : List ℕ) (me : M) (x y : thread.State) (kind j : EnvKind) (n : ℕ) → IsFor k f → code ≡ f.guest.code → IsSeated k me.0 x → IsAsking f x (Env kind)
-    → slice_get (recorded_thread f.recorded x.number).events x.events ≡ Some (Answered j n) → y ≡ after_reply code x (Value n) → HasStepped k me me x y
+pub answer_stepped : (k : Plan) (f : FittedTrace) (code : List ℕ) (me : M) (x y : thread.State) (kind j : EnvKind) (n : ℕ) → IsFor k f
+    → code ≡ f.guest.code → IsSeated k me.0 x → IsAsking f x (Env kind)
+    → slice_get (recorded_thread f.recorded x.number).events x.events ≡ Some (Answered j n) → y ≡ after_reply code x (Value n)
+    → HasStepped k me me x y
 answer_stepped k f code me x y kind j n for same seated asking event is =
     stepped_alone k f code me x y (Env kind) (Value n) for same seated tt tt
-    (answer_takes k me.0 x kind j n seated (asking_for k f x (Env kind) for asking) (subst (λ z. slice_get (recorded_thread z.recorded x.number).events x.events ≡ Some (Answered j n)) (sym for) event)) is
+    (answer_takes k me.0 x kind j n seated (asking_for k f x (Env kind) for asking)
+        (subst (λ z. slice_get (recorded_thread z.recorded x.number).events x.events ≡ Some (Answered j n)) (sym for) event)) is
 
-pub object_stepped : (k : Plan) (f : FittedTrace) (code : List ℕ) (me me' : M) (x y : thread.State) (q : Ask) → IsFor k f → code ≡ f.guest.code → IsSeated k me.0 x → IsAsking f x q → is_go q → really q
+pub object_stepped : (k : Plan) (f : FittedTrace) (code : List ℕ) (me me' : M) (x y : thread.State) (q : Ask) → IsFor k f
+    → code ≡ f.guest.code → IsSeated k me.0 x → IsAsking f x q → is_go q → really q
     → y ≡ after_reply code x Go → ◌≡◌ {A = M} me' (progress k x.number (suc x.steps) false ∷ [], me.1) → HasStepped k me me' x y
-object_stepped k f code me me' x y q for same seated asking go real is moved = stepped_object k f code me me' x y q Go for same seated real (go_takes k me.0 x q seated (asking_for k f x q for asking) go real) is moved
+object_stepped k f code me me' x y q for same seated asking go real is moved =
+    stepped_object k f code me me' x y q Go for same seated real (go_takes k me.0 x q seated (asking_for k f x q for asking) go real) is
+    moved
 
-pub get_stepped : (k : Plan) (f : FittedTrace) (code : List ℕ) (me me' : M) (x y : thread.State) (o i n : ℕ) → IsFor k f → code ≡ f.guest.code → IsSeated k me.0 x → IsAsking f x (Get o i) → Answers (trace_in k) x.number x.steps n
+pub get_stepped : (k : Plan) (f : FittedTrace) (code : List ℕ) (me me' : M) (x y : thread.State) (o i n : ℕ) → IsFor k f
+    → code ≡ f.guest.code → IsSeated k me.0 x → IsAsking f x (Get o i) → Answers (trace_in k) x.number x.steps n
     → y ≡ after_reply code x (Value n) → ◌≡◌ {A = M} me' (progress k x.number (suc x.steps) false ∷ [], me.1) → HasStepped k me me' x y
-get_stepped k f code me me' x y o i n for same seated asking answers is moved = stepped_object k f code me me' x y (Get o i) (Value n) for same seated tt (get_takes k me.0 x o i n seated (asking_for k f x (Get o i) for asking) answers) is moved
+get_stepped k f code me me' x y o i n for same seated asking answers is moved =
+    stepped_object k f code me me' x y (Get o i) (Value n) for same seated tt
+    (get_takes k me.0 x o i n seated (asking_for k f x (Get o i) for asking) answers) is moved
 
-pub entering_for : (k : Plan) (f : FittedTrace) (x : thread.State) (o : ℕ) (a : Access) (e : Event) → IsFor k f → IsAsking f x (Enter o a) → slice_get (recorded_thread f.recorded x.number).events x.events ≡ Some e → Suits (Enter o a) e → IsEntering (trace_in k) x o a e
-entering_for k f x o a e for asking event suits = subst (λ z. IsEntering z x o a e) (sym for) (record { asking = asking; event = event; suits = suits })
+pub entering_for : (k : Plan) (f : FittedTrace) (x : thread.State) (o : ℕ) (a : Access) (e : Event) → IsFor k f → IsAsking f x (Enter o a)
+    → slice_get (recorded_thread f.recorded x.number).events x.events ≡ Some e → Suits (Enter o a) e → IsEntering (trace_in k) x o a e
+entering_for k f x o a e for asking event suits =
+    subst (λ z. IsEntering z x o a e) (sym for) (record { asking = asking; event = event; suits = suits })
 
 -- a thread of the guest
-pub thread_there : (k : Plan) (f : FittedTrace) (v : View) (x : thread.State) → IsFor k f → IsSeated k v x → x.number < length f.guest.entries
+pub thread_there : (k : Plan) (f : FittedTrace) (v : View) (x : thread.State) → IsFor k f → IsSeated k v x
+    → x.number < length f.guest.entries
 thread_there k f v x for seated = subst (λ z. x.number < length z.guest.entries) for (seated_ahead k v x seated).there
 
 -- another kind of event

@@ -19,22 +19,29 @@ pub record StepOf {T : Type 0} (m : Machine T) (x y : T) (a : Label) : Type 0 wh
   pub next : y ≡ m.take x (reply (act_of (m.ask x) result) object)
 
 -- the thread that steps
-now_same : {T : Type 0} (m : Machine T) (s : State T) (e : Step) → (after m s e).now e.0 ≡ m.take (s.now e.0) (reply (act m s e) (s.objects (target (act m s e))))
+now_same : {T : Type 0} (m : Machine T) (s : State T) (e : Step)
+    → (after m s e).now e.0 ≡ m.take (s.now e.0) (reply (act m s e) (s.objects (target (act m s e))))
 unfolding after
 now_same m s e = upd_same s.now e.0 (m.take (s.now e.0) (reply (act m s e) (s.objects (target (act m s e)))))
 
 pub first_thread : {T : Type 0} (m : Machine T) (s : State T) (run : List Step) (t : ℕ) → th m s run t 0 ≡ s.now t
 first_thread m s [] t = refl
 first_thread m s (e ∷ run) t = elim (cases_eq t e.0) [
-  | inl same ↦ subst (λ b. thread_in (join_if b (s.now t, label m s e) (trail m (after m s e) run t)) 0 ((end m (after m s e) run).now t) ≡ s.now t) (sym (eq-eqb t e.0 same)) refl
-  | inr other ↦ subst (λ b. thread_in (join_if b (s.now t, label m s e) (trail m (after m s e) run t)) 0 ((end m (after m s e) run).now t) ≡ s.now t) (sym (ne_eqb t e.0 other)) (first_thread m (after m s e) run t ∙ now_other m s e t other)
+  | inl same ↦ subst (λ b. thread_in (join_if b (s.now t, label m s e) (trail m (after m s e) run t)) 0 ((end m (after m s e) run).now t) ≡
+      s.now t) (sym (eq-eqb t e.0 same)) refl
+  | inr other ↦ subst (λ b. thread_in (join_if b (s.now t, label m s e) (trail m (after m s e) run t)) 0 ((end m (after m s e) run).now t) ≡
+      s.now t) (sym (ne_eqb t e.0 other)) (first_thread m (after m s e) run t ∙ now_other m s e t other)
 ]
 
 -- the first step of a trail, or a later one
-first_or : {T : Type 0} (m : Machine T) (s : State T) (e : Step) (run : List Step) (t k : ℕ) (a : Label) (x : T) → Can m s e → ((j : ℕ) → At (trail m (after m s e) run t) j (x, a) → StepOf m (th m (after m s e) run t j) (th m (after m s e) run t (suc j)) a) → t ≡ e.0
+first_or : {T : Type 0} (m : Machine T) (s : State T) (e : Step) (run : List Step) (t k : ℕ) (a : Label) (x : T) → Can m s e
+    → ((j : ℕ) → At (trail m (after m s e) run t) j (x, a) → StepOf m (th m (after m s e) run t j) (th m (after m s e) run t (suc j)) a)
+    → t ≡ e.0
     → At ((s.now t, label m s e) ∷ trail m (after m s e) run t) k (x, a)
-    → StepOf m (thread_in ((s.now t, label m s e) ∷ trail m (after m s e) run t) k ((end m (after m s e) run).now t)) (thread_in ((s.now t, label m s e) ∷ trail m (after m s e) run t) (suc k) ((end m (after m s e) run).now t)) a
-first_or m s e run t zero a x can later same at = subst (λ u. StepOf m (s.now u) (thread_in (trail m (after m s e) run u) 0 ((end m (after m s e) run).now u)) a) (sym same) (record {
+    → StepOf m (thread_in ((s.now t, label m s e) ∷ trail m (after m s e) run t) k ((end m (after m s e) run).now t))
+    (thread_in ((s.now t, label m s e) ∷ trail m (after m s e) run t) (suc k) ((end m (after m s e) run).now t)) a
+first_or m s e run t zero a x can later same at =
+    subst (λ u. StepOf m (s.now u) (thread_in (trail m (after m s e) run u) 0 ((end m (after m s e) run).now u)) a) (sym same) (record {
   result = e.1;
   object = s.objects (target (act m s e));
   can = can;
@@ -43,21 +50,25 @@ first_or m s e run t zero a x can later same at = subst (λ u. StepOf m (s.now u
 })
 first_or m s e run t (suc k) a x can later same at = later k at
 
-pub step_at : {T : Type 0} (m : Machine T) (s : State T) (run : List Step) → IsRun m s run → (t k : ℕ) (a : Label) → Tells m s run t k a → StepOf m (th m s run t k) (th m s run t (suc k)) a
+pub step_at : {T : Type 0} (m : Machine T) (s : State T) (run : List Step) → IsRun m s run → (t k : ℕ) (a : Label) → Tells m s run t k a
+    → StepOf m (th m s run t k) (th m s run t (suc k)) a
 step_at m s [] ok t k a h = absurd h.1
 step_at m s (e ∷ run) ok t k a h = elim (cases_eq t e.0) [
   | inl same ↦ subst
       (λ b. At (join_if b (s.now t, label m s e) (trail m (after m s e) run t)) k (h.0, a)
-      → StepOf m (thread_in (join_if b (s.now t, label m s e) (trail m (after m s e) run t)) k ((end m (after m s e) run).now t)) (thread_in (join_if b (s.now t, label m s e) (trail m (after m s e) run t)) (suc k) ((end m (after m s e) run).now t)) a)
+      → StepOf m (thread_in (join_if b (s.now t, label m s e) (trail m (after m s e) run t)) k ((end m (after m s e) run).now t))
+      (thread_in (join_if b (s.now t, label m s e) (trail m (after m s e) run t)) (suc k) ((end m (after m s e) run).now t)) a)
       (sym (eq-eqb t e.0 same)) (first_or m s e run t k a h.0 ok.0 (λ j at. step_at m (after m s e) run ok.1 t j a (h.0, at)) same) h.1
   | inr other ↦ subst
       (λ b. At (join_if b (s.now t, label m s e) (trail m (after m s e) run t)) k (h.0, a)
-      → StepOf m (thread_in (join_if b (s.now t, label m s e) (trail m (after m s e) run t)) k ((end m (after m s e) run).now t)) (thread_in (join_if b (s.now t, label m s e) (trail m (after m s e) run t)) (suc k) ((end m (after m s e) run).now t)) a)
+      → StepOf m (thread_in (join_if b (s.now t, label m s e) (trail m (after m s e) run t)) k ((end m (after m s e) run).now t))
+      (thread_in (join_if b (s.now t, label m s e) (trail m (after m s e) run t)) (suc k) ((end m (after m s e) run).now t)) a)
       (sym (ne_eqb t e.0 other)) (λ at. step_at m (after m s e) run ok.1 t k a (h.0, at)) h.1
 ]
 
 -- what isn't an entry needs nothing
-pub needs_none : (b : Label) (q : Ask) (r : ℕ) (x : Object) → ((o : ℕ) (a : Access) → q ≢ machine.Enter o a) → ((o : ℕ) → q ≢ machine.Try o) → Needs b (told (act_of q r) x) → ⊥
+pub needs_none : (b : Label) (q : Ask) (r : ℕ) (x : Object) → ((o : ℕ) (a : Access) → q ≢ machine.Enter o a) → ((o : ℕ) → q ≢ machine.Try o)
+    → Needs b (told (act_of q r) x) → ⊥
 needs_none b q r x ne nt n = none b (told (act_of q r) x) (quiet q r x ne nt) n
   where
     NotIn : Label → Type 0
@@ -67,7 +78,8 @@ needs_none b q r x ne nt n = none b (told (act_of q r) x) (quiet q r x ne nt) n
     NotIn (Refused o) = Unit {0}
     NotIn (Out o a v) = Unit {0}
 
-    quiet : (q : Ask) (r : ℕ) (x : Object) → ((o : ℕ) (a : Access) → q ≢ machine.Enter o a) → ((o : ℕ) → q ≢ machine.Try o) → NotIn (told (act_of q r) x)
+    quiet : (q : Ask) (r : ℕ) (x : Object) → ((o : ℕ) (a : Access) → q ≢ machine.Enter o a) → ((o : ℕ) → q ≢ machine.Try o)
+        → NotIn (told (act_of q r) x)
     quiet machine.Private r x ne nt = tt
     quiet (machine.Env k) r x ne nt = tt
     quiet (machine.Enter o a) r x ne nt = absurd (ne o a refl)

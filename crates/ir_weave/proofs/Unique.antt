@@ -7,7 +7,8 @@ use Rattle.ir_weave.specs.States.{IsAt}
 use Rattle.ir_weave.specs.Laws.{OneStateEach}
 
 -- objects with the same word and contents, that count the same threads
-same_cell : (o : ℕ) (s r : Flat) → IsShared s o → IsShared r o → length s.threads ≡ length r.threads → (tables s).objects o ≡ (tables r).objects o → cell_of s o ≡ cell_of r o
+same_cell : (o : ℕ) (s r : Flat) → IsShared s o → IsShared r o → length s.threads ≡ length r.threads
+    → (tables s).objects o ≡ (tables r).objects o → cell_of s o ≡ cell_of r o
 same_cell o s r h k size same = λ i. record { fields = fields i; words = words i }
   where
     inside : (cell_of s o).fields.inside ≡ (cell_of r o).fields.inside
@@ -29,5 +30,6 @@ one_state f p s r run flat flat' h k =
     let size : length s.threads ≡ length r.threads = h.threads ∙ sym k.threads in
     let count : length s.objects ≡ length r.objects = h.objects ∙ sym k.objects in
     let threads : s.threads ≡ r.threads = ext_get_or idle s.threads r.threads size (λ t l. a.threads t ∙ sym (b.threads t)) in
-    let objects : s.objects ≡ r.objects = ext_get_or empty s.objects r.objects count (λ o l. same_cell o s r (flat.objects o l) (flat'.objects o (omega (arith, l, count))) size (a.objects o ∙ sym (b.objects o))) in
+    let objects : s.objects ≡ r.objects = ext_get_or empty s.objects r.objects count
+        (λ o l. same_cell o s r (flat.objects o l) (flat'.objects o (omega (arith, l, count))) size (a.objects o ∙ sym (b.objects o))) in
     λ i. record { code = (h.code ∙ sym k.code) i; threads = threads i; objects = objects i }

@@ -14,7 +14,8 @@ use Rattle.ir_weave.specs.States.{IsStateAt, positions}
 
 -- thread t can take its next step now with this result, and logs by it what the trace tells next
 abbrev pub LogsNext : Recorded → Flat → ℕ → ℕ → Type 0
-LogsNext r s t v = Can (machine s) (tables s) (t, v) × (logged (label (machine s) (tables s) (t, v)) (unlogged (label (machine s) (tables s) (t, v)) (log_ahead r s t)) ≡ log_ahead r s t)
+LogsNext r s t v = Can (machine s) (tables s) (t, v)
+    × (logged (label (machine s) (tables s) (t, v)) (unlogged (label (machine s) (tables s) (t, v)) (log_ahead r s t)) ≡ log_ahead r s t)
 
 -- such a result, or there is none
 abbrev pub IsNext : Recorded → Flat → ℕ → Option ℕ → Type 0

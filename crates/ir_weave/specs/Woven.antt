@@ -66,7 +66,8 @@ abbrev pub AreTracks : Plan → Flat → (ℕ → ℕ) → ℕ → View → Type
 AreTracks k s seat id [] = Unit {0}
 AreTracks k s seat id (q ∷ qs) = IsTrack k s seat id q × AreTracks k s seat id qs
 
--- whichever run with the trace it is: the positions in the views are a consistent cut, at or above the one at which the table was opened; the words are each object's packed word and contents at this cut; and a view that is granted has its thread admitted there
+-- whichever run with the trace it is: the positions in the views are a consistent cut, at or above the one at which the table was opened;
+-- the words are each object's packed word and contents at this cut; and a view that is granted has its thread admitted there
 pub record Woven (k : Plan) (x : State (Unit {0}) View) : Type 0 where
   pub run : HasRun (trace_in k)
   -- the threads and objects at the positions in the views
@@ -98,17 +99,21 @@ Opens n e = IsOpen (record { fields = fields_of n; words = [] }) e
 
 -- where the value that was found is that of the word that step k of thread t asks for, it is what the thread is answered
 abbrev pub Answers : FittedTrace → ℕ → ℕ → ℕ → Type 0
-Answers f t k n = EachRun f (λ run. (o i : ℕ) → ask_at f run t k ≡ ask.Get o i → (n < 2 ^ 32) × (thread_at f run t (suc k) ≡ after_ask f.guest.code (thread_at f run t k) (ask.Get o i) (Value n)))
+Answers f t k n = EachRun f (λ run. (o i : ℕ) → ask_at f run t k ≡ ask.Get o i → (n < 2 ^ 32)
+    × (thread_at f run t (suc k) ≡ after_ask f.guest.code (thread_at f run t k) (ask.Get o i) (Value n)))
 
 -- where step k of thread t is a writer's leave of the object with this word, this is the version that it leaves
 abbrev pub Leaves : FittedTrace → ℕ → ℕ → ℕ → ℕ → Type 0
-Leaves f t k word v = EachRun f (λ run. (o : ℕ) → word ≡ word_place o → ask_at f run t k ≡ ask.Leave o Writing → Tells (machine_of f) (start_of f) run t k (Out o Writing v))
+Leaves f t k word v = EachRun f (λ run. (o : ℕ) → word ≡ word_place o → ask_at f run t k ≡ ask.Leave o Writing
+    → Tells (machine_of f) (start_of f) run t k (Out o Writing v))
 
--- what a load before an entry tells: the position is that of the entry; the thread is granted it where the word is open to its event, and else it wasn't admitted
+-- what a load before an entry tells: the position is that of the entry; the thread is granted it where the word is open to its event, and
+-- else it wasn't admitted
 abbrev pub looked : Step (Unit {0}) → M → ℕ → M → Type 0
 looked s ([], c) n w = ⊥
 looked s (q ∷ r ∷ qs, c) n w = ⊥
-looked s (q ∷ [], c) n w = (i : ℕ) × (e : Event) × IsNextObject (trace_in q.plan) q.thread q.position i × IsEventAt (trace_in q.plan) q.thread i e
+looked s (q ∷ [], c) n w = (i : ℕ) × (e : Event) × IsNextObject (trace_in q.plan) q.thread q.position i
+    × IsEventAt (trace_in q.plan) q.thread i e
     × (Opens n e → w ≡ (progress q.plan q.thread i true ∷ [], c))
     × ((Opens n e → ⊥) → (w ≡ (progress q.plan q.thread i false ∷ [], c)) × WasStopped q.plan q.thread i)
 
@@ -116,13 +121,15 @@ looked s (q ∷ [], c) n w = (i : ℕ) × (e : Event) × IsNextObject (trace_in 
 abbrev pub stepped_on : Step (Unit {0}) → M → ℕ → M → Type 0
 stepped_on s ([], c) n w = ⊥
 stepped_on s (q ∷ r ∷ qs, c) n w = ⊥
-stepped_on s (q ∷ [], c) n w = (i : ℕ) × IsNextObject (trace_in q.plan) q.thread q.position i × (w ≡ (progress q.plan q.thread (suc i) false ∷ [], c)) × Answers (trace_in q.plan) q.thread i n
+stepped_on s (q ∷ [], c) n w = (i : ℕ) × IsNextObject (trace_in q.plan) q.thread q.position i
+    × (w ≡ (progress q.plan q.thread (suc i) false ∷ [], c)) × Answers (trace_in q.plan) q.thread i n
 
 -- what a load before a writer's leave tells: the version that is left
 abbrev pub read_version : Step (Unit {0}) → M → ℕ → M → Type 0
 read_version s ([], c) n w = ⊥
 read_version s (q ∷ r ∷ qs, c) n w = ⊥
-read_version s (q ∷ [], c) n w = (i : ℕ) × IsNextObject (trace_in q.plan) q.thread q.position i × (w ≡ (q ∷ [], c)) × (n < 2 ^ 63) × Leaves (trace_in q.plan) q.thread i s.word (n / 2 ^ 32)
+read_version s (q ∷ [], c) n w = (i : ℕ) × IsNextObject (trace_in q.plan) q.thread q.position i × (w ≡ (q ∷ [], c)) × (n < 2 ^ 63)
+    × Leaves (trace_in q.plan) q.thread i s.word (n / 2 ^ 32)
 
 -- the tracks of n threads from t on, at these positions
 abbrev pub tracks_from : Plan → ℕ → ℕ → View
@@ -182,7 +189,8 @@ abbrev pub AreAt : Cut → View → Type 0
 AreAt p [] = Unit {0}
 AreAt p (q ∷ qs) = (p q.thread ≡ q.position) × AreAt p qs
 
--- the objects of the guest at a consistent cut of each run, at or above the one at which the table was opened, in which the threads of the view stand where it says
+-- the objects of the guest at a consistent cut of each run, at or above the one at which the table was opened, in which the threads of the
+-- view stand where it says
 pub record IsClosed (k : Plan) (v : View) (cells : List Cell) : Type 0 where
   pub state : Flat
   pub flat : IsFlat state

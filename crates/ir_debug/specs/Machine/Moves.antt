@@ -9,11 +9,13 @@ use Rattle.ir_debug.specs.Machine.Desk.{Desk, threads_of, last_of, first_cut, la
 
 -- the least cut at or above the machine's with thread t at k or more
 abbrev pub ToLeast : List run.Step → Desk → ℕ → ℕ → List ℕ → Type 0
-ToLeast steps d t k to = (length to ≡ threads_of d.fitted) × IsLeast (machine_of d.fitted) (start_of d.fitted) steps (cut_of d.at) t k (cut_of to)
+ToLeast steps d t k to = (length to ≡ threads_of d.fitted)
+    × IsLeast (machine_of d.fitted) (start_of d.fitted) steps (cut_of d.at) t k (cut_of to)
 
 -- the greatest cut at or below the machine's with thread t at k or less
 abbrev pub ToGreatest : List run.Step → Desk → ℕ → ℕ → List ℕ → Type 0
-ToGreatest steps d t k to = (length to ≡ threads_of d.fitted) × IsGreatest (machine_of d.fitted) (start_of d.fitted) steps (cut_of d.at) t k (cut_of to)
+ToGreatest steps d t k to = (length to ≡ threads_of d.fitted)
+    × IsGreatest (machine_of d.fitted) (start_of d.fitted) steps (cut_of d.at) t k (cut_of to)
 
 -- upwards or downwards
 abbrev pub ToEither : Bool → List run.Step → Desk → ℕ → ℕ → List ℕ → Type 0

@@ -62,7 +62,8 @@ abbrev pub header_text : HeaderCause → List ℕ
 header_text cause = codes "header differs " ++ decimal (header_cause_number cause)
 
 abbrev pub incoherent_text : ℕ → ℕ → Cause → List ℕ
-incoherent_text thread event cause = codes "incoherent thread " ++ decimal thread ++ codes " event " ++ decimal event ++ codes " cause " ++ decimal (cause_number cause)
+incoherent_text thread event cause = codes "incoherent thread " ++ decimal thread ++ codes " event " ++ decimal event ++ codes " cause " ++
+    decimal (cause_number cause)
 
 -- the lines of a verdict
 abbrev pub verdict_text : Verdict → List ℕ

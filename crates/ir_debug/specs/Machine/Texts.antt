@@ -39,7 +39,8 @@ lines_for (suc width) count = (count + width) / suc width
 -- so many lines of 16 bytes, each with the address of its first
 unfoldable pub memory_lines : ℕ → ℕ → List ℕ → List ℕ
 memory_lines zero address bytes = []
-memory_lines (suc n) address bytes = hex_word address ++ codes ": " ++ encode_lower (take 16 bytes) ++ codes "\n" ++ memory_lines n (address + 16) (drop 16 bytes)
+memory_lines (suc n) address bytes = hex_word address ++ codes ": " ++ encode_lower (take 16 bytes) ++ codes "\n" ++ memory_lines n
+    (address + 16) (drop 16 bytes)
 
 -- the bytes from an address on
 abbrev pub memory_text : ℕ → List ℕ → List ℕ
@@ -81,7 +82,8 @@ words_text words (suc n) = words_text words n ++ codes " " ++ hex_word (words n)
 abbrev pub object_text : ℕ → Object → List ℕ
 object_text threads o =
     codes "version " ++ decimal o.version ++ codes " left " ++ decimal o.left
-    ++ codes " readers " ++ joined (inside_for Reading o.inside threads) ++ codes " writer " ++ joined (inside_for Writing o.inside threads) ++ codes "\n"
+    ++ codes " readers " ++ joined (inside_for Reading o.inside threads) ++ codes " writer " ++ joined (inside_for Writing o.inside threads)
+        ++ codes "\n"
     ++ codes "words" ++ words_text o.words 8 ++ codes "\n"
 
 -- ---- events
@@ -95,7 +97,8 @@ kind_text Input = codes "input"
 abbrev pub event_text : Label → List ℕ
 event_text (Answer kind value) = kind_text kind ++ codes " " ++ decimal value
 event_text (In object Reading version left) = codes "read " ++ decimal object ++ codes " version " ++ decimal version
-event_text (In object Writing version left) = codes "write " ++ decimal object ++ codes " version " ++ decimal version ++ codes " readers " ++ decimal left
+event_text (In object Writing version left) = codes "write " ++ decimal object ++ codes " version " ++ decimal version ++ codes " readers "
+    ++ decimal left
 event_text Quiet = []
 event_text (labels.Refused object) = []
 event_text (Out object access version) = []

@@ -4,7 +4,8 @@ use Rattle.ir_asm.proofs.Sound.{seen_sound, guest_limits}
 use Rattle.ir_asm.proofs.assembler.assemble.Goals as goal
 
 pub parts_of-requires : goal.parts_of-requires
-parts_of-requires c = (seen_sound (lines_of c.as_bytes.result.now) c.new-scan.result c.first_pass.new.scan c.new-scan.ensures c.in_ok-line.ensures.exact).few
+parts_of-requires c = (seen_sound (lines_of c.as_bytes.result.now) c.new-scan.result c.first_pass.new.scan c.new-scan.ensures
+    c.in_ok-line.ensures.exact).few
 
 pub image-requires : goal.image-requires
 image-requires c =

@@ -7,7 +7,8 @@ use Rattle.ir_asm.proofs.line.are_names.Given as goal
 
 -- what is left decides
 abbrev pub invariant-loop-label : goal.invariant-loop-label
-invariant-loop-label l = list_all is_name (map trim (all_but_last (split 58 l.rest))) ≡ list_all is_name (map trim (all_but_last (split 58 l.fn.text)))
+invariant-loop-label l = list_all is_name (map trim (all_but_last (split 58 l.rest))) ≡ list_all is_name
+    (map trim (all_but_last (split 58 l.fn.text)))
 
 abbrev pub decreases-loop-label : goal.decreases-loop-label
 decreases-loop-label l = length l.rest

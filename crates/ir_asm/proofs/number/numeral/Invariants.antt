@@ -9,6 +9,7 @@ use Rattle.ir_asm.proofs.number.numeral.Given as goal
 abbrev pub invariant-loop-byte : goal.invariant-loop-byte
 invariant-loop-byte l = record {
   value : digits_value_after l.radix l.value (drop l.byte-index l.digits) ≡ digits_value l.radix l.digits;
-  all : list_all (λ c. nat_lt (digit_value c) l.radix) (drop l.byte-index l.digits) ≡ list_all (λ c. nat_lt (digit_value c) l.radix) l.digits;
+  all : list_all (λ c. nat_lt (digit_value c) l.radix) (drop l.byte-index l.digits) ≡ list_all (λ c. nat_lt (digit_value c) l.radix)
+      l.digits;
   small : l.value < 16 ^ l.byte-index;
 }

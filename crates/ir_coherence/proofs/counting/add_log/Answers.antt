@@ -12,4 +12,5 @@ add-requires-clause-room c =
     (omega (arith, length-map (take i events) label_of, length-take-le i events (omega arith)))
 
 pub loop-event-preserved : goal.loop-event-preserved
-loop-event-preserved c = one_counted c.args.counts.now c.loop-event.counts c.add.new.self c.args.events.now c.loop-event.event-index _ c.loop-event-test.true c.loop-event.invariant c.in_ok-add.ensures
+loop-event-preserved c = one_counted c.args.counts.now c.loop-event.counts c.add.new.self c.args.events.now c.loop-event.event-index _
+    c.loop-event-test.true c.loop-event.invariant c.in_ok-add.ensures

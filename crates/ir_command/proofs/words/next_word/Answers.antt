@@ -13,7 +13,8 @@ some_byte (b ∷ bytes) e = refl
 pub returns-then-is_empty : goal.returns-then-is_empty
 returns-then-is_empty c = no_word c.args.line.now (sym c.skip-line.ensures ∙ nil_from_length _ (eqb-true _ _ (sym c.if-is_empty.ensures)))
 
-cut : (line l word rest : List ℕ) (n : ℕ) → l ≡ skip_blanks line → is_empty l ≡ false → n ≡ word_end l → word ≡ take n l → rest ≡ drop n l → words_of line ≡ word ∷ words_of rest
+cut : (line l word rest : List ℕ) (n : ℕ) → l ≡ skip_blanks line → is_empty l ≡ false → n ≡ word_end l → word ≡ take n l → rest ≡ drop n l
+    → words_of line ≡ word ∷ words_of rest
 cut line l word rest n skipped some end prefix back =
     let first = first_word line (ap is_empty (sym skipped) ∙ some) in
     let word_is : take (word_end (skip_blanks line)) (skip_blanks line) ≡ word = rw (← skipped, ← end) (sym prefix) in
@@ -21,4 +22,5 @@ cut line l word rest n skipped some end prefix back =
     first ∙ rw (word_is, rest_is) refl
 
 pub returns : goal.returns
-returns c = cut c.args.line.now c.skip-line.result.now _ _ c.word_len.result c.skip-line.ensures (some_byte _ (sym c.is_empty.ensures ∙ c.if-is_empty.false)) c.word_len.ensures.value c.split_at.ensures.prefix c.split_at.ensures.back
+returns c = cut c.args.line.now c.skip-line.result.now _ _ c.word_len.result c.skip-line.ensures
+    (some_byte _ (sym c.is_empty.ensures ∙ c.if-is_empty.false)) c.word_len.ensures.value c.split_at.ensures.prefix c.split_at.ensures.back

@@ -8,4 +8,5 @@ use Rattle.ir_cut.specs.Searching.{AreInside, NeededBy}
 use Rattle.ir_cut.proofs.consistency.is_closed.Given as goal
 
 abbrev pub invariant-loop-i : goal.invariant-loop-i
-invariant-loop-i l = (e : ℕ) (x : Event) → e < l.i → slice_get (recorded_thread l.fitted.recorded l.fn.t).events e ≡ Some x → EachRun l.fitted (λ run. AreInside l.fitted run (NeededBy (label_of x)) (cut_of l.positions))
+invariant-loop-i l = (e : ℕ) (x : Event) → e < l.i → slice_get (recorded_thread l.fitted.recorded l.fn.t).events e ≡ Some x
+    → EachRun l.fitted (λ run. AreInside l.fitted run (NeededBy (label_of x)) (cut_of l.positions))

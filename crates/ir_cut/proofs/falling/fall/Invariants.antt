@@ -10,5 +10,6 @@ abbrev pub invariant-leaves : goal.invariant-leaves
 invariant-leaves l = record {
   size : length l.positions.items ≡ length l.fn.positions.items;
   each : AreLeaves l.fitted l.next.items;
-  falls : (ps : List ℕ) (u k : ℕ) → EachRun l.fitted (Falling l.fitted ps u k l.fn.positions.items l.fn.next.items) → EachRun l.fitted (Falling l.fitted ps u k l.positions.items l.next.items);
+  falls : (ps : List ℕ) (u k : ℕ) → EachRun l.fitted (Falling l.fitted ps u k l.fn.positions.items l.fn.next.items)
+      → EachRun l.fitted (Falling l.fitted ps u k l.positions.items l.next.items);
 }

@@ -3,4 +3,5 @@ use Rattle.ir_cut.proofs.Stepping.{leaves_rise}
 use Rattle.ir_cut.proofs.falling.leaves_inside.Goals as goal
 
 pub count_before-requires : goal.count_before-requires
-count_before-requires c = leaves_rise c.args.fitted.now c.requires.fitted c.loop-t.t c.leaves.result.now (subst (λ n. c.loop-t.t < n) c.requires.size c.loop-t-test.true) c.leaves.ensures
+count_before-requires c = leaves_rise c.args.fitted.now c.requires.fitted c.loop-t.t c.leaves.result.now
+    (subst (λ n. c.loop-t.t < n) c.requires.size c.loop-t-test.true) c.leaves.ensures

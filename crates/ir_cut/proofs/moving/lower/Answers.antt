@@ -2,4 +2,5 @@ use Rattle.ir_cut.proofs.Moved.{next_lowered}
 use Rattle.ir_cut.proofs.moving.lower.Goals as goal
 
 pub loop-place-preserved : goal.loop-place-preserved
-loop-place-preserved c = next_lowered c.args.positions.now.items c.loop-place.positions.items c.args.places.now c.loop-place.place-index c.index-position.result.now c.min.result c.requires c.loop-place.invariant c.loop-place-test.true c.index-position.ensures c.min.ensures
+loop-place-preserved c = next_lowered c.args.positions.now.items c.loop-place.positions.items c.args.places.now c.loop-place.place-index
+    c.index-position.result.now c.min.result c.requires c.loop-place.invariant c.loop-place-test.true c.index-position.ensures c.min.ensures

@@ -4,7 +4,10 @@ use Rattle.ir_cut.proofs.Sought.{leaves_placed}
 use Rattle.ir_cut.proofs.needs.is_made.Goals as goal
 
 pub are_inside-requires : goal.are_inside-requires
-are_inside-requires c = leaves_placed c.args.fitted.now c.requires.fitted c.args.object Writing c.in-Some.before c.leaves_at-places.result.now c.leaves_at-places.ensures.only c.leaves_at-places.ensures.all _ c.requires.size
+are_inside-requires c = leaves_placed c.args.fitted.now c.requires.fitted c.args.object Writing c.in-Some.before
+    c.leaves_at-places.result.now c.leaves_at-places.ensures.only c.leaves_at-places.ensures.all _ c.requires.size
 
 pub returns-in-Some : goal.returns-in-Some
-returns-in-Some c = made_inside c.args.fitted.now c.requires.fitted c.args.object c.args.version c.in-Some.before c.leaves_at-places.result.now c.leaves_at-places.ensures.only c.leaves_at-places.ensures.all c.args.positions.now c.are_inside.result c.in-Some.ensures c.are_inside.ensures
+returns-in-Some c = made_inside c.args.fitted.now c.requires.fitted c.args.object c.args.version c.in-Some.before
+    c.leaves_at-places.result.now c.leaves_at-places.ensures.only c.leaves_at-places.ensures.all c.args.positions.now c.are_inside.result
+    c.in-Some.ensures c.are_inside.ensures

@@ -4,13 +4,18 @@ use Rattle.ir_cut.proofs.Sought.{entries_placed}
 use Rattle.ir_cut.proofs.needs.lower_for.Goals as goal
 
 pub lower-requires : goal.lower-requires
-lower-requires c = entries_placed c.args.fitted.now c.requires.fitted c.args.leave.object Writing c.args.leave.version c.entries_at.result.now c.entries_at.ensures.only c.entries_at.ensures.all _ c.requires.size
+lower-requires c = entries_placed c.args.fitted.now c.requires.fitted c.args.leave.object Writing c.args.leave.version
+    c.entries_at.result.now c.entries_at.ensures.only c.entries_at.ensures.all _ c.requires.size
 
 pub returns-in-Reading-clause-lowered : goal.returns-in-Reading-clause-lowered
-returns-in-Reading-clause-lowered c = reader_lowered c.args.fitted.now c.requires.fitted c.args.leave c.entries_at.result.now c.entries_at.ensures.only c.entries_at.ensures.all c.args.positions.now.items c.lower.new.positions.items c.in-Reading.is c.lower.ensures
+returns-in-Reading-clause-lowered c = reader_lowered c.args.fitted.now c.requires.fitted c.args.leave c.entries_at.result.now
+    c.entries_at.ensures.only c.entries_at.ensures.all c.args.positions.now.items c.lower.new.positions.items c.in-Reading.is
+    c.lower.ensures
 
 pub returns-in-Some-clause-lowered : goal.returns-in-Some-clause-lowered
-returns-in-Some-clause-lowered c = writer_lowered c.args.fitted.now c.args.leave c.in-Some.made c.args.positions.now.items c.lower_from.new.positions.items c.in-Writing.is c.in-Some.ensures.1 c.lower_from.ensures.lowered
+returns-in-Some-clause-lowered c = writer_lowered c.args.fitted.now c.args.leave c.in-Some.made c.args.positions.now.items
+    c.lower_from.new.positions.items c.in-Writing.is c.in-Some.ensures.1 c.lower_from.ensures.lowered
 
 pub returns-in_default-clause-lowered : goal.returns-in_default-clause-lowered
-returns-in_default-clause-lowered c = last_lowered c.args.fitted.now c.requires.fitted c.args.leave c.args.positions.now.items c.in-Writing.is c.in_default.ensures
+returns-in_default-clause-lowered c = last_lowered c.args.fitted.now c.requires.fitted c.args.leave c.args.positions.now.items
+    c.in-Writing.is c.in_default.ensures

@@ -3,4 +3,5 @@ use Rattle.ir_cut.proofs.Stepping.{entries_rise}
 use Rattle.ir_cut.proofs.rising.events_inside.Goals as goal
 
 pub count_below-requires : goal.count_below-requires
-count_below-requires c = entries_rise c.args.fitted.now c.requires.fitted c.loop-t.t c.entries.result.now (subst (λ n. c.loop-t.t < n) c.requires.size c.loop-t-test.true) c.entries.ensures
+count_below-requires c = entries_rise c.args.fitted.now c.requires.fitted c.loop-t.t c.entries.result.now
+    (subst (λ n. c.loop-t.t < n) c.requires.size c.loop-t-test.true) c.entries.ensures

@@ -10,5 +10,6 @@ abbrev pub invariant-events : goal.invariant-events
 invariant-events l = record {
   size : length l.positions.items ≡ length l.fn.positions.items;
   each : length l.next.items ≡ length l.fn.next.items;
-  rises : (ps : List ℕ) (u k : ℕ) → EachRun l.fitted (Rising l.fitted ps u k l.fn.positions.items l.fn.next.items) → EachRun l.fitted (Rising l.fitted ps u k l.positions.items l.next.items);
+  rises : (ps : List ℕ) (u k : ℕ) → EachRun l.fitted (Rising l.fitted ps u k l.fn.positions.items l.fn.next.items)
+      → EachRun l.fitted (Rising l.fitted ps u k l.positions.items l.next.items);
 }

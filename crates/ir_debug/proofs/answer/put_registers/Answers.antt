@@ -12,7 +12,9 @@ loop-number-init c = record {
 
 pub loop-number-preserved : goal.loop-number-preserved
 loop-number-preserved c = record {
-  text = c.put_register.ensures.text ∙ ap (λ (t : List ℕ). t ++ register_text c.args.mach.now c.loop-number.number) c.loop-number.invariant.text ∙ append_assoc c.args.text.now.items (registers_text c.args.mach.now c.loop-number.number) (register_text c.args.mach.now c.loop-number.number)
+  text = c.put_register.ensures.text ∙ ap (λ (t : List ℕ). t ++ register_text c.args.mach.now c.loop-number.number)
+      c.loop-number.invariant.text ∙ append_assoc c.args.text.now.items (registers_text c.args.mach.now c.loop-number.number)
+      (register_text c.args.mach.now c.loop-number.number)
       ∙ ap (λ (t : List ℕ). c.args.text.now.items ++ t) (sym (registers-more c.args.mach.now c.loop-number.number));
   len = omega arith;
 }

@@ -4,4 +4,5 @@ use Rattle.ir_fit.specs.Visits.{AddsAll, none_listed, of_threads, entered_by}
 use Rattle.ir_fit.proofs.visiting.entered.Given as goal
 
 abbrev pub invariant-loop-t : goal.invariant-loop-t
-invariant-loop-t l = AddsAll none_listed l.visits (of_threads l.t (λ t. entered_by t (recorded_thread l.trace t).events (placed_at l.places t).entries))
+invariant-loop-t l = AddsAll none_listed l.visits
+    (of_threads l.t (λ t. entered_by t (recorded_thread l.trace t).events (placed_at l.places t).entries))

@@ -5,4 +5,5 @@ use Rattle.ir_bytes.proofs.CallerLemmas.{with_prefix}
 use Rattle.ir_image.proofs.reading.entries.Given as goal
 
 abbrev pub invariant-loop : goal.invariant-loop
-invariant-loop l = with_prefix l.entries.items (fields_at (entry_at l.words) (l.count - l.counter) l.rest) ≡ fields_at (entry_at l.words) l.count l.bytes
+invariant-loop l = with_prefix l.entries.items (fields_at (entry_at l.words) (l.count - l.counter) l.rest) ≡ fields_at (entry_at l.words)
+    l.count l.bytes

@@ -4,4 +4,5 @@ use Rattle.ir_image.proofs.Whole.{guest_again}
 use Rattle.ir_image.proofs.reading.read_image.Goals as goal
 
 pub returns-clause-only : goal.returns-clause-only
-returns-clause-only c = λ g fits e. subst (λ f. Gives (λ image. image) c.image.result f) (ap guest_at e ∙ guest_again g fits) c.image.ensures.exact
+returns-clause-only c = λ g fits e. subst (λ f. Gives (λ image. image) c.image.result f) (ap guest_at e ∙ guest_again g fits)
+    c.image.ensures.exact

@@ -7,7 +7,8 @@ use Rattle.ir_record.proofs.turns.turns_of.Goals as goal
 pub order-preserved : goal.order-preserved
 order-preserved c = record {
   within = written_within c.args.order.now c.order.at c.repeats-more.result c.order-test.true c.repeats-more.ensures.within;
-  written = written_more c.args.order.now c.order.at c.repeats-more.result (slice_index c.args.order.now c.order.at) c.order.turns.items c.push.new.self.items c.order-test.true refl c.repeats-more.ensures.same c.order.invariant.written c.in_ok-push.ensures.items;
+  written = written_more c.args.order.now c.order.at c.repeats-more.result (slice_index c.args.order.now c.order.at) c.order.turns.items
+      c.push.new.self.items c.order-test.true refl c.repeats-more.ensures.same c.order.invariant.written c.in_ok-push.ensures.items;
 }
 
 pub returns : goal.returns

@@ -11,5 +11,6 @@ invariant-loop-world g l = record {
   size : into_iter_len l.world-iterator ≡ length (into_iter_items l.world-iterator);
   worlds : map (λ w. w.world) l.made.items ≡ l.yielded;
   left : length l.seats.items + length l.made.items ≡ length l.image.entries;
-  new : (id : TableId) → AreSeats id 0 l.fn.seats.items → AreSeats id (length l.made.items) l.seats.items × AreNew l.image l.budget id 0 l.made.items;
+  new : (id : TableId) → AreSeats id 0 l.fn.seats.items → AreSeats id (length l.made.items) l.seats.items
+      × AreNew l.image l.budget id 0 l.made.items;
 }

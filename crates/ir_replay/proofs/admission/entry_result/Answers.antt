@@ -11,18 +11,32 @@ use Rattle.ir_weave.proofs.CallerLemmas.{entry_next, entry_shut, entry_none, obj
 use Rattle.ir_replay.proofs.admission.entry_result.Goals as goal
 
 pub bounds-objects-object : goal.bounds-objects-object
-bounds-objects-object c = object_there c.args.flat.now c.args.t c.args.object c.args.access c.objects.result.now c.events_of-before.ensures.flat c.requires.thread c.requires.asked c.objects.ensures.value
+bounds-objects-object c = object_there c.args.flat.now c.args.t c.args.object c.args.access c.objects.result.now
+    c.events_of-before.ensures.flat c.requires.thread c.requires.asked c.objects.ensures.value
 
 pub returns-in-Err : goal.returns-in-Err
-returns-in-Err c = entry_none c.args.fitted.now.recorded c.args.flat.now c.args.t c.args.object c.args.access c.requires.asked c.requires.steps
-    (subst (λ (z : Recorded × ℕ). (e : Event) → slice_get (recorded_thread z.0 c.args.t).events z.1 ≡ Some e → Suits (Enter c.args.object c.args.access) e → ⊥) (λ i. (c.trace.ensures.value i, c.events_of-before.ensures.value i)) c.in-Err.ensures.disagrees)
+returns-in-Err c = entry_none c.args.fitted.now.recorded c.args.flat.now c.args.t c.args.object c.args.access c.requires.asked
+    c.requires.steps
+    (subst (λ (z : Recorded × ℕ). (e : Event) → slice_get (recorded_thread z.0 c.args.t).events z.1 ≡ Some e
+        → Suits (Enter c.args.object c.args.access) e → ⊥) (λ i. (c.trace.ensures.value i, c.events_of-before.ensures.value i))
+        c.in-Err.ensures.disagrees)
 
 pub returns-then-is_open : goal.returns-then-is_open
-returns-then-is_open c = entry_next c.args.fitted.now.recorded c.args.flat.now c.args.t c.args.object c.args.access c.in-Ok.event c.events_of-before.ensures.flat c.requires.thread c.requires.asked c.requires.steps
-    (subst (λ (z : Recorded × ℕ). slice_get (recorded_thread z.0 c.args.t).events z.1 ≡ Some c.in-Ok.event) (λ i. (c.trace.ensures.value i, c.events_of-before.ensures.value i)) c.in-Ok.ensures.next) c.in-Ok.ensures.suits
-    (found_open c.is_open.result c.index-objects-object.result (cell_of c.args.flat.now c.args.object) c.in-Ok.event (object_found c.args.flat.now c.args.t c.args.object c.args.access c.objects.result.now c.index-objects-object.result c.events_of-before.ensures.flat c.requires.thread c.requires.asked c.objects.ensures.value c.index-objects-object.is) c.is_open.ensures c.if-is_open.true)
+returns-then-is_open c = entry_next c.args.fitted.now.recorded c.args.flat.now c.args.t c.args.object c.args.access c.in-Ok.event
+    c.events_of-before.ensures.flat c.requires.thread c.requires.asked c.requires.steps
+    (subst (λ (z : Recorded × ℕ). slice_get (recorded_thread z.0 c.args.t).events z.1 ≡ Some c.in-Ok.event)
+        (λ i. (c.trace.ensures.value i, c.events_of-before.ensures.value i)) c.in-Ok.ensures.next) c.in-Ok.ensures.suits
+    (found_open c.is_open.result c.index-objects-object.result (cell_of c.args.flat.now c.args.object) c.in-Ok.event
+        (object_found c.args.flat.now c.args.t c.args.object c.args.access c.objects.result.now c.index-objects-object.result
+        c.events_of-before.ensures.flat c.requires.thread c.requires.asked c.objects.ensures.value c.index-objects-object.is)
+        c.is_open.ensures c.if-is_open.true)
 
 pub returns-else-is_open : goal.returns-else-is_open
-returns-else-is_open c = entry_shut c.args.fitted.now.recorded c.args.flat.now c.args.t c.args.object c.args.access c.in-Ok.event c.events_of-before.ensures.flat c.requires.thread c.requires.asked c.requires.steps
-    (subst (λ (z : Recorded × ℕ). slice_get (recorded_thread z.0 c.args.t).events z.1 ≡ Some c.in-Ok.event) (λ i. (c.trace.ensures.value i, c.events_of-before.ensures.value i)) c.in-Ok.ensures.next) c.in-Ok.ensures.suits
-    (found_shut c.is_open.result c.index-objects-object.result (cell_of c.args.flat.now c.args.object) c.in-Ok.event (object_found c.args.flat.now c.args.t c.args.object c.args.access c.objects.result.now c.index-objects-object.result c.events_of-before.ensures.flat c.requires.thread c.requires.asked c.objects.ensures.value c.index-objects-object.is) c.is_open.ensures c.if-is_open.false)
+returns-else-is_open c = entry_shut c.args.fitted.now.recorded c.args.flat.now c.args.t c.args.object c.args.access c.in-Ok.event
+    c.events_of-before.ensures.flat c.requires.thread c.requires.asked c.requires.steps
+    (subst (λ (z : Recorded × ℕ). slice_get (recorded_thread z.0 c.args.t).events z.1 ≡ Some c.in-Ok.event)
+        (λ i. (c.trace.ensures.value i, c.events_of-before.ensures.value i)) c.in-Ok.ensures.next) c.in-Ok.ensures.suits
+    (found_shut c.is_open.result c.index-objects-object.result (cell_of c.args.flat.now c.args.object) c.in-Ok.event
+        (object_found c.args.flat.now c.args.t c.args.object c.args.access c.objects.result.now c.index-objects-object.result
+        c.events_of-before.ensures.flat c.requires.thread c.requires.asked c.objects.ensures.value c.index-objects-object.is)
+        c.is_open.ensures c.if-is_open.false)

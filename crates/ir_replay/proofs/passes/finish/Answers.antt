@@ -3,4 +3,5 @@ use Rattle.ir_replay.proofs.Reached.{all_reached}
 use Rattle.ir_replay.proofs.passes.finish.Goals as goal
 
 pub returns-clause-reached : goal.returns-clause-reached
-returns-clause-reached c = all_reached c.args.fitted.now c.args.target.now c.pass.new.flat c.requires.target c.pass.ensures.passed.under (c.pass.ensures.passed.rest (omega (arith, c.passes-test.false)) (omega arith))
+returns-clause-reached c = all_reached c.args.fitted.now c.args.target.now c.pass.new.flat c.requires.target c.pass.ensures.passed.under
+    (c.pass.ensures.passed.rest (omega (arith, c.passes-test.false)) (omega arith))

@@ -15,7 +15,8 @@ full n xs b none =
     sym (take-append-le n xs (b ∷ []) (omega arith) ∙ take_all n xs (omega arith))
 
 pub returns-then-not-is_full : goal.returns-then-not-is_full
-returns-then-not-is_full c = c.push.ensures.items ∙ put 1025 c.args.line.now.items c.args.byte c.is_full.ensures.fits (sym c.is_full.ensures.value ∙ c.if-not-is_full.true)
+returns-then-not-is_full c = c.push.ensures.items
+    ∙ put 1025 c.args.line.now.items c.args.byte c.is_full.ensures.fits (sym c.is_full.ensures.value ∙ c.if-not-is_full.true)
 
 pub returns-else-not-is_full : goal.returns-else-not-is_full
 returns-else-not-is_full c = full 1025 c.args.line.now.items c.args.byte (sym c.is_full.ensures.value ∙ c.if-not-is_full.false)

@@ -23,24 +23,37 @@ quit f true e is = refl
 quit f false e is = absurd cc
 
 pub returns-then-is_empty-clause-ok : goal.returns-then-is_empty-clause-ok
-returns-then-is_empty-clause-ok g c = wrote_none g.M.Responder.replies c.args.machine.now c.args.line.now (g.W.Sink.written c.args.writer.now) (none c.args.line.now c.is_empty.result c.is_empty.ensures c.if-is_empty.true)
+returns-then-is_empty-clause-ok g c = wrote_none g.M.Responder.replies c.args.machine.now c.args.line.now
+    (g.W.Sink.written c.args.writer.now) (none c.args.line.now c.is_empty.result c.is_empty.ensures c.if-is_empty.true)
 
 pub returns-then-is_empty-clause-served : goal.returns-then-is_empty-clause-served
-returns-then-is_empty-clause-served g c = ap served_after (sym (some_quits_empty g.M.Responder.quits c.args.line.now (none c.args.line.now c.is_empty.result c.is_empty.ensures c.if-is_empty.true)))
+returns-then-is_empty-clause-served g c = ap served_after
+    (sym (some_quits_empty g.M.Responder.quits c.args.line.now
+    (none c.args.line.now c.is_empty.result c.is_empty.ensures c.if-is_empty.true)))
 
 pub returns-in-Ok-Goes-clause-ok : goal.returns-in-Ok-Goes-clause-ok
-returns-in-Ok-Goes-clause-ok g c = wrote_some g.M.Responder.replies c.args.machine.now c.respond.new.self c.args.line.now (g.W.Sink.written c.args.writer.now) (g.W.Sink.written c.respond.new.writer) (some c.args.line.now c.is_empty.result c.is_empty.ensures c.if-is_empty.false) c.in-Ok-Goes.ensures.ok
+returns-in-Ok-Goes-clause-ok g c = wrote_some g.M.Responder.replies c.args.machine.now c.respond.new.self c.args.line.now
+    (g.W.Sink.written c.args.writer.now) (g.W.Sink.written c.respond.new.writer)
+    (some c.args.line.now c.is_empty.result c.is_empty.ensures c.if-is_empty.false) c.in-Ok-Goes.ensures.ok
 
 pub returns-in-Ok-Goes-clause-served : goal.returns-in-Ok-Goes-clause-served
-returns-in-Ok-Goes-clause-served g c = goes c.in-Ok-Goes.field-0 (g.M.Responder.quits c.args.line.now) c.in-Ok-Goes.ensures.flow c.in-Ok-Goes.field-0-is
-    ∙ ap served_after (sym (some_quits_some g.M.Responder.quits c.args.line.now (some c.args.line.now c.is_empty.result c.is_empty.ensures c.if-is_empty.false)))
+returns-in-Ok-Goes-clause-served g c = goes c.in-Ok-Goes.field-0 (g.M.Responder.quits c.args.line.now) c.in-Ok-Goes.ensures.flow
+    c.in-Ok-Goes.field-0-is
+    ∙ ap served_after (sym (some_quits_some g.M.Responder.quits c.args.line.now
+    (some c.args.line.now c.is_empty.result c.is_empty.ensures c.if-is_empty.false)))
 
 pub returns-in-Ok-Quits-clause-ok : goal.returns-in-Ok-Quits-clause-ok
-returns-in-Ok-Quits-clause-ok g c = wrote_some g.M.Responder.replies c.args.machine.now c.respond.new.self c.args.line.now (g.W.Sink.written c.args.writer.now) (g.W.Sink.written c.respond.new.writer) (some c.args.line.now c.is_empty.result c.is_empty.ensures c.if-is_empty.false) c.in-Ok-Quits.ensures.ok
+returns-in-Ok-Quits-clause-ok g c = wrote_some g.M.Responder.replies c.args.machine.now c.respond.new.self c.args.line.now
+    (g.W.Sink.written c.args.writer.now) (g.W.Sink.written c.respond.new.writer)
+    (some c.args.line.now c.is_empty.result c.is_empty.ensures c.if-is_empty.false) c.in-Ok-Quits.ensures.ok
 
 pub returns-in-Ok-Quits-clause-served : goal.returns-in-Ok-Quits-clause-served
-returns-in-Ok-Quits-clause-served g c = quit c.in-Ok-Quits.field-0 (g.M.Responder.quits c.args.line.now) c.in-Ok-Quits.ensures.flow c.in-Ok-Quits.field-0-is
-    ∙ ap served_after (sym (some_quits_some g.M.Responder.quits c.args.line.now (some c.args.line.now c.is_empty.result c.is_empty.ensures c.if-is_empty.false)))
+returns-in-Ok-Quits-clause-served g c = quit c.in-Ok-Quits.field-0 (g.M.Responder.quits c.args.line.now) c.in-Ok-Quits.ensures.flow
+    c.in-Ok-Quits.field-0-is
+    ∙ ap served_after (sym (some_quits_some g.M.Responder.quits c.args.line.now
+    (some c.args.line.now c.is_empty.result c.is_empty.ensures c.if-is_empty.false)))
 
 pub returns-in-Err-clause-prefix : goal.returns-in-Err-clause-prefix
-returns-in-Err-clause-prefix g c = prefix_some g.M.Responder.replies c.args.machine.now c.args.line.now (g.W.Sink.written c.args.writer.now) (g.W.Sink.written c.respond.new.writer) (some c.args.line.now c.is_empty.result c.is_empty.ensures c.if-is_empty.false) c.in-Err.ensures.prefix
+returns-in-Err-clause-prefix g c = prefix_some g.M.Responder.replies c.args.machine.now c.args.line.now (g.W.Sink.written c.args.writer.now)
+    (g.W.Sink.written c.respond.new.writer) (some c.args.line.now c.is_empty.result c.is_empty.ensures c.if-is_empty.false)
+    c.in-Err.ensures.prefix

@@ -4,4 +4,5 @@ use Rattle.ir_trace.proofs.Whole.{recorded_again}
 use Rattle.ir_trace.proofs.reader.read_trace.Goals as goal
 
 pub returns-clause-only : goal.returns-clause-only
-returns-clause-only c = λ r fits e. subst (λ f. Gives (λ trace. trace) c.trace.result f) (ap recorded_at e ∙ recorded_again r fits) c.trace.ensures.exact
+returns-clause-only c = λ r fits e. subst (λ f. Gives (λ trace. trace) c.trace.result f) (ap recorded_at e ∙ recorded_again r fits)
+    c.trace.ensures.exact

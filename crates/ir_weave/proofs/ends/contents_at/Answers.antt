@@ -11,13 +11,18 @@ fits_word : (n : ℕ) → n < 2 ^ 32 → Fits w32 n
 fits_word n l = omega (arith, l)
 
 pub overflow_cast-word : goal.overflow_cast-word
-overflow_cast-word c = fits_word c.word.result (subst (λ z. z < 2 ^ 32) (found_word (slots_items c.args.closed.now.words) (c.args.from + c.loop-i.i) c.word.result c.word.ensures) (c.requires.small c.loop-i.i c.loop-i-test.true))
+overflow_cast-word c = fits_word c.word.result
+    (subst (λ z. z < 2 ^ 32) (found_word (slots_items c.args.closed.now.words) (c.args.from + c.loop-i.i) c.word.result c.word.ensures)
+    (c.requires.small c.loop-i.i c.loop-i-test.true))
 
 pub loop-i-preserved : goal.loop-i-preserved
-loop-i-preserved c = read_more (slots_items c.args.closed.now.words) c.args.from c.loop-i.word-items c.loop-i.i c.word.result c.loop-i.invariant c.loop-i-test.true (sym (found_word (slots_items c.args.closed.now.words) (c.args.from + c.loop-i.i) c.word.result c.word.ensures))
+loop-i-preserved c = read_more (slots_items c.args.closed.now.words) c.args.from c.loop-i.word-items c.loop-i.i c.word.result
+    c.loop-i.invariant c.loop-i-test.true (sym (found_word (slots_items c.args.closed.now.words) (c.args.from + c.loop-i.i) c.word.result
+    c.word.ensures))
 
 all_eight : (ws : List ℕ) (from : ℕ) (xs : List ℕ) (n : ℕ) → AreRead ws from xs n → 8 ≤ n → AreRead ws from xs 8
 all_eight ws from xs n h l = record { size = h.size; each = λ i k. h.each i (omega (arith, k, l)) }
 
 pub returns : goal.returns
-returns c = all_eight (slots_items c.args.closed.now.words) c.args.from c.loop-i.word-items c.loop-i.i c.loop-i.invariant (let e = c.loop-i-test.false in omega (arith, e))
+returns c = all_eight (slots_items c.args.closed.now.words) c.args.from c.loop-i.word-items c.loop-i.i c.loop-i.invariant
+    (let e = c.loop-i-test.false in omega (arith, e))

@@ -9,7 +9,8 @@ invariant_of-self-in-Clock-Since g c =
     record {
       room = omega (arith, w.room, c.push_reserved.ensures.capacity);
       few = omega (arith, w.few, c.push_reserved.ensures.len);
-      gave = still_left (source w.seed w.file.now) w.sources w.time c.in-Clock-Since.start w.answers.items c.push_reserved.new.self.items c.args.kind c.in-Some.value c.in-Clock-Since.is-1 c.in-Clock-Since.is-0 w.gave c.push_reserved.ensures.items;
+      gave = still_left (source w.seed w.file.now) w.sources w.time c.in-Clock-Since.start w.answers.items c.push_reserved.new.self.items
+          c.args.kind c.in-Some.value c.in-Clock-Since.is-1 c.in-Clock-Since.is-0 w.gave c.push_reserved.ensures.items;
     }
 
 pub invariant_of-self-2 : goal.invariant_of-self-2
@@ -17,6 +18,9 @@ invariant_of-self-2 g c =
     let w = c.args.self.now in
     record {
       room = omega (arith, w.room, c.push_reserved-2.ensures.capacity);
-      few = still_few w.sources c.answer-value.new.self (vec_len w.answers) (vec_len c.push_reserved-2.new.self) c.args.kind c.answer-value.result w.few c.push_reserved-2.ensures.len c.answer-value.ensures.given;
-      gave = still_gave (source w.seed w.file.now) w.sources c.answer-value.new.self (is_counted w.time) w.answers.items c.push_reserved-2.new.self.items c.args.kind c.answer-value.result (search rules) w.gave c.push_reserved-2.ensures.items c.answer-value.ensures.given;
+      few = still_few w.sources c.answer-value.new.self (vec_len w.answers) (vec_len c.push_reserved-2.new.self) c.args.kind
+          c.answer-value.result w.few c.push_reserved-2.ensures.len c.answer-value.ensures.given;
+      gave = still_gave (source w.seed w.file.now) w.sources c.answer-value.new.self (is_counted w.time) w.answers.items
+          c.push_reserved-2.new.self.items c.args.kind c.answer-value.result (search rules) w.gave c.push_reserved-2.ensures.items
+          c.answer-value.ensures.given;
     }

@@ -9,6 +9,10 @@ loop-limit-preserved c =
     let one : ObjectCounts = record { reads = c.in_ok-reads.reads; writes = c.in_ok-writes.writes } in
     record {
       objects = omega (arith, c.in_ok-push.ensures.len, c.loop-limit.invariant.objects);
-      reads = λ o v. rw c.in_ok-push.ensures.items (at_push (λ (x : ObjectCounts). count x.reads v) c.loop-limit.objects.items one o (c.in_ok-reads.ensures v) (λ p. c.loop-limit.invariant.reads p v));
-      writes = λ o v. rw c.in_ok-push.ensures.items (at_push (λ (x : ObjectCounts). count x.writes v) c.loop-limit.objects.items one o (c.in_ok-writes.ensures v) (λ p. c.loop-limit.invariant.writes p v));
+      reads = λ o v. rw c.in_ok-push.ensures.items
+          (at_push (λ (x : ObjectCounts). count x.reads v) c.loop-limit.objects.items one o (c.in_ok-reads.ensures v)
+          (λ p. c.loop-limit.invariant.reads p v));
+      writes = λ o v. rw c.in_ok-push.ensures.items
+          (at_push (λ (x : ObjectCounts). count x.writes v) c.loop-limit.objects.items one o (c.in_ok-writes.ensures v)
+          (λ p. c.loop-limit.invariant.writes p v));
     }

@@ -3,7 +3,11 @@ use Rattle.ir_coherence.proofs.Far.{occurs, occurs_before}
 use Rattle.ir_coherence.proofs.far_versions.FarVersions.both.Goals as goal
 
 pub returns-clause-before : goal.returns-clause-before
-returns-clause-before c = c.saturating_sub.ensures ∙ occurs_before c.args.version c.args.self.now.versions.items c.below-before.result c.next-here.result c.requires.later c.below-before.ensures.below c.below-before.ensures.from c.next-here.ensures.below c.next-here.ensures.from
+returns-clause-before c = c.saturating_sub.ensures
+    ∙ occurs_before c.args.version c.args.self.now.versions.items c.below-before.result c.next-here.result c.requires.later
+    c.below-before.ensures.below c.below-before.ensures.from c.next-here.ensures.below c.next-here.ensures.from
 
 pub returns-clause-here : goal.returns-clause-here
-returns-clause-here c = c.saturating_sub-2.ensures ∙ occurs c.args.version c.args.self.now.versions.items c.next-here.result c.next-after.result c.next-here.ensures.below c.next-here.ensures.from c.next-after.ensures.below c.next-after.ensures.from
+returns-clause-here c = c.saturating_sub-2.ensures
+    ∙ occurs c.args.version c.args.self.now.versions.items c.next-here.result c.next-after.result c.next-here.ensures.below
+    c.next-here.ensures.from c.next-after.ensures.below c.next-after.ensures.from

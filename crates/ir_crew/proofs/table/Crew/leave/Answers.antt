@@ -22,8 +22,10 @@ pub store-requires : goal.store-requires
 store-requires c = let e = c.load-seen.ensures in let v : ℕ = c.load-seen.result / 2 ^ 32 in (
   e.0 ∙ c.requires.seat.0,
   (let o = c.requires.object in let w = c.args.self.now.words in omega (arith, o, w)),
-  leaves_write_by _ _ _ c.args.object v c.next_version-left.result.bits c.load-seen.new.seat.me (alone_as _ c.args.seat.now.me e.2.0 c.requires.seat.1) c.requires.object
+  leaves_write_by _ _ _ c.args.object v c.next_version-left.result.bits c.load-seen.new.seat.me
+      (alone_as _ c.args.seat.now.me e.2.0 c.requires.seat.1) c.requires.object
       (subst (λ (m : M). inside_by c.args.object (history m.0) ≡ Some Writing) (sym e.2.0) (c.requires.inside ∙ ap Some c.in-Writing.is))
-      (seen_version c.args.seat.now.me c.load-seen.new.seat.me c.args.object c.load-seen.result c.args.self.now.table.shared.table_id.slots e.2 (c.requires.inside ∙ ap Some c.in-Writing.is))
+      (seen_version c.args.seat.now.me c.load-seen.new.seat.me c.args.object c.load-seen.result c.args.self.now.table.shared.table_id.slots
+          e.2 (c.requires.inside ∙ ap Some c.in-Writing.is))
       (c.next_version-left.ensures ∙ omega arith),
 )

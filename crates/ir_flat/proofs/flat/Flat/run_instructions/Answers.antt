@@ -2,7 +2,9 @@ use Rattle.ir_flat.proofs.Alone.{ran_flat, ran_alone}
 use Rattle.ir_flat.proofs.flat.Flat.run_instructions.Goals as goal
 
 pub invariant_of-self : goal.invariant_of-self
-invariant_of-self c = ran_flat c.self.inside.parts c.args.self.now c.run_instructions.new.self c.args.t c.run_instructions.result c.self.view_is c.requires c.self.invariant c.run_instructions.ensures.each c.run_instructions.ensures.moved
+invariant_of-self c = ran_flat c.self.inside.parts c.args.self.now c.run_instructions.new.self c.args.t c.run_instructions.result
+    c.self.view_is c.requires c.self.invariant c.run_instructions.ensures.each c.run_instructions.ensures.moved
 
 pub returns-clause-went : goal.returns-clause-went
-returns-clause-went c = ran_alone c.self.inside.parts c.args.self.now c.run_instructions.new.self c.args.t c.run_instructions.result c.self.view_is c.requires c.self.invariant c.run_instructions.ensures.each c.run_instructions.ensures.moved
+returns-clause-went c = ran_alone c.self.inside.parts c.args.self.now c.run_instructions.new.self c.args.t c.run_instructions.result
+    c.self.view_is c.requires c.self.invariant c.run_instructions.ensures.each c.run_instructions.ensures.moved

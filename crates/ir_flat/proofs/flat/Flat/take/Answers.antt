@@ -20,13 +20,23 @@ pub step-requires-clause-permits : goal.step-requires-clause-permits
 step-requires-clause-permits c = permits c.self.inside.parts c.args.self.now c.args.t c.args.asked c.self.view_is c.requires.asked
 
 pub returns-then-not-may-clause-refused : goal.returns-then-not-may-clause-refused
-returns-then-not-may-clause-refused c = step_refused c.self.inside.parts c.args.self.now c.args.t c.args.r c.args.asked c.may.result c.self.view_is c.requires.thread c.self.invariant (asks c.self.inside.parts c.args.self.now c.args.t c.args.asked c.self.view_is c.requires.asked) c.may.ensures c.if-not-may.true
+returns-then-not-may-clause-refused c = step_refused c.self.inside.parts c.args.self.now c.args.t c.args.r c.args.asked c.may.result
+    c.self.view_is c.requires.thread c.self.invariant
+    (asks c.self.inside.parts c.args.self.now c.args.t c.args.asked c.self.view_is c.requires.asked) c.may.ensures c.if-not-may.true
 
 pub invariant_of-self : goal.invariant_of-self
-invariant_of-self c = step_flat c.self.inside.parts c.args.self.now c.step.new.self c.args.t c.args.r c.args.asked c.may.result c.self.view_is c.requires.thread c.self.invariant (asks c.self.inside.parts c.args.self.now c.args.t c.args.asked c.self.view_is c.requires.asked) c.may.ensures c.if-not-may.false c.step.ensures
+invariant_of-self c = step_flat c.self.inside.parts c.args.self.now c.step.new.self c.args.t c.args.r c.args.asked c.may.result
+    c.self.view_is c.requires.thread c.self.invariant
+    (asks c.self.inside.parts c.args.self.now c.args.t c.args.asked c.self.view_is c.requires.asked) c.may.ensures c.if-not-may.false
+    c.step.ensures
 
 pub returns-clause-admitted : goal.returns-clause-admitted
-returns-clause-admitted c = (step_can c.self.inside.parts c.args.self.now c.args.t c.args.r c.args.asked c.may.result c.self.view_is c.requires.thread c.self.invariant (asks c.self.inside.parts c.args.self.now c.args.t c.args.asked c.self.view_is c.requires.asked) c.may.ensures).0 c.if-not-may.false
+returns-clause-admitted c = (step_can c.self.inside.parts c.args.self.now c.args.t c.args.r c.args.asked c.may.result c.self.view_is
+    c.requires.thread c.self.invariant (asks c.self.inside.parts c.args.self.now c.args.t c.args.asked c.self.view_is c.requires.asked)
+    c.may.ensures).0 c.if-not-may.false
 
 pub returns-clause-taken : goal.returns-clause-taken
-returns-clause-taken c = step_taken c.self.inside.parts c.args.self.now c.step.new.self c.args.t c.args.r c.args.asked c.may.result c.self.view_is c.requires.thread c.self.invariant (asks c.self.inside.parts c.args.self.now c.args.t c.args.asked c.self.view_is c.requires.asked) c.may.ensures c.if-not-may.false c.step.ensures
+returns-clause-taken c = step_taken c.self.inside.parts c.args.self.now c.step.new.self c.args.t c.args.r c.args.asked c.may.result
+    c.self.view_is c.requires.thread c.self.invariant
+    (asks c.self.inside.parts c.args.self.now c.args.t c.args.asked c.self.view_is c.requires.asked) c.may.ensures c.if-not-may.false
+    c.step.ensures

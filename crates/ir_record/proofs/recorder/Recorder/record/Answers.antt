@@ -14,14 +14,19 @@ returns-clause-took g c =
     let n = length c.args.self.now.tape.flat.threads in (
       c.in_ok-rounds.ensures.took.0,
       took_both (order_of_turns c.args.order.now) (rounds n c.in_ok-rounds.ensures.took.0) entry mid new c.in_ok-follow.ensures.took
-          (subst (λ k. Took (rounds k c.in_ok-rounds.ensures.took.0) mid new) c.in_ok-follow.ensures.took.threads c.in_ok-rounds.ensures.took.1),
+          (subst (λ k. Took (rounds k c.in_ok-rounds.ensures.took.0) mid new) c.in_ok-follow.ensures.took.threads
+              c.in_ok-rounds.ensures.took.1),
     )
 
 pub returns-clause-kept : goal.returns-clause-kept
-returns-clause-kept g c = extends_both (map g.W.World.answers c.args.self.now.worlds.items) (map g.W.World.answers c.follow.new.self.worlds.items) (map g.W.World.answers c.rounds.new.self.worlds.items) c.follow.ensures.kept c.rounds.ensures.kept
+returns-clause-kept g c = extends_both (map g.W.World.answers c.args.self.now.worlds.items)
+    (map g.W.World.answers c.follow.new.self.worlds.items) (map g.W.World.answers c.rounds.new.self.worlds.items) c.follow.ensures.kept
+    c.rounds.ensures.kept
 
 pub returns-in_err-rounds-clause-kept : goal.returns-in_err-rounds-clause-kept
-returns-in_err-rounds-clause-kept g c = extends_both (map g.W.World.answers c.args.self.now.worlds.items) (map g.W.World.answers c.follow.new.self.worlds.items) (map g.W.World.answers c.rounds.new.self.worlds.items) c.follow.ensures.kept c.rounds.ensures.kept
+returns-in_err-rounds-clause-kept g c = extends_both (map g.W.World.answers c.args.self.now.worlds.items)
+    (map g.W.World.answers c.follow.new.self.worlds.items) (map g.W.World.answers c.rounds.new.self.worlds.items) c.follow.ensures.kept
+    c.rounds.ensures.kept
 
 pub rounds-requires-clause-level : goal.rounds-requires-clause-level
 rounds-requires-clause-level g c = c.requires.level ∙ ap (λ n. replicate n 0) (sym c.in_ok-follow.ensures.took.threads)

@@ -11,7 +11,9 @@ use Rattle.ir_record.proofs.recorder.Recorder.round.Given as goal
 
 abbrev pub invariant-loop-t : goal.invariant-loop-t
 invariant-loop-t g l = record {
-  went : (s : State thread.State) → IsAhead (machine l.fn.self.tape.flat) l.fn.ahead.items s (tables l.fn.self.tape.flat) → WentIf l.pass.moved (range_with_len 0 l.t) s (progress l.fn.self.tape (map g.W.World.answers l.fn.self.worlds.items)) l.fn.ahead.items (progress l.self.tape (map g.W.World.answers l.self.worlds.items)) l.ahead.items;
+  went : (s : State thread.State) → IsAhead (machine l.fn.self.tape.flat) l.fn.ahead.items s (tables l.fn.self.tape.flat)
+      → WentIf l.pass.moved (range_with_len 0 l.t) s (progress l.fn.self.tape (map g.W.World.answers l.fn.self.worlds.items))
+      l.fn.ahead.items (progress l.self.tape (map g.W.World.answers l.self.worlds.items)) l.ahead.items;
   passing : Passing l.t l.pass l.ahead.items l.self.tape.flat;
   each : length l.ahead.items ≡ length l.self.tape.flat.threads;
   threads : length l.self.tape.flat.threads ≡ length l.fn.self.tape.flat.threads;

@@ -29,7 +29,9 @@ record Skip (n : ℕ) (a e : Progress) (d f : List ℕ) : Type 0 where
   size : length f ≡ n
   least : all_ahead f ≤ all_ahead d
 
-skipping : (n k : ℕ) (a e : Progress) (d f : List ℕ) → Rounding n a e d → length e.flat.threads ≡ n → length d ≡ length e.flat.threads → length f ≡ length d → CanSkip (machine e.flat) (length e.flat.threads) k d (tables e.flat) → ((t : ℕ) → t < length d → lead f t ≡ lead d t - k) → Skip n a e d f
+skipping : (n k : ℕ) (a e : Progress) (d f : List ℕ) → Rounding n a e d → length e.flat.threads ≡ n → length d ≡ length e.flat.threads
+    → length f ≡ length d → CanSkip (machine e.flat) (length e.flat.threads) k d (tables e.flat)
+    → ((t : ℕ) → t < length d → lead f t ≡ lead d t - k) → Skip n a e d f
 skipping n k a e d f p count size same enough each =
     let all : CanSkip (machine e.flat) n k d (tables e.flat) = subst (λ m. CanSkip (machine e.flat) m k d (tables e.flat)) count enough in
     record {
@@ -39,7 +41,9 @@ skipping n k a e d f p count size same enough each =
     }
 
 -- the round that was taken, from where the rounds before it lead
-turned : (n : ℕ) (a b e : Progress) (d f : List ℕ) (moved : Bool) (p : Rounding n a b d) → length b.flat.threads ≡ n → WentIf moved (range_with_len 0 (length b.flat.threads)) (reached p.1) b d e f → WentIf moved (range_with_len 0 n) (reached p.1) b d e f
+turned : (n : ℕ) (a b e : Progress) (d f : List ℕ) (moved : Bool) (p : Rounding n a b d) → length b.flat.threads ≡ n
+    → WentIf moved (range_with_len 0 (length b.flat.threads)) (reached p.1) b d e f
+    → WentIf moved (range_with_len 0 n) (reached p.1) b d e f
 turned n a b e d f moved p same q = subst (λ k. WentIf moved (range_with_len 0 k) (reached p.1) b d e f) same q
 
 pub rounds-preserved : goal.rounds-preserved
@@ -52,14 +56,18 @@ rounds-preserved g c =
     let d : List ℕ = c.round.new.ahead.items in
     let p : Rounding n a b was = c.rounds.invariant.went in
     let there = ahead_there (rounds n p.0) (tables a.flat) a b (replicate n 0) was p.1 in
-    let q : WentIf c.in_ok-pass.pass.moved (range_with_len 0 n) (reached p.1) b was e d = turned n a b e was d c.in_ok-pass.pass.moved p p.1.threads (c.in_ok-pass.ensures.went (reached p.1) there) in
+    let q : WentIf c.in_ok-pass.pass.moved (range_with_len 0 n) (reached p.1) b was e d =
+        turned n a b e was d c.in_ok-pass.pass.moved p p.1.threads (c.in_ok-pass.ensures.went (reached p.1) there) in
     let last : Rounding n a e d = round_more n c.in_ok-pass.pass.moved a b e was d p q in
-    let k : Skip n a e d c.lower.new.ahead.items = skipping n c.in_ok-pass.pass.free a e d c.lower.new.ahead.items last last.1.threads c.in_ok-pass.ensures.each c.lower.ensures.size c.in_ok-pass.ensures.free c.lower.ensures.each in
+    let k : Skip n a e d c.lower.new.ahead.items =
+        skipping n c.in_ok-pass.pass.free a e d c.lower.new.ahead.items last last.1.threads c.in_ok-pass.ensures.each c.lower.ensures.size
+        c.in_ok-pass.ensures.free c.lower.ensures.each in
     record {
       went = k.rounding;
       each = c.lower.ensures.size ∙ c.in_ok-pass.ensures.each;
       ready = c.in_ok-pass.ensures.ready;
-      kept = extends_both (map g.W.World.answers c.args.self.now.worlds.items) (map g.W.World.answers c.rounds.self.worlds.items) (map g.W.World.answers c.round.new.self.worlds.items) c.rounds.invariant.kept c.round.ensures.kept;
+      kept = extends_both (map g.W.World.answers c.args.self.now.worlds.items) (map g.W.World.answers c.rounds.self.worlds.items)
+          (map g.W.World.answers c.round.new.self.worlds.items) c.rounds.invariant.kept c.round.ensures.kept;
       origins = c.round.ensures.origins ∙ c.rounds.invariant.origins;
     }
 
@@ -73,12 +81,18 @@ rounds-smaller g c =
     let d : List ℕ = c.round.new.ahead.items in
     let p : Rounding n a b was = c.rounds.invariant.went in
     let there = ahead_there (rounds n p.0) (tables a.flat) a b (replicate n 0) was p.1 in
-    let q : WentIf c.in_ok-pass.pass.moved (range_with_len 0 n) (reached p.1) b was e d = turned n a b e was d c.in_ok-pass.pass.moved p p.1.threads (c.in_ok-pass.ensures.went (reached p.1) there) in
+    let q : WentIf c.in_ok-pass.pass.moved (range_with_len 0 n) (reached p.1) b was e d =
+        turned n a b e was d c.in_ok-pass.pass.moved p p.1.threads (c.in_ok-pass.ensures.went (reached p.1) there) in
     let last : Rounding n a e d = round_more n c.in_ok-pass.pass.moved a b e was d p q in
-    let k : Skip n a e d c.lower.new.ahead.items = skipping n c.in_ok-pass.pass.free a e d c.lower.new.ahead.items last last.1.threads c.in_ok-pass.ensures.each c.lower.ensures.size c.in_ok-pass.ensures.free c.lower.ensures.each in
-    let less = fewer_left (length b.flat.threads) c.in_ok-pass.pass.moved (reached p.1) b e was d (not-false c.in_ok-pass.pass.moved c.if-not-pass.false) refl (c.in_ok-pass.ensures.went (reached p.1) there) in
-    let fewer : all_left (length b.flat.threads) (tables e.flat).now + all_ahead c.lower.new.ahead.items < all_left (length b.flat.threads) (tables b.flat).now + all_ahead was = (let least = k.least in omega (arith, less, least)) in
-    subst (λ z. all_left z (tables e.flat).now + all_ahead c.lower.new.ahead.items < all_left (length b.flat.threads) (tables b.flat).now + all_ahead was) (sym c.in_ok-pass.ensures.threads) fewer
+    let k : Skip n a e d c.lower.new.ahead.items =
+        skipping n c.in_ok-pass.pass.free a e d c.lower.new.ahead.items last last.1.threads c.in_ok-pass.ensures.each c.lower.ensures.size
+        c.in_ok-pass.ensures.free c.lower.ensures.each in
+    let less = fewer_left (length b.flat.threads) c.in_ok-pass.pass.moved (reached p.1) b e was d
+        (not-false c.in_ok-pass.pass.moved c.if-not-pass.false) refl (c.in_ok-pass.ensures.went (reached p.1) there) in
+    let fewer : all_left (length b.flat.threads) (tables e.flat).now + all_ahead c.lower.new.ahead.items < all_left (length b.flat.threads)
+        (tables b.flat).now + all_ahead was = (let least = k.least in omega (arith, less, least)) in
+    subst (λ z. all_left z (tables e.flat).now + all_ahead c.lower.new.ahead.items < all_left (length b.flat.threads) (tables b.flat).now +
+        all_ahead was) (sym c.in_ok-pass.ensures.threads) fewer
 
 pub returns-then-not-pass-clause-took : goal.returns-then-not-pass-clause-took
 returns-then-not-pass-clause-took g c =
@@ -90,9 +104,11 @@ returns-then-not-pass-clause-took g c =
     let d : List ℕ = c.round.new.ahead.items in
     let p : Rounding n a b was = c.rounds.invariant.went in
     let there = ahead_there (rounds n p.0) (tables a.flat) a b (replicate n 0) was p.1 in
-    let q : WentIf c.in_ok-pass.pass.moved (range_with_len 0 n) (reached p.1) b was e d = turned n a b e was d c.in_ok-pass.pass.moved p p.1.threads (c.in_ok-pass.ensures.went (reached p.1) there) in
+    let q : WentIf c.in_ok-pass.pass.moved (range_with_len 0 n) (reached p.1) b was e d =
+        turned n a b e was d c.in_ok-pass.pass.moved p p.1.threads (c.in_ok-pass.ensures.went (reached p.1) there) in
     let last : Rounding n a e d = round_more n c.in_ok-pass.pass.moved a b e was d p q in
-    (last.0, caught n a e d last (none_ahead n c.in_ok-pass.pass.moved (reached p.1) b e was d (not-true c.in_ok-pass.pass.moved c.if-not-pass.true) (c.rounds.invariant.each ∙ p.1.threads) q))
+    (last.0, caught n a e d last (none_ahead n c.in_ok-pass.pass.moved (reached p.1) b e was d
+        (not-true c.in_ok-pass.pass.moved c.if-not-pass.true) (c.rounds.invariant.each ∙ p.1.threads) q))
 
 pub returns-then-not-pass-clause-over : goal.returns-then-not-pass-clause-over
 returns-then-not-pass-clause-over g c = λ t l.
@@ -104,17 +120,23 @@ returns-then-not-pass-clause-over g c = λ t l.
     let d : List ℕ = c.round.new.ahead.items in
     let p : Rounding n a b was = c.rounds.invariant.went in
     let there = ahead_there (rounds n p.0) (tables a.flat) a b (replicate n 0) was p.1 in
-    let q : WentIf c.in_ok-pass.pass.moved (range_with_len 0 n) (reached p.1) b was e d = turned n a b e was d c.in_ok-pass.pass.moved p p.1.threads (c.in_ok-pass.ensures.went (reached p.1) there) in
+    let q : WentIf c.in_ok-pass.pass.moved (range_with_len 0 n) (reached p.1) b was e d =
+        turned n a b e was d c.in_ok-pass.pass.moved p p.1.threads (c.in_ok-pass.ensures.went (reached p.1) there) in
     let last : Rounding n a e d = round_more n c.in_ok-pass.pass.moved a b e was d p q in
     let over = not-true c.in_ok-pass.pass.moved c.if-not-pass.true in
-    all_over n c.in_ok-pass.pass.moved a b e was d p q over (none_ahead n c.in_ok-pass.pass.moved (reached p.1) b e was d over (c.rounds.invariant.each ∙ p.1.threads) q) t
+    all_over n c.in_ok-pass.pass.moved a b e was d p q over
+        (none_ahead n c.in_ok-pass.pass.moved (reached p.1) b e was d over (c.rounds.invariant.each ∙ p.1.threads) q) t
     (omega (arith, l, c.in_ok-pass.ensures.threads, p.1.threads))
 
 pub returns-then-not-pass-clause-kept : goal.returns-then-not-pass-clause-kept
-returns-then-not-pass-clause-kept g c = extends_both (map g.W.World.answers c.args.self.now.worlds.items) (map g.W.World.answers c.rounds.self.worlds.items) (map g.W.World.answers c.round.new.self.worlds.items) c.rounds.invariant.kept c.round.ensures.kept
+returns-then-not-pass-clause-kept g c = extends_both (map g.W.World.answers c.args.self.now.worlds.items)
+    (map g.W.World.answers c.rounds.self.worlds.items) (map g.W.World.answers c.round.new.self.worlds.items) c.rounds.invariant.kept
+    c.round.ensures.kept
 
 pub returns-in_err-pass-clause-kept : goal.returns-in_err-pass-clause-kept
-returns-in_err-pass-clause-kept g c = extends_both (map g.W.World.answers c.args.self.now.worlds.items) (map g.W.World.answers c.rounds.self.worlds.items) (map g.W.World.answers c.round.new.self.worlds.items) c.rounds.invariant.kept c.round.ensures.kept
+returns-in_err-pass-clause-kept g c = extends_both (map g.W.World.answers c.args.self.now.worlds.items)
+    (map g.W.World.answers c.rounds.self.worlds.items) (map g.W.World.answers c.round.new.self.worlds.items) c.rounds.invariant.kept
+    c.round.ensures.kept
 
 pub returns-then-not-pass-clause-origins : goal.returns-then-not-pass-clause-origins
 returns-then-not-pass-clause-origins g c = c.round.ensures.origins ∙ c.rounds.invariant.origins

@@ -8,7 +8,8 @@ use Rattle.ir_record.proofs.recorder.Recorder.rounds.Given as goal
 
 abbrev pub invariant-rounds : goal.invariant-rounds
 invariant-rounds g l = record {
-  went : Rounding (length l.fn.self.tape.flat.threads) (progress l.fn.self.tape (map g.W.World.answers l.fn.self.worlds.items)) (progress l.self.tape (map g.W.World.answers l.self.worlds.items)) l.ahead.items;
+  went : Rounding (length l.fn.self.tape.flat.threads) (progress l.fn.self.tape (map g.W.World.answers l.fn.self.worlds.items))
+      (progress l.self.tape (map g.W.World.answers l.self.worlds.items)) l.ahead.items;
   each : length l.ahead.items ≡ length l.self.tape.flat.threads;
   ready : IsReady (progress l.self.tape (map g.W.World.answers l.self.worlds.items)) (map g.W.World.broken l.self.worlds.items);
   kept : Extends (map g.W.World.answers l.fn.self.worlds.items) (map g.W.World.answers l.self.worlds.items);

@@ -5,7 +5,9 @@ use Rattle.ir_record.proofs.Asking.{extends_same}
 use Rattle.ir_record.proofs.Ready.{stays_ready}
 use Rattle.ir_record.proofs.recorder.Recorder.turn.Goals as goal
 
-took : (g : Over) (c : goal.After-answer g) → TookIf true (c.args.t ∷ []) (progress c.args.self.now.tape (map g.W.World.answers c.args.self.now.worlds.items)) (progress c.answer.new.self (map g.W.World.answers c.answer_to.new.worlds.items))
+took : (g : Over) (c : goal.After-answer g) → TookIf true (c.args.t ∷ [])
+    (progress c.args.self.now.tape (map g.W.World.answers c.args.self.now.worlds.items))
+    (progress c.answer.new.self (map g.W.World.answers c.answer_to.new.worlds.items))
 took g c = c.answer.ensures.took (map g.W.World.answers c.args.self.now.worlds.items) (map g.W.World.answers c.answer_to.new.worlds.items)
     (let n = c.requires.ready.worlds in omega (arith, n, c.requires.thread)) c.in_ok-value-in-Env.ensures.gained
 
@@ -13,22 +15,33 @@ pub returns-in_ok-value-in-Env-clause-took : goal.returns-in_ok-value-in-Env-cla
 returns-in_ok-value-in-Env-clause-took g c = took g c
 
 pub returns-in_ok-value-in-Env-clause-ready : goal.returns-in_ok-value-in-Env-clause-ready
-returns-in_ok-value-in-Env-clause-ready g c = stays_ready c.args.t true (progress c.args.self.now.tape (map g.W.World.answers c.args.self.now.worlds.items)) (progress c.answer.new.self (map g.W.World.answers c.answer_to.new.worlds.items))
+returns-in_ok-value-in-Env-clause-ready g c = stays_ready c.args.t true
+    (progress c.args.self.now.tape (map g.W.World.answers c.args.self.now.worlds.items))
+    (progress c.answer.new.self (map g.W.World.answers c.answer_to.new.worlds.items))
     (map g.W.World.broken c.args.self.now.worlds.items) (map g.W.World.broken c.answer_to.new.worlds.items)
-    c.requires.ready (took g c) c.answer.ensures.tape (ap (λ xs. length xs) c.in_ok-value-in-Env.ensures.gained ∙ length-set (map g.W.World.answers c.args.self.now.worlds.items) c.args.t _) c.in_ok-value-in-Env.ensures.works
+    c.requires.ready (took g c) c.answer.ensures.tape
+        (ap (λ xs. length xs) c.in_ok-value-in-Env.ensures.gained
+        ∙ length-set (map g.W.World.answers c.args.self.now.worlds.items) c.args.t _) c.in_ok-value-in-Env.ensures.works
 
 pub returns-in-Enter-clause-took : goal.returns-in-Enter-clause-took
 returns-in-Enter-clause-took g c = c.enter.ensures.took (map g.W.World.answers c.args.self.now.worlds.items)
 
 pub returns-in-Enter-clause-ready : goal.returns-in-Enter-clause-ready
-returns-in-Enter-clause-ready g c = stays_ready c.args.t c.enter.result (progress c.args.self.now.tape (map g.W.World.answers c.args.self.now.worlds.items)) (progress c.enter.new.self (map g.W.World.answers c.args.self.now.worlds.items)) (map g.W.World.broken c.args.self.now.worlds.items) (map g.W.World.broken c.args.self.now.worlds.items)
-    c.requires.ready (c.enter.ensures.took (map g.W.World.answers c.args.self.now.worlds.items)) c.enter.ensures.tape refl c.requires.ready.works
+returns-in-Enter-clause-ready g c = stays_ready c.args.t c.enter.result
+    (progress c.args.self.now.tape (map g.W.World.answers c.args.self.now.worlds.items))
+    (progress c.enter.new.self (map g.W.World.answers c.args.self.now.worlds.items)) (map g.W.World.broken c.args.self.now.worlds.items)
+    (map g.W.World.broken c.args.self.now.worlds.items)
+    c.requires.ready (c.enter.ensures.took (map g.W.World.answers c.args.self.now.worlds.items)) c.enter.ensures.tape
+        refl c.requires.ready.works
 
 pub returns-in_default : goal.returns-in_default
 returns-in_default g c = record {
   took = c.go.ensures.took (map g.W.World.answers c.args.self.now.worlds.items);
-  ready = stays_ready c.args.t c.go.result (progress c.args.self.now.tape (map g.W.World.answers c.args.self.now.worlds.items)) (progress c.go.new.self (map g.W.World.answers c.args.self.now.worlds.items)) (map g.W.World.broken c.args.self.now.worlds.items) (map g.W.World.broken c.args.self.now.worlds.items)
-      c.requires.ready (c.go.ensures.took (map g.W.World.answers c.args.self.now.worlds.items)) c.go.ensures.tape refl c.requires.ready.works;
+  ready = stays_ready c.args.t c.go.result (progress c.args.self.now.tape (map g.W.World.answers c.args.self.now.worlds.items))
+      (progress c.go.new.self (map g.W.World.answers c.args.self.now.worlds.items)) (map g.W.World.broken c.args.self.now.worlds.items)
+      (map g.W.World.broken c.args.self.now.worlds.items)
+      c.requires.ready (c.go.ensures.took (map g.W.World.answers c.args.self.now.worlds.items)) c.go.ensures.tape
+          refl c.requires.ready.works;
   failed = tt;
   kept = extends_same (map g.W.World.answers c.args.self.now.worlds.items);
   origins = refl;

@@ -8,14 +8,19 @@ pub returns-then-lead-gt0-clause-went : goal.returns-then-lead-gt0-clause-went
 returns-then-lead-gt0-clause-went g c = λ s h.
     let a : Progress = progress c.args.self.now.tape (map g.W.World.answers c.args.self.now.worlds.items) in
     let l : c.args.t < length c.args.ahead.now.items = omega (arith, c.requires.each, c.requires.thread) in
-    let here : lead c.args.ahead.now.items c.args.t ≡ c.index-lead.result.now = at_lead c.args.ahead.now.items c.args.t c.index-lead.result.now l c.index-lead.ensures in
-    turn_spent s a c.args.ahead.now.items c.args.t (c.index-lead.result.now - 1) l (here ∙ (let e : c.index-lead.result.now ≡ suc (c.index-lead.result.now - 1) = omega (arith, c.if-lead-gt0.true) in e)) h
+    let here : lead c.args.ahead.now.items c.args.t ≡ c.index-lead.result.now =
+        at_lead c.args.ahead.now.items c.args.t c.index-lead.result.now l c.index-lead.ensures in
+    turn_spent s a c.args.ahead.now.items c.args.t (c.index-lead.result.now - 1) l
+        (here ∙ (let e : c.index-lead.result.now ≡ suc (c.index-lead.result.now - 1) = omega (arith, c.if-lead-gt0.true) in e)) h
 
 pub returns-then-not-branch-clause-went : goal.returns-then-not-branch-clause-went
 returns-then-not-branch-clause-went g c = λ s h.
     let l : c.args.t < length c.args.ahead.now.items = omega (arith, c.requires.each, c.requires.thread) in
-    let here : lead c.args.ahead.now.items c.args.t ≡ c.index-lead.result.now = at_lead c.args.ahead.now.items c.args.t c.index-lead.result.now l c.index-lead.ensures in
-    turn_stays s (progress c.args.self.now.tape (map g.W.World.answers c.args.self.now.worlds.items)) (progress c.turn.new.self.tape (map g.W.World.answers c.turn.new.self.worlds.items)) c.args.ahead.now.items c.args.t c.in_ok-turn.field-0 c.if-not-branch.true
+    let here : lead c.args.ahead.now.items c.args.t ≡ c.index-lead.result.now =
+        at_lead c.args.ahead.now.items c.args.t c.index-lead.result.now l c.index-lead.ensures in
+    turn_stays s (progress c.args.self.now.tape (map g.W.World.answers c.args.self.now.worlds.items))
+        (progress c.turn.new.self.tape (map g.W.World.answers c.turn.new.self.worlds.items)) c.args.ahead.now.items c.args.t
+        c.in_ok-turn.field-0 c.if-not-branch.true
     (omega (arith, here, c.if-lead-gt0.false)) h c.in_ok-turn.ensures.took
 
 pub returns-clause-went : goal.returns-clause-went
@@ -25,9 +30,12 @@ returns-clause-went g c = λ s h.
     let ahead : List ℕ = c.args.ahead.now.items in
     let l : c.args.t < length ahead = omega (arith, c.requires.each, c.requires.thread) in
     let here : lead ahead c.args.t ≡ c.index-lead.result.now = at_lead ahead c.args.t c.index-lead.result.now l c.index-lead.ensures in
-    let took : TookIf true (c.args.t ∷ []) a b = subst (λ z. TookIf z (c.args.t ∷ []) a b) c.if-not-branch.false c.in_ok-turn.ensures.took in
-    subst (λ ls. WentIf true (c.args.t ∷ []) s a ahead (record b { flat = c.run.new.self.flat; logs = ls.items }) (set ahead c.args.t c.run.result)) (sym c.run.ensures.logs)
-    (turn_steps s a b c.run.new.self.flat ahead c.args.t c.run.result l c.requires.thread c.run.ensures.flat (omega (arith, here, c.if-lead-gt0.false)) h took c.run.ensures.alone)
+    let took : TookIf true (c.args.t ∷ []) a b =
+        subst (λ z. TookIf z (c.args.t ∷ []) a b) c.if-not-branch.false c.in_ok-turn.ensures.took in
+    subst (λ ls. WentIf true (c.args.t ∷ []) s a ahead (record b { flat = c.run.new.self.flat; logs = ls.items })
+        (set ahead c.args.t c.run.result)) (sym c.run.ensures.logs)
+    (turn_steps s a b c.run.new.self.flat ahead c.args.t c.run.result l c.requires.thread c.run.ensures.flat
+        (omega (arith, here, c.if-lead-gt0.false)) h took c.run.ensures.alone)
 
 pub returns-then-lead-gt0-clause-each : goal.returns-then-lead-gt0-clause-each
 returns-then-lead-gt0-clause-each g c = length-set c.args.ahead.now.items c.args.t _ ∙ c.requires.each
@@ -39,7 +47,8 @@ pub returns-then-not-branch-clause-threads : goal.returns-then-not-branch-clause
 returns-then-not-branch-clause-threads g c = c.in_ok-turn.ensures.took.took.threads
 
 pub returns-clause-each : goal.returns-clause-each
-returns-clause-each g c = length-set c.args.ahead.now.items c.args.t _ ∙ c.requires.each ∙ sym (c.run.ensures.alone.threads ∙ c.in_ok-turn.ensures.took.took.threads)
+returns-clause-each g c = length-set c.args.ahead.now.items c.args.t _ ∙ c.requires.each
+    ∙ sym (c.run.ensures.alone.threads ∙ c.in_ok-turn.ensures.took.took.threads)
 
 pub returns-clause-threads : goal.returns-clause-threads
 returns-clause-threads g c = c.run.ensures.alone.threads ∙ c.in_ok-turn.ensures.took.took.threads

@@ -6,7 +6,8 @@ use Rattle.ir_record.proofs.recorder.Recorder.turns.Given as goal
 abbrev pub invariant-turns : goal.invariant-turns
 invariant-turns g l = record {
   few : l.left ≤ l.count;
-  took : Took (replicate (l.count - l.left) l.t) (progress l.fn.self.tape (map g.W.World.answers l.fn.self.worlds.items)) (progress l.self.tape (map g.W.World.answers l.self.worlds.items));
+  took : Took (replicate (l.count - l.left) l.t) (progress l.fn.self.tape (map g.W.World.answers l.fn.self.worlds.items))
+      (progress l.self.tape (map g.W.World.answers l.self.worlds.items));
   ready : IsReady (progress l.self.tape (map g.W.World.answers l.self.worlds.items)) (map g.W.World.broken l.self.worlds.items);
   kept : Extends (map g.W.World.answers l.fn.self.worlds.items) (map g.W.World.answers l.self.worlds.items);
   origins : map g.W.World.origin l.self.worlds.items ≡ map g.W.World.origin l.fn.self.worlds.items;

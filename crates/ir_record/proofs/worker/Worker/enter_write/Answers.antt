@@ -8,7 +8,9 @@ use Rattle.ir_record.proofs.WorkerSteps.{below_enter, write_step}
 use Rattle.ir_record.proofs.worker.Worker.enter_write.Goals as goal
 
 pub enter_write-version-requires-clause-object : goal.enter_write-version-requires-clause-object
-enter_write-version-requires-clause-object g c = below_enter c.args.crew.now.table.shared.key (work_of g.W.World.answers c.args.self.now) c.args.object Writing c.requires.worker.worker (subst (λ z. ask_of z c.args.self.now.thread ≡ ask.Enter c.args.object Writing) c.requires.worker.same_code c.requires.asked)
+enter_write-version-requires-clause-object g c =
+    below_enter c.args.crew.now.table.shared.key (work_of g.W.World.answers c.args.self.now) c.args.object Writing c.requires.worker.worker
+    (subst (λ z. ask_of z c.args.self.now.thread ≡ ask.Enter c.args.object Writing) c.requires.worker.same_code c.requires.asked)
 
 pub returns-clause-stays : goal.returns-clause-stays
 returns-clause-stays g c =
@@ -16,7 +18,13 @@ returns-clause-stays g c =
     let small : c.enter_write-version.result.1 < 2 ^ 32 = search rules in
     record {
       seat = c.enter_write-version.ensures.seat.0;
-      still = λ budget t before i. write_step c.args.crew.now.table.shared.key budget t before (work_of g.W.World.answers c.args.self.now) _ c.args.object c.enter_write-version.result.0 c.enter_write-version.result.1
-          (below_enter c.args.crew.now.table.shared.key (work_of g.W.World.answers c.args.self.now) c.args.object Writing c.requires.worker.worker (subst (λ z. ask_of z c.args.self.now.thread ≡ ask.Enter c.args.object Writing) c.requires.worker.same_code c.requires.asked)) fits small
-          (subst (λ z. ask_of z c.args.self.now.thread ≡ ask.Enter c.args.object Writing) c.requires.worker.same_code c.requires.asked) c.enter_write-version.ensures.entered (subst (λ z. c.take_asked.new.self ≡ after_reply z c.args.self.now.thread Go) c.requires.worker.same_code c.take_asked.ensures) c.push.ensures refl i;
+      still = λ budget t before i. write_step c.args.crew.now.table.shared.key budget t before (work_of g.W.World.answers c.args.self.now) _
+          c.args.object c.enter_write-version.result.0 c.enter_write-version.result.1
+          (below_enter c.args.crew.now.table.shared.key (work_of g.W.World.answers c.args.self.now) c.args.object Writing
+              c.requires.worker.worker (subst (λ z. ask_of z c.args.self.now.thread ≡ ask.Enter c.args.object Writing)
+              c.requires.worker.same_code c.requires.asked)) fits small
+          (subst (λ z. ask_of z c.args.self.now.thread ≡ ask.Enter c.args.object Writing) c.requires.worker.same_code c.requires.asked)
+              c.enter_write-version.ensures.entered
+              (subst (λ z. c.take_asked.new.self ≡ after_reply z c.args.self.now.thread Go) c.requires.worker.same_code
+              c.take_asked.ensures) c.push.ensures refl i;
     }

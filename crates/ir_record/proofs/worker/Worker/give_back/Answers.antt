@@ -16,5 +16,6 @@ loop-below-preserved-in-Some g c =
       thread = i.thread;
       alone = did_alone c.loop-below.self.seat.me c.leave.new.seat.me o (Leave c.in-Some.access e.0) e.1 i.alone;
       low = omega (arith, t, l);
-      inside = λ p k. did_elsewhere c.loop-below.self.seat.me c.leave.new.seat.me o p (Leave c.in-Some.access e.0) e.1 i.alone (λ q. omega (arith, q, k, t)) ∙ i.inside p (omega (arith, k, t));
+      inside = λ p k. did_elsewhere c.loop-below.self.seat.me c.leave.new.seat.me o p (Leave c.in-Some.access e.0) e.1 i.alone
+          (λ q. omega (arith, q, k, t)) ∙ i.inside p (omega (arith, k, t));
     }

@@ -7,8 +7,10 @@ use Rattle.ir_weave.proofs.weave.Weave.get.Goals.{After-load}
 pub load-requires : goal.load-requires
 load-requires c = (
   c.requires.seat,
-  read_there c.args.self.now.table.shared.key c.args.thread.now c.args.seat.now.me.0 c.args.object c.args.index _ c.requires.thread c.requires.asking c.args.self.now.words,
-  get_allows c.args.self.now.table.shared.key _ _ c.args.object c.args.index c.args.thread.now c.args.seat.now.me c.requires.thread c.requires.asking,
+  read_there c.args.self.now.table.shared.key c.args.thread.now c.args.seat.now.me.0 c.args.object c.args.index _ c.requires.thread
+      c.requires.asking c.args.self.now.words,
+  get_allows c.args.self.now.table.shared.key _ _ c.args.object c.args.index c.args.thread.now c.args.seat.now.me c.requires.thread
+      c.requires.asking,
 )
 
 -- a number below 2^32 is a word
@@ -16,10 +18,12 @@ fits_word : (n : ℕ) → n < 2 ^ 32 → Fits w32 n
 fits_word n l = omega (arith, l)
 
 told : (c : After-load) → WasTold c.args.self.now.table.shared.key c.args.thread.now c.args.seat.now.me c.load.new.seat.me c.load.result
-told c = step_told c.args.self.now.table.shared.key c.args.thread.now (Get c.args.object c.args.index) c.args.seat.now.me c.load.new.seat.me c.load.result c.requires.thread c.requires.asking.asks (λ b. b) c.load.ensures.2
+told c = step_told c.args.self.now.table.shared.key c.args.thread.now (Get c.args.object c.args.index) c.args.seat.now.me c.load.new.seat.me
+    c.load.result c.requires.thread c.requires.asking.asks (λ b. b) c.load.ensures.2
 
 pub overflow_cast-result : goal.overflow_cast-result
-overflow_cast-result c = fits_word _ (word_read c.args.self.now.table.shared.key c.args.thread.now c.args.seat.now.me.0 c.args.object c.args.index c.load.result c.requires.thread c.requires.asking (told c).answers)
+overflow_cast-result c = fits_word _ (word_read c.args.self.now.table.shared.key c.args.thread.now c.args.seat.now.me.0 c.args.object
+    c.args.index c.load.result c.requires.thread c.requires.asking (told c).answers)
 
 pub returns-clause-read : goal.returns-clause-read
 returns-clause-read c = (told c).view

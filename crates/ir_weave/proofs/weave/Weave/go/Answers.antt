@@ -3,4 +3,6 @@ use Rattle.ir_weave.proofs.Steps.{own_stepped}
 use Rattle.ir_weave.proofs.weave.Weave.go.Goals as goal
 
 pub returns : goal.returns
-returns c = own_stepped c.args.self.now.table.shared.key c.args.fitted.now c.code.result.now c.args.seat.now.me c.args.thread.now c.take_asked.new.self c.args.asked c.requires.table (c.code.ensures.value ∙ ap (λ g. g.code) c.image.ensures.value) c.requires.thread c.requires.asking c.requires.own c.take_asked.ensures
+returns c = own_stepped c.args.self.now.table.shared.key c.args.fitted.now c.code.result.now c.args.seat.now.me c.args.thread.now
+    c.take_asked.new.self c.args.asked c.requires.table (c.code.ensures.value ∙ ap (λ g. g.code) c.image.ensures.value) c.requires.thread
+    c.requires.asking c.requires.own c.take_asked.ensures

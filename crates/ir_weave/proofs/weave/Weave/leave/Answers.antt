@@ -8,28 +8,40 @@ use Rattle.ir_weave.proofs.weave.Weave.leave.Goals as goal
 pub fetch_add-requires : goal.fetch_add-requires
 fetch_add-requires c = (
   c.requires.seat,
-  left_there c.args.self.now.table.shared.key c.args.thread.now c.args.seat.now.me.0 c.args.object _ c.args.access c.requires.thread c.requires.asking c.args.self.now.words,
-  read_leave_allows c.args.self.now.table.shared.key _ _ c.args.object c.args.thread.now c.args.seat.now.me c.requires.thread (subst (λ b. IsAsking (trace_in c.args.self.now.table.shared.key) c.args.thread.now (Leave c.args.object b)) c.in-Reading.is c.requires.asking),
+  left_there c.args.self.now.table.shared.key c.args.thread.now c.args.seat.now.me.0 c.args.object _ c.args.access c.requires.thread
+      c.requires.asking c.args.self.now.words,
+  read_leave_allows c.args.self.now.table.shared.key _ _ c.args.object c.args.thread.now c.args.seat.now.me c.requires.thread
+      (subst (λ b. IsAsking (trace_in c.args.self.now.table.shared.key) c.args.thread.now (Leave c.args.object b)) c.in-Reading.is
+      c.requires.asking),
 )
 
 pub version-version-requires-clause-asking : goal.version-version-requires-clause-asking
-version-version-requires-clause-asking c = subst (λ b. IsAsking (trace_in c.args.self.now.table.shared.key) c.args.thread.now (Leave c.args.object b)) c.in-Writing.is c.requires.asking
+version-version-requires-clause-asking c = subst (λ b. IsAsking (trace_in c.args.self.now.table.shared.key) c.args.thread.now
+    (Leave c.args.object b)) c.in-Writing.is c.requires.asking
 
 pub store-requires : goal.store-requires
 store-requires c = (
   c.version-version.ensures.seat.0 ∙ c.requires.seat,
-  left_there c.args.self.now.table.shared.key c.args.thread.now c.args.seat.now.me.0 c.args.object _ c.args.access c.requires.thread c.requires.asking c.args.self.now.words,
-  write_leave_allows c.args.self.now.table.shared.key _ _ c.args.object c.version-version.result c.args.thread.now c.version-version.new.seat.me
-      (subst (λ (m : M). IsSeated c.args.self.now.table.shared.key m.0 c.args.thread.now) (sym c.version-version.ensures.seat.2) c.requires.thread)
-      (subst (λ b. IsAsking (trace_in c.args.self.now.table.shared.key) c.args.thread.now (Leave c.args.object b)) c.in-Writing.is c.requires.asking) c.version-version.ensures.version,
+  left_there c.args.self.now.table.shared.key c.args.thread.now c.args.seat.now.me.0 c.args.object _ c.args.access c.requires.thread
+      c.requires.asking c.args.self.now.words,
+  write_leave_allows c.args.self.now.table.shared.key _ _ c.args.object c.version-version.result c.args.thread.now
+      c.version-version.new.seat.me
+      (subst (λ (m : M). IsSeated c.args.self.now.table.shared.key m.0 c.args.thread.now) (sym c.version-version.ensures.seat.2)
+          c.requires.thread)
+      (subst (λ b. IsAsking (trace_in c.args.self.now.table.shared.key) c.args.thread.now (Leave c.args.object b)) c.in-Writing.is
+          c.requires.asking) c.version-version.ensures.version,
 )
 
 pub returns-in-Reading-clause-left : goal.returns-in-Reading-clause-left
 returns-in-Reading-clause-left c =
-    (step_told c.args.self.now.table.shared.key c.args.thread.now (Leave c.args.object c.args.access) c.args.seat.now.me c.fetch_add.new.seat.me c.fetch_add.result c.requires.thread c.requires.asking.asks (λ b. b) c.fetch_add.ensures.2).view
+    (step_told c.args.self.now.table.shared.key c.args.thread.now (Leave c.args.object c.args.access) c.args.seat.now.me
+        c.fetch_add.new.seat.me c.fetch_add.result c.requires.thread c.requires.asking.asks (λ b. b) c.fetch_add.ensures.2).view
 
 pub returns-in-Writing-clause-left : goal.returns-in-Writing-clause-left
 returns-in-Writing-clause-left c =
-    (step_told c.args.self.now.table.shared.key c.args.thread.now (Leave c.args.object c.args.access) c.version-version.new.seat.me c.store.new.seat.me ((c.version-version.result + 1) * 4294967296)
-    (subst (λ (m : M). IsSeated c.args.self.now.table.shared.key m.0 c.args.thread.now) (sym c.version-version.ensures.seat.2) c.requires.thread) c.requires.asking.asks (λ b. b) c.store.ensures.2).view
-    ∙ (λ i. (view_at c.args.self.now.table.shared.key c.args.thread.now (suc c.args.thread.now.steps) false, (c.version-version.ensures.seat.2 i).1))
+    (step_told c.args.self.now.table.shared.key c.args.thread.now (Leave c.args.object c.args.access) c.version-version.new.seat.me
+        c.store.new.seat.me ((c.version-version.result + 1) * 4294967296)
+    (subst (λ (m : M). IsSeated c.args.self.now.table.shared.key m.0 c.args.thread.now) (sym c.version-version.ensures.seat.2)
+        c.requires.thread) c.requires.asking.asks (λ b. b) c.store.ensures.2).view
+    ∙ (λ i. (view_at c.args.self.now.table.shared.key c.args.thread.now (suc c.args.thread.now.steps) false,
+    (c.version-version.ensures.seat.2 i).1))

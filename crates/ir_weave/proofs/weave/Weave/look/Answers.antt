@@ -8,17 +8,23 @@ use Rattle.ir_weave.proofs.weave.Weave.look.Goals.{After-opens}
 pub load-seen-requires : goal.load-seen-requires
 load-seen-requires c = (
   c.requires.seat,
-  head_there c.args.self.now.table.shared.key c.args.thread.now c.args.seat.now.me.0 c.args.object _ c.args.access (Enter c.args.object c.args.access) c.requires.thread c.requires.entering.asking refl c.args.self.now.words,
-  look_allows c.args.self.now.table.shared.key _ _ c.args.object c.args.access c.args.event c.args.thread.now c.args.seat.now.me c.requires.thread c.requires.entering,
+  head_there c.args.self.now.table.shared.key c.args.thread.now c.args.seat.now.me.0 c.args.object _ c.args.access
+      (Enter c.args.object c.args.access) c.requires.thread c.requires.entering.asking refl c.args.self.now.words,
+  look_allows c.args.self.now.table.shared.key _ _ c.args.object c.args.access c.args.event c.args.thread.now c.args.seat.now.me
+      c.requires.thread c.requires.entering,
 )
 
-shown : (c : After-opens) → WasShown c.args.self.now.table.shared.key c.args.thread.now c.args.event c.args.seat.now.me c.load-seen.new.seat.me c.load-seen.result
-shown c = look_told c.args.self.now.table.shared.key c.args.thread.now c.args.object c.args.access c.args.event c.args.seat.now.me c.load-seen.new.seat.me c.load-seen.result c.requires.thread c.requires.entering c.load-seen.ensures.2
+shown : (c : After-opens) → WasShown c.args.self.now.table.shared.key c.args.thread.now c.args.event c.args.seat.now.me
+    c.load-seen.new.seat.me c.load-seen.result
+shown c = look_told c.args.self.now.table.shared.key c.args.thread.now c.args.object c.args.access c.args.event c.args.seat.now.me
+    c.load-seen.new.seat.me c.load-seen.result c.requires.thread c.requires.entering c.load-seen.ensures.2
 
 pub returns-clause-granted : goal.returns-clause-granted
 returns-clause-granted c on =
-    let opened : Opens c.load-seen.result c.args.event = test_true c.opens.result (Opens c.load-seen.result c.args.event) c.opens.ensures on in
-    ((shown c).opened opened, granted_by c.args.self.now.table.shared.key c.args.thread.now c.args.event c.args.seat.now.me c.load-seen.new.seat.me c.load-seen.result c.requires.thread (shown c) opened)
+    let opened : Opens c.load-seen.result c.args.event =
+        test_true c.opens.result (Opens c.load-seen.result c.args.event) c.opens.ensures on in
+    ((shown c).opened opened, granted_by c.args.self.now.table.shared.key c.args.thread.now c.args.event c.args.seat.now.me
+        c.load-seen.new.seat.me c.load-seen.result c.requires.thread (shown c) opened)
 
 pub returns-clause-stopped : goal.returns-clause-stopped
 returns-clause-stopped c off = (shown c).shut (test_false c.opens.result (Opens c.load-seen.result c.args.event) c.opens.ensures off)

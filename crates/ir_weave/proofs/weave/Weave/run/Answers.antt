@@ -6,14 +6,18 @@ use Rattle.ir_weave.proofs.weave.Weave.run.Goals as goal
 use Rattle.ir_weave.proofs.weave.Weave.run.Goals.{After-run}
 
 room : (c : After-run) → c.args.thread.now.steps + c.run.result ≤ cut_of c.args.target.now c.args.thread.now.number
-room c = let at : c.position.result ≡ cut_of c.args.target.now c.args.thread.now.number = c.position.ensures ∙ ap (cut_of c.args.target.now) c.number.ensures in
+room c = let at : c.position.result ≡ cut_of c.args.target.now c.args.thread.now.number = c.position.ensures
+    ∙ ap (cut_of c.args.target.now) c.number.ensures in
     let few = c.run.ensures.within in let now = c.steps.ensures.value in let below = c.requires.below in omega (arith, at, few, now, below)
 
 ran : (c : After-run) → HasRunOn c.args.self.now.table.shared.key c.args.seat.now.me.0 c.args.thread.now c.run.new.self c.run.result
-ran c = runs_on c.args.self.now.table.shared.key c.args.fitted.now c.code.result.now c.args.target.now c.args.seat.now.me.0 c.args.thread.now c.run.new.self c.run.result c.requires.table (c.code.ensures.value ∙ ap (λ g. g.code) c.image.ensures.value) c.requires.target.1 (room c) c.requires.thread c.run.ensures.steps
+ran c = runs_on c.args.self.now.table.shared.key c.args.fitted.now c.code.result.now c.args.target.now c.args.seat.now.me.0
+    c.args.thread.now c.run.new.self c.run.result c.requires.table (c.code.ensures.value ∙ ap (λ g. g.code) c.image.ensures.value)
+    c.requires.target.1 (room c) c.requires.thread c.run.ensures.steps
 
 pub returns-clause-ran : goal.returns-clause-ran
 returns-clause-ran c = ran c
 
 pub returns-clause-below : goal.returns-clause-below
-returns-clause-below c = let r = ran c in let b = room c in let steps = r.steps in subst (λ t. c.run.new.self.steps ≤ cut_of c.args.target.now t) (sym r.number) (omega (arith, steps, b))
+returns-clause-below c = let r = ran c in let b = room c in let steps = r.steps in
+    subst (λ t. c.run.new.self.steps ≤ cut_of c.args.target.now t) (sym r.number) (omega (arith, steps, b))

@@ -9,21 +9,30 @@ use Rattle.ir_weave.proofs.weave.Weave.step_in.Goals as goal
 pub fetch_add-requires : goal.fetch_add-requires
 fetch_add-requires c = (
   c.requires.seat,
-  head_there c.args.self.now.table.shared.key c.args.thread.now c.args.seat.now.me.0 c.args.object _ c.args.access (Enter c.args.object c.args.access) c.requires.granted.seated c.requires.asking refl c.args.self.now.words,
-  enter_allows c.args.self.now.table.shared.key _ _ c.args.object Reading c.args.thread.now c.args.seat.now.me c.requires.granted (subst (λ b. IsAsking (trace_in c.args.self.now.table.shared.key) c.args.thread.now (Enter c.args.object b)) c.in-Reading.is c.requires.asking),
+  head_there c.args.self.now.table.shared.key c.args.thread.now c.args.seat.now.me.0 c.args.object _ c.args.access
+      (Enter c.args.object c.args.access) c.requires.granted.seated c.requires.asking refl c.args.self.now.words,
+  enter_allows c.args.self.now.table.shared.key _ _ c.args.object Reading c.args.thread.now c.args.seat.now.me c.requires.granted
+      (subst (λ b. IsAsking (trace_in c.args.self.now.table.shared.key) c.args.thread.now (Enter c.args.object b)) c.in-Reading.is
+      c.requires.asking),
 )
 
 pub fetch_add-requires-in-Writing : goal.fetch_add-requires-in-Writing
 fetch_add-requires-in-Writing c = (
   c.requires.seat,
-  head_there c.args.self.now.table.shared.key c.args.thread.now c.args.seat.now.me.0 c.args.object _ c.args.access (Enter c.args.object c.args.access) c.requires.granted.seated c.requires.asking refl c.args.self.now.words,
-  enter_allows c.args.self.now.table.shared.key _ _ c.args.object Writing c.args.thread.now c.args.seat.now.me c.requires.granted (subst (λ b. IsAsking (trace_in c.args.self.now.table.shared.key) c.args.thread.now (Enter c.args.object b)) c.in-Writing.is c.requires.asking),
+  head_there c.args.self.now.table.shared.key c.args.thread.now c.args.seat.now.me.0 c.args.object _ c.args.access
+      (Enter c.args.object c.args.access) c.requires.granted.seated c.requires.asking refl c.args.self.now.words,
+  enter_allows c.args.self.now.table.shared.key _ _ c.args.object Writing c.args.thread.now c.args.seat.now.me c.requires.granted
+      (subst (λ b. IsAsking (trace_in c.args.self.now.table.shared.key) c.args.thread.now (Enter c.args.object b)) c.in-Writing.is
+      c.requires.asking),
 )
 
 pub returns-in-Reading-clause-entered : goal.returns-in-Reading-clause-entered
 returns-in-Reading-clause-entered c =
-    (step_told c.args.self.now.table.shared.key c.args.thread.now (Enter c.args.object c.args.access) c.args.seat.now.me c.fetch_add.new.seat.me c.fetch_add.result c.requires.granted.seated c.requires.asking.asks (λ b. b) c.fetch_add.ensures.2).view
+    (step_told c.args.self.now.table.shared.key c.args.thread.now (Enter c.args.object c.args.access) c.args.seat.now.me
+        c.fetch_add.new.seat.me c.fetch_add.result c.requires.granted.seated c.requires.asking.asks (λ b. b) c.fetch_add.ensures.2).view
 
 pub returns-in-Writing-clause-entered : goal.returns-in-Writing-clause-entered
 returns-in-Writing-clause-entered c =
-    (step_told c.args.self.now.table.shared.key c.args.thread.now (Enter c.args.object c.args.access) c.args.seat.now.me c.fetch_add-in-Writing.new.seat.me c.fetch_add-in-Writing.result c.requires.granted.seated c.requires.asking.asks (λ b. b) c.fetch_add-in-Writing.ensures.2).view
+    (step_told c.args.self.now.table.shared.key c.args.thread.now (Enter c.args.object c.args.access) c.args.seat.now.me
+        c.fetch_add-in-Writing.new.seat.me c.fetch_add-in-Writing.result c.requires.granted.seated c.requires.asking.asks (λ b. b)
+        c.fetch_add-in-Writing.ensures.2).view

@@ -7,12 +7,16 @@ use Rattle.ir_weave.proofs.weave.Weave.version.Goals.{After-load}
 pub load-requires : goal.load-requires
 load-requires c = (
   c.requires.seat,
-  left_there c.args.self.now.table.shared.key c.args.thread.now c.args.seat.now.me.0 c.args.object _ Writing c.requires.thread c.requires.asking c.args.self.now.words,
-  version_allows c.args.self.now.table.shared.key _ _ c.args.object c.args.thread.now c.args.seat.now.me c.requires.thread c.requires.asking,
+  left_there c.args.self.now.table.shared.key c.args.thread.now c.args.seat.now.me.0 c.args.object _ Writing c.requires.thread
+      c.requires.asking c.args.self.now.words,
+  version_allows c.args.self.now.table.shared.key _ _ c.args.object c.args.thread.now c.args.seat.now.me c.requires.thread
+      c.requires.asking,
 )
 
-seen : (c : After-load) → WasSeen c.args.self.now.table.shared.key c.args.thread.now c.args.object c.args.seat.now.me c.load.new.seat.me c.load.result
-seen c = version_told c.args.self.now.table.shared.key c.args.object c.args.thread.now c.args.seat.now.me c.load.new.seat.me c.load.result c.requires.thread c.requires.asking c.load.ensures.2
+seen : (c : After-load) → WasSeen c.args.self.now.table.shared.key c.args.thread.now c.args.object c.args.seat.now.me c.load.new.seat.me
+    c.load.result
+seen c = version_told c.args.self.now.table.shared.key c.args.object c.args.thread.now c.args.seat.now.me c.load.new.seat.me c.load.result
+    c.requires.thread c.requires.asking c.load.ensures.2
 
 pub returns-clause-seat : goal.returns-clause-seat
 returns-clause-seat c = (c.load.ensures.0, c.load.ensures.1, (seen c).view)
