@@ -23,4 +23,4 @@ cut line l word rest n skipped some end prefix back =
 
 pub returns : goal.returns
 returns c = cut c.args.line.now c.skip-line.result.now _ _ c.word_len.result c.skip-line.ensures
-    (some_byte _ (sym c.is_empty.ensures ∙ c.if-is_empty.false)) c.word_len.ensures.value c.split_at.ensures.prefix c.split_at.ensures.back
+    (some_byte _ (sym c.is_empty.ensures ∙ c.if-is_empty.false)) c.word_len.ensures.value c.split_at.ensures.front c.split_at.ensures.back

@@ -6,7 +6,7 @@ pub loop-rest-preserved : goal.loop-rest-preserved
 loop-rest-preserved c =
     let some : 0 < length c.loop-rest.rest.now = search rules in
     record {
-      text = memory-next _ _ _ _ _ _ c.loop-rest.at c.min.result some c.min.ensures c.split_at.ensures.prefix c.split_at.ensures.back
+      text = memory-next _ _ _ _ _ _ c.loop-rest.at c.min.result some c.min.ensures c.split_at.ensures.front c.split_at.ensures.back
           c.put_memory_line.ensures.text c.loop-rest.invariant.text;
       more = room-next _ _ _ _ c.loop-rest.at c.min.result c.min.ensures c.split_at.ensures.back_len c.put_memory_line.ensures.len
           (c.loop-rest.invariant.more some);
