@@ -1,6 +1,7 @@
 //! Steps of a thread at its seat.
 
-ghost use Rattle.std.specs.Prelude.{◌≡◌, ◌≤◌, ◌↔◌, ◌⊎◌, true, false, length};
+ghost use Rattle.std.specs.Prelude.{◌≡◌, ◌≢◌, ◌<◌, ◌≤◌, ◌↔◌, ◌⊎◌, true, false, length};
+ghost use Rattle.ir_thread.specs.Calls.{ask_of};
 ghost use Rattle.ir_thread.specs.declared.ask.Ask.TheVariants as ask;
 ghost use Rattle.ir_thread.specs.declared.end.End.{End};
 ghost use Rattle.ir_cut.specs.Positions.{IsConsistentCut, cut_of};
@@ -228,6 +229,8 @@ impl Weave {
         requires below { thread.old.steps ≤ cut_of target.now thread.old.number }
         ensures ran { HasRunOn self.now.table.shared.key seat.now.me.0 thread.old thread.new result }
         ensures below { thread.new.steps ≤ cut_of target.now thread.new.number }
+        // Why it stopped below the target.
+        ensures stops { thread.new.steps < cut_of target.now thread.new.number → ask_of fitted.now.guest.code thread.new ≢ ask.Private }
     {
         let limit = target.position(thread.number() as usize) - thread.steps();
         thread.run(fitted.image().code(), limit)

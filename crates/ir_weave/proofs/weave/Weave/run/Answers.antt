@@ -1,4 +1,6 @@
-use Rattle.std.proofs.Common.{◌≡◌, ◌+◌, ◌≤◌, ◌∙◌, ap, arith, sym, subst}
+use Rattle.std.proofs.Common.{◌≡◌, ◌≢◌, ◌+◌, ◌<◌, ◌≤◌, ◌∙◌, ℕ, List, ap, arith, sym, subst}
+use Rattle.ir_thread.specs.Calls.{ask_of}
+use Rattle.ir_thread.specs.declared.ask.Ask.TheVariants as ask
 use Rattle.ir_cut.specs.Positions.{cut_of}
 use Rattle.ir_weave.specs.Woven.{HasRunOn}
 use Rattle.ir_weave.proofs.Steps.{runs_on}
@@ -21,3 +23,15 @@ returns-clause-ran c = ran c
 pub returns-clause-below : goal.returns-clause-below
 returns-clause-below c = let r = ran c in let b = room c in let steps = r.steps in
     subst (λ t. c.run.new.self.steps ≤ cut_of c.args.target.now t) (sym r.number) (omega (arith, steps, b))
+
+pub returns-clause-stops : goal.returns-clause-stops
+returns-clause-stops c = λ below.
+    let r = ran c in
+    let at : c.position.result ≡ cut_of c.args.target.now c.args.thread.now.number = c.position.ensures
+        ∙ ap (cut_of c.args.target.now) c.number.ensures in
+    let now = c.steps.ensures.value in
+    let steps = r.steps in
+    let short : c.run.new.self.steps < cut_of c.args.target.now c.args.thread.now.number =
+        subst (λ t. c.run.new.self.steps < cut_of c.args.target.now t) r.number below in
+    subst (λ (k : List ℕ). ask_of k c.run.new.self ≢ ask.Private) (c.code.ensures.value ∙ ap (λ g. g.code) c.image.ensures.value)
+        (c.run.ensures.stops (omega (arith, at, now, steps, short)))
