@@ -170,8 +170,7 @@ output_none = refl
 abbrev written : objects.Object
 written = record { version = 1; left = 0; inside = elim [ zero ↦ Some Writing | (suc t) ↦ None ]; words = elim [ zero ↦ 1 | (suc i) ↦ 0 ] }
 
-object_p : object_text 2 written ≡ codes "version 1 left 0 readers - writer 0\nwords 00000001 00000000 00000000 00000000 00000000 00000000
-    00000000 00000000\n"
+object_p : object_text 2 written ≡ codes "version 1 left 0 readers - writer 0\nwords 00000001 00000000 00000000 00000000 00000000 00000000 00000000 00000000\n"
 unfolding inside_for digits encode_with
 object_p = refl
 
@@ -179,8 +178,7 @@ object_p = refl
 abbrev read : objects.Object
 read = record { version = 7; left = 2; inside = λ t. Some Reading; words = λ i. 0xabcdef01 }
 
-object_read : object_text 3 read ≡ codes "version 7 left 2 readers 0,1,2 writer -\nwords abcdef01 abcdef01 abcdef01 abcdef01 abcdef01
-    abcdef01 abcdef01 abcdef01\n"
+object_read : object_text 3 read ≡ codes "version 7 left 2 readers 0,1,2 writer -\nwords abcdef01 abcdef01 abcdef01 abcdef01 abcdef01 abcdef01 abcdef01 abcdef01\n"
 unfolding inside_for digits encode_with
 object_read = refl
 
@@ -229,7 +227,7 @@ incoherent : verdict_text (Incoherent 0 0 Twice) ≡ codes "incoherent thread 0 
 unfolding digits
 incoherent = refl
 
-each_thread : threads_text 0 (Same ∷ Disagrees 0 5 ∷ Starves 1 ∷ []) ≡ codes "thread 0 same\nthread 1 disagrees event 0 step 5\nthread 2
-    starves event 1\n"
+each_thread : threads_text 0 (Same ∷ Disagrees 0 5 ∷ Starves 1 ∷ []) ≡ codes
+    "thread 0 same\nthread 1 disagrees event 0 step 5\nthread 2 starves event 1\n"
 unfolding threads_text digits
 each_thread = refl

@@ -39,10 +39,8 @@ f_r = fitted_by (0x513 ∷ 0x00700893 ∷ 0x73 ∷ 0x00900893 ∷ 0x73 ∷ 0x008
 abbrev f_e : FittedTrace
 f_e = fitted_by (0x513 ∷ 0x00800893 ∷ 0x73 ∷ 0x593 ∷ 0x00700613 ∷ 0x00b00893 ∷ 0x73 ∷ 0x00100073 ∷ []) 8 9
 
-registers_q : shown (alone 6) (at_only f_q 3) (Registers 0) ≡ codes "pc 0001000c\nzero=00000000 ra=00000000 sp=00110000
-    gp=00000000\ntp=00000000 t0=00000000 t1=00000000 t2=00000000\ns0=00000000 s1=00000000 a0=00000048 a1=00000000\na2=00000000 a3=00000000
-    a4=00000000 a5=00000000\na6=00000000 a7=00000002 s2=00000000 s3=00000000\ns4=00000000 s5=00000000 s6=00000000 s7=00000000\ns8=00000000
-    s9=00000000 s10=00000000 s11=00000000\nt3=00000000 t4=00000000 t5=00000000 t6=00000000\n"
+registers_q : shown (alone 6) (at_only f_q 3) (Registers 0) ≡ codes
+    "pc 0001000c\nzero=00000000 ra=00000000 sp=00110000 gp=00000000\ntp=00000000 t0=00000000 t1=00000000 t2=00000000\ns0=00000000 s1=00000000 a0=00000048 a1=00000000\na2=00000000 a3=00000000 a4=00000000 a5=00000000\na6=00000000 a7=00000002 s2=00000000 s3=00000000\ns4=00000000 s5=00000000 s6=00000000 s7=00000000\ns8=00000000 s9=00000000 s10=00000000 s11=00000000\nt3=00000000 t4=00000000 t5=00000000 t6=00000000\n"
 unfolding shown upd after_reply after inside_for event_lines memory_lines output_lines bytes_from digits encode_with registers_text
     decoded.instruction_of
 registers_q = refl
@@ -57,14 +55,14 @@ unfolding shown upd after_reply after inside_for event_lines memory_lines output
     decoded.instruction_of
 memory_q = refl
 
-object_r_7 : shown (alone 11) (at_only f_r 7) (Object 0) ≡ codes "version 0 left 1 readers - writer 0\nwords 00000000 00000000 00000000
-    00000000 00000000 00000000 00000000 00000000\n"
+object_r_7 : shown (alone 11) (at_only f_r 7) (Object 0) ≡ codes
+    "version 0 left 1 readers - writer 0\nwords 00000000 00000000 00000000 00000000 00000000 00000000 00000000 00000000\n"
 unfolding shown upd after_reply after inside_for event_lines memory_lines output_lines bytes_from digits encode_with registers_text
     decoded.instruction_of
 object_r_7 = refl
 
-object_r_3 : shown (alone 11) (at_only f_r 3) (Object 0) ≡ codes "version 0 left 0 readers 0 writer -\nwords 00000000 00000000 00000000
-    00000000 00000000 00000000 00000000 00000000\n"
+object_r_3 : shown (alone 11) (at_only f_r 3) (Object 0) ≡ codes
+    "version 0 left 0 readers 0 writer -\nwords 00000000 00000000 00000000 00000000 00000000 00000000 00000000 00000000\n"
 unfolding shown upd after_reply after inside_for event_lines memory_lines output_lines bytes_from digits encode_with registers_text
     decoded.instruction_of
 object_r_3 = refl
@@ -79,8 +77,8 @@ unfolding shown upd after_reply after inside_for event_lines memory_lines output
     decoded.instruction_of
 next_e = refl
 
-object_e : shown (alone 9) (at_only f_e 9) (Object 0) ≡ codes "version 1 left 0 readers - writer -\nwords 00000007 00000000 00000000
-    00000000 00000000 00000000 00000000 00000000\n"
+object_e : shown (alone 9) (at_only f_e 9) (Object 0) ≡ codes
+    "version 1 left 0 readers - writer -\nwords 00000007 00000000 00000000 00000000 00000000 00000000 00000000 00000000\n"
 unfolding shown upd after_reply after inside_for event_lines memory_lines output_lines bytes_from digits encode_with registers_text
     decoded.instruction_of
 object_e = refl

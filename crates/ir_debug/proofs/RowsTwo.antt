@@ -46,13 +46,13 @@ log_p : shown run_p (at_p (3 ∷ 15 ∷ [])) (Log 0) ≡ codes "log 1 of 1\n0 wr
 unfolding shown upd after_reply after inside_for event_lines digits encode_with decoded.instruction_of
 log_p = refl
 
-object_p : shown run_p (at_p (3 ∷ 15 ∷ [])) (Object 0) ≡ codes "version 1 left 0 readers - writer 0\nwords 00000001 00000000 00000000
-    00000000 00000000 00000000 00000000 00000000\n"
+object_p : shown run_p (at_p (3 ∷ 15 ∷ [])) (Object 0) ≡ codes
+    "version 1 left 0 readers - writer 0\nwords 00000001 00000000 00000000 00000000 00000000 00000000 00000000 00000000\n"
 unfolding shown upd after_reply after inside_for event_lines digits encode_with decoded.instruction_of
 object_p = refl
 
-object_end : shown run_p (at_p (18 ∷ 18 ∷ [])) (Object 0) ≡ codes "version 2 left 0 readers - writer -\nwords 00000002 00000000 00000000
-    00000000 00000000 00000000 00000000 00000000\n"
+object_end : shown run_p (at_p (18 ∷ 18 ∷ [])) (Object 0) ≡ codes
+    "version 2 left 0 readers - writer -\nwords 00000002 00000000 00000000 00000000 00000000 00000000 00000000 00000000\n"
 unfolding shown upd after_reply after inside_for event_lines digits encode_with decoded.instruction_of
 object_end = refl
 
