@@ -45,8 +45,11 @@ address_again z b h =
     let s = signed_plain z h in
     let r = register_plain b in
     let base : List ℕ = register_name b.number in
-    rw (split_at 40 (signed_decimal z) (base ++ 41 ∷ []) (plain_open (signed_decimal z) s), split_one 40 (base ++ 41 ∷ [])
-        (all_append (λ c. not (c == 40)) base (41 ∷ []) (plain_open base r) refl))
+    rw (
+      split_at 40 (signed_decimal z) (base ++ 41 ∷ []) (plain_open (signed_decimal z) s),
+      split_one 40 (base ++ 41 ∷ [])
+          (all_append (λ c. not (c == 40)) base (41 ∷ []) (plain_open base r) refl),
+    )
     (rw (split_one 41 (signed_decimal z) (plain_close (signed_decimal z) s), split_at 41 base [] (plain_close base r))
     (rw (trim_clean (signed_decimal z) (signed_piece z h).all, trim_clean base (register_piece b).all) refl))
 
@@ -98,7 +101,7 @@ pub load_law : (pc : ℕ) (op : LoadOp) (rd rs1 : Register) (i : Immediate)
     → IsWordGuest (assembled (printed pc (Load op rd rs1 i))) (word_of (Load op rd rs1 i))
 load_law pc op rd rs1 i =
     one_statement _ _ _ (two_says (load_name op) (register_name rd.number) (address i.value rs1.number) (address i.value rs1.number)
-        (word_of (Load op rd rs1 i)) (Loads op) (Index rd ∷ Offset i.value rs1 ∷ [])
+    (word_of (Load op rd rs1 i)) (Loads op) (Index rd ∷ Offset i.value rs1 ∷ [])
     (load_piece op) (register_piece rd) (plain_end (address i.value rs1.number) (address_piece i.value rs1 (wide i)))
     (load_named op) refl (reads_load op rd rs1 i) (ap (λ (x : Immediate). instruction (Load op rd rs1 x)) (immediate_kept i)))
 
@@ -106,7 +109,7 @@ pub store_law : (pc : ℕ) (op : StoreOp) (rs1 rs2 : Register) (i : Immediate)
     → IsWordGuest (assembled (printed pc (Store op rs1 rs2 i))) (word_of (Store op rs1 rs2 i))
 store_law pc op rs1 rs2 i =
     one_statement _ _ _ (two_says (store_name op) (register_name rs2.number) (address i.value rs1.number) (address i.value rs1.number)
-        (word_of (Store op rs1 rs2 i)) (Stores op) (Index rs2 ∷ Offset i.value rs1 ∷ [])
+    (word_of (Store op rs1 rs2 i)) (Stores op) (Index rs2 ∷ Offset i.value rs1 ∷ [])
     (store_piece op) (register_piece rs2) (plain_end (address i.value rs1.number) (address_piece i.value rs1 (wide i)))
     (store_named op) refl (reads_store op rs2 rs1 i) (ap (λ (x : Immediate). instruction (Store op rs1 rs2 x)) (immediate_kept i)))
 
@@ -114,6 +117,6 @@ pub jumps_to_law : (pc : ℕ) (rd rs1 : Register) (i : Immediate)
     → IsWordGuest (assembled (printed pc (Jalr rd rs1 i))) (word_of (Jalr rd rs1 i))
 jumps_to_law pc rd rs1 i =
     one_statement _ _ _ (two_says (codes "jalr") (register_name rd.number) (address i.value rs1.number) (address i.value rs1.number)
-        (word_of (Jalr rd rs1 i)) JumpsTo (Index rd ∷ Offset i.value rs1 ∷ [])
+    (word_of (Jalr rd rs1 i)) JumpsTo (Index rd ∷ Offset i.value rs1 ∷ [])
     (record { some = refl; all = refl }) (register_piece rd) (plain_end (address i.value rs1.number) (address_piece i.value rs1 (wide i)))
     refl refl (reads_jumps_to rd rs1 i) (ap (λ (x : Immediate). instruction (Jalr rd rs1 x)) (immediate_kept i)))

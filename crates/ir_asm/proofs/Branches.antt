@@ -89,10 +89,10 @@ pub branch_law : (pc : ℕ) (op : BranchOp) (rs1 rs2 : Register) (i : BranchOffs
 branch_law pc op rs1 rs2 i =
     let small = off_small i.value i.low i.high in
     one_statement _ _ _ (three_says (branch_name op) (register_name rs1.number) (register_name rs2.number) (far pc i.value)
-        (distance i.value) (word_of (Branch op rs1 rs2 i)) (Branches op) (Index rs1 ∷ Index rs2 ∷ Integer i.value ∷ [])
+    (distance i.value) (word_of (Branch op rs1 rs2 i)) (Branches op) (Index rs1 ∷ Index rs2 ∷ Integer i.value ∷ [])
     (branch_piece op) (register_piece rs1) (register_piece rs2) (far_end pc i.value (omega (arith, small)))
     (branch_named op) refl (reads_target op rs1 rs2 i.value (reads_distance i))
-        (ap (λ (x : BranchOffset). instruction (Branch op rs1 rs2 x)) (branch_offset_kept i)))
+    (ap (λ (x : BranchOffset). instruction (Branch op rs1 rs2 x)) (branch_offset_kept i)))
 
 -- ---- .word
 
@@ -159,8 +159,8 @@ pub shift_law : (pc : ℕ) (op : ShiftOp) (rd rs1 : Register) (a : ShiftAmount)
     → IsWordGuest (assembled (printed pc (Shift op rd rs1 a))) (word_of (Shift op rd rs1 a))
 shift_law pc op rd rs1 a =
     one_statement _ _ _ (three_says (shift_name op) (register_name rd.number) (register_name rs1.number) (decimal a.bits) (decimal a.bits)
-        (word_of (Shift op rd rs1 a)) (Shifts op) (Index rd ∷ Index rs1 ∷ Integer (pos a.bits) ∷ [])
+    (word_of (Shift op rd rs1 a)) (Shifts op) (Index rd ∷ Index rs1 ∷ Integer (pos a.bits) ∷ [])
     (shift_piece op) (register_piece rd) (register_piece rs1)
-        (plain_end (decimal a.bits) (decimal_piece a.bits (omega (arith, a.in_range))))
+    (plain_end (decimal a.bits) (decimal_piece a.bits (omega (arith, a.in_range))))
     (shift_named op) refl (reads_shift op rd rs1 a.bits a.in_range)
-        (ap (λ (x : ShiftAmount). instruction (Shift op rd rs1 x)) (amount_kept a)))
+    (ap (λ (x : ShiftAmount). instruction (Shift op rd rs1 x)) (amount_kept a)))

@@ -53,7 +53,7 @@ split_tail c xs part [] e f h = absurd (omega (arith, h))
 split_tail c xs part (b ∷ rest) e f h =
     let n : length (b ∷ rest) - 1 ≡ length rest = omega arith in
     rw (n, take_all rest) (split_by c xs ∙ ap (λ (l : List ℕ). split_rest c (until (λ b. b == c) xs) l) (sym f)
-        ∙ ap (λ (l : List ℕ). l ∷ split c rest) (sym e))
+    ∙ ap (λ (l : List ℕ). l ∷ split c rest) (sym e))
 
 -- a blank at the end goes
 pub trim_blank : (xs : List ℕ) → 1 ≤ length xs → is_blank (get_or xs (length xs - 1) 0) ≡ true

@@ -122,14 +122,19 @@ texts_three name a b c n p q r =
     (trim_under b (44 ∷ 32 ∷ c) (44 ∷ 32 ∷ c)
     (trim_under (44 ∷ 32 ∷ []) c c (end_clean c r.all) r.some) refl)
     (not_nil b (44 ∷ 32 ∷ c) refl)) refl)
-    ∙ rw (not_nil a (44 ∷ 32 ∷ (b ++ 44 ∷ 32 ∷ c)) refl, split_at 44 a (32 ∷ (b ++ 44 ∷ 32 ∷ c)) (clean_lacks 44 a refl p.all), split_at 44
-    (32 ∷ b) (32 ∷ c) (clean_lacks 44 b refl q.all), split_one 44 (32 ∷ c) (clean_lacks 44 c refl r.all))
+    ∙ rw (
+      not_nil a (44 ∷ 32 ∷ (b ++ 44 ∷ 32 ∷ c)) refl,
+      split_at 44 a (32 ∷ (b ++ 44 ∷ 32 ∷ c)) (clean_lacks 44 a refl p.all),
+      split_at 44
+          (32 ∷ b) (32 ∷ c) (clean_lacks 44 b refl q.all),
+      split_one 44 (32 ∷ c) (clean_lacks 44 c refl r.all),
+    )
     (rw (trim_clean a p.all, trim_clean b q.all, trim_clean c r.all) refl)
 
 pub three_says : (name a b raw c : List ℕ) (word : ℕ) (form : Form) (xs : List Operand) → IsPiece name → IsPiece a → IsPiece b → Ends raw c
     →
     form_named name ≡ Some form → may_stand (stands_in form) Text ≡ true → operands_of form (a ∷ b ∷ c ∷ []) ≡ Ok xs
-        → item_of form xs ≡ Code (word ∷ []) →
+    → item_of form xs ≡ Code (word ∷ []) →
     Says (three name a b raw) (three name a b c) word
 three_says name a b raw c word form xs n p q r e s o m = record {
   form = form;
@@ -261,7 +266,7 @@ pub imm_law : (pc : ℕ) (op : ImmediateOp) (rd rs1 : Register) (i : Immediate)
 imm_law pc op rd rs1 i =
     let small = imm_small i.value i.low i.high in
     one_statement _ _ _ (three_says (immediate_name op) (register_name rd.number) (register_name rs1.number) (signed_decimal i.value)
-        (signed_decimal i.value) (word_of (OpImm op rd rs1 i)) (Immediates op) (Index rd ∷ Index rs1 ∷ Integer i.value ∷ [])
+    (signed_decimal i.value) (word_of (OpImm op rd rs1 i)) (Immediates op) (Index rd ∷ Index rs1 ∷ Integer i.value ∷ [])
     (imm_piece op) (register_piece rd) (register_piece rs1)
-        (plain_end (signed_decimal i.value) (signed_piece i.value (omega (arith, small))))
+    (plain_end (signed_decimal i.value) (signed_piece i.value (omega (arith, small))))
     (imm_named op) refl (reads_imm op rd rs1 i) (ap (λ (x : Immediate). instruction (OpImm op rd rs1 x)) (immediate_kept i)))

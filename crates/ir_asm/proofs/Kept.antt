@@ -194,7 +194,7 @@ put_next s xs i x g h whole l there e told =
 pub put_refused : {X : Type 0} (view : X → Guest) (s : Seen) (xs : List Placed) (i : ℕ) (x : Placed) (g state : Guest) (refusal : Refusal)
     (error : AsmErr) (whole : Result Guest Fault) → i < length xs → x ≡ get_or xs i x → error ≡ refused x.line refusal →
     Makes {A = Unit {0}} state (Err refusal) (put s x.address x.item g) → second_pass s (drop i xs) g ≡ whole
-        → Answers view (Err error) whole
+    → Answers view (Err error) whole
 put_refused view s xs i x g state refusal error whole l there is e told =
     let cut : drop i xs ≡ x ∷ drop (i + 1) xs = prefix xs i x l ∙ ap (λ (y : Placed). y ∷ drop (i + 1) xs) (sym there) in
     let again : second_pass s (x ∷ drop (i + 1) xs) g ≡ whole = sym (ap (λ (l : List Placed). second_pass s l g) cut) ∙ told in

@@ -119,8 +119,11 @@ is_none None e = refl
 is_none (Some x) e = absurd (cc e)
 
 same_here : (s : Seen) (rows : List (List ℕ × Place)) → here (record s { labels = rows }) ≡ here s
-same_here s rows = λ i. record { section = s.section; address =
-    start_of s.section + same_size s.section s (record s { labels = rows }) refl refl i }
+same_here s rows = λ i. record {
+  section = s.section;
+  address =
+      start_of s.section + same_size s.section s (record s { labels = rows }) refl refl i;
+}
 
 -- what labels leave
 record Labelled (labels : List (List ℕ)) (s t : Seen) : Type 0 where
@@ -218,7 +221,7 @@ place_is lines t p =
     let w : Section = section_at_end Text lines in
     let size : size_in w t ≡ bytes_placed w Text lines = (let n = nothing_there w in let s = p.sizes w in omega (arith, n, s)) in
     (λ i. record { section = p.section i; address = start_of (p.section i) + size_in (p.section i) t })
-        ∙ (λ i. record { section = w; address = start_of w + size i })
+    ∙ (λ i. record { section = w; address = start_of w + size i })
 
 -- a label stands after what was placed before it
 pub label_value : (xs ys : List (List ℕ)) (line name : List ℕ) (s : Seen) → first_pass 1 (xs ++ line ∷ ys) nothing_seen ≡ Ok s

@@ -44,7 +44,7 @@ there_is n None e = absurd (cc e)
 pub register_again : (r : Register) → register (register_name r.number) ≡ Some r
 register_again r =
     let found = there_is r.number (named register_rows (register_name r.number))
-        (each_passes (λ n. is_there n (named register_rows (register_name n))) refl r) in
+    (each_passes (λ n. is_there n (named register_rows (register_name n))) refl r) in
     ap (option_map register_of) found ∙ ap (λ (x : Register). Some x) (register_kept r)
 
 pub register_piece : (r : Register) → IsPiece (register_name r.number)
@@ -82,7 +82,7 @@ pub decimal_again : (n : ℕ) → n < 10 ^ 10 → natural (decimal n) ≡ Some n
 decimal_again n h =
     let p = decimal_is_IsNumeral n (omega arith) in
     rw (not_hex (decimal n) p.0.1) (numeral_read 10 10 (decimal n) p.0 (length-decimal-le 10 n (omega arith) h (omega arith))
-        ∙ ap (λ (m : ℕ). Some m) p.1)
+    ∙ ap (λ (m : ℕ). Some m) p.1)
 
 nonempty : (ds : List ℕ) → 0 < length ds → is_nil ds ≡ false
 nonempty [] h = absurd (omega (arith, h))
@@ -121,20 +121,28 @@ rest_16 n = omega arith
 
 eight : (a b c d e f g h : ℕ) → a < 16 → b < 16 → c < 16 → d < 16 → e < 16 → f < 16 → g < 16 → h < 16 →
     numeral 16 8 (digit_char a ∷ digit_char b ∷ digit_char c ∷ digit_char d ∷ digit_char e ∷ digit_char f ∷ digit_char g ∷ digit_char h
-        ∷ [])
+    ∷ [])
     ≡ Some ((((((((0 * 16 + a) * 16 + b) * 16 + c) * 16 + d) * 16 + e) * 16 + f) * 16 + g) * 16 + h)
 eight a b c d e f g h k0 k1 k2 k3 k4 k5 k6 k7 =
-    rw (digit_again a k0, digit_again b k1, digit_again c k2, digit_again d k3, digit_again e k4, digit_again f k5, digit_again g k6,
-        digit_again h k7)
+    rw (
+      digit_again a k0,
+      digit_again b k1,
+      digit_again c k2,
+      digit_again d k3,
+      digit_again e k4,
+      digit_again f k5,
+      digit_again g k6,
+      digit_again h k7,
+    )
     (rw (lt-ltb a 16 k0, lt-ltb b 16 k1, lt-ltb c 16 k2, lt-ltb d 16 k3, lt-ltb e 16 k4, lt-ltb f 16 k5, lt-ltb g 16 k6, lt-ltb h 16 k7)
-        refl)
+    refl)
 
 pub hex_again : (n : ℕ) → n < 2 ^ 32 → natural (codes "0x" ++ hex 8 n) ≡ Some n
 hex_again n h =
     let e : ((((((((0 * 16 + n / 16 ^ 7 % 16) * 16 + n / 16 ^ 6 % 16) * 16 + n / 16 ^ 5 % 16) * 16 + n / 16 ^ 4 % 16) * 16 + n / 16 ^ 3 %
-        16) * 16 + n / 16 ^ 2 % 16) * 16 + n / 16 ^ 1 % 16) * 16 + n / 16 ^ 0 % 16) ≡ n = omega arith in
+    16) * 16 + n / 16 ^ 2 % 16) * 16 + n / 16 ^ 1 % 16) * 16 + n / 16 ^ 0 % 16) ≡ n = omega arith in
     eight (n / 16 ^ 7 % 16) (n / 16 ^ 6 % 16) (n / 16 ^ 5 % 16) (n / 16 ^ 4 % 16) (n / 16 ^ 3 % 16) (n / 16 ^ 2 % 16) (n / 16 ^ 1 % 16)
-        (n / 16 ^ 0 % 16)
+    (n / 16 ^ 0 % 16)
     (rest_16 _) (rest_16 _) (rest_16 _) (rest_16 _) (rest_16 _) (rest_16 _) (rest_16 _) (rest_16 _)
     ∙ ap (λ (m : ℕ). Some m) e
 
@@ -152,7 +160,7 @@ five a b c d e k0 k1 k2 k3 k4 =
 pub hex_again_five : (n : ℕ) → n < 2 ^ 20 → natural (codes "0x" ++ hex 5 n) ≡ Some n
 hex_again_five n h =
     let e : (((((0 * 16 + n / 16 ^ 4 % 16) * 16 + n / 16 ^ 3 % 16) * 16 + n / 16 ^ 2 % 16) * 16 + n / 16 ^ 1 % 16) * 16 + n / 16 ^ 0 %
-        16) ≡ n = omega arith in
+    16) ≡ n = omega arith in
     five (n / 16 ^ 4 % 16) (n / 16 ^ 3 % 16) (n / 16 ^ 2 % 16) (n / 16 ^ 1 % 16) (n / 16 ^ 0 % 16)
     (rest_16 _) (rest_16 _) (rest_16 _) (rest_16 _) (rest_16 _)
     ∙ ap (λ (m : ℕ). Some m) e

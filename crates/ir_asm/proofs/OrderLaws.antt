@@ -67,7 +67,7 @@ by_statement line (b ∷ bs) s t l o e =
     let i = bind_ok (item_in s.section (b ∷ bs)) _ t e in
     let g = bind_ok (grown s.section (size_of i.0) s) _ t i.2 in
     by_item line (here s).address (laid s.section i.0) g.0 t l (subst (IsBefore line) (grown_places s.section (size_of i.0) s g.0 g.1) o)
-        g.2
+    g.2
 
 labels_place : (labels : List (List ℕ)) (s t : Seen) → with_labels labels s ≡ Ok t → s.placed ≡ t.placed
 labels_place [] s t e = ap (λ (u : Seen). u.placed) (ok_is s t e)
@@ -85,8 +85,8 @@ by_lines number (x ∷ xs) s t l o e =
     let n = unless_ok (list_all is_name (line_of x).labels) BadLabel _ f.0 b.1 in
     let p = bind_ok (with_labels (line_of x).labels s) _ f.0 n.1 in
     by_lines (number + 1) xs f.0 t (omega (arith, l))
-        (by_statement number (line_of x).statement p.0 f.0 l (subst (IsBefore number) (labels_place (line_of x).labels s p.0 p.1) o) p.2)
-        f.2
+    (by_statement number (line_of x).statement p.0 f.0 l (subst (IsBefore number) (labels_place (line_of x).labels s p.0 p.1) o) p.2)
+    f.2
 
 pub in_order : (lines : List (List ℕ)) (s : Seen) → first_pass 1 lines nothing_seen ≡ Ok s → AreInOrder 1 s.placed
 in_order lines s e = by_lines 1 lines nothing_seen s (omega arith) (tt, tt) e

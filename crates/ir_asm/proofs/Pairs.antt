@@ -55,13 +55,17 @@ texts_two_of name a c n p r =
     ∙ ap texts_of (ap trim_end (start_kept a (44 ∷ 32 ∷ c) p.some p.all)
     ∙ trim_under a (44 ∷ 32 ∷ c) (44 ∷ 32 ∷ c)
     (trim_under (44 ∷ 32 ∷ []) c c (end_clean c r.all) r.some) refl)
-    ∙ rw (not_nil a (44 ∷ 32 ∷ c) refl, split_at 44 a (32 ∷ c) (clean_lacks 44 a refl p.all), split_one 44 (32 ∷ c)
-    (clean_lacks 44 c refl r.all))
+    ∙ rw (
+      not_nil a (44 ∷ 32 ∷ c) refl,
+      split_at 44 a (32 ∷ c) (clean_lacks 44 a refl p.all),
+      split_one 44 (32 ∷ c)
+          (clean_lacks 44 c refl r.all),
+    )
     (rw (trim_clean a p.all, trim_clean c r.all) refl)
 
 pub two_says : (name a raw c : List ℕ) (word : ℕ) (form : Form) (xs : List Operand) → IsPiece name → IsPiece a → Ends raw c →
     form_named name ≡ Some form → may_stand (stands_in form) Text ≡ true → operands_of form (a ∷ c ∷ []) ≡ Ok xs
-        → item_of form xs ≡ Code (word ∷ []) →
+    → item_of form xs ≡ Code (word ∷ []) →
     Says (two name a raw) (two name a c) word
 two_says name a raw c word form xs n p r e s o m = record {
   form = form;
@@ -101,6 +105,6 @@ pub jump_law : (pc : ℕ) (rd : Register) (i : JumpOffset) → IsWordGuest (asse
 jump_law pc rd i =
     let small = jump_small i.value i.low i.high in
     one_statement _ _ _ (two_says (codes "jal") (register_name rd.number) (far pc i.value) (distance i.value) (word_of (Jal rd i)) Jumps
-        (Index rd ∷ Integer i.value ∷ [])
+    (Index rd ∷ Integer i.value ∷ [])
     (record { some = refl; all = refl }) (register_piece rd) (far_end pc i.value (omega (arith, small)))
     refl refl (reads_jump_at rd i.value (reads_jump i)) (ap (λ (x : JumpOffset). instruction (Jal rd x)) (jump_offset_kept i)))

@@ -114,7 +114,11 @@ pub texts_two : (a b : List ℕ) → IsPiece a → IsPiece b → texts_of (trim 
 texts_two a b p q =
     rw (start_kept a (44 ∷ 32 ∷ b) p.some p.all)
     (rw (ap trim_end (sym (append_assoc a (44 ∷ 32 ∷ []) b)) ∙ end_kept (a ++ 44 ∷ 32 ∷ []) b q.some q.all
-        ∙ append_assoc a (44 ∷ 32 ∷ []) b)
-    (rw (not_nil a (44 ∷ 32 ∷ b) refl, split_at 44 a (32 ∷ b) (clean_lacks 44 a refl p.all), split_one 44 (32 ∷ b)
-        (clean_lacks 44 b refl q.all))
+    ∙ append_assoc a (44 ∷ 32 ∷ []) b)
+    (rw (
+      not_nil a (44 ∷ 32 ∷ b) refl,
+      split_at 44 a (32 ∷ b) (clean_lacks 44 a refl p.all),
+      split_one 44 (32 ∷ b)
+          (clean_lacks 44 b refl q.all),
+    )
     (rw (trim_clean a p.all, trim_clean b q.all) refl)))

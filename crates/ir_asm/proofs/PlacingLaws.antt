@@ -93,8 +93,16 @@ first_there s (x ∷ xs) g fault e = by_put (put s x.address x.item g) (sym (put
     by_put (Ok h) p f again = later s x xs fault p (again h f)
     by_put (Err c) p f again =
         let same : record { line = x.line; cause = c } ≡ fault = err_is {A = Guest} _ fault f in
-        record { before = []; statement = x; after = xs; stands = refl; earlier = tt; fails = p
-            ∙ ap (λ (d : Fault). Some d.cause) same; line = ap (λ (d : Fault). d.line) same }
+        record {
+          before = [];
+          statement = x;
+          after = xs;
+          stands = refl;
+          earlier = tt;
+          fails = p
+              ∙ ap (λ (d : Fault). Some d.cause) same;
+          line = ap (λ (d : Fault). d.line) same;
+        }
 
 -- ---- the whole
 
@@ -123,8 +131,8 @@ second_fault lines s fault e some =
     back : IsFirstFault s s.placed fault → guest_of s ≡ Err fault
     back f =
         let there : second_pass s s.placed (started s) ≡ Err (record { line = f.statement.line; cause = fault.cause }) =
-            ap (λ l. second_pass s l (started s)) f.stands
-            ∙ fails_there s f.before f.after f.statement fault.cause (started s) f.earlier f.fails in
+        ap (λ l. second_pass s l (started s)) f.stands
+        ∙ fails_there s f.before f.after f.statement fault.cause (started s) f.earlier f.fails in
         let told : second_pass s s.placed (started s) ≡ Err fault = there
-            ∙ ap (λ n. Err (record { line = n; cause = fault.cause })) f.line in
+        ∙ ap (λ n. Err (record { line = n; cause = fault.cause })) f.line in
         rw told refl

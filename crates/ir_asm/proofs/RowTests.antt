@@ -85,8 +85,13 @@ threads_row : assembled (codes "nop\na: nop\n.thread a\n.thread b\nb: nop") ≡ 
 threads_row = refl
 
 objects_row : assembled (codes ".object 1, 5, -1\n.objects 1\n.objects 2\nnop") ≡ Ok
-    (record { entries = 0x10000 ∷ []; code = 0x13 ∷ []; bytes = []; words = 0 ∷ 0 ∷ 0 ∷ 0 ∷ 0 ∷ 0 ∷ 0 ∷ 0 ∷ 5 ∷ 0xFFFFFFFF ∷ 0 ∷ 0 ∷ 0 ∷ 0
-    ∷ 0 ∷ 0 ∷ [] })
+    (record {
+      entries = 0x10000 ∷ [];
+      code = 0x13 ∷ [];
+      bytes = [];
+      words = 0 ∷ 0 ∷ 0 ∷ 0 ∷ 0 ∷ 0 ∷ 0 ∷ 0 ∷ 5 ∷ 0xFFFFFFFF ∷ 0 ∷ 0 ∷ 0 ∷ 0
+          ∷ 0 ∷ 0 ∷ [];
+    })
 objects_row = refl
 
 label_row : assembled (codes ".data\n.byte 1\nx: .byte 2\n.text\nli a0, x") ≡ Ok

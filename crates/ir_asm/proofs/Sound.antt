@@ -78,7 +78,7 @@ few_first : (texts : List (List ℕ)) (z : ℤ) (xs : List Operand) → operands
 few_first texts z xs e =
     let u = unless_ok (takes Object (length texts) && are_formed Object 0 texts) WrongOperands (read_all Object 0 texts) _ e in
     let most : length texts ≤ 9 = leb-true (length texts) 9
-        (and_right (nat_le 2 (length texts)) _ (and_left (takes Object (length texts)) _ u.0)) in
+    (and_right (nat_le 2 (length texts)) _ (and_left (takes Object (length texts)) _ u.0)) in
     let count : suc (length xs) ≡ length texts = read_length Object 0 texts (Integer z ∷ xs) u.1 in
     omega (arith, most, count, values_length 32 xs)
 
@@ -104,7 +104,7 @@ few_objects : (texts : List (List ℕ)) (z : ℤ) → operands_of Objects texts 
 few_objects [] z e = absurd (cc e)
 few_objects (t ∷ texts) z e =
     let u = unless_ok (takes Objects (length (t ∷ texts)) && are_formed Objects 0 (t ∷ texts)) WrongOperands
-        (read_all Objects 0 (t ∷ texts)) _ e in
+    (read_all Objects 0 (t ∷ texts)) _ e in
     let b = bind_ok (read (Number (pos 0) (pos 16)) t) _ _ u.1 in
     let d = bind_ok (read_all Objects 1 texts) _ _ b.2 in
     let n = bind_ok (number_in (pos 0) (pos 16) t) _ _ b.1 in
@@ -202,8 +202,19 @@ pub record IsSound (s : Seen) : Type 0 where
   pub few : HaveFewWords s.placed
 
 pub nothing_sound : IsSound nothing_seen
-nothing_sound = record { code = refl; bytes = refl; entries = refl; aligned = refl; short_code = omega arith; short_data =
-    omega arith; few_threads = omega arith; few_objects = omega arith; labels = tt; few = tt }
+nothing_sound = record {
+  code = refl;
+  bytes = refl;
+  entries = refl;
+  aligned = refl;
+  short_code = omega arith;
+  short_data =
+      omega arith;
+  few_threads = omega arith;
+  few_objects = omega arith;
+  labels = tt;
+  few = tt;
+}
 
 total_push : (size : Item → ℕ) (placed : List Placed) (x : Placed) → total size (placed ++ x ∷ []) ≡ total size placed + size x.item
 total_push size placed x = sum_by-append (λ y. size y.item) placed (x ∷ []) ∙ omega arith
@@ -265,7 +276,7 @@ text_item s t line a (Entry label) h m l e =
     let u = tested (nat_lt s.threads 8) BadCount _ t e in
     let below : s.threads < 8 = ltb-true s.threads 8 u.0 in
     subst IsSound u.1 (item_sound s line a (s.code + 0) s.filled (s.threads + 1) (Entry label) h tt refl refl (omega arith) refl l
-        h.short_data (omega (arith, below)))
+    h.short_data (omega (arith, below)))
 text_item s t line a (Count n) h m l e = subst IsSound (ok_is _ t e)
     (other_sound s s.section (s.code + 0) s.filled n h (omega arith) refl m)
 text_item s t line a (First object words) h m l e =
@@ -296,7 +307,7 @@ data_item s t line a (Entry label) h m l e =
     let u = tested (nat_lt s.threads 8) BadCount _ t e in
     let below : s.threads < 8 = ltb-true s.threads 8 u.0 in
     subst IsSound u.1 (item_sound s line a s.code (s.filled + 0) (s.threads + 1) (Entry label) h tt refl (omega arith)
-        refl refl h.short_code l (omega (arith, below)))
+    refl refl h.short_code l (omega (arith, below)))
 data_item s t line a (Count n) h m l e = subst IsSound (ok_is _ t e)
     (other_sound s s.section s.code (s.filled + 0) n h refl (omega arith) m)
 data_item s t line a (First object words) h m l e =
@@ -362,7 +373,7 @@ lines_sound number (x ∷ xs) s t h e =
     let n = unless_ok (list_all is_name (line_of x).labels) BadLabel _ f.0 b.1 in
     let p = bind_ok (with_labels (line_of x).labels s) _ f.0 n.1 in
     lines_sound (number + 1) xs f.0 t (statement_sound number (line_of x).statement p.0 f.0 (labels_sound (line_of x).labels s p.0 h p.1)
-        p.2) f.2
+    p.2) f.2
 
 -- what the first pass saw
 pub seen_sound : (lines : List (List ℕ)) (s t : Seen) → s ≡ nothing_seen → first_pass 1 lines s ≡ Ok t → IsSound t
@@ -427,7 +438,7 @@ guest_limits s g h some e =
     let there = length-replicate {A = ℕ} (object_words * s.objects) 0 in
     let b = bind_ok (second_pass s s.placed (started s)) _ g e in
     subst HasLimits (ok_is _ g b.2) (entry_limits s b.0 h (some_code s.code some)
-        (all_put s s.placed (started s) b.0 h.labels h.few there b.1))
+    (all_put s s.placed (started s) b.0 h.labels h.few there b.1))
   where
     some_code : (n : ℕ) → not (n == 0) ≡ true → 1 ≤ n
     some_code zero f = absurd (cc f)

@@ -42,7 +42,7 @@ pub lui_law : (pc : ℕ) (rd : Register) (i : UpperImmediate) → IsWordGuest (a
 lui_law pc rd i =
     let u : ℕ = i.value / 2 ^ 12 in
     one_statement _ _ _ (two_says (codes "lui") (register_name rd.number) (codes "0x" ++ hex 5 u) (codes "0x" ++ hex 5 u)
-        (word_of (Lui rd i)) LoadsUpper (Index rd ∷ Integer (pos u) ∷ [])
+    (word_of (Lui rd i)) LoadsUpper (Index rd ∷ Integer (pos u) ∷ [])
     (record { some = refl; all = refl }) (register_piece rd) (plain_end (codes "0x" ++ hex 5 u) (five_piece u))
     refl refl (reads_lui rd u (upper_fits i)) (ap (λ (x : UpperImmediate). instruction (Lui rd x)) (upper_kept i)))
 
@@ -50,7 +50,7 @@ pub auipc_law : (pc : ℕ) (rd : Register) (i : UpperImmediate) → IsWordGuest 
 auipc_law pc rd i =
     let u : ℕ = i.value / 2 ^ 12 in
     one_statement _ _ _ (two_says (codes "auipc") (register_name rd.number) (codes "0x" ++ hex 5 u) (codes "0x" ++ hex 5 u)
-        (word_of (Auipc rd i)) AddsUpper (Index rd ∷ Integer (pos u) ∷ [])
+    (word_of (Auipc rd i)) AddsUpper (Index rd ∷ Integer (pos u) ∷ [])
     (record { some = refl; all = refl }) (register_piece rd) (plain_end (codes "0x" ++ hex 5 u) (five_piece u))
     refl refl (reads_auipc rd u (upper_fits i)) (ap (λ (x : UpperImmediate). instruction (Auipc rd x)) (upper_kept i)))
 
@@ -67,7 +67,7 @@ fence_law pc rd rs1 i =
     let n : ℕ = low_bits 12 i.value in
     let fits : n < 2 ^ 12 = fits_12 i.value in
     one_statement _ _ _ (three_says (codes "fence") (register_name rd.number) (register_name rs1.number) (decimal n) (decimal n)
-        (word_of (Fence rd rs1 i)) Fences (Index rd ∷ Index rs1 ∷ Integer (pos n) ∷ [])
+    (word_of (Fence rd rs1 i)) Fences (Index rd ∷ Index rs1 ∷ Integer (pos n) ∷ [])
     (record { some = refl; all = refl }) (register_piece rd) (register_piece rs1)
-        (plain_end (decimal n) (decimal_piece n (omega (arith, fits))))
+    (plain_end (decimal n) (decimal_piece n (omega (arith, fits))))
     refl refl (reads_fence rd rs1 n fits) (ap (λ (x : Immediate). instruction (Fence rd rs1 x)) (low_bits_kept i)))

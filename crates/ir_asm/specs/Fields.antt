@@ -51,8 +51,12 @@ register_of n = record { number = n % 2 ^ 5; in_range = below_32 n }
 
 -- the immediate of the lowest twelve bits
 abbrev pub immediate_of : ℤ → Immediate
-immediate_of z = record { value = sign_extended 12 (low_bits 12 z); low = low_12 (low_bits 12 z) (fits_12 z); high =
-    high_12 (low_bits 12 z) (fits_12 z) }
+immediate_of z = record {
+  value = sign_extended 12 (low_bits 12 z);
+  low = low_12 (low_bits 12 z) (fits_12 z);
+  high =
+      high_12 (low_bits 12 z) (fits_12 z);
+}
 
 -- the distance of a branch
 abbrev pub branch_offset_of : ℤ → BranchOffset

@@ -30,13 +30,13 @@ abi_rows = counted 0 register_names ++ (codes "fp", 8) ∷ []
 abbrev pub x_rows : List (List ℕ × ℕ)
 x_rows =
     (codes "x0", 0) ∷ (codes "x1", 1) ∷ (codes "x2", 2) ∷ (codes "x3", 3) ∷ (codes "x4", 4) ∷ (codes "x5", 5) ∷ (codes "x6", 6)
-        ∷ (codes "x7", 7) ∷
+    ∷ (codes "x7", 7) ∷
     (codes "x8", 8) ∷ (codes "x9", 9) ∷ (codes "x10", 10) ∷ (codes "x11", 11) ∷ (codes "x12", 12) ∷ (codes "x13", 13) ∷ (codes "x14", 14)
-        ∷ (codes "x15", 15) ∷
+    ∷ (codes "x15", 15) ∷
     (codes "x16", 16) ∷ (codes "x17", 17) ∷ (codes "x18", 18) ∷ (codes "x19", 19) ∷ (codes "x20", 20) ∷ (codes "x21", 21)
-        ∷ (codes "x22", 22) ∷ (codes "x23", 23) ∷
+    ∷ (codes "x22", 22) ∷ (codes "x23", 23) ∷
     (codes "x24", 24) ∷ (codes "x25", 25) ∷ (codes "x26", 26) ∷ (codes "x27", 27) ∷ (codes "x28", 28) ∷ (codes "x29", 29)
-        ∷ (codes "x30", 30) ∷ (codes "x31", 31) ∷ []
+    ∷ (codes "x30", 30) ∷ (codes "x31", 31) ∷ []
 
 -- each name and its register
 abbrev pub register_rows : List (List ℕ × ℕ)

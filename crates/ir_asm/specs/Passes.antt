@@ -47,8 +47,10 @@ eight_words words = words ++ replicate (object_words - length words) 0
 
 -- the guest with the first words of an object
 abbrev pub with_object : Guest → ℕ → List ℕ → Guest
-with_object g object words = record g { words =
-    take (object_words * object) g.words ++ (eight_words words ++ drop (object_words * object + object_words) g.words) }
+with_object g object words = record g {
+  words =
+      take (object_words * object) g.words ++ (eight_words words ++ drop (object_words * object + object_words) g.words);
+}
 
 -- after an item
 abbrev pub put : Seen → ℕ → Item → Guest → Result Guest Cause

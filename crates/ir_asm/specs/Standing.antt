@@ -35,5 +35,8 @@ bytes_placed wanted section (line ∷ lines) = (if same_section wanted section t
 
 -- the place after lines of text: the start of the section that they end in, and what they place in it
 abbrev pub place_after : Section → List (List ℕ) → Place
-place_after section lines = record { section = section_at_end section lines; address =
-    start_of (section_at_end section lines) + bytes_placed (section_at_end section lines) section lines }
+place_after section lines = record {
+  section = section_at_end section lines;
+  address =
+      start_of (section_at_end section lines) + bytes_placed (section_at_end section lines) section lines;
+}

@@ -28,7 +28,7 @@ pub origins_more : {W : Type 0} (made : W → MadeWith) (old new : List W) (w : 
     → map made new ≡ origins counted random file (n + 1)
 origins_more made old new w counted random file n before here e =
     ap (map made) e ∙ map_more made old w ∙ ap (λ (z : List MadeWith). z ++ made w ∷ []) before
-        ∙ ap (λ (z : MadeWith). origins counted random file n ++ z ∷ []) here
+    ∙ ap (λ (z : MadeWith). origins counted random file n ++ z ∷ []) here
     ∙ sym (map-range_with_len_more (origin_of counted random file) 0 n n (omega arith))
 
 -- what the new world is made with
@@ -40,7 +40,7 @@ pub fresh_more : {W : Type 0} (answers : W → List Answered) (old new : List W)
     → answers w ≡ [] → new ≡ old ++ w ∷ [] → map answers new ≡ replicate (n + 1) []
 fresh_more answers old new w n before s e =
     ap (map answers) e ∙ map_more answers old w ∙ ap (λ (z : List (List Answered)). z ++ answers w ∷ []) before
-        ∙ ap (λ (z : List Answered). replicate n [] ++ z ∷ []) s ∙ replicate_more n []
+    ∙ ap (λ (z : List Answered). replicate n [] ++ z ∷ []) s ∙ replicate_more n []
     ∙ ap (λ (k : ℕ). replicate k []) (sym (add-one n))
 
 -- there is a world for each thread
@@ -63,7 +63,7 @@ told_from made answers gave counted random file (o ∷ os) a (suc n) e (suc t) l
     let rest : map made os ≡ map (origin_of counted random file) (range_with_len (a + 1) n) = cc in
     let place : a + 1 + t ≡ a + suc t = omega arith in
     subst (λ (k : ℕ). IsTold (origin_of counted random file k) (get_or (map answers os) t [])) place
-        (told_from made answers gave counted random file os (a + 1) n rest t (omega (arith, l)))
+    (told_from made answers gave counted random file os (a + 1) n rest t (omega (arith, l)))
 
 -- each of the worlds was answered by its own sources
 pub told_by : {O : Type 0} (made : O → MadeWith) (answers : O → List Answered) → ((o : O) → IsTold (made o) (answers o))
@@ -72,7 +72,7 @@ pub told_by : {O : Type 0} (made : O → MadeWith) (answers : O → List Answere
 told_by made answers gave counted random file os n e t l =
     let place : 0 + t ≡ t = omega arith in
     subst (λ (k : ℕ). IsTold (origin_of counted random file k) (get_or (map answers os) t [])) place
-        (told_from made answers gave counted random file os 0 n e t l)
+    (told_from made answers gave counted random file os 0 n e t l)
 
 -- what was recorded in an order, with fresh worlds
 pub recorded_from : (image list : List ℕ) (budget random : ℕ) (file : List ℕ) (guest : Guest) (entries order given : List ℕ)

@@ -48,9 +48,9 @@ pub still_left : (s t : Source) (time : Time) (start : _) (answers new : List An
 still_left s t time start answers new kind value timed clock gave e =
     let by_clock : is_counted time ≡ false = ap is_counted timed in
     let same : untimed new ≡ untimed answers = ap untimed (e ∙ ap (λ (k : EnvKind). answers ++ (k, value) ∷ []) clock)
-        ∙ untimed_kept answers value in
+    ∙ untimed_kept answers value in
     subst (λ (c : Bool). Gave s (from_sources c new) t) (sym by_clock)
-        (subst (λ (z : List Answered). Gave s z t) (sym same) (subst (λ (c : Bool). Gave s (from_sources c answers) t) by_clock gave))
+    (subst (λ (z : List Answered). Gave s z t) (sym same) (subst (λ (c : Bool). Gave s (from_sources c answers) t) by_clock gave))
 
 -- the sources after one answer of theirs more
 pub still_gave : (s t u : Source) (counted : Bool) (answers new : List Answered) (kind : EnvKind) (value : ℕ)

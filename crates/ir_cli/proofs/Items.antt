@@ -37,7 +37,7 @@ with_count threads item thread count e = ap (item_by threads) e ∙ elim (cases_
   | inr other ↦
       let none = refused_byte 1 most_turns count other in
       by_parts threads thread count (slice_split (λ b. b == 120) count) none (join_with_byte-slice_split 120 count)
-          (omega (arith, length-slice_split (λ b. b == 120) count))
+      (omega (arith, length-slice_split (λ b. b == 120) count))
       ∙ sym (ap (turns (number_within 0 (threads - 1) thread)) none ∙ no_count (number_within 0 (threads - 1) thread))
 ]
 

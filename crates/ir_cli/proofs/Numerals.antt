@@ -32,15 +32,15 @@ pub taken : (low high n : ℕ) (bs : List ℕ) → all_ascii_digits bs ≡ true 
     → Some n ≡ number_within low high bs
 taken low high n bs all some is l h =
     ap (λ (m : ℕ). Some m) is ∙ some_by (nat_le 1 (length bs)) (all_ascii_digits bs) (nat_le low (digits_value 10 bs))
-        (nat_le (digits_value 10 bs) high) (digits_value 10 bs)
+    (nat_le (digits_value 10 bs) high) (digits_value 10 bs)
     (le-leb 1 (length bs) (omega arith)) all (le-leb low (digits_value 10 bs) (omega arith))
-        (le-leb (digits_value 10 bs) high (omega arith))
+    (le-leb (digits_value 10 bs) high (omega arith))
 
 pub too_large : (low high : ℕ) (bs : List ℕ) → high < 2 ^ 64
     → ¬ ((all_ascii_digits bs ≡ true) × (0 < length bs) × (digits_value 10 bs < 2 ^ 64)) → None ≡ number_within low high bs
 too_large low high bs fits not =
     none_by (nat_le 1 (length bs)) (all_ascii_digits bs) (nat_le low (digits_value 10 bs)) (nat_le (digits_value 10 bs) high)
-        (digits_value 10 bs)
+    (digits_value 10 bs)
     (λ some all. lt-leb (digits_value 10 bs) high (elim (cases_lt (digits_value 10 bs) (2 ^ 64)) [
       | inl small ↦ absurd (not (all, leb-true 1 (length bs) some, small))
       | inr large ↦ omega (arith, fits, large)

@@ -12,7 +12,7 @@ line_more t zero (y ∷ xs) x l e =
 line_more t (suc n) (y ∷ xs) x l e =
     let same : t + 1 + n ≡ t + suc n = omega arith in
     ap (λ (z : List ℕ). thread_line t y ++ z) (line_more (t + 1) n xs x (omega (arith, l)) e
-        ∙ ap (λ (k : ℕ). lines_from (t + 1) (take n xs) ++ thread_line k x) same)
+    ∙ ap (λ (k : ℕ). lines_from (t + 1) (take n xs) ++ thread_line k x) same)
     ∙ sym (append_assoc (thread_line t y) (lines_from (t + 1) (take n xs)) (thread_line (t + suc n) x))
 
 -- the lines so far, and one more
@@ -24,5 +24,5 @@ lines_more n xs ys x old new line same l e before is h =
     let long : length ys ≡ length xs = ap (λ (z : List RecordedThread). length z) same in
     let place : n ≡ 0 + n = omega arith in
     h ∙ ap (λ (z : List ℕ). z ++ line) before ∙ ap (λ (z : List ℕ). lines_from 0 (take n xs) ++ z)
-        (is ∙ ap (λ (k : ℕ). thread_line k x) place) ∙ sym (line_more 0 n xs x (omega (arith, l, long)) here)
+    (is ∙ ap (λ (k : ℕ). thread_line k x) place) ∙ sym (line_more 0 n xs x (omega (arith, l, long)) here)
     ∙ ap (λ (k : ℕ). lines_from 0 (take k xs)) (sym (add-one n))

@@ -70,7 +70,7 @@ longer None b line n plain p long = tt
 longer (Some xs) None line n plain p long = absurd p
 longer (Some xs) (Some ys) line n plain p long =
     let e : length (line_of xs) ≡ length (line ++ line_of ys) = ap (λ (x : List ℕ). length (line_of x)) p
-        ∙ ap (λ (x : List ℕ). length x) (line-plain line ys plain) in
+    ∙ ap (λ (x : List ℕ). length x) (line-plain line ys plain) in
     omega (arith, length-append line (line_of ys))
 
 kept : (line : List ℕ) → length line ≤ length (without_return line) + 1
@@ -142,7 +142,7 @@ refused_trace None b bytes taken none = tt
 refused_trace (Some xs) None bytes taken none = absurd taken.taken
 refused_trace (Some xs) (Some ys) bytes taken none =
     no_trace (bytes_of_line (line_of xs)) (bytes_of_line (line_of (after_line xs))) (after_line (after_line xs))
-        (ap (λ (l : List ℕ). bytes_of_line (line_of l)) (sym taken.taken.1) ∙ none)
+    (ap (λ (l : List ℕ). bytes_of_line (line_of l)) (sym taken.taken.1) ∙ none)
 
 both_lines : (xs ys zs image trace : List ℕ) → TakesBytes (Some xs) (Some ys) image → TakesBytes (Some ys) (Some zs) trace
     → bundle_of xs ≡ Some (record { image = image; trace = trace; commands = zs })
@@ -150,7 +150,7 @@ unfolding bundle_of
 both_lines xs ys zs image trace p q =
     let first : bytes_of_line (line_of xs) ≡ Some image = ap bytes_of_line (sym p.taken.0) ∙ p.wrote in
     let second : bytes_of_line (line_of (after_line xs)) ≡ Some trace = ap (λ (l : List ℕ). bytes_of_line (line_of l)) (sym p.taken.1)
-        ∙ ap bytes_of_line (sym q.taken.0) ∙ q.wrote in
+    ∙ ap bytes_of_line (sym q.taken.0) ∙ q.wrote in
     let rest : after_line (after_line xs) ≡ zs = ap after_line (sym p.taken.1) ∙ sym q.taken.1 in
     rw (first, second, rest) refl
 

@@ -39,7 +39,7 @@ AnsweredWhole old new image trace commands = (some_quits is_quit (cut commands).
 abbrev pub AnsweredInPart : Option (List ℕ) → Option (List ℕ) → Option (List ℕ) → List ℕ → List ℕ → List ℕ → Type 0
 AnsweredInPart left old new image trace commands =
     (through is_quit (lines_of commands) ≡ lines_of commands) × ((cut commands).rest ≢ [] → IsAtEnd left)
-        × AppendsPrefix old new (told (opening_of image trace) (lines_of commands))
+    × AppendsPrefix old new (told (opening_of image trace) (lines_of commands))
 
 -- neither the reader nor the writer has failed, and the bytes that were read led to this result and to what was written
 pub record Comes (result : Result Ended SessionErr) (reader : Reader) (writer : Writer) : Type 0 where
@@ -54,7 +54,7 @@ Leaves BadLine reader writer same = IfSome reader.before (λ input. bundle_of in
 Leaves NoMem reader writer same = (reader.failed ≡ false) × same
 Leaves Read reader writer same =
     (reader.failed ≡ true) × (writer.failed ≡ false)
-        × ((IsInLines reader.before reader.after × same) ⊎ Serves reader.before reader.after (AnsweredWhole writer.before writer.after))
+    × ((IsInLines reader.before reader.after × same) ⊎ Serves reader.before reader.after (AnsweredWhole writer.before writer.after))
 Leaves Write reader writer same = (reader.failed ≡ false) × (writer.failed ≡ true)
     × Serves reader.before reader.after (AnsweredInPart reader.after writer.before writer.after)
 Leaves TooLong reader writer same = Comes (Err session.TooLong) reader writer

@@ -7,5 +7,5 @@ use Rattle.std.specs.Str.Parse.{digits_value}
 abbrev pub number_within : ℕ → ℕ → List ℕ → Option ℕ
 number_within low high digits =
     if (nat_le 1 (length digits) && all_ascii_digits digits) &&
-        (nat_le low (digits_value 10 digits) && nat_le (digits_value 10 digits) high)
+    (nat_le low (digits_value 10 digits) && nat_le (digits_value 10 digits) high)
     then Some (digits_value 10 digits) else None

@@ -49,8 +49,8 @@ pub record IsRecordedOf (image : List ℕ) (list : Option (List ℕ)) (budget ra
 abbrev pub line_by : ℕ → ℕ → ℕ → ℕ → ℕ → List ℕ
 line_by t end code steps events =
     codes "thread " ++ (decimal t ++ (codes " end " ++
-        (decimal end ++ (codes " code " ++ (decimal code ++
-        (codes " steps " ++ (decimal steps ++ (codes " events " ++ (decimal events ++ 10 ∷ [])))))))))
+    (decimal end ++ (codes " code " ++ (decimal code ++
+    (codes " steps " ++ (decimal steps ++ (codes " events " ++ (decimal events ++ 10 ∷ [])))))))))
 
 -- the line of thread t
 abbrev pub thread_line : ℕ → RecordedThread → List ℕ

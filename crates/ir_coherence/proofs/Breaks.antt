@@ -46,12 +46,22 @@ is_of r t l = ap (λ (x : RecordedThread). map label_of x.events) (past r.thread
 pub thread_room : (r : Recorded) → IsRecorded r → (i : ℕ) (c : EntryCounts) → i < length r.threads → CountsFirst r i c
     → HasRoom c (length (recorded_thread r i).events)
 thread_room r fits i c l first = record {
-  reads = λ o v. omega (arith, first.reads o v, sum_bound i (λ u. reads o v ((trace_of r).logs u))
-      (λ u less. omega (arith, reads_le o v ((trace_of r).logs u), of_thread u (omega arith))), (thread_fits r fits i l).few_events,
-      fits.few_threads);
-  writes = λ o v. omega (arith, first.writes o v, sum_bound i (λ u. writes o v ((trace_of r).logs u))
-      (λ u less. omega (arith, writes_le o v ((trace_of r).logs u), of_thread u (omega arith))), (thread_fits r fits i l).few_events,
-      fits.few_threads);
+  reads = λ o v. omega (
+    arith,
+    first.reads o v,
+    sum_bound i (λ u. reads o v ((trace_of r).logs u))
+        (λ u less. omega (arith, reads_le o v ((trace_of r).logs u), of_thread u (omega arith))),
+    (thread_fits r fits i l).few_events,
+    fits.few_threads,
+  );
+  writes = λ o v. omega (
+    arith,
+    first.writes o v,
+    sum_bound i (λ u. writes o v ((trace_of r).logs u))
+        (λ u less. omega (arith, writes_le o v ((trace_of r).logs u), of_thread u (omega arith))),
+    (thread_fits r fits i l).few_events,
+    fits.few_threads,
+  );
 }
   where
     of_thread : (u : ℕ) → u < length r.threads → length ((trace_of r).logs u) ≤ 1048576

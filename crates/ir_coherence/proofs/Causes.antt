@@ -22,8 +22,13 @@ unmade_yes n told of t i o (suc v) l a at h = record {
   version = v;
   left = l;
   entry = at;
-  unmade = λ u j k w. omega (arith, entry_counted n told of o v u j k w, ap (writes_in n told o) before, eqb-true
-      (writes_in n told o (suc v - 1)) 0 (and_parts (nat_lt 0 (suc v)) (writes_in n told o (suc v - 1) == 0) h).1);
+  unmade = λ u j k w. omega (
+    arith,
+    entry_counted n told of o v u j k w,
+    ap (writes_in n told o) before,
+    eqb-true
+        (writes_in n told o (suc v - 1)) 0 (and_parts (nat_lt 0 (suc v)) (writes_in n told o (suc v - 1) == 0) h).1,
+  );
 }
   where
     before : suc v - 1 ≡ v
@@ -41,7 +46,7 @@ unmade_no n told t i o v l a at h un =
           let before : v - 1 ≡ un.version = omega arith in
           let at_version = subst (λ z. At (told.logs made.0) made.1 (In o Writing z made.2)) before made.3 in
           un.unmade made.0 made.1 made.2 (subst (λ z. At (told.logs made.0) made.1 (In z Writing un.version made.2)) (sym object)
-              at_version)
+          at_version)
     ]
   where
     positive : (k : ℕ) → (k == 0) ≡ false → 0 < k
@@ -70,8 +75,14 @@ twice_no n told of t i o v l at h two =
     let object : two.object ≡ o = cc in
     let version : two.version ≡ v = cc in
     let many = two_entries n told of two.object two.version t i two.left two.thread two.event two.readers two.entry two.another two.apart in
-    omega (arith, many, ap (λ z. writes_in n told z two.version) object, ap (λ z. writes_in n told o z) version, ltb-false 1
-        (writes_in n told o v) h)
+    omega (
+      arith,
+      many,
+      ap (λ z. writes_in n told z two.version) object,
+      ap (λ z. writes_in n told o z) version,
+      ltb-false 1
+          (writes_in n told o v) h,
+    )
 
 miscounted_yes : (n : ℕ) (told : Trace) → (t i o v l : ℕ) → At (told.logs t) i (In o Writing v l) → (l == reads_in n told o v) ≡ false
     → IsMiscounted n told t i
@@ -85,7 +96,7 @@ miscounted_no n told t i o v l at h mis =
     let version : mis.version ≡ v = cc in
     let left : mis.left ≡ l = cc in
     mis.other (left ∙ eqb-true l (reads_in n told o v) h ∙ ap (λ z. reads_in n told z v) (sym object)
-        ∙ ap (λ z. reads_in n told mis.object z) (sym version))
+    ∙ ap (λ z. reads_in n told mis.object z) (sym version))
 
 -- the first of three
 abbrev pub FirstOf : Type 0 → Type 0 → Type 0 → Cause → Type 0
@@ -155,10 +166,10 @@ named n told of t i Quiet c at e = absurd (let bad : None ≡ Some c = e in cc)
 named n told of t i (Answer k x) c at e = absurd (let bad : None ≡ Some c = e in cc)
 named n told of t i (In o Reading v l) c at e =
     first_of n told t i c (read_named (IsUnmade told t i) (IsTwice told t i) (IsMiscounted n told t i) (nobody_made (writes_in n told) o v)
-        (unmade_yes n told of t i o v l Reading at) c e)
+    (unmade_yes n told of t i o v l Reading at) c e)
 named n told of t i (In o Writing v l) c at e =
     first_of n told t i c (write_named (IsUnmade told t i) (IsTwice told t i) (IsMiscounted n told t i) (nobody_made (writes_in n told) o v)
-        (nat_lt 1 (writes_in n told o v)) (l == reads_in n told o v)
+    (nat_lt 1 (writes_in n told o v)) (l == reads_in n told o v)
     (unmade_yes n told of t i o v l Writing at) (unmade_no n told t i o v l Writing at)
     (twice_yes n told of t i o v l at) (twice_no n told of t i o v l at)
     (miscounted_yes n told t i o v l at) c e)
@@ -172,15 +183,15 @@ unnamed n told of t i Quiet at e c f = no_entry n told t i Quiet at (λ o v l a 
 unnamed n told of t i (Answer k x) at e c f = no_entry n told t i (Answer k x) at (λ o v l a q. cc) c f
 unnamed n told of t i (In o Reading v l) at e c f =
     read_unnamed (IsUnmade told t i) (IsTwice told t i) (IsMiscounted n told t i) (nobody_made (writes_in n told) o v)
-        (unmade_no n told t i o v l Reading at)
+    (unmade_no n told t i o v l Reading at)
     (λ two. let bad : In two.object Writing two.version two.left ≡ In o Reading v l = at_same (told.logs t) i _ _ two.entry at in cc)
     (λ mis. let bad : In mis.object Writing mis.version mis.left ≡ In o Reading v l = at_same (told.logs t) i _ _ mis.entry at in cc)
     c e (of_first n told t i c f)
 unnamed n told of t i (In o Writing v l) at e c f =
     write_unnamed (IsUnmade told t i) (IsTwice told t i) (IsMiscounted n told t i) (nobody_made (writes_in n told) o v)
-        (nat_lt 1 (writes_in n told o v)) (l == reads_in n told o v)
+    (nat_lt 1 (writes_in n told o v)) (l == reads_in n told o v)
     (unmade_no n told t i o v l Writing at) (twice_no n told of t i o v l at) (miscounted_no n told t i o v l at) c e
-        (of_first n told t i c f)
+    (of_first n told t i c f)
 unnamed n told of t i (Refused p) at e c f = no_entry n told t i (Refused p) at (λ o v l a q. cc) c f
 unnamed n told of t i (Out p x w) at e c f = no_entry n told t i (Out p x w) at (λ o v l a q. cc) c f
 
@@ -243,9 +254,11 @@ silent_coherent n told of none = record {
     readers_by : (t i o v l : ℕ) → At (told.logs t) i (In o Writing v l) → (l ≡ reads_in n told o v) ⊎ (l ≡ reads_in n told o v → ⊥)
         → l ≡ reads_in n told o v
     readers_by t i o v l at (inl e) = e
-    readers_by t i o v l at (inr ne) = absurd (broken t i (In o Writing v l) at Readers
-        (unmade_not t i (In o Writing v l) at, twice_not t i (In o Writing v l) at,
-        record { object = o; version = v; left = l; entry = at; other = ne }))
+    readers_by t i o v l at (inr ne) = absurd (broken t i (In o Writing v l) at Readers (
+      unmade_not t i (In o Writing v l) at,
+      twice_not t i (In o Writing v l) at,
+      record { object = o; version = v; left = l; entry = at; other = ne },
+    ))
 
 pub unbroken_coherent : UnbrokenCoherent
 unbroken_coherent n told of none = silent_coherent n told of

@@ -4,12 +4,18 @@ use Rattle.std.proofs.lemmas.List.Sums.{sum_by-append}
 use Rattle.ir_coherence.specs.Counting.{occurrences, IsBelow, IsFrom}
 
 fewer : (x : ℕ) (xs : List ℕ) (k n : ℕ) → IsBelow (x ∷ xs) k (suc n) → IsBelow xs k n
-fewer x xs k n h = record { within = let l : suc n ≤ suc (length xs) = h.within in omega (arith, l); each =
-    λ i l. h.each (suc i) (omega arith) }
+fewer x xs k n h = record {
+  within = let l : suc n ≤ suc (length xs) = h.within in omega (arith, l);
+  each =
+      λ i l. h.each (suc i) (omega arith);
+}
 
 later : (x : ℕ) (xs : List ℕ) (k n : ℕ) → IsFrom (x ∷ xs) k (suc n) → IsFrom xs k n
-later x xs k n h = record { within = let l : suc n ≤ suc (length xs) = h.within in omega (arith, l); each =
-    λ i a b. h.each (suc i) (omega arith) (omega arith) }
+later x xs k n h = record {
+  within = let l : suc n ≤ suc (length xs) = h.within in omega (arith, l);
+  each =
+      λ i a b. h.each (suc i) (omega arith) (omega arith);
+}
 
 all_later : (x : ℕ) (xs : List ℕ) (k : ℕ) → IsFrom (x ∷ xs) k 0 → IsFrom xs k 0
 all_later x xs k h = record { within = omega arith; each = λ i a b. h.each (suc i) (omega arith) (omega arith) }
@@ -30,13 +36,18 @@ occurs v [] first end b f c g = let l : end ≤ 0 = c.within in omega (arith, l)
 occurs v (x ∷ xs) zero zero b f c g =
     let above : v + 1 ≤ x = g.each 0 (omega arith) (omega arith) in
     occurs v xs 0 0 (none_below xs v) (all_later x xs v f) (none_below xs (v + 1)) (all_later x xs (v + 1) g)
-        ∙ sym (other v x xs (λ e. omega (arith, e, above)))
+    ∙ sym (other v x xs (λ e. omega (arith, e, above)))
 occurs v (x ∷ xs) zero (suc end) b f c g =
     let from : v ≤ x = f.each 0 (omega arith) (omega arith) in
     let below : x < v + 1 = c.each 0 (omega arith) in
     let here : cond (eqb x v) 1 0 ≡ 1 = ap {B = ℕ} (λ b. cond b 1 0) (eq-eqb x v (omega arith)) in
-    omega (arith, here, onto v x xs, occurs v xs 0 end (none_below xs v) (all_later x xs v f) (fewer x xs (v + 1) end c)
-        (later x xs (v + 1) end g))
+    omega (
+      arith,
+      here,
+      onto v x xs,
+      occurs v xs 0 end (none_below xs v) (all_later x xs v f) (fewer x xs (v + 1) end c)
+          (later x xs (v + 1) end g),
+    )
 occurs v (x ∷ xs) (suc first) zero b f c g =
     let above : v + 1 ≤ x = g.each 0 (omega arith) (omega arith) in
     let below : x < v = b.each 0 (omega arith) in

@@ -65,7 +65,7 @@ pub one_counted : (a b d : EntryCounts) (es : List Event) (i : ℕ) (e : Event) 
     → CountsMore b d (label_of (get_or es i e) ∷ []) → CountsMore a d (map label_of (take (i + 1) es))
 one_counted a b d es i e l m k =
     subst (CountsMore a d) (sym (ap (map label_of) (take_more es i e l) ∙ map-append label_of (take i es) (get_or es i e ∷ [])))
-        (both_counted a b d (map label_of (take i es)) (label_of (get_or es i e) ∷ []) m k)
+    (both_counted a b d (map label_of (take i es)) (label_of (get_or es i e) ∷ []) m k)
 
 -- a sum of n numbers, each of at most as many events as a log has
 pub sum_bound : (n : ℕ) (f : ℕ → ℕ) → ((t : ℕ) → t < n → f t ≤ 1048576) → sum_below n f ≤ n * 1048576

@@ -71,8 +71,11 @@ pub more_reads : (xs : List ObjectCounts) (i w : ℕ) (x : ObjectCounts) (new : 
     → OneMore x.reads new w
     → (o v : ℕ) → at (λ z. count z.reads v) (slice_set xs i record { reads = new; writes = x.writes }) o ≡ at (λ z. count z.reads v) xs o +
     (cond (eqb i o) (cond (eqb w v) 1 0) 0 + 0)
-more_reads xs i w x new l e more o v = omega (arith, at_more (λ z. count z.reads v) xs i o x record { reads = new; writes = x.writes }
-    (cond (eqb w v) 1 0) l e (more v))
+more_reads xs i w x new l e more o v = omega (
+  arith,
+  at_more (λ z. count z.reads v) xs i o x record { reads = new; writes = x.writes }
+      (cond (eqb w v) 1 0) l e (more v),
+)
 
 pub same_writes : (xs : List ObjectCounts) (i : ℕ) (x : ObjectCounts) (new : VersionCounts) → i < length xs → get_or xs i x ≡ x
     → (o v : ℕ) → at (λ z. count z.writes v) (slice_set xs i record { reads = new; writes = x.writes }) o ≡ at (λ z. count z.writes v) xs o
@@ -84,8 +87,11 @@ pub more_writes : (xs : List ObjectCounts) (i w : ℕ) (x : ObjectCounts) (new :
     → OneMore x.writes new w
     → (o v : ℕ) → at (λ z. count z.writes v) (slice_set xs i record { reads = x.reads; writes = new }) o ≡ at (λ z. count z.writes v) xs o +
     (cond (eqb i o) (cond (eqb w v) 1 0) 0 + 0)
-more_writes xs i w x new l e more o v = omega (arith, at_more (λ z. count z.writes v) xs i o x record { reads = x.reads; writes = new }
-    (cond (eqb w v) 1 0) l e (more v))
+more_writes xs i w x new l e more o v = omega (
+  arith,
+  at_more (λ z. count z.writes v) xs i o x record { reads = x.reads; writes = new }
+      (cond (eqb w v) 1 0) l e (more v),
+)
 
 pub same_reads : (xs : List ObjectCounts) (i : ℕ) (x : ObjectCounts) (new : VersionCounts) → i < length xs → get_or xs i x ≡ x
     → (o v : ℕ) → at (λ z. count z.reads v) (slice_set xs i record { reads = x.reads; writes = new }) o ≡ at (λ z. count z.reads v) xs o +

@@ -49,6 +49,6 @@ entries_total m n count f (x ∷ xs) l =
     let r = entries_total m n count (objects_then f x) xs l.1 in
     let s = total_bump n x.0 (one_if_entry x.1.0) (λ t. entries (of_thread t (x ∷ xs))) (λ t. entries (of_thread t xs)) l.0.thread
     (let e : entries (keep_if (eqb x.0 x.0) x.1 (of_thread x.0 xs)) ≡ one_if_entry x.1.0 + entries (of_thread x.0 xs) =
-        ap (λ b. entries (keep_if b x.1 (of_thread x.0 xs))) (eq-eqb x.0 x.0 refl) in omega (arith, e))
+    ap (λ b. entries (keep_if b x.1 (of_thread x.0 xs))) (eq-eqb x.0 x.0 refl) in omega (arith, e))
     (λ t ne. ap (λ b. entries (keep_if b x.1 (of_thread t xs))) (ne_eqb t x.0 ne)) in
     omega (arith, r, s)

@@ -55,8 +55,12 @@ all_but l m k me is e = is ∙ (λ i. (tracks_from l (e i), []))
 
 pub laying_starts : (words laid : List ℕ) (count : ℕ) → count ≡ length words / 8 → length laid ≡ 8 + 24 * count
     → ((k : ℕ) → get_or laid k 0 ≡ 0) → IsLaying words laid 0
-laying_starts words laid count is size none = record { size = omega (arith, is, size); free = λ o lt. none (word_place o); contents =
-    λ o i lt l. absurd (omega (arith, l)) }
+laying_starts words laid count is size none = record {
+  size = omega (arith, is, size);
+  free = λ o lt. none (word_place o);
+  contents =
+      λ o i lt l. absurd (omega (arith, l));
+}
 
 pub laying_more : (words laid more : List ℕ) (at word : ℕ) → length words % 8 ≡ 0 → at < length words → IsLaying words laid at
     → word ≡ get_or words at 0 → more ≡ set laid (16 + 24 * (at / 8) + at % 8) word → IsLaying words more (at + 1)
@@ -69,7 +73,7 @@ laying_more words laid more at word whole lt h is new = subst (λ z. IsLaying wo
         let r : i ≡ at % 8 = omega (arith, e, small) in
         let here : content_place o i ≡ place = omega (arith, p, r) in
         ap (λ z. get_or (set laid place word) z 0) here ∙ get_or-set_same laid place word 0 (let s = h.size in omega (arith, s, lt, whole))
-            ∙ is ∙ ap (λ z. get_or words z 0) (sym e)
+        ∙ is ∙ ap (λ z. get_or words z 0) (sym e)
     | inr ne ↦ get_or-set_other laid place (content_place o i) word 0 (λ e. ne (omega (arith, e, small)))
         ∙ h.contents o i small (omega (arith, l, ne))
   ];
@@ -89,7 +93,7 @@ stands : (n count o : ℕ) (f : ℕ → Object) (ws : List ℕ) (c : Cell) → I
     → StandsFor n c (f o)
 stands n count o f ws c r lt is =
     let tells : Tells n c.fields (f o) = subst (λ z. Tells n z (f o))
-        (ap fields_of (elem_or ws (word_place o) is.word is.head) ∙ sym is.fields) (r.words o lt) in record {
+    (ap fields_of (elem_or ws (word_place o) is.word is.head) ∙ sym is.fields) (r.words o lt) in record {
       version = tells.version;
       left = tells.left;
       inside = tells.inside;
@@ -106,7 +110,7 @@ pub ends : (g : Guest) (id : ℕ) (v : View) (ws : List ℕ) (xs : List (Unit {0
 ends g id v ws xs objects f are =
     let k = f.1.0 in
     let table : IsTable (length g.entries) (object_count g) (objects_after (start_objects g) k.steps) ws =
-        subst (IsTable (length g.entries) (object_count g) (objects_after (start_objects g) k.steps)) f.2 k.table in record {
+    subst (IsTable (length g.entries) (object_count g) (objects_after (start_objects g) k.steps)) f.2 k.table in record {
       steps = k.steps;
       legal = k.legal;
       few = k.few;
@@ -120,7 +124,7 @@ pub cell_small : (g : Guest) (id : ℕ) (v : View) (ws : List ℕ) (xs : List (U
 cell_small g id v ws xs f o i word lt small e =
     let k = f.1.0 in
     subst (λ z. z < 2 ^ 32) (sym (k.table.contents o i lt small) ∙ ap (λ z. get_or z (content_place o i) 0) f.2
-        ∙ elem_or ws (content_place o i) word e) (small_now g k.steps k.guest k.legal o i)
+    ∙ elem_or ws (content_place o i) word e) (small_now g k.steps k.guest k.legal o i)
 
 -- one object more
 pub one_more : (ws : List ℕ) (old more : List Cell) (o : ℕ) (c : Cell) → ((k : ℕ) → k < o → IsObjectOf ws k (get_or old k empty))

@@ -47,22 +47,35 @@ light_then m n k t (Result i v) f b lt use_is can alone l = absurd use_is
 light_then m n k t (Refusal o) f b lt use_is can alone l = absurd use_is
 light_then m n k t Never f b lt use_is can alone l = absurd use_is
 light_then m n k t (Load o i) f b lt use_is can alone l = (f, record { tells = l.tells; light = let w = l.light in omega (arith, w) })
-light_then m n k t (Store o i w) f b lt use_is can alone l =
-    (f, record { tells = record { version = l.tells.version; left = l.tells.left; inside = l.tells.inside }; light = let z = l.light in
-    omega (arith, z) })
+light_then m n k t (Store o i w) f b lt use_is can alone l = (
+  f,
+  record {
+    tells = record { version = l.tells.version; left = l.tells.left; inside = l.tells.inside };
+    light = let z = l.light in
+        omega (arith, z);
+  },
+)
 light_then m n k t (Entry o Reading v) f b lt use_is can alone l = (
   entered Reading f,
   record {
-    tells = record { version = l.tells.version; left = l.tells.left; inside =
-        entry_counts n f b.inside t Reading lt use_is l.tells.inside };
+    tells = record {
+      version = l.tells.version;
+      left = l.tells.left;
+      inside =
+          entry_counts n f b.inside t Reading lt use_is l.tells.inside;
+    };
     light = let w = l.light in omega (arith, w);
   },
 )
 light_then m n k t (Entry o Writing v) f b lt use_is can alone l = (
   entered Writing f,
   record {
-    tells = record { version = l.tells.version; left = l.tells.left; inside =
-        entry_counts n f b.inside t Writing lt use_is l.tells.inside };
+    tells = record {
+      version = l.tells.version;
+      left = l.tells.left;
+      inside =
+          entry_counts n f b.inside t Writing lt use_is l.tells.inside;
+    };
     light = let w = l.light in let off = bit_off f.writer (writer_admitted n f b.inside l.tells.inside can).0 in omega (arith, w, off);
   },
 )
@@ -70,8 +83,12 @@ light_then m n k t (Exit o Reading) f b lt use_is can alone l =
     let some_in : 0 < f.inside = can_leave n f b.inside t Reading lt use_is l.tells.inside in (
       left_by Reading f,
       record {
-        tells = record { version = l.tells.version; left = let e = l.tells.left in omega (arith, e); inside =
-            leave_counts n f b.inside t Reading lt use_is (λ e. absurd (cc e)) l.tells.inside };
+        tells = record {
+          version = l.tells.version;
+          left = let e = l.tells.left in omega (arith, e);
+          inside =
+              leave_counts n f b.inside t Reading lt use_is (λ e. absurd (cc e)) l.tells.inside;
+        };
         light = let w = l.light in omega (arith, w, some_in);
       },
     )
@@ -79,8 +96,12 @@ light_then m n k t (Exit o Writing) f b lt use_is can alone l =
     let on = bit_on f.writer (can_leave n f b.inside t Writing lt use_is l.tells.inside) in (
       left_by Writing f,
       record {
-        tells = record { version = let e = l.tells.version in omega (arith, e); left = refl; inside =
-            leave_counts n f b.inside t Writing lt use_is (λ _ u ne. alone t u (λ e. ne (sym e)) use_is) l.tells.inside };
+        tells = record {
+          version = let e = l.tells.version in omega (arith, e);
+          left = refl;
+          inside =
+              leave_counts n f b.inside t Writing lt use_is (λ _ u ne. alone t u (λ e. ne (sym e)) use_is) l.tells.inside;
+        };
         light = let w = l.light in omega (arith, w, on);
       },
     )
@@ -106,11 +127,16 @@ light_run m n count k f (x ∷ xs) o g l a is =
     let next : (h : Fields) × Light n (k + one_if_entry x.1.0) h (objects_then f x o) = elim (cases_eq o (target x.1.0)) [
       | inl e ↦
           let z = light_then m n k x.0 x.1.0 g (f (target x.1.0)) l.0.thread l.0.uses l.0.admits (a (target x.1.0))
-              (subst (λ p. Light n k g (f p)) e is) in
-          (z.0, subst (λ p. Light n (k + one_if_entry x.1.0) z.0 (objects_then f x p)) (sym e)
-              (subst (Light n (k + one_if_entry x.1.0) z.0) (sym (then_same f x)) z.1))
-      | inr ne ↦ (g, subst (Light n (k + one_if_entry x.1.0) g) (sym (then_other f x o ne))
-          (record { tells = is.tells; light = let w = is.light in omega (arith, w) }))
+          (subst (λ p. Light n k g (f p)) e is) in (
+            z.0,
+            subst (λ p. Light n (k + one_if_entry x.1.0) z.0 (objects_then f x p)) (sym e)
+                (subst (Light n (k + one_if_entry x.1.0) z.0) (sym (then_same f x)) z.1),
+          )
+      | inr ne ↦ (
+        g,
+        subst (Light n (k + one_if_entry x.1.0) g) (sym (then_other f x o ne))
+            (record { tells = is.tells; light = let w = is.light in omega (arith, w) }),
+      )
     ] in
     let r = light_run m n count (k + one_if_entry x.1.0) (objects_then f x) xs o next.0 l.1 (alone_then m n count f x l.0 a) next.1 in
     (r.0, record { tells = r.1.tells; light = let w = r.1.light in omega (arith, w) })
@@ -194,7 +220,7 @@ since_run m n count f (x ∷ xs) t o v l a h =
     let b : Object = f (target q) in
     let more = of_thread t (order_labels (objects_then f x) xs) in
     let goes = λ (w : ℕ) (s : Since t (objects_then f x o) w). since_run m n count (objects_then f x) xs t o w l.1
-        (alone_then m n count f x l.0 a) s in
+    (alone_then m n count f x l.0 a) s in
     elim (cases_eq t x.0) [
       | inl own ↦ subst (λ c. Since t (objects_after (objects_then f x) xs o) (entered_at o v (keep_if c (told q b) more)))
           (sym (eq-eqb t x.0 own))
@@ -202,7 +228,7 @@ since_run m n count f (x ∷ xs) t o v l a h =
             | inl e ↦ subst (λ p. Since t (objects_then f x p) (version_then p (told q b) v)) (sym e)
                 (subst (λ z. Since t z (version_then (target q) (told q b) v)) (sym (then_same f x))
                 (subst (λ u. Since t (acted q u b) (version_then (target q) (told q b) v)) own
-                    (since_own m q t v b (subst (λ u. Uses q (b.inside u)) (sym own) l.0.uses) (subst (λ p. Since t (f p) v) e h))))
+                (since_own m q t v b (subst (λ u. Uses q (b.inside u)) (sym own) l.0.uses) (subst (λ p. Since t (f p) v) e h))))
             | inr ne ↦ subst (λ z. Since t z (version_then o (told q b) v)) (sym (then_other f x o ne))
                 (subst (Since t (f o)) (sym (version_elsewhere q b o v ne)) h)
           ]))
@@ -211,7 +237,7 @@ since_run m n count f (x ∷ xs) t o v l a h =
           (goes v (elim (cases_eq o (target q)) [
             | inl e ↦ subst (λ p. Since t (objects_then f x p) v) (sym e)
                 (subst (λ z. Since t z v) (sym (then_same f x))
-                    (since_other m q t x.0 v b l.0.uses (a (target q)) other (subst (λ p. Since t (f p) v) e h)))
+                (since_other m q t x.0 v b l.0.uses (a (target q)) other (subst (λ p. Since t (f p) v) e h)))
             | inr ne ↦ subst (λ z. Since t z v) (sym (then_other f x o ne)) h
           ]))
     ]
@@ -258,8 +284,12 @@ abbrev pub nothing : Fields
 nothing = record { version = 0; left = 0; inside = 0; writer = false }
 
 pub nothing_tells : (n : ℕ) (words : ℕ → ℕ) → Tells n nothing (record { version = 0; left = 0; inside = λ t. None; words = words })
-nothing_tells n words = record { version = refl; left = refl; inside =
-    record { readers = sym (no_readers n); writer = sym (no_writer n); others = λ t l. refl } }
+nothing_tells n words = record {
+  version = refl;
+  left = refl;
+  inside =
+      record { readers = sym (no_readers n); writer = sym (no_writer n); others = λ t l. refl };
+}
 
 small_list : (xs : List ℕ) (i : ℕ) → AllByRecursion IsWord xs → get_or xs i 0 < 2 ^ 32
 small_list [] i h = omega arith
@@ -284,7 +314,7 @@ pub small_now : (g : Guest) (steps : List (ℕ × Shared)) → IsGuest g
     → IsLegal (thread_machine g.code) (length g.entries) (object_count g) (start_objects g) steps → (o : ℕ) → IsSmall (now_of g steps o)
 small_now g steps guest legal = small_run (thread_machine g.code) (length g.entries) (object_count g) (start_objects g) steps legal
     (λ p i. small_list (take object_words (drop (object_words * p) g.words)) i
-        (all_take object_words (drop (object_words * p) g.words) (all_drop (object_words * p) g.words guest.words_fit)))
+    (all_take object_words (drop (object_words * p) g.words) (all_drop (object_words * p) g.words guest.words_fit)))
 
 start_alone : (g : Guest) (p : ℕ) → Alone (start_objects g p).inside
 start_alone g p t u ne is = refl
@@ -297,7 +327,7 @@ at_now g x k id o q at lt =
     let n : ℕ = length g.entries in
     let own = (k.fits id (q ∷ []) at).0.0 in
     let l = light_run m n (object_count g) 0 (start_objects g) k.steps o nothing k.legal (start_alone g)
-        (record { tells = nothing_tells n (start_objects g o).words; light = omega arith }) in
+    (record { tells = nothing_tells n (start_objects g o).words; light = omega arith }) in
     let tells : Tells n (fields_of (get_or x.words (word_place o) 0)) (now_of g k.steps o) = k.table.words o lt in
     let same = same_weight n (fields_of (get_or x.words (word_place o) 0)) l.0 (now_of g k.steps o) tells l.1.tells in
     let light = l.1.light in

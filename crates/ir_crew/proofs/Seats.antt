@@ -16,16 +16,24 @@ use Rattle.ir_crew.proofs.Steps.{track}
 moved : (n : ℕ) (f : ℕ → Object) (es : List (ℕ × Shared)) (seat : ℕ → ℕ) (id other j : ℕ) (v : View) → j ≢ other → Fits n f es seat j v
     → Fits n f es (λ u. if seat u == other then id else seat u) j v
 moved n f es seat id other j [] ne h = tt
-moved n f es seat id other j (k ∷ ks) ne h =
-    ((h.0.0, ap (λ (b : Bool). if b then id else seat k.thread) (ne_eqb (seat k.thread) other (λ e. ne (sym h.0.1 ∙ e))) ∙ h.0.1), moved n f
-        es seat id other j ks ne h.1)
+moved n f es seat id other j (k ∷ ks) ne h = (
+  (h.0.0, ap (λ (b : Bool). if b then id else seat k.thread) (ne_eqb (seat k.thread) other (λ e. ne (sym h.0.1 ∙ e))) ∙ h.0.1),
+  moved n f
+      es seat id other j ks ne h.1,
+)
 
 taken : (n : ℕ) (f : ℕ → Object) (es : List (ℕ × Shared)) (seat : ℕ → ℕ) (id other : ℕ) (v w : View)
     → Fits n f es (λ u. if seat u == other then id else seat u) id v → Fits n f es seat other w
     → Fits n f es (λ u. if seat u == other then id else seat u) id (v ++ w)
 taken n f es seat id other [] [] h i = tt
-taken n f es seat id other [] (k ∷ ks) h i = ((i.0.0, ap (λ (b : Bool). if b then id else seat k.thread)
-    (eq-eqb (seat k.thread) other i.0.1)), taken n f es seat id other [] ks tt i.1)
+taken n f es seat id other [] (k ∷ ks) h i = (
+  (
+    i.0.0,
+    ap (λ (b : Bool). if b then id else seat k.thread)
+        (eq-eqb (seat k.thread) other i.0.1),
+  ),
+  taken n f es seat id other [] ks tt i.1,
+)
 taken n f es seat id other (k ∷ ks) w h i = (h.0, taken n f es seat id other ks w h.1 i)
 
 pub joins : (g : Guest) (id other : ℕ) (v w : View) → Joins (Kept g) id v other w (v ++ w) []
@@ -34,8 +42,8 @@ joins g id other v w x k at apart at' =
     let f : ℕ → Object = start_objects g in
     let seat : ℕ → ℕ = λ u. if k.seat u == other then id else k.seat u in
     let was : get_elem? x.views other ≡ some w =
-        ⊎_elim (λ (q : (other ≡ id) × (v ++ w ≡ w)). absurd (apart q.0)) (λ (q : (other ≢ id) × (get_elem? x.views other ≡ some w)). q.1)
-        (at_set x.views id other (v ++ w) w at') in
+    ⊎_elim (λ (q : (other ≡ id) × (v ++ w ≡ w)). absurd (apart q.0)) (λ (q : (other ≢ id) × (get_elem? x.views other ≡ some w)). q.1)
+    (at_set x.views id other (v ++ w) w at') in
     let mine : Fits n f k.steps seat id v = moved n f k.steps k.seat id other id v (λ e. apart (sym e)) (k.fits id v at) in record {
       guest = k.guest;
       steps = k.steps;
@@ -65,16 +73,20 @@ at_end (x ∷ xs) a b (suc j) e = ⊎_elim inl (λ (q : (j ≡ length xs) × (a 
 later : (n : ℕ) (f : ℕ → Object) (es : List (ℕ × Shared)) (seat : ℕ → ℕ) (t new id u m : ℕ) → t < u → Fits n f es seat id (tracks_from u m)
     → Fits n f es (λ z. if z == t then new else seat z) id (tracks_from u m)
 later n f es seat t new id u zero lt h = tt
-later n f es seat t new id u (suc m) lt h =
-    ((h.0.0, ap (λ (b : Bool). if b then new else seat u) (ne_eqb u t (λ e. omega (arith, e, lt))) ∙ h.0.1), later n f es seat t new id
-        (suc u) m (omega (arith, lt)) h.1)
+later n f es seat t new id u (suc m) lt h = (
+  (h.0.0, ap (λ (b : Bool). if b then new else seat u) (ne_eqb u t (λ e. omega (arith, e, lt))) ∙ h.0.1),
+  later n f es seat t new id
+      (suc u) m (omega (arith, lt)) h.1,
+)
 
 elsewhere : (n : ℕ) (f : ℕ → Object) (es : List (ℕ × Shared)) (seat : ℕ → ℕ) (t new j : ℕ) (v : View) → seat t ≢ j → Fits n f es seat j v
     → Fits n f es (λ z. if z == t then new else seat z) j v
 elsewhere n f es seat t new j [] ne h = tt
-elsewhere n f es seat t new j (k ∷ ks) ne h =
-    ((h.0.0, ap (λ (b : Bool). if b then new else seat k.thread) (ne_eqb k.thread t (λ e. ne (ap seat (sym e) ∙ h.0.1))) ∙ h.0.1), elsewhere
-        n f es seat t new j ks ne h.1)
+elsewhere n f es seat t new j (k ∷ ks) ne h = (
+  (h.0.0, ap (λ (b : Bool). if b then new else seat k.thread) (ne_eqb k.thread t (λ e. ne (ap seat (sym e) ∙ h.0.1))) ∙ h.0.1),
+  elsewhere
+      n f es seat t new j ks ne h.1,
+)
 
 pub splits : (g : Guest) (id t m : ℕ) (v : View) → v ≡ tracks_from t (suc m) → Splits (Kept g) id v (all_but_first v) (first_alone v)
 splits g id t m v is x k at =
@@ -85,8 +97,12 @@ splits g id t m v is x k at =
     let new : ℕ = length x.views in
     let seat : ℕ → ℕ = λ z. if z == t then new else k.seat z in
     let wide : length (set x.views id (tracks_from (suc t) m)) ≡ new = length-set x.views id (tracks_from (suc t) m) in
-    let done : Kept g (record { words = x.words; homes = x.homes; views = set x.views id (tracks_from (suc t) m) ++ (track t [] ∷ [])
-        ∷ [] }) = record {
+    let done : Kept g (record {
+      words = x.words;
+      homes = x.homes;
+      views = set x.views id (tracks_from (suc t) m) ++ (track t [] ∷ [])
+          ∷ [];
+    }) = record {
       guest = k.guest;
       steps = k.steps;
       seat = seat;
@@ -95,25 +111,32 @@ splits g id t m v is x k at =
       fits = λ j u e. ⊎_elim
           (λ (was : get_elem? (set x.views id (tracks_from (suc t) m)) j ≡ some u). ⊎_elim
           (λ (r : (j ≡ id) × (tracks_from (suc t) m ≡ u)). subst (λ (z : ℕ). Fits n f k.steps seat z u) (sym r.0)
-              (subst (Fits n f k.steps seat id) r.1
+          (subst (Fits n f k.steps seat id) r.1
           (later n f k.steps k.seat t new id (suc t) m (omega arith) h.1)))
           (λ (r : (j ≢ id) × (get_elem? x.views j ≡ some u)). elsewhere n f k.steps k.seat t new j u (λ e. r.0 (sym e ∙ h.0.1))
-              (k.fits j u r.1))
+          (k.fits j u r.1))
           (at_set x.views id j (tracks_from (suc t) m) u was))
           (λ (q : (j ≡ length (set x.views id (tracks_from (suc t) m))) × (track t [] ∷ [] ≡ u)). subst (Fits n f k.steps seat j) q.1
           ((h.0.0, ap (λ (b : Bool). if b then new else k.seat t) (eq-eqb t t refl) ∙ (sym wide ∙ sym q.0)), tt))
           (at_end (set x.views id (tracks_from (suc t) m)) (track t [] ∷ []) u j e);
       table = k.table;
     } in
-    subst (λ (z : View). Kept g (record { words = x.words; homes = x.homes; views = set x.views id (all_but_first z) ++ first_alone z
-        ∷ [] })) (sym is) done
+    subst (λ (z : View). Kept g (record {
+      words = x.words;
+      homes = x.homes;
+      views = set x.views id (all_but_first z) ++ first_alone z
+          ∷ [];
+    })) (sym is) done
 
 -- ---- the table as it is made
 
 starts_fit : (n : ℕ) (f : ℕ → Object) (u m : ℕ) → u + m ≤ n → Fits n f [] (λ _. 0) 0 (tracks_from u m)
 starts_fit n f u zero le = tt
-starts_fit n f u (suc m) le = ((record { thread = omega (arith, le); steps_are = refl; labels_are = refl }, refl), starts_fit n f (suc u) m
-    (omega (arith, le)))
+starts_fit n f u (suc m) le = (
+  (record { thread = omega (arith, le); steps_are = refl; labels_are = refl }, refl),
+  starts_fit n f (suc u) m
+      (omega (arith, le)),
+)
 
 pub opens : (g : Guest) (ws : List ℕ) → IsGuest g → IsTable (length g.entries) (object_count g) (start_objects g) ws
     → Kept g (opening ws [] (tracks_from 0 (length g.entries)))

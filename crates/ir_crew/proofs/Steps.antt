@@ -87,7 +87,7 @@ adds g x k id t o h d at lt may room ws hs table =
     let is : target s.0 ≡ o = target_by o d in
     let steps : List (ℕ × Shared) = k.steps ++ (t, s) ∷ [] in
     let mine : of_thread t steps ≡ map shared_of (h ++ act o d ∷ []) = of_own t k.steps s ∙ ap (λ z. z ++ s ∷ []) own.0.steps_are
-        ∙ sym (map_more shared_of h (act o d)) in
+    ∙ sym (map_more shared_of h (act o d)) in
     let new : IsTrack (length g.entries) f steps (track t (h ++ act o d ∷ [])) = record {
       thread = own.0.thread;
       steps_are = mine;
@@ -108,14 +108,14 @@ adds g x k id t o h d at lt may room ws hs table =
       few = λ u. elim (cases_eq u t) [
         | inl e ↦ subst (λ z. entries (of_thread z steps) ≤ most_events) (sym e) (subst (λ z. entries z ≤ most_events) (sym mine)
             (subst (λ z. entries z ≤ most_events) (sym (map_more shared_of h (act o d)))
-                (let r = entries_more (map shared_of h) s in omega (arith, r, room))))
+            (let r = entries_more (map shared_of h) s in omega (arith, r, room))))
         | inr ne ↦ subst (λ z. entries z ≤ most_events) (sym (of_other t u k.steps s ne)) (k.few u)
       ];
       fits = λ j v e. ⊎_elim
           (λ (q : (j ≡ id) × (track t (h ++ act o d ∷ []) ∷ [] ≡ v)). subst (Fits (length g.entries) f steps k.seat j) q.1
-              ((new, own.1 ∙ sym q.0), tt))
+          ((new, own.1 ∙ sym q.0), tt))
           (λ (q : (j ≢ id) × (get_elem? x.views j ≡ some v)). others_stay (length g.entries) t f k.steps s k.seat j v
-              (λ e. q.0 (sym e ∙ own.1)) (k.fits j v q.1))
+          (λ e. q.0 (sym e ∙ own.1)) (k.fits j v q.1))
           (at_set x.views id j (track t (h ++ act o d ∷ []) ∷ []) v e);
       table = subst (λ z. IsTable (length g.entries) (object_count g) z ws)
           (sym (after_more f k.steps (t, s) ∙ ap (λ p. upd now p (acted s.0 t (now p))) is)) table;
@@ -138,18 +138,18 @@ head_changes n count f ws o w y r lt tells same = record {
   words = λ p small. elim (cases_eq p o) [
     | inl e ↦ subst (λ z. Tells n (fields_of (get_or (set ws (word_place o) w) (word_place z) 0)) (upd f o y z)) (sym e)
         (subst (λ z. Tells n (fields_of z) (upd f o y o))
-            (sym (get_or-set_same ws (word_place o) w 0 (let s = r.size in omega (arith, s, lt))))
-            (subst (Tells n (fields_of w)) (sym (upd_same f o y)) tells))
+        (sym (get_or-set_same ws (word_place o) w 0 (let s = r.size in omega (arith, s, lt))))
+        (subst (Tells n (fields_of w)) (sym (upd_same f o y)) tells))
     | inr ne ↦ subst (λ z. Tells n (fields_of z) (upd f o y p))
         (sym (get_or-set_other ws (word_place o) (word_place p) w 0 (λ e. ne (omega (arith, e)))))
         (subst (Tells n (fields_of (get_or ws (word_place p) 0))) (sym (upd_other f o p y ne)) (r.words p small))
   ];
   contents = λ p i small fits. get_or-set_other ws (word_place o) (content_place p i) w 0 (λ e. omega (arith, e, fits))
       ∙ r.contents p i small fits ∙ elim (cases_eq p o) [
-    | inl e ↦ subst (λ z. (f z).words i ≡ (upd f o y z).words i) (sym e)
-        (ap (λ z. z i) (sym same) ∙ sym (ap (λ z. z.words i) (upd_same f o y)))
-    | inr ne ↦ sym (ap (λ z. z.words i) (upd_other f o p y ne))
-  ];
+        | inl e ↦ subst (λ z. (f z).words i ≡ (upd f o y z).words i) (sym e)
+            (ap (λ z. z i) (sym same) ∙ sym (ap (λ z. z.words i) (upd_same f o y)))
+        | inr ne ↦ sym (ap (λ z. z.words i) (upd_other f o p y ne))
+      ];
 }
 
 -- a word of contents is written
@@ -160,10 +160,10 @@ cell_changes n count f ws o i v y r lt small tells is = record {
   size = length-set ws (content_place o i) v ∙ r.size;
   words = λ p fits. subst (λ z. Tells n (fields_of z) (upd f o y p))
       (sym (get_or-set_other ws (content_place o i) (word_place p) v 0 (λ e. omega (arith, e, small)))) (elim (cases_eq p o) [
-    | inl e ↦ subst (λ z. Tells n (fields_of (get_or ws (word_place z) 0)) (upd f o y z)) (sym e)
-        (subst (Tells n (fields_of (get_or ws (word_place o) 0))) (sym (upd_same f o y)) tells)
-    | inr ne ↦ subst (Tells n (fields_of (get_or ws (word_place p) 0))) (sym (upd_other f o p y ne)) (r.words p fits)
-  ]);
+        | inl e ↦ subst (λ z. Tells n (fields_of (get_or ws (word_place z) 0)) (upd f o y z)) (sym e)
+            (subst (Tells n (fields_of (get_or ws (word_place o) 0))) (sym (upd_same f o y)) tells)
+        | inr ne ↦ subst (Tells n (fields_of (get_or ws (word_place p) 0))) (sym (upd_other f o p y ne)) (r.words p fits)
+      ]);
   contents = λ p j fits lt8. elim (cases_eq p o) [
     | inl e ↦ subst (λ z. get_or (set ws (content_place o i) v) (content_place z j) 0 ≡ (upd f o y z).words j) (sym e)
         (written_at j lt8 ∙ sym (ap (λ z. z.words j) (upd_same f o y) ∙ ap (λ z. z j) is))
@@ -212,8 +212,11 @@ looks g slots id o (q ∷ [], c) alone lt x k homes at small = (
   keeps,
   tt,
   stays g x k id (word_place o) (q ∷ []) x.homes at,
-  (refl, subst (λ z. IsSight q.steps z (get_or x.words (word_place o) 0)) (sym (object_is o))
-      (sees (length g.entries) q.thread o q.steps (now_of g k.steps o) (get_or x.words (word_place o) 0) (at_now g x k id o q at lt))),
+  (
+    refl,
+    subst (λ z. IsSight q.steps z (get_or x.words (word_place o) 0)) (sym (object_is o))
+        (sees (length g.entries) q.thread o q.steps (now_of g k.steps o) (get_or x.words (word_place o) 0) (at_now g x k id o q at lt)),
+  ),
 )
 
 -- ---- entries
@@ -246,7 +249,7 @@ tries g slots id o old new d (q ∷ [], c) alone lt room step_is x k homes at sm
             (sym (eq-eqb w old hit))
             (adds g x k id q.thread o q.steps (d old) at lt m.may room (set x.words (word_place o) new) x.homes
             (head_changes (length g.entries) (object_count g) (now_of g k.steps) x.words o new (acted (shared_by o (d old)).0 q.thread b)
-                k.table lt m.tells m.words)),
+            k.table lt m.tells m.words)),
         ((λ _. λ i. (did (q ∷ []) (sym (object_is o) i) (d (sym hit i)), c)), (λ miss. absurd (miss hit)), bound),
       )
       | inr miss ↦ (
@@ -277,8 +280,12 @@ enters_read g slots id o old me alone lt room outside free =
       };
       tells = subst (λ f. Tells n f (acted (Entry o Reading 0) t b))
           (sym (read_entry_word old free (let few = a.narrow in omega (arith, few))))
-          (record { version = a.tells.version; left = a.tells.left; inside =
-              entry_counts n (fields_of old) b.inside t Reading a.thread out a.tells.inside });
+          (record {
+            version = a.tells.version;
+            left = a.tells.left;
+            inside =
+                entry_counts n (fields_of old) b.inside t Reading a.thread out a.tells.inside;
+          });
       words = refl;
     })
 
@@ -297,8 +304,12 @@ enters_write g slots id o old me alone lt room free =
         tells = λ i. Rattle.ir_runs.specs.Labels.In o Writing (sym a.tells.version i) (sym a.tells.left i);
       };
       tells = subst (λ f. Tells n f (acted (Entry o Writing 0) t b)) (sym (write_entry_word old free))
-          (record { version = a.tells.version; left = a.tells.left; inside =
-              entry_counts n (fields_of old) b.inside t Writing a.thread (nobody t) a.tells.inside });
+          (record {
+            version = a.tells.version;
+            left = a.tells.left;
+            inside =
+                entry_counts n (fields_of old) b.inside t Writing a.thread (nobody t) a.tells.inside;
+          });
       words = refl;
     })
 
@@ -316,14 +327,14 @@ changes g slots id o f d tell (q ∷ [], c) alone lt no_entry step_is tells x k 
     let b : Object = now_of g k.steps o in
     let m = step_is q.thread w b (at_now g x k id o q at lt) in
     let few : entries (map shared_of q.steps) ≤ most_events =
-        subst (λ z. entries z ≤ most_events) (k.fits id (q ∷ []) at).0.0.steps_are (k.few q.thread) in
+    subst (λ z. entries z ≤ most_events) (k.fits id (q ∷ []) at).0.0.steps_are (k.few q.thread) in
     let none_more = no_entry b in (
       did (q ∷ []) o (d b),
       keeps,
       tt,
       adds g x k id q.thread o q.steps (d b) at lt m.may (omega (arith, few, none_more)) (set x.words (word_place o) (f w)) x.homes
           (head_changes (length g.entries) (object_count g) (now_of g k.steps) x.words o (f w) (acted (shared_by o (d b)).0 q.thread b)
-              k.table lt m.tells m.words),
+          k.table lt m.tells m.words),
       tells w b,
     )
 
@@ -338,10 +349,10 @@ leaves_read g slots id o me alone lt inside = changes g slots id o (λ n. (n + 2
       may = record { uses = is; admits = tt; answers = refl; tells = refl };
       tells = subst (λ f. Tells n f (acted (Exit o Reading) t b))
           (sym (read_leave_word w some_in (left_small w a.light) (let v = below w a.light in omega (arith, v)))) (record {
-        version = a.tells.version;
-        left = let e = a.tells.left in omega (arith, e);
-        inside = leave_counts n (fields_of w) b.inside t Reading a.thread is (λ e. absurd (cc e)) a.tells.inside;
-      });
+            version = a.tells.version;
+            left = let e = a.tells.left in omega (arith, e);
+            inside = leave_counts n (fields_of w) b.inside t Reading a.thread is (λ e. absurd (cc e)) a.tells.inside;
+          });
       words = refl;
     })
     (λ w b. (b.version, λ i. (did me.0 (sym (object_is o) i) (Leave Reading b.version), me.1)))
@@ -359,10 +370,10 @@ leaves_write g slots id o v me alone lt inside version =
       may = record { uses = is; admits = tt; answers = refl; tells = refl };
       tells = subst (λ f. Tells n f (acted (Exit o Writing) t b))
           (sym (version_word v (fields_of w) (a.tells.version ∙ a.version is ∙ sym version))) (record {
-        version = let e = a.tells.version in omega (arith, e);
-        left = refl;
-        inside = leave_counts n (fields_of w) b.inside t Writing a.thread is (λ _ u ne. a.alone t u (λ e. ne (sym e)) is) a.tells.inside;
-      });
+            version = let e = a.tells.version in omega (arith, e);
+            left = refl;
+            inside = leave_counts n (fields_of w) b.inside t Writing a.thread is (λ _ u ne. a.alone t u (λ e. ne (sym e)) is) a.tells.inside;
+          });
       words = refl;
     })
     (λ w b. (b.version, λ i. (did me.0 (sym (object_is o) i) (Leave Writing b.version), me.1)))
@@ -388,18 +399,21 @@ gets g slots id o i (q ∷ [], c) alone lt small inside x k homes at fits =
     let a = at_now g x k id o q at lt in
     let is : w ≡ b.words i = k.table.contents o i lt small in
     let few : entries (map shared_of q.steps) ≤ most_events =
-        subst (λ z. entries z ≤ most_events) (k.fits id (q ∷ []) at).0.0.steps_are (k.few q.thread) in
+    subst (λ z. entries z ≤ most_events) (k.fits id (q ∷ []) at).0.0.steps_are (k.few q.thread) in
     let same : IsTable (length g.entries) (object_count g) (upd now o b) (set x.words (content_place o i) w) =
     subst (λ (z : (ℕ → Object) × List ℕ). IsTable (length g.entries) (object_count g) z.0 z.1)
-        (λ j. (sym (upd_id now o b refl) j, sym (set-get_or x.words (content_place o i) 0) j)) k.table in (
+    (λ j. (sym (upd_id now o b refl) j, sym (set-get_or x.words (content_place o i) 0) j)) k.table in (
       did (q ∷ []) o (Get i w),
       keeps,
       tt,
       adds g x k id q.thread o q.steps (Get i w) at lt
           (record { uses = (small, λ e. inside (sym a.inside ∙ e)); admits = tt; answers = sym is; tells = refl }) (omega (arith, few))
           (set x.words (content_place o i) w) x.homes same,
-      ((λ j. (did (q ∷ []) (sym (object_is_cell o i small) j) (Get (sym (index_is_cell o i small) j) w), c)), subst (λ z. z < 2 ^ 32)
-          (sym is) (a.small i)),
+      (
+        (λ j. (did (q ∷ []) (sym (object_is_cell o i small) j) (Get (sym (index_is_cell o i small) j) w), c)),
+        subst (λ z. z < 2 ^ 32)
+            (sym is) (a.small i),
+      ),
     )
 
 pub puts : (g : Guest) (slots id o i v : ℕ) (me : M) → IsAlone me.0 → o < object_count g → i < 8 → v < 2 ^ 32
@@ -412,7 +426,7 @@ puts g slots id o i v (q ∷ [], c) alone lt small fit inside x k homes at fits 
     let b : Object = now o in
     let a = at_now g x k id o q at lt in
     let few : entries (map shared_of q.steps) ≤ most_events =
-        subst (λ z. entries z ≤ most_events) (k.fits id (q ∷ []) at).0.0.steps_are (k.few q.thread) in (
+    subst (λ z. entries z ≤ most_events) (k.fits id (q ∷ []) at).0.0.steps_are (k.few q.thread) in (
       did (q ∷ []) o (Put i v),
       keeps,
       tt,
@@ -420,7 +434,7 @@ puts g slots id o i v (q ∷ [], c) alone lt small fit inside x k homes at fits 
           (record { uses = (small, fit, a.inside ∙ inside); admits = tt; answers = refl; tells = refl }) (omega (arith, few))
           (set x.words (content_place o i) v) x.homes
           (cell_changes (length g.entries) (object_count g) now x.words o i v (acted (Store o i v) q.thread b) k.table lt small
-              (record { version = a.tells.version; left = a.tells.left; inside = a.tells.inside }) refl),
+          (record { version = a.tells.version; left = a.tells.left; inside = a.tells.inside }) refl),
       (λ j. (did (q ∷ []) (sym (object_is_cell o i small) j) (Put (sym (index_is_cell o i small) j) v), c)),
     )
 

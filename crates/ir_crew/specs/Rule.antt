@@ -61,8 +61,13 @@ entries (x ∷ xs) = one_if_entry x.0 + entries xs
 
 -- the objects of a guest that nobody has entered
 abbrev pub start_objects : Guest → ℕ → Object
-start_objects g o = record { version = 0; left = 0; inside = λ t. None; words =
-    slice_index (take object_words (drop (object_words * o) g.words)) }
+start_objects g o = record {
+  version = 0;
+  left = 0;
+  inside = λ t. None;
+  words =
+      slice_index (take object_words (drop (object_words * o) g.words));
+}
 
 -- a word of n threads says this of the object
 pub record Tells (n : ℕ) (f : Fields) (b : Object) : Type 0 where

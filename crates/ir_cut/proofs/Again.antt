@@ -30,7 +30,7 @@ pub same_trail : (f : FittedTrace) (run run' : List Step) → IsRunOf f.guest f.
     → trail (machine_of f) (start_of f) run t ≡ trail (machine_of f) (start_of f) run' t
 same_trail f run run' is is' =
     (alike (machine_of f) (lawful f.guest.code) (start_of f) (start_good (machine_of f) (start_of f) (starts f.guest f.recorded.budget)) run
-        run' is.1.runs is'.1.runs
+    run' is.1.runs is'.1.runs
     (λ t. elim (cases_lt t (length f.guest.entries)) [
       | inl l ↦ is.1.logs t l ∙ sym (is'.1.logs t l)
       | inr l ↦ ap events (no_trail f run is t l ∙ sym (no_trail f run' is' t l))
@@ -91,4 +91,4 @@ entered_word f h recorded run is t i o a v l told =
     let e = entry_of f (again f h run is) t i o a v l told in
     let d : Event = Read 0 0 in
     words_of f.recorded.objects es (thread_fits f.recorded recorded t (let same = is.0.threads in omega (arith, same, there))).events_fit
-        e.0 (slice_index_or es e.0 d) o a v l (at_get es e.0 d e.1) (e.3 d)
+    e.0 (slice_index_or es e.0 d) o a v l (at_get es e.0 d e.1) (e.3 d)

@@ -29,7 +29,7 @@ closed_by : (f : FittedTrace) → IsFitted f → (qs : List ℕ) (t n : ℕ) →
 closed_by f fit qs t n met first run is i k tells inside w j b at need =
     let x = entered b k need in
     let e = (listed f fit.run run is).entry t i x.object x.access x.version x.left
-        (subst (Tells (machine_of f) (start_of f) run t i) x.is tells) in
+    (subst (Tells (machine_of f) (start_of f) run t i) x.is tells) in
     met e.0 e.1 (first e.0 i e.2 inside) e.3 run is w j b at (subst (Needs b) (x.is ∙ sym e.4) need)
 
 -- at the end of the log
@@ -50,7 +50,7 @@ closed_here f fit qs ks t n k there list l read past met = (
     | inl less ↦ less
     | inr behind ↦
         let here : slice_get (placed_at f.placed t).entries n ≡ Some k = ap (λ z. slice_get z n) (sym list) ∙ slice_get-get_or ks n 0 l
-            ∙ ap Some (sym read) in
+        ∙ ap Some (sym read) in
         elim (cases_lt n e) [
           | inl before ↦ let up = (listed f fit.run fit.run.run fit.run.whole).rise t n e k i there before here at in
               absurd (omega (arith, up, inside, past))
@@ -79,7 +79,7 @@ not_closed f fit qs ks es t n k x b there list log l read inside event test is =
     is,
     test.1 (λ run ok.
         closed run ok k (label_of x) ((listed f fit.run run ok).event t n k x there (ap (λ z. slice_get z n) (sym log) ∙ event)
-            (ap (λ z. slice_get z n) (sym list) ∙ slice_get-get_or ks n 0 l ∙ ap Some (sym read))) inside),
+        (ap (λ z. slice_get z n) (sym list) ∙ slice_get-get_or ks n 0 l ∙ ap Some (sym read))) inside),
   ))),
 )
 

@@ -37,7 +37,7 @@ least_found f fit ps xs next qs next' t k v w size con there steps copied read m
       let own = kept_own ps xs t v w copied inside read in
       rising_over f fit.run run is (listed f fit.run run is) ps qs next' t k
       (rises ps t k (λ run' is'. rising_start f run' is' (listed f fit.run run' is') ps (set xs t w) next t k (con run' is').0
-          (con run' is').1 there steps
+      (con run' is').1 there steps
       (own.0 ∙ most ∙ ap (λ z. max z k) (sym own.1)) (λ u ne. kept_other ps xs t w u copied ne) sizes first) run is) over),
 )
 
@@ -65,8 +65,8 @@ least_at f fit ps qs t k con there steps least lo =
     let run = fit.run.run in
     let is = fit.run.whole in
     least_exact (machine_of f) (lawful f.guest.code) (start_of f)
-        (start_good (machine_of f) (start_of f) (starts f.guest f.recorded.budget)) run is.1.runs (cut_of ps) (cut_of qs) t k (con run is).0
-        (con run is).1 lo
+    (start_good (machine_of f) (start_of f) (starts f.guest f.recorded.budget)) run is.1.runs (cut_of ps) (cut_of qs) t k (con run is).0
+    (con run is).1 lo
     (let a = is.1.steps t there in omega (arith, a, steps)) (least.1 run is)
 
 pub greatest_at : (f : FittedTrace) → IsFitted f → (ps qs : List ℕ) (t k : ℕ) → IsConsistentCut f ps → IsGreatestCut f ps t k qs
@@ -75,5 +75,5 @@ greatest_at f fit ps qs t k con greatest hi =
     let run = fit.run.run in
     let is = fit.run.whole in
     greatest_exact (machine_of f) (lawful f.guest.code) (start_of f)
-        (start_good (machine_of f) (start_of f) (starts f.guest f.recorded.budget)) run is.1.runs (cut_of ps) (cut_of qs) t k (con run is).0
-        (con run is).1 hi (greatest.1 run is)
+    (start_good (machine_of f) (start_of f) (starts f.guest f.recorded.budget)) run is.1.runs (cut_of ps) (cut_of qs) t k (con run is).0
+    (con run is).1 hi (greatest.1 run is)

@@ -47,17 +47,22 @@ listed f h run is =
       event = λ t e i x there at place.
           let inside = slice_get_within (recorded_thread f.recorded t).events e x at in
           subst (λ m. Tells (machine_of f) (start_of f) run t i (label_of m))
-              (get_or_from_slice_get (recorded_thread f.recorded t).events e x x at)
+          (get_or_from_slice_get (recorded_thread f.recorded t).events e x x at)
           (subst (λ j. Tells (machine_of f) (start_of f) run t j (label_of (slice_index_or (recorded_thread f.recorded t).events e x)))
-              (get_or_from_slice_get (placed_at f.placed t).entries e i 0 place) (entry_tells f k t there e x inside));
+          (get_or_from_slice_get (placed_at f.placed t).entries e i 0 place) (entry_tells f k t there e x inside));
       entry = λ t i o a v l told.
           let there = tells_below f k t i (In o a v l) told in
           let d : Event = Read 0 0 in
           let e = entry_of f k t i o a v l told in
           let inside = e.1 in
-          let size = entries_long f k t there in
-          (e.0, slice_index_or (recorded_thread f.recorded t).events e.0 d, slice_get-get_or (placed_at f.placed t).entries e.0 0
-              (omega (arith, inside, size)) ∙ ap Some e.2, slice_get-get_or (recorded_thread f.recorded t).events e.0 d inside, e.3 d);
+          let size = entries_long f k t there in (
+            e.0,
+            slice_index_or (recorded_thread f.recorded t).events e.0 d,
+            slice_get-get_or (placed_at f.placed t).entries e.0 0
+                (omega (arith, inside, size)) ∙ ap Some e.2,
+            slice_get-get_or (recorded_thread f.recorded t).events e.0 d inside,
+            e.3 d,
+          );
       rise = λ t e d i j there less first second.
           let up = kept.entries_rise f k t there e d less (slice_get_within (placed_at f.placed t).entries d j second) in
           let low = get_or_from_slice_get (placed_at f.placed t).entries e i 0 first in
@@ -66,7 +71,7 @@ listed f h run is =
       left = λ t e l there at.
           let inside = slice_get_within (placed_at f.placed t).leaves e l at in
           subst (λ z. Tells (machine_of f) (start_of f) run t z.position (Out z.object z.access z.version))
-              (get_or_from_slice_get (placed_at f.placed t).leaves e l l at) (leave_tells f k t there e l inside);
+          (get_or_from_slice_get (placed_at f.placed t).leaves e l l at) (leave_tells f k t there e l inside);
       leave = λ t i o a v told.
           let e = leave_of f k t i o a v told in
           let d : Leave = record { position = i; object = o; access = a; version = v } in

@@ -40,9 +40,9 @@ pub raised_more : (old cur new : List ℕ) (ps : List Place) (n : ℕ) (p : Plac
     → new ≡ set cur p.thread (max (cut_of cur p.thread) (p.position + 1)) → IsRaised old new ps (n + 1)
 raised_more old cur new ps n p r is l e =
     let own : cut_of new p.thread ≡ max (cut_of cur p.thread) (p.position + 1) = ap (λ z. cut_of z p.thread) e
-        ∙ get_or-set_same cur p.thread (max (cut_of cur p.thread) (p.position + 1)) 0 l in
+    ∙ get_or-set_same cur p.thread (max (cut_of cur p.thread) (p.position + 1)) 0 l in
     let rest : (u : ℕ) → u ≢ p.thread → cut_of new u ≡ cut_of cur u = λ u ne. ap (λ z. cut_of z u) e
-        ∙ get_or-set_other cur p.thread u (max (cut_of cur p.thread) (p.position + 1)) 0 ne in
+    ∙ get_or-set_other cur p.thread u (max (cut_of cur p.thread) (p.position + 1)) 0 ne in
     let up : (u : ℕ) → cut_of cur u ≤ cut_of new u = λ u. elim (cases_eq u p.thread) [
       | inl same ↦ subst (λ z. cut_of cur z ≤ cut_of new z) (sym same) (omega (arith, own))
       | inr ne ↦ omega (arith, rest u ne)
@@ -55,7 +55,7 @@ raised_more old cur new ps n p r is l e =
       least = λ c h g u. elim (cases_eq u p.thread) [
         | inl same ↦ subst (λ z. cut_of new z ≤ c z) (sym same)
             (let a = r.least c h (each_first ps n (λ q. q.position < c q.thread) g) p.thread in let b : p.position < c p.thread =
-                g n p (omega arith) is in omega (arith, own, a, b))
+            g n p (omega arith) is in omega (arith, own, a, b))
         | inr ne ↦ let a = r.least c h (each_first ps n (λ q. q.position < c q.thread) g) u in omega (arith, a, rest u ne)
       ];
     }
@@ -75,9 +75,9 @@ pub lowered_more : (old cur new : List ℕ) (ps : List Place) (n : ℕ) (p : Pla
     → new ≡ set cur p.thread (min (cut_of cur p.thread) p.position) → IsLowered old new ps (n + 1)
 lowered_more old cur new ps n p r is l e =
     let own : cut_of new p.thread ≡ min (cut_of cur p.thread) p.position = ap (λ z. cut_of z p.thread) e
-        ∙ get_or-set_same cur p.thread (min (cut_of cur p.thread) p.position) 0 l in
+    ∙ get_or-set_same cur p.thread (min (cut_of cur p.thread) p.position) 0 l in
     let rest : (u : ℕ) → u ≢ p.thread → cut_of new u ≡ cut_of cur u = λ u ne. ap (λ z. cut_of z u) e
-        ∙ get_or-set_other cur p.thread u (min (cut_of cur p.thread) p.position) 0 ne in
+    ∙ get_or-set_other cur p.thread u (min (cut_of cur p.thread) p.position) 0 ne in
     let down : (u : ℕ) → cut_of new u ≤ cut_of cur u = λ u. elim (cases_eq u p.thread) [
       | inl same ↦ subst (λ z. cut_of new z ≤ cut_of cur z) (sym same) (omega (arith, own))
       | inr ne ↦ omega (arith, rest u ne)
@@ -90,7 +90,7 @@ lowered_more old cur new ps n p r is l e =
       greatest = λ c h g u. elim (cases_eq u p.thread) [
         | inl same ↦ subst (λ z. c z ≤ cut_of new z) (sym same)
             (let a = r.greatest c h (each_first ps n (λ q. c q.thread ≤ q.position) g) p.thread in let b : c p.thread ≤ p.position =
-                g n p (omega arith) is in omega (arith, own, a, b))
+            g n p (omega arith) is in omega (arith, own, a, b))
         | inr ne ↦ let a = r.greatest c h (each_first ps n (λ q. c q.thread ≤ q.position) g) u in omega (arith, a, rest u ne)
       ];
     }
@@ -116,7 +116,7 @@ next_raised old cur ps n v top h r l e is =
     let there : (place_at ps n).thread < length cur = (let a = (placed_there (length old) ps n h l).0 in omega (arith, a, r.size)) in
     raised_more old cur (set cur (place_at ps n).thread top) ps n (place_at ps n) r (slice_get-get_or ps n _ l) there
     (ap (set cur (place_at ps n).thread) (is ∙ ap (λ z. max z ((place_at ps n).position + 1))
-        (position_read cur (place_at ps n).thread v there e)))
+    (position_read cur (place_at ps n).thread v there e)))
 
 pub next_lowered : (old cur : List ℕ) (ps : List Place) (n v low : ℕ) → ArePlaced (length old) ps → IsLowered old cur ps n → n < length ps
     → v ≡ slice_index_or cur (place_at ps n).thread v
@@ -125,7 +125,7 @@ next_lowered old cur ps n v low h r l e is =
     let there : (place_at ps n).thread < length cur = (let a = (placed_there (length old) ps n h l).0 in omega (arith, a, r.size)) in
     lowered_more old cur (set cur (place_at ps n).thread low) ps n (place_at ps n) r (slice_get-get_or ps n _ l) there
     (ap (set cur (place_at ps n).thread) (is ∙ ap (λ z. min z (place_at ps n).position)
-        (position_read cur (place_at ps n).thread v there e)))
+    (position_read cur (place_at ps n).thread v there e)))
 
 -- whether the next place is inside, and all that were before it
 pub next_inside : (xs : List ℕ) (ps : List Place) (n v : ℕ) → ArePlaced (length xs) ps → n < length ps
@@ -134,7 +134,7 @@ pub next_inside : (xs : List ℕ) (ps : List Place) (n v : ℕ) → ArePlaced (l
 next_inside xs ps n v h l e less each =
     let there = (placed_there (length xs) ps n h l).0 in
     each_more ps n (place_at ps n) (λ p. p.position < cut_of xs p.thread) (slice_get-get_or ps n _ l)
-        (let same = position_read xs (place_at ps n).thread v there e in omega (arith, less, same)) each
+    (let same = position_read xs (place_at ps n).thread v there e in omega (arith, less, same)) each
 
 pub not_inside : (xs : List ℕ) (ps : List Place) (n v : ℕ) → ArePlaced (length xs) ps → n < length ps
     → v ≡ slice_index_or xs (place_at ps n).thread v → v ≤ (place_at ps n).position

@@ -111,9 +111,9 @@ pub unmade_inside : (f : FittedTrace) (x : Event) (o v l : ℕ) (xs : List ℕ) 
     → IsTrue a ↔ EachRun f (λ run. AreInside f run (NeededBy (label_of x)) (cut_of xs))
 unmade_inside f x o v l xs a is no_maker made =
     subst (λ z. IsTrue a ↔ EachRun f (λ run. AreInside f run (NeededBy (label_of z)) (cut_of xs))) (sym is) (
-  (λ so. absurd (cc (so, no_maker))),
-  (λ h. made.1 (inside_from f (NeededBy (In o Writing v l)) (NeededBy (In o Reading v 0)) (maker_needed o v l) (cut_of xs) h)),
-)
+      (λ so. absurd (cc (so, no_maker))),
+      (λ h. made.1 (inside_from f (NeededBy (In o Writing v l)) (NeededBy (In o Reading v 0)) (maker_needed o v l) (cut_of xs) h)),
+    )
 
 -- ---- positions raised for it
 
@@ -123,7 +123,7 @@ pub made_raised : (f : FittedTrace) → IsFitted f → (o v w : ℕ) (ps : List 
 made_raised f k o v w ps only all old new is r run ok =
     let next : v ≡ w + 1 = (let some = is.0 in let less = is.1 in omega (arith, some, less)) in
     raised_same f run (λ z. z ≡ Out o Writing w) (NeededBy (In o Reading v 0)) (its_maker o v w 0 next) (makes_it o v w 0 next) old new
-        (leaves_raised f k o Writing w ps only all old new r run ok)
+    (leaves_raised f k o Writing w ps only all old new r run ok)
 
 pub write_raised : (f : FittedTrace) → IsFitted f → (x : Event) (o v l : ℕ) (ps : List Place) → OnlyLeaves f o Reading v ps
     → AllLeaves f o Reading v ps → (old cur new : List ℕ) → x ≡ Write o v l
@@ -131,7 +131,7 @@ pub write_raised : (f : FittedTrace) → IsFitted f → (x : Event) (o v l : ℕ
     → EachRun f (λ run. RaisedFor f run (NeededBy (label_of x)) old new)
 write_raised f k x o v l ps only all old cur new is made r run ok = subst (λ z. RaisedFor f run (NeededBy (label_of z)) old new) (sym is)
     (raised_both f run (NeededBy (In o Reading v 0)) (λ z. z ≡ Out o Reading v) (NeededBy (In o Writing v l)) (maker_or_reader o v l)
-        (maker_needed o v l) (reader_needed o v l) old cur new (made run ok) (leaves_raised f k o Reading v ps only all cur new r run ok))
+    (maker_needed o v l) (reader_needed o v l) old cur new (made run ok) (leaves_raised f k o Reading v ps only all cur new r run ok))
 
 pub read_raised : (f : FittedTrace) (x : Event) (o v : ℕ) (old new : List ℕ) → x ≡ Read o v
     → EachRun f (λ run. RaisedFor f run (NeededBy (In o Reading v 0)) old new)
@@ -155,7 +155,7 @@ pub both_lowered : (f : FittedTrace) → IsFitted f → (o v : ℕ) (ps qs : Lis
     → EachRun f (λ run. LoweredFor f run (IsEntryAt o v) old new)
 both_lowered f k o v ps qs only all only' all' old cur new r s run ok =
     lowered_both f run (λ z. (l : ℕ) × (z ≡ In o Reading v l)) (λ z. (l : ℕ) × (z ≡ In o Writing v l)) (IsEntryAt o v) (either_access o v)
-        (λ z e. (Reading, e.0, e.1)) (λ z e. (Writing, e.0, e.1)) old cur new
+    (λ z e. (Reading, e.0, e.1)) (λ z e. (Writing, e.0, e.1)) old cur new
     (entries_lowered f k o Reading v ps only all old cur r run ok) (entries_lowered f k o Writing v qs only' all' cur new s run ok)
 
 -- what needs a leave after reading is an entry for writing at its version
@@ -175,15 +175,19 @@ pub reader_lowered : (f : FittedTrace) → IsFitted f → (x : Leave) (ps : List
     → EachRun f (λ run. LoweredFor f run (Needing x) old new)
 reader_lowered f k x ps only all old new is r run ok = subst (λ a. LoweredFor f run (Needs (Out x.object a x.version)) old new) (sym is)
     (lowered_same f run (λ z. (l : ℕ) × (z ≡ In x.object Writing x.version l)) (Needs (Out x.object Reading x.version))
-        (reading_needs x.object x.version) (needs_reading x.object x.version) old new
+    (reading_needs x.object x.version) (needs_reading x.object x.version) old new
     (entries_lowered f k x.object Writing x.version ps only all old new r run ok))
 
 -- what needs a leave after writing is an entry at the version that it made
 writing_needs : (o w v : ℕ) → v ≡ w + 1 → (k : Label) → Needs (Out o Writing w) k → IsEntryAt o v k
 writing_needs o w v is Quiet h = absurd h
 writing_needs o w v is (Answer j x) h = absurd h
-writing_needs o w v is (In p a u l) h = (a, l, ap (λ z. In z a u l) (sym h.0)
-    ∙ ap (λ z. In o a z l) (let e = h.1 in let d : u ≡ v = omega (arith, is, e) in d))
+writing_needs o w v is (In p a u l) h = (
+  a,
+  l,
+  ap (λ z. In z a u l) (sym h.0)
+      ∙ ap (λ z. In o a z l) (let e = h.1 in let d : u ≡ v = omega (arith, is, e) in d),
+)
 writing_needs o w v is (Refused p) h = absurd h
 writing_needs o w v is (Out p a u) h = absurd h
 
@@ -195,7 +199,7 @@ pub writer_lowered : (f : FittedTrace) (x : Leave) (v : ℕ) (old new : List ℕ
     → EachRun f (λ run. LoweredFor f run (Needing x) old new)
 writer_lowered f x v old new is next r run ok = subst (λ a. LoweredFor f run (Needs (Out x.object a x.version)) old new) (sym is)
     (lowered_same f run (IsEntryAt x.object v) (Needs (Out x.object Writing x.version)) (writing_needs x.object x.version v next)
-        (needs_writing x.object x.version v next) old new (r run ok))
+    (needs_writing x.object x.version v next) old new (r run ok))
 
 -- there is no version behind the last that can be counted
 pub last_lowered : (f : FittedTrace) → IsFitted f → (x : Leave) (xs : List ℕ) → x.access ≡ Writing → (x.version + 1 < 2 ^ 32 → ⊥)
@@ -205,5 +209,5 @@ last_lowered f k x xs is last run ok = subst (λ a. LoweredFor f run (Needs (Out
     (λ t i m tells n.
     let e = writing_needs x.object x.version (x.version + 1) refl m n in
     last (entered_word f k.run k.within run ok t i x.object e.0 (x.version + 1) e.1
-        (subst (Tells (machine_of f) (start_of f) run t i) e.2 tells)))
+    (subst (Tells (machine_of f) (start_of f) run t i) e.2 tells)))
     xs)

@@ -93,8 +93,11 @@ pub rising_start : (f : FittedTrace) (run : List Step) → IsRunOf f.guest f.rec
     → Rising f ps t k qs next run
 rising_start f run is list ps qs next t k cut con there steps own rest size first =
     let up : (u : ℕ) → cut_of ps u ≤ cut_of qs u =
-        λ u. elim (cases_eq u t) [ inl same ↦ subst (λ z. cut_of ps z ≤ cut_of qs z) (sym same) (omega (arith, own)) | inr ne ↦
-        omega (arith, rest u ne) ] in
+    λ u. elim (cases_eq u t) [
+      | inl same ↦ subst (λ z. cut_of ps z ≤ cut_of qs z) (sym same) (omega (arith, own))
+      | inr ne ↦
+          omega (arith, rest u ne)
+    ] in
     record {
       above = up;
       reaches = omega (arith, own);
@@ -110,11 +113,11 @@ rising_start f run is list ps qs next t k cut con there steps own rest size firs
       met = λ u e x l at.
           let less : u < length f.guest.entries = no_number next (length f.guest.entries) u e size l in
           let inside : e < length (placed_at f.placed u).entries =
-              (let a = slice_get_within (recorded_thread f.recorded u).events e x at in let b = list.sizes u less in omega (arith, a, b)) in
+          (let a = slice_get_within (recorded_thread f.recorded u).events e x at in let b = list.sizes u less in omega (arith, a, b)) in
           let i : ℕ = slice_index_or (placed_at f.placed u).entries e 0 in
           let place : slice_get (placed_at f.placed u).entries e ≡ Some i = slice_get-get_or (placed_at f.placed u).entries e 0 inside in
           inside_more f run (NeededBy (label_of x)) (cut_of ps) (cut_of qs) up
-              (step_met f run (cut_of ps) con u i (label_of x) (list.event u e i x less at place) (first u less e i l place));
+          (step_met f run (cut_of ps) con u i (label_of x) (list.event u e i x less at place) (first u less e i l place));
     }
 
 pub rising_more : (f : FittedTrace) (run : List Step) → Listed f run → (ps qs qs' next next' : List ℕ) (t k u : ℕ) (x : Event)
@@ -137,7 +140,7 @@ rising_more f run list ps qs qs' next next' t k u x r there below at raised own 
         | inl same ↦
             let l' : e < cut_of next u + 1 = subst (λ z. e < z) (ap (cut_of next') same ∙ own) l in
             let says' : slice_get (recorded_thread f.recorded u).events e ≡ Some y =
-                subst (λ z. slice_get (recorded_thread f.recorded z).events e ≡ Some y) same says in
+            subst (λ z. slice_get (recorded_thread f.recorded z).events e ≡ Some y) same says in
             elim (cases_lt e (cut_of next u)) [
               | inl less ↦ inside_more f run (NeededBy (label_of y)) (cut_of qs) (cut_of qs') raised.above (r.met u e y less says')
               | inr past ↦ subst (λ z. AreInside f run (NeededBy (label_of z)) (cut_of qs'))
@@ -154,10 +157,10 @@ behind f run list qs next t e i there none place l = elim (cases_lt e (cut_of ne
   | inl less ↦ less
   | inr past ↦
       let inside : cut_of next t < length (placed_at f.placed t).entries =
-          (let a = slice_get_within (placed_at f.placed t).entries e i place in omega (arith, a, past)) in
+      (let a = slice_get_within (placed_at f.placed t).entries e i place in omega (arith, a, past)) in
       let j : ℕ = slice_index_or (placed_at f.placed t).entries (cut_of next t) 0 in
       let first : slice_get (placed_at f.placed t).entries (cut_of next t) ≡ Some j =
-          slice_get-get_or (placed_at f.placed t).entries (cut_of next t) 0 inside in
+      slice_get-get_or (placed_at f.placed t).entries (cut_of next t) 0 inside in
       let far = none j first in
       elim (cases_lt (cut_of next t) e) [
         | inl before ↦ let up = list.rise t (cut_of next t) e j i there before first place in absurd (omega (arith, far, up, l))
@@ -203,8 +206,11 @@ pub falling_start : (f : FittedTrace) (run : List Step) → Listed f run → (ps
     → Falling f ps t k qs next run
 falling_start f run list ps qs next t k con there own rest each known =
     let down : (u : ℕ) → cut_of qs u ≤ cut_of ps u =
-        λ u. elim (cases_eq u t) [ inl same ↦ subst (λ z. cut_of qs z ≤ cut_of ps z) (sym same) (omega (arith, own)) | inr ne ↦
-        omega (arith, rest u ne) ] in
+    λ u. elim (cases_eq u t) [
+      | inl same ↦ subst (λ z. cut_of qs z ≤ cut_of ps z) (sym same) (omega (arith, own))
+      | inr ne ↦
+          omega (arith, rest u ne)
+    ] in
     record {
       below = down;
       reaches = omega (arith, own);
@@ -215,8 +221,8 @@ falling_start f run list ps qs next t k con there own rest each known =
       unmet = λ u e l past at.
           let less : u < length f.guest.entries = known u e l at in
           outside_less f run (Needing l) (cut_of ps) (cut_of qs) down
-              (step_unmet f run (cut_of ps) con u l.position (Out l.object l.access l.version) (list.left u e l less at)
-              ((each u less).outside e l past at));
+          (step_unmet f run (cut_of ps) con u l.position (Out l.object l.access l.version) (list.left u e l less at)
+          ((each u less).outside e l past at));
     }
 
 pub falling_more : (f : FittedTrace) (run : List Step) → Listed f run → (ps qs qs' next next' : List ℕ) (t k u : ℕ) (x : Leave) (last : ℕ)
@@ -230,13 +236,13 @@ falling_more f run list ps qs qs' next next' t k u x last r there was at far low
   greatest = λ c cut con under reach.
       let high = r.greatest c cut con under reach in
       lowered.greatest c high (step_unmet f run c con u x.position (Out x.object x.access x.version) (list.left u last x there at)
-          (let a = high u in omega (arith, a, far)));
+      (let a = high u in omega (arith, a, far)));
   unmet = λ w e l past says. elim (cases_eq w u) [
     | inr ne ↦ outside_less f run (Needing l) (cut_of qs) (cut_of qs') lowered.below (r.unmet w e l (omega (arith, past, rest w ne)) says)
     | inl same ↦
         let past' : last ≤ e = subst (λ z. z ≤ e) (ap (cut_of next') same ∙ own) past in
         let says' : slice_get (placed_at f.placed u).leaves e ≡ Some l =
-            subst (λ z. slice_get (placed_at f.placed z).leaves e ≡ Some l) same says in
+        subst (λ z. slice_get (placed_at f.placed z).leaves e ≡ Some l) same says in
         elim (cases_lt last e) [
           | inl behind ↦ outside_less f run (Needing l) (cut_of qs) (cut_of qs') lowered.below
               (r.unmet u e l (omega (arith, was, behind)) says')

@@ -162,13 +162,13 @@ pub leaves_placed : (f : FittedTrace) → IsFitted f → (o : ℕ) (a : Access) 
     → AllLeaves f o a v ps → (n : ℕ) → n ≡ length f.guest.entries → ArePlaced n ps
 leaves_placed f k o a v ps only all n size =
     subst (λ z. ArePlaced z ps) (sym size) (are_placed f k.run k.run.run k.run.whole k.within (λ b. b ≡ Out o a v) ps
-        (leaves_are f k.run o a v ps only all k.run.run k.run.whole))
+    (leaves_are f k.run o a v ps only all k.run.run k.run.whole))
 
 pub entries_placed : (f : FittedTrace) → IsFitted f → (o : ℕ) (a : Access) (v : ℕ) (ps : List Place) → OnlyEntries f o a v ps
     → AllEntries f o a v ps → (n : ℕ) → n ≡ length f.guest.entries → ArePlaced n ps
 entries_placed f k o a v ps only all n size =
     subst (λ z. ArePlaced z ps) (sym size) (are_placed f k.run k.run.run k.run.whole k.within (λ b. (l : ℕ) × (b ≡ In o a v l)) ps
-        (entries_are f k.run o a v ps only all k.run.run k.run.whole))
+    (entries_are f k.run o a v ps only all k.run.run k.run.whole))
 
 pub leaves_inside : (f : FittedTrace) → IsFitted f → (o : ℕ) (a : Access) (v : ℕ) (ps : List Place) → OnlyLeaves f o a v ps
     → AllLeaves f o a v ps → (xs : List ℕ)

@@ -58,10 +58,10 @@ event_taken f fit qs qs' next t i es d size there below read log sizes raised ps
     let at : cut_of next t ≡ i = read_number next t i inside read in
     let l : i < length es = (let a = below_inside f qs next t i below at in omega (arith, a, sizes)) in
     let event : slice_get (recorded_thread f.recorded t).events (cut_of next t) ≡ Some (slice_index_or es i d) =
-        ap (slice_get (recorded_thread f.recorded t).events) at ∙ ap (λ z. slice_get z i) (sym log) ∙ slice_get-get_or es i d l in
+    ap (slice_get (recorded_thread f.recorded t).events) at ∙ ap (λ z. slice_get z i) (sym log) ∙ slice_get-get_or es i d l in
     rising_more f run (listed f fit.run run is) ps qs qs' next (set next t (i + 1)) u k t (slice_index_or es i d) (rising run is) there
-        below event (raised run is) (own_number next t (i + 1) inside ∙ (let e : i + 1 ≡ cut_of next t + 1 = omega (arith, at) in e))
-        (other_number next t (i + 1))
+    below event (raised run is) (own_number next t (i + 1) inside ∙ (let e : i + 1 ≡ cut_of next t + 1 = omega (arith, at) in e))
+    (other_number next t (i + 1))
 
 pub fewer_events : (f : FittedTrace) (qs next : List ℕ) (t i : ℕ) → length next ≡ length f.guest.entries → t < length f.guest.entries
     → HasBelow f qs next t → i ≡ slice_index_or next t i → events_left f (set next t (i + 1)) < events_left f next
@@ -70,7 +70,7 @@ fewer_events f qs next t i size there below read =
     let at : cut_of next t ≡ i = read_number next t i inside read in
     let l : i < length (placed_at f.placed t).entries = below_inside f qs next t i below at in
     one_less (length f.guest.entries) _ _ t there (let own = own_number next t (i + 1) inside in omega (arith, own, at, l))
-        (λ u ne. ap (λ z. length (placed_at f.placed u).entries - z) (other_number next t (i + 1) u ne))
+    (λ u ne. ap (λ z. length (placed_at f.placed u).entries - z) (other_number next t (i + 1) u ne))
 
 -- ---- a leave is taken
 
@@ -90,15 +90,15 @@ pub leave_taken : (f : FittedTrace) → IsFitted f → (qs qs' next : List ℕ) 
 leave_taken f fit qs qs' next t i ls d are there above read list lowered ps u k falling run is =
     let last = last_read f qs next t i are there above read in
     let within : i - 1 < length ls = (let a = are.some t there in let b : length ls ≡ length (placed_at f.placed t).leaves =
-        ap length list in omega (arith, last.0, a, b)) in
+    ap length list in omega (arith, last.0, a, b)) in
     let x : Leave = slice_index_or ls (i - 1) d in
     let is_leave : slice_get (placed_at f.placed t).leaves (i - 1) ≡ Some x = ap (λ z. slice_get z (i - 1)) (sym list)
-        ∙ slice_get-get_or ls (i - 1) d within in
+    ∙ slice_get-get_or ls (i - 1) d within in
     let index : above.0 ≡ i - 1 = (let a = above.2 in let b = last.0 in omega (arith, a, b)) in
     let same : above.1 ≡ x = same_element (placed_at f.placed t).leaves above.0 (i - 1) above.1 x index above.3 is_leave in
     falling_more f run (listed f fit.run run is) ps qs qs' next (set next t (i - 1)) u k t x (i - 1) (falling run is) there last.0 is_leave
-        (subst (λ z. cut_of qs t ≤ z.position) same above.4) (lowered run is) (own_number next t (i - 1) last.1)
-        (other_number next t (i - 1))
+    (subst (λ z. cut_of qs t ≤ z.position) same above.4) (lowered run is) (own_number next t (i - 1) last.1)
+    (other_number next t (i - 1))
 
 pub fewer_leaves : (f : FittedTrace) (qs next : List ℕ) (t i : ℕ) → AreLeaves f next → t < length f.guest.entries → HasAbove f qs next t
     → i ≡ slice_index_or next t i → leaves_left (set next t (i - 1)) < leaves_left next
@@ -106,8 +106,8 @@ fewer_leaves f qs next t i are there above read =
     let last = last_read f qs next t i are there above read in
     subst (λ n. sum_below n (cut_of (set next t (i - 1))) < leaves_left next) (sym (length-set next t (i - 1)))
     (one_less (length next) (cut_of (set next t (i - 1))) (cut_of next) t last.1
-        (let own = own_number next t (i - 1) last.1 in let at = last.0 in omega (arith, own, at))
-        (λ u ne. other_number next t (i - 1) u ne))
+    (let own = own_number next t (i - 1) last.1 in let at = last.0 in omega (arith, own, at))
+    (λ u ne. other_number next t (i - 1) u ne))
 
 pub leaves_still : (f : FittedTrace) (qs next : List ℕ) (t i : ℕ) → AreLeaves f next → t < length f.guest.entries → HasAbove f qs next t
     → i ≡ slice_index_or next t i → AreLeaves f (set next t (i - 1))
@@ -151,7 +151,7 @@ pub log_read : (f : FittedTrace) → HasRun f → (r : Recorded) (ts : List Reco
     → es ≡ (recorded_thread f.recorded t).events
 log_read f h r ts t x es same is l read events =
     events ∙ ap (λ z. z.events) (read ∙ get_or_default ts t x absent (as_many f h r ts t same is l)
-        ∙ ap (λ z. slice_index_or z t absent) (is ∙ ap (λ z. z.threads) same))
+    ∙ ap (λ z. slice_index_or z t absent) (is ∙ ap (λ z. z.threads) same))
 
 -- ---- positions rise
 
@@ -159,14 +159,14 @@ pub entries_rise : (f : FittedTrace) → IsFitted f → (t : ℕ) (xs : List ℕ
     → IsNonDecreasingBy (λ (i : ℕ). i) xs
 entries_rise f fit t xs there is i j d le l = subst (λ z. (j < length z) → slice_index_or z i d ≤ slice_index_or z j d) (sym is)
     (λ inside. elim (cases_lt i j) [
-  | inl less ↦
-      let low : i < length (placed_at f.placed t).entries = omega (arith, less, inside) in
-      let up = list.rise t i j (slice_index_or (placed_at f.placed t).entries i d) (slice_index_or (placed_at f.placed t).entries j d) there
+      | inl less ↦
+          let low : i < length (placed_at f.placed t).entries = omega (arith, less, inside) in
+          let up = list.rise t i j (slice_index_or (placed_at f.placed t).entries i d) (slice_index_or (placed_at f.placed t).entries j d) there
           less (slice_get-get_or (placed_at f.placed t).entries i d low) (slice_get-get_or (placed_at f.placed t).entries j d inside) in
-      omega (arith, up)
-  | inr past ↦ subst (λ k. slice_index_or (placed_at f.placed t).entries i d ≤ slice_index_or (placed_at f.placed t).entries k d)
-      (let e : i ≡ j = omega (arith, le, past) in e) (le_refl _)
-]) l
+          omega (arith, up)
+      | inr past ↦ subst (λ k. slice_index_or (placed_at f.placed t).entries i d ≤ slice_index_or (placed_at f.placed t).entries k d)
+          (let e : i ≡ j = omega (arith, le, past) in e) (le_refl _)
+    ]) l
   where
     list : Listed f fit.run.run
     list = listed f fit.run fit.run.run fit.run.whole
@@ -175,14 +175,14 @@ pub leaves_rise : (f : FittedTrace) → IsFitted f → (t : ℕ) (xs : List Leav
     → xs ≡ (placed_at f.placed t).leaves → IsNonDecreasingBy (λ (l : Leave). l.position) xs
 leaves_rise f fit t xs there is i j d le l = subst (λ z. (j < length z) → (slice_index_or z i d).position ≤ (slice_index_or z j d).position)
     (sym is) (λ inside. elim (cases_lt i j) [
-  | inl less ↦
-      let low : i < length (placed_at f.placed t).leaves = omega (arith, less, inside) in
-      let up = list.fall t i j (slice_index_or (placed_at f.placed t).leaves i d) (slice_index_or (placed_at f.placed t).leaves j d) there
+      | inl less ↦
+          let low : i < length (placed_at f.placed t).leaves = omega (arith, less, inside) in
+          let up = list.fall t i j (slice_index_or (placed_at f.placed t).leaves i d) (slice_index_or (placed_at f.placed t).leaves j d) there
           less (slice_get-get_or (placed_at f.placed t).leaves i d low) (slice_get-get_or (placed_at f.placed t).leaves j d inside) in
-      omega (arith, up)
-  | inr past ↦ subst (λ k. (slice_index_or (placed_at f.placed t).leaves i d).position ≤
-      (slice_index_or (placed_at f.placed t).leaves k d).position) (let e : i ≡ j = omega (arith, le, past) in e) (le_refl _)
-]) l
+          omega (arith, up)
+      | inr past ↦ subst (λ k. (slice_index_or (placed_at f.placed t).leaves i d).position ≤
+          (slice_index_or (placed_at f.placed t).leaves k d).position) (let e : i ≡ j = omega (arith, le, past) in e) (le_refl _)
+    ]) l
   where
     list : Listed f fit.run.run
     list = listed f fit.run fit.run.run fit.run.whole
@@ -207,14 +207,14 @@ pub first_below : (f : FittedTrace) → IsFitted f → (qs next : List ℕ) (t l
 first_below f fit qs next t last ls d are there is list out =
     let at : cut_of next t ≡ last + 1 = (let some = is.0 in let less = is.1 in omega (arith, some, less)) in
     let within : last < length ls = (let a = are.some t there in let b : length ls ≡ length (placed_at f.placed t).leaves =
-        ap length list in omega (arith, at, a, b)) in
+    ap length list in omega (arith, at, a, b)) in
     all_below f fit qs next t last (slice_index_or ls last d) there at
-        (ap (λ z. slice_get z last) (sym list) ∙ slice_get-get_or ls last d within)
-        (leb-false (slice_index_or qs t 0) (slice_index_or ls last d).position out)
+    (ap (λ z. slice_get z last) (sym list) ∙ slice_get-get_or ls last d within)
+    (leb-false (slice_index_or qs t 0) (slice_index_or ls last d).position out)
 
 pub steps_read : (f : FittedTrace) → HasRun f → (r : Recorded) (ts : List RecordedThread) (t : ℕ) (x : RecordedThread) (n : ℕ)
     → r ≡ f.recorded → ts ≡ r.threads → t < length f.guest.entries → x ≡ slice_index_or ts t x → n ≡ x.steps
     → n ≡ (recorded_thread f.recorded t).steps
 steps_read f h r ts t x n same is l read steps =
     steps ∙ ap (λ z. z.steps) (read ∙ get_or_default ts t x absent (as_many f h r ts t same is l)
-        ∙ ap (λ z. slice_index_or z t absent) (is ∙ ap (λ z. z.threads) same))
+    ∙ ap (λ z. slice_index_or z t absent) (is ∙ ap (λ z. z.threads) same))

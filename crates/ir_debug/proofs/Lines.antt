@@ -17,7 +17,7 @@ unfolding memory_lines
 memory-more address bytes some =
     let n : ℕ = lines_for 16 (length (drop 16 bytes)) in
     let e : lines_for 16 (length bytes) ≡ suc n = lines-more (length bytes) some
-        ∙ ap (λ (k : ℕ). suc (lines_for 16 k)) (sym (length-drop 16 bytes)) in
+    ∙ ap (λ (k : ℕ). suc (lines_for 16 k)) (sym (length-drop 16 bytes)) in
     ap (λ (k : ℕ). memory_lines k address bytes) e
 
 pub memory-none : (address : ℕ) → memory_text address [] ≡ []

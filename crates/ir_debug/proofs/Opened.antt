@@ -59,16 +59,25 @@ none_read opening limit a w0 w1 prefix = record {
   consumed = [];
   taken = nothing_read a;
   within = omega arith;
-  holds = (through-none (lines_of []) no_line, λ some. absurd (some no_rest), prefix_more w0 w1 (opening_text opening)
-      (answers_after opening (lines_of [])) prefix);
+  holds = (
+    through-none (lines_of []) no_line,
+    λ some. absurd (some no_rest),
+    prefix_more w0 w1 (opening_text opening)
+        (answers_after opening (lines_of [])) prefix,
+  );
 }
 
 -- ---- after the opening lines
 
 pub Reads-map : (limit : ℕ) (a b : Option (List ℕ)) (P Q : List ℕ → Type 0) → ((consumed : List ℕ) → P consumed → Q consumed)
     → Reads limit a b P → Reads limit a b Q
-Reads-map limit a b P Q go reads = record { consumed = reads.consumed; taken = reads.taken; within = reads.within; holds =
-    go reads.consumed reads.holds }
+Reads-map limit a b P Q go reads = record {
+  consumed = reads.consumed;
+  taken = reads.taken;
+  within = reads.within;
+  holds =
+      go reads.consumed reads.holds;
+}
 
 pub IfSome-map : (a : Option (List ℕ)) (P Q : List ℕ → Type 0) → ((input : List ℕ) → P input → Q input) → IfSome a P → IfSome a Q
 IfSome-map None P Q go p = tt
@@ -101,7 +110,7 @@ pub told_after : (opening : Opening) (m : Reference) (w0 w1 w2 : Option (List �
 told_after opening m w0 w1 w2 lines is begun grown =
     let P : Opening → Type 0 = λ o. Appends w0 w2 (told o lines) in
     subst P is (Appends-trans w0 w1 w2 (opening_text (Ready m)) (answers reply_to next_after m lines) begun
-        (wrote_only reply_to next_after m lines w1 w2 grown))
+    (wrote_only reply_to next_after m lines w1 w2 grown))
 
 -- a prefix of the answers after the opening lines
 pub told_prefix : (opening : Opening) (m : Reference) (w0 w1 w2 : Option (List ℕ)) (lines : List (List ℕ)) → Ready m ≡ opening
@@ -110,7 +119,7 @@ pub told_prefix : (opening : Opening) (m : Reference) (w0 w1 w2 : Option (List �
 told_prefix opening m w0 w1 w2 lines is begun prefix =
     let P : Opening → Type 0 = λ o. AppendsPrefix w0 w2 (told o lines) in
     subst P is (prefix_after w0 w1 w2 (opening_text (Ready m)) (answers reply_to next_after m lines) begun
-        (prefix_only reply_to next_after m lines w1 w2 prefix))
+    (prefix_only reply_to next_after m lines w1 w2 prefix))
 
 pub begun_at : (opening : Opening) (m : Reference) (w0 w1 : Option (List ℕ)) → opening ≡ Ready m → Appends w0 w1 (opening_text opening)
     → Appends w0 w1 (opening_text (Ready m))
@@ -138,7 +147,7 @@ pub served_known : (opening : Opening) (m : Reference) (limit : ℕ) (result : R
 served_known opening m limit result r a w0 w1 w2 ended is begun known =
     let P : Result Ended SessionErr → Type 0 = λ x. IfServed x (IfSome a (Session opening limit x w0 w2)) in
     subst P (sym ended) (IfServed-by r _ _ (IfSome-map a _ _ (λ input leads. session_of opening m limit r w0 w1 w2 input is begun leads))
-        known)
+    known)
 
 pub served_ended : (opening : Opening) (m : Reference) (limit : ℕ) (result : Result Ended SessionErr) (r : Result Served Fault)
     (a b w0 w1 w2 : Option (List ℕ)) → result ≡ ended_by r → Ready m ≡ opening → Appends w0 w1 (opening_text (Ready m))
@@ -147,4 +156,4 @@ pub served_ended : (opening : Opening) (m : Reference) (limit : ℕ) (result : R
 served_ended opening m limit result r a b w0 w1 w2 ended is begun known =
     let P : Result Ended SessionErr → Type 0 = λ x. IfServed x (Reads limit a b (Session opening limit x w0 w2)) in
     subst P (sym ended) (IfServed-by r _ _ (Reads-map limit a b _ _
-        (λ input leads. session_of opening m limit r w0 w1 w2 input is begun leads)) known)
+    (λ input leads. session_of opening m limit r w0 w1 w2 input is begun leads)) known)

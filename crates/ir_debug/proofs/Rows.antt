@@ -194,8 +194,12 @@ log_two = refl
 
 -- one thread of nine steps, the last of which is its end
 abbrev fitted_9 : FittedTrace
-fitted_9 = record { guest = record guest_p { entries = 0x10000 ∷ [] }; recorded =
-    record { objects = 1; budget = 1000; threads = record { steps = 9; end = Breakpoint; events = [] } ∷ [] }; placed = [] }
+fitted_9 = record {
+  guest = record guest_p { entries = 0x10000 ∷ [] };
+  recorded =
+      record { objects = 1; budget = 1000; threads = record { steps = 9; end = Breakpoint; events = [] } ∷ [] };
+  placed = [];
+}
 
 at_end : moved_text fitted_9 (Step 0 1) (9 ∷ []) ≡ codes "at 9 end\n"
 unfolding digits

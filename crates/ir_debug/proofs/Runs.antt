@@ -31,7 +31,7 @@ rests_for code s i zero e = rw zero-add refl
 rests_for code s i (suc m) e =
     let k : suc m + i ≡ (m + i) + 1 = omega arith in
     ap (λ n. own_run code n s) k ∙ run-more code (m + i) s ∙ ap (λ t. own_step code t) (rests_for code s i m e)
-        ∙ stays code (own_run code i s) e
+    ∙ stays code (own_run code i s) e
 
 rests : (code : List ℕ) (s : State) (i n : ℕ) → i ≤ n → is_own (ask_of code (own_run code i s)) ≡ false
     → own_run code n s ≡ own_run code i s
@@ -46,7 +46,7 @@ run-add code s i (suc k) =
     let e : i + suc k ≡ (i + k) + 1 = omega arith in
     let f : suc k ≡ k + 1 = omega arith in
     ap (λ n. own_run code n s) e ∙ run-more code (i + k) s ∙ ap (λ t. own_step code t) (run-add code s i k)
-        ∙ sym (run-more code k (own_run code i s)) ∙ ap (λ n. own_run code n (own_run code i s)) (sym f)
+    ∙ sym (run-more code k (own_run code i s)) ∙ ap (λ n. own_run code n (own_run code i s)) (sym f)
 
 -- private steps are a thread's own
 private_are_own : (code : List ℕ) (old : State) (n : ℕ) → ((k : ℕ) → k < n → ask_of code (run_of code k old) ≡ ask.Private)
@@ -56,7 +56,7 @@ private_are_own code old zero each = refl
 private_are_own code old (suc n) each =
     let before = private_are_own code old n (λ k below. each k (omega arith)) in
     let here : is_own (ask_of code (own_run code n old)) ≡ true = ap (λ s. is_own (ask_of code s)) (sym before)
-        ∙ ap is_own (each n (omega arith)) in
+    ∙ ap is_own (each n (omega arith)) in
     ap (λ s. step_of code s) before ∙ sym (goes code (own_run code n old) here)
 
 pub owned : (code : List ℕ) (n : ℕ) (old new : State) → PrivateSteps code n old new → new ≡ own_run code n old
@@ -80,7 +80,7 @@ pub one-more : (code : List ℕ) (s0 old new : State) (i n : ℕ) → old ≡ ow
     → new ≡ after_reply code old Go → i + 1 ≡ n → new ≡ own_run code n s0
 one-more code s0 old new i n first own step e =
     step ∙ step_go code old ∙ sym (goes code old own) ∙ ap (λ s. own_step code s) first ∙ sym (run-more code i s0)
-        ∙ ap (λ m. own_run code m s0) e
+    ∙ ap (λ m. own_run code m s0) e
 
 pub at-rest : (code : List ℕ) (s0 s : State) (i n : ℕ) → s ≡ own_run code i s0 → i ≤ n → is_own (ask_of code s) ≡ false
     → s ≡ own_run code n s0

@@ -26,4 +26,4 @@ pub far_from : (pc t : ℕ) (z : ℤ) (s d a : List ℕ) → s ≡ d ++ (codes "
     → t ≡ (pc + low_bits 32 z) % 2 ^ 32 → s ≡ far pc z
 far_from pc t z s d a e f g h =
     e ∙ ap (λ (x : List ℕ). x ++ (codes " # " ++ a)) f
-        ∙ ap (λ (x : List ℕ). distance z ++ (codes " # " ++ x)) (g ∙ ap (λ (n : ℕ). hex 8 n) h)
+    ∙ ap (λ (x : List ℕ). distance z ++ (codes " # " ++ x)) (g ∙ ap (λ (n : ℕ). hex 8 n) h)

@@ -134,7 +134,7 @@ one_sorted n old new x y l read same up h = record {
   below = λ o lo. elim (cases_eq o n) [
     | inl here ↦
         let was : x ≡ get_or old o [] = get_or_read new n x l read [] ∙ ap (λ k. get_or new k []) (sym here)
-            ∙ h.rest o (omega (arith, here)) in
+        ∙ h.rest o (omega (arith, here)) in
         let is : get_or (slice_set new n y) o [] ≡ y = ap (λ k. get_or (slice_set new n y) k []) here ∙ get_or-set_same new n y [] l in (
           subst (λ z. IsPermutation (get_or old o []) z) (sym is) (subst (λ z. IsPermutation z y) was same),
           subst (IsNonDecreasingBy (λ (p : Place). p.version)) (sym is) up,
@@ -166,7 +166,7 @@ set_adds : (xs : List (List Place)) (o q : ℕ) (p : Place) → q < length xs
 set_adds xs o q p l = elim (cases_eq o q) [
   | inl here ↦ subst (λ k. get_or (slice_set xs o (get_or xs o [] ++ p ∷ [])) k [] ≡ get_or xs k [] ++ join_if (eqb o k) p []) here
       (get_or-set_same xs o (get_or xs o [] ++ p ∷ []) [] (omega (arith, l, here))
-          ∙ ap (λ b. get_or xs o [] ++ join_if b p []) (sym (eq-eqb o o refl)))
+      ∙ ap (λ b. get_or xs o [] ++ join_if b p []) (sym (eq-eqb o o refl)))
   | inr ne ↦ get_or-set_other xs o q (get_or xs o [] ++ p ∷ []) [] (λ e. ne (sym e)) ∙ sym (append-nil (get_or xs q []))
       ∙ ap (λ b. get_or xs q [] ++ join_if b p []) (sym (ne_eqb o q ne))
 ]
@@ -202,7 +202,7 @@ adds_none x o l a = sym (append-nil (listed x o a))
 pub adds_more : (x y z : Listing) (vs ws : List Visit) → AddsAll x y vs → AddsAll y z ws → AddsAll x z (vs ++ ws)
 adds_more x y z vs ws h k o l a =
     k o l a ∙ ap (λ xs. xs ++ picked o a ws) (h o l a) ∙ append_assoc (listed x o a) (picked o a vs) (picked o a ws)
-        ∙ ap (λ xs. listed x o a ++ xs) (sym (picked_append o a vs ws))
+    ∙ ap (λ xs. listed x o a ++ xs) (sym (picked_append o a vs ws))
 
 enter_prefix : (t : ℕ) (e : Event) (k : ℕ) (vs ws : List Visit) → enter_if t e k (vs ++ ws) ≡ enter_if t e k vs ++ ws
 enter_prefix t (Answer kind value) k vs ws = refl
@@ -223,7 +223,7 @@ pub adds_event : (x y z : Listing) (t : ℕ) (es : List Event) (ks : List ℕ) (
     → AddsAll x z (entered_by t (take (i + 1) es) ks)
 adds_event x y z t es ks i d l m old new =
     let next : entered_by t (take (i + 1) es) ks ≡ entered_by t (take i es) ks ++ enter_if t (get_or es i d) (get_or ks i 0) [] =
-        ap (λ n. entered_by t (take n es) ks) (add-one i) ∙ entered_next t es ks i d l m in
+    ap (λ n. entered_by t (take n es) ks) (add-one i) ∙ entered_next t es ks i d l m in
     subst (AddsAll x z) (sym next) (adds_more x y z (entered_by t (take i es) ks) (enter_if t (get_or es i d) (get_or ks i 0) []) old new)
 
 -- one more leave
@@ -237,8 +237,8 @@ adds_leave x y z t ls i d l sized old new =
     let e : Leave = get_or ls i d in
     let next : left_by t (take (i + 1) ls) ≡ left_by t (take i ls) ++ f e ∷ [] = map_more f ls i d l in
     subst (AddsAll x z) (sym next) (adds_more x y z (left_by t (take i ls)) (f e ∷ []) old
-        (subst (λ w. AddsAll y w (f e ∷ [])) (sym new)
-        (adds_one y sized e.object e.access (record { position = e.position; version = e.version; thread = t }))))
+    (subst (λ w. AddsAll y w (f e ∷ [])) (sym new)
+    (adds_one y sized e.object e.access (record { position = e.position; version = e.version; thread = t }))))
 
 -- one more thread
 pub adds_thread : (x y z : Listing) (n : ℕ) (f : ℕ → List Visit) → AddsAll x y (of_threads n f) → AddsAll y z (f n)

@@ -75,7 +75,7 @@ to_picked : (o : ℕ) (a : Access) (vs : List Visit) (j : ℕ) (p : Place) → A
 to_picked o a [] j p h = absurd h
 to_picked o a (v ∷ vs) zero p h =
     let b : (eqb v.0 o && same_access v.1 a) ≡ true =
-        rw (eq-eqb v.0 o (ap (λ x. x.0) h), ap (λ (x : Visit). same_access x.1 a) h, same_self a) refl in
+    rw (eq-eqb v.0 o (ap (λ x. x.0) h), ap (λ (x : Visit). same_access x.1 a) h, same_self a) refl in
     (0, subst (At (picked o a (v ∷ vs)) 0) (ap (λ x. x.2) h) (joined_prefix (eqb v.0 o && same_access v.1 a) v.2 (picked o a vs) b))
 to_picked o a (v ∷ vs) (suc j) p h = let g = to_picked o a vs j p h in
     joined_behind (eqb v.0 o && same_access v.1 a) v.2 p (picked o a vs) g.0 g.1
@@ -164,7 +164,7 @@ listed_of : (vs : List Visit) (x : Listing) → IsListing vs x → (o : ℕ) →
     → Contains vs (o, a, p)
 listed_of vs x h o l a p c =
     let at = contains_at (picked o a vs) p (Contains-permutation (listed x o a) (picked o a vs) p
-        (IsPermutation-sym (picked o a vs) (listed x o a) (h.same o l a)) c) in
+    (IsPermutation-sym (picked o a vs) (listed x o a) (h.same o l a)) c) in
     let v = of_picked o a vs at.0 p at.1 in
     at_contains vs v.0 (o, a, p) v.1
 
@@ -181,16 +181,18 @@ pub only_leaves : (f : FittedTrace) (x : Listing) → IsListing (all_left f.plac
 only_leaves f x is o l a v ps found h p c =
     let q = found p c in
     let some = of_some (length f.placed) (λ t. left_by t (placed_at f.placed t).leaves) (o, a, p)
-        (listed_of (all_left f.placed) x is o l a p q.0) in
+    (listed_of (all_left f.placed) x is o l a p q.0) in
     let t : ℕ = some.0 in
     let ls : List Leave = (placed_at f.placed t).leaves in
     let at = contains_at (left_by t ls) (o, a, p) some.2 in
     let leave = of_left t ls at.0 (o, a, p) at.1 in
     let got = get_at ls at.0 leave.0 leave.1 in
     let told = subst (λ (e : Leave). TellsIn f h t e.position (Out e.object e.access e.version)) (got.1 leave.0)
-        (leave_tells f h t (let lt = some.1 in let n = h.each in omega (arith, lt, n)) at.0 leave.0 got.0) in
-    (q.1, subst (λ w. TellsIn f h p.thread p.position (Out o a w)) q.1
-        (subst (λ (z : Visit). TellsIn f h z.2.thread z.2.position (Out z.0 z.1 z.2.version)) leave.2 told))
+    (leave_tells f h t (let lt = some.1 in let n = h.each in omega (arith, lt, n)) at.0 leave.0 got.0) in (
+      q.1,
+      subst (λ w. TellsIn f h p.thread p.position (Out o a w)) q.1
+          (subst (λ (z : Visit). TellsIn f h z.2.thread z.2.position (Out z.0 z.1 z.2.version)) leave.2 told),
+    )
 
 pub all_leaves : (f : FittedTrace) (x : Listing) → IsListing (all_left f.placed) x → (o : ℕ) → o < 2 ^ 8
     → (a : Access) (v : ℕ) (ps : List Place) → ((p : Place) → Contains (listed x o a) p → p.version ≡ v → Contains ps p)
@@ -202,10 +204,10 @@ all_leaves f x is o l a v ps found h t k told =
     let leave = leave_of f h t k o a v told in
     let e : Leave = record { position = k; object = o; access = a; version = v } in
     let at : At (left_by t ls) leave.0 (o, a, p) =
-        to_left t ls leave.0 e (subst (At ls leave.0) (leave.2 e) (at_get ls leave.0 e leave.1)) in
+    to_left t ls leave.0 e (subst (At ls leave.0) (leave.2 e) (at_get ls leave.0 e leave.1)) in
     found p (listed_all (all_left f.placed) x is o l a p
-        (of_each (length f.placed) (λ u. left_by u (placed_at f.placed u).leaves) (o, a, p) t (let n = h.each in omega (arith, below, n))
-        (at_contains (left_by t ls) leave.0 (o, a, p) at))) refl
+    (of_each (length f.placed) (λ u. left_by u (placed_at f.placed u).leaves) (o, a, p) t (let n = h.each in omega (arith, below, n))
+    (at_contains (left_by t ls) leave.0 (o, a, p) at))) refl
 
 pub only_entries : (f : FittedTrace) (x : Listing) → IsListing (all_entered f.recorded f.placed) x → (o : ℕ) → o < 2 ^ 8
     → (a : Access) (v : ℕ) (ps : List Place) → ((p : Place) → Contains ps p → Contains (listed x o a) p × (p.version ≡ v))
@@ -213,7 +215,7 @@ pub only_entries : (f : FittedTrace) (x : Listing) → IsListing (all_entered f.
 only_entries f x is o l a v ps found h p c =
     let q = found p c in
     let some = of_some (length f.placed) (λ t. entered_by t (recorded_thread f.recorded t).events (placed_at f.placed t).entries) (o, a, p)
-        (listed_of (all_entered f.recorded f.placed) x is o l a p q.0) in
+    (listed_of (all_entered f.recorded f.placed) x is o l a p q.0) in
     let t : ℕ = some.0 in
     let es : List Event = (recorded_thread f.recorded t).events in
     let ks : List ℕ = (placed_at f.placed t).entries in
@@ -222,12 +224,17 @@ only_entries f x is o l a v ps found h p c =
     let got = get_at es i e event in
     let stands = get_at ks i p.position place in
     let told : TellsIn f h t (get_or ks i 0) (label_of (get_or es i e)) =
-        entry_tells f h t (let lt = some.1 in let m = h.each in omega (arith, lt, m)) i e got.0 in
+    entry_tells f h t (let lt = some.1 in let m = h.each in omega (arith, lt, m)) i e got.0 in
     let here : TellsIn f h t p.position (In o a p.version n) =
-        subst (λ k. TellsIn f h t k (In o a p.version n)) (stands.1 0)
-        (subst (TellsIn f h t (get_or ks i 0)) (ap label_of (got.1 e) ∙ label) told) in
-    (q.1, (n, subst (λ w. TellsIn f h p.thread p.position (In o a w n)) q.1
-        (subst (λ u. TellsIn f h u p.position (In o a p.version n)) (sym thread) here)))
+    subst (λ k. TellsIn f h t k (In o a p.version n)) (stands.1 0)
+    (subst (TellsIn f h t (get_or ks i 0)) (ap label_of (got.1 e) ∙ label) told) in (
+      q.1,
+      (
+        n,
+        subst (λ w. TellsIn f h p.thread p.position (In o a w n)) q.1
+            (subst (λ u. TellsIn f h u p.position (In o a p.version n)) (sym thread) here),
+      ),
+    )
 
 pub all_entries : (f : FittedTrace) (x : Listing) → IsListing (all_entered f.recorded f.placed) x → (o : ℕ) → o < 2 ^ 8
     → (a : Access) (v : ℕ) (ps : List Place) → ((p : Place) → Contains (listed x o a) p → p.version ≡ v → Contains ps p)
@@ -241,6 +248,6 @@ all_entries f x is o l a v ps found h t k n told =
     let d : Event = Read 0 0 in
     let at : At ks i k = subst (At ks i) place (at_get ks i 0 (let m = entries_long f h t below in omega (arith, li, m))) in
     found p (listed_all (all_entered f.recorded f.placed) x is o l a p
-        (of_each (length f.placed) (λ u. entered_by u (recorded_thread f.recorded u).events (placed_at f.placed u).entries) (o, a, p) t
-        (let m = h.each in omega (arith, below, m))
+    (of_each (length f.placed) (λ u. entered_by u (recorded_thread f.recorded u).events (placed_at f.placed u).entries) (o, a, p) t
+    (let m = h.each in omega (arith, below, m))
     (to_entered t es ks i (get_or es i d) k o a v n (at_get es i d li) at (label d)))) refl

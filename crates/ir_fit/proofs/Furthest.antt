@@ -85,8 +85,8 @@ verdicts_of g r is header co run f vs each stands =
     let n : ℕ = length g.entries in
     let good = start_good m s (starts g r.budget) in
     let top : following.IsMaximal (following.closing m tr) m s tr run =
-        settled n m s (start_idle g r.budget) tr run f
-        (λ t l. let v = there vs t (subst (λ z. t < z) (sym each) l) in (v.0, stands t v.0 v.1)) in (
+    settled n m s (start_idle g r.budget) tr run f
+    (λ t l. let v = there vs t (subst (λ z. t < z) (sym each) l) in (v.0, stands t v.0 v.1)) in (
       (f, top),
       (
         each,
@@ -94,7 +94,7 @@ verdicts_of g r is header co run f vs each stands =
             (one_maximal (following.closing m tr) n m (lawful g.code) tr co s good (starts g r.budget) (start_idle g r.budget) run run' f
             top furthest.0 furthest.1) t v
             (verdict_at n m (lawful g.code) tr co (holds_events g.code r is) s good (starts g r.budget) (start_idle g r.budget) run f top t
-                v (stands t v at)),
+            v (stands t v at)),
       ),
     )
 
@@ -106,9 +106,11 @@ pub whole_of : (g : Guest) (r : Recorded) → HasHeader g r → (run : List Step
     → IsRunOf g r run
 whole_of g r header run f same =
     let m = thread_machine g.code in
-    let s = tables (start_flat g r.budget) in
-    (header, all_same (length g.entries) m (closing g.code) (trace_of r) s (lives g r.budget) run f
-        (all_done (length g.entries) m s (start_idle g r.budget) (trace_of r) run f same))
+    let s = tables (start_flat g r.budget) in (
+      header,
+      all_same (length g.entries) m (closing g.code) (trace_of r) s (lives g r.budget) run f
+          (all_done (length g.entries) m s (start_idle g r.budget) (trace_of r) run f same),
+    )
 
 -- where one isn't, there is no run with the trace
 pub none_of : (g : Guest) (r : Recorded) → IsCoherent (length g.entries) (trace_of r) → (run : List Step) → GoesFurthest g r run
@@ -118,8 +120,8 @@ none_of g r co run furthest t v stands ne whole is =
     let m = thread_machine g.code in
     let s = tables (start_flat g r.budget) in
     goes_on m s (trace_of r) run t v stands ne
-        (whole_same (length g.entries) m (lawful g.code) (closing g.code) (trace_of r) co s (start_good m s (starts g r.budget))
-        (starts g r.budget) (start_idle g r.budget) run furthest.0 furthest.1 whole is.1 t)
+    (whole_same (length g.entries) m (lawful g.code) (closing g.code) (trace_of r) co s (start_good m s (starts g r.budget))
+    (starts g r.budget) (start_idle g r.budget) run furthest.0 furthest.1 whole is.1 t)
 
 -- ---- the trace of a run is coherent
 
@@ -146,11 +148,11 @@ run_coherent g r run is =
     let m = thread_machine g.code in
     let s = tables (start_flat g r.budget) in
     let own : IsCoherent (length g.entries) (trace m s run) =
-        own_coherent (length g.entries) m (lawful g.code) s (start_good m s (starts g r.budget)) (starts g r.budget) (start_idle g r.budget)
-        run is.1.runs in
+    own_coherent (length g.entries) m (lawful g.code) s (start_good m s (starts g r.budget)) (starts g r.budget) (start_idle g r.budget)
+    run is.1.runs in
     let same : log m s run ≡ (trace_of r).logs = λ i t. logs_are g r run is t i in
     subst (λ logs. IsCoherent (length g.entries) (record (trace_of r) { logs = logs })) same
-        (record { made = own.made; writer = own.writer; readers = own.readers })
+    (record { made = own.made; writer = own.writer; readers = own.readers })
 
 -- ---- what the code answers
 
@@ -193,7 +195,7 @@ threads_accept g r header f ps followed placed vs each stand same =
       whole = whole_of g r header k.run k.follows (λ t l.
           let v = there vs t (omega (arith, l, each, k.threads)) in
           subst (StandsAs (thread_machine g.code) (tables (start_flat g r.budget)) (trace_of r) k.run t) (same t v.0 v.1)
-              (stand g k t v.0 v.1));
+          (stand g k t v.0 v.1));
       each = placed ∙ k.threads;
       entries = k.placed;
       leaves = k.left;

@@ -81,8 +81,12 @@ event_of_step : {T : Type 0} (n : ℕ) (xs : List (T × Label)) (j : ℕ) (x : T
     → At xs j (x, e) → (i : ℕ) × At (events xs) i e × At (places_from n xs) i (n + j)
 event_of_step n [] j x e h at = absurd at
 event_of_step n (y ∷ ys) zero x e h at = elim (logs_or y.1) [
-  | inl l ↦ (0, subst (λ es. At es 0 e) (sym (l.event (events ys))) (ap (λ z. z.1) at), subst (λ ks. At ks 0 (n + 0))
-      (sym (l.place n (places_from (suc n) ys))) (let q : n ≡ n + 0 = omega arith in q))
+  | inl l ↦ (
+    0,
+    subst (λ es. At es 0 e) (sym (l.event (events ys))) (ap (λ z. z.1) at),
+    subst (λ ks. At ks 0 (n + 0))
+        (sym (l.place n (places_from (suc n) ys))) (let q : n ≡ n + 0 = omega arith in q),
+  )
   | inr p ↦ absurd (longer (sym (p.event []) ∙ subst (λ m. logged m [] ≡ m ∷ []) (sym (ap (λ z. z.1) at)) (h [])))
 ]
   where
@@ -92,10 +96,18 @@ event_of_step n (y ∷ ys) (suc j) x e h at =
     let g = event_of_step (suc n) ys j x e h at in
     let q : suc n + j ≡ n + suc j = omega arith in
     elim (logs_or y.1) [
-      | inl l ↦ (suc g.0, subst (λ es. At es (suc g.0) e) (sym (l.event (events ys))) g.1, subst (λ ks. At ks (suc g.0) (n + suc j))
-          (sym (l.place n (places_from (suc n) ys))) (subst (At (places_from (suc n) ys) g.0) q g.2))
-      | inr p ↦ (g.0, subst (λ es. At es g.0 e) (sym (p.event (events ys))) g.1, subst (λ ks. At ks g.0 (n + suc j))
-          (sym (p.place n (places_from (suc n) ys))) (subst (At (places_from (suc n) ys) g.0) q g.2))
+      | inl l ↦ (
+        suc g.0,
+        subst (λ es. At es (suc g.0) e) (sym (l.event (events ys))) g.1,
+        subst (λ ks. At ks (suc g.0) (n + suc j))
+            (sym (l.place n (places_from (suc n) ys))) (subst (At (places_from (suc n) ys) g.0) q g.2),
+      )
+      | inr p ↦ (
+        g.0,
+        subst (λ es. At es g.0 e) (sym (p.event (events ys))) g.1,
+        subst (λ ks. At ks g.0 (n + suc j))
+            (sym (p.place n (places_from (suc n) ys))) (subst (At (places_from (suc n) ys) g.0) q g.2),
+      )
     ]
 
 -- ---- leaves
@@ -117,9 +129,11 @@ step_of_leave : {T : Type 0} (n : ℕ) (xs : List (T × Label)) (i : ℕ) (l : L
 step_of_leave n [] i l h = absurd h
 step_of_leave n (x ∷ xs) zero l h = elim (leaves_or x.1) [
   | inl (o, a, v, is) ↦
-      let same : leave_at n o a v ≡ l = subst (λ m. At (leave_if m n (leaves_from (suc n) xs)) 0 l) is h in
-      (0, ap (λ z. z.position) (sym same) ∙ (let q : n ≡ n + 0 = omega arith in q),
-          (x.0, ap (λ m. (x.0, m)) is ∙ ap (λ z. (x.0, Out z.object z.access z.version)) same))
+      let same : leave_at n o a v ≡ l = subst (λ m. At (leave_if m n (leaves_from (suc n) xs)) 0 l) is h in (
+        0,
+        ap (λ z. z.position) (sym same) ∙ (let q : n ≡ n + 0 = omega arith in q),
+        (x.0, ap (λ m. (x.0, m)) is ∙ ap (λ z. (x.0, Out z.object z.access z.version)) same),
+      )
   | inr p ↦ onward n x xs l.position (Out l.object l.access l.version)
       (step_of_leave (suc n) xs 0 l (subst (λ ls. At ls 0 l) (p n (leaves_from (suc n) xs)) h))
 ]
@@ -133,16 +147,21 @@ step_of_leave n (x ∷ xs) (suc i) l h = elim (leaves_or x.1) [
 leave_of_step : {T : Type 0} (n : ℕ) (xs : List (T × Label)) (j : ℕ) (x : T) (o : ℕ) (a : Access) (v : ℕ) → At xs j (x, Out o a v) → (i : ℕ)
     × At (leaves_from n xs) i (leave_at (n + j) o a v)
 leave_of_step n [] j x o a v at = absurd at
-leave_of_step n (y ∷ ys) zero x o a v at =
-    (0, subst (λ m. At (leave_if m n (leaves_from (suc n) ys)) 0 (leave_at (n + 0) o a v)) (sym (ap (λ z. z.1) at))
-        (ap (λ k. leave_at k o a v) (let q : n ≡ n + 0 = omega arith in q)))
+leave_of_step n (y ∷ ys) zero x o a v at = (
+  0,
+  subst (λ m. At (leave_if m n (leaves_from (suc n) ys)) 0 (leave_at (n + 0) o a v)) (sym (ap (λ z. z.1) at))
+      (ap (λ k. leave_at k o a v) (let q : n ≡ n + 0 = omega arith in q)),
+)
 leave_of_step n (y ∷ ys) (suc j) x o a v at =
     let g = leave_of_step (suc n) ys j x o a v at in
     let behind : At (leaves_from (suc n) ys) g.0 (leave_at (n + suc j) o a v) =
-        subst (λ k. At (leaves_from (suc n) ys) g.0 (leave_at k o a v)) (let q : suc n + j ≡ n + suc j = omega arith in q) g.1 in
+    subst (λ k. At (leaves_from (suc n) ys) g.0 (leave_at k o a v)) (let q : suc n + j ≡ n + suc j = omega arith in q) g.1 in
     elim (leaves_or y.1) [
-      | inl (p, b, w, is) ↦ (suc g.0, subst (λ m. At (leave_if m n (leaves_from (suc n) ys)) (suc g.0) (leave_at (n + suc j) o a v))
-          (sym is) behind)
+      | inl (p, b, w, is) ↦ (
+        suc g.0,
+        subst (λ m. At (leave_if m n (leaves_from (suc n) ys)) (suc g.0) (leave_at (n + suc j) o a v))
+            (sym is) behind,
+      )
       | inr p ↦ (g.0, subst (λ ls. At ls g.0 (leave_at (n + suc j) o a v)) (sym (p n (leaves_from (suc n) ys))) behind)
     ]
 
@@ -219,7 +238,7 @@ tells_below f h t k e told = elim (cases_lt t (length f.guest.entries)) [
   | inl l ↦ l
   | inr past ↦
       let none : trail_in f h t ≡ [] = idle_trail (thread_machine f.guest.code) (tables (start_flat f.guest f.recorded.budget))
-          (length f.guest.entries) (start_idle f.guest f.recorded.budget) h.run h.whole.1.runs t past in
+      (length f.guest.entries) (start_idle f.guest f.recorded.budget) h.run h.whole.1.runs t past in
       absurd (subst (λ xs. At xs k (told.0, e)) none told.1)
 ]
 
@@ -252,11 +271,11 @@ entry_tells f h t l i d li =
     let k : ℕ = get_or (placed_at f.placed t).entries i 0 in
     let e : Label = label_of (get_or es i d) in
     let event : At (map label_of es) i e = subst (At (map label_of es) i) (get_or-map label_of es i d e li)
-        (at_get (map label_of es) i e (let n = length-map es label_of in omega (arith, n, li))) in
+    (at_get (map label_of es) i e (let n = length-map es label_of in omega (arith, n, li))) in
     let place : At (placed_at f.placed t).entries i k =
-        at_get (placed_at f.placed t).entries i 0 (let n = entries_long f h t l in omega (arith, n, li)) in
+    at_get (placed_at f.placed t).entries i 0 (let n = entries_long f h t l in omega (arith, n, li)) in
     told_by f h t k e (step_of_event 0 (trail_in f h t) i k e (subst (λ xs. At xs i e) (sym (h.whole.1.logs t l)) event)
-        (subst (λ xs. At xs i k) (h.entries t l) place))
+    (subst (λ xs. At xs i k) (h.entries t l) place))
 
 -- a step that is logged is an event's, at its position
 pub event_of : (f : FittedTrace) (h : HasRun f) (t k : ℕ) (e : Label) → ((es : List Label) → logged e es ≡ e ∷ es) → TellsIn f h t k e
@@ -269,9 +288,13 @@ event_of f h t k e logs told =
     let event : At (map label_of es) g.0 e = subst (λ xs. At xs g.0 e) (h.whole.1.logs t l) g.1 in
     let place : At (placed_at f.placed t).entries g.0 (0 + k) = subst (λ xs. At xs g.0 (0 + k)) (sym (h.entries t l)) g.2 in
     let found = get_at (map label_of es) g.0 e event in
-    let li : g.0 < length es = let n = length-map es label_of in let m = found.0 in omega (arith, n, m) in
-    (g.0, li, (get_at (placed_at f.placed t).entries g.0 (0 + k) place).1 0
-        ∙ (let q : 0 + k ≡ k = omega arith in q), λ d. sym (get_or-map label_of es g.0 d e li) ∙ found.1 e)
+    let li : g.0 < length es = let n = length-map es label_of in let m = found.0 in omega (arith, n, m) in (
+      g.0,
+      li,
+      (get_at (placed_at f.placed t).entries g.0 (0 + k) place).1 0
+          ∙ (let q : 0 + k ≡ k = omega arith in q),
+      λ d. sym (get_or-map label_of es g.0 d e li) ∙ found.1 e,
+    )
 
 -- each entry is an event's
 pub entry_of : (f : FittedTrace) (h : HasRun f) (t k o : ℕ) (a : Access) (v n : ℕ) → TellsIn f h t k (In o a v n)
@@ -296,7 +319,7 @@ pub entry_within : (f : FittedTrace) (h : HasRun f) (t : ℕ) → t < length f.g
 entry_within f h t l i li =
     let d : Event = logged_event.Answer Clock 0 in
     tells_within f h t (get_or (placed_at f.placed t).entries i 0) (label_of (get_or (recorded_thread f.recorded t).events i d))
-        (entry_tells f h t l i d (let n = entries_long f h t l in omega (arith, n, li)))
+    (entry_tells f h t l i d (let n = entries_long f h t l in omega (arith, n, li)))
 
 -- the step of leave i tells leave i
 pub leave_tells : (f : FittedTrace) (h : HasRun f) (t : ℕ) → t < length f.guest.entries → (i : ℕ) (d : Leave)
@@ -307,7 +330,7 @@ pub leave_tells : (f : FittedTrace) (h : HasRun f) (t : ℕ) → t < length f.gu
 leave_tells f h t l i d li =
     let e : Leave = get_or (placed_at f.placed t).leaves i d in
     told_by f h t e.position (Out e.object e.access e.version)
-        (step_of_leave 0 (trail_in f h t) i e (subst (λ xs. At xs i e) (h.leaves t l) (at_get (placed_at f.placed t).leaves i d li)))
+    (step_of_leave 0 (trail_in f h t) i e (subst (λ xs. At xs i e) (h.leaves t l) (at_get (placed_at f.placed t).leaves i d li)))
 
 -- each leave is one of these
 pub leave_of : (f : FittedTrace) (h : HasRun f) (t k o : ℕ) (a : Access) (v : ℕ) → TellsIn f h t k (Out o a v)
@@ -317,7 +340,7 @@ leave_of f h t k o a v told =
     let l = tells_below f h t k (Out o a v) told in
     let g = leave_of_step 0 (trail_in f h t) k told.0 o a v told.1 in
     let at : At (placed_at f.placed t).leaves g.0 (leave_at (0 + k) o a v) =
-        subst (λ xs. At xs g.0 (leave_at (0 + k) o a v)) (sym (h.leaves t l)) g.1 in
+    subst (λ xs. At xs g.0 (leave_at (0 + k) o a v)) (sym (h.leaves t l)) g.1 in
     let found = get_at (placed_at f.placed t).leaves g.0 (leave_at (0 + k) o a v) at in
     (g.0, found.0, λ d. found.1 d ∙ ap (λ j. leave_at j o a v) (let q : 0 + k ≡ k = omega arith in q))
 
@@ -330,7 +353,7 @@ leaves_rise f h t l i j d lt lj =
     let place : Leave → ℕ = λ e. e.position in
     let n = length-map ls place in
     let up = rises_below 0 (positions ls) (subst (λ xs. Rises 0 (positions xs)) (sym (h.leaves t l)) (leaves_rise_from 0 (trail_in f h t)))
-        i j lt (omega (arith, n, lj)) in
+    i j lt (omega (arith, n, lj)) in
     let first : get_or (positions ls) i 0 ≡ (get_or ls i d).position = get_or-map place ls i d 0 (omega (arith, lt, lj)) in
     let second : get_or (positions ls) j 0 ≡ (get_or ls j d).position = get_or-map place ls j d 0 lj in
     omega (arith, up, first, second)

@@ -153,9 +153,11 @@ module _ (guest : Guest) (r : Recorded) (f : Flat) (ps qs : List Placed) (n : Mo
       ∙ get_or-set_other ps n.thread u (placed_by f n.thread (placed_at ps n.thread) n.asked) none_placed ne
 
   own_steps : trail (guest_machine guest r) (guest_start guest r) (k.run ++ (n.thread, n.result) ∷ []) n.thread ≡ trail
-      (guest_machine guest r) (guest_start guest r) k.run n.thread ++
-      ((end (guest_machine guest r) (guest_start guest r) k.run).now n.thread, label (guest_machine guest r)
-      (end (guest_machine guest r) (guest_start guest r) k.run) (n.thread, n.result)) ∷ []
+      (guest_machine guest r) (guest_start guest r) k.run n.thread ++ (
+        (end (guest_machine guest r) (guest_start guest r) k.run).now n.thread,
+        label (guest_machine guest r)
+            (end (guest_machine guest r) (guest_start guest r) k.run) (n.thread, n.result),
+      ) ∷ []
   own_steps = trail_append (guest_machine guest r) (guest_start guest r) k.run ((n.thread, n.result) ∷ []) n.thread
       ∙ ap (λ z. trail (guest_machine guest r) (guest_start guest r) k.run n.thread ++ z)
       (trail_same (guest_machine guest r) (end (guest_machine guest r) (guest_start guest r) k.run) (n.thread, n.result) [])
@@ -182,15 +184,18 @@ module _ (guest : Guest) (r : Recorded) (f : Flat) (ps qs : List Placed) (n : Mo
     | inl e ↦ subst (λ u. (placed_at qs u).entries ≡ places_of
         (trail (guest_machine guest r) (guest_start guest r) (k.run ++ (n.thread, n.result) ∷ []) u)) (sym e)
         (ap (λ z. z.entries) kept_own ∙ placed_entries f n.thread n.result (placed_at ps n.thread) n.asked
-            ∙ ap (λ z. z ++ place_if (tells f n.asked n.result) (thread_of f n.thread).steps [])
-            (k.placed n.thread (subst (λ u. u < length guest.entries) e l))
+        ∙ ap (λ z. z ++ place_if (tells f n.asked n.result) (thread_of f n.thread).steps [])
+        (k.placed n.thread (subst (λ u. u < length guest.entries) e l))
         ∙ ap (λ z. places_of (trail (guest_machine guest r) (guest_start guest r) k.run n.thread) ++ z)
         (ap (λ z. place_if z (thread_of f n.thread).steps []) tells_there
         ∙ ap (λ (i : ℕ). place_if (label (guest_machine guest r) (end (guest_machine guest r) (guest_start guest r) k.run)
         (n.thread, n.result)) i []) position)
         ∙ sym (places_append 0 (trail (guest_machine guest r) (guest_start guest r) k.run n.thread)
-        (((end (guest_machine guest r) (guest_start guest r) k.run).now n.thread, label (guest_machine guest r)
-        (end (guest_machine guest r) (guest_start guest r) k.run) (n.thread, n.result)) ∷ [])) ∙ ap (λ z. places_of z) (sym own_steps))
+        ((
+          (end (guest_machine guest r) (guest_start guest r) k.run).now n.thread,
+          label (guest_machine guest r)
+              (end (guest_machine guest r) (guest_start guest r) k.run) (n.thread, n.result),
+        ) ∷ [])) ∙ ap (λ z. places_of z) (sym own_steps))
     | inr ne ↦ ap (λ z. z.entries) (kept_other t ne) ∙ k.placed t l ∙ ap (λ z. places_of z) (sym (other_steps t ne))
   ]
 
@@ -200,15 +205,18 @@ module _ (guest : Guest) (r : Recorded) (f : Flat) (ps qs : List Placed) (n : Mo
     | inl e ↦ subst (λ u. (placed_at qs u).leaves ≡ leaves_of
         (trail (guest_machine guest r) (guest_start guest r) (k.run ++ (n.thread, n.result) ∷ []) u)) (sym e)
         (ap (λ z. z.leaves) kept_own ∙ placed_leaves f n.thread n.result (placed_at ps n.thread) n.asked
-            ∙ ap (λ z. z ++ leave_if (tells f n.asked n.result) (thread_of f n.thread).steps [])
-            (k.left n.thread (subst (λ u. u < length guest.entries) e l))
+        ∙ ap (λ z. z ++ leave_if (tells f n.asked n.result) (thread_of f n.thread).steps [])
+        (k.left n.thread (subst (λ u. u < length guest.entries) e l))
         ∙ ap (λ z. leaves_of (trail (guest_machine guest r) (guest_start guest r) k.run n.thread) ++ z)
         (ap (λ z. leave_if z (thread_of f n.thread).steps []) tells_there
         ∙ ap (λ (i : ℕ). leave_if (label (guest_machine guest r) (end (guest_machine guest r) (guest_start guest r) k.run)
         (n.thread, n.result)) i []) position)
         ∙ sym (leaves_append 0 (trail (guest_machine guest r) (guest_start guest r) k.run n.thread)
-        (((end (guest_machine guest r) (guest_start guest r) k.run).now n.thread, label (guest_machine guest r)
-        (end (guest_machine guest r) (guest_start guest r) k.run) (n.thread, n.result)) ∷ [])) ∙ ap (λ z. leaves_of z) (sym own_steps))
+        ((
+          (end (guest_machine guest r) (guest_start guest r) k.run).now n.thread,
+          label (guest_machine guest r)
+              (end (guest_machine guest r) (guest_start guest r) k.run) (n.thread, n.result),
+        ) ∷ [])) ∙ ap (λ z. leaves_of z) (sym own_steps))
     | inr ne ↦ ap (λ z. z.leaves) (kept_other t ne) ∙ k.left t l ∙ ap (λ z. leaves_of z) (sym (other_steps t ne))
   ]
 
@@ -222,11 +230,11 @@ moves guest r f g ps qs n move each more taken code threads objects k =
     let t : ℕ = n.thread in
     let v : ℕ = n.result in
     let step : StepFollows m (trace_of r) (end m s k.run) (left_steps (trail m s k.run t) ((trace_of r).steps t))
-        (left_log (trail m s k.run t) ((trace_of r).logs t)) t v =
+    (left_log (trail m s k.run t) ((trace_of r).logs t)) t v =
     there guest r f ps k t (λ n z a es. StepFollows n (trace_of r) z a es t v) move.follows in
     made guest r g qs (k.run ++ (t, v) ∷ []) (goes_further m s (trace_of r) k.run k.follows t v step.0 (step.1, step.2, step.3))
     (taken ∙ ap (λ c. after (thread_machine c) (tables f) (t, v)) k.code ∙ ap (λ z. after m z (t, v)) k.ends
-        ∙ sym (end_append m s k.run ((t, v) ∷ [])))
+    ∙ sym (end_append m s k.run ((t, v) ∷ [])))
     (code ∙ k.code) (threads ∙ k.threads) (objects ∙ k.objects)
     (more_placed guest r f ps qs n move each more k) (more_left guest r f ps qs n move each more k)
 
@@ -255,10 +263,10 @@ alone_follows code tr s run t (suc n) h each le =
     ) in
     let size : length (trail m s (run ++ e ∷ []) t) ≡ length (trail m s run t) + 1 =
     ap length (trail_append m s run (e ∷ []) t) ∙ length-append (trail m s run t) (trail m (end m s run) (e ∷ []) t)
-        ∙ ap (λ z. length (trail m s run t) + length z) (trail_same m (end m s run) e []) in
+    ∙ ap (λ z. length (trail m s run t) + length z) (trail_same m (end m s run) e []) in
     let was : left ≡ tr.steps t - length (trail m s run t) = steps_over_is (trail m s run t) (tr.steps t) in
     let now : left_steps (trail m s (run ++ e ∷ []) t) (tr.steps t) ≡ tr.steps t - length (trail m s (run ++ e ∷ []) t) =
-        steps_over_is (trail m s (run ++ e ∷ []) t) (tr.steps t) in
+    steps_over_is (trail m s (run ++ e ∷ []) t) (tr.steps t) in
     subst (Follows (closing m tr) m s tr) (append_assoc run (e ∷ []) (replicate n e))
     (alone_follows code tr s (run ++ e ∷ []) t n step
     (λ k l. ap (λ z. ask_of code ((end m z (replicate k (t, 0))).now t)) (end_append m s run (e ∷ [])) ∙ each (suc k) (omega (arith, l)))
@@ -273,7 +281,7 @@ alone_quiet code s t (suc n) each u =
     let m = thread_machine code in
     let is : ask_of code (s.now t) ≡ Private = each 0 (omega arith) in
     quiet_join (eqb u t) (s.now u, label m s (t, 0)) (trail m (after m s (t, 0)) (replicate n (t, 0)) u)
-        (ap (λ q. told (act_of (shared_ask q) 0) (s.objects (target (act_of (shared_ask q) 0)))) is)
+    (ap (λ q. told (act_of (shared_ask q) 0) (s.objects (target (act_of (shared_ask q) 0)))) is)
     (alone_quiet code (after m s (t, 0)) t n (λ k l. each (suc k) (omega (arith, l))) u)
 
 pub went_follows : (guest : Guest) (r : Recorded) (f g : Flat) (ps : List Placed) (t n : ℕ) → WentAlone f g t n → n ≤ steps_ahead r f t
@@ -283,19 +291,19 @@ went_follows guest r f g ps t n w le k =
     let s = guest_start guest r in
     let each : (j : ℕ) → j < n → ask_of guest.code ((end m (end m s k.run) (replicate j (t, 0))).now t) ≡ Private =
     λ j l. subst (λ z. ask_of guest.code ((end m z (replicate j (t, 0))).now t) ≡ Private) k.ends
-        (subst (λ c. ask_of c ((end (thread_machine c) (tables f) (replicate j (t, 0))).now t) ≡ Private) k.code (w.each j l)) in
+    (subst (λ c. ask_of c ((end (thread_machine c) (tables f) (replicate j (t, 0))).now t) ≡ Private) k.code (w.each j l)) in
     let rest : ℕ → List (thread.State × Label) = λ u. trail m (end m s k.run) (replicate n (t, 0)) u in
     let quiet : (u : ℕ) → AllQuiet (rest u) = alone_quiet guest.code (end m s k.run) t n each in
     made guest r g ps (k.run ++ replicate n (t, 0))
     (alone_follows guest.code (trace_of r) s k.run t n k.follows each (subst (λ z. n ≤ z) (steps_are guest r f ps k t) le))
     (w.ends ∙ ap (λ c. end (thread_machine c) (tables f) (replicate n (t, 0))) k.code ∙ ap (λ z. end m z (replicate n (t, 0))) k.ends
-        ∙ sym (end_append m s k.run (replicate n (t, 0))))
+    ∙ sym (end_append m s k.run (replicate n (t, 0))))
     (w.code ∙ k.code) (w.threads ∙ k.threads) (w.objects ∙ k.objects)
     (λ u l. k.placed u l ∙ sym (append-nil (places_of (trail m s k.run u)))
-        ∙ ap (λ z. places_of (trail m s k.run u) ++ z) (sym (quiet_places (0 + length (trail m s k.run u)) (rest u) (quiet u)))
+    ∙ ap (λ z. places_of (trail m s k.run u) ++ z) (sym (quiet_places (0 + length (trail m s k.run u)) (rest u) (quiet u)))
     ∙ sym (places_append 0 (trail m s k.run u) (rest u)) ∙ ap (λ z. places_of z) (sym (trail_append m s k.run (replicate n (t, 0)) u)))
     (λ u l. k.left u l ∙ sym (append-nil (leaves_of (trail m s k.run u)))
-        ∙ ap (λ z. leaves_of (trail m s k.run u) ++ z) (sym (quiet_leaves (0 + length (trail m s k.run u)) (rest u) (quiet u)))
+    ∙ ap (λ z. leaves_of (trail m s k.run u) ++ z) (sym (quiet_leaves (0 + length (trail m s k.run u)) (rest u) (quiet u)))
     ∙ sym (leaves_append 0 (trail m s k.run u) (rest u)) ∙ ap (λ z. leaves_of z) (sym (trail_append m s k.run (replicate n (t, 0)) u)))
 
 -- ---- fewer are left
@@ -308,21 +316,21 @@ pub step_fewer : (r : Recorded) (f g : Flat) (t v : ℕ) → t < length f.thread
 step_fewer r f g t v l can taken threads =
     let m = machine_of f in
     let steps : (u : ℕ) → (thread_of g u).steps ≡ (thread_of f u).steps + count m (tables f) ((t, v) ∷ []) u =
-        λ u. ap (λ s. (s.now u).steps) taken ∙ (tally f.code (tables f) ((t, v) ∷ []) (can.0, tt) u).steps in
+    λ u. ap (λ s. (s.now u).steps) taken ∙ (tally f.code (tables f) ((t, v) ∷ []) (can.0, tt) u).steps in
     let one : count m (tables f) ((t, v) ∷ []) t ≡ 1 = ap length (trail_same m (tables f) (t, v) []) in
     let some : 0 < steps_ahead r f t = can.1 in
     let own : (thread_of g t).steps ≡ (thread_of f t).steps + count m (tables f) ((t, v) ∷ []) t = steps t in
     subst (λ n. sum_below n (steps_ahead r g) < all_ahead r f) (sym threads)
     (sum_less (length f.threads) t (steps_ahead r g) (steps_ahead r f) l (omega (arith, own, one, some))
-        (λ u. less_left (recorded_thread r u).steps (thread_of g u).steps (thread_of f u).steps _ (steps u)))
+    (λ u. less_left (recorded_thread r u).steps (thread_of g u).steps (thread_of f u).steps _ (steps u)))
 
 went_fewer : (r : Recorded) (f g : Flat) (t n : ℕ) → WentAlone f g t n → all_ahead r g ≤ all_ahead r f
 went_fewer r f g t n w =
     subst (λ k. sum_below k (steps_ahead r g) ≤ all_ahead r f) (sym w.threads)
     (sum_le (length f.threads) (steps_ahead r g) (steps_ahead r f)
     (λ u. less_left (recorded_thread r u).steps (thread_of g u).steps (thread_of f u).steps
-        (count (machine_of f) (tables f) (replicate n (t, 0)) u)
-        (ap (λ s. (s.now u).steps) w.ends ∙ (tally f.code (tables f) (replicate n (t, 0)) w.runs u).steps)))
+    (count (machine_of f) (tables f) (replicate n (t, 0)) u)
+    (ap (λ s. (s.now u).steps) w.ends ∙ (tally f.code (tables f) (replicate n (t, 0)) w.runs u).steps)))
 
 -- ---- what is kept keeps up
 
@@ -398,8 +406,8 @@ step_held : (code : List ℕ) (s : State thread.State) (t u : ℕ) → ask_of co
 step_held code s t u is = ap (λ now. (now u).held) (now_after code s (t, 0))
     ∙ upd_elim s.now t (moved_thread code s (t, 0)) u (λ z. z.held ≡ (s.now u).held)
     (λ e. ap (λ q. (after_ask code (s.now t) q
-        (reply_of q (reply (act_of (shared_ask q) 0) (s.objects (target (act_of (shared_ask q) 0)))))).held) is
-        ∙ ap (λ i. (s.now i).held) (sym e))
+    (reply_of q (reply (act_of (shared_ask q) 0) (s.objects (target (act_of (shared_ask q) 0)))))).held) is
+    ∙ ap (λ i. (s.now i).held) (sym e))
     (λ _. refl)
 
 alone_held : (code : List ℕ) (s : State thread.State) (t n : ℕ)
@@ -408,16 +416,16 @@ alone_held : (code : List ℕ) (s : State thread.State) (t n : ℕ)
 alone_held code s t zero each u = refl
 alone_held code s t (suc n) each u =
     alone_held code (after (thread_machine code) s (t, 0)) t n (λ k l. each (suc k) (omega (arith, l))) u
-        ∙ step_held code s t u (each 0 (omega arith))
+    ∙ step_held code s t u (each 0 (omega arith))
 
 pub went_placed : (r : Recorded) (f g : Flat) (ps : List Placed) (t n : ℕ) → IsPlaced r f ps → WentAlone f g t n → IsPlaced r g ps
 went_placed r f g ps t n kept w =
     let events_same : (u : ℕ) → (thread_of g u).events ≡ (thread_of f u).events =
     λ u. ap (λ s. (s.now u).events) w.ends ∙ (tally f.code (tables f) (replicate n (t, 0)) w.runs u).events
-        ∙ ap (λ z. (thread_of f u).events + length z) (w.quiet u)
-        ∙ (let e : (thread_of f u).events + 0 ≡ (thread_of f u).events = omega arith in e) in
+    ∙ ap (λ z. (thread_of f u).events + length z) (w.quiet u)
+    ∙ (let e : (thread_of f u).events + 0 ≡ (thread_of f u).events = omega arith in e) in
     let held_same : (u : ℕ) → (thread_of g u).held ≡ (thread_of f u).held = λ u. ap (λ s. (s.now u).held) w.ends
-        ∙ alone_held f.code (tables f) t n w.each u in
+    ∙ alone_held f.code (tables f) t n w.each u in
     record {
       each = kept.each ∙ sym w.threads;
       rooms = λ u l. kept.rooms u (omega (arith, l, w.threads));
@@ -451,9 +459,9 @@ pub start_placed : (guest : Guest) (r : Recorded) (f : Flat) (ps : List Placed) 
 start_placed guest r f ps start rooms count =
     let at : (t : ℕ) → placed_at ps t ≡ room_for (recorded_thread r t) = λ t. ap (λ z. placed_at z t) rooms ∙ room_at r.threads t in
     let no_events : (t : ℕ) → (thread_of f t).events ≡ 0 = λ t. ap (λ z. (thread_of z t).events) start
-        ∙ (fresh guest r.budget 0 (length guest.entries) t).events in
+    ∙ (fresh guest r.budget 0 (length guest.entries) t).events in
     let no_held : (t : ℕ) → held_count (thread_of f t).held ≡ 0 = λ t. ap (λ z. held_count (thread_of z t).held) start
-        ∙ none_held guest r.budget 0 (length guest.entries) t in
+    ∙ none_held guest r.budget 0 (length guest.entries) t in
     record {
       each = ap (λ z. length z) rooms ∙ length-map r.threads room_for ∙ count;
       rooms = λ t l. ap (λ z. z.room) (at t);
@@ -465,14 +473,22 @@ start_placed guest r f ps start rooms count =
 
 pub start_none : (r : Recorded) (ps : List Placed) → ps ≡ map room_for r.threads → (t : ℕ) → ((placed_at ps t).entries ≡ [])
     × ((placed_at ps t).leaves ≡ [])
-start_none r ps rooms t = (ap (λ z. (placed_at z t).entries) rooms
-    ∙ ap (λ z. z.entries) (room_at r.threads t), ap (λ z. (placed_at z t).leaves) rooms ∙ ap (λ z. z.leaves) (room_at r.threads t))
+start_none r ps rooms t = (
+  ap (λ z. (placed_at z t).entries) rooms
+      ∙ ap (λ z. z.entries) (room_at r.threads t),
+  ap (λ z. (placed_at z t).leaves) rooms ∙ ap (λ z. z.leaves) (room_at r.threads t),
+)
 
 -- ---- going on
 
 pub went_on : (r : Recorded) (f g : Flat) (ps : List Placed) (t n : ℕ) → WentAlone f g t n → n ≤ steps_ahead r f t → GoesOn r f ps g ps
-went_on r f g ps t n w le = record { follows = λ guest. went_follows guest r f g ps t n w le; threads = w.threads; objects =
-    w.objects; fewer = went_fewer r f g t n w }
+went_on r f g ps t n w le = record {
+  follows = λ guest. went_follows guest r f g ps t n w le;
+  threads = w.threads;
+  objects =
+      w.objects;
+  fewer = went_fewer r f g t n w;
+}
 
 -- a step that was taken
 pub record Taken (r : Recorded) (f : Flat) (ps : List Placed) (g : Flat) (qs : List Placed) : Type 0 where
@@ -503,7 +519,7 @@ pub taken_by : {X E : Type 0} (result : Result X E) (r : Recorded) (f g h : Flat
     → OnErr result (Can (machine_of h) (tables h) (n.thread, n.result) → ⊥) → Taken r f ps g qs
 taken_by (Ok x) r f g h ps qs n move kept more same taken code threads objects never =
     moved_on r f g ps qs n move kept more (subst (λ z. tables g ≡ after (machine_of z) (tables z) (n.thread, n.result)) same taken)
-        (code ∙ ap (λ z. z.code) same) (threads ∙ ap (λ z. length z.threads) same) (objects ∙ ap (λ z. length z.objects) same)
+    (code ∙ ap (λ z. z.code) same) (threads ∙ ap (λ z. length z.threads) same) (objects ∙ ap (λ z. length z.objects) same)
 taken_by (Err x) r f g h ps qs n move kept more same taken code threads objects never =
     absurd (never (subst (λ z. Can (machine_of z) (tables z) (n.thread, n.result)) (sym same) move.follows.0))
 
@@ -540,8 +556,8 @@ pub chained : (r q p : Recorded) (f g g' h i : Flat) (ps bs bs' cs ds : List Pla
     → GoesOn q g' bs' h cs → p ≡ q → GoesOn p h cs i ds → GoesOn r f ps i ds
 chained r q p f g g' h i ps bs bs' cs ds goes same kept trace step after_it then =
     goes_both r f h i ps cs ds (goes_both r f g h ps bs cs goes
-        (subst (λ z. GoesOn r z bs h cs) same (subst (λ z. GoesOn r g' z h cs) kept (subst (λ z. GoesOn z g' bs' h cs) trace step))))
-        (subst (λ z. GoesOn z h cs i ds) (after_it ∙ trace) then)
+    (subst (λ z. GoesOn r z bs h cs) same (subst (λ z. GoesOn r g' z h cs) kept (subst (λ z. GoesOn z g' bs' h cs) trace step))))
+    (subst (λ z. GoesOn z h cs i ds) (after_it ∙ trace) then)
 
 pub chained_less : (r q p o : Recorded) (g g' h i : Flat) (cs ds : List Placed) → g' ≡ g → q ≡ r → all_ahead p h < all_ahead q g'
     → GoesOn p h cs i ds → o ≡ p → all_ahead o i < all_ahead r g
@@ -562,9 +578,9 @@ last_follows guest r run t v h =
     let m = guest_machine guest r in
     let s = guest_start guest r in
     let last = fits_last (closing m (trace_of r) t) ((trace_of r).steps t) ((trace_of r).logs t) (trail m s run t)
-        ((end m s run).now t, told (act m (end m s run) (t, v)) ((end m s run).objects (target (act m (end m s run) (t, v)))))
+    ((end m s run).now t, told (act m (end m s run) (t, v)) ((end m s run).objects (target (act m (end m s run) (t, v)))))
     (subst (Fits (closing m (trace_of r) t) ((trace_of r).steps t) ((trace_of r).logs t))
-        (trail_append m s run ((t, v) ∷ []) t ∙ ap (λ z. trail m s run t ++ z) (trail_same m (end m s run) (t, v) [])) (h.1 t)) in
+    (trail_append m s run ((t, v) ∷ []) t ∙ ap (λ z. trail m s run t ++ z) (trail_same m (end m s run) (t, v) [])) (h.1 t)) in
     (run_last m s run (t, v) h.0, last.0, last.1, last.2)
 
 -- a thread that is stopped can't go on along the run
@@ -616,9 +632,9 @@ stands_some guest r f ps k t stopped =
       | inl d ↦ (Same, d)
       | inr ne ↦ elim (agrees m ((trace_of r).ends t) ((end m s k.run).now t) (left_steps (trail m s k.run t) ((trace_of r).steps t))
           (left_log (trail m s k.run t) ((trace_of r).logs t))) [
-        | inl same ↦ (Starves (length (log m s k.run t)), (ne, same, (λ h. never_on guest r f ps k t _ stopped h), refl))
-        | inr other ↦ (Disagrees (length (log m s k.run t)) (count m s k.run t), (ne, other, refl, refl))
-      ]
+            | inl same ↦ (Starves (length (log m s k.run t)), (ne, same, (λ h. never_on guest r f ps k t _ stopped h), refl))
+            | inr other ↦ (Disagrees (length (log m s k.run t)) (count m s k.run t), (ne, other, refl, refl))
+          ]
     ]
 
 -- the guest at the end

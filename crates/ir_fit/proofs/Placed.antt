@@ -36,7 +36,7 @@ pub places_append : {T : Type 0} (i : ℕ) (xs ys : List (T × Label))
 places_append i [] ys = ap (λ (k : ℕ). places_from k ys) (let e : i ≡ i + 0 = omega arith in e)
 places_append i (x ∷ xs) ys =
     ap (place_if x.1 i) (places_append (suc i) xs ys
-        ∙ ap (λ (k : ℕ). places_from (suc i) xs ++ places_from k ys) (let e : suc i + length xs ≡ i + suc (length xs) = omega arith in e))
+    ∙ ap (λ (k : ℕ). places_from (suc i) xs ++ places_from k ys) (let e : suc i + length xs ≡ i + suc (length xs) = omega arith in e))
     ∙ place_prefix x.1 i (places_from (suc i) xs) (places_from (i + suc (length xs)) ys)
 
 pub leaves_append : {T : Type 0} (i : ℕ) (xs ys : List (T × Label))
@@ -44,7 +44,7 @@ pub leaves_append : {T : Type 0} (i : ℕ) (xs ys : List (T × Label))
 leaves_append i [] ys = ap (λ (k : ℕ). leaves_from k ys) (let e : i ≡ i + 0 = omega arith in e)
 leaves_append i (x ∷ xs) ys =
     ap (leave_if x.1 i) (leaves_append (suc i) xs ys
-        ∙ ap (λ (k : ℕ). leaves_from (suc i) xs ++ leaves_from k ys) (let e : suc i + length xs ≡ i + suc (length xs) = omega arith in e))
+    ∙ ap (λ (k : ℕ). leaves_from (suc i) xs ++ leaves_from k ys) (let e : suc i + length xs ≡ i + suc (length xs) = omega arith in e))
     ∙ leave_prefix x.1 i (leaves_from (suc i) xs) (leaves_from (i + suc (length xs)) ys)
 
 -- steps that tell nothing

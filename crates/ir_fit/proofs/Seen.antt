@@ -92,9 +92,13 @@ pub follows_by : (r : Recorded) (f : Flat) (t v : ℕ) (q : Ask) → ask_of f.co
     → FollowsAs r f t v (steps_ahead r f t) (log_ahead r f t) q → CanFollow r f t v
 follows_by r f t v q is h =
     let k : FollowsAs r f t v (steps_ahead r f t) (log_ahead r f t) (ask_of f.code (thread_of f t)) =
-        subst (FollowsAs r f t v (steps_ahead r f t) (log_ahead r f t)) (sym is) h in
-    (k.can, k.steps, k.logs, subst (λ e. Meets e ((trace_of r).ends t) (held_count (thread_of f t).held) (steps_ahead r f t)
-        (log_ahead r f t)) (sym (ends_asked f.code (thread_of f t))) k.ends)
+    subst (FollowsAs r f t v (steps_ahead r f t) (log_ahead r f t)) (sym is) h in (
+      k.can,
+      k.steps,
+      k.logs,
+      subst (λ e. Meets e ((trace_of r).ends t) (held_count (thread_of f t).held) (steps_ahead r f t)
+          (log_ahead r f t)) (sym (ends_asked f.code (thread_of f t))) k.ends,
+    )
 
 -- the next step is the trace's, where it is asked so
 pub record AgreesAs (r : Recorded) (f : Flat) (t n : ℕ) (es : List Label) (q : Ask) : Type 0 where
@@ -115,9 +119,12 @@ pub agrees_by : (r : Recorded) (f : Flat) (t : ℕ) (q : Ask) → ask_of f.code 
     → AgreesAs r f t (steps_ahead r f t) (log_ahead r f t) q → AgreesAhead r f t
 agrees_by r f t q is h =
     let k : AgreesAs r f t (steps_ahead r f t) (log_ahead r f t) (ask_of f.code (thread_of f t)) =
-        subst (AgreesAs r f t (steps_ahead r f t) (log_ahead r f t)) (sym is) h in
-    (k.steps, k.suits, subst (λ e. Meets e ((trace_of r).ends t) (held_count (thread_of f t).held) (steps_ahead r f t) (log_ahead r f t))
-        (sym (ends_asked f.code (thread_of f t))) k.ends)
+    subst (AgreesAs r f t (steps_ahead r f t) (log_ahead r f t)) (sym is) h in (
+      k.steps,
+      k.suits,
+      subst (λ e. Meets e ((trace_of r).ends t) (held_count (thread_of f t).held) (steps_ahead r f t) (log_ahead r f t))
+          (sym (ends_asked f.code (thread_of f t))) k.ends,
+    )
 
 -- ---- the next event of a log
 
@@ -191,9 +198,9 @@ call_follows r f t v kind j fits is steps next suits =
     let here : Answer j v ≡ Answer kind v = ap (λ z. Answer z v) same in
     let es : log_ahead r f t ≡ labels.Answer kind v ∷ drop (suc (thread_of f t).events) (map label_of (recorded_thread r t).events) =
     ahead_at (recorded_thread r t).events (thread_of f t).events (Answer kind v)
-        (subst (λ z. slice_get (recorded_thread r t).events (thread_of f t).events ≡ Some z) here next) in
+    (subst (λ z. slice_get (recorded_thread r t).events (thread_of f t).events ≡ Some z) here next) in
     let result : IsResult kind v = subst (λ z. IsResult z v) same
-        (event_fits (IsEvent r.objects) (recorded_thread r t).events (thread_of f t).events (Answer j v) fits.events_fit next) in
+    (event_fits (IsEvent r.objects) (recorded_thread r t).events (thread_of f t).events (Answer j v) fits.events_fit next) in
     follows_by r f t v (Env kind) is (record {
       can = fits_result kind v result;
       steps = steps;
@@ -210,16 +217,20 @@ open_entry f t v o a (Answer k w) es rest is suits h = absurd h
 open_entry f t v o a (Read p w) es rest is suits h =
     let object : ◌≡◌ {A = ℕ} o p = sym (let e : ◌≡◌ {A = ℕ} p o = cc suits in e) in
     let access : ◌≡◌ {A = Access} Reading a = cc suits in
-    subst (λ z. (Admitted z (cell_of f o).fields) × (logged (tells f (Enter o z) v) (unlogged (tells f (Enter o z) v) es) ≡ es)) access
-    (h.1, ap (λ z. labels.In o Reading (cell_of f o).fields.version 0 ∷ unlogged (labels.In o Reading (cell_of f o).fields.version 0) z) is
-        ∙ (λ i. labels.In (object i) Reading (h.0 i) 0 ∷ rest) ∙ sym is)
+    subst (λ z. (Admitted z (cell_of f o).fields) × (logged (tells f (Enter o z) v) (unlogged (tells f (Enter o z) v) es) ≡ es)) access (
+      h.1,
+      ap (λ z. labels.In o Reading (cell_of f o).fields.version 0 ∷ unlogged (labels.In o Reading (cell_of f o).fields.version 0) z) is
+          ∙ (λ i. labels.In (object i) Reading (h.0 i) 0 ∷ rest) ∙ sym is,
+    )
 open_entry f t v o a (Write p w l) es rest is suits h =
     let object : ◌≡◌ {A = ℕ} o p = sym (let e : ◌≡◌ {A = ℕ} p o = cc suits in e) in
     let access : ◌≡◌ {A = Access} Writing a = cc suits in
-    subst (λ z. (Admitted z (cell_of f o).fields) × (logged (tells f (Enter o z) v) (unlogged (tells f (Enter o z) v) es) ≡ es)) access
-    (h.2, ap (λ z. labels.In o Writing (cell_of f o).fields.version (cell_of f o).fields.left
-        ∷ unlogged (labels.In o Writing (cell_of f o).fields.version (cell_of f o).fields.left) z) is
-        ∙ (λ i. labels.In (object i) Writing (h.0 i) (h.1 i) ∷ rest) ∙ sym is)
+    subst (λ z. (Admitted z (cell_of f o).fields) × (logged (tells f (Enter o z) v) (unlogged (tells f (Enter o z) v) es) ≡ es)) access (
+      h.2,
+      ap (λ z. labels.In o Writing (cell_of f o).fields.version (cell_of f o).fields.left
+          ∷ unlogged (labels.In o Writing (cell_of f o).fields.version (cell_of f o).fields.left) z) is
+          ∙ (λ i. labels.In (object i) Writing (h.0 i) (h.1 i) ∷ rest) ∙ sym is,
+    )
 
 entry_open : (f : Flat) (t v o : ℕ) (a : Access) (e : Event) (es rest : List Label) → es ≡ label_of e ∷ rest → Suits (Enter o a) e
     → Admitted a (cell_of f o).fields → logged (tells f (Enter o a) v) (unlogged (tells f (Enter o a) v) es) ≡ es → IsOpen (cell_of f o) e
@@ -227,18 +238,20 @@ entry_open f t v o a (Answer k w) es rest is suits can h = absurd (cc suits)
 entry_open f t v o a (Read p w) es rest is suits can h =
     let access : ◌≡◌ {A = Access} a Reading = sym (let e : ◌≡◌ {A = Access} Reading a = cc suits in e) in
     let tells_read : labels.In o Reading (cell_of f o).fields.version 0
-        ∷ unlogged (labels.In o Reading (cell_of f o).fields.version 0) es ≡ es =
-        subst (λ z. logged (tells f (Enter o z) v) (unlogged (tells f (Enter o z) v) es) ≡ es) access h in
+    ∷ unlogged (labels.In o Reading (cell_of f o).fields.version 0) es ≡ es =
+    subst (λ z. logged (tells f (Enter o z) v) (unlogged (tells f (Enter o z) v) es) ≡ es) access h in
     let both = tells_read ∙ is in
     ((let e : ◌≡◌ {A = ℕ} (cell_of f o).fields.version w = cc both in e), subst (λ z. Admitted z (cell_of f o).fields) access can)
 entry_open f t v o a (Write p w l) es rest is suits can h =
     let access : ◌≡◌ {A = Access} a Writing = sym (let e : ◌≡◌ {A = Access} Writing a = cc suits in e) in
     let tells_write : labels.In o Writing (cell_of f o).fields.version (cell_of f o).fields.left
-        ∷ unlogged (labels.In o Writing (cell_of f o).fields.version (cell_of f o).fields.left) es ≡ es =
-        subst (λ z. logged (tells f (Enter o z) v) (unlogged (tells f (Enter o z) v) es) ≡ es) access h in
-    let both = tells_write ∙ is in
-    ((let e : ◌≡◌ {A = ℕ} (cell_of f o).fields.version w = cc both in e), (let e : ◌≡◌ {A = ℕ} (cell_of f o).fields.left l = cc both in e),
-        subst (λ z. Admitted z (cell_of f o).fields) access can)
+    ∷ unlogged (labels.In o Writing (cell_of f o).fields.version (cell_of f o).fields.left) es ≡ es =
+    subst (λ z. logged (tells f (Enter o z) v) (unlogged (tells f (Enter o z) v) es) ≡ es) access h in
+    let both = tells_write ∙ is in (
+      (let e : ◌≡◌ {A = ℕ} (cell_of f o).fields.version w = cc both in e),
+      (let e : ◌≡◌ {A = ℕ} (cell_of f o).fields.left l = cc both in e),
+      subst (λ z. Admitted z (cell_of f o).fields) access can,
+    )
 
 -- what isn't so where its test says no
 pub test_false : (b : Bool) (P : Type 0) → IsTrue b ↔ P → b ≡ false → P → ⊥
@@ -258,7 +271,7 @@ pub entry_follows : (r : Recorded) (f : Flat) (t o : ℕ) (a : Access) (e : Even
 entry_follows r f t o a e flat l is steps next suits opens =
     let es = ahead_at (recorded_thread r t).events (thread_of f t).events e next in
     let both = open_entry f t 0 o a e (log_ahead r f t) (drop (suc (thread_of f t).events) (map label_of (recorded_thread r t).events)) es
-        suits opens in
+    suits opens in
     follows_by r f t 0 (Enter o a) is (record {
       can = (may_admits f t 0 (Enter o a) flat l (subst (Permits (thread_of f t)) is (ask_permits f.code (thread_of f t)))).0 both.0;
       steps = steps;
@@ -273,7 +286,7 @@ pub entry_waits : (r : Recorded) (f : Flat) (t o : ℕ) (a : Access) (e : Event)
 entry_waits r f t o a e flat l is next suits shut v h =
     let k : FollowsAs r f t v (steps_ahead r f t) (log_ahead r f t) (Enter o a) = follows_as r f t v (Enter o a) is h in
     shut (entry_open f t v o a e (log_ahead r f t) (drop (suc (thread_of f t).events) (map label_of (recorded_thread r t).events))
-        (ahead_at (recorded_thread r t).events (thread_of f t).events e next) suits
+    (ahead_at (recorded_thread r t).events (thread_of f t).events e next) suits
     ((may_admits f t v (Enter o a) flat l (subst (Permits (thread_of f t)) is (ask_permits f.code (thread_of f t)))).1 k.can) k.logs)
 
 pub entry_agrees : (r : Recorded) (f : Flat) (t o : ℕ) (a : Access) (e : Event) → ask_of f.code (thread_of f t) ≡ Enter o a

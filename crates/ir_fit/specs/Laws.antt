@@ -48,7 +48,7 @@ CompleteFits = (guest : Guest) (budget : ℕ) (run : List Step) → let f = star
 abbrev pub MaximalExists : Type 0
 MaximalExists = (guest : Guest) (budget : ℕ) (tr : Trace) → let f = start_flat guest budget in
     (run : List Step) × Follows (closing (machine f) tr) (machine f) (tables f) tr run
-        × IsMaximal (closing (machine f) tr) (machine f) (tables f) tr run
+    × IsMaximal (closing (machine f) tr) (machine f) (tables f) tr run
 
 -- where such a run stops that follows a coherent trace, each thread has one verdict, and it is that of each other such run
 abbrev pub OneVerdict : Type 0
@@ -74,6 +74,9 @@ FitsExactly = (guest : Guest) (budget : ℕ) (tr : Trace) → let f = start_flat
 abbrev pub OneStepEach : Type 0
 OneStepEach = (guest : Guest) (budget : ℕ) (tr : Trace) (run : List Step) → let f = start_flat guest budget in
     ((t : ℕ) → Follows (closing (machine f) tr) (machine f) (tables f) tr
-        (run ++ (t, result_of (asked (machine f) (end (machine f) (tables f) run) t)
-        (left_log (trail (machine f) (tables f) run t) (tr.logs t))) ∷ []) → ⊥)
+    (run ++ (
+      t,
+      result_of (asked (machine f) (end (machine f) (tables f) run) t)
+          (left_log (trail (machine f) (tables f) run t) (tr.logs t)),
+    ) ∷ []) → ⊥)
     → IsMaximal (closing (machine f) tr) (machine f) (tables f) tr run

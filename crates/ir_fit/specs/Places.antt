@@ -59,8 +59,10 @@ placed_at ps t = slice_index_or ps t none_placed
 abbrev pub placed_by : Flat → ℕ → Placed → Ask → Placed
 placed_by f t p (Env kind) = record p { entries = p.entries ++ (thread_of f t).steps ∷ [] }
 placed_by f t p (Enter o a) = record p { entries = p.entries ++ (thread_of f t).steps ∷ [] }
-placed_by f t p (Leaves o a) = record p { leaves =
-    p.leaves ++ record { position = (thread_of f t).steps; object = o; access = a; version = (cell_of f o).fields.version } ∷ [] }
+placed_by f t p (Leaves o a) = record p {
+  leaves =
+      p.leaves ++ record { position = (thread_of f t).steps; object = o; access = a; version = (cell_of f o).fields.version } ∷ [];
+}
 placed_by f t p _ = p
 
 -- what is kept of all threads, and that step

@@ -10,8 +10,8 @@ ghost use Rattle.ir_runs.specs.declared.thread_verdict.ThreadVerdict.TheVariants
 use crate::coherence::coherent;
 use crate::fit_err::FitErr;
 use crate::fitted::Fitted;
-use crate::follower::ending::followed;
 use crate::follower::Follower;
+use crate::follower::ending::followed;
 use crate::header::same_header;
 use crate::places::Places;
 use crate::verdict::Verdict;

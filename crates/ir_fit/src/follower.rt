@@ -6,8 +6,8 @@ ghost use Rattle.ir_trace.specs.Recorded.{IsRecordedThread};
 ghost use Rattle.ir_trace.specs.Told.{recorded_thread};
 ghost use Rattle.ir_fit.specs.Ahead.{steps_ahead};
 
-use crate::places::Places;
 use crate::follower::readiness::Readiness;
+use crate::places::Places;
 use ir_flat::Flat;
 use ir_object::Object;
 use ir_thread::Thread;

@@ -32,6 +32,7 @@ pub use coherence::coherent;
 pub use fit_err::FitErr;
 pub use fitted::Fitted;
 pub use fitting::fit;
+pub use follower::look::is_open;
 pub use header_cause::HeaderCause;
 pub use ir_coherence::Cause;
 pub use laws::{
@@ -39,6 +40,5 @@ pub use laws::{
     own_trace_coherent, trace_determines,
 };
 pub use leave::Leave;
-pub use follower::look::is_open;
 pub use place::Place;
 pub use verdict::Verdict;

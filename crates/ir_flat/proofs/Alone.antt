@@ -68,17 +68,20 @@ one_more f t y n flat l p rest =
     let g : Flat = with_thread f t x in
     let g_flat : IsFlat g = next_flat f t 0 Private (sym is) flat l tt in
     let first : tables g ≡ after (machine f) (tables f) (t, 0) =
-        next_after f t 0 Private is flat l (subst (Permits (thread_of f t)) is (ask_permits f.code (thread_of f t))) tt in
+    next_after f t 0 Private is flat l (subst (Permits (thread_of f t)) is (ask_permits f.code (thread_of f t))) tt in
     let now : thread_of g t ≡ step_of f.code (thread_of f t) = get_or-set_same f.threads t x idle l
-        ∙ sym (private_step f.code (thread_of f t) is) in
+    ∙ sym (private_step f.code (thread_of f t) is) in
     let w : WentAlone g (with_thread g t y) t n =
-        rest g t y g_flat (omega (arith, l, length-set f.threads t x))
-        (subst (λ z. PrivateSteps f.code n z y) (sym now) (private_rest f.code n (thread_of f t) y p)) in
+    rest g t y g_flat (omega (arith, l, length-set f.threads t x))
+    (subst (λ z. PrivateSteps f.code n z y) (sym now) (private_rest f.code n (thread_of f t) y p)) in
     let again : set (set f.threads t x) t y ≡ set f.threads t y = set-set f.threads t x y in
     let again_flat : with_thread g t y ≡ with_thread f t y = ap (λ xs. record f { threads = xs }) again in
     record {
-      runs = ((may_can f t 0 flat l).0 (subst (MayStep f 0) (sym is) tt), subst (λ s. IsRun (machine f) s (replicate n (t, 0))) first
-          w.runs);
+      runs = (
+        (may_can f t 0 flat l).0 (subst (MayStep f 0) (sym is) tt),
+        subst (λ s. IsRun (machine f) s (replicate n (t, 0))) first
+            w.runs,
+      );
       ends = sym (ap tables again_flat) ∙ w.ends ∙ ap (λ s. end (machine f) s (replicate n (t, 0))) first;
       each = λ k below. at_step k below is first w;
       quiet = λ u. quiet_first (eqb u t) ((tables f).now u) (label (machine f) (tables f) (t, 0))
@@ -114,10 +117,10 @@ went_flat (suc n) f t y flat l p =
     let x : thread.State = after_ask f.code (thread_of f t) Private Go in
     let g_flat : IsFlat (with_thread f t x) = next_flat f t 0 Private (sym is) flat l tt in
     let now : thread_of (with_thread f t x) t ≡ step_of f.code (thread_of f t) = get_or-set_same f.threads t x idle l
-        ∙ sym (private_step f.code (thread_of f t) is) in
+    ∙ sym (private_step f.code (thread_of f t) is) in
     subst (λ xs. IsFlat (record f { threads = xs })) (set-set f.threads t x y)
     (went_flat n (with_thread f t x) t y g_flat (omega (arith, l, length-set f.threads t x))
-        (subst (λ z. PrivateSteps f.code n z y) (sym now) (private_rest f.code n (thread_of f t) y p)))
+    (subst (λ z. PrivateSteps f.code n z y) (sym now) (private_rest f.code n (thread_of f t) y p)))
 
 -- the same, of the value that the code's parts are
 pub ran_flat : (p f new : Flat) (t n : ℕ) → p ≡ f → t < length f.threads → IsFlat p
@@ -125,7 +128,7 @@ pub ran_flat : (p f new : Flat) (t n : ℕ) → p ≡ f → t < length f.threads
     → new ≡ with_thread p t (run_of p.code n (thread_of p t)) → IsFlat new
 ran_flat p f new t n same l flat each e =
     subst IsFlat (sym e) (went_flat n p t (run_of p.code n (thread_of p t)) flat (subst (λ z. t < length z.threads) (sym same) l)
-        (record { steps = refl; each = each }))
+    (record { steps = refl; each = each }))
 
 pub ran_alone : (p f new : Flat) (t n : ℕ) → p ≡ f → t < length f.threads → IsFlat p
     → ((k : ℕ) → k < n → ask_of p.code (run_of p.code k (thread_of p t)) ≡ Private)
@@ -133,4 +136,4 @@ pub ran_alone : (p f new : Flat) (t n : ℕ) → p ≡ f → t < length f.thread
 ran_alone p f new t n same l flat each e =
     subst (λ g. WentAlone f g t n) (sym e) (subst (λ z. WentAlone z (with_thread p t (run_of p.code n (thread_of p t))) t n) same
     (went n p t (run_of p.code n (thread_of p t)) flat (subst (λ z. t < length z.threads) (sym same) l)
-        (record { steps = refl; each = each })))
+    (record { steps = refl; each = each })))

@@ -82,16 +82,16 @@ tally_own : (code : List ℕ) (s : State thread.State) (e : Step) (run : List St
 tally_own code s e run can k =
     let m = thread_machine code in
     let now : (after m s e).now e.0 ≡ moved_thread code s e = ap (λ f. f e.0) (now_after code s e)
-        ∙ upd_same s.now e.0 (moved_thread code s e) in
+    ∙ upd_same s.now e.0 (moved_thread code s e) in
     let trail_is : trail m s (e ∷ run) e.0 ≡ (s.now e.0, label m s e) ∷ trail m (after m s e) run e.0 =
-        ap (λ b. join_if b (s.now e.0, label m s e) (trail m (after m s e) run e.0)) (eq-eqb e.0 e.0 refl) in
+    ap (λ b. join_if b (s.now e.0, label m s e) (trail m (after m s e) run e.0)) (eq-eqb e.0 e.0 refl) in
     let more : ((after m s e).now e.0).events ≡ (s.now e.0).events + added (ask_of code (s.now e.0)) = ap (λ x. x.events) now
-        ∙ events_added code (s.now e.0) (ask_of code (s.now e.0)) _ in
+    ∙ events_added code (s.now e.0) (ask_of code (s.now e.0)) _ in
     let one : ((after m s e).now e.0).steps ≡ (s.now e.0).steps + 1 = ap (λ x. x.steps) now
-        ∙ steps_added code (s.now e.0) (ask_of code (s.now e.0)) _ (never_done code s e can) in
+    ∙ steps_added code (s.now e.0) (ask_of code (s.now e.0)) _ (never_done code s e can) in
     let size : length (log m s (e ∷ run) e.0) ≡ added (ask_of code (s.now e.0)) + length (log m (after m s e) run e.0) =
     ap (λ z. length (events z)) trail_is ∙ longer (label m s e) (events (trail m (after m s e) run e.0))
-        ∙ ap (λ z. z + length (log m (after m s e) run e.0)) (label_added (ask_of code (s.now e.0)) e.1 (s.objects (target (act m s e)))) in
+    ∙ ap (λ z. z + length (log m (after m s e) run e.0)) (label_added (ask_of code (s.now e.0)) e.1 (s.objects (target (act m s e)))) in
     let steps : count m s (e ∷ run) e.0 ≡ suc (count m (after m s e) run e.0) = ap length trail_is in
     record { events = let was = k.events in omega (arith, was, more, size); steps = let was = k.steps in omega (arith, was, one, steps) }
 
@@ -104,7 +104,7 @@ tally code s (e ∷ run) ok t = elim (cases_eq t e.0) [
       let m = thread_machine code in
       let k : Tallies code (after m s e) run t = tally code (after m s e) run ok.1 t in
       let trail_is : trail m s (e ∷ run) t ≡ trail m (after m s e) run t =
-          ap (λ b. join_if b (s.now t, label m s e) (trail m (after m s e) run t)) (ne_eqb t e.0 ne) in
+      ap (λ b. join_if b (s.now t, label m s e) (trail m (after m s e) run t)) (ne_eqb t e.0 ne) in
       let now : (after m s e).now t ≡ s.now t = ap (λ f. f t) (now_after code s e) ∙ upd_other s.now e.0 t (moved_thread code s e) ne in
       record {
         events = k.events ∙ ap (λ x. x.events + length (log m (after m s e) run t)) now

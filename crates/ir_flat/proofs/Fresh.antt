@@ -42,8 +42,11 @@ pub record IsFresh (places : ℕ) (x : thread.State) : Type 0 where
   pub events : x.events ≡ 0
 
 nothing_held : (n o : ℕ) → held_at (replicate n None) o ≡ None
-nothing_held n o = elim (cases_lt o n) [ inl l ↦ get_or-replicate n o None None l | inr g ↦ get_or_past (replicate n None) o None
-    (subst (λ k. k ≤ o) (sym (length-replicate n None)) g) ]
+nothing_held n o = elim (cases_lt o n) [
+  | inl l ↦ get_or-replicate n o None None l
+  | inr g ↦ get_or_past (replicate n None) o None
+      (subst (λ k. k ≤ o) (sym (length-replicate n None)) g)
+]
 
 pub fresh : (g : Guest) (budget from n t : ℕ) → IsFresh (object_count g) (get_or (start_threads g budget from n) t idle)
 fresh g budget from zero t = record { none = λ o. refl; events = refl }
@@ -133,7 +136,7 @@ pub object_made : (words : List ℕ) (n : ℕ) (before after : List Cell) (x : C
     → x ≡ start_cell (take 8 (drop (8 * n) words)) → after ≡ before ++ x ∷ [] → after ≡ start_cells words (n + 1)
 object_made words n before after x is new made =
     made ∙ ap (λ xs. xs ++ x ∷ []) is ∙ ap (λ y. start_cells words n ++ y ∷ []) new ∙ sym (cells_more words n)
-        ∙ ap (start_cells words) (let e : suc n ≡ n + 1 = omega arith in e)
+    ∙ ap (start_cells words) (let e : suc n ≡ n + 1 = omega arith in e)
 
 pub made_flat : (g : Guest) (budget : ℕ) (f : Flat) → f.code ≡ g.code → f.threads ≡ start_threads g budget 0 (length g.entries)
     → f.objects ≡ start_cells g.words (object_count g) → IsGuest g → IsFlat f

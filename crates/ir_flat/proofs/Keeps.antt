@@ -30,13 +30,17 @@ pub may_admits : (f : Flat) (t r : ℕ) (q : Ask) → IsFlat f → t < length f.
 may_admits f t r Private flat l p = ((λ _. tt), λ _. tt)
 may_admits f t r (Env kind) flat l p = ((λ h. h), λ h. h)
 may_admits f t r (Enter o Reading) flat l p =
-    let c = (flat.objects o (omega (arith, p.2, flat.places t l))).counts in
-    (admits_reader (length f.threads) (cell_of f o).fields (inside_of f o) c, reader_admitted (length f.threads) (cell_of f o).fields
-        (inside_of f o) c)
+    let c = (flat.objects o (omega (arith, p.2, flat.places t l))).counts in (
+      admits_reader (length f.threads) (cell_of f o).fields (inside_of f o) c,
+      reader_admitted (length f.threads) (cell_of f o).fields
+          (inside_of f o) c,
+    )
 may_admits f t r (Enter o Writing) flat l p =
-    let c = (flat.objects o (omega (arith, p.2, flat.places t l))).counts in
-    (admits_writer (length f.threads) (cell_of f o).fields (inside_of f o) c, writer_admitted (length f.threads) (cell_of f o).fields
-        (inside_of f o) c)
+    let c = (flat.objects o (omega (arith, p.2, flat.places t l))).counts in (
+      admits_writer (length f.threads) (cell_of f o).fields (inside_of f o) c,
+      writer_admitted (length f.threads) (cell_of f o).fields
+          (inside_of f o) c,
+    )
 may_admits f t r (Leave o a) flat l p = ((λ _. tt), λ _. tt)
 may_admits f t r (Get o i) flat l p = ((λ _. tt), λ _. tt)
 may_admits f t r (Put o i w) flat l p = ((λ _. tt), λ _. tt)
@@ -99,7 +103,7 @@ quiet_shared : (f : Flat) (t : ℕ) (y : thread.State) → t < length f.threads 
 quiet_shared f t y l same o old = record {
   counts = subst (λ n. Counts n (cell_of f o).fields (inside_of (with_thread f t y) o)) (sym (length-set f.threads t y))
       (subst (Counts (length f.threads) (cell_of f o).fields)
-          (sym (inside-set f t y o l ∙ upd_id (inside_of f o) t (held_at y.held o) (ap (λ h. held_at h o) (sym same)))) old.counts);
+      (sym (inside-set f t y o l ∙ upd_id (inside_of f o) t (held_at y.held o) (ap (λ h. held_at h o) (sym same)))) old.counts);
   words = old.words;
 }
 
@@ -110,7 +114,7 @@ touched : (f : Flat) (t : ℕ) (y : thread.State) (o : ℕ) (c : Cell) → t < l
     → IsShared (with_object (with_thread f t y) o c) i
 touched f t y o c l k same counts count i old =
     let cell : cell_of (with_object (with_thread f t y) o c) i ≡ upd (cell_of f) o c i =
-        ap (λ table. table i) (table-set f.objects o c empty k) in
+    ap (λ table. table i) (table-set f.objects o c empty k) in
     record {
       counts = subst (λ n. Counts n (cell_of (with_object (with_thread f t y) o c) i).fields (inside_of (with_thread f t y) i))
           (sym (length-set f.threads t y))
@@ -119,7 +123,7 @@ touched f t y o c l k same counts count i old =
           (upd_elim (cell_of f) o c i (λ z. Counts (length f.threads) z.fields (upd (inside_of f i) t (held_at y.held i)))
           (λ e. subst (λ j. Counts (length f.threads) c.fields (upd (inside_of f j) t (held_at y.held j))) (sym e) counts)
           (λ ne. subst (Counts (length f.threads) (cell_of f i).fields)
-              (sym (upd_id (inside_of f i) t (held_at y.held i) (sym (same i ne)))) old.counts))));
+          (sym (upd_id (inside_of f i) t (held_at y.held i) (sym (same i ne)))) old.counts))));
       words = subst (λ z. length z.words ≡ 8) (sym cell)
           (upd_elim (cell_of f) o c i (λ z. length z.words ≡ 8) (λ _. count) (λ _. old.words));
     }
@@ -137,22 +141,22 @@ next_shared f t r (Enter o a) flat l p may i h =
     let none : inside_of f o t ≡ None = above_held (thread_of f t).held o p.3 o (le_refl o) in
     touched f t _ o _ l k (still (thread_of f t).held o (Some a))
     (subst (λ x. Counts (length f.threads) (entered a (cell_of f o).fields) (upd (inside_of f o) t x))
-        (sym (get_or-set_same (thread_of f t).held o (Some a) None p.2))
+    (sym (get_or-set_same (thread_of f t).held o (Some a) None p.2))
     (entry_counts (length f.threads) (cell_of f o).fields (inside_of f o) t a l none (flat.objects o k).counts)) (flat.objects o k).words i
-        (flat.objects i h)
+    (flat.objects i h)
 next_shared f t r (Leave o a) flat l p may i h =
     let k : o < length f.objects = omega (arith, p.1, flat.places t l) in
     touched f t _ o _ l k (still (thread_of f t).held o None)
     (subst (λ x. Counts (length f.threads) (left_by a (cell_of f o).fields) (upd (inside_of f o) t x))
-        (sym (get_or-set_same (thread_of f t).held o None None p.1))
+    (sym (get_or-set_same (thread_of f t).held o None None p.1))
     (leave_counts (length f.threads) (cell_of f o).fields (inside_of f o) t a l p.2
     (λ e u ne. flat.kept.exclusive o t u (λ s. ne (sym s)) (p.2 ∙ ap Some e)) (flat.objects o k).counts)) (flat.objects o k).words i
-        (flat.objects i h)
+    (flat.objects i h)
 next_shared f t r (Put o j w) flat l p may i h =
     let k : o < length f.objects = omega (arith, p.1, flat.places t l) in
     touched f t _ o _ l k (λ _ _. refl)
     (subst (Counts (length f.threads) (cell_of f o).fields) (sym (upd_id (inside_of f o) t (inside_of f o t) refl))
-        (flat.objects o k).counts)
+    (flat.objects o k).counts)
     (length-set (cell_of f o).words j w ∙ (flat.objects o k).words) i (flat.objects i h)
 
 pub thread_count : (f : Flat) (t r : ℕ) (q : Ask) → length (next f t r q).threads ≡ length f.threads
@@ -249,7 +253,7 @@ pub step_can : (p f : Flat) (t r : ℕ) (q : Ask) (b : Bool) → p ≡ f → t <
     → IsTrue b ↔ MayStep p r q → IsTrue b ↔ Can (machine f) (tables f) (t, r)
 step_can p f t r q b same l flat is may = subst (λ z. IsTrue b ↔ Can (machine z) (tables z) (t, r)) same
     (let can = can_by_may p t r q flat (subst (λ z. t < length z.threads) (sym same) l) is in
-        ((λ h. can.0 (may.0 h)), λ h. may.1 (can.1 h)))
+    ((λ h. can.0 (may.0 h)), λ h. may.1 (can.1 h)))
 
 pub step_refused : (p f : Flat) (t r : ℕ) (q : Ask) (b : Bool) → p ≡ f → t < length f.threads → IsFlat p → q ≡ ask_of p.code (thread_of p t)
     → IsTrue b ↔ MayStep p r q → b ≡ false → Can (machine f) (tables f) (t, r) → ⊥
@@ -265,4 +269,4 @@ pub step_taken : (p f new : Flat) (t r : ℕ) (q : Ask) (b : Bool) → p ≡ f �
     → tables new ≡ after (machine f) (tables f) (t, r)
 step_taken p f new t r q b same l flat is may yes' e =
     ap tables e ∙ subst (λ z. tables (next p t r q) ≡ after (machine z) (tables z) (t, r)) same
-        (taken_by p t r q flat (subst (λ z. t < length z.threads) (sym same) l) is (may.0 yes'))
+    (taken_by p t r q flat (subst (λ z. t < length z.threads) (sym same) l) is (may.0 yes'))

@@ -103,21 +103,21 @@ seen_grows code n x r b t (Enter object Reading) l p link ex can =
     let sums = readers_upd n b.inside t (Some Reading) l in
     let was : one_if_reading (b.inside t) ≡ 0 = ap one_if_reading none in
     let same : bit_of (has_writer n (upd b.inside t (Some Reading))) ≡ bit_of (has_writer n b.inside) =
-        ap bit_of (writer_upd n b.inside t (Some Reading) (sym (ap is_writing none))) in
+    ap bit_of (writer_upd n b.inside t (Some Reading) (sym (ap is_writing none))) in
     omega (arith, sums, was, same)
 seen_grows code n x r b t (Enter object Writing) l p link ex can =
     let none : b.inside t ≡ None = link ∙ above_held x.held object p.3 object (le_refl object) in
     let sums = readers_upd n b.inside t (Some Writing) l in
     let was : one_if_reading (b.inside t) ≡ 0 = ap one_if_reading none in
     let now : bit_of (has_writer n (upd b.inside t (Some Writing))) ≡ 1 =
-        ap bit_of (one_writes n (upd b.inside t (Some Writing)) t l (upd_same b.inside t (Some Writing))) in
+    ap bit_of (one_writes n (upd b.inside t (Some Writing)) t l (upd_same b.inside t (Some Writing))) in
     omega (arith, sums, was, now)
 seen_grows code n x r b t (Leave object Reading) l p link ex can =
     let is : b.inside t ≡ Some Reading = link ∙ p.2 in
     let sums = readers_upd n b.inside t None l in
     let was : one_if_reading (b.inside t) ≡ 1 = ap one_if_reading is in
     let same : bit_of (has_writer n (upd b.inside t None)) ≡ bit_of (has_writer n b.inside) =
-        ap bit_of (writer_upd n b.inside t None (sym (ap is_writing is))) in
+    ap bit_of (writer_upd n b.inside t None (sym (ap is_writing is))) in
     omega (arith, sums, was, same)
 seen_grows code n x r b t (Leave object Writing) l p link ex can =
     let is : b.inside t ≡ Some Writing = link ∙ p.2 in
@@ -125,7 +125,7 @@ seen_grows code n x r b t (Leave object Writing) l p link ex can =
     let was : one_if_reading (b.inside t) ≡ 0 = ap one_if_reading is in
     let had : bit_of (has_writer n b.inside) ≡ 1 = ap bit_of (one_writes n b.inside t l is) in
     let has : bit_of (has_writer n (upd b.inside t None)) ≡ 0 =
-        ap bit_of (none_write n (upd b.inside t None) (λ u _ h. cc (nobody is u, h))) in
+    ap bit_of (none_write n (upd b.inside t None) (λ u _ h. cc (nobody is u, h))) in
     omega (arith, sums, was, had, has)
   where
     nobody : b.inside t ≡ Some Writing → (u : ℕ) → upd b.inside t None u ≡ None
@@ -149,7 +149,7 @@ stays_kept code n s e l k can =
     let one : y.events ≡ x.events + added q = events_added code x q (reply_of q (reply (act m s e) b)) in
     let sums : events_below n (upd s.now t y) + x.events ≡ events_below n s.now + y.events = events_upd n s.now t y l in
     let seen : entries_seen n (acted (act m s e) t b) ≤ entries_seen n b + added q =
-        seen_grows code n x e.1 b t q l (ask_permits code x) (k.linked t o) (k.exclusive o) can in
+    seen_grows code n x e.1 b t q l (ask_permits code x) (k.linked t o) (k.exclusive o) can in
     let more : events_below n (upd s.now t y) ≡ events_below n s.now + added q = omega (arith, one, sums) in
     record {
       linked = good.linked;

@@ -48,7 +48,7 @@ pub quiet-set : (f : Flat) (t : ℕ) (y : thread.State) → t < length f.threads
 quiet-set f t y l same = state_eq (tables (with_thread f t y)) (record { now = upd (thread_of f) t y; objects = (tables f).objects })
     (table-set f.threads t y idle l)
     (fun_ext (λ o. ap (object_with (cell_of f o))
-        (inside-set f t y o l ∙ upd_id (inside_of f o) t (held_at y.held o) (ap (λ h. held_at h o) (sym same)))))
+    (inside-set f t y o l ∙ upd_id (inside_of f o) t (held_at y.held o) (ap (λ h. held_at h o) (sym same)))))
 
 -- a thread that changes what it holds of one object changes that one
 pub shared-set : (f : Flat) (t : ℕ) (y : thread.State) (o : ℕ) (c : Cell) → t < length f.threads → o < length f.objects
@@ -65,7 +65,7 @@ shared-set f t y o c l k same = state_eq (tables (with_object (with_thread f t y
     ∙ upd_elim (tables f).objects o (object_with c (upd (inside_of f o) t (held_at y.held o))) i
     (λ z. object_with (upd b o c i) (upd (inside_of f i) t (held_at y.held i)) ≡ z)
     (λ e. subst (λ j. object_with (upd b o c j) (upd (inside_of f j) t (held_at y.held j)) ≡ object_with c
-        (upd (inside_of f o) t (held_at y.held o))) (sym e)
+    (upd (inside_of f o) t (held_at y.held o))) (sym e)
     (ap (λ z. object_with z (upd (inside_of f o) t (held_at y.held o))) (upd_same b o c)))
     (λ ne. ap (λ z. object_with z (upd (inside_of f i) t (held_at y.held i))) (upd_other b o i c ne)
     ∙ ap (object_with (b i)) (upd_id (inside_of f i) t (held_at y.held i) (sym (same i ne))))))
@@ -75,8 +75,11 @@ abbrev pub moved_by : Flat → ℕ → ℕ → Ask → State thread.State
 moved_by f t r q =
     let a = act_of (shared_ask q) r in
     let b = (tables f).objects (target a) in
-    record { now = upd (thread_of f) t (after_ask f.code (thread_of f t) q (reply_of q (reply a b))); objects =
-        upd (tables f).objects (target a) (acted a t b) }
+    record {
+      now = upd (thread_of f) t (after_ask f.code (thread_of f t) q (reply_of q (reply a b)));
+      objects =
+          upd (tables f).objects (target a) (acted a t b);
+    }
 
 pub moved_after : (f : Flat) (t r : ℕ) (q : Ask) → ask_of f.code (thread_of f t) ≡ q
     → moved_by f t r q ≡ after (machine f) (tables f) (t, r)
@@ -110,8 +113,11 @@ next_moved f t r (Get o i) flat l p may = quiet f t _ o l refl
 next_moved f t r (Enter o a) flat l p may =
     let k : o < length f.objects = omega (arith, p.2, flat.places t l) in
     shared-set f t _ o _ l k (still (thread_of f t).held o (Some a))
-        ∙ ap (λ z. record { now = upd (thread_of f) t (after_ask f.code (thread_of f t) (Enter o a) Go); objects =
-        upd (tables f).objects o z })
+    ∙ ap (λ z. record {
+      now = upd (thread_of f) t (after_ask f.code (thread_of f t) (Enter o a) Go);
+      objects =
+          upd (tables f).objects o z;
+    })
     (entry_with a (cell_of f o) (inside_of f o) t (get_or-set_same (thread_of f t).held o (Some a) None p.2))
   where
     entry_with : (a : Access) (c : Cell) (g : ℕ → Option Access) (t : ℕ) {h : Option Access} → h ≡ Some a
@@ -121,8 +127,11 @@ next_moved f t r (Enter o a) flat l p may =
 next_moved f t r (Leave o a) flat l p may =
     let k : o < length f.objects = omega (arith, p.1, flat.places t l) in
     shared-set f t _ o _ l k (still (thread_of f t).held o None)
-        ∙ ap (λ z. record { now = upd (thread_of f) t (after_ask f.code (thread_of f t) (Leave o a) Go); objects =
-        upd (tables f).objects o z })
+    ∙ ap (λ z. record {
+      now = upd (thread_of f) t (after_ask f.code (thread_of f t) (Leave o a) Go);
+      objects =
+          upd (tables f).objects o z;
+    })
     (exit_with a (cell_of f o) (inside_of f o) t (get_or-set_same (thread_of f t).held o None None p.1))
   where
     exit_with : (a : Access) (c : Cell) (g : ℕ → Option Access) (t : ℕ) {h : Option Access} → h ≡ None
@@ -135,9 +144,9 @@ next_moved f t r (Put o i w) flat l p may =
     let k : o < length f.objects = omega (arith, p.1, flat.places t l) in
     let count : i < length (cell_of f o).words = omega (arith, p.2, word_count f o flat k) in
     shared-set f t _ o _ l k (λ j ne. refl) ∙ ap (λ z.
-        record { now = upd (thread_of f) t (after_ask f.code (thread_of f t) (Put o i w) Go); objects = upd (tables f).objects o z })
+    record { now = upd (thread_of f) t (after_ask f.code (thread_of f t) (Put o i w) Go); objects = upd (tables f).objects o z })
     (object_path (object_with (record (cell_of f o) { words = slice_set (cell_of f o).words i w })
-        (upd (inside_of f o) t (inside_of f o t))) (acted (Store o i w) t (object_with (cell_of f o) (inside_of f o))) refl refl
+    (upd (inside_of f o) t (inside_of f o t))) (acted (Store o i w) t (object_with (cell_of f o) (inside_of f o))) refl refl
     (upd_id (inside_of f o) t (inside_of f o t) refl) (table-set (cell_of f o).words i w 0 count))
 
 -- the list's step is the step

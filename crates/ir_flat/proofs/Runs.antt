@@ -38,7 +38,7 @@ pub run_kept : (code : List ℕ) (n : ℕ) (s : State thread.State) (run : List 
 run_kept code n s [] rest k ok = k
 run_kept code n s (e ∷ run) rest k ok =
     run_kept code n (after (thread_machine code) s e) run (stays_idle (thread_machine code) s n rest e ok.0)
-        (stays_kept code n s e (steps_below code n s e rest ok.0) k ok.0) ok.1
+    (stays_kept code n s e (steps_below code n s e rest ok.0) k ok.0) ok.1
 
 -- the threads have no more places than there are objects
 abbrev pub HasPlaces : ℕ → State thread.State → Type 0
@@ -83,15 +83,15 @@ zero_suits Input = refl
 pub start_idle : (g : Guest) (budget : ℕ) → IsIdle (thread_machine g.code) (tables (start_flat g budget)) (length g.entries)
 start_idle g budget t l =
     ap (λ x. shared_ask (ask_of g.code x)) (get_or_past (start_threads g budget 0 (length g.entries)) t idle
-        (let n = threads_length g budget 0 (length g.entries) in omega (arith, n, l)))
+    (let n = threads_length g budget 0 (length g.entries) in omega (arith, n, l)))
 
 start_placed : (g : Guest) (budget : ℕ) → HasPlaces (object_count g) (tables (start_flat g budget))
 start_placed g budget t = elim (cases_lt t (length g.entries)) [
   | inl l ↦ let same = places_at g budget 0 (length g.entries) t l in omega (arith, same)
   | inr past ↦
       let none : length (thread_of (start_flat g budget) t).held ≡ 0 =
-          ap (λ x. length x.held) (get_or_past (start_threads g budget 0 (length g.entries)) t idle
-          (let n = threads_length g budget 0 (length g.entries) in omega (arith, n, past))) in
+      ap (λ x. length x.held) (get_or_past (start_threads g budget 0 (length g.entries)) t idle
+      (let n = threads_length g budget 0 (length g.entries) in omega (arith, n, past))) in
       omega (arith, none)
 ]
 
@@ -104,10 +104,10 @@ pub nothing_is_stuck : NothingStuck
 nothing_is_stuck g budget run ok t ne =
     let s : State thread.State = end (thread_machine g.code) (tables (start_flat g budget)) run in
     some_step (thread_machine g.code) (lawful g.code) s (as_good g.code (length g.entries) s (kept_at_end g budget run ok))
-        (length g.entries) (object_count g)
+    (length g.entries) (object_count g)
     (run_idle (thread_machine g.code) (tables (start_flat g budget)) (length g.entries) (start_idle g budget) run ok)
     (bounded g.code (object_count g) s (run_placed g.code (object_count g) (tables (start_flat g budget)) run (start_placed g budget)))
-        zero_suits t ne
+    zero_suits t ne
 
 pub writers_are_alone : WritersAlone
 writers_are_alone g budget run ok o t u ne h = (kept_at_end g budget run ok).exclusive o t u ne h

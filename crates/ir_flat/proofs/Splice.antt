@@ -48,8 +48,11 @@ goes_on m now t x v f g q is can rep obj =
     let e : act_of (m.ask (upd now t x t)) v ≡ q = ap (λ z. act_of (m.ask z) v) p ∙ is in (
       subst (λ z. Admits m z (f (target z))) (sym e) can,
       ap (λ z. moved m (With now t x f) t z (act_of (m.ask z) v)) p
-          ∙ ap (λ z. record { now = upd (upd now t x) t (m.take x (reply z (f (target z)))); objects =
-          upd f (target z) (acted z t (f (target z))) }) is
+          ∙ ap (λ z. record {
+            now = upd (upd now t x) t (m.take x (reply z (f (target z))));
+            objects =
+                upd f (target z) (acted z t (f (target z)));
+          }) is
           ∙ (λ i. record { now = upd (upd now t x) t (m.take x (rep i)); objects = obj i })
           ∙ (λ i. record { now = upd_upd now t x (m.take x v) i; objects = g }),
     )
@@ -87,9 +90,19 @@ leads_on : {T : Type 0} (m : Machine T) (now : ℕ → T) (t : ℕ) (x : T) (f :
     → Led m now t (m.take x v) f vs (lead m (m.take x v) vs) (led m (m.take x v) vs) (remain m (m.take x v) vs)
     → Led m now t x f (v ∷ vs) (cond b [] (v ∷ lead m (m.take x v) vs)) (cond b x (led m (m.take x v) vs))
     (cond b (v ∷ vs) (remain m (m.take x v) vs))
-leads_on m now t x f v vs h true p k = record { ok = tt; there = refl; alone = h; same_steps = refl; next =
-    λ r rs e. ap (λ z. is_shared (act_of (m.ask x) z)) (sym (first_of v r vs rs e)) ∙ p; parts = refl; rest = refl; trails =
-    λ ks. refl; others = λ u ne. refl }
+leads_on m now t x f v vs h true p k = record {
+  ok = tt;
+  there = refl;
+  alone = h;
+  same_steps = refl;
+  next =
+      λ r rs e. ap (λ z. is_shared (act_of (m.ask x) z)) (sym (first_of v r vs rs e)) ∙ p;
+  parts = refl;
+  rest = refl;
+  trails =
+      λ ks. refl;
+  others = λ u ne. refl;
+}
 leads_on m now t x f v vs h false p k =
     let z = private_step m (m.ask x) v t f p h.0 in
     let g = goes_on m now t x v f f (act_of (m.ask x) v) refl z.0 z.1 z.2 in
@@ -104,8 +117,8 @@ leads_on m now t x f v vs h false p k =
       rest = k.rest;
       trails = λ ks.
           ap (λ b. join_if b (upd now t x t, label m (With now t x f) (t, v))
-              (trail m (after m (With now t x f) (t, v)) (map (λ r. (t, r)) (lead m (m.take x v) vs)) t) ++ alone_trail m
-              (led m (m.take x v) vs) (remain m (m.take x v) vs) ks) (eq-eqb t t refl)
+          (trail m (after m (With now t x f) (t, v)) (map (λ r. (t, r)) (lead m (m.take x v) vs)) t) ++ alone_trail m
+          (led m (m.take x v) vs) (remain m (m.take x v) vs) ks) (eq-eqb t t refl)
           ∙ ap (λ z. (upd now t x t, label m (With now t x f) (t, v))
           ∷ (trail m z (map (λ r. (t, r)) (lead m (m.take x v) vs)) t ++ alone_trail m (led m (m.take x v) vs) (remain m (m.take x v) vs)
           ks)) g.1
@@ -121,8 +134,18 @@ leads_on m now t x f v vs h false p k =
 
 leads : {T : Type 0} (m : Machine T) (now : ℕ → T) (t : ℕ) (x : T) (f : ℕ → Object) (vs : List ℕ) → MayRun m x vs
     → Led m now t x f vs (lead m x vs) (led m x vs) (remain m x vs)
-leads m now t x f [] h = record { ok = tt; there = refl; alone = h; same_steps = refl; next = λ r rs e. absurd (cc e); parts = refl; rest =
-    refl; trails = λ ks. refl; others = λ u ne. refl }
+leads m now t x f [] h = record {
+  ok = tt;
+  there = refl;
+  alone = h;
+  same_steps = refl;
+  next = λ r rs e. absurd (cc e);
+  parts = refl;
+  rest =
+      refl;
+  trails = λ ks. refl;
+  others = λ u ne. refl;
+}
 leads m now t x f (v ∷ vs) h = leads_on m now t x f v vs h (is_shared (act_of (m.ask x) v)) refl (leads m now t (m.take x v) f vs h.1)
 
 -- a run with these steps of the threads, after which they and the objects are these
@@ -181,29 +204,29 @@ last m now f rs zero h = record {
 last m now f rs (suc n) h =
     let a = h n (omega arith) in
     let k : Led m now n (now n) f (rs n) (lead m (now n) (rs n)) (led m (now n) (rs n)) (remain m (now n) (rs n)) =
-        leads m now n (now n) f (rs n) a.0 in
+    leads m now n (now n) f (rs n) a.0 in
     let none : remain m (now n) (rs n) ≡ [] = nothing_shared m (led m (now n) (rs n)) (remain m (now n) (rs n)) k.next
-        (k.same_steps ∙ a.1) in
+    (k.same_steps ∙ a.1) in
     let all : lead m (now n) (rs n) ≡ rs n = append_nothing (lead m (now n) (rs n)) (remain m (now n) (rs n)) (rs n) k.parts none in
     let y = led m (now n) (rs n) in
     let there : y ≡ alone_after m (now n) (rs n) = ap (alone_after m y) (sym none) ∙ k.rest in
     let start = state_of now f in
     let same : (u : ℕ) → trail m start (map (λ r. (n, r)) (rs n)) u ≡ trail m (With now n (now n) f)
-        (map (λ r. (n, r)) (lead m (now n) (rs n))) u = λ u. ap (λ z. trail m z (map (λ r. (n, r)) (rs n)) u) (sym (with_now now n f))
-        ∙ ap (λ z. trail m (With now n (now n) f) (map (λ r. (n, r)) z) u) (sym all) in
+    (map (λ r. (n, r)) (lead m (now n) (rs n))) u = λ u. ap (λ z. trail m z (map (λ r. (n, r)) (rs n)) u) (sym (with_now now n f))
+    ∙ ap (λ z. trail m (With now n (now n) f) (map (λ r. (n, r)) z) u) (sym all) in
     completes m start (With now n y f) (map (λ r. (n, r)) (rs n)) (last_steps rs n) (Last m (upd now n y) rs n) (Last m now rs (suc n))
-        (Ends m (upd now n y) rs n) (Ends m now rs (suc n)) f
+    (Ends m (upd now n y) rs n) (Ends m now rs (suc n)) f
     (subst (λ z. IsRun m z (map (λ r. (n, r)) (rs n))) (with_now now n f)
-        (subst (λ z. IsRun m (With now n (now n) f) (map (λ r. (n, r)) z)) all k.ok))
+    (subst (λ z. IsRun m (With now n (now n) f) (map (λ r. (n, r)) z)) all k.ok))
     (ap (λ z. end m z (map (λ r. (n, r)) (rs n))) (sym (with_now now n f))
-        ∙ ap (λ z. end m (With now n (now n) f) (map (λ r. (n, r)) z)) (sym all) ∙ k.there)
+    ∙ ap (λ z. end m (With now n (now n) f) (map (λ r. (n, r)) z)) (sym all) ∙ k.there)
     (last m (upd now n y) f rs n
     (λ t l. let ne : t ≢ n = omega arith in let p : upd now n y t ≡ now t = upd_other now n t y ne in
     subst (λ z. MayRun m z (rs t) × (shared_steps m z (rs t) ≡ [])) (sym p) (h t (omega arith))))
     (λ u. elim (cases_eq u n) [
       | inl e ↦ subst (λ w. trail m start (map (λ r. (n, r)) (rs n)) w ++ Last m (upd now n y) rs n w ≡ Last m now rs (suc n) w) (sym e)
           (ap (λ b. trail m start (map (λ r. (n, r)) (rs n)) n ++ cond b (alone_trail m (upd now n y n) (rs n) []) [])
-              (le-ltb n n (omega arith))
+          (le-ltb n n (omega arith))
           ∙ ap (λ z. z ++ []) (same n)
           ∙ ap (λ z. trail m (With now n (now n) f) (map (λ r. (n, r)) (lead m (now n) (rs n))) n ++ alone_trail m y z []) (sym none)
           ∙ k.trails []
@@ -222,8 +245,11 @@ last m now f rs (suc n) h =
     ])
   where
     below : (u n : ℕ) → u ≢ n → ltb u n ≡ ltb u (suc n)
-    below u n ne = elim (cases_lt u n) [ inl l ↦ lt-ltb u n l ∙ sym (lt-ltb u (suc n) (omega arith)) | inr g ↦ le-ltb u n g
-        ∙ sym (le-ltb u (suc n) (omega arith)) ]
+    below u n ne = elim (cases_lt u n) [
+      | inl l ↦ lt-ltb u n l ∙ sym (lt-ltb u (suc n) (omega arith))
+      | inr g ↦ le-ltb u n g
+          ∙ sym (le-ltb u (suc n) (omega arith))
+    ]
 
 pub record Prefixes {T : Type 0} (m : Machine T) (y : T) (ws : List ℕ) (q : Act) (v : ℕ) (more : List Shared) : Type 0 where
   pub does : act_of (m.ask y) v ≡ q
@@ -249,7 +275,7 @@ prefixes m y [] q v more h next e = absurd (cc e)
 prefixes m y (r ∷ rs) q v more h next e =
     let is : is_shared (act_of (m.ask y) r) ≡ true = next r rs refl in
     let g : (act_of (m.ask y) r, r) ∷ shared_steps m (m.take y r) rs ≡ (q, v) ∷ more =
-        subst (λ b. keep_if b (act_of (m.ask y) r, r) (shared_steps m (m.take y r) rs) ≡ (q, v) ∷ more) is e in
+    subst (λ b. keep_if b (act_of (m.ask y) r, r) (shared_steps m (m.take y r) rs) ≡ (q, v) ∷ more) is e in
     let pair : ◌≡◌ {A = Shared} (act_of (m.ask y) r, r) (q, v) = cc g in
     let same : r ≡ v = ap (λ z. z.1) pair in
     let does : act_of (m.ask y) r ≡ q = ap (λ z. z.0) pair in
@@ -286,7 +312,7 @@ pub spliced : {T : Type 0} (m : Machine T) (now : ℕ → T) (f : ℕ → Object
     (λ u. alone_trail m (now u) (rs u) (of_thread u (order_labels f order))) (λ u. alone_after m (now u) (rs u)) (objects_after f order)
 spliced m now f rs n [] idle alone steps allowed =
     let k : Complete m (state_of now f) (last_steps rs n) (Last m now rs n) (Ends m now rs n) f =
-        last m now f rs n (λ t _. (alone t, steps t)) in
+    last m now f rs n (λ t _. (alone t, steps t)) in
     record {
       ok = k.ok;
       trails = λ u. k.trails u ∙ elim (cases_lt u n) [
@@ -306,11 +332,11 @@ spliced {T} m now f rs n (x ∷ xs) idle alone steps allowed =
     let f' : ℕ → Object = upd f (target q) (acted q t (f (target q))) in
     let k : Led m now t (now t) f (rs t) (lead m (now t) (rs t)) y ws = leads m now t (now t) f (rs t) (alone t) in
     let here : shared_steps m (now t) (rs t) ≡ (q, v) ∷ of_thread t xs = steps t
-        ∙ ap (λ b. keep_if b x.1 (of_thread t xs)) (eq-eqb t t refl) in
+    ∙ ap (λ b. keep_if b x.1 (of_thread t xs)) (eq-eqb t t refl) in
     let c : Prefixes m y ws q v (of_thread t xs) = prefixes m y ws q v (of_thread t xs) k.alone k.next (k.same_steps ∙ here) in
     let g = goes_on m now t y v f f' q c.does allowed.0 allowed.1 refl in
     let low : (u : ℕ) → n ≤ u → u ≢ t = λ u l e. cc
-        (ap (λ b. shared_steps m (now b) (rs b)) e ∙ here, ap (shared_steps m (now u)) (idle u l)) in
+    (ap (λ b. shared_steps m (now b) (rs b)) e ∙ here, ap (shared_steps m (now u)) (idle u l)) in
     let more : List Step = splice m (upd now t (m.take y v)) (upd rs t (tail_of ws)) n xs in
     let W = λ (u : ℕ). alone_trail m (upd now t (m.take y v) u) (upd rs t (tail_of ws) u) (of_thread u (order_labels f' xs)) in
     let E = λ (u : ℕ). alone_after m (upd now t (m.take y v) u) (upd rs t (tail_of ws) u) in
@@ -319,17 +345,17 @@ spliced {T} m now f rs n (x ∷ xs) idle alone steps allowed =
     (λ u l. upd_other rs t u (tail_of ws) (low u l) ∙ idle u l)
     (λ u. two now rs t (m.take y v) (tail_of ws) u (λ w a b. MayRun m a b) c.alone (λ ne. alone u))
     (λ u. two now rs t (m.take y v) (tail_of ws) u (λ w a b. shared_steps m a b ≡ of_thread w xs) c.steps
-        (λ ne. steps u ∙ ap (λ b. keep_if b x.1 (of_thread u xs)) (ne_eqb u t ne)))
+    (λ ne. steps u ∙ ap (λ b. keep_if b x.1 (of_thread u xs)) (ne_eqb u t ne)))
     allowed.2 in
     let k0 : Label = told q (f (target q)) in
     let marked : label m (With now t y f) (t, v) ≡ k0 =
-        ap (λ w. told (act_of (m.ask w) v) (f (target (act_of (m.ask w) v)))) (upd_same now t y) ∙ ap (λ w. told w (f (target w))) c.does in
+    ap (λ w. told (act_of (m.ask w) v) (f (target (act_of (m.ask w) v)))) (upd_same now t y) ∙ ap (λ w. told w (f (target w))) c.does in
     let same : (u : ℕ) → trail m (state_of now f) (map (λ r. (t, r)) (lead m (now t) (rs t))) u ≡ trail m (With now t (now t) f)
-        (map (λ r. (t, r)) (lead m (now t) (rs t))) u =
-        λ u. ap (λ w. trail m w (map (λ r. (t, r)) (lead m (now t) (rs t))) u) (sym (with_now now t f)) in
+    (map (λ r. (t, r)) (lead m (now t) (rs t))) u =
+    λ u. ap (λ w. trail m w (map (λ r. (t, r)) (lead m (now t) (rs t))) u) (sym (with_now now t f)) in
     completes m (state_of now f) (With now t y f) (map (λ r. (t, r)) (lead m (now t) (rs t))) ((t, v) ∷ more)
-        (λ u. join_if (eqb u t) (y, k0) (W u)) (λ u. alone_trail m (now u) (rs u) (of_thread u (order_labels f (x ∷ xs)))) E
-        (λ u. alone_after m (now u) (rs u)) (objects_after f' xs)
+    (λ u. join_if (eqb u t) (y, k0) (W u)) (λ u. alone_trail m (now u) (rs u) (of_thread u (order_labels f (x ∷ xs)))) E
+    (λ u. alone_after m (now u) (rs u)) (objects_after f' xs)
     (subst (λ w. IsRun m w (map (λ r. (t, r)) (lead m (now t) (rs t)))) (with_now now t f) k.ok)
     (ap (λ w. end m w (map (λ r. (t, r)) (lead m (now t) (rs t)))) (sym (with_now now t f)) ∙ k.there)
     (record {
@@ -348,8 +374,8 @@ spliced {T} m now f rs n (x ∷ xs) idle alone steps allowed =
           ∙ ap (λ w. w ++ (y, k0) ∷ W t) (same t)
           ∙ ap (λ w. trail m (With now t (now t) f) (map (λ r. (t, r)) (lead m (now t) (rs t))) t ++ (y, k0) ∷ w)
           (two now rs t (m.take y v) (tail_of ws) t
-              (λ w a b. alone_trail m a b (of_thread t (order_labels f' xs)) ≡ alone_trail m (m.take y v) (tail_of ws)
-              (of_thread t (order_labels f' xs))) refl (λ ne. absurd (ne refl)))
+          (λ w a b. alone_trail m a b (of_thread t (order_labels f' xs)) ≡ alone_trail m (m.take y v) (tail_of ws)
+          (of_thread t (order_labels f' xs))) refl (λ ne. absurd (ne refl)))
           ∙ ap (λ w. trail m (With now t (now t) f) (map (λ r. (t, r)) (lead m (now t) (rs t))) t ++ w)
           (sym (c.trails k0 (of_thread t (order_labels f' xs))))
           ∙ k.trails (k0 ∷ of_thread t (order_labels f' xs))
@@ -362,7 +388,7 @@ spliced {T} m now f rs n (x ∷ xs) idle alone steps allowed =
           ∙ ap (λ b. alone_trail m (now u) (rs u) (keep_if b k0 (of_thread u (order_labels f' xs)))) (sym (ne_eqb u t ne))
     ])
     (λ u. two now rs t (m.take y v) (tail_of ws) u (λ w a b. alone_after m a b ≡ alone_after m (now w) (rs w)) (c.rest ∙ k.rest)
-        (λ ne. refl))
+    (λ ne. refl))
   where
     head_of : (u : ℕ) (b : Bool) → eqb u x.0 ≡ b → (y : T) (now : ℕ → T) (t : ℕ) (k : Label) (xs : List (T × Label))
         → join_if (eqb u x.0) (upd now x.0 y u, k) xs ≡ join_if (eqb u x.0) (y, k) xs

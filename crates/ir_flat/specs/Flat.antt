@@ -21,8 +21,17 @@ pub record Flat : Type 0 where
 
 -- a thread that is none of the guest's: it has ended and holds nothing
 abbrev pub idle : State
-idle = record { core = record { pc = 0; registers = []; memory = [] }; number = 0; held = []; budget = 0; steps = 0; events = 0; output =
-    []; ended = Some Breakpoint }
+idle = record {
+  core = record { pc = 0; registers = []; memory = [] };
+  number = 0;
+  held = [];
+  budget = 0;
+  steps = 0;
+  events = 0;
+  output =
+      [];
+  ended = Some Breakpoint;
+}
 
 -- an object that is none of the guest's
 abbrev pub empty : Cell

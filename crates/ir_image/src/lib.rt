@@ -19,7 +19,7 @@ pub use code::Code;
 pub use fetched::Fetched;
 pub use image::Image;
 pub use image_err::ImageErr;
-pub use laws::{first_fault_is_named, read_is_encoded, encoding_is_read};
+pub use laws::{encoding_is_read, first_fault_is_named, read_is_encoded};
 pub use layout::{CODE_START, MEMORY_START};
 pub use operation::{Kind, Operation};
 pub use reading::read_image;

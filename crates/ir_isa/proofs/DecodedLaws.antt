@@ -86,9 +86,9 @@ has_instruction w (Shift op rd rs1 amount) p =
     let e2 = same_ShiftAmount (amount_at w) amount p.rs2_field in
     let same : Some (Shift op (reg_at 7 w) (reg_at 15 w) (amount_at w)) ≡ Some (Shift op rd rs1 amount) = cc in
     let row : shift_op_of (bits 31 25 w) (bits 14 12 w) ≡ Some op = ap (λ (n : ℕ). shift_op_of n (bits 14 12 w)) p.seven_field
-        ∙ ap (shift_op_of (shift_functs op).seven) p.three_field ∙ shift_again op in
+    ∙ ap (shift_op_of (shift_functs op).seven) p.three_field ∙ shift_again op in
     rw p.opcode_field (ap (of_option w) (ap imm_op_of p.three_field ∙ no_imm op)
-        ∙ ap (option_and_then (λ op. Some (Shift op (reg_at 7 w) (reg_at 15 w) (amount_at w)))) row ∙ same)
+    ∙ ap (option_and_then (λ op. Some (Shift op (reg_at 7 w) (reg_at 15 w) (amount_at w)))) row ∙ same)
 has_instruction w Ecall p = rw p refl
 has_instruction w Ebreak p = rw p refl
 
@@ -107,7 +107,7 @@ imm_case w i (Some op) o t e =
     (record { imm_field = refl; rs1_field = refl; three_field = sym (imm_found (bits 14 12 w) op o); rd_field = refl; opcode_field = t })
 imm_case w i None o t e =
     option_and_then_some (λ op. Some (Shift op (reg_at 7 w) (reg_at 15 w) (amount_at w))) (shift_op_of (bits 31 25 w) (bits 14 12 w)) i e
-        (λ op g h.
+    (λ op g h.
     let f = shift_found (bits 31 25 w) (bits 14 12 w) op g in
     is_of w (Shift op (reg_at 7 w) (reg_at 15 w) (amount_at w)) i h
     (record { seven_field = sym f.0; rs2_field = refl; rs1_field = refl; three_field = sym f.1; rd_field = refl; opcode_field = t }))
@@ -164,45 +164,70 @@ is_instruction w i e =
     by_test (eqb (bits 6 0 w) 0b1101111) (Some (Jal (reg_at 7 w) (j_of w))) (since_jalr w) i e1 (λ t h.
     is_of w (Jal (reg_at 7 w) (j_of w)) i h (record { imm_field = refl; rd_field = refl; opcode_field = eqb-true _ _ t })) (λ f2 e2.
     by_test ((eqb (bits 6 0 w) 0b1100111) && (eqb (bits 14 12 w) 0)) (Some (Jalr (reg_at 7 w) (reg_at 15 w) (i_of w))) (since_branch w) i e2
-        (λ t h.
+    (λ t h.
     let b = and_parts (eqb (bits 6 0 w) 0b1100111) (eqb (bits 14 12 w) 0) t in
     is_of w (Jalr (reg_at 7 w) (reg_at 15 w) (i_of w)) i h
-        (record { imm_field = refl; rs1_field = refl; three_field = eqb-true _ _ b.1; rd_field = refl; opcode_field = eqb-true _ _ b.0 }))
-        (λ f3 e3.
+    (record { imm_field = refl; rs1_field = refl; three_field = eqb-true _ _ b.1; rd_field = refl; opcode_field = eqb-true _ _ b.0 }))
+    (λ f3 e3.
     by_test (eqb (bits 6 0 w) 0b1100011) (option_and_then (λ op. Some (Branch op (reg_at 15 w) (reg_at 20 w) (b_of w)))
-        (branch_op_of (bits 14 12 w))) (since_load w) i e3 (λ t h.
+    (branch_op_of (bits 14 12 w))) (since_load w) i e3 (λ t h.
     option_and_then_some (λ op. Some (Branch op (reg_at 15 w) (reg_at 20 w) (b_of w))) (branch_op_of (bits 14 12 w)) i h (λ op g k.
     is_of w (Branch op (reg_at 15 w) (reg_at 20 w) (b_of w)) i k
-        (record { imm_field = refl; rs2_field = refl; rs1_field = refl; three_field = sym (branch_found (bits 14 12 w) op g); opcode_field =
-        eqb-true _ _ t }))) (λ f4 e4.
+    (record {
+      imm_field = refl;
+      rs2_field = refl;
+      rs1_field = refl;
+      three_field = sym (branch_found (bits 14 12 w) op g);
+      opcode_field =
+          eqb-true _ _ t;
+    }))) (λ f4 e4.
     by_test (eqb (bits 6 0 w) 0b0000011) (option_and_then (λ op. Some (Load op (reg_at 7 w) (reg_at 15 w) (i_of w)))
-        (load_op_of (bits 14 12 w))) (since_store w) i e4 (λ t h.
+    (load_op_of (bits 14 12 w))) (since_store w) i e4 (λ t h.
     option_and_then_some (λ op. Some (Load op (reg_at 7 w) (reg_at 15 w) (i_of w))) (load_op_of (bits 14 12 w)) i h (λ op g k.
     is_of w (Load op (reg_at 7 w) (reg_at 15 w) (i_of w)) i k
-        (record { imm_field = refl; rs1_field = refl; three_field = sym (load_found (bits 14 12 w) op g); rd_field = refl; opcode_field =
-        eqb-true _ _ t }))) (λ f5 e5.
+    (record {
+      imm_field = refl;
+      rs1_field = refl;
+      three_field = sym (load_found (bits 14 12 w) op g);
+      rd_field = refl;
+      opcode_field =
+          eqb-true _ _ t;
+    }))) (λ f5 e5.
     by_test (eqb (bits 6 0 w) 0b0100011) (option_and_then (λ op. Some (Store op (reg_at 15 w) (reg_at 20 w) (s_of w)))
-        (store_op_of (bits 14 12 w))) (since_imm w) i e5 (λ t h.
+    (store_op_of (bits 14 12 w))) (since_imm w) i e5 (λ t h.
     option_and_then_some (λ op. Some (Store op (reg_at 15 w) (reg_at 20 w) (s_of w))) (store_op_of (bits 14 12 w)) i h (λ op g k.
     is_of w (Store op (reg_at 15 w) (reg_at 20 w) (s_of w)) i k
-        (record { imm_field = refl; rs2_field = refl; rs1_field = refl; three_field = sym (store_found (bits 14 12 w) op g); opcode_field =
-        eqb-true _ _ t }))) (λ f6 e6.
+    (record {
+      imm_field = refl;
+      rs2_field = refl;
+      rs1_field = refl;
+      three_field = sym (store_found (bits 14 12 w) op g);
+      opcode_field =
+          eqb-true _ _ t;
+    }))) (λ f6 e6.
     by_test (eqb (bits 6 0 w) 0b0010011) (of_imm w) (since_op w) i e6 (λ t h.
     imm_case w i (imm_op_of (bits 14 12 w)) refl (eqb-true _ _ t) h) (λ f7 e7.
     by_test (eqb (bits 6 0 w) 0b0110011) (option_and_then (λ op. Some (Op op (reg_at 7 w) (reg_at 15 w) (reg_at 20 w)))
-        (reg_op_of (bits 31 25 w) (bits 14 12 w))) (since_fence w) i e7 (λ t h.
+    (reg_op_of (bits 31 25 w) (bits 14 12 w))) (since_fence w) i e7 (λ t h.
     option_and_then_some (λ op. Some (Op op (reg_at 7 w) (reg_at 15 w) (reg_at 20 w))) (reg_op_of (bits 31 25 w) (bits 14 12 w)) i h
-        (λ op g k.
+    (λ op g k.
     let f = reg_found (bits 31 25 w) (bits 14 12 w) op g in
     is_of w (Op op (reg_at 7 w) (reg_at 15 w) (reg_at 20 w)) i k
-        (record { seven_field = sym f.0; rs2_field = refl; rs1_field = refl; three_field = sym f.1; rd_field = refl; opcode_field =
-        eqb-true _ _ t }))) (λ f8 e8.
+    (record {
+      seven_field = sym f.0;
+      rs2_field = refl;
+      rs1_field = refl;
+      three_field = sym f.1;
+      rd_field = refl;
+      opcode_field =
+          eqb-true _ _ t;
+    }))) (λ f8 e8.
     by_test ((eqb (bits 6 0 w) 0b0001111) && (eqb (bits 14 12 w) 0)) (Some (Fence (reg_at 7 w) (reg_at 15 w) (i_of w))) (since_ecall w) i e8
-        (λ t h.
+    (λ t h.
     let b = and_parts (eqb (bits 6 0 w) 0b0001111) (eqb (bits 14 12 w) 0) t in
     is_of w (Fence (reg_at 7 w) (reg_at 15 w) (i_of w)) i h
-        (record { imm_field = refl; rs1_field = refl; three_field = eqb-true _ _ b.1; rd_field = refl; opcode_field = eqb-true _ _ b.0 }))
-        (λ f9 e9.
+    (record { imm_field = refl; rs1_field = refl; three_field = eqb-true _ _ b.1; rd_field = refl; opcode_field = eqb-true _ _ b.0 }))
+    (λ f9 e9.
     by_test (eqb w 0x00000073) (Some Ecall) (since_ebreak w) i e9 (λ t h. is_of w Ecall i h (eqb-true _ _ t)) (λ f10 e10.
     by_test (eqb w 0x00100073) (Some Ebreak) None i e10 (λ t h. is_of w Ebreak i h (eqb-true _ _ t)) (λ f11 e11.
     absurd cc))))))))))))

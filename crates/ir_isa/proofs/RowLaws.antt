@@ -89,7 +89,7 @@ pub shift_found : (seven three : ℕ) (op : ShiftOp) → shift_op_of seven three
     × ((shift_functs op).three ≡ three)
 shift_found seven three op e =
     let both = and_parts _ _ (passes (λ op. (eqb (shift_functs op).seven seven) && (eqb (shift_functs op).three three))
-        (Slli ∷ Srli ∷ Srai ∷ []) op e) in
+    (Slli ∷ Srli ∷ Srai ∷ []) op e) in
     (eqb-true _ _ both.0, eqb-true _ _ both.1)
 
 pub shift_one : (a b : ShiftOp) → (shift_functs a).seven ≡ (shift_functs b).seven → (shift_functs a).three ≡ (shift_functs b).three → a ≡ b
@@ -120,7 +120,7 @@ pub reg_found : (seven three : ℕ) (op : RegisterOp) → reg_op_of seven three 
     × ((reg_functs op).three ≡ three)
 reg_found seven three op e =
     let both = and_parts _ _ (passes (λ op. (eqb (reg_functs op).seven seven) && (eqb (reg_functs op).three three))
-        (Add ∷ Sub ∷ Sll ∷ Slt ∷ Sltu ∷ Xor ∷ Srl ∷ Sra ∷ Or ∷ And ∷ Mul ∷ Mulh ∷ Mulhsu ∷ Mulhu ∷ Div ∷ Divu ∷ Rem ∷ Remu ∷ []) op e) in
+    (Add ∷ Sub ∷ Sll ∷ Slt ∷ Sltu ∷ Xor ∷ Srl ∷ Sra ∷ Or ∷ And ∷ Mul ∷ Mulh ∷ Mulhsu ∷ Mulhu ∷ Div ∷ Divu ∷ Rem ∷ Remu ∷ []) op e) in
     (eqb-true _ _ both.0, eqb-true _ _ both.1)
 
 pub reg_one : (a b : RegisterOp) → (reg_functs a).seven ≡ (reg_functs b).seven → (reg_functs a).three ≡ (reg_functs b).three → a ≡ b

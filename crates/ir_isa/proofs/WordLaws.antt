@@ -55,10 +55,26 @@ word_is w (Store op rs1 rs2 imm) fits h =
 word_is w (OpImm op rd rs1 imm) fits h =
     let l : low_bits 12 imm.value ≡ bits 31 20 w = ap (low_bits 12) (sym h.imm_field) ∙ unsigned_12 (bits 31 20 w) (fits_i w) in
     omega (arith, fits, l, h.rs1_field, h.three_field, h.rd_field, h.opcode_field)
-word_is w (Shift op rd rs1 amount) fits h = omega (arith, fits, h.seven_field, h.rs2_field, h.rs1_field, h.three_field, h.rd_field,
-    h.opcode_field)
-word_is w (Op op rd rs1 rs2) fits h = omega (arith, fits, h.seven_field, h.rs2_field, h.rs1_field, h.three_field, h.rd_field,
-    h.opcode_field)
+word_is w (Shift op rd rs1 amount) fits h = omega (
+  arith,
+  fits,
+  h.seven_field,
+  h.rs2_field,
+  h.rs1_field,
+  h.three_field,
+  h.rd_field,
+  h.opcode_field,
+)
+word_is w (Op op rd rs1 rs2) fits h = omega (
+  arith,
+  fits,
+  h.seven_field,
+  h.rs2_field,
+  h.rs1_field,
+  h.three_field,
+  h.rd_field,
+  h.opcode_field,
+)
 word_is w (Fence rd rs1 imm) fits h =
     let l : low_bits 12 imm.value ≡ bits 31 20 w = ap (low_bits 12) (sym h.imm_field) ∙ unsigned_12 (bits 31 20 w) (fits_i w) in
     omega (arith, fits, l, h.rs1_field, h.three_field, h.rd_field, h.opcode_field)
@@ -210,7 +226,7 @@ word_has_code (Branch op rs1 rs2 imm) =
     let b = bits_13 imm.value in
     let e = even_13 imm.value imm.even in
     let f : field_b (word_of (Branch op rs1 rs2 imm)) ≡ low_bits 13 imm.value =
-        omega (arith, b, e, rs1.in_range, rs2.in_range, branch_fits op) in
+    omega (arith, b, e, rs1.in_range, rs2.in_range, branch_fits op) in
     record {
       imm_field = ap (sign_extended 13) f ∙ signed_13 imm.value imm.low imm.high;
       rs2_field = omega (arith, b, e, rs1.in_range, rs2.in_range, branch_fits op);
@@ -231,7 +247,7 @@ word_has_code (Load op rd rs1 imm) =
 word_has_code (Store op rs1 rs2 imm) =
     let b = bits_12 imm.value in
     let f : field_s (word_of (Store op rs1 rs2 imm)) ≡ low_bits 12 imm.value =
-        omega (arith, b, rs1.in_range, rs2.in_range, store_fits op) in
+    omega (arith, b, rs1.in_range, rs2.in_range, store_fits op) in
     record {
       imm_field = ap (sign_extended 12) f ∙ signed_12 imm.value imm.low imm.high;
       rs2_field = omega (arith, b, rs1.in_range, rs2.in_range, store_fits op);

@@ -111,7 +111,7 @@ inside_run f (x ∷ xs) t o = inside_run (objects_then f x) xs t o ∙ elim (cas
   | inl e ↦ subst (λ z. inside_after o ((objects_then f x o).inside z) (of_thread z xs) ≡ inside_after o ((f o).inside z)
       (keep_if (eqb z x.0) x.1 (of_thread z xs))) (sym e)
       (ap (λ i. inside_after o i (of_thread x.0 xs)) (inside_own f x.0 x.1.0 x.1.1 o)
-          ∙ sym (ap (λ b. inside_after o ((f o).inside x.0) (keep_if b x.1 (of_thread x.0 xs))) (eq-eqb x.0 x.0 refl)))
+      ∙ sym (ap (λ b. inside_after o ((f o).inside x.0) (keep_if b x.1 (of_thread x.0 xs))) (eq-eqb x.0 x.0 refl)))
   | inr ne ↦ ap (λ i. inside_after o i (of_thread t xs)) (inside_others f x t o ne)
       ∙ sym (ap (λ b. inside_after o ((f o).inside t) (keep_if b x.1 (of_thread t xs))) (ne_eqb t x.0 ne))
 ]

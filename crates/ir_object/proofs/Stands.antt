@@ -134,8 +134,11 @@ admits_writer n f inside c e u = elim (cases_lt u n) [
 
 pub writer_admitted : (n : ℕ) (f : Fields) (inside : ℕ → Option Access) → Counts n f inside → ((u : ℕ) → inside u ≡ None)
     → Admitted Writing f
-writer_admitted n f inside c h = (c.writer ∙ none_write n inside (λ t l e. cc (h t, e)), c.readers
-    ∙ none_read n inside (λ t l e. cc (h t, e)))
+writer_admitted n f inside c h = (
+  c.writer ∙ none_write n inside (λ t l e. cc (h t, e)),
+  c.readers
+      ∙ none_read n inside (λ t l e. cc (h t, e)),
+)
 
 -- a thread that isn't inside enters
 pub entry_counts : (n : ℕ) (f : Fields) (inside : ℕ → Option Access) (t : ℕ) (a : Access) → t < n → inside t ≡ None → Counts n f inside
@@ -198,18 +201,38 @@ stands = record {
   where
     entries : (n : ℕ) (c : Cell) (b : Object) (t : ℕ) (a : Access) (v : ℕ) → t < n → b.inside t ≡ None → StandsFor n c b
         → StandsFor n (record c { fields = entered a c.fields }) (acted (Entry 0 a v) t b)
-    entries n c b t Reading v l e s = record { version = s.version; left = s.left; inside =
-        entry_counts n c.fields b.inside t Reading l e s.inside; words = s.words }
-    entries n c b t Writing v l e s = record { version = s.version; left = s.left; inside =
-        entry_counts n c.fields b.inside t Writing l e s.inside; words = s.words }
+    entries n c b t Reading v l e s = record {
+      version = s.version;
+      left = s.left;
+      inside =
+          entry_counts n c.fields b.inside t Reading l e s.inside;
+      words = s.words;
+    }
+    entries n c b t Writing v l e s = record {
+      version = s.version;
+      left = s.left;
+      inside =
+          entry_counts n c.fields b.inside t Writing l e s.inside;
+      words = s.words;
+    }
 
     exits : (n : ℕ) (c : Cell) (b : Object) (t : ℕ) (a : Access) → t < n → b.inside t ≡ Some a
         → (a ≡ Writing → (u : ℕ) → u ≢ t → b.inside u ≡ None) → StandsFor n c b
         → StandsFor n (record c { fields = left_by a c.fields }) (acted (Exit 0 a) t b)
-    exits n c b t Reading l e alone s = record { version = s.version; left = let was = s.left in omega (arith, was); inside =
-        leave_counts n c.fields b.inside t Reading l e alone s.inside; words = s.words }
-    exits n c b t Writing l e alone s = record { version = let was = s.version in omega (arith, was); left = refl; inside =
-        leave_counts n c.fields b.inside t Writing l e alone s.inside; words = s.words }
+    exits n c b t Reading l e alone s = record {
+      version = s.version;
+      left = let was = s.left in omega (arith, was);
+      inside =
+          leave_counts n c.fields b.inside t Reading l e alone s.inside;
+      words = s.words;
+    }
+    exits n c b t Writing l e alone s = record {
+      version = let was = s.version in omega (arith, was);
+      left = refl;
+      inside =
+          leave_counts n c.fields b.inside t Writing l e alone s.inside;
+      words = s.words;
+    }
 
     stores : (n : ℕ) (c : Cell) (b : Object) (t i v : ℕ) → length c.words ≡ 8 → i < 8 → StandsFor n c b
         → StandsFor n (record c { words = slice_set c.words i v }) (acted (Store 0 i v) t b)

@@ -47,14 +47,14 @@ pub answer_tape : (f g : Flat) (logs more : List Logged) (t value : ℕ) (kind :
     → IsTape g more
 answer_tape f g logs more t value kind a =
     subst (IsTape g) (sym a.logged) (tape_pushed f g logs t value (event.Answer kind value) a.new a.tape a.below a.taken a.threads a.objects
-        (ap added a.asked) (result_fits kind value a.fits) a.pushed)
+    (ap added a.asked) (result_fits kind value a.fits) a.pushed)
 
 pub answer_took : (f g : Flat) (logs more : List Logged) (t value : ℕ) (kind : EnvKind) → Answering f g logs more t value kind
     → (answers given : List (List Answered)) → t < length answers → given ≡ set answers t (answers_at answers t ++ (kind, value) ∷ [])
     → TookIf true (t ∷ []) (record { flat = f; logs = logs; answers = answers }) (record { flat = g; logs = more; answers = given })
 answer_took f g logs more t value kind a answers given l e =
     took_one t value (Answer kind value) (record { flat = f; logs = logs; answers = answers })
-        (record { flat = g; logs = more; answers = given }) (record {
+    (record { flat = g; logs = more; answers = given }) (record {
       below = a.below;
       few = flat_few f a.flat;
       can = answer_can f t value kind a.asked a.fits;

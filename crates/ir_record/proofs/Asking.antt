@@ -15,16 +15,16 @@ pub gained_at : {W : Type 0} (answers : W → List Answered) (worlds : List W) (
     → map answers (set worlds t new) ≡ set (map answers worlds) t (answers_at (map answers worlds) t ++ given ∷ [])
 gained_at answers worlds t w new given l e h =
     map-set answers worlds t new ∙ ap (set (map answers worlds) t)
-        (h ∙ ap (λ z. z ++ given ∷ []) (ap answers e ∙ sym (get_or-map answers worlds t w [] l)))
+    (h ∙ ap (λ z. z ++ given ∷ []) (ap answers e ∙ sym (get_or-map answers worlds t w [] l)))
 
 pub still_works : {W : Type 0} (broken : W → Bool) (worlds : List W) (t : ℕ) (new : W) → NoneFailed (map broken worlds) → t < length worlds
     → broken new ≡ false → NoneFailed (map broken (set worlds t new))
 still_works broken worlds t new works l h u = subst (λ z. get_or z u false ≡ false) (sym (map-set broken worlds t new))
     (elim (cases_eq u t) [
-  | inl e ↦ ap (λ z. get_or (set (map broken worlds) t (broken new)) z false) e
-      ∙ get_or-set_same (map broken worlds) t (broken new) false (let n = length-map worlds broken in omega (arith, n, l)) ∙ h
-  | inr ne ↦ get_or-set_other (map broken worlds) t u (broken new) false ne ∙ works u
-])
+      | inl e ↦ ap (λ z. get_or (set (map broken worlds) t (broken new)) z false) e
+          ∙ get_or-set_same (map broken worlds) t (broken new) false (let n = length-map worlds broken in omega (arith, n, l)) ∙ h
+      | inr ne ↦ get_or-set_other (map broken worlds) t u (broken new) false ne ∙ works u
+    ])
 
 pub first_failed : {W : Type 0} (broken : W → Bool) (worlds : List W) (t : ℕ) (new : W) → NoneFailed (map broken worlds) → t < length worlds
     → broken new ≡ true → IsFirstFailed (map broken (set worlds t new)) t
@@ -40,8 +40,11 @@ extends_same a = record { worlds = refl; more = λ t. ([], sym (append-nil (get_
 pub extends_both : (a b c : List (List Answered)) → Extends a b → Extends b c → Extends a c
 extends_both a b c p q = record {
   worlds = q.worlds ∙ p.worlds;
-  more = λ t. ((p.more t).0 ++ (q.more t).0, (q.more t).1 ∙ ap (λ z. z ++ (q.more t).0) (p.more t).1
-      ∙ append_assoc (get_or a t []) (p.more t).0 (q.more t).0);
+  more = λ t. (
+    (p.more t).0 ++ (q.more t).0,
+    (q.more t).1 ∙ ap (λ z. z ++ (q.more t).0) (p.more t).1
+        ∙ append_assoc (get_or a t []) (p.more t).0 (q.more t).0,
+  );
 }
 
 -- one world has answered so many more
@@ -50,8 +53,11 @@ extends_at a t added = record {
   worlds = length-set a t (get_or a t [] ++ added);
   more = λ u. elim (cases_eq u t) [
     | inl e ↦ elim (cases_lt t (length a)) [
-      | inl l ↦ (added, subst (λ z. get_or (set a t (get_or a t [] ++ added)) z [] ≡ get_or a z [] ++ added) (sym e)
-          (get_or-set_same a t (get_or a t [] ++ added) [] l))
+      | inl l ↦ (
+        added,
+        subst (λ z. get_or (set a t (get_or a t [] ++ added)) z [] ≡ get_or a z [] ++ added) (sym e)
+            (get_or-set_same a t (get_or a t [] ++ added) [] l),
+      )
       | inr past ↦ ([], ap (λ z. get_or z u []) (set_past a t (get_or a t [] ++ added) past) ∙ sym (append-nil (get_or a u [])))
     ]
     | inr ne ↦ ([], get_or-set_other a t u (get_or a t [] ++ added) [] ne ∙ sym (append-nil (get_or a u [])))
@@ -68,7 +74,7 @@ pub asked_extends : {W : Type 0} (answers : W → List Answered) (worlds : List 
     → Extends (map answers worlds) (map answers (set worlds t new))
 asked_extends answers worlds t w new added l e h =
     subst (Extends (map answers worlds)) (sym (map-set answers worlds t new
-        ∙ ap (set (map answers worlds) t) (h ∙ ap (λ z. z ++ added) (ap answers e ∙ sym (get_or-map answers worlds t w [] l)))))
+    ∙ ap (set (map answers worlds) t) (h ∙ ap (λ z. z ++ added) (ap answers e ∙ sym (get_or-map answers worlds t w [] l)))))
     (extends_at (map answers worlds) t added)
 
 -- one world more that has not failed

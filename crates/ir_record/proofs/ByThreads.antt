@@ -146,10 +146,10 @@ part g budget before ws v objects over e view t = elim (cases_lt t (length g.ent
   | inl l ↦
       let i = over.working t l in
       let x0 : thread_of (start_flat g budget) t ≡ thread.start_state g t budget = thread_at g budget 0 (length g.entries) t l
-          ∙ ap (λ z. thread.start_state g z budget) (let z : 0 + t ≡ t = omega arith in z) in
+      ∙ ap (λ z. thread.start_state g z budget) (let z : 0 + t ≡ t = omega arith in z) in
       let track : IsTrack (length g.entries) (start_objects g) e.steps (record { thread = t; steps = i.track }) =
       (subst (AreTracks g e.steps) (ap (λ (z : M). z.0) i.view)
-          (tracks_at g e.steps ws t (let n = over.size in omega (arith, n, l)) (subst (AreTracks g e.steps) view e.tracks))).0 in
+      (tracks_at g e.steps ws t (let n = over.size in omega (arith, n, l)) (subst (AreTracks g e.steps) view e.tracks))).0 in
       let m = thread_machine g.code in
       let w = i.worked in
       record {
@@ -197,7 +197,7 @@ recorded_of g budget before ws v objects over e view trace counted limit all tra
     let told : ℕ → List Answered = λ t. (work_at ws t).answers in
     let own_log : (t : ℕ) → t < length g.entries → map logging.label_of (logs t).events ≡ log m s run t = λ t l.
     sym (ap events (k.trails t) ∙ ap (λ z. events (alone_trail m (s.now t) (rs t) (of_thread t (order_labels z e.steps)))) same
-        ∙ (p t).logged l) in
+    ∙ (p t).logged l) in
     let stand : StandAtEnd g budget run before now logs told = record {
       runs = k.ok;
       threads = λ t l. sym (k.threads t ∙ (p t).threads_are l);
@@ -213,10 +213,10 @@ recorded_of g budget before ws v objects over e view trace counted limit all tra
         printed = printed_there g budget run before now logs told stand outputs
             (ap (λ z. length z) printed ∙ length-map ws (λ w. w.thread.output) ∙ size)
             (λ t l. ap (λ z. slice_get z t) printed ∙ slice_get-map (λ w. w.thread.output) ws t
-                ∙ ap (option_map (λ w. w.thread.output)) (slice_get-get_or ws t no_work (omega (arith, l, size))));
+            ∙ ap (option_map (λ w. w.thread.output)) (slice_get-get_or ws t no_work (omega (arith, l, size))));
         answered = answered_there g budget run before now logs told stand answers
             (ap (λ z. length z) given ∙ length-map ws (λ w. w.answers) ∙ size)
             (λ t l. ap (λ z. slice_get z t) given ∙ slice_get-map (λ w. w.answers) ws t
-                ∙ ap (option_map (λ w. w.answers)) (slice_get-get_or ws t no_work (omega (arith, l, size))));
+            ∙ ap (option_map (λ w. w.answers)) (slice_get-get_or ws t no_work (omega (arith, l, size))));
       };
     }

@@ -56,13 +56,17 @@ pub ready : {W : Type 0} (answers : W → List Answered) (broken : W → Bool) (
     → (k : ℕ) (d : Worker W) → k < length ws → IsReadyWorker answers broken g id g.code (get_or ws k d)
 ready answers broken g budget t id [] worlds new e works k d l = absurd (omega arith)
 ready answers broken g budget t id (w ∷ ws) worlds new e works zero d l = record {
-  seated = record { seat = new.0.table; same_code = refl; worker =
-      (budget, t, answers w.world, new_working answers g budget t id w new.0) };
+  seated = record {
+    seat = new.0.table;
+    same_code = refl;
+    worker =
+        (budget, t, answers w.world, new_working answers g budget t id w new.0);
+  };
   works = ap (λ z. get_or (map broken z) 0 false) e ∙ works 0;
 }
 ready answers broken g budget t id (w ∷ ws) worlds new e works (suc k) d l =
     ready answers broken g budget (suc t) id ws (map (λ z. z.world) ws) new.1
-        refl (λ u. ap (λ z. get_or (map broken z) (suc u) false) e ∙ works (suc u)) k d (omega (arith, l))
+    refl (λ u. ap (λ z. get_or (map broken z) (suc u) false) e ∙ works (suc u)) k d (omega (arith, l))
 
 -- ---- after the last
 
@@ -85,13 +89,17 @@ module _ {W O : Type 0} (answers : W → List Answered) (broken : W → Bool) (o
       × (ask_of g.code (work_at (map (work_of answers) ws) k).thread ≡ ask.Done)
   at_end t [] ws new p works k l = absurd (omega arith)
   at_end t (v ∷ vs) [] new p works k l = absurd p
-  at_end t (v ∷ vs) (w ∷ ws) new p works zero l =
-      (subst (λ z. IsWorking g budget z (answers v.world) (work_of answers w)) (let e : t ≡ t + 0 = omega arith in e)
-          ((p.0.stays (works 0)).still budget t (answers v.world) (new_working answers g budget t id v new.0)), p.0.done (works 0))
+  at_end t (v ∷ vs) (w ∷ ws) new p works zero l = (
+    subst (λ z. IsWorking g budget z (answers v.world) (work_of answers w)) (let e : t ≡ t + 0 = omega arith in e)
+        ((p.0.stays (works 0)).still budget t (answers v.world) (new_working answers g budget t id v new.0)),
+    p.0.done (works 0),
+  )
   at_end t (v ∷ vs) (w ∷ ws) new p works (suc k) l =
-      let r = at_end (suc t) vs ws new.1 p.1 (λ u. works (suc u)) k (omega (arith, l)) in
-      (subst (λ z. IsWorking g budget z (answers_at (map answers (map (λ w. w.world) vs)) k) (work_at (map (work_of answers) ws) k))
-          (let e : suc t + k ≡ t + suc k = omega arith in e) r.0, r.1)
+      let r = at_end (suc t) vs ws new.1 p.1 (λ u. works (suc u)) k (omega (arith, l)) in (
+        subst (λ z. IsWorking g budget z (answers_at (map answers (map (λ w. w.world) vs)) k) (work_at (map (work_of answers) ws) k))
+            (let e : suc t + k ≡ t + suc k = omega arith in e) r.0,
+        r.1,
+      )
 
   -- the seats, and what is gathered
   pub seats_end : (t : ℕ) (vs ws : List (Worker W)) → AreNew g budget id t vs → Pairs R vs ws → NoneBroken broken ws
@@ -100,9 +108,11 @@ module _ {W O : Type 0} (answers : W → List Answered) (broken : W → Bool) (o
   seats_end t [] (w ∷ ws) new p works = absurd p
   seats_end t (v ∷ vs) [] new p works = tt
   seats_end t (v ∷ vs) (w ∷ ws) new p works =
-      let i = (p.0.stays (works 0)).still budget t (answers v.world) (new_working answers g budget t id v new.0) in
-      (record { table = (p.0.stays (works 0)).seat ∙ new.0.table; empty = ap (λ (z : M). z.1) i.view }, seats_end (suc t) vs ws new.1 p.1
-          (λ u. works (suc u)))
+      let i = (p.0.stays (works 0)).still budget t (answers v.world) (new_working answers g budget t id v new.0) in (
+        record { table = (p.0.stays (works 0)).seat ∙ new.0.table; empty = ap (λ (z : M). z.1) i.view },
+        seats_end (suc t) vs ws new.1 p.1
+            (λ u. works (suc u)),
+      )
 
   pub over_end : (objects t : ℕ) (vs ws : List (Worker W)) → objects ≡ object_count g → AreNew g budget id t vs → Pairs R vs ws
       → NoneBroken broken ws → AllByRecursion (IsOver objects) ws

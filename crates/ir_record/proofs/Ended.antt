@@ -40,10 +40,10 @@ pub start_ready : (guest : Guest) (budget : ℕ) (answers : List (List Answered)
     → NoneFailed failed → IsReady (start guest budget answers) failed
 start_ready guest budget answers failed size works =
     let n : length (start_threads guest budget 0 (length guest.entries)) ≡ length guest.entries =
-        threads_length guest budget 0 (length guest.entries) in
+    threads_length guest budget 0 (length guest.entries) in
     let own : (t : ℕ) → t < length (start_threads guest budget 0 (length guest.entries))
-        → log_at (replicate (length guest.entries) new_log) t ≡ new_log =
-        λ t l. get_or-replicate (length guest.entries) t new_log no_log (omega (arith, l, n)) in
+    → log_at (replicate (length guest.entries) new_log) t ≡ new_log =
+    λ t l. get_or-replicate (length guest.entries) t new_log no_log (omega (arith, l, n)) in
     record {
       tape = record {
         one_each = length-replicate (length guest.entries) new_log ∙ sym n;
@@ -85,7 +85,7 @@ all_done guest budget run ok none t =
       | inr past ↦ subst (λ q. Admits (thread_machine guest.code) (machine.act_of q 0)
           ((end (thread_machine guest.code) (tables (start_flat guest budget)) run).objects (target (machine.act_of q 0))))
           (run_idle (thread_machine guest.code) (tables (start_flat guest budget)) (length guest.entries) (start_idle guest budget) run ok
-              step.0 past) step.1
+          step.0 past) step.1
     ]
 
 -- a thread that is done has ended
@@ -114,14 +114,14 @@ done_there : (guest : Guest) (budget : ℕ) (order : List ℕ) (before : List (L
     (end (thread_machine guest.code) (tables (start_flat guest budget)) o.took.run)
 done_there guest budget order before b o = all_done guest budget o.took.run (run_of_it guest budget order before b o)
     (λ t l. subst (λ s. HasNone (thread_machine guest.code) s t) o.took.ends
-        (subst (λ c. HasNone (thread_machine c) (tables b.flat) t) o.took.code
-        (o.none t (let n = threads_there guest budget order before b o in omega (arith, l, n)))))
+    (subst (λ c. HasNone (thread_machine c) (tables b.flat) t) o.took.code
+    (o.none t (let n = threads_there guest budget order before b o in omega (arith, l, n)))))
 
 pub ended_there : (guest : Guest) (budget : ℕ) (order : List ℕ) (before : List (List Answered)) (b : Progress)
     → Over guest budget order before b → (t : ℕ) → (thread_of b.flat t).ended ≢ None
 ended_there guest budget order before b o t =
     has_ended guest.code (thread_of b.flat t) (ap (λ s. shared_ask (ask_of guest.code (s.now t))) o.took.ends
-        ∙ done_there guest budget order before b o t)
+    ∙ done_there guest budget order before b o t)
 
 -- what is at hand at its end
 at_end : (guest : Guest) (budget : ℕ) (order : List ℕ) (before : List (List Answered)) (b : Progress)
@@ -129,7 +129,7 @@ at_end : (guest : Guest) (budget : ℕ) (order : List ℕ) (before : List (List 
     (answers_at b.answers)
 at_end guest budget order before b o =
     let n : length (start_threads guest budget 0 (length guest.entries)) ≡ length guest.entries =
-        threads_length guest budget 0 (length guest.entries) in
+    threads_length guest budget 0 (length guest.entries) in
     let f0 : Flat = start_flat guest budget in
     record {
       runs = run_of_it guest budget order before b o;
@@ -157,11 +157,11 @@ recorded_there guest budget order before b o failed ready trace objects limit tr
         told = told_there guest budget o.took.run before (thread_of b.flat) (log_at b.logs) (answers_at b.answers) stand
             (done_there guest budget order before b o) trace
             (objects ∙ o.took.objects ∙ cells_length guest.words (object_count guest)) limit (traces.count ∙ logs)
-                (λ t l. traces.each t (omega (arith, l, logs)));
+            (λ t l. traces.each t (omega (arith, l, logs)));
         printed = printed_there guest budget o.took.run before (thread_of b.flat) (log_at b.logs) (answers_at b.answers) stand outputs
             (ap (λ z. length z) printed ∙ length-map b.flat.threads (λ x. x.output) ∙ n)
             (λ t l. ap (λ z. slice_get z t) printed ∙ slice_get-map (λ x. x.output) b.flat.threads t
-                ∙ ap (option_map (λ x. x.output)) (slice_get-get_or b.flat.threads t idle (omega (arith, l, n))));
+            ∙ ap (option_map (λ x. x.output)) (slice_get-get_or b.flat.threads t idle (omega (arith, l, n))));
         answered = answered_there guest budget o.took.run before (thread_of b.flat) (log_at b.logs) (answers_at b.answers) stand answers
             size
             (λ t l. slice_get-get_or answers t [] (omega (arith, l, size)) ∙ ap (λ z. Some (answers_at z t)) given);

@@ -90,7 +90,7 @@ pub record Entering (f g : Flat) (logs more : List Logged) (t o : ℕ) (a : Acce
 pub enter_tape : (f g : Flat) (logs more : List Logged) (t o : ℕ) (a : Access) (e : Event) → Entering f g logs more t o a e → IsTape g more
 enter_tape f g logs more t o a e x =
     subst (IsTape g) (sym x.logged) (tape_pushed f g logs t 0 e x.new x.tape x.below x.taken x.threads x.objects (ap added x.asked) x.fits
-        x.pushed)
+    x.pushed)
 
 -- what an entry tells is logged, and is no answer
 entry_logged : (o : ℕ) (a : Access) (b : Object) → logged (told (machine.Entry o a 0) b) [] ≡ told (machine.Entry o a 0) b ∷ []
@@ -117,7 +117,7 @@ enter_took f g logs more t o a e x answers =
       tells = ap (λ q. told (act_of (shared_ask q) 0) ((tables f).objects (target (act_of (shared_ask q) 0)))) x.asked;
       own_log = subst (λ z. labels_at z t ≡ labels_at logs t ++ logged k []) (sym x.logged)
           (labels_pushed logs t e x.new (omega (arith, x.below, x.tape.one_each)) x.pushed
-              ∙ ap (λ z. labels_at logs t ++ z) (ap (λ z. z ∷ []) x.tells ∙ sym (entry_logged o a ((tables f).objects o))));
+          ∙ ap (λ z. labels_at logs t ++ z) (ap (λ z. z ∷ []) x.tells ∙ sym (entry_logged o a ((tables f).objects o))));
       own_answers = sym (append-nil (answers_at answers t))
           ∙ ap (λ z. answers_at answers t ++ z) (sym (entry_unanswered o a ((tables f).objects o)));
       other_logs = λ u ne. subst (λ z. labels_at z u ≡ labels_at logs u) (sym x.logged) (labels_other logs t u x.new ne);
@@ -202,9 +202,22 @@ pub gone : {X E : Type 0} (result : Result X E) (f g : Flat) (logs : List Logged
     → length g.threads ≡ length f.threads → length g.objects ≡ length f.objects
     → OnErr result (Can (machine f) (tables f) (t, 0) → ⊥) → OnErr result (g ≡ f) → Gone f g logs t moved
 gone (Ok x) f g logs t moved e tape flat l quiet can taken code threads objects never same =
-    let going : Going f g logs t = record { tape = tape; flat = flat; below = l; quiet = quiet; can = can; taken = taken; code =
-        code; threads = threads; objects = objects } in
+    let going : Going f g logs t = record {
+      tape = tape;
+      flat = flat;
+      below = l;
+      quiet = quiet;
+      can = can;
+      taken = taken;
+      code =
+          code;
+      threads = threads;
+      objects = objects;
+    } in
     subst (Gone f g logs t) (sym e) (record { took = go_took f g logs t going; tape = go_tape f g logs t going })
 gone (Err x) f g logs t moved e tape flat l quiet can taken code threads objects never same =
-    subst (Gone f g logs t) (sym e) (record { took = waits_took f g logs t (quiet_none f t quiet never) same; tape =
-        waits_tape f g logs tape same })
+    subst (Gone f g logs t) (sym e) (record {
+      took = waits_took f g logs t (quiet_none f t quiet never) same;
+      tape =
+          waits_tape f g logs tape same;
+    })

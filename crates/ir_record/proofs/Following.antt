@@ -80,11 +80,11 @@ pub written_more : (order : List ℕ) (at more t : ℕ) (turns new : List Turns)
     → order_of_turns new ≡ take (at + (more + 1)) order
 written_more order at more t turns new l first same before e =
     let rest : take (length order - (at + 1)) (drop (at + 1) order) ≡ drop (suc at) order =
-        take_all (length order - (at + 1)) (drop (at + 1) order) (let n = length-drop (at + 1) order in omega (arith, n))
-        ∙ ap (λ k. drop k order) (let e : at + 1 ≡ suc at = omega arith in e) in
+    take_all (length order - (at + 1)) (drop (at + 1) order) (let n = length-drop (at + 1) order in omega (arith, n))
+    ∙ ap (λ k. drop k order) (let e : at + 1 ≡ suc at = omega arith in e) in
     ap order_of_turns e ∙ turns_last turns (record { thread = t; count = more + 1 })
-        ∙ ap (λ (z : List ℕ). z ++ replicate (more + 1) t) before
-        ∙ ap (λ k. take at order ++ replicate k t) (let e : more + 1 ≡ suc more = omega arith in e)
+    ∙ ap (λ (z : List ℕ). z ++ replicate (more + 1) t) before
+    ∙ ap (λ k. take at order ++ replicate k t) (let e : more + 1 ≡ suc more = omega arith in e)
     ∙ repeated order at more t l (sym first) (ap (take more) (sym rest) ∙ same)
     ∙ ap (λ k. take k order) (let e : at + suc more ≡ at + (more + 1) = omega arith in e)
 
@@ -93,7 +93,7 @@ pub written_within : (order : List ℕ) (at more : ℕ) → at < length order
 written_within order at more l h =
     let n = length-drop (at + 1) order in
     let rest : length (take (length order - (at + 1)) (drop (at + 1) order)) ≡ length (drop (at + 1) order) =
-        ap (λ xs. length xs) (take_all (length order - (at + 1)) (drop (at + 1) order) (omega (arith, n))) in
+    ap (λ xs. length xs) (take_all (length order - (at + 1)) (drop (at + 1) order) (omega (arith, n))) in
     omega (arith, l, h, n, rest)
 
 pub followed_more : (order : List Turns) (at : ℕ) (none : Turns) (a b c : Progress) → at < length order
@@ -102,7 +102,7 @@ pub followed_more : (order : List Turns) (at : ℕ) (none : Turns) (a b c : Prog
 followed_more order at none a b c l p q =
     let x : Turns = get_or order at none in
     subst (λ z. Took z a c) (sym (ap order_of_turns (take_more order at none l) ∙ turns_last (take at order) x))
-        (took_both (order_of_turns (take at order)) (replicate x.count x.thread) a b c p q)
+    (took_both (order_of_turns (take at order)) (replicate x.count x.thread) a b c p q)
 
 pub followed_end : (order : List Turns) (at : ℕ) (a b : Progress) → length order ≤ at → Took (order_of_turns (take at order)) a b
     → Took (order_of_turns order) a b

@@ -31,16 +31,16 @@ gathered_more f before x rs r was new =
       each = λ t l. elim (cases_eq t (length before)) [
         | inl e ↦ subst (λ z. IsThreadTrace (thread_of f z) (log_at (before ++ x ∷ []) z) (get_or (rs ++ r ∷ []) z absent)) (sym e)
             (subst (λ z. IsThreadTrace (thread_of f (length before)) z (get_or (rs ++ r ∷ []) (length before) absent))
-                (sym (get_or-append_seam before x [] no_log))
+            (sym (get_or-append_seam before x [] no_log))
             (subst (λ z. IsThreadTrace (thread_of f (length before)) x z)
-                (sym (ap (λ k. get_or (rs ++ r ∷ []) k absent) (sym was.count) ∙ get_or-append_seam rs r [] absent))
+            (sym (ap (λ k. get_or (rs ++ r ∷ []) k absent) (sym was.count) ∙ get_or-append_seam rs r [] absent))
             (subst (λ k. IsThreadTrace (thread_of f k) x r) was.count new)))
         | inr ne ↦
             let below : t < length before = omega (arith, l, n, ne) in
             subst (λ z. IsThreadTrace (thread_of f t) z (get_or (rs ++ r ∷ []) t absent))
-                (sym (get_or_append_left before (x ∷ []) no_log t below))
+            (sym (get_or_append_left before (x ∷ []) no_log t below))
             (subst (λ z. IsThreadTrace (thread_of f t) (log_at before t) z)
-                (sym (get_or_append_left rs (r ∷ []) absent t (let k = was.count in omega (arith, below, k)))) (was.each t below))
+            (sym (get_or_append_left rs (r ∷ []) absent t (let k = was.count in omega (arith, below, k)))) (was.each t below))
       ];
     }
 
@@ -74,7 +74,7 @@ pub taken_more : {A B C : Type 0} (f : A → B) (h : C → B) (xs new : List A) 
     → map f new ≡ take (length new) (map h whole)
 taken_more f h xs new x whole c e was l is same =
     let n : length new ≡ suc (length xs) = ap (λ z. length z) e ∙ length-append xs (x ∷ [])
-        ∙ (let k : length xs + 1 ≡ suc (length xs) = omega arith in k) in
+    ∙ (let k : length xs + 1 ≡ suc (length xs) = omega arith in k) in
     mapped_more f xs new x (take (length xs) (map h whole)) e was
     ∙ take_one (map h whole) (length xs) (f x) (f x) (let m = length-map whole h in omega (arith, m, l))
     (get_or-map h whole (length xs) c (f x) l ∙ ap h (sym is) ∙ sym same)

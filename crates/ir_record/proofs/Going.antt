@@ -59,7 +59,7 @@ pub turn_spent : (s : State thread.State) (a : Progress) (c : List ℕ) (t k : �
 turn_spent s a c t k l is h =
     let private = h.each t 0 (omega (arith, is)) in
     let quiet : (u : ℕ) → log (machine a.flat) s ((t, 0) ∷ []) u ≡ [] =
-        λ u. quiet_log (machine a.flat) s t 0 u (quiet_alone (machine a.flat) s t private) in
+    λ u. quiet_log (machine a.flat) s t 0 u (quiet_alone (machine a.flat) s t private) in
     record {
       went = record {
         run = (t, 0) ∷ [];
@@ -88,9 +88,9 @@ pub has_none : (a b : Progress) (t : ℕ) (moved : Bool) → moved ≡ false →
     → HasNone (machine b.flat) (tables b.flat) t
 has_none a b t moved e k =
     let before : HasNone (machine a.flat) (tables a.flat) t =
-        no_turn (machine a.flat) (tables a.flat) t k.took.run k.took.turns (k.none e) in
+    no_turn (machine a.flat) (tables a.flat) t k.took.run k.took.turns (k.none e) in
     subst (λ s. HasNone (machine b.flat) s t) (sym (nothing_changes a b t moved e k))
-        (subst (λ code. HasNone (thread_machine code) (tables a.flat) t) (sym k.took.code) before)
+    (subst (λ code. HasNone (thread_machine code) (tables a.flat) t) (sym k.took.code) before)
 
 -- a thread that is not ahead has no step
 pub turn_stays : (s : State thread.State) (a b : Progress) (c : List ℕ) (t : ℕ) (moved : Bool) → moved ≡ false → lead c t ≡ 0
@@ -100,8 +100,11 @@ turn_stays s a b c t moved e is h k =
     record {
       went = record {
         run = [];
-        turns = inl (none_there (machine a.flat) c s (tables a.flat) t is h
-            (no_turn (machine a.flat) (tables a.flat) t k.took.run k.took.turns none), refl);
+        turns = inl (
+          none_there (machine a.flat) c s (tables a.flat) t is h
+              (no_turn (machine a.flat) (tables a.flat) t k.took.run k.took.turns none),
+          refl,
+        );
         ahead = subst (IsAhead (machine a.flat) c s) (sym (nothing_changes a b t moved e k)) h;
         code = k.took.code;
         threads = k.took.threads;
@@ -129,9 +132,9 @@ turn_steps s a b g c t k l below flat is h took w = by_turn took.took.turns
         let is_after : tables b.flat ≡ after m (tables a.flat) (t, r) = took.took.ends ∙ ap (end m (tables a.flat)) one in
         let same_machine : machine b.flat ≡ m = ap thread_machine took.took.code in
         let h' : IsAhead m c (after m s (t, r)) (tables b.flat) =
-            subst (IsAhead m c (after m s (t, r))) (sym is_after) (stepped m c s (tables a.flat) t r is h) in
+        subst (IsAhead m c (after m s (t, r))) (sym is_after) (stepped m c s (tables a.flat) t r is h) in
         let told : (u : ℕ) → log m (tables a.flat) took.took.run u ≡ log m s ((t, r) ∷ []) u = λ u. ap (λ z. log m (tables a.flat) z u) one
-            ∙ same_log m s (tables a.flat) t r u (label_there m c s (tables a.flat) t r is h) in
+        ∙ same_log m s (tables a.flat) t r u (label_there m c s (tables a.flat) t r is h) in
         record {
           went = record {
             run = (t, r) ∷ [];
@@ -139,8 +142,8 @@ turn_steps s a b g c t k l below flat is h took w = by_turn took.took.turns
             ahead = subst (IsAhead m (set c t k) (after m s (t, r)))
                 (sym (w.ends ∙ ap (λ n. end n (tables b.flat) (replicate k (t, 0))) same_machine))
                 (gone_ahead m c (after m s (t, r)) (tables b.flat) t k l is h'
-                    (λ j less. subst (λ n. n.ask ((end n (tables b.flat) (replicate j (t, 0))).now t) ≡ Private) same_machine
-                    (ap shared_ask (w.each j less))));
+                (λ j less. subst (λ n. n.ask ((end n (tables b.flat) (replicate j (t, 0))).now t) ≡ Private) same_machine
+                (ap shared_ask (w.each j less))));
             code = w.code ∙ took.took.code;
             threads = w.threads ∙ took.took.threads;
             objects = w.objects ∙ took.took.objects;
@@ -152,7 +155,7 @@ turn_steps s a b g c t k l below flat is h took w = by_turn took.took.turns
                 let size : length took.took.run ≡ 1 = ap length one in
                 let alone_fewer = alone_less b.flat.code n t k (tables b.flat) (flat_few b.flat flat) below w.runs in
                 let ended : all_left n (tables g).now ≡ all_left n (end (machine b.flat) (tables b.flat) (replicate k (t, 0))).now =
-                    ap (λ z. all_left n z.now) w.ends in
+                ap (λ z. all_left n z.now) w.ends in
                 let lead_set = one_set c t k l in
                 omega (arith, first, size, alone_fewer, ended, lead_set, is);
           };
@@ -201,9 +204,9 @@ unfoldable pub went_both : (order more : List ℕ) (s : State thread.State) (a b
     → Went more (reached p) b d e f → Went (order ++ more) s a c e f
 went_both order more s a b e c d f p q =
     let there : (u : ℕ) → log (machine b.flat) (reached p) q.run u ≡ log (machine a.flat) (reached p) q.run u =
-        λ u. ap (λ k. log (thread_machine k) (reached p) q.run u) p.code in
+    λ u. ap (λ k. log (thread_machine k) (reached p) q.run u) p.code in
     let logs_of : (u : ℕ) → log (machine a.flat) s (p.run ++ q.run) u ≡ log (machine a.flat) s p.run u ++ log (machine b.flat) (reached p)
-        q.run u =
+    q.run u =
     λ u. log_append (machine a.flat) s p.run q.run u ∙ ap (λ z. log (machine a.flat) s p.run u ++ z) (sym (there u)) in
     record {
       run = p.run ++ q.run;
@@ -259,9 +262,12 @@ still_stayed moved order more s a b e c d f p q = record {
   some = λ m. some_run p.went.run q.went.run (p.some m);
   none = λ m.
       let first = p.none m in
-      let last = q.none refl in
-      (ap (λ z. z ++ q.went.run) first.0 ∙ last.0, last.1
-          ∙ first.1, none_append order more c first.2 (subst (NoneAhead more) first.1 last.2));
+      let last = q.none refl in (
+        ap (λ z. z ++ q.went.run) first.0 ∙ last.0,
+        last.1
+            ∙ first.1,
+        none_append order more c first.2 (subst (NoneAhead more) first.1 last.2),
+      );
 }
 
 -- one turn more of a round
@@ -282,8 +288,11 @@ abbrev pub Rounding : ℕ → Progress → Progress → List ℕ → Type 0
 Rounding n a b ahead = (count : ℕ) × Went (rounds n count) (tables a.flat) a (replicate n 0) b ahead
 
 no_lead : (n t : ℕ) → lead (replicate n 0) t ≡ 0
-no_lead n t = elim (cases_lt t n) [ inl l ↦ get_or-replicate n t 0 0 l | inr past ↦ get_or_past (replicate n 0) t 0
-    (let size : length (replicate n 0) ≡ n = length-replicate {A = ℕ} n 0 in omega (arith, size, past)) ]
+no_lead n t = elim (cases_lt t n) [
+  | inl l ↦ get_or-replicate n t 0 0 l
+  | inr past ↦ get_or_past (replicate n 0) t 0
+      (let size : length (replicate n 0) ≡ n = length-replicate {A = ℕ} n 0 in omega (arith, size, past))
+]
 
 nothing_ahead : (n : ℕ) → all_ahead (replicate n 0) ≡ 0
 nothing_ahead zero = refl
@@ -295,8 +304,11 @@ first_round n a = (0, went_nothing (tables a.flat) a (replicate n 0) (level (mac
 -- a round more, from where the rounds before it lead
 pub round_more : (n : ℕ) (moved : Bool) (a b e : Progress) (d f : List ℕ) (p : Rounding n a b d)
     → WentIf moved (range_with_len 0 n) (reached p.1) b d e f → Rounding n a e f
-round_more n moved a b e d f p q = (suc p.0, subst (λ order. Went order (tables a.flat) a (replicate n 0) e f) (rounds_more n p.0)
-    (went_both (rounds n p.0) (range_with_len 0 n) (tables a.flat) a b e (replicate n 0) d f p.1 q.went))
+round_more n moved a b e d f p q = (
+  suc p.0,
+  subst (λ order. Went order (tables a.flat) a (replicate n 0) e f) (rounds_more n p.0)
+      (went_both (rounds n p.0) (range_with_len 0 n) (tables a.flat) a b e (replicate n 0) d f p.1 q.went),
+)
 
 none_in : (from n : ℕ) (ahead : List ℕ) → NoneAhead (range_with_len from n) ahead → (t : ℕ) → from ≤ t → t < from + n → lead ahead t ≡ 0
 none_in from zero ahead h t low high = absurd (omega (arith, low, high))
@@ -336,11 +348,11 @@ pub all_over : (n : ℕ) (moved : Bool) (a b e : Progress) (d f : List ℕ) (p :
 all_over n moved a b e d f p q is none t l =
     let nothing = (q.none is).0 in
     let nobody : InTurn (machine b.flat) (reached p.1) (range_with_len 0 n) [] =
-        subst (InTurn (machine b.flat) (reached p.1) (range_with_len 0 n)) nothing q.went.turns in
+    subst (InTurn (machine b.flat) (reached p.1) (range_with_len 0 n)) nothing q.went.turns in
     let there : HasNone (machine b.flat) (reached p.1) t =
-        none_in_turn (machine b.flat) (reached p.1) 0 n nobody t (omega arith) (omega (arith, l)) in
+    none_in_turn (machine b.flat) (reached p.1) 0 n nobody t (omega arith) (omega (arith, l)) in
     let same : tables e.flat ≡ reached p.1 = caught_up (machine b.flat) f (reached q.went) (tables e.flat) none q.went.ahead
-        ∙ ap (end (machine b.flat) (reached p.1)) nothing in
+    ∙ ap (end (machine b.flat) (reached p.1)) nothing in
     subst (λ s. HasNone (machine e.flat) s t) (sym same) (subst (λ c. HasNone (thread_machine c) (reached p.1) t) (sym q.went.code) there)
 
 -- a round that takes a step leaves fewer
@@ -350,5 +362,5 @@ pub fewer_left : (n : ℕ) (moved : Bool) (s : State thread.State) (b e : Progre
 fewer_left n moved s b e d f is size q =
     let some = q.some is in
     let less = subst (λ k. all_left k (tables e.flat).now + all_ahead f + length q.went.run ≤ all_left k (tables b.flat).now + all_ahead d)
-        size q.went.fewer in
+    size q.went.fewer in
     omega (arith, some, less)

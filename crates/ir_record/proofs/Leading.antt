@@ -42,15 +42,15 @@ spent m ahead s later t k l is h =
       threads = λ u. elim (cases_eq u t) [
         | inl e ↦ subst (λ z. later.now z ≡ alone m (lead (set ahead t k) z) ((after m s (t, 0)).now z)) (sym e)
             (h.threads t ∙ ap (λ j. alone m j (s.now t)) is ∙ sym (ap (alone m k) (own_alone m s t private))
-                ∙ ap (λ j. alone m j ((after m s (t, 0)).now t)) (sym own))
+            ∙ ap (λ j. alone m j ((after m s (t, 0)).now t)) (sym own))
         | inr ne ↦ h.threads u ∙ ap (λ j. alone m j (s.now u)) (sym (get_or-set_other ahead t u k 0 ne))
             ∙ ap (alone m (lead (set ahead t k) u)) (sym (other_thread m s t 0 u ne))
       ];
       each = λ u j below. elim (cases_eq u t) [
         | inl e ↦ subst (λ z. m.ask (alone m j ((after m s (t, 0)).now z)) ≡ Private) (sym e)
             (ap (λ x. m.ask (alone m j x)) (own_alone m s t private)
-                ∙ h.each t (suc j) (let less : j < lead (set ahead t k) t = subst (λ z. j < lead (set ahead t k) z) e below in
-                omega (arith, less, own, is)))
+            ∙ h.each t (suc j) (let less : j < lead (set ahead t k) t = subst (λ z. j < lead (set ahead t k) z) e below in
+            omega (arith, less, own, is)))
         | inr ne ↦ ap (λ x. m.ask (alone m j x)) (other_thread m s t 0 u ne)
             ∙ h.each u j (let same = get_or-set_other ahead t u k 0 ne in omega (arith, below, same))
       ];
@@ -97,7 +97,7 @@ objects_there : {T : Type 0} (m : Machine T) (ahead : List ℕ) (s later : State
 unfolding after
 objects_there m ahead s later t r is h =
     ap (λ x. upd later.objects (target (act_of (m.ask x) r)) (acted (act_of (m.ask x) r) t (later.objects (target (act_of (m.ask x) r)))))
-        (now_there m ahead s later t is h)
+    (now_there m ahead s later t is h)
     ∙ ap (λ objects. upd objects (target (act_of (m.ask (s.now t)) r))
     (acted (act_of (m.ask (s.now t)) r) t (objects (target (act_of (m.ask (s.now t)) r))))) h.objects
 
@@ -151,9 +151,9 @@ gone_ahead m ahead s later t k l is h each =
       each = λ u j below. elim (cases_eq u t) [
         | inl e ↦ subst (λ z. m.ask (alone m j (s.now z)) ≡ Private) (sym e)
             (let less : j < k = (let at : j < lead (set ahead t k) t = subst (λ z. j < lead (set ahead t k) z) e below in
-                omega (arith, at, own)) in
+            omega (arith, at, own)) in
             ap (λ x. m.ask (alone m j x)) (sym here)
-                ∙ ap m.ask (sym (own_end m t j later (λ i below'. each i (omega (arith, below', less))))) ∙ each j less)
+            ∙ ap m.ask (sym (own_end m t j later (λ i below'. each i (omega (arith, below', less))))) ∙ each j less)
         | inr ne ↦ h.each u j (let same = get_or-set_other ahead t u k 0 ne in omega (arith, below, same))
       ];
       objects = objects_end m t k later each ∙ h.objects;

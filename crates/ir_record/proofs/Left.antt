@@ -58,7 +58,7 @@ left_past : (n : ℕ) (now : ℕ → thread.State) (t : ℕ) (y : thread.State) 
 left_past zero now t y l = refl
 left_past (suc n) now t y l =
     let here : steps_left (upd now t y n).ended (upd now t y n) ≡ steps_left (now n).ended (now n) =
-        ap (λ z. steps_left z.ended z) (upd_other now t n y (λ e. omega (arith, e, l))) in
+    ap (λ z. steps_left z.ended z) (upd_other now t n y (λ e. omega (arith, e, l))) in
     let rest = left_past n now t y (omega arith) in
     omega (arith, here, rest)
 
@@ -69,13 +69,13 @@ all_less zero now t y l less = absurd (omega arith)
 all_less (suc n) now t y l less = elim (cases_eq n t) [
   | inl e ↦
       let here : steps_left (upd now t y n).ended (upd now t y n) ≡ steps_left y.ended y =
-          ap (λ z. steps_left z.ended z) (ap (upd now t y) e ∙ upd_same now t y) in
+      ap (λ z. steps_left z.ended z) (ap (upd now t y) e ∙ upd_same now t y) in
       let was : steps_left (now n).ended (now n) ≡ steps_left (now t).ended (now t) = ap (λ k. steps_left (now k).ended (now k)) e in
       let rest = left_past n now t y (omega (arith, e)) in
       omega (arith, here, was, rest, less)
   | inr ne ↦
       let here : steps_left (upd now t y n).ended (upd now t y n) ≡ steps_left (now n).ended (now n) =
-          ap (λ z. steps_left z.ended z) (upd_other now t n y ne) in
+      ap (λ z. steps_left z.ended z) (upd_other now t n y ne) in
       let rest = all_less n now t y (let h : t < n = omega (arith, l, ne) in h) less in
       omega (arith, here, rest)
 ]

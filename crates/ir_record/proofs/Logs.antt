@@ -29,14 +29,14 @@ pub own_events : (f g : Flat) (t r : ℕ) → tables g ≡ after (machine f) (ta
     → (thread_of g t).events ≡ (thread_of f t).events + added (ask_of f.code (thread_of f t))
 own_events f g t r taken =
     ap (λ s. (s.now t).events) taken ∙ ap (λ now. (now t).events) (now_after f.code (tables f) (t, r))
-        ∙ ap (λ x. x.events) (upd_same (thread_of f) t (moved_thread f.code (tables f) (t, r)))
+    ∙ ap (λ x. x.events) (upd_same (thread_of f) t (moved_thread f.code (tables f) (t, r)))
     ∙ events_added f.code (thread_of f t) (ask_of f.code (thread_of f t)) _
 
 pub other_events : (f g : Flat) (t r u : ℕ) → tables g ≡ after (machine f) (tables f) (t, r) → u ≢ t
     → (thread_of g u).events ≡ (thread_of f u).events
 other_events f g t r u taken ne =
     ap (λ s. (s.now u).events) taken ∙ ap (λ now. (now u).events) (now_after f.code (tables f) (t, r))
-        ∙ ap (λ x. x.events) (upd_other (thread_of f) t u (moved_thread f.code (tables f) (t, r)) ne)
+    ∙ ap (λ x. x.events) (upd_other (thread_of f) t u (moved_thread f.code (tables f) (t, r)) ne)
 
 -- a step that logs nothing
 pub tape_kept : (f g : Flat) (logs : List Logged) (t r : ℕ) → IsTape f logs → tables g ≡ after (machine f) (tables f) (t, r)
@@ -67,7 +67,7 @@ tape_pushed f g logs t r e new tape below taken threads objects one fits is =
     let here : log_at (set logs t new) t ≡ new = get_or-set_same logs t new no_log (omega (arith, below, tape.one_each)) in
     let there : (u : ℕ) → u ≢ t → log_at (set logs t new) u ≡ log_at logs u = λ u ne. get_or-set_other logs t u new no_log ne in
     let longer : length new.events ≡ length (log_at logs t).events + 1 = ap (λ l. length l.events) is
-        ∙ length-append (log_at logs t).events (e ∷ []) in
+    ∙ length-append (log_at logs t).events (e ∷ []) in
     record {
       one_each = length-set logs t new ∙ tape.one_each ∙ sym threads;
       rooms = λ u l. elim (cases_eq u t) [
@@ -78,14 +78,14 @@ tape_pushed f g logs t r e new tape below taken threads objects one fits is =
       counts = λ u l. elim (cases_eq u t) [
         | inl same ↦ subst (λ z. length (log_at (set logs t new) z).events ≡ (thread_of g z).events) (sym same)
             (ap (λ z. length z.events) here ∙ longer
-                ∙ (let own = own_events f g t r taken in let was = tape.counts t below in omega (arith, own, was, one)))
+            ∙ (let own = own_events f g t r taken in let was = tape.counts t below in omega (arith, own, was, one)))
         | inr ne ↦ ap (λ z. length z.events) (there u ne) ∙ tape.counts u (omega (arith, l, threads))
             ∙ sym (other_events f g t r u taken ne)
       ];
       events_fit = λ u l. subst (λ n. AllByRecursion (IsEvent n) (log_at (set logs t new) u).events) (sym objects) (elim (cases_eq u t) [
         | inl same ↦ subst (λ z. AllByRecursion (IsEvent (length f.objects)) (log_at (set logs t new) z).events) (sym same)
             (subst (λ z. AllByRecursion (IsEvent (length f.objects)) z.events) (sym (here ∙ is))
-                (all_append (IsEvent (length f.objects)) (log_at logs t).events e (tape.events_fit t below) fits))
+            (all_append (IsEvent (length f.objects)) (log_at logs t).events e (tape.events_fit t below) fits))
         | inr ne ↦ subst (λ z. AllByRecursion (IsEvent (length f.objects)) z.events) (sym (there u ne))
             (tape.events_fit u (omega (arith, l, threads)))
       ]);

@@ -60,7 +60,7 @@ pub views_on : (old rest : List (Seat (Unit {0}) View)) (s all new : Seat (Unit 
     → old ≡ rest ++ s ∷ [] → new.me ≡ (s.me.0 ++ all.me.0, []) → views_of rest ++ new.me.0 ≡ whole
 views_on old rest s all new whole h e is =
     ap (λ z. views_of rest ++ z.0) is ∙ sym (append_assoc (views_of rest) s.me.0 all.me.0)
-        ∙ ap (λ z. z ++ all.me.0) (sym (views_more rest s) ∙ ap views_of (sym e)) ∙ h
+    ∙ ap (λ z. z ++ all.me.0) (sym (views_more rest s) ∙ ap views_of (sym e)) ∙ h
 
 pub none_past : {W : Type 0} (f : W → Bool) (ws : List W) (n : ℕ) → length ws ≤ n → ((u : ℕ) → u < n → get_or (map f ws) u false ≡ false)
     → (t : ℕ) → get_or (map f ws) t false ≡ false

@@ -45,7 +45,7 @@ run_took f g logs t k flat l w answers = record {
       let size : length (replicate k step) ≡ k = length-replicate k step in
       let less = alone_less f.code (length f.threads) t k (tables f) (flat_few f flat) l w.runs in
       let same : all_left (length f.threads) (tables g).now ≡ all_left (length f.threads)
-          (end (machine f) (tables f) (replicate k (t, 0))).now = ap (λ s. all_left (length f.threads) s.now) w.ends in
+      (end (machine f) (tables f) (replicate k (t, 0))).now = ap (λ s. all_left (length f.threads) s.now) w.ends in
       omega (arith, size, less, same);
 }
 
@@ -55,8 +55,8 @@ run_tape f g logs t k w tape = record {
   rooms = λ u l. tape.rooms u (omega (arith, l, w.threads));
   counts = λ u l. tape.counts u (omega (arith, l, w.threads)) ∙ sym (
       ap (λ s. (s.now u).events) w.ends ∙ (tally f.code (tables f) (replicate k (t, 0)) w.runs u).events
-          ∙ ap (λ z. (thread_of f u).events + length z) (w.quiet u)
-          ∙ (let e : (thread_of f u).events + 0 ≡ (thread_of f u).events = omega arith in e));
+      ∙ ap (λ z. (thread_of f u).events + length z) (w.quiet u)
+      ∙ (let e : (thread_of f u).events + 0 ≡ (thread_of f u).events = omega arith in e));
   events_fit = λ u l. subst (λ n. AllByRecursion (IsEvent n) (log_at logs u).events) (sym w.objects)
       (tape.events_fit u (omega (arith, l, w.threads)));
 }

@@ -33,7 +33,7 @@ lower_lead zero c u l few = absurd (omega (arith, l))
 lower_lead (suc t) c u l few = elim (cases_eq u t) [
   | inl e ↦
       let own : lead (lowered (suc t) c) t ≡ pred (lead (lowered t c) t) =
-          get_or-set_same (lowered t c) t _ 0 (let size = lowered_length t c in omega (arith, size, few)) in
+      get_or-set_same (lowered t c) t _ 0 (let size = lowered_length t c in omega (arith, size, few)) in
       let was : lead (lowered t c) t ≡ lead c t = later_lead t c t (omega arith) in
       subst (λ z. lead (lowered (suc t) c) z ≡ lead c z - 1) (sym e) (omega (arith, own, was))
   | inr ne ↦ get_or-set_other (lowered t c) t u _ 0 ne ∙ lower_lead t c u (omega (arith, l, ne)) (omega (arith, few))
@@ -57,16 +57,16 @@ lower_round : (t : ℕ) (s : State thread.State) (a : Progress) (c : List ℕ) �
 lower_round zero s a c few some h = went_nothing s a c h
 lower_round (suc t) s a c few some h =
     let p : Went (range_with_len 0 t) s a c a (lowered t c) =
-        lower_round t s a c (omega (arith, few)) (λ u l. some u (omega (arith, l))) h in
+    lower_round t s a c (omega (arith, few)) (λ u l. some u (omega (arith, l))) h in
     let was : lead (lowered t c) t ≡ lead c t = later_lead t c t (omega arith) in
     let here : (1 ≤ lead (lowered t c) t) ⊎ HasNone (machine a.flat) (tables a.flat) t =
-        subst (λ k. (1 ≤ k) ⊎ HasNone (machine a.flat) (tables a.flat) t) (sym was) (some t (omega arith)) in
+    subst (λ k. (1 ≤ k) ⊎ HasNone (machine a.flat) (tables a.flat) t) (sym was) (some t (omega arith)) in
     let q : Went (t ∷ []) (reached p) a (lowered t c) a (lowered (suc t) c) =
-        lower_turn (reached p) a (lowered t c) t (let size = lowered_length t c in omega (arith, size, few)) here
-        (ahead_there (range_with_len 0 t) s a a c (lowered t c) p) in
+    lower_turn (reached p) a (lowered t c) t (let size = lowered_length t c in omega (arith, size, few)) here
+    (ahead_there (range_with_len 0 t) s a a c (lowered t c) p) in
     subst (λ order. Went order s a c a (lowered (suc t) c))
-        (range_last t ∙ ap (range_with_len 0) (let e : t + 1 ≡ suc t = omega arith in e))
-        (went_both (range_with_len 0 t) (t ∷ []) s a a a c (lowered t c) (lowered (suc t) c) p q)
+    (range_last t ∙ ap (range_with_len 0) (let e : t + 1 ≡ suc t = omega arith in e))
+    (went_both (range_with_len 0 t) (t ∷ []) s a a a c (lowered t c) (lowered (suc t) c) p q)
 
 -- the first of such rounds, and the others
 first_skip : {T : Type 0} (m : Machine T) (n k : ℕ) (c : List ℕ) (later : State T) → CanSkip m n (suc k) c later → CanSkip m n 1 c later
@@ -89,12 +89,12 @@ pub skipped : (n k : ℕ) (s : State thread.State) (a : Progress) (c : List ℕ)
 skipped n zero s a c size enough h = record { left = c; size = refl; each = λ t l. omega arith; went = went_nothing s a c h }
 skipped n (suc k) s a c size enough h =
     let p : Went (range_with_len 0 n) s a c a (lowered n c) =
-        lower_round n s a c (omega (arith, size)) (first_skip (machine a.flat) n k c (tables a.flat) enough) h in
+    lower_round n s a c (omega (arith, size)) (first_skip (machine a.flat) n k c (tables a.flat) enough) h in
     let lower : (t : ℕ) → t < n → lead (lowered n c) t ≡ lead c t - 1 = λ t l. lower_lead n c t l (omega (arith, size)) in
     let q : Skipped n k (reached p) a (lowered n c) =
     skipped n k (reached p) a (lowered n c) (lowered_length n c ∙ size)
-        (next_skips (machine a.flat) n k c (lowered n c) (tables a.flat) enough lower)
-        (ahead_there (range_with_len 0 n) s a a c (lowered n c) p) in
+    (next_skips (machine a.flat) n k c (lowered n c) (tables a.flat) enough lower)
+    (ahead_there (range_with_len 0 n) s a a c (lowered n c) p) in
     record {
       left = q.left;
       size = q.size ∙ lowered_length n c;
@@ -109,7 +109,7 @@ pub skips : (n k : ℕ) (s : State thread.State) (a : Progress) (c d : List ℕ)
 skips n k s a c d size size' enough each h =
     let q : Skipped n k s a c = skipped n k s a c size enough h in
     subst (Went (rounds n k) s a c a) (ext_get_or 0 q.left d (q.size ∙ size ∙ sym size')
-        (λ t l. let less : t < n = omega (arith, l, q.size, size) in q.each t less ∙ sym (each t less))) q.went
+    (λ t l. let less : t < n = omega (arith, l, q.size, size) in q.each t less ∙ sym (each t less))) q.went
 
 -- after some rounds, and these
 pub skip_more : (n k : ℕ) (a b : Progress) (d f : List ℕ) → Rounding n a b d → length d ≡ n → length f ≡ n
@@ -118,7 +118,7 @@ skip_more n k a b d f p size size' enough each = (
   p.0 + k,
   subst (λ order. Went order (tables a.flat) a (replicate n 0) b f) (rounds_both n p.0 k)
       (went_both (rounds n p.0) (rounds n k) (tables a.flat) a b b (replicate n 0) d f p.1
-          (skips n k (reached p.1) b d f size size' enough each (ahead_there (rounds n p.0) (tables a.flat) a b (replicate n 0) d p.1))),
+      (skips n k (reached p.1) b d f size size' enough each (ahead_there (rounds n p.0) (tables a.flat) a b (replicate n 0) d p.1))),
 )
 
 -- nobody is further ahead then
@@ -126,6 +126,6 @@ pub skip_least : (n k : ℕ) (a b : Progress) (d f : List ℕ) → Rounding n a 
     → CanSkip (machine b.flat) n k d (tables b.flat) → ((t : ℕ) → t < n → lead f t ≡ lead d t - k) → all_ahead f ≤ all_ahead d
 skip_least n k a b d f p size size' enough each =
     let w : Went (rounds n k) (reached p.1) b d b f =
-        skips n k (reached p.1) b d f size size' enough each (ahead_there (rounds n p.0) (tables a.flat) a b (replicate n 0) d p.1) in
+    skips n k (reached p.1) b d f size size' enough each (ahead_there (rounds n p.0) (tables a.flat) a b (replicate n 0) d p.1) in
     let less = w.fewer in
     omega (arith, less)

@@ -81,8 +81,12 @@ took_step t r k a b s = record {
 
 pub took_one : (t r : ℕ) (k : Label) (a b : Progress) → OneStep t r k a b → TookIf true (t ∷ []) a b
 unfolding took_step
-took_one t r k a b s = record { took = took_step t r k a b s; some = λ e. (let one : 0 < suc zero = omega arith in one); none =
-    λ e. absurd cc }
+took_one t r k a b s = record {
+  took = took_step t r k a b s;
+  some = λ e. (let one : 0 < suc zero = omega arith in one);
+  none =
+      λ e. absurd cc;
+}
 
 answers_logged : (k : Label) (ys : List Label) → answers_in (logged k ys) ≡ answers_in (logged k []) ++ answers_in ys
 answers_logged Quiet ys = refl
@@ -124,14 +128,14 @@ log_there a b first run t code ends = ap (λ c. log (thread_machine c) (tables b
 unfoldable pub took_both : (order more : List ℕ) (a b c : Progress) → Took order a b → Took more b c → Took (order ++ more) a c
 took_both order more a b c p q =
     let logs_of : (t : ℕ) → log (machine a.flat) (tables a.flat) (p.run ++ q.run) t ≡ log (machine a.flat) (tables a.flat) p.run t ++ log
-        (machine b.flat) (tables b.flat) q.run t =
+    (machine b.flat) (tables b.flat) q.run t =
     λ t. log_append (machine a.flat) (tables a.flat) p.run q.run t
-        ∙ ap (λ z. log (machine a.flat) (tables a.flat) p.run t ++ z) (sym (log_there a b p.run q.run t p.code p.ends)) in
+    ∙ ap (λ z. log (machine a.flat) (tables a.flat) p.run t ++ z) (sym (log_there a b p.run q.run t p.code p.ends)) in
     record {
       run = p.run ++ q.run;
       turns = turns_append (machine a.flat) (tables a.flat) order more p.run q.run p.turns
           (subst (λ s. InTurn (machine a.flat) s more q.run) p.ends
-              (subst (λ k. InTurn (thread_machine k) (tables b.flat) more q.run) p.code q.turns));
+          (subst (λ k. InTurn (thread_machine k) (tables b.flat) more q.run) p.code q.turns));
       ends = q.ends ∙ ap (λ k. end (thread_machine k) (tables b.flat) q.run) p.code ∙ ap (λ s. end (machine a.flat) s q.run) p.ends
           ∙ sym (end_append (machine a.flat) (tables a.flat) p.run q.run);
       code = q.code ∙ p.code;

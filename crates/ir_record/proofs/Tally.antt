@@ -22,8 +22,8 @@ stays_few code s e few t =
     subst (λ now. length (now t).held ≤ 16) (sym (now_after code s e))
     (upd_elim s.now e.0 (moved_thread code s e) t (λ z. length z.held ≤ 16)
     (λ _. let same = held_length code (s.now e.0) (ask_of code (s.now e.0))
-        (reply_of (ask_of code (s.now e.0)) (reply (act (thread_machine code) s e) (s.objects (target (act (thread_machine code) s e))))) in
-        let was = few e.0 in omega (arith, same, was))
+    (reply_of (ask_of code (s.now e.0)) (reply (act (thread_machine code) s e) (s.objects (target (act (thread_machine code) s e))))) in
+    let was = few e.0 in omega (arith, same, was))
     (λ _. few t))
 
 -- a step leaves fewer
@@ -31,7 +31,7 @@ pub step_less : (code : List ℕ) (n : ℕ) (s : State thread.State) (e : Step) 
     → all_left n (after (thread_machine code) s e).now + 1 ≤ all_left n s.now
 step_less code n s e few l can = subst (λ now. all_left n now + 1 ≤ all_left n s.now) (sym (now_after code s e))
     (all_less n s.now e.0 (moved_thread code s e) l
-        (one_less code (s.now e.0) (ask_of code (s.now e.0)) _ (few e.0) (ask_permits code (s.now e.0)) (never_done code s e can)))
+    (one_less code (s.now e.0) (ask_of code (s.now e.0)) _ (few e.0) (ask_permits code (s.now e.0)) (never_done code s e can)))
 
 -- so do the steps of one thread
 pub alone_less : (code : List ℕ) (n t k : ℕ) (s : State thread.State) → Few s → t < n → IsRun (thread_machine code) s (replicate k (t, 0))

@@ -50,10 +50,10 @@ module _ (guest : Guest) (budget : ℕ) (run : List Step) (before : List (List A
       done = done;
       steps = λ t l. sym ((each t l).steps ∙ ap (λ x. x.steps) (s.threads t l)
           ∙ (tally guest.code (tables (start_flat guest budget)) run s.runs t).steps
-        ∙ ap (λ k. k + count (thread_machine guest.code) (tables (start_flat guest budget)) run t)
-        (no_steps guest budget 0 (length guest.entries) t)
-        ∙ (let e : 0 + count (thread_machine guest.code) (tables (start_flat guest budget)) run t ≡ count (thread_machine guest.code)
-        (tables (start_flat guest budget)) run t = omega arith in e));
+          ∙ ap (λ k. k + count (thread_machine guest.code) (tables (start_flat guest budget)) run t)
+          (no_steps guest budget 0 (length guest.entries) t)
+          ∙ (let e : 0 + count (thread_machine guest.code) (tables (start_flat guest budget)) run t ≡ count (thread_machine guest.code)
+          (tables (start_flat guest budget)) run t = omega arith in e));
       logs = λ t l. sym (ap (map label_of) (each t l).events ∙ s.logged t l);
       ends = λ t l. sym (ends_by (get_or trace.threads t absent) (now t).ended (each t l).end
           ∙ ap (thread_machine guest.code).ended (s.threads t l));

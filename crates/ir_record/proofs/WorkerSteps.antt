@@ -103,16 +103,16 @@ works_on g budget t before w w' q v es evs i s view =
     let is : act_of (m.ask w.thread) v ≡ a = ap (λ z. act_of (shared_ask z) v) s.asked in
     let next : m.take w.thread v ≡ w'.thread = ap (λ z. after_reply g.code w.thread (reply_of z v)) s.asked ∙ sym s.took in
     let after : w'.thread ≡ after_ask g.code w.thread q (reply_of q v) = s.took
-        ∙ ap (λ z. after_ask g.code w.thread z (reply_of q v)) s.asked in
+    ∙ ap (λ z. after_ask g.code w.thread z (reply_of q v)) s.asked in
     let even : length (map label_of i.track) ≡ length (map shared_of i.track) = length-map i.track label_of
-        ∙ sym (length-map i.track shared_of) in
+    ∙ sym (length-map i.track shared_of) in
     let steps : map shared_of (i.track ++ es) ≡ map shared_of i.track ++ keep_if (is_shared a) (a, v) [] = map_join shared_of i.track es
-        ∙ ap (λ z. map shared_of i.track ++ z) s.shares in
+    ∙ ap (λ z. map shared_of i.track ++ z) s.shares in
     let more = worked_more m (thread.start_state g t budget) w.thread (map shared_of i.track) (map label_of i.track)
-        (map logging.label_of w.log.events) v (map label_of es) i.worked even (subst (λ z. MayReply m z v) (sym is) s.may) in
+    (map logging.label_of w.log.events) v (map label_of es) i.worked even (subst (λ z. MayReply m z v) (sym is) s.may) in
     let events : w'.log.events ≡ w.log.events ++ evs = ap (λ z. z.events) s.log in
     let labels : map logging.label_of w'.log.events ≡ map logging.label_of w.log.events ++ map logging.label_of evs =
-        ap (map logging.label_of) events ∙ map_join logging.label_of w.log.events evs in
+    ap (map logging.label_of) events ∙ map_join logging.label_of w.log.events evs in
     let sum : w'.thread.events ≡ w.thread.events + added q = ap (λ z. z.events) after ∙ events_added g.code w.thread q (reply_of q v) in
     record {
       track = i.track ++ es;
@@ -171,19 +171,49 @@ same_log l l' e = e ∙ (λ i. record l { events = sym (append-nil l.events) i }
 own_is_step : (g : Guest) (t : ℕ) (w w' : Work) (q : Ask) → IsOwn q → ask_of g.code w.thread ≡ q
     → w'.thread ≡ after_reply g.code w.thread Go → w'.log ≡ w.log → w'.answers ≡ w.answers → IsStep g t w w' q 0 [] []
 own_is_step g t w w' ask.Private own asked took log answers =
-    record { asked = asked; may = refl; took = took; shares = refl; logs = refl; events = refl; fit = tt; log =
-    same_log w.log w'.log log; answers = nothing_more w.answers w'.answers answers }
+    record {
+      asked = asked;
+      may = refl;
+      took = took;
+      shares = refl;
+      logs = refl;
+      events = refl;
+      fit = tt;
+      log =
+          same_log w.log w'.log log;
+      answers = nothing_more w.answers w'.answers answers;
+    }
 own_is_step g t w w' (ask.Env kind) own asked took log answers = absurd own
 own_is_step g t w w' (ask.Enter object access) own asked took log answers = absurd own
 own_is_step g t w w' (ask.Leave object access) own asked took log answers = absurd own
 own_is_step g t w w' (ask.Get object index) own asked took log answers = absurd own
 own_is_step g t w w' (ask.Put object index value) own asked took log answers = absurd own
 own_is_step g t w w' ask.Print own asked took log answers =
-    record { asked = asked; may = refl; took = took; shares = refl; logs = refl; events = refl; fit = tt; log =
-    same_log w.log w'.log log; answers = nothing_more w.answers w'.answers answers }
+    record {
+      asked = asked;
+      may = refl;
+      took = took;
+      shares = refl;
+      logs = refl;
+      events = refl;
+      fit = tt;
+      log =
+          same_log w.log w'.log log;
+      answers = nothing_more w.answers w'.answers answers;
+    }
 own_is_step g t w w' (ask.End e) own asked took log answers =
-    record { asked = asked; may = refl; took = took; shares = refl; logs = refl; events = refl; fit = tt; log =
-    same_log w.log w'.log log; answers = nothing_more w.answers w'.answers answers }
+    record {
+      asked = asked;
+      may = refl;
+      took = took;
+      shares = refl;
+      logs = refl;
+      events = refl;
+      fit = tt;
+      log =
+          same_log w.log w'.log log;
+      answers = nothing_more w.answers w'.answers answers;
+    }
 own_is_step g t w w' ask.Done own asked took log answers = absurd own
 
 pub own_step : (g : Guest) (budget t : ℕ) (before : List Answered) (w w' : Work) (q : Ask) → IsOwn q → ask_of g.code w.thread ≡ q
@@ -200,8 +230,18 @@ pub answer_step : (g : Guest) (budget t : ℕ) (before : List Answered) (w w' : 
     → IsWorking g budget t before w → IsWorking g budget t before w'
 answer_step g budget t before w w' kind value asked fits me took log answers i =
     works_on g budget t before w w' (ask.Env kind) value [] (event.Answer kind value ∷ []) i
-    (record { asked = asked; may = fits; took = took; shares = refl; logs = refl; events = refl; fit =
-        (result_fits kind value fits, tt); log = log; answers = answers })
+    (record {
+      asked = asked;
+      may = fits;
+      took = took;
+      shares = refl;
+      logs = refl;
+      events = refl;
+      fit =
+          (result_fits kind value fits, tt);
+      log = log;
+      answers = answers;
+    })
     (same_view t i.track w.me w'.me me i.view)
 
 pub read_step : (g : Guest) (budget t : ℕ) (before : List Answered) (w w' : Work) (o version : ℕ) → o < object_count g → version < 2 ^ 32
@@ -210,8 +250,18 @@ pub read_step : (g : Guest) (budget t : ℕ) (before : List Answered) (w w' : Wo
     → w'.answers ≡ w.answers → IsWorking g budget t before w → IsWorking g budget t before w'
 read_step g budget t before w w' o version below fits asked me took log answers i =
     works_on g budget t before w w' (ask.Enter o Reading) 0 (act o (Enter Reading version 0) ∷ []) (event.Read o version ∷ []) i
-    (record { asked = asked; may = refl; took = took; shares = refl; logs = refl; events = refl; fit = ((below, fits), tt); log =
-        log; answers = nothing_more w.answers w'.answers answers })
+    (record {
+      asked = asked;
+      may = refl;
+      took = took;
+      shares = refl;
+      logs = refl;
+      events = refl;
+      fit = ((below, fits), tt);
+      log =
+          log;
+      answers = nothing_more w.answers w'.answers answers;
+    })
     (did_view t o (Enter Reading version 0) i.track w.me w'.me me i.view)
 
 pub write_step : (g : Guest) (budget t : ℕ) (before : List Answered) (w w' : Work) (o version left : ℕ) → o < object_count g
@@ -221,8 +271,18 @@ pub write_step : (g : Guest) (budget t : ℕ) (before : List Answered) (w w' : W
     → w'.answers ≡ w.answers → IsWorking g budget t before w → IsWorking g budget t before w'
 write_step g budget t before w w' o version left below fits small asked me took log answers i =
     works_on g budget t before w w' (ask.Enter o Writing) 0 (act o (Enter Writing version left) ∷ []) (event.Write o version left ∷ []) i
-    (record { asked = asked; may = refl; took = took; shares = refl; logs = refl; events = refl; fit = ((below, fits, small), tt); log =
-        log; answers = nothing_more w.answers w'.answers answers })
+    (record {
+      asked = asked;
+      may = refl;
+      took = took;
+      shares = refl;
+      logs = refl;
+      events = refl;
+      fit = ((below, fits, small), tt);
+      log =
+          log;
+      answers = nothing_more w.answers w'.answers answers;
+    })
     (did_view t o (Enter Writing version left) i.track w.me w'.me me i.view)
 
 pub leave_step : (g : Guest) (budget t : ℕ) (before : List Answered) (w w' : Work) (o version : ℕ) (a : Access)
@@ -231,8 +291,18 @@ pub leave_step : (g : Guest) (budget t : ℕ) (before : List Answered) (w w' : W
     → IsWorking g budget t before w'
 leave_step g budget t before w w' o version a asked me took log answers i =
     works_on g budget t before w w' (ask.Leave o a) 0 (act o (Leave a version) ∷ []) [] i
-    (record { asked = asked; may = refl; took = took; shares = refl; logs = refl; events = refl; fit = tt; log =
-        same_log w.log w'.log log; answers = nothing_more w.answers w'.answers answers })
+    (record {
+      asked = asked;
+      may = refl;
+      took = took;
+      shares = refl;
+      logs = refl;
+      events = refl;
+      fit = tt;
+      log =
+          same_log w.log w'.log log;
+      answers = nothing_more w.answers w'.answers answers;
+    })
     (did_view t o (Leave a version) i.track w.me w'.me me i.view)
 
 pub get_step : (g : Guest) (budget t : ℕ) (before : List Answered) (w w' : Work) (o index value : ℕ)
@@ -241,8 +311,18 @@ pub get_step : (g : Guest) (budget t : ℕ) (before : List Answered) (w w' : Wor
     → IsWorking g budget t before w'
 get_step g budget t before w w' o index value asked me took log answers i =
     works_on g budget t before w w' (ask.Get o index) value (act o (Get index value) ∷ []) [] i
-    (record { asked = asked; may = tt; took = took; shares = refl; logs = refl; events = refl; fit = tt; log =
-        same_log w.log w'.log log; answers = nothing_more w.answers w'.answers answers })
+    (record {
+      asked = asked;
+      may = tt;
+      took = took;
+      shares = refl;
+      logs = refl;
+      events = refl;
+      fit = tt;
+      log =
+          same_log w.log w'.log log;
+      answers = nothing_more w.answers w'.answers answers;
+    })
     (did_view t o (Get index value) i.track w.me w'.me me i.view)
 
 pub put_step : (g : Guest) (budget t : ℕ) (before : List Answered) (w w' : Work) (o index value : ℕ)
@@ -251,8 +331,18 @@ pub put_step : (g : Guest) (budget t : ℕ) (before : List Answered) (w w' : Wor
     → IsWorking g budget t before w'
 put_step g budget t before w w' o index value asked me took log answers i =
     works_on g budget t before w w' (ask.Put o index value) 0 (act o (Put index value) ∷ []) [] i
-    (record { asked = asked; may = refl; took = took; shares = refl; logs = refl; events = refl; fit = tt; log =
-        same_log w.log w'.log log; answers = nothing_more w.answers w'.answers answers })
+    (record {
+      asked = asked;
+      may = refl;
+      took = took;
+      shares = refl;
+      logs = refl;
+      events = refl;
+      fit = tt;
+      log =
+          same_log w.log w'.log log;
+      answers = nothing_more w.answers w'.answers answers;
+    })
     (did_view t o (Put index value) i.track w.me w'.me me i.view)
 
 -- so many private steps
@@ -359,16 +449,26 @@ same_world answers origin v w e = record { more = more_none (answers v) (answers
 -- a world that was asked, and then again
 pub worlds_on : {W O : Type 0} (answers : W → List Answered) (origin : W → O) (u v w : W) → IsSameWorld answers origin u v
     → IsSameWorld answers origin v w → IsSameWorld answers origin u w
-worlds_on answers origin u v w p q = record { more = more_both (answers u) (answers v) (answers w) p.more q.more; same_origin =
-    q.same_origin ∙ p.same_origin }
+worlds_on answers origin u v w p q = record {
+  more = more_both (answers u) (answers v) (answers w) p.more q.more;
+  same_origin =
+      q.same_origin ∙ p.same_origin;
+}
 
 pub stays_on : {W : Type 0} (answers : W → List Answered) (g : Guest) (u v w : Worker W) → Stays answers g u v → Stays answers g v w
     → Stays answers g u w
-stays_on answers g u v w p q = record { seat = q.seat ∙ p.seat; still =
-    λ budget t before i. q.still budget t before (p.still budget t before i) }
+stays_on answers g u v w p q = record {
+  seat = q.seat ∙ p.seat;
+  still =
+      λ budget t before i. q.still budget t before (p.still budget t before i);
+}
 
 -- a worker that stays is at work
 pub seated_on : {W : Type 0} (answers : W → List Answered) (g : Guest) (id : TableId) (code : List ℕ) (v w : Worker W)
     → IsSeated answers g id code v → Stays answers g v w → IsSeated answers g id code w
-seated_on answers g id code v w s on = record { seat = on.seat ∙ s.seat; same_code = s.same_code; worker =
-    worker_on g (work_of answers v) (work_of answers w) s.worker on.still }
+seated_on answers g id code v w s on = record {
+  seat = on.seat ∙ s.seat;
+  same_code = s.same_code;
+  worker =
+      worker_on g (work_of answers v) (work_of answers w) s.worker on.still;
+}

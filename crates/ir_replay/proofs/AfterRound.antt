@@ -49,8 +49,8 @@ assigned_one : (id : TableId) (k : Plan) (target : List ℕ) (t : ℕ) (w : Work
     → IsAssigned id k target t w
 assigned_one id k target t w h there first same =
     let ahead : IsAhead (trace_in k) t (opened_at k t) w.thread =
-        subst (IsAhead (trace_in k) t (opened_at k t)) (sym same)
-        (ahead_at (trace_in k) (opened_in k) t h.run h.stands.flat h.stands.at there) in
+    subst (IsAhead (trace_in k) t (opened_at k t)) (sym same)
+    (ahead_at (trace_in k) (opened_in k) t h.run h.stands.flat h.stands.at there) in
     let steps : w.thread.steps ≡ opened_at k t = ap (λ (x : thread.State). x.steps) same in
     record {
       ready = record {
@@ -69,7 +69,7 @@ pub assigned : (id : TableId) (k : Plan) (target : List ℕ) (ws : List Worker) 
 assigned id k target ws seats h are of_seats of_threads =
     let size : length ws ≡ length k.opened.value.threads = sym (back_threads ws) ∙ ap (λ z. length z) of_threads in
     down_map (λ t w. IsFirst id k t w.seat × (w.thread ≡ slice_index_or k.opened.value.threads t idle)) (IsAssigned id k target) ws
-        (λ t w l x. assigned_one id k target t w h (omega (arith, l, size)) x.0 x.1)
+    (λ t w l x. assigned_one id k target t w h (omega (arith, l, size)) x.0 x.1)
     (down_both (λ t w. IsFirst id k t w.seat) (λ t w. w.thread ≡ slice_index_or k.opened.value.threads t idle) ws
     (down_seats id k ws [] (subst (AreSeats id k 0) (sym (append-nil (backwards (seats_of ws)) ∙ of_seats)) are))
     (down_threads ws [] k.opened.value.threads (append-nil (backwards (threads_of ws)) ∙ of_threads)))
@@ -148,11 +148,11 @@ left_at id k target p ws h at t l =
     let xs : List thread.State = backwards (threads_of ws) in
     let all : Down (λ n w. IsLeft k target p n (slice_index_or xs n idle)) ws =
     down_map (λ n w. (IsAfterRound id k target n w × AreAt p w.seat.me.0) × (w.thread ≡ slice_index_or xs n idle))
-        (λ n w. IsLeft k target p n (slice_index_or xs n idle)) ws
+    (λ n w. IsLeft k target p n (slice_index_or xs n idle)) ws
     (λ n w less x. subst (IsLeft k target p n) x.1 (left_one id k target p n w x.0.0 x.0.1))
     (down_both (λ n w. IsAfterRound id k target n w × AreAt p w.seat.me.0) (λ n w. w.thread ≡ slice_index_or xs n idle) ws
-        (down_both (IsAfterRound id k target) (λ n w. AreAt p w.seat.me.0) ws h (down_views p ws at))
-        (down_threads ws [] xs (append-nil xs))) in
+    (down_both (IsAfterRound id k target) (λ n w. AreAt p w.seat.me.0) ws h (down_views p ws at))
+    (down_threads ws [] xs (append-nil xs))) in
     (down_at (λ n w. IsLeft k target p n (slice_index_or xs n idle)) ws all t l).1
 
 none_there : (xs : List thread.State) (t : ℕ) → length xs ≤ t → (slice_index_or xs t idle).steps ≡ 0
@@ -172,7 +172,7 @@ between id k target ws cells h size p c =
     let there = h.stands.at.threads in
     let closed = c.at.threads in
     let left : (t : ℕ) → t < length ws → IsLeft k target (positions c.state) t (slice_index_or xs t idle) =
-        left_at id k target (positions c.state) ws p c.view in
+    left_at id k target (positions c.state) ws p c.view in
     record {
       stands = stands_there (trace_in k) c.state xs cells h.run c.flat c.at (λ t l. (left t (omega (arith, l, size, there, closed))).ahead)
           (omega (arith, back, size, there, closed)) c.objects;
@@ -213,7 +213,7 @@ goes id k target ws cells h size p c b t less =
       | inl same ↦
           let rests : (u : ℕ) → u < length target → (opened_at k u ≡ cut_of target u) ⊎ WasStopped k u (opened_at k u) =
           λ u l. subst (λ n. (n ≡ cut_of target u) ⊎ WasStopped k u n) (sym (same u l))
-              (left_at id k target (positions c.state) ws p c.view u (omega (arith, l, size, there, whole))).rests in
+          (left_at id k target (positions c.state) ws p c.view u (omega (arith, l, size, there, whole))).rests in
           let at = still_reached k target h.run h.stands.at h.size h.consistent h.below rests t in
           absurd (omega (arith, at, less))
     ]
@@ -228,4 +228,4 @@ round_leaves id k f target s new ws cells for is h size p c e =
     let b : IsBetween (trace_in k) target k.opened.value (after_round ws cells) = between id k target ws cells start long p c in
     subst (λ (z : FittedTrace × Standing). IsBetween z.0 target z.1 new × Goes z.0 target z.1 new) (λ i. (for i, is i))
     (subst (λ z. IsBetween (trace_in k) target k.opened.value z × Goes (trace_in k) target k.opened.value z) (sym e)
-        (b, goes id k target ws cells start long p c b))
+    (b, goes id k target ws cells start long p c b))

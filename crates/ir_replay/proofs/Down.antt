@@ -85,10 +85,12 @@ pub down_threads : (ws : List Worker) (rest xs : List thread.State) → backward
 down_threads [] rest xs e = tt
 down_threads (w ∷ ws) rest xs e =
     let parts : backwards (threads_of ws) ++ w.thread ∷ rest ≡ xs = sym (append_assoc (backwards (threads_of ws)) (w.thread ∷ []) rest)
-        ∙ e in
-    (sym (ap (λ z. slice_index_or z (length ws) idle) (sym parts)
-        ∙ get_or_at (backwards (threads_of ws)) w.thread rest idle (length ws) (back_threads ws)), down_threads ws (w.thread ∷ rest) xs
-        parts)
+    ∙ e in (
+      sym (ap (λ z. slice_index_or z (length ws) idle) (sym parts)
+          ∙ get_or_at (backwards (threads_of ws)) w.thread rest idle (length ws) (back_threads ws)),
+      down_threads ws (w.thread ∷ rest) xs
+          parts,
+    )
 
 -- the seat of thread t as the table is opened
 abbrev pub IsFirst : TableId → Plan → ℕ → Seat (Unit {0}) View → Type 0
@@ -104,6 +106,8 @@ pub down_seats : (id : TableId) (k : Plan) (ws : List Worker) (rest : List (Seat
 down_seats id k [] rest h = tt
 down_seats id k (w ∷ ws) rest h =
     let parts : AreSeats id k 0 (backwards (seats_of ws) ++ w.seat ∷ rest) =
-        subst (AreSeats id k 0) (append_assoc (backwards (seats_of ws)) (w.seat ∷ []) rest) h in
-    (seat_at id k 0 (length ws) (backwards (seats_of ws)) rest w.seat (let e = back_seats ws in omega (arith, e)) parts, down_seats id k ws
-        (w.seat ∷ rest) parts)
+    subst (AreSeats id k 0) (append_assoc (backwards (seats_of ws)) (w.seat ∷ []) rest) h in (
+      seat_at id k 0 (length ws) (backwards (seats_of ws)) rest w.seat (let e = back_seats ws in omega (arith, e)) parts,
+      down_seats id k ws
+          (w.seat ∷ rest) parts,
+    )

@@ -53,7 +53,7 @@ gather (suc m) f s xs h flat at few ahead =
     let here : positions g.state m ≡ positions s m = g.others m (omega arith) in
     let size = g.size in
     let c : CaughtUp f g.state m x = catch_up f g.state m x h g.flat g.at (omega (arith, few, size)) a.at
-        (subst (λ i. AreAlone f m i x.steps) (sym here) a.alone) (subst (λ i. i ≤ x.steps) (sym here) a.past) in
+    (subst (λ i. AreAlone f m i x.steps) (sym here) a.alone) (subst (λ i. i ≤ x.steps) (sym here) a.past) in
     record {
       state = c.state;
       flat = c.flat;
@@ -74,11 +74,11 @@ pub stands_there : (f : FittedTrace) (s : Flat) (xs : List thread.State) (cells 
     → StandsAt f (positions (flat_in f (record { threads = xs; objects = cells }))) (record { threads = xs; objects = cells })
 stands_there f s xs cells h flat at ahead size objects =
     let g : Gathered f s xs (length s.threads) =
-        gather (length s.threads) f s xs h flat at (let e : length s.threads ≤ length s.threads = omega arith in e) ahead in
+    gather (length s.threads) f s xs h flat at (let e : length s.threads ≤ length s.threads = omega arith in e) ahead in
     let threads : g.state.threads ≡ xs = ext_get_or idle g.state.threads xs (g.size ∙ sym size)
-        (λ t l. g.own t (let e = g.size in omega (arith, l, e))) in
+    (λ t l. g.own t (let e = g.size in omega (arith, l, e))) in
     let same : g.state ≡ flat_in f (record { threads = xs; objects = cells }) =
-        λ i. record { code = g.at.code i; threads = threads i; objects = (g.objects ∙ sym objects) i } in
+    λ i. record { code = g.at.code i; threads = threads i; objects = (g.objects ∙ sym objects) i } in
     record { flat = subst IsFlat same g.flat; at = subst (λ z. IsStateAt f (positions z) z) same g.at }
 
 -- ---- a round in which nobody moves
@@ -96,8 +96,8 @@ still_reached k target h at size consistent below rests t = elim (cases_lt (open
       let of : IsRunOf f.guest f.recorded run = h.whole in
       let goal = consistent run of in
       let p : Progress (machine_of f) (start_of f) run (opened_at k) (cut_of target) =
-          progress (machine_of f) (law f) (start_of f) (good f) run of.1.runs (opened_at k) (cut_of target) (at.each run of).consistent
-          goal.1 goal.0 t less in
+      progress (machine_of f) (law f) (start_of f) (good f) run of.1.runs (opened_at k) (cut_of target) (at.each run of).consistent
+      goal.1 goal.0 t less in
       let before : opened_at k p.thread < cut_of target p.thread = p.below in
       let inside : p.thread < length target = elim (cases_lt p.thread (length target)) [
         | inl l ↦ l

@@ -61,7 +61,7 @@ fewer_left : (target : List ℕ) (old new : Flat) (t n : ℕ) → t < length tar
     → positions new t ≤ cut_of target t → steps_left target new < steps_left target old
 fewer_left target old new t n l gone some below =
     sum_less (length target) t (λ u. cut_of target u - positions new u) (λ u. cut_of target u - positions old u) l
-        (let own = gone.own in omega (arith, own, some, below)) (λ u. let a = gone_above old new t n gone u in omega (arith, a))
+    (let own = gone.own in omega (arith, own, some, below)) (λ u. let a = gone_above old new t n gone u in omega (arith, a))
 
 -- ---- a pass
 

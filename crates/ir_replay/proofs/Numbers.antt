@@ -32,11 +32,11 @@ numbered f run of t zero there l = ap (λ (z : thread.State). z.number) (first_t
 numbered f run of t (suc k) there l =
     let at = step_there f run t k (omega (arith, l)) in
     let z : StepOf (machine_of f) (thread_at f run t k) (thread_at f run t (suc k)) at.0 =
-        step_at (machine_of f) (start_of f) run of.1.runs t k at.0 at.1 in
+    step_at (machine_of f) (start_of f) run of.1.runs t k at.0 at.1 in
     let n : ℕ = reply (act_of (shared_ask (ask_at f run t k)) z.result) z.object in
     ap (λ (x : thread.State). x.number) (z.next ∙ taken f.guest.code (thread_at f run t k) n)
-        ∙ same_number f.guest.code (thread_at f run t k) (ask_at f run t k) (reply_of (ask_at f run t k) n)
-        ∙ numbered f run of t k there (omega (arith, l))
+    ∙ same_number f.guest.code (thread_at f run t k) (ask_at f run t k) (reply_of (ask_at f run t k) n)
+    ∙ numbered f run of t k there (omega (arith, l))
 
 -- a thread of a state is where it is
 pub ahead_at : (f : FittedTrace) (s : Flat) (t : ℕ) → HasRun f → IsFlat s → IsStateAt f (positions s) s → t < length s.threads

@@ -49,8 +49,8 @@ all_reached f target s aim under rest t = elim (cases_lt (positions s t) (cut_of
       let at : IsAt f (positions s) s run = under.state.each run is in
       let goal = aim.consistent run is in
       let k : Progress (machine_of f) (start_of f) run (positions s) (cut_of target) =
-          progress (machine_of f) (law f) (start_of f) (good f) run is.1.runs (positions s) (cut_of target) at.consistent goal.1 goal.0 t
-          less in
+      progress (machine_of f) (law f) (start_of f) (good f) run is.1.runs (positions s) (cut_of target) at.consistent goal.1 goal.0 t
+      less in
       let before : positions s k.thread < cut_of target k.thread = k.below in
       absurd (elim (rest k.thread (no_thread target s k.thread before)) [
         | inl done ↦ omega (arith, done, before)
@@ -80,7 +80,7 @@ pub stands_from : (f : FittedTrace) (p : Cut) (s : Flat) (state : Standing) → 
     → IsFlat s → IsStateAt f p s → StandsAt f p state
 stands_from f p s state is flat at =
     let same : s ≡ flat_in f (record { threads = s.threads; objects = s.objects }) =
-        λ i. record { code = at.code i; threads = s.threads; objects = s.objects } in
+    λ i. record { code = at.code i; threads = s.threads; objects = s.objects } in
     subst (StandsAt f p) (sym is) (record { flat = subst IsFlat same flat; at = subst (IsStateAt f p) same at })
 
 pub reached_at : (f : FittedTrace) (target aim : List ℕ) (s : Flat) (state : Standing) → aim ≡ target → IsUnder f aim s
@@ -88,7 +88,7 @@ pub reached_at : (f : FittedTrace) (target aim : List ℕ) (s : Flat) (state : S
     → StandsAt f (cut_of target) state
 reached_at f target aim s state same under reached is flat =
     stands_from f (cut_of target) s state is flat
-        (subst (λ z. IsStateAt f (cut_of z) s) same (subst (λ p. IsStateAt f p s) (λ i t. reached t i) under.state))
+    (subst (λ z. IsStateAt f (cut_of z) s) same (subst (λ p. IsStateAt f p s) (λ i t. reached t i) under.state))
 
 -- the state after steps from another
 pub between_at : (f : FittedTrace) (target aim : List ℕ) (old state : Standing) (first s : Flat) → first ≡ flat_in f old → aim ≡ target
@@ -106,7 +106,7 @@ pub goes_at : (f : FittedTrace) (target aim : List ℕ) (old state : Standing) (
     → state ≡ record { threads = s.threads; objects = s.objects } → Goes f target old state
 goes_at f target aim old state first s was same h is =
     subst (Goes f target old) (sym is) (subst (λ (z : List ℕ × Flat). (t : ℕ) → positions z.1 t < cut_of z.0 t
-        → steps_left z.0 s < steps_left z.0 z.1) (λ i. (same i, was i)) h)
+    → steps_left z.0 s < steps_left z.0 z.1) (λ i. (same i, was i)) h)
 
 -- a state between whose threads are all at the target
 pub all_there : (f : FittedTrace) (target : List ℕ) (old s : Standing) → IsBetween f target old s → length target ≡ length f.guest.entries

@@ -57,26 +57,33 @@ admitted m law s good run ok p cut c t r k can tells l =
     let s1 = end m s (part run p) in
     let prefix : List Step = part run p ++ (t, r) ∷ [] in
     let more : (u : ℕ) → trail m s prefix u ≡ take (p u) (trail m s run u) ++ join_if (eqb u t) (s1.now u, label m s1 (t, r)) [] =
-        λ u. trail_append m s (part run p) ((t, r) ∷ []) u
-        ∙ ap (λ y. y ++ join_if (eqb u t) (s1.now u, label m s1 (t, r)) []) (z.same_trail u) in
+    λ u. trail_append m s (part run p) ((t, r) ∷ []) u
+    ∙ ap (λ y. y ++ join_if (eqb u t) (s1.now u, label m s1 (t, r)) []) (z.same_trail u) in
     let at_t : trail m s prefix t ≡ take (p t) (trail m s run t) ++ (s1.now t, label m s1 (t, r)) ∷ [] = more t
-        ∙ ap (λ b. take (p t) (trail m s run t) ++ join_if b (s1.now t, label m s1 (t, r)) []) (eq-eqb t t refl) in
+    ∙ ap (λ b. take (p t) (trail m s run t) ++ join_if b (s1.now t, label m s1 (t, r)) []) (eq-eqb t t refl) in
     let at_u : (u : ℕ) → u ≢ t → trail m s prefix u ≡ take (p u) (trail m s run u) = λ u ne. more u
-        ∙ ap (λ b. take (p u) (trail m s run u) ++ join_if b (s1.now u, label m s1 (t, r)) []) (ne_eqb u t ne) ∙ append-nil _ in
+    ∙ ap (λ b. take (p u) (trail m s run u) ++ join_if b (s1.now u, label m s1 (t, r)) []) (ne_eqb u t ne) ∙ append-nil _ in
     let short : p t < count m s run t = at_length (trail m s run t) (p t) (tells.0, k) tells.1 in
     let counts : (u : ℕ) → count m s prefix u ≡ further p t u = λ u. elim (cases_eq u t) [
       | inl e ↦ subst (λ w. count m s prefix w ≡ further p t w) (sym e)
-          (omega (arith, ap length at_t, length-append (take (p t) (trail m s run t)) ((s1.now t, label m s1 (t, r)) ∷ []), length-take
-          (p t) (trail m s run t), short, further_same p t))
+          (omega (
+            arith,
+            ap length at_t,
+            length-append (take (p t) (trail m s run t)) ((s1.now t, label m s1 (t, r)) ∷ []),
+            length-take
+                (p t) (trail m s run t),
+            short,
+            further_same p t,
+          ))
       | inr ne ↦ omega (arith, ap length (at_u u ne), length-take (p u) (trail m s run u), cut u, further_other p t u ne)
     ] in
     let g : Goes m s prefix run = goes m law s good prefix run (run_append m s (part run p) ((t, r) ∷ []) z.ok (can, tt)) ok
-        (λ u. events (drop (further p t u) (trail m s run u)))
+    (λ u. events (drop (further p t u) (trail m s run u)))
     (λ u. elim (cases_eq u t) [
       | inl e ↦ subst (λ w. log m s prefix w ++ events (drop (further p t w) (trail m s run w)) ≡ log m s run w) (sym e)
           (ap (λ y. events y ++ events (drop (further p t t) (trail m s run t))) at_t
-              ∙ ap (λ y. events (take (p t) (trail m s run t) ++ (s1.now t, label m s1 (t, r)) ∷ []) ++ events (drop y (trail m s run t)))
-              (further_same p t)
+          ∙ ap (λ y. events (take (p t) (trail m s run t) ++ (s1.now t, label m s1 (t, r)) ∷ []) ++ events (drop y (trail m s run t)))
+          (further_same p t)
           ∙ one_logs (trail m s run t) (p t) (s1.now t) tells.0 (label m s1 (t, r)) k tells.1 l)
       | inr ne ↦ ap (λ y. events y ++ events (drop (further p t u) (trail m s run u))) (at_u u ne)
           ∙ ap (λ y. events (take (p u) (trail m s run u)) ++ events (drop y (trail m s run u))) (further_other p t u ne)
@@ -90,7 +97,7 @@ admitted m law s good run ok p cut c t r k can tells l =
       short,
       trails_cut m s (prefix ++ g.rest) run (λ u. trail_append m s prefix g.rest u ∙ g.same_trail u) (further p t)
           (consistent_same m s (prefix ++ g.rest) (moment (prefix ++ g.rest) (length prefix)) (further p t)
-              (λ u. moment_append prefix g.rest u ∙ whole m s prefix u ∙ counts u)
+          (λ u. moment_append prefix g.rest u ∙ whole m s prefix u ∙ counts u)
           (early m law s good (prefix ++ g.rest)
-              (run_append m s prefix g.rest (run_append m s (part run p) ((t, r) ∷ []) z.ok (can, tt)) g.ok) (length prefix))),
+          (run_append m s prefix g.rest (run_append m s (part run p) ((t, r) ∷ []) z.ok (can, tt)) g.ok) (length prefix))),
     )

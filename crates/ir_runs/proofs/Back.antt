@@ -80,14 +80,14 @@ back m law s good e e' ne can can' free =
     let s1 = after m s e in
     let p : s1.now e'.0 ≡ s.now e'.0 = now_other m s e e'.0 ne in
     let h : Admits m q' (s1.objects (target q')) =
-        subst (λ z. Admits m (act_of (m.ask z) e'.1) (s1.objects (target (act_of (m.ask z) e'.1)))) p can' in
+    subst (λ z. Admits m (act_of (m.ask z) e'.1) (s1.objects (target (act_of (m.ask z) e'.1)))) p can' in
     let f : Needs (label m s e) (told q' (s1.objects (target q'))) → ⊥ =
-        subst (λ z. Needs (label m s e) (told (act_of (m.ask z) e'.1) (s1.objects (target (act_of (m.ask z) e'.1)))) → ⊥) p free in
+    subst (λ z. Needs (label m s e) (told (act_of (m.ask z) e'.1) (s1.objects (target (act_of (m.ask z) e'.1)))) → ⊥) p free in
     elim (cases_eq (target q') (target q)) [
       | inl same ↦
           let c : s1.objects (target q') ≡ acted q e.0 (s.objects (target q)) = ap s1.objects same ∙ upd_same s.objects (target q) _ in
           let z : Admits m q' (s.objects (target q)) × (Clash q q' → ⊥) =
-              back1 m (s.objects (target q)) e.0 e'.0 q q' same (inside_now m law s good e) can
+          back1 m (s.objects (target q)) e.0 e'.0 q q' same (inside_now m law s good e) can
           (subst (Admits m q') c h) (subst (λ y. Needs (label m s e) (told q' y) → ⊥) c f) in
           (subst (λ y. Admits m q' (s.objects y)) (sym same) z.0, λ y. z.1 y.1)
       | inr other ↦ (subst (Admits m q') (upd_other s.objects (target q) (target q') _ other) h, λ y. other y.0)
@@ -105,22 +105,22 @@ skip m law s good e can [] ok none free = record { ok = tt; same_trail = λ u. r
 skip {T} m law s good e can (d ∷ run) ok none free =
     let s1 = after m s e in
     let other : d.0 ≢ e.0 = λ p. cc (subst (λ b. join_if b (s1.now e.0, label m s1 d) (trail m (after m s1 d) run e.0) ≡ [])
-        (eq-eqb e.0 d.0 (sym p)) none) in
+    (eq-eqb e.0 d.0 (sym p)) none) in
     let none' : trail m (after m s1 d) run e.0 ≡ [] =
-        subst (λ b. join_if b (s1.now e.0, label m s1 d) (trail m (after m s1 d) run e.0) ≡ []) (ne_eqb e.0 d.0 (λ p. other (sym p)))
-        none in
+    subst (λ b. join_if b (s1.now e.0, label m s1 d) (trail m (after m s1 d) run e.0) ≡ []) (ne_eqb e.0 d.0 (λ p. other (sym p)))
+    none in
     let b = back m law s good e d other can ok.0
-        (free d.0 0 (s1.now d.0) (label m s1 d)
-        (subst (λ b. At (join_if b (s1.now d.0, label m s1 d) (trail m (after m s1 d) run d.0)) 0 (s1.now d.0, label m s1 d))
-        (sym (eq-eqb d.0 d.0 refl)) refl)) in
+    (free d.0 0 (s1.now d.0) (label m s1 d)
+    (subst (λ b. At (join_if b (s1.now d.0, label m s1 d) (trail m (after m s1 d) run d.0)) 0 (s1.now d.0, label m s1 d))
+    (sym (eq-eqb d.0 d.0 refl)) refl)) in
     let free2 : Clashes m s d e → ⊥ = λ c. b.1 (sym c.0, clash_sym _ _ c.1) in
     let k : Keeps m s e d = keeps m law s good e d (λ p. other (sym p)) can b.0 b.1 in
     let k' : Keeps m s d e = keeps m law s good d e other b.0 can free2 in
     let p : after m s1 d ≡ after m (after m s d) e = commute m law s good e d (λ p. other (sym p)) can b.0 b.1 free2 in
     let z : Skipped m (after m s d) e run = skip m law (after m s d) (stays_good m law s good d b.0) e k'.can run
-        (subst (λ z. IsRun m z run) p ok.1) (subst (λ z. trail m z run e.0 ≡ []) p none')
+    (subst (λ z. IsRun m z run) p ok.1) (subst (λ z. trail m z run e.0 ≡ []) p none')
     (λ u k x a h n. skip_free s1 d run p e u k x a free (subst (λ z. At (trail m z run u) k (x, a)) (sym p) h)
-        (subst (λ z. Needs z a) k'.label_same n)) in
+    (subst (λ z. Needs z a) k'.label_same n)) in
     record {
       ok = (b.0, z.ok);
       same_trail = λ u. ap (join_if (eqb u d.0) (s.now u, label m s d)) (z.same_trail u ∙ ap (λ y. trail m y run u) (sym p))

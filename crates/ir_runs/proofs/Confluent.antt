@@ -50,8 +50,11 @@ first_fits E m s ns rem e run h = fits_first (E e.0) (ns e.0) (rem e.0) (eqb e.0
 
 pub rest_fits : {T : Type 0} (E : Ending T) (m : Machine T) (s : State T) (ns : ℕ → ℕ) (rem : ℕ → List Label) (e : Step) (run : List Step)
     → Goes_on E m s ns rem (e ∷ run) → Goes_on E m (after m s e) (steps_left ns e) (log_left rem e (label m s e)) run
-rest_fits E m s ns rem e run h = (h.0.1, λ t. fits_later (E t) (ns t) (rem t) (eqb t e.0) (s.now t, label m s e)
-    (trail m (after m s e) run t) (h.1 t) (label m s e) (λ _. refl))
+rest_fits E m s ns rem e run h = (
+  h.0.1,
+  λ t. fits_later (E t) (ns t) (rem t) (eqb t e.0) (s.now t, label m s e)
+      (trail m (after m s e) run t) (h.1 t) (label m s e) (λ _. refl),
+)
 
 -- what is known so far
 pub record Sofar (n : ℕ) {T : Type 0} (m : Machine T) (tr : Trace) (s : State T) (rem : ℕ → List Label) : Type 0 where
@@ -94,9 +97,9 @@ sofar_step n m law tr s rem f e can is =
         | inl same ↦ subst (λ b. (f.counts o v t + cond b (reads_one o v (label m s e)) 0) + reads o v
             (cond b (unlogged (label m s e) (rem t)) (rem t)) ≡ reads o v (tr.logs t)) (sym (eq-eqb t e.0 same))
             (here (f.counts o v t) (reads_one o v (label m s e)) (reads o v (unlogged (label m s e) (rem t))) (reads o v (rem t))
-                (reads o v (tr.logs t)) (f.total o v t)
+            (reads o v (tr.logs t)) (f.total o v t)
             (sym (reads_logged o v (label m s e) (unlogged (label m s e) (rem t)))
-                ∙ ap (reads o v) (subst (λ z. logged (label m s e) (unlogged (label m s e) (rem z)) ≡ rem z) (sym same) is)))
+            ∙ ap (reads o v) (subst (λ z. logged (label m s e) (unlogged (label m s e) (rem z)) ≡ rem z) (sym same) is)))
         | inr other ↦ subst (λ b. (f.counts o v t + cond b (reads_one o v (label m s e)) 0) + reads o v
             (cond b (unlogged (label m s e) (rem t)) (rem t)) ≡ reads o v (tr.logs t)) (sym (ne_eqb t e.0 other))
             (there (f.counts o v t) (reads o v (rem t)) (reads o v (tr.logs t)) (f.total o v t))
@@ -104,9 +107,9 @@ sofar_step n m law tr s rem f e can is =
       within = λ t i k h. elim (cases_eq t e.0) [
         | inl same ↦
             let g = at_logged (label m s e) (unlogged (label m s e) (rem t)) i k
-                (subst (λ b. At (cond b (unlogged (label m s e) (rem t)) (rem t)) i k) (eq-eqb t e.0 same) h) in
+            (subst (λ b. At (cond b (unlogged (label m s e) (rem t)) (rem t)) i k) (eq-eqb t e.0 same) h) in
             f.within t g.0 k (subst (λ z. At z g.0 k)
-                (subst (λ z. logged (label m s e) (unlogged (label m s e) (rem z)) ≡ rem z) (sym same) is) g.1)
+            (subst (λ z. logged (label m s e) (unlogged (label m s e) (rem z)) ≡ rem z) (sym same) is) g.1)
         | inr other ↦ f.within t i k (subst (λ b. At (cond b (unlogged (label m s e) (rem t)) (rem t)) i k) (ne_eqb t e.0 other) h)
       ];
       idle = λ t l. ap m.ask (now_other m s e t (λ p. lt_ne e.0 t n less l p)) ∙ f.idle t l;
@@ -132,15 +135,15 @@ reader_waits n m tr co s rem f e d o ans ans' can is a a' is' less =
     let k : label m s e ≡ In o Writing v b.left = ap (λ z. told z (s.objects (target z))) a in
     let k' : label m s d ≡ In o Reading v 0 = ap (λ z. told z (s.objects (target z))) a' in
     let i = f.within e.0 0 (In o Writing v b.left)
-        (subst (λ z. At z 0 (In o Writing v b.left)) (ap (λ z. logged z (unlogged (label m s e) (rem e.0))) (sym k) ∙ is) refl) in
+    (subst (λ z. At z 0 (In o Writing v b.left)) (ap (λ z. logged z (unlogged (label m s e) (rem e.0))) (sym k) ∙ is) refl) in
     let all : b.left ≡ sum_below n (λ u. reads o v (tr.logs u)) = co.readers e.0 i.0 o v b.left i.1 in
     let empty : (u : ℕ) → b.inside u ≡ None = subst (λ z. Admits m z (s.objects (target z))) a can in
     let none : readers_inside n b ≡ 0 = sum_zero n (λ u. is_reader (b.inside u)) (λ u _. ap is_reader (empty u)) in
     let one : 1 ≤ reads o v (rem d.0) = subst (λ z. 1 ≤ reads o v z) (ap (λ z. logged z (unlogged (label m s d) (rem d.0))) (sym k') ∙ is')
-        (read_first o v (unlogged (label m s d) (rem d.0))) in
+    (read_first o v (unlogged (label m s d) (rem d.0))) in
     let more : sum_below n (f.counts o v) < sum_below n (λ u. reads o v (tr.logs u)) =
-        sum_less n d.0 (f.counts o v) (λ u. reads o v (tr.logs u)) less (omega (arith, f.total o v d.0, one))
-        (λ u. omega (arith, f.total o v u)) in
+    sum_less n d.0 (f.counts o v) (λ u. reads o v (tr.logs u)) less (omega (arith, f.total o v d.0, one))
+    (λ u. omega (arith, f.total o v u)) in
     omega (arith, f.tally.balance o, none, all, more)
   where
     read_first : (o v : ℕ) (es : List Label) → 1 ≤ reads o v (In o Reading v 0 ∷ es)
@@ -158,13 +161,13 @@ no_clash : (n : ℕ) {T : Type 0} (m : Machine T) → IsLawful m → (tr : Trace
 no_clash n m law tr co s rem f e d ne can can' is is' (Entry o Writing ans) (Entry p Writing ans') a a' same c =
     let k : label m s e ≡ In o Writing (s.objects o).version (s.objects o).left = ap (λ z. told z (s.objects (target z))) a in
     let k' : label m s d ≡ In o Writing (s.objects o).version (s.objects o).left = ap (λ z. told z (s.objects (target z))) a'
-        ∙ ap (λ z. In z Writing (s.objects z).version (s.objects z).left) same in
+    ∙ ap (λ z. In z Writing (s.objects z).version (s.objects z).left) same in
     let i = f.within e.0 0 (In o Writing (s.objects o).version (s.objects o).left)
-        (subst (λ z. At z 0 (In o Writing (s.objects o).version (s.objects o).left))
-        (ap (λ z. logged z (unlogged (label m s e) (rem e.0))) (sym k) ∙ is) refl) in
+    (subst (λ z. At z 0 (In o Writing (s.objects o).version (s.objects o).left))
+    (ap (λ z. logged z (unlogged (label m s e) (rem e.0))) (sym k) ∙ is) refl) in
     let j = f.within d.0 0 (In o Writing (s.objects o).version (s.objects o).left)
-        (subst (λ z. At z 0 (In o Writing (s.objects o).version (s.objects o).left))
-        (ap (λ z. logged z (unlogged (label m s d) (rem d.0))) (sym k') ∙ is') refl) in
+    (subst (λ z. At z 0 (In o Writing (s.objects o).version (s.objects o).left))
+    (ap (λ z. logged z (unlogged (label m s d) (rem d.0))) (sym k') ∙ is') refl) in
     ne (co.writer e.0 i.0 d.0 j.0 o (s.objects o).version (s.objects o).left (s.objects o).left i.1 j.1).0
 no_clash n m law tr co s rem f e d ne can can' is is' (Entry o Writing ans) (Entry p Reading ans') a a' same c =
     reader_waits n m tr co s rem f e d o ans ans' can is a (subst (λ z. act m s d ≡ Entry z Reading ans') same a') is'
@@ -190,19 +193,19 @@ stays : {T : Type 0} (E : Ending T) (n : ℕ) (m : Machine T) → IsLawful m →
 stays E n m law tr co s ns rem f e can is [] h none = record { can = can; label_same = refl; now_same = refl }
 stays E n m law tr co s ns rem f e can is (d ∷ run) h none =
     let other : d.0 ≢ e.0 = λ p. cc (subst (λ b. join_if b (s.now e.0, label m s d) (trail m (after m s d) run e.0) ≡ [])
-        (eq-eqb e.0 d.0 (sym p)) none) in
+    (eq-eqb e.0 d.0 (sym p)) none) in
     let none' : trail m (after m s d) run e.0 ≡ [] =
-        subst (λ b. join_if b (s.now e.0, label m s d) (trail m (after m s d) run e.0) ≡ []) (ne_eqb e.0 d.0 (λ p. other (sym p))) none in
+    subst (λ b. join_if b (s.now e.0, label m s d) (trail m (after m s d) run e.0) ≡ []) (ne_eqb e.0 d.0 (λ p. other (sym p))) none in
     let isd = first_fits E m s ns rem d run h in
     let free : Clashes m s d e → ⊥ = λ c. no_clash n m law tr co s rem f d e other h.0.0 can isd.1 is (act m s d) (act m s e) refl refl c.0
-        c.1 in
+    c.1 in
     let k : Keeps m s d e = keeps m law s f.good d e other h.0.0 can free in
     let rem' : ℕ → List Label = log_left rem d (label m s d) in
     let same : rem' e.0 ≡ rem e.0 = ap (λ b. cond b (unlogged (label m s d) (rem e.0)) (rem e.0)) (ne_eqb e.0 d.0 (λ p. other (sym p))) in
     let g : Stays m (after m s d) run e = stays E n m law tr co (after m s d) (steps_left ns d) rem'
-        (sofar_step n m law tr s rem f d h.0.0 isd.1) e k.can
+    (sofar_step n m law tr s rem f d h.0.0 isd.1) e k.can
     (subst (λ z. logged z (unlogged z (rem' e.0)) ≡ rem' e.0) (sym k.label_same)
-        (subst (λ z. logged (label m s e) (unlogged (label m s e) z) ≡ z) (sym same) is))
+    (subst (λ z. logged (label m s e) (unlogged (label m s e) z) ≡ z) (sym same) is))
     run (rest_fits E m s ns rem d run h) none' in
     record { can = g.can; label_same = g.label_same ∙ k.label_same; now_same = g.now_same ∙ k.now_same }
 
@@ -220,10 +223,14 @@ behind E m s ns rem run h e none k fits = (
   λ t. elim (cases_eq t e.0) [
     | inl same ↦ subst (λ w. Fits (E w) (ns w) (rem w) (trail m s (run ++ e ∷ []) w)) (sym same)
         (subst (Fits (E e.0) (ns e.0) (rem e.0))
-            (sym (trail_append m s run (e ∷ []) e.0 ∙ ap (λ z. z ++ trail m (end m s run) (e ∷ []) e.0) none
-            ∙ ap (λ b. join_if b ((end m s run).now e.0, label m (end m s run) e) []) (eq-eqb e.0 e.0 refl)))
-        (fits.0, subst (λ z. logged z (unlogged z (rem e.0)) ≡ rem e.0) (sym k.label_same) fits.1, subst (λ z. E e.0 z (ns e.0) (rem e.0))
-            (sym k.now_same) fits.2, tt))
+        (sym (trail_append m s run (e ∷ []) e.0 ∙ ap (λ z. z ++ trail m (end m s run) (e ∷ []) e.0) none
+        ∙ ap (λ b. join_if b ((end m s run).now e.0, label m (end m s run) e) []) (eq-eqb e.0 e.0 refl))) (
+          fits.0,
+          subst (λ z. logged z (unlogged z (rem e.0)) ≡ rem e.0) (sym k.label_same) fits.1,
+          subst (λ z. E e.0 z (ns e.0) (rem e.0))
+              (sym k.now_same) fits.2,
+          tt,
+        ))
     | inr other ↦ subst (Fits (E t) (ns t) (rem t))
         (sym (trail_append m s run (e ∷ []) t ∙ ap (λ b. trail m s run t ++ join_if b ((end m s run).now t, label m (end m s run) e) [])
         (ne_eqb t e.0 other) ∙ append-nil (trail m s run t))) (h.1 t)
@@ -247,7 +254,7 @@ still_maximal E m s ns rem run ok e fits p top x h = top x (
   λ t. subst (Fits (E t) (ns t) (rem t)) (whole t)
       (fits_join (E t) (ns t) (rem t) (eqb t e.0) (s.now t, label m s e) (trail m (after m s e) (p.rest ++ x ∷ []) t)
       (λ b. subst (λ w. (0 < ns w) × (logged (label m s e) (unlogged (label m s e) (rem w)) ≡ rem w) × E w (s.now w) (ns w) (rem w))
-          (sym (eqb-true t e.0 b)) fits) (h.1 t)),
+      (sym (eqb-true t e.0 b)) fits) (h.1 t)),
 )
   where
     whole : (t : ℕ) → join_if (eqb t e.0) (s.now t, label m s e) (trail m (after m s e) (p.rest ++ x ∷ []) t) ≡ trail m s (run ++ x ∷ []) t
@@ -282,11 +289,11 @@ confluent E n m law tr co s ns rem f (e ∷ run) run' h h' top = elim (nothing_o
   | inr st ↦
       let fits = first_fits E m s ns rem e run h in
       let p : Pulled m s run' e.0 e.1 = pull m law s f.good run' h'.0 e.0 e.1 h.0.0 st.head.0 st.head.1
-          (subst (λ z. At z 0 st.head) (sym st.is) refl)
+      (subst (λ z. At z 0 st.head) (sym st.is) refl)
       (same_logs (E e.0) m s run' h'.0 e h.0.0 (ns e.0) (rem e.0) st.head.0 st.head.1 st.rest st.is (h'.1 e.0) fits.1) in
       let g : Goes m (after m s e) run p.rest =
-          confluent E n m law tr co (after m s e) (steps_left ns e) (log_left rem e (label m s e))
-          (sofar_step n m law tr s rem f e h.0.0 fits.1) run p.rest (rest_fits E m s ns rem e run h)
+      confluent E n m law tr co (after m s e) (steps_left ns e) (log_left rem e (label m s e))
+      (sofar_step n m law tr s rem f e h.0.0 fits.1) run p.rest (rest_fits E m s ns rem e run h)
       (rest_fits E m s ns rem e p.rest ((h.0.0, p.ok), λ t. subst (Fits (E t) (ns t) (rem t)) (sym (p.same_trail t)) (h'.1 t)))
       (still_maximal E m s ns rem run' h'.0 e fits p top) in
       record {

@@ -23,8 +23,8 @@ pub part_goes : {T : Type 0} (m : Machine T) → IsLawful m → (s : State T) �
     → IsRun m s run → (n : ℕ → ℕ) → ((t : ℕ) → trail m s prefix t ≡ take (n t) (trail m s run t)) → Goes m s prefix run
 part_goes m law s good prefix run ok ok' n same = goes m law s good prefix run ok ok' (λ t. events (drop (n t) (trail m s run t)))
     (λ t. ap (λ z. events z ++ events (drop (n t) (trail m s run t))) (same t)
-        ∙ sym (events_append (take (n t) (trail m s run t)) (drop (n t) (trail m s run t)))
-        ∙ ap events (take-append-drop (n t) (trail m s run t)))
+    ∙ sym (events_append (take (n t) (trail m s run t)) (drop (n t) (trail m s run t)))
+    ∙ ap events (take-append-drop (n t) (trail m s run t)))
     (λ t. omega (arith, ap length (same t), length-take (n t) (trail m s run t)))
 
 first_thread : {T : Type 0} (m : Machine T) (s : State T) (run : List Step) (t : ℕ)
@@ -151,16 +151,24 @@ at_cut m law s good run ok p cut c =
         let q : Cut = further p t in
         let y : Sorted m s run q = sort m law s good run ok q ad.1 in
         let g : Goes m s (part run p) (part run q) =
-            part_goes m law s good (part run p) (part run q) z.ok y.ok p
-            (λ u. z.same_trail u ∙ sym (take_less (p u) (q u) (trail m s run u) (further_more p t u))
-            ∙ ap (take (p u)) (sym (y.same_trail u))) in
+        part_goes m law s good (part run p) (part run q) z.ok y.ok p
+        (λ u. z.same_trail u ∙ sym (take_less (p u) (q u) (trail m s run u) (further_more p t u))
+        ∙ ap (take (p u)) (sym (y.same_trail u))) in
         let lengths : (u : ℕ) → p u + count m (end m s (part run p)) g.rest u ≡ min (q u) (count m s run u) =
-            λ u. omega (arith, ap length (z.same_trail u), length-take (p u) (trail m s run u), cut u, ap length (y.same_trail u),
-            length-take (q u) (trail m s run u), ap length (g.same_trail u), length-append (trail m s (part run p) u)
-            (trail m (end m s (part run p)) g.rest u)) in
+        λ u. omega (
+          arith,
+          ap length (z.same_trail u),
+          length-take (p u) (trail m s run u),
+          cut u,
+          ap length (y.same_trail u),
+          length-take (q u) (trail m s run u),
+          ap length (g.same_trail u),
+          length-append (trail m s (part run p) u)
+              (trail m (end m s (part run p)) g.rest u),
+        ) in
         let k : Single m (end m s (part run p)) g.rest t =
-            single m (end m s (part run p)) g.rest g.ok t (omega (arith, lengths t, further_same p t, ad.0))
-            (λ u ne. omega (arith, lengths u, further_other p t u ne, cut u)) in (
+        single m (end m s (part run p)) g.rest g.ok t (omega (arith, lengths t, further_same p t, ad.0))
+        (λ u ne. omega (arith, lengths u, further_other p t u ne, cut u)) in (
           k.result,
           k.can,
           k.same_end ∙ g.same_end,
@@ -169,10 +177,10 @@ at_cut m law s good run ok p cut c =
             subst (λ i. At (trail m s run t) i ((end m s (part run p)).now t, label m (end m s (part run p)) (t, k.result)))
                 (add_zero (p t))
                 (at_of_take (q t) (trail m s run t) (p t + 0) _
-                    (subst (λ w. At w (p t + 0) ((end m s (part run p)).now t, label m (end m s (part run p)) (t, k.result)))
-                    (g.same_trail t ∙ y.same_trail t)
+                (subst (λ w. At w (p t + 0) ((end m s (part run p)).now t, label m (end m s (part run p)) (t, k.result)))
+                (g.same_trail t ∙ y.same_trail t)
                 (at_more (trail m s (part run p) t) (trail m (end m s (part run p)) g.rest t) 0 (p t) _
-                    (omega (arith, ap length (z.same_trail t), length-take (p t) (trail m s run t), cut t)) k.tells))),
+                (omega (arith, ap length (z.same_trail t), length-take (p t) (trail m s run t), cut t)) k.tells))),
           ),
         )
       where
@@ -191,7 +199,7 @@ determined m law s good run run' ok ok' same =
           let z : Sorted m s run p = sort m law s good run ok p c in
           let z' : Sorted m s run' p = sort m law s good run' ok' p (trails_cut m s run run' a.same_trail p c) in
           let e : (u : ℕ) → trail m s (part run p) u ≡ trail m s (part run' p) u = λ u. z.same_trail u ∙ ap (take (p u)) (a.same_trail u)
-              ∙ sym (z'.same_trail u) in
+          ∙ sym (z'.same_trail u) in
           ap (λ y. y.objects o) (alike m law s good (part run p) (part run' p) z.ok z'.ok (λ u. ap events (e u))
-              (λ u. ap length (e u))).same_end;
+          (λ u. ap length (e u))).same_end;
     }

@@ -78,11 +78,17 @@ no_later m law s good e can run ok u j x (Out p Writing w) (Entry o Writing ans)
 no_later m law s good e can run ok u j x (Out p Reading w) (Entry o Writing ans) is h n =
     let k : Left (Writes w e.0) o Reading w u = left m law (Writes w e.0) o Reading w u
     (taken m law (Writes w e.0) (Writes_kept m w e.0) (after m s e) (stays_good m law s good e can) run ok o
-    (inr (ap (λ z. z.version) (objects_after m s e (Entry o Writing ans) is)
-        ∙ n.1, ap (λ z. z.inside e.0) (objects_after m s e (Entry o Writing ans) is) ∙ upd_same (s.objects o).inside e.0 (Some Writing)))
+    (inr (
+      ap (λ z. z.version) (objects_after m s e (Entry o Writing ans) is)
+          ∙ n.1,
+      ap (λ z. z.inside e.0) (objects_after m s e (Entry o Writing ans) is) ∙ upd_same (s.objects o).inside e.0 (Some Writing),
+    ))
     u j x (Out o Reading w) (subst (λ z. At (trail m (after m s e) run u) j (x, Out z Reading w)) n.0 h)) in
-    elim k.kept [ inl l ↦ omega (arith, l, k.version) | inr g ↦ elim (cases_eq e.0 u)
-        [ inl same ↦ cc (ap k.object.inside same, g.1, k.inside) | inr other ↦ cc (k.exclusive e.0 other g.1, k.inside) ] ]
+    elim k.kept [
+      | inl l ↦ omega (arith, l, k.version)
+      | inr g ↦ elim (cases_eq e.0 u)
+          [ inl same ↦ cc (ap k.object.inside same, g.1, k.inside) | inr other ↦ cc (k.exclusive e.0 other g.1, k.inside) ]
+    ]
 no_later m law s good e can run ok u j x (Out p Reading w) _ is h n = absurd n
 no_later m law s good e can run ok u j x (Out p Writing w) _ is h n = absurd n
 no_later m law s good e can run ok u j x _ _ is h n = absurd n
@@ -127,8 +133,8 @@ early m law s good (e ∷ run) ok (suc i) t k u j a b h g n l = elim (placed m s
     | inr c ↦ subst (λ z. z < cond (eqb u e.0) (suc (moment run i u)) (moment run i u)) (sym p.is)
         (both_up (eqb u e.0) p.place (moment run i u)
         (early m law (after m s e) (stays_good m law s good e ok.0) run ok.1 i t c.place u p.place a b c.tells p.tells n
-            (both_down (eqb t e.0) c.place (moment run i t)
-            (subst (λ z. z < cond (eqb t e.0) (suc (moment run i t)) (moment run i t)) c.is l))))
+        (both_down (eqb t e.0) c.place (moment run i t)
+        (subst (λ z. z < cond (eqb t e.0) (suc (moment run i t)) (moment run i t)) c.is l))))
   ]
 ]
   where

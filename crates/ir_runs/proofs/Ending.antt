@@ -38,7 +38,7 @@ over_here m c s d run can e h k =
     let v : ℕ = reply (act m s d) (s.objects (target (act m s d))) in
     let g = c.leaves (s.now d.0) v e h (not_done m s d can) in
     let told_out : label m s d ≡ Out g.0 g.1 (s.objects g.0).version =
-        ap (λ q. told (act_of q d.1) (s.objects (target (act_of q d.1)))) g.2 in
+    ap (λ q. told (act_of q d.1) (s.objects (target (act_of q d.1)))) g.2 in
     record {
       steps = ap length (trail_same m s d run) ∙ ap suc (k.steps ∙ ap m.size (now_same m s d)) ∙ sym g.3;
       silent = ap events (trail_same m s d run) ∙ ap (λ z. logged z (events (trail m (after m s d) run d.0))) told_out ∙ k.silent;
@@ -53,7 +53,7 @@ over m c s (d ∷ run) ok done t e h = elim (cases_eq t d.0) [
       let h' : m.ended (s.now d.0) ≡ Some e = ap (λ z. m.ended (s.now z)) (sym same) ∙ h in
       subst (λ z. Over m s (d ∷ run) z e) (sym same) (over_here m c s d run ok.0 e h'
       (over m c (after m s d) run ok.1 done d.0 e
-          (ap m.ended (now_same m s d) ∙ c.stays (s.now d.0) (reply (act m s d) (s.objects (target (act m s d)))) e h')))
+      (ap m.ended (now_same m s d) ∙ c.stays (s.now d.0) (reply (act m s d) (s.objects (target (act m s d)))) e h')))
   | inr other ↦
       let k : Over m (after m s d) run t e = over m c (after m s d) run ok.1 done t e (ap m.ended (now_other m s d t other) ∙ h) in
       record {
@@ -80,7 +80,7 @@ at_end m c s d e h =
     let g : (m.ended x ≡ None) × (m.ended (m.take x 0) ≡ Some e) = ends_some (m.ended x) (m.ended (m.take x 0)) e h in
     let z : (m.ask x ≡ Private) × (m.size (m.take x 0) ≡ m.size x) = c.ends x 0 e g.0 g.1 in
     let p : (after m s d).now d.0 ≡ m.take x 0 = now_same m s d
-        ∙ ap (λ q. m.take x (reply (act_of q d.1) (s.objects (target (act_of q d.1))))) z.0 in
+    ∙ ap (λ q. m.take x (reply (act_of q d.1) (s.objects (target (act_of q d.1))))) z.0 in
     record {
       quiet = ap (λ q. told (act_of q d.1) (s.objects (target (act_of q d.1)))) z.0;
       ended = ap m.ended p ∙ g.1;

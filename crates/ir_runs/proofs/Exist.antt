@@ -34,9 +34,16 @@ wants_or : {T : Type 0} (m : Machine T) (s : State T) (run : List Step) (q : Cut
     ⊎ ((t j : ℕ) (a : Label) → Tells m s run t j a → j < q t → Needs k a → ⊥)
 wants_or m s [] q k = inr (λ t j a h l n. h.1)
 wants_or m s (e ∷ run) q k = elim (wants_or m (after m s e) run (lower q e.0) k) [
-  | inl w ↦ inl (record { thread = w.thread; place = cond (eqb w.thread e.0) (suc w.place) w.place; told = w.told; tells =
-      later m s e run w.thread w.place w.told w.tells; inside = lower_up (eqb w.thread e.0) w.place (q w.thread) w.inside; needs =
-      w.needs })
+  | inl w ↦ inl (record {
+    thread = w.thread;
+    place = cond (eqb w.thread e.0) (suc w.place) w.place;
+    told = w.told;
+    tells =
+        later m s e run w.thread w.place w.told w.tells;
+    inside = lower_up (eqb w.thread e.0) w.place (q w.thread) w.inside;
+    needs =
+        w.needs;
+  })
   | inr none ↦ elim (cases_lt 0 (q e.0)) [
     | inr out ↦ inr (λ t j a h l n. elim (placed m s e run t j a h) [
       | inl p ↦ absurd (omega (arith, out, l, p.1, ap q p.0))
@@ -135,8 +142,11 @@ without_first m s e run b q k none zero' free = record {
           ]
     ]
   ];
-  above = λ u. elim (cases_eq u e.0) [ inl same ↦ omega (arith, ap b same, none) | inr other ↦ subst (λ z. cond z (pred (b u)) (b u) ≤ q u)
-      (ne_eqb u e.0 other) (k.above u) ];
+  above = λ u. elim (cases_eq u e.0) [
+    | inl same ↦ omega (arith, ap b same, none)
+    | inr other ↦ subst (λ z. cond z (pred (b u)) (b u) ≤ q u)
+        (ne_eqb u e.0 other) (k.above u)
+  ];
   least = λ c con up u. lower_le (eqb u e.0) (q u) (c u)
       (k.least (lower c e.0) (consistent_later m s e run c con) (λ u. below_lower (eqb u e.0) (b u) (c u) (up u)) u);
 }
@@ -151,22 +161,33 @@ without_first m s e run b q k none zero' free = record {
 
 pub closed : {T : Type 0} (m : Machine T) → IsLawful m → (s : State T) → Good m s → (run : List Step) → IsRun m s run → (b : Cut)
     → IsCut m s run b → (q : Cut) × Closed m s run b q
-closed m law s good [] ok b cut = ((λ u. 0), record { cut = λ u. omega arith; consistent = λ t i u j a d h g n l. absurd h.1; above =
-    λ u. cut u; least = λ c con up u. omega arith })
+closed m law s good [] ok b cut = (
+  (λ u. 0),
+  record {
+    cut = λ u. omega arith;
+    consistent = λ t i u j a d h g n l. absurd h.1;
+    above =
+        λ u. cut u;
+    least = λ c con up u. omega arith;
+  },
+)
 closed m law s good (e ∷ run) ok b cut =
     let k = closed m law (after m s e) (stays_good m law s good e ok.0) run ok.1 (lower b e.0)
-        (λ u. shorter (eqb u e.0) (b u) (count m (after m s e) run u) (subst (λ z. b u ≤ z) (count_head m s e run u) (cut u))) in
+    (λ u. shorter (eqb u e.0) (b u) (count m (after m s e) run u) (subst (λ z. b u ≤ z) (count_head m s e run u) (cut u))) in
     elim (cases_lt 0 (b e.0)) [
       | inl h ↦ (further k.0 e.0, with_first m law s good e run ok b k.0 k.1 (λ c con up low. omega (arith, h, up e.0)))
       | inr h ↦ elim (cases_lt 0 (k.0 e.0)) [
-        | inl g ↦ (further k.0 e.0, with_first m law s good e run ok b k.0 k.1
-            (λ c con up low. omega (arith, g, lower_le (eqb e.0 e.0) (k.0 e.0) (c e.0) (low e.0))))
+        | inl g ↦ (
+          further k.0 e.0,
+          with_first m law s good e run ok b k.0 k.1
+              (λ c con up low. omega (arith, g, lower_le (eqb e.0 e.0) (k.0 e.0) (c e.0) (low e.0))),
+        )
         | inr g ↦ elim (wants_or m (after m s e) run k.0 (label m s e)) [
           | inl w ↦ (
             further k.0 e.0,
             with_first m law s good e run ok b k.0 k.1 (λ c con up low.
                 con w.thread (cond (eqb w.thread e.0) (suc w.place) w.place) e.0 0 w.told (label m s e)
-                    (later m s e run w.thread w.place w.told w.tells) (foremost m s e run) w.needs
+                (later m s e run w.thread w.place w.told w.tells) (foremost m s e run) w.needs
                 (lower_up (eqb w.thread e.0) w.place (c w.thread) (omega (arith, w.inside, low w.thread)))),
           )
           | inr free ↦ (k.0, without_first m s e run b k.0 k.1 (omega arith) (omega arith) free)
@@ -190,7 +211,7 @@ pub least_exists : {T : Type 0} (m : Machine T) → IsLawful m → (s : State T)
     → (p : Cut) (t k : ℕ) → IsCut m s run p → k ≤ count m s run t → (q : Cut) × IsLeast m s run p t k q
 least_exists m law s good run ok p t k cut hi =
     let c = closed m law s good run ok (raised p t k)
-        (λ u. most (eqb u t) (p u) k (count m s run u) (cut u) (λ h. subst (λ z. k ≤ count m s run z) (sym (eqb-true u t h)) hi)) in (
+    (λ u. most (eqb u t) (p u) k (count m s run u) (cut u) (λ h. subst (λ z. k ≤ count m s run z) (sym (eqb-true u t h)) hi)) in (
       c.0,
       record {
         cut = c.1.cut;

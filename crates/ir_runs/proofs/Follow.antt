@@ -57,7 +57,7 @@ pub own_fits : {T : Type 0} (E : Ending T) (m : Machine T) → IsLawful m → (s
 own_fits E m law s good run own follower f top =
     let g : Goes m s follower run = goes m law s good follower run f.0 own.0 (λ t. left_log (trail m s follower t) (log m s run t))
     (λ t. fits_prefix (E t) (count m s run t) (log m s run t) (trail m s follower t) (f.1 t))
-        (λ t. fits_length (E t) (count m s run t) (log m s run t) (trail m s follower t) (f.1 t)) in
+    (λ t. fits_length (E t) (count m s run t) (log m s run t) (trail m s follower t) (f.1 t)) in
     let none : g.rest ≡ [] = stops E m s run follower own.1 f.0 top g.rest g.ok g.same_trail in
     record {
       trails = λ u. sym (append-nil _) ∙ ap (λ z. trail m s follower u ++ trail m (end m s follower) z u) (sym none) ∙ g.same_trail u;
@@ -74,5 +74,10 @@ unlogged_logged (Label.Out o a v) es = refl
 -- a thread's steps follow their own number and log
 pub fits_own : {T : Type 0} (E : Check T) (xs : List (T × Label)) → Ends E xs → Fits E (length xs) (events xs) xs
 fits_own E [] h = tt
-fits_own E (x ∷ xs) h = (omega arith, ap (logged x.1) (unlogged_logged x.1 (events xs)), h.0, subst (λ z. Fits E (length xs) z xs)
-    (sym (unlogged_logged x.1 (events xs))) (fits_own E xs h.1))
+fits_own E (x ∷ xs) h = (
+  omega arith,
+  ap (logged x.1) (unlogged_logged x.1 (events xs)),
+  h.0,
+  subst (λ z. Fits E (length xs) z xs)
+      (sym (unlogged_logged x.1 (events xs))) (fits_own E xs h.1),
+)

@@ -108,15 +108,22 @@ without_first m s e run b q out never k = record {
   below = λ u. nothing_less (eqb u e.0) (q u) (b u) (k.below u);
   greatest = λ c con av down u. k.greatest c
       (λ t i w j a d h g n l. from_later c (never c av down) w j
-          (con t (cond (eqb t e.0) (suc i) i) w (cond (eqb w e.0) (suc j) j) a d (later m s e run t i a h) (later m s e run w j d g) n
-          (to_later c (never c av down) t i l)))
+      (con t (cond (eqb t e.0) (suc i) i) w (cond (eqb w e.0) (suc j) j) a d (later m s e run t i a h) (later m s e run w j d g) n
+      (to_later c (never c av down) t i l)))
       (λ t i a x h l g n. elim g [
-        | inl same ↦ omega (arith, never c av down, con t (cond (eqb t e.0) (suc i) i) e.0 0 a x (later m s e run t i a h)
-            (subst (Tells m s (e ∷ run) e.0 0) same (foremost m s e run)) n (to_later c (never c av down) t i l))
+        | inl same ↦ omega (
+          arith,
+          never c av down,
+          con t (cond (eqb t e.0) (suc i) i) e.0 0 a x (later m s e run t i a h)
+              (subst (Tells m s (e ∷ run) e.0 0) same (foremost m s e run)) n (to_later c (never c av down) t i l),
+        )
         | inr among ↦ av t (cond (eqb t e.0) (suc i) i) a x (later m s e run t i a h) (to_later c (never c av down) t i l) among n
       ])
-      (λ w. elim (cases_eq w e.0) [ inl same ↦ omega (arith, ap c same, never c av down) | inr other ↦ subst (λ z. c w ≤ cond z 0 (b w))
-          (sym (ne_eqb w e.0 other)) (down w) ]) u;
+      (λ w. elim (cases_eq w e.0) [
+        | inl same ↦ omega (arith, ap c same, never c av down)
+        | inr other ↦ subst (λ z. c w ≤ cond z 0 (b w))
+            (sym (ne_eqb w e.0 other)) (down w)
+      ]) u;
 }
   where
     none : q e.0 ≡ 0
@@ -127,19 +134,25 @@ without_first m s e run b q out never k = record {
     nothing_less false x y h = h
 
     at_other : (t i j : ℕ) → i ≡ cond (eqb t e.0) (suc j) j → i < q t → j < q t
-    at_other t i j is l = elim (cases_eq t e.0)
-        [ inl same ↦ absurd (omega (arith, l, ap q same, none)) | inr other ↦ subst (λ z. z < q t)
-        (is ∙ ap (λ z. cond z (suc j) j) (ne_eqb t e.0 other)) l ]
+    at_other t i j is l = elim (cases_eq t e.0) [
+      | inl same ↦ absurd (omega (arith, l, ap q same, none))
+      | inr other ↦ subst (λ z. z < q t)
+          (is ∙ ap (λ z. cond z (suc j) j) (ne_eqb t e.0 other)) l
+    ]
 
     from_other : (t i j : ℕ) → i ≡ cond (eqb t e.0) (suc j) j → j < q t → i < q t
-    from_other t i j is l = elim (cases_eq t e.0)
-        [ inl same ↦ absurd (omega (arith, l, ap q same, none)) | inr other ↦ subst (λ z. z < q t)
-        (sym (is ∙ ap (λ z. cond z (suc j) j) (ne_eqb t e.0 other))) l ]
+    from_other t i j is l = elim (cases_eq t e.0) [
+      | inl same ↦ absurd (omega (arith, l, ap q same, none))
+      | inr other ↦ subst (λ z. z < q t)
+          (sym (is ∙ ap (λ z. cond z (suc j) j) (ne_eqb t e.0 other))) l
+    ]
 
     to_later : (c : Cut) → c e.0 ≡ 0 → (t i : ℕ) → i < c t → cond (eqb t e.0) (suc i) i < c t
-    to_later c zero' t i l = elim (cases_eq t e.0)
-        [ inl same ↦ absurd (omega (arith, l, ap c same, zero')) | inr other ↦ subst (λ z. cond z (suc i) i < c t)
-        (sym (ne_eqb t e.0 other)) l ]
+    to_later c zero' t i l = elim (cases_eq t e.0) [
+      | inl same ↦ absurd (omega (arith, l, ap c same, zero'))
+      | inr other ↦ subst (λ z. cond z (suc i) i < c t)
+          (sym (ne_eqb t e.0 other)) l
+    ]
 
     from_later : (c : Cut) → c e.0 ≡ 0 → (t i : ℕ) → cond (eqb t e.0) (suc i) i < c t → i < c t
     from_later c zero' t i l = below_it (eqb t e.0) i (c t) l
@@ -150,20 +163,31 @@ without_first m s e run b q out never k = record {
 
 pub highest : {T : Type 0} (m : Machine T) → IsLawful m → (s : State T) → Good m s → (run : List Step) → IsRun m s run
     → (b : Cut) (out : List Label) → ((u : ℕ) → b u ≤ count m s run u) → (q : Cut) × Highest m s run b out q
-highest m law s good [] ok b out cut = (b, record { consistent = λ t i u j a d h g n l. absurd h.1; avoids = λ t i a k h l g n. h.1; below =
-    λ u. le_refl (b u); greatest = λ c con av down u. down u })
+highest m law s good [] ok b out cut = (
+  b,
+  record {
+    consistent = λ t i u j a d h g n l. absurd h.1;
+    avoids = λ t i a k h l g n. h.1;
+    below =
+        λ u. le_refl (b u);
+    greatest = λ c con av down u. down u;
+  },
+)
 highest m law s good (e ∷ run) ok b out cut =
     let good' = stays_good m law s good e ok.0 in
     let gone = highest m law (after m s e) good' run ok.1 (without b e.0) (label m s e ∷ out)
-        (λ u. cut_without (eqb u e.0) (b u) (count m (after m s e) run u) (subst (λ z. b u ≤ z) (count_head m s e run u) (cut u))) in
+    (λ u. cut_without (eqb u e.0) (b u) (count m (after m s e) run u) (subst (λ z. b u ≤ z) (count_head m s e run u) (cut u))) in
     let kept = highest m law (after m s e) good' run ok.1 (lower b e.0) out
-        (λ u. shorter (eqb u e.0) (b u) (count m (after m s e) run u) (subst (λ z. b u ≤ z) (count_head m s e run u) (cut u))) in
+    (λ u. shorter (eqb u e.0) (b u) (count m (after m s e) run u) (subst (λ z. b u ≤ z) (count_head m s e run u) (cut u))) in
     elim (cases_lt 0 (b e.0)) [
       | inr h ↦ (gone.0, without_first m s e run b gone.0 out (λ c av down. omega (arith, h, down e.0)) gone.1)
       | inl h ↦ elim (needs_any out (label m s e)) [
-        | inl w ↦ (gone.0, without_first m s e run b gone.0 out
-            (λ c av down. elim (cases_lt 0 (c e.0))
-            [ inl l ↦ absurd (av e.0 0 (label m s e) w.0 (foremost m s e run) l w.1 w.2) | inr l ↦ omega arith ]) gone.1)
+        | inl w ↦ (
+          gone.0,
+          without_first m s e run b gone.0 out
+              (λ c av down. elim (cases_lt 0 (c e.0))
+              [ inl l ↦ absurd (av e.0 0 (label m s e) w.0 (foremost m s e run) l w.1 w.2) | inr l ↦ omega arith ]) gone.1,
+        )
         | inr free ↦ (further kept.0 e.0, with_first m law s good e run ok b kept.0 out h free kept.1)
       ]
     ]

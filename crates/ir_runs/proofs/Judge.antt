@@ -132,9 +132,9 @@ goes_further m s tr run f t r can g = (
   λ u. elim (cases_eq u t) [
     | inl same ↦ subst (λ w. Fits (closing m tr w) (tr.steps w) (tr.logs w) (trail m s (run ++ (t, r) ∷ []) w)) (sym same)
         (subst (Fits (closing m tr t) (tr.steps t) (tr.logs t))
-            (sym (trail_append m s run ((t, r) ∷ []) t ∙ ap (λ z. trail m s run t ++ z) (trail_same m (end m s run) (t, r) [])))
+        (sym (trail_append m s run ((t, r) ∷ []) t ∙ ap (λ z. trail m s run t ++ z) (trail_same m (end m s run) (t, r) [])))
         (fits_more (closing m tr t) (tr.steps t) (tr.logs t) (trail m s run t) ((end m s run).now t, label m (end m s run) (t, r)) (f.1 t)
-            g))
+        g))
     | inr other ↦ subst (Fits (closing m tr u) (tr.steps u) (tr.logs u))
         (sym (trail_append m s run ((t, r) ∷ []) u ∙ ap (λ z. trail m s run u ++ z) (trail_other m (end m s run) (t, r) [] u other)
         ∙ append-nil (trail m s run u))) (f.1 u)
@@ -185,7 +185,7 @@ none_takes : {T : Type 0} (n : ℕ) (m : Machine T) → IsLawful m → (tr : Tra
     → NoneTakes m s tr t (count m s run t)
 none_takes n m law tr co s good st im run f top t other g =
     let k : Goes m s other run = confluent (closing m tr) n m law tr co s tr.steps tr.logs (start_sofar n m tr s good st im) other run g f
-        top in
+    top in
     omega (arith, ap length (k.same_trail t), length-append (trail m s other t) (trail m (end m s other) k.rest t))
 
 pub judged : {T : Type 0} (n : ℕ) (m : Machine T) → IsLawful m → (tr : Trace) → IsCoherent n tr → HoldsEvents m tr → (s : State T)
@@ -229,9 +229,9 @@ pub same_verdict : {T : Type 0} (m : Machine T) (s : State T) (tr : Trace) (run 
     → (t : ℕ) (v : ThreadVerdict) → IsVerdict m s tr run t v → IsVerdict m s tr run' t v
 same_verdict m s tr run run' k t v h =
     subst (λ z. Judged m (tr.ends t) (NoneTakes m s tr t (length z)) ((end m s run').now t) (left_steps z (tr.steps t))
-        (left_log z (tr.logs t)) (length (events z)) (length z) v) (k.trails t)
+    (left_log z (tr.logs t)) (length (events z)) (length z) v) (k.trails t)
     (subst (λ y. Judged m (tr.ends t) (NoneTakes m s tr t (count m s run t)) (y.now t) (left_steps (trail m s run t) (tr.steps t))
-        (left_log (trail m s run t) (tr.logs t)) (length (log m s run t)) (count m s run t) v) k.states h)
+    (left_log (trail m s run t) (tr.logs t)) (length (log m s run t)) (count m s run t) v) k.states h)
 
 -- a thread that hasn't ended, and is done at the run's end, has used what the trace gives it
 pub record Used {T : Type 0} (m : Machine T) (s : State T) (run : List Step) (t : ℕ) (fin : Option (ℕ × ℕ)) (n : ℕ) (es : List Label) : Type
@@ -251,7 +251,7 @@ still_live m c s d live h =
     by_case (Some e) p =
         let z = c.ends (s.now d.0) (reply (act m s d) (s.objects (target (act m s d)))) e live p in
         let q : m.ended (m.take (s.now d.0) 0) ≡ Some e =
-            ap (λ w. m.ended (m.take (s.now d.0) (reply (act_of w d.1) (s.objects (target (act_of w d.1)))))) (sym z.0) ∙ p in
+        ap (λ w. m.ended (m.take (s.now d.0) (reply (act_of w d.1) (s.objects (target (act_of w d.1)))))) (sym z.0) ∙ p in
         absurd (cc (h, ap (λ w. ends_at w (m.ended (m.take (s.now d.0) 0))) live ∙ q))
 
 used_here : {T : Type 0} (m : Machine T) → IsClosing m → (s : State T) (d : Step) (run : List Step) → IsRun m (after m s d) run
@@ -286,16 +286,20 @@ used m c s (d ∷ run) ok done t fin n es live h = elim (cases_eq t d.0) [
   | inl same ↦
       let h' : Fits (λ x n es. Meets (ends_now m x) fin (m.size x) n es) n es ((s.now d.0, label m s d) ∷ trail m (after m s d) run d.0) =
       subst (Fits (λ x n es. Meets (ends_now m x) fin (m.size x) n es) n es) (trail_same m s d run)
-          (subst (λ z. Fits (λ x n es. Meets (ends_now m x) fin (m.size x) n es) n es (trail m s (d ∷ run) z)) same h) in
+      (subst (λ z. Fits (λ x n es. Meets (ends_now m x) fin (m.size x) n es) n es (trail m s (d ∷ run) z)) same h) in
       subst (λ z. Used m s (d ∷ run) z fin n es) (sym same)
       (used_here m c s d run ok.1 done fin n es (ap (λ z. m.ended (s.now z)) (sym same) ∙ live) (ends_now m (s.now d.0)) refl h'.0 h'.1 h'.2
       (λ live'. used m c (after m s d) run ok.1 done d.0 fin (pred n) (unlogged (label m s d) es) live' h'.3))
   | inr other ↦
       let k : Used m (after m s d) run t fin n es =
-          used m c (after m s d) run ok.1 done t fin n es (ap m.ended (now_other m s d t other) ∙ live)
+      used m c (after m s d) run ok.1 done t fin n es (ap m.ended (now_other m s d t other) ∙ live)
       (subst (Fits (λ x n es. Meets (ends_now m x) fin (m.size x) n es) n es) (trail_other m s d run t other) h) in
-      record { steps = ap length (trail_other m s d run t other) ∙ k.steps; silent = ap events (trail_other m s d run t other)
-          ∙ k.silent; ended = k.ended }
+      record {
+        steps = ap length (trail_other m s d run t other) ∙ k.steps;
+        silent = ap events (trail_other m s d run t other)
+            ∙ k.silent;
+        ended = k.ended;
+      }
 ]
 
 -- a follower in which all are done is a complete run with the trace

@@ -65,7 +65,7 @@ last_of m tr s run e f =
     let t : ℕ = e.0 in
     let last = fits_last (closing m tr t) (tr.steps t) (tr.logs t) (trail m s run t) ((end m s run).now t, label m (end m s run) e)
     (subst (Fits (closing m tr t) (tr.steps t) (tr.logs t))
-        (trail_append m s run (e ∷ []) t ∙ ap (λ z. trail m s run t ++ z) (trail_same m (end m s run) e [])) (f.1 t)) in
+    (trail_append m s run (e ∷ []) t ∙ ap (λ z. trail m s run t ++ z) (trail_same m (end m s run) e [])) (f.1 t)) in
     record { can = run_last m s run e f.0; left = last.0; logs = last.1; closes = last.2 }
 
 -- a run that follows does so without its last step
@@ -88,6 +88,8 @@ one_step_each m tr s run none e f =
     let r : ℕ = result_of (asked m s1 t) es in
     let last : Last m s tr run e = last_of m tr s run e f in
     let p : act m s1 e ≡ act m s1 (t, r) = one_act m (asked m s1 t) e.1 (s1.objects (target (act m s1 e))) es last.can last.logs in
-    none t (goes_further m s tr run (follows_prefix m tr s run e f) t r (subst (λ z. Admits m z (s1.objects (target z))) p last.can)
-    (last.left, subst (λ z. logged (told z (s1.objects (target z))) (unlogged (told z (s1.objects (target z))) es) ≡ es) p last.logs,
-        last.closes))
+    none t (goes_further m s tr run (follows_prefix m tr s run e f) t r (subst (λ z. Admits m z (s1.objects (target z))) p last.can) (
+      last.left,
+      subst (λ z. logged (told z (s1.objects (target z))) (unlogged (told z (s1.objects (target z))) es) ≡ es) p last.logs,
+      last.closes,
+    ))

@@ -61,9 +61,9 @@ is_admitted m law s good n idle Silent = inl tt
 is_admitted m law s good n idle (Result k v) = is_true (m.fits k v)
 is_admitted m law s good n idle (Entry o Reading v) =
     elim (search_below (λ x. x ≡ Some Writing) (λ x. x ≢ Some Writing) is_writing (s.objects o).inside n) [
-  | inl w ↦ inr (λ h. h w.0 w.1)
-  | inr none ↦ inl (λ u e. elim (cases_lt u n) [ inl l ↦ none u l e | inr g ↦ cc (not_inside m law s good u o (idle u g), e) ])
-]
+      | inl w ↦ inr (λ h. h w.0 w.1)
+      | inr none ↦ inl (λ u e. elim (cases_lt u n) [ inl l ↦ none u l e | inr g ↦ cc (not_inside m law s good u o (idle u g), e) ])
+    ]
 is_admitted m law s good n idle (Entry o Writing v) = elim (search_below (λ x. x ≢ None) (λ x. x ≡ None) is_inside (s.objects o).inside n) [
   | inl w ↦ inr (λ h. w.1 (h w.0))
   | inr none ↦ inl (λ u. elim (cases_lt u n) [ inl l ↦ none u l | inr g ↦ not_inside m law s good u o (idle u g) ])
@@ -108,22 +108,26 @@ build zero n m law tr s good idle ns rem less = absurd (omega (arith, less))
 build (suc d) n m law tr s good idle ns rem less = elim (search_threads (λ t. Next m tr s ns rem (t, result_of (asked m s t) (rem t)))
     (λ t. both (is_admitted m law s good n idle (act m s (t, result_of (asked m s t) (rem t))))
     (all_three (positive (ns t)) (is_logged (label m s (t, result_of (asked m s t) (rem t))) (rem t))
-        (is_met (ends_now m (s.now t)) (tr.ends t) (m.size (s.now t)) (ns t) (rem t)))) n) [
+    (is_met (ends_now m (s.now t)) (tr.ends t) (m.size (s.now t)) (ns t) (rem t)))) n) [
       | inl w ↦
           let e : Step = (w.0, result_of (asked m s w.0) (rem w.0)) in
           let next : Next m tr s ns rem e = w.2 in
           let b : Built m tr (after m s e) (steps_left ns e) (log_left rem e (label m s e)) =
           build d n m law tr (after m s e) (stays_good m law s good e next.0) (below_idle m s n idle e next.0).1 (steps_left ns e)
-              (log_left rem e (label m s e))
-          (omega (arith, less, sum_less n e.0 (steps_left ns e) ns w.1 (pred_less (eqb e.0 e.0) (ns e.0) (eq-eqb e.0 e.0 refl) next.1.0)
-              (λ u. pred_least (eqb u e.0) (ns u)))) in
+          (log_left rem e (label m s e))
+          (omega (
+            arith,
+            less,
+            sum_less n e.0 (steps_left ns e) ns w.1 (pred_less (eqb e.0 e.0) (ns e.0) (eq-eqb e.0 e.0 refl) next.1.0)
+                (λ u. pred_least (eqb u e.0) (ns u)),
+          )) in
           record {
             run = e ∷ b.run;
             ok = (
               (next.0, b.ok.0),
               λ t. fits_join (closing m tr t) (ns t) (rem t) (eqb t e.0) (s.now t, label m s e) (trail m (after m s e) b.run t)
                   (λ p. subst (λ z. (0 < ns z) × (logged (label m s e) (unlogged (label m s e) (rem z)) ≡ rem z)
-                      × closing m tr z (s.now z) (ns z) (rem z)) (sym (eqb-true t e.0 p)) next.1) (b.ok.1 t),
+                  × closing m tr z (s.now z) (ns z) (rem z)) (sym (eqb-true t e.0 p)) next.1) (b.ok.1 t),
             );
             top = λ x h. b.top x (rest_fits (closing m tr) m s ns rem e (b.run ++ x ∷ []) h);
           }
@@ -133,11 +137,16 @@ build (suc d) n m law tr s good idle ns rem less = elim (search_threads (λ t. N
         top = λ x h.
             let f = first_fits (closing m tr) m s ns rem x [] h in
             let p : act m s x ≡ act m s (x.0, result_of (asked m s x.0) (rem x.0)) =
-                one_act m (asked m s x.0) x.1 (s.objects (target (act m s x))) (rem x.0) h.0.0 f.1 in
-            none x.0 (below_done m s n idle x h.0.0)
-            (subst (λ z. Admits m z (s.objects (target z))) p h.0.0,
-                (f.0, subst (λ z. logged (told z (s.objects (target z))) (unlogged (told z (s.objects (target z))) (rem x.0)) ≡ rem x.0) p
-                f.1, f.2));
+            one_act m (asked m s x.0) x.1 (s.objects (target (act m s x))) (rem x.0) h.0.0 f.1 in
+            none x.0 (below_done m s n idle x h.0.0) (
+              subst (λ z. Admits m z (s.objects (target z))) p h.0.0,
+              (
+                f.0,
+                subst (λ z. logged (told z (s.objects (target z))) (unlogged (told z (s.objects (target z))) (rem x.0)) ≡ rem x.0) p
+                    f.1,
+                f.2,
+              ),
+            );
       }
     ]
   where

@@ -101,7 +101,7 @@ seek m law s good run ok p q cp cq (suc i) = elim (seek m law s good run ok p q 
               | inr ne ↦ omega (arith, h u, step u, further_other p t u ne, further_other (moment run i) t u ne)
             ])
             (consistent_max m s run p (λ u. min (q u) (moment run (suc i) u)) cp
-                (consistent_min m s run q (moment run (suc i)) cq (early m law s good run ok (suc i))));
+            (consistent_min m s run q (moment run (suc i)) cq (early m law s good run ok (suc i))));
       })
       | inr ge ↦ inl (λ u. elim (cases_eq u t) [
         | inl e ↦ subst (λ z. min (q z) (moment run (suc i) z) ≤ p z) (sym e) (omega (arith, ge, step t, further_same (moment run i) t))
@@ -162,8 +162,8 @@ pub least_exact : {T : Type 0} (m : Machine T) → IsLawful m → (s : State T) 
 least_exact m law s good run ok p q t k cut cp lo hi l =
     let i = passes m s run t k hi in
     let h : q t ≤ max (p t) (moment run i.0 t) =
-        l.least (λ u. max (p u) (moment run i.0 u)) (λ u. omega (arith, cut u, up_to m s run i.0 u))
-        (consistent_max m s run p (moment run i.0) cp (early m law s good run ok i.0)) (λ u. omega arith) (omega (arith, i.1)) t in
+    l.least (λ u. max (p u) (moment run i.0 u)) (λ u. omega (arith, cut u, up_to m s run i.0 u))
+    (consistent_max m s run p (moment run i.0) cp (early m law s good run ok i.0)) (λ u. omega arith) (omega (arith, i.1)) t in
     omega (arith, l.reaches, h, i.1)
 
 pub greatest_exact : {T : Type 0} (m : Machine T) → IsLawful m → (s : State T) → Good m s → (run : List Step) → IsRun m s run
@@ -171,6 +171,6 @@ pub greatest_exact : {T : Type 0} (m : Machine T) → IsLawful m → (s : State 
 greatest_exact m law s good run ok p q t k cut cp lo g =
     let i = passes m s run t k (omega (arith, cut t)) in
     let h : min (p t) (moment run i.0 t) ≤ q t =
-        g.greatest (λ u. min (p u) (moment run i.0 u)) (λ u. omega (arith, cut u))
-        (consistent_min m s run p (moment run i.0) cp (early m law s good run ok i.0)) (λ u. omega arith) (omega (arith, i.1)) t in
+    g.greatest (λ u. min (p u) (moment run i.0 u)) (λ u. omega (arith, cut u))
+    (consistent_min m s run p (moment run i.0) cp (early m law s good run ok i.0)) (λ u. omega arith) (omega (arith, i.1)) t in
     omega (arith, g.reaches, h, i.1)

@@ -81,10 +81,13 @@ after_writer m law s good e can run ok o v l is t i a k h =
     let ver : (s.objects o).version ≡ v = ap (λ z. (s.objects (target z)).version) (sym en.does) ∙ en.version in
     let g = event_at (trail m (after m s e) run t) i (In o a v k) h in
     past_writer m v e.0 o a k (entered m (Writes v e.0) o a v k t
-        (taken m law (Writes v e.0) (Writes_kept m v e.0) (after m s e) (stays_good m law s good e can) run ok o
-    (inr (ap (λ z. z.version) (objects_after m s e (Entry o Writing en.answer) en.does)
-        ∙ ver, ap (λ z. z.inside e.0) (objects_after m s e (Entry o Writing en.answer) en.does)
-        ∙ upd_same (s.objects o).inside e.0 (Some Writing)))
+    (taken m law (Writes v e.0) (Writes_kept m v e.0) (after m s e) (stays_good m law s good e can) run ok o
+    (inr (
+      ap (λ z. z.version) (objects_after m s e (Entry o Writing en.answer) en.does)
+          ∙ ver,
+      ap (λ z. z.inside e.0) (objects_after m s e (Entry o Writing en.answer) en.does)
+          ∙ upd_same (s.objects o).inside e.0 (Some Writing),
+    ))
     t g.1 g.0 (In o a v k) g.2))
 
 -- at most one write entry at a version
@@ -143,7 +146,7 @@ pub below_idle : {T : Type 0} (m : Machine T) (s : State T) (n : ℕ) → ((t : 
     → (e.0 < n) × ((t : ℕ) → n ≤ t → asked m (after m s e) t ≡ Done)
 below_idle m s n idle e can =
     let below : e.0 < n = elim (cases_lt e.0 n)
-        [ inl l ↦ l | inr g ↦ absurd (subst (λ q. Admits m (act_of q e.1) (s.objects (target (act_of q e.1)))) (idle e.0 g) can) ] in
+    [ inl l ↦ l | inr g ↦ absurd (subst (λ q. Admits m (act_of q e.1) (s.objects (target (act_of q e.1)))) (idle e.0 g) can) ] in
     (below, λ t l. ap m.ask (now_other m s e t (λ p. differ e.0 t n below l p)) ∙ idle t l)
   where
     differ : (a t n : ℕ) → a < n → n ≤ t → t ≡ a → ⊥
@@ -177,7 +180,7 @@ all_readers m law n s good idle c tally (e ∷ run) ok t i o v l h = elim (event
   | inr p ↦
       let st = below_idle m s n idle e ok.0 in
       all_readers m law n (after m s e) (stays_good m law s good e ok.0) st.1 (λ o v u. c o v u + counted o v (label m s e) e.0 u)
-          (tally_step m law n s good c tally e ok.0 st.0) run ok.1 t p.0 o v l p.2
+      (tally_step m law n s good c tally e ok.0 st.0) run ok.1 t p.0 o v l p.2
       ∙ sum_same n _ _ (λ u _. omega (arith, reads_join o v (eqb u e.0) (s.now u, label m s e) (trail m (after m s e) run u)))
 ]
   where
@@ -207,8 +210,11 @@ made1 m (Result k res) t b ex i P p w new = (p, w)
 made1 m (Entry o Reading ans) t b ex i P p w new = (p, λ u h. elim (enters b t u Reading h) [ inl g ↦ w u g | inr g ↦ absurd (cc g) ])
 made1 m (Entry o Writing ans) t b ex i P p w new = (p, λ u h. new o ans refl)
 made1 m (Exit o Reading) t b ex i P p w new = (p, λ u h. w u (leaves b t u h))
-made1 m (Exit o Writing) t b ex i P p w new = (λ v l. elim (cases_lt v b.version)
-    [ inl g ↦ p v g | inr g ↦ let e : b.version ≡ v = omega arith in subst P e (w t i) ], λ u h. absurd (gone u h))
+made1 m (Exit o Writing) t b ex i P p w new = (
+  λ v l. elim (cases_lt v b.version)
+      [ inl g ↦ p v g | inr g ↦ let e : b.version ≡ v = omega arith in subst P e (w t i) ],
+  λ u h. absurd (gone u h),
+)
   where
     gone : (u : ℕ) → upd b.inside t None u ≡ Some Writing → ⊥
     gone u h = absurd (upd_elim b.inside t None u (λ z. z ≡ Some Writing → ⊥) (λ _ g. cc g) (λ ne g. cc (ex t u (λ e. ne (sym e)) i, g)) h)
@@ -223,9 +229,9 @@ made_step m law s good Q made e new =
     let q : Act = act m s e in
     let b : Object = s.objects (target q) in
     let z = made1 m q e.0 b (good.exclusive (target q)) (inside_now m law s good e) (Q (target q)) (made.past (target q))
-        (made.inside (target q))
+    (made.inside (target q))
     (λ o ans is. subst (λ w. Q (target w) (s.objects (target w)).version) (sym is)
-        (new o (s.objects o).version (s.objects o).left (ap (λ w. told w (s.objects (target w))) is))) in
+    (new o (s.objects o).version (s.objects o).left (ap (λ w. told w (s.objects (target w))) is))) in
     record {
       past = λ o v. upd_elim s.objects (target q) (acted q e.0 b) o (λ d. v < d.version → Q o v)
           (λ here l. subst (λ w. Q w v) (sym here) (z.0 v l)) (λ _ l. made.past o v l);
@@ -264,7 +270,7 @@ made_by m law s good Q made (e ∷ run) ok all t i o v l a h = elim (event_cases
   | inr p ↦ made_by m law (after m s e) (stays_good m law s good e ok.0) Q
       (made_step m law s good Q made e (λ o v l is. all e.0 0 o v l (event_first m s e run o v l is))) run ok.1
       (λ t i o v l g. all t (shift (eqb t e.0) (label m s e) i) o v l
-          (event_later (eqb t e.0) (s.now t, label m s e) (trail m (after m s e) run t) i (In o Writing v l) g)) t p.0 o v l a p.2
+      (event_later (eqb t e.0) (s.now t, label m s e) (trail m (after m s e) run t) i (In o Writing v l) g)) t p.0 o v l a p.2
 ]
 
 pub own_coherent : (n : ℕ) {T : Type 0} (m : Machine T) → IsLawful m → (s : State T) → Good m s → IsStart m s → IsIdle m s n

@@ -26,7 +26,7 @@ consistent_at : {T : Type 0} (m : Machine T) → IsLawful m → (s : State T) �
 consistent_at m law s good run prefix ok g p is =
     trails_cut m s (prefix ++ g.rest) run (λ u. trail_append m s prefix g.rest u ∙ g.same_trail u) p
     (consistent_same m s (prefix ++ g.rest) (moment (prefix ++ g.rest) (length prefix)) p
-        (λ u. moment_append prefix g.rest u ∙ whole m s prefix u ∙ is u)
+    (λ u. moment_append prefix g.rest u ∙ whole m s prefix u ∙ is u)
     (early m law s good (prefix ++ g.rest) (run_append m s prefix g.rest ok g.ok) (length prefix)))
 
 -- its steps are those in the cut
@@ -34,7 +34,7 @@ same_steps : {T : Type 0} (m : Machine T) (s : State T) (run prefix : List Step)
     → ((t : ℕ) → count m s prefix t ≡ p t) → (u : ℕ) → trail m s prefix u ≡ take (p u) (trail m s run u)
 same_steps m s run prefix g p is u =
     sym (take-append_seam (trail m s prefix u) (trail m (end m s prefix) g.rest u)) ∙ ap (take (count m s prefix u)) (g.same_trail u)
-        ∙ ap (λ n. take n (trail m s run u)) (is u)
+    ∙ ap (λ n. take n (trail m s run u)) (is u)
 
 pub prefix_at : {T : Type 0} (m : Machine T) → IsLawful m → (s : State T) → Good m s → (run prefix : List Step) → IsRun m s run
     → IsRun m s prefix → (left : ℕ → List Label)

@@ -42,8 +42,11 @@ past_writer m v u o Reading l e = elim e.kept [ inl p ↦ omega (arith, p, e.ver
 past_writer m v u o Writing l e = elim e.kept [ inl p ↦ omega (arith, p, e.version) | inr p ↦ cc (e.admits u, p.1) ]
 
 pub past_reader : {T : Type 0} (m : Machine T) (v u o l : ℕ) → Entered m (Reads v l u) o Writing v l → ⊥
-past_reader m v u o l e = elim e.kept [ inl p ↦ omega (arith, p, e.version) | inr p ↦ elim p.1
-    [ inl q ↦ omega (arith, q, e.left refl) | inr q ↦ cc (e.admits u, q.1) ] ]
+past_reader m v u o l e = elim e.kept [
+  | inl p ↦ omega (arith, p, e.version)
+  | inr p ↦ elim p.1
+      [ inl q ↦ omega (arith, q, e.left refl) | inr q ↦ cc (e.admits u, q.1) ]
+]
 
 pub objects_after : {T : Type 0} (m : Machine T) (s : State T) (e : Step) (q : Act) → act m s e ≡ q
     → (after m s e).objects (target q) ≡ acted q e.0 (s.objects (target q))
@@ -60,27 +63,36 @@ never m law s good e can run ok t k x (Entry o Writing ans) (Entry p Reading ans
     past_writer m (s.objects p).version e.0 p Reading 0 (entered m (Writes (s.objects p).version e.0) p Reading _ _ t
     (taken m law (Writes (s.objects p).version e.0) (Writes_kept m _ _) (after m s e) (stays_good m law s good e can) run ok p
     (inr (subst (λ z. (((after m s e).objects z).version ≡ (s.objects z).version) × (((after m s e).objects z).inside e.0 ≡ Some Writing))
-        (sym same)
-    (ap (λ z. z.version) (objects_after m s e (Entry o Writing ans) is), ap (λ z. z.inside e.0)
-        (objects_after m s e (Entry o Writing ans) is) ∙ upd_same (s.objects o).inside e.0 (Some Writing))))
+    (sym same) (
+      ap (λ z. z.version) (objects_after m s e (Entry o Writing ans) is),
+      ap (λ z. z.inside e.0)
+          (objects_after m s e (Entry o Writing ans) is) ∙ upd_same (s.objects o).inside e.0 (Some Writing),
+    )))
     t k x _ h))
 never m law s good e can run ok t k x (Entry o Writing ans) (Entry p Writing ans') is same c h =
     past_writer m (s.objects p).version e.0 p Writing (s.objects p).left (entered m (Writes (s.objects p).version e.0) p Writing _ _ t
     (taken m law (Writes (s.objects p).version e.0) (Writes_kept m _ _) (after m s e) (stays_good m law s good e can) run ok p
     (inr (subst (λ z. (((after m s e).objects z).version ≡ (s.objects z).version) × (((after m s e).objects z).inside e.0 ≡ Some Writing))
-        (sym same)
-    (ap (λ z. z.version) (objects_after m s e (Entry o Writing ans) is), ap (λ z. z.inside e.0)
-        (objects_after m s e (Entry o Writing ans) is) ∙ upd_same (s.objects o).inside e.0 (Some Writing))))
+    (sym same) (
+      ap (λ z. z.version) (objects_after m s e (Entry o Writing ans) is),
+      ap (λ z. z.inside e.0)
+          (objects_after m s e (Entry o Writing ans) is) ∙ upd_same (s.objects o).inside e.0 (Some Writing),
+    )))
     t k x _ h))
 never m law s good e can run ok t k x (Entry o Reading ans) (Entry p Writing ans') is same c h =
     past_reader m (s.objects p).version e.0 p (s.objects p).left
-        (entered m (Reads (s.objects p).version (s.objects p).left e.0) p Writing _ _ t
+    (entered m (Reads (s.objects p).version (s.objects p).left e.0) p Writing _ _ t
     (taken m law (Reads (s.objects p).version (s.objects p).left e.0) (Reads_kept m _ _ _) (after m s e) (stays_good m law s good e can) run
-        ok p
+    ok p
     (subst (λ z. Reads (s.objects z).version (s.objects z).left e.0 ((after m s e).objects z)) (sym same)
-    (inr (ap (λ z. z.version) (objects_after m s e (Entry o Reading ans) is), inr
-        (ap (λ z. z.left) (objects_after m s e (Entry o Reading ans) is), ap (λ z. z.inside e.0)
-        (objects_after m s e (Entry o Reading ans) is) ∙ upd_same (s.objects o).inside e.0 (Some Reading)))))
+    (inr (
+      ap (λ z. z.version) (objects_after m s e (Entry o Reading ans) is),
+      inr (
+        ap (λ z. z.left) (objects_after m s e (Entry o Reading ans) is),
+        ap (λ z. z.inside e.0)
+            (objects_after m s e (Entry o Reading ans) is) ∙ upd_same (s.objects o).inside e.0 (Some Reading),
+      ),
+    )))
     t k x _ h))
 never m law s good e can run ok t k x (Entry o Reading ans) (Entry p Reading ans') is same c h = c
 never m law s good e can run ok t k x _ _ is same c h = absurd c
@@ -151,7 +163,7 @@ pull_first : {T : Type 0} (m : Machine T) (s : State T) (e : Step) (run : List S
     → logged (label m s e) [] ≡ logged (label m s (e.0, r)) [] → Pulled m s (e ∷ run) e.0 r
 pull_first m s e run ok r can h =
     let a : act m s (e.0, r) ≡ act m s e = sym (same_act m (asked m s e.0) e.1 r (s.objects (target (act m s e)))
-        (s.objects (target (act m s (e.0, r)))) [] [] [] ok.0 can (append-nil _ ∙ h)) in
+    (s.objects (target (act m s (e.0, r)))) [] [] [] ok.0 can (append-nil _ ∙ h)) in
     let p : after m s (e.0, r) ≡ after m s e = same_after m s e.0 r e.1 a in
     record {
       rest = run;
@@ -169,7 +181,7 @@ pull_later : {T : Type 0} (m : Machine T) → IsLawful m → (s : State T) → G
 pull_later m law s good e run ok t r other can x j h l ih =
     let free : Clashes m s e (t, r) → ⊥ = λ c. never m law s good e ok.0 run ok.1 t 0 x (act m s e) (act m s (t, r)) refl c.0 c.1
     (subst (λ z. At (trail m (after m s e) run t) 0 (x, z))
-        (clash_told (act m s e) (act m s (t, r)) (s.objects (target (act m s (t, r)))) j c.1 l) h) in
+    (clash_told (act m s e) (act m s (t, r)) (s.objects (target (act m s (t, r)))) j c.1 l) h) in
     let free' : Clashes m s (t, r) e → ⊥ = λ c. free (sym c.0, clash_sym _ _ c.1) in
     let k : Keeps m s e (t, r) = keeps m law s good e (t, r) (λ p. other (sym p)) ok.0 can free in
     let k' : Keeps m s (t, r) e = keeps m law s good (t, r) e other can ok.0 free' in
@@ -181,7 +193,7 @@ pull_later m law s good e run ok t r other can x j h l ih =
       same_end = ap (λ z. end m z q.rest) p ∙ q.same_end;
       same_trail = λ u.
           ap (λ z. join_if (eqb u t) (s.now u, label m s (t, r))
-              (join_if (eqb u e.0) ((after m s (t, r)).now u, label m (after m s (t, r)) e) (trail m z q.rest u))) p
+          (join_if (eqb u e.0) ((after m s (t, r)).now u, label m (after m s (t, r)) e) (trail m z q.rest u))) p
           ∙ join_swap (eqb u t) (eqb u e.0) (s.now u, label m s (t, r)) ((after m s e).now u, label m (after m s e) (t, r))
           ((after m s (t, r)).now u, label m (after m s (t, r)) e) (s.now u, label m s e) (trail m (after m (after m s e) (t, r)) q.rest u)
           (λ a b. other (sym (eqb-true u t a) ∙ eqb-true u e.0 b))
@@ -198,7 +210,7 @@ pull m law s good (e ∷ run) ok t r can x j h l = elim (cases_eq t e.0) [
   | inl same ↦ subst (λ z. Pulled m s (e ∷ run) z r) (sym same) (pull_first m s e run ok r
       (subst (λ z. Can m s (z, r)) same can)
       (ap (λ z. logged z.1 []) (subst (λ b. At (join_if b (s.now t, label m s e) (trail m (after m s e) run t)) 0 (x, j))
-          (eq-eqb t e.0 same) h) ∙ subst (λ z. logged j [] ≡ logged (label m s (z, r)) []) same l))
+      (eq-eqb t e.0 same) h) ∙ subst (λ z. logged j [] ≡ logged (label m s (z, r)) []) same l))
   | inr other ↦ pull_later m law s good e run ok t r other can x j
       (subst (λ b. At (join_if b (s.now t, label m s e) (trail m (after m s e) run t)) 0 (x, j)) (ne_eqb t e.0 other) h) l
       (λ c a. pull m law (after m s e) (stays_good m law s good e ok.0) run ok.1 t r c x j

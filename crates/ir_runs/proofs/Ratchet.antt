@@ -46,10 +46,10 @@ pub taken : {T : Type 0} (m : Machine T) → IsLawful m → (R : Object → Type
 taken m law R kept s good [] ok o here t k x μ h = absurd h
 taken m law R kept s good (e ∷ run) ok o here t k x μ h =
     elim (at_join (eqb t e.0) (s.now t, label m s e) (x, μ) (trail m (after m s e) run t) k h) [
-  | inl p ↦ record { state = s; good = good; step = e; can = ok.0; who = sym (eqb-true t e.0 p.0); tells = ap (λ z. z.1) p.1; kept = here }
-  | inr p ↦ taken m law R kept (after m s e) (stays_good m law s good e ok.0) run ok.1 o (kept_step m law R kept s good e ok.0 o here) t p.0
-      x μ p.1
-]
+      | inl p ↦ record { state = s; good = good; step = e; can = ok.0; who = sym (eqb-true t e.0 p.0); tells = ap (λ z. z.1) p.1; kept = here }
+      | inr p ↦ taken m law R kept (after m s e) (stays_good m law s good e ok.0) run ok.1 o (kept_step m law R kept s good e ok.0 o here) t p.0
+          x μ p.1
+    ]
 
 -- the version has passed v, or u writes at v
 abbrev pub Writes : ℕ → ℕ → Object → Type 0
@@ -86,8 +86,11 @@ Writes_kept m v u b t (Refusal _) ex i h l = l
 Writes_kept m v u b t (Result k res) ex i h l = l
 Writes_kept m v u b t (Entry o a ans) ex i h l = elim l [ inl p ↦ inl p | inr p ↦ inr (p.0, entry_beside b t u a Writing i p.1) ]
 Writes_kept m v u b t (Exit o Reading) ex i h l =
-    elim l [ inl p ↦ inl p | inr p ↦ elim (cases_eq u t)
-    [ inl e ↦ absurd (cc (ap b.inside e, i, p.1)) | inr ne ↦ inr (p.0, leave_beside b t u Writing ne p.1) ] ]
+    elim l [
+      | inl p ↦ inl p
+      | inr p ↦ elim (cases_eq u t)
+          [ inl e ↦ absurd (cc (ap b.inside e, i, p.1)) | inr ne ↦ inr (p.0, leave_beside b t u Writing ne p.1) ]
+    ]
 Writes_kept m v u b t (Exit o Writing) ex i h l = elim l [ inl p ↦ inl (omega arith) | inr p ↦ inl (omega (arith, p.0)) ]
 Writes_kept m v u b t (Load o j) ex i h l = l
 Writes_kept m v u b t (Store o j w) ex i h l = l
@@ -98,8 +101,14 @@ Reads_kept m v l u b t Silent ex i h k = k
 Reads_kept m v l u b t (Refusal _) ex i h k = k
 Reads_kept m v l u b t (Result _ res) ex i h k = k
 Reads_kept m v l u b t (Entry o a ans) ex i h k =
-    elim k [ inl p ↦ inl p | inr p ↦ elim p.1 [ inl less ↦ inr (p.0, inl less) | inr g ↦ inr
-    (p.0, inr (g.0, entry_beside b t u a Reading i g.1)) ] ]
+    elim k [
+      | inl p ↦ inl p
+      | inr p ↦ elim p.1 [
+        | inl less ↦ inr (p.0, inl less)
+        | inr g ↦ inr
+            (p.0, inr (g.0, entry_beside b t u a Reading i g.1))
+      ]
+    ]
 Reads_kept m v l u b t (Exit o Reading) ex i h k =
     elim k [ inl p ↦ inl p | inr p ↦ elim p.1 [ inl less ↦ inr (p.0, inl (omega arith)) | inr g ↦ inr (p.0, inl (omega (arith, g.0))) ] ]
 Reads_kept m v l u b t (Exit o Writing) ex i h k = elim k [ inl p ↦ inl (omega arith) | inr p ↦ inl (omega (arith, p.0)) ]

@@ -36,10 +36,15 @@ heads m s (e ∷ run) ok t x j h = elim (cases_eq t e.0) [
   }
   | inr other ↦
       let k : Heads m (after m s e) t x j = heads m (after m s e) run ok.1 t x j
-          (subst (λ b. At (join_if b (s.now t, label m s e) (trail m (after m s e) run t)) 0 (x, j)) (ne_eqb t e.0 other) h) in
+      (subst (λ b. At (join_if b (s.now t, label m s e) (trail m (after m s e) run t)) 0 (x, j)) (ne_eqb t e.0 other) h) in
       let p : act m (after m s e) (t, k.result) ≡ act m s (t, k.result) = ap (λ z. act_of (m.ask z) k.result) (now_other m s e t other) in
-      record { result = k.result; object = k.object; admits = subst (λ z. Admits m z k.object) p k.admits; tells = k.tells
-          ∙ ap (λ z. told z k.object) p }
+      record {
+        result = k.result;
+        object = k.object;
+        admits = subst (λ z. Admits m z k.object) p k.admits;
+        tells = k.tells
+            ∙ ap (λ z. told z k.object) p;
+      }
 ]
 
 -- where both log, the logs of one step are one
@@ -110,7 +115,7 @@ first_logs m s e prefix run can ok x j xs ys is h =
     ∙ agree m (asked m s e.0) e.1 k.result (s.objects (target (act m s e))) k.object (events (trail m (after m s e) prefix e.0)) ys
     (events xs) can k.admits
     (subst (λ b. events (join_if b (s.now e.0, label m s e) (trail m (after m s e) prefix e.0)) ++ ys ≡ logged
-        (told (act m s (e.0, k.result)) k.object) (events xs)) (eq-eqb e.0 e.0 refl)
+    (told (act m s (e.0, k.result)) k.object) (events xs)) (eq-eqb e.0 e.0 refl)
     (h ∙ ap events is ∙ ap (λ z. logged z (events xs)) k.tells))
 
 pub goes : {T : Type 0} (m : Machine T) → IsLawful m → (s : State T) → Good m s → (prefix run : List Step) → IsRun m s prefix
@@ -119,16 +124,16 @@ pub goes : {T : Type 0} (m : Machine T) → IsLawful m → (s : State T) → Goo
 goes m law s good [] run ok ok' left logs counts = record { rest = run; ok = ok'; same_end = refl; same_trail = λ u. refl }
 goes m law s good (e ∷ prefix) run ok ok' left logs counts =
     let c : 1 ≤ count m s run e.0 = subst (λ b. length (join_if b (s.now e.0, label m s e) (trail m (after m s e) prefix e.0)) ≤ count m s
-        run e.0 → 1 ≤ count m s run e.0) (sym (eq-eqb e.0 e.0 refl)) (λ h. omega arith) (counts e.0) in
+    run e.0 → 1 ≤ count m s run e.0) (sym (eq-eqb e.0 e.0 refl)) (λ h. omega arith) (counts e.0) in
     let st : Starts (trail m s run e.0) = starts (trail m s run e.0) c in
     let p : Pulled m s run e.0 e.1 = pull m law s good run ok' e.0 e.1 ok.0 st.head.0 st.head.1
-        (subst (λ z. At z 0 st.head) (sym st.is) refl)
+    (subst (λ z. At z 0 st.head) (sym st.is) refl)
     (first_logs m s e prefix run ok.0 ok' st.head.0 st.head.1 st.rest (left e.0) st.is (logs e.0)) in
     let g : Goes m (after m s e) prefix p.rest = goes m law (after m s e) (stays_good m law s good e ok.0) prefix p.rest ok.1 p.ok left
     (λ u. events_join (eqb u e.0) (s.now u, label m s e) (trail m (after m s e) prefix u) (trail m (after m s e) p.rest u) (left u)
-        (logs u ∙ ap events (sym (p.same_trail u))))
+    (logs u ∙ ap events (sym (p.same_trail u))))
     (λ u. length_join (eqb u e.0) (s.now u, label m s e) (trail m (after m s e) prefix u) (trail m (after m s e) p.rest u)
-        (subst (λ z. count m s (e ∷ prefix) u ≤ length z) (sym (p.same_trail u)) (counts u))) in
+    (subst (λ z. count m s (e ∷ prefix) u ≤ length z) (sym (p.same_trail u)) (counts u))) in
     record {
       rest = g.rest;
       ok = g.ok;
@@ -154,7 +159,7 @@ pub alike : {T : Type 0} (m : Machine T) → IsLawful m → (s : State T) → Go
 alike m law s good run run' ok ok' logs counts =
     let g : Goes m s run run' = goes m law s good run run' ok ok' (λ _. []) (λ t. append-nil _ ∙ logs t) (λ t. omega (arith, counts t)) in
     let none : g.rest ≡ [] = no_steps m (end m s run) g.rest
-        (λ t. omega (arith, counts t, ap length (g.same_trail t), length-append (trail m s run t) (trail m (end m s run) g.rest t))) in
+    (λ t. omega (arith, counts t, ap length (g.same_trail t), length-append (trail m s run t) (trail m (end m s run) g.rest t))) in
     record {
       same_trail = λ u. sym (append-nil _) ∙ ap (λ z. trail m s run u ++ trail m (end m s run) z u) (sym none) ∙ g.same_trail u;
       same_end = ap (end m (end m s run)) (sym none) ∙ g.same_end;

@@ -61,8 +61,12 @@ suits_of m Done r b es can h = tt
 -- a step that follows is the trace's
 pub agrees_last : {T : Type 0} (m : Machine T) (s : State T) (tr : Trace) (run : List Step) (e : Step) → Last m s tr run e
     → AgreesNow m s tr run e.0
-agrees_last m s tr run e last = (last.left, suits_of m (asked m (end m s run) e.0) e.1
-    ((end m s run).objects (target (act_of (asked m (end m s run) e.0) e.1))) _ last.can last.logs, last.closes)
+agrees_last m s tr run e last = (
+  last.left,
+  suits_of m (asked m (end m s run) e.0) e.1
+      ((end m s run).objects (target (act_of (asked m (end m s run) e.0) e.1))) _ last.can last.logs,
+  last.closes,
+)
 
 stops : {T : Type 0} (m : Machine T) (s : State T) (tr : Trace) (run : List Step) (t : ℕ) (v : ThreadVerdict) → StandsAs m s tr run t v
     → GoesOn m s tr run t → ⊥

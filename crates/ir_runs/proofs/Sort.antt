@@ -19,8 +19,11 @@ later m s e run t k a h = (h.0, at_later (eqb t e.0) (s.now t, label m s e) (h.0
 
 -- the first step
 pub foremost : {T : Type 0} (m : Machine T) (s : State T) (e : Step) (run : List Step) → Tells m s (e ∷ run) e.0 0 (label m s e)
-foremost m s e run = (s.now e.0, subst (λ b. At (join_if b (s.now e.0, label m s e) (trail m (after m s e) run e.0)) 0
-    (s.now e.0, label m s e)) (sym (eq-eqb e.0 e.0 refl)) refl)
+foremost m s e run = (
+  s.now e.0,
+  subst (λ b. At (join_if b (s.now e.0, label m s e) (trail m (after m s e) run e.0)) 0
+      (s.now e.0, label m s e)) (sym (eq-eqb e.0 e.0 refl)) refl,
+)
 
 pub lower_up : (b : Bool) (k n : ℕ) → k < cond b (pred n) n → cond b (suc k) k < n
 lower_up true k n h = let h' : k < pred n = h in let g : suc k < n = omega arith in g
@@ -34,7 +37,7 @@ pub consistent_later : {T : Type 0} (m : Machine T) (s : State T) (e : Step) (ru
     → Consistent m (after m s e) run (lower p e.0)
 consistent_later m s e run p c t k u j a b h i n l =
     lower_down (eqb u e.0) j (p u) (c t (cond (eqb t e.0) (suc k) k) u (cond (eqb u e.0) (suc j) j) a b (later m s e run t k a h)
-        (later m s e run u j b i) n (lower_up (eqb t e.0) k (p t) l))
+    (later m s e run u j b i) n (lower_up (eqb t e.0) k (p t) l))
 
 at_take : {A : Type 0} (n : ℕ) (xs : List A) (k : ℕ) (x : A) → At (take n xs) k x → (k < n) × At xs k x
 at_take zero xs k x h = absurd h
@@ -66,8 +69,8 @@ sort_in m s e run p can l z = subst (λ b. (x : IsRun m s (join_if b e (part run
     (lt-ltb 0 (p e.0) l) (λ x y. record { ok = x; same_trail = y })
     (can, z.ok)
     (λ u. ap (join_if (eqb u e.0) (s.now u, label m s e)) (z.same_trail u)
-        ∙ take_join (eqb u e.0) (p u) (s.now u, label m s e) (trail m (after m s e) run u)
-        (λ h. subst (λ y. 0 < p y) (sym (eqb-true u e.0 h)) l))
+    ∙ take_join (eqb u e.0) (p u) (s.now u, label m s e) (trail m (after m s e) run u)
+    (λ h. subst (λ y. 0 < p y) (sym (eqb-true u e.0 h)) l))
 
 take_zero : {A : Type 0} (n : ℕ) (xs : List A) → n ≡ 0 → take n xs ≡ []
 take_zero zero xs h = refl
@@ -79,16 +82,16 @@ sort_out m law s good e run p can l c z =
     let low : Cut = lower p e.0 in
     let k : Skipped m s e (part run low) = skip m law s good e can (part run low) z.ok
     (z.same_trail e.0 ∙ take_zero (low e.0) (trail m (after m s e) run e.0)
-        (subst (λ b. cond b (pred (p e.0)) (p e.0) ≡ 0) (sym (eq-eqb e.0 e.0 refl)) (ap pred l)))
+    (subst (λ b. cond b (pred (p e.0)) (p e.0) ≡ 0) (sym (eq-eqb e.0 e.0 refl)) (ap pred l)))
     (λ u k x a h n. let w = at_take (low u) (trail m (after m s e) run u) k (x, a) (subst (λ y. At y k (x, a)) (z.same_trail u) h) in
     not_less (p e.0) l (c u (cond (eqb u e.0) (suc k) k) e.0 0 a (label m s e) (later m s e run u k a (x, w.1)) (foremost m s e run) n
-        (lower_up (eqb u e.0) k (p u) w.0))) in
+    (lower_up (eqb u e.0) k (p u) w.0))) in
     subst (λ b. IsRun m s (join_if b e (part run low))
-        → ((u : ℕ) → trail m s (join_if b e (part run low)) u ≡ take (p u) (trail m s (e ∷ run) u)) → Sorted m s (e ∷ run) p)
-        (le-ltb 0 (p e.0) (omega arith)) (λ x y. record { ok = x; same_trail = y })
+    → ((u : ℕ) → trail m s (join_if b e (part run low)) u ≡ take (p u) (trail m s (e ∷ run) u)) → Sorted m s (e ∷ run) p)
+    (le-ltb 0 (p e.0) (omega arith)) (λ x y. record { ok = x; same_trail = y })
     k.ok
     (λ u. k.same_trail u ∙ z.same_trail u ∙ take_none (eqb u e.0) (p u) (s.now u, label m s e) (trail m (after m s e) run u)
-        (λ h. ap p (eqb-true u e.0 h) ∙ l))
+    (λ h. ap p (eqb-true u e.0 h) ∙ l))
   where
     not_less : (n : ℕ) → n ≡ 0 → 0 < n → ⊥
     not_less n e h = omega arith
@@ -102,7 +105,7 @@ sort m law s good [] ok p c = record { ok = tt; same_trail = λ u. sym (take_nil
     take_nil (suc n) = refl
 sort m law s good (e ∷ run) ok p c =
     let z : Sorted m (after m s e) run (lower p e.0) =
-        sort m law (after m s e) (stays_good m law s good e ok.0) run ok.1 (lower p e.0) (consistent_later m s e run p c) in
+    sort m law (after m s e) (stays_good m law s good e ok.0) run ok.1 (lower p e.0) (consistent_later m s e run p c) in
     elim (cases_lt 0 (p e.0)) [
       | inl h ↦ sort_in m s e run p ok.0 h z
       | inr h ↦ sort_out m law s good e run p ok.0 (omega arith) c z

@@ -14,7 +14,7 @@ tables : {A : Type 0} (f : ℕ → A) (o p : ℕ) (F G : A → A) → (p ≡ o �
 tables f o p F G h = elim (cases_eq p o) [
   | inl e ↦ subst (λ z. upd (upd f o (F (f o))) z (G (upd f o (F (f o)) z)) ≡ upd (upd f z (G (f z))) o (F (upd f z (G (f z)) o))) (sym e)
       (upd_upd f o _ _ ∙ ap (λ z. upd f o (G z)) (upd_same f o _) ∙ ap (upd f o) (h e) ∙ ap (λ z. upd f o (F z)) (sym (upd_same f o _))
-          ∙ sym (upd_upd f o _ _))
+      ∙ sym (upd_upd f o _ _))
   | inr ne ↦ ap (λ z. upd (upd f o (F (f o))) p (G z)) (upd_other f o p _ ne) ∙ upd_comm f o p _ _ (λ e. ne (sym e))
       ∙ ap (λ z. upd (upd f p (G (f p))) o (F z)) (sym (upd_other f p o _ (λ e. ne (sym e))))
 ]
@@ -37,9 +37,12 @@ pub sees : {T : Type 0} (m : Machine T) (f : ℕ → Object) (o : ℕ) (F : Obje
     × (reply q (upd f o (F (f o)) (target q)) ≡ reply q (f (target q)))
 sees m f o F u q h same = elim (cases_eq (target q) o) [
   | inl e ↦ let c : Commutes m (f o) F u q = same e in
-      let p : upd f o (F (f o)) (target q) ≡ F (f o) = ap (upd f o (F (f o))) e ∙ upd_same f o _ in
-      (subst (Admits m q) (sym p) c.admits, ap (told q) p ∙ c.told_same ∙ ap (λ z. told q (f z)) (sym e), ap (reply q) p ∙ c.reply_same
-          ∙ ap (λ z. reply q (f z)) (sym e))
+      let p : upd f o (F (f o)) (target q) ≡ F (f o) = ap (upd f o (F (f o))) e ∙ upd_same f o _ in (
+        subst (Admits m q) (sym p) c.admits,
+        ap (told q) p ∙ c.told_same ∙ ap (λ z. told q (f z)) (sym e),
+        ap (reply q) p ∙ c.reply_same
+            ∙ ap (λ z. reply q (f z)) (sym e),
+      )
   | inr ne ↦ let p : upd f o (F (f o)) (target q) ≡ f (target q) = upd_other f o (target q) _ ne in
       (subst (Admits m q) (sym p) h, ap (told q) p, ap (reply q) p)
 ]

@@ -43,8 +43,11 @@ holder : {T : Type 0} (m : Machine T) → IsLawful m → (s : State T) → Good 
     → (asked m s w ≢ Done) × ((i : ℕ) (a : Access) → asked m s w ≡ Enter i a → o < i)
 holder m law s good w o h = (
   λ e. h (not_inside m law s good w o e),
-  λ i a e. elim (cases_lt o i) [ inl l ↦ l | inr g ↦
-      absurd (h (good.linked w o ∙ subst (λ q. Holds q (m.held (s.now w))) e (law.holds (s.now w)) o g)) ],
+  λ i a e. elim (cases_lt o i) [
+    | inl l ↦ l
+    | inr g ↦
+        absurd (h (good.linked w o ∙ subst (λ q. Holds q (m.held (s.now w))) e (law.holds (s.now w)) o g))
+  ],
 )
 
 -- the step of a thread is decided by what it asks
@@ -65,17 +68,20 @@ stuck m law s good n objects rest low zero_fits d t bound Done is ne = absurd (n
 stuck m law s good n objects rest low zero_fits zero t bound (Enter o a) is ne = absurd (omega (arith, bound o a is, low t o a is))
 stuck m law s good n objects rest low zero_fits (suc d) t bound (Enter o Reading) is ne =
     elim (search_below (λ x. x ≡ Some Writing) (λ x. x ≢ Some Writing) is_writing (s.objects o).inside n) [
-  | inl w ↦ let h = holder m law s good w.0 o (λ e. cc (e, w.1)) in
-      stuck m law s good n objects rest low zero_fits d w.0 (λ i b e. omega (arith, bound o Reading is, h.1 i b e)) (asked m s w.0) refl h.0
-  | inr none ↦ (t, can_by m s t _ is (λ u e. elim (cases_lt u n)
-      [ inl l ↦ none u l e | inr g ↦ cc (not_inside m law s good u o (rest u g), e) ]))
-]
+      | inl w ↦ let h = holder m law s good w.0 o (λ e. cc (e, w.1)) in
+          stuck m law s good n objects rest low zero_fits d w.0 (λ i b e. omega (arith, bound o Reading is, h.1 i b e)) (asked m s w.0) refl h.0
+      | inr none ↦ (
+        t,
+        can_by m s t _ is (λ u e. elim (cases_lt u n)
+            [ inl l ↦ none u l e | inr g ↦ cc (not_inside m law s good u o (rest u g), e) ]),
+      )
+    ]
 stuck m law s good n objects rest low zero_fits (suc d) t bound (Enter o Writing) is ne =
     elim (search_below (λ x. x ≢ None) (λ x. x ≡ None) is_inside (s.objects o).inside n) [
-  | inl w ↦ let h = holder m law s good w.0 o w.1 in
-      stuck m law s good n objects rest low zero_fits d w.0 (λ i b e. omega (arith, bound o Writing is, h.1 i b e)) (asked m s w.0) refl h.0
-  | inr none ↦ (t, can_by m s t _ is (λ u. elim (cases_lt u n) [ inl l ↦ none u l | inr g ↦ not_inside m law s good u o (rest u g) ]))
-]
+      | inl w ↦ let h = holder m law s good w.0 o w.1 in
+          stuck m law s good n objects rest low zero_fits d w.0 (λ i b e. omega (arith, bound o Writing is, h.1 i b e)) (asked m s w.0) refl h.0
+      | inr none ↦ (t, can_by m s t _ is (λ u. elim (cases_lt u n) [ inl l ↦ none u l | inr g ↦ not_inside m law s good u o (rest u g) ]))
+    ]
 
 -- in a state in which the threads hold what they are inside of, one that isn't done shows one that has a step
 pub some_step : {T : Type 0} (m : Machine T) → IsLawful m → (s : State T) → Good m s → (n objects : ℕ) → IsIdle m s n
@@ -88,7 +94,7 @@ pub stays_idle : {T : Type 0} (m : Machine T) (s : State T) (n : ℕ) → IsIdle
 unfolding after
 stays_idle m s n rest e can t h =
     ap m.ask (upd_other s.now e.0 t _ (λ p. subst (λ q. Admits m (act_of q e.1) (s.objects (target (act_of q e.1))))
-        (rest e.0 (subst (λ z. n ≤ z) p h)) can)) ∙ rest t h
+    (rest e.0 (subst (λ z. n ≤ z) p h)) can)) ∙ rest t h
 
 pub run_idle : {T : Type 0} (m : Machine T) (s : State T) (n : ℕ) → IsIdle m s n → (run : List Step) → IsRun m s run
     → IsIdle m (end m s run) n

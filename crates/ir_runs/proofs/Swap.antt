@@ -107,11 +107,21 @@ swap1 m b ex t u ne (Entry o Reading ans) q' i i' h h' free = enter_read q' i' h
     enter_read (Refusal _) i' h' free = record { admits = tt; told_same = refl; reply_same = refl; order = refl }
     enter_read (Result k res) i' h' free = record { admits = h'; told_same = refl; reply_same = refl; order = refl }
     enter_read (Entry p Reading ans') i' h' free =
-        record { admits = entered_reading b t h'; told_same = refl; reply_same = refl; order =
-        some_path _ _ refl refl (upd_comm b.inside t u _ _ ne) refl }
+        record {
+          admits = entered_reading b t h';
+          told_same = refl;
+          reply_same = refl;
+          order =
+              some_path _ _ refl refl (upd_comm b.inside t u _ _ ne) refl;
+        }
     enter_read (Entry p Writing ans') i' h' free = absurd (free tt)
-    enter_read (Exit p Reading) i' h' free = record { admits = tt; told_same = refl; reply_same = refl; order =
-        some_path _ _ refl refl (upd_comm b.inside t u _ _ ne) refl }
+    enter_read (Exit p Reading) i' h' free = record {
+      admits = tt;
+      told_same = refl;
+      reply_same = refl;
+      order =
+          some_path _ _ refl refl (upd_comm b.inside t u _ _ ne) refl;
+    }
     enter_read (Exit p Writing) i' h' free = absurd (h u i')
     enter_read (Load p j) i' h' free = record { admits = tt; told_same = refl; reply_same = refl; order = refl }
     enter_read (Store p j w) i' h' free = absurd (h u i')
@@ -122,11 +132,21 @@ swap1 m b ex t u ne (Exit o Reading) q' i i' h h' free = leave_read q' i' h'
     leave_read Silent i' h' = record { admits = tt; told_same = refl; reply_same = refl; order = refl }
     leave_read (Refusal _) i' h' = record { admits = tt; told_same = refl; reply_same = refl; order = refl }
     leave_read (Result k res) i' h' = record { admits = h'; told_same = refl; reply_same = refl; order = refl }
-    leave_read (Entry p Reading ans') i' h' = record { admits = left_reading b t h'; told_same = refl; reply_same = refl; order =
-        some_path _ _ refl refl (upd_comm b.inside t u _ _ ne) refl }
+    leave_read (Entry p Reading ans') i' h' = record {
+      admits = left_reading b t h';
+      told_same = refl;
+      reply_same = refl;
+      order =
+          some_path _ _ refl refl (upd_comm b.inside t u _ _ ne) refl;
+    }
     leave_read (Entry p Writing ans') i' h' = absurd (cc (i, h' t))
-    leave_read (Exit p Reading) i' h' = record { admits = tt; told_same = refl; reply_same = refl; order =
-        some_path _ _ refl refl (upd_comm b.inside t u _ _ ne) refl }
+    leave_read (Exit p Reading) i' h' = record {
+      admits = tt;
+      told_same = refl;
+      reply_same = refl;
+      order =
+          some_path _ _ refl refl (upd_comm b.inside t u _ _ ne) refl;
+    }
     leave_read (Exit p Writing) i' h' = absurd (cc (ex u t (λ e. ne (sym e)) i', i))
     leave_read (Load p j) i' h' = record { admits = tt; told_same = refl; reply_same = refl; order = refl }
     leave_read (Store p j w) i' h' = absurd (cc (ex u t (λ e. ne (sym e)) i', i))

@@ -95,16 +95,26 @@ balance1 m n t Silent b l ex i h f bal later = bal ∙ plain n t (f b.version)
 balance1 m n t (Refusal _) b l ex i h f bal later = bal ∙ plain n t (f b.version)
 balance1 m n t (Result k res) b l ex i h f bal later = bal ∙ plain n t (f b.version)
 balance1 m n t (Entry o Reading ans) b l ex i h f bal later =
-    omega (arith, bal, enter_reader n t b l i, sum_one n t (f b.version) (reads_one o b.version (In o Reading b.version 0)) l
-    (one_read o b.version))
+    omega (
+      arith,
+      bal,
+      enter_reader n t b l i,
+      sum_one n t (f b.version) (reads_one o b.version (In o Reading b.version 0)) l
+          (one_read o b.version),
+    )
 balance1 m n t (Entry o Writing ans) b l ex i h f bal later =
     ap (λ z. b.left + z) (sum_same n _ _ (λ u _. upd_elim b.inside t (Some Writing) u (λ z. is_reader z ≡ is_reader (b.inside u))
     (λ e. ap is_reader (sym (h u))) (λ _. refl))) ∙ bal ∙ plain n t (f b.version)
 balance1 m n t (Exit o Reading) b l ex i h f bal later = omega (arith, bal, leave_reader n t b l i, plain n t (f b.version))
 balance1 m n t (Exit o Writing) b l ex i h f bal later =
-    omega (arith, sum_zero n (λ u. is_reader (upd b.inside t None u))
-        (λ u _. upd_elim b.inside t None u (λ z. is_reader z ≡ 0) (λ _. refl) (λ ne. ap is_reader (ex t u (λ e. ne (sym e)) i))), plain n t
-        (f (suc b.version)), sum_zero n (f (suc b.version)) (λ u _. later (suc b.version) u (omega arith)))
+    omega (
+      arith,
+      sum_zero n (λ u. is_reader (upd b.inside t None u))
+          (λ u _. upd_elim b.inside t None u (λ z. is_reader z ≡ 0) (λ _. refl) (λ ne. ap is_reader (ex t u (λ e. ne (sym e)) i))),
+      plain n t
+          (f (suc b.version)),
+      sum_zero n (f (suc b.version)) (λ u _. later (suc b.version) u (omega arith)),
+    )
 balance1 m n t (Load o j) b l ex i h f bal later = bal ∙ plain n t (f b.version)
 balance1 m n t (Store o j w) b l ex i h f bal later = bal ∙ plain n t (f b.version)
 balance1 m n t Never b l ex i h f bal later = absurd h
@@ -162,18 +172,18 @@ tally_step m law n s good c tally e can l =
       balance = λ o. upd_elim s.objects (target q) (acted q e.0 b) o
           (λ d. d.left + readers_inside n d ≡ sum_below n (λ u. c o d.version u + counted o d.version (label m s e) e.0 u))
           (λ here. subst (λ z. (acted q e.0 b).left + readers_inside n (acted q e.0 b) ≡ sum_below n
-              (λ u. c z (acted q e.0 b).version u + counted z (acted q e.0 b).version (label m s e) e.0 u)) (sym here)
+          (λ u. c z (acted q e.0 b).version u + counted z (acted q e.0 b).version (label m s e) e.0 u)) (sym here)
           (balance1 m n e.0 q b l (good.exclusive (target q)) (inside_now m law s good e) can (c (target q)) (tally.balance (target q))
-              (tally.later (target q))))
+          (tally.later (target q))))
           (λ other. tally.balance o ∙ sum_same n _ _
-              (λ u _. absent (c o (s.objects o).version u) (reads_one o (s.objects o).version (label m s e)) (eqb u e.0)
-              (told_elsewhere q b o (s.objects o).version other)));
+          (λ u _. absent (c o (s.objects o).version u) (reads_one o (s.objects o).version (label m s e)) (eqb u e.0)
+          (told_elsewhere q b o (s.objects o).version other)));
       later = λ o v t. upd_elim s.objects (target q) (acted q e.0 b) o (λ d. d.version < v → c o v t + counted o v (label m s e) e.0 t ≡ 0)
           (λ here less. let z : b.version < v = omega (arith, less, grows q e.0 b) in
-              none_counted (c o v t) (reads_one o v (label m s e)) (eqb t e.0)
-              (subst (λ w. c w v t ≡ 0) (sym here) (tally.later (target q) v t z)) (told_before q b o v z))
+          none_counted (c o v t) (reads_one o v (label m s e)) (eqb t e.0)
+          (subst (λ w. c w v t ≡ 0) (sym here) (tally.later (target q) v t z)) (told_before q b o v z))
           (λ other less. none_counted (c o v t) (reads_one o v (label m s e)) (eqb t e.0) (tally.later o v t less)
-              (told_elsewhere q b o v other));
+          (told_elsewhere q b o v other));
     }
   where
     absent : (c k : ℕ) (b : Bool) → k ≡ 0 → c ≡ c + cond b k 0
@@ -182,7 +192,12 @@ tally_step m law n s good c tally e can l =
 
 pub tally_start : {T : Type 0} (m : Machine T) (n : ℕ) (s : State T) → IsStart m s → Tally n s (λ o v u. 0)
 tally_start m n s h = record {
-  balance = λ o. omega (arith, h.left o, sum_zero n (λ t. is_reader ((s.objects o).inside t)) (λ t _. ap is_reader (h.inside o t)), sum_zero
-      n (λ t. 0) (λ t _. refl));
+  balance = λ o. omega (
+    arith,
+    h.left o,
+    sum_zero n (λ t. is_reader ((s.objects o).inside t)) (λ t _. ap is_reader (h.inside o t)),
+    sum_zero
+        n (λ t. 0) (λ t _. refl),
+  );
   later = λ o v t l. refl;
 }

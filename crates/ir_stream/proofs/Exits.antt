@@ -33,16 +33,34 @@ pub at_other : {S : Type 0} (R : Replying S) (quits : List ℕ → Bool) (s0 : S
     (line line' : List ℕ) (n n' : ℕ)
     → At R quits s0 input w0 left written s line n → line' ≡ line → n ≡ n' → At R quits s0 input w0 left written s line' n'
 at_other R quits s0 input w0 left written s line line' n n' at e f =
-    record { bytes = at.bytes; count = at.count ∙ f; parts = at.parts; text = at.text; answered = at.answered; grown = at.grown; begun = e
-    ∙ at.begun; quiet = at.quiet }
+    record {
+      bytes = at.bytes;
+      count = at.count ∙ f;
+      parts = at.parts;
+      text = at.text;
+      answered = at.answered;
+      grown = at.grown;
+      begun = e
+          ∙ at.begun;
+      quiet = at.quiet;
+    }
 
 module _ {S : Type 0} (R : Replying S) (quits : List ℕ → Bool)
     (long_replies : (s : S) (line text : List ℕ) (next : S) → R s (take 1025 line) text next → R s line text next)
     (long_quits : (line : List ℕ) → quits (take 1025 line) ≡ quits line) (s0 : S) (input w0 : Option (List ℕ)) where
   pub at_start : At R quits s0 input w0 input w0 s0 [] 0
   unfolding cut
-  at_start = record { bytes = []; count = refl; parts = Consumes-nil input; text = []; answered = answered-nil R s0; grown =
-      Appends-nil w0; begun = refl; quiet = some_quits-nil quits }
+  at_start = record {
+    bytes = [];
+    count = refl;
+    parts = Consumes-nil input;
+    text = [];
+    answered = answered-nil R s0;
+    grown =
+        Appends-nil w0;
+    begun = refl;
+    quiet = some_quits-nil quits;
+  }
 
   module _ (left left' written : Option (List ℕ)) (s : S) (line : List ℕ) (n : ℕ) (at : At R quits s0 input w0 left written s line n) where
     -- a byte that is no line feed
@@ -79,13 +97,23 @@ module _ {S : Type 0} (R : Replying S) (quits : List ℕ → Bool)
 
     fed_wrote : (next : S) (written' : Option (List ℕ)) → Replied R s line next written written'
         → Wrote R s0 ((cut at.bytes).whole ++ (cut at.bytes).rest ∷ []) w0 written'
-    fed_wrote next written' p = record { text = at.text ++ p.text; last = next; answered = fed p.text next p.is; grown =
-        Appends-trans w0 written written' at.text p.text at.grown p.grown }
+    fed_wrote next written' p = record {
+      text = at.text ++ p.text;
+      last = next;
+      answered = fed p.text next p.is;
+      grown =
+          Appends-trans w0 written written' at.text p.text at.grown p.grown;
+    }
 
     fed_prefix : (written' : Option (List ℕ)) → RepliedPrefix R s line written written'
         → WrotePrefix R s0 ((cut at.bytes).whole ++ (cut at.bytes).rest ∷ []) w0 written'
-    fed_prefix written' p = record { text = at.text ++ p.text; last = p.next; answered = fed p.text p.next p.is; grown =
-        prefix_after w0 written written' at.text p.text at.grown p.grown }
+    fed_prefix written' p = record {
+      text = at.text ++ p.text;
+      last = p.next;
+      answered = fed p.text p.next p.is;
+      grown =
+          prefix_after w0 written written' at.text p.text at.grown p.grown;
+    }
 
     -- a line feed, whose line was answered and doesn't quit
     pub at_feed : (written' : Option (List ℕ)) (s' : S) → Consumes left left' (10 ∷ []) → Replied R s line s' written written'
@@ -126,7 +154,7 @@ module _ {S : Type 0} (R : Replying S) (quits : List ℕ → Bool)
       quit_known next written' took p q = consumed_any input left' (at.bytes ++ 10 ∷ []) (LeadsTo R quits s0 limit (Ok Quit) w0 written')
           (Consumes-trans input left left' at.bytes (10 ∷ []) at.parts took)
           (λ (r : List ℕ). subst (LeadsTo R quits s0 limit (Ok Quit) w0 written') (sym (append_assoc at.bytes (10 ∷ []) r))
-              (leads_quit R quits s0 limit w0 written' at.bytes at.quiet r short (sym same_quits ∙ q) (fed_wrote next written' p)))
+          (leads_quit R quits s0 limit w0 written' at.bytes at.quiet r short (sym same_quits ∙ q) (fed_wrote next written' p)))
 
       -- the writer failed in the answer to a line whose line feed came
       pub feed_failed : (written' : Option (List ℕ)) → Consumes left left' (10 ∷ []) → RepliedPrefix R s line written written'
@@ -136,7 +164,7 @@ module _ {S : Type 0} (R : Replying S) (quits : List ℕ → Bool)
       feed_failed written' took p =
           let k = cut-feed at.bytes [] in
           let lines : lines_of (at.bytes ++ 10 ∷ []) ≡ (cut at.bytes).whole ++ (cut at.bytes).rest ∷ [] =
-              ap (λ (c : Cut). c.whole ++ last_line c.rest) k ∙ append-nil ((cut at.bytes).whole ++ (cut at.bytes).rest ∷ []) in
+          ap (λ (c : Cut). c.whole ++ last_line c.rest) k ∙ append-nil ((cut at.bytes).whole ++ (cut at.bytes).rest ∷ []) in
           let none : (cut (at.bytes ++ 10 ∷ [])).rest ≡ [] = ap (λ (c : Cut). c.rest) k in
           let P : List (List ℕ) → Type 0 = λ x. WrotePrefix R s0 x w0 written' in
           record {
@@ -170,16 +198,26 @@ module _ {S : Type 0} (R : Replying S) (quits : List ℕ → Bool)
       all text last done =
           let P : List ℕ → Type 0 = λ l. Answered R s (last_line l) text last in
           answered-append R s0 (cut at.bytes).whole (last_line (cut at.bytes).rest) at.text text s last at.answered
-              (answered_prefix R long_replies s (cut at.bytes).rest text last (subst P at.begun done))
+          (answered_prefix R long_replies s (cut at.bytes).rest text last (subst P at.begun done))
 
       all_wrote : (written' : Option (List ℕ)) → Wrote R s (last_line line) written written' → Wrote R s0 (lines_of at.bytes) w0 written'
-      all_wrote written' p = record { text = at.text ++ p.text; last = p.last; answered = all p.text p.last p.answered; grown =
-          Appends-trans w0 written written' at.text p.text at.grown p.grown }
+      all_wrote written' p = record {
+        text = at.text ++ p.text;
+        last = p.last;
+        answered = all p.text p.last p.answered;
+        grown =
+            Appends-trans w0 written written' at.text p.text at.grown p.grown;
+      }
 
       all_prefix : (written' : Option (List ℕ)) → WrotePrefix R s (last_line line) written written'
           → WrotePrefix R s0 (lines_of at.bytes) w0 written'
-      all_prefix written' p = record { text = at.text ++ p.text; last = p.last; answered = all p.text p.last p.answered; grown =
-          prefix_after w0 written written' at.text p.text at.grown p.grown }
+      all_prefix written' p = record {
+        text = at.text ++ p.text;
+        last = p.last;
+        answered = all p.text p.last p.answered;
+        grown =
+            prefix_after w0 written written' at.text p.text at.grown p.grown;
+      }
 
       module _ (took : Consumes left left' []) where
         ended_bytes : Consumes input left' at.bytes
@@ -193,8 +231,13 @@ module _ {S : Type 0} (R : Replying S) (quits : List ℕ → Bool)
 
         pub end_ended : (e : Served) (written' : Option (List ℕ)) → Wrote R s (last_line line) written written'
             → e ≡ served_after (some_quits quits (last_line line)) → Reads limit input left' (LeadsTo R quits s0 limit (Ok e) w0 written')
-        end_ended e written' p served = record { consumed = at.bytes; taken = ended_bytes; within = omega (arith, at.count); holds =
-            end_leads e written' p served }
+        end_ended e written' p served = record {
+          consumed = at.bytes;
+          taken = ended_bytes;
+          within = omega (arith, at.count);
+          holds =
+              end_leads e written' p served;
+        }
 
         pub end_known : (e : Served) (written' : Option (List ℕ)) → IsAtEnd left' → Wrote R s (last_line line) written written'
             → e ≡ served_after (some_quits quits (last_line line)) → IfSome input (LeadsTo R quits s0 limit (Ok e) w0 written')

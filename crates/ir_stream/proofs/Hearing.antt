@@ -38,9 +38,11 @@ take_past limit bytes left h =
 heard_feed_by : (limit : ℕ) (bytes left : List ℕ) → length bytes < limit → (b : Bool)
     → (more : List (List ℕ)) × (cond b (lines_of (bytes ++ 10 ∷ left)) (cut (take limit (bytes ++ 10 ∷ left))).whole ≡ (cut bytes).whole ++
     (cut bytes).rest ∷ more)
-heard_feed_by limit bytes left h true =
-    (lines_of left, ap (λ (c : Cut). c.whole ++ last_line c.rest) (cut-feed bytes left)
-        ∙ append_assoc (cut bytes).whole ((cut bytes).rest ∷ (cut left).whole) (last_line (cut left).rest))
+heard_feed_by limit bytes left h true = (
+  lines_of left,
+  ap (λ (c : Cut). c.whole ++ last_line c.rest) (cut-feed bytes left)
+      ∙ append_assoc (cut bytes).whole ((cut bytes).rest ∷ (cut left).whole) (last_line (cut left).rest),
+)
 heard_feed_by limit bytes left h false =
     let more = take (limit - length bytes - 1) left in
     ((cut more).whole, ap (λ (i : List ℕ). (cut i).whole) (take_past limit bytes left h) ∙ ap (λ (c : Cut). c.whole) (cut-feed bytes more))
@@ -69,7 +71,7 @@ module _ {S : Type 0} (R : Replying S) (quits : List ℕ → Bool) (s : S) (limi
   leads_quit left below q wrote =
       let f = heard_feed limit bytes left below in
       let some : some_quits quits (heard limit (bytes ++ 10 ∷ left)) ≡ true = ap (some_quits quits) f.1
-          ∙ some_quits-append quits (cut bytes).whole ((cut bytes).rest ∷ f.0) quiet ∙ some_quits-first quits (cut bytes).rest f.0 q in
+      ∙ some_quits-append quits (cut bytes).whole ((cut bytes).rest ∷ f.0) quiet ∙ some_quits-first quits (cut bytes).rest f.0 q in
       let same : through quits (heard limit (bytes ++ 10 ∷ left)) ≡ (cut bytes).whole ++ (cut bytes).rest ∷ [] =
       ap (through quits) f.1 ∙ through-append quits (cut bytes).whole ((cut bytes).rest ∷ f.0) quiet
       ∙ ap (λ (t : List (List ℕ)). (cut bytes).whole ++ t) (through-first quits (cut bytes).rest f.0 q) in
@@ -85,7 +87,7 @@ module _ {S : Type 0} (R : Replying S) (quits : List ℕ → Bool) (s : S) (limi
   leads_end e below served wrote =
       let f = heard_short limit bytes below in
       let some : some_quits quits (heard limit bytes) ≡ some_quits quits (last_line (cut bytes).rest) = ap (some_quits quits) f
-          ∙ some_quits-append quits (cut bytes).whole (last_line (cut bytes).rest) quiet in
+      ∙ some_quits-append quits (cut bytes).whole (last_line (cut bytes).rest) quiet in
       let same : through quits (heard limit bytes) ≡ (cut bytes).whole ++ last_line (cut bytes).rest =
       ap (through quits) f ∙ through-append quits (cut bytes).whole (last_line (cut bytes).rest) quiet
       ∙ ap (λ (t : List (List ℕ)). (cut bytes).whole ++ t) (through-last quits (cut bytes).rest) in

@@ -54,14 +54,24 @@ wrote_none R s (b ∷ r) w e = absurd cc
 pub wrote_some : {S : Type 0} (R : Replying S) (s next : S) (r : List ℕ) (old new : Option (List ℕ)) → (r ≡ [] → ⊥)
     → Replied R s r next old new → Wrote R s (last_line r) old new
 wrote_some R s next [] old new some p = absurd (some refl)
-wrote_some R s next (b ∷ r) old new some p = record { text = p.text; last = next; answered =
-    answered-one R s (b ∷ r) p.text next p.is; grown = p.grown }
+wrote_some R s next (b ∷ r) old new some p = record {
+  text = p.text;
+  last = next;
+  answered =
+      answered-one R s (b ∷ r) p.text next p.is;
+  grown = p.grown;
+}
 
 pub prefix_some : {S : Type 0} (R : Replying S) (s : S) (r : List ℕ) (old new : Option (List ℕ)) → (r ≡ [] → ⊥)
     → RepliedPrefix R s r old new → WrotePrefix R s (last_line r) old new
 prefix_some R s [] old new some p = absurd (some refl)
-prefix_some R s (b ∷ r) old new some p = record { text = p.text; last = p.next; answered =
-    answered-one R s (b ∷ r) p.text p.next p.is; grown = p.grown }
+prefix_some R s (b ∷ r) old new some p = record {
+  text = p.text;
+  last = p.next;
+  answered =
+      answered-one R s (b ∷ r) p.text p.next p.is;
+  grown = p.grown;
+}
 
 one_prefix : {S : Type 0} (R : Replying S) (long : (s : S) (line text : List ℕ) (next : S) → R s (take 1025 line) text next
     → R s line text next)

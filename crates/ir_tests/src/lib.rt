@@ -4,8 +4,6 @@
 #[cfg(test)]
 mod counting;
 #[cfg(test)]
-mod ends;
-#[cfg(test)]
 mod guests;
 mod laws;
 #[cfg(test)]

@@ -117,8 +117,16 @@ fn a_recording_of_each_guest_fits_and_replays(rt: HostRuntime) -> Result<(), Fai
     for guest in &GUESTS {
         let (by_threads, _outputs) = recorded(&rt, rt.alloc(), guest.source)?;
         let end = last(rt.alloc(), &by_threads)?;
-        assert!(rt; is_same(&rt, rt.alloc(), &by_threads, &end)?, "{}", guest.name);
-        for order in [[].as_slice(), [0, 1, 0, 1].as_slice(), [1, 1, 1, 0, 2, 7].as_slice()] {
+        assert!(rt;
+            is_same(&rt, rt.alloc(), &by_threads, &end)?,
+            "{}",
+            guest.name
+        );
+        for order in [
+            [].as_slice(),
+            [0, 1, 0, 1].as_slice(),
+            [1, 1, 1, 0, 2, 7].as_slice(),
+        ] {
             let fitted = recorded_in_order(rt.alloc(), guest.source, order)?;
             let end = last(rt.alloc(), &fitted)?;
             assert!(rt; is_same(&rt, rt.alloc(), &fitted, &end)?, "{}", guest.name);

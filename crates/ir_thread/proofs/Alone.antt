@@ -32,4 +32,4 @@ pub alone : (code : List ℕ) (s : State) (replies : List Reply) → AllSuit cod
 alone code s [] ok = refl
 alone code s (r ∷ rs) ok =
     ap (λ next. option_and_then (lone_run code (length rs)) (lone_after code s next)) (reply_alone (ask_of code s) r (values_of rs) ok.0)
-        ∙ alone code (after_reply code s r) rs ok.1
+    ∙ alone code (after_reply code s r) rs ok.1

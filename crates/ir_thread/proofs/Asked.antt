@@ -97,7 +97,7 @@ ask_permits code s = by s.ended refl
     by None is = cond_both (nat_le s.budget s.steps) (ask.End end.BudgetSpent) (outcome_ask (outcome_of code s.core) s) (Permits s)
         (λ _. is)
         (λ more. goes_on s (outcome_of code s.core)
-            (record { lives = is; has_budget = let l : s.steps < s.budget = grind (arith, nat_tests) in l }))
+        (record { lives = is; has_budget = let l : s.steps < s.budget = grind (arith, nat_tests) in l }))
 
 pub asked_permits : (code : List ℕ) (s : State) (q : Ask) → q ≡ ask_of code s → Permits s q
 asked_permits code s q is = subst (Permits s) (sym is) (ask_permits code s)

@@ -14,8 +14,17 @@ use Rattle.ir_thread.specs.declared.ask.Reply.TheVariants.{Go}
 
 -- the thread with another machine and so many steps more
 abbrev pub advanced : State → Core → ℕ → State
-advanced s core n = record { core = core; number = s.number; held = s.held; budget = s.budget; steps = s.steps + n; events =
-    s.events; output = s.output; ended = s.ended }
+advanced s core n = record {
+  core = core;
+  number = s.number;
+  held = s.held;
+  budget = s.budget;
+  steps = s.steps + n;
+  events =
+      s.events;
+  output = s.output;
+  ended = s.ended;
+}
 
 asks : (code : List ℕ) (s : State) (earlier core : Core) (n : ℕ) → s.ended ≡ None → s.steps + n < s.budget
     → outcome_of code earlier ≡ Goes core → ask_of code (advanced s earlier n) ≡ ask.Private
@@ -44,7 +53,7 @@ one_more : (code : List ℕ) (s : State) (earlier core : Core) (n : ℕ) → s.e
 unfolding run_of
 one_more code s earlier core n running lt goes before =
     let here : ask_of code (run_of code n s) ≡ ask.Private = ap (λ t. ask_of code t) before.ends
-        ∙ asks code s earlier core n running lt goes in
+    ∙ asks code s earlier core n running lt goes in
     record {
       ends = ap (λ t. step_of code t) before.ends ∙ takes code s earlier core n running lt goes
           ∙ ap (λ (m : ℕ). advanced s core m) (add-one n);
@@ -61,7 +70,7 @@ runs code s zero core running le e =
 runs code s (suc n) core running le e =
     option_and_then_some (λ earlier. core_of (outcome_of code earlier)) (machine_after n code s.core) core e
     (λ earlier g k. one_more code s earlier core n running (omega arith) (goes_of (outcome_of code earlier) core k)
-        (runs code s n earlier running (omega arith) g))
+    (runs code s n earlier running (omega arith) g))
 
 -- the thread that has taken no step
 pub none_taken : (code : List ℕ) (s : State) → PrivateSteps code 0 s s
@@ -93,7 +102,7 @@ then_others code first more s middle t before after = record {
         let split : first + (k - first) ≡ k = omega (arith, past) in
         let there : run_of code k s ≡ run_of code (k - first) middle =
         ap (λ (n : ℕ). run_of code n s) (sym split) ∙ run_together code first (k - first) s
-            ∙ ap (λ m. run_of code (k - first) m) (sym before.steps) in
+        ∙ ap (λ m. run_of code (k - first) m) (sym before.steps) in
         ap (λ u. ask_of code u) there ∙ after.each (k - first) (omega (arith, past, below))
 
 -- a private step more

@@ -70,13 +70,17 @@ same_threads law (x ∷ xs) [] n h = absurd (omega (arith, n))
 same_threads law (x ∷ xs) (y ∷ ys) n h =
     let first : x ≡ y = same_thread law x y (h.steps zero) (h.logs zero) (h.ends zero) in
     let others : xs ≡ ys = same_threads law xs ys (omega (arith, n))
-        (record { steps = λ t. h.steps (suc t); logs = λ t. h.logs (suc t); ends = λ t. h.ends (suc t) }) in
+    (record { steps = λ t. h.steps (suc t); logs = λ t. h.logs (suc t); ends = λ t. h.ends (suc t) }) in
     ap (λ (k : RecordedThread). k ∷ xs) first ∙ ap (λ (k : List RecordedThread). y ∷ k) others
 
 pub told_apart_by : OneLabelEach → (a b : Recorded) → a.objects ≡ b.objects → a.budget ≡ b.budget → length a.threads ≡ length b.threads
     → trace_of a ≡ trace_of b → a ≡ b
 told_apart_by law a b o n l e =
     let threads = same_threads law a.threads b.threads l
-        (record { steps = λ t. ap (λ (x : Trace). x.steps t) e; logs = λ t. ap (λ (x : Trace). x.logs t) e; ends =
-        λ t. ap (λ (x : Trace). x.ends t) e }) in
+    (record {
+      steps = λ t. ap (λ (x : Trace). x.steps t) e;
+      logs = λ t. ap (λ (x : Trace). x.logs t) e;
+      ends =
+          λ t. ap (λ (x : Trace). x.ends t) e;
+    }) in
     λ i. record { objects = o i; budget = n i; threads = threads i }

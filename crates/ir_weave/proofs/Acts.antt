@@ -52,8 +52,8 @@ caught : (k : Plan) (x : State (Unit {0}) View) (h : Woven k x) (id : ℕ) (q : 
 caught k x h id q y at ahead =
     let own = (h.tracks id (q ∷ []) at).0 in
     catch_up (trace_in k) h.state q.thread y h.run h.flat h.at own.there ahead.at
-        (subst (λ i. AreAlone (trace_in k) q.thread i y.steps) (sym own.position) ahead.alone)
-        (subst (λ i. i ≤ y.steps) (sym own.position) ahead.past)
+    (subst (λ i. AreAlone (trace_in k) q.thread i y.steps) (sym own.position) ahead.alone)
+    (subst (λ i. i ≤ y.steps) (sym own.position) ahead.past)
 
 there : (k : Plan) (x : State (Unit {0}) View) (h : Woven k x) (id : ℕ) (q : Progress) (y : thread.State)
     → get_elem? x.views id ≡ some (q ∷ []) → (cu : CaughtUp (trace_in k) h.state q.thread y) → q.thread < length cu.state.threads
@@ -117,7 +117,7 @@ one_word f fits =
     let left : word_of f / 2 ^ 8 % 2 ^ 24 ≡ f.left = omega (arith, a, b, c, d) in
     let inside : word_of f / 2 % 2 ^ 7 ≡ f.inside = omega (arith, a, b, c, d) in
     let writer : (word_of f % 2 == 1) ≡ f.writer =
-        low_bit f.writer (word_of f) (f.version * 2 ^ 31 + f.left * 2 ^ 7 + f.inside) (omega arith) in
+    low_bit f.writer (word_of f) (f.version * 2 ^ 31 + f.left * 2 ^ 7 + f.inside) (omega arith) in
     λ i. record { version = version i; left = left i; inside = inside i; writer = writer i }
 
 found_fields : (n : ℕ) (f : Fields) → IsFields f → n ≡ word_of f → fields_of n ≡ f
@@ -137,22 +137,22 @@ looks_at slots id o a e y q c ahead inside entering x h homes at small =
     let l : o < length h.state.objects = (let e' = h.at.objects in omega (arith, e', inside)) in
     let here : positions cu.state t ≡ y.steps = ap (λ (z : thread.State). z.steps) cu.own in
     let same : fields_of n ≡ (cell_of cu.state o).fields =
-        found_fields n (cell_of h.state o).fields (cell_fits h.state o h.flat l) (h.table.heads o l)
-        ∙ ap (λ cs. (object_in cs o).fields) (sym cu.objects) in
+    found_fields n (cell_of h.state o).fields (cell_fits h.state o h.flat l) (h.table.heads o l)
+    ∙ ap (λ cs. (object_in cs o).fields) (sym cu.objects) in
     let ask : ask_of cu.state.code (thread_of cu.state t) ≡ Enter o a = asks_there f h.state t y (Enter o a) cu entering.asking.asks in
     let has : HasStep f t (positions cu.state t) =
-        has_there f h.state t y cu (subst (λ z. HasStep f z y.steps) ahead.number entering.asking.has) in
+    has_there f h.state t y cu (subst (λ z. HasStep f z y.steps) ahead.number entering.asking.has) in
     let own_event : slice_get (recorded_thread f.recorded t).events y.events ≡ Some e =
-        subst (λ z. slice_get (recorded_thread f.recorded z).events y.events ≡ Some e) ahead.number entering.event in
+    subst (λ z. slice_get (recorded_thread f.recorded z).events y.events ≡ Some e) ahead.number entering.event in
     let event : slice_get (recorded_thread f.recorded t).events (thread_of cu.state t).events ≡ Some e =
-        ap (λ (z : thread.State). slice_get (recorded_thread f.recorded t).events z.events) cu.own ∙ own_event in
+    ap (λ (z : thread.State). slice_get (recorded_thread f.recorded t).events z.events) cu.own ∙ own_event in
     let nexts : IsNextObject f t q.position y.steps = touches_next f t q.position y (Enter o a) ahead entering.asking.asks (λ b. b) in
     let told_event : IsEventAt f t y.steps e =
-        λ run of. ap (λ (z : thread.State). slice_get (recorded_thread f.recorded t).events z.events) (sym (ahead.at run of).1)
-        ∙ own_event in
+    λ run of. ap (λ (z : thread.State). slice_get (recorded_thread f.recorded t).events z.events) (sym (ahead.at run of).1)
+    ∙ own_event in
     let table : IsTable cu.state.objects (set x.words (word_place o) n) =
-        subst (λ cs. IsTable cs (set x.words (word_place o) n)) (sym cu.objects)
-        (same_words h.state.objects x.words (word_place o) h.table) in
+    subst (λ cs. IsTable cs (set x.words (word_place o) n)) (sym cu.objects)
+    (same_words h.state.objects x.words (word_place o) h.table) in
     elim (opens_or (record { fields = fields_of n; words = [] }) e) [
       | inl yes' ↦ (
         progress k t y.steps true ∷ [],
@@ -160,7 +160,7 @@ looks_at slots id o a e y q c ahead inside entering x h homes at small =
         tt,
         moves k x h id q at cu.state (further_by k x h id q y at ahead cu) y.steps here true
             (λ on. open_admitted f cu.state t o a e h.run cu.flat cu.at (there k x h id q y at cu) ask has event entering.suits
-                (opens_by (record { fields = fields_of n; words = [] }) (cell_of cu.state o) e same yes'))
+            (opens_by (record { fields = fields_of n; words = [] }) (cell_of cu.state o) e same yes'))
             (set x.words (word_place o) n) x.homes table,
         (y.steps, e, nexts, told_event, (λ b. refl), (λ no'. absurd (no' yes'))),
       )
@@ -206,10 +206,10 @@ answers : (f : FittedTrace) (s : Flat) (t : ℕ) (y : thread.State) (q : Ask) (c
     → ((o i : ℕ) → q ≡ Get o i → (n < 2 ^ 32) × (n ≡ slice_index (cell_of cu.state o).words i)) → Answers f t y.steps n
 answers f s t y q cu v n l g is found run of o i asks =
     let own : thread_of cu.state t ≡ thread_at f run t y.steps = (cu.at.each run of).threads t
-        ∙ ap (λ (z : thread.State). thread_at f run t z.steps) cu.own in
+    ∙ ap (λ (z : thread.State). thread_at f run t z.steps) cu.own in
     let get : q ≡ Get o i = sym is ∙ ap (ask_of f.guest.code) (sym cu.own ∙ own) ∙ asks in
     let more : positions (next cu.state t v q) t ≡ suc y.steps = g.own
-        ∙ (let e = ap (λ (z : thread.State). z.steps) cu.own in let r : positions cu.state t + 1 ≡ suc y.steps = omega (arith, e) in r) in (
+    ∙ (let e = ap (λ (z : thread.State). z.steps) cu.own in let r : positions cu.state t + 1 ≡ suc y.steps = omega (arith, e) in r) in (
       (found o i get).0,
       ap (thread_at f run t) (sym more) ∙ sym ((g.at.each run of).threads t) ∙ ap (λ z. thread_of (next cu.state t v z) t) get
           ∙ answered_get cu.state t v o i l
@@ -239,8 +239,13 @@ steps_on slots id word first second q c x h at y ahead asked touches is cu v g n
         own = (let a = (h.tracks id (q ∷ []) at).0.position in let b = ahead.past in omega (arith, own, before, a, b));
         others = λ u ne. g.others u ne ∙ cu.others u ne;
       }) (suc y.steps) (omega (arith, own, before)) false (λ on. absurd (cc on)) ws x.homes table,
-      (y.steps, touches_next f t q.position y asked ahead is touches, refl, answers f h.state t y asked cu v n (there k x h id q y at cu) g
-          is found),
+      (
+        y.steps,
+        touches_next f t q.position y asked ahead is touches,
+        refl,
+        answers f h.state t y asked cu v n (there k x h id q y at cu) g
+            is found,
+      ),
     )
 
 -- an entry that was granted
@@ -278,18 +283,18 @@ enters_at slots id o a y q c ahead inside is granted here x h homes at small =
     let m : o < length cu.state.objects = (let e = ap (λ (cs : List Cell). length cs) cu.objects in omega (arith, e, l)) in
     let still : positions cu.state t ≡ positions h.state t = ap (λ (z : thread.State). z.steps) cu.own ∙ sym here ∙ sym own.position in
     let ad : AdmittedAt f (positions cu.state) t =
-        λ run of. persists (machine_of f) (start_of f) run (positions h.state) (positions cu.state) t (own.granted granted run of)
-        (cu.at.each run of).consistent (up f h.state cu.state t (further_by q.plan x h id q y at ahead cu)) still in
+    λ run of. persists (machine_of f) (start_of f) run (positions h.state) (positions cu.state) t (own.granted granted run of)
+    (cu.at.each run of).consistent (up f h.state cu.state t (further_by q.plan x h id q y at ahead cu)) still in
     let goes = admitted_on f cu.state t (Enter o a) h.run cu.flat cu.at (there q.plan x h id q y at cu)
-        (sym (asks_there f h.state t y (Enter o a) cu is)) ad in
+    (sym (asks_there f h.state t y (Enter o a) cu is)) ad in
     let found : n ≡ word_of (cell_of cu.state o).fields = h.table.heads o l ∙ ap (λ cs. word_of (object_in cs o).fields) (sym cu.objects) in
     let table : IsTable cu.state.objects x.words = subst (λ cs. IsTable cs x.words) (sym cu.objects) h.table in
     let ws : List ℕ = set x.words (word_place o) ((n + added a) % 2 ^ 64) in
     let made = steps_on slots id (word_place o) (added a) 0 q c x h at y ahead (Enter o a) (λ b. b) is cu goes.0 goes.1 n
-        (never_get o a n cu.state) ws
+    (never_get o a n cu.state) ws
     (head_changes cu.state.objects x.words o ((n + added a) % 2 ^ 64)
-        (record (cell_of cu.state o) { fields = entered a (cell_of cu.state o).fields }) table m
-        (entered_word n a cu.state o cu.flat m found goes.1.may) refl) in
+    (record (cell_of cu.state o) { fields = entered a (cell_of cu.state o).fields }) table m
+    (entered_word n a cu.state o cu.flat m found goes.1.may) refl) in
     (made.0, keeps, tt, made.1, made.2)
 
 -- ---- leaves, and words of contents
@@ -327,14 +332,14 @@ left_reading_at slots id o y q c ahead inside is has x h homes at small =
     let found : n ≡ word_of (cell_of cu.state o).fields = h.table.heads o l ∙ ap (λ cs. word_of (object_in cs o).fields) (sym cu.objects) in
     let table : IsTable cu.state.objects x.words = subst (λ cs. IsTable cs x.words) (sym cu.objects) h.table in
     let allowed : 0 < (cell_of cu.state o).fields.inside =
-        leave_allowed cu.state t o Reading cu.flat (there q.plan x h id q y at cu) m (leaves_holding cu.state t o Reading ask) in
+    leave_allowed cu.state t o Reading cu.flat (there q.plan x h id q y at cu) m (leaves_holding cu.state t o Reading ask) in
     let fits = word_small (left_by Reading (cell_of cu.state o).fields) (leave_fits cu.state o Reading cu.flat m) in
     let less : word_of (left_by Reading (cell_of cu.state o).fields) ≡ word_of (cell_of cu.state o).fields + 254 = omega (arith, allowed) in
     let sum : (n + 254) % 2 ^ 64 ≡ word_of (left_by Reading (cell_of cu.state o).fields) = omega (arith, found, less, fits) in
     let made = steps_on slots id (word_place o) 254 0 q c x h at y ahead (Leave o Reading) (λ b. b) is cu goes.0 goes.1 n
-        (λ p i e. absurd (cc e)) (set x.words (word_place o) ((n + 254) % 2 ^ 64))
+    (λ p i e. absurd (cc e)) (set x.words (word_place o) ((n + 254) % 2 ^ 64))
     (head_changes cu.state.objects x.words o ((n + 254) % 2 ^ 64)
-        (record (cell_of cu.state o) { fields = left_by Reading (cell_of cu.state o).fields }) table m sum refl) in
+    (record (cell_of cu.state o) { fields = left_by Reading (cell_of cu.state o).fields }) table m sum refl) in
     (made.0, keeps, tt, made.1, made.2)
 
 -- what a writer's leave tells
@@ -344,7 +349,7 @@ leave_tells : (f : FittedTrace) (s : Flat) (t o : ℕ) → IsStateAt f (position
 leave_tells f s t o at is ad run of =
     let some = (cut_at f run of (positions s) (at.each run of).cut (at.each run of).consistent).steps t (ad run of) in
     let told_is : label (machine_of f) (end (machine_of f) (start_of f) (part run (positions s))) (t, some.0) ≡ Out o Writing
-        (cell_of s o).fields.version =
+    (cell_of s o).fields.version =
     ap (λ z. label (machine_of f) z (t, some.0)) (sym (tables_at f (positions s) s run of (at.each run of)))
     ∙ ap (λ a. told (act_of (shared_ask a) some.0) ((tables s).objects (target (act_of (shared_ask a) some.0))))
     (ap (λ code. ask_of code (thread_of s t)) (sym at.code) ∙ is) in
@@ -369,13 +374,13 @@ versions_at slots id o y q c ahead inside is has x h homes at small =
     let l : o < length h.state.objects = (let e = h.at.objects in omega (arith, e, inside)) in
     let ask = asks_there f h.state t y (Leave o Writing) cu is in
     let same : fields_of n ≡ (cell_of cu.state o).fields =
-        found_fields n (cell_of h.state o).fields (cell_fits h.state o h.flat l) (h.table.heads o l)
-        ∙ ap (λ cs. (object_in cs o).fields) (sym cu.objects) in
+    found_fields n (cell_of h.state o).fields (cell_fits h.state o h.flat l) (h.table.heads o l)
+    ∙ ap (λ cs. (object_in cs o).fields) (sym cu.objects) in
     let tells = leave_tells f cu.state t o cu.at ask
-        (free_admitted f cu.state t cu.at (has_there f h.state t y cu has) (λ p a e. cc (sym ask ∙ e))) in
+    (free_admitted f cu.state t cu.at (has_there f h.state t y cu has) (λ p a e. cc (sym ask ∙ e))) in
     let kept : Woven q.plan (record { words = set x.words (word_place o) n; homes = x.homes; views = set x.views id (q ∷ []) }) =
     subst (λ (z : List ℕ × List View). Woven q.plan (record { words = z.0; homes = x.homes; views = z.1 }))
-        (λ i. (sym (set-get_or x.words (word_place o) 0) i, sym (set_again x.views id (q ∷ []) at) i)) h in (
+    (λ i. (sym (set-get_or x.words (word_place o) 0) i, sym (set_again x.views id (q ∷ []) at) i)) h in (
       q ∷ [],
       keeps,
       tt,
@@ -389,7 +394,7 @@ versions_at slots id o y q c ahead inside is has x h homes at small =
             let o_is : o ≡ p = omega (arith, word) in
             let v_is : (cell_of cu.state o).fields.version ≡ n / 2 ^ 32 = ap (λ (z : Fields). z.version) (sym same) in
             subst (λ (z : ℕ × ℕ × ℕ). Tells (machine_of f) (start_of f) run t z.0 (Out z.1 Writing z.2))
-                (λ i. (ap (λ (z : thread.State). z.steps) cu.own i, o_is i, v_is i)) (tells run of)),
+            (λ i. (ap (λ (z : thread.State). z.steps) cu.own i, o_is i, v_is i)) (tells run of)),
       ),
     )
 
@@ -411,21 +416,21 @@ left_writing_at slots id o v y q c ahead inside is has tells x h homes at small 
     let goes = free_goes q.plan x h id q y at cu (Leave o Writing) (λ p b e. cc e) is has in
     let ask = asks_there f h.state t y (Leave o Writing) cu is in
     let own = leave_tells f cu.state t o cu.at ask
-        (free_admitted f cu.state t cu.at (has_there f h.state t y cu has) (λ p a e. cc (sym ask ∙ e))) h.run.run h.run.whole in
+    (free_admitted f cu.state t cu.at (has_there f h.state t y cu has) (λ p a e. cc (sym ask ∙ e))) h.run.run h.run.whole in
     let mine : Tells (machine_of f) (start_of f) h.run.run t y.steps (Out o Writing (cell_of cu.state o).fields.version) =
-        subst (λ z. Tells (machine_of f) (start_of f) h.run.run t z (Out o Writing (cell_of cu.state o).fields.version))
-        (ap (λ (z : thread.State). z.steps) cu.own) own in
+    subst (λ z. Tells (machine_of f) (start_of f) h.run.run t z (Out o Writing (cell_of cu.state o).fields.version))
+    (ap (λ (z : thread.State). z.steps) cu.own) own in
     let told' = tells h.run.run h.run.whole in
     let labels : Out o Writing v ≡ Out o Writing (cell_of cu.state o).fields.version =
-        ap (λ z. z.1) (same_label (trail (machine_of f) (start_of f) h.run.run t) y.steps (told'.0, Out o Writing v)
-        (mine.0, Out o Writing (cell_of cu.state o).fields.version) told'.1 mine.1) in
+    ap (λ z. z.1) (same_label (trail (machine_of f) (start_of f) h.run.run t) y.steps (told'.0, Out o Writing v)
+    (mine.0, Out o Writing (cell_of cu.state o).fields.version) told'.1 mine.1) in
     let version : v ≡ (cell_of cu.state o).fields.version = cc labels in
     let table : IsTable cu.state.objects x.words = subst (λ cs. IsTable cs x.words) (sym cu.objects) h.table in
     let word : w ≡ word_of (left_by Writing (cell_of cu.state o).fields) = omega (arith, version) in
     let made = steps_on slots id (word_place o) w 0 q c x h at y ahead (Leave o Writing) (λ b. b) is cu goes.0 goes.1 w
-        (λ p i e. absurd (cc e)) (set x.words (word_place o) w)
+    (λ p i e. absurd (cc e)) (set x.words (word_place o) w)
     (head_changes cu.state.objects x.words o w (record (cell_of cu.state o) { fields = left_by Writing (cell_of cu.state o).fields }) table
-        m word refl) in
+    m word refl) in
     (made.0, keeps, tt, made.1, made.2)
 
 pub gets_at : (slots id o i : ℕ) (y : thread.State) (q : Progress) (c : List (ℕ × Unit {0}))
@@ -442,13 +447,16 @@ gets_at slots id o i y q c ahead inside few is has x h homes at small =
     let l : o < length h.state.objects = (let e = h.at.objects in omega (arith, e, inside)) in
     let goes = free_goes q.plan x h id q y at cu (Get o i) (λ p b e. cc e) is has in
     let found : n ≡ slice_index (cell_of cu.state o).words i = h.table.places o i l few
-        ∙ ap (λ cs. slice_index (object_in cs o).words i) (sym cu.objects) in
+    ∙ ap (λ cs. slice_index (object_in cs o).words i) (sym cu.objects) in
     let table : IsTable cu.state.objects (set x.words (content_place o i) n) =
-        subst (λ cs. IsTable cs (set x.words (content_place o i) n)) (sym cu.objects)
-        (same_words h.state.objects x.words (content_place o i) h.table) in
+    subst (λ cs. IsTable cs (set x.words (content_place o i) n)) (sym cu.objects)
+    (same_words h.state.objects x.words (content_place o i) h.table) in
     let made = steps_on slots id (content_place o i) 0 0 q c x h at y ahead (Get o i) (λ b. b) is cu goes.0 goes.1 n
-    (λ p j e. (subst (λ z. z < 2 ^ 32) (sym (h.table.places o i l few)) (h.table.small o i), found
-        ∙ (λ z. slice_index (cell_of cu.state (get_object (e z))).words (get_index (e z))))) (set x.words (content_place o i) n) table in
+    (λ p j e. (
+      subst (λ z. z < 2 ^ 32) (sym (h.table.places o i l few)) (h.table.small o i),
+      found
+          ∙ (λ z. slice_index (cell_of cu.state (get_object (e z))).words (get_index (e z))),
+    )) (set x.words (content_place o i) n) table in
     (made.0, keeps, tt, made.1, made.2)
   where
     get_object : Ask → ℕ
@@ -474,7 +482,7 @@ puts_at slots id o i v y q c value ahead inside few is has x h homes at small =
     let goes = free_goes q.plan x h id q y at cu (Put o i v) (λ p b e. cc e) is has in
     let table : IsTable cu.state.objects x.words = subst (λ cs. IsTable cs x.words) (sym cu.objects) h.table in
     let made = steps_on slots id (content_place o i) v 0 q c x h at y ahead (Put o i v) (λ b. b) is cu goes.0 goes.1 v
-        (λ p j e. absurd (cc e)) (set x.words (content_place o i) v)
+    (λ p j e. absurd (cc e)) (set x.words (content_place o i) v)
     (place_changes cu.state.objects x.words o i v (record (cell_of cu.state o) { words = set (cell_of cu.state o).words i v }) table m few
-        value (cu.flat.objects o m).words refl refl) in
+    value (cu.flat.objects o m).words refl refl) in
     (made.0, keeps, tt, made.1, made.2)

@@ -92,7 +92,7 @@ pub log_behind : (f : FittedTrace) (p : Cut) (s : Flat) (run : List Step) → Is
     → t < length f.guest.entries → log_ahead f.recorded s t ≡ behind f run p t
 log_behind f p s run is at t l =
     ap (λ n. drop n (map label_of (recorded_thread f.recorded t).events))
-        (ap (λ z. (z.now t).events) (tables_at f p s run is at) ∙ events_counted f (part run p) (sorted f run is p at.consistent).ok t)
+    (ap (λ z. (z.now t).events) (tables_at f p s run is at) ∙ events_counted f (part run p) (sorted f run is p at.consistent).ok t)
     ∙ ap (drop (length (log (machine_of f) (start_of f) (part run p) t))) (sym (is.1.logs t l) ∙ sym (log_parts f run is p at.consistent t))
     ∙ drop-append_seam (log (machine_of f) (start_of f) (part run p) t) (behind f run p t)
 
@@ -135,6 +135,8 @@ admitted_next f s state run is t l ad =
     let told : Label = label (machine_of f) (end (machine_of f) (start_of f) (part run (positions s))) (t, next.0) in
     let first : log_ahead f.recorded s t ≡ logged told (events (drop (suc (positions s t)) (trail (machine_of f) (start_of f) run t))) =
     log_behind f (positions s) s run is at t l
-        ∙ ap events (drop_at (trail (machine_of f) (start_of f) run t) (positions s t) (next.3.0, told) next.3.1) in
-    (next.0, back f (positions s) s run is state.code at (CanLog t next.0 (log_ahead f.recorded s t))
-        (next.1, ap (λ es. logged told (unlogged told es)) first ∙ logged_back told _ ∙ sym first))
+    ∙ ap events (drop_at (trail (machine_of f) (start_of f) run t) (positions s t) (next.3.0, told) next.3.1) in (
+      next.0,
+      back f (positions s) s run is state.code at (CanLog t next.0 (log_ahead f.recorded s t))
+          (next.1, ap (λ es. logged told (unlogged told es)) first ∙ logged_back told _ ∙ sym first),
+    )

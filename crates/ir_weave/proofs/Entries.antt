@@ -36,14 +36,14 @@ pub open_admitted : (f : FittedTrace) (s : Flat) (t o : ℕ) (a : Access) (e : E
     → AdmittedAt f (positions s) t
 open_admitted f s t o a e h flat at l is has event suits opens run of =
     let g : Goes f s t 0 (Enter o a) = logs_on f s t 0 (Enter o a) flat at l (sym is) has
-        (entry_next f.recorded s t o a e flat l is (left_ahead f s t h at l has) event suits opens) in (
+    (entry_next f.recorded s t o a e flat l is (left_ahead f s t h at l has) event suits opens) in (
       has run of,
       consistent_same (machine_of f) (start_of f) run (positions (next s t 0 (Enter o a))) (further (positions s) t)
           (λ u. elim (cases_eq u t) [
-        | inl same ↦ subst (λ z. positions (next s t 0 (Enter o a)) z ≡ further (positions s) t z) (sym same)
-            (let b = further_here (positions s) t in let c = g.own in omega (arith, b, c))
-        | inr ne ↦ g.others u ne ∙ sym (further_there (positions s) t u ne)
-      ]) (g.at.each run of).consistent,
+            | inl same ↦ subst (λ z. positions (next s t 0 (Enter o a)) z ≡ further (positions s) t z) (sym same)
+                (let b = further_here (positions s) t in let c = g.own in omega (arith, b, c))
+            | inr ne ↦ g.others u ne ∙ sym (further_there (positions s) t u ne)
+          ]) (g.at.each run of).consistent,
     )
 
 pub shut_stopped : (f : FittedTrace) (s : Flat) (t o : ℕ) (a : Access) (e : Event) → HasRun f → IsFlat s → IsStateAt f (positions s) s
@@ -80,6 +80,9 @@ opens_or c (Write object version readers) = elim (cases_eq c.fields.version vers
 pub opens_by : (c d : Cell) (e : Event) → c.fields ≡ d.fields → IsOpen c e → IsOpen d e
 opens_by c d (Answer kind value) same h = h
 opens_by c d (Read object version) same h = (sym (ap (λ z. z.version) same) ∙ h.0, sym (ap (λ z. z.writer) same) ∙ h.1)
-opens_by c d (Write object version readers) same h =
-    (sym (ap (λ z. z.version) same) ∙ h.0, sym (ap (λ z. z.left) same)
-    ∙ h.1, (sym (ap (λ z. z.writer) same) ∙ h.2.0, sym (ap (λ z. z.inside) same) ∙ h.2.1))
+opens_by c d (Write object version readers) same h = (
+  sym (ap (λ z. z.version) same) ∙ h.0,
+  sym (ap (λ z. z.left) same)
+      ∙ h.1,
+  (sym (ap (λ z. z.writer) same) ∙ h.2.0, sym (ap (λ z. z.inside) same) ∙ h.2.1),
+)

@@ -77,7 +77,7 @@ logs_on f s t v q flat at l is has logs =
               ends = taken;
               logs = one_logs (machine_in s) (tables s) t v (behind f run (positions s))
                   (subst (λ es. logged (label (machine_in s) (tables s) (t, v)) (unlogged (label (machine_in s) (tables s) (t, v)) es) ≡ es)
-                      (log_behind f (positions s) s run of (at.each run of) t (guest_thread f s t at l)) logs.1);
+                  (log_behind f (positions s) s run of (at.each run of) t (guest_thread f s t at l)) logs.1);
             });
       };
       own = own;
@@ -153,9 +153,9 @@ free_admitted f s t at has ne run of = (
         → Tells (machine_of f) (start_of f) run u k a → Needs b a → ⊥
     last run of u k w j a b same here ha need =
         let z : StepOf (machine_of f) (th (machine_of f) (start_of f) run u k) (th (machine_of f) (start_of f) run u (suc k)) a =
-            step_at (machine_of f) (start_of f) run of.1.runs u k a ha in
+        step_at (machine_of f) (start_of f) run of.1.runs u k a ha in
         let asks : ask_of f.guest.code (th (machine_of f) (start_of f) run u k) ≡ ask_of s.code (thread_of s t) =
-            ap (λ i. ask_at f run u i) here ∙ ap (λ i. ask_at f run i (positions s i)) same ∙ sym (asks_so f s t run at of) in
+        ap (λ i. ask_at f run u i) here ∙ ap (λ i. ask_at f run i (positions s i)) same ∙ sym (asks_so f s t run at of) in
         needs_none b (shared_ask (ask_of f.guest.code (th (machine_of f) (start_of f) run u k))) z.result z.object
         (shared_enter (ask_of f.guest.code (th (machine_of f) (start_of f) run u k)) (λ o c e. ne o c (sym asks ∙ e)))
         (shared_try (ask_of f.guest.code (th (machine_of f) (start_of f) run u k)))
@@ -203,7 +203,7 @@ climb zero f s t i x h flat at l there alone past sum =
 climb (suc n) f s t i x h flat at l there alone past sum =
     let q : Ask = ask_of s.code (thread_of s t) in
     let own : IsAlone q = subst IsAlone (sym (asks_so f s t h.run at h.whole))
-        (alone h.run h.whole (positions s t) past (omega (arith, sum))) in
+    (alone h.run h.whole (positions s t) past (omega (arith, sum))) in
     let has : HasStep f t (positions s t) = λ run of. (let within = (there run of).0 in omega (arith, within, sum)) in
     let goes = admitted_on f s t q h flat at l refl (free_admitted f s t at has (alone_enter q own)) in
     let new : Flat = next s t goes.0 q in
@@ -211,7 +211,7 @@ climb (suc n) f s t i x h flat at l there alone past sum =
     let more = g.own in
     let size : length new.threads ≡ length s.threads = thread_count s t goes.0 q in
     let rest : CaughtUp f new t x = climb n f new t i x h g.flat g.at (omega (arith, l, size)) there alone (omega (arith, more, past))
-        (omega (arith, more, sum)) in
+    (omega (arith, more, sum)) in
     record {
       state = rest.state;
       flat = rest.flat;

@@ -80,18 +80,18 @@ counted f run of t zero l = ap (λ (z : thread.State). z.events) (first_thread (
 counted f run of t (suc k) l =
     let at = step_there f run t k l in
     let z : StepOf (machine_of f) (thread_at f run t k) (thread_at f run t (suc k)) at.0 =
-        step_at (machine_of f) (start_of f) run of.1.runs t k at.0 at.1 in
+    step_at (machine_of f) (start_of f) run of.1.runs t k at.0 at.1 in
     let q : Ask = ask_at f run t k in
     let more : (thread_at f run t (suc k)).events ≡ (thread_at f run t k).events + added q = ap (λ (x : thread.State). x.events) z.next
-        ∙ events_next f.guest.code (thread_at f run t k) (reply (act_of (shared_ask q) z.result) z.object) in
+    ∙ events_next f.guest.code (thread_at f run t k) (reply (act_of (shared_ask q) z.result) z.object) in
     let one : length (logged at.0 []) ≡ added q = ap (λ a. length (logged a [])) z.tells ∙ told_count q z.result z.object in
     let before = counted f run of t k (omega (arith, l)) in
     let parts : events (take (suc k) (trail (machine_of f) (start_of f) run t)) ≡ events (take k (trail (machine_of f) (start_of f) run t))
-        ++ logged at.0 [] =
+    ++ logged at.0 [] =
     ap events (take_at (trail (machine_of f) (start_of f) run t) k (at.1.0, at.0) at.1.1)
-        ∙ events_append (take k (trail (machine_of f) (start_of f) run t)) ((at.1.0, at.0) ∷ []) in
+    ∙ events_append (take k (trail (machine_of f) (start_of f) run t)) ((at.1.0, at.0) ∷ []) in
     let sum = ap (λ (es : List Label). length es) parts
-        ∙ length-append (events (take k (trail (machine_of f) (start_of f) run t))) (logged at.0 []) in
+    ∙ length-append (events (take k (trail (machine_of f) (start_of f) run t))) (logged at.0 []) in
     omega (arith, more, one, before, sum)
 
 -- the trace's log behind it
@@ -135,11 +135,11 @@ event_there f run of t k l within one =
     let at = step_there f run t k within in
     let xs = trail (machine_of f) (start_of f) run t in
     let z : StepOf (machine_of f) (thread_at f run t k) (thread_at f run t (suc k)) at.0 =
-        step_at (machine_of f) (start_of f) run of.1.runs t k at.0 at.1 in
+    step_at (machine_of f) (start_of f) run of.1.runs t k at.0 at.1 in
     let es : List Label = events (drop (suc k) xs) in
     let first : drop (thread_at f run t k).events (map label_of (recorded_thread f.recorded t).events) ≡ at.0 ∷ es =
     log_left f run of t k l (omega (arith, within)) ∙ ap events (drop_at xs k (at.1.0, at.0) at.1.1) ∙ ap (λ a. logged a es) z.tells
-        ∙ logs_itself (ask_at f run t k) z.result z.object es one ∙ ap (λ a. a ∷ es) (sym z.tells) in
+    ∙ logs_itself (ask_at f run t k) z.result z.object es one ∙ ap (λ a. a ∷ es) (sym z.tells) in
     let found = first_label (recorded_thread f.recorded t).events (thread_at f run t k).events at.0 es first in
     (found.0, found.1, subst (Tells (machine_of f) (start_of f) run t k) (sym found.2) at.1)
 
@@ -169,10 +169,10 @@ pub next_go : (f : FittedTrace) (run : List Step) → IsRunOf f.guest f.recorded
 next_go f run of t k q l is go =
     let at = step_there f run t k l in
     let z : StepOf (machine_of f) (thread_at f run t k) (thread_at f run t (suc k)) at.0 =
-        step_at (machine_of f) (start_of f) run of.1.runs t k at.0 at.1 in
+    step_at (machine_of f) (start_of f) run of.1.runs t k at.0 at.1 in
     let n : ℕ = reply (act_of (shared_ask (ask_at f run t k)) z.result) z.object in
     z.next ∙ taken f.guest.code (thread_at f run t k) n ∙ ap (λ a. after_ask f.guest.code (thread_at f run t k) a (reply_of a n)) is
-        ∙ ap (after_ask f.guest.code (thread_at f run t k) q) (goes_on q go n)
+    ∙ ap (after_ask f.guest.code (thread_at f run t k) q) (goes_on q go n)
 
 told_answer : (kind : EnvKind) (r : ℕ) (b : Object) (j : EnvKind) (v : ℕ) → told (act_of (shared_ask (Env kind)) r) b ≡ Answer j v → r ≡ v
 told_answer kind r b j v h = cc h
@@ -186,9 +186,9 @@ next_answer f run of t k kind j v l within is event =
     let found = event_there f run of t k l within (ap added is) in
     let same : found.0 ≡ Answered j v = cc (found.1, event) in
     let z : StepOf (machine_of f) (thread_at f run t k) (thread_at f run t (suc k)) (label_of found.0) =
-        step_at (machine_of f) (start_of f) run of.1.runs t k (label_of found.0) found.2 in
+    step_at (machine_of f) (start_of f) run of.1.runs t k (label_of found.0) found.2 in
     let tells : told (act_of (shared_ask (Env kind)) z.result) z.object ≡ Answer j v =
-        ap (λ a. told (act_of (shared_ask a) z.result) z.object) (sym is) ∙ sym z.tells ∙ ap label_of same in
+    ap (λ a. told (act_of (shared_ask a) z.result) z.object) (sym is) ∙ sym z.tells ∙ ap label_of same in
     let r : z.result ≡ v = told_answer kind z.result z.object j v tells in
     z.next ∙ taken f.guest.code (thread_at f run t k) (reply (act_of (shared_ask (ask_at f run t k)) z.result) z.object)
     ∙ ap (λ a. after_ask f.guest.code (thread_at f run t k) a (reply_of a (reply (act_of (shared_ask a) z.result) z.object))) is
@@ -232,9 +232,11 @@ pub record Takes (f : FittedTrace) (t : ℕ) (x : thread.State) (q : Ask) (r : R
 thread_then : (f : FittedTrace) (t : ℕ) (x : thread.State) (q : Ask) (r : Reply) → IsThreadAt f t x → Takes f t x q r
     → IsThreadAt f t (after_ask f.guest.code x q r)
 thread_then f t x q r at k run of =
-    let more = more_steps f.guest.code x q r k.step in
-    ((let a = k.has run of in omega (arith, more, a)), ap (λ z. after_ask f.guest.code z q r) (at run of).1 ∙ sym (k.next run of)
-        ∙ ap (thread_at f run t) (let e : suc x.steps ≡ (after_ask f.guest.code x q r).steps = omega (arith, more) in e))
+    let more = more_steps f.guest.code x q r k.step in (
+      (let a = k.has run of in omega (arith, more, a)),
+      ap (λ z. after_ask f.guest.code z q r) (at run of).1 ∙ sym (k.next run of)
+          ∙ ap (thread_at f run t) (let e : suc x.steps ≡ (after_ask f.guest.code x q r).steps = omega (arith, more) in e),
+    )
 
 -- ahead by one step more that touches no object
 pub ahead_alone : (f : FittedTrace) (t i : ℕ) (x : thread.State) (q : Ask) (r : Reply) → IsAhead f t i x → Takes f t x q r → IsAlone q
@@ -312,5 +314,5 @@ never_done f t i x ahead has is =
     let of = ahead.run.whole in
     let at = step_there f run t x.steps (has run of) in
     let z : StepOf (machine_of f) (thread_at f run t x.steps) (thread_at f run t (suc x.steps)) at.0 =
-        step_at (machine_of f) (start_of f) run of.1.runs t x.steps at.0 at.1 in
+    step_at (machine_of f) (start_of f) run of.1.runs t x.steps at.0 at.1 in
     subst (λ q. Admits (machine_of f) (act_of (shared_ask q) z.result) z.object) (asks_in f t i x Done run of ahead is) z.can

@@ -27,10 +27,10 @@ at_end : (f : FittedTrace) (s : Flat) (run prefix : List Step) → IsRunOf f.gue
     → IsAt f (positions s) s run
 at_end f s run prefix is ok left logs ends within =
     let counted : (t : ℕ) → count (machine_of f) (start_of f) prefix t ≡ positions s t =
-        λ t. sym (ap (λ z. (z.now t).steps) ends ∙ steps_counted f prefix ok t) in
+    λ t. sym (ap (λ z. (z.now t).steps) ends ∙ steps_counted f prefix ok t) in
     let at : IsPrefix (machine_of f) (start_of f) run prefix (positions s) =
-        prefix_at (machine_of f) (law f) (start_of f) (good f) run prefix is.1.runs ok left logs
-        (λ t. subst (λ n. n ≤ count (machine_of f) (start_of f) run t) (sym (counted t)) (within t)) (positions s) counted in
+    prefix_at (machine_of f) (law f) (start_of f) (good f) run prefix is.1.runs ok left logs
+    (λ t. subst (λ n. n ≤ count (machine_of f) (start_of f) run t) (sym (counted t)) (within t)) (positions s) counted in
     at_tables f (positions s) s run is at.cut at.consistent (ends ∙ at.same_end)
 
 -- ---- the start
@@ -47,7 +47,7 @@ starts_at f s same = subst (IsStateAt f (λ t. 0)) (sym same) (record {
   each = λ run is.
       subst (λ p. IsAt f p (start_flat f.guest f.recorded.budget) run) (λ i t. none_taken f t i)
       (at_end f (start_flat f.guest f.recorded.budget) run [] is tt (log (machine_of f) (start_of f) run) (λ t. refl)
-          refl (λ t. let none = none_taken f t in omega (arith, none)));
+      refl (λ t. let none = none_taken f t in omega (arith, none)));
 })
 
 -- ---- further steps
@@ -64,10 +64,10 @@ pub leads_at : (f : FittedTrace) (s new : Flat) (run more : List Step) → IsRun
     → Leads more (tables new) (behind f run (positions s)) (machine s) (tables s) → IsAt f (positions new) new run
 leads_at f s new run more is code at within leads =
     let k : Leads more (tables new) (behind f run (positions s)) (machine_of f) (end (machine_of f) (start_of f) (part run (positions s))) =
-        there f (positions s) s run is code at (Leads more (tables new) (behind f run (positions s))) leads in
+    there f (positions s) s run is code at (Leads more (tables new) (behind f run (positions s))) leads in
     at_end f new run (part run (positions s) ++ more) is
-        (run_append (machine_of f) (start_of f) (part run (positions s)) more (sorted f run is (positions s) at.consistent).ok k.runs)
-        (λ t. (k.logs t).0)
+    (run_append (machine_of f) (start_of f) (part run (positions s)) more (sorted f run is (positions s) at.consistent).ok k.runs)
+    (λ t. (k.logs t).0)
     (λ t. ap (λ z. z ++ (k.logs t).0) (log_append (machine_of f) (start_of f) (part run (positions s)) more t)
     ∙ append_assoc (log (machine_of f) (start_of f) (part run (positions s)) t)
     (log (machine_of f) (end (machine_of f) (start_of f) (part run (positions s))) more t) (k.logs t).0
@@ -107,9 +107,11 @@ pub one_logs : {T : Type 0} (m : Machine T) (s : State T) (t v : ℕ) (left : �
     → logged (label m s (t, v)) (unlogged (label m s (t, v)) (left t)) ≡ left t → (u : ℕ) → (rest : List Label)
     × (log m s ((t, v) ∷ []) u ++ rest ≡ left u)
 one_logs m s t v left own u = elim (cases_eq u t) [
-  | inl same ↦ subst (λ w. (rest : List Label) × (log m s ((t, v) ∷ []) w ++ rest ≡ left w)) (sym same)
-      (unlogged (label m s (t, v)) (left t), ap (λ z. events z ++ unlogged (label m s (t, v)) (left t)) (trail_same m s (t, v) [])
-          ∙ logged_any (label m s (t, v)) (unlogged (label m s (t, v)) (left t)) ∙ own)
+  | inl same ↦ subst (λ w. (rest : List Label) × (log m s ((t, v) ∷ []) w ++ rest ≡ left w)) (sym same) (
+    unlogged (label m s (t, v)) (left t),
+    ap (λ z. events z ++ unlogged (label m s (t, v)) (left t)) (trail_same m s (t, v) [])
+        ∙ logged_any (label m s (t, v)) (unlogged (label m s (t, v)) (left t)) ∙ own,
+  )
   | inr other ↦ (left u, ap (λ z. events z ++ left u) (trail_other m s (t, v) [] u other))
 ]
 
@@ -153,7 +155,7 @@ stepped f target s new t v aim under there_is before next taken code threads obj
             ends = taken;
             logs = one_logs (machine s) (tables s) t v (behind f run (positions s))
                 (subst (λ es. logged (label (machine s) (tables s) (t, v)) (unlogged (label (machine s) (tables s) (t, v)) es) ≡ es)
-                    (log_behind f (positions s) s run is (under.state.each run is) t (subst (λ n. t < n) aim.size there_is)) next.1);
+                (log_behind f (positions s) s run is (under.state.each run is) t (subst (λ n. t < n) aim.size there_is)) next.1);
           });
       gone = record { own = own; others = others };
     }
@@ -192,7 +194,7 @@ pub alone_under : (f : FittedTrace) (target : List ℕ) (s new : Flat) (t n : �
 alone_under f target s new t n aim under few w =
     leads_under f target s new (replicate n (t, 0)) aim under w.code w.threads w.objects
     (below_still target s new t under.below (let own = alone_own s new t n w in let b = under.below t in omega (arith, own, few, b))
-        (alone_others s new t n w))
+    (alone_others s new t n w))
     (λ run is. record {
       runs = w.runs;
       ends = w.ends;

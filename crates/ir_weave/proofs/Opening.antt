@@ -29,8 +29,17 @@ use Rattle.ir_weave.specs.declared.plan.Plan.{Plan}
 
 tracks_fit : (k : Plan) (u m : ℕ) → u + m ≤ length k.opened.value.threads → AreTracks k (opened_in k) (λ _. 0) 0 (tracks_from k u m)
 tracks_fit k u zero le = tt
-tracks_fit k u (suc m) le = (record { plan = refl; there = omega (arith, le); mine = refl; position = refl; granted =
-    λ on. absurd (cc on) }, tracks_fit k (suc u) m (omega (arith, le)))
+tracks_fit k u (suc m) le = (
+  record {
+    plan = refl;
+    there = omega (arith, le);
+    mine = refl;
+    position = refl;
+    granted =
+        λ on. absurd (cc on);
+  },
+  tracks_fit k (suc u) m (omega (arith, le)),
+)
 
 pub opens : (k : Plan) (ws : List ℕ) → HasRun (trace_in k) → IsFlat (opened_in k) → IsStateAt (trace_in k) (opened_at k) (opened_in k)
     → IsTable k.opened.value.objects ws → Woven k (opening ws [] (tracks_from k 0 (length k.opened.value.threads)))
@@ -57,7 +66,7 @@ pub opens_for : (k : Plan) (f : FittedTrace) (s : Standing) (ws : List ℕ) → 
     → Woven k (opening ws [] (tracks_from k 0 (length k.opened.value.threads)))
 opens_for k f s ws for is run stands table =
     let both : StandsAt (trace_in k) (positions (flat_in (trace_in k) k.opened.value)) k.opened.value =
-        subst (λ (z : FittedTrace × Standing). StandsAt z.0 (positions (flat_in z.0 z.1)) z.1) (λ i. (sym for i, sym is i)) stands in
+    subst (λ (z : FittedTrace × Standing). StandsAt z.0 (positions (flat_in z.0 z.1)) z.1) (λ i. (sym for i, sym is i)) stands in
     opens k ws (subst HasRun (sym for) run) both.flat both.at (subst (λ (z : Standing). IsTable z.objects ws) (sym is) table)
 
 -- ---- cutting off the first thread
@@ -66,8 +75,14 @@ later : (k : Plan) (s : Flat) (seat : ℕ → ℕ) (t new id u m : ℕ) → t < 
     → AreTracks k s (λ z. if z == t then new else seat z) id (tracks_from k u m)
 later k s seat t new id u zero lt h = tt
 later k s seat t new id u (suc m) lt h = (
-  record { plan = h.0.plan; there = h.0.there; mine = ap (λ (b : Bool). if b then new else seat u) (ne_eqb u t (λ e. omega (arith, e, lt)))
-      ∙ h.0.mine; position = h.0.position; granted = h.0.granted },
+  record {
+    plan = h.0.plan;
+    there = h.0.there;
+    mine = ap (λ (b : Bool). if b then new else seat u) (ne_eqb u t (λ e. omega (arith, e, lt)))
+        ∙ h.0.mine;
+    position = h.0.position;
+    granted = h.0.granted;
+  },
   later k s seat t new id (suc u) m (omega (arith, lt)) h.1,
 )
 
@@ -75,9 +90,15 @@ elsewhere : (k : Plan) (s : Flat) (seat : ℕ → ℕ) (t new j : ℕ) (v : View
     → AreTracks k s (λ z. if z == t then new else seat z) j v
 elsewhere k s seat t new j [] ne h = tt
 elsewhere k s seat t new j (q ∷ qs) ne h = (
-  record { plan = h.0.plan; there = h.0.there; mine =
-      ap (λ (b : Bool). if b then new else seat q.thread) (ne_eqb q.thread t (λ e. ne (ap seat (sym e) ∙ h.0.mine))) ∙ h.0.mine; position =
-      h.0.position; granted = h.0.granted },
+  record {
+    plan = h.0.plan;
+    there = h.0.there;
+    mine =
+        ap (λ (b : Bool). if b then new else seat q.thread) (ne_eqb q.thread t (λ e. ne (ap seat (sym e) ∙ h.0.mine))) ∙ h.0.mine;
+    position =
+        h.0.position;
+    granted = h.0.granted;
+  },
   elsewhere k s seat t new j qs ne h.1,
 )
 
@@ -95,8 +116,12 @@ splits k id t m v is x h at =
     let new : ℕ = length x.views in
     let seat' : ℕ → ℕ = λ z. if z == t then new else h.seat z in
     let wide : length (set x.views id (tracks_from k (suc t) m)) ≡ new = length-set x.views id (tracks_from k (suc t) m) in
-    let done : Woven k (record { words = x.words; homes = x.homes; views =
-        set x.views id (tracks_from k (suc t) m) ++ (progress k t (opened_at k t) false ∷ []) ∷ [] }) = record {
+    let done : Woven k (record {
+      words = x.words;
+      homes = x.homes;
+      views =
+          set x.views id (tracks_from k (suc t) m) ++ (progress k t (opened_at k t) false ∷ []) ∷ [];
+    }) = record {
       run = h.run;
       state = h.state;
       flat = h.flat;
@@ -109,14 +134,26 @@ splits k id t m v is x h at =
               (subst (AreTracks k h.state seat' id) r.1 (later k h.state h.seat t new id (suc t) m (omega arith) f.1))
           | inr r ↦ elsewhere k h.state h.seat t new j u (λ e'. r.0 (sym e' ∙ f.0.mine)) (h.tracks j u r.1)
         ]
-        | inr q ↦ subst (AreTracks k h.state seat' j) q.1
-            (record { plan = refl; there = f.0.there; mine = ap (λ (b : Bool). if b then new else h.seat t) (eq-eqb t t refl)
-                ∙ (sym wide ∙ sym q.0); position = f.0.position; granted = λ on. absurd (cc on) }, tt)
+        | inr q ↦ subst (AreTracks k h.state seat' j) q.1 (
+          record {
+            plan = refl;
+            there = f.0.there;
+            mine = ap (λ (b : Bool). if b then new else h.seat t) (eq-eqb t t refl)
+                ∙ (sym wide ∙ sym q.0);
+            position = f.0.position;
+            granted = λ on. absurd (cc on);
+          },
+          tt,
+        )
       ];
       table = h.table;
     } in
-    subst (λ (z : View). Woven k (record { words = x.words; homes = x.homes; views = set x.views id (all_but_first z) ++ first_alone z
-        ∷ [] })) (sym is) done
+    subst (λ (z : View). Woven k (record {
+      words = x.words;
+      homes = x.homes;
+      views = set x.views id (all_but_first z) ++ first_alone z
+          ∷ [];
+    })) (sym is) done
 
 -- ---- two seats become one
 
@@ -124,9 +161,15 @@ moved : (k : Plan) (s : Flat) (seat : ℕ → ℕ) (id other j : ℕ) (v : View)
     → AreTracks k s (λ u. if seat u == other then id else seat u) j v
 moved k s seat id other j [] ne h = tt
 moved k s seat id other j (q ∷ qs) ne h = (
-  record { plan = h.0.plan; there = h.0.there; mine =
-      ap (λ (b : Bool). if b then id else seat q.thread) (ne_eqb (seat q.thread) other (λ e. ne (sym h.0.mine ∙ e))) ∙ h.0.mine; position =
-      h.0.position; granted = h.0.granted },
+  record {
+    plan = h.0.plan;
+    there = h.0.there;
+    mine =
+        ap (λ (b : Bool). if b then id else seat q.thread) (ne_eqb (seat q.thread) other (λ e. ne (sym h.0.mine ∙ e))) ∙ h.0.mine;
+    position =
+        h.0.position;
+    granted = h.0.granted;
+  },
   moved k s seat id other j qs ne h.1,
 )
 
@@ -134,17 +177,25 @@ taken_in : (k : Plan) (s : Flat) (seat : ℕ → ℕ) (id other : ℕ) (v w : Vi
     → AreTracks k s (λ u. if seat u == other then id else seat u) id v → AreTracks k s seat other w
     → AreTracks k s (λ u. if seat u == other then id else seat u) id (v ++ w)
 taken_in k s seat id other [] [] f g = tt
-taken_in k s seat id other [] (q ∷ qs) f g =
-    (record { plan = g.0.plan; there = g.0.there; mine =
-        ap (λ (b : Bool). if b then id else seat q.thread) (eq-eqb (seat q.thread) other g.0.mine); position = g.0.position; granted =
-        g.0.granted }, taken_in k s seat id other [] qs tt g.1)
+taken_in k s seat id other [] (q ∷ qs) f g = (
+  record {
+    plan = g.0.plan;
+    there = g.0.there;
+    mine =
+        ap (λ (b : Bool). if b then id else seat q.thread) (eq-eqb (seat q.thread) other g.0.mine);
+    position = g.0.position;
+    granted =
+        g.0.granted;
+  },
+  taken_in k s seat id other [] qs tt g.1,
+)
 taken_in k s seat id other (q ∷ qs) w f g = (f.0, taken_in k s seat id other qs w f.1 g)
 
 pub joins : (k : Plan) (id other : ℕ) (v w : View) → Joins (Woven k) id v other w (v ++ w) []
 joins k id other v w x h at apart at' =
     let seat' : ℕ → ℕ = λ u. if h.seat u == other then id else h.seat u in
     let was : get_elem? x.views other ≡ some w =
-        elim (at_set x.views id other (v ++ w) w at') [ inl q ↦ absurd (apart q.0) | inr q ↦ q.1 ] in
+    elim (at_set x.views id other (v ++ w) w at') [ inl q ↦ absurd (apart q.0) | inr q ↦ q.1 ] in
     let mine : AreTracks k h.state seat' id v = moved k h.state h.seat id other id v (λ e. apart (sym e)) (h.tracks id v at) in record {
       run = h.run;
       state = h.state;
@@ -167,8 +218,14 @@ joins k id other v w x h at apart at' =
 
 pub seats-snoc : (id : TableId) (k : Plan) (t u : ℕ) (xs : List (Seat (Unit {0}) View)) (x : Seat (Unit {0}) View) → AreSeats id k t xs
     → u ≡ t + length xs → x.table_id ≡ id → x.me ≡ (progress k u (opened_at k u) false ∷ [], []) → AreSeats id k t (xs ++ x ∷ [])
-seats-snoc id k t u [] x h e i m = ((i, m ∙ (λ j.
-    (progress k ((let q : u ≡ t = omega (arith, e) in q) j) (opened_at k ((let q : u ≡ t = omega (arith, e) in q) j)) false ∷ [], []))), tt)
+seats-snoc id k t u [] x h e i m = (
+  (
+    i,
+    m ∙ (λ j.
+        (progress k ((let q : u ≡ t = omega (arith, e) in q) j) (opened_at k ((let q : u ≡ t = omega (arith, e) in q) j)) false ∷ [], [])),
+  ),
+  tt,
+)
 seats-snoc id k t u (y ∷ ys) x h e i m = (h.0, seats-snoc id k (suc t) u ys x h.1 (omega (arith, e)) i m)
 
 pub dealt : (k : Plan) (l m n : ℕ) (me w : M) → me ≡ (tracks_from k l (suc m), []) → w ≡ (all_but_first me.0, me.1) → n ≡ suc l
@@ -195,8 +252,15 @@ ends k id v ws xs f =
       table = subst (IsTable h.state.objects) f.2 h.table;
       eight = λ o l. (h.flat.objects o l).words;
       fits = λ o l. one_word (object_in h.state.objects o).fields (cell_fits h.state o h.flat l);
-      closed = record { state = h.state; flat = h.flat; at = h.at; above = h.above; view =
-          tracks_at k h.state h.seat id v (h.tracks id v f.1.1); objects = refl };
+      closed = record {
+        state = h.state;
+        flat = h.flat;
+        at = h.at;
+        above = h.above;
+        view =
+            tracks_at k h.state h.seat id v (h.tracks id v f.1.1);
+        objects = refl;
+      };
     }
 
 -- ---- laying the words
@@ -210,13 +274,13 @@ rem o r l = omega (arith, l)
 laid_at : (cells : List Cell) (o r : ℕ) → r < 24 → laid cells (8 + 24 * o + r) ≡ word_in (object_in cells o) r
 laid_at cells o r l =
     ap (λ (b : Bool). cond b 0 (word_in (object_in cells ((8 + 24 * o + r - 8) / 24)) ((8 + 24 * o + r - 8) % 24)))
-        (le-ltb (8 + 24 * o + r) 8 (omega arith))
+    (le-ltb (8 + 24 * o + r) 8 (omega arith))
     ∙ (λ i. word_in (object_in cells (quot o r l i)) (rem o r l i))
 
 content_at : (c : Cell) (i : ℕ) → i < 8 → word_in c (8 + i) ≡ get_or c.words i 0
 content_at c i l =
     ap (λ (b : Bool). cond b (word_of c.fields) (cond (ltb (8 + i) 8) 0 (cond (ltb (8 + i) 16) (get_or c.words (8 + i - 8) 0) 0)))
-        (ne_eqb (8 + i) 0 (λ e. omega (arith, e)))
+    (ne_eqb (8 + i) 0 (λ e. omega (arith, e)))
     ∙ ap (λ (b : Bool). cond b 0 (cond (ltb (8 + i) 16) (get_or c.words (8 + i - 8) 0) 0)) (le-ltb (8 + i) 8 (omega arith))
     ∙ ap (λ (b : Bool). cond b (get_or c.words (8 + i - 8) 0) 0) (lt-ltb (8 + i) 16 (omega (arith, l)))
     ∙ ap (λ n. get_or c.words n 0) (let e : 8 + i - 8 ≡ i = omega arith in e)
@@ -301,8 +365,8 @@ object_read cells ws o w xs c t l eight fits word read is =
     let long : length xs ≡ 8 = read.size in
     let fields : fields_of w ≡ (object_in cells o).fields = ap fields_of (word ∙ t.heads o l) ∙ fits in
     let words : xs ≡ (object_in cells o).words =
-        ext_get_or 0 xs (object_in cells o).words (long ∙ sym eight)
-        (λ i inside. read.each i (omega (arith, inside, long)) ∙ t.places o i l (omega (arith, inside, long))) in
+    ext_get_or 0 xs (object_in cells o).words (long ∙ sym eight)
+    (λ i inside. read.each i (omega (arith, inside, long)) ∙ t.places o i l (omega (arith, inside, long))) in
     is ∙ (λ i. record { fields = fields i; words = words i })
 
 -- the objects up to o are the table's
@@ -339,8 +403,12 @@ pub stands_first : (f : FittedTrace) (first : Flat) (s : Standing) → first ≡
     → s.threads ≡ first.threads → s.objects ≡ first.objects → StandsAt f (λ t. 0) s
 stands_first f first s is flat threads objects =
     let same : flat_in f s ≡ start_flat f.guest f.recorded.budget =
-        λ i. record { code = f.guest.code; threads = (threads ∙ ap (λ z. z.threads) is) i; objects =
-        (objects ∙ ap (λ z. z.objects) is) i } in
+    λ i. record {
+      code = f.guest.code;
+      threads = (threads ∙ ap (λ z. z.threads) is) i;
+      objects =
+          (objects ∙ ap (λ z. z.objects) is) i;
+    } in
     record { flat = subst IsFlat (is ∙ sym same) flat; at = starts_at f (flat_in f s) same }
 
 -- it stands at its own positions, below all others

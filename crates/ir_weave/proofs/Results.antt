@@ -30,9 +30,13 @@ logs_of r s t v h = (h.0, h.2)
 -- the other way round, where the step is no end
 follow_of : (r : Recorded) (s : Flat) (t v : ℕ) (q : Ask) → ask_of s.code (thread_of s t) ≡ q → end_asked q ≡ None → 0 < steps_ahead r s t
     → LogsNext r s t v → CanFollow r s t v
-follow_of r s t v q is none steps h =
-    (h.0, steps, h.1, subst (λ e. Meets e ((trace_of r).ends t) (held_count (thread_of s t).held) (steps_ahead r s t) (log_ahead r s t))
-        (sym (ends_asked s.code (thread_of s t) ∙ ap end_asked is ∙ none)) tt)
+follow_of r s t v q is none steps h = (
+  h.0,
+  steps,
+  h.1,
+  subst (λ e. Meets e ((trace_of r).ends t) (held_count (thread_of s t).held) (steps_ahead r s t) (log_ahead r s t))
+      (sym (ends_asked s.code (thread_of s t) ∙ ap end_asked is ∙ none)) tt,
+)
 
 -- ---- calls of the environment
 
@@ -46,7 +50,7 @@ pub call_none : (r : Recorded) (s : Flat) (t : ℕ) (kind : EnvKind) → ask_of 
     → LogsNext r s t v → ⊥
 call_none r s t kind is steps none v h =
     seen_stops r s t look.Disagrees (asks_env (ask_of s.code (thread_of s t)) kind is, call_disagrees r s t kind is none) (λ m e. cc e) v
-        (follow_of r s t v (Env kind) is refl steps h)
+    (follow_of r s t v (Env kind) is refl steps h)
 
 -- ---- entries
 
@@ -68,7 +72,7 @@ pub entry_none : (r : Recorded) (s : Flat) (t o : ℕ) (a : Access) → ask_of s
     → LogsNext r s t v → ⊥
 entry_none r s t o a is steps none v h =
     seen_stops r s t look.Disagrees (asks_entry (ask_of s.code (thread_of s t)) o a is, entry_disagrees r s t o a is none) (λ m e. cc e) v
-        (follow_of r s t v (Enter o a) is refl steps h)
+    (follow_of r s t v (Enter o a) is refl steps h)
 
 -- an object that is entered is one of the guest's
 pub object_there : (s : Flat) (t o : ℕ) (a : Access) (xs : List Cell) → IsFlat s → t < length s.threads

@@ -81,7 +81,7 @@ look_allows k slots id o a e x (q ∷ r ∷ qs, c) seated entering = absurd seat
 look_allows k slots id o a e x (q ∷ [], c) seated entering =
     let ent : IsEntering (trace_in q.plan) x o a e = there k q (λ f. IsEntering f x o a e) seated.0 entering in
     keyed k q (λ z. Allows (Woven z) slots id (q ∷ [], c) (word_place o) (λ n. n) (looked (step slots (word_place o) 0 0 none) (q ∷ [], c)))
-        seated.0
+    seated.0
     (looks_at slots id o a e x q c seated.1 (entered_inside (trace_in q.plan) q.thread q.position x o a seated.1 ent.asking.asks) ent)
 
 pub enter_allows : (k : Plan) (slots id o : ℕ) (a : Access) (x : thread.State) (me : M) → IsGranted k me.0 x
@@ -92,9 +92,9 @@ enter_allows k slots id o a x (q ∷ r ∷ qs, c) g asking = absurd g.seated
 enter_allows k slots id o a x (q ∷ [], c) g asking =
     let ask : IsAsking (trace_in q.plan) x (Enter o a) = there k q (λ f. IsAsking f x (Enter o a)) g.seated.0 asking in
     keyed k q (λ z. Allows (Woven z) slots id (q ∷ [], c) (word_place o) (λ n. (n + added a) % 2 ^ 64)
-        (stepped_on (step slots (word_place o) (added a) 0 none) (q ∷ [], c))) g.seated.0
+    (stepped_on (step slots (word_place o) (added a) 0 none) (q ∷ [], c))) g.seated.0
     (enters_at slots id o a x q c g.seated.1 (entered_inside (trace_in q.plan) q.thread q.position x o a g.seated.1 ask.asks) ask.asks
-        (ap first_granted g.view) (ap first_position g.view))
+    (ap first_granted g.view) (ap first_position g.view))
   where
     first_granted : View → Bool
     first_granted [] = true
@@ -112,9 +112,9 @@ read_leave_allows k slots id o x (q ∷ r ∷ qs, c) seated asking = absurd seat
 read_leave_allows k slots id o x (q ∷ [], c) seated asking =
     let ask : IsAsking (trace_in q.plan) x (Leave o Reading) = there k q (λ f. IsAsking f x (Leave o Reading)) seated.0 asking in
     keyed k q (λ z. Allows (Woven z) slots id (q ∷ [], c) (word_place o) (λ n. (n + 254) % 2 ^ 64)
-        (stepped_on (step slots (word_place o) 254 0 none) (q ∷ [], c))) seated.0
+    (stepped_on (step slots (word_place o) 254 0 none) (q ∷ [], c))) seated.0
     (left_reading_at slots id o x q c seated.1 (left_inside (trace_in q.plan) q.thread q.position x o Reading seated.1 ask.asks) ask.asks
-        (own_has (trace_in q.plan) q.thread q.position x seated.1 ask.has))
+    (own_has (trace_in q.plan) q.thread q.position x seated.1 ask.has))
 
 pub version_allows : (k : Plan) (slots id o : ℕ) (x : thread.State) (me : M) → IsSeated k me.0 x → IsAsking (trace_in k) x (Leave o Writing)
     → Allows (Woven k) slots id me (word_place o) (λ n. n) (read_version (step slots (word_place o) 0 0 none) me)
@@ -123,9 +123,9 @@ version_allows k slots id o x (q ∷ r ∷ qs, c) seated asking = absurd seated
 version_allows k slots id o x (q ∷ [], c) seated asking =
     let ask : IsAsking (trace_in q.plan) x (Leave o Writing) = there k q (λ f. IsAsking f x (Leave o Writing)) seated.0 asking in
     keyed k q (λ z. Allows (Woven z) slots id (q ∷ [], c) (word_place o) (λ n. n)
-        (read_version (step slots (word_place o) 0 0 none) (q ∷ [], c))) seated.0
+    (read_version (step slots (word_place o) 0 0 none) (q ∷ [], c))) seated.0
     (versions_at slots id o x q c seated.1 (left_inside (trace_in q.plan) q.thread q.position x o Writing seated.1 ask.asks) ask.asks
-        (own_has (trace_in q.plan) q.thread q.position x seated.1 ask.has))
+    (own_has (trace_in q.plan) q.thread q.position x seated.1 ask.has))
 
 pub write_leave_allows : (k : Plan) (slots id o v : ℕ) (x : thread.State) (me : M) → IsSeated k me.0 x
     → IsAsking (trace_in k) x (Leave o Writing)
@@ -137,14 +137,14 @@ write_leave_allows k slots id o v x (q ∷ r ∷ qs, c) seated asking tells = ab
 write_leave_allows k slots id o v x (q ∷ [], c) seated asking tells =
     let ask : IsAsking (trace_in q.plan) x (Leave o Writing) = there k q (λ f. IsAsking f x (Leave o Writing)) seated.0 asking in
     let told : EachRun (trace_in q.plan) (λ run. Tells (machine_of (trace_in q.plan)) (start_of (trace_in q.plan)) run q.thread x.steps
-        (Out o Writing v)) =
+    (Out o Writing v)) =
     subst (λ z. EachRun (trace_in q.plan) (λ run. Tells (machine_of (trace_in q.plan)) (start_of (trace_in q.plan)) run z x.steps
-        (Out o Writing v))) seated.1.number
+    (Out o Writing v))) seated.1.number
     (there k q (λ f. EachRun f (λ run. Tells (machine_of f) (start_of f) run x.number x.steps (Out o Writing v))) seated.0 tells) in
     keyed k q (λ z. Allows (Woven z) slots id (q ∷ [], c) (word_place o) (λ _. (v + 1) * 2 ^ 32)
-        (λ _. stepped_on (step slots (word_place o) ((v + 1) * 2 ^ 32) 0 none) (q ∷ [], c) ((v + 1) * 2 ^ 32))) seated.0
+    (λ _. stepped_on (step slots (word_place o) ((v + 1) * 2 ^ 32) 0 none) (q ∷ [], c) ((v + 1) * 2 ^ 32))) seated.0
     (left_writing_at slots id o v x q c seated.1 (left_inside (trace_in q.plan) q.thread q.position x o Writing seated.1 ask.asks) ask.asks
-        (own_has (trace_in q.plan) q.thread q.position x seated.1 ask.has) told)
+    (own_has (trace_in q.plan) q.thread q.position x seated.1 ask.has) told)
 
 pub get_allows : (k : Plan) (slots id o i : ℕ) (x : thread.State) (me : M) → IsSeated k me.0 x → IsAsking (trace_in k) x (Get o i)
     → Allows (Woven k) slots id me (content_place o i) (λ n. n) (stepped_on (step slots (content_place o i) 0 0 none) me)
@@ -154,7 +154,7 @@ get_allows k slots id o i x (q ∷ [], c) seated asking =
     let ask : IsAsking (trace_in q.plan) x (Get o i) = there k q (λ f. IsAsking f x (Get o i)) seated.0 asking in
     let inside = read_inside (trace_in q.plan) q.thread q.position x o i seated.1 ask.asks in
     keyed k q (λ z. Allows (Woven z) slots id (q ∷ [], c) (content_place o i) (λ n. n)
-        (stepped_on (step slots (content_place o i) 0 0 none) (q ∷ [], c))) seated.0
+    (stepped_on (step slots (content_place o i) 0 0 none) (q ∷ [], c))) seated.0
     (gets_at slots id o i x q c seated.1 inside.0 inside.1 ask.asks (own_has (trace_in q.plan) q.thread q.position x seated.1 ask.has))
 
 pub put_allows : (k : Plan) (slots id o i v : ℕ) (x : thread.State) (me : M) → v < 2 ^ 32 → IsSeated k me.0 x
@@ -166,9 +166,9 @@ put_allows k slots id o i v x (q ∷ [], c) value seated asking =
     let ask : IsAsking (trace_in q.plan) x (Put o i v) = there k q (λ f. IsAsking f x (Put o i v)) seated.0 asking in
     let inside = put_inside (trace_in q.plan) q.thread q.position x o i v seated.1 ask.asks in
     keyed k q (λ z. Allows (Woven z) slots id (q ∷ [], c) (content_place o i) (λ _. v)
-        (λ _. stepped_on (step slots (content_place o i) v 0 none) (q ∷ [], c) v)) seated.0
+    (λ _. stepped_on (step slots (content_place o i) v 0 none) (q ∷ [], c) v)) seated.0
     (puts_at slots id o i v x q c value seated.1 inside.0 inside.1 ask.asks
-        (own_has (trace_in q.plan) q.thread q.position x seated.1 ask.has))
+    (own_has (trace_in q.plan) q.thread q.position x seated.1 ask.has))
 
 -- ---- what it is told
 
@@ -197,7 +197,7 @@ step_told k x asked (q ∷ [], c) w n seated is touches told =
     let f : FittedTrace = trace_in q.plan in
     let ask : ask_of f.guest.code x ≡ asked = there k q (λ f. ask_of f.guest.code x ≡ asked) seated.0 is in
     let here : told.0 ≡ x.steps = one_next f q.thread q.position told.0 x.steps seated.1.run told.1
-        (touches_next f q.thread q.position x asked seated.1 ask touches) in record {
+    (touches_next f q.thread q.position x asked seated.1 ask touches) in record {
       view = told.2 ∙ (λ i. (same_view k q x (suc told.0) (suc x.steps) false seated.0 seated.1.number (ap suc here) i, c));
       answers = subst (λ (z : Plan × ℕ × ℕ). Answers (trace_in z.0) z.1 z.2 n) (λ i. (seated.0 i, sym seated.1.number i, here i)) told.3;
     }
@@ -215,10 +215,10 @@ look_told k x o a e (q ∷ [], c) w n seated entering told =
     let f : FittedTrace = trace_in q.plan in
     let ent : IsEntering f x o a e = there k q (λ f. IsEntering f x o a e) seated.0 entering in
     let here : told.0 ≡ x.steps = one_next f q.thread q.position told.0 x.steps seated.1.run told.2
-        (touches_next f q.thread q.position x (Enter o a) seated.1 ent.asking.asks (λ b. b)) in
+    (touches_next f q.thread q.position x (Enter o a) seated.1 ent.asking.asks (λ b. b)) in
     let event : told.1 ≡ e =
     same_event (recorded_thread f.recorded q.thread).events (thread_at f seated.1.run.run q.thread told.0).events told.1 e
-        (told.3 seated.1.run.run seated.1.run.whole)
+    (told.3 seated.1.run.run seated.1.run.whole)
     (ap (λ i. slice_get (recorded_thread f.recorded q.thread).events (thread_at f seated.1.run.run q.thread i).events) here
     ∙ ap (λ (z : thread.State). slice_get (recorded_thread f.recorded q.thread).events z.events)
     (sym (seated.1.at seated.1.run.run seated.1.run.whole).1)
@@ -226,9 +226,10 @@ look_told k x o a e (q ∷ [], c) w n seated entering told =
       opened = λ on. told.4 (subst (Opens n) (sym event) on)
           ∙ (λ i. (same_view k q x told.0 x.steps true seated.0 seated.1.number here i, c));
       shut = λ off.
-          let z = told.5 (λ on. off (subst (Opens n) event on)) in
-          (z.0 ∙ (λ i. (same_view k q x told.0 x.steps false seated.0 seated.1.number here i, c)),
-              subst (λ (z : Plan × ℕ × ℕ). WasStopped z.0 z.1 z.2) (λ i. (seated.0 i, sym seated.1.number i, here i)) z.1);
+          let z = told.5 (λ on. off (subst (Opens n) event on)) in (
+            z.0 ∙ (λ i. (same_view k q x told.0 x.steps false seated.0 seated.1.number here i, c)),
+            subst (λ (z : Plan × ℕ × ℕ). WasStopped z.0 z.1 z.2) (λ i. (seated.0 i, sym seated.1.number i, here i)) z.1,
+          );
     }
   where
     same_event : (es : List Event) (i : ℕ) (a b : Event) → slice_get es i ≡ Some a → slice_get es i ≡ Some b → a ≡ b
@@ -249,10 +250,10 @@ version_told k o x (q ∷ [], c) w n seated asking told =
     let f : FittedTrace = trace_in q.plan in
     let ask : IsAsking f x (Leave o Writing) = there k q (λ f. IsAsking f x (Leave o Writing)) seated.0 asking in
     let here : told.0 ≡ x.steps = one_next f q.thread q.position told.0 x.steps seated.1.run told.1
-        (touches_next f q.thread q.position x (Leave o Writing) seated.1 ask.asks (λ b. b)) in
+    (touches_next f q.thread q.position x (Leave o Writing) seated.1 ask.asks (λ b. b)) in
     let all : EachRun f (λ run. Tells (machine_of f) (start_of f) run q.thread told.0 (Out o Writing (n / 2 ^ 32))) =
-        λ run of. told.4 run of o refl (ap (ask_at f run q.thread) here ∙ ap (ask_of f.guest.code) (sym (seated.1.at run of).1)
-        ∙ ask.asks) in record {
+    λ run of. told.4 run of o refl (ap (ask_at f run q.thread) here ∙ ap (ask_of f.guest.code) (sym (seated.1.at run of).1)
+    ∙ ask.asks) in record {
       view = told.2;
       small = told.3;
       version = subst (λ (z : Plan × ℕ × ℕ). EachRun (trace_in z.0)
@@ -271,7 +272,7 @@ word_read k x (q ∷ []) o i n seated asking answers =
     let all : Answers f x.number x.steps n = there k q (λ f. Answers f x.number x.steps n) seated.0 answers in
     let run = seated.1.run.run in
     (all run seated.1.run.whole o i (subst (λ t. ask_at f run t x.steps ≡ Get o i) (sym seated.1.number)
-        (ap (ask_of f.guest.code) (sym (seated.1.at run seated.1.run.whole).1) ∙ ask.asks))).0
+    (ap (ask_of f.guest.code) (sym (seated.1.at run seated.1.run.whole).1) ∙ ask.asks))).0
 
 -- the words that there are
 pub head_there : (k : Plan) (x : thread.State) (v : View) (o words : ℕ) (a : Access) (q : Ask) → IsSeated k v x → IsAsking (trace_in k) x q
@@ -280,9 +281,9 @@ head_there k x [] o words a q seated asking is size = absurd seated
 head_there k x (p ∷ r ∷ ps) o words a q seated asking is size = absurd seated
 head_there k x (p ∷ []) o words a q seated asking is size =
     let inside = entered_inside (trace_in p.plan) p.thread p.position x o a seated.1
-        (there k p (λ f. ask_of f.guest.code x ≡ Enter o a) seated.0 (asking.asks ∙ is)) in
+    (there k p (λ f. ask_of f.guest.code x ≡ Enter o a) seated.0 (asking.asks ∙ is)) in
     let same : object_count (trace_in p.plan).guest ≡ object_count (trace_in k).guest =
-        ap (λ z. object_count (trace_in z).guest) seated.0 in
+    ap (λ z. object_count (trace_in z).guest) seated.0 in
     omega (arith, inside, same, size)
 
 pub left_there : (k : Plan) (x : thread.State) (v : View) (o words : ℕ) (a : Access) → IsSeated k v x → IsAsking (trace_in k) x (Leave o a)
@@ -291,9 +292,9 @@ left_there k x [] o words a seated asking size = absurd seated
 left_there k x (p ∷ r ∷ ps) o words a seated asking size = absurd seated
 left_there k x (p ∷ []) o words a seated asking size =
     let inside = left_inside (trace_in p.plan) p.thread p.position x o a seated.1
-        (there k p (λ f. ask_of f.guest.code x ≡ Leave o a) seated.0 asking.asks) in
+    (there k p (λ f. ask_of f.guest.code x ≡ Leave o a) seated.0 asking.asks) in
     let same : object_count (trace_in p.plan).guest ≡ object_count (trace_in k).guest =
-        ap (λ z. object_count (trace_in z).guest) seated.0 in
+    ap (λ z. object_count (trace_in z).guest) seated.0 in
     omega (arith, inside, same, size)
 
 pub read_there : (k : Plan) (x : thread.State) (v : View) (o i words : ℕ) → IsSeated k v x → IsAsking (trace_in k) x (Get o i)
@@ -302,9 +303,9 @@ read_there k x [] o i words seated asking size = absurd seated
 read_there k x (p ∷ r ∷ ps) o i words seated asking size = absurd seated
 read_there k x (p ∷ []) o i words seated asking size =
     let inside = read_inside (trace_in p.plan) p.thread p.position x o i seated.1
-        (there k p (λ f. ask_of f.guest.code x ≡ Get o i) seated.0 asking.asks) in
+    (there k p (λ f. ask_of f.guest.code x ≡ Get o i) seated.0 asking.asks) in
     let same : object_count (trace_in p.plan).guest ≡ object_count (trace_in k).guest =
-        ap (λ z. object_count (trace_in z).guest) seated.0 in
+    ap (λ z. object_count (trace_in z).guest) seated.0 in
     omega (arith, inside.0, inside.1, same, size)
 
 pub put_there : (k : Plan) (x : thread.State) (v : View) (o i n words : ℕ) → IsSeated k v x → IsAsking (trace_in k) x (Put o i n)
@@ -313,9 +314,9 @@ put_there k x [] o i n words seated asking size = absurd seated
 put_there k x (p ∷ r ∷ ps) o i n words seated asking size = absurd seated
 put_there k x (p ∷ []) o i n words seated asking size =
     let inside = put_inside (trace_in p.plan) p.thread p.position x o i n seated.1
-        (there k p (λ f. ask_of f.guest.code x ≡ Put o i n) seated.0 asking.asks) in
+    (there k p (λ f. ask_of f.guest.code x ≡ Put o i n) seated.0 asking.asks) in
     let same : object_count (trace_in p.plan).guest ≡ object_count (trace_in k).guest =
-        ap (λ z. object_count (trace_in z).guest) seated.0 in
+    ap (λ z. object_count (trace_in z).guest) seated.0 in
     omega (arith, inside.0, inside.1, same, size)
 
 -- ---- an entry in two steps
@@ -324,8 +325,11 @@ put_there k x (p ∷ []) o i n words seated asking size =
 pub seat_here : (k : Plan) (v : View) (x : thread.State) (g : Bool) → IsSeated k v x → IsSeated k (view_at k x x.steps g) x
 seat_here k [] x g seated = absurd seated
 seat_here k (q ∷ r ∷ qs) x g seated = absurd seated
-seat_here k (q ∷ []) x g seated = (refl, subst (λ (z : Plan × ℕ). IsAhead (trace_in z.0) z.1 x.steps x)
-    (λ i. (seated.0 i, sym seated.1.number i)) (ahead_here (trace_in q.plan) q.thread q.position x seated.1))
+seat_here k (q ∷ []) x g seated = (
+  refl,
+  subst (λ (z : Plan × ℕ). IsAhead (trace_in z.0) z.1 x.steps x)
+      (λ i. (seated.0 i, sym seated.1.number i)) (ahead_here (trace_in q.plan) q.thread q.position x seated.1),
+)
 
 pub granted_by : (k : Plan) (x : thread.State) (e : Event) (me w : M) (n : ℕ) → IsSeated k me.0 x → WasShown k x e me w n → Opens n e
     → IsGranted k w.0 x

@@ -46,9 +46,11 @@ pub seated_on : (k : Plan) (v : View) (x y : thread.State) → IsSeated k v x
     → ((i : ℕ) → IsAhead (trace_in k) x.number i x → IsAhead (trace_in k) x.number i y) → IsSeated k v y
 seated_on k [] x y seated on = absurd seated
 seated_on k (q ∷ r ∷ qs) x y seated on = absurd seated
-seated_on k (q ∷ []) x y seated on =
-    (seated.0, subst (λ (z : Plan × ℕ). IsAhead (trace_in z.0) z.1 q.position y) (λ i. (sym seated.0 i, seated.1.number i))
-        (on q.position (seated_ahead k (q ∷ []) x seated)))
+seated_on k (q ∷ []) x y seated on = (
+  seated.0,
+  subst (λ (z : Plan × ℕ). IsAhead (trace_in z.0) z.1 q.position y) (λ i. (sym seated.0 i, seated.1.number i))
+      (on q.position (seated_ahead k (q ∷ []) x seated)),
+)
 
 -- ---- what the thread is after its reply
 
@@ -63,7 +65,7 @@ pub stepped_alone : (k : Plan) (f : FittedTrace) (code : List ℕ) (me : M) (x y
     → HasStepped k me me x y
 stepped_alone k f code me x y q r for same seated alone step takes is =
     let y_is : y ≡ after_ask (trace_in k).guest.code x q r = is
-        ∙ replied code (trace_in k) x q r (same ∙ ap (λ z. z.guest.code) (sym for)) takes.asks in
+    ∙ replied code (trace_in k) x q r (same ∙ ap (λ z. z.guest.code) (sym for)) takes.asks in
     subst (λ z. HasStepped k me me x z) (sym y_is) (record {
       seated = seated_on k me.0 x (after_ask (trace_in k).guest.code x q r) seated
           (λ i ahead. ahead_alone (trace_in k) x.number i x q r ahead takes alone);
@@ -78,7 +80,7 @@ pub stepped_object : (k : Plan) (f : FittedTrace) (code : List ℕ) (me me' : M)
     → ◌≡◌ {A = M} me' (progress k x.number (suc x.steps) false ∷ [], me.1) → HasStepped k me me' x y
 stepped_object k f code me me' x y q r for same seated step takes is moved =
     let y_is : y ≡ after_ask (trace_in k).guest.code x q r = is
-        ∙ replied code (trace_in k) x q r (same ∙ ap (λ z. z.guest.code) (sym for)) takes.asks in
+    ∙ replied code (trace_in k) x q r (same ∙ ap (λ z. z.guest.code) (sym for)) takes.asks in
     subst (λ (z : thread.State × M). HasStepped k me z.1 x z.0) (λ i. (sym y_is i, sym moved i)) (record {
       seated = (refl, ahead_none (trace_in k) x.number (seated_at me.0) x q r (seated_ahead k me.0 x seated) takes);
       slots = refl;
@@ -144,7 +146,7 @@ event_suits k v x q seated asking one =
     let asks : ask_at f run x.number x.steps ≡ q = asks_in f x.number (seated_at v) x q run of ahead asking.asks in
     let found = event_there f run of x.number x.steps ahead.there (asking.has run of) (ap added asks ∙ one) in
     let z : StepOf (machine_of f) (thread_at f run x.number x.steps) (thread_at f run x.number (suc x.steps)) (label_of found.0) =
-        step_at (machine_of f) (start_of f) run of.1.runs x.number x.steps (label_of found.0) found.2 in (
+    step_at (machine_of f) (start_of f) run of.1.runs x.number x.steps (label_of found.0) found.2 in (
       found.0,
       ap (λ (y : thread.State). slice_get (recorded_thread f.recorded x.number).events y.events) (ahead.at run of).1 ∙ found.1,
       suits_by q found.0 z.result z.object (z.tells ∙ ap (λ a. told (act_of (shared_ask a) z.result) z.object) asks) one,
@@ -178,14 +180,16 @@ run_steps f t i zero x y ahead steps room = (ahead, omega arith)
 run_steps f t i (suc n) x y ahead steps room =
     let z : thread.State = run_of f.guest.code n x in
     let before = run_steps f t i n x z ahead (record { steps = refl; each = λ k l. steps.each k (omega (arith, l)) })
-        (λ run of. (let r = room run of in omega (arith, r))) in
+    (λ run of. (let r = room run of in omega (arith, r))) in
     let asks : ask_of f.guest.code z ≡ Private = steps.each n (omega arith) in
     let takes : Takes f t z Private Go = takes_go f t i z Private before.0 asks
-        (λ run of. (let r = room run of in let s = before.1 in omega (arith, r, s))) tt tt in
+    (λ run of. (let r = room run of in let s = before.1 in omega (arith, r, s))) tt tt in
     let next : after_reply f.guest.code z Go ≡ after_ask f.guest.code z Private Go = replied f.guest.code f z Private Go refl asks in
-    let more = more_steps f.guest.code z Private Go tt in
-    (subst (IsAhead f t i) (sym next) (ahead_alone f t i z Private Go before.0 takes tt), ap (λ (w : thread.State). w.steps) next ∙ more
-        ∙ (let s = before.1 in omega (arith, s)))
+    let more = more_steps f.guest.code z Private Go tt in (
+      subst (IsAhead f t i) (sym next) (ahead_alone f t i z Private Go before.0 takes tt),
+      ap (λ (w : thread.State). w.steps) next ∙ more
+          ∙ (let s = before.1 in omega (arith, s)),
+    )
 
 pub runs_on : (k : Plan) (f : FittedTrace) (code : List ℕ) (target : List ℕ) (v : View) (x y : thread.State) (n : ℕ) → IsFor k f
     → code ≡ f.guest.code → IsConsistentCut f target → x.steps + n ≤ cut_of target x.number → IsSeated k v x → PrivateSteps code n x y
@@ -195,9 +199,9 @@ runs_on k f code target v x y n for same consistent below seated steps =
     let own : PrivateSteps g.guest.code n x y = subst (λ c. PrivateSteps c n x y) (same ∙ ap (λ z. z.guest.code) (sym for)) steps in
     let cut : IsConsistentCut g target = subst (λ z. IsConsistentCut z target) (sym for) consistent in
     let room : (run : List Step) → IsRunOf g.guest g.recorded run → x.steps + n ≤ count (machine_of g) (start_of g) run x.number =
-        λ run of. (let within = (cut run of).0 x.number in omega (arith, within, below)) in
+    λ run of. (let within = (cut run of).0 x.number in omega (arith, within, below)) in
     let all : (i : ℕ) → IsAhead g x.number i x → IsAhead g x.number i y =
-        λ i ahead. subst (IsAhead g x.number i) (sym own.steps) (run_steps g x.number i n x y ahead own room).0 in
+    λ i ahead. subst (IsAhead g x.number i) (sym own.steps) (run_steps g x.number i n x y ahead own room).0 in
     record {
       seated = seated_on k v x y seated all;
       steps = ap (λ (z : thread.State). z.steps) own.steps
@@ -238,7 +242,7 @@ pub answer_stepped : (k : Plan) (f : FittedTrace) (code : List ℕ) (me : M) (x 
 answer_stepped k f code me x y kind j n for same seated asking event is =
     stepped_alone k f code me x y (Env kind) (Value n) for same seated tt tt
     (answer_takes k me.0 x kind j n seated (asking_for k f x (Env kind) for asking)
-        (subst (λ z. slice_get (recorded_thread z.recorded x.number).events x.events ≡ Some (Answered j n)) (sym for) event)) is
+    (subst (λ z. slice_get (recorded_thread z.recorded x.number).events x.events ≡ Some (Answered j n)) (sym for) event)) is
 
 pub object_stepped : (k : Plan) (f : FittedTrace) (code : List ℕ) (me me' : M) (x y : thread.State) (q : Ask) → IsFor k f
     → code ≡ f.guest.code → IsSeated k me.0 x → IsAsking f x q → is_go q → really q

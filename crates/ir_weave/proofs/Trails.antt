@@ -42,12 +42,12 @@ first_or : {T : Type 0} (m : Machine T) (s : State T) (e : Step) (run : List Ste
     (thread_in ((s.now t, label m s e) ∷ trail m (after m s e) run t) (suc k) ((end m (after m s e) run).now t)) a
 first_or m s e run t zero a x can later same at =
     subst (λ u. StepOf m (s.now u) (thread_in (trail m (after m s e) run u) 0 ((end m (after m s e) run).now u)) a) (sym same) (record {
-  result = e.1;
-  object = s.objects (target (act m s e));
-  can = can;
-  tells = sym (ap (λ z. z.1) at);
-  next = first_thread m (after m s e) run e.0 ∙ now_same m s e;
-})
+      result = e.1;
+      object = s.objects (target (act m s e));
+      can = can;
+      tells = sym (ap (λ z. z.1) at);
+      next = first_thread m (after m s e) run e.0 ∙ now_same m s e;
+    })
 first_or m s e run t (suc k) a x can later same at = later k at
 
 pub step_at : {T : Type 0} (m : Machine T) (s : State T) (run : List Step) → IsRun m s run → (t k : ℕ) (a : Label) → Tells m s run t k a

@@ -31,5 +31,5 @@ one_state f p s r run flat flat' h k =
     let count : length s.objects ≡ length r.objects = h.objects ∙ sym k.objects in
     let threads : s.threads ≡ r.threads = ext_get_or idle s.threads r.threads size (λ t l. a.threads t ∙ sym (b.threads t)) in
     let objects : s.objects ≡ r.objects = ext_get_or empty s.objects r.objects count
-        (λ o l. same_cell o s r (flat.objects o l) (flat'.objects o (omega (arith, l, count))) size (a.objects o ∙ sym (b.objects o))) in
+    (λ o l. same_cell o s r (flat.objects o l) (flat'.objects o (omega (arith, l, count))) size (a.objects o ∙ sym (b.objects o))) in
     λ i. record { code = (h.code ∙ sym k.code) i; threads = threads i; objects = objects i }

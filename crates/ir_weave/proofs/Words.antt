@@ -19,17 +19,17 @@ head_changes cells words o w c t l is same = record {
   heads = λ p fits. elim (cases_eq p o) [
     | inl here ↦ subst (λ z. get_or (set words (word_place o) w) (word_place z) 0 ≡ word_of (object_in (set cells o c) z).fields) (sym here)
         (get_or-set_same words (word_place o) w 0 (head_inside cells words o t l) ∙ is
-            ∙ sym (ap (λ z. word_of z.fields) (get_or-set_same cells o c empty l)))
+        ∙ sym (ap (λ z. word_of z.fields) (get_or-set_same cells o c empty l)))
     | inr ne ↦ get_or-set_other words (word_place o) (word_place p) w 0 (λ e. ne (omega (arith, e)))
         ∙ t.heads p (let e = length-set cells o c in omega (arith, fits, e))
         ∙ sym (ap (λ z. word_of z.fields) (get_or-set_other cells o p c empty ne))
   ];
   places = λ p i fits few. get_or-set_other words (word_place o) (content_place p i) w 0 (λ e. omega (arith, e, few))
       ∙ t.places p i (let e = length-set cells o c in omega (arith, fits, e)) few ∙ elim (cases_eq p o) [
-    | inl here ↦ subst (λ z. get_or (object_in cells z).words i 0 ≡ get_or (object_in (set cells o c) z).words i 0) (sym here)
-        (ap (λ z. get_or z i 0) (sym same) ∙ sym (ap (λ z. get_or z.words i 0) (get_or-set_same cells o c empty l)))
-    | inr ne ↦ sym (ap (λ z. get_or z.words i 0) (get_or-set_other cells o p c empty ne))
-  ];
+        | inl here ↦ subst (λ z. get_or (object_in cells z).words i 0 ≡ get_or (object_in (set cells o c) z).words i 0) (sym here)
+            (ap (λ z. get_or z i 0) (sym same) ∙ sym (ap (λ z. get_or z.words i 0) (get_or-set_same cells o c empty l)))
+        | inr ne ↦ sym (ap (λ z. get_or z.words i 0) (get_or-set_other cells o p c empty ne))
+      ];
   small = λ p i. elim (cases_eq p o) [
     | inl here ↦ subst (λ z. get_or (object_in (set cells o c) z).words i 0 < 2 ^ 32) (sym here)
         (subst (λ (z : Cell). get_or z.words i 0 < 2 ^ 32) (sym (get_or-set_same cells o c empty l))
@@ -47,10 +47,10 @@ place_changes cells words o i v c t l few value eight same is = record {
   size = length-set words (content_place o i) v ∙ t.size ∙ ap table_length (sym (length-set cells o c));
   heads = λ p fits. get_or-set_other words (content_place o i) (word_place p) v 0 (λ e. omega (arith, e, few))
       ∙ t.heads p (let e = length-set cells o c in omega (arith, fits, e)) ∙ elim (cases_eq p o) [
-    | inl here ↦ subst (λ z. word_of (object_in cells z).fields ≡ word_of (object_in (set cells o c) z).fields) (sym here)
-        (ap word_of (sym same) ∙ sym (ap (λ z. word_of z.fields) (get_or-set_same cells o c empty l)))
-    | inr ne ↦ sym (ap (λ z. word_of z.fields) (get_or-set_other cells o p c empty ne))
-  ];
+        | inl here ↦ subst (λ z. word_of (object_in cells z).fields ≡ word_of (object_in (set cells o c) z).fields) (sym here)
+            (ap word_of (sym same) ∙ sym (ap (λ z. word_of z.fields) (get_or-set_same cells o c empty l)))
+        | inr ne ↦ sym (ap (λ z. word_of z.fields) (get_or-set_other cells o p c empty ne))
+      ];
   places = λ p j fits few'. elim (cases_eq p o) [
     | inl here ↦ subst (λ z. get_or (set words (content_place o i) v) (content_place z j) 0 ≡ get_or (object_in (set cells o c) z).words j
         0) (sym here) (own j few' ∙ sym (ap (λ z. get_or z.words j 0) (get_or-set_same cells o c empty l)))
@@ -77,7 +77,7 @@ place_changes cells words o i v c t l few value eight same is = record {
     own j less = elim (cases_eq j i) [
       | inl here ↦ subst (λ z. get_or (set words (content_place o i) v) (content_place o z) 0 ≡ get_or c.words z 0) (sym here)
           (get_or-set_same words (content_place o i) v 0 (let e = t.size in omega (arith, e, l, few))
-              ∙ sym (ap (λ z. get_or z i 0) is ∙ get_or-set_same (object_in cells o).words i v 0 (omega (arith, eight, few))))
+          ∙ sym (ap (λ z. get_or z i 0) is ∙ get_or-set_same (object_in cells o).words i v 0 (omega (arith, eight, few))))
       | inr ne ↦ get_or-set_other words (content_place o i) (content_place o j) v 0 (λ e. ne (omega (arith, e))) ∙ t.places o j l less
           ∙ sym (ap (λ z. get_or z j 0) is ∙ get_or-set_other (object_in cells o).words i j v 0 ne)
     ]

@@ -83,7 +83,7 @@ abbrev pub object_text : ℕ → Object → List ℕ
 object_text threads o =
     codes "version " ++ decimal o.version ++ codes " left " ++ decimal o.left
     ++ codes " readers " ++ joined (inside_for Reading o.inside threads) ++ codes " writer " ++ joined (inside_for Writing o.inside threads)
-        ++ codes "\n"
+    ++ codes "\n"
     ++ codes "words" ++ words_text o.words 8 ++ codes "\n"
 
 -- ---- events

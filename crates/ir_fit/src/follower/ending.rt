@@ -10,8 +10,8 @@ ghost use Rattle.ir_runs.specs.Standing.{StandsAs};
 
 use crate::follower::Follower;
 use crate::follower::look::Look;
-use crate::places::Places;
 use crate::follower::readiness::Readiness;
+use crate::places::Places;
 use ir_flat::Flat;
 use ir_image::Image;
 use ir_runs::ThreadVerdict;

@@ -7,9 +7,9 @@ ghost use Rattle.ir_fit.specs.Follower.{all_ahead, GoesOn, IsSized};
 ghost use Rattle.ir_fit.specs.Places.{placed_more};
 
 use crate::follower::Follower;
-use crate::leave::Leave;
 use crate::follower::look::{Look, Move, is_open};
 use crate::follower::readiness::Readiness;
+use crate::leave::Leave;
 use ir_log::Event;
 use ir_object::Object;
 use ir_thread::Ask;

@@ -9,8 +9,8 @@ pub new-requires-2 : goal.new-requires-2
 new-requires-2 c =
     let p = c.parts.inside in
     subst (λ (code : List ℕ). IsGuest (record { entries = p.entries.items; code = code; bytes = p.bytes.items; words = p.words.items }))
-        (sym c.in_ok-code.ensures)
+    (sym c.in_ok-code.ensures)
     (guest_fits _ (subst HasLimits (sym c.parts.view_is) c.requires)
-        (subst (AllByRecursion IsWord) c.as_slice.ensures.value c.are_words.ensures)
+    (subst (AllByRecursion IsWord) c.as_slice.ensures.value c.are_words.ensures)
     (subst (AllByRecursion IsByte) c.as_slice-2.ensures.value c.are_bytes.ensures)
-        (subst (AllByRecursion IsWord) c.as_slice-3.ensures.value c.are_words-2.ensures))
+    (subst (AllByRecursion IsWord) c.as_slice-3.ensures.value c.are_words-2.ensures))

@@ -10,23 +10,23 @@ pub put-requires-clause-few : goal.put-requires-clause-few
 put-requires-clause-few c =
     let x = c.placed-item.result in
     subst (λ y. HasFewWords y.item) (sym c.placed-item.is)
-        (all_here (λ y. HasFewWords y.item) c.args.all.now c.loop-placed.placed-index x c.loop-placed-test.true c.requires.few)
+    (all_here (λ y. HasFewWords y.item) c.args.all.now c.loop-placed.placed-index x c.loop-placed-test.true c.requires.few)
 
 pub returns-in-Err : goal.returns-in-Err
 returns-in-Err c =
     let x = c.placed-item.result in
     let told : (view : Unit {0} → Guest) → Answers view (Err c.at_line.result)
-        (second_pass c.args.scan.now c.args.all.now c.args.parts.now) =
-        λ view. put_refused {X = Unit {0}} view c.args.scan.now c.args.all.now c.loop-placed.placed-index x c.loop-placed.parts
-        c.put.new.parts c.in-Err.refusal c.at_line.result _ c.loop-placed-test.true c.placed-item.is c.at_line.ensures c.in-Err.ensures
-        c.loop-placed.invariant.told in
+    (second_pass c.args.scan.now c.args.all.now c.args.parts.now) =
+    λ view. put_refused {X = Unit {0}} view c.args.scan.now c.args.all.now c.loop-placed.placed-index x c.loop-placed.parts
+    c.put.new.parts c.in-Err.refusal c.at_line.result _ c.loop-placed-test.true c.placed-item.is c.at_line.ensures c.in-Err.ensures
+    c.loop-placed.invariant.told in
     search (rules, told)
 
 pub loop-placed-preserved : goal.loop-placed-preserved
 loop-placed-preserved c =
     let x = c.placed-item.result in
     let few : HasFewWords x.item = subst (λ y. HasFewWords y.item) (sym c.placed-item.is)
-        (all_here (λ y. HasFewWords y.item) c.args.all.now c.loop-placed.placed-index x c.loop-placed-test.true c.requires.few) in
+    (all_here (λ y. HasFewWords y.item) c.args.all.now c.loop-placed.placed-index x c.loop-placed-test.true c.requires.few) in
     record {
       told = put_next c.args.scan.now c.args.all.now c.loop-placed.placed-index x c.loop-placed.parts c.put.new.parts _
           c.loop-placed-test.true c.placed-item.is c.in-Ok.ensures c.loop-placed.invariant.told;

@@ -6,4 +6,4 @@ pub returns-in-Ok-2-clause-all : goal.returns-in-Ok-2-clause-all
 returns-in-Ok-2-clause-all g c =
     let short : length c.read_to_end.new.buf.items < c.args.most + 1 = search rules in
     all_read g.R.Read.remaining (c.args.most + 1) c.take.result c.args.reader c.new-bytes.result.items c.read_to_end.new.buf.items
-        c.take.ensures.limit c.take.ensures.inner c.new-bytes.ensures.items short c.in-Ok-2.ensures.bytes
+    c.take.ensures.limit c.take.ensures.inner c.new-bytes.ensures.items short c.in-Ok-2.ensures.bytes

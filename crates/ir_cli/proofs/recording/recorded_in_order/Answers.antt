@@ -8,18 +8,18 @@ pub record_in_turns-requires-clause-each : goal.record_in_turns-requires-clause-
 record_in_turns-requires-clause-each g c =
     let count : length c.in_ok-worlds.worlds.items ≡ length c.entries-threads.result.now =
     many (λ w. made_with w.time w.seed w.file.now) c.in_ok-worlds.worlds.items true c.args.random c.args.file.now
-        (length c.entries-threads.result.now) c.in_ok-worlds.ensures.origins in
+    (length c.entries-threads.result.now) c.in_ok-worlds.ensures.origins in
     let same : length c.entries-threads.result.now ≡ length c.in_ok-image.image.entries =
-        ap (λ (z : List ℕ). length z) c.entries-threads.ensures.value in
+    ap (λ (z : List ℕ). length z) c.entries-threads.ensures.value in
     omega (arith, count, same, c.in_ok-worlds.worlds.ok)
 
 pub returns-clause-recorded : goal.returns-clause-recorded
 returns-clause-recorded g c = recorded_from c.args.image.now c.args.list.now c.args.budget c.args.random c.args.file.now c.in_ok-image.image
     c.entries-threads.result.now (order_of_turns c.in_ok-order.order.items) (order_of_turns c.as_slice.result.now)
     (map (λ w. w.answers.items) c.in_ok-worlds.worlds.items) c.in_ok-trace.trace
-        (map (λ o. o.bytes.items) c.in_ok-trace.field-0-1.each.items) (map (λ o. o.world.answers.items) c.in_ok-trace.field-0-1.each.items)
+    (map (λ o. o.bytes.items) c.in_ok-trace.field-0-1.each.items) (map (λ o. o.world.answers.items) c.in_ok-trace.field-0-1.each.items)
     c.in_ok-image.ensures.exact c.entries-threads.ensures.value c.in_ok-order.ensures.spelled (ap order_of_turns c.as_slice.ensures.value)
-        c.in_ok-worlds.ensures.fresh c.in_ok-trace.ensures.recorded
+    c.in_ok-worlds.ensures.fresh c.in_ok-trace.ensures.recorded
     (told_by (λ o. made_with o.world.time o.world.seed o.world.file.now) (λ o. o.world.answers.items) (λ o. (o.world.sources, o.world.gave))
-        true c.args.random c.args.file.now c.in_ok-trace.field-0-1.each.items (length c.entries-threads.result.now)
+    true c.args.random c.args.file.now c.in_ok-trace.field-0-1.each.items (length c.entries-threads.result.now)
     (c.in_ok-trace.ensures.origins ∙ c.in_ok-worlds.ensures.origins))

@@ -9,7 +9,7 @@ loop-thread-preserved g c =
     let new = c.push.new.self.items in
     let w = c.in_ok-new.field-0 in
     let made = made_by w.time c.args.time w.seed c.args.random w.file.now c.args.file.now c.loop-thread.thread c.in_ok-new.ensures.time
-        c.in_ok-new.ensures.seed c.in_ok-new.ensures.file in
+    c.in_ok-new.ensures.seed c.in_ok-new.ensures.file in
     record {
       origins = origins_more (λ w. made_with w.time w.seed w.file.now) old new w (is_counted c.args.time) c.args.random c.args.file.now
           c.loop-thread.thread c.loop-thread.invariant.origins made c.in_ok-push.ensures.items;

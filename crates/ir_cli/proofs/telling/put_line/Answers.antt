@@ -13,15 +13,15 @@ pub returns-in_err-write_all-2-clause-prefix : goal.returns-in_err-write_all-2-c
 returns-in_err-write_all-2-clause-prefix g c =
     on_err _ c.from_residual-in_err-write_all-2.result
     (prefix_longer (g.E.Sink.written c.args.faults.now) (g.E.Sink.written c.write_all-2.new.writer) (codes "ir: " ++ c.args.words.now)
-        (10 ∷ [])
+    (10 ∷ [])
     (prefix_further (g.E.Sink.written c.args.faults.now) (g.E.Sink.written c.write_all.new.writer)
-        (g.E.Sink.written c.write_all-2.new.writer) (codes "ir: ") c.args.words.now c.in_ok-write_all.ensures.ok
-        (rw c.as_bytes.ensures.value at c.in_err-write_all-2.ensures.prefix)))
+    (g.E.Sink.written c.write_all-2.new.writer) (codes "ir: ") c.args.words.now c.in_ok-write_all.ensures.ok
+    (rw c.as_bytes.ensures.value at c.in_err-write_all-2.ensures.prefix)))
 
 pub returns-clause-prefix : goal.returns-clause-prefix
 returns-clause-prefix g c = then_prefix c.write_all-3.result (g.E.Sink.written c.args.faults.now)
     (g.E.Sink.written c.write_all-2.new.writer) (g.E.Sink.written c.write_all-3.new.writer) (codes "ir: " ++ c.args.words.now) (10 ∷ [])
     (Appends-trans (g.E.Sink.written c.args.faults.now) (g.E.Sink.written c.write_all.new.writer)
-        (g.E.Sink.written c.write_all-2.new.writer) (codes "ir: ") c.args.words.now c.in_ok-write_all.ensures.ok
-        (rw c.as_bytes.ensures.value at c.in_ok-write_all-2.ensures.ok))
+    (g.E.Sink.written c.write_all-2.new.writer) (codes "ir: ") c.args.words.now c.in_ok-write_all.ensures.ok
+    (rw c.as_bytes.ensures.value at c.in_ok-write_all-2.ensures.ok))
     c.write_all-3.ensures.prefix

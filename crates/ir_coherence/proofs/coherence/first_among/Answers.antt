@@ -12,16 +12,16 @@ returns-in-Some-clause-breaks c =
     let t = c.loop-number.number in
     let within : t < length c.threads-threads.result.now = omega (arith, c.loop-number-test.true) in
     let thread : c.index-threads-number.result ≡ recorded_thread r t =
-        get_or_read c.threads-threads.result.now t c.index-threads-number.result within c.index-threads-number.is absent
-        ∙ ap (λ ts. get_or ts t absent) c.threads-threads.ensures.value in
+    get_or_read c.threads-threads.result.now t c.index-threads-number.result within c.index-threads-number.is absent
+    ∙ ap (λ ts. get_or ts t absent) c.threads-threads.ensures.value in
     let events : c.events.result.now ≡ (recorded_thread r t).events = c.events.ensures.value ∙ c.log.ensures
-        ∙ ap (λ (x : RecordedThread). x.events) thread in
+    ∙ ap (λ (x : RecordedThread). x.events) thread in
     first_named r c.args.counts.now c.requires.counts t c.in-Some.event c.in-Some.cause c.loop-number.invariant
     (subst (λ es. FirstCause (reads_of c.args.counts.now) (writes_of c.args.counts.now) es c.in-Some.event c.in-Some.cause) events
-        c.in-Some.ensures.found)
+    c.in-Some.ensures.found)
 
 pub returns-clause-coherent : goal.returns-clause-coherent
 returns-clause-coherent c =
     let threads = ap (λ (ts : List RecordedThread). length ts) c.threads-threads.ensures.value in
     all_silent c.args.trace.now c.args.counts.now c.requires.counts
-        (λ t l. c.loop-number.invariant t (omega (arith, threads, l, c.loop-number-test.false)))
+    (λ t l. c.loop-number.invariant t (omega (arith, threads, l, c.loop-number-test.false)))

@@ -13,10 +13,10 @@ add_log-requires-clause-room c =
     let threads = c.threads-thread-items.ensures.value in
     let within : i < length c.threads-thread-items.result.now = omega (arith, c.loop-thread-test.true) in
     let thread : c.thread-item.result ≡ recorded_thread r i =
-        get_or_read c.threads-thread-items.result.now i c.thread-item.result within c.thread-item.is absent
-        ∙ ap (λ ts. get_or ts i absent) threads in
+    get_or_read c.threads-thread-items.result.now i c.thread-item.result within c.thread-item.is absent
+    ∙ ap (λ ts. get_or ts i absent) threads in
     let events : c.events.result.now ≡ (recorded_thread r i).events = c.events.ensures.value ∙ c.log.ensures
-        ∙ ap (λ (x : RecordedThread). x.events) thread in
+    ∙ ap (λ (x : RecordedThread). x.events) thread in
     subst (λ es. HasRoom c.loop-thread.counts (length es)) (sym events)
-        (thread_room r c.threads-thread-items.ensures.within i c.loop-thread.counts (omega (arith, within, ap length threads))
-        c.loop-thread.invariant)
+    (thread_room r c.threads-thread-items.ensures.within i c.loop-thread.counts (omega (arith, within, ap length threads))
+    c.loop-thread.invariant)

@@ -12,15 +12,15 @@ returns-then-not-are_met c = not_closed c.args.fitted.now c.requires.fitted c.ar
     c.log_of-events.result.now c.args.t c.loop-i.i _ _ c.are_met.result c.requires.thread c.entries-places.ensures
     c.log_of-events.ensures.value c.loop-i-test.true refl c.if-places-i.false
     (slice_get-get_or c.log_of-events.result.now c.loop-i.i _
-        (event_there c.args.fitted.now c.entries-places.result.now c.log_of-events.result.now c.args.t c.loop-i.i c.entries-places.ensures
-        c.log_of-events.ensures.size c.loop-i-test.true)) c.are_met.ensures c.if-not-are_met.true
+    (event_there c.args.fitted.now c.entries-places.result.now c.log_of-events.result.now c.args.t c.loop-i.i c.entries-places.ensures
+    c.log_of-events.ensures.size c.loop-i-test.true)) c.are_met.ensures c.if-not-are_met.true
 
 pub loop-i-preserved : goal.loop-i-preserved
 loop-i-preserved c = one_met c.args.fitted.now c.args.positions.now c.log_of-events.result.now c.args.t c.loop-i.i _ c.are_met.result
     c.log_of-events.ensures.value
     (slice_get-get_or c.log_of-events.result.now c.loop-i.i _
-        (event_there c.args.fitted.now c.entries-places.result.now c.log_of-events.result.now c.args.t c.loop-i.i c.entries-places.ensures
-        c.log_of-events.ensures.size c.loop-i-test.true)) c.are_met.ensures c.if-not-are_met.false c.loop-i.invariant
+    (event_there c.args.fitted.now c.entries-places.result.now c.log_of-events.result.now c.args.t c.loop-i.i c.entries-places.ensures
+    c.log_of-events.ensures.size c.loop-i-test.true)) c.are_met.ensures c.if-not-are_met.false c.loop-i.invariant
 
 pub returns : goal.returns
 returns c = closed_all c.args.fitted.now c.requires.fitted c.args.positions.now c.entries-places.result.now c.args.t c.loop-i.i

@@ -7,5 +7,5 @@ use Rattle.ir_cut.proofs.falling.count_before.Goals as goal
 pub returns-clause-rest : goal.returns-clause-rest
 returns-clause-rest c = behind_cut c.args.leaves.now c.partition_point.result c.args.position
     (IsPartitionPoint-from_clause (λ (l : Leave). ltb l.position c.args.position) c.args.leaves.now c.partition_point.result
-        c.partition_point.ensures.partitioned (IsPartitionedBy-ltb (λ (l : Leave). l.position) c.args.leaves.now c.args.position c.requires)
-        (λ a r q k. search rules))
+    c.partition_point.ensures.partitioned (IsPartitionedBy-ltb (λ (l : Leave). l.position) c.args.leaves.now c.args.position c.requires)
+    (λ a r q k. search rules))

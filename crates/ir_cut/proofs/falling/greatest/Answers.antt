@@ -7,11 +7,11 @@ use Rattle.ir_cut.proofs.falling.greatest.Goals as goal
 found : (c : goal.After-drop-next-2) → IsGreatestCut c.args.fitted.now c.args.cut.now c.args.t c.args.k c.new.result
 found c = subst (IsGreatestCut c.args.fitted.now c.args.cut.now c.args.t c.args.k) (sym c.new.ensures)
     (greatest_found c.args.fitted.now c.known.ensures c.args.cut.now c.in_ok-positions.positions.items c.in_ok-next.next.items
-        c.fall.new.positions.items c.fall.new.next.items c.args.t c.args.k c.index.result.now c.min.result
+    c.fall.new.positions.items c.fall.new.next.items c.args.t c.args.k c.index.result.now c.min.result
     c.requires.size c.requires.consistent c.requires.thread (c.in_ok-positions.ensures.items ∙ c.positions-2.ensures) c.index.ensures
-        c.min.ensures
+    c.min.ensures
     (subst (λ (xs : List ℕ). (u : ℕ) → u < length c.args.fitted.now.guest.entries
-        → AreRest c.args.fitted.now xs u (cut_of c.in_ok-next.next.items u)) c.positions.ensures c.in_ok-next.ensures.rest)
+    → AreRest c.args.fitted.now xs u (cut_of c.in_ok-next.next.items u)) c.positions.ensures c.in_ok-next.ensures.rest)
     c.fall.ensures.falls c.fall.ensures.size c.fall.ensures.over)
 
 pub returns-clause-greatest : goal.returns-clause-greatest

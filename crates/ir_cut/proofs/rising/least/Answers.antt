@@ -7,11 +7,11 @@ use Rattle.ir_cut.proofs.rising.least.Goals as goal
 found : (c : goal.After-drop-next-2) → IsLeastCut c.args.fitted.now c.args.cut.now c.args.t c.args.k c.new.result
 found c = subst (IsLeastCut c.args.fitted.now c.args.cut.now c.args.t c.args.k) (sym c.new.ensures)
     (least_found c.args.fitted.now c.known.ensures c.args.cut.now c.in_ok-positions.positions.items c.in_ok-next.next.items
-        c.rise.new.positions.items c.rise.new.next.items c.args.t c.args.k c.index.result.now c.max.result
+    c.rise.new.positions.items c.rise.new.next.items c.args.t c.args.k c.index.result.now c.max.result
     c.requires.size c.requires.consistent c.requires.thread c.requires.steps (c.in_ok-positions.ensures.items ∙ c.positions-2.ensures)
-        c.index.ensures c.max.ensures c.in_ok-next.ensures.size
+    c.index.ensures c.max.ensures c.in_ok-next.ensures.size
     (subst (λ (xs : List ℕ). (u : ℕ) → u < length c.args.fitted.now.guest.entries
-        → AreFirst c.args.fitted.now xs u (cut_of c.in_ok-next.next.items u)) c.positions.ensures c.in_ok-next.ensures.first)
+    → AreFirst c.args.fitted.now xs u (cut_of c.in_ok-next.next.items u)) c.positions.ensures c.in_ok-next.ensures.first)
     c.rise.ensures.rises c.rise.ensures.size c.rise.ensures.over)
 
 pub returns-clause-least : goal.returns-clause-least

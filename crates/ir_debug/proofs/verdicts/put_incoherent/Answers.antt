@@ -9,6 +9,6 @@ returns c =
     let first : List ℕ = codes "incoherent thread " ++ decimal c.args.thread in
     let second : List ℕ = first ++ codes " event " ++ decimal c.args.event in
     put-more old second (codes " cause ") (decimal c.number.result) _ _
-        (put-more old first (codes " event ") (decimal c.args.event) _ _ c.put_number.ensures.text c.put_number-2.ensures.text)
-        c.put_number-3.ensures.text
+    (put-more old first (codes " event ") (decimal c.args.event) _ _ c.put_number.ensures.text c.put_number-2.ensures.text)
+    c.put_number-3.ensures.text
     ∙ ap (λ (n : ℕ). old ++ (second ++ codes " cause " ++ decimal n)) c.number.ensures

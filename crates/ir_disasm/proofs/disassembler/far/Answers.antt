@@ -7,5 +7,5 @@ use Rattle.ir_disasm.proofs.disassembler.far.Goals as goal
 pub returns : goal.returns
 returns c =
     far_from _ _ _ _ _ _ c.in_ok-with_comment.ensures (c.deref.ensures ∙ c.in_ok-distance.ensures)
-        (c.deref-2.ensures ∙ c.in_ok-address.ensures) c.target.ensures
+    (c.deref-2.ensures ∙ c.in_ok-address.ensures) c.target.ensures
     ∙ ap (λ (z : ℤ). far c.args.pc z) (to_z-of_z w32 c.args.offset (search rules))

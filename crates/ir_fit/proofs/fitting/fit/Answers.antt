@@ -13,8 +13,8 @@ pub returns-in_err-coherent-clause-refused : goal.returns-in_err-coherent-clause
 returns-in_err-coherent-clause-refused c =
     let p = err_from_is_err_and c.from_residual.result c.from_residual.ensures.1 in
     subst (λ z. IfErr z (IsRefused c.args.image c.args.trace)) (sym p.1)
-        (subst (IsRefused c.args.image c.args.trace) (sym p.2)
-        (breaks_refuse c.args.image c.args.trace c.in_default.ensures.same c.in_err-coherent.field-0.0 c.in_err-coherent.ensures.breaks))
+    (subst (IsRefused c.args.image c.args.trace) (sym p.2)
+    (breaks_refuse c.args.image c.args.trace c.in_default.ensures.same c.in_err-coherent.field-0.0 c.in_err-coherent.ensures.breaks))
 
 pub returns-then-not-all_same-clause-refused : goal.returns-then-not-all_same-clause-refused
 returns-then-not-all_same-clause-refused c =
@@ -23,24 +23,28 @@ returns-then-not-all_same-clause-refused c =
     let is : IsRecorded r = subst IsRecorded c.trace.view_is c.trace.invariant in
     let n = c.in_default.ensures.same.threads in
     let co : IsCoherent (length c.args.image.entries) (trace_of r) =
-        subst (λ k. IsCoherent k (trace_of r)) n c.in_ok-coherent.ensures.coherent in
+    subst (λ k. IsCoherent k (trace_of r)) n c.in_ok-coherent.ensures.coherent in
     let stand : AreStanding r c.in_ok-follower.follower.flat c.in_ok-follower.follower.places.items vs =
-        subst (λ z. AreStanding z c.in_ok-follower.follower.flat c.in_ok-follower.follower.places.items vs) c.in_ok-follower.ensures.trace
-        c.in_ok-verdicts.ensures.stand in
+    subst (λ z. AreStanding z c.in_ok-follower.follower.flat c.in_ok-follower.follower.places.items vs) c.in_ok-follower.ensures.trace
+    c.in_ok-verdicts.ensures.stand in
     let w = c.all_same.ensures.another c.if-not-all_same.true in
     threads_refuse c.args.image r is c.in_default.ensures.same co c.in_ok-follower.follower.flat c.in_ok-follower.follower.places.items
-        c.in_ok-follower.ensures.followed vs c.in_ok-verdicts.ensures.each stand w.0 w.1
-        (subst (λ xs. slice_get xs w.0 ≡ Some w.1) c.deref.ensures.value w.2) w.3
+    c.in_ok-follower.ensures.followed vs c.in_ok-verdicts.ensures.each stand w.0 w.1
+    (subst (λ xs. slice_get xs w.0 ≡ Some w.1) c.deref.ensures.value w.2) w.3
 
 pub new-requires : goal.new-requires
 new-requires c =
     let vs : List ThreadVerdict = c.in_ok-verdicts.verdicts.items in
     let stand : AreStanding c.args.trace c.in_ok-follower.follower.flat c.in_ok-follower.follower.places.items vs =
-        subst (λ z. AreStanding z c.in_ok-follower.follower.flat c.in_ok-follower.follower.places.items vs) c.in_ok-follower.ensures.trace
-        c.in_ok-verdicts.ensures.stand in
-    subst HasRun (λ i. record { guest = c.args.image; recorded =
-        sym (c.into_parts-trace.ensures.trace ∙ c.in_ok-follower.ensures.trace) i; placed = sym c.into_parts-trace.ensures.places i })
+    subst (λ z. AreStanding z c.in_ok-follower.follower.flat c.in_ok-follower.follower.places.items vs) c.in_ok-follower.ensures.trace
+    c.in_ok-verdicts.ensures.stand in
+    subst HasRun (λ i. record {
+      guest = c.args.image;
+      recorded =
+          sym (c.into_parts-trace.ensures.trace ∙ c.in_ok-follower.ensures.trace) i;
+      placed = sym c.into_parts-trace.ensures.places i;
+    })
     (threads_accept c.args.image c.args.trace c.in_default.ensures.same c.in_ok-follower.follower.flat
-        c.in_ok-follower.follower.places.items c.in_ok-follower.ensures.followed c.in_ok-follower.ensures.sized.placed.each vs
-        c.in_ok-verdicts.ensures.each stand
+    c.in_ok-follower.follower.places.items c.in_ok-follower.ensures.followed c.in_ok-follower.ensures.sized.placed.each vs
+    c.in_ok-verdicts.ensures.each stand
     (λ t v at. c.all_same.ensures.same c.if-not-all_same.false t v (subst (λ xs. slice_get xs t ≡ Some v) (sym c.deref.ensures.value) at)))

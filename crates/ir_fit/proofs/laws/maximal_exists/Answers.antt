@@ -13,5 +13,5 @@ returns c = λ g budget tr.
     let m = thread_machine g.code in
     let s = tables (start_flat g budget) in
     let b : Built m tr s tr.steps tr.logs = build (suc (sum_below (length g.entries) tr.steps)) (length g.entries) m (lawful g.code) tr s
-        (start_good m s (starts g budget)) (start_idle g budget) tr.steps tr.logs (omega arith) in
+    (start_good m s (starts g budget)) (start_idle g budget) tr.steps tr.logs (omega arith) in
     (b.run, b.ok, b.top)

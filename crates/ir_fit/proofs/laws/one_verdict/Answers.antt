@@ -15,10 +15,13 @@ returns c = λ g budget tr co ev run f top.
     let m = thread_machine g.code in
     let s = tables (start_flat g budget) in
     let good = start_good m s (starts g budget) in (
-      λ t. let j = judged (length g.entries) m (lawful g.code) tr co ev s good (starts g budget) (start_idle g budget) run f top t in
-          (j.0, j.1, λ w h. one_verdict m (tr.ends t) (NoneTakes m s tr t (count m s run t)) ((end m s run).now t)
-              (left_steps (trail m s run t) (tr.steps t)) (left_log (trail m s run t) (tr.logs t)) (length (log m s run t))
-              (count m s run t) j.0 w j.1 h),
+      λ t. let j = judged (length g.entries) m (lawful g.code) tr co ev s good (starts g budget) (start_idle g budget) run f top t in (
+        j.0,
+        j.1,
+        λ w h. one_verdict m (tr.ends t) (NoneTakes m s tr t (count m s run t)) ((end m s run).now t)
+            (left_steps (trail m s run t) (tr.steps t)) (left_log (trail m s run t) (tr.logs t)) (length (log m s run t))
+            (count m s run t) j.0 w j.1 h,
+      ),
       λ run' f' top' t v h. same_verdict m s tr run run'
           (one_maximal (closing m tr) (length g.entries) m (lawful g.code) tr co s good (starts g budget) (start_idle g budget) run run' f
           top f' top') t v h,

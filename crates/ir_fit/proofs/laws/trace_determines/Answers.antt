@@ -24,6 +24,6 @@ returns-clause-recorded c = λ g r run run' is is'.
       | inl l ↦ (is.1.logs t l ∙ sym (is'.1.logs t l), is.1.steps t l ∙ sym (is'.1.steps t l))
       | inr l ↦
           let no = idle_trail m s n (start_idle g r.budget) run is.1.runs t l
-              ∙ sym (idle_trail m s n (start_idle g r.budget) run' is'.1.runs t l) in
+          ∙ sym (idle_trail m s n (start_idle g r.budget) run' is'.1.runs t l) in
           (ap events no, ap length no)
     ])

@@ -23,5 +23,5 @@ returns-clause-point c =
     let xs : List Place = c.args.places.now in
     let v = c.args.version in
     up_to_tested xs v c.partition_point.result
-        (IsPartitionPoint-from_clause (λ (y : Place). leb y.version v) xs _ c.partition_point.ensures.partitioned
-        (IsPartitionedBy-leb (λ (p : Place). p.version) xs v c.requires) (λ a r q k. search rules))
+    (IsPartitionPoint-from_clause (λ (y : Place). leb y.version v) xs _ c.partition_point.ensures.partitioned
+    (IsPartitionedBy-leb (λ (p : Place). p.version) xs v c.requires) (λ a r q k. search rules))

@@ -8,8 +8,8 @@ pub loop-number-preserved : goal.loop-number-preserved
 loop-number-preserved c =
     let rest = drop (8 * c.loop-number.number) c.args.words.now in
     let fits : length rest ≤ length c.args.words.now - 8 * c.loop-number.number =
-        omega (arith, length-drop (8 * c.loop-number.number) c.args.words.now) in
+    omega (arith, length-drop (8 * c.loop-number.number) c.args.words.now) in
     object_made c.args.words.now c.loop-number.number c.loop-number.objects.items c.push.new.self.items c.new.result c.loop-number.invariant
     (c.new.ensures ∙ ap start_cell c.eight.ensures
-        ∙ ap (λ z. start_cell (take 8 z)) (take_all (length c.args.words.now - 8 * c.loop-number.number) rest fits))
-        c.in_ok-push.ensures.items
+    ∙ ap (λ z. start_cell (take 8 z)) (take_all (length c.args.words.now - 8 * c.loop-number.number) rest fits))
+    c.in_ok-push.ensures.items

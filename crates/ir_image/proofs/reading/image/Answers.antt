@@ -9,15 +9,15 @@ with_code entries bytes words code = record { entries = entries; code = code; by
 pub new-requires-2 : goal.new-requires-2
 new-requires-2 c =
     let made : List ℕ → Guest = with_code c.in_ok-entries.field-0.entries.items c.in_ok-entries.field-0.bytes.items
-        c.in_ok-entries.field-0.words.items in
+    c.in_ok-entries.field-0.words.items in
     (parts_take c.args.bytes.now c.in_ok-counts.counts c.in_ok-counts.rest.now (made c.in_ok-entries.field-0.code.items)
-        (made c.in_ok-code.code)
+    (made c.in_ok-code.code)
     (λ i. omega (arith, c.type_inv.bytes i)) c.in_ok-counts.ensures.exact c.in_ok-entries.ensures (ap made (sym c.in_ok-code.ensures))).0
 
 pub returns-clause-found : goal.returns-clause-found
 returns-clause-found c =
     let made : List ℕ → Guest = with_code c.in_ok-entries.field-0.entries.items c.in_ok-entries.field-0.bytes.items
-        c.in_ok-entries.field-0.words.items in
+    c.in_ok-entries.field-0.words.items in
     parts_take c.args.bytes.now c.in_ok-counts.counts c.in_ok-counts.rest.now (made c.in_ok-entries.field-0.code.items) c.new-2.result
     (λ i. omega (arith, c.type_inv.bytes i)) c.in_ok-counts.ensures.exact c.in_ok-entries.ensures
-        (ap made (sym c.in_ok-code.ensures) ∙ sym c.new-2.ensures)
+    (ap made (sym c.in_ok-code.ensures) ∙ sym c.new-2.ensures)

@@ -11,6 +11,6 @@ returns-in_err-own c =
 pub returns : goal.returns
 returns c =
     words_whole c.args.count c.in_ok-words.words.len c.args.bytes.now c.in_ok-own.own.now c.in_ok-own.rest.now c.read_u32_into.new.dst
-        c.in_ok-words.words.items
+    c.in_ok-words.words.items
     c.in_ok-own.ensures.exact (omega (arith, c.in_ok-words.ensures.len, ap length c.deref_mut.ensures.value))
-        (omega (arith, c.in_ok-words.ensures.len)) c.read_u32_into.ensures
+    (omega (arith, c.in_ok-words.ensures.len)) c.read_u32_into.ensures

@@ -10,11 +10,11 @@ loop-world-preserved g c =
     let x = c.in-Some.world in
     let rest = into_iter_items c.next.new.self in
     let parts : at.yielded ++ x ∷ rest ≡ c.args.worlds.items = ap (λ z. at.yielded ++ z) (sym c.in-Some.ensures.steps.0)
-        ∙ at.invariant.parts in
+    ∙ at.invariant.parts in
     let place : c.len.result ≡ length at.each.items = search rules in
     let size : length c.args.worlds.items ≡ length c.args.threads.now = search rules in
     let count : length at.each.items ≡ length at.yielded = sym (length-map at.each.items (λ o. o.world))
-        ∙ ap (λ z. length z) at.invariant.worlds in
+    ∙ ap (λ z. length z) at.invariant.worlds in
     let below = next_below at.yielded rest c.args.worlds.items x parts in
     record {
       parts = moved_on at.yielded (into_iter_items at.world-iterator) rest c.args.worlds.items x at.invariant.parts
@@ -26,5 +26,5 @@ loop-world-preserved g c =
           (record { bytes = c.in_ok-bytes.bytes; world = x }) c.args.threads.now c.index-threads-len.result c.in_ok-push.ensures.items
           at.invariant.bytes
           (omega (arith, size, count, below)) (subst (λ k. c.index-threads-len.result ≡ get_or c.args.threads.now k
-              c.index-threads-len.result) place c.index-threads-len.is) (c.in_ok-bytes.ensures.items ∙ c.output.ensures.value);
+          c.index-threads-len.result) place c.index-threads-len.is) (c.in_ok-bytes.ensures.items ∙ c.output.ensures.value);
     }

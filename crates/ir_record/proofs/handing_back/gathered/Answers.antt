@@ -14,9 +14,9 @@ pub filled-bytes-requires : goal.filled-bytes-requires
 filled-bytes-requires g c =
     let at = c.loop-worker in
     let parts : at.rooms.items ≡ c.pop.new.self.items ++ c.unwrap.result ∷ [] = c.pop.ensures.items
-        ∙ ap (λ z. c.pop.new.self.items ++ option_to_list z) c.unwrap.ensures in
+    ∙ ap (λ z. c.pop.new.self.items ++ option_to_list z) c.unwrap.ensures in
     let own = (all_last (IsEmptyFor most_output) c.pop.new.self.items c.unwrap.result
-        (subst (AllByRecursion (IsEmptyFor most_output)) parts at.invariant.rooms.each)).1 in
+    (subst (AllByRecursion (IsEmptyFor most_output)) parts at.invariant.rooms.each)).1 in
     let room = own.room in
     let most = c.output.ensures.bound in
     record { empty = own.empty; room = omega (arith, room, most) }
@@ -28,12 +28,12 @@ loop-worker-preserved g c =
     let old = into_iter_items at.worker-iterator in
     let rest = into_iter_items c.next.new.self in
     let parts : at.yielded ++ x ∷ rest ≡ c.args.workers.items = ap (λ z. at.yielded ++ z) (sym c.in-Some.ensures.steps.0)
-        ∙ at.invariant.parts in
+    ∙ at.invariant.parts in
     let less : length old ≡ suc (length rest) = ap (λ z. length z) c.in-Some.ensures.steps.0 in
     let over : IsOver c.args.objects x = all_mid (IsOver c.args.objects) at.yielded rest x
-        (subst (AllByRecursion (IsOver c.args.objects)) (sym parts) c.requires.over) in
+    (subst (AllByRecursion (IsOver c.args.objects)) (sym parts) c.requires.over) in
     let rooms : at.rooms.items ≡ c.pop.new.self.items ++ c.unwrap.result ∷ [] = c.pop.ensures.items
-        ∙ ap (λ z. c.pop.new.self.items ++ option_to_list z) c.unwrap.ensures in
+    ∙ ap (λ z. c.pop.new.self.items ++ option_to_list z) c.unwrap.ensures in
     let fewer = one_more c.pop.new.self.items at.rooms.items c.unwrap.result rooms in
     let count = at.invariant.rooms.count in
     record {
@@ -72,12 +72,18 @@ pub new-requires : goal.new-requires
 new-requires g c =
     let at = c.loop-worker in
     let empty : into_iter_items at.worker-iterator ≡ [] =
-        nil_of (into_iter_items at.worker-iterator) (into_iter_len at.worker-iterator) at.invariant.size c.in-None.ensures.steps.0 in
+    nil_of (into_iter_items at.worker-iterator) (into_iter_len at.worker-iterator) at.invariant.size c.in-None.ensures.steps.0 in
     let all : at.yielded ≡ c.args.workers.items = sym (append-nil at.yielded) ∙ ap (λ z. at.yielded ++ z) (sym empty)
-        ∙ at.invariant.parts in
+    ∙ at.invariant.parts in
     let count : length at.traces.items ≡ length c.args.workers.items = traces_count at.yielded at.traces.items at.invariant.traces
-        ∙ ap (λ z. length z) all in
+    ∙ ap (λ z. length z) all in
     let some = c.requires.some in
     let few = c.requires.few in
-    record { some_thread = omega (arith, count, some); few_threads = omega (arith, count, few); few_objects =
-        c.requires.objects; budget_fits = c.requires.budget; threads_fit = at.invariant.fit }
+    record {
+      some_thread = omega (arith, count, some);
+      few_threads = omega (arith, count, few);
+      few_objects =
+          c.requires.objects;
+      budget_fits = c.requires.budget;
+      threads_fit = at.invariant.fit;
+    }

@@ -10,10 +10,10 @@ pub record-requires-clause-ready : goal.record-requires-clause-ready
 record-requires-clause-ready g c =
     let size : length c.args.worlds.items ≡ length c.args.image.now.entries = search rules in
     subst (λ a. IsReady a (map g.W.World.broken c.args.worlds.items))
-        (sym (started c.args.image.now c.args.budget (map g.W.World.answers c.args.worlds.items) c.in_ok-start.field-0.flat
-        c.in_ok-start.field-0.logs.items c.in_ok-start.ensures.flat c.in_ok-start.ensures.logs))
+    (sym (started c.args.image.now c.args.budget (map g.W.World.answers c.args.worlds.items) c.in_ok-start.field-0.flat
+    c.in_ok-start.field-0.logs.items c.in_ok-start.ensures.flat c.in_ok-start.ensures.logs))
     (start_ready c.args.image.now c.args.budget (map g.W.World.answers c.args.worlds.items) (map g.W.World.broken c.args.worlds.items)
-        (length-map c.args.worlds.items g.W.World.answers ∙ size) c.requires.works)
+    (length-map c.args.worlds.items g.W.World.answers ∙ size) c.requires.works)
 
 pub into_trace-requires-clause-some : goal.into_trace-requires-clause-some
 into_trace-requires-clause-some g c =
@@ -21,10 +21,10 @@ into_trace-requires-clause-some g c =
     let first : Progress = progress c.in_ok-start.field-0 before in
     let last : Progress = progress c.record.new.self.tape (map g.W.World.answers c.record.new.self.worlds.items) in
     let same = started c.args.image.now c.args.budget before c.in_ok-start.field-0.flat c.in_ok-start.field-0.logs.items
-        c.in_ok-start.ensures.flat c.in_ok-start.ensures.logs in
+    c.in_ok-start.ensures.flat c.in_ok-start.ensures.logs in
     let over : Over c.args.image.now c.args.budget (order_of_turns c.args.order.now) before last =
-        over_from c.args.image.now c.args.budget (order_of_turns c.args.order.now) before first last same c.in_default.ensures.took
-        c.in_default.ensures.over in
+    over_from c.args.image.now c.args.budget (order_of_turns c.args.order.now) before first last same c.in_default.ensures.took
+    c.in_default.ensures.over in
     let n = threads_there c.args.image.now c.args.budget (order_of_turns c.args.order.now) before last over in
     omega (arith, n, c.in_ok-start.ensures.guest.some_thread)
 
@@ -34,10 +34,10 @@ into_trace-requires-clause-ended g c =
     let first : Progress = progress c.in_ok-start.field-0 before in
     let last : Progress = progress c.record.new.self.tape (map g.W.World.answers c.record.new.self.worlds.items) in
     let same = started c.args.image.now c.args.budget before c.in_ok-start.field-0.flat c.in_ok-start.field-0.logs.items
-        c.in_ok-start.ensures.flat c.in_ok-start.ensures.logs in
+    c.in_ok-start.ensures.flat c.in_ok-start.ensures.logs in
     let over : Over c.args.image.now c.args.budget (order_of_turns c.args.order.now) before last =
-        over_from c.args.image.now c.args.budget (order_of_turns c.args.order.now) before first last same c.in_default.ensures.took
-        c.in_default.ensures.over in
+    over_from c.args.image.now c.args.budget (order_of_turns c.args.order.now) before first last same c.in_default.ensures.took
+    c.in_default.ensures.over in
     λ t l. ended_there c.args.image.now c.args.budget (order_of_turns c.args.order.now) before last over t
 
 pub returns-clause-recorded : goal.returns-clause-recorded
@@ -46,16 +46,16 @@ returns-clause-recorded g c =
     let first : Progress = progress c.in_ok-start.field-0 before in
     let last : Progress = progress c.record.new.self.tape (map g.W.World.answers c.record.new.self.worlds.items) in
     let same = started c.args.image.now c.args.budget before c.in_ok-start.field-0.flat c.in_ok-start.field-0.logs.items
-        c.in_ok-start.ensures.flat c.in_ok-start.ensures.logs in
+    c.in_ok-start.ensures.flat c.in_ok-start.ensures.logs in
     let over : Over c.args.image.now c.args.budget (order_of_turns c.args.order.now) before last =
-        over_from c.args.image.now c.args.budget (order_of_turns c.args.order.now) before first last same c.in_default.ensures.took
-        c.in_default.ensures.over in
+    over_from c.args.image.now c.args.budget (order_of_turns c.args.order.now) before first last same c.in_default.ensures.took
+    c.in_default.ensures.over in
     recorded_there c.args.image.now c.args.budget (order_of_turns c.args.order.now) before last over
-        (map g.W.World.broken c.record.new.self.worlds.items) c.in_default.ensures.ready
+    (map g.W.World.broken c.record.new.self.worlds.items) c.in_default.ensures.ready
     c.in_ok-trace.trace c.in_ok-trace.ensures.objects c.in_ok-trace.ensures.limit c.in_ok-trace.ensures.threads
     _ (c.in_ok-outputs.ensures.bytes ∙ ap (map (λ x. x.output)) c.threads-2.ensures.value)
     _ (mapped_twice g.W.World.answers (λ o. o.world) c.in_ok-outputs.outputs.each.items c.record.new.self.worlds.items
-        c.in_ok-outputs.ensures.worlds)
+    c.in_ok-outputs.ensures.worlds)
 
 pub returns-clause-works : goal.returns-clause-works
 returns-clause-works g c = subst NoneFailed (sym (mapped_twice g.W.World.broken (λ o. o.world) c.in_ok-outputs.outputs.each.items

@@ -14,20 +14,20 @@ loop-world-preserved g c =
     let x = c.in-Some.world in
     let rest = into_iter_items c.next.new.self in
     let parts : at.yielded ++ x ∷ rest ≡ c.args.worlds.items = ap (λ z. at.yielded ++ z) (sym c.in-Some.ensures.steps.0)
-        ∙ at.invariant.parts in
+    ∙ at.invariant.parts in
     let place : c.len-in-loop-world.result ≡ length at.made.items = search rules in
     let size : length c.args.worlds.items ≡ length c.args.image.now.entries = search rules in
     let count : length at.made.items ≡ length at.yielded = sym (length-map at.made.items (λ o. o.world))
-        ∙ ap (λ z. length z) at.invariant.worlds in
+    ∙ ap (λ z. length z) at.invariant.worlds in
     let below = next_below at.yielded rest c.args.worlds.items x parts in
     let left = at.invariant.left in
     let some : 0 < length at.seats.items = omega (arith, place, size, count, below, left) in
     let seats = c.remove-seat.ensures.by_index.2 in
     let fewer = seats_left at.seats.items c.remove-seat.new.self.items some seats in
     let long : length c.push.new.self.items ≡ suc (length at.made.items) = ap (λ z. length z) c.in_ok-push.ensures.items
-        ∙ (let e = Rattle.std.proofs.Common.length-append at.made.items
-        (record { seat = c.remove-seat.result; thread = c.in_ok-thread.thread; log = c.in_ok-log.log; world = x } ∷ []) in
-        omega (arith, e)) in
+    ∙ (let e = Rattle.std.proofs.Common.length-append at.made.items
+    (record { seat = c.remove-seat.result; thread = c.in_ok-thread.thread; log = c.in_ok-log.log; world = x } ∷ []) in
+    omega (arith, e)) in
     record {
       parts = moved_on at.yielded (into_iter_items at.world-iterator) rest c.args.worlds.items x at.invariant.parts
           c.in-Some.ensures.steps.0;
@@ -38,14 +38,14 @@ loop-world-preserved g c =
       new = λ id h.
           let z = at.invariant.new id h in
           let q = seats_first id (length at.made.items) at.seats.items c.remove-seat.new.self.items c.remove-seat.result some
-              c.remove-seat.ensures.value seats z.0 in (
+          c.remove-seat.ensures.value seats z.0 in (
             subst (λ n. AreSeats id n c.remove-seat.new.self.items) (sym long) q.1,
             subst (AreNew c.args.image.now c.args.budget id 0) (sym c.in_ok-push.ensures.items)
                 (new_more c.args.image.now c.args.budget id 0 (length at.made.items) at.made.items _ z.1 (omega arith) (record {
-              table = q.0.0;
-              me = q.0.1;
-              thread = c.in_ok-thread.ensures ∙ ap (λ n. thread.start_state c.args.image.now n c.args.budget) place;
-              log = c.in_ok-log.ensures;
-            })),
+                  table = q.0.0;
+                  me = q.0.1;
+                  thread = c.in_ok-thread.ensures ∙ ap (λ n. thread.start_state c.args.image.now n c.args.budget) place;
+                  log = c.in_ok-log.ensures;
+                })),
           );
     }

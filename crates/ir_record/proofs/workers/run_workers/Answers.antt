@@ -9,10 +9,10 @@ returns g c =
     let len : c.args.workers.now.len ≡ length c.args.workers.now.items = search rules in
     let same : length c.run_side_by_side.new.workers ≡ length c.args.workers.now.items = search rules in
     subst (Pairs (RanToEnd g.W.World.answers g.W.World.broken g.W.World.origin c.args.crew.now.table.shared.key) c.args.workers.now.items)
-        (sym (changed_all c.run_side_by_side.new.workers c.args.workers.now.items c.args.workers.now.len len same))
+    (sym (changed_all c.run_side_by_side.new.workers c.args.workers.now.items c.args.workers.now.len len same))
     (pairs_by (RanToEnd g.W.World.answers g.W.World.broken g.W.World.origin c.args.crew.now.table.shared.key) c.args.workers.now.items
-        c.run_side_by_side.new.workers same
+    c.run_side_by_side.new.workers same
     (subst (λ z. (i : _) (d : _) → Rattle.std.proofs.Common.◌<◌ i (length z)
-        → RanToEnd g.W.World.answers g.W.World.broken g.W.World.origin c.args.crew.now.table.shared.key
-        (Rattle.std.proofs.Common.get_or z i d) (Rattle.std.proofs.Common.get_or c.run_side_by_side.new.workers i d))
-        c.as_mut_slice.ensures.value c.run_side_by_side.ensures))
+    → RanToEnd g.W.World.answers g.W.World.broken g.W.World.origin c.args.crew.now.table.shared.key
+    (Rattle.std.proofs.Common.get_or z i d) (Rattle.std.proofs.Common.get_or c.run_side_by_side.new.workers i d))
+    c.as_mut_slice.ensures.value c.run_side_by_side.ensures))

@@ -18,25 +18,25 @@ pub returns-in-Err : goal.returns-in-Err
 returns-in-Err c = entry_none c.args.fitted.now.recorded c.args.flat.now c.args.t c.args.object c.args.access c.requires.asked
     c.requires.steps
     (subst (λ (z : Recorded × ℕ). (e : Event) → slice_get (recorded_thread z.0 c.args.t).events z.1 ≡ Some e
-        → Suits (Enter c.args.object c.args.access) e → ⊥) (λ i. (c.trace.ensures.value i, c.events_of-before.ensures.value i))
-        c.in-Err.ensures.disagrees)
+    → Suits (Enter c.args.object c.args.access) e → ⊥) (λ i. (c.trace.ensures.value i, c.events_of-before.ensures.value i))
+    c.in-Err.ensures.disagrees)
 
 pub returns-then-is_open : goal.returns-then-is_open
 returns-then-is_open c = entry_next c.args.fitted.now.recorded c.args.flat.now c.args.t c.args.object c.args.access c.in-Ok.event
     c.events_of-before.ensures.flat c.requires.thread c.requires.asked c.requires.steps
     (subst (λ (z : Recorded × ℕ). slice_get (recorded_thread z.0 c.args.t).events z.1 ≡ Some c.in-Ok.event)
-        (λ i. (c.trace.ensures.value i, c.events_of-before.ensures.value i)) c.in-Ok.ensures.next) c.in-Ok.ensures.suits
+    (λ i. (c.trace.ensures.value i, c.events_of-before.ensures.value i)) c.in-Ok.ensures.next) c.in-Ok.ensures.suits
     (found_open c.is_open.result c.index-objects-object.result (cell_of c.args.flat.now c.args.object) c.in-Ok.event
-        (object_found c.args.flat.now c.args.t c.args.object c.args.access c.objects.result.now c.index-objects-object.result
-        c.events_of-before.ensures.flat c.requires.thread c.requires.asked c.objects.ensures.value c.index-objects-object.is)
-        c.is_open.ensures c.if-is_open.true)
+    (object_found c.args.flat.now c.args.t c.args.object c.args.access c.objects.result.now c.index-objects-object.result
+    c.events_of-before.ensures.flat c.requires.thread c.requires.asked c.objects.ensures.value c.index-objects-object.is)
+    c.is_open.ensures c.if-is_open.true)
 
 pub returns-else-is_open : goal.returns-else-is_open
 returns-else-is_open c = entry_shut c.args.fitted.now.recorded c.args.flat.now c.args.t c.args.object c.args.access c.in-Ok.event
     c.events_of-before.ensures.flat c.requires.thread c.requires.asked c.requires.steps
     (subst (λ (z : Recorded × ℕ). slice_get (recorded_thread z.0 c.args.t).events z.1 ≡ Some c.in-Ok.event)
-        (λ i. (c.trace.ensures.value i, c.events_of-before.ensures.value i)) c.in-Ok.ensures.next) c.in-Ok.ensures.suits
+    (λ i. (c.trace.ensures.value i, c.events_of-before.ensures.value i)) c.in-Ok.ensures.next) c.in-Ok.ensures.suits
     (found_shut c.is_open.result c.index-objects-object.result (cell_of c.args.flat.now c.args.object) c.in-Ok.event
-        (object_found c.args.flat.now c.args.t c.args.object c.args.access c.objects.result.now c.index-objects-object.result
-        c.events_of-before.ensures.flat c.requires.thread c.requires.asked c.objects.ensures.value c.index-objects-object.is)
-        c.is_open.ensures c.if-is_open.false)
+    (object_found c.args.flat.now c.args.t c.args.object c.args.access c.objects.result.now c.index-objects-object.result
+    c.events_of-before.ensures.flat c.requires.thread c.requires.asked c.objects.ensures.value c.index-objects-object.is)
+    c.is_open.ensures c.if-is_open.false)

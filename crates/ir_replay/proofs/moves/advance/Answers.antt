@@ -9,4 +9,4 @@ pub returns-clause-ok : goal.returns-clause-ok
 returns-clause-ok g c =
     all_there c.args.fitted.now c.args.target.now c.args.state c.rounds.state c.rounds.invariant c.requires.target.0
     (subst (λ xs. (t : ℕ) → t < length xs → cut_of c.args.target.now t ≤ (slice_index_or xs t idle).steps) c.threads.ensures
-        (c.is_there.ensures.there c.rounds-test.false))
+    (c.is_there.ensures.there c.rounds-test.false))

@@ -8,7 +8,7 @@ threads-preserved-in-Some-pop c =
     let t = ap (λ z. length z) c.in-Some.ensures.items ∙ length-append c.pop.new.self.items (c.in-Some.thread ∷ []) in
     let s = ap (λ z. length z) c.in-Some-pop.ensures.items ∙ length-append c.pop-in-Some.new.self.items (c.in-Some-pop.seat ∷ []) in
     let w = ap (λ z. length z) c.push_reserved.ensures.items
-        ∙ length-append c.threads.workers.items (record { seat = c.in-Some-pop.seat; thread = c.in-Some.thread; apart = _ } ∷ []) in
+    ∙ length-append c.threads.workers.items (record { seat = c.in-Some-pop.seat; thread = c.in-Some.thread; apart = _ } ∷ []) in
     let counts = i.counts in let room = i.room in let cap = c.push_reserved.ensures.capacity in record {
       held = c.pop.ensures.capacity ∙ i.held;
       counts = omega (arith, t, s, counts);

@@ -9,15 +9,15 @@ pub workers-init : goal.workers-init
 workers-init c =
     let id = c.args.weave.now.table.shared.table_id in
     let parts : c.args.workers.now.items ≡ c.pop.new.self.items ++ c.unwrap-first.result ∷ [] = c.pop.ensures.items
-        ∙ ap (λ z. c.pop.new.self.items ++ option_to_list z) c.unwrap-first.ensures in
+    ∙ ap (λ z. c.pop.new.self.items ++ option_to_list z) c.unwrap-first.ensures in
     let h = all_last (IsOfTable id) c.pop.new.self.items c.unwrap-first.result
-        (subst (AllByRecursion (IsOfTable id)) parts c.requires.seats) in
+    (subst (AllByRecursion (IsOfTable id)) parts c.requires.seats) in
     let less = one_less c.args.workers.now.items c.pop.new.self.items c.unwrap-first.result parts in
     let len : vec_len c.args.workers.now ≡ length c.args.workers.now.items = search rules in
     let room = c.requires.room in
     let cap = c.push_reserved.ensures.capacity in
     let pushed : c.push_reserved.new.self.items ≡ [] ++ c.unwrap-first.result.thread ∷ [] = c.push_reserved.ensures.items
-        ∙ ap (λ z. z ++ c.unwrap-first.result.thread ∷ []) c.requires.none in
+    ∙ ap (λ z. z ++ c.unwrap-first.result.thread ∷ []) c.requires.none in
     let one = ap (λ z. length z) pushed in
     record {
       table = h.1.table;
@@ -33,7 +33,7 @@ pub join-all-requires-clause-other : goal.join-all-requires-clause-other
 join-all-requires-clause-other c =
     let id = c.args.weave.now.table.shared.table_id in
     let h = all_last (IsOfTable id) c.pop-in-workers.new.self.items c.in-Some.worker
-        (subst (AllByRecursion (IsOfTable id)) c.in-Some.ensures.items c.workers.invariant.seats) in
+    (subst (AllByRecursion (IsOfTable id)) c.in-Some.ensures.items c.workers.invariant.seats) in
     (h.1.table, h.1.slots)
 
 pub workers-preserved : goal.workers-preserved
@@ -41,10 +41,10 @@ workers-preserved c =
     let id = c.args.weave.now.table.shared.table_id in
     let i = c.workers.invariant in
     let h = all_last (IsOfTable id) c.pop-in-workers.new.self.items c.in-Some.worker
-        (subst (AllByRecursion (IsOfTable id)) c.in-Some.ensures.items i.seats) in
+    (subst (AllByRecursion (IsOfTable id)) c.in-Some.ensures.items i.seats) in
     let less = one_less c.workers.workers.items c.pop-in-workers.new.self.items c.in-Some.worker c.in-Some.ensures.items in
     let more = one_less c.push_reserved-in-Some.new.self.items c.workers.threads.items c.in-Some.worker.thread
-        c.push_reserved-in-Some.ensures.items in
+    c.push_reserved-in-Some.ensures.items in
     let cap = c.push_reserved-in-Some.ensures.capacity in
     let room = i.room in
     record {

@@ -11,7 +11,7 @@ returns g c =
     let len : c.args.workers.now.len ≡ length c.args.workers.now.items = search rules in
     let same : length c.work_all.new.workers ≡ length c.args.workers.now.items = search rules in
     subst (Pairs R c.args.workers.now.items) (sym (changed_all c.work_all.new.workers c.args.workers.now.items c.args.workers.now.len len
-        same))
+    same))
     (pairs_by R c.args.workers.now.items c.work_all.new.workers same
     (subst (λ z. (i : _) (d : _) → i < length z → R (slice_index_or z i d) (slice_index_or c.work_all.new.workers i d))
-        c.as_mut_slice.ensures.value c.work_all.ensures))
+    c.as_mut_slice.ensures.value c.work_all.ensures))

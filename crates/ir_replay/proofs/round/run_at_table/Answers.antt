@@ -17,11 +17,17 @@ run_all-requires-clause-ready g c κs within =
     let target = c.args.target.now in
     let ws = c.assign_seats.new.workers.items in
     let start : Starts f target c.args.state =
-        record { run = c.image.ensures.within; stands = c.requires.state; size = c.requires.target.0; consistent =
-        c.requires.target.1; below = c.requires.below } in
+    record {
+      run = c.image.ensures.within;
+      stands = c.requires.state;
+      size = c.requires.target.0;
+      consistent =
+          c.requires.target.1;
+      below = c.requires.below;
+    } in
     let inside : Starts (trace_in k) target k.opened.value = starts_in k f target c.args.state c.requires.table c.requires.opened start in
     let of_threads : backwards (threads_of ws) ≡ k.opened.value.threads = c.assign_seats.ensures.threads ∙ c.parts-threads.ensures.threads
-        ∙ ap (λ (z : Standing). z.threads) (sym c.requires.opened) in
+    ∙ ap (λ (z : Standing). z.threads) (sym c.requires.opened) in
     all_ready id k target ws (assigned id k target ws c.args.seats.items inside c.requires.seats.0 c.assign_seats.ensures.seats of_threads)
 
 pub joined-seat-requires-clause-some : goal.joined-seat-requires-clause-some
@@ -29,7 +35,7 @@ joined-seat-requires-clause-some g c =
     let vs = c.assign_seats.new.workers.items in
     let ws = c.run_all.new.workers.items in
     let same = pairs_size (HasWorked c.args.weave.table.shared.table_id c.args.weave.table.shared.key c.args.target.now) vs ws
-        c.run_all.ensures in
+    c.run_all.ensures in
     let some = c.code.ensures.within.some_thread in
     let of = ap (λ z. length z.entries) c.image.ensures.value in
     let back = back_threads vs in
@@ -43,7 +49,7 @@ joined-seat-requires-clause-room g c =
     let vs = c.assign_seats.new.workers.items in
     let ws = c.run_all.new.workers.items in
     let same = pairs_size (HasWorked c.args.weave.table.shared.table_id c.args.weave.table.shared.key c.args.target.now) vs ws
-        c.run_all.ensures in
+    c.run_all.ensures in
     let back = back_threads vs in
     let threads = ap (λ z. length z) c.assign_seats.ensures.threads in
     let len : vec_len c.run_all.new.workers ≡ length ws = search rules in
@@ -60,13 +66,19 @@ joined-seat-requires-clause-seats g c =
     let vs = c.assign_seats.new.workers.items in
     let ws = c.run_all.new.workers.items in
     let start : Starts f target c.args.state =
-        record { run = c.image.ensures.within; stands = c.requires.state; size = c.requires.target.0; consistent =
-        c.requires.target.1; below = c.requires.below } in
+    record {
+      run = c.image.ensures.within;
+      stands = c.requires.state;
+      size = c.requires.target.0;
+      consistent =
+          c.requires.target.1;
+      below = c.requires.below;
+    } in
     let inside : Starts (trace_in k) target k.opened.value = starts_in k f target c.args.state c.requires.table c.requires.opened start in
     let of_threads : backwards (threads_of vs) ≡ k.opened.value.threads = c.assign_seats.ensures.threads ∙ c.parts-threads.ensures.threads
-        ∙ ap (λ (z : Standing). z.threads) (sym c.requires.opened) in
+    ∙ ap (λ (z : Standing). z.threads) (sym c.requires.opened) in
     let first : Down (IsAssigned id k target) vs =
-        assigned id k target vs c.args.seats.items inside c.requires.seats.0 c.assign_seats.ensures.seats of_threads in
+    assigned id k target vs c.args.seats.items inside c.requires.seats.0 c.assign_seats.ensures.seats of_threads in
     of_table id k target ws (after_all id k target vs ws first c.run_all.ensures)
 
 pub returns-clause-between : goal.returns-clause-between
@@ -78,23 +90,32 @@ returns-clause-between g c =
     let vs = c.assign_seats.new.workers.items in
     let ws = c.run_all.new.workers.items in
     let start : Starts f target c.args.state =
-        record { run = c.image.ensures.within; stands = c.requires.state; size = c.requires.target.0; consistent =
-        c.requires.target.1; below = c.requires.below } in
+    record {
+      run = c.image.ensures.within;
+      stands = c.requires.state;
+      size = c.requires.target.0;
+      consistent =
+          c.requires.target.1;
+      below = c.requires.below;
+    } in
     let inside : Starts (trace_in k) target k.opened.value = starts_in k f target c.args.state c.requires.table c.requires.opened start in
     let all : backwards (threads_of vs) ≡ c.args.state.threads = c.assign_seats.ensures.threads ∙ c.parts-threads.ensures.threads in
     let first : Down (IsAssigned id k target) vs =
-        assigned id k target vs c.args.seats.items inside c.requires.seats.0 c.assign_seats.ensures.seats
-        (all ∙ ap (λ (z : Standing). z.threads) (sym c.requires.opened)) in
+    assigned id k target vs c.args.seats.items inside c.requires.seats.0 c.assign_seats.ensures.seats
+    (all ∙ ap (λ (z : Standing). z.threads) (sym c.requires.opened)) in
     let last : Down (IsAfterRound id k target) ws = after_all id k target vs ws first c.run_all.ensures in
     let size : length ws ≡ length c.args.state.threads = pairs_size (HasWorked id k target) vs ws c.run_all.ensures ∙ sym (back_threads vs)
-        ∙ ap (λ z. length z) all in
+    ∙ ap (λ z. length z) all in
     let closed : IsClosed k (views_of ws) c.close.new.objects =
-        subst (λ v. IsClosed k v c.close.new.objects) c.joined-seat.ensures.views c.close.ensures in
+    subst (λ v. IsClosed k v c.close.new.objects) c.joined-seat.ensures.views c.close.ensures in
     let len : c.parts-threads.result.1.len ≡ length c.parts-threads.result.1.items = search rules in
     let kept : length c.close.new.objects ≡ length c.parts-threads.result.1.items = search rules in
     (round_leaves id k f target c.args.state c.build.result ws c.close.new.objects c.requires.table c.requires.opened start size last closed
-        (c.build.ensures ∙ (λ i. record { threads = c.joined-seat.ensures.threads i; objects =
-        changed_all c.close.new.objects c.parts-threads.result.1.items c.parts-threads.result.1.len len kept i }))).0
+    (c.build.ensures ∙ (λ i. record {
+      threads = c.joined-seat.ensures.threads i;
+      objects =
+          changed_all c.close.new.objects c.parts-threads.result.1.items c.parts-threads.result.1.len len kept i;
+    }))).0
 
 pub returns-clause-goes : goal.returns-clause-goes
 returns-clause-goes g c =
@@ -105,20 +126,29 @@ returns-clause-goes g c =
     let vs = c.assign_seats.new.workers.items in
     let ws = c.run_all.new.workers.items in
     let start : Starts f target c.args.state =
-        record { run = c.image.ensures.within; stands = c.requires.state; size = c.requires.target.0; consistent =
-        c.requires.target.1; below = c.requires.below } in
+    record {
+      run = c.image.ensures.within;
+      stands = c.requires.state;
+      size = c.requires.target.0;
+      consistent =
+          c.requires.target.1;
+      below = c.requires.below;
+    } in
     let inside : Starts (trace_in k) target k.opened.value = starts_in k f target c.args.state c.requires.table c.requires.opened start in
     let all : backwards (threads_of vs) ≡ c.args.state.threads = c.assign_seats.ensures.threads ∙ c.parts-threads.ensures.threads in
     let first : Down (IsAssigned id k target) vs =
-        assigned id k target vs c.args.seats.items inside c.requires.seats.0 c.assign_seats.ensures.seats
-        (all ∙ ap (λ (z : Standing). z.threads) (sym c.requires.opened)) in
+    assigned id k target vs c.args.seats.items inside c.requires.seats.0 c.assign_seats.ensures.seats
+    (all ∙ ap (λ (z : Standing). z.threads) (sym c.requires.opened)) in
     let last : Down (IsAfterRound id k target) ws = after_all id k target vs ws first c.run_all.ensures in
     let size : length ws ≡ length c.args.state.threads = pairs_size (HasWorked id k target) vs ws c.run_all.ensures ∙ sym (back_threads vs)
-        ∙ ap (λ z. length z) all in
+    ∙ ap (λ z. length z) all in
     let closed : IsClosed k (views_of ws) c.close.new.objects =
-        subst (λ v. IsClosed k v c.close.new.objects) c.joined-seat.ensures.views c.close.ensures in
+    subst (λ v. IsClosed k v c.close.new.objects) c.joined-seat.ensures.views c.close.ensures in
     let len : c.parts-threads.result.1.len ≡ length c.parts-threads.result.1.items = search rules in
     let kept : length c.close.new.objects ≡ length c.parts-threads.result.1.items = search rules in
     (round_leaves id k f target c.args.state c.build.result ws c.close.new.objects c.requires.table c.requires.opened start size last closed
-        (c.build.ensures ∙ (λ i. record { threads = c.joined-seat.ensures.threads i; objects =
-        changed_all c.close.new.objects c.parts-threads.result.1.items c.parts-threads.result.1.len len kept i }))).1
+    (c.build.ensures ∙ (λ i. record {
+      threads = c.joined-seat.ensures.threads i;
+      objects =
+          changed_all c.close.new.objects c.parts-threads.result.1.items c.parts-threads.result.1.len len kept i;
+    }))).1

@@ -14,11 +14,17 @@ returns-clause-ready c =
     let target = c.args.target.now in
     let ws = c.assign_seats.new.workers.items in
     let start : Starts f target c.args.state =
-        record { run = c.image.ensures.within; stands = c.requires.state; size = c.requires.target.0; consistent =
-        c.requires.target.1; below = c.requires.below } in
+    record {
+      run = c.image.ensures.within;
+      stands = c.requires.state;
+      size = c.requires.target.0;
+      consistent =
+          c.requires.target.1;
+      below = c.requires.below;
+    } in
     let inside : Starts (trace_in k) target k.opened.value =
-        starts_in k f target c.args.state c.in_ok-weave.ensures.table c.in_ok-weave.ensures.opened start in
+    starts_in k f target c.args.state c.in_ok-weave.ensures.table c.in_ok-weave.ensures.opened start in
     let of_threads : backwards (threads_of ws) ≡ k.opened.value.threads = c.assign_seats.ensures.threads ∙ c.parts-threads.ensures.threads
-        ∙ ap (λ (z : Standing). z.threads) (sym c.in_ok-weave.ensures.opened) in
+    ∙ ap (λ (z : Standing). z.threads) (sym c.in_ok-weave.ensures.opened) in
     all_ready id k target ws (assigned id k target ws c.in_ok-weave.seats.items inside c.in_ok-weave.ensures.seats.0
-        c.assign_seats.ensures.seats of_threads)
+    c.assign_seats.ensures.seats of_threads)

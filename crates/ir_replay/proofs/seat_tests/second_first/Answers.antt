@@ -18,7 +18,7 @@ pub steps-of_second-requires-clause-ready : goal.steps-of_second-requires-clause
 steps-of_second-requires-clause-ready c =
     let P : Worker → Type 0 = IsReady c.in_ok-weave.weave.table.shared.table_id c.in_ok-weave.weave.table.shared.key c.args.target.now in
     let all = all_last P c.pop.new.self.items c.in-Some.first
-        (subst (AllByRecursion P) c.in-Some.ensures.items c.in_ok-weave.ensures.ready) in
+    (subst (AllByRecursion P) c.in-Some.ensures.items c.in_ok-weave.ensures.ready) in
     (all_last P c.pop-2.new.self.items c.in-Some-pop.second (subst (AllByRecursion P) c.in-Some-pop.ensures.items all.0)).1
 
 pub steps-of_first-requires-clause-ready : goal.steps-of_first-requires-clause-ready

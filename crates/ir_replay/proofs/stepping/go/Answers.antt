@@ -6,9 +6,9 @@ use Rattle.ir_replay.proofs.stepping.go.Goals as goal
 pub returns-then-taken-most-clause-under : goal.returns-then-taken-most-clause-under
 returns-then-taken-most-clause-under g c =
     alone_under c.args.fitted.now c.args.target.now c.steps.flat c.run_instructions-taken.new.self c.args.t c.run_instructions-taken.result
-        c.requires.target c.steps.invariant.under
-        (let a = c.run_instructions-taken.ensures.within in let b = c.left.ensures in let m = c.min-limit.ensures in omega (arith, a, b, m))
-        c.run_instructions-taken.ensures.went
+    c.requires.target c.steps.invariant.under
+    (let a = c.run_instructions-taken.ensures.within in let b = c.left.ensures in let m = c.min-limit.ensures in omega (arith, a, b, m))
+    c.run_instructions-taken.ensures.went
 
 pub returns-then-taken-most-clause-gone : goal.returns-then-taken-most-clause-gone
 returns-then-taken-most-clause-gone g c = alone_on c.args.flat.now c.steps.flat c.run_instructions-taken.new.self c.args.t c.steps.taken
@@ -17,15 +17,15 @@ returns-then-taken-most-clause-gone g c = alone_on c.args.flat.now c.steps.flat 
 pub step-requires-clause-under : goal.step-requires-clause-under
 step-requires-clause-under g c =
     alone_under c.args.fitted.now c.args.target.now c.steps.flat c.run_instructions-taken.new.self c.args.t c.run_instructions-taken.result
-        c.requires.target c.steps.invariant.under
-        (let a = c.run_instructions-taken.ensures.within in let b = c.left.ensures in let m = c.min-limit.ensures in omega (arith, a, b, m))
-        c.run_instructions-taken.ensures.went
+    c.requires.target c.steps.invariant.under
+    (let a = c.run_instructions-taken.ensures.within in let b = c.left.ensures in let m = c.min-limit.ensures in omega (arith, a, b, m))
+    c.run_instructions-taken.ensures.went
 
 pub returns-then-not-step-clause-gone : goal.returns-then-not-step-clause-gone
 returns-then-not-step-clause-gone g c =
     none_on c.args.flat.now c.run_instructions-taken.new.self c.step.new.flat c.args.t _
-        (alone_on c.args.flat.now c.steps.flat c.run_instructions-taken.new.self c.args.t c.steps.taken c.run_instructions-taken.result
-        c.steps.invariant.gone c.run_instructions-taken.ensures.went) (c.step.ensures.same c.if-not-step.true)
+    (alone_on c.args.flat.now c.steps.flat c.run_instructions-taken.new.self c.args.t c.steps.taken c.run_instructions-taken.result
+    c.steps.invariant.gone c.run_instructions-taken.ensures.went) (c.step.ensures.same c.if-not-step.true)
 
 pub steps-preserved : goal.steps-preserved
 steps-preserved g c =

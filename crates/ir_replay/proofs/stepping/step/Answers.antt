@@ -16,15 +16,15 @@ returns-in-None-clause-rests g c = λ same. rests_there c.args.fitted.now c.args
 pub returns-in-Some-clause-under : goal.returns-in-Some-clause-under
 returns-in-Some-clause-under g c =
     (step_taken c.take.result c.args.fitted.now c.args.target.now c.args.flat.now c.take.new.self c.args.t c.in-Some.result
-        c.requires.target c.requires.under c.requires.thread
+    c.requires.target c.requires.under c.requires.thread
     (let some = c.if-left-eq0.false in let is = c.left.ensures in
-        let e : positions c.args.flat.now c.args.t < cut_of c.args.target.now c.args.t = omega (arith, some, is) in e)
+    let e : positions c.args.flat.now c.args.t < cut_of c.args.target.now c.args.t = omega (arith, some, is) in e)
     c.in-Some.ensures c.take.ensures.taken c.take.ensures.code c.take.ensures.threads c.take.ensures.objects c.take.ensures.refused).under
 
 pub returns-in-Some-clause-gone : goal.returns-in-Some-clause-gone
 returns-in-Some-clause-gone g c moved =
     (step_taken c.take.result c.args.fitted.now c.args.target.now c.args.flat.now c.take.new.self c.args.t c.in-Some.result
-        c.requires.target c.requires.under c.requires.thread
+    c.requires.target c.requires.under c.requires.thread
     (let some = c.if-left-eq0.false in let is = c.left.ensures in
-        let e : positions c.args.flat.now c.args.t < cut_of c.args.target.now c.args.t = omega (arith, some, is) in e)
+    let e : positions c.args.flat.now c.args.t < cut_of c.args.target.now c.args.t = omega (arith, some, is) in e)
     c.in-Some.ensures c.take.ensures.taken c.take.ensures.code c.take.ensures.threads c.take.ensures.objects c.take.ensures.refused).gone

@@ -9,7 +9,7 @@ one_more : (a b c : Option (List ℕ)) (bytes done rest : List ℕ) (n : ℕ) �
     → Appends b c (take n rest) → (x : List ℕ) × (bytes ≡ x ++ take (length rest - n) (drop n rest)) × Appends a c x
 one_more a b c bytes done rest n e p q =
     let all : take (length rest - n) (drop n rest) ≡ drop n rest =
-        take_all (length rest - n) (drop n rest) (omega (arith, length-drop n rest)) in (
+    take_all (length rest - n) (drop n rest) (omega (arith, length-drop n rest)) in (
       done ++ take n rest,
       e ∙ ap (λ (r : List ℕ). done ++ r) (sym (take-append-drop n rest) ∙ ap (λ (r : List ℕ). take n rest ++ r) (sym all))
           ∙ sym (append_assoc done (take n rest) (take (length rest - n) (drop n rest))),
@@ -19,6 +19,6 @@ one_more a b c bytes done rest n e p q =
 pub loop-rest-preserved : goal.loop-rest-preserved
 loop-rest-preserved g c =
     let more = one_more (g.W.Sink.written c.args.writer.now) (g.W.Sink.written c.loop-rest.writer) (g.W.Sink.written c.write.new.self)
-        c.args.bytes.now c.loop-rest.invariant.0 c.loop-rest.rest.now c.in_ok-n.n c.loop-rest.invariant.1 c.loop-rest.invariant.2
-        c.in_ok-n.ensures.bytes in
+    c.args.bytes.now c.loop-rest.invariant.0 c.loop-rest.rest.now c.in_ok-n.n c.loop-rest.invariant.1 c.loop-rest.invariant.2
+    c.in_ok-n.ensures.bytes in
     (more.0, more.1, more.2, c.in_ok-n.ensures.stays ∙ c.loop-rest.invariant.3)

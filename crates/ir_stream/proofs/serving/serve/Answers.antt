@@ -38,26 +38,26 @@ returns-in-End-clause-ended g c = finish_ended g.M.Responder.replies g.M.Respond
     g.met.M.Responder.long_replies g.met.M.Responder.long_quits
     c.args.machine.now (g.R.Source.left c.args.reader.now) (g.W.Sink.written c.args.writer.now)
     (g.R.Source.left c.loop-taken.reader) (g.R.Source.left c.next_byte.new.reader) (g.W.Sink.written c.loop-taken.writer)
-        c.loop-taken.machine c.as_slice.result.now c.loop-taken.taken
+    c.loop-taken.machine c.as_slice.result.now c.loop-taken.taken
     (at_other g.M.Responder.replies g.M.Responder.quits c.args.machine.now (g.R.Source.left c.args.reader.now)
-        (g.W.Sink.written c.args.writer.now) (g.R.Source.left c.loop-taken.reader) (g.W.Sink.written c.loop-taken.writer)
-        c.loop-taken.machine c.loop-taken.line.items c.as_slice.result.now c.loop-taken.taken c.loop-taken.taken c.loop-taken.invariant.at
-        c.as_slice.ensures.value refl)
+    (g.W.Sink.written c.args.writer.now) (g.R.Source.left c.loop-taken.reader) (g.W.Sink.written c.loop-taken.writer)
+    c.loop-taken.machine c.loop-taken.line.items c.as_slice.result.now c.loop-taken.taken c.loop-taken.taken c.loop-taken.invariant.at
+    c.as_slice.ensures.value refl)
     c.args.limit c.loop-taken-test.true c.in-End.ensures.bytes.0 c.finish.result (g.W.Sink.written c.finish.new.writer) c.finish.ensures.ok
-        c.finish.ensures.served c.finish.ensures.fault
+    c.finish.ensures.served c.finish.ensures.fault
 
 pub returns-in-End-clause-known : goal.returns-in-End-clause-known
 returns-in-End-clause-known g c = finish_known g.M.Responder.replies g.M.Responder.quits
     g.met.M.Responder.long_replies g.met.M.Responder.long_quits
     c.args.machine.now (g.R.Source.left c.args.reader.now) (g.W.Sink.written c.args.writer.now)
     (g.R.Source.left c.loop-taken.reader) (g.R.Source.left c.next_byte.new.reader) (g.W.Sink.written c.loop-taken.writer)
-        c.loop-taken.machine c.as_slice.result.now c.loop-taken.taken
+    c.loop-taken.machine c.as_slice.result.now c.loop-taken.taken
     (at_other g.M.Responder.replies g.M.Responder.quits c.args.machine.now (g.R.Source.left c.args.reader.now)
-        (g.W.Sink.written c.args.writer.now) (g.R.Source.left c.loop-taken.reader) (g.W.Sink.written c.loop-taken.writer)
-        c.loop-taken.machine c.loop-taken.line.items c.as_slice.result.now c.loop-taken.taken c.loop-taken.taken c.loop-taken.invariant.at
-        c.as_slice.ensures.value refl)
+    (g.W.Sink.written c.args.writer.now) (g.R.Source.left c.loop-taken.reader) (g.W.Sink.written c.loop-taken.writer)
+    c.loop-taken.machine c.loop-taken.line.items c.as_slice.result.now c.loop-taken.taken c.loop-taken.taken c.loop-taken.invariant.at
+    c.as_slice.ensures.value refl)
     c.args.limit c.loop-taken-test.true c.in-End.ensures.bytes.0 c.finish.result (g.W.Sink.written c.finish.new.writer)
-        c.in-End.ensures.bytes.1 c.finish.ensures.ok c.finish.ensures.served c.finish.ensures.fault
+    c.in-End.ensures.bytes.1 c.finish.ensures.ok c.finish.ensures.served c.finish.ensures.fault
 
 pub returns-in-End-clause-write : goal.returns-in-End-clause-write
 returns-in-End-clause-write g c = λ failed. (
@@ -67,13 +67,13 @@ returns-in-End-clause-write g c = λ failed. (
       g.met.M.Responder.long_replies g.met.M.Responder.long_quits
       c.args.machine.now (g.R.Source.left c.args.reader.now) (g.W.Sink.written c.args.writer.now)
       (g.R.Source.left c.loop-taken.reader) (g.R.Source.left c.next_byte.new.reader) (g.W.Sink.written c.loop-taken.writer)
-          c.loop-taken.machine c.as_slice.result.now c.loop-taken.taken
+      c.loop-taken.machine c.as_slice.result.now c.loop-taken.taken
       (at_other g.M.Responder.replies g.M.Responder.quits c.args.machine.now (g.R.Source.left c.args.reader.now)
-          (g.W.Sink.written c.args.writer.now) (g.R.Source.left c.loop-taken.reader) (g.W.Sink.written c.loop-taken.writer)
-          c.loop-taken.machine c.loop-taken.line.items c.as_slice.result.now c.loop-taken.taken c.loop-taken.taken c.loop-taken.invariant.at
-          c.as_slice.ensures.value refl)
+      (g.W.Sink.written c.args.writer.now) (g.R.Source.left c.loop-taken.reader) (g.W.Sink.written c.loop-taken.writer)
+      c.loop-taken.machine c.loop-taken.line.items c.as_slice.result.now c.loop-taken.taken c.loop-taken.taken c.loop-taken.invariant.at
+      c.as_slice.ensures.value refl)
       c.args.limit c.loop-taken-test.true c.in-End.ensures.bytes.0 c.finish.result (g.W.Sink.written c.finish.new.writer)
-          c.in-End.ensures.bytes.1 failed c.finish.ensures.prefix,
+      c.in-End.ensures.bytes.1 failed c.finish.ensures.prefix,
 )
 
 pub loop-taken-preserved-then-byte-ne10 : goal.loop-taken-preserved-then-byte-ne10
@@ -82,9 +82,9 @@ loop-taken-preserved-then-byte-ne10 g c = record {
       g.met.M.Responder.long_replies g.met.M.Responder.long_quits
       c.args.machine.now (g.R.Source.left c.args.reader.now) (g.W.Sink.written c.args.writer.now)
       (g.R.Source.left c.loop-taken.reader) (g.R.Source.left c.next_byte.new.reader) (g.W.Sink.written c.loop-taken.writer)
-          c.loop-taken.machine c.loop-taken.line.items c.loop-taken.taken
+      c.loop-taken.machine c.loop-taken.line.items c.loop-taken.taken
       c.loop-taken.invariant.at c.keep.new.line.items c.in-Byte.byte c.in-Byte.ensures.bytes (ne_eqb c.in-Byte.byte 10 c.if-byte-ne10.true)
-          c.keep.ensures;
+      c.keep.ensures;
   reads = c.in-Byte.ensures.broken ∙ c.loop-taken.invariant.reads;
   writes = c.loop-taken.invariant.writes;
   room = omega (arith, c.loop-taken.invariant.room);
@@ -95,32 +95,32 @@ returns-in-Ok-Quits-clause-ended g c = quit_ended g.M.Responder.replies g.M.Resp
     g.met.M.Responder.long_replies g.met.M.Responder.long_quits
     c.args.machine.now (g.R.Source.left c.args.reader.now) (g.W.Sink.written c.args.writer.now)
     (g.R.Source.left c.loop-taken.reader) (g.R.Source.left c.next_byte.new.reader) (g.W.Sink.written c.loop-taken.writer)
-        c.loop-taken.machine c.as_slice-in-Byte.result.now c.loop-taken.taken
+    c.loop-taken.machine c.as_slice-in-Byte.result.now c.loop-taken.taken
     (at_other g.M.Responder.replies g.M.Responder.quits c.args.machine.now (g.R.Source.left c.args.reader.now)
-        (g.W.Sink.written c.args.writer.now) (g.R.Source.left c.loop-taken.reader) (g.W.Sink.written c.loop-taken.writer)
-        c.loop-taken.machine c.loop-taken.line.items c.as_slice-in-Byte.result.now c.loop-taken.taken c.loop-taken.taken
-        c.loop-taken.invariant.at c.as_slice-in-Byte.ensures.value refl)
+    (g.W.Sink.written c.args.writer.now) (g.R.Source.left c.loop-taken.reader) (g.W.Sink.written c.loop-taken.writer)
+    c.loop-taken.machine c.loop-taken.line.items c.as_slice-in-Byte.result.now c.loop-taken.taken c.loop-taken.taken
+    c.loop-taken.invariant.at c.as_slice-in-Byte.ensures.value refl)
     c.args.limit c.loop-taken-test.true c.respond.new.self (g.W.Sink.written c.respond.new.writer)
-        (subst (λ (b : ℕ). Consumes (g.R.Source.left c.loop-taken.reader) (g.R.Source.left c.next_byte.new.reader) (b ∷ []))
-        c.if-byte-ne10.false c.in-Byte.ensures.bytes)
+    (subst (λ (b : ℕ). Consumes (g.R.Source.left c.loop-taken.reader) (g.R.Source.left c.next_byte.new.reader) (b ∷ []))
+    c.if-byte-ne10.false c.in-Byte.ensures.bytes)
     c.in-Ok-Quits.ensures.ok (quit c.in-Ok-Quits.field-0 (g.M.Responder.quits c.as_slice-in-Byte.result.now) c.in-Ok-Quits.ensures.flow
-        c.in-Ok-Quits.field-0-is)
+    c.in-Ok-Quits.field-0-is)
 
 pub returns-in-Ok-Quits-clause-known : goal.returns-in-Ok-Quits-clause-known
 returns-in-Ok-Quits-clause-known g c = quit_known g.M.Responder.replies g.M.Responder.quits
     g.met.M.Responder.long_replies g.met.M.Responder.long_quits
     c.args.machine.now (g.R.Source.left c.args.reader.now) (g.W.Sink.written c.args.writer.now)
     (g.R.Source.left c.loop-taken.reader) (g.R.Source.left c.next_byte.new.reader) (g.W.Sink.written c.loop-taken.writer)
-        c.loop-taken.machine c.as_slice-in-Byte.result.now c.loop-taken.taken
+    c.loop-taken.machine c.as_slice-in-Byte.result.now c.loop-taken.taken
     (at_other g.M.Responder.replies g.M.Responder.quits c.args.machine.now (g.R.Source.left c.args.reader.now)
-        (g.W.Sink.written c.args.writer.now) (g.R.Source.left c.loop-taken.reader) (g.W.Sink.written c.loop-taken.writer)
-        c.loop-taken.machine c.loop-taken.line.items c.as_slice-in-Byte.result.now c.loop-taken.taken c.loop-taken.taken
-        c.loop-taken.invariant.at c.as_slice-in-Byte.ensures.value refl)
+    (g.W.Sink.written c.args.writer.now) (g.R.Source.left c.loop-taken.reader) (g.W.Sink.written c.loop-taken.writer)
+    c.loop-taken.machine c.loop-taken.line.items c.as_slice-in-Byte.result.now c.loop-taken.taken c.loop-taken.taken
+    c.loop-taken.invariant.at c.as_slice-in-Byte.ensures.value refl)
     c.args.limit c.loop-taken-test.true c.respond.new.self (g.W.Sink.written c.respond.new.writer)
-        (subst (λ (b : ℕ). Consumes (g.R.Source.left c.loop-taken.reader) (g.R.Source.left c.next_byte.new.reader) (b ∷ []))
-        c.if-byte-ne10.false c.in-Byte.ensures.bytes)
+    (subst (λ (b : ℕ). Consumes (g.R.Source.left c.loop-taken.reader) (g.R.Source.left c.next_byte.new.reader) (b ∷ []))
+    c.if-byte-ne10.false c.in-Byte.ensures.bytes)
     c.in-Ok-Quits.ensures.ok (quit c.in-Ok-Quits.field-0 (g.M.Responder.quits c.as_slice-in-Byte.result.now) c.in-Ok-Quits.ensures.flow
-        c.in-Ok-Quits.field-0-is)
+    c.in-Ok-Quits.field-0-is)
 
 pub returns-in-Err-clause-write : goal.returns-in-Err-clause-write
 returns-in-Err-clause-write g c = λ _. (
@@ -130,14 +130,14 @@ returns-in-Err-clause-write g c = λ _. (
       g.met.M.Responder.long_replies g.met.M.Responder.long_quits
       c.args.machine.now (g.R.Source.left c.args.reader.now) (g.W.Sink.written c.args.writer.now)
       (g.R.Source.left c.loop-taken.reader) (g.R.Source.left c.next_byte.new.reader) (g.W.Sink.written c.loop-taken.writer)
-          c.loop-taken.machine c.as_slice-in-Byte.result.now c.loop-taken.taken
+      c.loop-taken.machine c.as_slice-in-Byte.result.now c.loop-taken.taken
       (at_other g.M.Responder.replies g.M.Responder.quits c.args.machine.now (g.R.Source.left c.args.reader.now)
-          (g.W.Sink.written c.args.writer.now) (g.R.Source.left c.loop-taken.reader) (g.W.Sink.written c.loop-taken.writer)
-          c.loop-taken.machine c.loop-taken.line.items c.as_slice-in-Byte.result.now c.loop-taken.taken c.loop-taken.taken
-          c.loop-taken.invariant.at c.as_slice-in-Byte.ensures.value refl)
+      (g.W.Sink.written c.args.writer.now) (g.R.Source.left c.loop-taken.reader) (g.W.Sink.written c.loop-taken.writer)
+      c.loop-taken.machine c.loop-taken.line.items c.as_slice-in-Byte.result.now c.loop-taken.taken c.loop-taken.taken
+      c.loop-taken.invariant.at c.as_slice-in-Byte.ensures.value refl)
       c.args.limit c.loop-taken-test.true (g.W.Sink.written c.respond.new.writer)
-          (subst (λ (b : ℕ). Consumes (g.R.Source.left c.loop-taken.reader) (g.R.Source.left c.next_byte.new.reader) (b ∷ []))
-          c.if-byte-ne10.false c.in-Byte.ensures.bytes) c.in-Err.ensures.prefix,
+      (subst (λ (b : ℕ). Consumes (g.R.Source.left c.loop-taken.reader) (g.R.Source.left c.next_byte.new.reader) (b ∷ []))
+      c.if-byte-ne10.false c.in-Byte.ensures.bytes) c.in-Err.ensures.prefix,
 )
 
 pub loop-taken-preserved : goal.loop-taken-preserved
@@ -146,16 +146,16 @@ loop-taken-preserved g c = record {
       g.met.M.Responder.long_replies g.met.M.Responder.long_quits
       c.args.machine.now (g.R.Source.left c.args.reader.now) (g.W.Sink.written c.args.writer.now)
       (g.R.Source.left c.loop-taken.reader) (g.R.Source.left c.next_byte.new.reader) (g.W.Sink.written c.loop-taken.writer)
-          c.loop-taken.machine c.as_slice-in-Byte.result.now c.loop-taken.taken
+      c.loop-taken.machine c.as_slice-in-Byte.result.now c.loop-taken.taken
       (at_other g.M.Responder.replies g.M.Responder.quits c.args.machine.now (g.R.Source.left c.args.reader.now)
-          (g.W.Sink.written c.args.writer.now) (g.R.Source.left c.loop-taken.reader) (g.W.Sink.written c.loop-taken.writer)
-          c.loop-taken.machine c.loop-taken.line.items c.as_slice-in-Byte.result.now c.loop-taken.taken c.loop-taken.taken
-          c.loop-taken.invariant.at c.as_slice-in-Byte.ensures.value refl)
+      (g.W.Sink.written c.args.writer.now) (g.R.Source.left c.loop-taken.reader) (g.W.Sink.written c.loop-taken.writer)
+      c.loop-taken.machine c.loop-taken.line.items c.as_slice-in-Byte.result.now c.loop-taken.taken c.loop-taken.taken
+      c.loop-taken.invariant.at c.as_slice-in-Byte.ensures.value refl)
       (g.W.Sink.written c.respond.new.writer) c.respond.new.self
-          (subst (λ (b : ℕ). Consumes (g.R.Source.left c.loop-taken.reader) (g.R.Source.left c.next_byte.new.reader) (b ∷ []))
-          c.if-byte-ne10.false c.in-Byte.ensures.bytes)
+      (subst (λ (b : ℕ). Consumes (g.R.Source.left c.loop-taken.reader) (g.R.Source.left c.next_byte.new.reader) (b ∷ []))
+      c.if-byte-ne10.false c.in-Byte.ensures.bytes)
       c.in-Ok-Goes.ensures.ok (goes c.in-Ok-Goes.field-0 (g.M.Responder.quits c.as_slice-in-Byte.result.now) c.in-Ok-Goes.ensures.flow
-          c.in-Ok-Goes.field-0-is));
+      c.in-Ok-Goes.field-0-is));
   reads = c.in-Byte.ensures.broken ∙ c.loop-taken.invariant.reads;
   writes = c.in-Ok-Goes.ensures.stays ∙ c.loop-taken.invariant.writes;
   room = omega (arith, c.loop-taken.invariant.room, c.in-Ok-Goes.ensures.room);
@@ -167,11 +167,11 @@ returns-clause-ended g c = let e : c.loop-taken.taken ≡ c.args.limit =
     long_ended g.M.Responder.replies g.M.Responder.quits
     g.met.M.Responder.long_replies g.met.M.Responder.long_quits
     c.args.machine.now (g.R.Source.left c.args.reader.now) (g.W.Sink.written c.args.writer.now) (g.R.Source.left c.loop-taken.reader)
-        (g.W.Sink.written c.loop-taken.writer) c.loop-taken.machine c.loop-taken.line.items c.args.limit
+    (g.W.Sink.written c.loop-taken.writer) c.loop-taken.machine c.loop-taken.line.items c.args.limit
     (at_other g.M.Responder.replies g.M.Responder.quits c.args.machine.now (g.R.Source.left c.args.reader.now)
-        (g.W.Sink.written c.args.writer.now) (g.R.Source.left c.loop-taken.reader) (g.W.Sink.written c.loop-taken.writer)
-        c.loop-taken.machine c.loop-taken.line.items c.loop-taken.line.items c.loop-taken.taken c.args.limit c.loop-taken.invariant.at
-        refl e)
+    (g.W.Sink.written c.args.writer.now) (g.R.Source.left c.loop-taken.reader) (g.W.Sink.written c.loop-taken.writer)
+    c.loop-taken.machine c.loop-taken.line.items c.loop-taken.line.items c.loop-taken.taken c.args.limit c.loop-taken.invariant.at
+    refl e)
 
 pub returns-clause-known : goal.returns-clause-known
 returns-clause-known g c = let e : c.loop-taken.taken ≡ c.args.limit =
@@ -179,8 +179,8 @@ returns-clause-known g c = let e : c.loop-taken.taken ≡ c.args.limit =
     long_known g.M.Responder.replies g.M.Responder.quits
     g.met.M.Responder.long_replies g.met.M.Responder.long_quits
     c.args.machine.now (g.R.Source.left c.args.reader.now) (g.W.Sink.written c.args.writer.now) (g.R.Source.left c.loop-taken.reader)
-        (g.W.Sink.written c.loop-taken.writer) c.loop-taken.machine c.loop-taken.line.items c.args.limit
+    (g.W.Sink.written c.loop-taken.writer) c.loop-taken.machine c.loop-taken.line.items c.args.limit
     (at_other g.M.Responder.replies g.M.Responder.quits c.args.machine.now (g.R.Source.left c.args.reader.now)
-        (g.W.Sink.written c.args.writer.now) (g.R.Source.left c.loop-taken.reader) (g.W.Sink.written c.loop-taken.writer)
-        c.loop-taken.machine c.loop-taken.line.items c.loop-taken.line.items c.loop-taken.taken c.args.limit c.loop-taken.invariant.at
-        refl e)
+    (g.W.Sink.written c.args.writer.now) (g.R.Source.left c.loop-taken.reader) (g.W.Sink.written c.loop-taken.writer)
+    c.loop-taken.machine c.loop-taken.line.items c.loop-taken.line.items c.loop-taken.taken c.args.limit c.loop-taken.invariant.at
+    refl e)

@@ -11,8 +11,8 @@ pub returns-in_err-one-clause-exact : goal.returns-in_err-one-clause-exact
 returns-in_err-one-clause-exact c =
     let p = err_from_is_err_and c.from_residual-in_err-one.result c.from_residual-in_err-one.ensures.1 in
     rw (p.1, p.2) (ends c.in_err-one.field-0.0 (event_at c.args.objects) c.loop.log.events c.args.count c.loop.counter c.loop.rest.now
-        (fields_at (event_at c.args.objects) c.args.count c.args.bytes.now) c.loop-test.true c.in_err-one.ensures.exact
-        c.loop.invariant.told)
+    (fields_at (event_at c.args.objects) c.args.count c.args.bytes.now) c.loop-test.true c.in_err-one.ensures.exact
+    c.loop.invariant.told)
 
 pub loop-preserved : goal.loop-preserved
 loop-preserved c =

@@ -10,6 +10,6 @@ unfolding thread_encoding
 returns c =
     let t = c.args.thread.now in
     four_pieces c.args.out.now.items (little_bytes 8 t.steps) (end_encoding t.end) (little_bytes 4 (length t.events))
-        (flat_map event_encoding t.events)
+    (flat_map event_encoding t.events)
     c.put_double.new.out.items c.put_end.new.out.items c.put_word.new.out.items c.put_events.new.out.items (search rules) (search rules)
-        (search rules) (search rules)
+    (search rules) (search rules)

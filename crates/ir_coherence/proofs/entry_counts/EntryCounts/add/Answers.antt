@@ -11,7 +11,7 @@ add-requires c =
     let fits = subst (IsEvent (vec_len objects)) c.in-Read.is c.requires.object in
     let within : c.in-Read.object < length objects.items = omega (arith, fits.0, objects.ok.0) in
     room_at (λ x. count x.reads c.in-Read.version) objects.items c.in-Read.object c.index_mut.result.now 4294967296 within
-        (sym c.index_mut.ensures.value) (c.requires.room.reads c.in-Read.object c.in-Read.version)
+    (sym c.index_mut.ensures.value) (c.requires.room.reads c.in-Read.object c.in-Read.version)
 
 pub add-requires-in-Write : goal.add-requires-in-Write
 add-requires-in-Write c =
@@ -19,7 +19,7 @@ add-requires-in-Write c =
     let fits = subst (IsEvent (vec_len objects)) c.in-Write.is c.requires.object in
     let within : c.in-Write.object < length objects.items = omega (arith, fits.0, objects.ok.0) in
     room_at (λ x. count x.writes c.in-Write.version) objects.items c.in-Write.object c.index_mut-in-Write.result.now 4294967296 within
-        (sym c.index_mut-in-Write.ensures.value) (c.requires.room.writes c.in-Write.object c.in-Write.version)
+    (sym c.index_mut-in-Write.ensures.value) (c.requires.room.writes c.in-Write.object c.in-Write.version)
 
 pub returns-in-Read : goal.returns-in-Read
 returns-in-Read c =
@@ -39,7 +39,7 @@ returns-in-Write c =
     let fits = subst (IsEvent (vec_len objects)) c.in-Write.is c.requires.object in
     let within : c.in-Write.object < length objects.items = omega (arith, fits.0, objects.ok.0) in
     rw c.in-Write.is (on_ok_weaker c.add-in-Write.result
-        (λ (more : OneMore c.index_mut-in-Write.result.now.writes c.add-in-Write.new.self c.in-Write.version). record {
+    (λ (more : OneMore c.index_mut-in-Write.result.now.writes c.add-in-Write.new.self c.in-Write.version). record {
       objects = refl;
       reads = same_reads objects.items c.in-Write.object c.index_mut-in-Write.result.now c.add-in-Write.new.self within
           (sym c.index_mut-in-Write.ensures.value);

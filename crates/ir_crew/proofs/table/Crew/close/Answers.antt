@@ -10,9 +10,9 @@ object-requires-clause-there c = let e = c.close_with-closed.ensures.counts.0 in
 pub object-requires-clause-small : goal.object-requires-clause-small
 object-requires-clause-small c i word lt e = let t = c.loop-o-test.true in let r = c.requires.room in
     cell_small c.args.self.table.shared.key c.args.seat.id c.args.seat.me.0 (slots_items c.close_with-closed.result.words) _
-        c.close_with-closed.ensures.values.2 c.loop-o.o i word (omega (arith, t, r)) lt e
+    c.close_with-closed.ensures.values.2 c.loop-o.o i word (omega (arith, t, r)) lt e
 
 pub returns : goal.returns
 returns c = let f = c.loop-o-test.false in let r = c.requires.room in
     ends c.args.self.table.shared.key c.args.seat.id c.args.seat.me.0 (slots_items c.close_with-closed.result.words) _ c.loop-o.objects
-        c.close_with-closed.ensures.values.2 (λ o lt. c.loop-o.invariant o (omega (arith, f, r, lt)))
+    c.close_with-closed.ensures.values.2 (λ o lt. c.loop-o.invariant o (omega (arith, f, r, lt)))

@@ -4,6 +4,10 @@ use Rattle.ir_crew.specs.Rule.{tracks_from}
 use Rattle.ir_crew.proofs.table.Crew.deal.Given as goal
 
 abbrev pub invariant-loop-thread : goal.invariant-loop-thread
-invariant-loop-thread l = record { count : length l.seats.items + 1 ≡ l._thread; table : l.seat.table_id ≡ l.self.table.shared.table_id;
-    me : (m : ℕ) × (length l.seats.items + m ≡ l.threads)
-    × (l.seat.me ≡ (tracks_from (length l.seats.items) m, [])); seats : AreSeats l.self.table.shared.table_id 0 l.seats.items }
+invariant-loop-thread l = record {
+  count : length l.seats.items + 1 ≡ l._thread;
+  table : l.seat.table_id ≡ l.self.table.shared.table_id;
+  me : (m : ℕ) × (length l.seats.items + m ≡ l.threads)
+      × (l.seat.me ≡ (tracks_from (length l.seats.items) m, []));
+  seats : AreSeats l.self.table.shared.table_id 0 l.seats.items;
+}

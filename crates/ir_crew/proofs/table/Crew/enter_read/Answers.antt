@@ -8,8 +8,12 @@ use Rattle.ir_crew.proofs.Steps.{looks, enters_read, tried_hit, alone_as}
 use Rattle.ir_crew.proofs.table.Crew.enter_read.Goals as goal
 
 pub load-seen-requires : goal.load-seen-requires
-load-seen-requires g c = (c.requires.seat.0, (let o = c.requires.object in let w = c.args.self.now.words in omega (arith, o, w)), looks _ _
-    _ c.args.object c.args.seat.now.me c.requires.seat.1 c.requires.object)
+load-seen-requires g c = (
+  c.requires.seat.0,
+  (let o = c.requires.object in let w = c.args.self.now.words in omega (arith, o, w)),
+  looks _ _
+      _ c.args.object c.args.seat.now.me c.requires.seat.1 c.requires.object,
+)
 
 pub loop-init : goal.loop-init
 loop-init g c = let e = c.load-seen.ensures in record { table = e.0; id = e.1; me = e.2.0; small = e.2.1.small }
@@ -24,8 +28,8 @@ compare_exchange-found-requires g c = let me = c.loop.invariant.me in (
   enters_read _ _ _ c.args.object c.loop.seen c.loop.seat.me (alone_as c.loop.seat.me c.args.seat.now.me me c.requires.seat.1)
       c.requires.object
       (subst (λ (m : M). entries (map shared_of (history m.0)) < most_events) (sym me) c.requires.room)
-          (subst (λ (m : M). inside_by c.args.object (history m.0) ≡ None) (sym me) c.requires.outside)
-          (c.can_read.ensures.0 c.if-can_read.true),
+      (subst (λ (m : M). inside_by c.args.object (history m.0) ≡ None) (sym me) c.requires.outside)
+      (c.can_read.ensures.0 c.if-can_read.true),
 )
 
 pub returns-then-found-seen-clause-seat : goal.returns-then-found-seen-clause-seat
@@ -35,7 +39,7 @@ returns-then-found-seen-clause-seat g c = let e = c.compare_exchange-found.ensur
 pub returns-then-found-seen-clause-entered : goal.returns-then-found-seen-clause-entered
 returns-then-found-seen-clause-entered g c =
     tried_hit read_entry c.args.self.now.table.shared.table_id.slots c.args.object c.loop.seen (c.loop.seen + 2)
-        c.compare_exchange-found.result c.loop.seat.me c.args.seat.now.me c.compare_exchange-found.new.seat.me
+    c.compare_exchange-found.result c.loop.seat.me c.args.seat.now.me c.compare_exchange-found.new.seat.me
     c.compare_exchange-found.ensures.2 c.if-found-seen.true c.loop.invariant.me
     ∙ ap (λ v. (did c.args.seat.now.me.0 c.args.object (Enter Reading v 0), c.args.seat.now.me.1)) (sym c.version.ensures)
 

@@ -3,5 +3,10 @@ use Rattle.ir_crew.proofs.Seats.{joins}
 use Rattle.ir_crew.proofs.table.Crew.join.Goals as goal
 
 pub join_seat-requires : goal.join_seat-requires
-join_seat-requires c = (c.requires.seat.0, c.requires.other.0, c.requires.other.1, (let w = c.args.self.now.words in omega (arith, w)),
-    joins _ _ _ _ _)
+join_seat-requires c = (
+  c.requires.seat.0,
+  c.requires.other.0,
+  c.requires.other.1,
+  (let w = c.args.self.now.words in omega (arith, w)),
+  joins _ _ _ _ _,
+)

@@ -26,6 +26,6 @@ store-requires c = let e = c.load-seen.ensures in let v : ℕ = c.load-seen.resu
       (alone_as _ c.args.seat.now.me e.2.0 c.requires.seat.1) c.requires.object
       (subst (λ (m : M). inside_by c.args.object (history m.0) ≡ Some Writing) (sym e.2.0) (c.requires.inside ∙ ap Some c.in-Writing.is))
       (seen_version c.args.seat.now.me c.load-seen.new.seat.me c.args.object c.load-seen.result c.args.self.now.table.shared.table_id.slots
-          e.2 (c.requires.inside ∙ ap Some c.in-Writing.is))
+      e.2 (c.requires.inside ∙ ap Some c.in-Writing.is))
       (c.next_version-left.ensures ∙ omega arith),
 )

@@ -9,6 +9,8 @@ invariant_of-self c =
     let guest = c.self.inside.image in
     let start = start_state guest 0 c.self.inside.budget in
     let count = c.min-count.result in
-    let ran = c.run.ensures ∙ ap (λ (code : List ℕ). own_run code count c.self.inside.thread) c.code.ensures.value in
-    (ran ∙ ap (λ (s : State). own_run guest.code count s) c.self.invariant.0
-        ∙ sym (run-add guest.code start c.self.inside.at count), omega arith)
+    let ran = c.run.ensures ∙ ap (λ (code : List ℕ). own_run code count c.self.inside.thread) c.code.ensures.value in (
+      ran ∙ ap (λ (s : State). own_run guest.code count s) c.self.invariant.0
+          ∙ sym (run-add guest.code start c.self.inside.at count),
+      omega arith,
+    )

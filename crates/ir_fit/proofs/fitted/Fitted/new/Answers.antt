@@ -9,4 +9,4 @@ entered-requires-clause-each c = λ t l.
     let within : t < length c.args.image.entries = omega (arith, l, ap length c.deref.ensures.value, c.requires.each) in
     let long = entries_long record { guest = c.args.image; recorded = c.args.trace; placed = c.args.places.items } c.requires t within in
     subst (λ (ps : List Placed). length (recorded_thread c.args.trace t).events ≤ length (placed_at ps t).entries)
-        (sym c.deref.ensures.value) (omega (arith, long))
+    (sym c.deref.ensures.value) (omega (arith, long))

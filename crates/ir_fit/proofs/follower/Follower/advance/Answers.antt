@@ -4,19 +4,23 @@ use Rattle.ir_fit.proofs.Moves.{stays, went_further, moved_further, moved_less, 
 use Rattle.ir_fit.proofs.follower.Follower.advance.Goals as goal
 
 pub steps-init : goal.steps-init
-steps-init c = record { goes = stays c.args.self.now.trace c.args.self.now.flat c.args.self.now.places.items; trace = refl; sized =
-    c.requires.sized }
+steps-init c = record {
+  goes = stays c.args.self.now.trace c.args.self.now.flat c.args.self.now.places.items;
+  trace = refl;
+  sized =
+      c.requires.sized;
+}
 
 pub returns-in_default : goal.returns-in_default
 returns-in_default c = record {
   goes = subst (λ z. GoesOn c.args.self.now.trace c.args.self.now.flat c.args.self.now.places.items z c.note.new.self.places.items)
       (sym c.note.ensures.flat)
       (subst (GoesOn c.args.self.now.trace c.args.self.now.flat c.args.self.now.places.items c.run_instructions.new.self)
-          (sym c.note.ensures.places)
+      (sym c.note.ensures.places)
       (went_further c.args.self.now.trace c.steps.self.trace c.args.self.now.flat c.steps.self.flat c.run_instructions.new.self
-          c.args.self.now.places.items c.steps.self.places.items c.args.t c.run_instructions.result c.steps_left-left.result
-          c.steps.invariant.trace c.steps.invariant.goes c.run_instructions.ensures.went c.run_instructions.ensures.within
-          c.steps_left-left.ensures));
+      c.args.self.now.places.items c.steps.self.places.items c.args.t c.run_instructions.result c.steps_left-left.result
+      c.steps.invariant.trace c.steps.invariant.goes c.run_instructions.ensures.went c.run_instructions.ensures.within
+      c.steps_left-left.ensures));
   trace = c.note.ensures.trace ∙ c.steps.invariant.trace;
   sized = c.note.ensures.sized;
 }

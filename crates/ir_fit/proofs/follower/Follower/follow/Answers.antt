@@ -3,17 +3,21 @@ use Rattle.ir_fit.proofs.Moves.{stays, chained, chained_less}
 use Rattle.ir_fit.proofs.follower.Follower.follow.Goals as goal
 
 pub moves-init : goal.moves-init
-moves-init c = record { goes = stays c.args.self.now.trace c.args.self.now.flat c.args.self.now.places.items; trace = refl; sized =
-    c.requires }
+moves-init c = record {
+  goes = stays c.args.self.now.trace c.args.self.now.flat c.args.self.now.places.items;
+  trace = refl;
+  sized =
+      c.requires;
+}
 
 pub moves-preserved : goal.moves-preserved
 moves-preserved c = record {
   goes = chained c.args.self.now.trace c.next.new.self.trace c.take.new.self.trace c.args.self.now.flat c.moves.self.flat
       c.next.new.self.flat c.take.new.self.flat c.advance.new.self.flat
       c.args.self.now.places.items c.moves.self.places.items c.next.new.self.places.items c.take.new.self.places.items
-          c.advance.new.self.places.items
+      c.advance.new.self.places.items
       c.moves.invariant.goes c.next.ensures.flat c.next.ensures.places (c.next.ensures.trace ∙ c.moves.invariant.trace) c.take.ensures.goes
-          c.take.ensures.trace c.advance.ensures.goes;
+      c.take.ensures.trace c.advance.ensures.goes;
   trace = c.advance.ensures.trace ∙ c.take.ensures.trace ∙ c.next.ensures.trace ∙ c.moves.invariant.trace;
   sized = c.advance.ensures.sized;
 }

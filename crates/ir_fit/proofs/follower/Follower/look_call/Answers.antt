@@ -12,7 +12,7 @@ returns-in-Ok-Answer c =
     let r = c.args.self.now.trace in
     let f = c.args.self.now.flat in
     let next = subst (λ e. slice_get (recorded_thread r c.args.t).events (thread_of f c.args.t).events ≡ Some e) c.in-Ok-Answer.field-0-is
-        c.in-Ok-Answer.ensures.next in
+    c.in-Ok-Answer.ensures.next in
     let suits = subst (λ e. Suits (Env c.args.kind) e) c.in-Ok-Answer.field-0-is c.in-Ok-Answer.ensures.suits in (
       refl,
       record {
@@ -24,5 +24,8 @@ returns-in-Ok-Answer c =
     )
 
 pub returns-in-Err : goal.returns-in-Err
-returns-in-Err c = (asks_env _ c.args.kind c.requires.asked, call_disagrees c.args.self.now.trace c.args.self.now.flat c.args.t c.args.kind
-    c.requires.asked c.in-Err.ensures.disagrees)
+returns-in-Err c = (
+  asks_env _ c.args.kind c.requires.asked,
+  call_disagrees c.args.self.now.trace c.args.self.now.flat c.args.t c.args.kind
+      c.requires.asked c.in-Err.ensures.disagrees,
+)

@@ -14,5 +14,8 @@ returns-then-ends_so c = (
 )
 
 pub returns-else-ends_so : goal.returns-else-ends_so
-returns-else-ends_so c = (asks_end _ c.args.end c.requires.asked, end_disagrees c.args.self.now.trace c.args.self.now.flat c.args.t
-    c.args.end c.requires.asked (test_false c.ends_so.result _ c.ends_so.ensures c.if-ends_so.false))
+returns-else-ends_so c = (
+  asks_end _ c.args.end c.requires.asked,
+  end_disagrees c.args.self.now.trace c.args.self.now.flat c.args.t
+      c.args.end c.requires.asked (test_false c.ends_so.result _ c.ends_so.ensures c.if-ends_so.false),
+)

@@ -9,8 +9,11 @@ object-requires c = enter_object c.args.self.now.flat c.args.t c.args.object c.a
     c.requires.asked
 
 pub returns-in-Err : goal.returns-in-Err
-returns-in-Err c = (asks_entry _ c.args.object c.args.access c.requires.asked, entry_disagrees c.args.self.now.trace c.args.self.now.flat
-    c.args.t c.args.object c.args.access c.requires.asked c.in-Err.ensures.disagrees)
+returns-in-Err c = (
+  asks_entry _ c.args.object c.args.access c.requires.asked,
+  entry_disagrees c.args.self.now.trace c.args.self.now.flat
+      c.args.t c.args.object c.args.access c.requires.asked c.in-Err.ensures.disagrees,
+)
 
 pub returns-then-is_open : goal.returns-then-is_open
 returns-then-is_open c = (
@@ -21,7 +24,7 @@ returns-then-is_open c = (
     follows = entry_follows c.args.self.now.trace c.args.self.now.flat c.args.t c.args.object c.args.access c.in-Ok.event
         c.next_event.ensures.flat c.requires.thread c.requires.asked c.requires.steps c.in-Ok.ensures.next c.in-Ok.ensures.suits
         (found_open c.is_open.result c.object.result.now (cell_of c.args.self.now.flat c.args.object) c.in-Ok.event c.object.ensures
-            c.is_open.ensures c.if-is_open.true);
+        c.is_open.ensures c.if-is_open.true);
   },
 )
 
@@ -33,5 +36,5 @@ returns-else-is_open c = (
   entry_waits c.args.self.now.trace c.args.self.now.flat c.args.t c.args.object c.args.access c.in-Ok.event c.next_event.ensures.flat
       c.requires.thread c.requires.asked c.in-Ok.ensures.next c.in-Ok.ensures.suits
       (found_shut c.is_open.result c.object.result.now (cell_of c.args.self.now.flat c.args.object) c.in-Ok.event c.object.ensures
-          c.is_open.ensures c.if-is_open.false),
+      c.is_open.ensures c.if-is_open.false),
 )

@@ -11,4 +11,4 @@ leave-requires c = subst (λ p. length p.leaves < p.room)
     (sym (kept_found c.args.self.now.places.items c.args.next.thread c.index_mut-in-Leave.result.now
     (let e = c.requires.sized.placed.each in let l = c.requires.follows.below in omega (arith, e, l)) c.index_mut-in-Leave.ensures.value))
     (leave_room c.args.self.now.trace c.args.self.now.flat c.args.self.now.places.items c.args.next.thread c.in-Leave.object
-        c.in-Leave.access c.requires.sized.placed c.requires.follows.below (sym c.requires.follows.asked ∙ c.in-Leave.is))
+    c.in-Leave.access c.requires.sized.placed c.requires.follows.below (sym c.requires.follows.asked ∙ c.in-Leave.is))

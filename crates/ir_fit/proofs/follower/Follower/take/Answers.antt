@@ -57,6 +57,6 @@ take-requires-clause-asked c = subst (λ f. c.args.next.asked ≡ ask_of f.code 
 pub bounds-objects-object : goal.bounds-objects-object
 bounds-objects-object c =
     let within = leave_object c.args.self.now.flat c.args.next.thread c.in-Leave.object c.in-Leave.field-1 c.place.ensures.within
-        c.requires.follows.below (sym c.requires.follows.asked ∙ c.in-Leave.is) in
+    c.requires.follows.below (sym c.requires.follows.asked ∙ c.in-Leave.is) in
     let same = ap (λ xs. length xs) c.objects.ensures.value ∙ c.take.ensures.objects ∙ ap (λ z. length z.objects) c.place.ensures.flat in
     subst (λ n. c.in-Leave.object < n) (sym same) within

@@ -10,20 +10,20 @@ returns-in-Waits c = λ guest k.
     let r = c.args.self.now.trace in
     let f = c.args.self.now.flat in
     let events : c.events.result ≡ (thread_of f c.args.t).events = c.events.ensures.value
-        ∙ ap (λ x. x.events) c.thread-thread.ensures.thread in
+    ∙ ap (λ x. x.events) c.thread-thread.ensures.thread in
     subst (λ e. Stands guest r f c.args.self.now.places.items k c.args.t (Starves e)) (sym events)
-        (stands_starves guest r f c.args.self.now.places.items k c.args.t
-        (asks_entry _ c.in-Waits.ensures.0.object c.in-Waits.ensures.0.access c.in-Waits.ensures.0.asked) c.in-Waits.ensures.1
-        c.in-Waits.ensures.2)
+    (stands_starves guest r f c.args.self.now.places.items k c.args.t
+    (asks_entry _ c.in-Waits.ensures.0.object c.in-Waits.ensures.0.access c.in-Waits.ensures.0.asked) c.in-Waits.ensures.1
+    c.in-Waits.ensures.2)
 
 pub returns-in-Disagrees : goal.returns-in-Disagrees
 returns-in-Disagrees c = λ guest k.
     let r = c.args.self.now.trace in
     let f = c.args.self.now.flat in
     let events : c.events-in-Disagrees.result ≡ (thread_of f c.args.t).events = c.events-in-Disagrees.ensures.value
-        ∙ ap (λ x. x.events) c.thread-thread.ensures.thread in
+    ∙ ap (λ x. x.events) c.thread-thread.ensures.thread in
     let steps : c.steps.result ≡ (thread_of f c.args.t).steps = c.steps.ensures.value ∙ ap (λ x. x.steps) c.thread-thread.ensures.thread in
     let seen = seen_other r f c.args.t c.look.result c.look.ensures c.requires.stopped c.in-Disagrees.is in
     subst (λ e. Stands guest r f c.args.self.now.places.items k c.args.t (Disagrees e c.steps.result)) (sym events)
-        (subst (λ e. Stands guest r f c.args.self.now.places.items k c.args.t (Disagrees (thread_of f c.args.t).events e)) (sym steps)
-        (stands_disagrees guest r f c.args.self.now.places.items k c.args.t seen.0 seen.1))
+    (subst (λ e. Stands guest r f c.args.self.now.places.items k c.args.t (Disagrees (thread_of f c.args.t).events e)) (sym steps)
+    (stands_disagrees guest r f c.args.self.now.places.items k c.args.t seen.0 seen.1))

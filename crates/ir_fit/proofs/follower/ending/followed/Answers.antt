@@ -9,11 +9,11 @@ pub follow-requires : goal.follow-requires
 follow-requires c =
     let start : c.in_ok-flat.flat ≡ start_flat c.args.image.now c.budget.result = c.in_ok-flat.ensures in
     let threads : length c.in_ok-flat.flat.threads ≡ length c.args.image.now.entries = ap (λ f. length f.threads) start
-        ∙ threads_length c.args.image.now c.budget.result 0 (length c.args.image.now.entries) in
+    ∙ threads_length c.args.image.now c.budget.result 0 (length c.args.image.now.entries) in
     let count : length c.threads-count.result.now ≡ length c.args.image.now.entries = ap (λ xs. length xs) c.threads-count.ensures.value
-        ∙ c.requires in
+    ∙ c.requires in
     let rooms : c.in_ok-places.places.items ≡ map room_for c.args.trace.threads = c.in_ok-places.ensures
-        ∙ ap (map room_for) c.threads.ensures.value in
+    ∙ ap (map room_for) c.threads.ensures.value in
     record {
       told = c.requires ∙ sym threads;
       known = omega (arith, c.resize.new.self.ok, c.in_ok-resize.ensures.len, count, threads);
@@ -24,9 +24,9 @@ follow-requires c =
 pub returns-clause-followed : goal.returns-clause-followed
 returns-clause-followed c =
     let start : c.in_ok-flat.flat ≡ start_flat c.args.image.now c.args.trace.budget = c.in_ok-flat.ensures
-        ∙ ap (start_flat c.args.image.now) c.budget.ensures.value in
+    ∙ ap (start_flat c.args.image.now) c.budget.ensures.value in
     let rooms : c.in_ok-places.places.items ≡ map room_for c.args.trace.threads = c.in_ok-places.ensures
-        ∙ ap (map room_for) c.threads.ensures.value in
+    ∙ ap (map room_for) c.threads.ensures.value in
     followed_there c.args.image.now c.args.trace c.in_ok-flat.flat c.follow.new.self.flat c.in_ok-places.places.items
-        c.follow.new.self.places.items start (start_none c.args.trace c.in_ok-places.places.items rooms) c.follow.ensures.goes
-        (λ t l. subst (λ z. IsStopped z c.follow.new.self.flat t) c.follow.ensures.trace (c.follow.ensures.stopped t l))
+    c.follow.new.self.places.items start (start_none c.args.trace c.in_ok-places.places.items rooms) c.follow.ensures.goes
+    (λ t l. subst (λ z. IsStopped z c.follow.new.self.flat t) c.follow.ensures.trace (c.follow.ensures.stopped t l))

@@ -6,8 +6,13 @@ use Rattle.ir_record.proofs.Asking.{extends_same, extends_both}
 use Rattle.ir_record.proofs.recorder.Recorder.follow.Goals as goal
 
 pub order-init : goal.order-init
-order-init g c = record { took = took_nothing (progress c.args.self.now.tape (map g.W.World.answers c.args.self.now.worlds.items)); ready =
-    c.requires; kept = extends_same (map g.W.World.answers c.args.self.now.worlds.items); origins = refl }
+order-init g c = record {
+  took = took_nothing (progress c.args.self.now.tape (map g.W.World.answers c.args.self.now.worlds.items));
+  ready =
+      c.requires;
+  kept = extends_same (map g.W.World.answers c.args.self.now.worlds.items);
+  origins = refl;
+}
 
 pub order-preserved : goal.order-preserved
 order-preserved g c = record {

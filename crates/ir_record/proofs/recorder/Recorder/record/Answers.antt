@@ -15,7 +15,7 @@ returns-clause-took g c =
       c.in_ok-rounds.ensures.took.0,
       took_both (order_of_turns c.args.order.now) (rounds n c.in_ok-rounds.ensures.took.0) entry mid new c.in_ok-follow.ensures.took
           (subst (λ k. Took (rounds k c.in_ok-rounds.ensures.took.0) mid new) c.in_ok-follow.ensures.took.threads
-              c.in_ok-rounds.ensures.took.1),
+          c.in_ok-rounds.ensures.took.1),
     )
 
 pub returns-clause-kept : goal.returns-clause-kept

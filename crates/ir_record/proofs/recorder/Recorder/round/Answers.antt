@@ -30,22 +30,34 @@ loop-t-preserved g c = record {
       let b : Progress = progress c.loop-t.self.tape (map g.W.World.answers c.loop-t.self.worlds.items) in
       let e : Progress = progress c.turn_ahead.new.self.tape (map g.W.World.answers c.turn_ahead.new.self.worlds.items) in
       let p : WentIf c.loop-t.pass.moved (range_with_len 0 c.loop-t.t) s a c.args.ahead.now.items b c.loop-t.ahead.items =
-          c.loop-t.invariant.went s h in
+      c.loop-t.invariant.went s h in
       let q = c.in_ok-turned.ensures.went (reached p.went)
-          (ahead_there (range_with_len 0 c.loop-t.t) s a b c.args.ahead.now.items c.loop-t.ahead.items p.went) in
+      (ahead_there (range_with_len 0 c.loop-t.t) s a b c.args.ahead.now.items c.loop-t.ahead.items p.went) in
       turn_noted c.in_ok-turned.turned c.loop-t.t c.index.result.now c.loop-t.pass c.note.new.self s a b e c.args.ahead.now.items
-          c.loop-t.ahead.items c.turn_ahead.new.ahead.items p q c.note.ensures;
+      c.loop-t.ahead.items c.turn_ahead.new.ahead.items p q c.note.ensures;
   passing =
       let d : List ℕ = c.turn_ahead.new.ahead.items in
       let below : c.loop-t.t < length d = (let e : length c.threads-t-end.result.now ≡ length c.args.self.now.tape.flat.threads =
-          ap (λ xs. length xs) c.threads-t-end.ensures.value in
-      omega (arith, e, c.loop-t-test.true, c.loop-t.auto.t-end, c.in_ok-turned.ensures.each, c.in_ok-turned.ensures.threads,
-          c.loop-t.invariant.threads)) in
+      ap (λ xs. length xs) c.threads-t-end.ensures.value in
+      omega (
+        arith,
+        e,
+        c.loop-t-test.true,
+        c.loop-t.auto.t-end,
+        c.in_ok-turned.ensures.each,
+        c.in_ok-turned.ensures.threads,
+        c.loop-t.invariant.threads,
+      )) in
       let here : lead d c.loop-t.t ≡ c.index.result.now = at_lead d c.loop-t.t c.index.result.now below c.index.ensures in
       pass_more c.in_ok-turned.turned c.loop-t.t c.loop-t.pass c.note.new.self c.loop-t.ahead.items d c.loop-t.self.tape.flat
-          c.turn_ahead.new.self.tape.flat c.loop-t.invariant.passing
-      (record { code = c.in_ok-turned.ensures.code; others = c.in_ok-turned.ensures.others; rests = c.in_ok-turned.ensures.rests; waits =
-          c.in_ok-turned.ensures.waits })
+      c.turn_ahead.new.self.tape.flat c.loop-t.invariant.passing
+      (record {
+        code = c.in_ok-turned.ensures.code;
+        others = c.in_ok-turned.ensures.others;
+        rests = c.in_ok-turned.ensures.rests;
+        waits =
+            c.in_ok-turned.ensures.waits;
+      })
       (subst (λ k. Noted c.in_ok-turned.turned k c.loop-t.pass c.note.new.self) (sym here) c.note.ensures);
   each = c.in_ok-turned.ensures.each;
   threads = c.in_ok-turned.ensures.threads ∙ c.loop-t.invariant.threads;
@@ -60,8 +72,8 @@ returns-clause-went g c = λ s h. subst (λ n. WentIf c.loop-t.pass.moved (range
     (progress c.args.self.now.tape (map g.W.World.answers c.args.self.now.worlds.items)) c.args.ahead.now.items
     (progress c.loop-t.self.tape (map g.W.World.answers c.loop-t.self.worlds.items)) c.loop-t.ahead.items)
     (let e : length c.threads-t-end.result.now ≡ length c.args.self.now.tape.flat.threads =
-        ap (λ xs. length xs) c.threads-t-end.ensures.value in omega (arith, e, c.loop-t-test.false, c.loop-t.auto.t-end))
-        (c.loop-t.invariant.went s h)
+    ap (λ xs. length xs) c.threads-t-end.ensures.value in omega (arith, e, c.loop-t-test.false, c.loop-t.auto.t-end))
+    (c.loop-t.invariant.went s h)
 
 pub returns-in_err-turned-clause-kept : goal.returns-in_err-turned-clause-kept
 returns-in_err-turned-clause-kept g c = extends_both (map g.W.World.answers c.args.self.now.worlds.items)
@@ -74,8 +86,8 @@ returns-in_err-turned-clause-origins g c = c.turn_ahead.ensures.origins ∙ c.lo
 pub returns-clause-free : goal.returns-clause-free
 returns-clause-free g c =
     let e : length c.threads-t-end.result.now ≡ length c.args.self.now.tape.flat.threads =
-        ap (λ xs. length xs) c.threads-t-end.ensures.value in
+    ap (λ xs. length xs) c.threads-t-end.ensures.value in
     let all : c.loop-t.t ≡ length c.loop-t.self.tape.flat.threads =
-        omega (arith, e, c.loop-t-test.false, c.loop-t.auto.t-end, c.loop-t.invariant.threads) in
+    omega (arith, e, c.loop-t-test.false, c.loop-t.auto.t-end, c.loop-t.invariant.threads) in
     subst (λ n. CanSkip (machine c.loop-t.self.tape.flat) n c.loop-t.pass.free c.loop-t.ahead.items (tables c.loop-t.self.tape.flat)) all
-        c.loop-t.invariant.passing.each
+    c.loop-t.invariant.passing.each

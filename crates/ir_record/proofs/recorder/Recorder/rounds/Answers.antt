@@ -57,11 +57,11 @@ rounds-preserved g c =
     let p : Rounding n a b was = c.rounds.invariant.went in
     let there = ahead_there (rounds n p.0) (tables a.flat) a b (replicate n 0) was p.1 in
     let q : WentIf c.in_ok-pass.pass.moved (range_with_len 0 n) (reached p.1) b was e d =
-        turned n a b e was d c.in_ok-pass.pass.moved p p.1.threads (c.in_ok-pass.ensures.went (reached p.1) there) in
+    turned n a b e was d c.in_ok-pass.pass.moved p p.1.threads (c.in_ok-pass.ensures.went (reached p.1) there) in
     let last : Rounding n a e d = round_more n c.in_ok-pass.pass.moved a b e was d p q in
     let k : Skip n a e d c.lower.new.ahead.items =
-        skipping n c.in_ok-pass.pass.free a e d c.lower.new.ahead.items last last.1.threads c.in_ok-pass.ensures.each c.lower.ensures.size
-        c.in_ok-pass.ensures.free c.lower.ensures.each in
+    skipping n c.in_ok-pass.pass.free a e d c.lower.new.ahead.items last last.1.threads c.in_ok-pass.ensures.each c.lower.ensures.size
+    c.in_ok-pass.ensures.free c.lower.ensures.each in
     record {
       went = k.rounding;
       each = c.lower.ensures.size ∙ c.in_ok-pass.ensures.each;
@@ -82,17 +82,17 @@ rounds-smaller g c =
     let p : Rounding n a b was = c.rounds.invariant.went in
     let there = ahead_there (rounds n p.0) (tables a.flat) a b (replicate n 0) was p.1 in
     let q : WentIf c.in_ok-pass.pass.moved (range_with_len 0 n) (reached p.1) b was e d =
-        turned n a b e was d c.in_ok-pass.pass.moved p p.1.threads (c.in_ok-pass.ensures.went (reached p.1) there) in
+    turned n a b e was d c.in_ok-pass.pass.moved p p.1.threads (c.in_ok-pass.ensures.went (reached p.1) there) in
     let last : Rounding n a e d = round_more n c.in_ok-pass.pass.moved a b e was d p q in
     let k : Skip n a e d c.lower.new.ahead.items =
-        skipping n c.in_ok-pass.pass.free a e d c.lower.new.ahead.items last last.1.threads c.in_ok-pass.ensures.each c.lower.ensures.size
-        c.in_ok-pass.ensures.free c.lower.ensures.each in
+    skipping n c.in_ok-pass.pass.free a e d c.lower.new.ahead.items last last.1.threads c.in_ok-pass.ensures.each c.lower.ensures.size
+    c.in_ok-pass.ensures.free c.lower.ensures.each in
     let less = fewer_left (length b.flat.threads) c.in_ok-pass.pass.moved (reached p.1) b e was d
-        (not-false c.in_ok-pass.pass.moved c.if-not-pass.false) refl (c.in_ok-pass.ensures.went (reached p.1) there) in
+    (not-false c.in_ok-pass.pass.moved c.if-not-pass.false) refl (c.in_ok-pass.ensures.went (reached p.1) there) in
     let fewer : all_left (length b.flat.threads) (tables e.flat).now + all_ahead c.lower.new.ahead.items < all_left (length b.flat.threads)
-        (tables b.flat).now + all_ahead was = (let least = k.least in omega (arith, less, least)) in
+    (tables b.flat).now + all_ahead was = (let least = k.least in omega (arith, less, least)) in
     subst (λ z. all_left z (tables e.flat).now + all_ahead c.lower.new.ahead.items < all_left (length b.flat.threads) (tables b.flat).now +
-        all_ahead was) (sym c.in_ok-pass.ensures.threads) fewer
+    all_ahead was) (sym c.in_ok-pass.ensures.threads) fewer
 
 pub returns-then-not-pass-clause-took : goal.returns-then-not-pass-clause-took
 returns-then-not-pass-clause-took g c =
@@ -105,10 +105,12 @@ returns-then-not-pass-clause-took g c =
     let p : Rounding n a b was = c.rounds.invariant.went in
     let there = ahead_there (rounds n p.0) (tables a.flat) a b (replicate n 0) was p.1 in
     let q : WentIf c.in_ok-pass.pass.moved (range_with_len 0 n) (reached p.1) b was e d =
-        turned n a b e was d c.in_ok-pass.pass.moved p p.1.threads (c.in_ok-pass.ensures.went (reached p.1) there) in
-    let last : Rounding n a e d = round_more n c.in_ok-pass.pass.moved a b e was d p q in
-    (last.0, caught n a e d last (none_ahead n c.in_ok-pass.pass.moved (reached p.1) b e was d
-        (not-true c.in_ok-pass.pass.moved c.if-not-pass.true) (c.rounds.invariant.each ∙ p.1.threads) q))
+    turned n a b e was d c.in_ok-pass.pass.moved p p.1.threads (c.in_ok-pass.ensures.went (reached p.1) there) in
+    let last : Rounding n a e d = round_more n c.in_ok-pass.pass.moved a b e was d p q in (
+      last.0,
+      caught n a e d last (none_ahead n c.in_ok-pass.pass.moved (reached p.1) b e was d
+          (not-true c.in_ok-pass.pass.moved c.if-not-pass.true) (c.rounds.invariant.each ∙ p.1.threads) q),
+    )
 
 pub returns-then-not-pass-clause-over : goal.returns-then-not-pass-clause-over
 returns-then-not-pass-clause-over g c = λ t l.
@@ -121,11 +123,11 @@ returns-then-not-pass-clause-over g c = λ t l.
     let p : Rounding n a b was = c.rounds.invariant.went in
     let there = ahead_there (rounds n p.0) (tables a.flat) a b (replicate n 0) was p.1 in
     let q : WentIf c.in_ok-pass.pass.moved (range_with_len 0 n) (reached p.1) b was e d =
-        turned n a b e was d c.in_ok-pass.pass.moved p p.1.threads (c.in_ok-pass.ensures.went (reached p.1) there) in
+    turned n a b e was d c.in_ok-pass.pass.moved p p.1.threads (c.in_ok-pass.ensures.went (reached p.1) there) in
     let last : Rounding n a e d = round_more n c.in_ok-pass.pass.moved a b e was d p q in
     let over = not-true c.in_ok-pass.pass.moved c.if-not-pass.true in
     all_over n c.in_ok-pass.pass.moved a b e was d p q over
-        (none_ahead n c.in_ok-pass.pass.moved (reached p.1) b e was d over (c.rounds.invariant.each ∙ p.1.threads) q) t
+    (none_ahead n c.in_ok-pass.pass.moved (reached p.1) b e was d over (c.rounds.invariant.each ∙ p.1.threads) q) t
     (omega (arith, l, c.in_ok-pass.ensures.threads, p.1.threads))
 
 pub returns-then-not-pass-clause-kept : goal.returns-then-not-pass-clause-kept

@@ -20,8 +20,8 @@ returns-in_ok-value-in-Env-clause-ready g c = stays_ready c.args.t true
     (progress c.answer.new.self (map g.W.World.answers c.answer_to.new.worlds.items))
     (map g.W.World.broken c.args.self.now.worlds.items) (map g.W.World.broken c.answer_to.new.worlds.items)
     c.requires.ready (took g c) c.answer.ensures.tape
-        (ap (λ xs. length xs) c.in_ok-value-in-Env.ensures.gained
-        ∙ length-set (map g.W.World.answers c.args.self.now.worlds.items) c.args.t _) c.in_ok-value-in-Env.ensures.works
+    (ap (λ xs. length xs) c.in_ok-value-in-Env.ensures.gained
+    ∙ length-set (map g.W.World.answers c.args.self.now.worlds.items) c.args.t _) c.in_ok-value-in-Env.ensures.works
 
 pub returns-in-Enter-clause-took : goal.returns-in-Enter-clause-took
 returns-in-Enter-clause-took g c = c.enter.ensures.took (map g.W.World.answers c.args.self.now.worlds.items)
@@ -32,7 +32,7 @@ returns-in-Enter-clause-ready g c = stays_ready c.args.t c.enter.result
     (progress c.enter.new.self (map g.W.World.answers c.args.self.now.worlds.items)) (map g.W.World.broken c.args.self.now.worlds.items)
     (map g.W.World.broken c.args.self.now.worlds.items)
     c.requires.ready (c.enter.ensures.took (map g.W.World.answers c.args.self.now.worlds.items)) c.enter.ensures.tape
-        refl c.requires.ready.works
+    refl c.requires.ready.works
 
 pub returns-in_default : goal.returns-in_default
 returns-in_default g c = record {
@@ -41,7 +41,7 @@ returns-in_default g c = record {
       (progress c.go.new.self (map g.W.World.answers c.args.self.now.worlds.items)) (map g.W.World.broken c.args.self.now.worlds.items)
       (map g.W.World.broken c.args.self.now.worlds.items)
       c.requires.ready (c.go.ensures.took (map g.W.World.answers c.args.self.now.worlds.items)) c.go.ensures.tape
-          refl c.requires.ready.works;
+      refl c.requires.ready.works;
   failed = tt;
   kept = extends_same (map g.W.World.answers c.args.self.now.worlds.items);
   origins = refl;

@@ -9,18 +9,18 @@ returns-then-lead-gt0-clause-went g c = λ s h.
     let a : Progress = progress c.args.self.now.tape (map g.W.World.answers c.args.self.now.worlds.items) in
     let l : c.args.t < length c.args.ahead.now.items = omega (arith, c.requires.each, c.requires.thread) in
     let here : lead c.args.ahead.now.items c.args.t ≡ c.index-lead.result.now =
-        at_lead c.args.ahead.now.items c.args.t c.index-lead.result.now l c.index-lead.ensures in
+    at_lead c.args.ahead.now.items c.args.t c.index-lead.result.now l c.index-lead.ensures in
     turn_spent s a c.args.ahead.now.items c.args.t (c.index-lead.result.now - 1) l
-        (here ∙ (let e : c.index-lead.result.now ≡ suc (c.index-lead.result.now - 1) = omega (arith, c.if-lead-gt0.true) in e)) h
+    (here ∙ (let e : c.index-lead.result.now ≡ suc (c.index-lead.result.now - 1) = omega (arith, c.if-lead-gt0.true) in e)) h
 
 pub returns-then-not-branch-clause-went : goal.returns-then-not-branch-clause-went
 returns-then-not-branch-clause-went g c = λ s h.
     let l : c.args.t < length c.args.ahead.now.items = omega (arith, c.requires.each, c.requires.thread) in
     let here : lead c.args.ahead.now.items c.args.t ≡ c.index-lead.result.now =
-        at_lead c.args.ahead.now.items c.args.t c.index-lead.result.now l c.index-lead.ensures in
+    at_lead c.args.ahead.now.items c.args.t c.index-lead.result.now l c.index-lead.ensures in
     turn_stays s (progress c.args.self.now.tape (map g.W.World.answers c.args.self.now.worlds.items))
-        (progress c.turn.new.self.tape (map g.W.World.answers c.turn.new.self.worlds.items)) c.args.ahead.now.items c.args.t
-        c.in_ok-turn.field-0 c.if-not-branch.true
+    (progress c.turn.new.self.tape (map g.W.World.answers c.turn.new.self.worlds.items)) c.args.ahead.now.items c.args.t
+    c.in_ok-turn.field-0 c.if-not-branch.true
     (omega (arith, here, c.if-lead-gt0.false)) h c.in_ok-turn.ensures.took
 
 pub returns-clause-went : goal.returns-clause-went
@@ -31,11 +31,11 @@ returns-clause-went g c = λ s h.
     let l : c.args.t < length ahead = omega (arith, c.requires.each, c.requires.thread) in
     let here : lead ahead c.args.t ≡ c.index-lead.result.now = at_lead ahead c.args.t c.index-lead.result.now l c.index-lead.ensures in
     let took : TookIf true (c.args.t ∷ []) a b =
-        subst (λ z. TookIf z (c.args.t ∷ []) a b) c.if-not-branch.false c.in_ok-turn.ensures.took in
+    subst (λ z. TookIf z (c.args.t ∷ []) a b) c.if-not-branch.false c.in_ok-turn.ensures.took in
     subst (λ ls. WentIf true (c.args.t ∷ []) s a ahead (record b { flat = c.run.new.self.flat; logs = ls.items })
-        (set ahead c.args.t c.run.result)) (sym c.run.ensures.logs)
+    (set ahead c.args.t c.run.result)) (sym c.run.ensures.logs)
     (turn_steps s a b c.run.new.self.flat ahead c.args.t c.run.result l c.requires.thread c.run.ensures.flat
-        (omega (arith, here, c.if-lead-gt0.false)) h took c.run.ensures.alone)
+    (omega (arith, here, c.if-lead-gt0.false)) h took c.run.ensures.alone)
 
 pub returns-then-lead-gt0-clause-each : goal.returns-then-lead-gt0-clause-each
 returns-then-lead-gt0-clause-each g c = length-set c.args.ahead.now.items c.args.t _ ∙ c.requires.each

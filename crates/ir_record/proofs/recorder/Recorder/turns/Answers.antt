@@ -21,15 +21,15 @@ turns-init g c =
 pub returns-then-t-threads-clause-took : goal.returns-then-t-threads-clause-took
 returns-then-t-threads-clause-took g c =
     turns_rest c.args.t c.args.count c.turns.left (progress c.args.self.now.tape (map g.W.World.answers c.args.self.now.worlds.items))
-        (progress c.turns.self.tape (map g.W.World.answers c.turns.self.worlds.items)) c.turns.invariant.few c.turns.invariant.took
+    (progress c.turns.self.tape (map g.W.World.answers c.turns.self.worlds.items)) c.turns.invariant.few c.turns.invariant.took
     (past_none c.turns.self.tape.flat c.args.t
-        (let e : length c.threads.result.now ≡ length c.turns.self.tape.flat.threads = ap (λ xs. length xs) c.threads.ensures.value in
-        omega (arith, e, c.if-t-threads.true)))
+    (let e : length c.threads.result.now ≡ length c.turns.self.tape.flat.threads = ap (λ xs. length xs) c.threads.ensures.value in
+    omega (arith, e, c.if-t-threads.true)))
 
 pub turn-requires-clause-ready : goal.turn-requires-clause-ready
 turn-requires-clause-ready g c =
     ready_after (replicate c.run-ran.result c.args.t) (progress c.turns.self.tape (map g.W.World.answers c.turns.self.worlds.items))
-        (progress c.run-ran.new.self (map g.W.World.answers c.turns.self.worlds.items)) (map g.W.World.broken c.turns.self.worlds.items)
+    (progress c.run-ran.new.self (map g.W.World.answers c.turns.self.worlds.items)) (map g.W.World.broken c.turns.self.worlds.items)
     c.turns.invariant.ready (c.run-ran.ensures.took (map g.W.World.answers c.turns.self.worlds.items)) c.run-ran.ensures.tape refl
 
 pub turn-requires-clause-thread : goal.turn-requires-clause-thread
@@ -48,8 +48,8 @@ returns-then-not-branch-clause-took g c =
     let within = c.run-ran.ensures.within in
     turns_rest c.args.t c.args.count (c.turns.left - (c.run-ran.result + 1)) entry new (omega (arith, few))
     (turns_more c.args.t c.args.count c.turns.left c.run-ran.result entry before ran new c.in_ok-turn.field-0 few
-        (omega (arith, c.turns-test.true)) (omega (arith, within)) c.turns.invariant.took
-        (c.run-ran.ensures.took (map g.W.World.answers c.turns.self.worlds.items)) c.in_ok-turn.ensures.took)
+    (omega (arith, c.turns-test.true)) (omega (arith, within)) c.turns.invariant.took
+    (c.run-ran.ensures.took (map g.W.World.answers c.turns.self.worlds.items)) c.in_ok-turn.ensures.took)
     (none_after c.args.t ran new c.in_ok-turn.field-0 c.if-not-branch.true c.in_ok-turn.ensures.took)
 
 pub turns-preserved : goal.turns-preserved

@@ -10,7 +10,7 @@ use Rattle.ir_record.proofs.tape.Tape.answer.Goals as goal
 pub push-requires : goal.push-requires
 push-requires c = has_room c.args.self.now.flat c.args.self.now.logs.items c.args.t c.index_mut.result.now c.requires.tape c.requires.thread
     (log_found c.args.self.now.flat c.args.self.now.logs.items c.args.t c.index_mut.result.now c.requires.tape c.requires.thread
-        c.index_mut.ensures.value)
+    c.index_mut.ensures.value)
     (answer_room c.args.self.now.flat c.args.t c.args.kind c.requires.asked)
 
 answering : (c : goal.After-self-1) → Answering c.args.self.now.flat c.take.new.self c.args.self.now.logs.items
@@ -30,7 +30,7 @@ answering c = record {
   new = c.push.new.self;
   pushed = c.push.ensures ∙ ap {A = Logged} {B = Logged} (λ l. record l { events = l.events ++ event.Answer c.args.kind c.args.value ∷ [] })
       (log_found c.args.self.now.flat c.args.self.now.logs.items c.args.t c.index_mut.result.now c.requires.tape c.requires.thread
-          c.index_mut.ensures.value);
+      c.index_mut.ensures.value);
   logged = refl;
 }
 

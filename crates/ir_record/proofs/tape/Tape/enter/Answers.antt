@@ -12,7 +12,7 @@ entry-event-requires c = enter_object c.args.self.now.flat c.args.t c.args.objec
 pub returns-then-is_err-clause-took : goal.returns-then-is_err-clause-took
 returns-then-is_err-clause-took c = waits_took c.args.self.now.flat c.take.new.self c.args.self.now.logs.items c.args.t
     (enter_none c.args.self.now.flat c.args.t c.args.object c.args.access c.requires.asked
-        (refused c.take.result c.is_err.result _ c.is_err.ensures.value c.if-is_err.true c.take.ensures.refused))
+    (refused c.take.result c.is_err.result _ c.is_err.ensures.value c.if-is_err.true c.take.ensures.refused))
     (refused c.take.result c.is_err.result _ c.is_err.ensures.value c.if-is_err.true c.take.ensures.unchanged)
 
 pub returns-then-is_err-clause-tape : goal.returns-then-is_err-clause-tape
@@ -22,7 +22,7 @@ returns-then-is_err-clause-tape c = waits_tape c.args.self.now.flat c.take.new.s
 pub push-requires : goal.push-requires
 push-requires c = has_room c.args.self.now.flat c.args.self.now.logs.items c.args.t c.index_mut.result.now c.requires.tape c.requires.thread
     (log_found c.args.self.now.flat c.args.self.now.logs.items c.args.t c.index_mut.result.now c.requires.tape c.requires.thread
-        c.index_mut.ensures.value)
+    c.index_mut.ensures.value)
     (enter_room c.args.self.now.flat c.args.t c.args.object c.args.access c.requires.asked)
 
 entering : (c : goal.After-self-1) → Entering c.args.self.now.flat c.take.new.self c.args.self.now.logs.items
@@ -42,7 +42,7 @@ entering c = record {
   new = c.push.new.self;
   pushed = c.push.ensures ∙ ap {A = Logged} {B = Logged} (λ l. record l { events = l.events ++ c.entry-event.result ∷ [] })
       (log_found c.args.self.now.flat c.args.self.now.logs.items c.args.t c.index_mut.result.now c.requires.tape c.requires.thread
-          c.index_mut.ensures.value);
+      c.index_mut.ensures.value);
   logged = refl;
 }
 

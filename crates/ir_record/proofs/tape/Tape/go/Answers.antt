@@ -7,7 +7,7 @@ all : (c : goal.After-is_ok) → Gone c.args.self.now.flat c.take.new.self c.arg
 all c = gone c.take.result c.args.self.now.flat c.take.new.self c.args.self.now.logs.items c.args.t c.is_ok.result c.is_ok.ensures.value
     c.requires.tape c.requires.flat c.requires.thread (subst IsQuiet (sym c.requires.asked) c.requires.quiet)
     c.take.ensures.admitted c.take.ensures.taken c.take.ensures.code c.take.ensures.threads c.take.ensures.objects c.take.ensures.refused
-        c.take.ensures.unchanged
+    c.take.ensures.unchanged
 
 pub returns-clause-took : goal.returns-clause-took
 returns-clause-took c = (all c).took

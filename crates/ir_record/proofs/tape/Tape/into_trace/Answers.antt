@@ -16,19 +16,19 @@ loop-log-preserved c =
     let rest = into_iter_items c.next.new.self in
     let objects : ℕ = length c.args.self.flat.objects in
     let parts : at.yielded ++ x ∷ rest ≡ c.args.self.logs.items = ap (λ z. at.yielded ++ z) (sym c.in-Some.ensures.steps.0)
-        ∙ at.invariant.parts in
+    ∙ at.invariant.parts in
     let below : length at.yielded < length c.args.self.flat.threads = let l = next_below at.yielded rest c.args.self.logs.items x parts in
-        omega (arith, l, c.requires.tape.one_each) in
+    omega (arith, l, c.requires.tape.one_each) in
     let count : length at.threads.items ≡ length at.yielded = at.invariant.traces.count in
     let place : c.len-in-loop-log.result ≡ length at.threads.items = search rules in
     let found = thread_found c.args.self.flat c.threads.result.now c.len-in-loop-log.result c.index-threads-len.result
-        c.threads.ensures.value (omega (arith, below, count, place)) c.index-threads-len.is in
+    c.threads.ensures.value (omega (arith, below, count, place)) c.index-threads-len.is in
     let told : IsThreadTrace (thread_of c.args.self.flat (length at.threads.items)) x c.thread_trace.result =
-        subst (λ k. IsThreadTrace (thread_of c.args.self.flat k) x c.thread_trace.result) place
-        (subst (λ z. IsThreadTrace z x c.thread_trace.result) found c.thread_trace.ensures.value) in
+    subst (λ k. IsThreadTrace (thread_of c.args.self.flat k) x c.thread_trace.result) place
+    (subst (λ z. IsThreadTrace z x c.thread_trace.result) found c.thread_trace.ensures.value) in
     let fits : AllByRecursion (IsEvent objects) x.events =
-        subst (λ z. AllByRecursion (IsEvent objects) z.events) (next_of at.yielded rest c.args.self.logs.items x no_log parts)
-        (c.requires.tape.events_fit (length at.yielded) below) in
+    subst (λ z. AllByRecursion (IsEvent objects) z.events) (next_of at.yielded rest c.args.self.logs.items x no_log parts)
+    (c.requires.tape.events_fit (length at.yielded) below) in
     record {
       parts = moved_on at.yielded (into_iter_items at.log-iterator) rest c.args.self.logs.items x at.invariant.parts
           c.in-Some.ensures.steps.0;

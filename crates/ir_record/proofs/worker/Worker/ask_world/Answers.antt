@@ -18,7 +18,7 @@ returns-in-Ok-clause-stays g c = record {
       c.args.kind c.in-Ok.value (subst (λ z. ask_of z c.args.self.now.thread ≡ ask.Env c.args.kind) c.requires.worker.same_code
       c.requires.asked) c.in-Ok.ensures.fits refl
       (subst (λ z. c.take_asked.new.self ≡ after_reply z c.args.self.now.thread (Value c.in-Ok.value)) c.requires.worker.same_code
-          c.take_asked.ensures) c.push.ensures c.in-Ok.ensures.answered i;
+      c.take_asked.ensures) c.push.ensures c.in-Ok.ensures.answered i;
 }
 
 pub returns-in-Ok-clause-world : goal.returns-in-Ok-clause-world

@@ -28,7 +28,7 @@ returns-clause-stays g c =
           c.requires.worker.worker (subst (λ z. ask_of z c.args.self.now.thread ≡ ask.Enter c.args.object Reading)
           c.requires.worker.same_code c.requires.asked)) fits
           (subst (λ z. ask_of z c.args.self.now.thread ≡ ask.Enter c.args.object Reading) c.requires.worker.same_code c.requires.asked)
-              c.enter_read-version.ensures.entered
-              (subst (λ z. c.take_asked.new.self ≡ after_reply z c.args.self.now.thread Go) c.requires.worker.same_code
-              c.take_asked.ensures) c.push.ensures refl i;
+          c.enter_read-version.ensures.entered
+          (subst (λ z. c.take_asked.new.self ≡ after_reply z c.args.self.now.thread Go) c.requires.worker.same_code
+          c.take_asked.ensures) c.push.ensures refl i;
     }

@@ -21,10 +21,10 @@ returns-clause-stays g c =
       still = λ budget t before i. write_step c.args.crew.now.table.shared.key budget t before (work_of g.W.World.answers c.args.self.now) _
           c.args.object c.enter_write-version.result.0 c.enter_write-version.result.1
           (below_enter c.args.crew.now.table.shared.key (work_of g.W.World.answers c.args.self.now) c.args.object Writing
-              c.requires.worker.worker (subst (λ z. ask_of z c.args.self.now.thread ≡ ask.Enter c.args.object Writing)
-              c.requires.worker.same_code c.requires.asked)) fits small
+          c.requires.worker.worker (subst (λ z. ask_of z c.args.self.now.thread ≡ ask.Enter c.args.object Writing)
+          c.requires.worker.same_code c.requires.asked)) fits small
           (subst (λ z. ask_of z c.args.self.now.thread ≡ ask.Enter c.args.object Writing) c.requires.worker.same_code c.requires.asked)
-              c.enter_write-version.ensures.entered
-              (subst (λ z. c.take_asked.new.self ≡ after_reply z c.args.self.now.thread Go) c.requires.worker.same_code
-              c.take_asked.ensures) c.push.ensures refl i;
+          c.enter_write-version.ensures.entered
+          (subst (λ z. c.take_asked.new.self ≡ after_reply z c.args.self.now.thread Go) c.requires.worker.same_code
+          c.take_asked.ensures) c.push.ensures refl i;
     }

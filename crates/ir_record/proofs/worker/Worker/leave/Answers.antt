@@ -22,6 +22,6 @@ returns-clause-stays g c = record {
   still = λ budget t before i. leave_step c.args.crew.now.table.shared.key budget t before (work_of g.W.World.answers c.args.self.now) _
       c.args.object c.leave.ensures.left.0 c.args.access
       (subst (λ z. ask_of z c.args.self.now.thread ≡ ask.Leave c.args.object c.args.access) c.requires.worker.same_code c.requires.asked)
-          c.leave.ensures.left.1 (subst (λ z. c.take_asked.new.self ≡ after_reply z c.args.self.now.thread Go) c.requires.worker.same_code
-          c.take_asked.ensures) refl refl i;
+      c.leave.ensures.left.1 (subst (λ z. c.take_asked.new.self ≡ after_reply z c.args.self.now.thread Go) c.requires.worker.same_code
+      c.take_asked.ensures) refl refl i;
 }

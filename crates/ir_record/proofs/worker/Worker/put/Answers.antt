@@ -24,6 +24,6 @@ returns-clause-stays g c = record {
   still = λ budget t before i. put_step c.args.crew.now.table.shared.key budget t before (work_of g.W.World.answers c.args.self.now) _
       c.args.object c.args.index c.args.value
       (subst (λ z. ask_of z c.args.self.now.thread ≡ ask.Put c.args.object c.args.index c.args.value) c.requires.worker.same_code
-          c.requires.asked) c.put.ensures.put (subst (λ z. c.take_asked.new.self ≡ after_reply z c.args.self.now.thread Go)
-          c.requires.worker.same_code c.take_asked.ensures) refl refl i;
+      c.requires.asked) c.put.ensures.put (subst (λ z. c.take_asked.new.self ≡ after_reply z c.args.self.now.thread Go)
+      c.requires.worker.same_code c.take_asked.ensures) refl refl i;
 }

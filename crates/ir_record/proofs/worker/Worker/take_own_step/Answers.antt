@@ -12,5 +12,5 @@ returns-clause-stays g c = record {
       c.args.asked c.requires.own (subst (λ z. ask_of z c.args.self.now.thread ≡ c.args.asked) c.requires.worker.same_code c.requires.asked)
       refl
       (subst (λ z. c.take_asked.new.self ≡ after_reply z c.args.self.now.thread Go) c.requires.worker.same_code c.take_asked.ensures)
-          refl refl i;
+      refl refl i;
 }

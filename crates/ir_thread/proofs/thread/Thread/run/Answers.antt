@@ -7,7 +7,7 @@ pub returns-then-taken-limit-clause-steps : goal.returns-then-taken-limit-clause
 returns-then-taken-limit-clause-steps c =
     subst (λ (n : ℕ). PrivateSteps c.args.code.now n c.args.self.now c.run_instructions-taken.new.self) c.if-taken-limit.true
     (then_others c.args.code.now c.loop-taken.taken c.run_instructions-taken.result c.args.self.now c.loop-taken.self
-        c.run_instructions-taken.new.self c.loop-taken.invariant.steps
+    c.run_instructions-taken.new.self c.loop-taken.invariant.steps
     c.run_instructions-taken.ensures.steps)
 
 pub returns-in_default : goal.returns-in_default
@@ -24,7 +24,7 @@ loop-taken-preserved c = record {
   within = omega (arith, c.run_instructions-taken.ensures.within, c.loop-taken.invariant.within, c.if-taken-limit.false);
   steps = then_one c.args.code.now _ c.args.self.now c.run_instructions-taken.new.self c.take.new.self
       (then_others c.args.code.now c.loop-taken.taken c.run_instructions-taken.result c.args.self.now c.loop-taken.self
-          c.run_instructions-taken.new.self c.loop-taken.invariant.steps
+      c.run_instructions-taken.new.self c.loop-taken.invariant.steps
       c.run_instructions-taken.ensures.steps)
       (sym c.in-Private.ensures.value) c.take.ensures;
 }

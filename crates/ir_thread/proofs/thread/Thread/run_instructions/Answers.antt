@@ -22,9 +22,18 @@ returns-clause-steps c =
     let inside = c.self.inside in
     let none = running inside.ended (sym c.is_some.ensures ∙ c.if-is_some.false) in
     let le : inside.steps ≤ inside.budget = within inside.ended (inside.steps ≤ inside.budget) _ none c.self.invariant.3 in
-    let s : State = record { core = inside.mach; number = inside.number; held = inside.held.items; budget = inside.budget; steps =
-        inside.steps; events = inside.events; output = inside.output.items; ended = inside.ended } in
+    let s : State = record {
+      core = inside.mach;
+      number = inside.number;
+      held = inside.held.items;
+      budget = inside.budget;
+      steps =
+          inside.steps;
+      events = inside.events;
+      output = inside.output.items;
+      ended = inside.ended;
+    } in
     let P : State → Type 0 = λ old. PrivateSteps c.args.code.now c.run-taken.result old
-        (advanced s c.run-taken.new.self c.run-taken.result) in
+    (advanced s c.run-taken.new.self c.run-taken.result) in
     subst P c.self.view_is
     (private_steps c.args.code.now s c.run-taken.result c.run-taken.new.self none (omega (arith, le)) c.run-taken.ensures.steps)

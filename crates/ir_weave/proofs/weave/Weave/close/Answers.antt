@@ -13,8 +13,8 @@ loop-o-init c e = none_read c.args.self.table.shared.key c.args.seat.me.0 (slots
 pub object_at-requires-clause-table : goal.object_at-requires-clause-table
 object_at-requires-clause-table c =
     let e : IsEnd c.args.self.table.shared.key c.args.seat.me.0 (slots_items c.close_with-closed.result.words) =
-        ends c.args.self.table.shared.key c.args.seat.id c.args.seat.me.0 (slots_items c.close_with-closed.result.words) _
-        c.close_with-closed.ensures.values.2 in
+    ends c.args.self.table.shared.key c.args.seat.id c.args.seat.me.0 (slots_items c.close_with-closed.result.words) _
+    c.close_with-closed.ensures.values.2 in
     let count = end_count c.args.self.table.shared.key c.args.seat.me.0 (slots_items c.close_with-closed.result.words) e in (
       c.args.self.table.shared.key,
       c.args.seat.me.0,
@@ -28,7 +28,7 @@ loop-o-preserved c e =
     let inv = c.loop-o.invariant e in let size = c.loop-o.auto.objects in let l = c.loop-o-test.true in
     let inside : c.loop-o.o < length c.loop-o.objects = omega (arith, size, l) in
     objects_more e.cells c.loop-o.objects c.loop-o.o c.object_at.result inv inside
-        (c.object_at.ensures c.args.self.table.shared.key c.args.seat.me.0 e (let s = inv.size in omega (arith, s, inside)))
+    (c.object_at.ensures c.args.self.table.shared.key c.args.seat.me.0 e (let s = inv.size in omega (arith, s, inside)))
 
 pub free-requires : goal.free-requires
 free-requires c k lt = let e = c.close_with-closed.ensures.counts.1 in let s = c.args.self.slots in absurd (omega (arith, e, s, lt))
@@ -36,7 +36,7 @@ free-requires c k lt = let e = c.close_with-closed.ensures.counts.1 in let s = c
 pub returns : goal.returns
 returns c =
     let e : IsEnd c.args.self.table.shared.key c.args.seat.me.0 (slots_items c.close_with-closed.result.words) =
-        ends c.args.self.table.shared.key c.args.seat.id c.args.seat.me.0 (slots_items c.close_with-closed.result.words) _
-        c.close_with-closed.ensures.values.2 in
+    ends c.args.self.table.shared.key c.args.seat.id c.args.seat.me.0 (slots_items c.close_with-closed.result.words) _
+    c.close_with-closed.ensures.values.2 in
     closes c.args.self.table.shared.key c.args.seat.me.0 (slots_items c.close_with-closed.result.words) e c.loop-o.objects c.loop-o.o
-        (c.loop-o.invariant e) (let size = c.loop-o.auto.objects in let l = c.loop-o-test.false in omega (arith, size, l))
+    (c.loop-o.invariant e) (let size = c.loop-o.auto.objects in let l = c.loop-o-test.false in omega (arith, size, l))

@@ -21,15 +21,19 @@ loop-thread-preserved c = let i = c.loop-thread.invariant in let l : ℕ = lengt
     let e = c.split_seat.ensures in
     let items = c.in_ok-push.ensures.items in
     let long : length c.push.new.self.items ≡ suc l = ap length items ∙ length-append c.loop-thread.seats.items (c.split_seat.result ∷ [])
-        ∙ omega arith in record {
+    ∙ omega arith in record {
       count = omega (arith, long, n);
       table = e.0 ∙ i.table;
-      me = (k, omega (arith, long, n, t, q, p), dealt c.args.self.now.table.shared.key l k (length c.push.new.self.items)
-          c.loop-thread.seat.me c.split_seat.new.seat.me old e.2 long);
+      me = (
+        k,
+        omega (arith, long, n, t, q, p),
+        dealt c.args.self.now.table.shared.key l k (length c.push.new.self.items)
+            c.loop-thread.seat.me c.split_seat.new.seat.me old e.2 long,
+      );
       seats = subst (AreSeats c.args.self.now.table.shared.table_id c.args.self.now.table.shared.key 0) (sym items)
           (seats-snoc c.args.self.now.table.shared.table_id c.args.self.now.table.shared.key 0 l c.loop-thread.seats.items
-              c.split_seat.result i.seats (omega arith) (e.3 ∙ i.table)
-              (dealt_first c.args.self.now.table.shared.key l k c.loop-thread.seat.me c.split_seat.result.me old e.4));
+          c.split_seat.result i.seats (omega arith) (e.3 ∙ i.table)
+          (dealt_first c.args.self.now.table.shared.key l k c.loop-thread.seat.me c.split_seat.result.me old e.4));
     }
 
 pub returns : goal.returns
@@ -40,6 +44,6 @@ returns c = let i = c.loop-thread.invariant in let l : ℕ = length c.loop-threa
     let items = c.in_ok-push-2.ensures.items in (
       subst (AreSeats c.args.self.now.table.shared.table_id c.args.self.now.table.shared.key 0) (sym items)
           (seats-snoc c.args.self.now.table.shared.table_id c.args.self.now.table.shared.key 0 l c.loop-thread.seats.items
-              c.loop-thread.seat i.seats (omega arith) i.table old),
+          c.loop-thread.seat i.seats (omega arith) i.table old),
       ap length items ∙ length-append c.loop-thread.seats.items (c.loop-thread.seat ∷ []) ∙ omega (arith, q, p),
     )

@@ -7,5 +7,7 @@ step_in-requires-clause-granted c = (c.look.ensures.granted c.if-not-look.false)
 
 pub returns-clause-entered : goal.returns-clause-entered
 returns-clause-entered c on = c.step_in.ensures.entered
-    ∙ (λ i. (view_at c.args.self.now.table.shared.key c.args.thread.now (suc c.args.thread.now.steps) false,
-    ((c.look.ensures.granted c.if-not-look.false).0 i).1))
+    ∙ (λ i. (
+      view_at c.args.self.now.table.shared.key c.args.thread.now (suc c.args.thread.now.steps) false,
+      ((c.look.ensures.granted c.if-not-look.false).0 i).1,
+    ))

@@ -27,21 +27,23 @@ store-requires c = (
   write_leave_allows c.args.self.now.table.shared.key _ _ c.args.object c.version-version.result c.args.thread.now
       c.version-version.new.seat.me
       (subst (λ (m : M). IsSeated c.args.self.now.table.shared.key m.0 c.args.thread.now) (sym c.version-version.ensures.seat.2)
-          c.requires.thread)
+      c.requires.thread)
       (subst (λ b. IsAsking (trace_in c.args.self.now.table.shared.key) c.args.thread.now (Leave c.args.object b)) c.in-Writing.is
-          c.requires.asking) c.version-version.ensures.version,
+      c.requires.asking) c.version-version.ensures.version,
 )
 
 pub returns-in-Reading-clause-left : goal.returns-in-Reading-clause-left
 returns-in-Reading-clause-left c =
     (step_told c.args.self.now.table.shared.key c.args.thread.now (Leave c.args.object c.args.access) c.args.seat.now.me
-        c.fetch_add.new.seat.me c.fetch_add.result c.requires.thread c.requires.asking.asks (λ b. b) c.fetch_add.ensures.2).view
+    c.fetch_add.new.seat.me c.fetch_add.result c.requires.thread c.requires.asking.asks (λ b. b) c.fetch_add.ensures.2).view
 
 pub returns-in-Writing-clause-left : goal.returns-in-Writing-clause-left
 returns-in-Writing-clause-left c =
     (step_told c.args.self.now.table.shared.key c.args.thread.now (Leave c.args.object c.args.access) c.version-version.new.seat.me
-        c.store.new.seat.me ((c.version-version.result + 1) * 4294967296)
+    c.store.new.seat.me ((c.version-version.result + 1) * 4294967296)
     (subst (λ (m : M). IsSeated c.args.self.now.table.shared.key m.0 c.args.thread.now) (sym c.version-version.ensures.seat.2)
-        c.requires.thread) c.requires.asking.asks (λ b. b) c.store.ensures.2).view
-    ∙ (λ i. (view_at c.args.self.now.table.shared.key c.args.thread.now (suc c.args.thread.now.steps) false,
-    (c.version-version.ensures.seat.2 i).1))
+    c.requires.thread) c.requires.asking.asks (λ b. b) c.store.ensures.2).view
+    ∙ (λ i. (
+      view_at c.args.self.now.table.shared.key c.args.thread.now (suc c.args.thread.now.steps) false,
+      (c.version-version.ensures.seat.2 i).1,
+    ))

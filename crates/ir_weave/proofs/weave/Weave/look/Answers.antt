@@ -22,9 +22,11 @@ shown c = look_told c.args.self.now.table.shared.key c.args.thread.now c.args.ob
 pub returns-clause-granted : goal.returns-clause-granted
 returns-clause-granted c on =
     let opened : Opens c.load-seen.result c.args.event =
-        test_true c.opens.result (Opens c.load-seen.result c.args.event) c.opens.ensures on in
-    ((shown c).opened opened, granted_by c.args.self.now.table.shared.key c.args.thread.now c.args.event c.args.seat.now.me
-        c.load-seen.new.seat.me c.load-seen.result c.requires.thread (shown c) opened)
+    test_true c.opens.result (Opens c.load-seen.result c.args.event) c.opens.ensures on in (
+      (shown c).opened opened,
+      granted_by c.args.self.now.table.shared.key c.args.thread.now c.args.event c.args.seat.now.me
+          c.load-seen.new.seat.me c.load-seen.result c.requires.thread (shown c) opened,
+    )
 
 pub returns-clause-stopped : goal.returns-clause-stopped
 returns-clause-stopped c off = (shown c).shut (test_false c.opens.result (Opens c.load-seen.result c.args.event) c.opens.ensures off)

@@ -7,10 +7,10 @@ use Rattle.ir_weave.proofs.weave.Weave.open.Goals as goal
 pub of_words-requires : goal.of_words-requires
 of_words-requires c =
     opens_for (record { fitted = c.of.result; opened = c.of-2.result }) c.args.fitted.now c.args.state.now c.as_slice.result.now
-        c.of.ensures c.of-2.ensures c.image.ensures.within c.requires
+    c.of.ensures c.of-2.ensures c.image.ensures.within c.requires
     (table_of c.args.state.now.objects c.as_slice.result.now
     (subst (λ ws. IsLaid c.args.state.now.objects ws (table_length (length c.args.state.now.objects))) (sym c.as_slice.ensures.value)
-        (subst (λ cs. IsLaid cs c.in_ok-words.words.items (table_length (length cs))) c.objects.ensures c.in_ok-words.ensures))
+    (subst (λ cs. IsLaid cs c.in_ok-words.words.items (table_length (length cs))) c.objects.ensures c.in_ok-words.ensures))
     (λ o l. (c.requires.flat.objects o l).words))
 
 pub deal-requires-clause-some : goal.deal-requires-clause-some

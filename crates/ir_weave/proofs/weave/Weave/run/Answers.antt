@@ -28,10 +28,10 @@ pub returns-clause-stops : goal.returns-clause-stops
 returns-clause-stops c = λ below.
     let r = ran c in
     let at : c.position.result ≡ cut_of c.args.target.now c.args.thread.now.number = c.position.ensures
-        ∙ ap (cut_of c.args.target.now) c.number.ensures in
+    ∙ ap (cut_of c.args.target.now) c.number.ensures in
     let now = c.steps.ensures.value in
     let steps = r.steps in
     let short : c.run.new.self.steps < cut_of c.args.target.now c.args.thread.now.number =
-        subst (λ t. c.run.new.self.steps < cut_of c.args.target.now t) r.number below in
+    subst (λ t. c.run.new.self.steps < cut_of c.args.target.now t) r.number below in
     subst (λ (k : List ℕ). ask_of k c.run.new.self ≢ ask.Private) (c.code.ensures.value ∙ ap (λ g. g.code) c.image.ensures.value)
-        (c.run.ensures.stops (omega (arith, at, now, steps, short)))
+    (c.run.ensures.stops (omega (arith, at, now, steps, short)))

@@ -29,10 +29,10 @@ fetch_add-requires-in-Writing c = (
 pub returns-in-Reading-clause-entered : goal.returns-in-Reading-clause-entered
 returns-in-Reading-clause-entered c =
     (step_told c.args.self.now.table.shared.key c.args.thread.now (Enter c.args.object c.args.access) c.args.seat.now.me
-        c.fetch_add.new.seat.me c.fetch_add.result c.requires.granted.seated c.requires.asking.asks (λ b. b) c.fetch_add.ensures.2).view
+    c.fetch_add.new.seat.me c.fetch_add.result c.requires.granted.seated c.requires.asking.asks (λ b. b) c.fetch_add.ensures.2).view
 
 pub returns-in-Writing-clause-entered : goal.returns-in-Writing-clause-entered
 returns-in-Writing-clause-entered c =
     (step_told c.args.self.now.table.shared.key c.args.thread.now (Enter c.args.object c.args.access) c.args.seat.now.me
-        c.fetch_add-in-Writing.new.seat.me c.fetch_add-in-Writing.result c.requires.granted.seated c.requires.asking.asks (λ b. b)
-        c.fetch_add-in-Writing.ensures.2).view
+    c.fetch_add-in-Writing.new.seat.me c.fetch_add-in-Writing.result c.requires.granted.seated c.requires.asking.asks (λ b. b)
+    c.fetch_add-in-Writing.ensures.2).view

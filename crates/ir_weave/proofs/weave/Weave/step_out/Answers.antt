@@ -6,6 +6,6 @@ use Rattle.ir_weave.proofs.weave.Weave.step_out.Goals as goal
 pub returns-clause-stepped : goal.returns-clause-stepped
 returns-clause-stepped c =
     object_stepped c.args.self.now.table.shared.key c.args.fitted.now c.code.result.now c.args.seat.now.me c.leave.new.seat.me
-        c.args.thread.now c.take_asked.new.self (Leave c.args.object c.args.access) c.requires.table
-        (c.code.ensures.value ∙ ap (λ g. g.code) c.image.ensures.value) c.requires.thread c.requires.asking tt tt c.take_asked.ensures
-        c.leave.ensures.left
+    c.args.thread.now c.take_asked.new.self (Leave c.args.object c.args.access) c.requires.table
+    (c.code.ensures.value ∙ ap (λ g. g.code) c.image.ensures.value) c.requires.thread c.requires.asking tt tt c.take_asked.ensures
+    c.leave.ensures.left

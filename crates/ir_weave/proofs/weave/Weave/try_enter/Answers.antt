@@ -12,8 +12,8 @@ pub unreachable-requires : goal.unreachable-requires
 unreachable-requires c = never_disagrees c.args.self.now.table.shared.key c.args.fitted.now c.args.seat.now.me.0 c.args.thread.now
     (Enter c.args.object c.args.access) c.requires.table c.requires.thread c.requires.asking refl
     (subst (λ (z : Recorded × ℕ × ℕ). (e : Event) → slice_get (recorded_thread z.0 z.1).events z.2 ≡ Some e
-        → Suits (Enter c.args.object c.args.access) e → ⊥)
-        (λ i. (c.trace.ensures.value i, c.number-number.ensures i, c.events.ensures.value i)) c.in-Err.ensures.disagrees)
+    → Suits (Enter c.args.object c.args.access) e → ⊥)
+    (λ i. (c.trace.ensures.value i, c.number-number.ensures i, c.events.ensures.value i)) c.in-Err.ensures.disagrees)
 
 pub returns-then-not-enter-clause-stopped : goal.returns-then-not-enter-clause-stopped
 returns-then-not-enter-clause-stopped c off = let z = c.enter.ensures.stopped c.if-not-enter.true in
@@ -22,6 +22,6 @@ returns-then-not-enter-clause-stopped c off = let z = c.enter.ensures.stopped c.
 pub returns-clause-stepped : goal.returns-clause-stepped
 returns-clause-stepped c on =
     object_stepped c.args.self.now.table.shared.key c.args.fitted.now c.code.result.now c.args.seat.now.me c.enter.new.seat.me
-        c.args.thread.now c.take_asked.new.self (Enter c.args.object c.args.access) c.requires.table
-        (c.code.ensures.value ∙ ap (λ g. g.code) c.image.ensures.value) c.requires.thread c.requires.asking tt tt c.take_asked.ensures
-        (c.enter.ensures.entered c.if-not-enter.false)
+    c.args.thread.now c.take_asked.new.self (Enter c.args.object c.args.access) c.requires.table
+    (c.code.ensures.value ∙ ap (λ g. g.code) c.image.ensures.value) c.requires.thread c.requires.asking tt tt c.take_asked.ensures
+    (c.enter.ensures.entered c.if-not-enter.false)
