@@ -4,6 +4,8 @@
 #[cfg(test)]
 mod counting;
 #[cfg(test)]
+mod ends;
+#[cfg(test)]
 mod guests;
 mod laws;
 #[cfg(test)]
