@@ -7,3 +7,4 @@ pub mod Reference
 pub mod LongLines
 pub mod Session
 pub mod Machine
+pub mod Debugging

@@ -6,7 +6,7 @@ ghost use Rattle.hex.specs.Hex.{encode_lower};
 ghost use Rattle.ir_debug.specs.Answers.{hex_word};
 ghost use Rattle.ir_debug.specs.Machine.Texts.{memory_text};
 
-use crate::answer::{Text, put_word};
+use crate::text::{Text, put_word};
 use ir_stream::append;
 
 // How many bytes of memory stand in a line.

@@ -5,7 +5,7 @@ ghost use Rattle.arrayvec.specs.ArrayVec.{array_vec_len};
 ghost use Rattle.ir_log.specs.Logging.{label_of};
 ghost use Rattle.ir_debug.specs.Machine.Texts.{kind_text, event_text};
 
-use crate::answer::Text;
+use crate::text::Text;
 use ir_log::Event;
 use ir_runs::EnvKind;
 use ir_stream::append;

@@ -11,6 +11,8 @@ mod open;
 mod opening;
 mod positions;
 mod sessions;
+mod single;
+mod text;
 mod trace;
 mod trace_err;
 mod trace_reader;

@@ -7,8 +7,8 @@ ghost use Rattle.ir_stream.specs.Devices.{AppendsPrefix};
 ghost use Rattle.ir_debug.specs.Session.{is_single, opening_by_image, opening_by_trace, opening_of, opening_text};
 ghost use Rattle.ir_debug.specs.TraceReading.{trace_at};
 
-use crate::answer::Text;
-use crate::debugger::Debugger;
+use crate::text::Text;
+use crate::single::Single;
 use crate::fit::fit;
 use crate::opening::Opening;
 use crate::trace::Trace;
@@ -32,7 +32,7 @@ fn open_trace(alloc: Global, image: Image, trace: &Trace) -> Result<Opening, All
     ensures { IfOk result (λ opening. opening ≡ opening_by_trace image (Ok trace.now)) }
 {
     match fit(alloc, &image, trace)? {
-        Verdict::Same => Ok(Opening::Ready(Debugger::open(alloc, image, trace)?)),
+        Verdict::Same => Ok(Opening::Ready(Single::open(alloc, image, trace)?)),
         Verdict::Disagrees { step } => Ok(Opening::Unfit(step)),
     }
 }

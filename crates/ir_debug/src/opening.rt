@@ -1,6 +1,6 @@
 //! What the bytes of an image and of a trace open.
 
-use crate::debugger::Debugger;
+use crate::single::Single;
 
 /// What an image and a trace open.
 #[derive(Drop)]
@@ -12,5 +12,5 @@ pub enum Opening {
     /// The guest's thread parts from the trace at this step.
     Unfit(u64),
     /// The trace is of a run of the guest.
-    Ready(Debugger),
+    Ready(Single),
 }

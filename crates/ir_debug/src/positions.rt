@@ -4,7 +4,7 @@ ghost use Rattle.std.specs.Prelude.{◌≡◌, ◌≤◌, ◌+◌, ◌*◌, ◌+
 ghost use Rattle.arrayvec.specs.ArrayVec.{array_vec_len};
 ghost use Rattle.ir_debug.specs.Machine.Texts.{positions_text, stop_text};
 
-use crate::answer::Text;
+use crate::text::Text;
 use ir_stream::append;
 use itoa::Buffer;
 

@@ -8,7 +8,7 @@ ghost use Rattle.ir_stream.specs.Devices.{AppendsPrefix, Reads};
 ghost use Rattle.ir_debug.specs.Reference.{is_quit};
 ghost use Rattle.ir_debug.specs.Session.{opening_of, told, IfServed, Session, ended_by};
 
-use crate::debugger::Debugger;
+use crate::single::Single;
 use crate::ended::{Ended, SessionErr};
 use crate::open::{announce, open};
 use crate::opening::Opening;
@@ -82,7 +82,7 @@ pub fn session_up_to<R: Source, W: Sink>(
         Opening::RefusedTrace(_) => Ok(Ended::TraceRefused),
         Opening::Unfit(_) => Ok(Ended::NotFit),
         Opening::Ready(debugger) => {
-            let mut debugger: Debugger = debugger;
+            let mut debugger: Single = debugger;
             ended(serve(limit, reader, writer, &mut debugger))
         }
     }

@@ -4,7 +4,7 @@ ghost use Rattle.std.specs.Prelude.{◌≡◌, ◌≤◌, ◌+◌, ◌++◌, len
 ghost use Rattle.arrayvec.specs.ArrayVec.{array_vec_len};
 ghost use Rattle.ir_debug.specs.Machine.Opening.{thread_verdict_text, thread_line, header_text, incoherent_text};
 
-use crate::answer::Text;
+use crate::text::Text;
 use ir_fit::{Cause, HeaderCause};
 use ir_runs::ThreadVerdict;
 use ir_stream::append;

@@ -1,7 +1,7 @@
 use Rattle.std.proofs.Common.{◌≡◌, ℕ, sym, ap, ◌∙◌, arith}
 use Rattle.ir_thread.specs.State.{start_state}
 use Rattle.ir_debug.proofs.Runs.{run-none}
-use Rattle.ir_debug.proofs.debugger.Debugger.open.Goals as goal
+use Rattle.ir_debug.proofs.single.Single.open.Goals as goal
 
 pub invariant_of-result : goal.invariant_of-result
 invariant_of-result c =

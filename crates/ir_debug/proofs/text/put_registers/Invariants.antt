@@ -1,7 +1,7 @@
 use Rattle.std.proofs.Common.{◌≡◌, ◌≤◌, ◌+◌, ◌*◌, ◌++◌}
 use Rattle.arrayvec.specs.ArrayVec.{array_vec_len}
 use Rattle.ir_debug.specs.Answers.{registers_text}
-use Rattle.ir_debug.proofs.answer.put_registers.Given as goal
+use Rattle.ir_debug.proofs.text.put_registers.Given as goal
 
 abbrev pub invariant-loop-number : goal.invariant-loop-number
 invariant-loop-number l = record {

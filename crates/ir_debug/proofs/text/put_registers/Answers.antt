@@ -2,7 +2,7 @@ use Rattle.std.proofs.Common.{◌++◌, List, ℕ, sym, ap, ◌∙◌, append_as
 use Rattle.std.proofs.lemmas.List.{append-nil}
 use Rattle.ir_debug.specs.Answers.{registers_text, register_text}
 use Rattle.ir_debug.proofs.RegisterNames.{registers-more, registers-none}
-use Rattle.ir_debug.proofs.answer.put_registers.Goals as goal
+use Rattle.ir_debug.proofs.text.put_registers.Goals as goal
 
 pub loop-number-init : goal.loop-number-init
 loop-number-init c = record {

@@ -1,6 +1,6 @@
 use Rattle.std.proofs.Common.{◌≤◌, List, ℕ, length, sym, subst, ◌∙◌}
 use Rattle.ir_debug.proofs.RegisterNames.{short_name}
-use Rattle.ir_debug.proofs.answer.name.Goals as goal
+use Rattle.ir_debug.proofs.text.name.Goals as goal
 
 pub returns-clause-short : goal.returns-clause-short
 returns-clause-short c =

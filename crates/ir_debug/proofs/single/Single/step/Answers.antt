@@ -2,7 +2,7 @@ use Rattle.std.proofs.Common.{List, ℕ, sym, ap, ◌∙◌, arith}
 use Rattle.ir_thread.specs.State.{State, start_state}
 use Rattle.ir_debug.specs.Fitting.{own_run}
 use Rattle.ir_debug.proofs.Runs.{run-add}
-use Rattle.ir_debug.proofs.debugger.Debugger.step.Goals as goal
+use Rattle.ir_debug.proofs.single.Single.step.Goals as goal
 
 pub invariant_of-self : goal.invariant_of-self
 invariant_of-self c =
