@@ -71,7 +71,7 @@ fn serve(rt: &HostRuntime) -> u8 {
     let mut reader = FromStd::new(input);
     let mut writer = FromStd::new(io::writer(rt));
     let mut faults = FromStd::new(rt.stderr());
-    bundle(rt.alloc(), &mut reader, &mut writer, &mut faults)
+    bundle(rt, rt.alloc(), &mut reader, &mut writer, &mut faults)
 }
 
 // The bytes of a file; else it is told why there are none.

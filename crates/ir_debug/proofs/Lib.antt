@@ -1,7 +1,8 @@
-mod Runs
 mod RegisterNames
 mod Lines
 mod Opened
+mod ThreadLines
+mod Replying
 mod Machine
 mod Rows
 mod RowsOne

@@ -1,5 +1,5 @@
 -- The debugger between two commands, and the texts of its answers.
-use Rattle.std.specs.Prelude.{◌≡◌, ℕ, ⊤, Bool, true, List, ◌++◌, codes, Some, None}
+use Rattle.std.specs.Prelude.{◌≡◌, ℕ, ⊤, Bool, true, List, ◌++◌, codes, Option, Some, None, Result}
 use Rattle.std.specs.Io.KnownBytes.{Appends}
 use Rattle.ir_runs.specs.Run.{Step}
 use Rattle.ir_fit.specs.Fit.{FittedTrace}
@@ -9,6 +9,7 @@ use Rattle.ir_weave.specs.States.{positions}
 use Rattle.ir_stream.specs.Devices.{AppendsPrefix}
 use Rattle.ir_command.specs.declared.command.Command.{Command}
 use Rattle.ir_command.specs.declared.command.Command.TheVariants as command
+use Rattle.ir_command.specs.declared.refusal.Refusal.{Refusal}
 use Rattle.ir_debug.specs.declared.answer.Answer.{Answer}
 use Rattle.ir_debug.specs.declared.answer.Answer.TheVariants.{Moved, Position, Shown, Next, Refused, Bye}
 use Rattle.ir_debug.specs.Answers.{refusal_text}
@@ -16,7 +17,7 @@ use Rattle.ir_debug.specs.Machine.Desk.{Desk, IsDesk}
 use Rattle.ir_debug.specs.Machine.Refusals.{refusal_of, is_at_hand}
 use Rattle.ir_debug.specs.Machine.Shown.{shown}
 use Rattle.ir_debug.specs.Machine.Texts.{positions_text}
-use Rattle.ir_debug.specs.Machine.Answers.{moved_text}
+use Rattle.ir_debug.specs.Machine.Answers.{moved_text, RepliesBy}
 
 -- the small machine, and beside it the guest's threads and objects at some consistent cut
 pub record Debugging : Type 0 where
@@ -58,3 +59,9 @@ IsLast d Bye = ⊤
 -- the answer's text, which is one for all runs, is so
 abbrev pub IsText : Debugging → Answer → (List ℕ → Type 0) → Type 0
 IsText d answer P = (text : List ℕ) × EachRun d.desk.fitted (λ run. text ≡ answer_text run d.desk answer) × P text
+
+-- the debugger gave this answer to what a line asks: whichever run with the trace the small machine holds, it may say the same
+pub record IsAnswer (asked : Result (Option Command) Refusal) (old new : Debugging) (answer : Answer) : Type 0 where
+  pub fitted : new.desk.fitted ≡ old.desk.fitted
+  pub answers : EachRun old.desk.fitted (λ run. RepliesBy asked run old.desk (answer_text run new.desk answer) new.desk)
+  pub last : IsLast new answer

@@ -1,12 +1,18 @@
 //! The debugger: a guest with the trace of one of its runs, at a consistent cut.
 
-ghost use Rattle.std.specs.Prelude.{◌≡◌};
+ghost use Rattle.std.specs.Prelude.{◌≡◌, IfOk};
 ghost use Rattle.ir_debug.specs.Debugging.{Debugging, IsDebugging};
 
+use crate::answer::Answer;
+use ir_command::{Command, Refusal};
 use ir_cut::Cut;
 use ir_fit::Fitted;
+use ir_object::Gate;
 use ir_replay::State;
+use std::alloc::{AllocError, Global};
 use std::marker::Model;
+use std::thread::Threads;
+use std::time::Clock;
 
 /// A debugger, which answers as the small machine does that holds a recorded run of the guest and a position of each
 /// thread. Beside these it has the guest's threads and objects at a consistent cut, which is the one that it answers of
@@ -28,7 +34,11 @@ impl Model for Debugger {
 }
 
 impl Debugger {
-    ghost use Rattle.ir_debug.specs.Machine.Desk.{IsDesk};
+    ghost use Rattle.ir_cut.specs.Positions.{EachRun};
+    ghost use Rattle.ir_debug.specs.Machine.Desk.{IsDesk, desk_of, spoken};
+    ghost use Rattle.ir_debug.specs.Machine.Answers.{Answers};
+    ghost use Rattle.ir_debug.specs.Debugging.{answer_text, IsLast};
+    ghost use Rattle.ir_debug.specs.declared.answer.Answer.TheVariants as AnswerV;
 
     /// The guest and its trace.
     pub fn fitted(&self) -> &Fitted
@@ -50,5 +60,30 @@ impl Debugger {
         ensures { result.now ≡ self.now.state }
     {
         &self.state
+    }
+
+    /// STUB
+    pub fn open(alloc: Global, fitted: Fitted) -> Result<Debugger, AllocError>
+        ensures { IfOk result (λ d. d.desk ≡ desk_of fitted) }
+    {
+        Err(AllocError)
+    }
+
+    /// STUB
+    pub fn refuse(&mut self, refusal: Refusal) -> Answer
+        ensures next { self.new.desk ≡ spoken self.old.desk }
+        ensures value { result ≡ AnswerV.Refused refusal }
+    {
+        self.fresh = false;
+        Answer::Refused(refusal)
+    }
+
+    /// STUB
+    pub fn command<R: Threads + Clock + Sync, G: Gate + Sync>(&mut self, rt: &R, alloc: Global, command: &Command, gate: &G) -> Answer
+        ensures fitted { self.new.desk.fitted ≡ self.old.desk.fitted }
+        ensures answers { EachRun self.old.desk.fitted (λ run. Answers run self.old.desk command.now (answer_text run self.new.desk result) self.new.desk) }
+        ensures last { IsLast self.new result }
+    {
+        Answer::Bye
     }
 }

@@ -3,7 +3,7 @@
 ghost use Rattle.std.specs.Prelude.{◌≡◌, ◌≤◌, ◌<◌, ◌+◌, ◌++◌, length};
 ghost use Rattle.arrayvec.specs.ArrayVec.{array_vec_len};
 ghost use Rattle.ir_isa.specs.Names.{register_name};
-ghost use Rattle.ir_debug.specs.Answers.{hex_word, reason_text, refusal_text, place_text, stop_text, register_text, registers_text, after_register, machine_text};
+ghost use Rattle.ir_debug.specs.Answers.{hex_word, reason_text, refusal_text, register_text, registers_text, after_register, machine_text};
 
 use arrayvec::ArrayVec;
 use ir_command::Refusal;
@@ -58,23 +58,6 @@ pub fn put_refusal(text: &mut Text, refusal: Refusal)
     append(text, b" ");
     append(text, reason(refusal));
     append(text, b"\n");
-}
-
-/// Puts the answer to a move at the end: where a thread is that has this last position.
-pub fn put_place(text: &mut Text, last: u64, at: u64)
-    requires { array_vec_len text.old ≤ 256 }
-    ensures { text.new.items ≡ text.old.items ++ place_text last at }
-{
-    let mut buffer = Buffer::new();
-    append(text, b"at ");
-    append(text, buffer.format(at).as_bytes());
-    if at == last {
-        append(text, b" end\n");
-    } else if at == 0 {
-        append(text, b" start\n");
-    } else {
-        append(text, b"\n");
-    }
 }
 
 fn name(number: u8) -> &'static [u8]
