@@ -3,6 +3,9 @@ mod RegisterNames
 mod Lines
 mod Opened
 mod Machine
+mod Brought
+mod Ends
+mod Answering
 mod Rows
 mod RowsOne
 mod RowsTwo

@@ -2,14 +2,18 @@
 #![tactic(auto)]
 
 mod answer;
+mod bringing;
 mod bytes;
 mod debugger;
+mod destinations;
 mod ended;
 mod events;
 mod fit;
+mod next;
 mod open;
 mod opening;
 mod positions;
+mod refusals;
 mod sessions;
 mod single;
 mod text;
