@@ -1,6 +1,6 @@
-use Rattle.std.proofs.Common.{◌≡◌, ℕ, ◌++◌, ◌∷◌, [], List, length, sym, ap, ◌∙◌, subst, arith}
+use Rattle.std.proofs.Common.{◌≡◌, length, sym, ap, ◌∙◌, subst, arith}
 use Rattle.ir_cut.specs.Positions.{IsConsistentCut}
-use Rattle.ir_debug.specs.Machine.Desk.{threads_of, last_of, last_positions, last_cut}
+use Rattle.ir_debug.specs.Machine.Desk.{threads_of, last_positions, last_cut}
 use Rattle.ir_debug.proofs.Ends.{last_none, last_one, last_length, last_consistent}
 use Rattle.ir_debug.proofs.destinations.last_cut.Goals as goal
 
