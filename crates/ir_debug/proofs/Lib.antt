@@ -5,6 +5,7 @@ mod Opened
 mod Machine
 mod Brought
 mod Ends
+mod Leading
 mod Answering
 mod Rows
 mod RowsOne

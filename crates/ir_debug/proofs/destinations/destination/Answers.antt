@@ -1,6 +1,6 @@
 use Rattle.std.proofs.lemmas.Result.{IfOk-weaker}
 use Rattle.ir_cut.specs.Positions.{IsLeastCut, IsGreatestCut}
-use Rattle.ir_debug.proofs.Answering.{LeadsSo, steps_on, steps_back}
+use Rattle.ir_debug.proofs.Leading.{LeadsSo, steps_on, steps_back}
 use Rattle.ir_debug.proofs.destinations.destination.Goals as goal
 
 pub returns-in-Step-clause-leads : goal.returns-in-Step-clause-leads

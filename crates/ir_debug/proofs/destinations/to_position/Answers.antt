@@ -2,7 +2,7 @@ use Rattle.std.proofs.Common.{min}
 use Rattle.std.proofs.lemmas.Result.{IfOk-weaker}
 use Rattle.ir_cut.specs.Positions.{IsLeastCut, IsGreatestCut}
 use Rattle.ir_debug.specs.Machine.Desk.{last_of}
-use Rattle.ir_debug.proofs.Answering.{ToPositionSo, up_to, down_to}
+use Rattle.ir_debug.proofs.Leading.{ToPositionSo, up_to, down_to}
 use Rattle.ir_debug.proofs.destinations.to_position.Goals as goal
 
 pub returns-then-position-clause-leads : goal.returns-then-position-clause-leads
