@@ -4,6 +4,10 @@ mod Opened
 mod ThreadLines
 mod Replying
 mod Machine
+mod Brought
+mod Ends
+mod Leading
+mod Answering
 mod Rows
 mod RowsOne
 mod RowsTwo

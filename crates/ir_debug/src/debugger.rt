@@ -1,10 +1,13 @@
 //! The debugger: a guest with the trace of one of its runs, at a consistent cut.
 
-ghost use Rattle.std.specs.Prelude.{◌≡◌, IfOk};
+ghost use Rattle.std.specs.Prelude.{◌≡◌};
 ghost use Rattle.ir_debug.specs.Debugging.{Debugging, IsDebugging};
 
 use crate::answer::Answer;
-use ir_command::{Command, Refusal};
+use crate::bringing::bring;
+use crate::destinations::{destination, first_cut};
+use crate::next::next_line;
+use ir_command::{Command, Move, Refusal, Show};
 use ir_cut::Cut;
 use ir_fit::Fitted;
 use ir_object::Gate;
@@ -34,11 +37,36 @@ impl Model for Debugger {
 }
 
 impl Debugger {
-    ghost use Rattle.ir_cut.specs.Positions.{EachRun};
-    ghost use Rattle.ir_debug.specs.Machine.Desk.{IsDesk, desk_of, spoken};
-    ghost use Rattle.ir_debug.specs.Machine.Answers.{Answers};
-    ghost use Rattle.ir_debug.specs.Debugging.{answer_text, IsLast};
-    ghost use Rattle.ir_debug.specs.declared.answer.Answer.TheVariants as AnswerV;
+    ghost use Rattle.std.specs.Prelude.{◌<◌, List, ℕ, None, false, length, IfOk, OnOk, OnErr};
+    ghost use Rattle.ir_cut.specs.Positions.{EachRun, IsConsistentCut, cut_of};
+    ghost use Rattle.ir_command.specs.declared.command.Command.TheVariants as command;
+    ghost use Rattle.ir_command.specs.declared.command.Show.TheVariants as show;
+    ghost use Rattle.ir_command.specs.declared.refusal.Refusal.TheVariants as refusal;
+    ghost use Rattle.ir_debug.specs.declared.answer.Answer.TheVariants as answer;
+    ghost use Rattle.ir_debug.specs.Machine.Desk.{IsDesk, desk_of, moved, spoken, threads_of};
+    ghost use Rattle.ir_debug.specs.Machine.Refusals.{refusal_of};
+    ghost use Rattle.ir_debug.specs.Machine.Moves.{Leads};
+    ghost use Rattle.ir_debug.specs.Machine.Shown.{shown};
+    ghost use Rattle.ir_debug.specs.Machine.Answers.{Answers, AnswersBy};
+    ghost use Rattle.ir_debug.specs.Debugging.{IsLast, IsThere, answer_text};
+
+    /// A debugger with all threads at 0.
+    ///
+    /// # Errors
+    /// Out of memory.
+    pub fn open(alloc: Global, fitted: Fitted) -> Result<Debugger, AllocError>
+        ensures { IfOk result (λ d. d.desk ≡ desk_of fitted) }
+    {
+        fitted.known();
+        let at = first_cut(alloc, &fitted)?;
+        let state = State::start(alloc, &fitted)?;
+        Ok(Debugger {
+            fitted,
+            at,
+            fresh: true,
+            state,
+        })
+    }
 
     /// The guest and its trace.
     pub fn fitted(&self) -> &Fitted
@@ -62,28 +90,161 @@ impl Debugger {
         &self.state
     }
 
-    /// STUB
-    pub fn open(alloc: Global, fitted: Fitted) -> Result<Debugger, AllocError>
-        ensures { IfOk result (λ d. d.desk ≡ desk_of fitted) }
-    {
-        Err(AllocError)
-    }
-
-    /// STUB
+    /// Refuses a line. Nothing changes, but for what the last answer was.
     pub fn refuse(&mut self, refusal: Refusal) -> Answer
-        ensures next { self.new.desk ≡ spoken self.old.desk }
-        ensures value { result ≡ AnswerV.Refused refusal }
+        ensures desk { self.new.desk ≡ spoken self.old.desk }
+        ensures answer { result ≡ answer.Refused refusal }
     {
         self.fresh = false;
         Answer::Refused(refusal)
     }
 
-    /// STUB
-    pub fn command<R: Threads + Clock + Sync, G: Gate + Sync>(&mut self, rt: &R, alloc: Global, command: &Command, gate: &G) -> Answer
+    // Brings the threads and objects in hand to the cut.
+    fn bring_here<R: Threads + Clock + Sync, G: Gate + Sync>(
+        &mut self,
+        rt: &R,
+        alloc: Global,
+        gate: &G,
+    ) -> Result<(), AllocError>
+        ensures desk { self.new.desk ≡ spoken self.old.desk }
+        ensures there { OnOk result (IsThere self.new) }
+        ensures lacks { OnErr result (self.old.desk.fresh ≡ false) }
+    {
+        self.fresh = false;
+        bring(rt, alloc, &self.fitted, &mut self.state, &self.at, gate)
+    }
+
+    // Brings all threads to a cut, which is the debugger's then.
+    fn go_to<R: Threads + Clock + Sync, G: Gate + Sync>(
+        &mut self,
+        rt: &R,
+        alloc: Global,
+        to: Cut,
+        gate: &G,
+    ) -> Result<(), AllocError>
+        requires size { length to ≡ threads_of self.old.desk.fitted }
+        requires consistent { IsConsistentCut self.old.desk.fitted to }
+        ensures ok { OnOk result (self.new.desk ≡ moved self.old.desk to) }
+        ensures err { OnErr result (self.new.desk ≡ spoken self.old.desk) }
+    {
+        self.fresh = false;
+        bring(rt, alloc, &self.fitted, &mut self.state, &to, gate)?;
+        self.at = to;
+        self.fresh = true;
+        Ok(())
+    }
+
+    // Finds the cut to which a move leads, and goes there.
+    fn carry_out<R: Threads + Clock + Sync, G: Gate + Sync>(
+        &mut self,
+        rt: &R,
+        alloc: Global,
+        to: Move,
+        gate: &G,
+    ) -> Result<(), AllocError>
+        requires { refusal_of self.old.desk (command.Move to) ≡ None }
+        ensures ok { OnOk result ((cut : List ℕ) × EachRun self.old.desk.fitted (λ run. Leads run self.old.desk to cut) × (self.new.desk ≡ moved self.old.desk cut)) }
+        ensures err { OnErr result (self.new.desk ≡ spoken self.old.desk) }
+    {
+        self.fresh = false;
+        let cut = destination(alloc, &self.fitted, &self.at, to)?;
+        self.go_to(rt, alloc, cut, gate)
+    }
+
+    // The answer to a move that isn't refused.
+    fn answer_move<R: Threads + Clock + Sync, G: Gate + Sync>(
+        &mut self,
+        rt: &R,
+        alloc: Global,
+        to: Move,
+        gate: &G,
+    ) -> Answer
+        requires { refusal_of self.old.desk (command.Move to) ≡ None }
+        ensures fitted { self.new.desk.fitted ≡ self.old.desk.fitted }
+        ensures answers { EachRun self.old.desk.fitted (λ run. AnswersBy None run self.old.desk (command.Move to) (answer_text run self.new.desk result) self.new.desk) }
+        ensures last { IsLast self.new result }
+    {
+        match self.carry_out(rt, alloc, to, gate) {
+            Ok(()) => Answer::Moved(to),
+            Err(AllocError) => self.refuse(Refusal::NoMemory),
+        }
+    }
+
+    // The line of the next step of thread t.
+    fn show_next<R: Threads + Clock + Sync, G: Gate + Sync>(
+        &mut self,
+        rt: &R,
+        alloc: Global,
+        thread: u32,
+        gate: &G,
+    ) -> Result<Vec<u8>, AllocError>
+        requires { thread < threads_of self.old.desk.fitted }
+        ensures desk { self.new.desk ≡ spoken self.old.desk }
+        ensures line { IfOk result (λ line. EachRun self.old.desk.fitted (λ run. line.items ≡ shown run self.old.desk (show.Next thread))) }
+    {
+        self.bring_here(rt, alloc, gate)?;
+        let threads = self.state.threads();
+        next_line(alloc, self.fitted.image().code(), &threads[thread as usize])
+    }
+
+    // The answer to a command that shows something, and isn't refused.
+    fn answer_show<R: Threads + Clock + Sync, G: Gate + Sync>(
+        &mut self,
+        rt: &R,
+        alloc: Global,
+        show: Show,
+        gate: &G,
+    ) -> Answer
+        requires { refusal_of self.old.desk (command.Show show) ≡ None }
+        ensures fitted { self.new.desk.fitted ≡ self.old.desk.fitted }
+        ensures answers { EachRun self.old.desk.fitted (λ run. AnswersBy None run self.old.desk (command.Show show) (answer_text run self.new.desk result) self.new.desk) }
+        ensures last { IsLast self.new result }
+    {
+        if let Show::Next { thread } = show {
+            return match self.show_next(rt, alloc, thread, gate) {
+                Ok(line) => Answer::Next(line),
+                Err(AllocError) => self.refuse(Refusal::NoMemory),
+            };
+        }
+        match self.bring_here(rt, alloc, gate) {
+            Ok(()) => Answer::Shown(show),
+            Err(AllocError) => self.refuse(Refusal::NoMemory),
+        }
+    }
+
+    /// Carries out a command. A move brings the threads to the cut to which it leads: forwards from where they stand, on
+    /// threads of the system's, and where one has to go back, from the start anew. Before something is shown, threads
+    /// that a move left elsewhere for lack of memory are brought to the cut.
+    ///
+    /// What the answer tells is that of every run of the guest with the trace. A command is refused that names a thread
+    /// or an object that there isn't, or bytes that aren't all in the code or in private memory; and where memory runs
+    /// out, which after `open` and after a move happens to no command that shows something but `next`. A refusal leaves
+    /// all positions as they were.
+    pub fn command<R: Threads + Clock + Sync, G: Gate + Sync>(
+        &mut self,
+        rt: &R,
+        alloc: Global,
+        command: &Command,
+        gate: &G,
+    ) -> Answer
         ensures fitted { self.new.desk.fitted ≡ self.old.desk.fitted }
         ensures answers { EachRun self.old.desk.fitted (λ run. Answers run self.old.desk command.now (answer_text run self.new.desk result) self.new.desk) }
         ensures last { IsLast self.new result }
     {
-        Answer::Bye
+        if let Some(refusal) = self.refusal_of(command) {
+            return self.refuse(refusal);
+        }
+        match *command {
+            Command::Move(to) => self.answer_move(rt, alloc, to, gate),
+            Command::Show(show) => self.answer_show(rt, alloc, show, gate),
+            Command::Position => {
+                self.fresh = false;
+                Answer::Position
+            }
+            Command::Quit => {
+                self.fresh = false;
+                Answer::Bye
+            }
+        }
     }
 }
