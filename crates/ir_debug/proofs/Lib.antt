@@ -6,3 +6,8 @@ mod Machine
 mod Rows
 mod RowsOne
 mod RowsTwo
+mod Releases
+mod BytesFrom
+mod Buffers
+mod Insides
+mod Here

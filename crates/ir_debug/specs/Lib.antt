@@ -8,3 +8,5 @@ pub mod LongLines
 pub mod Session
 pub mod Machine
 pub mod Debugging
+pub mod AtHand
+pub mod Buffered
