@@ -1,5 +1,6 @@
 -- Texts that are written by one buffer: what stands in it, and what is left to be put into it.
-use Rattle.std.proofs.Common.{◌≡◌, ℕ, List, [], ◌++◌, Option, refl, sym, ap, ◌∙◌, subst, append_assoc, append-nil}
+use Rattle.std.proofs.Common.{◌≡◌, ℕ, List, [], ◌++◌, Option, Result, Ok, Err, OnOk, OnErr, refl, sym, ap, ◌∙◌, subst, append_assoc, append-nil}
+use Rattle.std.proofs.lemmas.Result.{on_ok_weaker, on_err_weaker}
 use Rattle.std.specs.Io.KnownBytes.{Appends}
 use Rattle.std.proofs.KnownBytes.{Appends-nil, Appends-trans}
 use Rattle.ir_stream.proofs.CallerLemmas.{prefix_after}
@@ -53,3 +54,20 @@ write_failed a b c buffer left text f prefix =
           ∙ append_assoc g.part g.more left;
       grown = g.grown;
     }
+
+-- ---- the same by the results of writes
+
+pub fails : {X E : Type 0} (r : Result X E) (a b c : Option (List ℕ)) (buffer left text : List ℕ) → Buffered a b (buffer ++ left) text
+    → AppendsPrefix b c buffer → OnErr r (AppendsPrefix a c text)
+fails (Ok x) a b c buffer left text f prefix = tt
+fails (Err e) a b c buffer left text f prefix = write_failed a b c buffer left text f prefix
+
+pub ends_ok : {X E : Type 0} (r : Result X E) (a b c : Option (List ℕ)) (buffer left text slice : List ℕ) → Buffered a b (buffer ++ left) text
+    → left ≡ [] → slice ≡ buffer → OnOk r (Appends b c slice) → OnOk r (Appends a c text)
+ends_ok r a b c buffer left text slice f none same =
+    on_ok_weaker r (λ done. last_written a b c buffer left text f (subst (Appends b c) same done) none)
+
+pub ends_err : {X E : Type 0} (r : Result X E) (a b c : Option (List ℕ)) (buffer left text slice : List ℕ) → Buffered a b (buffer ++ left) text
+    → slice ≡ buffer → OnErr r (AppendsPrefix b c slice) → OnErr r (AppendsPrefix a c text)
+ends_err r a b c buffer left text slice f same =
+    on_err_weaker r (λ prefix. write_failed a b c buffer left text f (subst (AppendsPrefix b c) same prefix))

@@ -36,23 +36,20 @@ output-none [] none = refl
 output-none (b ∷ rest) none = absurd cc
 
 -- an event's line, and the lines of the events after it
-pub events-next : (events : List Event) (i : ℕ) (e : Event) → i < length events → e ≡ slice_index_or events i e
+pub events-next : (events : List Event) (i : ℕ) (d : Event) → i < length events
     → event_lines i (map label_of (drop i events))
-    ≡ (decimal i ++ codes " " ++ event_text (label_of e) ++ codes "\n") ++ event_lines (i + 1) (map label_of (drop (i + 1) events))
+    ≡ (decimal i ++ codes " " ++ event_text (label_of (slice_index_or events i d)) ++ codes "\n")
+    ++ event_lines (i + 1) (map label_of (drop (i + 1) events))
 unfolding event_lines
-events-next events i e below read =
+events-next events i d below =
     let F : List Event → List ℕ = λ xs. event_lines i (map label_of xs) in
-    at_drop_more F events i e below ∙ ap (λ (x : Event). F (x ∷ drop (i + 1) events)) (sym read)
+    at_drop_more F events i d below
 
 pub events-none : (events : List Event) (i : ℕ) → length events ≤ i → event_lines i (map label_of (drop i events)) ≡ []
 unfolding event_lines
 events-none events i past =
     let F : List Event → List ℕ = λ xs. event_lines i (map label_of xs) in
     at_drop_all F events i past
-
-pub first-events : (events : List Event) → event_lines 0 (map label_of (drop 0 events)) ≡ event_lines 0 (map label_of events)
-unfolding event_lines
-first-events events = refl
 
 -- a line, and the lines of the bytes after it
 pub memory-more : (address : ℕ) (bytes : List ℕ) → 0 < length bytes
