@@ -1,6 +1,6 @@
 //! The lines of an object.
 
-ghost use Rattle.std.specs.Prelude.{◌≡◌, ◌≤◌, ◌<◌, ◌+◌, ◌*◌, ◌++◌, OnOk, OnErr, length, slice_index, slice_index_or, codes, true};
+ghost use Rattle.std.specs.Prelude.{◌≡◌, ◌≤◌, ◌<◌, ◌+◌, ◌*◌, ◌++◌, OnOk, OnErr, length, slice_index, slice_index_or, flat_map, codes, decimal, true};
 ghost use Rattle.std.specs.Io.KnownBytes.{Appends};
 ghost use Rattle.arrayvec.specs.ArrayVec.{array_vec_len};
 ghost use Rattle.ir_thread.specs.Held.{held_at};
@@ -50,20 +50,31 @@ fn inside_for(threads: &[Thread], object: usize, access: Access) -> Numbers
     inside
 }
 
+// Puts numbers at the end, a comma before each.
+fn put_others(text: &mut Text, numbers: &[u8])
+    requires few { length numbers.now ≤ 8 }
+    requires room { array_vec_len text.old ≤ 560 }
+    ensures text { text.new.items ≡ text.old.items ++ flat_map (λ m. codes "," ++ decimal m) numbers.now }
+    ensures len { array_vec_len text.new ≤ array_vec_len text.old + 168 }
+{
+    for number in numbers {
+        put_number(text, b",", *number as u64);
+    }
+}
+
 // Puts numbers at the end, joined by commas, or `-` for none.
 fn put_joined(text: &mut Text, numbers: &[u8])
     requires few { length numbers.now ≤ 8 }
     requires room { array_vec_len text.old ≤ 512 }
     ensures text { text.new.items ≡ text.old.items ++ joined numbers.now }
-    ensures len { array_vec_len text.new ≤ array_vec_len text.old + 168 }
+    ensures len { array_vec_len text.new ≤ array_vec_len text.old + 188 }
 {
-    let [first, others @ ..] = numbers else {
-        append(text, b"-");
-        return;
-    };
-    put_number(text, b"", *first as u64);
-    for other in others {
-        put_number(text, b",", *other as u64);
+    match numbers {
+        [] => append(text, b"-"),
+        [first, others @ ..] => {
+            put_number(text, b"", *first as u64);
+            put_others(text, others);
+        }
     }
 }
 
