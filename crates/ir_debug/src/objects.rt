@@ -1,6 +1,6 @@
 //! The lines of an object.
 
-ghost use Rattle.std.specs.Prelude.{◌≡◌, ◌≤◌, ◌<◌, ◌+◌, ◌*◌, ◌++◌, OnOk, OnErr, length, slice_index, slice_index_or, flat_map, codes, decimal, true};
+ghost use Rattle.std.specs.Prelude.{◌≡◌, ◌≢◌, ◌≤◌, ◌<◌, ◌+◌, ◌++◌, OnOk, OnErr, length, slice_index, slice_index_or, flat_map, codes, decimal, true, false, Some};
 ghost use Rattle.std.specs.Io.KnownBytes.{Appends};
 ghost use Rattle.arrayvec.specs.ArrayVec.{array_vec_len};
 ghost use Rattle.ir_thread.specs.Held.{held_at};
@@ -35,6 +35,17 @@ fn held_by(threads: &[Thread], object: usize, thread: usize) -> Option<Access>
     }
 }
 
+// Whether a thread that holds an object so is inside it for this access.
+fn is_inside(held: Option<Access>, access: Access) -> bool
+    ensures inside { result ≡ true → held ≡ Some access }
+    ensures other { result ≡ false → held ≢ Some access }
+{
+    match (held, access) {
+        (Some(Access::Reading), Access::Reading) | (Some(Access::Writing), Access::Writing) => true,
+        _ => false,
+    }
+}
+
 // The threads that are inside an object so.
 fn inside_for(threads: &[Thread], object: usize, access: Access) -> Numbers
     requires { length threads.now ≤ 8 }
@@ -43,7 +54,7 @@ fn inside_for(threads: &[Thread], object: usize, access: Access) -> Numbers
 {
     let mut inside = Numbers::new();
     for thread in 0..threads.len() {
-        if held_by(threads, object, thread) == Some(access) {
+        if is_inside(held_by(threads, object, thread), access) {
             append(&mut inside, &[thread as u8]);
         }
     }
