@@ -1,8 +1,9 @@
 -- What is shown of the threads and objects in hand is what the small machine shows, whichever run it holds.
-use Rattle.std.proofs.Common.{◌≡◌, ◌<◌, ◌≤◌, ◌&&◌, ◌+◌, ◌*◌, ◌^◌, ℕ, Bool, true, false, List, length, map, take, Option, Some, None, refl, sym, ap, ◌∙◌, subst, arith}
-use Rattle.std.specs.Prelude.{not, nat_lt, nat_le, if◌then◌else◌}
-use Rattle.ir_image.specs.Guest.{object_count}
-use Rattle.ir_flat.specs.Flat.{tables}
+use Rattle.std.proofs.Common.{◌≡◌, ◌<◌, ◌≤◌, ℕ, List, length, map, refl, sym, ap, subst, ◌∙◌, arith}
+use Rattle.std.specs.List.{slice_index_or}
+use Rattle.std.proofs.lemmas.List.{get_or_default}
+use Rattle.ir_object.specs.Cell.{Cell}
+use Rattle.ir_flat.specs.Flat.{empty, object_with}
 use Rattle.ir_log.specs.Logging.{label_of}
 use Rattle.ir_runs.specs.Labels.{Label}
 use Rattle.ir_runs.specs.Object.{Object}
@@ -17,9 +18,12 @@ use Rattle.ir_weave.proofs.CallerLemmas.{LogsBefore, log_before}
 use Rattle.ir_command.specs.declared.command.Show.{Show}
 use Rattle.ir_command.specs.declared.command.Show.TheVariants as show
 use Rattle.ir_debug.specs.Answers.{machine_text}
-use Rattle.ir_debug.specs.Debugging.{Debugging, IsThere}
-use Rattle.ir_debug.specs.AtHand.{thread_here, object_here, events_of, events_here, shown_here, ShowsHere}
-use Rattle.ir_debug.specs.Machine.Desk.{threads_of}
+use Rattle.ir_command.specs.declared.command.Command.TheVariants as command
+use Rattle.ir_debug.specs.declared.answer.Answer.TheVariants.{Shown}
+use Rattle.ir_debug.specs.Debugging.{Debugging, IsThere, IsLast}
+use Rattle.ir_debug.proofs.Passed.{object_below}
+use Rattle.ir_debug.specs.AtHand.{held_by, thread_here, object_here, events_of, events_here, shown_here, ShowsHere}
+use Rattle.ir_debug.specs.Machine.Desk.{IsDesk, threads_of}
 use Rattle.ir_debug.specs.Machine.Shown.{shown, current, logged_so_far, bytes_from}
 use Rattle.ir_debug.specs.Machine.Texts.{memory_text, output_text, object_text, log_text, next_text}
 
@@ -48,3 +52,38 @@ shows_here d (show.Log t) there below run is =
     ∙ ap (λ (n : ℕ). log_text (logged_so_far run d.desk t) n) (sym l.all)
 shows_here d (show.Next t) there below run is =
     ap (λ (s : thread.State). next_text d.desk.fitted.guest.code s) (thread_is d run (there.at.each run is) t)
+
+-- the events so far are some of all
+pub within : (d : Debugging) (t : ℕ) → IsDesk d.desk → IsThere d → t < threads_of d.desk.fitted → (thread_here d t).events ≤ length
+    (events_of d t)
+within d t desk there below =
+    let l : LogsBefore d.desk.fitted (cut_of d.desk.at) (flat_in d.desk.fitted d.state) desk.run.run t =
+    log_before d.desk.fitted (cut_of d.desk.at) (flat_in d.desk.fitted d.state) desk.run.run desk.run.whole
+    (there.at.each desk.run.run desk.run.whole) t below in
+    l.within
+
+-- ---- a show that was asked last
+
+pub asked : (d : Debugging) (s like : Show) → s ≡ like → IsLast d (Shown s) → IsLast d (Shown like)
+asked d s like is last = subst (λ x. IsLast d (Shown x)) is last
+
+pub object_there : (d : Debugging) (s : Show) (objects : List Cell) (o : ℕ) → s ≡ show.Object o → IsLast d (Shown s)
+    → objects ≡ d.state.objects → o < length objects
+object_there d s objects o is last same =
+    let l = asked d s (show.Object o) is last in
+    let below = object_below d.desk (command.Show (show.Object o)) o l.0 refl in
+    let count = l.2.at.objects in
+    let long = ap length same in
+    omega (arith, below, count, long)
+
+-- an object that is read in its place
+pub object_read : (d : Debugging) (s : Show) (objects : List Cell) (threads : List thread.State) (x : Cell) (o : ℕ) → s ≡ show.Object o
+    → IsLast d (Shown s) → objects ≡ d.state.objects → threads ≡ d.state.threads → x ≡ slice_index_or objects o x
+    → object_text (length threads) (object_with x (held_by threads o)) ≡ shown_here d s
+object_read d s objects threads x o is last same alike read =
+    ap (λ (c : Cell). object_text (length threads) (object_with c (held_by threads o)))
+    (read ∙ get_or_default objects o x empty (object_there d s objects o is last same))
+    ∙ ap (λ (cs : List Cell). object_text (length threads) (object_with (slice_index_or cs o empty) (held_by threads o))) same
+    ∙ ap (λ (ts : List thread.State). object_text (length ts) (object_with (slice_index_or d.state.objects o empty) (held_by ts o))) alike
+    ∙ ap (λ (n : ℕ). object_text n (object_here d o)) (asked d s (show.Object o) is last).2.at.threads
+    ∙ ap (shown_here d) (sym is)

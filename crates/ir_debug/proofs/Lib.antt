@@ -11,3 +11,4 @@ mod BytesFrom
 mod Buffers
 mod Insides
 mod Here
+mod Passed

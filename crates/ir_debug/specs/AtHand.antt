@@ -14,12 +14,15 @@ use Rattle.ir_cut.specs.Positions.{EachRun}
 use Rattle.ir_weave.specs.Standing.{flat_in}
 use Rattle.ir_command.specs.declared.command.Show.{Show}
 use Rattle.ir_command.specs.declared.command.Show.TheVariants.{Registers, Memory, Object, Output, Log, Next}
-use Rattle.ir_debug.specs.Answers.{machine_text}
+use Rattle.ir_debug.specs.declared.answer.Answer.{Answer}
+use Rattle.ir_debug.specs.declared.answer.Answer.TheVariants as answer
+use Rattle.ir_debug.specs.Answers.{machine_text, refusal_text}
 use Rattle.ir_debug.specs.Debugging.{Debugging, IsThere}
+use Rattle.ir_debug.specs.Machine.Answers.{moved_text}
 use Rattle.ir_debug.specs.Machine.Desk.{threads_of}
 use Rattle.ir_debug.specs.Machine.Refusals.{thread_shown}
 use Rattle.ir_debug.specs.Machine.Shown.{shown, bytes_from}
-use Rattle.ir_debug.specs.Machine.Texts.{inside_for, joined, memory_text, output_text, object_text, log_text, next_text}
+use Rattle.ir_debug.specs.Machine.Texts.{positions_text, inside_for, joined, memory_text, output_text, object_text, log_text, next_text}
 
 -- what a thread is inside an object for, if it is inside
 abbrev pub held_by : List thread.State → ℕ → ℕ → Option Access
@@ -58,7 +61,16 @@ shown_here d (Output t) = output_text (thread_here d t).output
 shown_here d (Log t) = log_text (map label_of (events_here d t)) (length (events_of d t))
 shown_here d (Next t) = next_text d.desk.fitted.guest.code (thread_here d t)
 
--- at the cut it is the text that the small machine gives, whichever run it holds
+-- the text of an answer by them
+abbrev pub text_here : Debugging → Answer → List ℕ
+text_here d (answer.Moved move) = moved_text d.desk.fitted move d.desk.at
+text_here d answer.Position = positions_text d.desk.at ++ codes "\n"
+text_here d (answer.Shown show) = shown_here d show
+text_here d (answer.Next line) = line.items
+text_here d (answer.Refused refusal) = refusal_text refusal
+text_here d answer.Bye = codes "bye\n"
+
+-- at the cut a show has the text that the small machine gives, whichever run it holds
 abbrev pub ShowsHere : Type 0
 ShowsHere = (d : Debugging) (show : Show) → IsThere d → ((t : ℕ) → thread_shown show ≡ Some t → t < threads_of d.desk.fitted)
     → EachRun d.desk.fitted (λ run. shown_here d show ≡ shown run d.desk show)

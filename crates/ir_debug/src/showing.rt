@@ -2,13 +2,11 @@
 
 ghost use Rattle.std.specs.Prelude.{◌≡◌, ◌≤◌, ◌<◌, OnOk, OnErr, length, true};
 ghost use Rattle.std.specs.Io.KnownBytes.{Appends};
-ghost use Rattle.arrayvec.specs.ArrayVec.{array_vec_len};
-ghost use Rattle.ir_mach.specs.Core.{Core};
 ghost use Rattle.ir_stream.specs.Devices.{AppendsPrefix};
 ghost use Rattle.ir_debug.specs.Answers.{machine_text};
 ghost use Rattle.ir_debug.specs.AtHand.{thread_here, events_of, shown_here};
 ghost use Rattle.ir_debug.specs.Debugging.{IsThere, IsLast};
-ghost use Rattle.ir_debug.specs.Machine.Desk.{threads_of};
+ghost use Rattle.ir_debug.specs.Machine.Desk.{IsDesk, threads_of};
 ghost use Rattle.ir_debug.specs.declared.answer.Answer.TheVariants.{Shown};
 
 use crate::bytes::{write_memory, write_output};
@@ -34,7 +32,8 @@ fn thread_here(debugger: &Debugger, number: u32) -> &Thread
 // The events of a thread in its run.
 fn events_of(debugger: &Debugger, number: u32) -> &[Event]
     requires { number < threads_of debugger.now.desk.fitted }
-    ensures { result.now ≡ events_of debugger.now number }
+    ensures value { result.now ≡ events_of debugger.now number }
+    ensures desk { IsDesk debugger.now.desk }
 {
     debugger.fitted().trace().threads()[number as usize].log().events()
 }
