@@ -1,5 +1,5 @@
 -- Bytes from an address on, by the last byte.
-use Rattle.std.proofs.Common.{◌≡◌, ◌+◌, ℕ, zero, suc, List, [], ◌∷◌, ◌++◌, refl, sym, ap, ◌∙◌, subst, arith}
+use Rattle.std.proofs.Common.{◌≡◌, ◌+◌, ℕ, zero, suc, List, [], ◌∷◌, ◌++◌, refl, ap, ◌∙◌, arith}
 use Rattle.ir_mach.specs.Memory.{byte_at}
 use Rattle.ir_debug.specs.Machine.Shown.{byte_or_zero, bytes_from}
 

@@ -1,17 +1,15 @@
 -- What is shown of the threads and objects in hand is what the small machine shows, whichever run it holds.
-use Rattle.std.proofs.Common.{◌≡◌, ◌<◌, ◌≤◌, ℕ, List, length, map, refl, sym, ap, subst, ◌∙◌, arith}
+use Rattle.std.proofs.Common.{◌≡◌, ◌<◌, ◌≤◌, ℕ, List, length, refl, sym, ap, subst, ◌∙◌, arith}
 use Rattle.std.specs.List.{slice_index_or}
 use Rattle.std.proofs.lemmas.List.{get_or_default}
 use Rattle.ir_object.specs.Cell.{Cell}
 use Rattle.ir_flat.specs.Flat.{empty, object_with}
-use Rattle.ir_log.specs.Logging.{label_of}
 use Rattle.ir_runs.specs.Labels.{Label}
 use Rattle.ir_runs.specs.Object.{Object}
-use Rattle.ir_runs.specs.Run.{Step, log}
+use Rattle.ir_runs.specs.Run.{Step}
 use Rattle.ir_runs.specs.Cuts.{object_at}
 use Rattle.ir_thread.specs.State as thread
-use Rattle.ir_fit.specs.Fit.{IsRunOf}
-use Rattle.ir_cut.specs.Positions.{machine_of, start_of, cut_of}
+use Rattle.ir_cut.specs.Positions.{machine_of, start_of, cut_of, EachRun}
 use Rattle.ir_weave.specs.Standing.{flat_in}
 use Rattle.ir_weave.specs.States.{IsAt}
 use Rattle.ir_weave.proofs.CallerLemmas.{LogsBefore, log_before}
@@ -19,10 +17,12 @@ use Rattle.ir_command.specs.declared.command.Show.{Show}
 use Rattle.ir_command.specs.declared.command.Show.TheVariants as show
 use Rattle.ir_debug.specs.Answers.{machine_text}
 use Rattle.ir_command.specs.declared.command.Command.TheVariants as command
+use Rattle.ir_debug.specs.declared.answer.Answer.{Answer}
 use Rattle.ir_debug.specs.declared.answer.Answer.TheVariants.{Shown}
-use Rattle.ir_debug.specs.Debugging.{Debugging, IsThere, IsLast}
-use Rattle.ir_debug.proofs.Passed.{object_below}
-use Rattle.ir_debug.specs.AtHand.{held_by, thread_here, object_here, events_of, events_here, shown_here, ShowsHere}
+use Rattle.ir_debug.specs.declared.answer.Answer.TheVariants as answer
+use Rattle.ir_debug.specs.Debugging.{Debugging, IsThere, IsLast, IsText, answer_text}
+use Rattle.ir_debug.proofs.Passed.{thread_below, object_below}
+use Rattle.ir_debug.specs.AtHand.{held_by, thread_here, object_here, events_of, shown_here, text_here, ShowsHere}
 use Rattle.ir_debug.specs.Machine.Desk.{IsDesk, threads_of}
 use Rattle.ir_debug.specs.Machine.Shown.{shown, current, logged_so_far, bytes_from}
 use Rattle.ir_debug.specs.Machine.Texts.{memory_text, output_text, object_text, log_text, next_text}
@@ -87,3 +87,16 @@ object_read d s objects threads x o is last same alike read =
     ∙ ap (λ (ts : List thread.State). object_text (length ts) (object_with (slice_index_or d.state.objects o empty) (held_by ts o))) alike
     ∙ ap (λ (n : ℕ). object_text n (object_here d o)) (asked d s (show.Object o) is last).2.at.threads
     ∙ ap (shown_here d) (sym is)
+
+-- ---- the texts of all answers
+
+texts : (d : Debugging) (a : Answer) → IsLast d a → EachRun d.desk.fitted (λ run. text_here d a ≡ answer_text run d.desk a)
+texts d (answer.Moved move) last run is = refl
+texts d answer.Position last run is = refl
+texts d (answer.Shown s) last run is = shows_here d s last.2 (λ t named. thread_below d.desk (command.Show s) t last.0 named) run is
+texts d (answer.Next line) last run is = refl
+texts d (answer.Refused refusal) last run is = refl
+texts d answer.Bye last run is = refl
+
+pub is_text : (d : Debugging) (a : Answer) (P : List ℕ → Type 0) → IsLast d a → P (text_here d a) → IsText d a P
+is_text d a P last holds = (text_here d a, texts d a last, holds)

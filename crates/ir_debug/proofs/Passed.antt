@@ -1,12 +1,11 @@
 -- What is known of what a command names that isn't refused.
-use Rattle.std.proofs.Common.{◌≡◌, ◌<◌, ◌≤◌, ◌&&◌, ◌+◌, ◌*◌, ℕ, Bool, true, false, length, Option, Some, None, refl, sym, ap, ◌∙◌, subst, arith}
+use Rattle.std.proofs.Common.{◌≡◌, ◌<◌, ◌≤◌, ◌&&◌, ◌+◌, ◌*◌, ℕ, Bool, true, false, length, Option, Some, None, refl, sym, ap, ◌∙◌, arith}
 use Rattle.std.specs.Prelude.{◌||◌, ◌^◌, not, nat_lt, nat_le, if◌then◌else◌}
 use Rattle.std.proofs.lemmas.Bool.{ltb-true, leb-true}
 use Rattle.ir_image.specs.Guest.{Guest, code_start, memory_start, object_count}
 use Rattle.ir_mach.specs.Core.{memory_size}
 use Rattle.ir_mach.specs.Memory.{lies_in_memory}
 use Rattle.ir_command.specs.declared.command.Command.{Command}
-use Rattle.ir_command.specs.declared.refusal.Refusal.{Refusal}
 use Rattle.ir_command.specs.declared.refusal.Refusal.TheVariants.{NoSuchThread, NoSuchObject, BadAddress}
 use Rattle.ir_debug.specs.Machine.Desk.{Desk, threads_of}
 use Rattle.ir_debug.specs.Machine.Refusals.{if_some, thread_named, object_named, lies_in_code, has_address, refusal_of}

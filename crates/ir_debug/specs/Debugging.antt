@@ -1,13 +1,10 @@
 -- The debugger between two commands, and the texts of its answers.
-use Rattle.std.specs.Prelude.{◌≡◌, ℕ, ⊤, Bool, true, List, ◌++◌, codes, Some, None}
-use Rattle.std.specs.Io.KnownBytes.{Appends}
+use Rattle.std.specs.Prelude.{◌≡◌, ℕ, ⊤, true, List, ◌++◌, codes, None}
 use Rattle.ir_runs.specs.Run.{Step}
 use Rattle.ir_fit.specs.Fit.{FittedTrace}
 use Rattle.ir_cut.specs.Positions.{EachRun, cut_of}
 use Rattle.ir_weave.specs.Standing.{Standing, StandsAt, flat_in}
 use Rattle.ir_weave.specs.States.{positions}
-use Rattle.ir_stream.specs.Devices.{AppendsPrefix}
-use Rattle.ir_command.specs.declared.command.Command.{Command}
 use Rattle.ir_command.specs.declared.command.Command.TheVariants as command
 use Rattle.ir_debug.specs.declared.answer.Answer.{Answer}
 use Rattle.ir_debug.specs.declared.answer.Answer.TheVariants.{Moved, Position, Shown, Next, Refused, Bye}

@@ -22,11 +22,13 @@ use ir_command::{Move, Refusal};
 use ir_stream::{DeviceErr, Sink, append, write_all};
 
 // The thread that a move names.
-fn thread_moved(move_: Move) -> Option<u32>
-    ensures { result ≡ thread_moved move_ }
+fn thread_moved(asked: Move) -> Option<u32>
+    ensures { result ≡ thread_moved asked }
 {
-    match move_ {
-        Move::Step { thread, .. } | Move::Back { thread, .. } | Move::Goto { thread, .. } => Some(thread),
+    match asked {
+        Move::Step { thread, .. } | Move::Back { thread, .. } | Move::Goto { thread, .. } => Some(
+            thread,
+        ),
         Move::Start | Move::End => None,
     }
 }
@@ -53,27 +55,27 @@ fn put_stopped(text: &mut Text, debugger: &Debugger, thread: u32)
     put_stop(text, last, debugger.at().position(number));
 }
 
-fn put_moved(text: &mut Text, debugger: &Debugger, move_: Move)
+fn put_moved(text: &mut Text, debugger: &Debugger, asked: Move)
     requires empty { array_vec_len text.old ≡ 0 }
-    requires passed { refusal_of debugger.now.desk (command.Move move_) ≡ None }
-    ensures { text.new.items ≡ text.old.items ++ moved_text debugger.now.desk.fitted move_ debugger.now.desk.at }
+    requires passed { refusal_of debugger.now.desk (command.Move asked) ≡ None }
+    ensures { text.new.items ≡ text.old.items ++ moved_text debugger.now.desk.fitted asked debugger.now.desk.at }
 {
     put_cut(text, debugger);
-    if let Some(thread) = thread_moved(move_) {
+    if let Some(thread) = thread_moved(asked) {
         put_stopped(text, debugger, thread);
     }
     append(text, b"\n");
 }
 
-fn write_moved<W: Sink>(debugger: &Debugger, move_: Move, writer: &mut W) -> Result<(), DeviceErr>
-    requires { refusal_of debugger.now.desk (command.Move move_) ≡ None }
-    ensures ok { OnOk result (Appends (W.written writer.old) (W.written writer.new) (moved_text debugger.now.desk.fitted move_ debugger.now.desk.at)) }
+fn write_moved<W: Sink>(debugger: &Debugger, asked: Move, writer: &mut W) -> Result<(), DeviceErr>
+    requires { refusal_of debugger.now.desk (command.Move asked) ≡ None }
+    ensures ok { OnOk result (Appends (W.written writer.old) (W.written writer.new) (moved_text debugger.now.desk.fitted asked debugger.now.desk.at)) }
     ensures stays { OnOk result (W.broken writer.new ≡ W.broken writer.old) }
-    ensures prefix { OnErr result (AppendsPrefix (W.written writer.old) (W.written writer.new) (moved_text debugger.now.desk.fitted move_ debugger.now.desk.at)) }
+    ensures prefix { OnErr result (AppendsPrefix (W.written writer.old) (W.written writer.new) (moved_text debugger.now.desk.fitted asked debugger.now.desk.at)) }
     ensures err { OnErr result (W.broken writer.new ≡ true) }
 {
     let mut text = Text::new();
-    put_moved(&mut text, debugger, move_);
+    put_moved(&mut text, debugger, asked);
     write_all(writer, text.as_slice())
 }
 
@@ -113,7 +115,7 @@ fn write_here<W: Sink>(
     ensures err { OnErr result (W.broken writer.new ≡ true) }
 {
     match answer {
-        Answer::Moved(move_) => write_moved(debugger, *move_, writer),
+        Answer::Moved(asked) => write_moved(debugger, *asked, writer),
         Answer::Position => write_position(debugger, writer),
         Answer::Shown(show) => write_shown(debugger, *show, writer),
         Answer::Next(line) => write_all(writer, line.as_slice()),

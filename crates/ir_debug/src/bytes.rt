@@ -113,7 +113,11 @@ pub fn write_memory<W: Sink>(
     ensures err { OnErr result (W.broken writer.new ≡ true) }
 {
     let mut text = Text::new();
-    put_memory(&mut text, address, bytes_from(code, memory, address, size).as_slice());
+    put_memory(
+        &mut text,
+        address,
+        bytes_from(code, memory, address, size).as_slice(),
+    );
     write_all(writer, text.as_slice())
 }
 

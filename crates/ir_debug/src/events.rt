@@ -72,11 +72,7 @@ fn put_counts(text: &mut Text, so_far: usize, all: usize)
 }
 
 /// Writes the lines of the events that a thread has logged so far, of `all` that it logs in its run. Takes no memory.
-pub fn write_log<W: Sink>(
-    so_far: &[Event],
-    all: usize,
-    writer: &mut W,
-) -> Result<(), DeviceErr>
+pub fn write_log<W: Sink>(so_far: &[Event], all: usize, writer: &mut W) -> Result<(), DeviceErr>
     ensures ok { OnOk result (Appends (W.written writer.old) (W.written writer.new) (log_text (map label_of so_far.now) all)) }
     ensures stays { OnOk result (W.broken writer.new ≡ W.broken writer.old) }
     ensures prefix { OnErr result (AppendsPrefix (W.written writer.old) (W.written writer.new) (log_text (map label_of so_far.now) all)) }

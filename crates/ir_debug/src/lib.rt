@@ -25,5 +25,6 @@ mod verdict;
 mod verdicts;
 
 pub use ended::{Ended, SessionErr};
+pub use events::write_log;
 pub use ir_stream::{DeviceErr, FromStd, Sink, Source};
 pub use sessions::{MOST_INPUT, session, session_up_to};

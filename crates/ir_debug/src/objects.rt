@@ -111,9 +111,15 @@ fn put_state(text: &mut Text, threads: &[Thread], number: usize, object: &Object
     put_number(text, b"version ", fields.version as u64);
     put_number(text, b" left ", fields.left as u64);
     append(text, b" readers ");
-    put_joined(text, inside_for(threads, number, Access::Reading).as_slice());
+    put_joined(
+        text,
+        inside_for(threads, number, Access::Reading).as_slice(),
+    );
     append(text, b" writer ");
-    put_joined(text, inside_for(threads, number, Access::Writing).as_slice());
+    put_joined(
+        text,
+        inside_for(threads, number, Access::Writing).as_slice(),
+    );
     append(text, b"\n");
 }
 

@@ -7,10 +7,10 @@ ghost use Rattle.ir_stream.specs.Devices.{AppendsPrefix};
 ghost use Rattle.ir_debug.specs.Session.{is_single, opening_by_image, opening_by_trace, opening_of, opening_text};
 ghost use Rattle.ir_debug.specs.TraceReading.{trace_at};
 
-use crate::text::Text;
-use crate::single::Single;
 use crate::fit::fit;
 use crate::opening::Opening;
+use crate::single::Single;
+use crate::text::Text;
 use crate::trace::Trace;
 use crate::trace_reader::read_trace;
 use crate::verdict::Verdict;

@@ -8,10 +8,10 @@ ghost use Rattle.ir_stream.specs.Devices.{AppendsPrefix, Reads};
 ghost use Rattle.ir_debug.specs.Reference.{is_quit};
 ghost use Rattle.ir_debug.specs.Session.{opening_of, told, IfServed, Session, ended_by};
 
-use crate::single::Single;
 use crate::ended::{Ended, SessionErr};
 use crate::open::{announce, open};
 use crate::opening::Opening;
+use crate::single::Single;
 use ir_stream::{Fault, Served, Sink, Source, serve};
 use std::alloc::Global;
 

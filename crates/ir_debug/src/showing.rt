@@ -35,7 +35,9 @@ fn events_of(debugger: &Debugger, number: u32) -> &[Event]
     ensures value { result.now ≡ events_of debugger.now number }
     ensures desk { IsDesk debugger.now.desk }
 {
-    debugger.fitted().trace().threads()[number as usize].log().events()
+    debugger.fitted().trace().threads()[number as usize]
+        .log()
+        .events()
 }
 
 fn write_machine<W: Sink>(mach: &Mach, writer: &mut W) -> Result<(), DeviceErr>
@@ -69,7 +71,13 @@ pub fn write_shown<W: Sink>(
             size,
         } => {
             let memory = thread_here(debugger, thread).mach().memory();
-            write_memory(debugger.fitted().image().code(), memory, address, size.get(), writer)
+            write_memory(
+                debugger.fitted().image().code(),
+                memory,
+                address,
+                size.get(),
+                writer,
+            )
         }
         Show::Object { object } => {
             let state = debugger.state();

@@ -10,8 +10,8 @@ ghost use Rattle.ir_debug.specs.Fitting.{thread_at};
 ghost use Rattle.ir_debug.specs.Reference.{Reference, reference_of, moved, asked_of, answer_to_command, next_of_command, answer_to, next_of, reply_to, next_after, is_quit, ends_session};
 ghost use Rattle.ir_debug.specs.LongLines.{long_replies, long_quit};
 
-use crate::text::{Text, put_machine, put_place, put_refusal};
 use crate::fit::run;
+use crate::text::{Text, put_machine, put_place, put_refusal};
 use crate::trace::Trace;
 use ir_command::{Command, MOST_LINE, Move, Refusal, Show, next_word, parse_line, without_return};
 use ir_image::Image;

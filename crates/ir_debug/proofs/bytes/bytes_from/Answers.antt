@@ -1,6 +1,5 @@
-use Rattle.std.proofs.Common.{rules, ◌≡◌, ◌+◌, ◌∙◌, ◌++◌, List, ℕ, [], ◌∷◌, sym, ap, arith}
-use Rattle.ir_mach.specs.Memory.{byte_at}
-use Rattle.ir_debug.specs.Machine.Shown.{byte_or_zero, bytes_from}
+use Rattle.std.proofs.Common.{rules, ◌+◌, ◌∙◌, ◌++◌, List, ℕ, [], ◌∷◌, sym, ap}
+use Rattle.ir_debug.specs.Machine.Shown.{bytes_from}
 use Rattle.ir_debug.proofs.BytesFrom.{bytes-more, bytes-none}
 use Rattle.ir_debug.proofs.bytes.bytes_from.Goals as goal
 

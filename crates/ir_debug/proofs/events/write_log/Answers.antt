@@ -1,6 +1,4 @@
-use Rattle.std.proofs.Common.{rules, ◌≡◌, ◌≤◌, ◌<◌, ◌∙◌, ◌+◌, ◌++◌, List, ℕ, length, map, drop, codes, decimal, arith}
-use Rattle.ir_log.specs.Logging.{label_of}
-use Rattle.ir_debug.specs.Machine.Texts.{event_text, event_lines, log_text}
+use Rattle.std.proofs.Common.{rules, ◌≤◌, ◌∙◌, length}
 use Rattle.ir_debug.proofs.Buffers.{line_put, fails, ends_ok, ends_err}
 use Rattle.ir_debug.proofs.Lines.{events-next, events-none}
 use Rattle.ir_debug.proofs.events.write_log.Goals as goal

@@ -1,4 +1,4 @@
-use Rattle.std.proofs.Common.{rules, ◌≡◌, ◌≢◌, ◌≤◌, ◌+◌, ◌∙◌, ◌++◌, List, ℕ, [], ◌∷◌, Option, Some, sym, ap, arith}
+use Rattle.std.proofs.Common.{rules, ◌∙◌, ◌++◌, List, ℕ, [], ◌∷◌, Option, sym, ap, arith}
 use Rattle.std.proofs.lemmas.List.{append-nil}
 use Rattle.arrayvec.specs.ArrayVec.{ArrayVec, array_vec_len}
 use Rattle.ir_runs.specs.declared.access.Access.{Access}

@@ -1,4 +1,4 @@
-use Rattle.std.proofs.Common.{rules, ◌≡◌, ◌≤◌, ◌<◌, ◌∙◌, OnOk, OnErr, length, true, ℕ, List, sym, ap, subst, refl, arith}
+use Rattle.std.proofs.Common.{◌≤◌, ◌∙◌, OnOk, OnErr, length, ap, subst, refl, arith}
 use Rattle.std.specs.Io.KnownBytes.{Appends}
 use Rattle.ir_stream.specs.Devices.{AppendsPrefix}
 use Rattle.std.proofs.lemmas.List.{length-take}
