@@ -7,7 +7,13 @@ mod Machine
 mod Brought
 mod Ends
 mod Leading
-mod Answering
+mod CommandAnswers
 mod Rows
 mod RowsOne
 mod RowsTwo
+mod Releases
+mod BytesFrom
+mod Buffers
+mod Insides
+mod Here
+mod Passed

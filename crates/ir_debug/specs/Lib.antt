@@ -4,3 +4,5 @@ pub mod Debugging
 pub mod Opened
 pub mod Session
 pub mod LongLines
+pub mod AtHand
+pub mod Buffered

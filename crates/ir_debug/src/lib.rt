@@ -3,23 +3,31 @@
 
 mod announcing;
 mod answer;
+mod answering;
+mod bringing;
 mod bytes;
 mod debugger;
+mod destinations;
 mod ended;
 mod events;
+mod next;
+mod objects;
 mod open;
 mod opening;
 mod positions;
+mod refusals;
+mod room;
 mod serving;
 mod sessions;
+mod showing;
 mod text;
 mod verdicts;
-mod writing;
 
 pub use answer::Answer;
+pub use answering::write_answer;
 pub use debugger::Debugger;
 pub use ended::{Ended, SessionErr};
+pub use events::write_log;
 pub use ir_command::{Command, Refusal, parse_line};
 pub use ir_stream::{DeviceErr, FromStd, Sink, Source};
 pub use sessions::{MOST_INPUT, session, session_up_to};
-pub use writing::write_answer;

@@ -14,7 +14,8 @@ const MEMORY_SIZE: u64 = 0x1_0000;
 // How many words an object has.
 const OBJECT_WORDS: usize = 8;
 
-fn thread_moved(to: Move) -> Option<u32>
+/// The thread that a move names.
+pub fn thread_moved(to: Move) -> Option<u32>
     ensures { result ≡ thread_moved to }
 {
     match to {

@@ -10,8 +10,9 @@ ghost use Rattle.ir_debug.specs.Machine.Answers.{Replies, quits, quits_by};
 ghost use Rattle.ir_debug.specs.Debugging.{IsAnswer};
 
 use crate::answer::Answer;
+use crate::answering::write_answer;
 use crate::debugger::Debugger;
-use crate::writing::write_answer;
+
 use arrayvec::ArrayVec;
 use ir_command::{Command, Refusal, parse_line};
 use ir_object::Gate;

@@ -1,6 +1,6 @@
 //! The texts of answers.
 
-ghost use Rattle.std.specs.Prelude.{◌≡◌, ◌≤◌, ◌<◌, ◌+◌, ◌++◌, length};
+ghost use Rattle.std.specs.Prelude.{◌≡◌, ◌≤◌, ◌<◌, ◌+◌, ◌++◌, length, decimal};
 ghost use Rattle.arrayvec.specs.ArrayVec.{array_vec_len};
 ghost use Rattle.ir_isa.specs.Names.{register_name};
 ghost use Rattle.ir_debug.specs.Answers.{hex_word, reason_text, refusal_text, register_text, registers_text, after_register, machine_text};
@@ -28,6 +28,17 @@ pub fn put_word(text: &mut Text, word: u32)
     let mut digits = [0; 8];
     let _ = hex::encode_to_slice(word.to_be_bytes(), &mut digits);
     append(text, &digits);
+}
+
+/// Puts words and a number at the end.
+pub fn put_number(text: &mut Text, words: &[u8], number: u64)
+    requires { array_vec_len text.old + length words.now + 20 ≤ 1024 }
+    ensures text { text.new.items ≡ text.old.items ++ (words.now ++ decimal number) }
+    ensures len { array_vec_len text.new ≤ array_vec_len text.old + length words.now + 20 }
+{
+    let mut buffer = Buffer::new();
+    append(text, words);
+    append(text, buffer.format(number).as_bytes());
 }
 
 fn reason(refusal: Refusal) -> &'static [u8]

@@ -4,22 +4,10 @@ ghost use Rattle.std.specs.Prelude.{◌≡◌, ◌≤◌, ◌+◌, ◌++◌, len
 ghost use Rattle.arrayvec.specs.ArrayVec.{array_vec_len};
 ghost use Rattle.ir_debug.specs.Machine.Opening.{thread_verdict_text, thread_line, header_text, incoherent_text};
 
-use crate::text::Text;
+use crate::text::{Text, put_number};
 use ir_fit::{Cause, HeaderCause};
 use ir_runs::ThreadVerdict;
 use ir_stream::append;
-use itoa::Buffer;
-
-// Words and a number.
-fn put_number(text: &mut Text, words: &[u8], number: u64)
-    requires { array_vec_len text.old + length words.now + 20 ≤ 1024 }
-    ensures text { text.new.items ≡ text.old.items ++ (words.now ++ decimal number) }
-    ensures len { array_vec_len text.new ≤ array_vec_len text.old + length words.now + 20 }
-{
-    let mut buffer = Buffer::new();
-    append(text, words);
-    append(text, buffer.format(number).as_bytes());
-}
 
 /// Puts at the end in what the header of a trace isn't the guest's.
 pub fn put_header(text: &mut Text, cause: HeaderCause)
