@@ -16,6 +16,10 @@ use Rattle.ir_stream.specs.declared.serving.Fault.TheVariants as fault
 use Rattle.ir_debug.specs.Machine.Desk.{Desk}
 use Rattle.ir_debug.specs.Machine.Answers.{Replies, quits}
 use Rattle.ir_debug.specs.Machine.Opening.{Opening, ImageRefused, TraceRefused, Unfit, Ready, Opens, opening_text}
+use Rattle.ir_debug.specs.Debugging.{Debugging}
+use Rattle.ir_debug.specs.Opened.{opening_of}
+use Rattle.ir_debug.specs.declared.opening.Opened.{Opened}
+use Rattle.ir_debug.specs.declared.opening.Opened.TheVariants as opened
 use Rattle.ir_debug.specs.Session.{Session, AnsweredWhole, AnsweredInPart, Emits, Writes, WritesPrefix, IfServed, ended_by, ending_of}
 use Rattle.ir_debug.specs.declared.ended.Ended.{Ended}
 use Rattle.ir_debug.specs.declared.ended.SessionErr.{SessionErr}
@@ -118,6 +122,15 @@ IfServed-by (Ok served.InputEnd) P Q go p = go p
 IfServed-by (Err fault.Read) P Q go p = tt
 IfServed-by (Err fault.Write) P Q go p = tt
 IfServed-by (Err fault.TooLong) P Q go p = go p
+
+-- what was opened, and its opening lines, where a debugger is ready
+pub opens_ready : (image trace : List ℕ) (o : Opened) (d : Debugging) → o ≡ opened.Ready d → Opens image trace (opening_of o)
+    → Opens image trace (Ready d.desk)
+opens_ready image trace o d is = subst (λ (x : Opened). Opens image trace (opening_of x)) is
+
+pub begun_ready : (o : Opened) (d : Debugging) (w0 w1 : Option (List ℕ)) → o ≡ opened.Ready d
+    → Appends w0 w1 (opening_text (opening_of o)) → Appends w0 w1 (opening_text (Ready d.desk))
+begun_ready o d w0 w1 is = subst (λ (x : Opened). Appends w0 w1 (opening_text (opening_of x))) is
 
 -- all answers after the opening lines
 pub writes : (d : Desk) (lines : List (List ℕ)) (w0 w1 w2 : Option (List ℕ)) → Appends w0 w1 (opening_text (Ready d))

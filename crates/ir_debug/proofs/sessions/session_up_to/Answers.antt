@@ -1,22 +1,9 @@
-use Rattle.std.proofs.Common.{sym, subst, ◌∙◌, List, ℕ}
-use Rattle.std.specs.Io.KnownBytes.{Appends}
+use Rattle.std.proofs.Common.{sym, ◌∙◌}
 use Rattle.ir_stream.specs.Lines.{cut, lines_of}
-use Rattle.ir_stream.specs.Devices.{AppendsPrefix}
-use Rattle.ir_debug.specs.Machine.Opening.{Ready, Opens, opening_text}
+use Rattle.ir_debug.specs.Machine.Opening.{Ready}
 use Rattle.ir_debug.specs.Opened.{opening_of}
-use Rattle.ir_debug.specs.declared.opening.Opened.{Opened}
-use Rattle.ir_debug.proofs.Opened.{none_read, Reads-map, was_read, was_write, served_known, served_ended, writes, writes_prefix}
+use Rattle.ir_debug.proofs.Opened.{none_read, Reads-map, opens_ready, begun_ready, was_read, was_write, served_known, served_ended, writes, writes_prefix}
 use Rattle.ir_debug.proofs.sessions.session_up_to.Goals as goal
-
--- what was opened, and that the opening lines were written, where a debugger is ready
-opens : (g : _) (c : goal.In-Ready g) → Opens c.args.image.now c.args.trace.now (Ready c.in-Ready.debugger.desk)
-opens g c = subst (λ (o : Opened). Opens c.args.image.now c.args.trace.now (opening_of o)) c.in-Ready.is c.in-Ok.ensures
-
-begun : (g : _) (c : goal.In-Ready g)
-    → Appends (g.W.Sink.written c.args.writer.now) (g.W.Sink.written c.announce.new.writer) (opening_text (Ready c.in-Ready.debugger.desk))
-begun g c = subst
-    (λ (o : Opened). Appends (g.W.Sink.written c.args.writer.now) (g.W.Sink.written c.announce.new.writer) (opening_text (opening_of o)))
-    c.in-Ready.is c.in-Ok-announce.ensures.ok
 
 pub returns-in-Err-clause-write : goal.returns-in-Err-clause-write
 returns-in-Err-clause-write g c = λ e. (
@@ -31,13 +18,15 @@ returns-in-Ready-clause-ended g c =
     served_ended c.args.image.now c.args.trace.now c.in-Ready.debugger.desk c.args.limit c.ended.result c.serve.result
     (g.R.Source.left c.args.reader.now) (g.R.Source.left c.serve.new.reader) (g.W.Sink.written c.args.writer.now)
     (g.W.Sink.written c.announce.new.writer) (g.W.Sink.written c.serve.new.writer)
-    c.ended.ensures (opens g c) (begun g c) c.serve.ensures.ended
+    c.ended.ensures (opens_ready c.args.image.now c.args.trace.now c.in-Ok.opened c.in-Ready.debugger c.in-Ready.is c.in-Ok.ensures)
+    (begun_ready c.in-Ok.opened c.in-Ready.debugger _ _ c.in-Ready.is c.in-Ok-announce.ensures.ok) c.serve.ensures.ended
 
 pub returns-in-Ready-clause-known : goal.returns-in-Ready-clause-known
 returns-in-Ready-clause-known g c =
     served_known c.args.image.now c.args.trace.now c.in-Ready.debugger.desk c.args.limit c.ended.result c.serve.result
     (g.R.Source.left c.args.reader.now) (g.W.Sink.written c.args.writer.now) (g.W.Sink.written c.announce.new.writer)
-    (g.W.Sink.written c.serve.new.writer) c.ended.ensures (opens g c) (begun g c) c.serve.ensures.known
+    (g.W.Sink.written c.serve.new.writer) c.ended.ensures (opens_ready c.args.image.now c.args.trace.now c.in-Ok.opened c.in-Ready.debugger c.in-Ready.is c.in-Ok.ensures)
+    (begun_ready c.in-Ok.opened c.in-Ready.debugger _ _ c.in-Ready.is c.in-Ok-announce.ensures.ok) c.serve.ensures.known
 
 pub returns-in-Ready-clause-read : goal.returns-in-Ready-clause-read
 returns-in-Ready-clause-read g c = λ e.
@@ -46,10 +35,10 @@ returns-in-Ready-clause-read g c = λ e.
       r.1,
       Reads-map c.args.limit _ _ _ _ (λ consumed p. record {
         opening = Ready c.in-Ready.debugger.desk;
-        opens = opens g c;
+        opens = opens_ready c.args.image.now c.args.trace.now c.in-Ok.opened c.in-Ready.debugger c.in-Ready.is c.in-Ok.ensures;
         goes = p.0;
         wrote = writes c.in-Ready.debugger.desk (cut consumed).whole (g.W.Sink.written c.args.writer.now)
-            (g.W.Sink.written c.announce.new.writer) (g.W.Sink.written c.serve.new.writer) (begun g c) p.1;
+            (g.W.Sink.written c.announce.new.writer) (g.W.Sink.written c.serve.new.writer) (begun_ready c.in-Ok.opened c.in-Ready.debugger _ _ c.in-Ready.is c.in-Ok-announce.ensures.ok) p.1;
       }) r.2,
     )
 
@@ -60,10 +49,10 @@ returns-in-Ready-clause-write g c = λ e.
       r.1,
       Reads-map c.args.limit _ _ _ _ (λ consumed p. record {
         opening = Ready c.in-Ready.debugger.desk;
-        opens = opens g c;
+        opens = opens_ready c.args.image.now c.args.trace.now c.in-Ok.opened c.in-Ready.debugger c.in-Ready.is c.in-Ok.ensures;
         goes = p.0;
         ended = p.1;
         wrote = writes_prefix c.in-Ready.debugger.desk (lines_of consumed) (g.W.Sink.written c.args.writer.now)
-            (g.W.Sink.written c.announce.new.writer) (g.W.Sink.written c.serve.new.writer) (begun g c) p.2;
+            (g.W.Sink.written c.announce.new.writer) (g.W.Sink.written c.serve.new.writer) (begun_ready c.in-Ok.opened c.in-Ready.debugger _ _ c.in-Ready.is c.in-Ok-announce.ensures.ok) p.2;
       }) r.2,
     )
