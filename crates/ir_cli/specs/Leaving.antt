@@ -50,3 +50,28 @@ Leaves Read reader writer same =
 Leaves Write reader writer same = (reader.failed ≡ false) × (writer.failed ≡ true)
     × Serves reader.before reader.after (CameInPart reader.after writer.before writer.after)
 Leaves TooLong reader writer same = Comes (Err session.TooLong) reader writer
+
+-- ---- an image and a trace that aren't read from the lines
+
+-- neither the reader nor the writer has failed, and the bytes that were read led to this result and to what was written
+pub record Ends (image trace : List ℕ) (result : Result Ended SessionErr) (reader : Reader) (writer : Writer) : Type 0 where
+  pub reads : reader.failed ≡ false
+  pub writes : writer.failed ≡ false
+  pub known : IfSome reader.before (Session image trace most_input result writer.before writer.after)
+  pub served : Reads most_input reader.before reader.after (Session image trace most_input result writer.before writer.after)
+
+-- what a fault of their session leaves, the last being that reader and writer are as they were
+abbrev pub Stops : List ℕ → List ℕ → SessionErr → Reader → Writer → Type 0 → Type 0
+Stops image trace session.NoMem reader writer same = same
+Stops image trace session.Read reader writer same = (reader.failed ≡ true) × (writer.failed ≡ false)
+    × Reads most_input reader.before reader.after (AnsweredWhole image trace writer.before writer.after)
+Stops image trace session.Write reader writer same = (reader.failed ≡ false) × (writer.failed ≡ true)
+    × Reads most_input reader.before reader.after (AnsweredInPart image trace reader.after writer.before writer.after)
+Stops image trace session.TooLong reader writer same = Ends image trace (Err session.TooLong) reader writer
+
+-- the fault that is told
+abbrev pub fault_of : SessionErr → BundleErr
+fault_of session.NoMem = NoMem
+fault_of session.Read = Read
+fault_of session.Write = Write
+fault_of session.TooLong = TooLong

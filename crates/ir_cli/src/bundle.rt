@@ -17,7 +17,8 @@ use std::alloc::Global;
 use std::thread::Threads;
 use std::time::Clock;
 
-const FAULT: u8 = 1;
+/// The exit status of a fault.
+pub const FAULT: u8 = 1;
 
 // The bytes of the next line of hexadecimal digits.
 fn next_bytes<R: Source>(alloc: Global, reader: &mut R) -> Result<Vec<u8>, BundleErr>
