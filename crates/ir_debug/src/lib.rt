@@ -23,6 +23,8 @@ mod trace_err;
 mod trace_reader;
 mod verdict;
 mod verdicts;
+#[cfg(test)]
+mod written_tests;
 
 pub use ended::{Ended, SessionErr};
 pub use events::write_log;
