@@ -36,11 +36,11 @@ line_put a b c buffer kept after line left more text f g put e = record {
 }
 
 -- the buffer was written at the end
-pub last_written : (a b c : Option (List ℕ)) (buffer left text : List ℕ) → Buffered a b (buffer ++ left) text → Appends b c buffer → left ≡ []
-    → Appends a c text
+pub last_written : (a b c : Option (List ℕ)) (buffer left text : List ℕ) → Buffered a b (buffer ++ left) text → Appends b c buffer
+    → left ≡ [] → Appends a c text
 last_written a b c buffer left text f done none =
-    subst (Appends a c) (ap (λ (x : List ℕ). f.part ++ x) (sym (append-nil buffer) ∙ ap (λ (x : List ℕ). buffer ++ x) (sym none)) ∙ f.others)
-    (Appends-trans a b c f.part buffer f.written done)
+    let all : buffer ≡ buffer ++ left = sym (append-nil buffer) ∙ ap (λ (x : List ℕ). buffer ++ x) (sym none) in
+    subst (Appends a c) (ap (λ (x : List ℕ). f.part ++ x) all ∙ f.others) (Appends-trans a b c f.part buffer f.written done)
 
 -- a write of the buffer failed
 pub write_failed : (a b c : Option (List ℕ)) (buffer left text : List ℕ) → Buffered a b (buffer ++ left) text → AppendsPrefix b c buffer
@@ -62,12 +62,12 @@ pub fails : {X E : Type 0} (r : Result X E) (a b c : Option (List ℕ)) (buffer 
 fails (Ok x) a b c buffer left text f prefix = tt
 fails (Err e) a b c buffer left text f prefix = write_failed a b c buffer left text f prefix
 
-pub ends_ok : {X E : Type 0} (r : Result X E) (a b c : Option (List ℕ)) (buffer left text slice : List ℕ) → Buffered a b (buffer ++ left) text
-    → left ≡ [] → slice ≡ buffer → OnOk r (Appends b c slice) → OnOk r (Appends a c text)
+pub ends_ok : {X E : Type 0} (r : Result X E) (a b c : Option (List ℕ)) (buffer left text slice : List ℕ)
+    → Buffered a b (buffer ++ left) text → left ≡ [] → slice ≡ buffer → OnOk r (Appends b c slice) → OnOk r (Appends a c text)
 ends_ok r a b c buffer left text slice f none same =
     on_ok_weaker r (λ done. last_written a b c buffer left text f (subst (Appends b c) same done) none)
 
-pub ends_err : {X E : Type 0} (r : Result X E) (a b c : Option (List ℕ)) (buffer left text slice : List ℕ) → Buffered a b (buffer ++ left) text
-    → slice ≡ buffer → OnErr r (AppendsPrefix b c slice) → OnErr r (AppendsPrefix a c text)
+pub ends_err : {X E : Type 0} (r : Result X E) (a b c : Option (List ℕ)) (buffer left text slice : List ℕ)
+    → Buffered a b (buffer ++ left) text → slice ≡ buffer → OnErr r (AppendsPrefix b c slice) → OnErr r (AppendsPrefix a c text)
 ends_err r a b c buffer left text slice f same =
     on_err_weaker r (λ prefix. write_failed a b c buffer left text f (subst (AppendsPrefix b c) same prefix))

@@ -38,7 +38,8 @@ object_is d run at o = at.objects o
 
 pub shows_here : ShowsHere
 unfolding shown
-shows_here d (show.Registers t) there below run is = ap (λ (s : thread.State). machine_text s.core) (thread_is d run (there.at.each run is) t)
+shows_here d (show.Registers t) there below run is =
+    ap (λ (s : thread.State). machine_text s.core) (thread_is d run (there.at.each run is) t)
 shows_here d (show.Memory t address size) there below run is =
     ap (λ (s : thread.State). memory_text address (bytes_from d.desk.fitted.guest.code s.core.memory size address))
     (thread_is d run (there.at.each run is) t)

@@ -18,7 +18,8 @@ isnt_inside Writing (Some Reading) n other = refl
 isnt_inside Reading None n other = refl
 isnt_inside Writing None n other = refl
 
-inside-more : (a : Access) (inside : ℕ → Option Access) (n : ℕ) → inside_for a inside (n + 1) ≡ inside_for a inside n ++ if_inside a (inside n) n
+inside-more : (a : Access) (inside : ℕ → Option Access) (n : ℕ)
+    → inside_for a inside (n + 1) ≡ inside_for a inside n ++ if_inside a (inside n) n
 unfolding inside_for
 inside-more a inside n =
     let e : n + 1 ≡ suc n = omega arith in

@@ -16,7 +16,8 @@ pub record Passes (d : Desk) (c : Command) : Type 0 where
   pub object : if_some (object_named c) (λ o. nat_lt o (object_count d.fitted.guest)) ≡ true
   pub address : has_address d.fitted.guest c ≡ true
 
-three : (a b c : Bool) → (if not a then Some NoSuchThread else if not b then Some NoSuchObject else if not c then Some BadAddress else None) ≡ None
+three : (a b c : Bool)
+    → (if not a then Some NoSuchThread else if not b then Some NoSuchObject else if not c then Some BadAddress else None) ≡ None
     → (a ≡ true) × (b ≡ true) × (c ≡ true)
 three true true true e = (refl, refl, refl)
 three true true false e = absurd cc

@@ -56,15 +56,18 @@ slice_bounds-write_log-end g c =
 
 pub returns-in-Object-clause-ok : goal.returns-in-Object-clause-ok
 returns-in-Object-clause-ok g c =
-    subst (λ text. OnOk c.write_object.result (Appends (g.W.Sink.written c.args.writer.now) (g.W.Sink.written c.write_object.new.writer) text))
+    let old = g.W.Sink.written c.args.writer.now in
+    let new = g.W.Sink.written c.write_object.new.writer in
+    subst (λ text. OnOk c.write_object.result (Appends old new text))
     (object_read c.args.debugger.now c.args.show c.objects.result.now c.threads.result.now c.index-objects-number.result c.in-Object.object
     c.in-Object.is c.requires (c.objects.ensures ∙ ap (λ s. s.objects) c.state-state.ensures)
     (c.threads.ensures ∙ ap (λ s. s.threads) c.state-state.ensures) c.index-objects-number.is) c.write_object.ensures.ok
 
 pub returns-in-Object-clause-prefix : goal.returns-in-Object-clause-prefix
 returns-in-Object-clause-prefix g c =
-    subst
-    (λ text. OnErr c.write_object.result (AppendsPrefix (g.W.Sink.written c.args.writer.now) (g.W.Sink.written c.write_object.new.writer) text))
+    let old = g.W.Sink.written c.args.writer.now in
+    let new = g.W.Sink.written c.write_object.new.writer in
+    subst (λ text. OnErr c.write_object.result (AppendsPrefix old new text))
     (object_read c.args.debugger.now c.args.show c.objects.result.now c.threads.result.now c.index-objects-number.result c.in-Object.object
     c.in-Object.is c.requires (c.objects.ensures ∙ ap (λ s. s.objects) c.state-state.ensures)
     (c.threads.ensures ∙ ap (λ s. s.threads) c.state-state.ensures) c.index-objects-number.is) c.write_object.ensures.prefix
