@@ -5,6 +5,8 @@ mod answer;
 mod bringing;
 mod bytes;
 mod debugger;
+#[cfg(test)]
+mod debugger_tests;
 mod destinations;
 mod ended;
 mod events;
