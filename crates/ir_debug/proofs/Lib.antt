@@ -6,7 +6,7 @@ mod Machine
 mod Brought
 mod Ends
 mod Leading
-mod Answering
+mod CarriedOut
 mod Rows
 mod RowsOne
 mod RowsTwo
