@@ -7,7 +7,7 @@ mod Machine
 mod Brought
 mod Ends
 mod Leading
-mod CommandAnswers
+mod CarriedOut
 mod Rows
 mod RowsOne
 mod RowsTwo

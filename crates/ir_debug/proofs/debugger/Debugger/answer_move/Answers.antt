@@ -1,6 +1,6 @@
 use Rattle.std.proofs.Common.{◌∙◌}
 use Rattle.ir_command.specs.declared.command.Command.TheVariants as command
-use Rattle.ir_debug.proofs.CommandAnswers.{refusal_moved}
+use Rattle.ir_debug.proofs.CarriedOut.{refusal_moved}
 use Rattle.ir_debug.proofs.debugger.Debugger.answer_move.Goals as goal
 
 pub returns-in-Ok-clause-last : goal.returns-in-Ok-clause-last

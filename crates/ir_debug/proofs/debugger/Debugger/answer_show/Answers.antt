@@ -1,7 +1,7 @@
 use Rattle.std.proofs.Common.{ap, ◌∙◌}
 use Rattle.ir_command.specs.declared.command.Command.TheVariants as command
 use Rattle.ir_debug.specs.Machine.Desk.{Desk}
-use Rattle.ir_debug.proofs.CommandAnswers.{shown_there, at_hand, show_made, refusal_spoken}
+use Rattle.ir_debug.proofs.CarriedOut.{shown_there, at_hand, show_made, refusal_spoken}
 use Rattle.ir_debug.proofs.debugger.Debugger.answer_show.Goals as goal
 
 pub show_next-requires-after_bounds : goal.show_next-requires-after_bounds

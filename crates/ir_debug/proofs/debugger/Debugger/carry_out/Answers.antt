@@ -4,7 +4,7 @@ use Rattle.ir_fit.specs.Fit.{FittedTrace}
 use Rattle.ir_debug.specs.Machine.Desk.{threads_of}
 use Rattle.ir_debug.specs.Machine.Refusals.{if_some, thread_moved}
 use Rattle.ir_debug.specs.Debugging.{Debugging}
-use Rattle.ir_debug.proofs.CommandAnswers.{mover_there}
+use Rattle.ir_debug.proofs.CarriedOut.{mover_there}
 use Rattle.ir_debug.proofs.debugger.Debugger.carry_out.Goals as goal
 
 pub destination-requires-clause-thread : goal.destination-requires-clause-thread

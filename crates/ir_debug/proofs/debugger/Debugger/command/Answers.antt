@@ -3,7 +3,7 @@ use Rattle.ir_command.specs.declared.command.Command.TheVariants as command
 use Rattle.ir_debug.specs.declared.answer.Answer.TheVariants as answer
 use Rattle.ir_debug.specs.Machine.Desk.{spoken}
 use Rattle.ir_debug.specs.Debugging.{Debugging}
-use Rattle.ir_debug.proofs.CommandAnswers.{refused, answered, position_told, quit_told}
+use Rattle.ir_debug.proofs.CarriedOut.{refused, answered, position_told, quit_told}
 use Rattle.ir_debug.proofs.debugger.Debugger.command.Goals as goal
 
 pub returns-in-Some-clause-answers : goal.returns-in-Some-clause-answers

@@ -5,7 +5,7 @@ use Rattle.ir_command.specs.declared.command.Show.TheVariants.{Next}
 use Rattle.ir_debug.specs.Machine.Shown.{shown}
 use Rattle.ir_debug.specs.Machine.Texts.{next_text}
 use Rattle.ir_debug.specs.Debugging.{Debugging}
-use Rattle.ir_debug.proofs.CommandAnswers.{next_told}
+use Rattle.ir_debug.proofs.CarriedOut.{next_told}
 use Rattle.ir_debug.proofs.debugger.Debugger.show_next.Goals as goal
 
 pub returns-clause-line : goal.returns-clause-line

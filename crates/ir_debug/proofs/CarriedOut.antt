@@ -1,4 +1,4 @@
--- What the debugger answers is what the small machine may answer.
+-- What the debugger carries out is what the small machine may answer.
 use Rattle.std.proofs.Common.{◌≡◌, ℕ, ◌<◌, arith, Bool, true, false, List, length, sym, ap, subst, ◌∙◌, refl, inl, None, Some}
 use Rattle.std.specs.Prelude.{not, nat_lt, Option, if◌then◌else◌}
 use Rattle.std.proofs.lemmas.List.{get_or_default}
