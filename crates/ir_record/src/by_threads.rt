@@ -1,6 +1,7 @@
 //! Recording on real threads.
 
 ghost use Rattle.std.specs.Prelude.{◌≡◌, ◌≤◌, length, map, vec_len, IfOk, IfErr};
+ghost use Rattle.ir_thread.specs.Calls.{most_budget};
 ghost use Rattle.ir_record.specs.Recording.{IsRecordingOfSome, IsFailure};
 ghost use Rattle.ir_record.specs.Worlds.{NoneFailed};
 
@@ -10,7 +11,7 @@ use crate::record_err::RecordErr;
 use crate::workers::{first_failed, new_workers, run_workers};
 use crate::world::World;
 use ir_crew::Crew;
-use ir_image::Image;
+use ir_image::{Image, OBJECT_WORDS};
 use ir_object::{Gate, Object};
 use ir_trace::Trace;
 use std::alloc::{AllocError, Global};
@@ -23,7 +24,7 @@ fn blanks(alloc: Global, count: usize) -> Result<Vec<Object>, AllocError>
 {
     let mut objects = Vec::with_capacity(alloc, count)?;
     for _o in 0..count {
-        objects.push(Object::new([0; 8]))?;
+        objects.push(Object::new([0; OBJECT_WORDS]))?;
     }
     Ok(objects)
 }
@@ -52,7 +53,7 @@ pub fn record<R: Threads + Wait + Sync, W: World + Drop + Send, G: Gate + Sync>(
     gate: &G,
     budget: u64,
 ) -> Result<(Trace, Outputs<W>), RecordErr<W>>
-    requires budget { budget ≤ 1000000000000 }
+    requires budget { budget ≤ most_budget }
     requires each { vec_len worlds ≡ length image.now.entries }
     requires works { NoneFailed (map W.broken worlds.items) }
     // One complete run of the guest: its trace, what its threads printed, and what their worlds answered.
@@ -65,7 +66,7 @@ pub fn record<R: Threads + Wait + Sync, W: World + Drop + Send, G: Gate + Sync>(
     let (crew, seats) = Crew::open(alloc, image)?;
     let mut workers = new_workers(alloc, image, seats, worlds, budget)?;
     let room = room(alloc, workers.len())?;
-    let mut objects = blanks(alloc, image.words().len() / 8)?;
+    let mut objects = blanks(alloc, image.words().len() / OBJECT_WORDS)?;
     // From here on nothing takes memory.
     run_workers(rt, &crew, image.code(), gate, &mut workers);
     if let Some(thread) = first_failed(workers.as_slice()) {

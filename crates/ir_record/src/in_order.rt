@@ -1,6 +1,7 @@
 //! Recording on one thread, in a given order.
 
 ghost use Rattle.std.specs.Prelude.{◌≡◌, ◌<◌, ◌≤◌, ◌++◌, ℕ, length, map, replicate, vec_len, IfOk, OnOk, IfErr};
+ghost use Rattle.ir_thread.specs.Calls.{most_budget};
 ghost use Rattle.ir_flat.specs.Flat.{tables, machine};
 ghost use Rattle.ir_runs.specs.InOrder.{HasNone, rounds};
 ghost use Rattle.ir_record.specs.Progress.{progress, Took, IsReady};
@@ -51,7 +52,7 @@ pub fn record_in_turns<W: World + Drop>(
     worlds: Vec<W>,
     budget: u64,
 ) -> Result<(Trace, Outputs<W>), RecordErr<W>>
-    requires budget { budget ≤ 1000000000000 }
+    requires budget { budget ≤ most_budget }
     requires each { vec_len worlds ≡ length image.now.entries }
     requires works { NoneFailed (map W.broken worlds.items) }
     // The run by the order, which is complete: its trace, what its threads printed, and what their worlds answered.
@@ -92,7 +93,7 @@ pub fn record_in_order<W: World + Drop>(
     worlds: Vec<W>,
     budget: u64,
 ) -> Result<(Trace, Outputs<W>), RecordErr<W>>
-    requires budget { budget ≤ 1000000000000 }
+    requires budget { budget ≤ most_budget }
     requires each { vec_len worlds ≡ length image.now.entries }
     requires works { NoneFailed (map W.broken worlds.items) }
     // The run by the order, which is complete: its trace, what its threads printed, and what their worlds answered.
