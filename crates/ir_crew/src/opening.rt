@@ -24,7 +24,9 @@ fn lay(alloc: Global, words: &[u32]) -> Result<Vec<u64>, AllocError>
 {
     let mut laid = vec![in alloc; 0; WORD_PLACE + APART * (words.len() / OBJECT_WORDS)]?;
     for at in 0..words.len() {
-        laid[CONTENT_PLACE + APART * (at / OBJECT_WORDS) + at % OBJECT_WORDS] = u64::from(words[at]);
+        laid[CONTENT_PLACE + APART * (at / OBJECT_WORDS) + at % OBJECT_WORDS] = u64::from(
+            words[at],
+        );
     }
     Ok(laid)
 }

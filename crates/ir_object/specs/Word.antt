@@ -16,14 +16,14 @@ version_unit = 2 ^ 32
 
 -- more than may be inside for reading, and more than may have left, as the units have room for them
 abbrev pub inside_limit : ℕ
-inside_limit = 2 ^ 7
+inside_limit = left_unit / reader_unit
 
 abbrev pub left_limit : ℕ
-left_limit = 2 ^ 24
+left_limit = version_unit / left_unit
 
 -- what a reader adds to the word as it leaves: one more has left, and one less is inside
 abbrev pub reader_leaves : ℕ
-reader_leaves = 254
+reader_leaves = left_unit - reader_unit
 
 -- the fields are within their bits
 pub record IsFields (f : Fields) : Type 0 where
