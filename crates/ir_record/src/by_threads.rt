@@ -2,7 +2,7 @@
 
 ghost use Rattle.std.specs.Prelude.{◌≡◌, ◌≤◌, length, map, vec_len, IfOk, IfErr};
 ghost use Rattle.ir_thread.specs.Calls.{most_budget};
-ghost use Rattle.ir_record.specs.Recording.{IsRecordingOfSome, IsFailure};
+ghost use Rattle.ir_record.specs.Recording.{IsRecorded, AllWork, AreHandedBack, IsFailure};
 ghost use Rattle.ir_record.specs.Worlds.{NoneFailed};
 
 use crate::handing_back::{gathered, joined, room, worlds_of};
@@ -57,11 +57,11 @@ pub fn record<R: Threads + Wait + Sync, W: World + Drop + Send, G: Gate + Sync>(
     requires each { vec_len worlds ≡ length image.now.entries }
     requires works { NoneFailed (map W.broken worlds.items) }
     // One complete run of the guest: its trace, what its threads printed, and what their worlds answered.
-    ensures recorded { IfOk result (λ r. IsRecordingOfSome image.now budget (map W.answers worlds.items) r.0 (map (λ o. o.bytes.items) r.1.each.items) (map (λ o. W.answers o.world) r.1.each.items)) }
-    ensures works { IfOk result (λ r. NoneFailed (map (λ o. W.broken o.world) r.1.each.items)) }
+    ensures recorded { IfOk result (IsRecorded W.answers image.now budget worlds.items) }
+    ensures works { IfOk result (AllWork W.broken) }
     // The worlds are those that were handed in.
-    ensures origins { IfOk result (λ r. map (λ o. W.origin o.world) r.1.each.items ≡ map W.origin worlds.items) }
-    ensures failed { IfErr result (λ e. IsFailure W.answers W.broken worlds.items e) }
+    ensures origins { IfOk result (AreHandedBack W.origin worlds.items) }
+    ensures failed { IfErr result (IsFailure W.answers W.broken W.origin worlds.items) }
 {
     let (crew, seats) = Crew::open(alloc, image)?;
     let mut workers = new_workers(alloc, image, seats, worlds, budget)?;

@@ -2,7 +2,7 @@
 
 ghost use Rattle.std.specs.Prelude.{◌≡◌, ◌≢◌, ℕ, ◌+◌, ◌<◌, ◌≤◌, true, false, Bool, [], List, take, IfOk, IfErr, IfSome, OnOk, OnErr, Err};
 ghost use Rattle.std.specs.Io.KnownBytes.{IsAtEnd};
-ghost use Rattle.ir_stream.specs.Lines.{cut, lines_of, last_line};
+ghost use Rattle.ir_stream.specs.Lines.{most_kept, cut, lines_of, last_line};
 ghost use Rattle.ir_stream.specs.Nexts.{IsNext, broken_after};
 ghost use Rattle.ir_stream.specs.Endings.{flow_after, served_after, IfEnded, LeadsTo};
 ghost use Rattle.ir_stream.specs.Answers.{Replying, Wrote, WrotePrefix, Replied, RepliedPrefix, through, some_quits};
@@ -40,10 +40,10 @@ pub trait Responder {
         ensures prefix { OnErr result (RepliedPrefix replies self.old line.now (W.written writer.old) (W.written writer.new)) }
         ensures err { OnErr result (W.broken writer.new ≡ true) };
 
-    /// Of a line, no more than 1,025 bytes matter.
-    ghost long_replies: { (s : Self) (line text : List ℕ) (next : Self) → replies s (take 1025 line) text next → replies s line text next };
+    /// Of a line, no more than `KEPT` bytes matter.
+    ghost long_replies: { (s : Self) (line text : List ℕ) (next : Self) → replies s (take most_kept line) text next → replies s line text next };
 
-    ghost long_quits: { (line : List ℕ) → quits (take 1025 line) ≡ quits line };
+    ghost long_quits: { (line : List ℕ) → quits (take most_kept line) ≡ quits line };
 }
 
 /// How lines that were all answered ended.

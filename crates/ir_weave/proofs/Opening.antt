@@ -360,7 +360,7 @@ read_more ws from xs n w h inside is = record {
 -- an object that is read from the words is the table's
 pub object_read : (cells : List Cell) (ws : List ℕ) (o w : ℕ) (xs : List ℕ) (c : Cell) → IsTable cells ws → o < length cells
     → length (object_in cells o).words ≡ object_words → fields_of (word_of (object_in cells o).fields) ≡ (object_in cells o).fields
-    → w ≡ get_or ws (word_place o) 0 → AreRead ws (content_place o 0) xs object_words → c ≡ record { fields = fields_of w; words = xs } → c ≡ object_in cells o
+    → w ≡ get_or ws (word_place o) 0 → AreRead ws (2 * line_words + apart * o) xs object_words → c ≡ record { fields = fields_of w; words = xs } → c ≡ object_in cells o
 object_read cells ws o w xs c t l sizes fits word read is =
     let long : length xs ≡ object_words = read.size in
     let fields : fields_of w ≡ (object_in cells o).fields = ap fields_of (word ∙ t.heads o l) ∙ fits in

@@ -81,8 +81,14 @@ returns-in-Some-clause-failed g c =
       subst (λ z. IsFirstFailed z c.in-Some.thread)
           (ap (map (λ w. g.W.World.broken w.world)) c.as_slice.ensures.value ∙ sym (map_map g.W.World.broken (λ w. w.world) end)
           ∙ ap (map g.W.World.broken) (sym worlds)) c.in-Some.ensures.failed,
-      subst (λ z. Extends (map g.W.World.answers z) (map g.W.World.answers c.worlds_of.result.items)) c.in_ok-workers.ensures.worlds
-          (subst (λ z. Extends (map g.W.World.answers (map (λ w. w.world) old)) (map g.W.World.answers z)) (sym worlds) all),
+      record {
+        answered = subst (λ z. Extends (map g.W.World.answers z) (map g.W.World.answers c.worlds_of.result.items))
+            c.in_ok-workers.ensures.worlds
+            (subst (λ z. Extends (map g.W.World.answers (map (λ w. w.world) old)) (map g.W.World.answers z)) (sym worlds) all);
+        origins = ap (map g.W.World.origin) worlds
+            ∙ origins_end g.W.World.answers g.W.World.broken g.W.World.origin c.args.image.now c.args.budget id old end pairs
+            ∙ ap (map g.W.World.origin) c.in_ok-workers.ensures.worlds;
+      },
     )
 
 pub gathered-seats-requires-clause-over : goal.gathered-seats-requires-clause-over
