@@ -221,7 +221,8 @@ total_push size placed x = sum_by-append (λ y. size y.item) placed (x ∷ []) �
 
 -- one item more
 item_sound : (s : Seen) (line a c d n : ℕ) (item : Item) → IsSound s → HasFewWords item → code_size item % 4 ≡ 0
-    → c ≡ s.code + code_size item → d ≡ s.filled + data_size item → n ≡ s.threads + entry_count item → c ≤ 4 * most_code_words → d ≤ memory_size → n ≤ most_threads
+    → c ≡ s.code + code_size item → d ≡ s.filled + data_size item → n ≡ s.threads + entry_count item → c ≤ 4 * most_code_words
+    → d ≤ memory_size → n ≤ most_threads
     → IsSound (placed_at line a item (record s { code = c; filled = d; threads = n }))
 item_sound s line a c d n item h few whole is_code is_data is_entry short_code short_data few_threads =
     let x : Placed = record { line = line; address = a; item = item } in
@@ -322,7 +323,8 @@ section_item : (section : Section) (s t : Seen) (line a : ℕ) (item : Item) →
 section_item Text s t line a item h m e =
     let b = bind_ok (grown Text (size_of item) s) _ t e in
     let u = tested (nat_le (s.code + size_of item) (4 * most_code_words)) BadSize _ b.0 b.1 in
-    text_item s t line a item h m (leb-true _ (4 * most_code_words) u.0) (subst (λ v. entered line a (laid Text item) v ≡ Ok t) (sym u.1) b.2)
+    text_item s t line a item h m (leb-true _ (4 * most_code_words) u.0)
+    (subst (λ v. entered line a (laid Text item) v ≡ Ok t) (sym u.1) b.2)
 section_item Data s t line a item h m e =
     let b = bind_ok (grown Data (size_of item) s) _ t e in
     let u = tested (nat_le (s.filled + size_of item) memory_size) BadSize _ b.0 b.1 in

@@ -339,7 +339,8 @@ changes g slots id o f d tell (q ∷ [], c) alone lt no_entry step_is tells x k 
     )
 
 pub leaves_read : (g : Guest) (slots id o : ℕ) (me : M) → IsAlone me.0 → o < object_count g → inside_by o (history me.0) ≡ Some Reading
-    → Allows (Kept g) slots id me (word_place o) (λ n. (n + reader_leaves) % 2 ^ 64) (left_reading (step slots (word_place o) reader_leaves 0 none) me)
+    → Allows (Kept g) slots id me (word_place o) (λ n. (n + reader_leaves) % 2 ^ 64)
+    (left_reading (step slots (word_place o) reader_leaves 0 none) me)
 leaves_read g slots id o me alone lt inside = changes g slots id o (λ n. (n + reader_leaves) % 2 ^ 64) (λ b. Leave Reading b.version)
     (left_reading (step slots (word_place o) reader_leaves 0 none) me) me alone lt (λ b. refl)
     (λ t w b a.
@@ -388,7 +389,8 @@ leaves_write_by g slots id o v w me alone lt inside version is =
 
 -- ---- contents
 
-pub gets : (g : Guest) (slots id o i : ℕ) (me : M) → IsAlone me.0 → o < object_count g → i < object_words → inside_by o (history me.0) ≢ None
+pub gets : (g : Guest) (slots id o i : ℕ) (me : M) → IsAlone me.0 → o < object_count g → i < object_words
+    → inside_by o (history me.0) ≢ None
     → Allows (Kept g) slots id me (content_place o i) (λ n. n) (got (step slots (content_place o i) 0 0 none) me)
 gets g slots id o i ([], c) alone lt small inside x k homes at fits = absurd alone
 gets g slots id o i (k2 ∷ l ∷ ks, c) alone lt small inside x k homes at fits = absurd alone

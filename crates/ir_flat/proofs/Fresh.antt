@@ -30,11 +30,13 @@ threads_more g budget from (suc n) = ap (λ xs. thread.start_state g from budget
     (let e : suc from + n ≡ from + suc n = omega arith in e))
 
 -- one object more
-pub cells_more : (words : List ℕ) (n : ℕ) → start_cells words (suc n) ≡ start_cells words n ++ start_cell (take object_words (drop (object_words * n) words)) ∷ []
+pub cells_more : (words : List ℕ) (n : ℕ) → start_cells words (suc n) ≡ start_cells words n ++ start_cell
+    (take object_words (drop (object_words * n) words)) ∷ []
 cells_more words zero = refl
 cells_more words (suc n) = ap (λ xs. start_cell (take object_words words) ∷ xs)
     (cells_more (drop object_words words) n ∙ ap (λ ys. start_cells (drop object_words words) n ++ start_cell (take object_words ys) ∷ [])
-    (drop-drop (object_words * n) object_words words ∙ ap (λ k. drop k words) (let e : object_words + object_words * n ≡ object_words * suc n = omega arith in e)))
+    (drop-drop (object_words * n) object_words words ∙ ap (λ k. drop k words)
+    (let e : object_words + object_words * n ≡ object_words * suc n = omega arith in e)))
 
 -- a thread at the start holds nothing and has logged nothing
 pub record IsFresh (places : ℕ) (x : thread.State) : Type 0 where
@@ -73,11 +75,13 @@ fields_at words zero o = refl
 fields_at words (suc n) zero = refl
 fields_at words (suc n) (suc o) = fields_at (drop object_words words) n o
 
-words_at : (words : List ℕ) (n o : ℕ) → object_words * n ≤ length words → o < n → length (get_or (start_cells words n) o empty).words ≡ object_words
+words_at : (words : List ℕ) (n o : ℕ) → object_words * n ≤ length words → o < n
+    → length (get_or (start_cells words n) o empty).words ≡ object_words
 words_at words zero o h l = absurd (omega arith)
 words_at words (suc n) zero h l = length-take-le object_words words (omega arith)
 words_at words (suc n) (suc o) h l = words_at (drop object_words words) n o
-    (let d : length (drop object_words words) ≡ length words - object_words = length-drop object_words words in omega (arith, d, h)) (omega arith)
+    (let d : length (drop object_words words) ≡ length words - object_words = length-drop object_words words in omega (arith, d, h))
+    (omega arith)
 
 -- nobody is inside
 pub start_none : (g : Guest) (budget o t : ℕ) → inside_of (start_flat g budget) o t ≡ None

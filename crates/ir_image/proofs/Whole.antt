@@ -75,9 +75,11 @@ counts_again c rest within =
     let e0 = magic_again (c.threads ∷ c.objects ∷ r2) in
     let e1 = byte_field_again Short threads_field c.threads (c.objects ∷ r2) refl
     (within_again 1 most_threads c.threads Count within.some_thread within.few_threads) in
-    let e2 = byte_field_again Short objects_field c.objects r2 refl (within_again 0 most_objects c.objects Count (omega arith) within.few_objects)
+    let e2 = byte_field_again Short objects_field c.objects r2 refl
+    (within_again 0 most_objects c.objects Count (omega arith) within.few_objects)
     in
-    let e3 = field_again Short words_field c.words r3 (omega arith) (within_again 0 most_code_words c.words Count (omega arith) within.short_code)
+    let e3 = field_again Short words_field c.words r3 (omega arith)
+    (within_again 0 most_code_words c.words Count (omega arith) within.short_code)
     in
     let e4 = field_again Short bytes_field c.bytes rest (omega arith)
     (within_again 0 memory_size c.bytes Count (omega arith) within.short_data) in

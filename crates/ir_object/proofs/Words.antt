@@ -37,8 +37,10 @@ pub read_leave_word : (w : ℕ) → 0 < (fields_of w).inside → (fields_of w).l
     → fields_of ((w + reader_leaves) % 2 ^ 64) ≡ left_by Reading (fields_of w)
 read_leave_word w inside_one room small =
     let version : (w + reader_leaves) % 2 ^ 64 / version_unit ≡ w / version_unit = omega (arith, small, room, inside_one) in
-    let left : (w + reader_leaves) % 2 ^ 64 / left_unit % left_limit ≡ w / left_unit % left_limit + 1 = omega (arith, small, room, inside_one) in
-    let inside : (w + reader_leaves) % 2 ^ 64 / reader_unit % inside_limit ≡ w / reader_unit % inside_limit - 1 = omega (arith, small, room, inside_one) in
+    let left : (w + reader_leaves) % 2 ^ 64 / left_unit % left_limit ≡ w / left_unit % left_limit + 1 = omega
+    (arith, small, room, inside_one) in
+    let inside : (w + reader_leaves) % 2 ^ 64 / reader_unit % inside_limit ≡ w / reader_unit % inside_limit - 1 = omega
+    (arith, small, room, inside_one) in
     let writer : (w + reader_leaves) % 2 ^ 64 % reader_unit ≡ w % 2 = omega (arith, small) in
     λ i. record { version = version i; left = left i; inside = inside i; writer = writer i == 1 }
 

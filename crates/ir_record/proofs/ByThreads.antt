@@ -62,7 +62,8 @@ words_at : (ws : List ℕ) (n o : ℕ) → o < n → (get_or (start_cells ws n) 
 words_at ws zero o l = absurd (omega arith)
 words_at ws (suc n) zero l = refl
 words_at ws (suc n) (suc o) l = words_at (drop object_words ws) n o (omega (arith, l))
-    ∙ ap (take object_words) (drop_twice object_words (object_words * o) ws ∙ ap (λ k. drop k ws) (let e : object_words + object_words * o ≡ object_words * suc o = omega arith in e))
+    ∙ ap (take object_words) (drop_twice object_words (object_words * o) ws
+    ∙ ap (λ k. drop k ws) (let e : object_words + object_words * o ≡ object_words * suc o = omega arith in e))
 
 fields_none : (ws : List ℕ) (n o : ℕ) → (get_or (start_cells ws n) o empty).fields ≡
     record { version = 0; left = 0; inside = 0; writer = false }

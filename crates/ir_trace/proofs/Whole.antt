@@ -78,7 +78,8 @@ header_again h rest within =
     let e0 = magic_again (h.threads ∷ h.objects ∷ r1) in
     let e1 = byte_field_again Short threads_field h.threads (h.objects ∷ r1) refl
     (within_again 1 most_threads h.threads Count within.some_thread within.few_threads) in
-    let e2 = byte_field_again Short objects_field h.objects r1 refl (within_again 0 most_objects h.objects Count (omega arith) within.few_objects)
+    let e2 = byte_field_again Short objects_field h.objects r1 refl
+    (within_again 0 most_objects h.objects Count (omega arith) within.few_objects)
     in
     let e3 = reserved_again r2 in
     let e4 = field_again Short budget_field h.budget rest (omega (arith, within.budget_fits))

@@ -334,7 +334,8 @@ left_reading_at slots id o y q c ahead inside is has x h homes at small =
     let allowed : 0 < (cell_of cu.state o).fields.inside =
     leave_allowed cu.state t o Reading cu.flat (there q.plan x h id q y at cu) m (leaves_holding cu.state t o Reading ask) in
     let fits = word_small (left_by Reading (cell_of cu.state o).fields) (leave_fits cu.state o Reading cu.flat m) in
-    let less : word_of (left_by Reading (cell_of cu.state o).fields) ≡ word_of (cell_of cu.state o).fields + reader_leaves = omega (arith, allowed) in
+    let less : word_of (left_by Reading (cell_of cu.state o).fields) ≡ word_of (cell_of cu.state o).fields + reader_leaves = omega
+    (arith, allowed) in
     let sum : (n + reader_leaves) % 2 ^ 64 ≡ word_of (left_by Reading (cell_of cu.state o).fields) = omega (arith, found, less, fits) in
     let made = steps_on slots id (word_place o) reader_leaves 0 q c x h at y ahead (Leave o Reading) (λ b. b) is cu goes.0 goes.1 n
     (λ p i e. absurd (cc e)) (set x.words (word_place o) ((n + reader_leaves) % 2 ^ 64))

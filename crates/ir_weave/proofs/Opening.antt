@@ -273,16 +273,20 @@ rem o r l = omega (arith, l)
 
 laid_at : (cells : List Cell) (o r : ℕ) → r < apart → laid cells (word_place o + r) ≡ word_in (object_in cells o) r
 laid_at cells o r l =
-    ap (λ (b : Bool). cond b 0 (word_in (object_in cells ((word_place o + r - line_words) / apart)) ((word_place o + r - line_words) % apart)))
+    ap (λ (b : Bool). cond b 0 (word_in (object_in cells ((word_place o + r - line_words) / apart))
+    ((word_place o + r - line_words) % apart)))
     (le-ltb (word_place o + r) line_words (omega arith))
     ∙ (λ i. word_in (object_in cells (quot o r l i)) (rem o r l i))
 
 content_at : (c : Cell) (i : ℕ) → i < object_words → word_in c (line_words + i) ≡ get_or c.words i 0
 content_at c i l =
-    ap (λ (b : Bool). cond b (word_of c.fields) (cond (ltb (line_words + i) line_words) 0 (cond (ltb (line_words + i) (line_words + object_words)) (get_or c.words (line_words + i - line_words) 0) 0)))
+    ap (λ (b : Bool). cond b (word_of c.fields) (cond (ltb (line_words + i) line_words) 0
+    (cond (ltb (line_words + i) (line_words + object_words)) (get_or c.words (line_words + i - line_words) 0) 0)))
     (ne_eqb (line_words + i) 0 (λ e. omega (arith, e)))
-    ∙ ap (λ (b : Bool). cond b 0 (cond (ltb (line_words + i) (line_words + object_words)) (get_or c.words (line_words + i - line_words) 0) 0)) (le-ltb (line_words + i) line_words (omega arith))
-    ∙ ap (λ (b : Bool). cond b (get_or c.words (line_words + i - line_words) 0) 0) (lt-ltb (line_words + i) (line_words + object_words) (omega (arith, l)))
+    ∙ ap (λ (b : Bool). cond b 0 (cond (ltb (line_words + i) (line_words + object_words)) (get_or c.words (line_words + i - line_words) 0)
+    0)) (le-ltb (line_words + i) line_words (omega arith))
+    ∙ ap (λ (b : Bool). cond b (get_or c.words (line_words + i - line_words) 0) 0)
+    (lt-ltb (line_words + i) (line_words + object_words) (omega (arith, l)))
     ∙ ap (λ n. get_or c.words n 0) (let e : line_words + i - line_words ≡ i = omega arith in e)
 
 pub table_of : (cells : List Cell) (ws : List ℕ) → IsLaid cells ws (table_length (length cells))
@@ -360,7 +364,8 @@ read_more ws from xs n w h inside is = record {
 -- an object that is read from the words is the table's
 pub object_read : (cells : List Cell) (ws : List ℕ) (o w : ℕ) (xs : List ℕ) (c : Cell) → IsTable cells ws → o < length cells
     → length (object_in cells o).words ≡ object_words → fields_of (word_of (object_in cells o).fields) ≡ (object_in cells o).fields
-    → w ≡ get_or ws (word_place o) 0 → AreRead ws (2 * line_words + apart * o) xs object_words → c ≡ record { fields = fields_of w; words = xs } → c ≡ object_in cells o
+    → w ≡ get_or ws (word_place o) 0 → AreRead ws (2 * line_words + apart * o) xs object_words
+    → c ≡ record { fields = fields_of w; words = xs } → c ≡ object_in cells o
 object_read cells ws o w xs c t l sizes fits word read is =
     let long : length xs ≡ object_words = read.size in
     let fields : fields_of w ≡ (object_in cells o).fields = ap fields_of (word ∙ t.heads o l) ∙ fits in

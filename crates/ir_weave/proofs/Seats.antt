@@ -107,7 +107,8 @@ enter_allows k slots id o a x (q ∷ [], c) g asking =
 
 pub read_leave_allows : (k : Plan) (slots id o : ℕ) (x : thread.State) (me : M) → IsSeated k me.0 x
     → IsAsking (trace_in k) x (Leave o Reading)
-    → Allows (Woven k) slots id me (word_place o) (λ n. (n + reader_leaves) % 2 ^ 64) (stepped_on (step slots (word_place o) reader_leaves 0 none) me)
+    → Allows (Woven k) slots id me (word_place o) (λ n. (n + reader_leaves) % 2 ^ 64)
+    (stepped_on (step slots (word_place o) reader_leaves 0 none) me)
 read_leave_allows k slots id o x ([], c) seated asking = absurd seated
 read_leave_allows k slots id o x (q ∷ r ∷ qs, c) seated asking = absurd seated
 read_leave_allows k slots id o x (q ∷ [], c) seated asking =

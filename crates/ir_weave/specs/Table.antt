@@ -14,7 +14,8 @@ object_in cells o = slice_index_or cells o empty
 pub record IsTable (cells : List Cell) (words : List ℕ) : Type 0 where
   pub size : length words ≡ table_length (length cells)
   pub heads : (o : ℕ) → o < length cells → slice_index words (word_place o) ≡ word_of (object_in cells o).fields
-  pub places : (o i : ℕ) → o < length cells → i < object_words → slice_index words (content_place o i) ≡ slice_index (object_in cells o).words i
+  pub places : (o i : ℕ) → o < length cells → i < object_words → slice_index words (content_place o i) ≡ slice_index
+      (object_in cells o).words i
   pub small : (o i : ℕ) → slice_index (object_in cells o).words i < 2 ^ 32
 
 -- word r of those of an object

@@ -66,7 +66,8 @@ rounds-preserved g c =
       went = k.rounding;
       each = c.lower.ensures.size ∙ c.in_ok-pass.ensures.each;
       ready = c.in_ok-pass.ensures.ready;
-      kept = worlds_on g.W.World.answers g.W.World.origin c.args.self.now.worlds.items c.rounds.self.worlds.items c.round.new.self.worlds.items c.rounds.invariant.kept c.round.ensures.kept;
+      kept = worlds_on g.W.World.answers g.W.World.origin c.args.self.now.worlds.items c.rounds.self.worlds.items
+          c.round.new.self.worlds.items c.rounds.invariant.kept c.round.ensures.kept;
     }
 
 pub rounds-smaller : goal.rounds-smaller
@@ -129,9 +130,11 @@ returns-then-not-pass-clause-over g c = λ t l.
     (omega (arith, l, c.in_ok-pass.ensures.threads, p.1.threads))
 
 pub returns-then-not-pass-clause-kept : goal.returns-then-not-pass-clause-kept
-returns-then-not-pass-clause-kept g c = worlds_on g.W.World.answers g.W.World.origin c.args.self.now.worlds.items c.rounds.self.worlds.items c.round.new.self.worlds.items c.rounds.invariant.kept
+returns-then-not-pass-clause-kept g c = worlds_on g.W.World.answers g.W.World.origin c.args.self.now.worlds.items
+    c.rounds.self.worlds.items c.round.new.self.worlds.items c.rounds.invariant.kept
     c.round.ensures.kept
 
 pub returns-in_err-pass-clause-kept : goal.returns-in_err-pass-clause-kept
-returns-in_err-pass-clause-kept g c = worlds_on g.W.World.answers g.W.World.origin c.args.self.now.worlds.items c.rounds.self.worlds.items c.round.new.self.worlds.items c.rounds.invariant.kept
+returns-in_err-pass-clause-kept g c = worlds_on g.W.World.answers g.W.World.origin c.args.self.now.worlds.items c.rounds.self.worlds.items
+    c.round.new.self.worlds.items c.rounds.invariant.kept
     c.round.ensures.kept

@@ -66,13 +66,16 @@ turns-preserved g c =
           (omega (arith, c.turns-test.true)) (omega (arith, within)) c.turns.invariant.took
           (c.run-ran.ensures.took (map g.W.World.answers c.turns.self.worlds.items)) c.in_ok-turn.ensures.took;
       ready = c.in_ok-turn.ensures.ready;
-      kept = worlds_on g.W.World.answers g.W.World.origin c.args.self.now.worlds.items c.turns.self.worlds.items c.turn.new.self.worlds.items c.turns.invariant.kept c.turn.ensures.kept;
+      kept = worlds_on g.W.World.answers g.W.World.origin c.args.self.now.worlds.items c.turns.self.worlds.items
+          c.turn.new.self.worlds.items c.turns.invariant.kept c.turn.ensures.kept;
     }
 
 pub returns-then-not-branch-clause-kept : goal.returns-then-not-branch-clause-kept
-returns-then-not-branch-clause-kept g c = worlds_on g.W.World.answers g.W.World.origin c.args.self.now.worlds.items c.turns.self.worlds.items c.turn.new.self.worlds.items c.turns.invariant.kept
+returns-then-not-branch-clause-kept g c = worlds_on g.W.World.answers g.W.World.origin c.args.self.now.worlds.items
+    c.turns.self.worlds.items c.turn.new.self.worlds.items c.turns.invariant.kept
     c.turn.ensures.kept
 
 pub returns-in_err-turn-clause-kept : goal.returns-in_err-turn-clause-kept
-returns-in_err-turn-clause-kept g c = worlds_on g.W.World.answers g.W.World.origin c.args.self.now.worlds.items c.turns.self.worlds.items c.turn.new.self.worlds.items c.turns.invariant.kept
+returns-in_err-turn-clause-kept g c = worlds_on g.W.World.answers g.W.World.origin c.args.self.now.worlds.items c.turns.self.worlds.items
+    c.turn.new.self.worlds.items c.turns.invariant.kept
     c.turn.ensures.kept
