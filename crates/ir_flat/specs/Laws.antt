@@ -1,5 +1,5 @@
 -- What holds in each state that a run reaches.
-use Rattle.std.specs.Prelude.{◌≡◌, ◌≢◌, ℕ, ◌^◌, ◌<◌, ◌≤◌, List, length, Some, None}
+use Rattle.std.specs.Prelude.{◌≡◌, ◌≢◌, ℕ, ◌<◌, ◌≤◌, List, length, Some, None}
 use Rattle.ir_image.specs.Guest.{Guest, most_threads}
 use Rattle.ir_runs.specs.Machine.{Done}
 use Rattle.ir_runs.specs.declared.access.Access.TheVariants.{Writing}
