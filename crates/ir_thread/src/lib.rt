@@ -6,6 +6,7 @@ mod call;
 mod end;
 mod holding;
 mod laws;
+mod limits;
 #[cfg(test)]
 mod tests;
 mod thread;
@@ -14,4 +15,5 @@ pub use ask::{Ask, Reply};
 pub use call::Call;
 pub use end::End;
 pub use laws::{closes, ends_by_the_first, runs_alone};
+pub use limits::{MOST_BUDGET, MOST_EVENTS, MOST_OUTPUT};
 pub use thread::Thread;
