@@ -8,6 +8,8 @@ use crate::whole_file::WholeSink;
 use ir_debug::{DeviceErr, Ended, SessionErr, Sink, Source, session_up_to};
 use ir_object::OpenGate;
 use std::test::Fail;
+use std::thread::Threads;
+use std::time::Clock;
 
 // Gives its bytes; the call of this number fails, and each after it.
 #[derive(Drop)]
@@ -130,7 +132,7 @@ pub fn empty_page(rt: &impl AllocGlobal, most: usize, calls_left: u64) -> Page
 }
 
 fn lines_of(
-    rt: &HostRuntime,
+    rt: &impl AllocGlobal,
     image: &[u8],
     trace: &[u8],
     commands: &[u8],
@@ -144,8 +146,8 @@ fn lines_of(
 }
 
 // What a bundle of these lines answers, the fault that it tells, and its exit status.
-fn answered(
-    rt: &HostRuntime,
+fn answered<R: AllocGlobal + Threads + Clock + Sync>(
+    rt: &R,
     image: &[u8],
     trace: &[u8],
     commands: &[u8],
