@@ -1,9 +1,11 @@
 //! The command-line arguments.
 
 ghost use Rattle.std.specs.Prelude.{◌≤◌};
+ghost use Rattle.ir_thread.specs.Calls.{most_budget};
 
 use crate::numeral::number_within;
 use clap::{Arg, ArgMatches, Command, Error};
+use ir_thread::MOST_BUDGET;
 use std::alloc::{AllocError, Global};
 use std::{env, io};
 
@@ -115,8 +117,6 @@ const RANDOM: &str = "random";
 
 const INPUT: &str = "input";
 
-const MOST_BUDGET: u64 = 1_000_000_000_000;
-
 const RECORD_ABOUT: &str = "Records a guest, and prints a line for each thread";
 
 const RECORD_AFTER: &str =
@@ -156,7 +156,7 @@ pub struct RecordArguments {
     pub random: u64,
     /// The file that guests read.
     pub input: Option<String>,
-    ghost within: { budget ≤ 1000000000000 },
+    ghost within: { budget ≤ most_budget },
 }
 
 /// What the arguments ask for.

@@ -1,9 +1,9 @@
 -- Texts that are written by one buffer: what stands in it, and what is left to be put into it.
-use Rattle.std.proofs.Common.{◌≡◌, ℕ, List, [], ◌++◌, Option, Result, Ok, Err, OnOk, OnErr, sym, ap, ◌∙◌, subst, append_assoc, append-nil}
+use Rattle.std.proofs.Common.{◌≡◌, ℕ, List, [], ◌++◌, Option, Result, Ok, Err, OnOk, OnErr, refl, sym, ap, ◌∙◌, subst, append_assoc, append-nil}
 use Rattle.std.proofs.lemmas.Result.{on_ok_weaker, on_err_weaker}
 use Rattle.std.specs.Io.KnownBytes.{Appends}
 use Rattle.std.proofs.KnownBytes.{Appends-nil, Appends-trans}
-use Rattle.ir_stream.proofs.CallerLemmas.{prefix_after}
+use Rattle.ir_stream.proofs.CallerLemmas.{prefix_after, prefix_longer}
 use Rattle.ir_stream.specs.Devices.{AppendsPrefix}
 use Rattle.ir_debug.specs.Buffered.{Buffered}
 
@@ -35,25 +35,32 @@ line_put a b c buffer kept after line left more text f g put e = record {
       ∙ f.others;
 }
 
+-- of what is left, the first line was written
+pub line_written : (a b c : Option (List ℕ)) (left line more text : List ℕ) → Buffered a b left text → left ≡ line ++ more
+    → Appends b c line → Buffered a c more text
+line_written a b c left line more text f e done = record {
+  part = f.part ++ line;
+  written = Appends-trans a b c f.part line f.written done;
+  others = append_assoc f.part line more ∙ ap (λ (x : List ℕ). f.part ++ x) (sym e) ∙ f.others;
+}
+
+-- nothing is left
+pub none_left : (a b : Option (List ℕ)) (left text : List ℕ) → Buffered a b left text → left ≡ [] → Appends a b text
+none_left a b left text f none =
+    subst (Appends a b) (sym (append-nil f.part) ∙ ap (λ (x : List ℕ). f.part ++ x) (sym none) ∙ f.others) f.written
+
 -- the buffer was written at the end
 pub last_written : (a b c : Option (List ℕ)) (buffer left text : List ℕ) → Buffered a b (buffer ++ left) text → Appends b c buffer
     → left ≡ [] → Appends a c text
 last_written a b c buffer left text f done none =
-    let all : buffer ≡ buffer ++ left = sym (append-nil buffer) ∙ ap (λ (x : List ℕ). buffer ++ x) (sym none) in
-    subst (Appends a c) (ap (λ (x : List ℕ). f.part ++ x) all ∙ f.others) (Appends-trans a b c f.part buffer f.written done)
+    none_left a c left text (line_written a b c (buffer ++ left) buffer left text f refl done) none
 
 -- a write of the buffer failed
 pub write_failed : (a b c : Option (List ℕ)) (buffer left text : List ℕ) → Buffered a b (buffer ++ left) text → AppendsPrefix b c buffer
     → AppendsPrefix a c text
 write_failed a b c buffer left text f prefix =
-    let g : AppendsPrefix a c (f.part ++ buffer) = prefix_after a b c f.part buffer f.written prefix in
-    record {
-      part = g.part;
-      more = g.more ++ left;
-      splits = sym f.others ∙ sym (append_assoc f.part buffer left) ∙ ap (λ (x : List ℕ). x ++ left) g.splits
-          ∙ append_assoc g.part g.more left;
-      grown = g.grown;
-    }
+    subst (AppendsPrefix a c) (append_assoc f.part buffer left ∙ f.others)
+    (prefix_longer a c (f.part ++ buffer) left (prefix_after a b c f.part buffer f.written prefix))
 
 -- ---- the same by the results of writes
 
@@ -61,6 +68,10 @@ pub fails : {X E : Type 0} (r : Result X E) (a b c : Option (List ℕ)) (buffer 
     → AppendsPrefix b c buffer → OnErr r (AppendsPrefix a c text)
 fails (Ok x) a b c buffer left text f prefix = tt
 fails (Err e) a b c buffer left text f prefix = write_failed a b c buffer left text f prefix
+
+pub line_failed : {X E : Type 0} (r : Result X E) (a b c : Option (List ℕ)) (left line more text : List ℕ) → Buffered a b left text
+    → left ≡ line ++ more → AppendsPrefix b c line → OnErr r (AppendsPrefix a c text)
+line_failed r a b c left line more text f e prefix = fails r a b c line more text (subst (λ (x : List ℕ). Buffered a b x text) e f) prefix
 
 pub ends_ok : {X E : Type 0} (r : Result X E) (a b c : Option (List ℕ)) (buffer left text slice : List ℕ)
     → Buffered a b (buffer ++ left) text → left ≡ [] → slice ≡ buffer → OnOk r (Appends b c slice) → OnOk r (Appends a c text)

@@ -20,7 +20,7 @@ replies : (asked : Result (Option Command) Refusal) (line : List ℕ) (old new :
 unfolding Replies
 replies asked line old new answer P is a t = λ run of.
     let at : IsRunOf new.desk.fitted.guest new.desk.fitted.recorded run =
-        subst (λ (f : FittedTrace). IsRunOf f.guest f.recorded run) (sym a.fitted) of in
+    subst (λ (f : FittedTrace). IsRunOf f.guest f.recorded run) (sym a.fitted) of in
     subst (λ (x : Result (Option Command) Refusal). RepliesBy x run old.desk t.0 new.desk) is
     (subst (λ (text : List ℕ). RepliesBy asked run old.desk text new.desk) (sym (t.1 run at)) (a.answers run of))
 

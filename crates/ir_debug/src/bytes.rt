@@ -12,8 +12,8 @@ ghost use Rattle.ir_debug.specs.Machine.Shown.{byte_or_zero, bytes_from};
 ghost use Rattle.ir_debug.specs.Machine.Texts.{number_line, memory_text, output_text};
 
 use crate::next::code_word;
-use crate::room::make_room;
-use crate::text::{Text, put_number, put_word};
+use crate::room::{FULL, make_room};
+use crate::text::{ROOM, Text, put_number, put_word};
 use arrayvec::ArrayVec;
 use ir_image::{Code, MEMORY_START};
 use ir_stream::{DeviceErr, Sink, append, write_all};
@@ -30,7 +30,7 @@ const MOST: usize = 256;
 // Bytes in hexadecimal.
 fn put_bytes(text: &mut Text, bytes: &[u8])
     requires few { length bytes.now ≤ 32 }
-    requires room { array_vec_len text.old + 64 ≤ 1024 }
+    requires room { array_vec_len text.old + 64 ≤ ROOM }
     ensures text { text.new.items ≡ text.old.items ++ encode_lower bytes.now }
     ensures len { array_vec_len text.new ≡ array_vec_len text.old + 2 * length bytes.now }
 {
@@ -123,7 +123,7 @@ pub fn write_memory<W: Sink>(
 
 fn put_output_line(text: &mut Text, bytes: &[u8])
     requires few { length bytes.now ≤ 32 }
-    requires room { array_vec_len text.old ≤ 896 }
+    requires room { array_vec_len text.old ≤ FULL }
     ensures { text.new.items ≡ text.old.items ++ (encode_lower bytes.now ++ codes "\n") }
 {
     put_bytes(text, bytes);

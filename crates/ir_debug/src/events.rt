@@ -7,7 +7,7 @@ ghost use Rattle.ir_log.specs.Logging.{label_of};
 ghost use Rattle.ir_stream.specs.Devices.{AppendsPrefix};
 ghost use Rattle.ir_debug.specs.Machine.Texts.{kind_text, event_text, log_text};
 
-use crate::room::make_room;
+use crate::room::{FULL, make_room};
 use crate::text::{Text, put_number};
 use ir_log::Event;
 use ir_runs::EnvKind;
@@ -52,7 +52,7 @@ fn put_what(text: &mut Text, event: Event)
 
 // Puts the line of an event at the end, with its number among those of its thread.
 fn put_event(text: &mut Text, index: u64, event: Event)
-    requires { array_vec_len text.old ≤ 896 }
+    requires { array_vec_len text.old ≤ FULL }
     ensures { text.new.items ≡ text.old.items ++ (decimal index ++ codes " " ++ event_text (label_of event) ++ codes "\n") }
 {
     put_number(text, b"", index);

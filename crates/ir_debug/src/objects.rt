@@ -3,6 +3,7 @@
 ghost use Rattle.std.specs.Prelude.{◌≡◌, ◌≢◌, ◌≤◌, ◌<◌, ◌+◌, ◌++◌, OnOk, OnErr, length, slice_index, slice_index_or, flat_map, codes, decimal, true, false, Some};
 ghost use Rattle.std.specs.Io.KnownBytes.{Appends};
 ghost use Rattle.arrayvec.specs.ArrayVec.{array_vec_len};
+ghost use Rattle.ir_image.specs.Guest.{most_threads, object_words};
 ghost use Rattle.ir_thread.specs.Held.{held_at};
 ghost use Rattle.ir_flat.specs.Flat.{idle, object_with};
 ghost use Rattle.ir_stream.specs.Devices.{AppendsPrefix};
@@ -11,18 +12,17 @@ ghost use Rattle.ir_debug.specs.Machine.Texts.{joined, inside_for, words_text, o
 
 use crate::text::{Text, put_number, put_word};
 use arrayvec::ArrayVec;
+use ir_image::{MOST_THREADS, OBJECT_WORDS};
 use ir_object::Object;
 use ir_runs::Access;
 use ir_stream::{DeviceErr, Sink, append, write_all};
 use ir_thread::Thread;
 
-// The most threads of a guest.
-const MOST_THREADS: usize = 8;
-
-const WORDS: u8 = 8;
+// The most numbers of threads.
+const MOST_NUMBERS: usize = MOST_THREADS as usize;
 
 // The numbers of threads, rising.
-type Numbers = ArrayVec<u8, MOST_THREADS>;
+type Numbers = ArrayVec<u8, MOST_NUMBERS>;
 
 // What a thread is inside an object for, if it is inside.
 fn held_by(threads: &[Thread], object: usize, thread: usize) -> Option<Access>
@@ -48,9 +48,9 @@ fn is_inside(held: Option<Access>, access: Access) -> bool
 
 // The threads that are inside an object so.
 fn inside_for(threads: &[Thread], object: usize, access: Access) -> Numbers
-    requires { length threads.now ≤ 8 }
+    requires { length threads.now ≤ most_threads }
     ensures value { result.items ≡ inside_for access (held_by threads.now object) (length threads.now) }
-    ensures few { array_vec_len result ≤ 8 }
+    ensures few { array_vec_len result ≤ most_threads }
 {
     let mut inside = Numbers::new();
     for thread in 0..threads.len() {
@@ -63,7 +63,7 @@ fn inside_for(threads: &[Thread], object: usize, access: Access) -> Numbers
 
 // Puts numbers at the end, a comma before each.
 fn put_others(text: &mut Text, numbers: &[u8])
-    requires few { length numbers.now ≤ 8 }
+    requires few { length numbers.now ≤ most_threads }
     requires room { array_vec_len text.old ≤ 560 }
     ensures text { text.new.items ≡ text.old.items ++ flat_map (λ m. codes "," ++ decimal m) numbers.now }
     ensures len { array_vec_len text.new ≤ array_vec_len text.old + 168 }
@@ -75,7 +75,7 @@ fn put_others(text: &mut Text, numbers: &[u8])
 
 // Puts numbers at the end, joined by commas, or `-` for none.
 fn put_joined(text: &mut Text, numbers: &[u8])
-    requires few { length numbers.now ≤ 8 }
+    requires few { length numbers.now ≤ most_threads }
     requires room { array_vec_len text.old ≤ 512 }
     ensures text { text.new.items ≡ text.old.items ++ joined numbers.now }
     ensures len { array_vec_len text.new ≤ array_vec_len text.old + 188 }
@@ -91,10 +91,10 @@ fn put_joined(text: &mut Text, numbers: &[u8])
 
 fn put_words(text: &mut Text, object: &Object)
     requires { array_vec_len text.old ≤ 900 }
-    ensures text { text.new.items ≡ text.old.items ++ words_text (slice_index object.now.words) 8 }
+    ensures text { text.new.items ≡ text.old.items ++ words_text (slice_index object.now.words) object_words }
     ensures len { array_vec_len text.new ≤ array_vec_len text.old + 72 }
 {
-    for index in 0..WORDS {
+    for index in 0..OBJECT_WORDS as u8 {
         append(text, b" ");
         put_word(text, object.get(index));
     }
@@ -103,7 +103,7 @@ fn put_words(text: &mut Text, object: &Object)
 // Puts the first line into an empty text: how often the object was written and read, and who is inside.
 fn put_state(text: &mut Text, threads: &[Thread], number: usize, object: &Object)
     requires empty { array_vec_len text.old ≡ 0 }
-    requires few { length threads.now ≤ 8 }
+    requires few { length threads.now ≤ most_threads }
     ensures text { text.new.items ≡ text.old.items ++ state_line (length threads.now) (object_with object.now (held_by threads.now number)) }
     ensures len { array_vec_len text.new ≤ 500 }
 {
@@ -130,7 +130,7 @@ pub fn write_object<W: Sink>(
     object: &Object,
     writer: &mut W,
 ) -> Result<(), DeviceErr>
-    requires { length threads.now ≤ 8 }
+    requires { length threads.now ≤ most_threads }
     ensures ok { OnOk result (Appends (W.written writer.old) (W.written writer.new) (object_text (length threads.now) (object_with object.now (held_by threads.now number)))) }
     ensures stays { OnOk result (W.broken writer.new ≡ W.broken writer.old) }
     ensures prefix { OnErr result (AppendsPrefix (W.written writer.old) (W.written writer.new) (object_text (length threads.now) (object_with object.now (held_by threads.now number)))) }

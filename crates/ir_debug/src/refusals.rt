@@ -6,13 +6,7 @@ ghost use Rattle.ir_debug.specs.Machine.Refusals.{thread_moved, thread_shown, th
 use crate::debugger::Debugger;
 use crate::destinations::thread_count;
 use ir_command::{Command, Move, Refusal, Show};
-use ir_image::{CODE_START, Image, MEMORY_START};
-
-// How many bytes private memory has.
-const MEMORY_SIZE: u64 = 0x1_0000;
-
-// How many words an object has.
-const OBJECT_WORDS: usize = 8;
+use ir_image::{CODE_START, Image, MEMORY_SIZE, MEMORY_START, OBJECT_WORDS};
 
 /// The thread that a move names.
 pub fn thread_moved(to: Move) -> Option<u32>
@@ -72,7 +66,7 @@ fn has_address(image: &Image, command: &Command) -> bool
     let code_start = CODE_START as u64;
     let memory_start = MEMORY_START as u64;
     (code_start <= start && end <= code_start + 4 * image.code().words().len() as u64)
-        || (memory_start <= start && end <= memory_start + MEMORY_SIZE)
+        || (memory_start <= start && end <= memory_start + MEMORY_SIZE as u64)
 }
 
 impl Debugger {

@@ -12,7 +12,6 @@ ghost use Rattle.ir_debug.specs.Debugging.{IsAnswer};
 use crate::answer::Answer;
 use crate::answering::write_answer;
 use crate::debugger::Debugger;
-
 use arrayvec::ArrayVec;
 use ir_command::{Command, Refusal, parse_line};
 use ir_object::Gate;

@@ -21,7 +21,7 @@ pub type Text = ArrayVec<u8, ROOM>;
 const REGISTERS: u8 = 32;
 
 pub fn put_word(text: &mut Text, word: u32)
-    requires { array_vec_len text.old + 8 ≤ 1024 }
+    requires { array_vec_len text.old + 8 ≤ ROOM }
     ensures text { text.new.items ≡ text.old.items ++ hex_word word }
     ensures len { array_vec_len text.new ≡ array_vec_len text.old + 8 }
 {
@@ -32,7 +32,7 @@ pub fn put_word(text: &mut Text, word: u32)
 
 /// Puts words and a number at the end.
 pub fn put_number(text: &mut Text, words: &[u8], number: u64)
-    requires { array_vec_len text.old + length words.now + 20 ≤ 1024 }
+    requires { array_vec_len text.old + length words.now + 20 ≤ ROOM }
     ensures text { text.new.items ≡ text.old.items ++ (words.now ++ decimal number) }
     ensures len { array_vec_len text.new ≤ array_vec_len text.old + length words.now + 20 }
 {

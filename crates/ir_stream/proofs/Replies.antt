@@ -8,6 +8,15 @@ use Rattle.ir_stream.specs.Lines.{most_kept, last_line}
 use Rattle.ir_stream.specs.Devices.{AppendsPrefix}
 use Rattle.ir_stream.specs.Answers.{Replying, Answered, Wrote, WrotePrefix, Replied, RepliedPrefix, through, some_quits}
 
+-- a prefix of a text is one of a longer text
+pub prefix_longer : (a b : Option (List ℕ)) (text more : List ℕ) → AppendsPrefix a b text → AppendsPrefix a b (text ++ more)
+prefix_longer a b text more f = record {
+  part = f.part;
+  more = f.more ++ more;
+  splits = ap (λ (t : List ℕ). t ++ more) f.splits ∙ append_assoc f.part f.more more;
+  grown = f.grown;
+}
+
 -- a prefix of the next text is one of all that was written
 pub prefix_after : (a b c : Option (List ℕ)) (done text : List ℕ) → Appends a b done → AppendsPrefix b c text
     → AppendsPrefix a c (done ++ text)
