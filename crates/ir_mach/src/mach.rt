@@ -15,6 +15,10 @@ use ir_image::{Code, Image, MEMORY_SIZE, MEMORY_START};
 use std::alloc::{AllocError, Global};
 use std::marker::Model;
 
+mod pages;
+
+pub use pages::{MEMORY_PAGES, PAGE_SIZE};
+
 // The address just above private memory.
 const STACK_TOP: u32 = MEMORY_START + MEMORY_SIZE;
 

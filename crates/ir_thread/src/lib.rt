@@ -4,6 +4,7 @@
 mod ask;
 mod call;
 mod end;
+mod frame;
 mod holding;
 mod laws;
 mod limits;
@@ -14,6 +15,7 @@ mod thread;
 pub use ask::{Ask, Reply};
 pub use call::Call;
 pub use end::End;
-pub use laws::{closes, ends_by_the_first, runs_alone};
+pub use frame::Frame;
+pub use laws::{built_again, closes, ends_by_the_first, runs_alone};
 pub use limits::{MOST_BUDGET, MOST_EVENTS, MOST_OUTPUT};
 pub use thread::Thread;

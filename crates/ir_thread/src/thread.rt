@@ -15,6 +15,7 @@ use std::alloc::{AllocError, Global};
 use std::marker::Model;
 
 mod asking;
+mod framing;
 mod running;
 mod taking;
 
