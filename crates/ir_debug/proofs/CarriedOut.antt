@@ -75,7 +75,8 @@ pub next_shown : (d : Desk) (s : Standing) (t : ℕ) (x : thread.State) (line : 
     → x ≡ slice_index_or s.threads t idle → line ≡ next_text d.fitted.guest.code x
     → EachRun d.fitted (λ run. line ≡ shown run d (Next t))
 unfolding shown
-next_shown d s t x line there is text run whole = text ∙ ap (λ z. next_text d.fitted.guest.code z) (is ∙ (there.at.each run whole).threads t)
+next_shown d s t x line there is text run whole =
+    text ∙ ap (λ z. next_text d.fitted.guest.code z) (is ∙ (there.at.each run whole).threads t)
 
 pub next_told : (d : Desk) (e : Debugging) (threads : List thread.State) (code : List ℕ) (t : ℕ) (x : thread.State) (line : List ℕ)
     → e.desk ≡ spoken d → IsThere e → threads ≡ e.state.threads → code ≡ e.desk.fitted.guest.code → t < threads_of d.fitted

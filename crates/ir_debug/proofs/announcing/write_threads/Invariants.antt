@@ -7,6 +7,7 @@ use Rattle.ir_debug.proofs.announcing.write_threads.Given as goal
 abbrev pub invariant-loop-t : goal.invariant-loop-t
 invariant-loop-t g l = record {
   text :
-      Buffered (g.W.Sink.written l.fn.writer) (g.W.Sink.written l.writer) (threads_text l.t (drop l.t l.verdicts)) (threads_text 0 l.verdicts);
+      Buffered (g.W.Sink.written l.fn.writer) (g.W.Sink.written l.writer) (threads_text l.t (drop l.t l.verdicts))
+      (threads_text 0 l.verdicts);
   broken : g.W.Sink.broken l.writer ≡ g.W.Sink.broken l.fn.writer;
 }

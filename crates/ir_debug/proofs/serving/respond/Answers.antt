@@ -6,8 +6,9 @@ returns-in_default-clause-ok g c = replied_none c.parse_line-asked.result c.args
     (g.W.Sink.written c.args.writer.now) c.parse_line-asked.ensures c.in_default.ensures.none.0 c.in_default.ensures.none.1
 
 pub returns-in-Ok-clause-ok : goal.returns-in-Ok-clause-ok
-returns-in-Ok-clause-ok g c = replied c.parse_line-asked.result c.args.line.now c.args.debugger.now c.carry_out.new.debugger c.in-Some.answer
-    (g.W.Sink.written c.args.writer.now) (g.W.Sink.written c.write_answer.new.writer) c.parse_line-asked.ensures c.in-Some.ensures.some
+returns-in-Ok-clause-ok g c = replied c.parse_line-asked.result c.args.line.now c.args.debugger.now c.carry_out.new.debugger
+    c.in-Some.answer (g.W.Sink.written c.args.writer.now) (g.W.Sink.written c.write_answer.new.writer) c.parse_line-asked.ensures
+    c.in-Some.ensures.some
     c.in-Ok.ensures.ok
 
 pub returns-clause-prefix : goal.returns-clause-prefix

@@ -71,8 +71,8 @@ returns-in-End-clause-write g c = λ failed. (
       c.loop-taken.debugger.desk c.as_slice.result.now c.loop-taken.taken
       (at_other Replies quits c.args.debugger.now.desk (g.R.Source.left c.args.reader.now)
       (g.W.Sink.written c.args.writer.now) (g.R.Source.left c.loop-taken.reader) (g.W.Sink.written c.loop-taken.writer)
-      c.loop-taken.debugger.desk c.loop-taken.line.items c.as_slice.result.now c.loop-taken.taken c.loop-taken.taken c.loop-taken.invariant.at
-      c.as_slice.ensures.value refl)
+      c.loop-taken.debugger.desk c.loop-taken.line.items c.as_slice.result.now c.loop-taken.taken c.loop-taken.taken
+      c.loop-taken.invariant.at c.as_slice.ensures.value refl)
       c.args.limit c.loop-taken-test.true c.in-End.ensures.bytes.0 c.finish.result (g.W.Sink.written c.finish.new.writer)
       c.in-End.ensures.bytes.1 failed c.finish.ensures.prefix,
 )

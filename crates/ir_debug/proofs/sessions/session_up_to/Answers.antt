@@ -25,7 +25,8 @@ pub returns-in-Ready-clause-known : goal.returns-in-Ready-clause-known
 returns-in-Ready-clause-known g c =
     served_known c.args.image.now c.args.trace.now c.in-Ready.debugger.desk c.args.limit c.ended.result c.serve.result
     (g.R.Source.left c.args.reader.now) (g.W.Sink.written c.args.writer.now) (g.W.Sink.written c.announce.new.writer)
-    (g.W.Sink.written c.serve.new.writer) c.ended.ensures (opens_ready c.args.image.now c.args.trace.now c.in-Ok.opened c.in-Ready.debugger c.in-Ready.is c.in-Ok.ensures)
+    (g.W.Sink.written c.serve.new.writer) c.ended.ensures
+    (opens_ready c.args.image.now c.args.trace.now c.in-Ok.opened c.in-Ready.debugger c.in-Ready.is c.in-Ok.ensures)
     (begun_ready c.in-Ok.opened c.in-Ready.debugger _ _ c.in-Ready.is c.in-Ok-announce.ensures.ok) c.serve.ensures.known
 
 pub returns-in-Ready-clause-read : goal.returns-in-Ready-clause-read
@@ -38,7 +39,8 @@ returns-in-Ready-clause-read g c = λ e.
         opens = opens_ready c.args.image.now c.args.trace.now c.in-Ok.opened c.in-Ready.debugger c.in-Ready.is c.in-Ok.ensures;
         goes = p.0;
         wrote = writes c.in-Ready.debugger.desk (cut consumed).whole (g.W.Sink.written c.args.writer.now)
-            (g.W.Sink.written c.announce.new.writer) (g.W.Sink.written c.serve.new.writer) (begun_ready c.in-Ok.opened c.in-Ready.debugger _ _ c.in-Ready.is c.in-Ok-announce.ensures.ok) p.1;
+            (g.W.Sink.written c.announce.new.writer) (g.W.Sink.written c.serve.new.writer)
+            (begun_ready c.in-Ok.opened c.in-Ready.debugger _ _ c.in-Ready.is c.in-Ok-announce.ensures.ok) p.1;
       }) r.2,
     )
 
@@ -53,6 +55,7 @@ returns-in-Ready-clause-write g c = λ e.
         goes = p.0;
         ended = p.1;
         wrote = writes_prefix c.in-Ready.debugger.desk (lines_of consumed) (g.W.Sink.written c.args.writer.now)
-            (g.W.Sink.written c.announce.new.writer) (g.W.Sink.written c.serve.new.writer) (begun_ready c.in-Ok.opened c.in-Ready.debugger _ _ c.in-Ready.is c.in-Ok-announce.ensures.ok) p.2;
+            (g.W.Sink.written c.announce.new.writer) (g.W.Sink.written c.serve.new.writer)
+            (begun_ready c.in-Ok.opened c.in-Ready.debugger _ _ c.in-Ready.is c.in-Ok-announce.ensures.ok) p.2;
       }) r.2,
     )
