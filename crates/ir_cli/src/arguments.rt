@@ -11,8 +11,7 @@ use std::{env, io};
 
 const ABOUT: &str = "A proved record and replay debugger for guests of RV32IM threads";
 
-const AFTER: &str =
-    "A session of a source of your own:
+const AFTER: &str = "A session of a source of your own:
   ir asm guest.s guest.img
   ir record guest.img guest.trc
   ir debug guest.img guest.trc

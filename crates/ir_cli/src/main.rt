@@ -75,13 +75,7 @@ fn serve<R: Threads + Clock + Sync>(rt: &HostRuntime, threads: &R) -> u8 {
     let mut reader = FromStd::new(input);
     let mut writer = FromStd::new(io::writer(rt));
     let mut faults = FromStd::new(rt.stderr());
-    bundle(
-        threads,
-        rt.alloc(),
-        &mut reader,
-        &mut writer,
-        &mut faults,
-    )
+    bundle(threads, rt.alloc(), &mut reader, &mut writer, &mut faults)
 }
 
 // The bytes of a file; else it is told why there are none.
