@@ -254,7 +254,7 @@ def sessions():
         base, _ = session_of(source + "seldom", made + "seldom", b"quit\n")
         print(f"a session on {8 * steps} steps of eight threads opens in {base * 1e3:.1f} ms, the start of the program included")
         print(f"{'lines':28}{'count':>10}{'a second':>12}{'MB/s':>8}")
-        for line, before, count in ((b"end", b"", 1), (b"step 0 1", b"", 100000), (b"goto 0 0", b"end\n", 1), (b"back 0 1", b"end\n", 20),
+        for line, before, count in ((b"end", b"", 1), (b"step 0 1", b"", 100000), (b"back 0 1", b"end\n", 20),
                 (b"pos", b"", 100000), (b"regs 0", b"", 100000), (b"obj 0", b"", 100000), (b"next 0", b"", 100000)):
             took, size = session_of(source + "seldom", made + "seldom", before + (line + b"\n") * count)
             start = session_of(source + "seldom", made + "seldom", before)[0] if before else base
