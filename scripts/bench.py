@@ -233,6 +233,37 @@ def by_threads():
             print(f"{name:52}{steps:>12}{a:>10.0f}{b:>10.0f}{b / a:>8.2f}{c:>10.0f}{d:>10.0f}{d / c:>8.2f}")
 
 
+def session_of(source, made, lines):
+    """The seconds of a session over these lines and the bytes of its answers, the best of five."""
+    said = []
+    seconds = best_of_five([IR, "debug", source, made], lines, lambda out: said.append(len(out)) or out.startswith(b"ready\n"))
+    return seconds, said[-1]
+
+
+def sessions():
+    """Answers a second of sessions on a recording of eight threads at one object, an entry each 999 steps, and of a long log."""
+    seldom, steps = entering(496, 1)
+    often, _ = entering(1, 4)
+    with tempfile.TemporaryDirectory() as folder:
+        source, made = os.path.join(folder, "image"), os.path.join(folder, "trace")
+        for name, code in (("seldom", seldom), ("often", often)):
+            for path, data in ((source, image(code, 8, 1)),):
+                with open(path + name, "wb") as f:
+                    f.write(data)
+            best_of_five([IR, "record", source + name, made + name, "--budget", "1000000000"], b"", lambda out: out.count(b" end 1 ") == 8)
+        base, _ = session_of(source + "seldom", made + "seldom", b"quit\n")
+        print(f"a session on {8 * steps} steps of eight threads opens in {base * 1e3:.1f} ms, the start of the program included")
+        print(f"{'lines':28}{'count':>10}{'a second':>12}{'MB/s':>8}")
+        for line, before, count in ((b"end", b"", 1), (b"step 0 1", b"", 100000), (b"back 0 1", b"end\n", 20),
+                (b"pos", b"", 100000), (b"regs 0", b"", 100000), (b"obj 0", b"", 100000), (b"next 0", b"", 100000)):
+            took, size = session_of(source + "seldom", made + "seldom", before + (line + b"\n") * count)
+            start = session_of(source + "seldom", made + "seldom", before)[0] if before else base
+            print(f"{line.decode():28}{count:>10}{count / (took - start):>12.0f}{size / (took - start) / 1e6:>8.1f}")
+        start, _ = session_of(source + "often", made + "often", b"end\n")
+        took, size = session_of(source + "often", made + "often", b"end\n" + b"log 0\n" * 100)
+        print(f"{'log 0, after end':28}{100:>10}{100 / (took - start):>12.0f}{size / (took - start) / 1e6:>8.1f}")
+
+
 def coherence():
     """Eight logs of 1,048,576 write entries each, their versions by turns."""
     count = 1 << 20
@@ -257,6 +288,6 @@ def assembling():
             print(f"{count:<24}{count // 4:>12}{took:>10.3f}{count / took:>12.0f}")
 
 
-PARTS = {part.__name__: part for part in (speeds, traces, by_threads, coherence, assembling)}
+PARTS = {part.__name__: part for part in (speeds, traces, by_threads, sessions, coherence, assembling)}
 for part in sys.argv[3:] or PARTS:
     PARTS[part]()

@@ -21,7 +21,7 @@ use Rattle.ir_asm.specs.declared.refusal.Refusal.TheVariants.{Faulty, NoMem}
 use Rattle.ir_asm.specs.Faults.{◌>>=◌, Makes}
 use Rattle.ir_asm.specs.Answered.{Answers, refused}
 use Rattle.ir_asm.specs.Source.{Seen, Fault, same_section, at_line}
-use Rattle.ir_asm.specs.Passes.{put, distance_to, value_of, text_address, with_code, with_object, eight_words, second_pass}
+use Rattle.ir_asm.specs.Passes.{put, distance_to, value_of, text_address, with_code, with_object, first_words, second_pass}
 use Rattle.ir_asm.specs.Bounds.{HasFewWords}
 use Rattle.ir_asm.proofs.Steps.{ok_is, bind_ok, tested, or_ok}
 
@@ -86,8 +86,8 @@ object_length g object words few there =
     let back : List ℕ = drop (object_words * object + object_words) g.words in
     omega (
       arith,
-      length-append prefix (eight_words words ++ back),
-      length-append (eight_words words) back,
+      length-append prefix (first_words words ++ back),
+      length-append (first_words words) back,
       length-append words (replicate (object_words - length words) 0),
       length-replicate {A = ℕ} (object_words - length words) 0,
       length-take-le (object_words * object) g.words (omega (arith, there)),

@@ -1,8 +1,9 @@
 -- What a label's value is, by what each line does to the sizes.
-use Rattle.std.proofs.Common.{◌≡◌, ◌+◌, ◌++◌, ℕ, Bool, true, false, cond, not, List, [], ◌∷◌, length, refl, sym, ap, subst, ◌∙◌, arith, Option, Some, None, Ok, is_some, ◌||◌}
+use Rattle.std.proofs.Common.{◌≡◌, ◌+◌, ◌*◌, ◌++◌, ℕ, Bool, true, false, cond, not, List, [], ◌∷◌, length, refl, sym, ap, subst, ◌∙◌, arith, Option, Some, None, Ok, is_some, ◌||◌}
 use Rattle.std.specs.Prelude.{nat_lt, nat_le, bytes_eq, if◌then◌else◌}
 use Rattle.std.specs.List.{list_any, list_all}
 use Rattle.std.proofs.lemmas.Slice.Eq.{bytes_eq-Decides}
+use Rattle.ir_image.specs.Guest.{memory_size, most_threads, most_code_words}
 use Rattle.ir_asm.specs.declared.cause.Cause.TheVariants.{BadByte, BadCount, BadLabel, BadSize, LabelTwice}
 use Rattle.ir_asm.specs.declared.form.Section.{Section}
 use Rattle.ir_asm.specs.declared.form.Section.TheVariants.{Text, Data}
@@ -29,7 +30,7 @@ entered_is : (section : Section) (line a : ℕ) (item : Item) (u t : Seen) → e
 entered_is Data line a (Code words) u t e = subst (Enters (Code words) u) (ok_is _ t e)
     (record { section = refl; code = refl; filled = refl; labels = refl })
 entered_is section line a (Entry label) u t e =
-    let x = tested (nat_lt u.threads 8) BadCount _ t e in
+    let x = tested (nat_lt u.threads most_threads) BadCount _ t e in
     subst (Enters (Entry label) u) x.1 (record { section = refl; code = refl; filled = refl; labels = refl })
 entered_is section line a item u t e = subst (Enters item u) (ok_is _ t e)
     (record { section = refl; code = refl; filled = refl; labels = refl })
@@ -51,9 +52,9 @@ data_sizes s n Text = omega arith
 data_sizes s n Data = refl
 
 grown_is : (section : Section) (n : ℕ) (s u : Seen) → grown section n s ≡ Ok u → Grows section n s u
-grown_is Text n s u e = subst (Grows Text n s) (tested (nat_le (s.code + n) 65536) BadSize _ u e).1
+grown_is Text n s u e = subst (Grows Text n s) (tested (nat_le (s.code + n) (4 * most_code_words)) BadSize _ u e).1
     (record { stays = refl; labels = refl; sizes = text_sizes s n })
-grown_is Data n s u e = subst (Grows Data n s) (tested (nat_le (s.filled + n) 65536) BadSize _ u e).1
+grown_is Data n s u e = subst (Grows Data n s) (tested (nat_le (s.filled + n) memory_size) BadSize _ u e).1
     (record { stays = refl; labels = refl; sizes = data_sizes s n })
 
 same_size : (w : Section) (u t : Seen) → t.code ≡ u.code → t.filled ≡ u.filled → size_in w t ≡ size_in w u

@@ -1,7 +1,8 @@
 -- What is placed stands in the order of its lines.
-use Rattle.std.proofs.Common.{◌≡◌, ◌+◌, ◌≤◌, ◌<◌, ℕ, List, [], ◌∷◌, ◌++◌, Ok, not, is_some, refl, ap, subst, arith}
+use Rattle.std.proofs.Common.{◌≡◌, ◌+◌, ◌*◌, ◌≤◌, ◌<◌, ℕ, List, [], ◌∷◌, ◌++◌, Ok, not, is_some, refl, ap, subst, arith}
 use Rattle.std.specs.Prelude.{nat_le, nat_lt}
 use Rattle.std.specs.List.{AllByRecursion, list_all}
+use Rattle.ir_image.specs.Guest.{memory_size, most_threads, most_code_words}
 use Rattle.ir_asm.specs.declared.cause.Cause.TheVariants.{LabelTwice, BadByte, BadLabel, BadSize, BadCount}
 use Rattle.ir_asm.specs.declared.form.Section.{Section}
 use Rattle.ir_asm.specs.declared.form.Section.TheVariants.{Text, Data}
@@ -43,7 +44,7 @@ by_item : (line a : ℕ) (item : Item) (s t : Seen) → 1 ≤ line → IsBefore 
 by_item line a (Within section) s t l o e = subst (λ u. IsBefore (line + 1) u.placed) (ok_is _ t e) (passed line s.placed o)
 by_item line a (Count objects) s t l o e = subst (λ u. IsBefore (line + 1) u.placed) (ok_is _ t e) (passed line s.placed o)
 by_item line a Nothing s t l o e = subst (λ u. IsBefore (line + 1) u.placed) (ok_is _ t e) (passed line s.placed o)
-by_item line a (Entry label) s t l o e = subst (λ u. IsBefore (line + 1) u.placed) (tested (nat_lt s.threads 8) BadCount _ t e).1
+by_item line a (Entry label) s t l o e = subst (λ u. IsBefore (line + 1) u.placed) (tested (nat_lt s.threads most_threads) BadCount _ t e).1
     (one_more line a (Entry label) s l o)
 by_item line a (Code words) s t l o e = subst (λ u. IsBefore (line + 1) u.placed) (ok_is _ t e) (one_more line a (Code words) s l o)
 by_item line a (BranchTo op rs1 rs2 label) s t l o e =
@@ -57,8 +58,8 @@ by_item line a (First object words) s t l o e =
     subst (λ u. IsBefore (line + 1) u.placed) (ok_is _ t e) (one_more line a (First object words) s l o)
 
 grown_places : (section : Section) (n : ℕ) (s t : Seen) → grown section n s ≡ Ok t → s.placed ≡ t.placed
-grown_places Text n s t e = ap (λ (u : Seen). u.placed) (tested (nat_le (s.code + n) 65536) BadSize _ t e).1
-grown_places Data n s t e = ap (λ (u : Seen). u.placed) (tested (nat_le (s.filled + n) 65536) BadSize _ t e).1
+grown_places Text n s t e = ap (λ (u : Seen). u.placed) (tested (nat_le (s.code + n) (4 * most_code_words)) BadSize _ t e).1
+grown_places Data n s t e = ap (λ (u : Seen). u.placed) (tested (nat_le (s.filled + n) memory_size) BadSize _ t e).1
 
 by_statement : (line : ℕ) (statement : List ℕ) (s t : Seen) → 1 ≤ line → IsBefore line s.placed → with_statement line statement s ≡ Ok t
     → IsBefore (line + 1) t.placed

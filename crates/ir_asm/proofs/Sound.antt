@@ -6,7 +6,7 @@ use Rattle.std.proofs.lemmas.Bool.{ltb-true, leb-true, eqb-false}
 use Rattle.std.proofs.lemmas.List.{length-append, length-replicate}
 use Rattle.std.proofs.lemmas.List.Sums.{sum_by-append}
 use Rattle.byteorder.specs.Endian.{little_bytes}
-use Rattle.ir_image.specs.Guest.{Guest, IsGuest, IsPlace, IsWord, IsByte, code_start, object_words}
+use Rattle.ir_image.specs.Guest.{Guest, IsGuest, IsPlace, IsWord, IsByte, code_start, memory_size, most_threads, most_objects, most_code_words, object_words}
 use Rattle.ir_asm.specs.declared.cause.Cause.TheVariants.{UnknownStatement, WrongSection, WrongOperands, BadNumber, BadSize, BadCount, BadByte, BadLabel, LabelTwice}
 use Rattle.ir_asm.specs.declared.form.Section.{Section}
 use Rattle.ir_asm.specs.declared.form.Section.TheVariants.{Text, Data}
@@ -44,7 +44,7 @@ MayStand Text (Filled bytes) = ⊥
 MayStand Data (BranchTo op rs1 rs2 label) = ⊥
 MayStand Data (JumpTo rd label) = ⊥
 MayStand Data (LoadAddress rd label) = ⊥
-MayStand section (Count n) = n ≤ 16
+MayStand section (Count n) = n ≤ most_objects
 MayStand section (First object words) = length words ≤ object_words
 MayStand section item = Unit {0}
 
@@ -72,12 +72,12 @@ and_right : (a b : Bool) → (a && b) ≡ true → b ≡ true
 and_right true b e = e
 and_right false b e = absurd (true≢false (sym e))
 
--- the first words of an object are at most eight
+-- an object has no more first words than words
 few_first : (texts : List (List ℕ)) (z : ℤ) (xs : List Operand) → operands_of Object texts ≡ Ok (Integer z ∷ xs)
     → length (values 32 xs) ≤ object_words
 few_first texts z xs e =
     let u = unless_ok (takes Object (length texts) && are_formed Object 0 texts) WrongOperands (read_all Object 0 texts) _ e in
-    let most : length texts ≤ 9 = leb-true (length texts) 9
+    let most : length texts ≤ 1 + object_words = leb-true (length texts) (1 + object_words)
     (and_right (nat_le 2 (length texts)) _ (and_left (takes Object (length texts)) _ u.0)) in
     let count : suc (length xs) ≡ length texts = read_length Object 0 texts (Integer z ∷ xs) u.1 in
     omega (arith, most, count, values_length 32 xs)
@@ -99,17 +99,17 @@ first_number [] = pos 0
 first_number (Integer z ∷ xs) = z
 first_number (x ∷ xs) = pos 0
 
--- a number of objects is at most sixteen
-few_objects : (texts : List (List ℕ)) (z : ℤ) → operands_of Objects texts ≡ Ok (Integer z ∷ []) → low_bits 32 z ≤ 16
+-- a number of objects is within its limit
+few_objects : (texts : List (List ℕ)) (z : ℤ) → operands_of Objects texts ≡ Ok (Integer z ∷ []) → low_bits 32 z ≤ most_objects
 few_objects [] z e = absurd (cc e)
 few_objects (t ∷ texts) z e =
     let u = unless_ok (takes Objects (length (t ∷ texts)) && are_formed Objects 0 (t ∷ texts)) WrongOperands
     (read_all Objects 0 (t ∷ texts)) _ e in
-    let b = bind_ok (read (Number (pos 0) (pos 16)) t) _ _ u.1 in
+    let b = bind_ok (read (Number (pos 0) (pos most_objects)) t) _ _ u.1 in
     let d = bind_ok (read_all Objects 1 texts) _ _ b.2 in
-    let n = bind_ok (number_in (pos 0) (pos 16) t) _ _ b.1 in
+    let n = bind_ok (number_in (pos 0) (pos most_objects) t) _ _ b.1 in
     let same : n.0 ≡ z = ap (λ x. first_number (x ∷ d.0)) (ok_is _ _ n.2) ∙ ap first_number (ok_is _ _ d.2) in
-    subst (λ y. low_bits 32 y ≤ 16) same (number_within 16 t n.0 n.1 (omega arith))
+    subst (λ y. low_bits 32 y ≤ most_objects) same (number_within most_objects t n.0 n.1 (omega arith))
 
 form_stands : (section : Section) (form : Form) (texts : List (List ℕ)) (xs : List Operand) → may_stand (stands_in form) section ≡ true
     → operands_of form texts ≡ Ok xs → MayStand section (item_of form xs)
@@ -194,10 +194,10 @@ pub record IsSound (s : Seen) : Type 0 where
   pub bytes : total data_size s.placed ≡ s.filled
   pub entries : total entry_count s.placed ≡ s.threads
   pub aligned : s.code % 4 ≡ 0
-  pub short_code : s.code ≤ 65536
-  pub short_data : s.filled ≤ 65536
-  pub few_threads : s.threads ≤ 8
-  pub few_objects : s.objects ≤ 16
+  pub short_code : s.code ≤ 4 * most_code_words
+  pub short_data : s.filled ≤ memory_size
+  pub few_threads : s.threads ≤ most_threads
+  pub few_objects : s.objects ≤ most_objects
   pub labels : LabelsFit s.labels
   pub few : HaveFewWords s.placed
 
@@ -221,7 +221,8 @@ total_push size placed x = sum_by-append (λ y. size y.item) placed (x ∷ []) �
 
 -- one item more
 item_sound : (s : Seen) (line a c d n : ℕ) (item : Item) → IsSound s → HasFewWords item → code_size item % 4 ≡ 0
-    → c ≡ s.code + code_size item → d ≡ s.filled + data_size item → n ≡ s.threads + entry_count item → c ≤ 65536 → d ≤ 65536 → n ≤ 8
+    → c ≡ s.code + code_size item → d ≡ s.filled + data_size item → n ≡ s.threads + entry_count item → c ≤ 4 * most_code_words
+    → d ≤ memory_size → n ≤ most_threads
     → IsSound (placed_at line a item (record s { code = c; filled = d; threads = n }))
 item_sound s line a c d n item h few whole is_code is_data is_entry short_code short_data few_threads =
     let x : Placed = record { line = line; address = a; item = item } in
@@ -239,7 +240,7 @@ item_sound s line a c d n item h few whole is_code is_data is_entry short_code s
     }
 
 -- nothing more
-other_sound : (s : Seen) (section : Section) (c d o : ℕ) → IsSound s → c ≡ s.code → d ≡ s.filled → o ≤ 16
+other_sound : (s : Seen) (section : Section) (c d o : ℕ) → IsSound s → c ≡ s.code → d ≡ s.filled → o ≤ most_objects
     → IsSound (record s { section = section; code = c; filled = d; objects = o })
 other_sound s section c d o h is_code is_data few = record {
   code = h.code ∙ sym is_code;
@@ -255,7 +256,7 @@ other_sound s section c d o h is_code is_data few = record {
 }
 
 -- an item of text
-text_item : (s t : Seen) (line a : ℕ) (item : Item) → IsSound s → MayStand Text item → s.code + size_of item ≤ 65536
+text_item : (s t : Seen) (line a : ℕ) (item : Item) → IsSound s → MayStand Text item → s.code + size_of item ≤ 4 * most_code_words
     → entered line a (laid Text item) (record s { code = s.code + size_of item }) ≡ Ok t → IsSound t
 text_item s t line a (Code words) h m l e = subst IsSound (ok_is _ t e)
     (item_sound s line a (s.code + 4 * length words) s.filled s.threads (Code words) h tt (omega arith) refl (omega arith) (omega arith) l
@@ -273,8 +274,8 @@ text_item s t line a (Filled bytes) h m l e = absurd m
 text_item s t line a (Within section) h m l e =
     subst IsSound (ok_is _ t e) (other_sound s section (s.code + 0) s.filled s.objects h (omega arith) refl h.few_objects)
 text_item s t line a (Entry label) h m l e =
-    let u = tested (nat_lt s.threads 8) BadCount _ t e in
-    let below : s.threads < 8 = ltb-true s.threads 8 u.0 in
+    let u = tested (nat_lt s.threads most_threads) BadCount _ t e in
+    let below : s.threads < most_threads = ltb-true s.threads most_threads u.0 in
     subst IsSound u.1 (item_sound s line a (s.code + 0) s.filled (s.threads + 1) (Entry label) h tt refl refl (omega arith) refl l
     h.short_data (omega (arith, below)))
 text_item s t line a (Count n) h m l e = subst IsSound (ok_is _ t e)
@@ -290,7 +291,7 @@ spelled_length [] = refl
 spelled_length (w ∷ words) = omega (arith, length-append (little_bytes 4 w) (flat_map (little_bytes 4) words), spelled_length words)
 
 -- an item of data
-data_item : (s t : Seen) (line a : ℕ) (item : Item) → IsSound s → MayStand Data item → s.filled + size_of item ≤ 65536
+data_item : (s t : Seen) (line a : ℕ) (item : Item) → IsSound s → MayStand Data item → s.filled + size_of item ≤ memory_size
     → entered line a (laid Data item) (record s { filled = s.filled + size_of item }) ≡ Ok t → IsSound t
 data_item s t line a (Code words) h m l e = subst IsSound (ok_is _ t e)
     (item_sound s line a s.code (s.filled + 4 * length words) s.threads (Filled (flat_map (little_bytes 4) words)) h tt refl (omega arith)
@@ -304,8 +305,8 @@ data_item s t line a (Filled bytes) h m l e = subst IsSound (ok_is _ t e)
 data_item s t line a (Within section) h m l e =
     subst IsSound (ok_is _ t e) (other_sound s section s.code (s.filled + 0) s.objects h refl (omega arith) h.few_objects)
 data_item s t line a (Entry label) h m l e =
-    let u = tested (nat_lt s.threads 8) BadCount _ t e in
-    let below : s.threads < 8 = ltb-true s.threads 8 u.0 in
+    let u = tested (nat_lt s.threads most_threads) BadCount _ t e in
+    let below : s.threads < most_threads = ltb-true s.threads most_threads u.0 in
     subst IsSound u.1 (item_sound s line a s.code (s.filled + 0) (s.threads + 1) (Entry label) h tt refl (omega arith)
     refl refl h.short_code l (omega (arith, below)))
 data_item s t line a (Count n) h m l e = subst IsSound (ok_is _ t e)
@@ -321,12 +322,13 @@ section_item : (section : Section) (s t : Seen) (line a : ℕ) (item : Item) →
     → (grown section (size_of item) s >>= λ u. entered line a (laid section item) u) ≡ Ok t → IsSound t
 section_item Text s t line a item h m e =
     let b = bind_ok (grown Text (size_of item) s) _ t e in
-    let u = tested (nat_le (s.code + size_of item) 65536) BadSize _ b.0 b.1 in
-    text_item s t line a item h m (leb-true _ 65536 u.0) (subst (λ v. entered line a (laid Text item) v ≡ Ok t) (sym u.1) b.2)
+    let u = tested (nat_le (s.code + size_of item) (4 * most_code_words)) BadSize _ b.0 b.1 in
+    text_item s t line a item h m (leb-true _ (4 * most_code_words) u.0)
+    (subst (λ v. entered line a (laid Text item) v ≡ Ok t) (sym u.1) b.2)
 section_item Data s t line a item h m e =
     let b = bind_ok (grown Data (size_of item) s) _ t e in
-    let u = tested (nat_le (s.filled + size_of item) 65536) BadSize _ b.0 b.1 in
-    data_item s t line a item h m (leb-true _ 65536 u.0) (subst (λ v. entered line a (laid Data item) v ≡ Ok t) (sym u.1) b.2)
+    let u = tested (nat_le (s.filled + size_of item) memory_size) BadSize _ b.0 b.1 in
+    data_item s t line a item h m (leb-true _ memory_size u.0) (subst (λ v. entered line a (laid Data item) v ≡ Ok t) (sym u.1) b.2)
 
 -- a statement
 statement_sound : (line : ℕ) (statement : List ℕ) (s t : Seen) → IsSound s → with_statement line statement s ≡ Ok t → IsSound t

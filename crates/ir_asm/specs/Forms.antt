@@ -1,5 +1,6 @@
 -- The table of statements: their names, and how many operands of which kinds they take.
-use Rattle.std.specs.Prelude.{◌==◌, ◌&&◌, ◌||◌, ℕ, nat_le, Bool, List, [], ◌∷◌, ◌++◌, codes, map, Option, Some, None, if◌then◌else◌, pos, negsuc}
+use Rattle.std.specs.Prelude.{◌==◌, ◌&&◌, ◌||◌, ◌+◌, ℕ, nat_le, Bool, List, [], ◌∷◌, ◌++◌, codes, map, Option, Some, None, if◌then◌else◌, pos, negsuc}
+use Rattle.ir_image.specs.Guest.{memory_size, most_objects, object_words}
 use Rattle.ir_asm.specs.declared.form.Section.{Section}
 use Rattle.ir_asm.specs.declared.form.Section.TheVariants.{Text, Data}
 use Rattle.ir_asm.specs.declared.form.Form.{Form}
@@ -96,7 +97,7 @@ takes Bytes n = nat_le 1 n
 takes Space n = n == 1
 takes Thread n = n == 1
 takes Objects n = n == 1
-takes Object n = nat_le 2 n && nat_le n 9
+takes Object n = nat_le 2 n && nat_le n (1 + object_words)
 
 -- a number of 32 bits, with or without a sign
 abbrev pub word_number : Kind
@@ -122,8 +123,8 @@ kind_at Fences place = registers_then 2 (Number (pos 0) (pos 4095)) place
 kind_at LoadsValue place = registers_then 1 Value place
 kind_at Words place = word_number
 kind_at Bytes place = Number (pos 0) (pos 255)
-kind_at Space place = Number (pos 0) (pos 65536)
+kind_at Space place = Number (pos 0) (pos memory_size)
 kind_at Thread place = Label
-kind_at Objects place = Number (pos 0) (pos 16)
+kind_at Objects place = Number (pos 0) (pos most_objects)
 kind_at Object place = if place == 0 then Number (pos 0) (pos 4294967295) else word_number
 kind_at form place = Register

@@ -41,15 +41,15 @@ distance_to s low high address label = text_address s label >>= λ target. reach
 abbrev pub with_code : Guest → List ℕ → Guest
 with_code g words = record g { code = g.code ++ words }
 
--- eight words, of which these are the first and the others 0
-abbrev pub eight_words : List ℕ → List ℕ
-eight_words words = words ++ replicate (object_words - length words) 0
+-- an object's words, of which these are the first and the others 0
+abbrev pub first_words : List ℕ → List ℕ
+first_words words = words ++ replicate (object_words - length words) 0
 
 -- the guest with the first words of an object
 abbrev pub with_object : Guest → ℕ → List ℕ → Guest
 with_object g object words = record g {
   words =
-      take (object_words * object) g.words ++ (eight_words words ++ drop (object_words * object + object_words) g.words);
+      take (object_words * object) g.words ++ (first_words words ++ drop (object_words * object + object_words) g.words);
 }
 
 -- after an item

@@ -2,7 +2,7 @@
 use Rattle.std.specs.Prelude.{◌==◌, ◌&&◌, ◌||◌, ℕ, ◌+◌, ◌*◌, nat_le, nat_lt, not, Bool, true, false, List, [], ◌∷◌, ◌++◌, length, map, flat_map, Option, Some, None, if◌then◌else◌, is_some, Result, Ok, Err}
 use Rattle.std.specs.List.{list_all}
 use Rattle.byteorder.specs.Endian.{little_bytes}
-use Rattle.ir_image.specs.Guest.{code_start}
+use Rattle.ir_image.specs.Guest.{code_start, memory_size, most_threads, most_code_words}
 use Rattle.ir_asm.specs.declared.cause.Cause.{Cause}
 use Rattle.ir_asm.specs.declared.cause.Cause.TheVariants.{BadByte, UnknownStatement, LabelTwice, WrongSection, BadSize, BadCount, BadLabel}
 use Rattle.ir_asm.specs.declared.form.Section.{Section}
@@ -120,8 +120,8 @@ may_stand (Some a) s = same_section a s
 
 -- after a statement that takes so many bytes of its section
 abbrev pub grown : Section → ℕ → Seen → Result Seen Cause
-grown Text n s = unless (nat_le (s.code + n) 65536) BadSize (Ok (record s { code = s.code + n }))
-grown Data n s = unless (nat_le (s.filled + n) 65536) BadSize (Ok (record s { filled = s.filled + n }))
+grown Text n s = unless (nat_le (s.code + n) (4 * most_code_words)) BadSize (Ok (record s { code = s.code + n }))
+grown Data n s = unless (nat_le (s.filled + n) memory_size) BadSize (Ok (record s { filled = s.filled + n }))
 
 -- words in data are bytes, the lowest first
 abbrev pub laid : Section → Item → Item
@@ -136,7 +136,7 @@ placed_at line address item s = record s { placed = s.placed ++ record { line = 
 abbrev pub entered : ℕ → ℕ → Item → Seen → Result Seen Cause
 entered line address (Within section) s = Ok (record s { section = section })
 entered line address (Count objects) s = Ok (record s { objects = objects })
-entered line address (Entry label) s = unless (nat_lt s.threads 8) BadCount
+entered line address (Entry label) s = unless (nat_lt s.threads most_threads) BadCount
     (Ok (placed_at line address (Entry label) (record s { threads = s.threads + 1 })))
 entered line address Nothing s = Ok s
 entered line address item s = Ok (placed_at line address item s)

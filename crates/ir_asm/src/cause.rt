@@ -26,7 +26,7 @@ pub enum Cause {
     WrongSection,
     /// Code or data over 65,536 bytes, or no code at all.
     BadSize,
-    /// Over eight threads, or words for an object that there is not.
+    /// More threads than a guest may have, or words for an object that there is not.
     BadCount,
     /// A malformed label, or one over 64 characters.
     BadLabel,

@@ -2,15 +2,11 @@
 
 ghost use Rattle.std.specs.Prelude.{◌≡◌, ◌+◌, ◌*◌, ◌≤◌, ◌++◌, [], ◌∷◌, length, replicate, IfOk, OnOk};
 ghost use Rattle.ir_image.specs.Guest.{object_words};
-ghost use Rattle.ir_asm.specs.Passes.{with_code, eight_words, with_object, with_entry};
+ghost use Rattle.ir_asm.specs.Passes.{with_code, first_words, with_object, with_entry};
 
+use ir_image::{CODE_START, OBJECT_WORDS};
 use std::alloc::{AllocError, Global};
 use std::marker::Model;
-
-/// The address of the first word of the code.
-pub const CODE_START: u32 = 0x0001_0000;
-
-const OBJECT_WORDS: usize = 8;
 
 /// Entries, code, data and the objects' first words; in clauses the guest of these.
 #[derive(Drop)]
@@ -30,13 +26,13 @@ impl Model for Parts {
 }
 
 // These words and then zeros.
-fn eight_words(words: &[u32]) -> [u32; 8]
-    requires { length words.now ≤ 8 }
-    ensures { result ≡ eight_words words.now }
+fn first_words(words: &[u32]) -> [u32; OBJECT_WORDS]
+    requires { length words.now ≤ object_words }
+    ensures { result ≡ first_words words.now }
 {
-    let mut eight = [0; 8];
-    eight[..words.len()].copy_from_slice(words);
-    eight
+    let mut all = [0; OBJECT_WORDS];
+    all[..words.len()].copy_from_slice(words);
+    all
 }
 
 impl Parts {
@@ -76,13 +72,13 @@ impl Parts {
 
     /// The first words of an object.
     pub fn set_object(&mut self, object: u32, words: &[u32])
-        requires few { length words.now ≤ 8 }
+        requires few { length words.now ≤ object_words }
         requires there { object_words * object + object_words ≤ length self.old.words }
         ensures { self.new ≡ with_object self.old object words.now }
     {
         let start = OBJECT_WORDS * object as usize;
-        let eight = eight_words(words);
-        self.words[start..start + OBJECT_WORDS].copy_from_slice(&eight);
+        let all = first_words(words);
+        self.words[start..start + OBJECT_WORDS].copy_from_slice(&all);
     }
 
     /// One thread at the start of the code, where there is none yet.

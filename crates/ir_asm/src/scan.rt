@@ -2,6 +2,7 @@
 
 ghost use Rattle.std.specs.Prelude.{◌≡◌, ◌+◌, ◌++◌, [], ◌∷◌, nat_le, not, ◌==◌, flat_map, Ok, IfOk, OnOk};
 ghost use Rattle.byteorder.specs.Endian.{little_bytes};
+ghost use Rattle.ir_image.specs.Guest.{memory_size};
 ghost use Rattle.ir_asm.specs.Source.{nothing_seen, here, grown, size_of, laid, placed_at, entered, with_item, with_labels};
 ghost use Rattle.ir_asm.specs.declared.item.Item.TheVariants.{Entry};
 ghost use Rattle.ir_asm.specs.Faults.{Makes, unless};
@@ -13,19 +14,17 @@ use crate::item::{ByteList, Item, Name, Place, Placed};
 use crate::labels::Labels;
 use crate::refusal::Refusal;
 use byteorder::{ByteOrder, LittleEndian};
+use ir_image::{CODE_START, MEMORY_SIZE, MEMORY_START, MOST_CODE_WORDS, MOST_THREADS};
 use std::alloc::{AllocError, Global};
 use std::marker::Model;
 use std::mem::size_of_val;
 
-const MOST_BYTES: u32 = 65_536;
+// The most bytes of a section: of data as many as private memory has, and as many of code.
+const MOST_BYTES: u32 = MEMORY_SIZE;
 
-const MOST_THREADS: u8 = 8;
+const _: () = prove!(4 * MOST_CODE_WORDS == MOST_BYTES);
 
-const CODE_START: u32 = 0x0001_0000;
-
-const DATA_START: u32 = 0x0010_0000;
-
-/// How many bytes a section has, at most 65,536.
+/// How many bytes a section has.
 #[derive(Clone, Copy)]
 pub struct Size {
     pub bytes: u32,
@@ -33,6 +32,7 @@ pub struct Size {
 
 impl Model for Size {
     ghost use Rattle.std.specs.Prelude.{ℕ, ◌≤◌};
+    ghost use Rattle.ir_image.specs.Guest.{memory_size};
 
     ghost Value = { ℕ };
 
@@ -40,13 +40,13 @@ impl Model for Size {
 
     ghost inverse = { λ n. record { bytes = n } };
 
-    ghost invariant = { λ s. s.bytes ≤ 65536 };
+    ghost invariant = { λ s. s.bytes ≤ memory_size };
 }
 
 impl Size {
     // So many bytes more, where that many fit.
     fn plus(self, bytes: usize) -> Result<Size, Cause>
-        ensures { result ≡ unless (nat_le (self + bytes) 65536) BadSize (Ok (self + bytes)) }
+        ensures { result ≡ unless (nat_le (self + bytes) memory_size) BadSize (Ok (self + bytes)) }
     {
         if bytes > (MOST_BYTES - self.bytes) as usize {
             return Err(Cause::BadSize);
@@ -150,7 +150,7 @@ impl Scan {
     {
         let address = match self.section {
             Section::Text => CODE_START + self.code.bytes,
-            Section::Data => DATA_START + self.filled.bytes,
+            Section::Data => MEMORY_START + self.filled.bytes,
         };
         Place {
             section: self.section,

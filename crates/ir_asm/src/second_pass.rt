@@ -14,10 +14,11 @@ use crate::fields::{branch_offset, jump_offset};
 use crate::form::Section;
 use crate::item::{Item, Name, Place, Placed};
 use crate::items::load_words;
-use crate::parts::{CODE_START, Parts};
+use crate::parts::Parts;
 use crate::refusal::Refusal;
 use crate::scan::Scan;
 use crate::statement::same_section;
+use ir_image::CODE_START;
 use ir_isa::{BranchOp, Inst, Register, encode};
 use std::alloc::Global;
 
@@ -120,7 +121,7 @@ fn put_entry(scan: &Scan, parts: &mut Parts, label: &Name) -> Result<(), Refusal
 
 // The first words of an object, which has to be one.
 fn put_object(scan: &Scan, parts: &mut Parts, object: u32, words: &[u32]) -> Result<(), Refusal>
-    requires few { length words.now ≤ 8 }
+    requires few { length words.now ≤ object_words }
     requires there { length parts.old.words ≡ object_words * scan.now.objects }
     ensures { Makes parts.new result (put scan.now 0 (First object words.now) parts.old) }
 {

@@ -5,6 +5,7 @@ ghost use Rattle.ir_asm.specs.Names.{named, first_of};
 ghost use Rattle.ir_asm.specs.Forms.{base_rows, multiply_rows, immediate_rows, memory_rows, branch_rows, single_rows, directive_rows, form_named, stands_in, takes, registers_then, word_number, kind_at};
 
 use crate::form::{Form, Kind, Section};
+use ir_image::{MEMORY_SIZE, MOST_OBJECTS, OBJECT_WORDS};
 use ir_isa::{BranchOp, ImmediateOp, LoadOp, RegisterOp, ShiftOp, StoreOp};
 
 fn is(name: &[u8], text: &[u8]) -> bool
@@ -198,7 +199,7 @@ pub fn takes(form: Form, count: usize) -> bool
         Form::Calls | Form::Breaks | Form::DoesNothing | Form::Sections(_) => count == 0,
         Form::Words | Form::Bytes => count >= 1,
         Form::Space | Form::Thread | Form::Objects => count == 1,
-        Form::Object => count >= 2 && count <= 9,
+        Form::Object => count >= 2 && count <= 1 + OBJECT_WORDS,
     }
 }
 
@@ -227,9 +228,9 @@ pub fn kind_at(form: Form, place: usize) -> Kind
         Form::LoadsValue => registers_then(1, Kind::Value, place),
         Form::Words => WORD_NUMBER,
         Form::Bytes => Kind::Number(0, 255),
-        Form::Space => Kind::Number(0, 65_536),
+        Form::Space => Kind::Number(0, MEMORY_SIZE as i64),
         Form::Thread => Kind::Label,
-        Form::Objects => Kind::Number(0, 16),
+        Form::Objects => Kind::Number(0, MOST_OBJECTS as i64),
         Form::Object if place == 0 => Kind::Number(0, 4_294_967_295),
         Form::Object => WORD_NUMBER,
         _ => Kind::Register,

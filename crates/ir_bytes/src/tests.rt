@@ -59,18 +59,12 @@ fn limits_are_taken(rt: HostRuntime) {
 }
 
 #[test]
-fn a_field_is_read_whole_before_it_is_tested(rt: HostRuntime) {
+fn a_number_out_of_its_limits_is_the_callers_fault(rt: HostRuntime) {
     let all = &ALL;
     assert!(rt;
         matches!(
             byte_within(2, 9, all, Fault::Short, Fault::Other),
             Err(Fault::Other)
-        )
-    );
-    assert!(rt;
-        matches!(
-            byte_within(2, 9, &all[..0], Fault::Short, Fault::Other),
-            Err(Fault::Short)
         )
     );
     assert!(rt;
@@ -81,20 +75,8 @@ fn a_field_is_read_whole_before_it_is_tested(rt: HostRuntime) {
     );
     assert!(rt;
         matches!(
-            word_within(0, &all[..3], Fault::Short, Fault::Other),
-            Err(Fault::Short)
-        )
-    );
-    assert!(rt;
-        matches!(
             double_within(0, all, Fault::Short, Fault::Other),
             Err(Fault::Other)
-        )
-    );
-    assert!(rt;
-        matches!(
-            double_within(0, &all[..7], Fault::Short, Fault::Other),
-            Err(Fault::Short)
         )
     );
     assert!(rt;
@@ -105,14 +87,37 @@ fn a_field_is_read_whole_before_it_is_tested(rt: HostRuntime) {
     );
     assert!(rt;
         matches!(
-            fixed_half(0, &all[..1], Fault::Short, Fault::Other),
+            fixed_word(0, all, Fault::Short, Fault::Other),
+            Err(Fault::Other)
+        )
+    );
+}
+
+#[test]
+fn a_field_that_is_not_whole_is_short_whatever_its_limits(rt: HostRuntime) {
+    let all = &ALL;
+    assert!(rt;
+        matches!(
+            byte_within(2, 9, &all[..0], Fault::Short, Fault::Other),
             Err(Fault::Short)
         )
     );
     assert!(rt;
         matches!(
-            fixed_word(0, all, Fault::Short, Fault::Other),
-            Err(Fault::Other)
+            word_within(0, &all[..3], Fault::Short, Fault::Other),
+            Err(Fault::Short)
+        )
+    );
+    assert!(rt;
+        matches!(
+            double_within(0, &all[..7], Fault::Short, Fault::Other),
+            Err(Fault::Short)
+        )
+    );
+    assert!(rt;
+        matches!(
+            fixed_half(0, &all[..1], Fault::Short, Fault::Other),
+            Err(Fault::Short)
         )
     );
     assert!(rt;

@@ -7,7 +7,7 @@ use Rattle.std.proofs.lemmas.List.{append-nil, length-append, length-take}
 use Rattle.std.proofs.lemmas.Bool.{lt-leb}
 use Rattle.ir_command.specs.Words.{without_return}
 use Rattle.ir_cli.specs.Bundle.{is_feed, line_of, after_line, bytes_of_line, most_digits, most_input, bundle_by, bundle_of, Bundled}
-use Rattle.ir_debug.specs.Session.{Session, IfServed, opening_of}
+use Rattle.ir_debug.specs.Session.{Session, IfServed}
 use Rattle.ir_debug.specs.declared.ended.Ended.{Ended}
 use Rattle.ir_debug.specs.declared.ended.SessionErr.{SessionErr}
 use Rattle.ir_debug.specs.declared.ended.SessionErr.TheVariants as err
@@ -157,7 +157,7 @@ both_lines xs ys zs image trace p q =
 -- the session of a bundle
 pub bundled_by : (a b c old new : Option (List ℕ)) (image trace : List ℕ) (result : Result Ended SessionErr) → TakesBytes a b image
     → TakesBytes b c trace
-    → IfSome c (Session (opening_of image trace) most_input result old new) → IfSome a (Bundled result old new)
+    → IfSome c (Session image trace most_input result old new) → IfSome a (Bundled result old new)
 bundled_by None b c old new image trace result p q s = tt
 bundled_by (Some xs) None c old new image trace result p q s = absurd p.taken
 bundled_by (Some xs) (Some ys) None old new image trace result p q s = absurd q.taken
@@ -170,16 +170,16 @@ bundled_by (Some xs) (Some ys) (Some zs) old new image trace result p q s = reco
 -- the same, for slices of what was read, and a session that was served
 pub bundled_from : (a b c old new : Option (List ℕ)) (image trace image' trace' : List ℕ) (result : Result Ended SessionErr)
     → TakesBytes a b image → TakesBytes b c trace → image' ≡ image → trace' ≡ trace
-    → IfSome c (Session (opening_of image' trace') most_input result old new) → IfSome a (Bundled result old new)
+    → IfSome c (Session image' trace' most_input result old new) → IfSome a (Bundled result old new)
 bundled_from a b c old new image trace image' trace' result p q same_image same_trace s =
-    let P : List ℕ → List ℕ → Type 0 = λ x y. IfSome c (Session (opening_of x y) most_input result old new) in
+    let P : List ℕ → List ℕ → Type 0 = λ x y. IfSome c (Session x y most_input result old new) in
     bundled_by a b c old new image trace result p q (subst (P image) same_trace (subst (λ (x : List ℕ). P x trace') same_image s))
 
 pub was_too_long : (result : Result Ended SessionErr) (c old new : Option (List ℕ)) (image trace : List ℕ) → result ≡ Err err.TooLong
-    → IfServed result (IfSome c (Session (opening_of image trace) most_input result old new))
-    → IfSome c (Session (opening_of image trace) most_input (Err err.TooLong) old new)
+    → IfServed result (IfSome c (Session image trace most_input result old new))
+    → IfSome c (Session image trace most_input (Err err.TooLong) old new)
 was_too_long result c old new image trace e served =
-    let P : Result Ended SessionErr → Type 0 = λ r. IfServed r (IfSome c (Session (opening_of image trace) most_input r old new)) in
+    let P : Result Ended SessionErr → Type 0 = λ r. IfServed r (IfSome c (Session image trace most_input r old new)) in
     subst P e served
 
 -- ---- what a fault leaves

@@ -3,7 +3,7 @@ use Rattle.std.specs.Prelude.{◌≡◌, ◌==◌, ℕ, nat_le, Bool, List, [], 
 use Rattle.std.specs.Result.{result_ok}
 use Rattle.hex.specs.Hex.{decode_of}
 use Rattle.ir_command.specs.Words.{without_return}
-use Rattle.ir_debug.specs.Session.{Session, opening_of}
+use Rattle.ir_debug.specs.Session.{Session}
 use Rattle.ir_debug.specs.declared.ended.Ended.{Ended}
 use Rattle.ir_debug.specs.declared.ended.Ended.TheVariants.{Quit, InputEnd, ImageRefused, TraceRefused, NotFit}
 use Rattle.ir_debug.specs.declared.ended.SessionErr.{SessionErr}
@@ -56,7 +56,7 @@ bundle_of input = bundle_by (bytes_of_line (line_of input)) (bytes_of_line (line
 pub record Bundled (result : Result Ended SessionErr) (old new : Option (List ℕ)) (input : List ℕ) : Type 0 where
   pub bundle : Bundle
   pub is : bundle_of input ≡ Some bundle
-  pub session : Session (opening_of bundle.image bundle.trace) most_input result old new bundle.commands
+  pub session : Session bundle.image bundle.trace most_input result old new bundle.commands
 
 -- the exit status of a session that ended
 abbrev pub status_of : Ended → ℕ

@@ -1,24 +1,23 @@
 //! The command-line arguments.
 
 ghost use Rattle.std.specs.Prelude.{◌≤◌};
+ghost use Rattle.ir_thread.specs.Calls.{most_budget};
 
 use crate::numeral::number_within;
 use clap::{Arg, ArgMatches, Command, Error};
+use ir_thread::MOST_BUDGET;
 use std::alloc::{AllocError, Global};
 use std::{env, io};
 
 const ABOUT: &str = "A proved record and replay debugger for guests of RV32IM threads";
 
-const AFTER: &str =
-    "Without a subcommand `ir` reads standard input: a line with an image in hexadecimal,
-a line with its trace in hexadecimal, and then commands, a line each:
-  step T N   move thread T forward by N steps
-  regs T     show pc and registers of thread T
-  quit       end the session
-A session of a source of your own, with xxd for the hexadecimal:
+const AFTER: &str = "A session of a source of your own:
   ir asm guest.s guest.img
   ir record guest.img guest.trc
-  { for file in guest.img guest.trc; do xxd -p $file | tr -d '\\n'; echo; done; echo step 0 9; echo regs 0; } | ir
+  ir debug guest.img guest.trc
+Without a subcommand `ir` reads standard input: a line with an image in hexadecimal, a line with its trace in
+hexadecimal, and then the commands of `ir debug`, a line each. With xxd for the hexadecimal:
+  { for file in guest.img guest.trc; do xxd -p $file | tr -d '\\n'; echo; done; echo end; echo regs 0; } | ir
 Exit status: 0 done, 1 a fault, 2 bad arguments, 3 a refused image or trace, 4 a trace that doesn't fit.
 ";
 
@@ -77,6 +76,34 @@ A fault is told on standard error as `line L error C`, C being
 Exit status: 0 assembled, 1 a file that can't be read or written, 2 bad arguments, 3 a fault of the source.
 ";
 
+const DEBUG: &str = "debug";
+
+const DEBUG_ABOUT: &str = "Debugs a recorded run, forwards and backwards";
+
+/// What follows the help of `ir debug`.
+pub const DEBUG_AFTER: &str =
+    "The session opens with `ready`, or with what is wrong with IMAGE or TRACE, and reads no line then. Then each line of
+standard input is a command, and is answered before the next is read. A position is a number of steps of a thread; the
+threads stand at a cut, a position for each, at which all that their steps need of other threads has been done.
+  step T N      N steps of thread T forwards, the others no further than these need
+  back T N      N steps of thread T backwards, the others no further than must be
+  goto T K      thread T to position K, forwards or backwards
+  start         all threads to position 0
+  end           all threads to their last positions
+  pos           the position of each thread
+  regs T        pc and registers of thread T
+  mem T A N     N bytes, 1 to 256, from address A on, of the code or of thread T's memory
+  obj O         object O: its version, who is inside, its words
+  out T         what thread T has put out
+  log T         the events that thread T has logged so far
+  next T        the next step of thread T
+  quit          ends the session
+Numbers are decimal, or `0x` and hexadecimal digits. A move answers `at` and the positions, then `end` where thread T is
+at its last and `start` where it is at 0. A line that can't be carried out is answered `refused R` and why, and changes
+nothing. At a terminal standard error prompts for each line.
+Exit status: 0 done, 1 a fault, 2 bad arguments, 3 a refused image or trace, 4 a trace that doesn't fit.
+";
+
 const RECORD: &str = "record";
 
 const TRACE: &str = "TRACE";
@@ -88,8 +115,6 @@ const BUDGET: &str = "budget";
 const RANDOM: &str = "random";
 
 const INPUT: &str = "input";
-
-const MOST_BUDGET: u64 = 1_000_000_000_000;
 
 const RECORD_ABOUT: &str = "Records a guest, and prints a line for each thread";
 
@@ -130,7 +155,7 @@ pub struct RecordArguments {
     pub random: u64,
     /// The file that guests read.
     pub input: Option<String>,
-    ghost within: { budget ≤ 1000000000000 },
+    ghost within: { budget ≤ most_budget },
 }
 
 /// What the arguments ask for.
@@ -142,6 +167,8 @@ pub enum Asked {
     Assembling(String, String),
     /// A recording.
     Recording(RecordArguments),
+    /// A session of the image and the trace in these files.
+    Debugging(String, String),
     /// This text, about the program.
     Help(String),
     /// Nothing that there is, for this reason.
@@ -187,6 +214,20 @@ fn record_command<'a>(alloc: Global) -> Result<Command<'a>, AllocError> {
         .arg(input_arg(alloc))
 }
 
+fn debug_command<'a>(alloc: Global) -> Result<Command<'a>, AllocError> {
+    let image = Arg::new(alloc, IMAGE)
+        .required(true)
+        .help("The file with the image");
+    let trace = Arg::new(alloc, TRACE)
+        .required(true)
+        .help("The file with the trace");
+    Command::new(alloc, DEBUG)
+        .about(DEBUG_ABOUT)
+        .after_help(DEBUG_AFTER)
+        .arg(image)?
+        .arg(trace)
+}
+
 fn budget_arg<'a>(alloc: Global) -> Arg<'a> {
     Arg::new(alloc, BUDGET)
         .long(BUDGET)
@@ -219,6 +260,7 @@ fn command<'a>(alloc: Global) -> Result<Command<'a>, AllocError> {
         .after_help(AFTER)
         .subcommand(asm_command(alloc)?)?
         .subcommand(record_command(alloc)?)?
+        .subcommand(debug_command(alloc)?)?
         .bin_name("ir")
 }
 
@@ -270,6 +312,13 @@ fn assembling(alloc: Global, matches: &ArgMatches<'_>) -> Result<Asked, AllocErr
     ))
 }
 
+fn debugging(alloc: Global, matches: &ArgMatches<'_>) -> Result<Asked, AllocError> {
+    Ok(Asked::Debugging(
+        text_of(alloc, matches, IMAGE)?,
+        text_of(alloc, matches, TRACE)?,
+    ))
+}
+
 // That the value of an option is no number up to the most.
 fn no_number(alloc: Global, option: &str, value: &str, most: u64) -> Result<String, AllocError> {
     format!(in alloc; "--{option}: '{value}' is no number up to {most}")
@@ -298,6 +347,7 @@ fn by_subcommand(alloc: Global, matches: &ArgMatches<'_>) -> Result<Asked, Alloc
     match matches.subcommand() {
         Some((ASM, matches)) => assembling(alloc, matches),
         Some((RECORD, matches)) => recording(alloc, matches),
+        Some((DEBUG, matches)) => debugging(alloc, matches),
         _ => Ok(Asked::Session),
     }
 }

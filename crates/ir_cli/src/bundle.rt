@@ -12,9 +12,13 @@ use crate::fault::BundleErr;
 use crate::line::{bytes_of, read_line};
 use crate::telling::tell;
 use ir_debug::{Ended, SessionErr, Sink, Source, session};
+use ir_object::OpenGate;
 use std::alloc::Global;
+use std::thread::Threads;
+use std::time::Clock;
 
-const FAULT: u8 = 1;
+/// The exit status of a fault.
+pub const FAULT: u8 = 1;
 
 // The bytes of the next line of hexadecimal digits.
 fn next_bytes<R: Source>(alloc: Global, reader: &mut R) -> Result<Vec<u8>, BundleErr>
@@ -33,7 +37,8 @@ fn next_bytes<R: Source>(alloc: Global, reader: &mut R) -> Result<Vec<u8>, Bundl
 /// # Errors
 /// `BadLine`, with nothing written, where one of the two lines is no text of whole bytes in at most 4,194,304 digits of
 /// either case; want of memory; a fault of the session.
-pub fn bundled<R: Source, W: Sink>(
+pub fn bundled<T: Threads + Clock + Sync, R: Source, W: Sink>(
+    rt: &T,
     alloc: Global,
     reader: &mut R,
     writer: &mut W,
@@ -51,7 +56,15 @@ pub fn bundled<R: Source, W: Sink>(
 {
     let image = next_bytes(alloc, reader)?;
     let trace = next_bytes(alloc, reader)?;
-    match session(alloc, image.as_slice(), trace.as_slice(), reader, writer) {
+    match session(
+        rt,
+        alloc,
+        image.as_slice(),
+        trace.as_slice(),
+        reader,
+        writer,
+        &OpenGate,
+    ) {
         Ok(ended) => Ok(ended),
         Err(SessionErr::NoMem) => Err(BundleErr::NoMem),
         Err(SessionErr::Read) => Err(BundleErr::Read),
@@ -73,7 +86,8 @@ pub fn status(ended: Ended) -> u8
 
 /// Runs a bundled session, and gives the exit status: 0 where it ended, 3 for a refused image or trace, 4 for a trace
 /// that doesn't fit, 1 for a fault, which is told in one line.
-pub fn bundle<R: Source, W: Sink, E: Sink>(
+pub fn bundle<T: Threads + Clock + Sync, R: Source, W: Sink, E: Sink>(
+    rt: &T,
     alloc: Global,
     reader: &mut R,
     writer: &mut W,
@@ -92,7 +106,7 @@ pub fn bundle<R: Source, W: Sink, E: Sink>(
         (writer_of (W.written writer.old) (W.written writer.new) (W.broken writer.new)) (writer.new ≡ writer.old)
         × Tells (writer_of (E.written faults.old) (E.written faults.new) (E.broken faults.new)) (fault_text (fault_words e)) }
 {
-    match bundled(alloc, reader, writer) {
+    match bundled(rt, alloc, reader, writer) {
         Ok(ended) => status(ended),
         Err(why) => {
             tell(faults, why.words());

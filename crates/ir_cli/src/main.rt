@@ -8,6 +8,7 @@ mod arguments_tests;
 mod asm_tests;
 mod assembling;
 mod bundle;
+mod debugging;
 #[cfg(test)]
 mod examples;
 mod fault;
@@ -20,6 +21,7 @@ mod places;
 mod places_tests;
 mod program_world;
 mod progress;
+mod prompting;
 mod reason;
 mod record_fault;
 #[cfg(test)]
@@ -38,10 +40,12 @@ mod world_tests;
 use arguments::{Asked, RecordArguments, read_arguments};
 use assembling::asm_run;
 use bundle::bundle;
+use debugging::debug_run;
 use files::{MOST_BYTES, MOST_INPUT, NewFile, read_file};
 use ir_debug::{FromStd, Sink};
 use places::{found_at, loses};
 use progress::Progress;
+use prompting::Prompting;
 use recording::record_run;
 use standard::stand_ins;
 use std::io::{self, BufReader, IsTerminal};
@@ -62,8 +66,8 @@ fn complain(rt: &impl Eprint, why: &str) {
     let _ = rt.eprintln(format_args!("ir: {why}"));
 }
 
-// The session over standard input and output.
-fn serve(rt: &HostRuntime) -> u8 {
+// The session over standard input and output. The threads that replay are those of the second handle.
+fn serve<R: Threads + Clock + Sync>(rt: &HostRuntime, threads: &R) -> u8 {
     let Ok(input) = BufReader::new(rt.alloc(), rt.reader()) else {
         complain(rt, "memory ran out");
         return FAULT;
@@ -71,7 +75,7 @@ fn serve(rt: &HostRuntime) -> u8 {
     let mut reader = FromStd::new(input);
     let mut writer = FromStd::new(io::writer(rt));
     let mut faults = FromStd::new(rt.stderr());
-    bundle(rt.alloc(), &mut reader, &mut writer, &mut faults)
+    bundle(threads, rt.alloc(), &mut reader, &mut writer, &mut faults)
 }
 
 // The bytes of a file; else it is told why there are none.
@@ -83,6 +87,37 @@ fn bytes_of(rt: &HostRuntime, path: &str, most: u32) -> Option<Vec<u8>> {
             None
         }
     }
+}
+
+// The session of an image and a trace in files, over standard input and output.
+fn debug_files<R: Threads + Clock + Sync + Eprint>(
+    rt: &HostRuntime,
+    threads: &R,
+    image: &str,
+    trace: &str,
+) -> u8 {
+    let Some(image) = bytes_of(rt, image, MOST_BYTES) else {
+        return FAULT;
+    };
+    let Some(trace) = bytes_of(rt, trace, MOST_BYTES) else {
+        return FAULT;
+    };
+    let Ok(input) = BufReader::new(rt.alloc(), rt.reader()) else {
+        complain(rt, "memory ran out");
+        return FAULT;
+    };
+    let mut reader = Prompting::new(FromStd::new(input), threads, rt.stdin().is_terminal());
+    let mut writer = FromStd::new(io::writer(rt));
+    let mut faults = FromStd::new(rt.stderr());
+    debug_run(
+        threads,
+        rt.alloc(),
+        image.as_slice(),
+        trace.as_slice(),
+        &mut reader,
+        &mut writer,
+        &mut faults,
+    )
 }
 
 // Whether the file that is read would be lost by writing to a path, which is told.
@@ -172,10 +207,13 @@ fn record_file<R: Threads + Wait + Sync + Clock + Eprint>(
     )
 }
 
-// Does what the arguments ask for; the exit status. A recording's threads are those of the second handle.
+// Does what the arguments ask for; the exit status. Threads that record or replay are those of the second handle.
 fn run<R: Threads + Wait + Sync + Clock + Eprint>(rt: &HostRuntime, threads: &R) -> u8 {
     match read_arguments(rt) {
-        Asked::Session => serve(rt),
+        Asked::Session => serve(rt, threads),
+        Asked::Debugging(image, trace) => {
+            debug_files(rt, threads, image.as_str(), trace.as_str())
+        }
         Asked::Assembling(source, image) => assemble_file(rt, source.as_str(), image.as_str()),
         Asked::Recording(arguments) => record_file(rt, threads, &arguments),
         Asked::Help(text) => match rt.print(text) {

@@ -2,6 +2,7 @@
 
 ghost use Rattle.std.specs.Prelude.{◌≡◌, ◌<◌, ◌-◌, ◌≤◌, [], ◌∷◌, length, MatchOption, IfOk, IfSome, Some, None, Err, option_map, replicate, ◌==◌};
 ghost use Rattle.std.specs.List.{slice_split};
+ghost use Rattle.ir_image.specs.Guest.{most_threads};
 ghost use Rattle.ir_record.specs.Turns.{order_of_turns};
 ghost use Rattle.ir_cli.specs.Order.{item_of, order_of};
 ghost use Rattle.ir_cli.specs.Numerals.{number_within};
@@ -54,7 +55,7 @@ fn first_part(text: &str, mark: char) -> (&str, Option<&str>)
 // The thread of this number, where the guest has so many.
 fn thread_of(number: &str, threads: usize) -> Option<u8>
     requires some { 1 ≤ threads }
-    requires few { threads ≤ 8 }
+    requires few { threads ≤ most_threads }
     ensures { result ≡ number_within 0 (threads - 1) number.now }
 {
     match number_within(0, threads as u64 - 1, number) {
@@ -66,7 +67,7 @@ fn thread_of(number: &str, threads: usize) -> Option<u8>
 // The steps that an item spells.
 fn turns_of(item: &str, threads: usize) -> Option<Turns>
     requires some { 1 ≤ threads }
-    requires few { threads ≤ 8 }
+    requires few { threads ≤ most_threads }
     ensures { option_map (λ t. replicate t.count t.thread) result ≡ item_of threads item.now }
 {
     let (thread, count) = first_part(item, 'x');
@@ -88,7 +89,7 @@ fn is_digits(text: &str) -> bool {
 // Why an item spells no steps, in words, where it spells none.
 fn item_fault(item: &str, threads: usize) -> Option<&'static str>
     requires some { 1 ≤ threads }
-    requires few { threads ≤ 8 }
+    requires few { threads ≤ most_threads }
     ensures bad { IfSome result (λ _. item_of threads item.now ≡ None) }
 {
     if turns_of(item, threads).is_some() {
@@ -107,7 +108,7 @@ fn item_fault(item: &str, threads: usize) -> Option<&'static str>
 /// The first item of a list that spells no steps, and why, in words.
 pub fn bad_item(list: &str, threads: usize) -> Option<(&str, &'static str)>
     requires some { 1 ≤ threads }
-    requires few { threads ≤ 8 }
+    requires few { threads ≤ most_threads }
 {
     for item in list.split(',') {
         if let Some(why) = item_fault(item, threads) {
@@ -123,7 +124,7 @@ pub fn bad_item(list: &str, threads: usize) -> Option<(&str, &'static str)>
 /// `Bad` where the list spells none; want of memory.
 pub fn read_order(alloc: Global, list: &str, threads: usize) -> Result<Vec<Turns>, OrderErr>
     requires some { 1 ≤ threads }
-    requires few { threads ≤ 8 }
+    requires few { threads ≤ most_threads }
     ensures spelled { IfOk result (λ order. order_of threads list.now ≡ Some (order_of_turns order.items)) }
     ensures bad { result ≡ Err Bad → order_of threads list.now ≡ None }
 {

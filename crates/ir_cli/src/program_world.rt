@@ -1,17 +1,19 @@
 //! The world of a thread that is recorded.
 
 ghost use Rattle.std.specs.Prelude.{◌≡◌, ◌≤◌, [], vec_len, vec_capacity, IfOk, false};
+ghost use Rattle.ir_thread.specs.Calls.{most_events};
 ghost use Rattle.ir_cli.specs.Sources.{source, Gave, Gave-prop, MadeWith, made_with, is_counted, from_sources};
 
 use crate::sources::Sources;
 use crate::time::{Time, millis_since};
 use ir_record::{World, WorldErr};
 use ir_runs::EnvKind;
+use ir_thread::MOST_EVENTS;
 use std::alloc::{AllocError, Global};
 use std::time::Clock;
 
 /// The most answers: as many as a thread may log.
-pub const MOST_ANSWERS: usize = 1_048_576;
+pub const MOST_ANSWERS: usize = MOST_EVENTS as usize;
 
 /// Answers one thread.
 #[derive(Drop)]
@@ -23,7 +25,7 @@ pub struct ProgramWorld<'a, C> {
     sources: Sources<'a>,
     answers: Vec<(EnvKind, u32)>,
     failed: bool,
-    ghost room: { 1048576 ≤ vec_capacity answers },
+    ghost room: { most_events ≤ vec_capacity answers },
     ghost few: { sources.ticks ≤ vec_len answers },
     ghost gave: { Gave (source seed file.now) (from_sources (is_counted time) answers.items) sources } by { Gave-prop (source seed file.now) (from_sources (is_counted time) answers.items) sources },
 }

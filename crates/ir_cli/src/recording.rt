@@ -3,6 +3,7 @@
 ghost use Rattle.std.specs.Prelude.{◌≡◌, ◌≢◌, ◌<◌, ◌≤◌, ◌+◌, ℕ, List, Some, None, Ok, Err, true, false, IfOk, IfErr, OnOk, [], length, map, replicate, option_map};
 ghost use Rattle.std.specs.String.{string_bytes};
 ghost use Rattle.std.specs.Io.KnownBytes.{Appends};
+ghost use Rattle.ir_thread.specs.Calls.{most_budget};
 ghost use Rattle.ir_trace.specs.Recorded.{Recorded};
 ghost use Rattle.ir_trace.specs.Encoding.{encoding};
 ghost use Rattle.ir_record.specs.Worlds.{NoneFailed};
@@ -61,7 +62,7 @@ fn recorded_in_order<C: Clock>(
     random: u64,
     file: &[u8],
 ) -> Result<Trace, RecordFault>
-    requires { budget ≤ 1000000000000 }
+    requires { budget ≤ most_budget }
     ensures recorded { IfOk result (IsRecordedOf image.now (Some list.now) budget random file.now) }
     ensures refused { IfErr result (λ e. Refuses e image.now (Some list.now)) }
 {
@@ -83,7 +84,7 @@ fn recorded_by_threads<R: Threads + Wait + Sync + Clock, G: Gate + Sync>(
     random: u64,
     file: &[u8],
 ) -> Result<Trace, RecordFault>
-    requires { budget ≤ 1000000000000 }
+    requires { budget ≤ most_budget }
     ensures recorded { IfOk result (IsRecordedOf image.now None budget random file.now) }
     ensures refused { IfErr result (λ e. Refuses e image.now None) }
 {
@@ -108,7 +109,7 @@ fn recorded<R: Threads + Wait + Sync + Clock, G: Gate + Sync>(
     random: u64,
     file: &[u8],
 ) -> Result<Trace, RecordFault>
-    requires { budget ≤ 1000000000000 }
+    requires { budget ≤ most_budget }
     ensures recorded { IfOk result (IsRecordedOf image.now (option_map (λ s. s.now) order.entry) budget random file.now) }
     ensures refused { IfErr result (λ e. Refuses e image.now (option_map (λ s. s.now) order.entry)) }
 {
@@ -192,7 +193,7 @@ fn run<R: Threads + Wait + Sync + Clock, G: Gate + Sync, W: WholeSink, O: Sink>(
     trace: &mut W,
     out: &mut O,
 ) -> Result<(), RecordFault>
-    requires { budget ≤ 1000000000000 }
+    requires { budget ≤ most_budget }
     ensures done { OnOk result ((recorded : Recorded) × IsRecordedOf image.now (option_map (λ s. s.now) order.entry) budget random input.now recorded × Appends (W.written trace.old) (W.written trace.new) (encoding recorded) × Appends (O.written out.old) (O.written out.new) (lines_of recorded)) }
     ensures whole { OnOk result (W.whole trace.new ≡ true) }
     ensures stopped { IfErr result (λ e. Stops e image.now (option_map (λ s. s.now) order.entry) (IsRecordedOf image.now (option_map (λ s. s.now) order.entry) budget random input.now) (record { before = W.written trace.old; after = W.written trace.new; failed = W.broken trace.new }) (record { before = O.written out.old; after = O.written out.new; failed = O.broken out.new }) ((trace.new ≡ trace.old) × (out.new ≡ out.old)) (out.new ≡ out.old)) }
@@ -258,7 +259,7 @@ pub fn record_run<R: Threads + Wait + Sync + Clock, G: Gate + Sync, W: WholeSink
     out: &mut O,
     faults: &mut E,
 ) -> u8
-    requires budget { budget ≤ 1000000000000 }
+    requires budget { budget ≤ most_budget }
     requires writes { W.broken trace.old ≡ false }
     requires prints { O.broken out.old ≡ false }
     requires tells { E.broken faults.old ≡ false }

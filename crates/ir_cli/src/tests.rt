@@ -6,7 +6,10 @@ use crate::bundle::{bundle, bundled};
 use crate::fault::BundleErr;
 use crate::whole_file::WholeSink;
 use ir_debug::{DeviceErr, Ended, SessionErr, Sink, Source, session_up_to};
+use ir_object::OpenGate;
 use std::test::Fail;
+use std::thread::Threads;
+use std::time::Clock;
 
 // Gives its bytes; the call of this number fails, and each after it.
 #[derive(Drop)]
@@ -129,7 +132,7 @@ pub fn empty_page(rt: &impl AllocGlobal, most: usize, calls_left: u64) -> Page
 }
 
 fn lines_of(
-    rt: &HostRuntime,
+    rt: &impl AllocGlobal,
     image: &[u8],
     trace: &[u8],
     commands: &[u8],
@@ -143,8 +146,8 @@ fn lines_of(
 }
 
 // What a bundle of these lines answers, the fault that it tells, and its exit status.
-fn answered(
-    rt: &HostRuntime,
+fn answered<R: AllocGlobal + Threads + Clock + Sync>(
+    rt: &R,
     image: &[u8],
     trace: &[u8],
     commands: &[u8],
@@ -158,7 +161,7 @@ fn answered(
     };
     let mut writer = empty_page(rt, most, ENDLESS);
     let mut faults = empty_page(rt, most, ENDLESS);
-    let code = bundle(rt.alloc(), &mut reader, &mut writer, &mut faults);
+    let code = bundle(rt, rt.alloc(), &mut reader, &mut writer, &mut faults);
     Ok((writer, faults, code))
 }
 
@@ -241,7 +244,7 @@ fn each_read_fails(rt: HostRuntime) -> Result<(), Fail> {
             failed: false,
         };
         let mut writer = empty_page(&rt, 100, ENDLESS);
-        let ended = bundled(rt.alloc(), &mut reader, &mut writer);
+        let ended = bundled(&rt, rt.alloc(), &mut reader, &mut writer);
         assert!(rt; matches!(ended, Err(BundleErr::Read)));
         assert!(rt; ANSWERS.starts_with(writer.bytes.as_slice()));
     }
@@ -258,7 +261,7 @@ fn each_write_fails(rt: HostRuntime) -> Result<(), Fail> {
             failed: false,
         };
         let mut writer = empty_page(&rt, 1, calls_left);
-        let ended = bundled(rt.alloc(), &mut reader, &mut writer);
+        let ended = bundled(&rt, rt.alloc(), &mut reader, &mut writer);
         assert!(rt; matches!(ended, Err(BundleErr::Write)));
         assert_eq!(rt; writer.bytes.len() as u64, calls_left);
         assert!(rt; ANSWERS.starts_with(writer.bytes.as_slice()));
@@ -285,12 +288,14 @@ fn at_the_limit(rt: HostRuntime) -> Result<(), Fail> {
         failed: false,
     };
     let ended = session_up_to(
+        &rt,
         rt.alloc(),
         10,
         &IMAGE_BYTES,
         &TRACE_BYTES,
         &mut reader,
         &mut writer,
+        &OpenGate,
     );
     assert!(rt; matches!(ended, Err(SessionErr::TooLong)));
     assert_eq!(rt; writer.bytes.as_slice(), b"ready\nat 0 start\n".as_slice());
@@ -301,12 +306,14 @@ fn at_the_limit(rt: HostRuntime) -> Result<(), Fail> {
         failed: false,
     };
     let ended = session_up_to(
+        &rt,
         rt.alloc(),
         12,
         &IMAGE_BYTES,
         &TRACE_BYTES,
         &mut reader,
         &mut writer,
+        &OpenGate,
     );
     assert!(rt; matches!(ended, Ok(Ended::Quit)));
     assert_eq!(rt;

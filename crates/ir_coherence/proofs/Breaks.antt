@@ -4,6 +4,7 @@ use Rattle.std.specs.Prelude.{slice_get}
 use Rattle.std.specs.List.{AllByRecursion}
 use Rattle.std.proofs.lemmas.Option.{same_Some}
 use Rattle.std.proofs.lemmas.List.{length-map}
+use Rattle.ir_thread.specs.Calls.{most_events}
 use Rattle.ir_runs.specs.Labels.{Label, In, Trace}
 use Rattle.ir_runs.specs.declared.access.Access.TheVariants.{Writing}
 use Rattle.ir_log.specs.Logging.{label_of}
@@ -64,7 +65,7 @@ thread_room r fits i c l first = record {
   );
 }
   where
-    of_thread : (u : ℕ) → u < length r.threads → length ((trace_of r).logs u) ≤ 1048576
+    of_thread : (u : ℕ) → u < length r.threads → length ((trace_of r).logs u) ≤ most_events
     of_thread u less = omega (arith, length-map (recorded_thread r u).events label_of, (thread_fits r fits u less).few_events)
 
 pub thread_counted : (r : Recorded) (i : ℕ) (a b : EntryCounts) → CountsFirst r i a

@@ -1,6 +1,7 @@
 -- Counts of the events of logs.
 use Rattle.std.proofs.Common.{◌≡◌, ℕ, suc, zero, ◌+◌, ◌*◌, ◌<◌, ◌≤◌, Bool, true, false, cond, eqb, List, [], ◌∷◌, ◌++◌, length, map, take, get_or, refl, sym, ap, ◌∙◌, subst, arith, add-one}
 use Rattle.std.proofs.lemmas.List.{take_more, map-append}
+use Rattle.ir_thread.specs.Calls.{most_events}
 use Rattle.ir_runs.specs.Labels.{Label, Quiet, Answer, In, Refused, Out}
 use Rattle.ir_runs.specs.declared.access.Access.TheVariants.{Reading, Writing}
 use Rattle.ir_log.specs.Logging.{label_of}
@@ -68,7 +69,7 @@ one_counted a b d es i e l m k =
     (both_counted a b d (map label_of (take i es)) (label_of (get_or es i e) ∷ []) m k)
 
 -- a sum of n numbers, each of at most as many events as a log has
-pub sum_bound : (n : ℕ) (f : ℕ → ℕ) → ((t : ℕ) → t < n → f t ≤ 1048576) → sum_below n f ≤ n * 1048576
+pub sum_bound : (n : ℕ) (f : ℕ → ℕ) → ((t : ℕ) → t < n → f t ≤ most_events) → sum_below n f ≤ n * most_events
 sum_bound zero f h = omega arith
 sum_bound (suc n) f h = omega (arith, h n (omega arith), sum_bound n f (λ t l. h t (omega arith)))
 

@@ -17,9 +17,9 @@ fn bytes_shown(thread: u32, address: u32, bytes: u128) -> Result<Option<Command>
 }
 
 #[test]
-fn each_command_has_its_form(rt: HostRuntime) {
+fn moves_have_their_forms(rt: HostRuntime) {
     let most = u32::MAX;
-    let cases: [(&[u8], Command); 16] = [
+    let cases: [(&[u8], Command); 7] = [
         (b"step 0 3", STEP),
         (
             b"step 0 4294967295",
@@ -51,7 +51,22 @@ fn each_command_has_its_form(rt: HostRuntime) {
         ),
         (b"start", Command::Move(Move::Start)),
         (b"end", Command::Move(Move::End)),
-        (b"pos", Command::Position),
+    ];
+    for (line, want) in cases {
+        assert_eq!(rt; parse_line(line), Ok(Some(want)));
+    }
+}
+
+#[test]
+fn blanks_part_words_and_a_carriage_return_ends_a_line(rt: HostRuntime) {
+    assert_eq!(rt; parse_line(b" \tstep\t0  3 "), Ok(Some(STEP)));
+    assert_eq!(rt; parse_line(b"step 0 3\r"), Ok(Some(STEP)));
+}
+
+#[test]
+fn other_commands_have_their_forms(rt: HostRuntime) {
+    let most = u32::MAX;
+    let cases: [(&[u8], Command); 7] = [
         (
             b"regs 4294967295",
             Command::Show(Show::Registers { thread: most }),
@@ -69,9 +84,8 @@ fn each_command_has_its_form(rt: HostRuntime) {
             Command::Show(Show::Log { thread: 2 }),
         ),
         (b"next 0", Command::Show(Show::Next { thread: 0 })),
+        (b"pos", Command::Position),
         (b"quit", Command::Quit),
-        (b" \tstep\t0  3 ", STEP),
-        (b"step 0 3\r", STEP),
     ];
     for (line, want) in cases {
         assert_eq!(rt; parse_line(line), Ok(Some(want)));

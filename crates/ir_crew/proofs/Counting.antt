@@ -1,6 +1,7 @@
 -- How many entries the threads have made.
 use Rattle.std.proofs.Common.{◌≡◌, ◌≢◌, ℕ, zero, suc, ◌+◌, ◌*◌, ◌<◌, ◌≤◌, eqb, List, [], ◌∷◌, ◌++◌, refl, sym, ap, subst, arith, inl, inr, eq-eqb, ne_eqb}
 use Rattle.std.proofs.lemmas.Bool.{cases_eq}
+use Rattle.ir_image.specs.Guest.{most_threads}
 use Rattle.ir_runs.specs.Machine.{Machine}
 use Rattle.ir_runs.specs.Object.{Object}
 use Rattle.ir_object.specs.Order.{Shared, keep_if, of_thread, objects_then, IsLegal}
@@ -20,7 +21,7 @@ abbrev pub total : ℕ → (ℕ → ℕ) → ℕ
 total zero f = 0
 total (suc n) f = total n f + f n
 
-pub total_le : (n k : ℕ) (f : ℕ → ℕ) → ((t : ℕ) → f t ≤ k) → n ≤ 8 → total n f ≤ n * k
+pub total_le : (n k : ℕ) (f : ℕ → ℕ) → ((t : ℕ) → f t ≤ k) → n ≤ most_threads → total n f ≤ n * k
 total_le zero k f h l = omega arith
 total_le (suc n) k f h l = let r = total_le n k f h (omega arith) in let e = h n in omega (arith, r, e)
 

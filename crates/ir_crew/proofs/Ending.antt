@@ -26,7 +26,7 @@ starts g ws guest laid = record {
   words = λ o lt. subst (λ z. Tells (length g.entries) (fields_of z) (start_objects g o)) (sym (laid.free o lt))
       (nothing_tells (length g.entries) (start_objects g o).words);
   contents = λ o i lt small. laid.contents o i small (let whole = guest.whole_objects in omega (arith, lt, small, whole))
-      ∙ sym (get_or-take 8 (drop (8 * o) g.words) i 0 small ∙ get_or-drop (8 * o) g.words i 0);
+      ∙ sym (get_or-take object_words (drop (object_words * o) g.words) i 0 small ∙ get_or-drop (object_words * o) g.words i 0);
 }
 
 -- one word more is laid
@@ -53,7 +53,7 @@ dealt_first l m me w is told = told ∙ (λ i. (first_alone (is i).0, []))
 pub all_but : (l m k : ℕ) (me : M) → me ≡ (tracks_from l m, []) → m ≡ suc k → me ≡ (tracks_from l (suc k), [])
 all_but l m k me is e = is ∙ (λ i. (tracks_from l (e i), []))
 
-pub laying_starts : (words laid : List ℕ) (count : ℕ) → count ≡ length words / 8 → length laid ≡ 8 + 24 * count
+pub laying_starts : (words laid : List ℕ) (count : ℕ) → count ≡ length words / object_words → length laid ≡ table_length count
     → ((k : ℕ) → get_or laid k 0 ≡ 0) → IsLaying words laid 0
 laying_starts words laid count is size none = record {
   size = omega (arith, is, size);
@@ -62,15 +62,15 @@ laying_starts words laid count is size none = record {
       λ o i lt l. absurd (omega (arith, l));
 }
 
-pub laying_more : (words laid more : List ℕ) (at word : ℕ) → length words % 8 ≡ 0 → at < length words → IsLaying words laid at
-    → word ≡ get_or words at 0 → more ≡ set laid (16 + 24 * (at / 8) + at % 8) word → IsLaying words more (at + 1)
+pub laying_more : (words laid more : List ℕ) (at word : ℕ) → length words % object_words ≡ 0 → at < length words → IsLaying words laid at
+    → word ≡ get_or words at 0 → more ≡ set laid (content_place (at / object_words) (at % object_words)) word → IsLaying words more (at + 1)
 laying_more words laid more at word whole lt h is new = subst (λ z. IsLaying words z (at + 1)) (sym new) (record {
   size = length-set laid place word ∙ h.size;
   free = λ o l. get_or-set_other laid place (word_place o) word 0 (λ e. omega (arith, e)) ∙ h.free o l;
-  contents = λ o i small l. elim (cases_eq (8 * o + i) at) [
+  contents = λ o i small l. elim (cases_eq (object_words * o + i) at) [
     | inl e ↦
-        let p : o ≡ at / 8 = omega (arith, e, small) in
-        let r : i ≡ at % 8 = omega (arith, e, small) in
+        let p : o ≡ at / object_words = omega (arith, e, small) in
+        let r : i ≡ at % object_words = omega (arith, e, small) in
         let here : content_place o i ≡ place = omega (arith, p, r) in
         ap (λ z. get_or (set laid place word) z 0) here ∙ get_or-set_same laid place word 0 (let s = h.size in omega (arith, s, lt, whole))
         ∙ is ∙ ap (λ z. get_or words z 0) (sym e)
@@ -80,7 +80,7 @@ laying_more words laid more at word whole lt h is new = subst (λ z. IsLaying wo
 })
   where
     place : ℕ
-    place = 16 + 24 * (at / 8) + at % 8
+    place = content_place (at / object_words) (at % object_words)
 
 -- ---- the end
 
@@ -120,7 +120,7 @@ ends g id v ws xs objects f are =
     }
 
 pub cell_small : (g : Guest) (id : ℕ) (v : View) (ws : List ℕ) (xs : List (Unit {0})) → Final (Seen (Kept g) id v) ws xs → (o i word : ℕ)
-    → o < object_count g → i < 8 → get_elem? ws (content_place o i) ≡ some word → word < 2 ^ 32
+    → o < object_count g → i < object_words → get_elem? ws (content_place o i) ≡ some word → word < 2 ^ 32
 cell_small g id v ws xs f o i word lt small e =
     let k = f.1.0 in
     subst (λ z. z < 2 ^ 32) (sym (k.table.contents o i lt small) ∙ ap (λ z. get_or z (content_place o i) 0) f.2

@@ -5,7 +5,8 @@ use Rattle.std.proofs.lemmas.Bool.{cases_eq}
 use mathlib.Core.Option.{some}
 use lib.ListN.{get_elem?}
 use Rattle.atomic_table.specs.Table as table
-use Rattle.ir_image.specs.Guest.{Guest, IsGuest, IsWord, object_count, object_words}
+use Rattle.ir_image.specs.Guest.{Guest, IsGuest, IsWord, most_threads, object_count, object_words}
+use Rattle.ir_thread.specs.Calls.{most_events}
 use Rattle.ir_thread.specs.Instance.{thread_machine}
 use Rattle.ir_runs.specs.Machine.{Act, Silent, Result, Entry, Refusal, Exit, Load, Store, Never, Machine}
 use Rattle.ir_runs.specs.declared.access.Access.{Access}
@@ -246,8 +247,8 @@ since_run m n count f (x ∷ xs) t o v l a h =
 
 pub record IsAt (n t o : ℕ) (h : List ObjectStep) (b : Object) (w : ℕ) : Type 0 where
   pub tells : Tells n (fields_of w) b
-  pub light : weight (fields_of w) ≤ 8388608
-  pub narrow : (fields_of w).inside ≤ 8
+  pub light : weight (fields_of w) ≤ most_threads * most_events
+  pub narrow : (fields_of w).inside ≤ most_threads
   pub inside : b.inside t ≡ inside_by o h
   pub alone : Alone b.inside
   pub small : IsSmall b
@@ -333,7 +334,7 @@ at_now g x k id o q at lt =
     let light = l.1.light in
     let sum = entries_total m n (object_count g) (start_objects g) k.steps k.legal in
     let few = k.guest.few_threads in
-    let most = total_le n 1048576 (λ t. entries (of_thread t k.steps)) k.few few in
+    let most = total_le n most_events (λ t. entries (of_thread t k.steps)) k.few few in
     let in_all = readers_le n (now_of g k.steps o).inside in
     let counted = tells.inside.readers in
     record {

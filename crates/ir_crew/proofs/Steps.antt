@@ -1,5 +1,5 @@
 -- Each step of the table keeps its rule.
-use Rattle.std.proofs.Common.{◌≡◌, ◌≢◌, ℕ, ◌+◌, ◌*◌, ◌/◌, ◌%◌, ◌^◌, ◌<◌, ◌≤◌, Bool, eqb, List, [], ◌∷◌, ◌++◌, map, length, get_or, set, Some, None, refl, sym, ap, ◌∙◌, subst, arith, inl, inr, ⊎_elim, eq-eqb, ne_eqb, length-set, get_or-set_same, get_or-set_other}
+use Rattle.std.proofs.Common.{◌≡◌, ◌≢◌, ℕ, ◌+◌, ◌*◌, ◌%◌, ◌^◌, ◌<◌, ◌≤◌, Bool, eqb, List, [], ◌∷◌, ◌++◌, map, length, get_or, set, Some, None, refl, sym, ap, ◌∙◌, subst, arith, inl, inr, ⊎_elim, eq-eqb, ne_eqb, length-set, get_or-set_same, get_or-set_other}
 use Rattle.std.proofs.lemmas.Bool.{cases_eq}
 use Rattle.std.proofs.lemmas.List.{set-get_or}
 use mathlib.Core.Option.{none, some}
@@ -8,7 +8,7 @@ use prog.Atomic.{either}
 use Rattle.atomic_table.specs.Table as table
 use Rattle.atomic_table.specs.Table.{Step, step, stepped, keeps, Allows}
 use Rattle.atomic_table.proofs.Lists.{at_set, set_again}
-use Rattle.ir_image.specs.Guest.{Guest, object_count}
+use Rattle.ir_image.specs.Guest.{Guest, most_threads, object_count, object_words}
 use Rattle.ir_thread.specs.Calls.{most_events}
 use Rattle.ir_thread.specs.Instance.{thread_machine}
 use Rattle.ir_runs.specs.Machine.{Entry, Exit, Store, upd}
@@ -18,7 +18,7 @@ use Rattle.ir_object.specs.Cell.{Admitted}
 use Rattle.ir_runs.specs.Object.{Object, target, Admits, acted, reply, told}
 use Rattle.ir_object.specs.Layout.{word_place, content_place}
 use Rattle.ir_object.specs.Order.{Shared, of_thread, objects_after, order_labels, Uses}
-use Rattle.ir_object.specs.Word.{fields_of}
+use Rattle.ir_object.specs.Word.{version_unit, left_limit, reader_leaves, fields_of}
 use Rattle.ir_object.proofs.CallerLemmas.{of_own, of_other, after_more, labels_more, legal_more, entry_counts, leave_counts, can_leave, admits_reader, admits_writer, read_entry_word, write_entry_word, read_leave_word, version_word}
 use Rattle.ir_runs.proofs.CallerLemmas.{upd_same, upd_other, upd_id}
 use Rattle.ir_crew.specs.Plays.{IsAlone, history, did, inside_by, entered_at, M, object_of, index_of, IsSight, looked, tried, read_entry, write_entry, entered_read, entered_write, left_reading, left_writing, got, wrote}
@@ -153,7 +153,7 @@ head_changes n count f ws o w y r lt tells same = record {
 }
 
 -- a word of contents is written
-cell_changes : (n count : ℕ) (f : ℕ → Object) (ws : List ℕ) (o i v : ℕ) (y : Object) → IsTable n count f ws → o < count → i < 8
+cell_changes : (n count : ℕ) (f : ℕ → Object) (ws : List ℕ) (o i v : ℕ) (y : Object) → IsTable n count f ws → o < count → i < object_words
     → Tells n (fields_of (get_or ws (word_place o) 0)) y → y.words ≡ upd (f o).words i v
     → IsTable n count (upd f o y) (set ws (content_place o i) v)
 cell_changes n count f ws o i v y r lt small tells is = record {
@@ -172,7 +172,7 @@ cell_changes n count f ws o i v y r lt small tells is = record {
   ];
 }
   where
-    written_at : (j : ℕ) → j < 8 → get_or (set ws (content_place o i) v) (content_place o j) 0 ≡ upd (f o).words i v j
+    written_at : (j : ℕ) → j < object_words → get_or (set ws (content_place o i) v) (content_place o j) 0 ≡ upd (f o).words i v j
     written_at j lt8 = elim (cases_eq j i) [
       | inl e ↦ subst (λ z. get_or (set ws (content_place o i) v) (content_place o z) 0 ≡ upd (f o).words i v z) (sym e)
           (get_or-set_same ws (content_place o i) v 0 (let s = r.size in omega (arith, s, lt, small)) ∙ sym (upd_same (f o).words i v))
@@ -185,16 +185,16 @@ cell_changes n count f ws o i v y r lt small tells is = record {
 pub object_is : (o : ℕ) → object_of (word_place o) ≡ o
 object_is o = omega arith
 
-pub object_is_cell : (o i : ℕ) → i < 8 → object_of (content_place o i) ≡ o
+pub object_is_cell : (o i : ℕ) → i < object_words → object_of (content_place o i) ≡ o
 object_is_cell o i lt = omega (arith, lt)
 
-pub index_is_cell : (o i : ℕ) → i < 8 → index_of (content_place o i) ≡ i
+pub index_is_cell : (o i : ℕ) → i < object_words → index_of (content_place o i) ≡ i
 index_is_cell o i lt = omega (arith, lt)
 
-left_small : (w : ℕ) → weight (fields_of w) ≤ 8388608 → (fields_of w).left + 1 < 2 ^ 24
+left_small : (w : ℕ) → weight (fields_of w) ≤ most_threads * most_events → (fields_of w).left + 1 < left_limit
 left_small w l = let z : (fields_of w).left ≤ weight (fields_of w) = omega arith in omega (arith, z, l)
 
-below : (w : ℕ) → weight (fields_of w) ≤ 8388608 → w / 2 ^ 32 ≤ 8388608
+below : (w : ℕ) → weight (fields_of w) ≤ most_threads * most_events → (fields_of w).version ≤ most_threads * most_events
 below w l = let v : (fields_of w).version ≤ weight (fields_of w) = omega arith in omega (arith, v, l)
 
 sees : (n t o : ℕ) (h : List ObjectStep) (b : Object) (w : ℕ) → IsAt n t o h b w → IsSight h o w
@@ -339,9 +339,10 @@ changes g slots id o f d tell (q ∷ [], c) alone lt no_entry step_is tells x k 
     )
 
 pub leaves_read : (g : Guest) (slots id o : ℕ) (me : M) → IsAlone me.0 → o < object_count g → inside_by o (history me.0) ≡ Some Reading
-    → Allows (Kept g) slots id me (word_place o) (λ n. (n + 254) % 2 ^ 64) (left_reading (step slots (word_place o) 254 0 none) me)
-leaves_read g slots id o me alone lt inside = changes g slots id o (λ n. (n + 254) % 2 ^ 64) (λ b. Leave Reading b.version)
-    (left_reading (step slots (word_place o) 254 0 none) me) me alone lt (λ b. refl)
+    → Allows (Kept g) slots id me (word_place o) (λ n. (n + reader_leaves) % 2 ^ 64)
+    (left_reading (step slots (word_place o) reader_leaves 0 none) me)
+leaves_read g slots id o me alone lt inside = changes g slots id o (λ n. (n + reader_leaves) % 2 ^ 64) (λ b. Leave Reading b.version)
+    (left_reading (step slots (word_place o) reader_leaves 0 none) me) me alone lt (λ b. refl)
     (λ t w b a.
     let n : ℕ = length g.entries in
     let is : b.inside t ≡ Some Reading = a.inside ∙ inside in
@@ -359,11 +360,11 @@ leaves_read g slots id o me alone lt inside = changes g slots id o (λ n. (n + 2
 
 pub leaves_write : (g : Guest) (slots id o v : ℕ) (me : M) → IsAlone me.0 → o < object_count g → inside_by o (history me.0) ≡ Some Writing
     → v ≡ entered_at o 0 (map label_of (history me.0))
-    → Allows (Kept g) slots id me (word_place o) (λ _. (v + 1) * 2 ^ 32)
-    (λ _. left_writing (step slots (word_place o) ((v + 1) * 2 ^ 32) 0 none) me ((v + 1) * 2 ^ 32))
+    → Allows (Kept g) slots id me (word_place o) (λ _. (v + 1) * version_unit)
+    (λ _. left_writing (step slots (word_place o) ((v + 1) * version_unit) 0 none) me ((v + 1) * version_unit))
 leaves_write g slots id o v me alone lt inside version =
-    changes g slots id o (λ _. (v + 1) * 2 ^ 32) (λ b. Leave Writing b.version)
-    (λ _. left_writing (step slots (word_place o) ((v + 1) * 2 ^ 32) 0 none) me ((v + 1) * 2 ^ 32)) me alone lt (λ b. refl)
+    changes g slots id o (λ _. (v + 1) * version_unit) (λ b. Leave Writing b.version)
+    (λ _. left_writing (step slots (word_place o) ((v + 1) * version_unit) 0 none) me ((v + 1) * version_unit)) me alone lt (λ b. refl)
     (λ t w b a.
     let n : ℕ = length g.entries in
     let is : b.inside t ≡ Some Writing = a.inside ∙ inside in record {
@@ -380,7 +381,7 @@ leaves_write g slots id o v me alone lt inside version =
 
 -- the word that is stored, as the word of the next version
 pub leaves_write_by : (g : Guest) (slots id o v w : ℕ) (me : M) → IsAlone me.0 → o < object_count g
-    → inside_by o (history me.0) ≡ Some Writing → v ≡ entered_at o 0 (map label_of (history me.0)) → w ≡ (v + 1) * 2 ^ 32
+    → inside_by o (history me.0) ≡ Some Writing → v ≡ entered_at o 0 (map label_of (history me.0)) → w ≡ (v + 1) * version_unit
     → Allows (Kept g) slots id me (word_place o) (λ _. w) (λ _. left_writing (step slots (word_place o) w 0 none) me w)
 leaves_write_by g slots id o v w me alone lt inside version is =
     subst (λ z. Allows (Kept g) slots id me (word_place o) (λ _. z) (λ _. left_writing (step slots (word_place o) z 0 none) me z)) (sym is)
@@ -388,7 +389,8 @@ leaves_write_by g slots id o v w me alone lt inside version is =
 
 -- ---- contents
 
-pub gets : (g : Guest) (slots id o i : ℕ) (me : M) → IsAlone me.0 → o < object_count g → i < 8 → inside_by o (history me.0) ≢ None
+pub gets : (g : Guest) (slots id o i : ℕ) (me : M) → IsAlone me.0 → o < object_count g → i < object_words
+    → inside_by o (history me.0) ≢ None
     → Allows (Kept g) slots id me (content_place o i) (λ n. n) (got (step slots (content_place o i) 0 0 none) me)
 gets g slots id o i ([], c) alone lt small inside x k homes at fits = absurd alone
 gets g slots id o i (k2 ∷ l ∷ ks, c) alone lt small inside x k homes at fits = absurd alone
@@ -416,7 +418,7 @@ gets g slots id o i (q ∷ [], c) alone lt small inside x k homes at fits =
       ),
     )
 
-pub puts : (g : Guest) (slots id o i v : ℕ) (me : M) → IsAlone me.0 → o < object_count g → i < 8 → v < 2 ^ 32
+pub puts : (g : Guest) (slots id o i v : ℕ) (me : M) → IsAlone me.0 → o < object_count g → i < object_words → v < 2 ^ 32
     → inside_by o (history me.0) ≡ Some Writing
     → Allows (Kept g) slots id me (content_place o i) (λ _. v) (λ _. wrote (step slots (content_place o i) v 0 none) me v)
 puts g slots id o i v ([], c) alone lt small fit inside x k homes at fits = absurd alone
@@ -448,6 +450,6 @@ pub alone_as : (me first : M) → me ≡ first → IsAlone first.0 → IsAlone m
 alone_as me first is a = subst (λ (m : M). IsAlone m.0) (sym is) a
 
 pub seen_version : (me w : M) (o n slots : ℕ) → looked (step slots (word_place o) 0 0 none) me n w
-    → inside_by o (history me.0) ≡ Some Writing → n / 2 ^ 32 ≡ entered_at o 0 (map label_of (history w.0))
+    → inside_by o (history me.0) ≡ Some Writing → (fields_of n).version ≡ entered_at o 0 (map label_of (history w.0))
 seen_version me w o n slots told inside = let q = subst (λ z. IsSight (history me.0) z n) (object_is o) told.1 in
     q.version inside ∙ sym (ap (λ (m : M). entered_at o 0 (map label_of (history m.0))) told.0)

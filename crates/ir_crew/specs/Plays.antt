@@ -4,7 +4,9 @@ use Rattle.atomic_table.specs.Table.{Me, Step}
 use Rattle.ir_runs.specs.Labels.{Label, Quiet, Answer, In, Refused, Out}
 use Rattle.ir_runs.specs.declared.access.Access.{Access}
 use Rattle.ir_runs.specs.declared.access.Access.TheVariants.{Reading, Writing}
+use Rattle.ir_object.specs.Layout.{apart, word_place, content_place}
 use Rattle.ir_object.specs.Order.{inside_after}
+use Rattle.ir_object.specs.Word.{fields_of}
 use Rattle.ir_crew.specs.Rule.{View, shared_of, label_of}
 use Rattle.ir_crew.specs.declared.deed.Deed.{Deed}
 use Rattle.ir_crew.specs.declared.deed.Deed.TheVariants.{Enter, Leave, Get, Put}
@@ -52,16 +54,16 @@ M = Me (Unit {0}) View
 
 -- the object of a word, and the index of a word of contents
 abbrev pub object_of : ℕ → ℕ
-object_of word = (word - 8) / 24
+object_of word = (word - word_place 0) / apart
 
 abbrev pub index_of : ℕ → ℕ
-index_of word = (word - 16) % 24
+index_of word = (word - content_place 0 0) % apart
 
 -- what a look at an object's word tells: it has room for an entry, and while the thread is inside for writing, the version is that of its
 -- entry
 pub record IsSight (h : List ObjectStep) (o n : ℕ) : Type 0 where
   pub small : n < 2 ^ 63
-  pub version : inside_by o h ≡ Some Writing → n / 2 ^ 32 ≡ entered_at o 0 (map label_of h)
+  pub version : inside_by o h ≡ Some Writing → (fields_of n).version ≡ entered_at o 0 (map label_of h)
 
 abbrev pub looked : Step (Unit {0}) → M → ℕ → M → Type 0
 looked s me n w = (w ≡ me) × IsSight (history me.0) (object_of s.word) n
@@ -71,10 +73,10 @@ abbrev pub tried : (ℕ → Deed) → Step (Unit {0}) → M → ℕ → M → Ty
 tried d s me n w = (n ≡ s.first → w ≡ (did me.0 (object_of s.word) (d n), me.1)) × (n ≢ s.first → w ≡ me) × (n < 2 ^ 63)
 
 abbrev pub read_entry : ℕ → Deed
-read_entry n = Enter Reading (n / 2 ^ 32) 0
+read_entry n = Enter Reading (fields_of n).version 0
 
 abbrev pub write_entry : ℕ → Deed
-write_entry n = Enter Writing (n / 2 ^ 32) (n / 2 ^ 8 % 2 ^ 24)
+write_entry n = Enter Writing (fields_of n).version (fields_of n).left
 
 abbrev pub entered_read : Step (Unit {0}) → M → ℕ → M → Type 0
 entered_read = tried read_entry

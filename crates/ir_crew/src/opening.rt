@@ -4,30 +4,29 @@ ghost use Rattle.std.specs.Prelude.{◌≡◌, ◌<◌, ◌≤◌, ◌+◌, ◌*
 ghost use Rattle.std.specs.Slots.{slots_items, slots_len, IsFull};
 ghost use mathlib.Core.Option.{some};
 ghost use lib.ListN.{get_elem?};
-ghost use Rattle.ir_image.specs.Guest.{object_count};
-ghost use Rattle.ir_object.specs.Layout.{content_place};
+ghost use Rattle.ir_image.specs.Guest.{most_objects, object_count, object_words};
+ghost use Rattle.ir_object.specs.Layout.{word_place, content_place};
 ghost use Rattle.ir_crew.specs.Rule.{tracks_from};
 ghost use Rattle.ir_crew.specs.Ends.{AreSeats, IsEnd, IsLaid, IsObjectOf};
 
 use crate::plays::{Law, OffFirst};
 use crate::table::{Crew, CrewSeat};
 use atomic_table::{Closed, Table};
-use ir_image::Image;
+use ir_image::{Image, OBJECT_WORDS};
 use ir_object::{APART, CONTENT_PLACE, Object, WORD_PLACE, Word};
 use std::alloc::{AllocError, Global};
 
-// The words of an object's contents.
-const EACH: usize = 8;
-
 // The words of the table before the first step: of each object its word, and its contents.
 fn lay(alloc: Global, words: &[u32]) -> Result<Vec<u64>, AllocError>
-    requires few { length words.now ≤ 128 }
-    requires whole { length words.now % 8 ≡ 0 }
+    requires few { length words.now ≤ most_objects * object_words }
+    requires whole { length words.now % object_words ≡ 0 }
     ensures { IfOk result (λ v. IsLaid words.now v.items) }
 {
-    let mut laid = vec![in alloc; 0; WORD_PLACE + APART * (words.len() / EACH)]?;
+    let mut laid = vec![in alloc; 0; WORD_PLACE + APART * (words.len() / OBJECT_WORDS)]?;
     for at in 0..words.len() {
-        laid[CONTENT_PLACE + APART * (at / EACH) + at % EACH] = u64::from(words[at]);
+        laid[CONTENT_PLACE + APART * (at / OBJECT_WORDS) + at % OBJECT_WORDS] = u64::from(
+            words[at],
+        );
     }
     Ok(laid)
 }
@@ -80,9 +79,9 @@ fn content(closed: &Closed<(), Global>, o: usize, i: usize) -> u32
 
 // Object o, once all steps are taken.
 fn object(closed: &Closed<(), Global>, o: usize) -> Object
-    requires there { 32 + 24 * o ≤ slots_len closed.now.words }
+    requires there { word_place (o + 1) ≤ slots_len closed.now.words }
     requires full { IsFull closed.now.words }
-    requires small { (i word : ℕ) → i < 8 → get_elem? (slots_items closed.now.words) (content_place o i) ≡ some word → word < 2 ^ 32 }
+    requires small { (i word : ℕ) → i < object_words → get_elem? (slots_items closed.now.words) (content_place o i) ≡ some word → word < 2 ^ 32 }
     ensures { IsObjectOf (slots_items closed.now.words) o result }
 {
     Object::from_parts(

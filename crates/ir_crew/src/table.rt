@@ -1,7 +1,7 @@
 //! The table, and the steps on it that wait for nobody.
 
 ghost use Rattle.std.specs.Prelude.{◌≡◌, ◌≢◌, ◌+◌, ◌*◌, ◌<◌, ℕ, [], ◌++◌, Some, None};
-ghost use Rattle.ir_image.specs.Guest.{object_count};
+ghost use Rattle.ir_image.specs.Guest.{object_count, object_words};
 ghost use Rattle.ir_runs.specs.declared.access.Access.TheVariants.{Writing};
 ghost use Rattle.ir_object.specs.Layout.{table_length};
 ghost use Rattle.ir_crew.specs.Plays.{IsAlone, history, did, inside_by};
@@ -22,7 +22,7 @@ pub type CrewSeat = Seat<(), LinkedList<Track>>;
 /// The objects of a guest that is recorded by threads.
 #[derive(Drop)]
 pub struct Crew {
-    /// Word 0 is for joins. The word of object o is word 8 + 24 * o, its contents are words 16 + 24 * o + i.
+    /// Word 0 is for joins. The other words stand where `ir_object` lays an object's word and contents.
     pub table: Table<(), LinkedList<Track>, Image, Law, Global>,
     ghost words: { table.shared.table_id.words ≡ table_length (object_count table.shared.key) },
     ghost slots: { table.shared.table_id.slots ≡ 0 },
@@ -54,7 +54,7 @@ impl Crew {
     /// The word of an object that the seat's thread is inside.
     pub fn get(&self, seat: &mut CrewSeat, object: u8, index: u8) -> u32
         requires seat { (seat.old.table_id ≡ self.now.table.shared.table_id) × IsAlone seat.old.me.0 }
-        requires object { (object < object_count self.now.table.shared.key) × (index < 8) }
+        requires object { (object < object_count self.now.table.shared.key) × (index < object_words) }
         requires inside { inside_by object (history seat.old.me.0) ≢ None }
         ensures seat { (seat.new.table_id ≡ seat.old.table_id) × (seat.new.id ≡ seat.old.id) }
         ensures got { seat.new.me ≡ (did seat.old.me.0 object (Got index result), seat.old.me.1) }
@@ -66,7 +66,7 @@ impl Crew {
     /// Writes a word of an object that the seat's thread is inside for writing.
     pub fn put(&self, seat: &mut CrewSeat, object: u8, index: u8, value: u32)
         requires seat { (seat.old.table_id ≡ self.now.table.shared.table_id) × IsAlone seat.old.me.0 }
-        requires object { (object < object_count self.now.table.shared.key) × (index < 8) }
+        requires object { (object < object_count self.now.table.shared.key) × (index < object_words) }
         requires inside { inside_by object (history seat.old.me.0) ≡ Some Writing }
         ensures seat { (seat.new.table_id ≡ seat.old.table_id) × (seat.new.id ≡ seat.old.id) }
         ensures put { seat.new.me ≡ (did seat.old.me.0 object (Wrote index value), seat.old.me.1) }

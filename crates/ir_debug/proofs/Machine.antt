@@ -14,29 +14,10 @@ use Rattle.ir_command.specs.declared.refusal.Refusal.{Refusal}
 use Rattle.ir_command.specs.declared.refusal.Refusal.TheVariants.{LineTooLong}
 use Rattle.ir_debug.specs.Machine.Desk.{Desk}
 use Rattle.ir_debug.specs.Machine.Refusals.{refusal_of}
-use Rattle.ir_debug.specs.Machine.Answers.{Gives, CarriesOut, AnswersBy, Answers, RepliesBy, Replies}
+use Rattle.ir_debug.specs.Machine.Answers.{Gives, CarriesOut, AnswersBy, Answers, RepliesBy, Replies, quits_by, quits}
 
 pub small_machine : Replying Desk
 small_machine = Replies
-
--- ---- of a line, no more than 1,025 bytes matter
-
-too_long : (line : List ℕ) → most_line < length line → command_of line ≡ Err LineTooLong
-unfolding command_of
-too_long line h = let e : nat_lt most_line (length line) ≡ true = lt-ltb most_line (length line) h in rw e refl
-
-long_at : (k : ℕ) (line : List ℕ) → most_line < k → command_of (take k line) ≡ command_of line
-long_at k line h =
-    elim (cases_lt k (length line)) [
-      | inl lt ↦ too_long (take k line) (omega (arith, length-take k line)) ∙ sym (too_long line (omega arith))
-      | inr le ↦ ap (λ l. command_of l) (take_all k line le)
-    ]
-
-pub long_replies : (d : Desk) (line text : List ℕ) (next : Desk) → Replies d (take 1025 line) text next → Replies d line text next
-unfolding Replies
-long_replies d line text next is =
-    let P : Result (Option Command) Refusal → Type 0 = λ a. EachRun d.fitted (λ run. RepliesBy a run d text next) in
-    subst P (long_at 1025 line (omega arith)) is
 
 -- ---- what each answer keeps: the guest and its trace
 

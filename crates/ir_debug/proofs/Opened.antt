@@ -1,44 +1,35 @@
 -- From the answers to lines to the bytes of a session.
-use Rattle.std.proofs.Common.{◌≡◌, ◌≢◌, ℕ, List, [], ◌∷◌, ◌++◌, Option, Some, None, Result, Ok, Err, refl, sym, ap, subst, ◌∙◌, append_assoc, arith}
+use Rattle.std.proofs.Common.{◌≡◌, ◌≢◌, ℕ, List, [], ◌∷◌, ◌++◌, Option, Some, None, Result, Ok, Err, refl, sym, ap, subst, ◌∙◌, append_assoc, arith, false}
 use Rattle.std.specs.Prelude.{IfSome}
+use Rattle.std.proofs.lemmas.List.{append-nil}
 use Rattle.std.specs.Io.KnownBytes.{Appends, Consumes, IsAtEnd}
 use Rattle.std.proofs.KnownBytes.{Appends-trans}
 use Rattle.ir_stream.specs.Lines.{cut, lines_of, heard}
-use Rattle.ir_stream.specs.Answers.{Wrote, WrotePrefix, through}
-use Rattle.ir_stream.specs.Determined.{Only, answers}
-use Rattle.ir_stream.proofs.CallerLemmas.{wrote_only, prefix_only, prefix_after}
+use Rattle.ir_stream.specs.Answers.{Answered, Wrote, WrotePrefix, through, some_quits}
+use Rattle.ir_stream.proofs.CallerLemmas.{prefix_after}
 use Rattle.ir_stream.specs.Devices.{AppendsPrefix, Reads}
-use Rattle.ir_stream.specs.Endings.{IfEnded, LeadsTo}
+use Rattle.ir_stream.specs.Endings.{IfEnded, LeadsTo, ends}
 use Rattle.ir_stream.specs.declared.serving.Served.{Served}
 use Rattle.ir_stream.specs.declared.serving.Served.TheVariants as served
 use Rattle.ir_stream.specs.declared.serving.Fault.{Fault}
 use Rattle.ir_stream.specs.declared.serving.Fault.TheVariants as fault
-use Rattle.ir_debug.specs.Reference.{Reference, reply_to, next_after, is_quit}
-use Rattle.ir_debug.specs.Session.{Session, IfServed, ended_by, opening_text, told, answers_after}
-use Rattle.ir_debug.specs.declared.opening.Opening.{Opening}
-use Rattle.ir_debug.specs.declared.opening.Opening.TheVariants.{Ready}
+use Rattle.ir_debug.specs.Machine.Desk.{Desk}
+use Rattle.ir_debug.specs.Machine.Answers.{Replies, quits}
+use Rattle.ir_debug.specs.Machine.Opening.{Opening, ImageRefused, TraceRefused, Unfit, Ready, Opens, opening_text}
+use Rattle.ir_debug.specs.Debugging.{Debugging}
+use Rattle.ir_debug.specs.Opened.{opening_of}
+use Rattle.ir_debug.specs.declared.opening.Opened.{Opened}
+use Rattle.ir_debug.specs.declared.opening.Opened.TheVariants as opened
+use Rattle.ir_debug.specs.Session.{Session, AnsweredWhole, AnsweredInPart, Emits, Writes, WritesPrefix, IfServed, ended_by, ending_of}
 use Rattle.ir_debug.specs.declared.ended.Ended.{Ended}
 use Rattle.ir_debug.specs.declared.ended.SessionErr.{SessionErr}
 use Rattle.ir_debug.specs.declared.ended.SessionErr.TheVariants as err
 
 -- ---- before a line is read
 
-prefix_more : (a b : Option (List ℕ)) (text more : List ℕ) → AppendsPrefix a b text → AppendsPrefix a b (text ++ more)
-prefix_more a b text more f = record {
-  part = f.part;
-  more = f.more ++ more;
-  splits = ap (λ (t : List ℕ). t ++ more) f.splits ∙ append_assoc f.part f.more more;
-  grown = f.grown;
-}
-
 nothing_read : (a : Option (List ℕ)) → Consumes a a []
 nothing_read None = tt
 nothing_read (Some xs) = refl
-
--- the writer failed in the opening lines, or the answers after them
-abbrev pub Fails : Opening → Option (List ℕ) → Option (List ℕ) → Option (List ℕ) → List ℕ → Type 0
-Fails opening a w0 w1 consumed = (through is_quit (lines_of consumed) ≡ lines_of consumed) × ((cut consumed).rest ≢ [] → IsAtEnd a)
-    × AppendsPrefix w0 w1 (told opening (lines_of consumed))
 
 no_line : lines_of [] ≡ []
 unfolding cut
@@ -48,24 +39,67 @@ no_rest : (cut []).rest ≡ []
 unfolding cut
 no_rest = refl
 
-through-none : (lines : List (List ℕ)) → lines ≡ [] → through is_quit lines ≡ lines
+through-none : (lines : List (List ℕ)) → lines ≡ [] → through quits lines ≡ lines
 unfolding through
 through-none [] e = refl
 through-none (l ∷ ls) e = absurd cc
 
-pub none_read : (opening : Opening) (limit : ℕ) (a w0 w1 : Option (List ℕ)) → AppendsPrefix w0 w1 (opening_text opening)
-    → Reads limit a a (Fails opening a w0 w1)
-none_read opening limit a w0 w1 prefix = record {
+-- the opening lines alone, where there are no other lines
+emits-none : (o : Opening) (lines : List (List ℕ)) → lines ≡ [] → Emits o lines (opening_text o)
+unfolding Answered
+emits-none (ImageRefused e) lines none = refl
+emits-none (TraceRefused e) lines none = refl
+emits-none (Unfit v) lines none = refl
+emits-none (Ready d) [] none = ([], d, (refl, refl), sym (append-nil (opening_text (Ready d))))
+emits-none (Ready d) (l ∷ ls) none = absurd cc
+
+-- the writer failed in the opening lines
+pub none_read : (image trace : List ℕ) (o : Opening) (limit : ℕ) (a w0 w1 : Option (List ℕ)) → Opens image trace o
+    → AppendsPrefix w0 w1 (opening_text o) → Reads limit a a (AnsweredInPart image trace a w0 w1)
+none_read image trace o limit a w0 w1 opens prefix = record {
   consumed = [];
   taken = nothing_read a;
   within = omega arith;
-  holds = (
-    through-none (lines_of []) no_line,
-    λ some. absurd (some no_rest),
-    prefix_more w0 w1 (opening_text opening)
-        (answers_after opening (lines_of [])) prefix,
-  );
+  holds = record {
+    opening = o;
+    opens = opens;
+    goes = through-none (lines_of []) no_line;
+    ended = λ some. absurd (some no_rest);
+    wrote = record { text = opening_text o; emits = emits-none o (lines_of []) no_line; grown = prefix };
+  };
 }
+
+-- ---- where no machine is ready
+
+-- nothing but the opening lines is written, whatever the lines
+abbrev pub IsRefusal : Opening → Type 0
+IsRefusal o = (lines : List (List ℕ)) → Emits o lines (opening_text o)
+
+pub image_refusal : (e : _) → IsRefusal (ImageRefused e)
+image_refusal e = λ lines. refl
+
+pub trace_refusal : (e : _) → IsRefusal (TraceRefused e)
+trace_refusal e = λ lines. refl
+
+pub unfit_refusal : (v : _) → IsRefusal (Unfit v)
+unfit_refusal v = λ lines. refl
+
+pub refused : (image trace : List ℕ) (o : Opening) (limit : ℕ) (result : Result Ended SessionErr) (w0 w1 : Option (List ℕ)) (input : List ℕ)
+    → Opens image trace o → IsRefusal o → result ≡ ending_of o limit input → Appends w0 w1 (opening_text o)
+    → Session image trace limit result w0 w1 input
+refused image trace o limit result w0 w1 input opens is ending grown = record {
+  opening = o;
+  opens = opens;
+  ending = ending;
+  wrote = record { text = opening_text o; emits = is (through quits (heard limit input)); grown = grown };
+}
+
+pub reads_nothing : (limit : ℕ) (a : Option (List ℕ)) (P : List ℕ → Type 0) → P [] → Reads limit a a P
+reads_nothing limit a P p = record { consumed = []; taken = nothing_read a; within = omega arith; holds = p }
+
+pub if_some : (a : Option (List ℕ)) (P : List ℕ → Type 0) → ((input : List ℕ) → P input) → IfSome a P
+if_some None P p = tt
+if_some (Some xs) P p = p xs
 
 -- ---- after the opening lines
 
@@ -75,55 +109,56 @@ Reads-map limit a b P Q go reads = record {
   consumed = reads.consumed;
   taken = reads.taken;
   within = reads.within;
-  holds =
-      go reads.consumed reads.holds;
+  holds = go reads.consumed reads.holds;
 }
 
-pub IfSome-map : (a : Option (List ℕ)) (P Q : List ℕ → Type 0) → ((input : List ℕ) → P input → Q input) → IfSome a P → IfSome a Q
+IfSome-map : (a : Option (List ℕ)) (P Q : List ℕ → Type 0) → ((input : List ℕ) → P input → Q input) → IfSome a P → IfSome a Q
 IfSome-map None P Q go p = tt
 IfSome-map (Some xs) P Q go p = go xs p
 
-pub IfServed-by : (r : Result Served Fault) (P Q : Type 0) → (P → Q) → IfEnded r P → IfServed (ended_by r) Q
+IfServed-by : (r : Result Served Fault) (P Q : Type 0) → (P → Q) → IfEnded r P → IfServed (ended_by r) Q
 IfServed-by (Ok served.Quit) P Q go p = go p
 IfServed-by (Ok served.InputEnd) P Q go p = go p
 IfServed-by (Err fault.Read) P Q go p = tt
 IfServed-by (Err fault.Write) P Q go p = tt
 IfServed-by (Err fault.TooLong) P Q go p = go p
 
--- the answers after the opening lines
-pub session_of : (opening : Opening) (m : Reference) (limit : ℕ) (r : Result Served Fault) (w0 w1 w2 : Option (List ℕ)) (input : List ℕ)
-    → Ready m ≡ opening → Appends w0 w1 (opening_text (Ready m))
-    → LeadsTo (Only reply_to next_after) is_quit m limit r w1 w2 input → Session opening limit (ended_by r) w0 w2 input
-session_of opening m limit r w0 w1 w2 input is begun leads =
-    let P : Opening → Type 0 = λ o. Session o limit (ended_by r) w0 w2 input in
-    let answered : List ℕ = answers reply_to next_after m (through is_quit (heard limit input)) in
-    subst P is (record {
-      ending = ap ended_by leads.ending;
-      wrote = Appends-trans w0 w1 w2 (opening_text (Ready m)) answered begun
-          (wrote_only reply_to next_after m (through is_quit (heard limit input)) w1 w2 leads.wrote);
-    })
+-- what was opened, and its opening lines, where a debugger is ready
+pub opens_ready : (image trace : List ℕ) (o : Opened) (d : Debugging) → o ≡ opened.Ready d → Opens image trace (opening_of o)
+    → Opens image trace (Ready d.desk)
+opens_ready image trace o d is = subst (λ (x : Opened). Opens image trace (opening_of x)) is
 
--- all answers to whole lines after the opening lines
-pub told_after : (opening : Opening) (m : Reference) (w0 w1 w2 : Option (List ℕ)) (lines : List (List ℕ)) → Ready m ≡ opening
-    → Appends w0 w1 (opening_text (Ready m))
-    → Wrote (Only reply_to next_after) m lines w1 w2 → Appends w0 w2 (told opening lines)
-told_after opening m w0 w1 w2 lines is begun grown =
-    let P : Opening → Type 0 = λ o. Appends w0 w2 (told o lines) in
-    subst P is (Appends-trans w0 w1 w2 (opening_text (Ready m)) (answers reply_to next_after m lines) begun
-    (wrote_only reply_to next_after m lines w1 w2 grown))
+pub begun_ready : (o : Opened) (d : Debugging) (w0 w1 : Option (List ℕ)) → o ≡ opened.Ready d
+    → Appends w0 w1 (opening_text (opening_of o)) → Appends w0 w1 (opening_text (Ready d.desk))
+begun_ready o d w0 w1 is = subst (λ (x : Opened). Appends w0 w1 (opening_text (opening_of x))) is
 
--- a prefix of the answers after the opening lines
-pub told_prefix : (opening : Opening) (m : Reference) (w0 w1 w2 : Option (List ℕ)) (lines : List (List ℕ)) → Ready m ≡ opening
-    → Appends w0 w1 (opening_text (Ready m))
-    → WrotePrefix (Only reply_to next_after) m lines w1 w2 → AppendsPrefix w0 w2 (told opening lines)
-told_prefix opening m w0 w1 w2 lines is begun prefix =
-    let P : Opening → Type 0 = λ o. AppendsPrefix w0 w2 (told o lines) in
-    subst P is (prefix_after w0 w1 w2 (opening_text (Ready m)) (answers reply_to next_after m lines) begun
-    (prefix_only reply_to next_after m lines w1 w2 prefix))
+-- all answers after the opening lines
+pub writes : (d : Desk) (lines : List (List ℕ)) (w0 w1 w2 : Option (List ℕ)) → Appends w0 w1 (opening_text (Ready d))
+    → Wrote Replies d lines w1 w2 → Writes (Ready d) lines w0 w2
+writes d lines w0 w1 w2 begun wrote = record {
+  text = opening_text (Ready d) ++ wrote.text;
+  emits = (wrote.text, wrote.last, wrote.answered, refl);
+  grown = Appends-trans w0 w1 w2 (opening_text (Ready d)) wrote.text begun wrote.grown;
+}
 
-pub begun_at : (opening : Opening) (m : Reference) (w0 w1 : Option (List ℕ)) → opening ≡ Ready m → Appends w0 w1 (opening_text opening)
-    → Appends w0 w1 (opening_text (Ready m))
-begun_at opening m w0 w1 is begun = let P : Opening → Type 0 = λ o. Appends w0 w1 (opening_text o) in subst P is begun
+-- a prefix of them
+pub writes_prefix : (d : Desk) (lines : List (List ℕ)) (w0 w1 w2 : Option (List ℕ)) → Appends w0 w1 (opening_text (Ready d))
+    → WrotePrefix Replies d lines w1 w2 → WritesPrefix (Ready d) lines w0 w2
+writes_prefix d lines w0 w1 w2 begun wrote = record {
+  text = opening_text (Ready d) ++ wrote.text;
+  emits = (wrote.text, wrote.last, wrote.answered, refl);
+  grown = prefix_after w0 w1 w2 (opening_text (Ready d)) wrote.text begun wrote.grown;
+}
+
+session_of : (image trace : List ℕ) (d : Desk) (limit : ℕ) (r : Result Served Fault) (w0 w1 w2 : Option (List ℕ)) (input : List ℕ)
+    → Opens image trace (Ready d) → Appends w0 w1 (opening_text (Ready d)) → LeadsTo Replies quits d limit r w1 w2 input
+    → Session image trace limit (ended_by r) w0 w2 input
+session_of image trace d limit r w0 w1 w2 input opens begun leads = record {
+  opening = Ready d;
+  opens = opens;
+  ending = ap ended_by leads.ending;
+  wrote = writes d (through quits (heard limit input)) w0 w1 w2 begun leads.wrote;
+}
 
 pub was_read : (r : Result Served Fault) → ended_by r ≡ Err err.Read → r ≡ Err fault.Read
 was_read (Ok served.Quit) e = absurd cc
@@ -140,20 +175,20 @@ was_write (Err fault.Write) e = refl
 was_write (Err fault.TooLong) e = absurd cc
 
 -- what a session says of its whole input, from what was said of the lines
-pub served_known : (opening : Opening) (m : Reference) (limit : ℕ) (result : Result Ended SessionErr) (r : Result Served Fault)
-    (a w0 w1 w2 : Option (List ℕ)) → result ≡ ended_by r → Ready m ≡ opening → Appends w0 w1 (opening_text (Ready m))
-    → IfEnded r (IfSome a (LeadsTo (Only reply_to next_after) is_quit m limit r w1 w2))
-    → IfServed result (IfSome a (Session opening limit result w0 w2))
-served_known opening m limit result r a w0 w1 w2 ended is begun known =
-    let P : Result Ended SessionErr → Type 0 = λ x. IfServed x (IfSome a (Session opening limit x w0 w2)) in
-    subst P (sym ended) (IfServed-by r _ _ (IfSome-map a _ _ (λ input leads. session_of opening m limit r w0 w1 w2 input is begun leads))
-    known)
+pub served_known : (image trace : List ℕ) (d : Desk) (limit : ℕ) (result : Result Ended SessionErr) (r : Result Served Fault)
+    (a w0 w1 w2 : Option (List ℕ)) → result ≡ ended_by r → Opens image trace (Ready d) → Appends w0 w1 (opening_text (Ready d))
+    → IfEnded r (IfSome a (LeadsTo Replies quits d limit r w1 w2))
+    → IfServed result (IfSome a (Session image trace limit result w0 w2))
+served_known image trace d limit result r a w0 w1 w2 ended opens begun known =
+    let P : Result Ended SessionErr → Type 0 = λ x. IfServed x (IfSome a (Session image trace limit x w0 w2)) in
+    subst P (sym ended) (IfServed-by r _ _
+    (IfSome-map a _ _ (λ input leads. session_of image trace d limit r w0 w1 w2 input opens begun leads)) known)
 
-pub served_ended : (opening : Opening) (m : Reference) (limit : ℕ) (result : Result Ended SessionErr) (r : Result Served Fault)
-    (a b w0 w1 w2 : Option (List ℕ)) → result ≡ ended_by r → Ready m ≡ opening → Appends w0 w1 (opening_text (Ready m))
-    → IfEnded r (Reads limit a b (LeadsTo (Only reply_to next_after) is_quit m limit r w1 w2))
-    → IfServed result (Reads limit a b (Session opening limit result w0 w2))
-served_ended opening m limit result r a b w0 w1 w2 ended is begun known =
-    let P : Result Ended SessionErr → Type 0 = λ x. IfServed x (Reads limit a b (Session opening limit x w0 w2)) in
+pub served_ended : (image trace : List ℕ) (d : Desk) (limit : ℕ) (result : Result Ended SessionErr) (r : Result Served Fault)
+    (a b w0 w1 w2 : Option (List ℕ)) → result ≡ ended_by r → Opens image trace (Ready d) → Appends w0 w1 (opening_text (Ready d))
+    → IfEnded r (Reads limit a b (LeadsTo Replies quits d limit r w1 w2))
+    → IfServed result (Reads limit a b (Session image trace limit result w0 w2))
+served_ended image trace d limit result r a b w0 w1 w2 ended opens begun known =
+    let P : Result Ended SessionErr → Type 0 = λ x. IfServed x (Reads limit a b (Session image trace limit x w0 w2)) in
     subst P (sym ended) (IfServed-by r _ _ (Reads-map limit a b _ _
-    (λ input leads. session_of opening m limit r w0 w1 w2 input is begun leads)) known)
+    (λ input leads. session_of image trace d limit r w0 w1 w2 input opens begun leads)) known)

@@ -26,14 +26,6 @@ reason_text Full = codes "full"
 abbrev pub refusal_text : Refusal → List ℕ
 refusal_text r = codes "refused " ++ decimal (refusal_number r) ++ codes " " ++ reason_text r ++ codes "\n"
 
--- where a move stopped, of a thread whose last position is given
-abbrev pub stop_text : ℕ → ℕ → List ℕ
-stop_text last at = if at == last then codes " end\n" else if at == 0 then codes " start\n" else codes "\n"
-
--- the answer to a move
-abbrev pub place_text : ℕ → ℕ → List ℕ
-place_text last at = codes "at " ++ decimal at ++ stop_text last at
-
 -- four registers stand in a line
 abbrev pub after_register : ℕ → List ℕ
 after_register n = if n % 4 == 3 then codes "\n" else codes " "

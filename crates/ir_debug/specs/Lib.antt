@@ -1,9 +1,8 @@
-pub mod Recorded
-pub mod Numbers
-pub mod TraceReading
-pub mod Fitting
 pub mod Answers
-pub mod Reference
-pub mod LongLines
-pub mod Session
 pub mod Machine
+pub mod Debugging
+pub mod Opened
+pub mod Session
+pub mod LongLines
+pub mod AtHand
+pub mod Buffered

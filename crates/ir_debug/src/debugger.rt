@@ -1,130 +1,250 @@
-//! The debugger: one thread of a guest, at a position of its recorded run.
+//! The debugger: a guest with the trace of one of its runs, at a consistent cut.
 
-ghost use Rattle.std.specs.Prelude.{◌≡◌, ◌^◌, ◌≤◌, ◌+◌, ◌++◌, ◌<◌, IfOk};
-ghost use Rattle.std.specs.Io.KnownBytes.{Appends};
-ghost use Rattle.arrayvec.specs.ArrayVec.{array_vec_len};
-ghost use Rattle.ir_stream.specs.Endings.{flow_after};
-ghost use Rattle.ir_stream.specs.Determined.{Only};
-ghost use Rattle.ir_stream.specs.Answers.{Replied, RepliedPrefix};
-ghost use Rattle.ir_debug.specs.Fitting.{thread_at};
-ghost use Rattle.ir_debug.specs.Reference.{Reference, reference_of, moved, asked_of, answer_to_command, next_of_command, answer_to, next_of, reply_to, next_after, is_quit, ends_session};
-ghost use Rattle.ir_debug.specs.LongLines.{long_replies, long_quit};
+ghost use Rattle.std.specs.Prelude.{◌≡◌};
+ghost use Rattle.ir_debug.specs.Debugging.{Debugging, IsDebugging};
 
-use crate::answer::{Text, put_machine, put_place, put_refusal};
-use crate::fit::run;
-use crate::trace::Trace;
-use ir_command::{Command, MOST_LINE, Move, Refusal, Show, next_word, parse_line, without_return};
-use ir_image::Image;
-use ir_stream::{DeviceErr, Flow, Responder, Sink, append, write_all};
-use ir_thread::Thread;
+use crate::answer::Answer;
+use crate::bringing::bring;
+use crate::destinations::{destination, first_cut};
+use crate::next::next_line;
+use ir_command::{Command, Move, Refusal, Show};
+use ir_cut::Cut;
+use ir_fit::Fitted;
+use ir_object::Gate;
+use ir_replay::State;
 use std::alloc::{AllocError, Global};
 use std::marker::Model;
+use std::thread::Threads;
+use std::time::Clock;
 
-/// A debugger, which answers as the reference machine does that holds the guest's run and a position.
+/// A debugger, which answers as the small machine does that holds a recorded run of the guest and a position of each
+/// thread. Beside these it has the guest's threads and objects at a consistent cut, which is the one that it answers of
+/// wherever an answer needs them.
 #[derive(Drop)]
 pub struct Debugger {
-    image: Image,
-    thread: Thread,
-    budget: u64,
-    last: u64,
-    at: u64,
+    fitted: Fitted,
+    at: Cut,
+    fresh: bool,
+    state: State,
 }
 
 impl Model for Debugger {
-    ghost Value = { Reference };
+    ghost Value = { Debugging };
 
-    ghost view = { λ d. record { guest = d.image; budget = d.budget; last = d.last; at = d.at } };
+    ghost view = { λ d. record { desk = record { fitted = d.fitted; at = d.at; fresh = d.fresh }; state = d.state } };
 
-    ghost invariant = { λ d. (d.thread ≡ thread_at d.image d.budget d.at) × (d.at ≤ d.last) };
+    ghost invariant = { λ d. IsDebugging (record { desk = record { fitted = d.fitted; at = d.at; fresh = d.fresh }; state = d.state }) };
 }
 
 impl Debugger {
-    /// A debugger at the start of the recorded run of the guest's first thread.
+    ghost use Rattle.std.specs.Prelude.{◌<◌, List, ℕ, None, false, length, IfOk, OnOk, OnErr};
+    ghost use Rattle.ir_cut.specs.Positions.{EachRun, IsConsistentCut, cut_of};
+    ghost use Rattle.ir_command.specs.declared.command.Command.TheVariants as command;
+    ghost use Rattle.ir_command.specs.declared.command.Show.TheVariants as show;
+    ghost use Rattle.ir_command.specs.declared.refusal.Refusal.TheVariants as refusal;
+    ghost use Rattle.ir_debug.specs.declared.answer.Answer.TheVariants as answer;
+    ghost use Rattle.ir_debug.specs.Machine.Desk.{IsDesk, desk_of, moved, spoken, threads_of};
+    ghost use Rattle.ir_debug.specs.Machine.Refusals.{refusal_of};
+    ghost use Rattle.ir_debug.specs.Machine.Moves.{Leads};
+    ghost use Rattle.ir_debug.specs.Machine.Shown.{shown};
+    ghost use Rattle.ir_debug.specs.Machine.Answers.{Answers, AnswersBy};
+    ghost use Rattle.ir_debug.specs.Debugging.{IsLast, IsThere, answer_text};
+
+    /// A debugger with all threads at 0.
     ///
     /// # Errors
-    /// Want of memory.
-    pub fn open(alloc: Global, image: Image, trace: &Trace) -> Result<Debugger, AllocError>
-        ensures { IfOk result (λ d. d ≡ reference_of image trace.now) }
+    /// Out of memory.
+    pub fn open(alloc: Global, fitted: Fitted) -> Result<Debugger, AllocError>
+        ensures { IfOk result (λ d. d.desk ≡ desk_of fitted) }
     {
-        let _entries = image.entries();
-        let thread = Thread::new(alloc, &image, 0, trace.budget())?;
+        fitted.known();
+        let at = first_cut(alloc, &fitted)?;
+        let state = State::start(alloc, &fitted)?;
         Ok(Debugger {
-            image,
-            thread,
-            budget: trace.budget(),
-            last: trace.steps(),
-            at: 0,
+            fitted,
+            at,
+            fresh: true,
+            state,
         })
     }
 
-    fn step(&mut self, count: u64)
-        ensures { self.new ≡ moved self.old count }
+    /// The guest and its trace.
+    pub fn fitted(&self) -> &Fitted
+        ensures value { result.now ≡ self.now.desk.fitted }
+        ensures desk { IsDesk self.now.desk }
     {
-        let count = count.min(self.last - self.at);
-        run(&mut self.thread, self.image.code(), count);
-        self.at += count;
+        &self.fitted
     }
 
-    fn carry_out(&mut self, command: Command, text: &mut Text)
-        requires { array_vec_len text.old ≡ 0 }
-        ensures text { text.new.items ≡ text.old.items ++ answer_to_command self.old command }
-        ensures next { self.new ≡ next_of_command self.old command }
+    /// The position of each thread.
+    pub fn at(&self) -> &Cut
+        ensures { result.now ≡ self.now.desk.at }
     {
-        match command {
-            Command::Move(Move::Step { thread: 0, count }) => {
-                self.step(count as u64);
-                put_place(text, self.last, self.at);
-            }
-            Command::Show(Show::Registers { thread: 0 }) => put_machine(text, self.thread.mach()),
-            Command::Move(Move::Step { .. }) | Command::Show(Show::Registers { .. }) => {
-                put_refusal(text, Refusal::NoSuchThread)
-            }
-            Command::Quit => append(text, b"bye\n"),
-            _ => put_refusal(text, Refusal::UnknownCommand),
+        &self.at
+    }
+
+    // The threads and objects in hand, which stand at the cut only where an answer needs them.
+    pub(crate) fn state(&self) -> &State
+        ensures { result.now ≡ self.now.state }
+    {
+        &self.state
+    }
+
+    /// Refuses a line. Nothing changes, but for what the last answer was.
+    pub fn refuse(&mut self, refusal: Refusal) -> Answer
+        ensures desk { self.new.desk ≡ spoken self.old.desk }
+        ensures answer { result ≡ answer.Refused refusal }
+    {
+        self.fresh = false;
+        Answer::Refused(refusal)
+    }
+
+    // Brings the threads and objects in hand to the cut.
+    fn bring_here<R: Threads + Clock + Sync, G: Gate + Sync>(
+        &mut self,
+        rt: &R,
+        alloc: Global,
+        gate: &G,
+    ) -> Result<(), AllocError>
+        ensures desk { self.new.desk ≡ spoken self.old.desk }
+        ensures there { OnOk result (IsThere self.new) }
+        ensures lacks { OnErr result (self.old.desk.fresh ≡ false) }
+    {
+        self.fresh = false;
+        bring(rt, alloc, &self.fitted, &mut self.state, &self.at, gate)
+    }
+
+    // Brings all threads to a cut, which is the debugger's then.
+    fn go_to<R: Threads + Clock + Sync, G: Gate + Sync>(
+        &mut self,
+        rt: &R,
+        alloc: Global,
+        to: Cut,
+        gate: &G,
+    ) -> Result<(), AllocError>
+        requires size { length to ≡ threads_of self.old.desk.fitted }
+        requires consistent { IsConsistentCut self.old.desk.fitted to }
+        ensures ok { OnOk result (self.new.desk ≡ moved self.old.desk to) }
+        ensures err { OnErr result (self.new.desk ≡ spoken self.old.desk) }
+    {
+        self.fresh = false;
+        bring(rt, alloc, &self.fitted, &mut self.state, &to, gate)?;
+        self.at = to;
+        self.fresh = true;
+        Ok(())
+    }
+
+    // Finds the cut to which a move leads, and goes there.
+    fn carry_out<R: Threads + Clock + Sync, G: Gate + Sync>(
+        &mut self,
+        rt: &R,
+        alloc: Global,
+        to: Move,
+        gate: &G,
+    ) -> Result<(), AllocError>
+        requires { refusal_of self.old.desk (command.Move to) ≡ None }
+        ensures ok { OnOk result ((cut : List ℕ) × EachRun self.old.desk.fitted (λ run. Leads run self.old.desk to cut) × (self.new.desk ≡ moved self.old.desk cut)) }
+        ensures err { OnErr result (self.new.desk ≡ spoken self.old.desk) }
+    {
+        self.fresh = false;
+        let cut = destination(alloc, &self.fitted, &self.at, to)?;
+        self.go_to(rt, alloc, cut, gate)
+    }
+
+    // The answer to a move that isn't refused.
+    fn answer_move<R: Threads + Clock + Sync, G: Gate + Sync>(
+        &mut self,
+        rt: &R,
+        alloc: Global,
+        to: Move,
+        gate: &G,
+    ) -> Answer
+        requires { refusal_of self.old.desk (command.Move to) ≡ None }
+        ensures fitted { self.new.desk.fitted ≡ self.old.desk.fitted }
+        ensures answers { EachRun self.old.desk.fitted (λ run. AnswersBy None run self.old.desk (command.Move to) (answer_text run self.new.desk result) self.new.desk) }
+        ensures last { IsLast self.new result }
+    {
+        match self.carry_out(rt, alloc, to, gate) {
+            Ok(()) => Answer::Moved(to),
+            Err(AllocError) => self.refuse(Refusal::NoMemory),
         }
     }
-}
 
-// What a line asks; a command that isn't served is unknown.
-#[tactic(auto, unfolding(crate::specs::Reference::asked_of, ir_command::specs::Commands::command_of))]
-fn asked(line: &[u8]) -> Result<Option<Command>, Refusal>
-    ensures { result ≡ asked_of line.now }
-{
-    if line.len() > MOST_LINE {
-        return Err(Refusal::LineTooLong);
+    // The line of the next step of thread t.
+    fn show_next<R: Threads + Clock + Sync, G: Gate + Sync>(
+        &mut self,
+        rt: &R,
+        alloc: Global,
+        thread: u32,
+        gate: &G,
+    ) -> Result<Vec<u8>, AllocError>
+        requires { thread < threads_of self.old.desk.fitted }
+        ensures desk { self.new.desk ≡ spoken self.old.desk }
+        ensures line { IfOk result (λ line. EachRun self.old.desk.fitted (λ run. line.items ≡ shown run self.old.desk (show.Next thread))) }
+    {
+        self.bring_here(rt, alloc, gate)?;
+        let threads = self.state.threads();
+        next_line(alloc, self.fitted.image().code(), &threads[thread as usize])
     }
-    match next_word(without_return(line)) {
-        Some((b"step" | b"regs" | b"quit", _)) | None => parse_line(line),
-        Some(_) => Err(Refusal::UnknownCommand),
-    }
-}
 
-impl Responder for Debugger {
-    ghost replies = { Only reply_to next_after };
-
-    ghost quits = { is_quit };
-
-    ghost room = { λ _. 2 ^ 64 };
-
-    #[tactic(auto, unfolding(crate::specs::Reference::reply_to, crate::specs::Reference::next_after, crate::specs::Reference::is_quit))]
-    fn respond<W: Sink>(&mut self, line: &[u8], writer: &mut W) -> Result<Flow, DeviceErr> {
-        let mut text = Text::new();
-        let mut flow = Flow::Goes;
-        match asked(line) {
-            Ok(None) => {}
-            Ok(Some(command)) => {
-                if matches!(command, Command::Quit) {
-                    flow = Flow::Quits;
-                }
-                self.carry_out(command, &mut text);
-            }
-            Err(refusal) => put_refusal(&mut text, refusal),
+    // The answer to a command that shows something, and isn't refused.
+    fn answer_show<R: Threads + Clock + Sync, G: Gate + Sync>(
+        &mut self,
+        rt: &R,
+        alloc: Global,
+        show: Show,
+        gate: &G,
+    ) -> Answer
+        requires { refusal_of self.old.desk (command.Show show) ≡ None }
+        ensures fitted { self.new.desk.fitted ≡ self.old.desk.fitted }
+        ensures answers { EachRun self.old.desk.fitted (λ run. AnswersBy None run self.old.desk (command.Show show) (answer_text run self.new.desk result) self.new.desk) }
+        ensures last { IsLast self.new result }
+    {
+        if let Show::Next { thread } = show {
+            return match self.show_next(rt, alloc, thread, gate) {
+                Ok(line) => Answer::Next(line),
+                Err(AllocError) => self.refuse(Refusal::NoMemory),
+            };
         }
-        write_all(writer, text.as_slice())?;
-        Ok(flow)
+        match self.bring_here(rt, alloc, gate) {
+            Ok(()) => Answer::Shown(show),
+            Err(AllocError) => self.refuse(Refusal::NoMemory),
+        }
     }
 
-    ghost long_replies = { long_replies };
-
-    ghost long_quits = { long_quit };
+    /// Carries out a command. A move brings the threads to the cut to which it leads: forwards from where they stand, on
+    /// threads of the system's, and where one has to go back, from the start anew. Before something is shown, threads
+    /// that a move left elsewhere for lack of memory are brought to the cut.
+    ///
+    /// What the answer tells is that of every run of the guest with the trace. A command is refused that names a thread
+    /// or an object that there isn't, or bytes that aren't all in the code or in private memory; and where memory runs
+    /// out, which after `open` and after a move happens to no command that shows something but `next`. A refusal leaves
+    /// all positions as they were.
+    pub fn command<R: Threads + Clock + Sync, G: Gate + Sync>(
+        &mut self,
+        rt: &R,
+        alloc: Global,
+        command: &Command,
+        gate: &G,
+    ) -> Answer
+        ensures fitted { self.new.desk.fitted ≡ self.old.desk.fitted }
+        ensures answers { EachRun self.old.desk.fitted (λ run. Answers run self.old.desk command.now (answer_text run self.new.desk result) self.new.desk) }
+        ensures last { IsLast self.new result }
+    {
+        if let Some(refusal) = self.refusal_of(command) {
+            return self.refuse(refusal);
+        }
+        match *command {
+            Command::Move(to) => self.answer_move(rt, alloc, to, gate),
+            Command::Show(show) => self.answer_show(rt, alloc, show, gate),
+            Command::Position => {
+                self.fresh = false;
+                Answer::Position
+            }
+            Command::Quit => {
+                self.fresh = false;
+                Answer::Bye
+            }
+        }
+    }
 }

@@ -1,22 +1,37 @@
 //! The debugger: whether a trace is of a run of a guest, and a session that shows the run.
 #![tactic(auto)]
 
+mod announcing;
 mod answer;
+mod answering;
+mod bringing;
 mod bytes;
 mod debugger;
+#[cfg(test)]
+mod debugger_tests;
+mod destinations;
 mod ended;
 mod events;
-mod fit;
+mod next;
+mod objects;
 mod open;
 mod opening;
 mod positions;
+mod refusals;
+mod room;
+mod serving;
 mod sessions;
-mod trace;
-mod trace_err;
-mod trace_reader;
-mod verdict;
+mod showing;
+mod text;
 mod verdicts;
+#[cfg(test)]
+mod written_tests;
 
+pub use answer::Answer;
+pub use answering::write_answer;
+pub use debugger::Debugger;
 pub use ended::{Ended, SessionErr};
+pub use events::write_log;
+pub use ir_command::{Command, Refusal, parse_line};
 pub use ir_stream::{DeviceErr, FromStd, Sink, Source};
 pub use sessions::{MOST_INPUT, session, session_up_to};

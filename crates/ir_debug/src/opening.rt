@@ -1,16 +1,19 @@
 //! What the bytes of an image and of a trace open.
 
 use crate::debugger::Debugger;
+use ir_fit::Verdict;
+use ir_image::ImageErr;
+use ir_trace::TraceErr;
 
 /// What an image and a trace open.
 #[derive(Drop)]
-pub enum Opening {
-    /// The image is refused, by this number.
-    RefusedImage(u8),
-    /// The trace is refused, by this number.
-    RefusedTrace(u8),
-    /// The guest's thread parts from the trace at this step.
-    Unfit(u64),
-    /// The trace is of a run of the guest.
+pub enum Opened {
+    /// Nothing: these bytes are no image.
+    ImageRefused(ImageErr),
+    /// Nothing: these bytes are no trace.
+    TraceRefused(TraceErr),
+    /// Nothing: no run of the guest has the trace.
+    Unfit(Verdict),
+    /// A debugger at the start of the guest's run with the trace.
     Ready(Debugger),
 }

@@ -2,9 +2,10 @@
 
 ghost use Rattle.std.specs.Prelude.{◌≡◌, ◌≤◌, ◌+◌, ◌*◌, ◌++◌, length, codes, decimal};
 ghost use Rattle.arrayvec.specs.ArrayVec.{array_vec_len};
+ghost use Rattle.ir_image.specs.Guest.{most_threads};
 ghost use Rattle.ir_debug.specs.Machine.Texts.{positions_text, stop_text};
 
-use crate::answer::Text;
+use crate::text::Text;
 use ir_stream::append;
 use itoa::Buffer;
 
@@ -21,7 +22,7 @@ fn put_position(text: &mut Text, position: u64)
 /// Puts the position of each thread at the end.
 pub fn put_positions(text: &mut Text, at: &[u64])
     requires room { array_vec_len text.old ≤ 256 }
-    requires few { length at.now ≤ 8 }
+    requires few { length at.now ≤ most_threads }
     ensures text { text.new.items ≡ text.old.items ++ positions_text at.now }
     ensures len { array_vec_len text.new ≤ array_vec_len text.old + 170 }
 {

@@ -1,19 +1,20 @@
 //! A session, from the bytes of an image and a trace to the answers to lines.
 
-ghost use Rattle.std.specs.Prelude.{◌≡◌, ◌≢◌, ◌≤◌, [], true, false, Err, Ok, IfSome};
-ghost use Rattle.std.specs.Io.KnownBytes.{Appends, Keeps, IsAtEnd};
-ghost use Rattle.ir_stream.specs.Lines.{cut, lines_of};
-ghost use Rattle.ir_stream.specs.Answers.{some_quits, through};
-ghost use Rattle.ir_stream.specs.Devices.{AppendsPrefix, Reads};
-ghost use Rattle.ir_debug.specs.Reference.{is_quit};
-ghost use Rattle.ir_debug.specs.Session.{opening_of, told, IfServed, Session, ended_by};
+ghost use Rattle.std.specs.Prelude.{◌≡◌, ◌≤◌, true, false, Err, IfSome};
+ghost use Rattle.ir_stream.specs.Devices.{Reads};
+ghost use Rattle.ir_debug.specs.Session.{IfServed, IfRefused, Session, AnsweredWhole, AnsweredInPart, ended_by};
 
+use crate::announcing::announce;
 use crate::debugger::Debugger;
 use crate::ended::{Ended, SessionErr};
-use crate::open::{announce, open};
-use crate::opening::Opening;
-use ir_stream::{Fault, Served, Sink, Source, serve};
+use crate::open::open;
+use crate::opening::Opened;
+use crate::serving::serve;
+use ir_object::Gate;
+use ir_stream::{Fault, Served, Sink, Source};
 use std::alloc::Global;
+use std::thread::Threads;
+use std::time::Clock;
 
 /// The most bytes that a session reads.
 pub const MOST_INPUT: u64 = 1_073_741_824;
@@ -32,19 +33,23 @@ fn ended(served: Result<Served, Fault>) -> Result<Ended, SessionErr>
 
 /// Opens a debugger on an image and a trace and answers the lines that the reader gives.
 ///
-/// The bytes that are written are the opening lines, and then the answers of the reference machine to the lines, and
-/// nothing else. At most `limit` bytes are read; where they hold no line of `quit`, the lines that are whole in them
-/// are answered, and then `TooLong`.
+/// The bytes that are written are the opening lines, and then the answers of the small machine that holds a run of the
+/// guest with the trace and a position of each thread, and nothing else; which order the threads that replay the run
+/// took makes no difference. The gate is told of each entry and leave of theirs. At most `limit` bytes are read; where
+/// they hold no line of `quit`, the lines that are whole in them are answered, and then `TooLong`. An image or a trace
+/// that is refused, and a trace that no run of the guest has, is named in the opening lines; then no line is read.
 ///
 /// # Errors
 /// `NoMem` before a byte is written; `Read` and `Write` only where that device failed; `TooLong`.
-pub fn session_up_to<R: Source, W: Sink>(
+pub fn session_up_to<T: Threads + Clock + Sync, R: Source, W: Sink, G: Gate + Sync>(
+    rt: &T,
     alloc: Global,
     limit: u64,
     image: &[u8],
     trace: &[u8],
     reader: &mut R,
     writer: &mut W,
+    gate: &G,
 ) -> Result<Ended, SessionErr>
     requires limit { limit ≤ 1073741824 }
     requires reads { R.broken reader.old ≡ false }
@@ -52,65 +57,67 @@ pub fn session_up_to<R: Source, W: Sink>(
     // Where no device fails and memory doesn't run out, the bytes that were read lead to the result and to what was
     // written, and neither device has failed.
     ensures ended { IfServed result (Reads limit (R.left reader.old) (R.left reader.new)
-        (Session (opening_of image.now trace.now) limit result (W.written writer.old) (W.written writer.new))) }
+        (Session image.now trace.now limit result (W.written writer.old) (W.written writer.new))) }
     ensures works { IfServed result ((R.broken reader.new ≡ false) × (W.broken writer.new ≡ false)) }
     // Where the reader tells its bytes, all of them together lead to it.
     ensures known { IfServed result (IfSome (R.left reader.old)
-        (Session (opening_of image.now trace.now) limit result (W.written writer.old) (W.written writer.new))) }
+        (Session image.now trace.now limit result (W.written writer.old) (W.written writer.new))) }
+    // Where nothing was opened, nothing was read.
+    ensures unread { IfRefused result (reader.new ≡ reader.old) }
     // Where memory runs out, nothing was read or written.
     ensures no_memory { result ≡ Err SessionErr.NoMem → (reader.new ≡ reader.old) × (writer.new ≡ writer.old) }
-    // After a failed read, the opening lines and all answers to the lines that were read whole, none of which quits.
+    // After a failed read, the opening lines and all answers to the lines that were read whole.
     ensures read { result ≡ Err SessionErr.Read → (R.broken reader.new ≡ true) × (W.broken writer.new ≡ false)
-        × Reads limit (R.left reader.old) (R.left reader.new) (λ consumed. (some_quits is_quit (cut consumed).whole ≡ false)
-        × Appends (W.written writer.old) (W.written writer.new) (told (opening_of image.now trace.now) (cut consumed).whole)) }
-    // After a failed write, a prefix of the opening lines and the answers to the lines that were read, of which none but
-    // the last may quit. It is unfinished only at the end of the input.
+        × Reads limit (R.left reader.old) (R.left reader.new)
+        (AnsweredWhole image.now trace.now (W.written writer.old) (W.written writer.new)) }
+    // After a failed write, a prefix of the opening lines and the answers to the lines that were read.
     ensures write { result ≡ Err SessionErr.Write → (R.broken reader.new ≡ false) × (W.broken writer.new ≡ true)
-        × Reads limit (R.left reader.old) (R.left reader.new) (λ consumed. (through is_quit (lines_of consumed) ≡ lines_of consumed)
-        × ((cut consumed).rest ≢ [] → IsAtEnd (R.left reader.new))
-        × AppendsPrefix (W.written writer.old) (W.written writer.new) (told (opening_of image.now trace.now) (lines_of consumed))) }
+        × Reads limit (R.left reader.old) (R.left reader.new)
+        (AnsweredInPart image.now trace.now (R.left reader.new) (W.written writer.old) (W.written writer.new)) }
 {
-    let Ok(opening) = open(alloc, image, trace) else {
+    let Ok(opened) = open(alloc, image, trace) else {
         return Err(SessionErr::NoMem);
     };
-    match announce(&opening, writer) {
+    match announce(&opened, writer) {
         Ok(()) => {}
         Err(_) => return Err(SessionErr::Write),
     }
-    match opening {
-        Opening::RefusedImage(_) => Ok(Ended::ImageRefused),
-        Opening::RefusedTrace(_) => Ok(Ended::TraceRefused),
-        Opening::Unfit(_) => Ok(Ended::NotFit),
-        Opening::Ready(debugger) => {
+    match opened {
+        Opened::ImageRefused(_error) => Ok(Ended::ImageRefused),
+        Opened::TraceRefused(_error) => Ok(Ended::TraceRefused),
+        Opened::Unfit(_verdict) => Ok(Ended::NotFit),
+        Opened::Ready(debugger) => {
             let mut debugger: Debugger = debugger;
-            ended(serve(limit, reader, writer, &mut debugger))
+            ended(serve(rt, alloc, limit, reader, writer, &mut debugger, gate))
         }
     }
 }
 
 /// `session_up_to` with the limit of 1,073,741,824 bytes.
-pub fn session<R: Source, W: Sink>(
+pub fn session<T: Threads + Clock + Sync, R: Source, W: Sink, G: Gate + Sync>(
+    rt: &T,
     alloc: Global,
     image: &[u8],
     trace: &[u8],
     reader: &mut R,
     writer: &mut W,
+    gate: &G,
 ) -> Result<Ended, SessionErr>
     requires reads { R.broken reader.old ≡ false }
     requires writes { W.broken writer.old ≡ false }
     ensures ended { IfServed result (Reads 1073741824 (R.left reader.old) (R.left reader.new)
-        (Session (opening_of image.now trace.now) 1073741824 result (W.written writer.old) (W.written writer.new))) }
+        (Session image.now trace.now 1073741824 result (W.written writer.old) (W.written writer.new))) }
     ensures works { IfServed result ((R.broken reader.new ≡ false) × (W.broken writer.new ≡ false)) }
     ensures known { IfServed result (IfSome (R.left reader.old)
-        (Session (opening_of image.now trace.now) 1073741824 result (W.written writer.old) (W.written writer.new))) }
+        (Session image.now trace.now 1073741824 result (W.written writer.old) (W.written writer.new))) }
+    ensures unread { IfRefused result (reader.new ≡ reader.old) }
     ensures no_memory { result ≡ Err SessionErr.NoMem → (reader.new ≡ reader.old) × (writer.new ≡ writer.old) }
     ensures read { result ≡ Err SessionErr.Read → (R.broken reader.new ≡ true) × (W.broken writer.new ≡ false)
-        × Reads 1073741824 (R.left reader.old) (R.left reader.new) (λ consumed. (some_quits is_quit (cut consumed).whole ≡ false)
-        × Appends (W.written writer.old) (W.written writer.new) (told (opening_of image.now trace.now) (cut consumed).whole)) }
+        × Reads 1073741824 (R.left reader.old) (R.left reader.new)
+        (AnsweredWhole image.now trace.now (W.written writer.old) (W.written writer.new)) }
     ensures write { result ≡ Err SessionErr.Write → (R.broken reader.new ≡ false) × (W.broken writer.new ≡ true)
-        × Reads 1073741824 (R.left reader.old) (R.left reader.new) (λ consumed. (through is_quit (lines_of consumed) ≡ lines_of consumed)
-        × ((cut consumed).rest ≢ [] → IsAtEnd (R.left reader.new))
-        × AppendsPrefix (W.written writer.old) (W.written writer.new) (told (opening_of image.now trace.now) (lines_of consumed))) }
+        × Reads 1073741824 (R.left reader.old) (R.left reader.new)
+        (AnsweredInPart image.now trace.now (R.left reader.new) (W.written writer.old) (W.written writer.new)) }
 {
-    session_up_to(alloc, MOST_INPUT, image, trace, reader, writer)
+    session_up_to(rt, alloc, MOST_INPUT, image, trace, reader, writer, gate)
 }

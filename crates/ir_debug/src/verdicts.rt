@@ -4,27 +4,16 @@ ghost use Rattle.std.specs.Prelude.{◌≡◌, ◌≤◌, ◌+◌, ◌++◌, len
 ghost use Rattle.arrayvec.specs.ArrayVec.{array_vec_len};
 ghost use Rattle.ir_debug.specs.Machine.Opening.{thread_verdict_text, thread_line, header_text, incoherent_text};
 
-use crate::answer::Text;
+use crate::text::{Text, put_number};
 use ir_fit::{Cause, HeaderCause};
 use ir_runs::ThreadVerdict;
 use ir_stream::append;
-use itoa::Buffer;
-
-// Words and a number.
-fn put_number(text: &mut Text, words: &[u8], number: u64)
-    requires { array_vec_len text.old + length words.now + 20 ≤ 1024 }
-    ensures text { text.new.items ≡ text.old.items ++ (words.now ++ decimal number) }
-    ensures len { array_vec_len text.new ≤ array_vec_len text.old + length words.now + 20 }
-{
-    let mut buffer = Buffer::new();
-    append(text, words);
-    append(text, buffer.format(number).as_bytes());
-}
 
 /// Puts at the end in what the header of a trace isn't the guest's.
 pub fn put_header(text: &mut Text, cause: HeaderCause)
     requires { array_vec_len text.old ≤ 512 }
-    ensures { text.new.items ≡ text.old.items ++ header_text cause }
+    ensures text { text.new.items ≡ text.old.items ++ header_text cause }
+    ensures len { array_vec_len text.new ≤ array_vec_len text.old + 128 }
 {
     put_number(text, b"header differs ", cause.number() as u64);
 }
@@ -32,7 +21,8 @@ pub fn put_header(text: &mut Text, cause: HeaderCause)
 /// Puts at the end the first event that breaks coherence.
 pub fn put_incoherent(text: &mut Text, thread: u8, event: u32, cause: Cause)
     requires { array_vec_len text.old ≤ 512 }
-    ensures { text.new.items ≡ text.old.items ++ incoherent_text thread event cause }
+    ensures text { text.new.items ≡ text.old.items ++ incoherent_text thread event cause }
+    ensures len { array_vec_len text.new ≤ array_vec_len text.old + 128 }
 {
     put_number(text, b"incoherent thread ", thread as u64);
     put_number(text, b" event ", event as u64);
@@ -61,11 +51,11 @@ fn put_verdict(text: &mut Text, verdict: ThreadVerdict)
 }
 
 /// Puts the line of a thread at the end.
-pub fn put_thread(text: &mut Text, thread: u8, verdict: ThreadVerdict)
+pub fn put_thread(text: &mut Text, thread: u64, verdict: ThreadVerdict)
     requires { array_vec_len text.old ≤ 512 }
     ensures { text.new.items ≡ text.old.items ++ thread_line thread verdict }
 {
-    put_number(text, b"thread ", thread as u64);
+    put_number(text, b"thread ", thread);
     put_verdict(text, verdict);
     append(text, b"\n");
 }

@@ -1,6 +1,7 @@
 //! The pass over a run's entries and leaves that lists them by object, access and version.
 
 ghost use Rattle.std.specs.Prelude.{◌≤◌, ◌<◌, ℕ, [], length, IfOk, OnOk};
+ghost use Rattle.ir_image.specs.Guest.{most_threads};
 ghost use Rattle.ir_trace.specs.Told.{recorded_thread};
 ghost use Rattle.ir_fit.specs.Places.{placed_at};
 ghost use Rattle.ir_fit.specs.Visits.{AddsAll, IsListing, left_by, enter_if, entered_by, all_left, all_entered};
@@ -123,7 +124,7 @@ pub fn entered(
 /// # Errors
 /// Want of memory.
 pub fn left(alloc: Global, rooms: &Rooms, places: &[Places]) -> Result<Visits, AllocError>
-    requires { length places.now ≤ 8 }
+    requires { length places.now ≤ most_threads }
     ensures { IfOk result (IsListing (all_left places.now)) }
 {
     let mut visits = Visits::new(alloc, rooms)?;

@@ -2,7 +2,7 @@
 use Rattle.std.proofs.Common.{◌≡◌, ℕ, zero, suc, ◌+◌, ◌-◌, ◌*◌, ◌<◌, ◌≤◌, List, [], ◌∷◌, ◌++◌, length, take, drop, replicate, get_or, Option, None, refl, sym, ap, ◌∙◌, subst, arith, inl, inr, false}
 use Rattle.std.proofs.lemmas.List.{get_or-replicate, get_or_past, drop-drop, length-replicate, length-take-le, length-drop}
 use Rattle.std.proofs.lemmas.Bool.{cases_lt}
-use Rattle.ir_image.specs.Guest.{Guest, IsGuest, object_count}
+use Rattle.ir_image.specs.Guest.{Guest, IsGuest, object_count, object_words}
 use Rattle.ir_thread.specs.Held.{held_at}
 use Rattle.ir_thread.specs.State as thread
 use Rattle.ir_runs.specs.declared.access.Access.{Access}
@@ -19,7 +19,7 @@ threads_length g budget from (suc n) = ap suc (threads_length g budget (suc from
 
 pub cells_length : (words : List ℕ) (n : ℕ) → length (start_cells words n) ≡ n
 cells_length words zero = refl
-cells_length words (suc n) = ap suc (cells_length (drop 8 words) n)
+cells_length words (suc n) = ap suc (cells_length (drop object_words words) n)
 
 -- one thread more
 pub threads_more : (g : Guest) (budget from n : ℕ)
@@ -30,11 +30,13 @@ threads_more g budget from (suc n) = ap (λ xs. thread.start_state g from budget
     (let e : suc from + n ≡ from + suc n = omega arith in e))
 
 -- one object more
-pub cells_more : (words : List ℕ) (n : ℕ) → start_cells words (suc n) ≡ start_cells words n ++ start_cell (take 8 (drop (8 * n) words)) ∷ []
+pub cells_more : (words : List ℕ) (n : ℕ) → start_cells words (suc n) ≡ start_cells words n ++ start_cell
+    (take object_words (drop (object_words * n) words)) ∷ []
 cells_more words zero = refl
-cells_more words (suc n) = ap (λ xs. start_cell (take 8 words) ∷ xs)
-    (cells_more (drop 8 words) n ∙ ap (λ ys. start_cells (drop 8 words) n ++ start_cell (take 8 ys) ∷ [])
-    (drop-drop (8 * n) 8 words ∙ ap (λ k. drop k words) (let e : 8 + 8 * n ≡ 8 * suc n = omega arith in e)))
+cells_more words (suc n) = ap (λ xs. start_cell (take object_words words) ∷ xs)
+    (cells_more (drop object_words words) n ∙ ap (λ ys. start_cells (drop object_words words) n ++ start_cell (take object_words ys) ∷ [])
+    (drop-drop (object_words * n) object_words words ∙ ap (λ k. drop k words)
+    (let e : object_words + object_words * n ≡ object_words * suc n = omega arith in e)))
 
 -- a thread at the start holds nothing and has logged nothing
 pub record IsFresh (places : ℕ) (x : thread.State) : Type 0 where
@@ -71,13 +73,15 @@ no_fields = record { version = 0; left = 0; inside = 0; writer = false }
 pub fields_at : (words : List ℕ) (n o : ℕ) → (get_or (start_cells words n) o empty).fields ≡ no_fields
 fields_at words zero o = refl
 fields_at words (suc n) zero = refl
-fields_at words (suc n) (suc o) = fields_at (drop 8 words) n o
+fields_at words (suc n) (suc o) = fields_at (drop object_words words) n o
 
-words_at : (words : List ℕ) (n o : ℕ) → 8 * n ≤ length words → o < n → length (get_or (start_cells words n) o empty).words ≡ 8
+words_at : (words : List ℕ) (n o : ℕ) → object_words * n ≤ length words → o < n
+    → length (get_or (start_cells words n) o empty).words ≡ object_words
 words_at words zero o h l = absurd (omega arith)
-words_at words (suc n) zero h l = length-take-le 8 words (omega arith)
-words_at words (suc n) (suc o) h l = words_at (drop 8 words) n o
-    (let d : length (drop 8 words) ≡ length words - 8 = length-drop 8 words in omega (arith, d, h)) (omega arith)
+words_at words (suc n) zero h l = length-take-le object_words words (omega arith)
+words_at words (suc n) (suc o) h l = words_at (drop object_words words) n o
+    (let d : length (drop object_words words) ≡ length words - object_words = length-drop object_words words in omega (arith, d, h))
+    (omega arith)
 
 -- nobody is inside
 pub start_none : (g : Guest) (budget o t : ℕ) → inside_of (start_flat g budget) o t ≡ None
@@ -133,7 +137,7 @@ thread_made g budget n before after x is new made =
 
 -- the loop that makes the objects
 pub object_made : (words : List ℕ) (n : ℕ) (before after : List Cell) (x : Cell) → before ≡ start_cells words n
-    → x ≡ start_cell (take 8 (drop (8 * n) words)) → after ≡ before ++ x ∷ [] → after ≡ start_cells words (n + 1)
+    → x ≡ start_cell (take object_words (drop (object_words * n) words)) → after ≡ before ++ x ∷ [] → after ≡ start_cells words (n + 1)
 object_made words n before after x is new made =
     made ∙ ap (λ xs. xs ++ x ∷ []) is ∙ ap (λ y. start_cells words n ++ y ∷ []) new ∙ sym (cells_more words n)
     ∙ ap (start_cells words) (let e : suc n ≡ n + 1 = omega arith in e)

@@ -1,6 +1,7 @@
 -- A step keeps what the lists of threads and objects always keep.
 use Rattle.std.proofs.Common.{◌≡◌, ◌≢◌, ◌↔◌, ℕ, zero, suc, ◌+◌, ◌*◌, ◌<◌, ◌≤◌, true, Bool, false, length, length-set, Option, Some, None, refl, sym, le_refl, ap, ◌∙◌, subst, arith, get_or-set_same}
 use Rattle.std.specs.Prelude.{slice_index, IsTrue}
+use Rattle.ir_image.specs.Guest.{most_threads, object_words}
 use Rattle.ir_thread.specs.Calls.{ask_of, Permits, most_events}
 use Rattle.ir_thread.specs.Held.{held_at}
 use Rattle.ir_thread.specs.Instance.{shared_ask}
@@ -63,8 +64,8 @@ readers_le (suc n) inside = let rest = readers_le n inside in let one = at_most_
 
 -- what a word counts was logged, so it fits
 pub logged_fits : (f : Flat) (o : ℕ) → IsFlat f → o < length f.objects
-    → (cell_of f o).fields.version + (cell_of f o).fields.left + (cell_of f o).fields.inside + bit_of (cell_of f o).fields.writer ≤ 8 *
-    most_events
+    → (cell_of f o).fields.version + (cell_of f o).fields.left + (cell_of f o).fields.inside + bit_of (cell_of f o).fields.writer ≤
+    most_threads * most_events
 logged_fits f o flat l =
     let c = (flat.objects o l).counts in
     let seen = flat.kept.logged o in
@@ -74,7 +75,7 @@ logged_fits f o flat l =
     let writer : bit_of (cell_of f o).fields.writer ≡ bit_of _ = ap bit_of c.writer in
     omega (arith, seen, most, few, inside, writer)
 
-pub few_inside : (f : Flat) (o : ℕ) → IsFlat f → o < length f.objects → (cell_of f o).fields.inside ≤ 8
+pub few_inside : (f : Flat) (o : ℕ) → IsFlat f → o < length f.objects → (cell_of f o).fields.inside ≤ most_threads
 few_inside f o flat l =
     let inside = (flat.objects o l).counts.readers in
     let most = readers_le (length f.threads) (inside_of f o) in
@@ -110,7 +111,7 @@ quiet_shared f t y l same o old = record {
 -- what touches one object leaves the others
 touched : (f : Flat) (t : ℕ) (y : thread.State) (o : ℕ) (c : Cell) → t < length f.threads → o < length f.objects
     → ((i : ℕ) → i ≢ o → held_at y.held i ≡ held_at (thread_of f t).held i)
-    → Counts (length f.threads) c.fields (upd (inside_of f o) t (held_at y.held o)) → length c.words ≡ 8 → (i : ℕ) → IsShared f i
+    → Counts (length f.threads) c.fields (upd (inside_of f o) t (held_at y.held o)) → length c.words ≡ object_words → (i : ℕ) → IsShared f i
     → IsShared (with_object (with_thread f t y) o c) i
 touched f t y o c l k same counts count i old =
     let cell : cell_of (with_object (with_thread f t y) o c) i ≡ upd (cell_of f) o c i =
@@ -124,8 +125,8 @@ touched f t y o c l k same counts count i old =
           (λ e. subst (λ j. Counts (length f.threads) c.fields (upd (inside_of f j) t (held_at y.held j))) (sym e) counts)
           (λ ne. subst (Counts (length f.threads) (cell_of f i).fields)
           (sym (upd_id (inside_of f i) t (held_at y.held i) (sym (same i ne)))) old.counts))));
-      words = subst (λ z. length z.words ≡ 8) (sym cell)
-          (upd_elim (cell_of f) o c i (λ z. length z.words ≡ 8) (λ _. count) (λ _. old.words));
+      words = subst (λ z. length z.words ≡ object_words) (sym cell)
+          (upd_elim (cell_of f) o c i (λ z. length z.words ≡ object_words) (λ _. count) (λ _. old.words));
     }
 
 next_shared : (f : Flat) (t r : ℕ) (q : Ask) → IsFlat f → t < length f.threads → Permits (thread_of f t) q → MayStep f r q → (i : ℕ)

@@ -1,7 +1,7 @@
 -- The threads and objects of a guest.
 use Rattle.std.specs.Prelude.{◌≡◌, ◌<◌, ◌≤◌, ℕ, zero, suc, List, [], ◌∷◌, length, take, drop, slice_index, Option, Some, false}
 use Rattle.std.specs.List.{slice_index_or}
-use Rattle.ir_image.specs.Guest.{Guest, object_count, object_words}
+use Rattle.ir_image.specs.Guest.{Guest, most_threads, most_objects, object_count, object_words}
 use Rattle.ir_thread.specs.Held.{held_at}
 use Rattle.ir_thread.specs.Instance.{thread_machine}
 use Rattle.ir_runs.specs.Machine.{Machine}
@@ -70,7 +70,7 @@ start_threads guest budget from (suc n) = start_state guest from budget ∷ star
 abbrev pub start_cell : List ℕ → Cell
 start_cell words = record { fields = record { version = 0; left = 0; inside = 0; writer = false }; words = words }
 
--- so many objects, with eight words each
+-- so many objects, with their words
 abbrev pub start_cells : List ℕ → ℕ → List Cell
 start_cells words zero = []
 start_cells words (suc n) = start_cell (take object_words words) ∷ start_cells (drop object_words words) n
@@ -90,8 +90,8 @@ pub record IsShared (f : Flat) (o : ℕ) : Type 0 where
 
 -- what the threads and objects of a guest always keep
 pub record IsFlat (f : Flat) : Type 0 where
-  pub few_threads : length f.threads ≤ 8
-  pub few_objects : length f.objects ≤ 16
+  pub few_threads : length f.threads ≤ most_threads
+  pub few_objects : length f.objects ≤ most_objects
   pub places : (t : ℕ) → t < length f.threads → length (thread_of f t).held ≡ length f.objects
   pub objects : (o : ℕ) → o < length f.objects → IsShared f o
   pub kept : IsKept (length f.threads) (tables f)

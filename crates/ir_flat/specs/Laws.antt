@@ -1,9 +1,10 @@
 -- What holds in each state that a run reaches.
-use Rattle.std.specs.Prelude.{◌≡◌, ◌≢◌, ℕ, ◌^◌, ◌<◌, ◌≤◌, List, length, Some, None}
-use Rattle.ir_image.specs.Guest.{Guest}
+use Rattle.std.specs.Prelude.{◌≡◌, ◌≢◌, ℕ, ◌<◌, ◌≤◌, List, length, Some, None}
+use Rattle.ir_image.specs.Guest.{Guest, most_threads}
 use Rattle.ir_runs.specs.Machine.{Done}
 use Rattle.ir_runs.specs.declared.access.Access.TheVariants.{Writing}
 use Rattle.ir_object.specs.Cell.{readers}
+use Rattle.ir_object.specs.Word.{version_unit, left_limit, inside_limit}
 use Rattle.ir_runs.specs.Object.{Object}
 use Rattle.ir_flat.specs.Flat.{start_flat, tables, machine}
 use Rattle.ir_runs.specs.Run.{Step, IsRun, end, asked, Can}
@@ -26,12 +27,12 @@ HeldInside = (guest : Guest) (budget : ℕ) (steps : List Step) → let f = star
 
 -- versions, and counts of readers that have left or are inside, fit the fields of a word
 pub record Fits (n : ℕ) (b : Object) : Type 0 where
-  pub version : b.version < 2 ^ 32
-  pub left : b.left < 2 ^ 24
-  pub inside : readers n b.inside < 2 ^ 7
+  pub version : b.version < version_unit
+  pub left : b.left < left_limit
+  pub inside : readers n b.inside < inside_limit
 
 -- what any run has counted fits
 abbrev pub CountsFit : Type 0
-CountsFit = (guest : Guest) (budget : ℕ) (steps : List Step) → let f = start_flat guest budget in length guest.entries ≤ 8
+CountsFit = (guest : Guest) (budget : ℕ) (steps : List Step) → let f = start_flat guest budget in length guest.entries ≤ most_threads
     → IsRun (machine f) (tables f) steps
     → (o : ℕ) → Fits (length guest.entries) ((end (machine f) (tables f) steps).objects o)

@@ -5,13 +5,13 @@ ghost use Rattle.ir_flat.specs.Flat.{Flat, IsFlat, start_flat, thread_of, cell_o
 ghost use Rattle.ir_runs.specs.Run.{Can, after};
 ghost use Rattle.ir_flat.specs.Next.{next, MayStep};
 ghost use Rattle.ir_image.specs.Guest.{object_count};
-ghost use Rattle.ir_thread.specs.Calls.{ask_of, Permits};
+ghost use Rattle.ir_thread.specs.Calls.{most_budget, ask_of, Permits};
 ghost use Rattle.ir_thread.specs.Private.{NoInstruction};
 ghost use Rattle.std.specs.Prelude.{◌≡◌, ◌<◌, ◌≤◌, ◌↔◌, length, IfOk, OnOk, OnErr, IsTrue};
 
 use crate::parts::Parts;
 use crate::start;
-use ir_image::{Code, Image};
+use ir_image::{Code, Image, OBJECT_WORDS};
 use ir_object::Object;
 use ir_thread::{Ask, Thread};
 use std::alloc::{AllocError, Global};
@@ -42,12 +42,12 @@ impl<'a> Flat<'a> {
     /// # Errors
     /// Want of memory.
     pub fn start(alloc: Global, image: &'a Image, budget: u64) -> Result<Flat<'a>, AllocError>
-        requires { budget ≤ 1000000000000 }
+        requires { budget ≤ most_budget }
         ensures { IfOk result (λ f. f ≡ start_flat image.now budget) }
     {
         let words = image.words();
         let threads = start::threads(alloc, image, budget)?;
-        let objects = start::objects(alloc, words, words.len() / 8)?;
+        let objects = start::objects(alloc, words, words.len() / OBJECT_WORDS)?;
         Ok(Flat {
             parts: Parts::new(image.code(), threads, objects),
         })

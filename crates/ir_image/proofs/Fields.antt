@@ -7,7 +7,7 @@ use Rattle.ir_bytes.specs.Reading.{field_at}
 use Rattle.ir_bytes.proofs.CallerLemmas.{IsBytes, Takes, number_takes, number_again, field_takes, field_again, passed, fixed_ok, fixed_again}
 use Rattle.ir_image.specs.declared.image_err.ImageErr.{ImageErr}
 use Rattle.ir_image.specs.declared.image_err.ImageErr.TheVariants.{Short, Magic, Entry}
-use Rattle.ir_image.specs.Guest.{IsPlace, IsWord, code_start}
+use Rattle.ir_image.specs.Guest.{IsPlace, IsWord, code_start, most_code_words}
 use Rattle.ir_image.specs.Encoding.{magic}
 use Rattle.ir_image.specs.Reading.{magic_field, is_place, entry_field, word_at, entry_at}
 
@@ -41,7 +41,7 @@ entry_takes words bytes n fits e =
     let t = field_takes Short (entry_field words) bytes n fits e in
     (t.takes, place_is words n.0 (passed (is_place words n.0) Entry t.passes))
 
-pub entry_again : (words : ℕ) (n : ℕ) (rest : List ℕ) → words ≤ 16384 → IsPlace words n
+pub entry_again : (words : ℕ) (n : ℕ) (rest : List ℕ) → words ≤ most_code_words → IsPlace words n
     → entry_at words (little_bytes 4 n ++ rest) ≡ Ok (n, rest)
 entry_again words n rest h place =
     let fits : IsWord n = omega arith in

@@ -9,7 +9,7 @@ use Rattle.ir_bytes.proofs.CallerLemmas.{two_ok, five_ok, six_ok, pass_ok, ok_is
 use Rattle.ir_image.specs.declared.counts.Counts.{Counts}
 use Rattle.ir_image.specs.declared.image_err.ImageErr.{ImageErr}
 use Rattle.ir_image.specs.declared.image_err.ImageErr.TheVariants.{Short, Count, Trailing}
-use Rattle.ir_image.specs.Guest.{Guest, IsGuest, IsPlace, IsWord, object_words, object_count}
+use Rattle.ir_image.specs.Guest.{Guest, IsGuest, IsPlace, IsWord, memory_size, most_threads, most_objects, most_code_words, object_words, object_count}
 use Rattle.ir_image.specs.Encoding.{magic, counts_of, counts_encoding, words_encoding, body_encoding, encoding}
 use Rattle.ir_image.specs.Reading.{magic_field, threads_field, objects_field, words_field, bytes_field, word_at, entry_at, counts_at, body_at, guest_at}
 use Rattle.ir_image.proofs.Fields.{magic_takes, magic_again, word_takes, word_again, entry_takes, entry_again}
@@ -19,10 +19,10 @@ use Rattle.ir_image.proofs.Fields.{magic_takes, magic_again, word_takes, word_ag
 -- counts within their limits
 record IsWithin (c : Counts) : Type 0 where
   some_thread : 1 ≤ c.threads
-  few_threads : c.threads ≤ 8
-  few_objects : c.objects ≤ 16
-  short_code : c.words ≤ 16384
-  short_data : c.bytes ≤ 65536
+  few_threads : c.threads ≤ most_threads
+  few_objects : c.objects ≤ most_objects
+  short_code : c.words ≤ most_code_words
+  short_data : c.bytes ≤ memory_size
 
 -- what reading the counts takes
 record TakesCounts (all : List ℕ) (x : Counts × List ℕ) : Type 0 where
@@ -34,10 +34,10 @@ counts_taken : (all : List ℕ) (first threads objects words bytes : ℕ × List
     → TakesField bytes_field words.1 bytes
     → TakesCounts all (record { threads = threads.0; objects = objects.0; words = words.0; bytes = bytes.0 }, bytes.1)
 counts_taken all first threads objects words bytes t0 t1 t2 t3 t4 =
-    let n = within_ok 1 8 threads.0 Count t1.passes in
-    let m = within_ok 0 16 objects.0 Count t2.passes in
-    let c = within_ok 0 16384 words.0 Count t3.passes in
-    let d = within_ok 0 65536 bytes.0 Count t4.passes in
+    let n = within_ok 1 most_threads threads.0 Count t1.passes in
+    let m = within_ok 0 most_objects objects.0 Count t2.passes in
+    let c = within_ok 0 most_code_words words.0 Count t3.passes in
+    let d = within_ok 0 memory_size bytes.0 Count t4.passes in
     let prefix = Takes-then all magic first.1 (threads.0 ∷ []) threads.1 t0 (byte_taken first.1 threads t1.takes t1.fits) in
     let second = Takes-then threads.1 (objects.0 ∷ []) objects.1 (little_bytes 4 words.0) words.1
     (byte_taken threads.1 objects t2.takes t2.fits) t3.takes in
@@ -74,13 +74,15 @@ counts_again c rest within =
     let r2 = little_bytes 4 c.words ++ r3 in
     let e0 = magic_again (c.threads ∷ c.objects ∷ r2) in
     let e1 = byte_field_again Short threads_field c.threads (c.objects ∷ r2) refl
-    (within_again 1 8 c.threads Count within.some_thread within.few_threads) in
-    let e2 = byte_field_again Short objects_field c.objects r2 refl (within_again 0 16 c.objects Count (omega arith) within.few_objects)
+    (within_again 1 most_threads c.threads Count within.some_thread within.few_threads) in
+    let e2 = byte_field_again Short objects_field c.objects r2 refl
+    (within_again 0 most_objects c.objects Count (omega arith) within.few_objects)
     in
-    let e3 = field_again Short words_field c.words r3 (omega arith) (within_again 0 16384 c.words Count (omega arith) within.short_code)
+    let e3 = field_again Short words_field c.words r3 (omega arith)
+    (within_again 0 most_code_words c.words Count (omega arith) within.short_code)
     in
     let e4 = field_again Short bytes_field c.bytes rest (omega arith)
-    (within_again 0 65536 c.bytes Count (omega arith) within.short_data) in
+    (within_again 0 memory_size c.bytes Count (omega arith) within.short_data) in
     rw (e0, e1, e2, e3, e4) refl
 
 -- ---- what stands after the counts
@@ -110,7 +112,7 @@ body_taken : (c : Counts) (all : List ℕ) (entries code initial words : List �
     → TakesBytes c.bytes code.1 initial → TakesFields IsWord (little_bytes 4) (object_words * c.objects) initial.1 words
     → words.1 ≡ [] → TakesBody c all (record { entries = entries.0; code = code.0; bytes = initial.0; words = words.0 })
 body_taken c all entries code initial words within t0 t1 t2 t3 nothing =
-    let objects : length words.0 / 8 ≡ c.objects = omega (arith, t3.count) in
+    let objects : length words.0 / object_words ≡ c.objects = omega (arith, t3.count) in
     record {
       counts = same_counts (record { entries = entries.0; code = code.0; bytes = initial.0; words = words.0 }) c t0.count objects
           t1.count t2.count;

@@ -21,9 +21,25 @@ code_start = 0x00010000
 abbrev pub memory_start : ℕ
 memory_start = 0x00100000
 
+-- the bytes of private memory
+abbrev pub memory_size : ℕ
+memory_size = 0x00010000
+
+-- the most threads
+abbrev pub most_threads : ℕ
+most_threads = 8
+
+-- the most objects
+abbrev pub most_objects : ℕ
+most_objects = 16
+
 -- the number of words of an object
 abbrev pub object_words : ℕ
 object_words = 8
+
+-- the most words of code
+abbrev pub most_code_words : ℕ
+most_code_words = 16384
 
 -- the number of objects
 abbrev pub object_count : Guest → ℕ
@@ -38,11 +54,11 @@ pub record IsPlace (words place : ℕ) : Type 0 where
 -- the limits of a guest
 pub record IsGuest (g : Guest) : Type 0 where
   pub some_thread : 1 ≤ length g.entries
-  pub few_threads : length g.entries ≤ 8
-  pub short_code : length g.code ≤ 16384
-  pub short_data : length g.bytes ≤ 65536
+  pub few_threads : length g.entries ≤ most_threads
+  pub short_code : length g.code ≤ most_code_words
+  pub short_data : length g.bytes ≤ memory_size
   pub whole_objects : length g.words % object_words ≡ 0
-  pub few_objects : object_count g ≤ 16
+  pub few_objects : object_count g ≤ most_objects
   pub entries_fit : AllByRecursion (IsPlace (length g.code)) g.entries
   pub code_fits : AllByRecursion IsWord g.code
   pub bytes_fit : AllByRecursion IsByte g.bytes

@@ -5,7 +5,7 @@ use Rattle.ir_bytes.specs.Reading.{◌>>=◌, Reader, Field, tested, within, fix
 use Rattle.ir_image.specs.declared.counts.Counts.{Counts}
 use Rattle.ir_image.specs.declared.image_err.ImageErr.{ImageErr}
 use Rattle.ir_image.specs.declared.image_err.ImageErr.TheVariants.{Short, Magic, Count, Entry, Trailing, NoMem}
-use Rattle.ir_image.specs.Guest.{Guest, code_start, object_words}
+use Rattle.ir_image.specs.Guest.{Guest, code_start, memory_size, most_threads, most_objects, most_code_words, object_words}
 use Rattle.ir_image.specs.Encoding.{magic}
 
 -- reading meets this fault, or memory ran out
@@ -28,18 +28,18 @@ abbrev pub magic_field : Field ImageErr
 magic_field = fixed 4 (little_number 4 magic) Magic
 
 abbrev pub threads_field : Field ImageErr
-threads_field = within 1 1 8 Count
+threads_field = within 1 1 most_threads Count
 
 abbrev pub objects_field : Field ImageErr
-objects_field = within 1 0 16 Count
+objects_field = within 1 0 most_objects Count
 
 -- the number of words of code
 abbrev pub words_field : Field ImageErr
-words_field = within 4 0 16384 Count
+words_field = within 4 0 most_code_words Count
 
 -- the number of bytes of data
 abbrev pub bytes_field : Field ImageErr
-bytes_field = within 4 0 65536 Count
+bytes_field = within 4 0 memory_size Count
 
 -- the address of a word in code of so many words
 abbrev pub is_place : ℕ → ℕ → Bool

@@ -20,7 +20,10 @@ pub use fetched::Fetched;
 pub use image::Image;
 pub use image_err::ImageErr;
 pub use laws::{encoding_is_read, first_fault_is_named, read_is_encoded};
-pub use layout::{CODE_START, MEMORY_START};
+pub use layout::{
+    CODE_START, MEMORY_SIZE, MEMORY_START, MOST_CODE_WORDS, MOST_OBJECTS, MOST_THREADS,
+    OBJECT_WORDS,
+};
 pub use operation::{Kind, Operation};
 pub use reading::read_image;
 pub use writing::write_image;

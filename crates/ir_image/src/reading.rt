@@ -1,7 +1,7 @@
 //! The reader of images.
 
 ghost use Rattle.std.specs.Prelude.{◌≡◌, List, ℕ, length, IfOk, Ok, ◌<◌, ◌≤◌};
-ghost use Rattle.ir_image.specs.Guest.{Guest, IsGuest};
+ghost use Rattle.ir_image.specs.Guest.{Guest, IsGuest, most_code_words};
 ghost use Rattle.ir_image.specs.Encoding.{encoding};
 ghost use Rattle.ir_bytes.specs.Reading.{bytes_at, fields_at};
 ghost use Rattle.ir_image.specs.declared.image_err.ImageErr.TheVariants.{Short};
@@ -12,7 +12,7 @@ use crate::counts::Counts;
 use crate::image::Image;
 use crate::image_err::ImageErr;
 use crate::layout::{
-    CODE_START, MAGIC, MOST_BYTES, MOST_OBJECTS, MOST_THREADS, MOST_WORDS, OBJECT_WORDS,
+    CODE_START, MAGIC, MEMORY_SIZE, MOST_CODE_WORDS, MOST_OBJECTS, MOST_THREADS, OBJECT_WORDS,
 };
 use byteorder::{ByteOrder, LittleEndian};
 use ir_bytes::{byte_within, fixed_word, word, word_within};
@@ -30,13 +30,13 @@ struct Parts {
 #[tactic(auto, unfolding(crate::specs::Reading::counts_at))]
 fn counts(bytes: &[u8]) -> Result<(Counts, &[u8]), ImageErr>
     ensures exact { Gives (λ x. (x.0, x.1.now)) result (counts_at bytes.now) }
-    ensures short_code { IfOk result (λ x. x.0.words ≤ 16384) }
+    ensures short_code { IfOk result (λ x. x.0.words ≤ most_code_words) }
 {
     let rest = fixed_word(MAGIC, bytes, ImageErr::Short, ImageErr::Magic)?;
     let (threads, rest) = byte_within(1, MOST_THREADS, rest, ImageErr::Short, ImageErr::Count)?;
     let (objects, rest) = byte_within(0, MOST_OBJECTS, rest, ImageErr::Short, ImageErr::Count)?;
-    let (words, rest) = word_within(MOST_WORDS, rest, ImageErr::Short, ImageErr::Count)?;
-    let (bytes, rest) = word_within(MOST_BYTES, rest, ImageErr::Short, ImageErr::Count)?;
+    let (words, rest) = word_within(MOST_CODE_WORDS, rest, ImageErr::Short, ImageErr::Count)?;
+    let (bytes, rest) = word_within(MEMORY_SIZE, rest, ImageErr::Short, ImageErr::Count)?;
     Ok((
         Counts {
             threads,
@@ -50,7 +50,7 @@ fn counts(bytes: &[u8]) -> Result<(Counts, &[u8]), ImageErr>
 
 #[tactic(auto, unfolding(ir_bytes::specs::Reading::field_at))]
 fn entry(words: u32, bytes: &[u8]) -> Result<(u32, &[u8]), ImageErr>
-    requires { words ≤ 16384 }
+    requires { words ≤ most_code_words }
     ensures { Gives (λ x. (x.0, x.1.now)) result (entry_at words bytes.now) }
 {
     let (entry, rest) = word(bytes, ImageErr::Short)?;
@@ -67,7 +67,7 @@ fn entries(
     words: u32,
     bytes: &[u8],
 ) -> Result<(Vec<u32>, &[u8]), ImageErr>
-    requires { words ≤ 16384 }
+    requires { words ≤ most_code_words }
     ensures { Gives (λ x. (x.0.items, x.1.now)) result (fields_at (entry_at words) count bytes.now) }
 {
     let mut entries = Vec::new(alloc);
@@ -82,7 +82,7 @@ fn entries(
 
 // Room is taken once the words are known to be there.
 fn words(alloc: Global, count: usize, bytes: &[u8]) -> Result<(Vec<u32>, &[u8]), ImageErr>
-    requires { count ≤ 16384 }
+    requires { count ≤ most_code_words }
     ensures { Gives (λ x. (x.0.items, x.1.now)) result (fields_at word_at count bytes.now) }
 {
     let (own, rest) = ir_bytes::bytes(4 * count, bytes, ImageErr::Short)?;
@@ -102,7 +102,7 @@ fn data_bytes(alloc: Global, count: usize, bytes: &[u8]) -> Result<(Vec<u8>, &[u
 
 #[tactic(auto, unfolding(crate::specs::Reading::body_at))]
 fn body(alloc: Global, counts: Counts, bytes: &[u8]) -> Result<Parts, ImageErr>
-    requires { counts.words ≤ 16384 }
+    requires { counts.words ≤ most_code_words }
     ensures { Gives (λ p. record { entries = p.entries.items; code = p.code.items; bytes = p.bytes.items; words = p.words.items }) result (body_at counts bytes.now) }
 {
     let (entries, rest) = entries(alloc, counts.threads, counts.words, bytes)?;

@@ -11,4 +11,4 @@ mod tests;
 pub use cursor::{Cursor, Disagree};
 pub use event::Event;
 pub use laws::one_label_each;
-pub use log::{Log, MOST_EVENTS};
+pub use log::Log;

@@ -8,10 +8,7 @@ use crate::event::Event;
 use std::alloc::{AllocError, Global};
 use std::marker::Model;
 
-/// The most events that a thread logs.
-pub const MOST_EVENTS: usize = 1_048_576;
-
-/// The events of a thread in their order, and room for a number of them, at most `MOST_EVENTS`.
+/// The events of a thread in their order, and room for a number of them, at most `ir_thread::MOST_EVENTS`.
 #[derive(Drop)]
 pub struct Log {
     kept: Vec<Event>,

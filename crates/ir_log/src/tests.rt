@@ -1,6 +1,6 @@
-use crate::{Cursor, Disagree, Event, Log, MOST_EVENTS};
+use crate::{Cursor, Disagree, Event, Log};
 use ir_runs::{Access, EnvKind};
-use ir_thread::Ask;
+use ir_thread::{Ask, MOST_EVENTS};
 use std::alloc::{AllocError, Global};
 use std::test::Fail;
 
@@ -93,7 +93,8 @@ fn a_log_gives_its_events_back(rt: HostRuntime) -> Result<(), Fail> {
         log.into_events().as_slice(),
         [Event::Answer(EnvKind::Clock, 5), READ, WRITE].as_slice()
     );
-    assert_eq!(rt; Log::new(rt.alloc(), MOST_EVENTS)?.room(), 1_048_576);
+    let most = MOST_EVENTS as usize;
+    assert_eq!(rt; Log::new(rt.alloc(), most)?.room(), most);
     Ok(())
 }
 

@@ -3,3 +3,5 @@ mod Guests
 mod Runs
 mod Operations
 mod Meaning
+mod Pages
+pub mod CallerLemmas

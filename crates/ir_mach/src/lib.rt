@@ -11,10 +11,12 @@ mod mach;
 mod memory;
 mod outcome;
 mod performing;
+mod regs;
 mod run;
 #[cfg(test)]
 mod tests;
 
-pub use laws::steps_together;
-pub use mach::Mach;
+pub use laws::{built_again, steps_together};
+pub use mach::{MEMORY_PAGES, Mach, PAGE_SIZE};
 pub use outcome::{Fault, Ran};
+pub use regs::Regs;

@@ -7,15 +7,20 @@ ghost use Rattle.ir_mach.specs.Core.{Core, IsCore, memory_size, register, start_
 ghost use Rattle.ir_mach.specs.Memory.{IsMemoryWord, memory_word, loaded};
 
 use crate::effect::Effect;
-use crate::memory::{MEMORY_SIZE, overwrite};
+use crate::memory::overwrite;
 use crate::outcome::Ran;
 use crate::performing::{Registers, address_of, carry_out, place_of};
 use byteorder::{ByteOrder, LittleEndian};
-use ir_image::{Code, Image, MEMORY_START};
+use ir_image::{Code, Image, MEMORY_SIZE, MEMORY_START};
 use std::alloc::{AllocError, Global};
 use std::marker::Model;
 
-const STACK_TOP: u32 = 0x0011_0000;
+mod pages;
+
+pub use pages::{MEMORY_PAGES, PAGE_SIZE};
+
+// The address just above private memory.
+const STACK_TOP: u32 = MEMORY_START + MEMORY_SIZE;
 
 const STACK_POINTER: usize = 2;
 

@@ -9,10 +9,8 @@ ghost use Rattle.ir_mach.specs.Memory.{number_at, extended, loaded, overwritten,
 ghost use Rattle.ir_mach.specs.Effects.{offset_in_memory};
 
 use byteorder::{ByteOrder, LittleEndian};
-use ir_image::{CODE_START, Code, MEMORY_START};
+use ir_image::{CODE_START, Code, MEMORY_SIZE, MEMORY_START};
 use ir_isa::{LoadOp, StoreOp};
-
-pub const MEMORY_SIZE: u32 = 0x0001_0000;
 
 // The place of an address in private memory, where so many bytes lie there.
 pub fn memory_offset(width: u32, address: u32) -> Option<usize>

@@ -2,10 +2,10 @@
 
 ghost use Rattle.std.specs.Prelude.{◌≡◌, ◌≤◌, ◌<◌, ◌%◌, ◌^◌, ◌≤ℤ◌, pos, negsuc, vec_len};
 ghost use Rattle.std.specs.List.{AllByRecursion};
-ghost use Rattle.ir_image.specs.Guest.{IsWord};
+ghost use Rattle.ir_image.specs.Guest.{IsWord, most_code_words};
 
 use crate::{Fault, Mach, Ran};
-use ir_image::{Code, Image};
+use ir_image::{Code, Image, MOST_CODE_WORDS};
 use ir_isa::{
     BranchOffset, BranchOp, Immediate, ImmediateOp, Inst, LoadOp, Register, RegisterOp, StoreOp,
     UpperImmediate, encode,
@@ -32,7 +32,7 @@ fn words_fit(words: &[u32])
 
 fn image_of(alloc: Global, words: Vec<u32>) -> Result<Image, AllocError>
     requires some { 1 ≤ vec_len words }
-    requires few { vec_len words ≤ 16384 }
+    requires few { vec_len words ≤ most_code_words }
 {
     words_fit(words.as_slice());
     let code = Code::new(alloc, words)?;
@@ -47,7 +47,7 @@ fn image(rt: &impl Abort, alloc: Global, program: &[Inst]) -> Result<Image, Fail
     for inst in program {
         words.push(encode(inst))?;
     }
-    assert!(rt; 1 <= words.len() && words.len() <= 16384);
+    assert!(rt; 1 <= words.len() && words.len() <= MOST_CODE_WORDS as usize);
     Ok(image_of(alloc, words)?)
 }
 

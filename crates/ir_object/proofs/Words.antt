@@ -3,22 +3,22 @@ use Rattle.std.proofs.Common.{◌≡◌, ℕ, ◌+◌, ◌-◌, ◌*◌, ◌/◌
 use Rattle.std.proofs.lemmas.Bool.{cases_eq}
 use Rattle.ir_runs.specs.declared.access.Access.TheVariants.{Reading, Writing}
 use Rattle.ir_object.specs.Cell.{Admitted}
-use Rattle.ir_object.specs.Word.{fields_of, entered, left_by}
+use Rattle.ir_object.specs.Word.{reader_unit, left_unit, version_unit, inside_limit, left_limit, reader_leaves, fields_of, entered, left_by}
 use Rattle.ir_object.specs.declared.fields.Fields.{Fields}
 
 -- no writer is inside
-even : (w : ℕ) → (fields_of w).writer ≡ false → w % 2 ≡ 0
+even : (w : ℕ) → (fields_of w).writer ≡ false → w % reader_unit ≡ 0
 even w off = elim (cases_eq (w % 2) 1) [ inl is ↦ absurd (cc (sym (eq-eqb (w % 2) 1 is) ∙ off)) | inr ne ↦ omega (arith, ne) ]
 
 -- a reader enters, with room for one more
-pub read_entry_word : (w : ℕ) → Admitted Reading (fields_of w) → (fields_of w).inside + 1 < 2 ^ 7
-    → fields_of (w + 2) ≡ entered Reading (fields_of w)
+pub read_entry_word : (w : ℕ) → Admitted Reading (fields_of w) → (fields_of w).inside + 1 < inside_limit
+    → fields_of (w + reader_unit) ≡ entered Reading (fields_of w)
 read_entry_word w free room =
     let e = even w free in
-    let version : (w + 2) / 2 ^ 32 ≡ w / 2 ^ 32 = omega (arith, e, room) in
-    let left : (w + 2) / 2 ^ 8 % 2 ^ 24 ≡ w / 2 ^ 8 % 2 ^ 24 = omega (arith, e, room) in
-    let inside : (w + 2) / 2 % 2 ^ 7 ≡ w / 2 % 2 ^ 7 + 1 = omega (arith, e, room) in
-    let writer : (w + 2) % 2 ≡ w % 2 = omega arith in
+    let version : (w + reader_unit) / version_unit ≡ w / version_unit = omega (arith, e, room) in
+    let left : (w + reader_unit) / left_unit % left_limit ≡ w / left_unit % left_limit = omega (arith, e, room) in
+    let inside : (w + reader_unit) / reader_unit % inside_limit ≡ w / reader_unit % inside_limit + 1 = omega (arith, e, room) in
+    let writer : (w + reader_unit) % reader_unit ≡ w % 2 = omega arith in
     λ i. record { version = version i; left = left i; inside = inside i; writer = writer i == 1 }
 
 -- a writer enters
@@ -26,27 +26,29 @@ pub write_entry_word : (w : ℕ) → Admitted Writing (fields_of w) → fields_o
 write_entry_word w free =
     let e = even w free.0 in
     let none = free.1 in
-    let version : (w + 1) / 2 ^ 32 ≡ w / 2 ^ 32 = omega (arith, e, none) in
-    let left : (w + 1) / 2 ^ 8 % 2 ^ 24 ≡ w / 2 ^ 8 % 2 ^ 24 = omega (arith, e, none) in
-    let inside : (w + 1) / 2 % 2 ^ 7 ≡ w / 2 % 2 ^ 7 = omega (arith, e, none) in
-    let writer : (w + 1) % 2 ≡ 1 = omega (arith, e) in
+    let version : (w + 1) / version_unit ≡ w / version_unit = omega (arith, e, none) in
+    let left : (w + 1) / left_unit % left_limit ≡ w / left_unit % left_limit = omega (arith, e, none) in
+    let inside : (w + 1) / reader_unit % inside_limit ≡ w / reader_unit % inside_limit = omega (arith, e, none) in
+    let writer : (w + 1) % reader_unit ≡ 1 = omega (arith, e) in
     λ i. record { version = version i; left = left i; inside = inside i; writer = writer i == 1 }
 
 -- a reader who is inside leaves, with room for one more that has left; the sum doesn't pass 64 bits
-pub read_leave_word : (w : ℕ) → 0 < (fields_of w).inside → (fields_of w).left + 1 < 2 ^ 24 → (fields_of w).version < 2 ^ 31
-    → fields_of ((w + 254) % 2 ^ 64) ≡ left_by Reading (fields_of w)
+pub read_leave_word : (w : ℕ) → 0 < (fields_of w).inside → (fields_of w).left + 1 < left_limit → (fields_of w).version < 2 ^ 31
+    → fields_of ((w + reader_leaves) % 2 ^ 64) ≡ left_by Reading (fields_of w)
 read_leave_word w inside_one room small =
-    let version : (w + 254) % 2 ^ 64 / 2 ^ 32 ≡ w / 2 ^ 32 = omega (arith, small, room, inside_one) in
-    let left : (w + 254) % 2 ^ 64 / 2 ^ 8 % 2 ^ 24 ≡ w / 2 ^ 8 % 2 ^ 24 + 1 = omega (arith, small, room, inside_one) in
-    let inside : (w + 254) % 2 ^ 64 / 2 % 2 ^ 7 ≡ w / 2 % 2 ^ 7 - 1 = omega (arith, small, room, inside_one) in
-    let writer : (w + 254) % 2 ^ 64 % 2 ≡ w % 2 = omega (arith, small) in
+    let version : (w + reader_leaves) % 2 ^ 64 / version_unit ≡ w / version_unit = omega (arith, small, room, inside_one) in
+    let left : (w + reader_leaves) % 2 ^ 64 / left_unit % left_limit ≡ w / left_unit % left_limit + 1 = omega
+    (arith, small, room, inside_one) in
+    let inside : (w + reader_leaves) % 2 ^ 64 / reader_unit % inside_limit ≡ w / reader_unit % inside_limit - 1 = omega
+    (arith, small, room, inside_one) in
+    let writer : (w + reader_leaves) % 2 ^ 64 % reader_unit ≡ w % 2 = omega (arith, small) in
     λ i. record { version = version i; left = left i; inside = inside i; writer = writer i == 1 }
 
 -- the next version alone, which a writer leaves
-pub version_word : (v : ℕ) (f : Fields) → f.version ≡ v → fields_of ((v + 1) * 2 ^ 32) ≡ left_by Writing f
+pub version_word : (v : ℕ) (f : Fields) → f.version ≡ v → fields_of ((v + 1) * version_unit) ≡ left_by Writing f
 version_word v f is =
-    let version : (v + 1) * 2 ^ 32 / 2 ^ 32 ≡ f.version + 1 = omega (arith, is) in
-    let left : (v + 1) * 2 ^ 32 / 2 ^ 8 % 2 ^ 24 ≡ 0 = omega arith in
-    let inside : (v + 1) * 2 ^ 32 / 2 % 2 ^ 7 ≡ 0 = omega arith in
-    let writer : (v + 1) * 2 ^ 32 % 2 ≡ 0 = omega arith in
+    let version : (v + 1) * version_unit / version_unit ≡ f.version + 1 = omega (arith, is) in
+    let left : (v + 1) * version_unit / left_unit % left_limit ≡ 0 = omega arith in
+    let inside : (v + 1) * version_unit / reader_unit % inside_limit ≡ 0 = omega arith in
+    let writer : (v + 1) * version_unit % reader_unit ≡ 0 = omega arith in
     λ i. record { version = version i; left = left i; inside = inside i; writer = writer i == 1 }

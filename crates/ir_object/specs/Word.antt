@@ -4,11 +4,32 @@ use Rattle.ir_runs.specs.declared.access.Access.{Access}
 use Rattle.ir_runs.specs.declared.access.Access.TheVariants.{Reading, Writing}
 use Rattle.ir_object.specs.declared.fields.Fields.{Fields}
 
+-- what each adds to the word: a reader who is inside, one who has left, and a version; a writer who is inside adds 1
+abbrev pub reader_unit : ℕ
+reader_unit = 2
+
+abbrev pub left_unit : ℕ
+left_unit = 2 ^ 8
+
+abbrev pub version_unit : ℕ
+version_unit = 2 ^ 32
+
+-- more than may be inside for reading, and more than may have left, as the units have room for them
+abbrev pub inside_limit : ℕ
+inside_limit = left_unit / reader_unit
+
+abbrev pub left_limit : ℕ
+left_limit = version_unit / left_unit
+
+-- what a reader adds to the word as it leaves: one more has left, and one less is inside
+abbrev pub reader_leaves : ℕ
+reader_leaves = left_unit - reader_unit
+
 -- the fields are within their bits
 pub record IsFields (f : Fields) : Type 0 where
-  pub version : f.version < 2 ^ 32
-  pub left : f.left < 2 ^ 24
-  pub inside : f.inside < 2 ^ 7
+  pub version : f.version < version_unit
+  pub left : f.left < left_limit
+  pub inside : f.inside < inside_limit
 
 -- 1 where a writer is inside
 abbrev pub bit_of : Bool → ℕ
@@ -16,15 +37,15 @@ bit_of writer = if writer then 1 else 0
 
 -- the word that says so
 abbrev pub word_of : Fields → ℕ
-word_of f = f.version * 2 ^ 32 + f.left * 2 ^ 8 + f.inside * 2 + bit_of f.writer
+word_of f = f.version * version_unit + f.left * left_unit + f.inside * reader_unit + bit_of f.writer
 
 -- what a word says
 abbrev pub fields_of : ℕ → Fields
 fields_of word = record {
-  version = word / 2 ^ 32;
-  left = word / 2 ^ 8 % 2 ^ 24;
-  inside = word / 2 % 2 ^ 7;
-  writer = word % 2 == 1;
+  version = word / version_unit;
+  left = word / left_unit % left_limit;
+  inside = word / reader_unit % inside_limit;
+  writer = word % reader_unit == 1;
 }
 
 -- what is said after an entry
@@ -41,9 +62,10 @@ left_by Writing f = record { version = f.version + 1; left = 0; inside = 0; writ
 abbrev pub OneWordEach : Type 0
 OneWordEach = (f : Fields) → IsFields f → fields_of (word_of f) ≡ f
 
--- what an entry and a leave make of the word: a reader adds 2 and then 254, a writer adds 1, and leaves the next version alone
+-- what an entry and a leave make of the word: a reader adds one inside and then takes it to those who have left, a writer adds 1, and
+-- leaves the next version alone
 pub record StepsOfWords : Type 0 where
-  pub read : (f : Fields) → word_of (entered Reading f) ≡ word_of f + 2
-  pub read_left : (f : Fields) → 0 < f.inside → word_of (left_by Reading f) ≡ word_of f + 254
+  pub read : (f : Fields) → word_of (entered Reading f) ≡ word_of f + reader_unit
+  pub read_left : (f : Fields) → 0 < f.inside → word_of (left_by Reading f) ≡ word_of f + reader_leaves
   pub written : (f : Fields) → f.writer ≡ false → word_of (entered Writing f) ≡ word_of f + 1
-  pub write_left : (f : Fields) → word_of (left_by Writing f) ≡ (f.version + 1) * 2 ^ 32
+  pub write_left : (f : Fields) → word_of (left_by Writing f) ≡ (f.version + 1) * version_unit

@@ -8,7 +8,7 @@ pub fn one_word_each()
     ensures { OneWordEach }
 {}
 
-/// What entries and leaves make of a word: a reader adds 2, and 254 as it leaves; a writer adds 1,
+/// What entries and leaves make of a word: a reader adds one inside, and as it leaves takes it to those who have left; a writer adds 1,
 /// and leaves a word of the next version alone.
 pub fn steps_of_words()
     ensures { StepsOfWords }

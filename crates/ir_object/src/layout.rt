@@ -4,11 +4,14 @@
 //! Place 0 is for joins. An object's word stands alone in a cache line of eight words, and its contents begin in the next, so
 //! that threads at different objects don't wait for each other's lines. There is room for sixteen words of contents.
 
+// The words of a cache line.
+const LINE: usize = 8;
+
 /// The place of object 0's word.
-pub const WORD_PLACE: usize = 8;
+pub const WORD_PLACE: usize = LINE;
 
 /// The place of the first word of object 0's contents.
-pub const CONTENT_PLACE: usize = 16;
+pub const CONTENT_PLACE: usize = 2 * LINE;
 
 /// The places from one object's to the next one's.
-pub const APART: usize = 24;
+pub const APART: usize = 3 * LINE;

@@ -1,4 +1,4 @@
-//! One shared object of a guest: who may enter, its version, and its eight words.
+//! One shared object of a guest: who may enter, its version, and its words.
 #![tactic(auto)]
 
 mod fields;

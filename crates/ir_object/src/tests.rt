@@ -1,6 +1,7 @@
 //! The word beside a list of readers and a writer.
 
 use crate::{Object, Word};
+use ir_image::OBJECT_WORDS;
 use ir_runs::Access;
 use std::test::Fail;
 
@@ -76,7 +77,7 @@ fn the_word_goes_with_the_list(rt: HostRuntime) -> Result<(), Fail> {
             readers: Vec::new(rt.alloc()),
             writer: None,
         };
-        let mut object = Object::new([0; 8]);
+        let mut object = Object::new([0; OBJECT_WORDS]);
         let mut rest = number;
         for _ in 0..5 {
             let (thread, step) = (rest % 3, rest / 3 % 3);
@@ -104,7 +105,7 @@ fn words_say_what_was_packed(rt: HostRuntime) {
         (7, 9, 1, true)
     );
     assert_eq!(rt; Word::pack(fields), word);
-    let mut object = Object::new([5; 8]);
+    let mut object = Object::new([5; OBJECT_WORDS]);
     object.put(3, 8);
     assert_eq!(rt; (object.get(3), object.get(7)), (8, 5));
     assert_eq!(rt;

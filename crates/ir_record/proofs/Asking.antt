@@ -2,7 +2,7 @@
 use Rattle.std.proofs.Common.{◌≡◌, ℕ, ◌<◌, ◌≤◌, true, false, Bool, List, [], ◌∷◌, ◌++◌, length, map, set, get_or, refl, sym, ap, ◌∙◌, subst, arith, inl, inr, get_or-set_same, get_or-set_other, append-nil, append_assoc, length-set, length-append, ◌+◌, zero, suc}
 use Rattle.std.proofs.lemmas.Bool.{cases_eq, cases_lt}
 use Rattle.std.proofs.lemmas.List.{get_or-map, map-set, length-map}
-use Rattle.ir_record.specs.Worlds.{Answered, NoneFailed, IsFirstFailed, Extends}
+use Rattle.ir_record.specs.Worlds.{Answered, NoneFailed, IsFirstFailed, Extends, AreSameWorlds}
 use Rattle.ir_record.specs.Progress.{answers_at}
 
 -- a world that is asked has not failed
@@ -34,10 +34,10 @@ first_failed broken worlds t new works l h = subst (λ z. IsFirstFailed z t) (sy
 )
 
 -- what has been answered before is kept
-pub extends_same : (a : List (List Answered)) → Extends a a
+extends_same : (a : List (List Answered)) → Extends a a
 extends_same a = record { worlds = refl; more = λ t. ([], sym (append-nil (get_or a t []))) }
 
-pub extends_both : (a b c : List (List Answered)) → Extends a b → Extends b c → Extends a c
+extends_both : (a b c : List (List Answered)) → Extends a b → Extends b c → Extends a c
 extends_both a b c p q = record {
   worlds = q.worlds ∙ p.worlds;
   more = λ t. (
@@ -45,6 +45,17 @@ extends_both a b c p q = record {
     (q.more t).1 ∙ ap (λ z. z ++ (q.more t).0) (p.more t).1
         ∙ append_assoc (get_or a t []) (p.more t).0 (q.more t).0,
   );
+}
+
+-- worlds that are not asked are those that they were
+pub same_worlds : {W O : Type 0} (answers : W → List Answered) (origin : W → O) (a : List W) → AreSameWorlds answers origin a a
+same_worlds answers origin a = record { answered = extends_same (map answers a); origins = refl }
+
+pub worlds_on : {W O : Type 0} (answers : W → List Answered) (origin : W → O) (a b c : List W) → AreSameWorlds answers origin a b
+    → AreSameWorlds answers origin b c → AreSameWorlds answers origin a c
+worlds_on answers origin a b c p q = record {
+  answered = extends_both (map answers a) (map answers b) (map answers c) p.answered q.answered;
+  origins = q.origins ∙ p.origins;
 }
 
 -- one world has answered so many more

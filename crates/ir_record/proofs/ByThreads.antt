@@ -58,21 +58,22 @@ drop_all zero (w ∷ ws) l = absurd (omega (arith, l))
 drop_all (suc k) [] l = refl
 drop_all (suc k) (w ∷ ws) l = drop_all k ws (omega (arith, l))
 
-words_at : (ws : List ℕ) (n o : ℕ) → o < n → (get_or (start_cells ws n) o empty).words ≡ take 8 (drop (8 * o) ws)
+words_at : (ws : List ℕ) (n o : ℕ) → o < n → (get_or (start_cells ws n) o empty).words ≡ take object_words (drop (object_words * o) ws)
 words_at ws zero o l = absurd (omega arith)
 words_at ws (suc n) zero l = refl
-words_at ws (suc n) (suc o) l = words_at (drop 8 ws) n o (omega (arith, l))
-    ∙ ap (take 8) (drop_twice 8 (8 * o) ws ∙ ap (λ k. drop k ws) (let e : 8 + 8 * o ≡ 8 * suc o = omega arith in e))
+words_at ws (suc n) (suc o) l = words_at (drop object_words ws) n o (omega (arith, l))
+    ∙ ap (take object_words) (drop_twice object_words (object_words * o) ws
+    ∙ ap (λ k. drop k ws) (let e : object_words + object_words * o ≡ object_words * suc o = omega arith in e))
 
 fields_none : (ws : List ℕ) (n o : ℕ) → (get_or (start_cells ws n) o empty).fields ≡
     record { version = 0; left = 0; inside = 0; writer = false }
 fields_none ws zero o = refl
 fields_none ws (suc n) zero = refl
-fields_none ws (suc n) (suc o) = fields_none (drop 8 ws) n o
+fields_none ws (suc n) (suc o) = fields_none (drop object_words ws) n o
 
 cells_count : (ws : List ℕ) (n : ℕ) → length (start_cells ws n) ≡ n
 cells_count ws zero = refl
-cells_count ws (suc n) = let e = cells_count (drop 8 ws) n in omega (arith, e)
+cells_count ws (suc n) = let e = cells_count (drop object_words ws) n in omega (arith, e)
 
 objects_same : (g : Guest) (budget : ℕ) → IsGuest g → (tables (start_flat g budget)).objects ≡ start_objects g
 objects_same g budget guest = fun_ext (λ o. let c = cell_of (start_flat g budget) o in λ i. record {

@@ -1,7 +1,8 @@
 -- Each step leaves fewer.
 use Rattle.std.proofs.Common.{◌≡◌, ◌≢◌, ℕ, zero, suc, ◌+◌, ◌-◌, ◌<◌, ◌≤◌, List, length, Option, Some, None, refl, ap, ◌∙◌, arith, inl, inr}
 use Rattle.std.proofs.lemmas.Bool.{cases_eq}
-use Rattle.ir_thread.specs.Calls.{Permits, after_ask}
+use Rattle.ir_image.specs.Guest.{most_objects}
+use Rattle.ir_thread.specs.Calls.{most_closing, Permits, after_ask}
 use Rattle.ir_thread.specs.Held.{held_at, held_count}
 use Rattle.ir_runs.specs.Machine.{upd}
 use Rattle.ir_thread.specs.State as thread
@@ -17,8 +18,8 @@ use Rattle.ir_record.specs.Progress.{steps_left, all_left}
 goes : (ended : Option end.End) (x y : thread.State) → x.ended ≡ None → x.steps < x.budget → y.ended ≡ x.ended → y.budget ≡ x.budget
     → y.steps ≡ x.steps + 1 → steps_left y.ended y + 1 ≤ steps_left x.ended x
 goes ended x y lives less same budget steps =
-    let own : steps_left x.ended x ≡ 17 + (x.budget - x.steps) = ap (λ e. steps_left e x) lives in
-    let new : steps_left y.ended y ≡ 17 + (y.budget - y.steps) = ap (λ e. steps_left e y) (same ∙ lives) in
+    let own : steps_left x.ended x ≡ most_closing + (x.budget - x.steps) = ap (λ e. steps_left e x) lives in
+    let new : steps_left y.ended y ≡ most_closing + (y.budget - y.steps) = ap (λ e. steps_left e y) (same ∙ lives) in
     omega (arith, own, new, less, budget, steps)
 
 leaves : (ended : Option end.End) (x y : thread.State) (object : ℕ) → x.ended ≡ ended → (x.ended ≡ None → x.steps < x.budget)
@@ -34,7 +35,7 @@ some_access : {A : Type 0} (x : Option A) (a : A) → x ≡ Some a → x ≢ Non
 some_access x a e n = cc (e, n)
 
 -- each step leaves its thread fewer
-pub one_less : (code : List ℕ) (x : thread.State) (q : Ask) (r : Reply) → length x.held ≤ 16 → Permits x q → q ≢ Done
+pub one_less : (code : List ℕ) (x : thread.State) (q : Ask) (r : Reply) → length x.held ≤ most_objects → Permits x q → q ≢ Done
     → steps_left (after_ask code x q r).ended (after_ask code x q r) + 1 ≤ steps_left x.ended x
 one_less code x Private r few p ne = goes x.ended x (after_ask code x Private r) p.lives p.has_budget refl refl refl
 one_less code x (Env kind) r few p ne = goes x.ended x (after_ask code x (Env kind) r) p.0.lives p.0.has_budget refl refl refl
@@ -49,7 +50,7 @@ one_less code x (Put object index value) r few p ne =
     goes x.ended x (after_ask code x (Put object index value) r) p.0.lives p.0.has_budget refl refl refl
 one_less code x Print r few p ne = goes x.ended x (after_ask code x Print r) p.0.lives p.0.has_budget refl refl refl
 one_less code x (End e) r few p ne =
-    let own : steps_left x.ended x ≡ 17 + (x.budget - x.steps) = ap (λ z. steps_left z x) p in
+    let own : steps_left x.ended x ≡ most_closing + (x.budget - x.steps) = ap (λ z. steps_left z x) p in
     let most = count_le_length x.held in
     omega (arith, own, most, few)
 one_less code x Done r few p ne = absurd (ne refl)

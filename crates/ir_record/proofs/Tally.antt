@@ -1,5 +1,6 @@
 -- What threads have left along a run.
 use Rattle.std.proofs.Common.{ℕ, zero, suc, ◌+◌, ◌<◌, ◌≤◌, List, length, replicate, sym, subst, arith}
+use Rattle.ir_image.specs.Guest.{most_objects}
 use Rattle.ir_thread.specs.Calls.{ask_of}
 use Rattle.ir_thread.specs.Instance.{reply_of, thread_machine}
 use Rattle.ir_thread.specs.State as thread
@@ -13,14 +14,14 @@ use Rattle.ir_record.proofs.Left.{one_less, all_less}
 
 -- ---- places
 
--- no thread holds more than 16 objects
+-- no thread holds more objects than a guest may have
 abbrev pub Few : State thread.State → Type 0
-Few s = (t : ℕ) → length (s.now t).held ≤ 16
+Few s = (t : ℕ) → length (s.now t).held ≤ most_objects
 
 pub stays_few : (code : List ℕ) (s : State thread.State) (e : Step) → Few s → Few (after (thread_machine code) s e)
 stays_few code s e few t =
-    subst (λ now. length (now t).held ≤ 16) (sym (now_after code s e))
-    (upd_elim s.now e.0 (moved_thread code s e) t (λ z. length z.held ≤ 16)
+    subst (λ now. length (now t).held ≤ most_objects) (sym (now_after code s e))
+    (upd_elim s.now e.0 (moved_thread code s e) t (λ z. length z.held ≤ most_objects)
     (λ _. let same = held_length code (s.now e.0) (ask_of code (s.now e.0))
     (reply_of (ask_of code (s.now e.0)) (reply (act (thread_machine code) s e) (s.objects (target (act (thread_machine code) s e))))) in
     let was = few e.0 in omega (arith, same, was))

@@ -1,5 +1,6 @@
 pub mod Worlds
 pub mod Recording
+pub mod Recorders
 pub mod Progress
 pub mod Gathered
 pub mod Ahead

@@ -1,7 +1,7 @@
 -- A recording as it goes on.
 use Rattle.std.specs.Prelude.{◌≡◌, ◌<◌, ◌≤◌, ◌+◌, ◌-◌, ℕ, zero, suc, List, [], ◌++◌, length, map, Option, Some, None, Bool, true, false, ⊤}
 use Rattle.std.specs.List.{slice_index_or, AllByRecursion}
-use Rattle.ir_thread.specs.Calls.{most_events}
+use Rattle.ir_thread.specs.Calls.{most_events, most_closing}
 use Rattle.ir_thread.specs.Held.{held_count}
 use Rattle.ir_runs.specs.Labels.{Label}
 use Rattle.ir_thread.specs.State as thread
@@ -45,7 +45,7 @@ answers_at answers t = slice_index_or answers t []
 
 -- how many steps a thread may still take at most, by how it ended
 abbrev pub steps_left : Option End → thread.State → ℕ
-steps_left None x = 17 + (x.budget - x.steps)
+steps_left None x = most_closing + (x.budget - x.steps)
 steps_left (Some e) x = held_count x.held
 
 -- how many steps the first n threads may still take at most

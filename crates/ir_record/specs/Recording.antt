@@ -8,7 +8,8 @@ use Rattle.ir_trace.specs.Recorded.{Recorded}
 use Rattle.ir_trace.specs.Told.{trace_of}
 use Rattle.ir_runs.specs.InOrder.{IsByOrder}
 use Rattle.ir_record.specs.Progress.{answers_at}
-use Rattle.ir_record.specs.Worlds.{Answered, answers_in, IsFirstFailed, Extends}
+use Rattle.ir_record.specs.Worlds.{Answered, answers_in, NoneFailed, IsFirstFailed, AreSameWorlds}
+use Rattle.ir_record.specs.declared.outputs.Outputs.{Outputs}
 use Rattle.ir_record.specs.declared.record_err.RecordErr.{RecordErr}
 use Rattle.ir_record.specs.declared.record_err.RecordErr.TheVariants.{NoMem, World}
 
@@ -52,8 +53,36 @@ pub record IsRecording (guest : Guest) (budget : ℕ) (order : List ℕ) (before
   pub by_order : IsByOrder (machine (start_flat guest budget)) (tables (start_flat guest budget)) (length guest.entries) order run
   pub of : IsRecordingOf guest budget run before trace outputs answers
 
--- want of memory; or a world has failed, those of lower threads have not, and all worlds are there, with their answers
-abbrev pub IsFailure : {W : Type 0} → (W → List Answered) → (W → Bool) → List W → RecordErr W → Type 0
-IsFailure answers broken before NoMem = ⊤
-IsFailure answers broken before (World thread worlds) = IsFirstFailed (map broken worlds.items) thread
-    × Extends (map answers before) (map answers worlds.items)
+-- ---- what a call that records hands back, of worlds by what they have answered, whether they have failed and what they were made with
+
+-- what this tells of each thread's world, as it is handed back
+abbrev pub each_world : {W A : Type 0} → (W → A) → Outputs W → List A
+each_world f outputs = map (λ o. f o.world) outputs.each.items
+
+-- the bytes that each thread printed
+abbrev pub printed_by : {W : Type 0} → Outputs W → List (List ℕ)
+printed_by outputs = map (λ o. o.bytes.items) outputs.each.items
+
+-- the run of the guest by the order, which is complete: its trace, what its threads printed, and what their worlds answered
+abbrev pub IsRecordedInOrder : {W : Type 0} → (W → List Answered) → Guest → ℕ → List ℕ → List W → Recorded × Outputs W → Type 0
+IsRecordedInOrder answers guest budget order before r =
+    IsRecording guest budget order (map answers before) r.0 (printed_by r.1) (each_world answers r.1)
+
+-- the same of one complete run of the guest
+abbrev pub IsRecorded : {W : Type 0} → (W → List Answered) → Guest → ℕ → List W → Recorded × Outputs W → Type 0
+IsRecorded answers guest budget before r = IsRecordingOfSome guest budget (map answers before) r.0 (printed_by r.1) (each_world answers r.1)
+
+-- no world that is handed back has failed
+abbrev pub AllWork : {W : Type 0} → (W → Bool) → Recorded × Outputs W → Type 0
+AllWork broken r = NoneFailed (each_world broken r.1)
+
+-- the worlds that are handed back are those that were handed in
+abbrev pub AreHandedBack : {W O : Type 0} → (W → O) → List W → Recorded × Outputs W → Type 0
+AreHandedBack origin before r = each_world origin r.1 ≡ map origin before
+
+-- want of memory; or a world has failed, those of lower threads have not, and all worlds that were handed in are handed back, each gone
+-- on by the answers that it gave
+abbrev pub IsFailure : {W O : Type 0} → (W → List Answered) → (W → Bool) → (W → O) → List W → RecordErr W → Type 0
+IsFailure answers broken origin before NoMem = ⊤
+IsFailure answers broken origin before (World thread worlds) = IsFirstFailed (map broken worlds.items) thread
+    × AreSameWorlds answers origin before worlds.items

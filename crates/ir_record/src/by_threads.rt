@@ -1,7 +1,8 @@
 //! Recording on real threads.
 
 ghost use Rattle.std.specs.Prelude.{◌≡◌, ◌≤◌, length, map, vec_len, IfOk, IfErr};
-ghost use Rattle.ir_record.specs.Recording.{IsRecordingOfSome, IsFailure};
+ghost use Rattle.ir_thread.specs.Calls.{most_budget};
+ghost use Rattle.ir_record.specs.Recording.{IsRecorded, AllWork, AreHandedBack, IsFailure};
 ghost use Rattle.ir_record.specs.Worlds.{NoneFailed};
 
 use crate::handing_back::{gathered, joined, room, worlds_of};
@@ -10,7 +11,7 @@ use crate::record_err::RecordErr;
 use crate::workers::{first_failed, new_workers, run_workers};
 use crate::world::World;
 use ir_crew::Crew;
-use ir_image::Image;
+use ir_image::{Image, OBJECT_WORDS};
 use ir_object::{Gate, Object};
 use ir_trace::Trace;
 use std::alloc::{AllocError, Global};
@@ -23,7 +24,7 @@ fn blanks(alloc: Global, count: usize) -> Result<Vec<Object>, AllocError>
 {
     let mut objects = Vec::with_capacity(alloc, count)?;
     for _o in 0..count {
-        objects.push(Object::new([0; 8]))?;
+        objects.push(Object::new([0; OBJECT_WORDS]))?;
     }
     Ok(objects)
 }
@@ -52,20 +53,20 @@ pub fn record<R: Threads + Wait + Sync, W: World + Drop + Send, G: Gate + Sync>(
     gate: &G,
     budget: u64,
 ) -> Result<(Trace, Outputs<W>), RecordErr<W>>
-    requires budget { budget ≤ 1000000000000 }
+    requires budget { budget ≤ most_budget }
     requires each { vec_len worlds ≡ length image.now.entries }
     requires works { NoneFailed (map W.broken worlds.items) }
     // One complete run of the guest: its trace, what its threads printed, and what their worlds answered.
-    ensures recorded { IfOk result (λ r. IsRecordingOfSome image.now budget (map W.answers worlds.items) r.0 (map (λ o. o.bytes.items) r.1.each.items) (map (λ o. W.answers o.world) r.1.each.items)) }
-    ensures works { IfOk result (λ r. NoneFailed (map (λ o. W.broken o.world) r.1.each.items)) }
+    ensures recorded { IfOk result (IsRecorded W.answers image.now budget worlds.items) }
+    ensures works { IfOk result (AllWork W.broken) }
     // The worlds are those that were handed in.
-    ensures origins { IfOk result (λ r. map (λ o. W.origin o.world) r.1.each.items ≡ map W.origin worlds.items) }
-    ensures failed { IfErr result (λ e. IsFailure W.answers W.broken worlds.items e) }
+    ensures origins { IfOk result (AreHandedBack W.origin worlds.items) }
+    ensures failed { IfErr result (IsFailure W.answers W.broken W.origin worlds.items) }
 {
     let (crew, seats) = Crew::open(alloc, image)?;
     let mut workers = new_workers(alloc, image, seats, worlds, budget)?;
     let room = room(alloc, workers.len())?;
-    let mut objects = blanks(alloc, image.words().len() / 8)?;
+    let mut objects = blanks(alloc, image.words().len() / OBJECT_WORDS)?;
     // From here on nothing takes memory.
     run_workers(rt, &crew, image.code(), gate, &mut workers);
     if let Some(thread) = first_failed(workers.as_slice()) {

@@ -2,7 +2,8 @@
 
 ghost use Rattle.std.specs.Prelude.{◌≡◌, ◌≤◌, length, map, vec_len, IfOk};
 ghost use Rattle.std.specs.List.{AllByRecursion};
-ghost use Rattle.ir_trace.specs.Recorded.{most_budget};
+ghost use Rattle.ir_image.specs.Guest.{most_threads, most_objects};
+ghost use Rattle.ir_thread.specs.Calls.{most_budget};
 ghost use Rattle.ir_record.specs.Threads.{IsEmptyFor, AreRooms, HasRoom, IsOver, AreTraces, IsSeatOf, views_of};
 
 use crate::gather::thread_trace;
@@ -10,11 +11,9 @@ use crate::outputs::{Output, Outputs};
 use crate::room::Room;
 use crate::worker::Worker;
 use ir_crew::{Crew, CrewSeat};
+use ir_thread::MOST_OUTPUT;
 use ir_trace::Trace;
 use std::alloc::{AllocError, Global};
-
-// The most bytes that a thread prints.
-const MOST_PRINTED: usize = 65_536;
 
 // Room for what so many threads print.
 fn printed_room(alloc: Global, count: usize) -> Result<Vec<Vec<u8>>, AllocError>
@@ -22,7 +21,7 @@ fn printed_room(alloc: Global, count: usize) -> Result<Vec<Vec<u8>>, AllocError>
 {
     let mut rooms = Vec::with_capacity(alloc, count)?;
     for number in 0..count {
-        rooms.push(Vec::with_capacity(alloc, MOST_PRINTED)?)?;
+        rooms.push(Vec::with_capacity(alloc, MOST_OUTPUT)?)?;
     }
     Ok(rooms)
 }
@@ -71,8 +70,8 @@ pub fn gathered<W: Drop>(
     requires room { HasRoom (vec_len workers) room }
     requires over { AllByRecursion (IsOver objects) workers.items }
     requires some { 1 ≤ vec_len workers }
-    requires few { vec_len workers ≤ 8 }
-    requires objects { objects ≤ 16 }
+    requires few { vec_len workers ≤ most_threads }
+    requires objects { objects ≤ most_objects }
     requires budget { budget ≤ most_budget }
     ensures seats { result.0.items ≡ map (λ w. w.seat) workers.items }
     ensures trace { (result.1.objects ≡ objects) × (result.1.budget ≡ budget) × AreTraces workers.items result.1.threads }

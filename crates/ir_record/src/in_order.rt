@@ -1,12 +1,14 @@
 //! Recording on one thread, in a given order.
 
 ghost use Rattle.std.specs.Prelude.{◌≡◌, ◌<◌, ◌≤◌, ◌++◌, ℕ, length, map, replicate, vec_len, IfOk, OnOk, IfErr};
+ghost use Rattle.ir_thread.specs.Calls.{most_budget};
 ghost use Rattle.ir_flat.specs.Flat.{tables, machine};
 ghost use Rattle.ir_runs.specs.InOrder.{HasNone, rounds};
-ghost use Rattle.ir_record.specs.Progress.{progress, Took, IsReady};
-ghost use Rattle.ir_record.specs.Recording.{IsRecording, IsFailure};
+ghost use Rattle.ir_record.specs.Progress.{Took};
+ghost use Rattle.ir_record.specs.Recorders.{progress_of, CanGoOn, NamesFirst};
+ghost use Rattle.ir_record.specs.Recording.{IsRecordedInOrder, AllWork, AreHandedBack, IsFailure};
 ghost use Rattle.ir_record.specs.Turns.{order_of_turns};
-ghost use Rattle.ir_record.specs.Worlds.{NoneFailed, IsFirstFailed, Extends};
+ghost use Rattle.ir_record.specs.Worlds.{NoneFailed, AreSameWorlds};
 
 use crate::gather::outputs;
 use crate::outputs::Outputs;
@@ -24,14 +26,13 @@ impl<W: World> Recorder<'_, W> {
     // The turns of the order, and then rounds until no thread has a step.
     // `ahead` has a place for each thread, of which none is ahead.
     fn record(&mut self, order: &[Turns], ahead: &mut Vec<u64>) -> Result<(), Failed>
-        requires ready { IsReady (progress self.old.tape (map W.answers self.old.worlds.items)) (map W.broken self.old.worlds.items) }
+        requires ready { CanGoOn W.answers W.broken self.old }
         requires level { ahead.old.items ≡ replicate (length self.old.tape.flat.threads) 0 }
-        ensures took { OnOk result ((count : ℕ) × Took (order_of_turns order.now ++ rounds (length self.old.tape.flat.threads) count) (progress self.old.tape (map W.answers self.old.worlds.items)) (progress self.new.tape (map W.answers self.new.worlds.items))) }
+        ensures took { OnOk result ((count : ℕ) × Took (order_of_turns order.now ++ rounds (length self.old.tape.flat.threads) count) (progress_of W.answers self.old) (progress_of W.answers self.new)) }
         ensures over { OnOk result ((t : ℕ) → t < length self.new.tape.flat.threads → HasNone (machine self.new.tape.flat) (tables self.new.tape.flat) t) }
-        ensures ready { OnOk result (IsReady (progress self.new.tape (map W.answers self.new.worlds.items)) (map W.broken self.new.worlds.items)) }
-        ensures failed { IfErr result (λ f. IsFirstFailed (map W.broken self.new.worlds.items) f.thread) }
-        ensures kept { Extends (map W.answers self.old.worlds.items) (map W.answers self.new.worlds.items) }
-        ensures origins { map W.origin self.new.worlds.items ≡ map W.origin self.old.worlds.items }
+        ensures ready { OnOk result (CanGoOn W.answers W.broken self.new) }
+        ensures failed { IfErr result (NamesFirst W.broken self.new.worlds.items) }
+        ensures kept { AreSameWorlds W.answers W.origin self.old.worlds.items self.new.worlds.items }
     {
         self.follow(order)?;
         self.rounds(ahead)?;
@@ -51,15 +52,15 @@ pub fn record_in_turns<W: World + Drop>(
     worlds: Vec<W>,
     budget: u64,
 ) -> Result<(Trace, Outputs<W>), RecordErr<W>>
-    requires budget { budget ≤ 1000000000000 }
+    requires budget { budget ≤ most_budget }
     requires each { vec_len worlds ≡ length image.now.entries }
     requires works { NoneFailed (map W.broken worlds.items) }
     // The run by the order, which is complete: its trace, what its threads printed, and what their worlds answered.
-    ensures recorded { IfOk result (λ r. IsRecording image.now budget (order_of_turns order.now) (map W.answers worlds.items) r.0 (map (λ o. o.bytes.items) r.1.each.items) (map (λ o. W.answers o.world) r.1.each.items)) }
-    ensures works { IfOk result (λ r. NoneFailed (map (λ o. W.broken o.world) r.1.each.items)) }
+    ensures recorded { IfOk result (IsRecordedInOrder W.answers image.now budget (order_of_turns order.now) worlds.items) }
+    ensures works { IfOk result (AllWork W.broken) }
     // The worlds are those that were handed in.
-    ensures origins { IfOk result (λ r. map (λ o. W.origin o.world) r.1.each.items ≡ map W.origin worlds.items) }
-    ensures failed { IfErr result (λ e. IsFailure W.answers W.broken worlds.items e) }
+    ensures origins { IfOk result (AreHandedBack W.origin worlds.items) }
+    ensures failed { IfErr result (IsFailure W.answers W.broken W.origin worlds.items) }
 {
     let mut recorder = Recorder {
         tape: Tape::start(alloc, image, budget)?,
@@ -92,15 +93,15 @@ pub fn record_in_order<W: World + Drop>(
     worlds: Vec<W>,
     budget: u64,
 ) -> Result<(Trace, Outputs<W>), RecordErr<W>>
-    requires budget { budget ≤ 1000000000000 }
+    requires budget { budget ≤ most_budget }
     requires each { vec_len worlds ≡ length image.now.entries }
     requires works { NoneFailed (map W.broken worlds.items) }
     // The run by the order, which is complete: its trace, what its threads printed, and what their worlds answered.
-    ensures recorded { IfOk result (λ r. IsRecording image.now budget order.now (map W.answers worlds.items) r.0 (map (λ o. o.bytes.items) r.1.each.items) (map (λ o. W.answers o.world) r.1.each.items)) }
-    ensures works { IfOk result (λ r. NoneFailed (map (λ o. W.broken o.world) r.1.each.items)) }
+    ensures recorded { IfOk result (IsRecordedInOrder W.answers image.now budget order.now worlds.items) }
+    ensures works { IfOk result (AllWork W.broken) }
     // The worlds are those that were handed in.
-    ensures origins { IfOk result (λ r. map (λ o. W.origin o.world) r.1.each.items ≡ map W.origin worlds.items) }
-    ensures failed { IfErr result (λ e. IsFailure W.answers W.broken worlds.items e) }
+    ensures origins { IfOk result (AreHandedBack W.origin worlds.items) }
+    ensures failed { IfErr result (IsFailure W.answers W.broken W.origin worlds.items) }
 {
     let turns = turns_of(alloc, order)?;
     record_in_turns(alloc, image, turns.as_slice(), worlds, budget)

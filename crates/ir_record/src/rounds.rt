@@ -1,6 +1,6 @@
 //! Turns of many threads.
 
-ghost use Rattle.std.specs.Prelude.{◌≡◌, ◌≢◌, ◌<◌, ◌≤◌, ◌-◌, ℕ, [], ◌∷◌, length, map, replicate, IfOk, OnOk, IfErr};
+ghost use Rattle.std.specs.Prelude.{◌≡◌, ◌≢◌, ◌<◌, ◌≤◌, ◌-◌, ℕ, [], ◌∷◌, length, replicate, IfOk, OnOk, IfErr};
 ghost use Rattle.std.specs.List.{range_with_len};
 ghost use Rattle.ir_thread.specs.State as thread;
 ghost use Rattle.ir_flat.specs.Flat.{tables, machine};
@@ -8,9 +8,10 @@ ghost use Rattle.ir_runs.specs.Run.{State};
 ghost use Rattle.ir_record.specs.Ahead.{lead, IsAhead, CanSkip, WentIf};
 ghost use Rattle.ir_runs.specs.InOrder.{HasNone, rounds};
 ghost use Rattle.ir_record.specs.Noting.{has_moved};
-ghost use Rattle.ir_record.specs.Progress.{progress, Took, IsReady};
+ghost use Rattle.ir_record.specs.Progress.{Took};
+ghost use Rattle.ir_record.specs.Recorders.{progress_of, CanGoOn, NamesFirst};
 ghost use Rattle.ir_record.specs.declared.pass.Turned.TheVariants.{Stepped, Waited};
-ghost use Rattle.ir_record.specs.Worlds.{IsFirstFailed, Extends};
+ghost use Rattle.ir_record.specs.Worlds.{AreSameWorlds};
 
 use crate::pass::{Pass, Turned};
 use crate::recorder::Recorder;
@@ -34,20 +35,19 @@ impl<W: World> Recorder<'_, W> {
     // A turn of thread t: one of the private steps that it is ahead; or its next step, if it has one, and then as many
     // private steps as there are.
     fn turn_ahead(&mut self, t: usize, ahead: &mut Vec<u64>) -> Result<Turned, Failed>
-        requires ready { IsReady (progress self.old.tape (map W.answers self.old.worlds.items)) (map W.broken self.old.worlds.items) }
+        requires ready { CanGoOn W.answers W.broken self.old }
         requires each { length ahead.old.items ≡ length self.old.tape.flat.threads }
         requires thread { t < length self.old.tape.flat.threads }
-        ensures went { IfOk result (λ turned. (s : State thread.State) → IsAhead (machine self.old.tape.flat) ahead.old.items s (tables self.old.tape.flat) → WentIf (has_moved turned) (t ∷ []) s (progress self.old.tape (map W.answers self.old.worlds.items)) ahead.old.items (progress self.new.tape (map W.answers self.new.worlds.items)) ahead.new.items) }
+        ensures went { IfOk result (λ turned. (s : State thread.State) → IsAhead (machine self.old.tape.flat) ahead.old.items s (tables self.old.tape.flat) → WentIf (has_moved turned) (t ∷ []) s (progress_of W.answers self.old) ahead.old.items (progress_of W.answers self.new) ahead.new.items) }
         ensures waits { IfOk result (λ turned. turned ≡ Waited → HasNone (machine self.new.tape.flat) (tables self.new.tape.flat) t) }
         ensures rests { IfOk result (λ turned. turned ≢ Stepped → tables self.new.tape.flat ≡ tables self.old.tape.flat) }
         ensures code { OnOk result (self.new.tape.flat.code ≡ self.old.tape.flat.code) }
         ensures others { OnOk result ((u : ℕ) → u ≢ t → lead ahead.new.items u ≡ lead ahead.old.items u) }
         ensures each { OnOk result (length ahead.new.items ≡ length self.new.tape.flat.threads) }
         ensures threads { OnOk result (length self.new.tape.flat.threads ≡ length self.old.tape.flat.threads) }
-        ensures ready { OnOk result (IsReady (progress self.new.tape (map W.answers self.new.worlds.items)) (map W.broken self.new.worlds.items)) }
-        ensures failed { IfErr result (λ f. IsFirstFailed (map W.broken self.new.worlds.items) f.thread) }
-        ensures kept { Extends (map W.answers self.old.worlds.items) (map W.answers self.new.worlds.items) }
-        ensures origins { map W.origin self.new.worlds.items ≡ map W.origin self.old.worlds.items }
+        ensures ready { OnOk result (CanGoOn W.answers W.broken self.new) }
+        ensures failed { IfErr result (NamesFirst W.broken self.new.worlds.items) }
+        ensures kept { AreSameWorlds W.answers W.origin self.old.worlds.items self.new.worlds.items }
     {
         let lead = ahead[t];
         if lead > 0 {
@@ -63,16 +63,15 @@ impl<W: World> Recorder<'_, W> {
 
     // A turn of each thread, from 0 upwards, and what it comes to.
     fn round(&mut self, ahead: &mut Vec<u64>) -> Result<Pass, Failed>
-        requires ready { IsReady (progress self.old.tape (map W.answers self.old.worlds.items)) (map W.broken self.old.worlds.items) }
+        requires ready { CanGoOn W.answers W.broken self.old }
         requires each { length ahead.old.items ≡ length self.old.tape.flat.threads }
-        ensures went { IfOk result (λ pass. (s : State thread.State) → IsAhead (machine self.old.tape.flat) ahead.old.items s (tables self.old.tape.flat) → WentIf pass.moved (range_with_len 0 (length self.old.tape.flat.threads)) s (progress self.old.tape (map W.answers self.old.worlds.items)) ahead.old.items (progress self.new.tape (map W.answers self.new.worlds.items)) ahead.new.items) }
+        ensures went { IfOk result (λ pass. (s : State thread.State) → IsAhead (machine self.old.tape.flat) ahead.old.items s (tables self.old.tape.flat) → WentIf pass.moved (range_with_len 0 (length self.old.tape.flat.threads)) s (progress_of W.answers self.old) ahead.old.items (progress_of W.answers self.new) ahead.new.items) }
         ensures free { IfOk result (λ pass. CanSkip (machine self.new.tape.flat) (length self.new.tape.flat.threads) pass.free ahead.new.items (tables self.new.tape.flat)) }
         ensures each { OnOk result (length ahead.new.items ≡ length self.new.tape.flat.threads) }
         ensures threads { OnOk result (length self.new.tape.flat.threads ≡ length self.old.tape.flat.threads) }
-        ensures ready { OnOk result (IsReady (progress self.new.tape (map W.answers self.new.worlds.items)) (map W.broken self.new.worlds.items)) }
-        ensures failed { IfErr result (λ f. IsFirstFailed (map W.broken self.new.worlds.items) f.thread) }
-        ensures kept { Extends (map W.answers self.old.worlds.items) (map W.answers self.new.worlds.items) }
-        ensures origins { map W.origin self.new.worlds.items ≡ map W.origin self.old.worlds.items }
+        ensures ready { OnOk result (CanGoOn W.answers W.broken self.new) }
+        ensures failed { IfErr result (NamesFirst W.broken self.new.worlds.items) }
+        ensures kept { AreSameWorlds W.answers W.origin self.old.worlds.items self.new.worlds.items }
     {
         let mut pass = Pass::new();
         for t in 0..self.tape.flat.threads().len() {
@@ -84,14 +83,13 @@ impl<W: World> Recorder<'_, W> {
 
     // Rounds until no thread has a step. `ahead` has a place for each thread, of which none is ahead.
     pub fn rounds(&mut self, ahead: &mut Vec<u64>) -> Result<(), Failed>
-        requires ready { IsReady (progress self.old.tape (map W.answers self.old.worlds.items)) (map W.broken self.old.worlds.items) }
+        requires ready { CanGoOn W.answers W.broken self.old }
         requires level { ahead.old.items ≡ replicate (length self.old.tape.flat.threads) 0 }
-        ensures took { OnOk result ((count : ℕ) × Took (rounds (length self.old.tape.flat.threads) count) (progress self.old.tape (map W.answers self.old.worlds.items)) (progress self.new.tape (map W.answers self.new.worlds.items))) }
+        ensures took { OnOk result ((count : ℕ) × Took (rounds (length self.old.tape.flat.threads) count) (progress_of W.answers self.old) (progress_of W.answers self.new)) }
         ensures over { OnOk result ((t : ℕ) → t < length self.new.tape.flat.threads → HasNone (machine self.new.tape.flat) (tables self.new.tape.flat) t) }
-        ensures ready { OnOk result (IsReady (progress self.new.tape (map W.answers self.new.worlds.items)) (map W.broken self.new.worlds.items)) }
-        ensures failed { IfErr result (λ f. IsFirstFailed (map W.broken self.new.worlds.items) f.thread) }
-        ensures kept { Extends (map W.answers self.old.worlds.items) (map W.answers self.new.worlds.items) }
-        ensures origins { map W.origin self.new.worlds.items ≡ map W.origin self.old.worlds.items }
+        ensures ready { OnOk result (CanGoOn W.answers W.broken self.new) }
+        ensures failed { IfErr result (NamesFirst W.broken self.new.worlds.items) }
+        ensures kept { AreSameWorlds W.answers W.origin self.old.worlds.items self.new.worlds.items }
     {
         'rounds: loop {
             let pass = self.round(ahead)?;

@@ -3,12 +3,13 @@
 ghost use Rattle.std.specs.Prelude.{◌≡◌, ◌≤◌, [], length, replicate, IfOk, OnOk};
 ghost use Rattle.ir_image.specs.Guest.{IsGuest};
 ghost use Rattle.ir_flat.specs.Flat.{start_flat};
-ghost use Rattle.ir_thread.specs.Calls.{most_events};
+ghost use Rattle.ir_thread.specs.Calls.{most_budget, most_events};
 
 use crate::tape::Tape;
 use ir_flat::Flat;
 use ir_image::Image;
-use ir_log::{Log, MOST_EVENTS};
+use ir_log::Log;
+use ir_thread::MOST_EVENTS;
 use std::alloc::{AllocError, Global};
 
 // So many logs without events, each with room for all that a thread may log.
@@ -17,7 +18,7 @@ fn logs(alloc: Global, count: usize) -> Result<Vec<Log>, AllocError>
 {
     let mut logs = Vec::with_capacity(alloc, count)?;
     for number in 0..count {
-        logs.push(Log::new(alloc, MOST_EVENTS)?)?;
+        logs.push(Log::new(alloc, MOST_EVENTS as usize)?)?;
     }
     Ok(logs)
 }
@@ -25,7 +26,7 @@ fn logs(alloc: Global, count: usize) -> Result<Vec<Log>, AllocError>
 impl<'a> Tape<'a> {
     // The guest of the image before its first step, with room for all that its threads may log.
     pub fn start(alloc: Global, image: &'a Image, budget: u64) -> Result<Tape<'a>, AllocError>
-        requires { budget ≤ 1000000000000 }
+        requires { budget ≤ most_budget }
         ensures guest { OnOk result (IsGuest image.now) }
         ensures flat { IfOk result (λ tape. tape.flat ≡ start_flat image.now budget) }
         ensures logs { IfOk result (λ tape. tape.logs.items ≡ replicate (length image.now.entries) (record { events = []; room = most_events })) }

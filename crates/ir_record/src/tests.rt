@@ -1,6 +1,7 @@
 //! Guests of a few instructions, recorded in an order, with worlds that answer from a list.
 
 ghost use Rattle.std.specs.Prelude.{◌≡◌, ◌≤◌, length, map, IfOk};
+ghost use Rattle.ir_thread.specs.Calls.{most_budget};
 ghost use Rattle.ir_record.specs.Worlds.{NoneFailed};
 
 use crate::{Outputs, RecordErr, Turns, World, WorldErr, record_in_order, record_in_turns};
@@ -121,7 +122,7 @@ pub fn recorded(
     answers: &[u32],
     budget: u64,
 ) -> Result<(Trace, Outputs<Script>), RecordErr<Script>>
-    requires { budget ≤ 1000000000000 }
+    requires { budget ≤ most_budget }
 {
     let worlds = worlds(alloc, image.entries().len(), answers)?;
     record_in_order(alloc, image, order, worlds, budget)

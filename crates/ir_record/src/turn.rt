@@ -2,8 +2,9 @@
 
 ghost use Rattle.std.specs.Prelude.{◌≡◌, ◌<◌, [], ◌∷◌, ◌++◌, true, length, map, slice_set, IfOk, OnOk, IfErr};
 ghost use Rattle.ir_thread.specs.Instance.{is_result};
-ghost use Rattle.ir_record.specs.Progress.{progress, TookIf, IsReady, answers_at};
-ghost use Rattle.ir_record.specs.Worlds.{NoneFailed, IsFirstFailed, Extends};
+ghost use Rattle.ir_record.specs.Progress.{TookIf, answers_at};
+ghost use Rattle.ir_record.specs.Recorders.{progress_of, CanGoOn, NamesFirst};
+ghost use Rattle.ir_record.specs.Worlds.{NoneFailed, AreSameWorlds};
 
 use crate::recorder::Recorder;
 use crate::world::World;
@@ -24,9 +25,8 @@ fn answer_to<W: World>(worlds: &mut Vec<W>, t: usize, kind: EnvKind) -> Result<u
     ensures fits { IfOk result (λ value. is_result kind value ≡ true) }
     ensures gained { IfOk result (λ value. map W.answers worlds.new.items ≡ slice_set (map W.answers worlds.old.items) t (answers_at (map W.answers worlds.old.items) t ++ (kind, value) ∷ [])) }
     ensures works { OnOk result (NoneFailed (map W.broken worlds.new.items)) }
-    ensures failed { IfErr result (λ f. IsFirstFailed (map W.broken worlds.new.items) f.thread) }
-    ensures kept { Extends (map W.answers worlds.old.items) (map W.answers worlds.new.items) }
-    ensures origins { map W.origin worlds.new.items ≡ map W.origin worlds.old.items }
+    ensures failed { IfErr result (NamesFirst W.broken worlds.new.items) }
+    ensures kept { AreSameWorlds W.answers W.origin worlds.old.items worlds.new.items }
 {
     match worlds[t].answer(kind) {
         Ok(value) => Ok(value),
@@ -37,13 +37,12 @@ fn answer_to<W: World>(worlds: &mut Vec<W>, t: usize, kind: EnvKind) -> Result<u
 impl<W: World> Recorder<'_, W> {
     // Thread t takes its next step, if it has one; and whether it had.
     pub fn turn(&mut self, t: usize) -> Result<bool, Failed>
-        requires ready { IsReady (progress self.old.tape (map W.answers self.old.worlds.items)) (map W.broken self.old.worlds.items) }
+        requires ready { CanGoOn W.answers W.broken self.old }
         requires thread { t < length self.old.tape.flat.threads }
-        ensures took { IfOk result (λ moved. TookIf moved (t ∷ []) (progress self.old.tape (map W.answers self.old.worlds.items)) (progress self.new.tape (map W.answers self.new.worlds.items))) }
-        ensures ready { OnOk result (IsReady (progress self.new.tape (map W.answers self.new.worlds.items)) (map W.broken self.new.worlds.items)) }
-        ensures failed { IfErr result (λ f. IsFirstFailed (map W.broken self.new.worlds.items) f.thread) }
-        ensures kept { Extends (map W.answers self.old.worlds.items) (map W.answers self.new.worlds.items) }
-        ensures origins { map W.origin self.new.worlds.items ≡ map W.origin self.old.worlds.items }
+        ensures took { IfOk result (λ moved. TookIf moved (t ∷ []) (progress_of W.answers self.old) (progress_of W.answers self.new)) }
+        ensures ready { OnOk result (CanGoOn W.answers W.broken self.new) }
+        ensures failed { IfErr result (NamesFirst W.broken self.new.worlds.items) }
+        ensures kept { AreSameWorlds W.answers W.origin self.old.worlds.items self.new.worlds.items }
     {
         let asked = self.tape.ask(t);
         match asked {

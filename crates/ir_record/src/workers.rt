@@ -1,6 +1,7 @@
 //! The workers of a recording: one for each thread of the guest.
 
 ghost use Rattle.std.specs.Prelude.{◌≡◌, ◌<◌, ◌≤◌, ℕ, length, map, slice_index_or, vec_len, IfOk, IfSome, None};
+ghost use Rattle.ir_thread.specs.Calls.{most_budget};
 ghost use Rattle.ir_crew.specs.Ends.{AreSeats};
 ghost use Rattle.ir_record.specs.Threads.{AreNew, Pairs};
 ghost use Rattle.ir_record.specs.Working.{AreReady, RanToEnd};
@@ -10,9 +11,9 @@ use crate::worker::Worker;
 use crate::world::World;
 use ir_crew::{Crew, CrewSeat};
 use ir_image::{Code, Image};
-use ir_log::{Log, MOST_EVENTS};
+use ir_log::Log;
 use ir_object::Gate;
-use ir_thread::Thread;
+use ir_thread::{MOST_EVENTS, Thread};
 use std::alloc::{AllocError, Global};
 use std::sync::Wait;
 use std::thread;
@@ -26,7 +27,7 @@ pub fn new_workers<W: Drop>(
     worlds: Vec<W>,
     budget: u64,
 ) -> Result<Vec<Worker<W>>, AllocError>
-    requires budget { budget ≤ 1000000000000 }
+    requires budget { budget ≤ most_budget }
     requires each { vec_len worlds ≡ length image.now.entries }
     requires seats { length seats.items ≡ length image.now.entries }
     ensures new { IfOk result (λ v. (id : _) → AreSeats id 0 seats.items → AreNew image.now budget id 0 v.items) }
@@ -35,7 +36,7 @@ pub fn new_workers<W: Drop>(
     let mut made = Vec::with_capacity(alloc, worlds.len())?;
     for world in worlds {
         let thread = Thread::new(alloc, image, made.len(), budget)?;
-        let log = Log::new(alloc, MOST_EVENTS)?;
+        let log = Log::new(alloc, MOST_EVENTS as usize)?;
         let seat = seats.remove(0);
         made.push(Worker {
             seat,

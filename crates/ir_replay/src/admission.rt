@@ -1,7 +1,7 @@
 //! Whether a thread's next step is admitted: the log tells.
 
 ghost use Rattle.std.specs.Prelude.{◌≡◌, ◌<◌, ◌≤◌, length};
-ghost use Rattle.ir_thread.specs.Calls.{ask_of};
+ghost use Rattle.ir_thread.specs.Calls.{ask_of, most_events};
 ghost use Rattle.ir_thread.specs.declared.ask.Ask.TheVariants as ask;
 ghost use Rattle.ir_flat.specs.Flat.{thread_of, IsFlat};
 ghost use Rattle.ir_fit.specs.Ahead.{steps_ahead};
@@ -17,7 +17,7 @@ use ir_thread::Ask;
 fn events_of(flat: &Flat<'_>, t: usize) -> u32
     requires { t < length flat.now.threads }
     ensures value { result ≡ (thread_of flat.now t).events }
-    ensures bound { result ≤ 1048576 }
+    ensures bound { result ≤ most_events }
     ensures flat { IsFlat flat.now }
 {
     flat.threads()[t].events()

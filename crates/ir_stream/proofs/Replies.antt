@@ -4,9 +4,18 @@ use Rattle.std.specs.Prelude.{Option}
 use Rattle.std.proofs.lemmas.List.{append-nil}
 use Rattle.std.proofs.KnownBytes.{Appends-nil, Appends-trans}
 use Rattle.std.specs.Io.KnownBytes.{Appends}
-use Rattle.ir_stream.specs.Lines.{last_line}
+use Rattle.ir_stream.specs.Lines.{most_kept, last_line}
 use Rattle.ir_stream.specs.Devices.{AppendsPrefix}
 use Rattle.ir_stream.specs.Answers.{Replying, Answered, Wrote, WrotePrefix, Replied, RepliedPrefix, through, some_quits}
+
+-- a prefix of a text is one of a longer text
+pub prefix_longer : (a b : Option (List ℕ)) (text more : List ℕ) → AppendsPrefix a b text → AppendsPrefix a b (text ++ more)
+prefix_longer a b text more f = record {
+  part = f.part;
+  more = f.more ++ more;
+  splits = ap (λ (t : List ℕ). t ++ more) f.splits ∙ append_assoc f.part f.more more;
+  grown = f.grown;
+}
 
 -- a prefix of the next text is one of all that was written
 pub prefix_after : (a b c : Option (List ℕ)) (done text : List ℕ) → Appends a b done → AppendsPrefix b c text
@@ -73,9 +82,9 @@ prefix_some R s (b ∷ r) old new some p = record {
   grown = p.grown;
 }
 
-one_prefix : {S : Type 0} (R : Replying S) (long : (s : S) (line text : List ℕ) (next : S) → R s (take 1025 line) text next
+one_prefix : {S : Type 0} (R : Replying S) (long : (s : S) (line text : List ℕ) (next : S) → R s (take most_kept line) text next
     → R s line text next)
-    → (s : S) (l k text : List ℕ) (last : S) → l ≡ take 1025 k → Answered R s (l ∷ []) text last → Answered R s (k ∷ []) text last
+    → (s : S) (l k text : List ℕ) (last : S) → l ≡ take most_kept k → Answered R s (l ∷ []) text last → Answered R s (k ∷ []) text last
 unfolding Answered
 one_prefix {S} R long s l k text last e (first, next, rest, is, done, f) =
     let P : List ℕ → Type 0 = λ x. R s x first next in
@@ -83,10 +92,10 @@ one_prefix {S} R long s l k text last e (first, next, rest, is, done, f) =
 
 -- of the last line, too, only a prefix matters
 pub answered_prefix : {S : Type 0} (R : Replying S)
-    (long : (s : S) (line text : List ℕ) (next : S) → R s (take 1025 line) text next → R s line text next)
-    → (s : S) (r text : List ℕ) (last : S) → Answered R s (last_line (take 1025 r)) text last → Answered R s (last_line r) text last
+    (long : (s : S) (line text : List ℕ) (next : S) → R s (take most_kept line) text next → R s line text next)
+    → (s : S) (r text : List ℕ) (last : S) → Answered R s (last_line (take most_kept r)) text last → Answered R s (last_line r) text last
 answered_prefix R long s [] text last p = p
-answered_prefix R long s (b ∷ r) text last p = one_prefix R long s (take 1025 (b ∷ r)) (b ∷ r) text last refl p
+answered_prefix R long s (b ∷ r) text last p = one_prefix R long s (take most_kept (b ∷ r)) (b ∷ r) text last refl p
 
 some_by : (b x y z : Bool) → cond b true x ≡ false → (x ≡ false → y ≡ z) → cond b true y ≡ z
 some_by true x y z h k = absurd cc

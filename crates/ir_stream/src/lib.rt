@@ -1,4 +1,4 @@
-//! Lines of bytes in, answers out: what reads and writes, what answers, and the loop that joins them.
+//! Lines of bytes in, answers out: what reads and writes, and what holds of whatever answers lines.
 #![tactic(auto)]
 
 mod device;
@@ -11,5 +11,6 @@ mod text;
 
 pub use device::{DeviceErr, Sink, Source, write_all};
 pub use from_std::FromStd;
-pub use serving::{Fault, Flow, Next, Responder, Served, next_byte, serve};
+pub use line::{KEPT, keep};
+pub use serving::{Fault, Flow, Next, Served, next_byte};
 pub use text::append;

@@ -1,15 +1,16 @@
-//! A line as it comes in, of which no more than its first 1,025 bytes are kept.
+//! A line as it comes in, of which no more than its first `KEPT` bytes are kept.
 
 ghost use Rattle.std.specs.Prelude.{◌≡◌, ◌++◌, [], ◌∷◌, take};
+ghost use Rattle.ir_stream.specs.Lines.{most_kept};
 
 use arrayvec::ArrayVec;
 
 /// One more than the most bytes that a line may have, so that a longer one is known as such.
 pub const KEPT: usize = 1025;
 
-/// Puts a byte at the end of the line, or drops it where the line has 1,025.
+/// Puts a byte at the end of the line, or drops it where the line has `KEPT`.
 pub fn keep(line: &mut ArrayVec<u8, KEPT>, byte: u8)
-    ensures { line.new.items ≡ take 1025 (line.old.items ++ byte ∷ []) }
+    ensures { line.new.items ≡ take most_kept (line.old.items ++ byte ∷ []) }
 {
     if !line.is_full() {
         line.push(byte);

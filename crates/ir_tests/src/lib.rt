@@ -1,18 +1,40 @@
-//! What holds of several parts of the debugger together: laws, and tests that record, judge and replay.
+//! What holds of several parts of the debugger together: laws, and tests that record, judge, replay and debug.
 #![tactic(auto)]
 
 #[cfg(test)]
 mod counting;
+#[cfg(test)]
+mod device_tests;
 #[cfg(test)]
 mod ends;
 #[cfg(test)]
 mod guests;
 mod laws;
 #[cfg(test)]
+mod line_tests;
+#[cfg(test)]
+mod moved_rows;
+#[cfg(test)]
+mod object_rows;
+#[cfg(test)]
+mod one_thread_rows;
+#[cfg(test)]
 mod recordings;
+#[cfg(test)]
+mod refused_tests;
 #[cfg(test)]
 mod replays;
 #[cfg(test)]
+mod sessions;
+#[cfg(test)]
+mod small_guests;
+#[cfg(test)]
 mod states;
+#[cfg(test)]
+mod streams;
+#[cfg(test)]
+mod traces;
+#[cfg(test)]
+mod verdict_rows;
 
 pub use laws::recordings_fit;

@@ -4,4 +4,5 @@ mod Lawful
 mod Alone
 mod PrivateRuns
 mod Conditions
+mod Framed
 pub mod CallerLemmas

@@ -1,6 +1,7 @@
 -- What a thread asks, and what comes after it.
 use Rattle.std.specs.Prelude.{◌≡◌, ◌==◌, ◌&&◌, ℕ, zero, suc, ◌+◌, ◌≢◌, ◌<◌, ◌≤◌, ◌%◌, ◌^◌, Bool, true, List, [], ◌∷◌, ◌++◌, length, slice_set, nat_le, nat_lt, if◌then◌else◌, Option, Some, None, ⊤}
 use Rattle.std.specs.Fmt.{signed_decimal}
+use Rattle.ir_image.specs.Guest.{most_objects, object_words}
 use Rattle.ir_mach.specs.Arithmetic.{signed}
 use Rattle.ir_mach.specs.Core.{Core, Outcome, Goes, Calls, Ends, register}
 use Rattle.ir_mach.specs.Execution.{outcome_of, past_call}
@@ -63,9 +64,17 @@ most_output = 65536
 abbrev pub most_events : ℕ
 most_events = 1048576
 
--- the number of words of an object
-abbrev pub words_each : ℕ
-words_each = 8
+-- the most steps that a thread's budget may be
+abbrev pub most_budget : ℕ
+most_budget = 1000000000000
+
+-- the most steps that a thread takes once its budget is spent: its end, and a leave for each object
+abbrev pub most_closing : ℕ
+most_closing = 1 + most_objects
+
+-- the most steps that a thread takes
+abbrev pub most_steps : ℕ
+most_steps = most_budget + most_closing
 
 -- ---- what a thread asks
 
@@ -117,7 +126,7 @@ leave_ask s = if is_object s (a0 s) then leave_held (a0 s) (held_at s.held (a0 s
 
 -- whether object a0 has a word a1
 abbrev pub has_word : State → Bool
-has_word s = is_object s (a0 s) && nat_lt (a1 s) words_each
+has_word s = is_object s (a0 s) && nat_lt (a1 s) object_words
 
 -- reading, by how the object is held
 abbrev pub get_held : ℕ → ℕ → Option Access → Ask
@@ -191,8 +200,8 @@ Permits s (ask.Env kind) = IsRunning s × CanLog s
 Permits s (ask.Enter object access) = IsRunning s × CanLog s × (object < length s.held) × (is_above (highest s.held) object ≡ true)
 Permits s (ask.Leave object access) = (s.ended ≡ None → s.steps < s.budget) × (object < length s.held)
     × (held_at s.held object ≡ Some access)
-Permits s (ask.Get object index) = IsRunning s × (object < length s.held) × (index < words_each) × (held_at s.held object ≢ None)
-Permits s (ask.Put object index value) = IsRunning s × (object < length s.held) × (index < words_each)
+Permits s (ask.Get object index) = IsRunning s × (object < length s.held) × (index < object_words) × (held_at s.held object ≢ None)
+Permits s (ask.Put object index value) = IsRunning s × (object < length s.held) × (index < object_words)
     × (held_at s.held object ≡ Some Writing)
 Permits s ask.Print = IsRunning s × (length s.output + length (printed s) ≤ most_output)
 Permits s (ask.End e) = s.ended ≡ None

@@ -1,6 +1,7 @@
 pub mod Ends
 pub mod Held
 pub mod State
+pub mod Frames
 pub mod Calls
 pub mod Instance
 pub mod Alone

@@ -1,8 +1,13 @@
 //! Laws of threads, each the contract of a function without parameters.
 
+ghost use Rattle.std.specs.Prelude.{◌≡◌, length};
+ghost use Rattle.ir_mach.specs.Core.{memory_size};
+ghost use Rattle.ir_mach.specs.Pages.{ArePages, pages_of};
 ghost use Rattle.ir_thread.specs.Alone.{RunsAlone};
 ghost use Rattle.ir_thread.specs.Conditions.{EndsByTheFirst};
+ghost use Rattle.ir_thread.specs.Frames.{frame_of, thread_of};
 ghost use Rattle.ir_thread.specs.Instance.{ThreadsClose};
+ghost use Rattle.ir_thread.specs.State.{State};
 
 /// A thread enters objects in rising order, uses only what it holds, gives back all that it holds
 /// after its end, and is done when it holds nothing.
@@ -19,4 +24,10 @@ pub fn runs_alone()
 /// instruction needs, then what the system call needs, in the order of their list.
 pub fn ends_by_the_first()
     ensures { EndsByTheFirst }
+{}
+
+/// A thread's private memory is 16 pages of 4,096 bytes, and building from its frame and these pages gives that thread.
+pub fn built_again()
+    ensures pages { (s : State) → length s.core.memory ≡ memory_size → ArePages (pages_of s.core.memory) }
+    ensures same { (s : State) → length s.core.memory ≡ memory_size → thread_of (frame_of s) (pages_of s.core.memory) ≡ s }
 {}

@@ -4,8 +4,10 @@
 mod ask;
 mod call;
 mod end;
+mod frame;
 mod holding;
 mod laws;
+mod limits;
 #[cfg(test)]
 mod tests;
 mod thread;
@@ -13,5 +15,7 @@ mod thread;
 pub use ask::{Ask, Reply};
 pub use call::Call;
 pub use end::End;
-pub use laws::{closes, ends_by_the_first, runs_alone};
+pub use frame::Frame;
+pub use laws::{built_again, closes, ends_by_the_first, runs_alone};
+pub use limits::{MOST_BUDGET, MOST_EVENTS, MOST_OUTPUT};
 pub use thread::Thread;

@@ -1,24 +1,23 @@
 //! One thread: what it is, and how it starts.
 
 ghost use Rattle.std.specs.Prelude.{◌≡◌, ◌≢◌, ℕ, ◌+◌, ◌<◌, ◌≤◌, ◌^◌, ◌%◌, List, length, IfOk, MatchOption, vec_capacity, slice_index};
-ghost use Rattle.ir_image.specs.Guest.{object_count};
+ghost use Rattle.ir_image.specs.Guest.{most_objects, object_count};
+ghost use Rattle.ir_thread.specs.Calls.{most_budget, most_events, most_output, most_steps};
 ghost use Rattle.ir_thread.specs.Held.{held_count};
 ghost use Rattle.ir_thread.specs.State.{State, start_state};
 
 use crate::end::End;
-use ir_image::Image;
+use crate::limits::MOST_OUTPUT;
+use ir_image::{Image, OBJECT_WORDS};
 use ir_mach::Mach;
 use ir_runs::Access;
 use std::alloc::{AllocError, Global};
 use std::marker::Model;
 
 mod asking;
+mod framing;
 mod running;
 mod taking;
-
-const MOST_OUTPUT: usize = 65_536;
-
-const WORDS_EACH: usize = 8;
 
 /// A thread of a guest. Its room is made by `new`; no step takes memory.
 #[derive(Drop)]
@@ -47,9 +46,9 @@ impl Model for Thread {
       ended = t.ended;
     } };
 
-    ghost invariant = { λ t. (t.budget ≤ 1000000000000) × (t.events ≤ 1048576) × (length t.held.items ≤ 16)
+    ghost invariant = { λ t. (t.budget ≤ most_budget) × (t.events ≤ most_events) × (length t.held.items ≤ most_objects)
         × MatchOption t.ended (t.steps ≤ t.budget) (λ _. t.steps + held_count t.held.items ≤ t.budget + 1 + length t.held.items)
-        × (65536 ≤ vec_capacity t.output) × (length t.output.items ≤ 65536) };
+        × (most_output ≤ vec_capacity t.output) × (length t.output.items ≤ most_output) };
 }
 
 impl Thread {
@@ -64,10 +63,10 @@ impl Thread {
         budget: u64,
     ) -> Result<Thread, AllocError>
         requires thread { thread < length image.now.entries }
-        requires budget { budget ≤ 1000000000000 }
+        requires budget { budget ≤ most_budget }
         ensures { IfOk result (λ t. t ≡ start_state image.now thread budget) }
     {
-        let objects = image.words().len() / WORDS_EACH;
+        let objects = image.words().len() / OBJECT_WORDS;
         let output = Vec::with_capacity(alloc, MOST_OUTPUT)?;
         let mut held = Vec::with_capacity(alloc, objects)?;
         held.resize(objects, None)?;
@@ -108,7 +107,7 @@ impl Thread {
     /// How many steps it has taken: its position.
     pub fn steps(&self) -> u64
         ensures value { result ≡ self.now.steps }
-        ensures bound { result ≤ 1000000000017 }
+        ensures bound { result ≤ most_steps }
     {
         self.steps
     }
@@ -116,7 +115,7 @@ impl Thread {
     /// How many steps it may take before it ends.
     pub fn budget(&self) -> u64
         ensures value { result ≡ self.now.budget }
-        ensures bound { result ≤ 1000000000000 }
+        ensures bound { result ≤ most_budget }
     {
         self.budget
     }
@@ -124,7 +123,7 @@ impl Thread {
     /// How many events it has logged.
     pub fn events(&self) -> u32
         ensures value { result ≡ self.now.events }
-        ensures bound { result ≤ 1048576 }
+        ensures bound { result ≤ most_events }
     {
         self.events
     }
@@ -139,7 +138,7 @@ impl Thread {
     /// For each object of the guest, what the thread is inside for, if it is inside.
     pub fn held(&self) -> &[Option<Access>]
         ensures value { result.now ≡ self.now.held }
-        ensures bound { length result.now ≤ 16 }
+        ensures bound { length result.now ≤ most_objects }
     {
         self.held.as_slice()
     }
@@ -154,7 +153,7 @@ impl Thread {
     /// The bytes that it has printed.
     pub fn output(&self) -> &[u8]
         ensures value { result.now ≡ self.now.output }
-        ensures bound { length result.now ≤ 65536 }
+        ensures bound { length result.now ≤ most_output }
     {
         self.output.as_slice()
     }

@@ -6,13 +6,14 @@ use Rattle.std.proofs.lemmas.List.{append-nil, nil_from_length}
 use Rattle.byteorder.specs.Endian.{little_bytes}
 use Rattle.ir_bytes.specs.Reading.{number_at, field_at, fields_at}
 use Rattle.ir_bytes.proofs.CallerLemmas.{three_ok, five_ok, six_ok, pass_ok, ok_is, within_ok, within_again, IsBytes, bytes_fit, Takes, Takes-then, number_takes, number_again, TakesField, field_takes, field_again, byte_taken, byte_field_again, TakesFields, fields_take, fields_again}
-use Rattle.ir_thread.specs.Calls.{most_events}
+use Rattle.ir_image.specs.Guest.{most_threads, most_objects}
+use Rattle.ir_thread.specs.Calls.{most_budget, most_events}
 use Rattle.ir_thread.specs.declared.end.End.{End}
 use Rattle.ir_log.specs.declared.event.Event.{Event}
 use Rattle.ir_trace.specs.declared.header.Header.{Header}
 use Rattle.ir_trace.specs.declared.trace_err.TraceErr.{TraceErr}
 use Rattle.ir_trace.specs.declared.trace_err.TraceErr.TheVariants.{Short, Count, Trailing}
-use Rattle.ir_trace.specs.Recorded.{RecordedThread, Recorded, IsEvent, IsRecordedThread, IsRecorded, most_budget}
+use Rattle.ir_trace.specs.Recorded.{RecordedThread, Recorded, IsEvent, IsRecordedThread, IsRecorded}
 use Rattle.ir_trace.specs.Encoding.{magic, event_encoding, end_encoding, thread_encoding, header_of, header_encoding, encoding}
 use Rattle.ir_trace.specs.Reading.{magic_field, threads_field, objects_field, reserved_field, budget_field, events_field, header_at, end_at, event_at, thread_at, recorded_at}
 use Rattle.ir_trace.proofs.EventLaws.{event_takes, event_again}
@@ -23,8 +24,8 @@ use Rattle.ir_trace.proofs.Taken.{magic_takes, magic_again, reserved_takes, rese
 -- a header within its limits
 record IsWithin (h : Header) : Type 0 where
   some_thread : 1 ≤ h.threads
-  few_threads : h.threads ≤ 8
-  few_objects : h.objects ≤ 16
+  few_threads : h.threads ≤ most_threads
+  few_objects : h.objects ≤ most_objects
   budget_fits : h.budget ≤ most_budget
 
 -- what reading the header takes
@@ -38,8 +39,8 @@ header_taken : (all : List ℕ) (first threads objects reserved budget : ℕ × 
     → TakesHeader all (record { threads = threads.0; objects = objects.0; budget = budget.0 }, budget.1)
 unfolding header_encoding
 header_taken all first threads objects reserved budget t0 t1 t2 t3 t4 =
-    let n = within_ok 1 8 threads.0 Count t1.passes in
-    let m = within_ok 0 16 objects.0 Count t2.passes in
+    let n = within_ok 1 most_threads threads.0 Count t1.passes in
+    let m = within_ok 0 most_objects objects.0 Count t2.passes in
     let b = within_ok 0 most_budget budget.0 Count t4.passes in
     let counts = Takes-then first.1 (threads.0 ∷ []) threads.1 (objects.0 ∷ []) objects.1 (byte_taken first.1 threads t1.takes t1.fits)
     (byte_taken threads.1 objects t2.takes t2.fits) in
@@ -76,8 +77,9 @@ header_again h rest within =
     let r1 = little_bytes 2 0 ++ r2 in
     let e0 = magic_again (h.threads ∷ h.objects ∷ r1) in
     let e1 = byte_field_again Short threads_field h.threads (h.objects ∷ r1) refl
-    (within_again 1 8 h.threads Count within.some_thread within.few_threads) in
-    let e2 = byte_field_again Short objects_field h.objects r1 refl (within_again 0 16 h.objects Count (omega arith) within.few_objects)
+    (within_again 1 most_threads h.threads Count within.some_thread within.few_threads) in
+    let e2 = byte_field_again Short objects_field h.objects r1 refl
+    (within_again 0 most_objects h.objects Count (omega arith) within.few_objects)
     in
     let e3 = reserved_again r2 in
     let e4 = field_again Short budget_field h.budget rest (omega (arith, within.budget_fits))

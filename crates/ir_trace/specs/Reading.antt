@@ -2,14 +2,15 @@
 use Rattle.std.specs.Prelude.{◌≡◌, ℕ, Bool, List, length, Option, Some, None, Result, Ok, Err, nat_lt, ◌==◌, ◌||◌, if◌then◌else◌, is_some}
 use Rattle.byteorder.specs.Endian.{little_number}
 use Rattle.ir_bytes.specs.Reading.{◌>>=◌, Reader, Field, tested, within, fixed, number_at, field_at, fields_at}
-use Rattle.ir_thread.specs.Calls.{most_events}
+use Rattle.ir_image.specs.Guest.{most_threads, most_objects}
+use Rattle.ir_thread.specs.Calls.{most_budget, most_events}
 use Rattle.ir_thread.specs.Ends.{end_of}
 use Rattle.ir_runs.specs.declared.env_kind.EnvKind.{EnvKind}
 use Rattle.ir_runs.specs.declared.env_kind.EnvKind.TheVariants.{Clock, Random, Input}
 use Rattle.ir_thread.specs.declared.end.End.{End}
 use Rattle.ir_log.specs.declared.event.Event.{Event}
 use Rattle.ir_log.specs.declared.event.Event.TheVariants.{Answer, Read, Write}
-use Rattle.ir_trace.specs.Recorded.{RecordedThread, Recorded, most_budget, input_end}
+use Rattle.ir_trace.specs.Recorded.{RecordedThread, Recorded, input_end}
 use Rattle.ir_trace.specs.Encoding.{magic}
 use Rattle.ir_trace.specs.declared.header.Header.{Header}
 use Rattle.ir_trace.specs.declared.trace_err.TraceErr.{TraceErr}
@@ -37,10 +38,10 @@ abbrev pub magic_field : Field TraceErr
 magic_field = fixed 4 (little_number 4 magic) Magic
 
 abbrev pub threads_field : Field TraceErr
-threads_field = within 1 1 8 Count
+threads_field = within 1 1 most_threads Count
 
 abbrev pub objects_field : Field TraceErr
-objects_field = within 1 0 16 Count
+objects_field = within 1 0 most_objects Count
 
 -- the two bytes that are reserved
 abbrev pub reserved_field : Field TraceErr

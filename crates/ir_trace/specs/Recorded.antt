@@ -2,7 +2,8 @@
 use Rattle.std.specs.Prelude.{◌≡◌, ℕ, ◌^◌, ◌<◌, ◌≤◌, ◌⊎◌, List, length}
 use Rattle.std.specs.List.{AllByRecursion}
 pub use Rattle.ir_bytes.specs.Numbers.{IsWord}
-use Rattle.ir_thread.specs.Calls.{most_events}
+use Rattle.ir_image.specs.Guest.{most_threads, most_objects}
+use Rattle.ir_thread.specs.Calls.{most_budget, most_events}
 use Rattle.ir_thread.specs.Ends.{end_code}
 use Rattle.ir_runs.specs.declared.env_kind.EnvKind.{EnvKind}
 use Rattle.ir_runs.specs.declared.env_kind.EnvKind.TheVariants.{Clock, Random, Input}
@@ -26,10 +27,6 @@ pub record Recorded : Type 0 where
   pub budget : ℕ
   -- the threads by their numbers
   pub threads : List RecordedThread
-
--- the most steps that a budget allows
-abbrev pub most_budget : ℕ
-most_budget = 1000000000000
 
 -- what an input has at its end
 abbrev pub input_end : ℕ
@@ -57,7 +54,7 @@ pub record IsRecordedThread (objects : ℕ) (t : RecordedThread) : Type 0 where
 -- the limits of what is recorded
 pub record IsRecorded (r : Recorded) : Type 0 where
   pub some_thread : 1 ≤ length r.threads
-  pub few_threads : length r.threads ≤ 8
-  pub few_objects : r.objects ≤ 16
+  pub few_threads : length r.threads ≤ most_threads
+  pub few_objects : r.objects ≤ most_objects
   pub budget_fits : r.budget ≤ most_budget
   pub threads_fit : AllByRecursion (IsRecordedThread r.objects) r.threads

@@ -3,13 +3,6 @@
 /// The bytes `IRT1`, the lowest first.
 pub const MAGIC: u32 = 0x3154_5249;
 
-pub const MOST_THREADS: u8 = 8;
-
-pub const MOST_OBJECTS: u8 = 16;
-
-/// The most steps that a budget allows a thread.
-pub const MOST_BUDGET: u64 = 1_000_000_000_000;
-
 /// The value of an input at its end.
 pub const INPUT_END: u32 = 0xffff_ffff;
 

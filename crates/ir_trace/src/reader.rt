@@ -8,13 +8,13 @@ ghost use Rattle.ir_trace.specs.Reading.{Gives, header_at, end_at, thread_at, re
 
 use crate::event_reader::events;
 use crate::header::Header;
-use crate::layout::{MAGIC, MOST_BUDGET, MOST_OBJECTS, MOST_THREADS};
+use crate::layout::MAGIC;
 use crate::thread_trace::ThreadTrace;
 use crate::trace::Trace;
 use crate::trace_err::TraceErr;
 use ir_bytes::{byte_within, double, double_within, fixed_half, fixed_word, word, word_within};
-use ir_log::MOST_EVENTS;
-use ir_thread::End;
+use ir_image::{MOST_OBJECTS, MOST_THREADS};
+use ir_thread::{End, MOST_BUDGET, MOST_EVENTS};
 use std::alloc::Global;
 
 #[tactic(auto, unfolding(crate::specs::Reading::header_at))]
@@ -54,7 +54,7 @@ fn thread(alloc: Global, objects: u8, bytes: &[u8]) -> Result<(ThreadTrace, &[u8
 {
     let (steps, rest) = double(bytes, TraceErr::Short)?;
     let (end, rest) = end(rest)?;
-    let (count, rest) = word_within(MOST_EVENTS as u32, rest, TraceErr::Short, TraceErr::Count)?;
+    let (count, rest) = word_within(MOST_EVENTS, rest, TraceErr::Short, TraceErr::Count)?;
     let (log, rest) = events(alloc, objects, count, rest)?;
     Ok((ThreadTrace::new(steps, end, log), rest))
 }

@@ -3,6 +3,7 @@
 ghost use Rattle.std.specs.Prelude.{◌≡◌, ◌≤◌, ◌*◌, ◌+◌, ◌∷◌, [], ◌++◌, length, IfOk, OnOk};
 ghost use Rattle.std.specs.List.{flat_map};
 ghost use Rattle.byteorder.specs.Endian.{little_bytes};
+ghost use Rattle.ir_image.specs.Guest.{most_threads};
 ghost use Rattle.ir_thread.specs.Calls.{most_events};
 ghost use Rattle.ir_trace.specs.Encoding.{header_encoding, kind_tag, event_encoding, end_encoding, thread_encoding, encoding};
 
@@ -137,7 +138,7 @@ fn thread_length(thread: &ThreadTrace) -> usize
 
 // How many bytes a trace of these threads has.
 fn written_length(threads: &[ThreadTrace]) -> usize
-    requires { length threads.now ≤ 8 }
+    requires { length threads.now ≤ most_threads }
 {
     let mut length = HEADER_LENGTH;
     for thread in threads {

@@ -6,7 +6,7 @@ use mathlib.Core.Option.{some, none}
 use lib.ListN.{get_elem?}
 use Rattle.atomic_table.specs.Table.{State, step, keeps, Allows}
 use Rattle.atomic_table.proofs.Lists.{set_again}
-use Rattle.ir_image.specs.Guest.{object_count}
+use Rattle.ir_image.specs.Guest.{object_count, object_words}
 use Rattle.ir_thread.specs.Calls.{ask_of, after_ask, Permits}
 use Rattle.ir_thread.proofs.CallerLemmas.{ask_permits}
 use Rattle.ir_thread.specs.Instance.{shared_ask}
@@ -21,7 +21,7 @@ use Rattle.ir_thread.specs.declared.ask.Reply.TheVariants.{Value}
 use Rattle.ir_object.specs.Cell.{Cell, Admitted as Enters}
 use Rattle.ir_runs.specs.Object.{target, told}
 use Rattle.ir_object.specs.declared.fields.Fields.{Fields}
-use Rattle.ir_object.specs.Word.{IsFields, word_of, fields_of, entered, left_by, bit_of}
+use Rattle.ir_object.specs.Word.{reader_unit, left_unit, version_unit, inside_limit, left_limit, reader_leaves, IsFields, word_of, fields_of, entered, left_by, bit_of}
 use Rattle.ir_flat.specs.Flat.{Flat, IsFlat, idle, thread_of, cell_of, inside_of, tables}
 use Rattle.ir_flat.specs.Next.{next}
 use Rattle.ir_runs.specs.Run.{count, label, end, trail}
@@ -113,11 +113,11 @@ one_word f fits =
     let b = fits.left in
     let c = fits.inside in
     let d = bit_small f.writer in
-    let version : word_of f / 2 ^ 32 ≡ f.version = omega (arith, a, b, c, d) in
-    let left : word_of f / 2 ^ 8 % 2 ^ 24 ≡ f.left = omega (arith, a, b, c, d) in
-    let inside : word_of f / 2 % 2 ^ 7 ≡ f.inside = omega (arith, a, b, c, d) in
+    let version : word_of f / version_unit ≡ f.version = omega (arith, a, b, c, d) in
+    let left : word_of f / left_unit % left_limit ≡ f.left = omega (arith, a, b, c, d) in
+    let inside : word_of f / reader_unit % inside_limit ≡ f.inside = omega (arith, a, b, c, d) in
     let writer : (word_of f % 2 == 1) ≡ f.writer =
-    low_bit f.writer (word_of f) (f.version * 2 ^ 31 + f.left * 2 ^ 7 + f.inside) (omega arith) in
+    low_bit f.writer (word_of f) (f.version * 2 ^ 31 + f.left * inside_limit + f.inside) (omega arith) in
     λ i. record { version = version i; left = left i; inside = inside i; writer = writer i }
 
 found_fields : (n : ℕ) (f : Fields) → IsFields f → n ≡ word_of f → fields_of n ≡ f
@@ -318,8 +318,8 @@ pub left_reading_at : (slots id o : ℕ) (y : thread.State) (q : Progress) (c : 
     → IsAhead (trace_in q.plan) q.thread q.position y → o < object_count (trace_in q.plan).guest
     → ask_of (trace_in q.plan).guest.code y ≡ Leave o Reading
     → HasStep (trace_in q.plan) q.thread y.steps
-    → Allows (Woven q.plan) slots id (q ∷ [], c) (word_place o) (λ n. (n + 254) % 2 ^ 64)
-    (stepped_on (step slots (word_place o) 254 0 none) (q ∷ [], c))
+    → Allows (Woven q.plan) slots id (q ∷ [], c) (word_place o) (λ n. (n + reader_leaves) % 2 ^ 64)
+    (stepped_on (step slots (word_place o) reader_leaves 0 none) (q ∷ [], c))
 left_reading_at slots id o y q c ahead inside is has x h homes at small =
     let f : FittedTrace = trace_in q.plan in
     let t : ℕ = q.thread in
@@ -334,11 +334,12 @@ left_reading_at slots id o y q c ahead inside is has x h homes at small =
     let allowed : 0 < (cell_of cu.state o).fields.inside =
     leave_allowed cu.state t o Reading cu.flat (there q.plan x h id q y at cu) m (leaves_holding cu.state t o Reading ask) in
     let fits = word_small (left_by Reading (cell_of cu.state o).fields) (leave_fits cu.state o Reading cu.flat m) in
-    let less : word_of (left_by Reading (cell_of cu.state o).fields) ≡ word_of (cell_of cu.state o).fields + 254 = omega (arith, allowed) in
-    let sum : (n + 254) % 2 ^ 64 ≡ word_of (left_by Reading (cell_of cu.state o).fields) = omega (arith, found, less, fits) in
-    let made = steps_on slots id (word_place o) 254 0 q c x h at y ahead (Leave o Reading) (λ b. b) is cu goes.0 goes.1 n
-    (λ p i e. absurd (cc e)) (set x.words (word_place o) ((n + 254) % 2 ^ 64))
-    (head_changes cu.state.objects x.words o ((n + 254) % 2 ^ 64)
+    let less : word_of (left_by Reading (cell_of cu.state o).fields) ≡ word_of (cell_of cu.state o).fields + reader_leaves = omega
+    (arith, allowed) in
+    let sum : (n + reader_leaves) % 2 ^ 64 ≡ word_of (left_by Reading (cell_of cu.state o).fields) = omega (arith, found, less, fits) in
+    let made = steps_on slots id (word_place o) reader_leaves 0 q c x h at y ahead (Leave o Reading) (λ b. b) is cu goes.0 goes.1 n
+    (λ p i e. absurd (cc e)) (set x.words (word_place o) ((n + reader_leaves) % 2 ^ 64))
+    (head_changes cu.state.objects x.words o ((n + reader_leaves) % 2 ^ 64)
     (record (cell_of cu.state o) { fields = left_by Reading (cell_of cu.state o).fields }) table m sum refl) in
     (made.0, keeps, tt, made.1, made.2)
 
@@ -392,7 +393,7 @@ versions_at slots id o y q c ahead inside is has x h homes at small =
         (let all = logged_fits h.state o h.flat l in let word = h.table.heads o l in omega (arith, all, word)),
         (λ run of p word asked.
             let o_is : o ≡ p = omega (arith, word) in
-            let v_is : (cell_of cu.state o).fields.version ≡ n / 2 ^ 32 = ap (λ (z : Fields). z.version) (sym same) in
+            let v_is : (cell_of cu.state o).fields.version ≡ n / version_unit = ap (λ (z : Fields). z.version) (sym same) in
             subst (λ (z : ℕ × ℕ × ℕ). Tells (machine_of f) (start_of f) run t z.0 (Out z.1 Writing z.2))
             (λ i. (ap (λ (z : thread.State). z.steps) cu.own i, o_is i, v_is i)) (tells run of)),
       ),
@@ -404,13 +405,13 @@ pub left_writing_at : (slots id o v : ℕ) (y : thread.State) (q : Progress) (c 
     → HasStep (trace_in q.plan) q.thread y.steps
     → EachRun (trace_in q.plan) (λ run. Tells (machine_of (trace_in q.plan)) (start_of (trace_in q.plan)) run q.thread y.steps
     (Out o Writing v))
-    → Allows (Woven q.plan) slots id (q ∷ [], c) (word_place o) (λ _. (v + 1) * 2 ^ 32)
-    (λ _. stepped_on (step slots (word_place o) ((v + 1) * 2 ^ 32) 0 none) (q ∷ [], c) ((v + 1) * 2 ^ 32))
+    → Allows (Woven q.plan) slots id (q ∷ [], c) (word_place o) (λ _. (v + 1) * version_unit)
+    (λ _. stepped_on (step slots (word_place o) ((v + 1) * version_unit) 0 none) (q ∷ [], c) ((v + 1) * version_unit))
 left_writing_at slots id o v y q c ahead inside is has tells x h homes at small =
     let f : FittedTrace = trace_in q.plan in
     let t : ℕ = q.thread in
     let cu : CaughtUp f h.state t y = caught q.plan x h id q y at ahead in
-    let w : ℕ = (v + 1) * 2 ^ 32 in
+    let w : ℕ = (v + 1) * version_unit in
     let l : o < length h.state.objects = (let e = h.at.objects in omega (arith, e, inside)) in
     let m : o < length cu.state.objects = (let e = ap (λ (cs : List Cell). length cs) cu.objects in omega (arith, e, l)) in
     let goes = free_goes q.plan x h id q y at cu (Leave o Writing) (λ p b e. cc e) is has in
@@ -434,7 +435,7 @@ left_writing_at slots id o v y q c ahead inside is has tells x h homes at small 
     (made.0, keeps, tt, made.1, made.2)
 
 pub gets_at : (slots id o i : ℕ) (y : thread.State) (q : Progress) (c : List (ℕ × Unit {0}))
-    → IsAhead (trace_in q.plan) q.thread q.position y → o < object_count (trace_in q.plan).guest → i < 8
+    → IsAhead (trace_in q.plan) q.thread q.position y → o < object_count (trace_in q.plan).guest → i < object_words
     → ask_of (trace_in q.plan).guest.code y ≡ Get o i
     → HasStep (trace_in q.plan) q.thread y.steps
     → Allows (Woven q.plan) slots id (q ∷ [], c) (content_place o i) (λ n. n)
@@ -468,7 +469,7 @@ gets_at slots id o i y q c ahead inside few is has x h homes at small =
     get_index _ = 0
 
 pub puts_at : (slots id o i v : ℕ) (y : thread.State) (q : Progress) (c : List (ℕ × Unit {0})) → v < 2 ^ 32
-    → IsAhead (trace_in q.plan) q.thread q.position y → o < object_count (trace_in q.plan).guest → i < 8
+    → IsAhead (trace_in q.plan) q.thread q.position y → o < object_count (trace_in q.plan).guest → i < object_words
     → ask_of (trace_in q.plan).guest.code y ≡ Put o i v
     → HasStep (trace_in q.plan) q.thread y.steps
     → Allows (Woven q.plan) slots id (q ∷ [], c) (content_place o i) (λ _. v)

@@ -68,7 +68,7 @@ steps_counted f run ok t = (tally f.guest.code (start_of f) run ok t).steps
     ∙ from_zero ((start_of f).now t).steps (count (machine_of f) (start_of f) run t)
     (no_steps f.guest f.recorded.budget 0 (length f.guest.entries) t)
 
-events_counted : (f : FittedTrace) (run : List Step) → IsRun (machine_of f) (start_of f) run → (t : ℕ)
+pub events_counted : (f : FittedTrace) (run : List Step) → IsRun (machine_of f) (start_of f) run → (t : ℕ)
     → ((end (machine_of f) (start_of f) run).now t).events ≡ length (log (machine_of f) (start_of f) run t)
 events_counted f run ok t = (tally f.guest.code (start_of f) run ok t).events
     ∙ from_zero ((start_of f).now t).events (length (log (machine_of f) (start_of f) run t))

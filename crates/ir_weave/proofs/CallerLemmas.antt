@@ -1,6 +1,8 @@
 -- What callers may cite of the table of a replay.
 -- what the trace leaves to the threads at a cut is the log of the steps behind it
 pub use Rattle.ir_weave.proofs.Behind.{law, good, admitted_next}
+-- what the threads logged up to a cut is the first of what is recorded of them
+pub use Rattle.ir_weave.proofs.Before.{LogsBefore, log_before}
 -- a state that goes on along the trace is a state at a later cut
 pub use Rattle.ir_weave.proofs.Onward.{step_taken, alone_own, alone_others, alone_under}
 -- the result with which a thread takes its next step, by what it asks

@@ -1,4 +1,5 @@
 mod Behind
+mod Before
 mod Onward
 mod Results
 mod Unique

@@ -9,7 +9,7 @@ use Rattle.atomic_table.specs.Seated.{TableId}
 use Rattle.atomic_table.specs.Table.{Final, Seen, opening, Splits, Joins}
 use Rattle.atomic_table.specs.declared.shared.Seat.{Seat}
 use Rattle.atomic_table.proofs.Lists.{at_set}
-use Rattle.ir_image.specs.Guest.{Guest, IsGuest, object_count}
+use Rattle.ir_image.specs.Guest.{Guest, IsGuest, object_count, object_words}
 use Rattle.ir_thread.specs.State as thread
 use Rattle.ir_object.specs.Cell.{Cell}
 use Rattle.ir_object.specs.Word.{word_of, fields_of}
@@ -19,7 +19,7 @@ use Rattle.ir_runs.specs.Cuts.{Cut}
 use Rattle.ir_fit.specs.Fit.{FittedTrace, HasRun}
 use Rattle.ir_weave.specs.Standing.{Standing, StandsAt, flat_in}
 use Rattle.ir_weave.specs.States.{IsStateAt, positions}
-use Rattle.ir_object.specs.Layout.{table_length, word_place, content_place}
+use Rattle.ir_object.specs.Layout.{line_words, apart, table_length, word_place, content_place}
 use Rattle.ir_weave.specs.Table.{IsTable, IsLaid, laid, word_in, object_in}
 use Rattle.ir_weave.specs.Woven.{View, M, trace_in, opened_in, opened_at, progress, AreTracks, Woven, tracks_from, all_but_first, first_alone, AreSeats, AreAt, IsClosed, IsEnd, AreRead}
 use Rattle.ir_weave.proofs.Acts.{one_word, cell_fits}
@@ -250,7 +250,7 @@ ends k id v ws xs f =
     let h : Woven k f.0 = f.1.0 in record {
       cells = h.state.objects;
       table = subst (IsTable h.state.objects) f.2 h.table;
-      eight = λ o l. (h.flat.objects o l).words;
+      sizes = λ o l. (h.flat.objects o l).words;
       fits = λ o l. one_word (object_in h.state.objects o).fields (cell_fits h.state o h.flat l);
       closed = record {
         state = h.state;
@@ -265,51 +265,55 @@ ends k id v ws xs f =
 
 -- ---- laying the words
 
-quot : (o r : ℕ) → r < 24 → (8 + 24 * o + r - 8) / 24 ≡ o
+quot : (o r : ℕ) → r < apart → (word_place o + r - line_words) / apart ≡ o
 quot o r l = omega (arith, l)
 
-rem : (o r : ℕ) → r < 24 → (8 + 24 * o + r - 8) % 24 ≡ r
+rem : (o r : ℕ) → r < apart → (word_place o + r - line_words) % apart ≡ r
 rem o r l = omega (arith, l)
 
-laid_at : (cells : List Cell) (o r : ℕ) → r < 24 → laid cells (8 + 24 * o + r) ≡ word_in (object_in cells o) r
+laid_at : (cells : List Cell) (o r : ℕ) → r < apart → laid cells (word_place o + r) ≡ word_in (object_in cells o) r
 laid_at cells o r l =
-    ap (λ (b : Bool). cond b 0 (word_in (object_in cells ((8 + 24 * o + r - 8) / 24)) ((8 + 24 * o + r - 8) % 24)))
-    (le-ltb (8 + 24 * o + r) 8 (omega arith))
+    ap (λ (b : Bool). cond b 0 (word_in (object_in cells ((word_place o + r - line_words) / apart))
+    ((word_place o + r - line_words) % apart)))
+    (le-ltb (word_place o + r) line_words (omega arith))
     ∙ (λ i. word_in (object_in cells (quot o r l i)) (rem o r l i))
 
-content_at : (c : Cell) (i : ℕ) → i < 8 → word_in c (8 + i) ≡ get_or c.words i 0
+content_at : (c : Cell) (i : ℕ) → i < object_words → word_in c (line_words + i) ≡ get_or c.words i 0
 content_at c i l =
-    ap (λ (b : Bool). cond b (word_of c.fields) (cond (ltb (8 + i) 8) 0 (cond (ltb (8 + i) 16) (get_or c.words (8 + i - 8) 0) 0)))
-    (ne_eqb (8 + i) 0 (λ e. omega (arith, e)))
-    ∙ ap (λ (b : Bool). cond b 0 (cond (ltb (8 + i) 16) (get_or c.words (8 + i - 8) 0) 0)) (le-ltb (8 + i) 8 (omega arith))
-    ∙ ap (λ (b : Bool). cond b (get_or c.words (8 + i - 8) 0) 0) (lt-ltb (8 + i) 16 (omega (arith, l)))
-    ∙ ap (λ n. get_or c.words n 0) (let e : 8 + i - 8 ≡ i = omega arith in e)
+    ap (λ (b : Bool). cond b (word_of c.fields) (cond (ltb (line_words + i) line_words) 0
+    (cond (ltb (line_words + i) (line_words + object_words)) (get_or c.words (line_words + i - line_words) 0) 0)))
+    (ne_eqb (line_words + i) 0 (λ e. omega (arith, e)))
+    ∙ ap (λ (b : Bool). cond b 0 (cond (ltb (line_words + i) (line_words + object_words)) (get_or c.words (line_words + i - line_words) 0)
+    0)) (le-ltb (line_words + i) line_words (omega arith))
+    ∙ ap (λ (b : Bool). cond b (get_or c.words (line_words + i - line_words) 0) 0)
+    (lt-ltb (line_words + i) (line_words + object_words) (omega (arith, l)))
+    ∙ ap (λ n. get_or c.words n 0) (let e : line_words + i - line_words ≡ i = omega arith in e)
 
 pub table_of : (cells : List Cell) (ws : List ℕ) → IsLaid cells ws (table_length (length cells))
-    → ((o : ℕ) → o < length cells → length (object_in cells o).words ≡ 8) → IsTable cells ws
-table_of cells ws h eight = record {
+    → ((o : ℕ) → o < length cells → length (object_in cells o).words ≡ object_words) → IsTable cells ws
+table_of cells ws h sizes = record {
   size = h.count;
-  heads = λ o l. ap (λ z. get_or ws z 0) (let e : word_place o ≡ 8 + 24 * o + 0 = omega arith in e)
-      ∙ h.each (8 + 24 * o + 0) (omega (arith, l)) ∙ laid_at cells o 0 (omega arith);
+  heads = λ o l. ap (λ z. get_or ws z 0) (let e : word_place o ≡ word_place o + 0 = omega arith in e)
+      ∙ h.each (word_place o + 0) (omega (arith, l)) ∙ laid_at cells o 0 (omega arith);
   places = placed;
   small = λ o i. elim (cases_lt o (length cells)) [
-    | inl l ↦ elim (cases_lt i 8) [
+    | inl l ↦ elim (cases_lt i object_words) [
       | inl few ↦ subst (λ n. n < 2 ^ 32) (placed o i l few) (h.small o i (omega (arith, l, few)) few)
-      | inr past ↦ subst (λ n. n < 2 ^ 32) (sym (get_or_past (object_in cells o).words i 0 (let e = eight o l in omega (arith, e, past))))
+      | inr past ↦ subst (λ n. n < 2 ^ 32) (sym (get_or_past (object_in cells o).words i 0 (let e = sizes o l in omega (arith, e, past))))
           (omega arith)
     ]
     | inr past ↦ subst (λ (c : Cell). get_or c.words i 0 < 2 ^ 32) (sym (get_or_past cells o empty past)) (omega arith)
   ];
 }
   where
-    placed : (o i : ℕ) → o < length cells → i < 8 → get_or ws (content_place o i) 0 ≡ get_or (object_in cells o).words i 0
-    placed o i l few = ap (λ z. get_or ws z 0) (let e : content_place o i ≡ 8 + 24 * o + (8 + i) = omega arith in e)
-        ∙ h.each (8 + 24 * o + (8 + i)) (omega (arith, l, few)) ∙ laid_at cells o (8 + i) (omega (arith, few))
+    placed : (o i : ℕ) → o < length cells → i < object_words → get_or ws (content_place o i) 0 ≡ get_or (object_in cells o).words i 0
+    placed o i l few = ap (λ z. get_or ws z 0) (let e : content_place o i ≡ word_place o + (line_words + i) = omega arith in e)
+        ∙ h.each (word_place o + (line_words + i)) (omega (arith, l, few)) ∙ laid_at cells o (line_words + i) (omega (arith, few))
         ∙ content_at (object_in cells o) i few
 
 -- one word more
 pub laid_more : (cells : List Cell) (ws ws' : List ℕ) (k w : ℕ) → IsLaid cells ws k → w ≡ laid cells k
-    → ((o i : ℕ) → i < 8 → k ≡ content_place o i → w < 2 ^ 32) → ws' ≡ ws ++ w ∷ [] → IsLaid cells ws' (k + 1)
+    → ((o i : ℕ) → i < object_words → k ≡ content_place o i → w < 2 ^ 32) → ws' ≡ ws ++ w ∷ [] → IsLaid cells ws' (k + 1)
 laid_more cells ws ws' k w h is small same = subst (λ z. IsLaid cells z (k + 1)) (sym same) (record {
   count = length-append ws (w ∷ []) ∙ (let c = h.count in omega (arith, c));
   each = λ j l. elim (cases_lt j k) [
@@ -346,7 +350,7 @@ some_threads f s ts g guest is same size = let some = guest.some_thread in let a
 
 -- ---- the objects at the end
 
-pub read_more : (ws : List ℕ) (from : ℕ) (xs : List ℕ) (n w : ℕ) → AreRead ws from xs n → n < 8 → w ≡ get_or ws (from + n) 0
+pub read_more : (ws : List ℕ) (from : ℕ) (xs : List ℕ) (n w : ℕ) → AreRead ws from xs n → n < object_words → w ≡ get_or ws (from + n) 0
     → AreRead ws from (set xs n w) (n + 1)
 read_more ws from xs n w h inside is = record {
   size = length-set xs n w ∙ h.size;
@@ -359,13 +363,14 @@ read_more ws from xs n w h inside is = record {
 
 -- an object that is read from the words is the table's
 pub object_read : (cells : List Cell) (ws : List ℕ) (o w : ℕ) (xs : List ℕ) (c : Cell) → IsTable cells ws → o < length cells
-    → length (object_in cells o).words ≡ 8 → fields_of (word_of (object_in cells o).fields) ≡ (object_in cells o).fields
-    → w ≡ get_or ws (8 + 24 * o) 0 → AreRead ws (16 + 24 * o) xs 8 → c ≡ record { fields = fields_of w; words = xs } → c ≡ object_in cells o
-object_read cells ws o w xs c t l eight fits word read is =
-    let long : length xs ≡ 8 = read.size in
+    → length (object_in cells o).words ≡ object_words → fields_of (word_of (object_in cells o).fields) ≡ (object_in cells o).fields
+    → w ≡ get_or ws (word_place o) 0 → AreRead ws (2 * line_words + apart * o) xs object_words
+    → c ≡ record { fields = fields_of w; words = xs } → c ≡ object_in cells o
+object_read cells ws o w xs c t l sizes fits word read is =
+    let long : length xs ≡ object_words = read.size in
     let fields : fields_of w ≡ (object_in cells o).fields = ap fields_of (word ∙ t.heads o l) ∙ fits in
     let words : xs ≡ (object_in cells o).words =
-    ext_get_or 0 xs (object_in cells o).words (long ∙ sym eight)
+    ext_get_or 0 xs (object_in cells o).words (long ∙ sym sizes)
     (λ i inside. read.each i (omega (arith, inside, long)) ∙ t.places o i l (omega (arith, inside, long))) in
     is ∙ (λ i. record { fields = fields i; words = words i })
 

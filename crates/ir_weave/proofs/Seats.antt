@@ -4,7 +4,7 @@ use Rattle.std.proofs.lemmas.Bool.{cases_eq, cases_lt}
 use Rattle.std.specs.Prelude.{slice_get, IsTrue, ◌↔◌}
 use mathlib.Core.Option.{none}
 use Rattle.atomic_table.specs.Table.{Step as TableStep, step, Allows}
-use Rattle.ir_image.specs.Guest.{object_count}
+use Rattle.ir_image.specs.Guest.{object_count, object_words}
 use Rattle.ir_thread.specs.Calls.{ask_of, Permits}
 use Rattle.ir_runs.specs.Labels.{Out}
 use Rattle.ir_thread.specs.State as thread
@@ -20,6 +20,7 @@ use Rattle.ir_fit.specs.Fit.{FittedTrace, HasRun}
 use Rattle.ir_cut.specs.Positions.{machine_of, start_of, EachRun}
 use Rattle.ir_weave.specs.Ahead.{IsAlone, HasStep, IsAhead, IsAsking, IsEntering, IsNextObject, ask_at, thread_at}
 use Rattle.ir_object.specs.Layout.{word_place, content_place, table_length}
+use Rattle.ir_object.specs.Word.{version_unit, reader_leaves}
 use Rattle.ir_weave.specs.Woven.{View, M, trace_in, progress, Woven, Opens, Answers, WasStopped, looked, stepped_on, read_version, IsSeated, IsGranted}
 use Rattle.ir_weave.specs.declared.plan.Plan.{Plan}
 use Rattle.ir_weave.specs.declared.plan.Progress.{Progress}
@@ -51,11 +52,11 @@ pub left_inside : (f : FittedTrace) (t i : ℕ) (x : thread.State) (o : ℕ) (a 
 left_inside f t i x o a ahead is = let p = (permits f x (Leave o a) is).1 in let e = ahead.held in omega (arith, p, e)
 
 pub read_inside : (f : FittedTrace) (t i : ℕ) (x : thread.State) (o j : ℕ) → IsAhead f t i x → ask_of f.guest.code x ≡ Get o j
-    → (o < object_count f.guest) × (j < 8)
+    → (o < object_count f.guest) × (j < object_words)
 read_inside f t i x o j ahead is = let p = permits f x (Get o j) is in let e = ahead.held in (omega (arith, p.1, e), p.2)
 
 pub put_inside : (f : FittedTrace) (t i : ℕ) (x : thread.State) (o j v : ℕ) → IsAhead f t i x → ask_of f.guest.code x ≡ Put o j v
-    → (o < object_count f.guest) × (j < 8)
+    → (o < object_count f.guest) × (j < object_words)
 put_inside f t i x o j v ahead is = let p = permits f x (Put o j v) is in let e = ahead.held in (omega (arith, p.1, e), p.2)
 
 -- ---- seats of one thread
@@ -106,13 +107,14 @@ enter_allows k slots id o a x (q ∷ [], c) g asking =
 
 pub read_leave_allows : (k : Plan) (slots id o : ℕ) (x : thread.State) (me : M) → IsSeated k me.0 x
     → IsAsking (trace_in k) x (Leave o Reading)
-    → Allows (Woven k) slots id me (word_place o) (λ n. (n + 254) % 2 ^ 64) (stepped_on (step slots (word_place o) 254 0 none) me)
+    → Allows (Woven k) slots id me (word_place o) (λ n. (n + reader_leaves) % 2 ^ 64)
+    (stepped_on (step slots (word_place o) reader_leaves 0 none) me)
 read_leave_allows k slots id o x ([], c) seated asking = absurd seated
 read_leave_allows k slots id o x (q ∷ r ∷ qs, c) seated asking = absurd seated
 read_leave_allows k slots id o x (q ∷ [], c) seated asking =
     let ask : IsAsking (trace_in q.plan) x (Leave o Reading) = there k q (λ f. IsAsking f x (Leave o Reading)) seated.0 asking in
-    keyed k q (λ z. Allows (Woven z) slots id (q ∷ [], c) (word_place o) (λ n. (n + 254) % 2 ^ 64)
-    (stepped_on (step slots (word_place o) 254 0 none) (q ∷ [], c))) seated.0
+    keyed k q (λ z. Allows (Woven z) slots id (q ∷ [], c) (word_place o) (λ n. (n + reader_leaves) % 2 ^ 64)
+    (stepped_on (step slots (word_place o) reader_leaves 0 none) (q ∷ [], c))) seated.0
     (left_reading_at slots id o x q c seated.1 (left_inside (trace_in q.plan) q.thread q.position x o Reading seated.1 ask.asks) ask.asks
     (own_has (trace_in q.plan) q.thread q.position x seated.1 ask.has))
 
@@ -130,8 +132,8 @@ version_allows k slots id o x (q ∷ [], c) seated asking =
 pub write_leave_allows : (k : Plan) (slots id o v : ℕ) (x : thread.State) (me : M) → IsSeated k me.0 x
     → IsAsking (trace_in k) x (Leave o Writing)
     → EachRun (trace_in k) (λ run. Tells (machine_of (trace_in k)) (start_of (trace_in k)) run x.number x.steps (Out o Writing v))
-    → Allows (Woven k) slots id me (word_place o) (λ _. (v + 1) * 2 ^ 32)
-    (λ _. stepped_on (step slots (word_place o) ((v + 1) * 2 ^ 32) 0 none) me ((v + 1) * 2 ^ 32))
+    → Allows (Woven k) slots id me (word_place o) (λ _. (v + 1) * version_unit)
+    (λ _. stepped_on (step slots (word_place o) ((v + 1) * version_unit) 0 none) me ((v + 1) * version_unit))
 write_leave_allows k slots id o v x ([], c) seated asking tells = absurd seated
 write_leave_allows k slots id o v x (q ∷ r ∷ qs, c) seated asking tells = absurd seated
 write_leave_allows k slots id o v x (q ∷ [], c) seated asking tells =
@@ -141,8 +143,8 @@ write_leave_allows k slots id o v x (q ∷ [], c) seated asking tells =
     subst (λ z. EachRun (trace_in q.plan) (λ run. Tells (machine_of (trace_in q.plan)) (start_of (trace_in q.plan)) run z x.steps
     (Out o Writing v))) seated.1.number
     (there k q (λ f. EachRun f (λ run. Tells (machine_of f) (start_of f) run x.number x.steps (Out o Writing v))) seated.0 tells) in
-    keyed k q (λ z. Allows (Woven z) slots id (q ∷ [], c) (word_place o) (λ _. (v + 1) * 2 ^ 32)
-    (λ _. stepped_on (step slots (word_place o) ((v + 1) * 2 ^ 32) 0 none) (q ∷ [], c) ((v + 1) * 2 ^ 32))) seated.0
+    keyed k q (λ z. Allows (Woven z) slots id (q ∷ [], c) (word_place o) (λ _. (v + 1) * version_unit)
+    (λ _. stepped_on (step slots (word_place o) ((v + 1) * version_unit) 0 none) (q ∷ [], c) ((v + 1) * version_unit))) seated.0
     (left_writing_at slots id o v x q c seated.1 (left_inside (trace_in q.plan) q.thread q.position x o Writing seated.1 ask.asks) ask.asks
     (own_has (trace_in q.plan) q.thread q.position x seated.1 ask.has) told)
 
@@ -240,7 +242,7 @@ pub record WasSeen (k : Plan) (x : thread.State) (o : ℕ) (me w : M) (n : ℕ) 
   pub view : ◌≡◌ {A = M} w me
   pub small : n < 2 ^ 63
   pub version : EachRun (trace_in k) (λ run. Tells (machine_of (trace_in k)) (start_of (trace_in k)) run x.number x.steps
-      (Out o Writing (n / 2 ^ 32)))
+      (Out o Writing (n / version_unit)))
 
 pub version_told : (k : Plan) (o : ℕ) (x : thread.State) (me w : M) (n : ℕ) → IsSeated k me.0 x → IsAsking (trace_in k) x (Leave o Writing)
     → read_version (step 0 (word_place o) 0 0 none) me n w → WasSeen k x o me w n
@@ -251,13 +253,13 @@ version_told k o x (q ∷ [], c) w n seated asking told =
     let ask : IsAsking f x (Leave o Writing) = there k q (λ f. IsAsking f x (Leave o Writing)) seated.0 asking in
     let here : told.0 ≡ x.steps = one_next f q.thread q.position told.0 x.steps seated.1.run told.1
     (touches_next f q.thread q.position x (Leave o Writing) seated.1 ask.asks (λ b. b)) in
-    let all : EachRun f (λ run. Tells (machine_of f) (start_of f) run q.thread told.0 (Out o Writing (n / 2 ^ 32))) =
+    let all : EachRun f (λ run. Tells (machine_of f) (start_of f) run q.thread told.0 (Out o Writing (n / version_unit))) =
     λ run of. told.4 run of o refl (ap (ask_at f run q.thread) here ∙ ap (ask_of f.guest.code) (sym (seated.1.at run of).1)
     ∙ ask.asks) in record {
       view = told.2;
       small = told.3;
       version = subst (λ (z : Plan × ℕ × ℕ). EachRun (trace_in z.0)
-          (λ run. Tells (machine_of (trace_in z.0)) (start_of (trace_in z.0)) run z.1 z.2 (Out o Writing (n / 2 ^ 32))))
+          (λ run. Tells (machine_of (trace_in z.0)) (start_of (trace_in z.0)) run z.1 z.2 (Out o Writing (n / version_unit))))
           (λ i. (seated.0 i, sym seated.1.number i, here i)) all;
     }
 
@@ -276,7 +278,7 @@ word_read k x (q ∷ []) o i n seated asking answers =
 
 -- the words that there are
 pub head_there : (k : Plan) (x : thread.State) (v : View) (o words : ℕ) (a : Access) (q : Ask) → IsSeated k v x → IsAsking (trace_in k) x q
-    → (q ≡ Enter o a) → words ≡ table_length (object_count (trace_in k).guest) → 8 + 24 * o < words
+    → (q ≡ Enter o a) → words ≡ table_length (object_count (trace_in k).guest) → word_place o < words
 head_there k x [] o words a q seated asking is size = absurd seated
 head_there k x (p ∷ r ∷ ps) o words a q seated asking is size = absurd seated
 head_there k x (p ∷ []) o words a q seated asking is size =
@@ -287,7 +289,7 @@ head_there k x (p ∷ []) o words a q seated asking is size =
     omega (arith, inside, same, size)
 
 pub left_there : (k : Plan) (x : thread.State) (v : View) (o words : ℕ) (a : Access) → IsSeated k v x → IsAsking (trace_in k) x (Leave o a)
-    → words ≡ table_length (object_count (trace_in k).guest) → 8 + 24 * o < words
+    → words ≡ table_length (object_count (trace_in k).guest) → word_place o < words
 left_there k x [] o words a seated asking size = absurd seated
 left_there k x (p ∷ r ∷ ps) o words a seated asking size = absurd seated
 left_there k x (p ∷ []) o words a seated asking size =
@@ -298,7 +300,7 @@ left_there k x (p ∷ []) o words a seated asking size =
     omega (arith, inside, same, size)
 
 pub read_there : (k : Plan) (x : thread.State) (v : View) (o i words : ℕ) → IsSeated k v x → IsAsking (trace_in k) x (Get o i)
-    → words ≡ table_length (object_count (trace_in k).guest) → 16 + 24 * o + i < words
+    → words ≡ table_length (object_count (trace_in k).guest) → content_place o i < words
 read_there k x [] o i words seated asking size = absurd seated
 read_there k x (p ∷ r ∷ ps) o i words seated asking size = absurd seated
 read_there k x (p ∷ []) o i words seated asking size =
@@ -309,7 +311,7 @@ read_there k x (p ∷ []) o i words seated asking size =
     omega (arith, inside.0, inside.1, same, size)
 
 pub put_there : (k : Plan) (x : thread.State) (v : View) (o i n words : ℕ) → IsSeated k v x → IsAsking (trace_in k) x (Put o i n)
-    → words ≡ table_length (object_count (trace_in k).guest) → 16 + 24 * o + i < words
+    → words ≡ table_length (object_count (trace_in k).guest) → content_place o i < words
 put_there k x [] o i n words seated asking size = absurd seated
 put_there k x (p ∷ r ∷ ps) o i n words seated asking size = absurd seated
 put_there k x (p ∷ []) o i n words seated asking size =

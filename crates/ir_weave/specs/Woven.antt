@@ -11,8 +11,9 @@ use Rattle.ir_thread.specs.State as thread
 use Rattle.ir_runs.specs.declared.access.Access.TheVariants.{Writing}
 use Rattle.ir_thread.specs.declared.ask.Ask.TheVariants as ask
 use Rattle.ir_thread.specs.declared.ask.Reply.TheVariants.{Value}
+use Rattle.ir_image.specs.Guest.{object_words}
 use Rattle.ir_object.specs.Cell.{Cell}
-use Rattle.ir_object.specs.Word.{fields_of, word_of}
+use Rattle.ir_object.specs.Word.{version_unit, fields_of, word_of}
 use Rattle.ir_flat.specs.Flat.{Flat, IsFlat}
 use Rattle.ir_log.specs.declared.event.Event.{Event}
 use Rattle.ir_trace.specs.Told.{recorded_thread}
@@ -129,7 +130,7 @@ abbrev pub read_version : Step (Unit {0}) → M → ℕ → M → Type 0
 read_version s ([], c) n w = ⊥
 read_version s (q ∷ r ∷ qs, c) n w = ⊥
 read_version s (q ∷ [], c) n w = (i : ℕ) × IsNextObject (trace_in q.plan) q.thread q.position i × (w ≡ (q ∷ [], c)) × (n < 2 ^ 63)
-    × Leaves (trace_in q.plan) q.thread i s.word (n / 2 ^ 32)
+    × Leaves (trace_in q.plan) q.thread i s.word (n / version_unit)
 
 -- the tracks of n threads from t on, at these positions
 abbrev pub tracks_from : Plan → ℕ → ℕ → View
@@ -203,11 +204,11 @@ pub record IsClosed (k : Plan) (v : View) (cells : List Cell) : Type 0 where
 pub record IsEnd (k : Plan) (v : View) (ws : List ℕ) : Type 0 where
   pub cells : List Cell
   pub table : IsTable cells ws
-  pub eight : (o : ℕ) → o < length cells → length (object_in cells o).words ≡ 8
+  pub sizes : (o : ℕ) → o < length cells → length (object_in cells o).words ≡ object_words
   pub fits : (o : ℕ) → o < length cells → fields_of (word_of (object_in cells o).fields) ≡ (object_in cells o).fields
   pub closed : IsClosed k v cells
 
 -- the first n of these are the words from a content_place on
 pub record AreRead (ws : List ℕ) (from : ℕ) (xs : List ℕ) (n : ℕ) : Type 0 where
-  pub size : length xs ≡ 8
+  pub size : length xs ≡ object_words
   pub each : (i : ℕ) → i < n → slice_index xs i ≡ slice_index ws (from + i)

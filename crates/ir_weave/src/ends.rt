@@ -4,7 +4,7 @@ ghost use Rattle.std.specs.Prelude.{◌≡◌, ◌≢◌, ◌+◌, ◌*◌, ◌^
 ghost use Rattle.std.specs.Slots.{slots_items, slots_len, IsFull};
 ghost use Rattle.ir_weave.specs.declared.plan.Plan.{Plan};
 ghost use Rattle.ir_weave.specs.declared.plan.Progress.{Progress};
-ghost use Rattle.ir_image.specs.Guest.{object_count};
+ghost use Rattle.ir_image.specs.Guest.{most_objects, object_count, object_words};
 ghost use Rattle.ir_object.specs.Cell.{Cell};
 ghost use Rattle.ir_weave.specs.Standing.{StandsAt, flat_in};
 ghost use Rattle.ir_weave.specs.States.{positions};
@@ -18,12 +18,10 @@ use crate::state::State;
 use crate::weave::{Weave, WeaveSeat};
 use atomic_table::{Closed, Table};
 use ir_fit::Fitted;
+use ir_image::OBJECT_WORDS;
 use ir_object::{APART, CONTENT_PLACE, Object, WORD_PLACE, Word};
 use std::alloc::{AllocError, Global};
 use std::snapshot::Snapshot;
-
-// The words of an object's contents.
-const EACH: usize = 8;
 
 // The places from an object's word to its contents.
 const CONTENTS: usize = CONTENT_PLACE - WORD_PLACE;
@@ -32,7 +30,7 @@ const CONTENTS: usize = CONTENT_PLACE - WORD_PLACE;
 fn word_at(objects: &[Object], k: usize) -> u64
     requires { k < table_length (length objects.now) }
     ensures value { result ≡ laid objects.now k }
-    ensures small { (o i : ℕ) → i < 8 → k ≡ content_place o i → result < 2 ^ 32 }
+    ensures small { (o i : ℕ) → i < object_words → k ≡ content_place o i → result < 2 ^ 32 }
 {
     if k < WORD_PLACE {
         return 0;
@@ -42,14 +40,14 @@ fn word_at(objects: &[Object], k: usize) -> u64
     if r == 0 {
         return Word::pack(object.fields()).bits;
     }
-    if r < CONTENTS || r >= CONTENTS + EACH {
+    if r < CONTENTS || r >= CONTENTS + OBJECT_WORDS {
         return 0;
     }
     u64::from(object.contents()[r - CONTENTS])
 }
 
 fn lay(alloc: Global, objects: &[Object]) -> Result<Vec<u64>, AllocError>
-    requires { length objects.now ≤ 16 }
+    requires { length objects.now ≤ most_objects }
     ensures { IfOk result (λ v. IsLaid objects.now v.items (table_length (length objects.now))) }
 {
     let count = WORD_PLACE + APART * objects.len();
@@ -132,13 +130,13 @@ impl Weave {
 }
 
 // The contents of an object.
-fn contents_at(closed: &Closed<(), Global>, from: usize) -> [u32; 8]
-    requires room { from + 8 ≤ slots_len closed.now.words }
+fn contents_at(closed: &Closed<(), Global>, from: usize) -> [u32; OBJECT_WORDS]
+    requires room { from + object_words ≤ slots_len closed.now.words }
     requires full { IsFull closed.now.words }
-    requires small { (i : ℕ) → i < 8 → slice_index (slots_items closed.now.words) (from + i) < 2 ^ 32 }
-    ensures { AreRead (slots_items closed.now.words) from result 8 }
+    requires small { (i : ℕ) → i < object_words → slice_index (slots_items closed.now.words) (from + i) < 2 ^ 32 }
+    ensures { AreRead (slots_items closed.now.words) from result object_words }
 {
-    let mut contents = [0; 8];
+    let mut contents = [0; OBJECT_WORDS];
     for (i, word) in contents.iter_mut().enumerate() {
         *word = closed.word(from + i) as u32;
     }

@@ -1,13 +1,15 @@
 -- What the bytes of an image and of a trace open, and the lines that a session begins with.
-use Rattle.std.specs.Prelude.{◌≡◌, ℕ, ◌+◌, List, [], ◌∷◌, ◌++◌, codes, decimal, Some, Result, Ok, Err}
+use Rattle.std.specs.Prelude.{◌≡◌, ◌≢◌, ℕ, ◌+◌, List, [], ◌∷◌, ◌++◌, codes, decimal, Option, Some, None, Result, Ok, Err}
 use Rattle.ir_image.specs.Guest.{Guest}
 use Rattle.ir_image.specs.Reading.{guest_at}
 use Rattle.ir_image.specs.Refusal as image
 use Rattle.ir_image.specs.declared.image_err.ImageErr.{ImageErr}
+use Rattle.ir_image.specs.declared.image_err.ImageErr.TheVariants as image_err
 use Rattle.ir_trace.specs.Recorded.{Recorded}
 use Rattle.ir_trace.specs.Reading.{recorded_at}
 use Rattle.ir_trace.specs.Refusal as trace
 use Rattle.ir_trace.specs.declared.trace_err.TraceErr.{TraceErr}
+use Rattle.ir_trace.specs.declared.trace_err.TraceErr.TheVariants as trace_err
 use Rattle.ir_coherence.specs.Numbers.{cause_number}
 use Rattle.ir_coherence.specs.declared.cause.Cause.{Cause}
 use Rattle.ir_fit.specs.Fit.{FittedTrace, HasRun, IsRefused}
@@ -21,8 +23,8 @@ use Rattle.ir_fit.specs.declared.verdict.Verdict.TheVariants.{Header, Incoherent
 use Rattle.ir_debug.specs.Machine.Desk.{Desk, desk_of}
 
 pub data Opening : Type 0 where
-  ImageRefused : (number : ℕ) → Opening
-  TraceRefused : (number : ℕ) → Opening
+  ImageRefused : (error : ImageErr) → Opening
+  TraceRefused : (error : TraceErr) → Opening
   Unfit : (verdict : Verdict) → Opening
   Ready : (desk : Desk) → Opening
 
@@ -30,16 +32,16 @@ pub data Opening : Type 0 where
 abbrev pub OpensFit : Guest → Recorded → Opening → Type 0
 OpensFit guest r (Ready d) = (f : FittedTrace) × (f.guest ≡ guest) × (f.recorded ≡ r) × HasRun f × (d ≡ desk_of f)
 OpensFit guest r (Unfit v) = IsRefused guest r (Refused v)
-OpensFit guest r (ImageRefused n) = ⊥
-OpensFit guest r (TraceRefused n) = ⊥
+OpensFit guest r (ImageRefused e) = ⊥
+OpensFit guest r (TraceRefused e) = ⊥
 
 abbrev pub OpensTrace : Guest → Result Recorded TraceErr → Opening → Type 0
 OpensTrace guest (Ok r) opening = OpensFit guest r opening
-OpensTrace guest (Err e) opening = (n : ℕ) × (trace.number_of e ≡ Some n) × (opening ≡ TraceRefused n)
+OpensTrace guest (Err e) opening = (e ≢ trace_err.NoMem) × (opening ≡ TraceRefused e)
 
 abbrev pub OpensImage : Result Guest ImageErr → Result Recorded TraceErr → Opening → Type 0
 OpensImage (Ok guest) r opening = OpensTrace guest r opening
-OpensImage (Err e) r opening = (n : ℕ) × (image.number_of e ≡ Some n) × (opening ≡ ImageRefused n)
+OpensImage (Err e) r opening = (e ≢ image_err.NoMem) × (opening ≡ ImageRefused e)
 
 -- the image is judged first, then the trace, then the fit
 unfoldable pub Opens : List ℕ → List ℕ → Opening → Type 0
@@ -71,9 +73,14 @@ verdict_text (Header cause) = header_text cause ++ codes "\n"
 verdict_text (Incoherent thread event cause) = incoherent_text thread event cause ++ codes "\n"
 verdict_text (Threads vs) = threads_text 0 vs.items
 
+-- the number of a fault of the bytes; there is none for want of memory
+abbrev pub number_or_zero : Option ℕ → ℕ
+number_or_zero (Some n) = n
+number_or_zero None = 0
+
 -- the lines that a session begins with
 abbrev pub opening_text : Opening → List ℕ
-opening_text (ImageRefused n) = codes "image refused " ++ decimal n ++ codes "\n"
-opening_text (TraceRefused n) = codes "trace refused " ++ decimal n ++ codes "\n"
+opening_text (ImageRefused e) = codes "image refused " ++ decimal (number_or_zero (image.number_of e)) ++ codes "\n"
+opening_text (TraceRefused e) = codes "trace refused " ++ decimal (number_or_zero (trace.number_of e)) ++ codes "\n"
 opening_text (Unfit v) = verdict_text v
 opening_text (Ready d) = codes "ready\n"

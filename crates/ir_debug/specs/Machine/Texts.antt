@@ -2,6 +2,7 @@
 use Rattle.std.specs.Prelude.{◌==◌, ℕ, zero, suc, ◌+◌, ◌/◌, List, [], ◌∷◌, ◌++◌, take, drop, length, flat_map, codes, decimal, Option, Some, None, if◌then◌else◌}
 use Rattle.hex.specs.Hex.{encode_lower}
 use Rattle.ir_image.specs.Fetch.{word_at}
+use Rattle.ir_image.specs.Guest.{object_words}
 use Rattle.ir_thread.specs.Held.{highest}
 use Rattle.ir_runs.specs.Labels.{Label, Quiet, Answer, In, Out}
 use Rattle.ir_runs.specs.Labels as labels
@@ -84,7 +85,7 @@ object_text threads o =
     codes "version " ++ decimal o.version ++ codes " left " ++ decimal o.left
     ++ codes " readers " ++ joined (inside_for Reading o.inside threads) ++ codes " writer " ++ joined (inside_for Writing o.inside threads)
     ++ codes "\n"
-    ++ codes "words" ++ words_text o.words 8 ++ codes "\n"
+    ++ codes "words" ++ words_text o.words object_words ++ codes "\n"
 
 -- ---- events
 

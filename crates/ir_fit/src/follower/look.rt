@@ -1,6 +1,7 @@
 //! A thread's next step beside the trace.
 
 ghost use Rattle.std.specs.Prelude.{◌≡◌, ◌<◌, ◌≤◌, ◌↔◌, length, slice_get, Some, IsTrue, IfOk, OnErr};
+ghost use Rattle.ir_image.specs.Guest.{most_objects};
 ghost use Rattle.ir_thread.specs.Calls.{ask_of};
 ghost use Rattle.ir_thread.specs.Held.{held_count};
 ghost use Rattle.ir_thread.specs.declared.ask.Ask.TheVariants as ask;
@@ -40,9 +41,9 @@ pub enum Look {
 
 // How many objects are held.
 fn held_count(held: &[Option<Access>]) -> u64
-    requires { length held.now ≤ 16 }
+    requires { length held.now ≤ most_objects }
     ensures value { result ≡ held_count held.now }
-    ensures within { result ≤ 16 }
+    ensures within { result ≤ most_objects }
 {
     let mut count = 0;
     for place in held {

@@ -6,13 +6,12 @@ use crate::ask::Ask;
 use crate::call::Call;
 use crate::end::End;
 use crate::holding::highest;
-use crate::thread::{MOST_OUTPUT, Thread, WORDS_EACH};
-use ir_image::Code;
+use crate::limits::{MOST_EVENTS, MOST_OUTPUT};
+use crate::thread::Thread;
+use ir_image::{Code, OBJECT_WORDS};
 use ir_mach::Ran;
 use ir_runs::Access;
 use itoa::Buffer;
-
-const MOST_EVENTS: u32 = 1_048_576;
 
 const A0: u8 = 10;
 
@@ -79,7 +78,7 @@ impl Thread {
     {
         let index = self.mach.reg(A1);
         match self.object() {
-            Some(object) if index < WORDS_EACH as u32 => Some((object, index as u8)),
+            Some(object) if index < OBJECT_WORDS as u32 => Some((object, index as u8)),
             _ => None,
         }
     }

@@ -1,7 +1,8 @@
 use Rattle.std.proofs.Common.{[], ◌∷◌, ◌++◌}
 use Rattle.std.specs.Prelude.{codes}
 use Rattle.std.proofs.KnownBytes.{Appends-trans}
-use Rattle.ir_cli.proofs.InParts.{on_err, prefix_longer, prefix_further, then_prefix}
+use Rattle.ir_stream.proofs.CallerLemmas.{prefix_after, prefix_longer}
+use Rattle.ir_cli.proofs.InParts.{on_err, then_prefix}
 use Rattle.ir_cli.proofs.telling.put_line.Goals as goal
 
 pub returns-in_err-write_all-clause-prefix : goal.returns-in_err-write_all-clause-prefix
@@ -14,7 +15,7 @@ returns-in_err-write_all-2-clause-prefix g c =
     on_err _ c.from_residual-in_err-write_all-2.result
     (prefix_longer (g.E.Sink.written c.args.faults.now) (g.E.Sink.written c.write_all-2.new.writer) (codes "ir: " ++ c.args.words.now)
     (10 ∷ [])
-    (prefix_further (g.E.Sink.written c.args.faults.now) (g.E.Sink.written c.write_all.new.writer)
+    (prefix_after (g.E.Sink.written c.args.faults.now) (g.E.Sink.written c.write_all.new.writer)
     (g.E.Sink.written c.write_all-2.new.writer) (codes "ir: ") c.args.words.now c.in_ok-write_all.ensures.ok
     (rw c.as_bytes.ensures.value at c.in_err-write_all-2.ensures.prefix)))
 

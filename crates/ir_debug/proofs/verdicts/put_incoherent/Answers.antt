@@ -3,8 +3,8 @@ use Rattle.std.specs.Prelude.{codes, decimal, ◌++◌}
 use Rattle.ir_debug.proofs.Lines.{put-more}
 use Rattle.ir_debug.proofs.verdicts.put_incoherent.Goals as goal
 
-pub returns : goal.returns
-returns c =
+pub returns-clause-text : goal.returns-clause-text
+returns-clause-text c =
     let old : List ℕ = c.args.text.now.items in
     let first : List ℕ = codes "incoherent thread " ++ decimal c.args.thread in
     let second : List ℕ = first ++ codes " event " ++ decimal c.args.event in

@@ -2,7 +2,7 @@ use Rattle.std.proofs.Common.{rules, ◌≡◌, ◌<◌, ◌≤◌, ◌/◌, ℕ
 use Rattle.std.proofs.lemmas.List.{length-map}
 use Rattle.std.specs.List.{AllByRecursion}
 use Rattle.std.specs.Prelude.{vec_len}
-use Rattle.ir_image.specs.Guest.{Guest, object_count}
+use Rattle.ir_image.specs.Guest.{Guest, object_count, object_words}
 use Rattle.ir_crew.specs.Ends.{IsEnd}
 use Rattle.ir_record.specs.Threads.{AreNew, Pairs, HasRoom, IsSeatOf, views_of}
 use Rattle.ir_record.specs.Working.{work_of, IsReadyWorker, RanToEnd}
@@ -81,8 +81,14 @@ returns-in-Some-clause-failed g c =
       subst (λ z. IsFirstFailed z c.in-Some.thread)
           (ap (map (λ w. g.W.World.broken w.world)) c.as_slice.ensures.value ∙ sym (map_map g.W.World.broken (λ w. w.world) end)
           ∙ ap (map g.W.World.broken) (sym worlds)) c.in-Some.ensures.failed,
-      subst (λ z. Extends (map g.W.World.answers z) (map g.W.World.answers c.worlds_of.result.items)) c.in_ok-workers.ensures.worlds
-          (subst (λ z. Extends (map g.W.World.answers (map (λ w. w.world) old)) (map g.W.World.answers z)) (sym worlds) all),
+      record {
+        answered = subst (λ z. Extends (map g.W.World.answers z) (map g.W.World.answers c.worlds_of.result.items))
+            c.in_ok-workers.ensures.worlds
+            (subst (λ z. Extends (map g.W.World.answers (map (λ w. w.world) old)) (map g.W.World.answers z)) (sym worlds) all);
+        origins = ap (map g.W.World.origin) worlds
+            ∙ origins_end g.W.World.answers g.W.World.broken g.W.World.origin c.args.image.now c.args.budget id old end pairs
+            ∙ ap (map g.W.World.origin) c.in_ok-workers.ensures.worlds;
+      },
     )
 
 pub gathered-seats-requires-clause-over : goal.gathered-seats-requires-clause-over
@@ -99,7 +105,7 @@ gathered-seats-requires-clause-over g c =
     subst (λ z. NoneFailed (map (λ w. g.W.World.broken w.world) z)) c.as_slice.ensures.value (c.first_failed.ensures.none fine) in
     let counted : c.len-2.result ≡ object_count c.args.image.now =
     (let a : c.len-2.result ≡ length c.in_ok-objects.objects.items = search rules in a) ∙ c.in_ok-objects.ensures
-    ∙ ap (λ z. length z / 8) c.words.ensures.value in
+    ∙ ap (λ z. length z / object_words) c.words.ensures.value in
     over_end g.W.World.answers g.W.World.broken g.W.World.origin c.args.image.now c.args.budget id c.len-2.result 0 old end counted new
     pairs none
 
@@ -170,7 +176,7 @@ returns-clause-recorded g c =
     subst (λ z. NoneFailed (map (λ w. g.W.World.broken w.world) z)) c.as_slice.ensures.value (c.first_failed.ensures.none fine) in
     let counted : c.len-2.result ≡ object_count c.args.image.now =
     (let a : c.len-2.result ≡ length c.in_ok-objects.objects.items = search rules in a) ∙ c.in_ok-objects.ensures
-    ∙ ap (λ z. length z / 8) c.words.ensures.value in
+    ∙ ap (λ z. length z / object_words) c.words.ensures.value in
     let over : AllOver c.args.image.now c.args.budget (map g.W.World.answers c.args.worlds.items) (map (work_of g.W.World.answers) end) =
     all_over g.W.World.answers g.W.World.broken g.W.World.origin c.args.image.now c.args.budget id old end c.args.worlds.items
     c.words.ensures.within new pairs none c.in_ok-workers.ensures.worlds each in

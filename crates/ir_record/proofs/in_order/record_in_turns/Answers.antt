@@ -1,6 +1,7 @@
 use Rattle.std.proofs.Common.{rules, ◌≡◌, length, map, sym, ap, ◌∙◌, subst, arith}
 use Rattle.std.proofs.lemmas.List.{length-map}
 use Rattle.ir_record.specs.Progress.{Progress, progress, IsReady}
+use Rattle.ir_record.specs.Recorders.{progress_of}
 use Rattle.ir_record.specs.Turns.{order_of_turns}
 use Rattle.ir_record.specs.Worlds.{NoneFailed}
 use Rattle.ir_record.proofs.Ended.{start_ready, Over, over_from, started, threads_there, ended_there, recorded_there, mapped_twice}
@@ -19,7 +20,7 @@ pub into_trace-requires-clause-some : goal.into_trace-requires-clause-some
 into_trace-requires-clause-some g c =
     let before = map g.W.World.answers c.args.worlds.items in
     let first : Progress = progress c.in_ok-start.field-0 before in
-    let last : Progress = progress c.record.new.self.tape (map g.W.World.answers c.record.new.self.worlds.items) in
+    let last : Progress = progress_of g.W.World.answers c.record.new.self in
     let same = started c.args.image.now c.args.budget before c.in_ok-start.field-0.flat c.in_ok-start.field-0.logs.items
     c.in_ok-start.ensures.flat c.in_ok-start.ensures.logs in
     let over : Over c.args.image.now c.args.budget (order_of_turns c.args.order.now) before last =
@@ -32,7 +33,7 @@ pub into_trace-requires-clause-ended : goal.into_trace-requires-clause-ended
 into_trace-requires-clause-ended g c =
     let before = map g.W.World.answers c.args.worlds.items in
     let first : Progress = progress c.in_ok-start.field-0 before in
-    let last : Progress = progress c.record.new.self.tape (map g.W.World.answers c.record.new.self.worlds.items) in
+    let last : Progress = progress_of g.W.World.answers c.record.new.self in
     let same = started c.args.image.now c.args.budget before c.in_ok-start.field-0.flat c.in_ok-start.field-0.logs.items
     c.in_ok-start.ensures.flat c.in_ok-start.ensures.logs in
     let over : Over c.args.image.now c.args.budget (order_of_turns c.args.order.now) before last =
@@ -44,7 +45,7 @@ pub returns-clause-recorded : goal.returns-clause-recorded
 returns-clause-recorded g c =
     let before = map g.W.World.answers c.args.worlds.items in
     let first : Progress = progress c.in_ok-start.field-0 before in
-    let last : Progress = progress c.record.new.self.tape (map g.W.World.answers c.record.new.self.worlds.items) in
+    let last : Progress = progress_of g.W.World.answers c.record.new.self in
     let same = started c.args.image.now c.args.budget before c.in_ok-start.field-0.flat c.in_ok-start.field-0.logs.items
     c.in_ok-start.ensures.flat c.in_ok-start.ensures.logs in
     let over : Over c.args.image.now c.args.budget (order_of_turns c.args.order.now) before last =
@@ -63,4 +64,4 @@ returns-clause-works g c = subst NoneFailed (sym (mapped_twice g.W.World.broken 
 
 pub returns-clause-origins : goal.returns-clause-origins
 returns-clause-origins g c = mapped_twice g.W.World.origin (λ o. o.world) c.in_ok-outputs.outputs.each.items c.record.new.self.worlds.items
-    c.in_ok-outputs.ensures.worlds ∙ c.record.ensures.origins
+    c.in_ok-outputs.ensures.worlds ∙ c.record.ensures.kept.origins

@@ -1,5 +1,6 @@
 use Rattle.std.proofs.Common.{◌+◌, ◌<◌, ◌≤◌, ◌^◌, ℕ, List, Fits, w32, refl, sym, subst, arith}
 use Rattle.std.specs.Slots.{slots_items}
+use Rattle.ir_image.specs.Guest.{object_words}
 use Rattle.ir_weave.specs.Woven.{AreRead}
 use Rattle.ir_weave.proofs.Opening.{read_more, found_word}
 use Rattle.ir_weave.proofs.ends.contents_at.Goals as goal
@@ -20,9 +21,9 @@ loop-i-preserved c = read_more (slots_items c.args.closed.now.words) c.args.from
     c.loop-i.invariant c.loop-i-test.true (sym (found_word (slots_items c.args.closed.now.words) (c.args.from + c.loop-i.i) c.word.result
     c.word.ensures))
 
-all_eight : (ws : List ℕ) (from : ℕ) (xs : List ℕ) (n : ℕ) → AreRead ws from xs n → 8 ≤ n → AreRead ws from xs 8
-all_eight ws from xs n h l = record { size = h.size; each = λ i k. h.each i (omega (arith, k, l)) }
+all_read : (ws : List ℕ) (from : ℕ) (xs : List ℕ) (n : ℕ) → AreRead ws from xs n → object_words ≤ n → AreRead ws from xs object_words
+all_read ws from xs n h l = record { size = h.size; each = λ i k. h.each i (omega (arith, k, l)) }
 
 pub returns : goal.returns
-returns c = all_eight (slots_items c.args.closed.now.words) c.args.from c.loop-i.word-items c.loop-i.i c.loop-i.invariant
+returns c = all_read (slots_items c.args.closed.now.words) c.args.from c.loop-i.word-items c.loop-i.i c.loop-i.invariant
     (let e = c.loop-i-test.false in omega (arith, e))

@@ -6,5 +6,5 @@ use Rattle.ir_weave.proofs.ends.object_at.Goals as goal
 pub returns : goal.returns
 returns c k v e l =
     object_read e.cells (slots_items c.args.closed.now.words) c.args.o c.word.result c.contents_at.result c.from_parts.result e.table l
-    (e.eight c.args.o l) (e.fits c.args.o l) (sym (found_word (slots_items c.args.closed.now.words) _ c.word.result c.word.ensures))
+    (e.sizes c.args.o l) (e.fits c.args.o l) (sym (found_word (slots_items c.args.closed.now.words) _ c.word.result c.word.ensures))
     c.contents_at.ensures c.from_parts.ensures

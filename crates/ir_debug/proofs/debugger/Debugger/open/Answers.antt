@@ -1,12 +1,9 @@
-use Rattle.std.proofs.Common.{◌≡◌, ℕ, sym, ap, ◌∙◌, arith}
-use Rattle.ir_thread.specs.State.{start_state}
-use Rattle.ir_debug.proofs.Runs.{run-none}
+use Rattle.ir_debug.proofs.Ends.{first_there}
 use Rattle.ir_debug.proofs.debugger.Debugger.open.Goals as goal
 
 pub invariant_of-result : goal.invariant_of-result
-invariant_of-result c =
-    let budget : c.budget.result ≡ c.budget-2.result = c.budget.ensures.value ∙ sym c.budget-2.ensures.value in (
-      c.in_ok-thread.ensures ∙ ap (λ (b : ℕ). start_state c.args.image 0 b) budget
-          ∙ sym (run-none c.args.image.code (start_state c.args.image 0 c.budget-2.result)),
-      omega arith,
-    )
+invariant_of-result c = record {
+  desk = record { run = c.known.ensures.run; size = c.in_ok-at.ensures.size; at = c.in_ok-at.ensures.consistent };
+  stands = c.in_ok-state.ensures.own;
+  fresh = λ e. first_there c.args.fitted c.in_ok-state.state c.in_ok-at.at c.in_ok-at.ensures.first c.in_ok-state.ensures.start;
+}

@@ -1,16 +1,17 @@
-use Rattle.std.proofs.Common.{length, map, replicate, sym, ap, ◌∙◌, subst}
+use Rattle.std.proofs.Common.{length, replicate, sym, ap, ◌∙◌, subst}
 use Rattle.ir_runs.specs.InOrder.{rounds}
-use Rattle.ir_record.specs.Progress.{progress, Took}
+use Rattle.ir_record.specs.Progress.{Took}
+use Rattle.ir_record.specs.Recorders.{progress_of}
 use Rattle.ir_record.specs.Turns.{order_of_turns}
 use Rattle.ir_record.proofs.Steps.{took_both}
-use Rattle.ir_record.proofs.Asking.{extends_both}
+use Rattle.ir_record.proofs.Asking.{worlds_on}
 use Rattle.ir_record.proofs.recorder.Recorder.record.Goals as goal
 
 pub returns-clause-took : goal.returns-clause-took
 returns-clause-took g c =
-    let entry = progress c.args.self.now.tape (map g.W.World.answers c.args.self.now.worlds.items) in
-    let mid = progress c.follow.new.self.tape (map g.W.World.answers c.follow.new.self.worlds.items) in
-    let new = progress c.rounds.new.self.tape (map g.W.World.answers c.rounds.new.self.worlds.items) in
+    let entry = progress_of g.W.World.answers c.args.self.now in
+    let mid = progress_of g.W.World.answers c.follow.new.self in
+    let new = progress_of g.W.World.answers c.rounds.new.self in
     let n = length c.args.self.now.tape.flat.threads in (
       c.in_ok-rounds.ensures.took.0,
       took_both (order_of_turns c.args.order.now) (rounds n c.in_ok-rounds.ensures.took.0) entry mid new c.in_ok-follow.ensures.took
@@ -19,20 +20,14 @@ returns-clause-took g c =
     )
 
 pub returns-clause-kept : goal.returns-clause-kept
-returns-clause-kept g c = extends_both (map g.W.World.answers c.args.self.now.worlds.items)
-    (map g.W.World.answers c.follow.new.self.worlds.items) (map g.W.World.answers c.rounds.new.self.worlds.items) c.follow.ensures.kept
+returns-clause-kept g c = worlds_on g.W.World.answers g.W.World.origin c.args.self.now.worlds.items c.follow.new.self.worlds.items
+    c.rounds.new.self.worlds.items c.follow.ensures.kept
     c.rounds.ensures.kept
 
 pub returns-in_err-rounds-clause-kept : goal.returns-in_err-rounds-clause-kept
-returns-in_err-rounds-clause-kept g c = extends_both (map g.W.World.answers c.args.self.now.worlds.items)
-    (map g.W.World.answers c.follow.new.self.worlds.items) (map g.W.World.answers c.rounds.new.self.worlds.items) c.follow.ensures.kept
+returns-in_err-rounds-clause-kept g c = worlds_on g.W.World.answers g.W.World.origin c.args.self.now.worlds.items
+    c.follow.new.self.worlds.items c.rounds.new.self.worlds.items c.follow.ensures.kept
     c.rounds.ensures.kept
 
 pub rounds-requires-clause-level : goal.rounds-requires-clause-level
 rounds-requires-clause-level g c = c.requires.level ∙ ap (λ n. replicate n 0) (sym c.in_ok-follow.ensures.took.threads)
-
-pub returns-clause-origins : goal.returns-clause-origins
-returns-clause-origins g c = c.rounds.ensures.origins ∙ c.follow.ensures.origins
-
-pub returns-in_err-rounds-clause-origins : goal.returns-in_err-rounds-clause-origins
-returns-in_err-rounds-clause-origins g c = c.rounds.ensures.origins ∙ c.follow.ensures.origins

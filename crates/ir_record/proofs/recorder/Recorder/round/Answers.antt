@@ -1,34 +1,34 @@
-use Rattle.std.proofs.Common.{◌≡◌, ◌<◌, ℕ, List, [], arith, map, length, ap, sym, subst, refl, ◌∙◌}
+use Rattle.std.proofs.Common.{◌≡◌, ◌<◌, ℕ, List, [], arith, length, ap, sym, subst, refl, ◌∙◌}
 use Rattle.std.specs.List.{range_with_len}
 use Rattle.ir_record.specs.Ahead.{lead, CanSkip, WentIf}
 use Rattle.ir_flat.specs.Flat.{tables, machine}
 use Rattle.ir_record.specs.Noting.{Noted}
-use Rattle.ir_record.specs.Progress.{Progress, progress}
-use Rattle.ir_record.proofs.Asking.{extends_same, extends_both}
+use Rattle.ir_record.specs.Progress.{Progress}
+use Rattle.ir_record.specs.Recorders.{progress_of}
+use Rattle.ir_record.proofs.Asking.{same_worlds, worlds_on}
 use Rattle.ir_record.proofs.Going.{at_lead, still, reached, ahead_there}
 use Rattle.ir_record.proofs.Passing.{none_passed, pass_more, turn_noted}
 use Rattle.ir_record.proofs.recorder.Recorder.round.Goals as goal
 
 pub loop-t-init : goal.loop-t-init
 loop-t-init g c = record {
-  went = λ s h. subst (λ z. WentIf z [] s (progress c.args.self.now.tape (map g.W.World.answers c.args.self.now.worlds.items))
-      c.args.ahead.now.items (progress c.args.self.now.tape (map g.W.World.answers c.args.self.now.worlds.items)) c.args.ahead.now.items)
+  went = λ s h. subst (λ z. WentIf z [] s (progress_of g.W.World.answers c.args.self.now)
+      c.args.ahead.now.items (progress_of g.W.World.answers c.args.self.now) c.args.ahead.now.items)
       (sym c.new-pass.ensures.moved)
-      (still s (progress c.args.self.now.tape (map g.W.World.answers c.args.self.now.worlds.items)) c.args.ahead.now.items h);
+      (still s (progress_of g.W.World.answers c.args.self.now) c.args.ahead.now.items h);
   passing = none_passed c.new-pass.result c.args.ahead.now.items c.args.self.now.tape.flat;
   each = c.requires.each;
   threads = refl;
   ready = c.requires.ready;
-  kept = extends_same (map g.W.World.answers c.args.self.now.worlds.items);
-  origins = refl;
+  kept = same_worlds g.W.World.answers g.W.World.origin c.args.self.now.worlds.items;
 }
 
 pub loop-t-preserved : goal.loop-t-preserved
 loop-t-preserved g c = record {
   went = λ s h.
-      let a : Progress = progress c.args.self.now.tape (map g.W.World.answers c.args.self.now.worlds.items) in
-      let b : Progress = progress c.loop-t.self.tape (map g.W.World.answers c.loop-t.self.worlds.items) in
-      let e : Progress = progress c.turn_ahead.new.self.tape (map g.W.World.answers c.turn_ahead.new.self.worlds.items) in
+      let a : Progress = progress_of g.W.World.answers c.args.self.now in
+      let b : Progress = progress_of g.W.World.answers c.loop-t.self in
+      let e : Progress = progress_of g.W.World.answers c.turn_ahead.new.self in
       let p : WentIf c.loop-t.pass.moved (range_with_len 0 c.loop-t.t) s a c.args.ahead.now.items b c.loop-t.ahead.items =
       c.loop-t.invariant.went s h in
       let q = c.in_ok-turned.ensures.went (reached p.went)
@@ -62,26 +62,22 @@ loop-t-preserved g c = record {
   each = c.in_ok-turned.ensures.each;
   threads = c.in_ok-turned.ensures.threads ∙ c.loop-t.invariant.threads;
   ready = c.in_ok-turned.ensures.ready;
-  kept = extends_both (map g.W.World.answers c.args.self.now.worlds.items) (map g.W.World.answers c.loop-t.self.worlds.items)
-      (map g.W.World.answers c.turn_ahead.new.self.worlds.items) c.loop-t.invariant.kept c.turn_ahead.ensures.kept;
-  origins = c.turn_ahead.ensures.origins ∙ c.loop-t.invariant.origins;
+  kept = worlds_on g.W.World.answers g.W.World.origin c.args.self.now.worlds.items c.loop-t.self.worlds.items
+      c.turn_ahead.new.self.worlds.items c.loop-t.invariant.kept c.turn_ahead.ensures.kept;
 }
 
 pub returns-clause-went : goal.returns-clause-went
 returns-clause-went g c = λ s h. subst (λ n. WentIf c.loop-t.pass.moved (range_with_len 0 n) s
-    (progress c.args.self.now.tape (map g.W.World.answers c.args.self.now.worlds.items)) c.args.ahead.now.items
-    (progress c.loop-t.self.tape (map g.W.World.answers c.loop-t.self.worlds.items)) c.loop-t.ahead.items)
+    (progress_of g.W.World.answers c.args.self.now) c.args.ahead.now.items
+    (progress_of g.W.World.answers c.loop-t.self) c.loop-t.ahead.items)
     (let e : length c.threads-t-end.result.now ≡ length c.args.self.now.tape.flat.threads =
     ap (λ xs. length xs) c.threads-t-end.ensures.value in omega (arith, e, c.loop-t-test.false, c.loop-t.auto.t-end))
     (c.loop-t.invariant.went s h)
 
 pub returns-in_err-turned-clause-kept : goal.returns-in_err-turned-clause-kept
-returns-in_err-turned-clause-kept g c = extends_both (map g.W.World.answers c.args.self.now.worlds.items)
-    (map g.W.World.answers c.loop-t.self.worlds.items) (map g.W.World.answers c.turn_ahead.new.self.worlds.items) c.loop-t.invariant.kept
+returns-in_err-turned-clause-kept g c = worlds_on g.W.World.answers g.W.World.origin c.args.self.now.worlds.items
+    c.loop-t.self.worlds.items c.turn_ahead.new.self.worlds.items c.loop-t.invariant.kept
     c.turn_ahead.ensures.kept
-
-pub returns-in_err-turned-clause-origins : goal.returns-in_err-turned-clause-origins
-returns-in_err-turned-clause-origins g c = c.turn_ahead.ensures.origins ∙ c.loop-t.invariant.origins
 
 pub returns-clause-free : goal.returns-clause-free
 returns-clause-free g c =

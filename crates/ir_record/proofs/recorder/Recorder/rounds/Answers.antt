@@ -1,12 +1,13 @@
-use Rattle.std.proofs.Common.{◌≡◌, ◌<◌, ◌≤◌, ◌+◌, ◌-◌, ℕ, Bool, List, map, length, replicate, refl, sym, ap, ◌∙◌, subst, arith}
+use Rattle.std.proofs.Common.{◌≡◌, ◌<◌, ◌≤◌, ◌+◌, ◌-◌, ℕ, Bool, List, length, replicate, refl, sym, ap, ◌∙◌, subst, arith}
 use Rattle.std.proofs.lemmas.Bool.{not-false, not-true}
 use Rattle.std.proofs.lemmas.List.{length-replicate}
 use Rattle.std.specs.List.{range_with_len}
 use Rattle.ir_flat.specs.Flat.{tables, machine}
 use Rattle.ir_record.specs.Ahead.{lead, CanSkip, all_ahead, WentIf}
 use Rattle.ir_runs.specs.InOrder.{rounds}
-use Rattle.ir_record.specs.Progress.{Progress, progress, all_left}
-use Rattle.ir_record.proofs.Asking.{extends_same, extends_both}
+use Rattle.ir_record.specs.Progress.{Progress, all_left}
+use Rattle.ir_record.specs.Recorders.{progress_of}
+use Rattle.ir_record.proofs.Asking.{same_worlds, worlds_on}
 use Rattle.ir_record.proofs.Going.{Rounding, first_round, round_more, reached, ahead_there, none_ahead, caught, all_over, fewer_left}
 use Rattle.ir_record.proofs.Skipping.{skip_more, skip_least}
 use Rattle.ir_record.proofs.recorder.Recorder.rounds.Goals as goal
@@ -14,13 +15,12 @@ use Rattle.ir_record.proofs.recorder.Recorder.rounds.Goals as goal
 pub rounds-init : goal.rounds-init
 rounds-init g c =
     let n : ℕ = length c.args.self.now.tape.flat.threads in
-    let a : Progress = progress c.args.self.now.tape (map g.W.World.answers c.args.self.now.worlds.items) in
+    let a : Progress = progress_of g.W.World.answers c.args.self.now in
     record {
       went = subst (Rounding n a a) (sym c.requires.level) (first_round n a);
       each = ap (λ xs. length xs) c.requires.level ∙ length-replicate {A = ℕ} n 0;
       ready = c.requires.ready;
-      kept = extends_same (map g.W.World.answers c.args.self.now.worlds.items);
-      origins = refl;
+      kept = same_worlds g.W.World.answers g.W.World.origin c.args.self.now.worlds.items;
     }
 
 -- the rounds so far, and those that are skipped
@@ -49,9 +49,9 @@ turned n a b e d f moved p same q = subst (λ k. WentIf moved (range_with_len 0 
 pub rounds-preserved : goal.rounds-preserved
 rounds-preserved g c =
     let n : ℕ = length c.args.self.now.tape.flat.threads in
-    let a : Progress = progress c.args.self.now.tape (map g.W.World.answers c.args.self.now.worlds.items) in
-    let b : Progress = progress c.rounds.self.tape (map g.W.World.answers c.rounds.self.worlds.items) in
-    let e : Progress = progress c.round.new.self.tape (map g.W.World.answers c.round.new.self.worlds.items) in
+    let a : Progress = progress_of g.W.World.answers c.args.self.now in
+    let b : Progress = progress_of g.W.World.answers c.rounds.self in
+    let e : Progress = progress_of g.W.World.answers c.round.new.self in
     let was : List ℕ = c.rounds.ahead.items in
     let d : List ℕ = c.round.new.ahead.items in
     let p : Rounding n a b was = c.rounds.invariant.went in
@@ -66,17 +66,16 @@ rounds-preserved g c =
       went = k.rounding;
       each = c.lower.ensures.size ∙ c.in_ok-pass.ensures.each;
       ready = c.in_ok-pass.ensures.ready;
-      kept = extends_both (map g.W.World.answers c.args.self.now.worlds.items) (map g.W.World.answers c.rounds.self.worlds.items)
-          (map g.W.World.answers c.round.new.self.worlds.items) c.rounds.invariant.kept c.round.ensures.kept;
-      origins = c.round.ensures.origins ∙ c.rounds.invariant.origins;
+      kept = worlds_on g.W.World.answers g.W.World.origin c.args.self.now.worlds.items c.rounds.self.worlds.items
+          c.round.new.self.worlds.items c.rounds.invariant.kept c.round.ensures.kept;
     }
 
 pub rounds-smaller : goal.rounds-smaller
 rounds-smaller g c =
     let n : ℕ = length c.args.self.now.tape.flat.threads in
-    let a : Progress = progress c.args.self.now.tape (map g.W.World.answers c.args.self.now.worlds.items) in
-    let b : Progress = progress c.rounds.self.tape (map g.W.World.answers c.rounds.self.worlds.items) in
-    let e : Progress = progress c.round.new.self.tape (map g.W.World.answers c.round.new.self.worlds.items) in
+    let a : Progress = progress_of g.W.World.answers c.args.self.now in
+    let b : Progress = progress_of g.W.World.answers c.rounds.self in
+    let e : Progress = progress_of g.W.World.answers c.round.new.self in
     let was : List ℕ = c.rounds.ahead.items in
     let d : List ℕ = c.round.new.ahead.items in
     let p : Rounding n a b was = c.rounds.invariant.went in
@@ -97,9 +96,9 @@ rounds-smaller g c =
 pub returns-then-not-pass-clause-took : goal.returns-then-not-pass-clause-took
 returns-then-not-pass-clause-took g c =
     let n : ℕ = length c.args.self.now.tape.flat.threads in
-    let a : Progress = progress c.args.self.now.tape (map g.W.World.answers c.args.self.now.worlds.items) in
-    let b : Progress = progress c.rounds.self.tape (map g.W.World.answers c.rounds.self.worlds.items) in
-    let e : Progress = progress c.round.new.self.tape (map g.W.World.answers c.round.new.self.worlds.items) in
+    let a : Progress = progress_of g.W.World.answers c.args.self.now in
+    let b : Progress = progress_of g.W.World.answers c.rounds.self in
+    let e : Progress = progress_of g.W.World.answers c.round.new.self in
     let was : List ℕ = c.rounds.ahead.items in
     let d : List ℕ = c.round.new.ahead.items in
     let p : Rounding n a b was = c.rounds.invariant.went in
@@ -115,9 +114,9 @@ returns-then-not-pass-clause-took g c =
 pub returns-then-not-pass-clause-over : goal.returns-then-not-pass-clause-over
 returns-then-not-pass-clause-over g c = λ t l.
     let n : ℕ = length c.args.self.now.tape.flat.threads in
-    let a : Progress = progress c.args.self.now.tape (map g.W.World.answers c.args.self.now.worlds.items) in
-    let b : Progress = progress c.rounds.self.tape (map g.W.World.answers c.rounds.self.worlds.items) in
-    let e : Progress = progress c.round.new.self.tape (map g.W.World.answers c.round.new.self.worlds.items) in
+    let a : Progress = progress_of g.W.World.answers c.args.self.now in
+    let b : Progress = progress_of g.W.World.answers c.rounds.self in
+    let e : Progress = progress_of g.W.World.answers c.round.new.self in
     let was : List ℕ = c.rounds.ahead.items in
     let d : List ℕ = c.round.new.ahead.items in
     let p : Rounding n a b was = c.rounds.invariant.went in
@@ -131,17 +130,11 @@ returns-then-not-pass-clause-over g c = λ t l.
     (omega (arith, l, c.in_ok-pass.ensures.threads, p.1.threads))
 
 pub returns-then-not-pass-clause-kept : goal.returns-then-not-pass-clause-kept
-returns-then-not-pass-clause-kept g c = extends_both (map g.W.World.answers c.args.self.now.worlds.items)
-    (map g.W.World.answers c.rounds.self.worlds.items) (map g.W.World.answers c.round.new.self.worlds.items) c.rounds.invariant.kept
+returns-then-not-pass-clause-kept g c = worlds_on g.W.World.answers g.W.World.origin c.args.self.now.worlds.items
+    c.rounds.self.worlds.items c.round.new.self.worlds.items c.rounds.invariant.kept
     c.round.ensures.kept
 
 pub returns-in_err-pass-clause-kept : goal.returns-in_err-pass-clause-kept
-returns-in_err-pass-clause-kept g c = extends_both (map g.W.World.answers c.args.self.now.worlds.items)
-    (map g.W.World.answers c.rounds.self.worlds.items) (map g.W.World.answers c.round.new.self.worlds.items) c.rounds.invariant.kept
+returns-in_err-pass-clause-kept g c = worlds_on g.W.World.answers g.W.World.origin c.args.self.now.worlds.items c.rounds.self.worlds.items
+    c.round.new.self.worlds.items c.rounds.invariant.kept
     c.round.ensures.kept
-
-pub returns-then-not-pass-clause-origins : goal.returns-then-not-pass-clause-origins
-returns-then-not-pass-clause-origins g c = c.round.ensures.origins ∙ c.rounds.invariant.origins
-
-pub returns-in_err-pass-clause-origins : goal.returns-in_err-pass-clause-origins
-returns-in_err-pass-clause-origins g c = c.round.ensures.origins ∙ c.rounds.invariant.origins

@@ -1,12 +1,13 @@
-use Rattle.std.proofs.Common.{◌≡◌, ◌<◌, ◌-◌, ℕ, suc, List, [], ◌∷◌, length, map, set, sym, ◌∙◌, subst, arith, length-set, true}
+use Rattle.std.proofs.Common.{◌≡◌, ◌<◌, ◌-◌, ℕ, suc, List, [], ◌∷◌, length, set, sym, ◌∙◌, subst, arith, length-set, true}
 use Rattle.ir_record.specs.Ahead.{lead, WentIf}
-use Rattle.ir_record.specs.Progress.{Progress, progress, TookIf}
+use Rattle.ir_record.specs.Progress.{Progress, TookIf}
+use Rattle.ir_record.specs.Recorders.{progress_of}
 use Rattle.ir_record.proofs.Going.{at_lead, has_none, turn_spent, turn_stays, turn_steps}
 use Rattle.ir_record.proofs.recorder.Recorder.turn_ahead.Goals as goal
 
 pub returns-then-lead-gt0-clause-went : goal.returns-then-lead-gt0-clause-went
 returns-then-lead-gt0-clause-went g c = λ s h.
-    let a : Progress = progress c.args.self.now.tape (map g.W.World.answers c.args.self.now.worlds.items) in
+    let a : Progress = progress_of g.W.World.answers c.args.self.now in
     let l : c.args.t < length c.args.ahead.now.items = omega (arith, c.requires.each, c.requires.thread) in
     let here : lead c.args.ahead.now.items c.args.t ≡ c.index-lead.result.now =
     at_lead c.args.ahead.now.items c.args.t c.index-lead.result.now l c.index-lead.ensures in
@@ -18,15 +19,15 @@ returns-then-not-branch-clause-went g c = λ s h.
     let l : c.args.t < length c.args.ahead.now.items = omega (arith, c.requires.each, c.requires.thread) in
     let here : lead c.args.ahead.now.items c.args.t ≡ c.index-lead.result.now =
     at_lead c.args.ahead.now.items c.args.t c.index-lead.result.now l c.index-lead.ensures in
-    turn_stays s (progress c.args.self.now.tape (map g.W.World.answers c.args.self.now.worlds.items))
-    (progress c.turn.new.self.tape (map g.W.World.answers c.turn.new.self.worlds.items)) c.args.ahead.now.items c.args.t
+    turn_stays s (progress_of g.W.World.answers c.args.self.now)
+    (progress_of g.W.World.answers c.turn.new.self) c.args.ahead.now.items c.args.t
     c.in_ok-turn.field-0 c.if-not-branch.true
     (omega (arith, here, c.if-lead-gt0.false)) h c.in_ok-turn.ensures.took
 
 pub returns-clause-went : goal.returns-clause-went
 returns-clause-went g c = λ s h.
-    let a : Progress = progress c.args.self.now.tape (map g.W.World.answers c.args.self.now.worlds.items) in
-    let b : Progress = progress c.turn.new.self.tape (map g.W.World.answers c.turn.new.self.worlds.items) in
+    let a : Progress = progress_of g.W.World.answers c.args.self.now in
+    let b : Progress = progress_of g.W.World.answers c.turn.new.self in
     let ahead : List ℕ = c.args.ahead.now.items in
     let l : c.args.t < length ahead = omega (arith, c.requires.each, c.requires.thread) in
     let here : lead ahead c.args.t ≡ c.index-lead.result.now = at_lead ahead c.args.t c.index-lead.result.now l c.index-lead.ensures in
@@ -55,6 +56,6 @@ returns-clause-threads g c = c.run.ensures.alone.threads ∙ c.in_ok-turn.ensure
 
 pub returns-then-not-branch-clause-waits : goal.returns-then-not-branch-clause-waits
 returns-then-not-branch-clause-waits g c = λ is.
-    let a : Progress = progress c.args.self.now.tape (map g.W.World.answers c.args.self.now.worlds.items) in
-    let b : Progress = progress c.turn.new.self.tape (map g.W.World.answers c.turn.new.self.worlds.items) in
+    let a : Progress = progress_of g.W.World.answers c.args.self.now in
+    let b : Progress = progress_of g.W.World.answers c.turn.new.self in
     has_none a b c.args.t c.in_ok-turn.field-0 c.if-not-branch.true c.in_ok-turn.ensures.took

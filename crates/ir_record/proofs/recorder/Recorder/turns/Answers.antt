@@ -1,34 +1,34 @@
-use Rattle.std.proofs.Common.{◌≡◌, ◌-◌, ◌+◌, arith, map, length, replicate, refl, ap, subst, ◌∙◌}
+use Rattle.std.proofs.Common.{◌≡◌, ◌-◌, ◌+◌, arith, map, length, replicate, refl, ap, subst}
 use Rattle.ir_record.specs.Progress.{Progress, progress, Took}
+use Rattle.ir_record.specs.Recorders.{progress_of}
 use Rattle.ir_record.proofs.Steps.{took_nothing}
 use Rattle.ir_record.proofs.Joining.{ready_after}
 use Rattle.ir_record.proofs.Following.{past_none, none_after, turns_rest, turns_more}
-use Rattle.ir_record.proofs.Asking.{extends_same, extends_both}
+use Rattle.ir_record.proofs.Asking.{same_worlds, worlds_on}
 use Rattle.ir_record.proofs.recorder.Recorder.turns.Goals as goal
 
 pub turns-init : goal.turns-init
 turns-init g c =
-    let entry : Progress = progress c.args.self.now.tape (map g.W.World.answers c.args.self.now.worlds.items) in
+    let entry : Progress = progress_of g.W.World.answers c.args.self.now in
     record {
       few = omega arith;
       took = subst (λ n. Took (replicate n c.args.t) entry entry) (let e : 0 ≡ c.args.count - c.args.count = omega arith in e)
           (took_nothing entry);
       ready = c.requires;
-      kept = extends_same (map g.W.World.answers c.args.self.now.worlds.items);
-      origins = refl;
+      kept = same_worlds g.W.World.answers g.W.World.origin c.args.self.now.worlds.items;
     }
 
 pub returns-then-t-threads-clause-took : goal.returns-then-t-threads-clause-took
 returns-then-t-threads-clause-took g c =
-    turns_rest c.args.t c.args.count c.turns.left (progress c.args.self.now.tape (map g.W.World.answers c.args.self.now.worlds.items))
-    (progress c.turns.self.tape (map g.W.World.answers c.turns.self.worlds.items)) c.turns.invariant.few c.turns.invariant.took
+    turns_rest c.args.t c.args.count c.turns.left (progress_of g.W.World.answers c.args.self.now)
+    (progress_of g.W.World.answers c.turns.self) c.turns.invariant.few c.turns.invariant.took
     (past_none c.turns.self.tape.flat c.args.t
     (let e : length c.threads.result.now ≡ length c.turns.self.tape.flat.threads = ap (λ xs. length xs) c.threads.ensures.value in
     omega (arith, e, c.if-t-threads.true)))
 
 pub turn-requires-clause-ready : goal.turn-requires-clause-ready
 turn-requires-clause-ready g c =
-    ready_after (replicate c.run-ran.result c.args.t) (progress c.turns.self.tape (map g.W.World.answers c.turns.self.worlds.items))
+    ready_after (replicate c.run-ran.result c.args.t) (progress_of g.W.World.answers c.turns.self)
     (progress c.run-ran.new.self (map g.W.World.answers c.turns.self.worlds.items)) (map g.W.World.broken c.turns.self.worlds.items)
     c.turns.invariant.ready (c.run-ran.ensures.took (map g.W.World.answers c.turns.self.worlds.items)) c.run-ran.ensures.tape refl
 
@@ -40,10 +40,10 @@ turn-requires-clause-thread g c =
 
 pub returns-then-not-branch-clause-took : goal.returns-then-not-branch-clause-took
 returns-then-not-branch-clause-took g c =
-    let entry : Progress = progress c.args.self.now.tape (map g.W.World.answers c.args.self.now.worlds.items) in
-    let before : Progress = progress c.turns.self.tape (map g.W.World.answers c.turns.self.worlds.items) in
+    let entry : Progress = progress_of g.W.World.answers c.args.self.now in
+    let before : Progress = progress_of g.W.World.answers c.turns.self in
     let ran : Progress = progress c.run-ran.new.self (map g.W.World.answers c.turns.self.worlds.items) in
-    let new : Progress = progress c.turn.new.self.tape (map g.W.World.answers c.turn.new.self.worlds.items) in
+    let new : Progress = progress_of g.W.World.answers c.turn.new.self in
     let few = c.turns.invariant.few in
     let within = c.run-ran.ensures.within in
     turns_rest c.args.t c.args.count (c.turns.left - (c.run-ran.result + 1)) entry new (omega (arith, few))
@@ -54,10 +54,10 @@ returns-then-not-branch-clause-took g c =
 
 pub turns-preserved : goal.turns-preserved
 turns-preserved g c =
-    let entry : Progress = progress c.args.self.now.tape (map g.W.World.answers c.args.self.now.worlds.items) in
-    let before : Progress = progress c.turns.self.tape (map g.W.World.answers c.turns.self.worlds.items) in
+    let entry : Progress = progress_of g.W.World.answers c.args.self.now in
+    let before : Progress = progress_of g.W.World.answers c.turns.self in
     let ran : Progress = progress c.run-ran.new.self (map g.W.World.answers c.turns.self.worlds.items) in
-    let new : Progress = progress c.turn.new.self.tape (map g.W.World.answers c.turn.new.self.worlds.items) in
+    let new : Progress = progress_of g.W.World.answers c.turn.new.self in
     let few = c.turns.invariant.few in
     let within = c.run-ran.ensures.within in
     record {
@@ -66,23 +66,16 @@ turns-preserved g c =
           (omega (arith, c.turns-test.true)) (omega (arith, within)) c.turns.invariant.took
           (c.run-ran.ensures.took (map g.W.World.answers c.turns.self.worlds.items)) c.in_ok-turn.ensures.took;
       ready = c.in_ok-turn.ensures.ready;
-      kept = extends_both (map g.W.World.answers c.args.self.now.worlds.items) (map g.W.World.answers c.turns.self.worlds.items)
-          (map g.W.World.answers c.turn.new.self.worlds.items) c.turns.invariant.kept c.turn.ensures.kept;
-      origins = c.turn.ensures.origins ∙ c.turns.invariant.origins;
+      kept = worlds_on g.W.World.answers g.W.World.origin c.args.self.now.worlds.items c.turns.self.worlds.items
+          c.turn.new.self.worlds.items c.turns.invariant.kept c.turn.ensures.kept;
     }
 
 pub returns-then-not-branch-clause-kept : goal.returns-then-not-branch-clause-kept
-returns-then-not-branch-clause-kept g c = extends_both (map g.W.World.answers c.args.self.now.worlds.items)
-    (map g.W.World.answers c.turns.self.worlds.items) (map g.W.World.answers c.turn.new.self.worlds.items) c.turns.invariant.kept
+returns-then-not-branch-clause-kept g c = worlds_on g.W.World.answers g.W.World.origin c.args.self.now.worlds.items
+    c.turns.self.worlds.items c.turn.new.self.worlds.items c.turns.invariant.kept
     c.turn.ensures.kept
 
 pub returns-in_err-turn-clause-kept : goal.returns-in_err-turn-clause-kept
-returns-in_err-turn-clause-kept g c = extends_both (map g.W.World.answers c.args.self.now.worlds.items)
-    (map g.W.World.answers c.turns.self.worlds.items) (map g.W.World.answers c.turn.new.self.worlds.items) c.turns.invariant.kept
+returns-in_err-turn-clause-kept g c = worlds_on g.W.World.answers g.W.World.origin c.args.self.now.worlds.items c.turns.self.worlds.items
+    c.turn.new.self.worlds.items c.turns.invariant.kept
     c.turn.ensures.kept
-
-pub returns-then-not-branch-clause-origins : goal.returns-then-not-branch-clause-origins
-returns-then-not-branch-clause-origins g c = c.turn.ensures.origins ∙ c.turns.invariant.origins
-
-pub returns-in_err-turn-clause-origins : goal.returns-in_err-turn-clause-origins
-returns-in_err-turn-clause-origins g c = c.turn.ensures.origins ∙ c.turns.invariant.origins

@@ -1,0 +1,120 @@
+-- What the debugger carries out is what the small machine may answer.
+use Rattle.std.proofs.Common.{◌≡◌, ℕ, ◌<◌, arith, Bool, true, false, List, length, sym, ap, subst, ◌∙◌, refl, inl, None, Some}
+use Rattle.std.specs.Prelude.{not, nat_lt, Option, if◌then◌else◌}
+use Rattle.std.proofs.lemmas.List.{get_or_default}
+use Rattle.std.proofs.lemmas.Bool.{ltb-true}
+use Rattle.std.specs.List.{slice_index_or}
+use Rattle.ir_thread.specs.State as thread
+use Rattle.ir_flat.specs.Flat.{idle}
+use Rattle.ir_runs.specs.Run as run
+use Rattle.ir_cut.specs.Positions.{cut_of, EachRun}
+use Rattle.ir_weave.specs.Standing.{Standing, StandsAt}
+use Rattle.ir_command.specs.declared.command.Command.{Command}
+use Rattle.ir_command.specs.declared.command.Command.TheVariants as command
+use Rattle.ir_command.specs.declared.command.Move.{Move}
+use Rattle.ir_command.specs.declared.command.Show.{Show}
+use Rattle.ir_command.specs.declared.command.Show.TheVariants.{Registers, Memory, Object, Output, Log, Next}
+use Rattle.ir_command.specs.declared.refusal.Refusal.{Refusal}
+use Rattle.ir_command.specs.declared.refusal.Refusal.TheVariants.{NoSuchThread}
+use Rattle.ir_debug.specs.declared.answer.Answer.{Answer}
+use Rattle.ir_debug.specs.declared.answer.Answer.TheVariants as answer
+use Rattle.ir_debug.specs.Machine.Desk.{Desk, threads_of, moved, spoken}
+use Rattle.ir_debug.specs.Machine.Refusals.{if_some, thread_moved, refusal_of, is_at_hand}
+use Rattle.ir_debug.specs.Machine.Shown.{shown}
+use Rattle.ir_debug.specs.Machine.Texts.{next_text}
+use Rattle.ir_debug.specs.Machine.Answers.{Answers, AnswersBy}
+use Rattle.ir_debug.specs.Debugging.{Debugging, IsThere, answer_text}
+
+-- the machine at d may give this answer and be at next then, and the command isn't refused otherwise
+abbrev AnswersSo : Desk → Command → Answer → Desk → Type 0
+AnswersSo d c a next = EachRun d.fitted (λ run. AnswersBy None run d c (answer_text run next a) next)
+
+-- ---- what a command names is there
+
+passed : {A : Type 0} (b : Bool) (r : A) (rest : Option A) → (if not b then Some r else rest) ≡ None → b ≡ true
+passed true r rest e = refl
+passed false r rest e = absurd (cc e)
+
+-- a move that isn't refused names a thread that there is, if any
+pub mover_there : (d : Desk) (m : Move) → refusal_of d (command.Move m) ≡ None
+    → if_some (thread_moved m) (λ t. nat_lt t (threads_of d.fitted)) ≡ true
+unfolding refusal_of
+mover_there d m none = passed (if_some (thread_moved m) (λ t. nat_lt t (threads_of d.fitted))) NoSuchThread _ none
+
+-- a show of a thread that isn't refused names one that there is
+pub shown_there : (d : Desk) (s : Show) (t : ℕ) → s ≡ Next t → refusal_of d (command.Show s) ≡ None → t < threads_of d.fitted
+unfolding refusal_of
+shown_there d s t is none = ltb-true t (threads_of d.fitted)
+    (passed (nat_lt t (threads_of d.fitted)) NoSuchThread _ (ap (λ z. refusal_of d (command.Show z)) (sym is) ∙ none))
+
+-- ---- shows
+
+pub at_hand : (s : Show) → ((t : ℕ) → s ≡ Next t → ⊥) → is_at_hand s ≡ true
+at_hand (Registers t) other = refl
+at_hand (Memory t address size) other = refl
+at_hand (Object o) other = refl
+at_hand (Output t) other = refl
+at_hand (Log t) other = refl
+at_hand (Next t) other = absurd (other t refl)
+
+-- what is shown doesn't depend on the last answer
+shown_spoken : (steps : List run.Step) (d : Desk) (s : Show) → shown steps (spoken d) s ≡ shown steps d s
+unfolding shown
+shown_spoken steps d (Registers t) = refl
+shown_spoken steps d (Memory t address size) = refl
+shown_spoken steps d (Object o) = refl
+shown_spoken steps d (Output t) = refl
+shown_spoken steps d (Log t) = refl
+shown_spoken steps d (Next t) = refl
+
+pub show_made : (d next : Desk) (s : Show) → next ≡ spoken d → AnswersSo d (command.Show s) (answer.Shown s) next
+show_made d next s is run whole = inl (ap (λ z. shown run z s) is ∙ shown_spoken run d s, is)
+
+-- the line of the thread at hand is that of the thread of each run
+pub next_shown : (d : Desk) (s : Standing) (t : ℕ) (x : thread.State) (line : List ℕ) → StandsAt d.fitted (cut_of d.at) s
+    → x ≡ slice_index_or s.threads t idle → line ≡ next_text d.fitted.guest.code x
+    → EachRun d.fitted (λ run. line ≡ shown run d (Next t))
+unfolding shown
+next_shown d s t x line there is text run whole =
+    text ∙ ap (λ z. next_text d.fitted.guest.code z) (is ∙ (there.at.each run whole).threads t)
+
+pub next_told : (d : Desk) (e : Debugging) (threads : List thread.State) (code : List ℕ) (t : ℕ) (x : thread.State) (line : List ℕ)
+    → e.desk ≡ spoken d → IsThere e → threads ≡ e.state.threads → code ≡ e.desk.fitted.guest.code → t < threads_of d.fitted
+    → x ≡ slice_index_or threads t x → line ≡ next_text code x → EachRun d.fitted (λ run. line ≡ shown run d (Next t))
+next_told d e threads code t x line is there all same l read text =
+    let stands : StandsAt d.fitted (cut_of d.at) e.state = subst (λ (z : Desk). StandsAt z.fitted (cut_of z.at) e.state) is there in
+    let count = stands.at.threads in
+    let long = ap (λ z. length z) all in
+    next_shown d e.state t x line stands
+    (read ∙ get_or_default threads t x idle (omega (arith, l, count, long)) ∙ ap (λ z. slice_index_or z t idle) all)
+    (text ∙ ap (λ z. next_text z x) (same ∙ ap (λ (z : Desk). z.fitted.guest.code) is))
+
+-- ---- all commands
+
+-- what is refused depends on the guest alone
+pub refusal_moved : (d next : Desk) (cut : List ℕ) (c : Command) → next ≡ moved d cut → refusal_of next c ≡ refusal_of d c
+unfolding refusal_of
+refusal_moved d next cut c is = ap (λ z. refusal_of z c) is
+
+pub refusal_spoken : (d next : Desk) (c : Command) → next ≡ spoken d → refusal_of next c ≡ refusal_of d c
+unfolding refusal_of
+refusal_spoken d next c is = ap (λ z. refusal_of z c) is
+
+pub refused : (d next : Desk) (c : Command) (r : Refusal) (a : Answer) → refusal_of d c ≡ Some r → next ≡ spoken d
+    → a ≡ answer.Refused r → EachRun d.fitted (λ run. Answers run d c (answer_text run next a) next)
+unfolding Answers
+refused d next c r a why is says run whole =
+    subst (λ o. AnswersBy o run d c (answer_text run next a) next) (sym why) (ap (λ z. answer_text run next z) says, is)
+
+pub answered : (d next : Desk) (c asked : Command) (a : Answer) → c ≡ asked → refusal_of d c ≡ None → AnswersSo d asked a next
+    → EachRun d.fitted (λ run. Answers run d c (answer_text run next a) next)
+unfolding Answers
+answered d next c asked a same none so run whole =
+    subst (λ o. AnswersBy o run d c (answer_text run next a) next) (sym none)
+    (subst (λ z. AnswersBy None run d z (answer_text run next a) next) (sym same) (so run whole))
+
+pub position_told : (d next : Desk) → next ≡ spoken d → AnswersSo d command.Position answer.Position next
+position_told d next is run whole = inl (ap (λ z. answer_text run z answer.Position) is, is)
+
+pub quit_told : (d next : Desk) → next ≡ spoken d → AnswersSo d command.Quit answer.Bye next
+quit_told d next is run whole = inl (refl, is)

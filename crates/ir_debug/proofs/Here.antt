@@ -1,0 +1,103 @@
+-- What is shown of the threads and objects in hand is what the small machine shows, whichever run it holds.
+use Rattle.std.proofs.Common.{◌≡◌, ◌<◌, ◌≤◌, ℕ, List, length, refl, sym, ap, subst, ◌∙◌, arith}
+use Rattle.std.specs.List.{slice_index_or}
+use Rattle.std.proofs.lemmas.List.{get_or_default}
+use Rattle.ir_object.specs.Cell.{Cell}
+use Rattle.ir_flat.specs.Flat.{empty, object_with}
+use Rattle.ir_runs.specs.Labels.{Label}
+use Rattle.ir_runs.specs.Object.{Object}
+use Rattle.ir_runs.specs.Run.{Step}
+use Rattle.ir_runs.specs.Cuts.{object_at}
+use Rattle.ir_thread.specs.State as thread
+use Rattle.ir_cut.specs.Positions.{machine_of, start_of, cut_of, EachRun}
+use Rattle.ir_weave.specs.Standing.{flat_in}
+use Rattle.ir_weave.specs.States.{IsAt}
+use Rattle.ir_weave.proofs.CallerLemmas.{LogsBefore, log_before}
+use Rattle.ir_command.specs.declared.command.Show.{Show}
+use Rattle.ir_command.specs.declared.command.Show.TheVariants as show
+use Rattle.ir_debug.specs.Answers.{machine_text}
+use Rattle.ir_command.specs.declared.command.Command.TheVariants as command
+use Rattle.ir_debug.specs.declared.answer.Answer.{Answer}
+use Rattle.ir_debug.specs.declared.answer.Answer.TheVariants.{Shown}
+use Rattle.ir_debug.specs.declared.answer.Answer.TheVariants as answer
+use Rattle.ir_debug.specs.Debugging.{Debugging, IsThere, IsLast, IsText, answer_text}
+use Rattle.ir_debug.proofs.Passed.{thread_below, object_below}
+use Rattle.ir_debug.specs.AtHand.{held_by, thread_here, object_here, events_of, shown_here, text_here, ShowsHere}
+use Rattle.ir_debug.specs.Machine.Desk.{IsDesk, threads_of}
+use Rattle.ir_debug.specs.Machine.Shown.{shown, current, logged_so_far, bytes_from}
+use Rattle.ir_debug.specs.Machine.Texts.{memory_text, output_text, object_text, log_text, next_text}
+
+-- a thread in hand is the run's at its position
+thread_is : (d : Debugging) (run : List Step) → IsAt d.desk.fitted (cut_of d.desk.at) (flat_in d.desk.fitted d.state) run → (t : ℕ)
+    → thread_here d t ≡ current run d.desk t
+thread_is d run at t = at.threads t
+
+object_is : (d : Debugging) (run : List Step) → IsAt d.desk.fitted (cut_of d.desk.at) (flat_in d.desk.fitted d.state) run → (o : ℕ)
+    → object_here d o ≡ object_at (machine_of d.desk.fitted) (start_of d.desk.fitted) run (cut_of d.desk.at) o
+object_is d run at o = at.objects o
+
+pub shows_here : ShowsHere
+unfolding shown
+shows_here d (show.Registers t) there below run is =
+    ap (λ (s : thread.State). machine_text s.core) (thread_is d run (there.at.each run is) t)
+shows_here d (show.Memory t address size) there below run is =
+    ap (λ (s : thread.State). memory_text address (bytes_from d.desk.fitted.guest.code s.core.memory size address))
+    (thread_is d run (there.at.each run is) t)
+shows_here d (show.Object o) there below run is =
+    ap (λ (b : Object). object_text (threads_of d.desk.fitted) b) (object_is d run (there.at.each run is) o)
+shows_here d (show.Output t) there below run is = ap (λ (s : thread.State). output_text s.output) (thread_is d run (there.at.each run is) t)
+shows_here d (show.Log t) there below run is =
+    let l : LogsBefore d.desk.fitted (cut_of d.desk.at) (flat_in d.desk.fitted d.state) run t =
+    log_before d.desk.fitted (cut_of d.desk.at) (flat_in d.desk.fitted d.state) run is (there.at.each run is) t (below t refl) in
+    ap (λ (es : List Label). log_text es (length (events_of d t))) (sym l.so_far)
+    ∙ ap (λ (n : ℕ). log_text (logged_so_far run d.desk t) n) (sym l.all)
+shows_here d (show.Next t) there below run is =
+    ap (λ (s : thread.State). next_text d.desk.fitted.guest.code s) (thread_is d run (there.at.each run is) t)
+
+-- the events so far are some of all
+pub within : (d : Debugging) (t : ℕ) → IsDesk d.desk → IsThere d → t < threads_of d.desk.fitted → (thread_here d t).events ≤ length
+    (events_of d t)
+within d t desk there below =
+    let l : LogsBefore d.desk.fitted (cut_of d.desk.at) (flat_in d.desk.fitted d.state) desk.run.run t =
+    log_before d.desk.fitted (cut_of d.desk.at) (flat_in d.desk.fitted d.state) desk.run.run desk.run.whole
+    (there.at.each desk.run.run desk.run.whole) t below in
+    l.within
+
+-- ---- a show that was asked last
+
+pub asked : (d : Debugging) (s like : Show) → s ≡ like → IsLast d (Shown s) → IsLast d (Shown like)
+asked d s like is last = subst (λ x. IsLast d (Shown x)) is last
+
+pub object_there : (d : Debugging) (s : Show) (objects : List Cell) (o : ℕ) → s ≡ show.Object o → IsLast d (Shown s)
+    → objects ≡ d.state.objects → o < length objects
+object_there d s objects o is last same =
+    let l = asked d s (show.Object o) is last in
+    let below = object_below d.desk (command.Show (show.Object o)) o l.0 refl in
+    let count = l.2.at.objects in
+    let long = ap length same in
+    omega (arith, below, count, long)
+
+-- an object that is read in its place
+pub object_read : (d : Debugging) (s : Show) (objects : List Cell) (threads : List thread.State) (x : Cell) (o : ℕ) → s ≡ show.Object o
+    → IsLast d (Shown s) → objects ≡ d.state.objects → threads ≡ d.state.threads → x ≡ slice_index_or objects o x
+    → object_text (length threads) (object_with x (held_by threads o)) ≡ shown_here d s
+object_read d s objects threads x o is last same alike read =
+    ap (λ (c : Cell). object_text (length threads) (object_with c (held_by threads o)))
+    (read ∙ get_or_default objects o x empty (object_there d s objects o is last same))
+    ∙ ap (λ (cs : List Cell). object_text (length threads) (object_with (slice_index_or cs o empty) (held_by threads o))) same
+    ∙ ap (λ (ts : List thread.State). object_text (length ts) (object_with (slice_index_or d.state.objects o empty) (held_by ts o))) alike
+    ∙ ap (λ (n : ℕ). object_text n (object_here d o)) (asked d s (show.Object o) is last).2.at.threads
+    ∙ ap (shown_here d) (sym is)
+
+-- ---- the texts of all answers
+
+texts : (d : Debugging) (a : Answer) → IsLast d a → EachRun d.desk.fitted (λ run. text_here d a ≡ answer_text run d.desk a)
+texts d (answer.Moved move) last run is = refl
+texts d answer.Position last run is = refl
+texts d (answer.Shown s) last run is = shows_here d s last.2 (λ t named. thread_below d.desk (command.Show s) t last.0 named) run is
+texts d (answer.Next line) last run is = refl
+texts d (answer.Refused refusal) last run is = refl
+texts d answer.Bye last run is = refl
+
+pub is_text : (d : Debugging) (a : Answer) (P : List ℕ → Type 0) → IsLast d a → P (text_here d a) → IsText d a P
+is_text d a P last holds = (text_here d a, texts d a last, holds)

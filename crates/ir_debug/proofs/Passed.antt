@@ -1,0 +1,64 @@
+-- What is known of what a command names that isn't refused.
+use Rattle.std.proofs.Common.{◌≡◌, ◌<◌, ◌≤◌, ◌&&◌, ◌+◌, ◌*◌, ℕ, Bool, true, false, length, Option, Some, None, refl, sym, ap, ◌∙◌, arith}
+use Rattle.std.specs.Prelude.{◌||◌, ◌^◌, not, nat_lt, nat_le, if◌then◌else◌}
+use Rattle.std.proofs.lemmas.Bool.{ltb-true, leb-true}
+use Rattle.ir_image.specs.Guest.{Guest, code_start, memory_start, object_count}
+use Rattle.ir_mach.specs.Core.{memory_size}
+use Rattle.ir_mach.specs.Memory.{lies_in_memory}
+use Rattle.ir_command.specs.declared.command.Command.{Command}
+use Rattle.ir_command.specs.declared.refusal.Refusal.TheVariants.{NoSuchThread, NoSuchObject, BadAddress}
+use Rattle.ir_debug.specs.Machine.Desk.{Desk, threads_of}
+use Rattle.ir_debug.specs.Machine.Refusals.{if_some, thread_named, object_named, lies_in_code, has_address, refusal_of}
+
+-- the three tests
+pub record Passes (d : Desk) (c : Command) : Type 0 where
+  pub thread : if_some (thread_named c) (λ t. nat_lt t (threads_of d.fitted)) ≡ true
+  pub object : if_some (object_named c) (λ o. nat_lt o (object_count d.fitted.guest)) ≡ true
+  pub address : has_address d.fitted.guest c ≡ true
+
+three : (a b c : Bool)
+    → (if not a then Some NoSuchThread else if not b then Some NoSuchObject else if not c then Some BadAddress else None) ≡ None
+    → (a ≡ true) × (b ≡ true) × (c ≡ true)
+three true true true e = (refl, refl, refl)
+three true true false e = absurd cc
+three true false c e = absurd cc
+three false b c e = absurd cc
+
+pub passes : (d : Desk) (c : Command) → refusal_of d c ≡ None → Passes d c
+unfolding refusal_of
+passes d c none =
+    let t = three (if_some (thread_named c) (λ t. nat_lt t (threads_of d.fitted)))
+    (if_some (object_named c) (λ o. nat_lt o (object_count d.fitted.guest))) (has_address d.fitted.guest c) none in
+    record { thread = t.0; object = t.1; address = t.2 }
+
+if_named : (n : ℕ) (named : Option ℕ) (x : ℕ) → if_some named (λ y. nat_lt y n) ≡ true → named ≡ Some x → x < n
+if_named n (Some y) x test is = ltb-true x n (ap (λ z. if_some z (λ w. nat_lt w n)) (sym is) ∙ test)
+if_named n None x test is = absurd cc
+
+-- the thread is one of the guest's
+pub thread_below : (d : Desk) (c : Command) (t : ℕ) → refusal_of d c ≡ None → thread_named c ≡ Some t → t < threads_of d.fitted
+thread_below d c t none is = if_named (threads_of d.fitted) (thread_named c) t (passes d c none).thread is
+
+-- the object too
+pub object_below : (d : Desk) (c : Command) (o : ℕ) → refusal_of d c ≡ None → object_named c ≡ Some o → o < object_count d.fitted.guest
+object_below d c o none is = if_named (object_count d.fitted.guest) (object_named c) o (passes d c none).object is
+
+second_true : (a b : Bool) → a && b ≡ true → b ≡ true
+second_true true b e = e
+second_true false b e = absurd cc
+
+in_either : (a b : Bool) (P : Type 0) → (a ≡ true → P) → (b ≡ true → P) → a || b ≡ true → P
+in_either true b P p q e = p refl
+in_either false b P p q e = q e
+
+-- the addresses of code and private memory are low
+pub address_low : (g : Guest) (size address : ℕ) → length g.code ≤ 16384
+    → lies_in_code g size address || lies_in_memory size address ≡ true → address ≤ 2 ^ 31
+address_low g size address short =
+    in_either (lies_in_code g size address) (lies_in_memory size address) (address ≤ 2 ^ 31)
+    (λ e. let le = leb-true (address + size) (code_start + 4 * length g.code)
+    (second_true (nat_le code_start address) (nat_le (address + size) (code_start + 4 * length g.code)) e) in
+    omega (arith, le, short))
+    (λ e. let le = leb-true (address + size) (memory_start + memory_size)
+    (second_true (nat_le memory_start address) (nat_le (address + size) (memory_start + memory_size)) e) in
+    omega (arith, le))

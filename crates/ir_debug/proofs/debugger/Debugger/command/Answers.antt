@@ -1,0 +1,33 @@
+use Rattle.std.proofs.Common.{sym, ap, ◌∙◌}
+use Rattle.ir_command.specs.declared.command.Command.TheVariants as command
+use Rattle.ir_debug.specs.declared.answer.Answer.TheVariants as answer
+use Rattle.ir_debug.specs.Machine.Desk.{spoken}
+use Rattle.ir_debug.specs.Debugging.{Debugging}
+use Rattle.ir_debug.proofs.CarriedOut.{refused, answered, position_told, quit_told}
+use Rattle.ir_debug.proofs.debugger.Debugger.command.Goals as goal
+
+pub returns-in-Some-clause-answers : goal.returns-in-Some-clause-answers
+returns-in-Some-clause-answers g c =
+    refused c.args.self.now.desk c.refuse.new.self.desk c.args.command.now c.in-Some.refusal c.refuse.result
+    (sym c.refusal_of.ensures ∙ c.in-Some.is) c.refuse.ensures.desk c.refuse.ensures.answer
+
+pub returns-in-Move-clause-answers : goal.returns-in-Move-clause-answers
+returns-in-Move-clause-answers g c =
+    answered c.args.self.now.desk c.answer_move.new.self.desk c.args.command.now (command.Move c.in-Move.to) c.answer_move.result
+    c.in-Move.is (sym c.refusal_of.ensures ∙ c.in_default.is) c.answer_move.ensures.answers
+
+pub returns-in-Show-clause-answers : goal.returns-in-Show-clause-answers
+returns-in-Show-clause-answers g c =
+    answered c.args.self.now.desk c.answer_show.new.self.desk c.args.command.now (command.Show c.in-Show.show) c.answer_show.result
+    c.in-Show.is (sym c.refusal_of.ensures ∙ c.in_default.is) c.answer_show.ensures.answers
+
+pub returns-in-Position-clause-answers : goal.returns-in-Position-clause-answers
+returns-in-Position-clause-answers g c =
+    answered c.args.self.now.desk _ c.args.command.now command.Position answer.Position c.in-Position.is
+    (sym c.refusal_of.ensures ∙ c.in_default.is)
+    (position_told c.args.self.now.desk _ (ap (λ (d : Debugging). spoken d.desk) c.self.view_is))
+
+pub returns-in-Quit-clause-answers : goal.returns-in-Quit-clause-answers
+returns-in-Quit-clause-answers g c =
+    answered c.args.self.now.desk _ c.args.command.now command.Quit answer.Bye c.in-Quit.is
+    (sym c.refusal_of.ensures ∙ c.in_default.is) (quit_told c.args.self.now.desk _ (ap (λ (d : Debugging). spoken d.desk) c.self.view_is))

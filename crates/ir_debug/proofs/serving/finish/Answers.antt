@@ -1,0 +1,60 @@
+use Rattle.std.proofs.Common.{◌≡◌, ℕ, Bool, true, false, eqb, length, List, [], refl, sym, ap, ◌∙◌}
+use Rattle.std.proofs.lemmas.Bool.{eqb-true, eqb-false}
+use Rattle.std.proofs.lemmas.List.{nil_from_length}
+use Rattle.ir_stream.specs.declared.serving.Flow.{Flow}
+use Rattle.ir_stream.specs.declared.serving.Flow.TheVariants.{Goes, Quits}
+use Rattle.ir_stream.specs.declared.serving.Served.TheVariants.{Quit, InputEnd}
+use Rattle.ir_stream.specs.Endings.{flow_after, served_after}
+use Rattle.ir_stream.proofs.CallerLemmas.{wrote_none, wrote_some, prefix_some, some_quits_empty, some_quits_some}
+use Rattle.ir_debug.specs.Machine.Answers.{Replies, quits}
+use Rattle.ir_debug.proofs.serving.finish.Goals as goal
+
+some : (line : List ℕ) (b : Bool) → b ≡ eqb (length line) 0 → b ≡ false → line ≡ [] → ⊥
+some line b test h e = eqb-false (length line) 0 (sym test ∙ h) (ap (λ (l : List ℕ). length l) e)
+
+none : (line : List ℕ) (b : Bool) → b ≡ eqb (length line) 0 → b ≡ true → line ≡ []
+none line b test h = nil_from_length line (eqb-true (length line) 0 (sym test ∙ h))
+
+goes : (f : Flow) (b : Bool) → f ≡ flow_after b → f ≡ Goes → InputEnd ≡ served_after b
+goes f true e is = absurd cc
+goes f false e is = refl
+
+quit : (f : Flow) (b : Bool) → f ≡ flow_after b → f ≡ Quits → Quit ≡ served_after b
+quit f true e is = refl
+quit f false e is = absurd cc
+
+pub returns-then-is_empty-clause-ok : goal.returns-then-is_empty-clause-ok
+returns-then-is_empty-clause-ok g c = wrote_none Replies c.args.debugger.now.desk c.args.line.now
+    (g.W.Sink.written c.args.writer.now) (none c.args.line.now c.is_empty.result c.is_empty.ensures c.if-is_empty.true)
+
+pub returns-then-is_empty-clause-served : goal.returns-then-is_empty-clause-served
+returns-then-is_empty-clause-served g c = ap served_after
+    (sym (some_quits_empty quits c.args.line.now
+    (none c.args.line.now c.is_empty.result c.is_empty.ensures c.if-is_empty.true)))
+
+pub returns-in-Ok-Goes-clause-ok : goal.returns-in-Ok-Goes-clause-ok
+returns-in-Ok-Goes-clause-ok g c = wrote_some Replies c.args.debugger.now.desk c.respond.new.debugger.desk c.args.line.now
+    (g.W.Sink.written c.args.writer.now) (g.W.Sink.written c.respond.new.writer)
+    (some c.args.line.now c.is_empty.result c.is_empty.ensures c.if-is_empty.false) c.in-Ok-Goes.ensures.ok
+
+pub returns-in-Ok-Goes-clause-served : goal.returns-in-Ok-Goes-clause-served
+returns-in-Ok-Goes-clause-served g c = goes c.in-Ok-Goes.field-0 (quits c.args.line.now) c.in-Ok-Goes.ensures.flow
+    c.in-Ok-Goes.field-0-is
+    ∙ ap served_after (sym (some_quits_some quits c.args.line.now
+    (some c.args.line.now c.is_empty.result c.is_empty.ensures c.if-is_empty.false)))
+
+pub returns-in-Ok-Quits-clause-ok : goal.returns-in-Ok-Quits-clause-ok
+returns-in-Ok-Quits-clause-ok g c = wrote_some Replies c.args.debugger.now.desk c.respond.new.debugger.desk c.args.line.now
+    (g.W.Sink.written c.args.writer.now) (g.W.Sink.written c.respond.new.writer)
+    (some c.args.line.now c.is_empty.result c.is_empty.ensures c.if-is_empty.false) c.in-Ok-Quits.ensures.ok
+
+pub returns-in-Ok-Quits-clause-served : goal.returns-in-Ok-Quits-clause-served
+returns-in-Ok-Quits-clause-served g c = quit c.in-Ok-Quits.field-0 (quits c.args.line.now) c.in-Ok-Quits.ensures.flow
+    c.in-Ok-Quits.field-0-is
+    ∙ ap served_after (sym (some_quits_some quits c.args.line.now
+    (some c.args.line.now c.is_empty.result c.is_empty.ensures c.if-is_empty.false)))
+
+pub returns-in-Err-clause-prefix : goal.returns-in-Err-clause-prefix
+returns-in-Err-clause-prefix g c = prefix_some Replies c.args.debugger.now.desk c.args.line.now (g.W.Sink.written c.args.writer.now)
+    (g.W.Sink.written c.respond.new.writer) (some c.args.line.now c.is_empty.result c.is_empty.ensures c.if-is_empty.false)
+    c.in-Err.ensures.prefix

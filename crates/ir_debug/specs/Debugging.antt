@@ -1,0 +1,67 @@
+-- The debugger between two commands, and the texts of its answers.
+use Rattle.std.specs.Prelude.{◌≡◌, ℕ, ⊤, Bool, true, List, ◌++◌, codes, Option, Some, None, Result}
+use Rattle.std.specs.Io.KnownBytes.{Appends}
+use Rattle.ir_runs.specs.Run.{Step}
+use Rattle.ir_fit.specs.Fit.{FittedTrace}
+use Rattle.ir_cut.specs.Positions.{EachRun, cut_of}
+use Rattle.ir_weave.specs.Standing.{Standing, StandsAt, flat_in}
+use Rattle.ir_weave.specs.States.{positions}
+use Rattle.ir_stream.specs.Devices.{AppendsPrefix}
+use Rattle.ir_command.specs.declared.command.Command.{Command}
+use Rattle.ir_command.specs.declared.command.Command.TheVariants as command
+use Rattle.ir_command.specs.declared.refusal.Refusal.{Refusal}
+use Rattle.ir_debug.specs.declared.answer.Answer.{Answer}
+use Rattle.ir_debug.specs.declared.answer.Answer.TheVariants.{Moved, Position, Shown, Next, Refused, Bye}
+use Rattle.ir_debug.specs.Answers.{refusal_text}
+use Rattle.ir_debug.specs.Machine.Desk.{Desk, IsDesk}
+use Rattle.ir_debug.specs.Machine.Refusals.{refusal_of, is_at_hand}
+use Rattle.ir_debug.specs.Machine.Shown.{shown}
+use Rattle.ir_debug.specs.Machine.Texts.{positions_text}
+use Rattle.ir_debug.specs.Machine.Answers.{moved_text, RepliesBy}
+
+-- the small machine, and beside it the guest's threads and objects at some consistent cut
+pub record Debugging : Type 0 where
+  pub desk : Desk
+  pub state : Standing
+
+-- the guest at a cut, its own positions
+abbrev pub Stands : FittedTrace → Standing → Type 0
+Stands f s = StandsAt f (positions (flat_in f s)) s
+
+-- the guest at the small machine's cut
+abbrev pub IsThere : Debugging → Type 0
+IsThere d = StandsAt d.desk.fitted (cut_of d.desk.at) d.state
+
+pub record IsDebugging (d : Debugging) : Type 0 where
+  pub desk : IsDesk d.desk
+  pub stands : Stands d.desk.fitted d.state
+  -- before the first answer, and after a move
+  pub fresh : d.desk.fresh ≡ true → IsThere d
+
+-- the text of an answer that the small machine gave and is then so
+abbrev pub answer_text : List Step → Desk → Answer → List ℕ
+answer_text run d (Moved move) = moved_text d.fitted move d.at
+answer_text run d Position = positions_text d.at ++ codes "\n"
+answer_text run d (Shown show) = shown run d show
+answer_text run d (Next line) = line.items
+answer_text run d (Refused refusal) = refusal_text refusal
+answer_text run d Bye = codes "bye\n"
+
+-- what an answer that the debugger gave last speaks of is there
+abbrev pub IsLast : Debugging → Answer → Type 0
+IsLast d (Moved move) = refusal_of d.desk (command.Move move) ≡ None
+IsLast d (Shown show) = (refusal_of d.desk (command.Show show) ≡ None) × (is_at_hand show ≡ true) × IsThere d
+IsLast d Position = ⊤
+IsLast d (Next line) = ⊤
+IsLast d (Refused refusal) = ⊤
+IsLast d Bye = ⊤
+
+-- the answer's text, which is one for all runs, is so
+abbrev pub IsText : Debugging → Answer → (List ℕ → Type 0) → Type 0
+IsText d answer P = (text : List ℕ) × EachRun d.desk.fitted (λ run. text ≡ answer_text run d.desk answer) × P text
+
+-- the debugger gave this answer to what a line asks: whichever run with the trace the small machine holds, it may say the same
+pub record IsAnswer (asked : Result (Option Command) Refusal) (old new : Debugging) (answer : Answer) : Type 0 where
+  pub fitted : new.desk.fitted ≡ old.desk.fitted
+  pub answers : EachRun old.desk.fitted (λ run. RepliesBy asked run old.desk (answer_text run new.desk answer) new.desk)
+  pub last : IsLast new answer

@@ -1,0 +1,155 @@
+//! The lines of a session, and their answers.
+
+ghost use Rattle.std.specs.Prelude.{◌≡◌, ◌≢◌, true, false, [], IfOk, IfErr, IfSome, IfNone, OnOk, OnErr, Ok, Err, None};
+ghost use Rattle.std.specs.Io.KnownBytes.{IsAtEnd};
+ghost use Rattle.ir_stream.specs.Lines.{cut, lines_of, last_line};
+ghost use Rattle.ir_stream.specs.Endings.{flow_after, served_after, IfEnded, LeadsTo};
+ghost use Rattle.ir_stream.specs.Answers.{Wrote, WrotePrefix, Replied, RepliedPrefix, through, some_quits};
+ghost use Rattle.ir_stream.specs.Devices.{Reads};
+ghost use Rattle.ir_debug.specs.Machine.Answers.{Replies, quits, quits_by};
+ghost use Rattle.ir_debug.specs.Debugging.{IsAnswer};
+
+use crate::answer::Answer;
+use crate::answering::write_answer;
+use crate::debugger::Debugger;
+use arrayvec::ArrayVec;
+use ir_command::{Command, Refusal, parse_line};
+use ir_object::Gate;
+use ir_stream::{DeviceErr, Fault, Flow, KEPT, Next, Served, Sink, Source, keep, next_byte};
+use std::alloc::Global;
+use std::thread::Threads;
+use std::time::Clock;
+
+// Whether the session ends with what a line asks.
+fn flow_of(asked: &Result<Option<Command>, Refusal>) -> Flow
+    ensures { result ≡ flow_after (quits_by asked.now) }
+{
+    match asked {
+        Ok(Some(Command::Quit)) => Flow::Quits,
+        _ => Flow::Goes,
+    }
+}
+
+// Carries out what a line asks, if it has words.
+fn carry_out<T: Threads + Clock + Sync, G: Gate + Sync>(
+    rt: &T,
+    alloc: Global,
+    debugger: &mut Debugger,
+    asked: &Result<Option<Command>, Refusal>,
+    gate: &G,
+) -> Option<Answer>
+    ensures none { IfNone result ((asked.now ≡ Ok None) × (debugger.new ≡ debugger.old)) }
+    ensures some { IfSome result (IsAnswer asked.now debugger.old debugger.new) }
+{
+    match asked {
+        Ok(None) => None,
+        Ok(Some(command)) => Some(debugger.command(rt, alloc, command, gate)),
+        Err(refusal) => Some(debugger.refuse(*refusal)),
+    }
+}
+
+// Answers a line. It comes without its line feed, and with the carriage return that may stand before it.
+#[tactic(auto, unfolding(crate::specs::Machine::Answers::quits))]
+fn respond<T: Threads + Clock + Sync, W: Sink, G: Gate + Sync>(
+    rt: &T,
+    alloc: Global,
+    debugger: &mut Debugger,
+    line: &[u8],
+    writer: &mut W,
+    gate: &G,
+) -> Result<Flow, DeviceErr>
+    ensures ok { OnOk result (Replied Replies debugger.old.desk line.now debugger.new.desk (W.written writer.old) (W.written writer.new)) }
+    ensures flow { IfOk result (λ f. f ≡ flow_after (quits line.now)) }
+    ensures stays { OnOk result (W.broken writer.new ≡ W.broken writer.old) }
+    ensures prefix { OnErr result (RepliedPrefix Replies debugger.old.desk line.now (W.written writer.old) (W.written writer.new)) }
+    ensures err { OnErr result (W.broken writer.new ≡ true) }
+{
+    let asked = parse_line(line);
+    let Some(answer) = carry_out(rt, alloc, debugger, &asked, gate) else {
+        return Ok(Flow::Goes);
+    };
+    match write_answer(debugger, &answer, writer) {
+        Ok(()) => Ok(flow_of(&asked)),
+        Err(error) => Err(error),
+    }
+}
+
+// Answers what the input ended in, if it isn't empty.
+fn finish<T: Threads + Clock + Sync, W: Sink, G: Gate + Sync>(
+    rt: &T,
+    alloc: Global,
+    line: &[u8],
+    writer: &mut W,
+    debugger: &mut Debugger,
+    gate: &G,
+) -> Result<Served, Fault>
+    ensures ok { OnOk result (Wrote Replies debugger.old.desk (last_line line.now) (W.written writer.old) (W.written writer.new)) }
+    ensures served { IfOk result (λ e. e ≡ served_after (some_quits quits (last_line line.now))) }
+    ensures stays { OnOk result (W.broken writer.new ≡ W.broken writer.old) }
+    ensures fault { IfErr result (λ f. f ≡ Fault.Write) }
+    ensures prefix { OnErr result (WrotePrefix Replies debugger.old.desk (last_line line.now) (W.written writer.old) (W.written writer.new)) }
+    ensures err { OnErr result (W.broken writer.new ≡ true) }
+{
+    if line.is_empty() {
+        return Ok(Served::InputEnd);
+    }
+    match respond(rt, alloc, debugger, line, writer, gate) {
+        Ok(Flow::Goes) => Ok(Served::InputEnd),
+        Ok(Flow::Quits) => Ok(Served::Quit),
+        Err(_) => Err(Fault::Write),
+    }
+}
+
+/// Answers the lines that the reader gives, until one quits, the input ends, a device fails, or `limit` bytes were
+/// read. A last line without a line feed counts where the input ends before the limit. A line that is unfinished at the
+/// limit has no answer.
+pub fn serve<T: Threads + Clock + Sync, R: Source, W: Sink, G: Gate + Sync>(
+    rt: &T,
+    alloc: Global,
+    limit: u64,
+    reader: &mut R,
+    writer: &mut W,
+    debugger: &mut Debugger,
+    gate: &G,
+) -> Result<Served, Fault>
+    requires reads { R.broken reader.old ≡ false }
+    requires writes { W.broken writer.old ≡ false }
+    // Where no device fails, the bytes that were read lead to the result, with machines between the lines
+    // that count, and neither device has failed.
+    ensures ended { IfEnded result (Reads limit (R.left reader.old) (R.left reader.new)
+        (LeadsTo Replies quits debugger.old.desk limit result (W.written writer.old) (W.written writer.new))) }
+    ensures works { IfEnded result ((R.broken reader.new ≡ false) × (W.broken writer.new ≡ false)) }
+    // Where the reader tells its bytes, all of them together lead to it.
+    ensures known { IfEnded result (IfSome (R.left reader.old)
+        (LeadsTo Replies quits debugger.old.desk limit result (W.written writer.old) (W.written writer.new))) }
+    // After a failed read, the answers to the lines that were read whole, none of which quits.
+    ensures read { result ≡ Err Fault.Read → (R.broken reader.new ≡ true) × (W.broken writer.new ≡ false)
+        × Reads limit (R.left reader.old) (R.left reader.new) (λ consumed. (some_quits quits (cut consumed).whole ≡ false)
+        × Wrote Replies debugger.old.desk (cut consumed).whole (W.written writer.old) (W.written writer.new)) }
+    // After a failed write, a prefix of the answers to the lines that were read, of which none but the last may quit. It
+    // is unfinished only at the end of the input.
+    ensures write { result ≡ Err Fault.Write → (R.broken reader.new ≡ false) × (W.broken writer.new ≡ true)
+        × Reads limit (R.left reader.old) (R.left reader.new) (λ consumed. (through quits (lines_of consumed) ≡ lines_of consumed)
+        × ((cut consumed).rest ≢ [] → IsAtEnd (R.left reader.new))
+        × WrotePrefix Replies debugger.old.desk (lines_of consumed) (W.written writer.old) (W.written writer.new)) }
+{
+    let mut line = ArrayVec::<u8, KEPT>::new();
+    for taken in 0..limit {
+        match next_byte(reader) {
+            Next::Failed => return Err(Fault::Read),
+            Next::End => return finish(rt, alloc, line.as_slice(), writer, debugger, gate),
+            Next::Byte(byte) => {
+                if byte != b'\n' {
+                    keep(&mut line, byte);
+                    continue;
+                }
+                match respond(rt, alloc, debugger, line.as_slice(), writer, gate) {
+                    Ok(Flow::Goes) => line.clear(),
+                    Ok(Flow::Quits) => return Ok(Served::Quit),
+                    Err(_) => return Err(Fault::Write),
+                }
+            }
+        }
+    }
+    Err(Fault::TooLong)
+}

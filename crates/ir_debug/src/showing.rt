@@ -1,0 +1,95 @@
+//! What is shown of the guest at the cut.
+
+ghost use Rattle.std.specs.Prelude.{◌≡◌, ◌≤◌, ◌<◌, OnOk, OnErr, length, true};
+ghost use Rattle.std.specs.Io.KnownBytes.{Appends};
+ghost use Rattle.ir_stream.specs.Devices.{AppendsPrefix};
+ghost use Rattle.ir_debug.specs.Answers.{machine_text};
+ghost use Rattle.ir_debug.specs.AtHand.{thread_here, events_of, shown_here};
+ghost use Rattle.ir_debug.specs.Debugging.{IsThere, IsLast};
+ghost use Rattle.ir_debug.specs.Machine.Desk.{IsDesk, threads_of};
+ghost use Rattle.ir_debug.specs.declared.answer.Answer.TheVariants.{Shown};
+
+use crate::bytes::{write_memory, write_output};
+use crate::debugger::Debugger;
+use crate::events::write_log;
+use crate::objects::write_object;
+use crate::text::{Text, put_machine};
+use ir_command::Show;
+use ir_log::Event;
+use ir_mach::Mach;
+use ir_stream::{DeviceErr, Sink, write_all};
+use ir_thread::Thread;
+
+// A thread in hand.
+fn thread_here(debugger: &Debugger, number: u32) -> &Thread
+    requires there { IsThere debugger.now }
+    requires number { number < threads_of debugger.now.desk.fitted }
+    ensures { result.now ≡ thread_here debugger.now number }
+{
+    &debugger.state().threads()[number as usize]
+}
+
+// The events of a thread in its run.
+fn events_of(debugger: &Debugger, number: u32) -> &[Event]
+    requires { number < threads_of debugger.now.desk.fitted }
+    ensures value { result.now ≡ events_of debugger.now number }
+    ensures desk { IsDesk debugger.now.desk }
+{
+    debugger.fitted().trace().threads()[number as usize]
+        .log()
+        .events()
+}
+
+fn write_machine<W: Sink>(mach: &Mach, writer: &mut W) -> Result<(), DeviceErr>
+    ensures ok { OnOk result (Appends (W.written writer.old) (W.written writer.new) (machine_text mach.now)) }
+    ensures stays { OnOk result (W.broken writer.new ≡ W.broken writer.old) }
+    ensures prefix { OnErr result (AppendsPrefix (W.written writer.old) (W.written writer.new) (machine_text mach.now)) }
+    ensures err { OnErr result (W.broken writer.new ≡ true) }
+{
+    let mut text = Text::new();
+    put_machine(&mut text, mach);
+    write_all(writer, text.as_slice())
+}
+
+/// Writes the text of a show that isn't refused, where the threads and objects stand at the cut. Takes no memory.
+pub fn write_shown<W: Sink>(
+    debugger: &Debugger,
+    show: Show,
+    writer: &mut W,
+) -> Result<(), DeviceErr>
+    requires { IsLast debugger.now (Shown show) }
+    ensures ok { OnOk result (Appends (W.written writer.old) (W.written writer.new) (shown_here debugger.now show)) }
+    ensures stays { OnOk result (W.broken writer.new ≡ W.broken writer.old) }
+    ensures prefix { OnErr result (AppendsPrefix (W.written writer.old) (W.written writer.new) (shown_here debugger.now show)) }
+    ensures err { OnErr result (W.broken writer.new ≡ true) }
+{
+    match show {
+        Show::Registers { thread } => write_machine(thread_here(debugger, thread).mach(), writer),
+        Show::Memory {
+            thread,
+            address,
+            size,
+        } => {
+            let memory = thread_here(debugger, thread).mach().memory();
+            write_memory(
+                debugger.fitted().image().code(),
+                memory,
+                address,
+                size.get(),
+                writer,
+            )
+        }
+        Show::Object { object } => {
+            let state = debugger.state();
+            let number = object as usize;
+            write_object(state.threads(), number, &state.objects()[number], writer)
+        }
+        Show::Output { thread } => write_output(thread_here(debugger, thread).output(), writer),
+        Show::Log { thread } => {
+            let events = events_of(debugger, thread);
+            let so_far = thread_here(debugger, thread).events() as usize;
+            write_log(&events[..so_far], events.len(), writer)
+        }
+        Show::Next { .. } => unreachable!(),
+    }
+}

@@ -1,0 +1,109 @@
+//! A machine taken apart into registers and pages of private memory, and built from them.
+
+ghost use Rattle.std.specs.Prelude.{◌≡◌, ◌<◌, ◌*◌, ◌+◌, ◌++◌, List, length, take, drop, flat_map, map, IfOk};
+ghost use Rattle.ir_mach.specs.Core.{memory_size};
+ghost use Rattle.ir_mach.specs.Pages.{ArePages, core_of, memory_pages, page_of, page_size, register_file};
+
+use crate::mach::Mach;
+use crate::regs::Regs;
+use ir_image::MEMORY_SIZE;
+use std::alloc::{AllocError, Global};
+
+/// The bytes of a page.
+pub const PAGE_SIZE: usize = 4096;
+
+/// The pages of a machine's private memory.
+pub const MEMORY_PAGES: usize = 16;
+
+fn page_in(memory: &[u8], i: usize) -> &[u8]
+    requires below { i < memory_pages }
+    requires size { length memory.now ≡ memory_size }
+    ensures value { result.now ≡ page_of memory.now i }
+    ensures size { length result.now ≡ page_size }
+{
+    let first = PAGE_SIZE * i;
+    &memory[first..first + PAGE_SIZE]
+}
+
+// The bytes of these pages, one page behind the other.
+fn joined(alloc: Global, pages: &[&[u8]]) -> Result<Vec<u8>, AllocError>
+    requires { ArePages (map (λ page. page.now) pages.now) }
+    ensures size { IfOk result (λ memory. length memory.items ≡ memory_size) }
+    ensures value { IfOk result (λ memory. memory.items ≡ flat_map (λ page. page) (map (λ page. page.now) pages.now)) }
+{
+    let mut memory = Vec::with_capacity(alloc, MEMORY_SIZE as usize)?;
+    for page in pages {
+        memory.extend_from_slice(page)?;
+    }
+    Ok(memory)
+}
+
+fn write_page(memory: &mut [u8], i: usize, page: &[u8])
+    requires below { i < memory_pages }
+    requires size { length memory.old ≡ memory_size }
+    requires page { length page.now ≡ page_size }
+    ensures value { memory.new ≡ take (page_size * i) memory.old ++ page.now ++ drop (page_size * i + page_size) memory.old }
+    ensures size { length memory.new ≡ memory_size }
+{
+    let first = PAGE_SIZE * i;
+    memory[first..first + PAGE_SIZE].copy_from_slice(page);
+}
+
+// Writes these pages over all of private memory.
+fn fill(memory: &mut [u8], pages: &[&[u8]])
+    requires pages { ArePages (map (λ page. page.now) pages.now) }
+    requires size { length memory.old ≡ memory_size }
+    ensures { memory.new ≡ flat_map (λ page. page) (map (λ page. page.now) pages.now) }
+{
+    for i in 0..pages.len() {
+        write_page(memory, i, pages[i]);
+    }
+}
+
+impl Mach {
+    /// The pc and the registers.
+    pub fn regs_only(&self) -> Regs
+        ensures { result ≡ register_file self.now }
+    {
+        let registers = self.registers;
+        Regs {
+            pc: self.pc,
+            registers,
+        }
+    }
+
+    /// Page i of private memory: 4,096 bytes.
+    pub fn page(&self, i: u8) -> &[u8]
+        requires { i < memory_pages }
+        ensures value { result.now ≡ page_of self.now.memory i }
+        ensures size { length result.now ≡ page_size }
+    {
+        page_in(self.memory.as_slice(), i as usize)
+    }
+
+    /// The machine with these registers and these 16 pages of 4,096 bytes.
+    ///
+    /// # Errors
+    /// Out of memory.
+    pub fn build(alloc: Global, regs: &Regs, pages: &[&[u8]]) -> Result<Mach, AllocError>
+        requires { ArePages (map (λ page. page.now) pages.now) }
+        ensures { IfOk result (λ mach. mach ≡ core_of regs.now (map (λ page. page.now) pages.now)) }
+    {
+        let memory = joined(alloc, pages)?;
+        Ok(Mach {
+            pc: regs.pc,
+            registers: regs.registers,
+            memory,
+        })
+    }
+
+    /// Becomes the machine with these registers and these 16 pages of 4,096 bytes, in the memory that it has.
+    pub fn rebuild(&mut self, regs: &Regs, pages: &[&[u8]])
+        requires { ArePages (map (λ page. page.now) pages.now) }
+        ensures { self.new ≡ core_of regs.now (map (λ page. page.now) pages.now) }
+    {
+        self.pc = regs.pc;
+        self.registers = regs.registers;
+        fill(&mut self.memory, pages);
+    }
+}

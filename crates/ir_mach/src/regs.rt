@@ -1,0 +1,22 @@
+//! A machine without its private memory.
+
+ghost use Rattle.std.specs.Prelude.{◌≡◌, slice_index, take};
+ghost use Rattle.ir_mach.specs.Pages.{RegisterFile};
+
+use crate::performing::Registers;
+use std::marker::Model;
+
+/// A machine's pc and its registers x0 to x31; in clauses a `RegisterFile`.
+#[derive(Drop)]
+pub struct Regs {
+    pub(crate) pc: u32,
+    pub(crate) registers: Registers,
+}
+
+impl Model for Regs {
+    ghost Value = { RegisterFile };
+
+    ghost view = { λ r. record { pc = r.pc; registers = take 32 r.registers } };
+
+    ghost invariant = { λ r. slice_index r.registers 0 ≡ 0 };
+}

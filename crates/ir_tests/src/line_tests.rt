@@ -1,0 +1,195 @@
+//! Lines at their limits, and what the next step is shown as.
+
+use crate::guests::{DOUBLED, TWO_COUNTERS};
+use crate::sessions::{answered, image_bytes};
+use crate::traces::{ENDED_BY_144, Ran, SECOND_FIRST, TraceRow, trace_bytes};
+use ir_debug::Ended;
+use std::alloc::{AllocError, Global};
+use std::test::Fail;
+
+// So many of a byte, and a line's rest.
+fn line_of(alloc: Global, count: usize, byte: u8, rest: &[u8]) -> Result<Vec<u8>, AllocError> {
+    let mut line = Vec::new(alloc);
+    line.resize(count, byte)?;
+    line.extend_from_slice(rest)?;
+    Ok(line)
+}
+
+// A byte so many times, the line's rest, and what is answered: 1,024 bytes are a line, and one more is too long.
+const LONG: [(usize, u8, &[u8], &[u8]); 9] = [
+    (1024, b' ', b"\n", b"ready\n"),
+    (1025, b' ', b"\n", b"ready\nrefused 7 line too long\n"),
+    (1025, b'x', b"\n", b"ready\nrefused 7 line too long\n"),
+    (1023, b' ', b"\r\n", b"ready\n"),
+    (1024, b' ', b"\r\n", b"ready\nrefused 7 line too long\n"),
+    (1016, b' ', b"step 0 1\n", b"ready\nat 1\n"),
+    (
+        1017,
+        b' ',
+        b"step 0 1\n",
+        b"ready\nrefused 7 line too long\n",
+    ),
+    (
+        5000,
+        b'x',
+        b"\nstep 0 1\n",
+        b"ready\nrefused 7 line too long\nat 1\n",
+    ),
+    (1025, b'x', b"", b"ready\nrefused 7 line too long\n"),
+];
+
+#[test]
+fn long_lines_are_refused(rt: HostRuntime) -> Result<(), Fail> {
+    let image = image_bytes(rt.alloc(), DOUBLED)?;
+    let trace = trace_bytes(rt.alloc(), ENDED_BY_144)?;
+    for (count, byte, rest, answers) in LONG {
+        let lines = line_of(rt.alloc(), count, byte, rest)?;
+        let (page, ended) = answered(&rt, image.as_slice(), trace.as_slice(), lines.as_slice());
+        assert_eq!(rt; page.bytes.as_slice(), answers);
+        assert_eq!(rt; ended, Ok(Ended::InputEnd));
+    }
+    Ok(())
+}
+
+// A line that can't be carried out, and what is answered.
+const REFUSED: [(&[u8], &[u8]); 12] = [
+    (b"jump\n", b"ready\nrefused 1 unknown command\n"),
+    (b"st\0ep 0 1\n", b"ready\nrefused 1 unknown command\n"),
+    (b"\xff\xfe\n", b"ready\nrefused 1 unknown command\n"),
+    (b"step 0\n", b"ready\nrefused 2 bad argument\n"),
+    (b"step 0 4294967296\n", b"ready\nrefused 2 bad argument\n"),
+    (b"step 0 \xc2\xa01\n", b"ready\nrefused 2 bad argument\n"),
+    (b"mem 0 0x100000 257\n", b"ready\nrefused 2 bad argument\n"),
+    (b"step 2 1\n", b"ready\nrefused 3 no such thread\n"),
+    (
+        b"goto 2 1000000000000\n",
+        b"ready\nrefused 3 no such thread\n",
+    ),
+    (b"obj 1\n", b"ready\nrefused 4 no such object\n"),
+    (b"mem 1 4294967295 1\n", b"ready\nrefused 6 bad address\n"),
+    (b"mem 1 4294967041 256\n", b"ready\nrefused 6 bad address\n"),
+];
+
+#[test]
+fn refused_lines_change_nothing(rt: HostRuntime) -> Result<(), Fail> {
+    let image = image_bytes(rt.alloc(), TWO_COUNTERS)?;
+    let trace = trace_bytes(rt.alloc(), SECOND_FIRST)?;
+    for (line, answers) in REFUSED {
+        let mut lines = Vec::from_slice(rt.alloc(), line)?;
+        lines.extend_from_slice(b"pos\n")?;
+        let mut expected = Vec::from_slice(rt.alloc(), answers)?;
+        expected.extend_from_slice(b"at 0 0\n")?;
+        let (page, _ended) = answered(&rt, image.as_slice(), trace.as_slice(), lines.as_slice());
+        assert_eq!(rt; page.bytes.as_slice(), expected.as_slice());
+    }
+    Ok(())
+}
+
+// Positions past the last are the last.
+#[test]
+fn positions_end_at_the_last(rt: HostRuntime) -> Result<(), Fail> {
+    let image = image_bytes(rt.alloc(), TWO_COUNTERS)?;
+    let trace = trace_bytes(rt.alloc(), SECOND_FIRST)?;
+    let (page, ended) = answered(
+        &rt,
+        image.as_slice(),
+        trace.as_slice(),
+        b"goto 1 19\ngoto 0 1000000000000\nback 1 18\ngoto 1 18446744073709551615\nback 0 4294967295\n",
+    );
+    assert_eq!(rt;
+        page.bytes.as_slice(),
+        b"ready\nat 0 18 end\nat 18 18 end\nat 2 0 start\nat 2 18 end\nat 0 18 start\n".as_slice()
+    );
+    assert_eq!(rt; ended, Ok(Ended::InputEnd));
+    Ok(())
+}
+
+// Nothing is run: the budget is spent at once.
+const UNRUN: TraceRow = TraceRow {
+    objects: 0,
+    budget: 0,
+    threads: &[Ran(1, 13, 0, &[])],
+};
+
+// How many instructions stand before it, a word, and what it is shown as.
+const WORDS: [(usize, &str, &[u8]); 13] = [
+    (
+        3,
+        "0x00b50463",
+        b"ready\nnext 0001000c beq a0, a1, .+8 # 00010014\n",
+    ),
+    (
+        0,
+        "0xffdff06f",
+        b"ready\nnext 00010000 jal zero, .-4 # 0000fffc\n",
+    ),
+    (
+        1,
+        "0x0ff0000f",
+        b"ready\nnext 00010004 fence zero, zero, 255\n",
+    ),
+    (0, "0x12346537", b"ready\nnext 00010000 lui a0, 0x12346\n"),
+    (0, "0xfff50513", b"ready\nnext 00010000 addi a0, a0, -1\n"),
+    (0, "0x02009093", b"ready\nnext 00010000 .word 0x02009093\n"),
+    (2, "0x00000073", b"ready\nnext 00010008 ecall\n"),
+    (0, "0x00500093", b"ready\nnext 00010000 addi ra, zero, 5\n"),
+    (0, "0x027302b3", b"ready\nnext 00010000 mul t0, t1, t2\n"),
+    (0, "0x00000000", b"ready\nnext 00010000 .word 0x00000000\n"),
+    (0, "0xffffffff", b"ready\nnext 00010000 .word 0xffffffff\n"),
+    (0, "0x00100073", b"ready\nnext 00010000 ebreak\n"),
+    (
+        0,
+        "0x00000013",
+        b"ready\nnext 00010000 addi zero, zero, 0\n",
+    ),
+];
+
+#[test]
+fn the_next_word_is_disassembled(rt: HostRuntime) -> Result<(), Fail> {
+    let trace = trace_bytes(rt.alloc(), UNRUN)?;
+    for (before, word, answers) in WORDS {
+        let mut source = String::new(rt.alloc());
+        for _ in 0..before {
+            source.push_str("nop\n")?;
+        }
+        source.push_str("main: .word ")?;
+        source.push_str(word)?;
+        source.push_str("\n.thread main\n")?;
+        let image = image_bytes(rt.alloc(), source.as_str())?;
+        let (page, _ended) = answered(&rt, image.as_slice(), trace.as_slice(), b"next 0\n");
+        assert_eq!(rt; page.bytes.as_slice(), answers);
+    }
+    Ok(())
+}
+
+// A number in a0, and what PUTN prints of it.
+const NUMBERS: [(&str, &[u8]); 4] = [
+    ("0xffffffff", b"ready\nat 5\nout 3\n2d310a\n"),
+    (
+        "0x80000000",
+        b"ready\nat 5\nout 12\n2d323134373438333634380a\n",
+    ),
+    ("0", b"ready\nat 5\nout 2\n300a\n"),
+    (
+        "0x7fffffff",
+        b"ready\nat 5\nout 11\n323134373438333634370a\n",
+    ),
+];
+
+const BROKEN_AFTER: TraceRow = TraceRow {
+    objects: 0,
+    budget: 1000,
+    threads: &[Ran(5, 2, 0, &[])],
+};
+
+#[test]
+fn numbers_are_printed_with_their_signs(rt: HostRuntime) -> Result<(), Fail> {
+    let trace = trace_bytes(rt.alloc(), BROKEN_AFTER)?;
+    for (number, answers) in NUMBERS {
+        let source = format!(in rt.alloc(); "li a0, {number}\naddi a7, zero, 3\necall\nebreak\n")?;
+        let image = image_bytes(rt.alloc(), source.as_str())?;
+        let (page, _ended) = answered(&rt, image.as_slice(), trace.as_slice(), b"end\nout 0\n");
+        assert_eq!(rt; page.bytes.as_slice(), answers);
+    }
+    Ok(())
+}

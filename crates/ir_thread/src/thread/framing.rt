@@ -1,0 +1,95 @@
+//! A thread taken apart into a frame and pages, and built from them.
+
+ghost use Rattle.std.specs.Prelude.{◌≡◌, ◌<◌, ◌≤◌, length, map, vec_capacity, IfOk};
+ghost use Rattle.ir_mach.specs.Core.{memory_size};
+ghost use Rattle.ir_mach.specs.Pages.{ArePages, memory_pages, page_of, page_size};
+ghost use Rattle.ir_thread.specs.Calls.{most_output};
+ghost use Rattle.ir_thread.specs.Frames.{frame_of, thread_of};
+
+use crate::frame::Frame;
+use crate::limits::MOST_OUTPUT;
+use crate::thread::Thread;
+use ir_mach::Mach;
+use std::alloc::{AllocError, Global};
+
+impl Thread {
+    /// All of the thread but its private memory.
+    ///
+    /// # Errors
+    /// Out of memory.
+    pub fn frame(&self) -> Result<Frame, AllocError>
+        ensures value { IfOk result (λ frame. frame ≡ frame_of self.now) }
+        ensures memory { length self.now.core.memory ≡ memory_size }
+    {
+        self.mach.memory();
+        let alloc = *self.output.allocator();
+        Ok(Frame {
+            regs: self.mach.regs_only(),
+            number: self.number,
+            held: self.held.clone()?,
+            budget: self.budget,
+            steps: self.steps,
+            events: self.events,
+            output: Vec::from_slice(alloc, self.output.as_slice())?,
+            ended: self.ended,
+        })
+    }
+
+    /// Page i of private memory: 4,096 bytes.
+    pub fn page(&self, i: u8) -> &[u8]
+        requires { i < memory_pages }
+        ensures value { result.now ≡ page_of self.now.core.memory i }
+        ensures size { length result.now ≡ page_size }
+    {
+        self.mach.page(i)
+    }
+
+    /// The thread with this frame and these 16 pages of 4,096 bytes, with room for all that it may print.
+    ///
+    /// # Errors
+    /// Out of memory.
+    pub fn build(alloc: Global, frame: &Frame, pages: &[&[u8]]) -> Result<Thread, AllocError>
+        requires { ArePages (map (λ page. page.now) pages.now) }
+        ensures { IfOk result (λ thread. thread ≡ thread_of frame.now (map (λ page. page.now) pages.now)) }
+    {
+        let mut output = Vec::with_capacity(alloc, MOST_OUTPUT)?;
+        output.extend_from_slice(frame.output.as_slice())?;
+        Ok(Thread {
+            mach: Mach::build(alloc, &frame.regs, pages)?,
+            number: frame.number,
+            held: frame.held.clone()?,
+            budget: frame.budget,
+            steps: frame.steps,
+            events: frame.events,
+            output,
+            ended: frame.ended,
+        })
+    }
+
+    /// Becomes the thread with this frame and these 16 pages of 4,096 bytes, in the memory that it has.
+    pub fn rebuild(&mut self, frame: &Frame, pages: &[&[u8]])
+        requires pages { ArePages (map (λ page. page.now) pages.now) }
+        requires held { length self.old.held ≡ length frame.now.held }
+        ensures { self.new ≡ thread_of frame.now (map (λ page. page.now) pages.now) }
+    {
+        self.mach.rebuild(&frame.regs, pages);
+        self.number = frame.number;
+        self.held.copy_from_slice(frame.held.as_slice());
+        self.budget = frame.budget;
+        self.steps = frame.steps;
+        self.events = frame.events;
+        print_again(&mut self.output, frame.output.as_slice());
+        self.ended = frame.ended;
+    }
+}
+
+// Becomes these bytes, in the room that it has.
+fn print_again(output: &mut Vec<u8>, bytes: &[u8])
+    requires room { most_output ≤ vec_capacity output.old }
+    requires fits { length bytes.now ≤ most_output }
+    ensures value { output.new.items ≡ bytes.now }
+    ensures room { most_output ≤ vec_capacity output.new }
+{
+    output.clear();
+    let _ = output.extend_from_slice(bytes);
+}
