@@ -69,7 +69,7 @@ Stops image trace session.Write reader writer same = (reader.failed ≡ false) �
     × Reads most_input reader.before reader.after (AnsweredInPart image trace reader.after writer.before writer.after)
 Stops image trace session.TooLong reader writer same = Ends image trace (Err session.TooLong) reader writer
 
--- the fault that is told
+-- the fault that is reported
 abbrev pub fault_of : SessionErr → BundleErr
 fault_of session.NoMem = NoMem
 fault_of session.Read = Read

@@ -66,7 +66,7 @@ Calls, made by `ecall` with the number in a7; one without an answer keeps all re
   10  GET          a0 object, a1 index            answers the object's word in a0
   11  PUT          a0 object, a1 index, a2 word   writes the object's word
   12  SELF                                        answers the thread's number in a0
-A fault is told on standard error as `line L error C`, C being
+A fault is emitted on standard error as `line L error C`, C being
    1 a byte that a source may not hold        7 an undefined label
    2 an unknown instruction or directive      8 a label that is too far away
    3 a wrong number or form of operands       9 a statement or label of the wrong section

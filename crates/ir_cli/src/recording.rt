@@ -262,7 +262,7 @@ pub fn record_run<R: Threads + Wait + Sync + Clock, G: Gate + Sync, W: WholeSink
     requires budget { budget ≤ most_budget }
     requires writes { W.broken trace.old ≡ false }
     requires prints { O.broken out.old ≡ false }
-    requires tells { E.broken faults.old ≡ false }
+    requires reports { E.broken faults.old ≡ false }
     // The trace of the run by the order, or of some complete run, was written, and its lines, and no fault told.
     ensures done { result ≡ 0 → (recorded : Recorded) × IsRecordedOf image.now (option_map (λ s. s.now) order.entry) budget random input.now recorded × Appends (W.written trace.old) (W.written trace.new) (encoding recorded) × Appends (O.written out.old) (O.written out.new) (lines_of recorded) }
     ensures whole { result ≡ 0 → W.whole trace.new ≡ true }

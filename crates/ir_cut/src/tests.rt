@@ -1,7 +1,7 @@
 //! Cuts of a guest of two threads that write one object, one after the other.
 
 ghost use Rattle.std.specs.Prelude.{◌≡◌, ◌<◌, ◌≤◌, true, length};
-ghost use Rattle.ir_trace.specs.Told.{recorded_thread};
+ghost use Rattle.ir_trace.specs.TraceOf.{recorded_thread};
 ghost use Rattle.ir_cut.specs.Positions.{IsConsistentCut};
 
 use crate::logs::steps_of;
@@ -122,15 +122,15 @@ fn greatest_of(
 
 // What is said of some cuts of the guest.
 #[derive(Clone, Copy, Debug, PartialEq)]
-struct Told {
+struct Answered {
     // Past an entry whose maker is at its own leave, past both, and past the end.
     consistent: [bool; 4],
     least: [Option<Pair>; 4],
     greatest: [Option<Pair>; 4],
 }
 
-fn asked(alloc: Global, fitted: &Fitted) -> Result<Told, Fail> {
-    Ok(Told {
+fn asked(alloc: Global, fitted: &Fitted) -> Result<Answered, Fail> {
+    Ok(Answered {
         consistent: [
             is_cut(fitted, &cut_at(alloc, (3, 14))?),
             is_cut(fitted, &cut_at(alloc, (3, 15))?),
@@ -159,7 +159,7 @@ fn a_step_past_an_entry_brings_its_maker(rt: HostRuntime) -> Result<(), Fail> {
         Ok(fitted) => Some(asked(rt.alloc(), fitted)?),
         Err(_) => None,
     };
-    let wanted = Told {
+    let wanted = Answered {
         consistent: [false, true, true, false],
         least: [Some((3, 15)), Some((0, 18)), Some((18, 15)), Some((3, 16))],
         greatest: [Some((2, 14)), Some((2, 0)), Some((0, 18)), Some((2, 9))],

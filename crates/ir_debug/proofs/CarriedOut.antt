@@ -78,10 +78,10 @@ unfolding shown
 next_shown d s t x line there is text run whole =
     text ∙ ap (λ z. next_text d.fitted.guest.code z) (is ∙ (there.at.each run whole).threads t)
 
-pub next_told : (d : Desk) (e : Debugging) (threads : List thread.State) (code : List ℕ) (t : ℕ) (x : thread.State) (line : List ℕ)
+pub next_answered : (d : Desk) (e : Debugging) (threads : List thread.State) (code : List ℕ) (t : ℕ) (x : thread.State) (line : List ℕ)
     → e.desk ≡ spoken d → IsThere e → threads ≡ e.state.threads → code ≡ e.desk.fitted.guest.code → t < threads_of d.fitted
     → x ≡ slice_index_or threads t x → line ≡ next_text code x → EachRun d.fitted (λ run. line ≡ shown run d (Next t))
-next_told d e threads code t x line is there all same l read text =
+next_answered d e threads code t x line is there all same l read text =
     let stands : StandsAt d.fitted (cut_of d.at) e.state = subst (λ (z : Desk). StandsAt z.fitted (cut_of z.at) e.state) is there in
     let count = stands.at.threads in
     let long = ap (λ z. length z) all in
@@ -113,8 +113,8 @@ answered d next c asked a same none so run whole =
     subst (λ o. AnswersBy o run d c (answer_text run next a) next) (sym none)
     (subst (λ z. AnswersBy None run d z (answer_text run next a) next) (sym same) (so run whole))
 
-pub position_told : (d next : Desk) → next ≡ spoken d → AnswersSo d command.Position answer.Position next
-position_told d next is run whole = inl (ap (λ z. answer_text run z answer.Position) is, is)
+pub position_answered : (d next : Desk) → next ≡ spoken d → AnswersSo d command.Position answer.Position next
+position_answered d next is run whole = inl (ap (λ z. answer_text run z answer.Position) is, is)
 
-pub quit_told : (d next : Desk) → next ≡ spoken d → AnswersSo d command.Quit answer.Bye next
-quit_told d next is run whole = inl (refl, is)
+pub quit_answered : (d next : Desk) → next ≡ spoken d → AnswersSo d command.Quit answer.Bye next
+quit_answered d next is run whole = inl (refl, is)

@@ -9,7 +9,7 @@ use Rattle.ir_runs.specs.Object as object
 use Rattle.ir_flat.specs.Flat.{idle, thread_of, cell_of, object_with}
 use Rattle.ir_log.specs.Logging.{label_of}
 use Rattle.ir_log.specs.declared.event.Event.{Event}
-use Rattle.ir_trace.specs.Told.{recorded_thread}
+use Rattle.ir_trace.specs.TraceOf.{recorded_thread}
 use Rattle.ir_cut.specs.Positions.{EachRun}
 use Rattle.ir_weave.specs.Standing.{flat_in}
 use Rattle.ir_command.specs.declared.command.Show.{Show}

@@ -18,7 +18,7 @@ use Rattle.ir_log.specs.Logging.{label_of}
 use Rattle.ir_log.specs.declared.event.Event.{Event}
 use Rattle.ir_log.specs.declared.event.Event.TheVariants.{Answer, Read, Write}
 use Rattle.ir_trace.specs.Recorded.{Recorded, RecordedThread, IsRecorded, IsRecordedThread, IsEvent, IsResult}
-use Rattle.ir_trace.specs.Told.{absent, trace_of}
+use Rattle.ir_trace.specs.TraceOf.{absent, trace_of}
 use Rattle.ir_coherence.proofs.CallerLemmas.{coherent_unbroken}
 use Rattle.ir_fit.proofs.Guests.{starts, lives}
 use Rattle.ir_coherence.specs.Breaking.{IsFirstBreak}

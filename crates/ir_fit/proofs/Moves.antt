@@ -17,14 +17,14 @@ use Rattle.ir_thread.specs.State as thread
 use Rattle.ir_thread.specs.Calls.{Permits}
 use Rattle.ir_runs.specs.declared.access.Access.{Access}
 use Rattle.ir_thread.specs.declared.ask.Ask.TheVariants.{Private, Done, Leave as Leaves}
-use Rattle.ir_runs.specs.Object.{target, told, reply, Admits}
+use Rattle.ir_runs.specs.Object.{target, emitted, reply, Admits}
 use Rattle.ir_flat.specs.Alone.{WentAlone}
 use Rattle.ir_flat.specs.Flat.{Flat, thread_of, tables, machine as machine_of, start_flat, start_threads, idle, IsFlat}
 use Rattle.ir_runs.specs.Run.{State, Step, act, asked, Can, after, label, end, trail, events, log, count}
 use Rattle.ir_flat.proofs.CallerLemmas.{tally, really_done, moved_thread, now_after, fresh, no_steps, threads_length, cells_length}
 use Rattle.ir_log.specs.Logging.{label_of}
 use Rattle.ir_trace.specs.Recorded.{Recorded, RecordedThread}
-use Rattle.ir_trace.specs.Told.{recorded_thread, absent, trace_of}
+use Rattle.ir_trace.specs.TraceOf.{recorded_thread, absent, trace_of}
 use Rattle.ir_fit.specs.Ahead.{steps_ahead, log_ahead, StepFollows, CanFollow, IsStopped, AgreesAhead, IsMove}
 use Rattle.ir_runs.specs.Coherent.{sum_below}
 use Rattle.ir_fit.specs.Follower.{IsFollower, IsFollowed, IsPlaced, GoesOn, all_ahead}
@@ -36,7 +36,7 @@ use Rattle.ir_runs.specs.declared.thread_verdict.ThreadVerdict.{ThreadVerdict}
 use Rattle.ir_runs.specs.declared.thread_verdict.ThreadVerdict.TheVariants.{Same, Disagrees, Starves}
 use Rattle.ir_fit.specs.declared.follower.look.Move.{Move}
 use Rattle.ir_fit.proofs.Placed.{AllQuiet, quiet_join, quiet_places, quiet_leaves, places_append, leaves_append, placed_entries, placed_leaves, placed_room, placed_count, placed_fewer}
-use Rattle.ir_fit.proofs.Seen.{end_asked, ends_asked, tells, events_within}
+use Rattle.ir_fit.proofs.Seen.{end_asked, ends_asked, emits, events_within}
 
 -- ---- what is left
 
@@ -169,9 +169,9 @@ module _ (guest : Guest) (r : Recorded) (f : Flat) (ps qs : List Placed) (n : Mo
       (trail_other (guest_machine guest r) (end (guest_machine guest r) (guest_start guest r) k.run) (n.thread, n.result) [] u ne)
       ∙ append-nil _
 
-  tells_there : tells f n.asked n.result ≡ label (guest_machine guest r) (end (guest_machine guest r) (guest_start guest r) k.run)
+  emits_there : emits f n.asked n.result ≡ label (guest_machine guest r) (end (guest_machine guest r) (guest_start guest r) k.run)
       (n.thread, n.result)
-  tells_there = ap (λ q. tells f q n.result) move.asked ∙ ap (λ c. label (thread_machine c) (tables f) (n.thread, n.result)) k.code
+  emits_there = ap (λ q. emits f q n.result) move.asked ∙ ap (λ c. label (thread_machine c) (tables f) (n.thread, n.result)) k.code
       ∙ ap (λ z. label (guest_machine guest r) z (n.thread, n.result)) k.ends
 
   position : (thread_of f n.thread).steps ≡ 0 + length (trail (guest_machine guest r) (guest_start guest r) k.run n.thread)
@@ -184,10 +184,10 @@ module _ (guest : Guest) (r : Recorded) (f : Flat) (ps qs : List Placed) (n : Mo
     | inl e ↦ subst (λ u. (placed_at qs u).entries ≡ places_of
         (trail (guest_machine guest r) (guest_start guest r) (k.run ++ (n.thread, n.result) ∷ []) u)) (sym e)
         (ap (λ z. z.entries) kept_own ∙ placed_entries f n.thread n.result (placed_at ps n.thread) n.asked
-        ∙ ap (λ z. z ++ place_if (tells f n.asked n.result) (thread_of f n.thread).steps [])
+        ∙ ap (λ z. z ++ place_if (emits f n.asked n.result) (thread_of f n.thread).steps [])
         (k.placed n.thread (subst (λ u. u < length guest.entries) e l))
         ∙ ap (λ z. places_of (trail (guest_machine guest r) (guest_start guest r) k.run n.thread) ++ z)
-        (ap (λ z. place_if z (thread_of f n.thread).steps []) tells_there
+        (ap (λ z. place_if z (thread_of f n.thread).steps []) emits_there
         ∙ ap (λ (i : ℕ). place_if (label (guest_machine guest r) (end (guest_machine guest r) (guest_start guest r) k.run)
         (n.thread, n.result)) i []) position)
         ∙ sym (places_append 0 (trail (guest_machine guest r) (guest_start guest r) k.run n.thread)
@@ -205,10 +205,10 @@ module _ (guest : Guest) (r : Recorded) (f : Flat) (ps qs : List Placed) (n : Mo
     | inl e ↦ subst (λ u. (placed_at qs u).leaves ≡ leaves_of
         (trail (guest_machine guest r) (guest_start guest r) (k.run ++ (n.thread, n.result) ∷ []) u)) (sym e)
         (ap (λ z. z.leaves) kept_own ∙ placed_leaves f n.thread n.result (placed_at ps n.thread) n.asked
-        ∙ ap (λ z. z ++ leave_if (tells f n.asked n.result) (thread_of f n.thread).steps [])
+        ∙ ap (λ z. z ++ leave_if (emits f n.asked n.result) (thread_of f n.thread).steps [])
         (k.left n.thread (subst (λ u. u < length guest.entries) e l))
         ∙ ap (λ z. leaves_of (trail (guest_machine guest r) (guest_start guest r) k.run n.thread) ++ z)
-        (ap (λ z. leave_if z (thread_of f n.thread).steps []) tells_there
+        (ap (λ z. leave_if z (thread_of f n.thread).steps []) emits_there
         ∙ ap (λ (i : ℕ). leave_if (label (guest_machine guest r) (end (guest_machine guest r) (guest_start guest r) k.run)
         (n.thread, n.result)) i []) position)
         ∙ sym (leaves_append 0 (trail (guest_machine guest r) (guest_start guest r) k.run n.thread)
@@ -257,8 +257,8 @@ alone_follows code tr s run t (suc n) h each le =
     let step : Follows (closing m tr) m s tr (run ++ e ∷ []) = goes_further m s tr run h t 0
     (subst (λ q. Admits m (act_of (shared_ask q) 0) ((end m s run).objects (target (act_of (shared_ask q) 0)))) (sym is) tt) (
       omega (arith, le),
-      subst (λ q. logged (told (act_of (shared_ask q) 0) ((end m s run).objects (target (act_of (shared_ask q) 0))))
-          (unlogged (told (act_of (shared_ask q) 0) ((end m s run).objects (target (act_of (shared_ask q) 0)))) es) ≡ es) (sym is) refl,
+      subst (λ q. logged (emitted (act_of (shared_ask q) 0) ((end m s run).objects (target (act_of (shared_ask q) 0))))
+          (unlogged (emitted (act_of (shared_ask q) 0) ((end m s run).objects (target (act_of (shared_ask q) 0)))) es) ≡ es) (sym is) refl,
       subst (λ z. Meets z (tr.ends t) (m.size x) left es) (sym (ends_asked code x ∙ ap end_asked is)) tt,
     ) in
     let size : length (trail m s (run ++ e ∷ []) t) ≡ length (trail m s run t) + 1 =
@@ -281,7 +281,7 @@ alone_quiet code s t (suc n) each u =
     let m = thread_machine code in
     let is : ask_of code (s.now t) ≡ Private = each 0 (omega arith) in
     quiet_join (eqb u t) (s.now u, label m s (t, 0)) (trail m (after m s (t, 0)) (replicate n (t, 0)) u)
-    (ap (λ q. told (act_of (shared_ask q) 0) (s.objects (target (act_of (shared_ask q) 0)))) is)
+    (ap (λ q. emitted (act_of (shared_ask q) 0) (s.objects (target (act_of (shared_ask q) 0)))) is)
     (alone_quiet code (after m s (t, 0)) t n (λ k l. each (suc k) (omega (arith, l))) u)
 
 pub went_follows : (guest : Guest) (r : Recorded) (f g : Flat) (ps : List Placed) (t n : ℕ) → WentAlone f g t n → n ≤ steps_ahead r f t
@@ -439,7 +439,7 @@ went_placed r f g ps t n kept w =
 
 -- ---- what is kept at the start
 
--- nothing, with room for what the trace tells of a thread
+-- nothing, with room for what the trace emits of a thread
 abbrev pub room_for : RecordedThread → Placed
 room_for t = record { entries = []; leaves = []; room = length t.events }
 
@@ -578,7 +578,7 @@ last_follows guest r run t v h =
     let m = guest_machine guest r in
     let s = guest_start guest r in
     let last = fits_last (closing m (trace_of r) t) ((trace_of r).steps t) ((trace_of r).logs t) (trail m s run t)
-    ((end m s run).now t, told (act m (end m s run) (t, v)) ((end m s run).objects (target (act m (end m s run) (t, v)))))
+    ((end m s run).now t, emitted (act m (end m s run) (t, v)) ((end m s run).objects (target (act m (end m s run) (t, v)))))
     (subst (Fits (closing m (trace_of r) t) ((trace_of r).steps t) ((trace_of r).logs t))
     (trail_append m s run ((t, v) ∷ []) t ∙ ap (λ z. trail m s run t ++ z) (trail_same m (end m s run) (t, v) [])) (h.1 t)) in
     (run_last m s run (t, v) h.0, last.0, last.1, last.2)

@@ -11,7 +11,7 @@ use Rattle.ir_thread.specs.declared.ask.Ask.TheVariants.{Private, Env, Enter, Le
 use Rattle.ir_thread.specs.declared.ask.Reply.{Reply}
 use Rattle.ir_thread.proofs.CallerLemmas.{one_fewer}
 use Rattle.ir_flat.specs.Flat.{Flat, thread_of}
-use Rattle.ir_fit.proofs.Seen.{tells}
+use Rattle.ir_fit.proofs.Seen.{emits}
 use Rattle.ir_runs.specs.Labels.{Label, Quiet, Answer, In, Refused, Out}
 use Rattle.ir_runs.specs.Run.{join_if}
 use Rattle.ir_fit.specs.Places.{Placed, placed_by, place_if, places_from, leave_if, leaves_from}
@@ -67,7 +67,7 @@ quiet_join false x xs h rest = rest
 -- ---- what a step adds
 
 pub placed_entries : (f : Flat) (t v : ℕ) (p : Placed) (q : Ask)
-    → (placed_by f t p q).entries ≡ p.entries ++ place_if (tells f q v) (thread_of f t).steps []
+    → (placed_by f t p q).entries ≡ p.entries ++ place_if (emits f q v) (thread_of f t).steps []
 placed_entries f t v p Private = sym (append-nil p.entries)
 placed_entries f t v p (Env kind) = refl
 placed_entries f t v p (Enter o Reading) = refl
@@ -80,7 +80,7 @@ placed_entries f t v p (End e) = sym (append-nil p.entries)
 placed_entries f t v p Done = sym (append-nil p.entries)
 
 pub placed_leaves : (f : Flat) (t v : ℕ) (p : Placed) (q : Ask)
-    → (placed_by f t p q).leaves ≡ p.leaves ++ leave_if (tells f q v) (thread_of f t).steps []
+    → (placed_by f t p q).leaves ≡ p.leaves ++ leave_if (emits f q v) (thread_of f t).steps []
 placed_leaves f t v p Private = sym (append-nil p.leaves)
 placed_leaves f t v p (Env kind) = sym (append-nil p.leaves)
 placed_leaves f t v p (Enter o Reading) = sym (append-nil p.leaves)

@@ -5,7 +5,7 @@ use Rattle.ir_thread.specs.Held.{held_count}
 use Rattle.ir_flat.specs.Flat.{Flat, thread_of, tables, machine, start_flat}
 use Rattle.ir_runs.specs.Run.{Step, end, trail, log, count}
 use Rattle.ir_trace.specs.Recorded.{Recorded}
-use Rattle.ir_trace.specs.Told.{recorded_thread, trace_of}
+use Rattle.ir_trace.specs.TraceOf.{recorded_thread, trace_of}
 use Rattle.ir_fit.specs.Ahead.{steps_ahead, IsStopped}
 use Rattle.ir_runs.specs.Coherent.{sum_below}
 use Rattle.ir_runs.specs.Following.{Follows, closing}
@@ -53,7 +53,7 @@ pub record IsPlaced (r : Recorded) (f : Flat) (ps : List Placed) : Type 0 where
 
 -- the trace is of as many threads as there are, and of each it is known whether it is ready
 pub record IsSized (f : Follower) : Type 0 where
-  pub told : length f.trace.threads ≡ length f.flat.threads
+  pub emitted : length f.trace.threads ≡ length f.flat.threads
   pub known : length f.ready.items ≡ length f.flat.threads
   pub placed : IsPlaced f.trace f.flat f.places.items
 

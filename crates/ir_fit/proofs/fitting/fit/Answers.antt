@@ -5,7 +5,7 @@ use Rattle.ir_runs.specs.Coherent.{IsCoherent}
 use Rattle.ir_fit.specs.Fit.{HasRun, IsRefused}
 use Rattle.ir_fit.specs.Follower.{AreStanding}
 use Rattle.ir_runs.specs.declared.thread_verdict.ThreadVerdict.{ThreadVerdict}
-use Rattle.ir_trace.specs.Told.{trace_of}
+use Rattle.ir_trace.specs.TraceOf.{trace_of}
 use Rattle.ir_fit.proofs.Furthest.{breaks_refuse, threads_refuse, threads_accept}
 use Rattle.ir_fit.proofs.fitting.fit.Goals as goal
 

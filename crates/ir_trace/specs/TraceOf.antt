@@ -1,4 +1,4 @@
--- What a recording tells of a run.
+-- The trace of a run that a recording holds.
 use Rattle.std.specs.Prelude.{ℕ, [], map, Some}
 use Rattle.std.specs.List.{slice_index_or}
 use Rattle.ir_thread.specs.Ends.{end_number, end_code}
@@ -15,7 +15,7 @@ absent = record { steps = 0; end = Breakpoint; events = [] }
 abbrev pub recorded_thread : Recorded → ℕ → RecordedThread
 recorded_thread r t = slice_index_or r.threads t absent
 
--- what is told of a run, in tables by the numbers of the threads
+-- it, in tables by the numbers of the threads
 abbrev pub trace_of : Recorded → Trace
 trace_of r = record {
   steps = λ t. (recorded_thread r t).steps;
