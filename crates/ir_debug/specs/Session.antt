@@ -18,6 +18,10 @@ use Rattle.ir_debug.specs.declared.ended.Ended.TheVariants.{Quit, InputEnd, Imag
 use Rattle.ir_debug.specs.declared.ended.SessionErr.{SessionErr}
 use Rattle.ir_debug.specs.declared.ended.SessionErr.TheVariants.{NoMem, Read, Write, TooLong}
 
+-- the most bytes that a session reads
+abbrev pub most_input : ℕ
+most_input = 1073741824
+
 -- ---- how it ends
 
 abbrev pub ended_by : Result Served Fault → Result Ended SessionErr
