@@ -6,14 +6,15 @@ ghost use Rattle.ir_trace.specs.Recorded.{IsRecordedThread};
 ghost use Rattle.ir_trace.specs.TraceOf.{recorded_thread};
 ghost use Rattle.ir_fit.specs.Ahead.{steps_ahead};
 
+use crate::follower::growing::GrowingPlaces;
 use crate::follower::readiness::Readiness;
-use crate::places::Places;
 use ir_flat::Flat;
 use ir_object::Object;
 use ir_thread::Thread;
 use ir_trace::{ThreadTrace, Trace};
 
 pub mod ending;
+pub mod growing;
 pub mod look;
 mod readiness;
 mod running;
@@ -25,7 +26,7 @@ pub struct Follower<'a> {
     pub flat: Flat<'a>,
     pub trace: Trace,
     pub ready: Vec<Readiness>,
-    pub places: Vec<Places>,
+    pub places: Vec<GrowingPlaces>,
 }
 
 impl Follower<'_> {

@@ -9,9 +9,9 @@ ghost use Rattle.ir_fit.specs.Follower.{IsFollower, IsFollowed, IsSized};
 ghost use Rattle.ir_runs.specs.Standing.{StandsAs};
 
 use crate::follower::Follower;
+use crate::follower::growing::GrowingPlaces;
 use crate::follower::look::Look;
 use crate::follower::readiness::Readiness;
-use crate::places::Places;
 use ir_flat::Flat;
 use ir_image::Image;
 use ir_runs::ThreadVerdict;
@@ -19,12 +19,12 @@ use ir_trace::{ThreadTrace, Trace};
 use std::alloc::{AllocError, Global};
 
 // Room for the places of each thread's events.
-fn rooms(alloc: Global, emitted: &[ThreadTrace]) -> Result<Vec<Places>, AllocError>
+fn rooms(alloc: Global, emitted: &[ThreadTrace]) -> Result<Vec<GrowingPlaces>, AllocError>
     ensures { IfOk result (λ ps. ps.items ≡ map (λ t. record { entries = []; leaves = []; room = length t.events }) emitted.now) }
 {
     let mut places = Vec::with_capacity(alloc, emitted.len())?;
     for thread in emitted {
-        places.push(Places::new(alloc, thread.log().events().len())?)?;
+        places.push(GrowingPlaces::new(alloc, thread.log().events().len())?)?;
     }
     Ok(places)
 }
