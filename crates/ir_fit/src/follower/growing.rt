@@ -53,7 +53,7 @@ impl GrowingPlaces {
     }
 
     fn into_places(self) -> Places
-        ensures { result ≡ grown self.entry }
+        ensures { result ≡ grown self }
     {
         let GrowingPlaces {
             entries,
