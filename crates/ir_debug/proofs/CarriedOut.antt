@@ -1,6 +1,6 @@
 -- What the debugger carries out is what the small machine may answer.
 use Rattle.std.proofs.Common.{◌≡◌, ℕ, ◌<◌, arith, Bool, true, false, List, length, sym, ap, subst, ◌∙◌, refl, inl, None, Some}
-use Rattle.std.specs.Prelude.{not, nat_lt, Option, if◌then◌else◌}
+use Rattle.std.specs.Prelude.{not, nat_lt, codes, ◌+◌, ◌++◌, Option, if◌then◌else◌}
 use Rattle.std.proofs.lemmas.List.{get_or_default}
 use Rattle.std.proofs.lemmas.Bool.{ltb-true}
 use Rattle.std.specs.List.{slice_index_or}
@@ -18,10 +18,11 @@ use Rattle.ir_command.specs.declared.refusal.Refusal.{Refusal}
 use Rattle.ir_command.specs.declared.refusal.Refusal.TheVariants.{NoSuchThread}
 use Rattle.ir_debug.specs.declared.answer.Answer.{Answer}
 use Rattle.ir_debug.specs.declared.answer.Answer.TheVariants as answer
-use Rattle.ir_debug.specs.Machine.Desk.{Desk, threads_of, moved, spoken}
+use Rattle.ir_command.specs.declared.command.Keeping.TheVariants.{Keep, Load, Drop, Kept}
+use Rattle.ir_debug.specs.Machine.Desk.{Desk, threads_of, moved, spoken, kept_cut, with_kept, without_kept}
 use Rattle.ir_debug.specs.Machine.Refusals.{if_some, thread_moved, refusal_of, is_at_hand}
 use Rattle.ir_debug.specs.Machine.Shown.{shown}
-use Rattle.ir_debug.specs.Machine.Texts.{next_text}
+use Rattle.ir_debug.specs.Machine.Texts.{number_line, positions_text, kept_text, next_text}
 use Rattle.ir_debug.specs.Machine.Answers.{Answers, AnswersBy}
 use Rattle.ir_debug.specs.Debugging.{Debugging, IsThere, answer_text}
 
@@ -118,3 +119,19 @@ position_answered d next is run whole = inl (ap (λ z. answer_text run z answer.
 
 pub quit_answered : (d next : Desk) → next ≡ spoken d → AnswersSo d command.Quit answer.Bye next
 quit_answered d next is run whole = inl (refl, is)
+
+-- ---- kept cuts
+
+pub kept_answered : (d next : Desk) (n : ℕ) → n ≡ d.last_kept + 1 → next ≡ with_kept d
+    → AnswersSo d (command.Keeping Keep) (answer.Kept n) next
+kept_answered d next n number is run whole = inl (ap (number_line (codes "kept ")) number, is)
+
+pub load_answered : (d next : Desk) (n : ℕ) (to : List ℕ) → kept_cut d.kept n ≡ Some to → next ≡ moved d to
+    → AnswersSo d (command.Keeping (Load n)) answer.Position next
+load_answered d next n to found is run whole = inl (to, found, (ap (λ z. positions_text z.at ++ codes "\n") is, is))
+
+pub drop_answered : (d next : Desk) (n : ℕ) → next ≡ without_kept d n → AnswersSo d (command.Keeping (Drop n)) (answer.Dropped n) next
+drop_answered d next n is run whole = inl (refl, is)
+
+pub list_answered : (d next : Desk) → next ≡ spoken d → AnswersSo d (command.Keeping Kept) answer.KeptCuts next
+list_answered d next is run whole = inl (ap (λ z. kept_text z.kept) is, is)

@@ -1,14 +1,14 @@
 -- From the answers to lines to the bytes of a session.
-use Rattle.std.proofs.Common.{◌≡◌, ◌≢◌, ℕ, List, [], ◌∷◌, ◌++◌, Option, Some, None, Result, Ok, Err, refl, sym, ap, subst, ◌∙◌, append_assoc, arith, false}
+use Rattle.std.proofs.Common.{◌≡◌, ℕ, List, [], ◌∷◌, ◌++◌, Option, Some, None, Result, Ok, Err, refl, sym, ap, subst, arith}
 use Rattle.std.specs.Prelude.{IfSome}
 use Rattle.std.proofs.lemmas.List.{append-nil}
-use Rattle.std.specs.Io.KnownBytes.{Appends, Consumes, IsAtEnd}
+use Rattle.std.specs.Io.KnownBytes.{Appends, Consumes}
 use Rattle.std.proofs.KnownBytes.{Appends-trans}
 use Rattle.ir_stream.specs.Lines.{cut, lines_of, heard}
-use Rattle.ir_stream.specs.Answers.{Answered, Wrote, WrotePrefix, through, some_quits}
+use Rattle.ir_stream.specs.Answers.{Answered, Wrote, WrotePrefix, through}
 use Rattle.ir_stream.proofs.CallerLemmas.{prefix_after}
 use Rattle.ir_stream.specs.Devices.{AppendsPrefix, Reads}
-use Rattle.ir_stream.specs.Endings.{IfEnded, LeadsTo, ends}
+use Rattle.ir_stream.specs.Endings.{IfEnded, LeadsTo}
 use Rattle.ir_stream.specs.declared.serving.Served.{Served}
 use Rattle.ir_stream.specs.declared.serving.Served.TheVariants as served
 use Rattle.ir_stream.specs.declared.serving.Fault.{Fault}
@@ -20,7 +20,7 @@ use Rattle.ir_debug.specs.Debugging.{Debugging}
 use Rattle.ir_debug.specs.Opened.{opening_of}
 use Rattle.ir_debug.specs.declared.opening.Opened.{Opened}
 use Rattle.ir_debug.specs.declared.opening.Opened.TheVariants as opened
-use Rattle.ir_debug.specs.Session.{Session, AnsweredWhole, AnsweredInPart, SessionText, Writes, WritesPrefix, IfServed, ended_by, ending_of}
+use Rattle.ir_debug.specs.Session.{Session, AnsweredInPart, SessionText, Writes, WritesPrefix, IfServed, ended_by, ending_of}
 use Rattle.ir_debug.specs.declared.ended.Ended.{Ended}
 use Rattle.ir_debug.specs.declared.ended.SessionErr.{SessionErr}
 use Rattle.ir_debug.specs.declared.ended.SessionErr.TheVariants as err

@@ -12,6 +12,7 @@ mod debugger_tests;
 mod destinations;
 mod ended;
 mod events;
+mod kept;
 mod next;
 mod objects;
 mod open;

@@ -21,6 +21,11 @@ returns-in-Show-clause-answers g c =
     answered c.args.self.now.desk c.answer_show.new.self.desk c.args.command.now (command.Show c.in-Show.show) c.answer_show.result
     c.in-Show.is (sym c.refusal_of.ensures ∙ c.in_default.is) c.answer_show.ensures.answers
 
+pub returns-in-Keeping-clause-answers : goal.returns-in-Keeping-clause-answers
+returns-in-Keeping-clause-answers g c =
+    answered c.args.self.now.desk c.answer_keeping.new.self.desk c.args.command.now (command.Keeping c.in-Keeping.asked)
+    c.answer_keeping.result c.in-Keeping.is (sym c.refusal_of.ensures ∙ c.in_default.is) c.answer_keeping.ensures.answers
+
 pub returns-in-Position-clause-answers : goal.returns-in-Position-clause-answers
 returns-in-Position-clause-answers g c =
     answered c.args.self.now.desk _ c.args.command.now command.Position answer.Position c.in-Position.is
