@@ -1,7 +1,8 @@
 //! Sessions whose reader or writer fails, and a session whose two readers wait for each other.
 
-use crate::guests::{DOUBLED, TWO_COUNTERS, TWO_READERS};
-use crate::sessions::{answered, image_bytes};
+use crate::guests::{DOUBLED, Source, TWO_COUNTERS, TWO_READERS};
+use crate::sessions::answered;
+use crate::sources::image_bytes;
 use crate::streams::{Bytes, ENDLESS, Page};
 use crate::traces::EventRow::Read;
 use crate::traces::{ENDED_BY_144, Ran, SECOND_FIRST, TraceRow, trace_bytes};
@@ -19,7 +20,7 @@ const TO_A_WRITER: &str = "step 0 3\nobj 0\nlog 0\nnext 0\nback 1 1\n";
 const TO_THE_END: &str = "step 0 4294967295\nend\nobj 0\nnext 0\n";
 
 // A guest, its trace, and lines.
-const SESSIONS: [(&str, TraceRow, &str); 3] = [
+const SESSIONS: [(Source, TraceRow, &str); 3] = [
     (DOUBLED, ENDED_BY_144, NO_EVENTS),
     (TWO_COUNTERS, SECOND_FIRST, TO_A_WRITER),
     (TWO_COUNTERS, SECOND_FIRST, TO_THE_END),

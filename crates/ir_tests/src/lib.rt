@@ -8,6 +8,10 @@ mod device_tests;
 #[cfg(test)]
 mod ends;
 #[cfg(test)]
+mod example_tests;
+#[cfg(test)]
+mod examples;
+#[cfg(test)]
 mod guests;
 mod laws;
 #[cfg(test)]
@@ -27,7 +31,7 @@ mod replays;
 #[cfg(test)]
 mod sessions;
 #[cfg(test)]
-mod small_guests;
+mod sources;
 #[cfg(test)]
 mod states;
 #[cfg(test)]

@@ -1,7 +1,8 @@
 //! Lines at their limits, and what the next step is shown as.
 
 use crate::guests::{DOUBLED, TWO_COUNTERS};
-use crate::sessions::{answered, image_bytes};
+use crate::sessions::answered;
+use crate::sources::image_bytes;
 use crate::traces::{ENDED_BY_144, Ran, SECOND_FIRST, TraceRow, trace_bytes};
 use ir_debug::Ended;
 use std::alloc::{AllocError, Global};
@@ -155,7 +156,7 @@ fn the_next_word_is_disassembled(rt: HostRuntime) -> Result<(), Fail> {
         source.push_str("main: .word ")?;
         source.push_str(word)?;
         source.push_str("\n.thread main\n")?;
-        let image = image_bytes(rt.alloc(), source.as_str())?;
+        let image = image_bytes(rt.alloc(), &[source.as_str()])?;
         let (page, _ended) = answered(&rt, image.as_slice(), trace.as_slice(), b"next 0\n");
         assert_eq!(rt; page.bytes.as_slice(), answers);
     }
@@ -187,7 +188,7 @@ fn numbers_are_printed_with_their_signs(rt: HostRuntime) -> Result<(), Fail> {
     let trace = trace_bytes(rt.alloc(), BROKEN_AFTER)?;
     for (number, answers) in NUMBERS {
         let source = format!(in rt.alloc(); "li a0, {number}\naddi a7, zero, 3\necall\nebreak\n")?;
-        let image = image_bytes(rt.alloc(), source.as_str())?;
+        let image = image_bytes(rt.alloc(), &[source.as_str()])?;
         let (page, _ended) = answered(&rt, image.as_slice(), trace.as_slice(), b"end\nout 0\n");
         assert_eq!(rt; page.bytes.as_slice(), answers);
     }
