@@ -1,17 +1,14 @@
 //! Sessions whose reader or writer fails, and a session whose two readers wait for each other.
 
 use crate::guests::{DOUBLED, Source, TWO_COUNTERS, TWO_READERS};
+use crate::meeting::Meeting;
 use crate::sessions::answered;
 use crate::sources::image_bytes;
 use crate::streams::{Bytes, ENDLESS, Page};
-use crate::traces::EventRow::Read;
-use crate::traces::{ENDED_BY_144, Ran, SECOND_FIRST, TraceRow, trace_bytes};
+use crate::traces::{BOTH_READ, ENDED_BY_144, SECOND_FIRST, TraceRow, trace_bytes};
 use ir_debug::{Ended, SessionErr, session};
-use ir_object::{Gate, OpenGate};
-use ir_runs::Access;
-use std::sync::atomic::{AtomicBool, AtomicUsize, Ordering};
+use ir_object::OpenGate;
 use std::test::Fail;
-use std::thread::yield_now;
 
 const NO_EVENTS: &str = "step 0 3\nregs 0\nstep 0 9\n";
 
@@ -91,47 +88,11 @@ fn each_write_fails_in_its_turn(rt: HostRuntime) -> Result<(), Fail> {
     Ok(())
 }
 
-// The turns that a thread waits for the other at most, each of which lets others run.
-const MOST_TURNS: usize = 1_000_000;
-
-// Holds whoever enters until two have entered.
-#[derive(Drop)]
-struct Meeting {
-    entries: AtomicUsize,
-    // Whether one waited in vain.
-    missed: AtomicBool,
-}
-
-impl Gate for Meeting {
-    fn entered(&self, _thread: u8, _object: u8, _access: Access) {
-        self.entries.fetch_add(1, Ordering::SeqCst);
-        for _ in 0..MOST_TURNS {
-            if self.entries.load(Ordering::SeqCst) >= 2 {
-                return;
-            }
-            yield_now();
-        }
-        self.missed.store(true, Ordering::SeqCst);
-    }
-
-    fn leaving(&self, _thread: u8, _object: u8, _access: Access) {}
-}
-
-// Both readers of version 0 are inside at once.
-const BOTH_READ: TraceRow = TraceRow {
-    objects: 1,
-    budget: 1000,
-    threads: &[Ran(7, 1, 0, &[Read(0, 0)]), Ran(7, 1, 0, &[Read(0, 0)])],
-};
-
 #[test]
 fn two_readers_replay(rt: HostRuntime) -> Result<(), Fail> {
     let image = image_bytes(rt.alloc(), TWO_READERS)?;
     let trace = trace_bytes(rt.alloc(), BOTH_READ)?;
-    let gate = Meeting {
-        entries: AtomicUsize::new(0),
-        missed: AtomicBool::new(false),
-    };
+    let gate = Meeting::new();
     let mut reader = Bytes::new(b"end\nobj 0\n", ENDLESS);
     let mut writer = Page::new(rt.alloc(), false, ENDLESS);
     let ended = session(
@@ -150,6 +111,6 @@ fn two_readers_replay(rt: HostRuntime) -> Result<(), Fail> {
 words 00000000 00000000 00000000 00000000 00000000 00000000 00000000 00000000\n"
             .as_slice()
     );
-    assert!(rt; !gate.missed.load(Ordering::SeqCst));
+    assert!(rt; !gate.missed());
     Ok(())
 }

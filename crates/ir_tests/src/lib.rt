@@ -4,6 +4,10 @@
 #[cfg(test)]
 mod counting;
 #[cfg(test)]
+mod cut_tests;
+#[cfg(test)]
+mod debugger_tests;
+#[cfg(test)]
 mod device_tests;
 #[cfg(test)]
 mod ends;
@@ -17,6 +21,8 @@ mod laws;
 #[cfg(test)]
 mod line_tests;
 #[cfg(test)]
+mod meeting;
+#[cfg(test)]
 mod moved_rows;
 #[cfg(test)]
 mod object_rows;
@@ -26,6 +32,8 @@ mod one_thread_rows;
 mod recordings;
 #[cfg(test)]
 mod refused_tests;
+#[cfg(test)]
+mod replay_tests;
 #[cfg(test)]
 mod replays;
 #[cfg(test)]
