@@ -146,3 +146,50 @@ fn each_prefix_is_short(rt: HostRuntime) -> Result<(), Fail> {
     }
     Ok(())
 }
+
+// These bytes with another at the place.
+fn changed(alloc: Global, bytes: &[u8], place: usize, byte: u8) -> Result<Vec<u8>, AllocError> {
+    let mut all = Vec::from_slice(alloc, bytes)?;
+    if let Some(changed) = all.get_mut(place) {
+        *changed = byte;
+    }
+    Ok(all)
+}
+
+// Whether a session of them opens, or says why it doesn't, and ends as it says.
+fn opens_or_tells<R: AllocGlobal + Threads + Clock + Sync>(
+    rt: &R,
+    image: &[u8],
+    trace: &[u8],
+) -> bool {
+    let (page, ended) = answered(rt, image, trace, b"");
+    let text = page.bytes.as_slice();
+    let is_told = text.starts_with(b"ready\n")
+        || text.starts_with(b"image refused ")
+        || text.starts_with(b"trace refused ")
+        || text.starts_with(b"header differs ")
+        || text.starts_with(b"incoherent thread ")
+        || text.starts_with(b"thread ");
+    is_told && ended == Ok(ended_by(text))
+}
+
+#[test]
+fn each_changed_byte_is_answered(rt: HostRuntime) -> Result<(), Fail> {
+    for (guest, trace) in [(DOUBLED, ENDED_BY_144), (READ_THEN_WRITE, READ_AND_WRITTEN)] {
+        let image = image_bytes(rt.alloc(), guest)?;
+        let trace = trace_bytes(rt.alloc(), trace)?;
+        for (place, own) in image.iter().enumerate() {
+            for byte in [*own ^ 1, *own ^ 0x80, 0, 255] {
+                let other = changed(rt.alloc(), image.as_slice(), place, byte)?;
+                assert!(rt; opens_or_tells(&rt, other.as_slice(), trace.as_slice()));
+            }
+        }
+        for (place, own) in trace.iter().enumerate() {
+            for byte in [*own ^ 1, *own ^ 0x80, 0, 255] {
+                let other = changed(rt.alloc(), trace.as_slice(), place, byte)?;
+                assert!(rt; opens_or_tells(&rt, image.as_slice(), other.as_slice()));
+            }
+        }
+    }
+    Ok(())
+}
