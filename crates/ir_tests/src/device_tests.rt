@@ -2,11 +2,11 @@
 
 use crate::guests::{DOUBLED, Source, TWO_COUNTERS, TWO_READERS};
 use crate::meeting::Meeting;
-use crate::sessions::answered;
+use crate::sessions::{answered, answered_until};
 use crate::sources::image_bytes;
-use crate::streams::{Bytes, ENDLESS, Page};
+use crate::streams::ENDLESS;
 use crate::traces::{BOTH_READ, ENDED_BY_144, SECOND_FIRST, TraceRow, trace_bytes};
-use ir_debug::{Ended, SessionErr, session};
+use ir_debug::{Ended, SessionErr};
 use ir_object::OpenGate;
 use std::test::Fail;
 
@@ -41,19 +41,17 @@ fn each_read_fails_in_its_turn(rt: HostRuntime) -> Result<(), Fail> {
                 trace.as_slice(),
                 &whole[..last],
             );
-            let mut reader = Bytes::new(lines.as_bytes(), calls_left as u64);
-            let mut writer = Page::new(rt.alloc(), false, ENDLESS);
-            let ended = session(
+            let (written, ended) = answered_until(
                 &rt,
-                rt.alloc(),
                 image.as_slice(),
                 trace.as_slice(),
-                &mut reader,
-                &mut writer,
+                lines.as_bytes(),
+                calls_left as u64,
+                None,
                 &OpenGate,
             );
             assert_eq!(rt; ended, Err(SessionErr::Read));
-            assert_eq!(rt; writer.bytes.as_slice(), expected.bytes.as_slice());
+            assert_eq!(rt; written.bytes.as_slice(), expected.bytes.as_slice());
         }
     }
     Ok(())
@@ -67,20 +65,18 @@ fn each_write_fails_in_its_turn(rt: HostRuntime) -> Result<(), Fail> {
         let trace = trace_bytes(rt.alloc(), trace)?;
         let (all, _ended) = answered(&rt, image.as_slice(), trace.as_slice(), lines.as_bytes());
         for calls_left in 0..all.bytes.len() {
-            let mut reader = Bytes::new(lines.as_bytes(), ENDLESS);
-            let mut writer = Page::new(rt.alloc(), true, calls_left as u64);
-            let ended = session(
+            let (written, ended) = answered_until(
                 &rt,
-                rt.alloc(),
                 image.as_slice(),
                 trace.as_slice(),
-                &mut reader,
-                &mut writer,
+                lines.as_bytes(),
+                ENDLESS,
+                Some(calls_left as u64),
                 &OpenGate,
             );
             assert_eq!(rt; ended, Err(SessionErr::Write));
             assert_eq!(rt;
-                writer.bytes.as_slice(),
+                written.bytes.as_slice(),
                 &all.bytes.as_slice()[..calls_left]
             );
         }
@@ -93,20 +89,18 @@ fn two_readers_replay(rt: HostRuntime) -> Result<(), Fail> {
     let image = image_bytes(rt.alloc(), TWO_READERS)?;
     let trace = trace_bytes(rt.alloc(), BOTH_READ)?;
     let gate = Meeting::new();
-    let mut reader = Bytes::new(b"end\nobj 0\n", ENDLESS);
-    let mut writer = Page::new(rt.alloc(), false, ENDLESS);
-    let ended = session(
+    let (written, ended) = answered_until(
         &rt,
-        rt.alloc(),
         image.as_slice(),
         trace.as_slice(),
-        &mut reader,
-        &mut writer,
+        b"end\nobj 0\n",
+        ENDLESS,
+        None,
         &gate,
     );
     assert_eq!(rt; ended, Ok(Ended::InputEnd));
     assert_eq!(rt;
-        writer.bytes.as_slice(),
+        written.bytes.as_slice(),
         b"ready\nat 7 7\nversion 0 left 2 readers - writer -\n\
 words 00000000 00000000 00000000 00000000 00000000 00000000 00000000 00000000\n"
             .as_slice()

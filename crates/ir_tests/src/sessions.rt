@@ -4,7 +4,7 @@ use crate::sources::image_bytes;
 use crate::streams::{Bytes, ENDLESS, Page};
 use crate::traces::{TraceRow, trace_bytes};
 use ir_debug::{Ended, SessionErr, session};
-use ir_object::OpenGate;
+use ir_object::{Gate, OpenGate};
 use std::process::Abort;
 use std::test::Fail;
 use std::thread::Threads;
@@ -13,25 +13,31 @@ use std::time::Clock;
 /// Lines, and what is answered.
 pub type Said = (&'static str, &'static str);
 
-/// What a session of these bytes answers, and how it ends.
+/// What a session of these bytes answers, and how it ends. The reader fails after so many calls; the writer after so
+/// many, of which each takes a byte, or never.
+pub fn answered_until<R: AllocGlobal + Threads + Clock + Sync, G: Gate + Sync>(
+    rt: &R,
+    image: &[u8],
+    trace: &[u8],
+    lines: &[u8],
+    reads: u64,
+    writes: Option<u64>,
+    gate: &G,
+) -> (Page, Result<Ended, SessionErr>) {
+    let mut reader = Bytes::new(lines, reads);
+    let mut writer = Page::new(rt.alloc(), writes.is_some(), writes.unwrap_or(ENDLESS));
+    let ended = session(rt, rt.alloc(), image, trace, &mut reader, &mut writer, gate);
+    (writer, ended)
+}
+
+/// The same where neither fails.
 pub fn answered<R: AllocGlobal + Threads + Clock + Sync>(
     rt: &R,
     image: &[u8],
     trace: &[u8],
     lines: &[u8],
 ) -> (Page, Result<Ended, SessionErr>) {
-    let mut reader = Bytes::new(lines, ENDLESS);
-    let mut writer = Page::new(rt.alloc(), false, ENDLESS);
-    let ended = session(
-        rt,
-        rt.alloc(),
-        image,
-        trace,
-        &mut reader,
-        &mut writer,
-        &OpenGate,
-    );
-    (writer, ended)
+    answered_until(rt, image, trace, lines, ENDLESS, None, &OpenGate)
 }
 
 /// How a session ends that answers so.
