@@ -88,7 +88,8 @@ def wants(what, found, wanted):
 
 def run(arguments, folder, **more):
     """A run of the program in a folder, to its end."""
-    more.setdefault("stdin", subprocess.DEVNULL)
+    if "input" not in more:
+        more.setdefault("stdin", subprocess.DEVNULL)
     more.setdefault("stdout", subprocess.PIPE)
     more.setdefault("stderr", subprocess.PIPE)
     return subprocess.run([PROGRAM] + shlex.split(arguments), cwd=folder, timeout=120, **more)
@@ -234,6 +235,15 @@ def test_answers_come(folder):
             wants(repr(asked[-9:]), session.stdout.readline(), answer)
         # It ends by itself, though its input doesn't.
         wants("the status", session.wait(10), 0)
+
+
+def test_long_lines_of_digits(folder):
+    """The image's line has at most 4,194,304 digits: so many are judged, and more are not."""
+    image = (folder / "d.img").read_bytes().hex().encode()
+    for digits, status, answers in ((4_194_304, 3, b"image refused 5\n"), (4_194_306, 1, b"")):
+        ended = run("", folder, input=image.ljust(digits, b"0") + b"\n\n")
+        wants(f"{digits} digits: status", ended.returncode, status)
+        wants(f"{digits} digits: answers", ended.stdout, answers)
 
 
 def test_large_order(folder):

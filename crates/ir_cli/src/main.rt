@@ -9,8 +9,6 @@ mod asm_tests;
 mod assembling;
 mod bundle;
 mod debugging;
-#[cfg(test)]
-mod examples;
 mod fault;
 mod files;
 mod line;

@@ -7,8 +7,6 @@ mod answering;
 mod bringing;
 mod bytes;
 mod debugger;
-#[cfg(test)]
-mod debugger_tests;
 mod destinations;
 mod ended;
 mod events;

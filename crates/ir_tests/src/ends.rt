@@ -1,7 +1,7 @@
 //! The end of a thread that fails one condition, or several at once.
 
 use crate::counting::worlds;
-use ir_asm::assemble;
+use crate::sources::image_of;
 use ir_fit::fit;
 use ir_record::record_in_order;
 use ir_thread::End;
@@ -62,13 +62,9 @@ const NO_OBJECT: &str = "
 // A guest of one thread and two objects; its end, and that of each thread that its recording tells of, is read off the
 // trace, which fits.
 fn end_of(alloc: Global, code: &[&str], budget: u64) -> Result<Option<End>, Fail> {
-    let mut source = String::new(alloc);
-    source.push_str("        .objects 2\n")?;
-    for part in code {
-        source.push_str(part)?;
-        source.push_str("\n")?;
-    }
-    let image = assemble(alloc, source.as_str())?;
+    let mut parts = Vec::from_slice(alloc, &["        .objects 2"])?;
+    parts.extend_from_slice(code)?;
+    let image = image_of(alloc, parts.as_slice())?;
     let worlds = worlds(alloc, image.entries().len())?;
     let budget = budget.min(BUDGET);
     let (trace, _outputs) = record_in_order(alloc, &image, &[], worlds, budget)?;
@@ -110,6 +106,45 @@ fn each_end_comes_about(rt: HostRuntime) -> Result<(), Fail> {
     assert_eq!(rt;
         end_of(rt.alloc(), &[LOG_FULL, "ecall"], BUDGET)?,
         Some(End::LogFull)
+    );
+    Ok(())
+}
+
+// Calls that are none, objects that there aren't, and what isn't held.
+#[test]
+fn a_call_ends_by_its_arguments(rt: HostRuntime) -> Result<(), Fail> {
+    for (code, end) in [
+        ("ecall", End::UnknownCall),
+        ("addi a7, zero, -1\n ecall", End::UnknownCall),
+        (
+            "addi a0, zero, 2\n addi a7, zero, 9\n ecall",
+            End::NoSuchObject,
+        ),
+        (
+            "addi a0, zero, -1\n addi a7, zero, 8\n ecall",
+            End::NoSuchObject,
+        ),
+        (
+            "addi a0, zero, 256\n addi a7, zero, 8\n ecall",
+            End::NoSuchObject,
+        ),
+        ("addi a7, zero, 10\n ecall", End::NotHeld),
+        ("addi a7, zero, 11\n ecall", End::NotHeld),
+    ] {
+        assert_eq!(rt; end_of(rt.alloc(), &[code], BUDGET)?, Some(end));
+    }
+    // Object 1 again, and a word of it that isn't given where it is held for reading.
+    assert_eq!(rt;
+        end_of(rt.alloc(), &[ENTER, ENTER], BUDGET)?,
+        Some(End::EntryOutOfOrder)
+    );
+    assert_eq!(rt;
+        end_of(
+            rt.alloc(),
+            &[LOWER_ENTRY, "addi a7, zero, 11\n ecall"],
+            BUDGET
+        )?,
+        Some(End::NotHeld)
     );
     Ok(())
 }

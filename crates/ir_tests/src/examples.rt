@@ -1,4 +1,4 @@
-//! The guests of the folder `examples`, word for word.
+//! The guests of the folder `examples`. `scripts/rooms.py` refuses a text that differs from the file of its name there.
 
 pub const HELLO: &str =
     "# Prints Hello, world! and a line feed, a byte at a time, and ends with code 0.
