@@ -97,6 +97,10 @@ threads stand at a cut, a position for each, at which all that their steps need 
   out T         what thread T has put out
   log T         the events that thread T has logged so far
   next T        the next step of thread T
+  keep          keeps the cut, by the next number from 1 on; 64 are kept beside the start, which is 0
+  load N        all threads to the kept cut N
+  drop N        keeps the cut N no longer
+  kept          each number, and the positions of its cut
   quit          ends the session
 Numbers are decimal, or `0x` and hexadecimal digits. A move answers `at` and the positions, then `end` where thread T is
 at its last and `start` where it is at 0. A line that can't be carried out is answered `refused R` and why, and changes

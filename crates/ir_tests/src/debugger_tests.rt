@@ -18,6 +18,7 @@ enum Kind {
     Position,
     Shown,
     Next,
+    Kept,
     Refused(Refusal),
     Bye,
 }
@@ -28,6 +29,7 @@ fn kind_of(answer: &Answer) -> Kind {
         Answer::Position => Kind::Position,
         Answer::Shown(_) => Kind::Shown,
         Answer::Next(_) => Kind::Next,
+        Answer::Kept(_) | Answer::Dropped(_) | Answer::KeptCuts => Kind::Kept,
         Answer::Refused(refusal) => Kind::Refused(*refusal),
         Answer::Bye => Kind::Bye,
     }

@@ -17,6 +17,8 @@ mod example_tests;
 mod examples;
 #[cfg(test)]
 mod guests;
+#[cfg(test)]
+mod kept_rows;
 mod laws;
 #[cfg(test)]
 mod line_tests;
