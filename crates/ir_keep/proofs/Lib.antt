@@ -1,0 +1,7 @@
+mod Laid
+mod Places
+mod Whole
+mod Again
+mod Found
+mod Dropped
+mod Counted
