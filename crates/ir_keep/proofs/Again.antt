@@ -12,9 +12,9 @@ use Rattle.ir_thread.specs.Frames.{ThreadFrame, frame_of, thread_of}
 use Rattle.ir_flat.specs.Flat.{idle}
 use Rattle.ir_weave.specs.Standing.{Standing}
 use Rattle.ir_keep.specs.Pages.{all_pages, next_sources, same_bytes}
-use Rattle.ir_keep.specs.Keeping.{Kept, first_kept, with_next}
+use Rattle.ir_keep.specs.Keeping.{Kept, most_kept, first_kept, with_next}
 use Rattle.ir_keep.specs.Gathered.{HasMemory}
-use Rattle.ir_keep.specs.Store.{Page, Entry, blank, newer, laid, in_force, threads_of, kept_of, all_kept, changed, entry_of, IsEntry, AreEntries, AreBelow, AreFalling, AreWhole, AreNewer, AreLaid, AreFull, AreZero, HasStart, IsStore, thread_count, most_kept}
+use Rattle.ir_keep.specs.Store.{Page, Entry, blank, newer, laid, in_force, threads_of, kept_of, all_kept, changed, entry_of, IsEntry, AreEntries, AreBelow, AreFalling, AreWhole, AreNewer, AreLaid, AreFull, AreZero, HasStart, IsStore, thread_count}
 use Rattle.ir_keep.proofs.Laid.{changed_all, changed_sources, length-laid}
 use Rattle.ir_keep.proofs.Places.{length-all}
 use Rattle.ir_keep.proofs.Whole.{length_force, whole_force, full_whole, full_drop, first_pages, newer_changed, newer_first}

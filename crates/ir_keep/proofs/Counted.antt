@@ -2,6 +2,7 @@
 use Rattle.std.proofs.Common.{◌≡◌, ◌==◌, ◌&&◌, ◌||◌, ◌+◌, ◌*◌, ◌<◌, ◌≤◌, ℕ, zero, suc, Bool, true, false, if◌then◌else◌, List, [], ◌∷◌, ◌++◌, length, map, flat_map, get_or, Option, Some, None, refl, sym, ap, ◌∙◌, arith, ◌^◌}
 use Rattle.std.proofs.lemmas.List.{length-map}
 use Rattle.std.proofs.lemmas.Bool.Decides.{nat_tests}
+use Rattle.std.proofs.lemmas.List.Sums.{sum_by-cons}
 use Rattle.std.specs.List.{All}
 use Rattle.ir_image.specs.Guest.{most_threads}
 use Rattle.ir_keep.specs.Pages.{Origin, is_origin, has_origin, different, origins}
@@ -153,7 +154,8 @@ counted_first n from (Some page ∷ own) new =
 -- all pages that are kept
 pub counted : (m : ℕ) (entries : List Entry) → AreEntries m entries → AreLaid entries → different (all_origins (all_kept entries)) ≡ stored entries
 counted m [] are lies = refl
-counted m (e ∷ []) are lies = counted_first e.number 0 e.pages lies.0
+counted m (e ∷ []) are lies =
+    counted_first e.number 0 e.pages lies.0 ∙ sym (sum_by-cons (λ (x : Entry). owned x.pages) e [])
 counted m (e ∷ next ∷ older) are lies =
     let old = in_force (next ∷ older) in
     let rest = all_origins (all_kept (next ∷ older)) in
@@ -163,6 +165,7 @@ counted m (e ∷ next ∷ older) are lies =
     ∙ (λ j. is_first i (sources_of old) (omega (arith, lt, length-map old (λ (p : Page). p.source))) j || has_origin (at (get_or (sources_of old) i 0) i) (all_origins (all_kept older))))
     (λ i source lt. ap (λ p. has_origin (at source p) rest) (omega arith) ∙ not_kept m i source (next ∷ older) are.1 lies.1 lt)
     ∙ ap (λ k. owned e.pages + k) (counted m (next ∷ older) are.1 lies.1)
+    ∙ sym (sum_by-cons (λ (x : Entry). owned x.pages) e (next ∷ older))
 
 -- ---- few
 
@@ -174,7 +177,7 @@ own_few (Some page ∷ own) = omega (arith, own_few own)
 pub stored_few : (m : ℕ) (entries : List Entry) → AreEntries m entries → m ≤ most_threads → stored entries ≤ 128 * length entries
 stored_few m [] are few = omega arith
 stored_few m (e ∷ entries) are few =
-    let sum : stored (e ∷ entries) ≡ owned e.pages + stored entries = refl in
+    let sum : stored (e ∷ entries) ≡ owned e.pages + stored entries = sum_by-cons (λ (x : Entry). owned x.pages) e entries in
     omega (arith, sum, own_few e.pages, are.0.pages, few, stored_few m entries are.1 few)
 
 pub pages_few : (m : ℕ) (entries : List Entry) → AreEntries m entries → m ≤ most_threads → All (λ (e : Entry). length e.pages < 2 ^ 32) entries

@@ -4,7 +4,6 @@ use Rattle.std.proofs.lemmas.Bool.{cases_lt}
 use Rattle.std.proofs.lemmas.List.{length-map}
 use Rattle.std.proofs.lemmas.Bool.Decides.{nat_tests}
 use Rattle.std.proofs.lemmas.Option.{none-some}
-use mathlib.Core.Option.{some-injective}
 use Rattle.ir_thread.specs.Frames.{ThreadFrame}
 use Rattle.ir_thread.specs.State as thread
 use Rattle.ir_keep.specs.Keeping.{Kept, Keeping, kept_as, cut_in, is_below, total, IsNearest}
@@ -133,7 +132,7 @@ nearest_kept m last entries cut place d are falling best =
             let lt : i < length entries = is_there n entries (λ none. none-some other (sym none ∙ is)) in
             let found = kept_of (get_or entries i d) (in_force (drop i entries)) in
             let both : Some other ≡ Some found = sym is ∙ kept_there n entries d lt in
-            let same : other ≡ found = some-injective other found both in
+            let same : other ≡ found = cc both in
             let theirs : cut_in other ≡ (get_or entries i d).cut = ap cut_in same ∙ cut_there m i entries d (in_force (drop i entries)) are lt in
             let low : total (get_or entries i d).cut ≤ total (get_or entries place d).cut = best.nearest i d lt (ap (λ c. is_below c cut) (sym theirs) ∙ below) in
             omega (arith, low, ap total theirs, ap total own);

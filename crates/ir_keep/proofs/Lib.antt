@@ -5,3 +5,5 @@ mod Again
 mod Found
 mod Dropped
 mod Counted
+mod Calls
+mod Rebuilt

@@ -20,6 +20,10 @@ pub record Keeping : Type 0 where
   pub kept : List Kept
   pub last : ℕ
 
+-- the most cuts that are kept: the start, and 64 beside it
+abbrev pub most_kept : ℕ
+most_kept = 65
+
 -- every page of the start is of the start
 abbrev pub first_kept : Standing → Kept
 first_kept state = record { number = 0; state = state; sources = map (λ _. 0) (all_pages state.threads) }

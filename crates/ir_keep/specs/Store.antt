@@ -8,7 +8,7 @@ use Rattle.ir_thread.specs.State as thread
 use Rattle.ir_object.specs.Cell.{Cell}
 use Rattle.ir_weave.specs.Standing.{Standing}
 use Rattle.ir_keep.specs.Pages.{all_pages, same_bytes}
-use Rattle.ir_keep.specs.Keeping.{Kept, is_below, total}
+use Rattle.ir_keep.specs.Keeping.{Kept, most_kept, is_below, total}
 
 -- a page and the number that it was first kept under
 pub record Page : Type 0 where
@@ -177,10 +177,6 @@ HasStart [] = ⊥
 HasStart (entry ∷ []) = (entry.number ≡ 0) × AreZero entry.cut
 HasStart (entry ∷ next ∷ older) = HasStart (next ∷ older)
 
--- the most cuts that are kept, the start among them
-abbrev pub most_kept : ℕ
-most_kept = 65
-
 -- entries of n threads, the last number given being this
 pub record IsStore (n last : ℕ) (entries : List Entry) : Type 0 where
   pub few : length entries ≤ most_kept
@@ -213,3 +209,8 @@ pub record IsNearestPlace (cut : List ℕ) (entries : List Entry) (place : ℕ) 
   pub below : (d : Entry) → is_below (slice_index_or entries place d).cut cut ≡ true
   pub nearest : (i : ℕ) (d : Entry) → i < length entries → is_below (slice_index_or entries i d).cut cut ≡ true
       → total (slice_index_or entries i d).cut ≤ total (slice_index_or entries place d).cut
+
+-- the state of the newest entry
+abbrev pub state_of : List Entry → Standing
+state_of [] = record { threads = []; objects = [] }
+state_of (entry ∷ older) = (kept_of entry (in_force (entry ∷ older))).state

@@ -9,7 +9,8 @@ use crate::entry::Entry;
 
 // Where the entry of a number stands; their count, if there is none.
 pub fn place_of(entries: &[Entry], n: u32) -> usize
-    ensures { result ≡ store.place_of n entries.now }
+    ensures value { result ≡ store.place_of n entries.now }
+    ensures within { result ≤ length entries.now }
 {
     for place in 0..entries.len() {
         let entry = &entries[place];

@@ -1,8 +1,9 @@
 //! Cuts that are kept, with the state at each.
 
-ghost use Rattle.std.specs.Prelude.{◌≡◌, ◌≢◌, ◌↔◌, ◌+◌, ◌<◌, ℕ, length, vec_len, IfOk, OnErr, IsErrOf, MatchOption, Some, None, option_map};
-ghost use Rattle.ir_keep.specs.Keeping.{Keeping, IsCutFor, IsLike, IsNearest, IsNew, after_drop, after_keep, cut_in, kept_as, page_count};
+ghost use Rattle.std.specs.Prelude.{◌≡◌, ◌≢◌, ◌↔◌, ◌+◌, ◌<◌, ◌≤◌, ℕ, length, IfOk, OnErr, IsErrOf, MatchOption, Some, None, option_map};
+ghost use Rattle.ir_keep.specs.Keeping.{Keeping, IsCutFor, IsLike, IsNearest, IsNew, after_drop, after_keep, cut_in, kept_as, most_kept, page_count};
 ghost use Rattle.std.specs.List.{All};
+ghost use Rattle.ir_image.specs.Guest.{most_threads};
 ghost use Rattle.ir_keep.specs.Store as store;
 ghost use Rattle.ir_keep.specs.Gathered.{HasMemory};
 ghost use Rattle.ir_keep.specs.declared.keeper.KeepErr.TheVariants.{Full, NoMem};
@@ -78,9 +79,23 @@ fn entry_of(alloc: Global, number: u32, state: &State, older: &[Entry]) -> Resul
     })
 }
 
+// The state that the newest entry keeps.
+fn state_of(alloc: Global, entries: &[Entry]) -> Result<State, AllocError>
+    requires some { 0 < length entries.now }
+    requires few { store.thread_count entries.now ≤ most_threads }
+    requires each { store.AreEntries (store.thread_count entries.now) entries.now }
+    requires full { store.AreFull (store.in_force entries.now) }
+    ensures { IfOk result (λ state. state ≡ store.state_of entries.now) }
+{
+    let entry = &entries[0];
+    let threads = threads_at(alloc, entry.frames.as_slice(), entries)?;
+    let objects = copies(alloc, entry.objects.as_slice())?;
+    Ok(State::build(threads, objects))
+}
+
 // Takes an entry away; its pages go to the next newer one.
 fn take_away(entries: &mut Vec<Entry>, place: usize)
-    requires below { place < vec_len entries.old }
+    requires below { place < length entries.old.items }
     requires each { (n : ℕ) × store.AreEntries n entries.old.items }
     ensures { entries.new.items ≡ store.taken_away place entries.old.items }
 {
@@ -110,12 +125,13 @@ impl Keeper {
     ///
     /// # Errors
     /// `Full` where 64 are kept beside the start, and else `NoMem` where memory runs out; nothing changes then.
+    #[tactic(auto, using(crate::proofs::Calls::length_kept))]
     pub fn keep(&mut self, state: &State) -> Result<u32, KeepErr>
         requires threads { IsLike state.now self.old }
         requires numbers { self.old.last < 4294967295 }
         ensures kept { IfOk result (λ n. (n ≡ self.old.last + 1) × (self.new ≡ after_keep state.now self.old)) }
         ensures refused { OnErr result (self.new ≡ self.old) }
-        ensures full { IsErrOf result Full ↔ (length self.old.kept ≡ 65) }
+        ensures full { IsErrOf result Full ↔ (length self.old.kept ≡ most_kept) }
     {
         if self.entries.len() >= MOST_KEPT {
             return Err(KeepErr::Full);
@@ -140,10 +156,14 @@ impl Keeper {
 
     /// The cut that is kept as n; none where n isn't kept.
     pub fn cut(&self, n: u32) -> Option<&Cut>
-        ensures { option_map (λ cut. cut.now) result ≡ option_map cut_in (kept_as n self.now.kept) }
+        ensures value { option_map (λ cut. cut.now) result ≡ option_map cut_in (kept_as n self.now.kept) }
+        ensures kept { MatchOption result (kept_as n self.now.kept ≡ None) (λ _. kept_as n self.now.kept ≢ None) }
     {
         let place = place_of(self.entries.as_slice(), n);
-        let entry = self.entries.get(place)?;
+        if place >= self.entries.len() {
+            return None;
+        }
+        let entry = &self.entries[place];
         Some(&entry.cut)
     }
 
@@ -153,15 +173,11 @@ impl Keeper {
     /// Out of memory.
     pub fn restore(&self, n: u32) -> Result<State, AllocError>
         requires { kept_as n self.now.kept ≢ None }
-        ensures { IfOk result (λ state. MatchOption (kept_as n self.now.kept) ⊥ (λ k. state ≡ k.state)) }
+        ensures { IfOk result (λ state. option_map (λ k. k.state) (kept_as n self.now.kept) ≡ Some state) }
     {
-        let alloc = *self.entries.allocator();
-        let place = place_of(self.entries.as_slice(), n);
-        let entries = &self.entries[place..];
-        let entry = &entries[0];
-        let threads = threads_at(alloc, entry.frames.as_slice(), entries)?;
-        let objects = copies(alloc, entry.objects.as_slice())?;
-        Ok(State::build(threads, objects))
+        let entries = self.entries.as_slice();
+        let place = place_of(entries, n);
+        state_of(*self.entries.allocator(), &entries[place..])
     }
 
     /// Gives up the cut kept as n, which is kept and not the start, and the pages that no other has.
@@ -172,6 +188,21 @@ impl Keeper {
     {
         let place = place_of(self.entries.as_slice(), n);
         take_away(&mut self.entries, place);
+    }
+
+    /// How many threads each kept state has.
+    pub fn threads(&self) -> usize
+        ensures { All (λ k. length k.state.threads ≡ result) self.now.kept }
+    {
+        let entry = &self.entries[0];
+        entry.frames.len()
+    }
+
+    /// The last number that was given.
+    pub fn last(&self) -> u32
+        ensures { result ≡ self.now.last }
+    {
+        self.last
     }
 
     /// How many different pages are kept. A page that is as at the greatest number that was kept before it is that same page.
