@@ -7,4 +7,4 @@ pub returns : goal.returns
 returns c =
     let entries = c.self.inside.entries.items in
     counts_threads (thread_count entries) c.self.inside.last _ entries c.index-entry.result.now c.args.self.now c.self.invariant c.self.view_is
-    (ap (λ (e : Entry). length e.frames) (c.entry.view_is ∙ c.index-entry.ensures))
+    (c.len.ensures ∙ c.entry.inside.frames.ok.0 ∙ ap (λ (e : Entry). length e.frames) (c.entry.view_is ∙ c.index-entry.ensures))
