@@ -133,9 +133,9 @@ store_next m last s (entry ∷ older) store few all same =
       numbers = (store.latest, store.numbers);
       latest = (omega arith, below_next (suc last) (entry ∷ older) store.latest);
       laid = (
-          newer_changed entry.number (suc last) (all_pages s.threads) (in_force (entry ∷ older)) (store.latest.0) many whole (pages_full s.threads all),
-          store.laid,
-        );
+        newer_changed entry.number (suc last) (all_pages s.threads) (in_force (entry ∷ older)) (store.latest.0) many whole (pages_full s.threads all),
+        store.laid,
+      );
       start = store.start;
     }
 

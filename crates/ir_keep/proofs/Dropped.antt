@@ -89,11 +89,10 @@ laid_away n zero (e ∷ older) lt are falling lies = lies.1
 laid_away n (suc zero) (e ∷ []) lt are falling lies = lies
 laid_away n (suc zero) (e ∷ gone ∷ older) lt are falling lies =
     (newer_handed gone.number e.number e.pages gone.pages (in_force older) (omega (arith, falling.0.0)) (are.0.pages ∙ sym are.1.0.pages) lies.0 lies.1.0, lies.1.1)
-laid_away n (suc (suc place)) (e ∷ older) lt are falling lies =
-    (
-      subst (AreNewer e.number e.pages) (sym (force_same n place older are.1 (omega (arith, lt)))) lies.0,
-      laid_away n (suc place) older (omega (arith, lt)) are.1 falling.1 lies.1,
-    )
+laid_away n (suc (suc place)) (e ∷ older) lt are falling lies = (
+  subst (AreNewer e.number e.pages) (sym (force_same n place older are.1 (omega (arith, lt)))) lies.0,
+  laid_away n (suc place) older (omega (arith, lt)) are.1 falling.1 lies.1,
+)
 
 start_away : (place : ℕ) (entries : List Entry) → suc place < length entries → HasStart entries → HasStart (taken_away place entries)
 start_away place [] lt start = start

@@ -110,8 +110,7 @@ start_zero (e ∷ next ∷ older) d (suc p) start at = start_zero (next ∷ olde
 pub start_below : (m : ℕ) (entries : List Entry) (d : Entry) (p : ℕ) (cut : List ℕ) → AreEntries m entries → HasStart entries → suc p ≡ length entries → length cut ≡ m
     → (is_below (get_or entries p d).cut cut ≡ true) × (total (get_or entries p d).cut ≡ 0)
 start_below m entries d p cut are start at same =
-    let zeros : AreZero (get_or entries p d).cut = start_zero entries d p start at in
-    (
+    let zeros : AreZero (get_or entries p d).cut = start_zero entries d p start at in (
       zero_below (get_or entries p d).cut cut zeros (length_cut m p entries d are (omega (arith, at)) ∙ sym same),
       zero_total (get_or entries p d).cut zeros,
     )
@@ -128,12 +127,12 @@ nearest_kept m last entries cut place d are falling best =
       below = ap (λ c. is_below c cut) own ∙ best.below d;
       nearest =
           λ n other is below.
-            let i = place_of n entries in
-            let lt : i < length entries = is_there n entries (λ none. none-some other (sym none ∙ is)) in
-            let found = kept_of (get_or entries i d) (in_force (drop i entries)) in
-            let both : Some other ≡ Some found = sym is ∙ kept_there n entries d lt in
-            let same : other ≡ found = cc both in
-            let theirs : cut_in other ≡ (get_or entries i d).cut = ap cut_in same ∙ cut_there m i entries d (in_force (drop i entries)) are lt in
-            let low : total (get_or entries i d).cut ≤ total (get_or entries place d).cut = best.nearest i d lt (ap (λ c. is_below c cut) (sym theirs) ∙ below) in
-            omega (arith, low, ap total theirs, ap total own);
+          let i = place_of n entries in
+          let lt : i < length entries = is_there n entries (λ none. none-some other (sym none ∙ is)) in
+          let found = kept_of (get_or entries i d) (in_force (drop i entries)) in
+          let both : Some other ≡ Some found = sym is ∙ kept_there n entries d lt in
+          let same : other ≡ found = cc both in
+          let theirs : cut_in other ≡ (get_or entries i d).cut = ap cut_in same ∙ cut_there m i entries d (in_force (drop i entries)) are lt in
+          let low : total (get_or entries i d).cut ≤ total (get_or entries place d).cut = best.nearest i d lt (ap (λ c. is_below c cut) (sym theirs) ∙ below) in
+          omega (arith, low, ap total theirs, ap total own);
     }

@@ -8,5 +8,7 @@ mod gathering;
 mod keeper;
 mod page;
 mod store;
+#[cfg(test)]
+mod tests;
 
 pub use keeper::{KeepErr, Keeper};

@@ -27,10 +27,9 @@ returns-clause-kept c =
     let entries = c.self.inside.entries.items in
     let last = c.self.inside.last in
     let same : length c.args.state.now.threads ≡ thread_count entries =
-    like_count (thread_count entries) last entries c.args.state.now c.args.self.now c.self.invariant c.self.view_is c.requires.threads in
-    (
+    like_count (thread_count entries) last entries c.args.state.now c.args.self.now c.self.invariant c.self.view_is c.requires.threads in (
       ap (λ (k : Keeping). k.last + 1) c.self.view_is,
       keep_value (thread_count entries) last c.args.state.now entries c.as_slice.result.now c.insert.new.self.items c.in_ok-entry.entry c.self.invariant
-      c.in_ok-entry.ensures.memories same (c.as_slice.ensures.value, c.in_ok-entry.ensures.value, c.in_ok-insert.ensures.items)
-      ∙ ap (after_keep c.args.state.now) c.self.view_is,
+          c.in_ok-entry.ensures.memories same (c.as_slice.ensures.value, c.in_ok-entry.ensures.value, c.in_ok-insert.ensures.items)
+          ∙ ap (after_keep c.args.state.now) c.self.view_is,
     )
