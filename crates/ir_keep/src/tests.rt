@@ -5,7 +5,7 @@ use ir_cut::Cut;
 use ir_fit::{Fitted, fit};
 use ir_flat::Flat;
 use ir_image::read_image;
-use ir_object::{Fields, Object};
+use ir_object::Object;
 use ir_thread::{End, Thread};
 use ir_trace::read_trace;
 use ir_weave::State;
@@ -113,41 +113,62 @@ fn give_up(rt: &impl Abort, keeper: &mut Keeper, n: u32) {
     keeper.drop_kept(n);
 }
 
-fn same_thread(a: &Thread, b: &Thread) -> bool {
+// What is seen of a thread beside its memory.
+#[derive(Clone, Copy, Debug, PartialEq)]
+struct SeenThread {
+    pc: u32,
+    registers: [u32; 32],
+    steps: u64,
+    events: u32,
+    end: Option<End>,
+}
+
+fn seen_thread(thread: &Thread) -> SeenThread {
+    let mut registers = [0; 32];
     for n in 0..32u8 {
-        if a.mach().reg(n) != b.mach().reg(n) {
+        registers[n as usize] = thread.mach().reg(n);
+    }
+    SeenThread {
+        pc: thread.mach().pc(),
+        registers,
+        steps: thread.steps(),
+        events: thread.events(),
+        end: thread.ended(),
+    }
+}
+
+fn same_threads(a: &[Thread], b: &[Thread]) -> bool {
+    if a.len() != b.len() {
+        return false;
+    }
+    for t in 0..a.len() {
+        if seen_thread(&a[t]) != seen_thread(&b[t])
+            || a[t].mach().memory() != b[t].mach().memory()
+        {
             return false;
         }
     }
-    a.mach().pc() == b.mach().pc()
-        && a.mach().memory() == b.mach().memory()
-        && a.held() == b.held()
-        && (a.steps(), a.events(), a.number()) == (b.steps(), b.events(), b.number())
-        && a.output() == b.output()
-        && a.ended() == b.ended()
+    true
 }
 
-fn same_object(a: &Object, b: &Object) -> bool {
-    a.fields() == b.fields() && a.contents() == b.contents()
+fn same_objects(a: &[Object], b: &[Object]) -> bool {
+    if a.len() != b.len() {
+        return false;
+    }
+    for o in 0..a.len() {
+        if a[o].fields() != b[o].fields() || a[o].contents() != b[o].contents() {
+            return false;
+        }
+    }
+    true
 }
 
 // Whether the state is what is kept as n.
 fn is_kept(rt: &impl Abort, keeper: &Keeper, n: u32, state: &State) -> Result<bool, Fail> {
     assert!(rt; keeper.cut(n).is_some());
     let again = keeper.restore(n)?;
-    let (threads, objects) = (again.threads(), again.objects());
-    if threads.len() != state.threads().len() || objects.len() != state.objects().len() {
-        return Ok(false);
-    }
-    let threads_same = threads
-        .iter()
-        .zip(state.threads())
-        .all(|(a, b)| same_thread(a, b));
-    let objects_same = objects
-        .iter()
-        .zip(state.objects())
-        .all(|(a, b)| same_object(a, b));
-    Ok(threads_same && objects_same)
+    let threads = same_threads(again.threads(), state.threads());
+    Ok(threads && same_objects(again.objects(), state.objects()))
 }
 
 // What is stored again unchanged isn't kept again, and what only one that is dropped has is given up.
