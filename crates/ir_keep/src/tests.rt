@@ -65,15 +65,31 @@ fn fitted(alloc: Global, image: &[u8], trace: &[u8]) -> Result<Fitted, Fail> {
     Ok(fit(alloc, image, read_trace(alloc, trace)?)?)
 }
 
-fn two_adders(alloc: Global) -> Result<Fitted, Fail> {
+// The bytes of a guest of two threads, both at the beginning of the code, with one object of eight zeros.
+fn adders(alloc: Global, code: &[u32]) -> Result<Vec<u8>, Fail> {
     let mut image = Vec::new(alloc);
-    image.extend_from_slice(&[0x49, 0x52, 0x49, 0x31, 2, 1, 18, 0, 0, 0, 0, 0, 0, 0])?;
+    image.extend_from_slice(&[0x49, 0x52, 0x49, 0x31, 2, 1])?;
+    image.extend_from_slice(&[18, 0, 0, 0, 0, 0, 0, 0])?;
     image.extend_from_slice(&[0, 0, 1, 0, 0, 0, 1, 0])?;
-    for word in ADD {
+    for word in code {
         image.extend_from_slice(&word.to_le_bytes())?;
     }
     image.extend_from_slice(&[0; 32])?;
+    Ok(image)
+}
+
+fn two_adders(alloc: Global) -> Result<Fitted, Fail> {
+    let image = adders(alloc, &ADD)?;
     fitted(alloc, image.as_slice(), &ADDED)
+}
+
+// Takes so many steps of a thread.
+fn take_steps(rt: &impl Abort, flat: &mut Flat, t: usize, count: u32) {
+    for _ in 0..count {
+        assert!(rt; t < flat.threads().len());
+        let taken = flat.step(t, 0);
+        assert!(rt; taken.is_ok());
+    }
 }
 
 // The state after so many steps of thread 1, and then of thread 0.
@@ -85,14 +101,8 @@ fn state_at(
     second: u32,
 ) -> Result<State, Fail> {
     let mut flat = Flat::start(alloc, fitted.image(), fitted.trace().budget())?;
-    for _ in 0..second {
-        assert!(rt; 1 < flat.threads().len());
-        assert!(rt; flat.step(1, 0).is_ok());
-    }
-    for _ in 0..first {
-        assert!(rt; 0 < flat.threads().len());
-        assert!(rt; flat.step(0, 0).is_ok());
-    }
+    take_steps(rt, &mut flat, 1, second);
+    take_steps(rt, &mut flat, 0, first);
     let (threads, objects) = flat.into_parts();
     Ok(State::build(threads, objects))
 }
