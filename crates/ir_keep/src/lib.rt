@@ -8,7 +8,5 @@ mod gathering;
 mod keeper;
 mod page;
 mod store;
-#[cfg(test)]
-mod tests;
 
 pub use keeper::{KeepErr, Keeper};
