@@ -14,6 +14,8 @@ mod examples;
 mod fault;
 mod files;
 mod line;
+mod list_err;
+mod listing;
 mod numeral;
 mod order;
 mod places;
@@ -33,6 +35,9 @@ mod telling;
 #[cfg(test)]
 mod tests;
 mod time;
+#[cfg(test)]
+mod trace_tests;
+mod tracing;
 mod whole_file;
 #[cfg(test)]
 mod world_tests;
@@ -53,6 +58,7 @@ use std::process::ExitCode;
 use std::sync::Wait;
 use std::thread::Threads;
 use std::time::Clock;
+use tracing::trace_run;
 use whole_file::WholeFile;
 
 const DONE: u8 = 0;
@@ -118,6 +124,16 @@ fn debug_files<R: Threads + Clock + Sync + Eprint>(
         &mut writer,
         &mut faults,
     )
+}
+
+// Lists the trace in a file.
+fn list_file(rt: &HostRuntime, trace: &str) -> u8 {
+    let Some(bytes) = bytes_of(rt, trace, MOST_BYTES) else {
+        return FAULT;
+    };
+    let mut out = FromStd::new(io::writer(rt));
+    let mut faults = FromStd::new(rt.stderr());
+    trace_run(rt.alloc(), bytes.as_slice(), &mut out, &mut faults)
 }
 
 // Whether the file that is read would be lost by writing to a path, which is told.
@@ -214,6 +230,7 @@ fn run<R: Threads + Wait + Sync + Clock + Eprint>(rt: &HostRuntime, threads: &R)
         Asked::Debugging(image, trace) => {
             debug_files(rt, threads, image.as_str(), trace.as_str())
         }
+        Asked::Listing(trace) => list_file(rt, trace.as_str()),
         Asked::Assembling(source, image) => assemble_file(rt, source.as_str(), image.as_str()),
         Asked::Recording(arguments) => record_file(rt, threads, &arguments),
         Asked::Help(text) => match rt.print(text) {
