@@ -397,21 +397,14 @@ pub fn parsed(alloc: Global, arguments: &[String]) -> Asked {
     }
 }
 
-fn collected<R: env::Env + AllocGlobal>(rt: &R) -> io::Result<Vec<String>> {
+/// The arguments, of which the first is the program's name.
+///
+/// # Errors
+/// Want of memory, or one is no text.
+pub fn collected<R: env::Env + AllocGlobal>(rt: &R) -> io::Result<Vec<String>> {
     let mut arguments = Vec::new(rt.alloc());
     for argument in env::args(rt)? {
         arguments.push(argument)?;
     }
     Ok(arguments)
-}
-
-/// Reads the arguments.
-pub fn read_arguments(rt: &HostRuntime) -> Asked {
-    match collected(rt) {
-        Ok(arguments) => parsed(rt.alloc(), arguments.as_slice()),
-        Err(_) => match String::from_str(rt.alloc(), "an argument is no text") {
-            Ok(why) => Asked::Nothing(why),
-            Err(_) => Asked::NoMem,
-        },
-    }
 }
