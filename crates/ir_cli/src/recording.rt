@@ -151,7 +151,8 @@ fn line_by(
     format!(in alloc; "thread {number} end {end} code {code} steps {steps} events {events}\n")
 }
 
-fn thread_line(alloc: Global, number: usize, thread: &ThreadTrace) -> Result<String, AllocError>
+/// The line of a thread.
+pub fn thread_line(alloc: Global, number: usize, thread: &ThreadTrace) -> Result<String, AllocError>
     ensures { IfOk result (λ s. string_bytes s ≡ thread_line number thread.now) }
 {
     let end = thread.end();

@@ -12,10 +12,10 @@ use std::time::Clock;
 
 // Gives its bytes; the call of this number fails, and each after it.
 #[derive(Drop)]
-struct Bytes<'a> {
-    left: &'a [u8],
-    calls_left: u64,
-    failed: bool,
+pub struct Bytes<'a> {
+    pub left: &'a [u8],
+    pub calls_left: u64,
+    pub failed: bool,
 }
 
 impl Source for Bytes<'_> {
