@@ -47,8 +47,8 @@ impl<T: Drop> From<AllocFailed<T>> for KeepErr {
     }
 }
 
-/// Cuts of one replay that are kept under numbers, each with the state there: the start as 0, and at most 64 others. Pages of private memory that
-/// stay the same from one to the next are kept once.
+/// Cuts of one replay that are kept under numbers, each with the state there: the start as 0, and at most 64 others. Pages
+/// of private memory that stay the same from one to the next are kept once.
 #[derive(Drop)]
 pub struct Keeper {
     entries: Vec<Entry>,
@@ -120,8 +120,8 @@ impl Keeper {
         Ok(Keeper { entries, last: 0 })
     }
 
-    /// Keeps a state of the same replay, and answers its number: the next after the last that was given. What is kept is a copy; a page that is as
-    /// at the greatest number that is kept isn't copied.
+    /// Keeps a state of the same replay, and answers its number: the next after the last that was given. What is kept is a
+    /// copy; a page that is as at the greatest number that is kept isn't copied.
     ///
     /// # Errors
     /// `Full` where 64 are kept beside the start, and else `NoMem` where memory runs out; nothing changes then.
@@ -205,7 +205,8 @@ impl Keeper {
         self.last
     }
 
-    /// How many different pages are kept. A page that is as at the greatest number that was kept before it is that same page.
+    /// How many different pages are kept. A page that is as at the greatest number that was kept before it is that same
+    /// page.
     pub fn pages(&self) -> u32
         ensures { result ≡ page_count self.now }
     {
