@@ -1,7 +1,7 @@
 //! The end of a thread that fails one condition, or several at once.
 
 use crate::counting::worlds;
-use crate::sources::image_of;
+use ir_asm::assemble;
 use ir_fit::fit;
 use ir_record::record_in_order;
 use ir_thread::End;
@@ -62,9 +62,13 @@ const NO_OBJECT: &str = "
 // A guest of one thread and two objects; its end, and that of each thread that its recording tells of, is read off the
 // trace, which fits.
 fn end_of(alloc: Global, code: &[&str], budget: u64) -> Result<Option<End>, Fail> {
-    let mut parts = Vec::from_slice(alloc, &["        .objects 2"])?;
-    parts.extend_from_slice(code)?;
-    let image = image_of(alloc, parts.as_slice())?;
+    let mut source = String::new(alloc);
+    source.push_str("        .objects 2\n")?;
+    for part in code {
+        source.push_str(part)?;
+        source.push_str("\n")?;
+    }
+    let image = assemble(alloc, source.as_str())?;
     let worlds = worlds(alloc, image.entries().len())?;
     let budget = budget.min(BUDGET);
     let (trace, _outputs) = record_in_order(alloc, &image, &[], worlds, budget)?;
