@@ -53,7 +53,8 @@ fn kept_cuts_are_answered(rt: HostRuntime) -> Result<(), Fail> {
 fn keep_lines(rt: &HostRuntime, times: u32) -> Result<(String, String), Fail> {
     let mut lines = String::new(rt.alloc());
     let mut answers = format!(in rt.alloc(); "ready\n")?;
-    for number in 1..times + 1 {
+    for before in 0..times {
+        let number = before + 1;
         lines.push_str("keep\n")?;
         let answer = format!(in rt.alloc(); "kept {number}\n")?;
         answers.push_str(answer.as_str())?;
