@@ -61,7 +61,14 @@ ARGUMENTS = [
     ("record d.img d.trc --order -1", 3, "ir: LIST: the item '-1' is neither T nor TxN\n"),
     ("record d.img d.trc --order 0x0", 3, "ir: LIST: the item '0x0' has an N that is not from 1 to 1000000\n"),
     ("record d.img none/d.trc", 1, "ir: none/d.trc can't be written: no such file or folder\n"),
+    ("trace", 2, "ir: the following required arguments were not provided: <TRACE>\n"),
+    ("trace none.trc", 1, "ir: none.trc can't be read: no such file or folder\n"),
+    ("trace folder", 1, "ir: folder can't be read: it is a folder\n"),
+    ("trace long", 1, "ir: long is over 100000000 bytes\n"),
 ]
+
+# The lines of its trace.
+DOUBLE_TRACE = b"threads 1 objects 0 budget 1000000\n" + DOUBLE_LINE + b"log 0 of 0\n"
 
 # Each row: the arguments of a run that would write over what it reads, and the message.
 OWN_FILES = [
@@ -88,7 +95,8 @@ def wants(what, found, wanted):
 
 def run(arguments, folder, **more):
     """A run of the program in a folder, to its end."""
-    more.setdefault("stdin", subprocess.DEVNULL)
+    if "input" not in more:
+        more.setdefault("stdin", subprocess.DEVNULL)
     more.setdefault("stdout", subprocess.PIPE)
     more.setdefault("stderr", subprocess.PIPE)
     return subprocess.run([PROGRAM] + shlex.split(arguments), cwd=folder, timeout=120, **more)
@@ -137,6 +145,19 @@ def test_own_files(folder):
         wants(arguments, (ended.returncode, ended.stdout, ended.stderr.decode()), (2, b"", message))
     for name in names:
         wants(name, (folder / name).read_bytes(), before[name])
+
+
+def test_trace(folder):
+    """A trace in lines, and how it is refused."""
+    for arguments, status, lines in (
+        ("trace whole.trc", 0, DOUBLE_TRACE),
+        ("trace d.img", 3, b"trace refused 2\n"),
+    ):
+        ended = run(arguments, folder)
+        wants(arguments, (ended.returncode, ended.stdout, ended.stderr), (status, lines, b""))
+    for command in ("./ir trace whole.trc >/dev/full", "./ir trace whole.trc >&-", "./ir trace d.img >/dev/full"):
+        ended = shell(command, folder)
+        wants(command, (ended.returncode, ended.stdout, ended.stderr), (1, b"", FULL))
 
 
 def test_closed_streams(folder):
@@ -234,6 +255,15 @@ def test_answers_come(folder):
             wants(repr(asked[-9:]), session.stdout.readline(), answer)
         # It ends by itself, though its input doesn't.
         wants("the status", session.wait(10), 0)
+
+
+def test_long_lines_of_digits(folder):
+    """The image's line has at most 4,194,304 digits: so many are judged, and more are not."""
+    image = (folder / "d.img").read_bytes().hex().encode()
+    for digits, status, answers in ((4_194_304, 3, b"image refused 5\n"), (4_194_306, 1, b"")):
+        ended = run("", folder, input=image.ljust(digits, b"0") + b"\n\n")
+        wants(f"{digits} digits: status", ended.returncode, status)
+        wants(f"{digits} digits: answers", ended.stdout, answers)
 
 
 def test_large_order(folder):

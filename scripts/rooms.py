@@ -4,7 +4,8 @@
 python3 scripts/rooms.py
 
 Of another crate's proofs a file may cite what its `proofs/CallerLemmas.antt` offers, and nothing else; no other module
-of `proofs/` is public; and a crate stands in crates.txt on each crate that its files name.
+of `proofs/` is public; a crate stands in crates.txt on each crate that its files name; and the texts of ir_tests'
+`examples.rt` are those of the files of `examples`, since a test can read no file.
 """
 import re
 import sys
@@ -15,6 +16,8 @@ CITED = re.compile(r"\bRattle\.(ir_\w+)\.proofs\.(\w+)")
 NAMED = re.compile(r"\bRattle\.(ir_\w+)\.|\b(ir_\w+)::")
 PUBLIC = re.compile(r"^pub mod (\w+)", re.MULTILINE)
 OFFERED = "CallerLemmas"
+EXAMPLES = TOP / "crates" / "ir_tests" / "src" / "examples.rt"
+TEXT = re.compile(r'^pub const (\w+): &str =\s+"([^"]*)";', re.MULTILINE)
 
 
 def files_of(crate):
@@ -54,9 +57,18 @@ def faults():
                 yield f"{lib.relative_to(TOP)}: module {module} is public"
 
 
+def examples():
+    """Each example that stands in only one place, or differs, as a line."""
+    texts = {name.lower(): text for name, text in TEXT.findall(EXAMPLES.read_text(encoding="utf-8"))}
+    files = {path.stem: path.read_text(encoding="utf-8") for path in (TOP / "examples").glob("*.s")}
+    for name in sorted(texts.keys() | files.keys()):
+        if texts.get(name) != files.get(name):
+            yield f"examples/{name}.s: isn't the text of {name.upper()} in {EXAMPLES.relative_to(TOP)}"
+
+
 def main():
-    found = list(faults())
-    print("\n".join(found) or "rooms: each crate cites what the others offer")
+    found = [*faults(), *examples()]
+    print("\n".join(found) or "rooms: each crate cites what the others offer; the examples are as ir_tests has them")
     return 1 if found else 0
 
 

@@ -186,18 +186,18 @@ prefix (y ∷ ys) (suc i) d l =
 pub put_next : (s : Seen) (xs : List Placed) (i : ℕ) (x : Placed) (g h : Guest) (whole : Result Guest Fault) → i < length xs
     → x ≡ get_or xs i x → put s x.address x.item g ≡ Ok h →
     second_pass s (drop i xs) g ≡ whole → second_pass s (drop (i + 1) xs) h ≡ whole
-put_next s xs i x g h whole l there e told =
+put_next s xs i x g h whole l there e whole_is =
     let cut : drop i xs ≡ x ∷ drop (i + 1) xs = prefix xs i x l ∙ ap (λ (y : Placed). y ∷ drop (i + 1) xs) (sym there) in
-    sym (ap (λ (l : List Placed). second_pass s l g) cut ∙ rw e refl) ∙ told
+    sym (ap (λ (l : List Placed). second_pass s l g) cut ∙ rw e refl) ∙ whole_is
 
 -- a step that is refused
 pub put_refused : {X : Type 0} (view : X → Guest) (s : Seen) (xs : List Placed) (i : ℕ) (x : Placed) (g state : Guest) (refusal : Refusal)
     (error : AsmErr) (whole : Result Guest Fault) → i < length xs → x ≡ get_or xs i x → error ≡ refused x.line refusal →
     Makes {A = Unit {0}} state (Err refusal) (put s x.address x.item g) → second_pass s (drop i xs) g ≡ whole
     → Answers view (Err error) whole
-put_refused view s xs i x g state refusal error whole l there is e told =
+put_refused view s xs i x g state refusal error whole l there is e whole_is =
     let cut : drop i xs ≡ x ∷ drop (i + 1) xs = prefix xs i x l ∙ ap (λ (y : Placed). y ∷ drop (i + 1) xs) (sym there) in
-    let again : second_pass s (x ∷ drop (i + 1) xs) g ≡ whole = sym (ap (λ (l : List Placed). second_pass s l g) cut) ∙ told in
+    let again : second_pass s (x ∷ drop (i + 1) xs) g ≡ whole = sym (ap (λ (l : List Placed). second_pass s l g) cut) ∙ whole_is in
     subst (λ r. Answers view (Err r) whole) (sym is) (by_refusal refusal (put s x.address x.item g) e again)
   where
     by_refusal : (r : Refusal) (step : Result Guest Cause) → Makes {A = Unit {0}} state (Err r) step

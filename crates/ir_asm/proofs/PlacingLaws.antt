@@ -133,6 +133,6 @@ second_fault lines s fault e some =
         let there : second_pass s s.placed (started s) ≡ Err (record { line = f.statement.line; cause = fault.cause }) =
         ap (λ l. second_pass s l (started s)) f.stands
         ∙ fails_there s f.before f.after f.statement fault.cause (started s) f.earlier f.fails in
-        let told : second_pass s s.placed (started s) ≡ Err fault = there
+        let whole_is : second_pass s s.placed (started s) ≡ Err fault = there
         ∙ ap (λ n. Err (record { line = n; cause = fault.cause })) f.line in
-        rw told refl
+        rw whole_is refl

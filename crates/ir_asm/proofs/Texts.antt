@@ -49,7 +49,7 @@ pub one_refusal : {X : Type 0} (view : X → List Operand) (e : Refusal) (form :
     split 44 rest ≡ part ∷ drop 1 (split 44 rest)
     → Gives {X = Operand} {Y = Operand} (λ x. x) (Err e) (read (kind_at form place) (trim part)) →
     onto done (read_all form place (map trim (split 44 rest))) ≡ whole → Gives view (Err e) whole
-one_refusal view (Faulty cause) form place done rest part whole s g told =
-    sym told ∙ ap (λ (l : List (List ℕ)). onto done (read_all form place (map trim l))) s
+one_refusal view (Faulty cause) form place done rest part whole s g whole_is =
+    sym whole_is ∙ ap (λ (l : List (List ℕ)). onto done (read_all form place (map trim l))) s
     ∙ one_fault form place done cause (trim part) (map trim (drop 1 (split 44 rest))) g
-one_refusal view NoMem form place done rest part whole s g told = tt
+one_refusal view NoMem form place done rest part whole s g whole_is = tt

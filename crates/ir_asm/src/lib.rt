@@ -18,6 +18,8 @@ mod operands;
 mod parts;
 mod refusal;
 mod register;
+#[cfg(test)]
+mod row_tests;
 mod scan;
 mod second_pass;
 #[cfg(test)]

@@ -46,7 +46,7 @@ const ORDER: [(&str, usize, u8); 11] = [
 ];
 
 // The line and the cause of the first fault; none, and 0 for want of memory, where there is none.
-fn fault_of(alloc: Global, source: &str) -> (usize, u8) {
+pub fn fault_of(alloc: Global, source: &str) -> (usize, u8) {
     match assemble(alloc, source) {
         Ok(_) => (0, 0),
         Err(AsmErr::At { line, cause }) => (line, cause.number()),

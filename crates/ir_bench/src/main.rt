@@ -153,7 +153,7 @@ fn replayed_by_threads<R: Threads + Clock + Print + Sync>(
 }
 
 // The same of a trace that is only read, or is seen to be coherent too.
-fn told(alloc: Global, trace: &Trace, is_judged: bool) -> Result<u64> {
+fn whole_text(alloc: Global, trace: &Trace, is_judged: bool) -> Result<u64> {
     if is_judged {
         coherent(alloc, trace).ok().context("a coherent trace")?;
     }
@@ -190,8 +190,8 @@ fn main(rt: HostRuntime) -> Result<()> {
                 "fit" => fitted(alloc, image, trace)?,
                 "replay" => replayed(&rt, alloc, image, trace)?,
                 "replay-threads" => replayed_by_threads(&rt, alloc, image, trace)?,
-                "read" => told(alloc, &trace, false)?,
-                "coherent" => told(alloc, &trace, true)?,
+                "read" => whole_text(alloc, &trace, false)?,
+                "coherent" => whole_text(alloc, &trace, true)?,
                 _ => bail!("a mode"),
             }
         }

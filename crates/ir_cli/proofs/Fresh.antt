@@ -11,7 +11,7 @@ use Rattle.ir_record.specs.Recording.{IsRecording, IsRecordingOfSome}
 use Rattle.ir_record.specs.Worlds.{Answered}
 use Rattle.ir_cli.specs.Order.{order_of}
 use Rattle.ir_cli.specs.Recording.{seed_of, origin_of, origins, IsRecordedOf}
-use Rattle.ir_cli.specs.Sources.{MadeWith, made_with, is_counted, IsTold}
+use Rattle.ir_cli.specs.Sources.{MadeWith, made_with, is_counted, IsAnswered}
 use Rattle.ir_cli.specs.declared.time.Time.{Time}
 
 map_more : {A B : Type 0} (f : A → B) (xs : List A) (x : A) → map f (xs ++ x ∷ []) ≡ map f xs ++ f x ∷ []
@@ -49,39 +49,39 @@ pub many : {W : Type 0} (made : W → MadeWith) (worlds : List W) (counted : Boo
 many made worlds counted random file n e = sym (length-map worlds made) ∙ ap (λ (z : List MadeWith). length z) e
     ∙ length-map-range_with_len (origin_of counted random file) 0 n
 
-told_from : {O : Type 0} (made : O → MadeWith) (answers : O → List Answered) → ((o : O) → IsTold (made o) (answers o))
+answered_from : {O : Type 0} (made : O → MadeWith) (answers : O → List Answered) → ((o : O) → IsAnswered (made o) (answers o))
     → (counted : Bool) (random : ℕ) (file : List ℕ) (os : List O) (a n : ℕ)
     → map made os ≡ map (origin_of counted random file) (range_with_len a n)
-    → (t : ℕ) → t < n → IsTold (origin_of counted random file (a + t)) (get_or (map answers os) t [])
-told_from made answers gave counted random file os a zero e t l = absurd (omega (arith, l))
-told_from made answers gave counted random file [] a (suc n) e t l = absurd (cc)
-told_from made answers gave counted random file (o ∷ os) a (suc n) e zero l =
+    → (t : ℕ) → t < n → IsAnswered (origin_of counted random file (a + t)) (get_or (map answers os) t [])
+answered_from made answers gave counted random file os a zero e t l = absurd (omega (arith, l))
+answered_from made answers gave counted random file [] a (suc n) e t l = absurd (cc)
+answered_from made answers gave counted random file (o ∷ os) a (suc n) e zero l =
     let here : made o ≡ origin_of counted random file a = cc in
     let first : a ≡ a + zero = omega arith in
-    subst (λ (m : MadeWith). IsTold m (answers o)) (here ∙ ap (origin_of counted random file) first) (gave o)
-told_from made answers gave counted random file (o ∷ os) a (suc n) e (suc t) l =
+    subst (λ (m : MadeWith). IsAnswered m (answers o)) (here ∙ ap (origin_of counted random file) first) (gave o)
+answered_from made answers gave counted random file (o ∷ os) a (suc n) e (suc t) l =
     let rest : map made os ≡ map (origin_of counted random file) (range_with_len (a + 1) n) = cc in
     let place : a + 1 + t ≡ a + suc t = omega arith in
-    subst (λ (k : ℕ). IsTold (origin_of counted random file k) (get_or (map answers os) t [])) place
-    (told_from made answers gave counted random file os (a + 1) n rest t (omega (arith, l)))
+    subst (λ (k : ℕ). IsAnswered (origin_of counted random file k) (get_or (map answers os) t [])) place
+    (answered_from made answers gave counted random file os (a + 1) n rest t (omega (arith, l)))
 
 -- each of the worlds was answered by its own sources
-pub told_by : {O : Type 0} (made : O → MadeWith) (answers : O → List Answered) → ((o : O) → IsTold (made o) (answers o))
+pub answered_by : {O : Type 0} (made : O → MadeWith) (answers : O → List Answered) → ((o : O) → IsAnswered (made o) (answers o))
     → (counted : Bool) (random : ℕ) (file : List ℕ) (os : List O) (n : ℕ) → map made os ≡ origins counted random file n
-    → (t : ℕ) → t < n → IsTold (origin_of counted random file t) (get_or (map answers os) t [])
-told_by made answers gave counted random file os n e t l =
+    → (t : ℕ) → t < n → IsAnswered (origin_of counted random file t) (get_or (map answers os) t [])
+answered_by made answers gave counted random file os n e t l =
     let place : 0 + t ≡ t = omega arith in
-    subst (λ (k : ℕ). IsTold (origin_of counted random file k) (get_or (map answers os) t [])) place
-    (told_from made answers gave counted random file os 0 n e t l)
+    subst (λ (k : ℕ). IsAnswered (origin_of counted random file k) (get_or (map answers os) t [])) place
+    (answered_from made answers gave counted random file os 0 n e t l)
 
 -- what was recorded in an order, with fresh worlds
 pub recorded_from : (image list : List ℕ) (budget random : ℕ) (file : List ℕ) (guest : Guest) (entries order given : List ℕ)
     (before : List (List Answered)) (trace : Recorded) (outputs : List (List ℕ)) (answers : List (List Answered))
     → guest_at image ≡ Ok guest → entries ≡ guest.entries → order_of (length entries) list ≡ Some order → given ≡ order
     → before ≡ replicate (length entries) [] → IsRecording guest budget given before trace outputs answers
-    → ((t : ℕ) → t < length entries → IsTold (origin_of true random file t) (get_or answers t []))
+    → ((t : ℕ) → t < length entries → IsAnswered (origin_of true random file t) (get_or answers t []))
     → IsRecordedOf image (Some list) budget random file trace
-recorded_from image list budget random file guest entries order given before trace outputs answers is same spelled e silent h told =
+recorded_from image list budget random file guest entries order given before trace outputs answers is same spelled e silent h answered =
     let long : length entries ≡ length guest.entries = ap (λ (z : List ℕ). length z) same in
     record {
       guest = guest;
@@ -95,7 +95,7 @@ recorded_from image list budget random file guest entries order given before tra
             (silent ∙ ap (λ (n : ℕ). replicate n []) long)
             (subst (λ (z : List ℕ). IsRecording guest budget z before trace outputs answers) e h),
       );
-      told = λ t l. told t (omega (arith, l, long));
+      answered = λ t l. answered t (omega (arith, l, long));
     }
 
 -- the same, by threads
@@ -103,9 +103,9 @@ pub recorded_by : (image : List ℕ) (budget random : ℕ) (file : List ℕ) (gu
     (trace : Recorded) (outputs : List (List ℕ)) (answers : List (List Answered))
     → guest_at image ≡ Ok guest → entries ≡ guest.entries → before ≡ replicate (length entries) []
     → IsRecordingOfSome guest budget before trace outputs answers
-    → ((t : ℕ) → t < length entries → IsTold (origin_of false random file t) (get_or answers t []))
+    → ((t : ℕ) → t < length entries → IsAnswered (origin_of false random file t) (get_or answers t []))
     → IsRecordedOf image None budget random file trace
-recorded_by image budget random file guest entries before trace outputs answers is same silent h told =
+recorded_by image budget random file guest entries before trace outputs answers is same silent h answered =
     let long : length entries ≡ length guest.entries = ap (λ (z : List ℕ). length z) same in
     record {
       guest = guest;
@@ -114,5 +114,5 @@ recorded_by image budget random file guest entries before trace outputs answers 
       answers = answers;
       recorded = subst (λ (z : List (List Answered)). IsRecordingOfSome guest budget z trace outputs answers)
           (silent ∙ ap (λ (n : ℕ). replicate n []) long) h;
-      told = λ t l. told t (omega (arith, l, long));
+      answered = λ t l. answered t (omega (arith, l, long));
     }

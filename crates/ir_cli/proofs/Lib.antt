@@ -7,3 +7,4 @@ mod Items
 mod Giving
 mod Fresh
 mod Printed
+mod Listed

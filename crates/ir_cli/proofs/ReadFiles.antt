@@ -13,15 +13,15 @@ short_is_all (suc n) (x ∷ xs) h = ap (λ (l : List ℕ). x ∷ l) (short_is_al
 
 by_left : (n : ℕ) (left : Option (List ℕ)) (bytes : List ℕ) → length bytes < n → IfSome (option_map (take n) left) (λ xs. bytes ≡ xs)
     → IfSome left (λ xs. bytes ≡ xs)
-by_left n None bytes h told = tt
-by_left n (Some xs) bytes h told = told ∙ short_is_all n xs
-    (let e : length bytes ≡ length (take n xs) = ap length told in omega (arith, h, e))
+by_left n None bytes h known = tt
+by_left n (Some xs) bytes h known = known ∙ short_is_all n xs
+    (let e : length bytes ≡ length (take n xs) = ap length known in omega (arith, h, e))
 
 -- what is known of the bytes, where they did not reach the limit
 pub all_read : {R : Type 0} (remaining : R → Option (List ℕ)) (n : ℕ) (t : Take R) (reader : R) (old bytes : List ℕ) → take_limit t ≡ n
     → take_inner t ≡ reader → old ≡ [] → length bytes < n →
     IfSome (take_remaining remaining t) (λ xs. bytes ≡ old ++ xs) → IfSome (remaining reader) (λ xs. bytes ≡ xs)
-all_read remaining n t reader old bytes limit inner nothing h told =
+all_read remaining n t reader old bytes limit inner nothing h known =
     by_left n (remaining reader) bytes h (subst (λ (m : ℕ). IfSome (option_map (take m) (remaining reader)) (λ xs. bytes ≡ xs)) limit
     (subst (λ r. IfSome (option_map (take (take_limit t)) (remaining r)) (λ xs. bytes ≡ xs)) inner
-    (subst (λ (l : List ℕ). IfSome (take_remaining remaining t) (λ xs. bytes ≡ l ++ xs)) nothing told)))
+    (subst (λ (l : List ℕ). IfSome (take_remaining remaining t) (λ xs. bytes ≡ l ++ xs)) nothing known)))

@@ -6,8 +6,8 @@ use Rattle.std.proofs.KnownBytes.{Consumes-kept}
 use Rattle.std.proofs.lemmas.List.{append-nil, length-append, length-take}
 use Rattle.std.proofs.lemmas.Bool.{lt-leb}
 use Rattle.ir_command.specs.Words.{without_return}
-use Rattle.ir_cli.specs.Bundle.{is_feed, line_of, after_line, bytes_of_line, most_digits, most_input, bundle_by, bundle_of, Bundled}
-use Rattle.ir_debug.specs.Session.{Session, IfServed}
+use Rattle.ir_cli.specs.Bundle.{is_feed, line_of, after_line, bytes_of_line, most_digits, bundle_by, bundle_of, Bundled}
+use Rattle.ir_debug.specs.Session.{Session, IfServed, most_input}
 use Rattle.ir_debug.specs.declared.ended.Ended.{Ended}
 use Rattle.ir_debug.specs.declared.ended.SessionErr.{SessionErr}
 use Rattle.ir_debug.specs.declared.ended.SessionErr.TheVariants as err

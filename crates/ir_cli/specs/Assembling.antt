@@ -1,4 +1,4 @@
--- What assembling a file gives: the bytes of its image, or the line that tells its first fault.
+-- What assembling a file gives: the bytes of its image, or the line that reports its first fault.
 use Rattle.std.specs.Prelude.{◌≡◌, ◌⊎◌, ℕ, nat_lt, List, [], ◌∷◌, ◌++◌, codes, map, decimal, Result, Ok, Err, if◌then◌else◌}
 use Rattle.ir_image.specs.Guest.{Guest}
 use Rattle.ir_image.specs.Encoding.{encoding}
@@ -20,7 +20,7 @@ spelled (Err fault) = Err fault
 abbrev pub image_bytes : List ℕ → Result (List ℕ) Fault
 image_bytes source = spelled (assembled (map masked source))
 
--- the line that tells a fault
+-- the line that reports a fault
 abbrev pub fault_line : Fault → List ℕ
 fault_line fault = codes "line " ++ (decimal fault.line ++ (codes " error " ++ (decimal (number_of fault.cause) ++ 10 ∷ [])))
 

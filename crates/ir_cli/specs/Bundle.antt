@@ -3,7 +3,7 @@ use Rattle.std.specs.Prelude.{◌≡◌, ◌==◌, ℕ, nat_le, Bool, List, [], 
 use Rattle.std.specs.Result.{result_ok}
 use Rattle.hex.specs.Hex.{decode_of}
 use Rattle.ir_command.specs.Words.{without_return}
-use Rattle.ir_debug.specs.Session.{Session}
+use Rattle.ir_debug.specs.Session.{Session, most_input}
 use Rattle.ir_debug.specs.declared.ended.Ended.{Ended}
 use Rattle.ir_debug.specs.declared.ended.Ended.TheVariants.{Quit, InputEnd, ImageRefused, TraceRefused, NotFit}
 use Rattle.ir_debug.specs.declared.ended.SessionErr.{SessionErr}
@@ -13,10 +13,6 @@ use Rattle.ir_cli.specs.declared.fault.BundleErr.TheVariants.{BadLine, NoMem, Re
 -- the most hexadecimal digits of a line
 abbrev pub most_digits : ℕ
 most_digits = 4194304
-
--- the most bytes that a session reads
-abbrev pub most_input : ℕ
-most_input = 1073741824
 
 abbrev pub is_feed : ℕ → Bool
 is_feed b = b == 10

@@ -6,15 +6,13 @@ use Rattle.ir_image.specs.declared.image_err.ImageErr.{ImageErr}
 use Rattle.ir_image.specs.declared.image_err.ImageErr.TheVariants as image
 use Rattle.ir_trace.specs.Recorded.{Recorded}
 use Rattle.ir_trace.specs.Encoding.{encoding}
-use Rattle.ir_record.specs.declared.record_err.RecordErr.{RecordErr}
-use Rattle.ir_record.specs.declared.record_err.RecordErr.TheVariants as record_err
 use Rattle.ir_cli.specs.Order.{order_of}
 use Rattle.ir_cli.specs.Recording.{lines_of}
 use Rattle.ir_cli.specs.Writers.{Writer, Took, Failed}
 use Rattle.ir_cli.specs.declared.order.OrderErr.{OrderErr}
 use Rattle.ir_cli.specs.declared.order.OrderErr.TheVariants as order_err
 use Rattle.ir_cli.specs.declared.record_fault.RecordFault.{RecordFault}
-use Rattle.ir_cli.specs.declared.record_fault.RecordFault.TheVariants.{Clock, Image, Order, NoMem, World, Trace, Lines}
+use Rattle.ir_cli.specs.declared.record_fault.RecordFault.TheVariants.{Clock, Image, Order, NoMem, Trace, Lines}
 
 -- the exit status of a fault
 abbrev pub fault_status : RecordFault → ℕ
@@ -22,7 +20,6 @@ fault_status (Image e) = 3
 fault_status Order = 3
 fault_status NoMem = 1
 fault_status Clock = 1
-fault_status World = 1
 fault_status Trace = 1
 fault_status Lines = 1
 
@@ -40,19 +37,13 @@ abbrev pub of_order : OrderErr → RecordFault
 of_order order_err.Bad = Order
 of_order order_err.NoMem = NoMem
 
--- the fault that a failure of the recorder is
-abbrev pub of_recorder : {W : Type 0} → RecordErr W → RecordFault
-of_recorder record_err.NoMem = NoMem
-of_recorder (record_err.World thread worlds) = World
-
 -- why nothing is recorded: the image's first fault, a list that spells no order, or without a list a clock that can't be
--- read; that memory ran out, or that a world failed, says nothing of them
+-- read; that memory ran out says nothing of them
 abbrev pub Refuses : RecordFault → List ℕ → Option (List ℕ) → Type 0
 Refuses (Image e) image list = guest_at image ≡ Err e
 Refuses Order image list = (guest : Guest) × (guest_at image ≡ Ok guest) × (option_and_then (order_of (length guest.entries)) list ≡ None)
 Refuses Clock image list = list ≡ None
 Refuses NoMem image list = ⊤
-Refuses World image list = ⊤
 Refuses Trace image list = ⊥
 Refuses Lines image list = ⊥
 
@@ -64,7 +55,6 @@ WriteFails Clock bytes lines trace out untouched = ⊥
 WriteFails (Image e) bytes lines trace out untouched = ⊥
 WriteFails Order bytes lines trace out untouched = ⊥
 WriteFails NoMem bytes lines trace out untouched = ⊥
-WriteFails World bytes lines trace out untouched = ⊥
 
 -- a fault: nothing was written (both writers are as before), or there is a recording and a writer failed (where the
 -- trace's did, the other is as before)

@@ -1,11 +1,11 @@
 -- What a bundled session leaves of its reader and its writer.
 use Rattle.std.specs.Prelude.{◌≡◌, ◌⊎◌, ℕ, true, false, List, Option, IfSome, Result, Ok, Err, None}
 use Rattle.ir_stream.specs.Devices.{Reads}
-use Rattle.ir_debug.specs.Session.{Session, AnsweredWhole, AnsweredInPart}
+use Rattle.ir_debug.specs.Session.{Session, AnsweredWhole, AnsweredInPart, most_input}
 use Rattle.ir_debug.specs.declared.ended.Ended.{Ended}
 use Rattle.ir_debug.specs.declared.ended.SessionErr.{SessionErr}
 use Rattle.ir_debug.specs.declared.ended.SessionErr.TheVariants as session
-use Rattle.ir_cli.specs.Bundle.{most_input, bundle_of, Bundled}
+use Rattle.ir_cli.specs.Bundle.{bundle_of, Bundled}
 use Rattle.ir_cli.specs.Taking.{Reader, TakesBytes, IsInLines}
 use Rattle.ir_cli.specs.Writers.{Writer}
 use Rattle.ir_cli.specs.declared.fault.BundleErr.{BundleErr}
@@ -69,7 +69,7 @@ Stops image trace session.Write reader writer same = (reader.failed ≡ false) �
     × Reads most_input reader.before reader.after (AnsweredInPart image trace reader.after writer.before writer.after)
 Stops image trace session.TooLong reader writer same = Ends image trace (Err session.TooLong) reader writer
 
--- the fault that is told
+-- the fault that is reported
 abbrev pub fault_of : SessionErr → BundleErr
 fault_of session.NoMem = NoMem
 fault_of session.Read = Read

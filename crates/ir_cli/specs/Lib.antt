@@ -9,3 +9,4 @@ pub mod Writers
 pub mod Leaving
 pub mod Faults
 pub mod Places
+pub mod Listing

@@ -9,7 +9,7 @@ use Rattle.ir_trace.specs.Recorded.{RecordedThread, Recorded}
 use Rattle.ir_record.specs.Recording.{IsRecording, IsRecordingOfSome}
 use Rattle.ir_record.specs.Worlds.{Answered}
 use Rattle.ir_cli.specs.Order.{order_of}
-use Rattle.ir_cli.specs.Sources.{MadeWith, IsTold}
+use Rattle.ir_cli.specs.Sources.{MadeWith, IsAnswered}
 
 -- the seed of the random words of thread t
 abbrev pub seed_of : ℕ → ℕ → ℕ
@@ -43,7 +43,7 @@ pub record IsRecordedOf (image : List ℕ) (list : Option (List ℕ)) (budget ra
   pub answers : List (List Answered)
   pub recorded : IsRecordedBy list guest budget trace outputs answers
   -- each thread was answered by its own sources
-  pub told : (t : ℕ) → t < length guest.entries → IsTold (origin_of (is_some list) random file t) (slice_index_or answers t [])
+  pub answered : (t : ℕ) → t < length guest.entries → IsAnswered (origin_of (is_some list) random file t) (slice_index_or answers t [])
 
 -- a thread's line: its number, the number and the code of its end, its steps, how many events it logged
 abbrev pub line_by : ℕ → ℕ → ℕ → ℕ → ℕ → List ℕ

@@ -67,5 +67,5 @@ from_sources true answers = answers
 from_sources false answers = untimed answers
 
 -- a world that was made so has given these answers, in turn those that come from its sources
-abbrev pub IsTold : MadeWith → List Answered → Type 0
-IsTold made answers = (left : Source) × Gave (source made.seed made.file) (from_sources made.counted answers) left
+abbrev pub IsAnswered : MadeWith → List Answered → Type 0
+IsAnswered made answers = (left : Source) × Gave (source made.seed made.file) (from_sources made.counted answers) left

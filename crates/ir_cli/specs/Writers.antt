@@ -21,9 +21,9 @@ abbrev pub Failed : Writer → List ℕ → Type 0
 Failed w text = AppendsPrefix w.before w.after text × (w.failed ≡ true)
 
 -- it took the text, or failed in it
-abbrev pub Tells : Writer → List ℕ → Type 0
-Tells w text = Took w text ⊎ Failed w text
+abbrev pub Reports : Writer → List ℕ → Type 0
+Reports w text = Took w text ⊎ Failed w text
 
--- the line that tells a fault in words
+-- the line that reports a fault in words
 abbrev pub fault_text : List ℕ → List ℕ
 fault_text words = codes "ir: " ++ (words ++ 10 ∷ [])

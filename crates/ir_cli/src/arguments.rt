@@ -14,6 +14,7 @@ const ABOUT: &str = "A proved record and replay debugger for guests of RV32IM th
 const AFTER: &str = "A session of a source of your own:
   ir asm guest.s guest.img
   ir record guest.img guest.trc
+  ir trace guest.trc
   ir debug guest.img guest.trc
 Without a subcommand `ir` reads standard input: a line with an image in hexadecimal, a line with its trace in
 hexadecimal, and then the commands of `ir debug`, a line each. With xxd for the hexadecimal:
@@ -66,7 +67,7 @@ Calls, made by `ecall` with the number in a7; one without an answer keeps all re
   10  GET          a0 object, a1 index            answers the object's word in a0
   11  PUT          a0 object, a1 index, a2 word   writes the object's word
   12  SELF                                        answers the thread's number in a0
-A fault is told on standard error as `line L error C`, C being
+A fault is emitted on standard error as `line L error C`, C being
    1 a byte that a source may not hold        7 an undefined label
    2 an unknown instruction or directive      8 a label that is too far away
    3 a wrong number or form of operands       9 a statement or label of the wrong section
@@ -97,11 +98,34 @@ threads stand at a cut, a position for each, at which all that their steps need 
   out T         what thread T has put out
   log T         the events that thread T has logged so far
   next T        the next step of thread T
+  keep          keeps the cut, by the next number from 1 on; 64 are kept beside the start, which is 0
+  load N        all threads to the kept cut N
+  drop N        keeps the cut N no longer
+  kept          each number, and the positions of its cut
   quit          ends the session
 Numbers are decimal, or `0x` and hexadecimal digits. A move answers `at` and the positions, then `end` where thread T is
 at its last and `start` where it is at 0. A line that can't be carried out is answered `refused R` and why, and changes
 nothing. At a terminal standard error prompts for each line.
 Exit status: 0 done, 1 a fault, 2 bad arguments, 3 a refused image or trace, 4 a trace that doesn't fit.
+";
+
+const LIST: &str = "trace";
+
+const LIST_ABOUT: &str = "Prints a trace in lines";
+
+/// What follows the help of `ir trace`.
+pub const LIST_AFTER: &str =
+    "The first line is `threads N objects M budget B`. Then come for each thread its line as `ir record` prints it, `thread T
+end E code C steps S events N`, and its events as `log T` of `ir debug` shows them at the thread's end: `log N of N`, and a
+line for each, with its number from 0 on:
+  I clock V                          CLOCK answered V
+  I random V                         RANDOM answered V
+  I input V                          INPUT answered V
+  I read O version V                 entered object O for reading, at its version V
+  I write O version V readers R      entered object O for writing, at its version V, after R readers of it
+A TRACE that is none is refused by one line `trace refused N`, as `ir debug` refuses it.
+Exit status: 0 printed, 1 a file that can't be read or standard output that can't be written, 2 bad arguments,
+3 a refused trace.
 ";
 
 const RECORD: &str = "record";
@@ -167,6 +191,8 @@ pub enum Asked {
     Assembling(String, String),
     /// A recording.
     Recording(RecordArguments),
+    /// The lines of the trace in this file.
+    Listing(String),
     /// A session of the image and the trace in these files.
     Debugging(String, String),
     /// This text, about the program.
@@ -228,6 +254,16 @@ fn debug_command<'a>(alloc: Global) -> Result<Command<'a>, AllocError> {
         .arg(trace)
 }
 
+fn list_command<'a>(alloc: Global) -> Result<Command<'a>, AllocError> {
+    let trace = Arg::new(alloc, TRACE)
+        .required(true)
+        .help("The file with the trace");
+    Command::new(alloc, LIST)
+        .about(LIST_ABOUT)
+        .after_help(LIST_AFTER)
+        .arg(trace)
+}
+
 fn budget_arg<'a>(alloc: Global) -> Arg<'a> {
     Arg::new(alloc, BUDGET)
         .long(BUDGET)
@@ -261,6 +297,7 @@ fn command<'a>(alloc: Global) -> Result<Command<'a>, AllocError> {
         .subcommand(asm_command(alloc)?)?
         .subcommand(record_command(alloc)?)?
         .subcommand(debug_command(alloc)?)?
+        .subcommand(list_command(alloc)?)?
         .bin_name("ir")
 }
 
@@ -348,6 +385,7 @@ fn by_subcommand(alloc: Global, matches: &ArgMatches<'_>) -> Result<Asked, Alloc
         Some((ASM, matches)) => assembling(alloc, matches),
         Some((RECORD, matches)) => recording(alloc, matches),
         Some((DEBUG, matches)) => debugging(alloc, matches),
+        Some((LIST, matches)) => Ok(Asked::Listing(text_of(alloc, matches, TRACE)?)),
         _ => Ok(Asked::Session),
     }
 }
@@ -363,21 +401,14 @@ pub fn parsed(alloc: Global, arguments: &[String]) -> Asked {
     }
 }
 
-fn collected<R: env::Env + AllocGlobal>(rt: &R) -> io::Result<Vec<String>> {
+/// The arguments, of which the first is the program's name.
+///
+/// # Errors
+/// Want of memory, or one is no text.
+pub fn collected<R: env::Env + AllocGlobal>(rt: &R) -> io::Result<Vec<String>> {
     let mut arguments = Vec::new(rt.alloc());
     for argument in env::args(rt)? {
         arguments.push(argument)?;
     }
     Ok(arguments)
-}
-
-/// Reads the arguments.
-pub fn read_arguments(rt: &HostRuntime) -> Asked {
-    match collected(rt) {
-        Ok(arguments) => parsed(rt.alloc(), arguments.as_slice()),
-        Err(_) => match String::from_str(rt.alloc(), "an argument is no text") {
-            Ok(why) => Asked::Nothing(why),
-            Err(_) => Asked::NoMem,
-        },
-    }
 }

@@ -1,7 +1,6 @@
-//! Assembling over fakes: images, faults, each writer that fails; and the examples.
+//! Assembling over fakes: images, faults, each writer that fails.
 
 use crate::assembling::asm_run;
-use crate::examples::{CALLS, COUNTER, HELLO, LOST_UPDATE, SUM, TWO_LOCKS};
 use crate::tests::{ENDLESS, Page, empty_page};
 
 const SOURCE: &[u8] =
@@ -49,7 +48,7 @@ fn a_source_is_assembled(rt: HostRuntime) {
 }
 
 #[test]
-fn a_fault_is_told(rt: HostRuntime) {
+fn a_fault_is_reported(rt: HostRuntime) {
     for (source, line) in FAULTS {
         let (status, image, faults) = assembled(&rt, source, 3, 0, ENDLESS);
         assert_eq!(rt; status, 3);
@@ -71,24 +70,5 @@ fn a_writer_fails(rt: HostRuntime) {
         let (status, image, _) = assembled(&rt, b"x", 2, ENDLESS, calls);
         assert_eq!(rt; status, if calls < 8 { 1 } else { 3 });
         assert!(rt; image.bytes.is_empty());
-    }
-}
-
-// Each example with the length of its image.
-const EXAMPLES: [(&str, usize); 6] = [
-    (HELLO, 84),
-    (SUM, 126),
-    (CALLS, 114),
-    (COUNTER, 134),
-    (LOST_UPDATE, 154),
-    (TWO_LOCKS, 202),
-];
-
-#[test]
-fn the_examples_are_assembled(rt: HostRuntime) {
-    for (source, length) in EXAMPLES {
-        let (status, image, _) = assembled(&rt, source.as_bytes(), 1000, ENDLESS, ENDLESS);
-        assert_eq!(rt; status, 0);
-        assert_eq!(rt; image.bytes.len(), length);
     }
 }

@@ -59,7 +59,7 @@ fn fault_line(alloc: Global, line: usize, cause: Cause) -> Result<String, AllocE
 fn tell_place<E: Sink>(alloc: Global, faults: &mut E, line: usize, cause: Cause) -> u8
     requires { E.broken faults.old ≡ false }
     ensures status { (result ≡ 1) ⊎ (result ≡ 3) }
-    ensures told { result ≡ 3 → Appends (E.written faults.old) (E.written faults.new) (fault_line (record { line = line; cause = cause })) }
+    ensures reported { result ≡ 3 → Appends (E.written faults.old) (E.written faults.new) (fault_line (record { line = line; cause = cause })) }
     ensures failed { result ≡ 1 → (faults.new ≡ faults.old)
         ⊎ Failed (writer_of (E.written faults.old) (E.written faults.new) (E.broken faults.new)) (fault_line (record { line = line; cause = cause })) }
 {
@@ -89,7 +89,7 @@ fn put<W: Sink>(image: &mut W, bytes: &[u8]) -> u8
 /// where memory ran out, with nothing written, or a writer failed. A byte of the source above 0x7E counts as the byte 1.
 pub fn asm_run<W: Sink, E: Sink>(alloc: Global, source: &[u8], image: &mut W, faults: &mut E) -> u8
     requires writes { W.broken image.old ≡ false }
-    requires tells { E.broken faults.old ≡ false }
+    requires reports { E.broken faults.old ≡ false }
     ensures status { (result ≡ 0) ⊎ (result ≡ 1) ⊎ (result ≡ 3) }
     // The image was written, and no fault told.
     ensures done { result ≡ 0 → (bytes : List ℕ) × (image_bytes source.now ≡ Ok bytes) × Appends (W.written image.old) (W.written image.new) bytes × (faults.new ≡ faults.old) }

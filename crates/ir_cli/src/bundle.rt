@@ -3,7 +3,7 @@
 ghost use Rattle.std.specs.Prelude.{◌≡◌, ◌≢◌, IfOk, IfErr, OnOk, Ok, false};
 ghost use Rattle.ir_cli.specs.Bundle.{status_of, fault_words};
 ghost use Rattle.ir_cli.specs.Leaving.{Comes, Leaves};
-ghost use Rattle.ir_cli.specs.Writers.{writer_of, Tells, fault_text};
+ghost use Rattle.ir_cli.specs.Writers.{writer_of, Reports, fault_text};
 ghost use Rattle.ir_cli.specs.declared.fault.BundleErr.{BundleErr};
 ghost use Rattle.ir_debug.specs.declared.ended.Ended.{Ended};
 ghost use Rattle.ir_cli.specs.Taking.{reader_of, TakesBytes, LineFails};
@@ -95,7 +95,7 @@ pub fn bundle<T: Threads + Clock + Sync, R: Source, W: Sink, E: Sink>(
 ) -> u8
     requires reads { R.broken reader.old ≡ false }
     requires writes { W.broken writer.old ≡ false }
-    requires tells { E.broken faults.old ≡ false }
+    requires reports { E.broken faults.old ≡ false }
     // The status of a session that ended, whose bytes were written. No fault is told.
     ensures ended { result ≢ 1 → (e : Ended) × (result ≡ status_of e) × Comes (Ok e)
         (reader_of (R.left reader.old) (R.left reader.new) (R.broken reader.new))
@@ -104,7 +104,7 @@ pub fn bundle<T: Threads + Clock + Sync, R: Source, W: Sink, E: Sink>(
     ensures stopped { result ≡ 1 → (e : BundleErr) × Leaves e
         (reader_of (R.left reader.old) (R.left reader.new) (R.broken reader.new))
         (writer_of (W.written writer.old) (W.written writer.new) (W.broken writer.new)) (writer.new ≡ writer.old)
-        × Tells (writer_of (E.written faults.old) (E.written faults.new) (E.broken faults.new)) (fault_text (fault_words e)) }
+        × Reports (writer_of (E.written faults.old) (E.written faults.new) (E.broken faults.new)) (fault_text (fault_words e)) }
 {
     match bundled(rt, alloc, reader, writer) {
         Ok(ended) => status(ended),

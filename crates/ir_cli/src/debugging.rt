@@ -4,7 +4,7 @@ ghost use Rattle.std.specs.Prelude.{◌≡◌, ◌≢◌, Ok, false};
 ghost use Rattle.ir_cli.specs.Bundle.{status_of, fault_words};
 ghost use Rattle.ir_cli.specs.Taking.{reader_of};
 ghost use Rattle.ir_cli.specs.Leaving.{Ends, Stops, fault_of};
-ghost use Rattle.ir_cli.specs.Writers.{writer_of, Tells, fault_text};
+ghost use Rattle.ir_cli.specs.Writers.{writer_of, Reports, fault_text};
 ghost use Rattle.ir_debug.specs.declared.ended.Ended.{Ended};
 ghost use Rattle.ir_debug.specs.declared.ended.SessionErr.{SessionErr};
 
@@ -41,7 +41,7 @@ pub fn debug_run<T: Threads + Clock + Sync, R: Source, W: Sink, E: Sink>(
 ) -> u8
     requires reads { R.broken reader.old ≡ false }
     requires writes { W.broken writer.old ≡ false }
-    requires tells { E.broken faults.old ≡ false }
+    requires reports { E.broken faults.old ≡ false }
     // The status of a session that ended, whose bytes were written. No fault is told.
     ensures ended { result ≢ 1 → (e : Ended) × (result ≡ status_of e) × Ends image.now trace.now (Ok e)
         (reader_of (R.left reader.old) (R.left reader.new) (R.broken reader.new))
@@ -50,7 +50,7 @@ pub fn debug_run<T: Threads + Clock + Sync, R: Source, W: Sink, E: Sink>(
     ensures stopped { result ≡ 1 → (e : SessionErr) × Stops image.now trace.now e
         (reader_of (R.left reader.old) (R.left reader.new) (R.broken reader.new))
         (writer_of (W.written writer.old) (W.written writer.new) (W.broken writer.new)) ((reader.new ≡ reader.old) × (writer.new ≡ writer.old))
-        × Tells (writer_of (E.written faults.old) (E.written faults.new) (E.broken faults.new)) (fault_text (fault_words (fault_of e))) }
+        × Reports (writer_of (E.written faults.old) (E.written faults.new) (E.broken faults.new)) (fault_text (fault_words (fault_of e))) }
 {
     match session(rt, alloc, image, trace, reader, writer, &OpenGate) {
         Ok(ended) => status(ended),

@@ -3,10 +3,10 @@
 ghost use Rattle.std.specs.Prelude.{◌≡◌, ◌≤◌, [], length, false, true, IfOk, IfSome, Ok, None};
 ghost use Rattle.ir_cli.specs.declared.files.FileErr.TheVariants.{NoMem};
 
+use crate::folder::Folder;
 use crate::reason::reason;
 use ir_debug::{DeviceErr, Sink};
 use std::alloc::{AllocError, Global};
-use std::fs::File;
 use std::io::{ErrorKind, Read, Write};
 use thiserror::Error;
 
@@ -53,15 +53,22 @@ pub fn read_all<R: Read + Drop>(alloc: Global, reader: R, most: u32) -> Result<V
 ///
 /// # Errors
 /// No such file, one that can't be read, one of more bytes, or want of memory.
-pub fn read_file(rt: &HostRuntime, path: &str, most: u32) -> Result<Vec<u8>, FileErr> {
-    match File::open(rt, path) {
-        Ok(file) => read_all(rt.alloc(), file, most),
+pub fn read_file<D: Folder>(
+    alloc: Global,
+    folder: &D,
+    path: &str,
+    most: u32,
+) -> Result<Vec<u8>, FileErr>
+    ensures few { IfOk result (λ v. length v.items ≤ most) }
+{
+    match folder.open(path) {
+        Ok(file) => read_all(alloc, file, most),
         Err(error) => Err(FileErr::Unreadable(reason(error.kind()))),
     }
 }
 
 // Writes some bytes from the prefix, again where a signal interrupts it.
-fn put(file: &mut File, bytes: &[u8]) -> Result<usize, ErrorKind>
+fn put<W: Write>(file: &mut W, bytes: &[u8]) -> Result<usize, ErrorKind>
     ensures count { IfOk result (λ n. n ≤ length bytes.now) }
     ensures some { result ≡ Ok 0 → bytes.now ≡ [] }
 {
@@ -81,21 +88,21 @@ fn put(file: &mut File, bytes: &[u8]) -> Result<usize, ErrorKind>
 
 /// A file that is made, or emptied, as the first bytes are written to it.
 #[derive(Drop)]
-pub struct NewFile<'a> {
-    rt: &'a HostRuntime,
+pub struct NewFile<'a, D: Folder> {
+    folder: &'a D,
     path: &'a str,
-    file: Option<File>,
+    file: Option<D::Open>,
     failed: bool,
     why: &'static str,
 }
 
-impl<'a> NewFile<'a> {
+impl<'a, D: Folder> NewFile<'a, D> {
     /// The file of a path, to which nothing was written yet.
-    pub fn new(rt: &'a HostRuntime, path: &'a str) -> NewFile<'a>
+    pub fn new(folder: &'a D, path: &'a str) -> NewFile<'a, D>
         ensures { result.failed ≡ false }
     {
         NewFile {
-            rt,
+            folder,
             path,
             file: None,
             failed: false,
@@ -123,14 +130,14 @@ impl<'a> NewFile<'a> {
     }
 }
 
-impl Sink for NewFile<'_> {
+impl<D: Folder> Sink for NewFile<'_, D> {
     ghost written = { λ _. None };
 
     ghost broken = { λ f. f.failed };
 
     fn write(&mut self, bytes: &[u8]) -> Result<usize, DeviceErr> {
         if self.file.is_none() {
-            match File::create(self.rt, self.path) {
+            match self.folder.create(self.path) {
                 Ok(file) => self.file = Some(file),
                 Err(error) => return Err(self.fail(error.kind())),
             }

@@ -3,10 +3,6 @@
 ghost use Rattle.std.specs.Prelude.{◌≡◌};
 ghost use Rattle.ir_cli.specs.Places.{loses};
 
-use std::fs;
-use std::os::unix::fs::MetadataExt;
-use std::rt::Files;
-
 /// What stands at a path.
 #[derive(Clone, Copy, Debug, PartialEq, Eq)]
 pub enum Found {
@@ -16,15 +12,6 @@ pub enum Found {
     File(u64, u64),
     /// A folder, a device, a pipe: nothing that writing to it loses.
     Other,
-}
-
-/// What stands at a path, links followed. Nothing is opened.
-pub fn found_at(files: &impl Files, path: &str) -> Found {
-    match fs::metadata(files, path) {
-        Ok(found) if found.is_file() => Found::File(found.dev(), found.ino()),
-        Ok(_) => Found::Other,
-        Err(_) => Found::Nothing,
-    }
 }
 
 /// Whether writing at the one path loses the file that is read at the other.

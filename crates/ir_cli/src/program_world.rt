@@ -25,6 +25,7 @@ pub struct ProgramWorld<'a, C> {
     sources: Sources<'a>,
     answers: Vec<(EnvKind, u32)>,
     failed: bool,
+    full: bool,
     ghost room: { most_events ≤ vec_capacity answers },
     ghost few: { sources.ticks ≤ vec_len answers },
     ghost gave: { Gave (source seed file.now) (from_sources (is_counted time) answers.items) sources } by { Gave-prop (source seed file.now) (from_sources (is_counted time) answers.items) sources },
@@ -58,7 +59,15 @@ impl<'a, C> ProgramWorld<'a, C> {
             sources: Sources::new(seed, file),
             answers,
             failed: false,
+            full: false,
         })
+    }
+
+    /// Whether it failed since it has no room for more answers; else only its clock fails it.
+    pub fn is_full(&self) -> bool
+        ensures { result ≡ self.now.full }
+    {
+        self.full
     }
 }
 
@@ -74,6 +83,7 @@ impl<C: Clock> World for ProgramWorld<'_, C> {
     fn answer(&mut self, kind: EnvKind) -> Result<u32, WorldErr> {
         if self.answers.len() >= MOST_ANSWERS {
             self.failed = true;
+            self.full = true;
             return Err(WorldErr);
         }
         if let (EnvKind::Clock, Time::Since(start)) = (kind, self.time) {

@@ -4,7 +4,6 @@ ghost use Rattle.std.specs.Prelude.{◌≡◌, ◌≤◌, length};
 
 use crate::order::OrderErr;
 use ir_image::ImageErr;
-use ir_record::RecordErr;
 use std::alloc::AllocError;
 
 /// Why a guest was not recorded, or its recording not written.
@@ -16,10 +15,8 @@ pub enum RecordFault {
     Order,
     /// Want of memory.
     NoMem,
-    /// The clock can't be read as the recording starts.
+    /// The clock can't be read.
     Clock,
-    /// A thread's call can't be answered: the clock can't be read any more.
-    World,
     /// The trace can't be written.
     Trace,
     /// The lines can't be written.
@@ -35,7 +32,7 @@ impl RecordFault {
     {
         match self {
             RecordFault::Image(_) | RecordFault::Order => 3,
-            RecordFault::NoMem | RecordFault::Clock | RecordFault::World => 1,
+            RecordFault::NoMem | RecordFault::Clock => 1,
             RecordFault::Trace | RecordFault::Lines => 1,
         }
     }
@@ -49,7 +46,6 @@ impl RecordFault {
             RecordFault::Order => "LIST is no order of this image's threads",
             RecordFault::NoMem => "memory ran out",
             RecordFault::Clock => "the clock can't be read",
-            RecordFault::World => "a thread's call of the environment can't be answered",
             RecordFault::Trace => "the trace can't be written",
             RecordFault::Lines => "standard output can't be written",
         }
@@ -91,19 +87,6 @@ impl From<OrderErr> for RecordFault {
         match e {
             OrderErr::Bad => RecordFault::Order,
             OrderErr::NoMem => RecordFault::NoMem,
-        }
-    }
-}
-
-impl<W: Drop> From<RecordErr<W>> for RecordFault {
-    ghost use Rattle.ir_cli.specs.Faults.{of_recorder};
-
-    ghost from_gives = { λ e f. f ≡ of_recorder e };
-
-    fn from(e: RecordErr<W>) -> RecordFault {
-        match e {
-            RecordErr::NoMem => RecordFault::NoMem,
-            RecordErr::World { .. } => RecordFault::World,
         }
     }
 }

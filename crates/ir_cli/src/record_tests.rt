@@ -242,7 +242,7 @@ fn a_reader_is_logged_and_then_a_writer(rt: HostRuntime) {
 }
 
 #[test]
-fn ends_are_told(rt: HostRuntime) {
+fn ends_are_reported(rt: HostRuntime) {
     for (source, budget, line) in [
         (
             HELD_AT_THE_END,
@@ -374,7 +374,7 @@ fn large_items_end_at_once(rt: HostRuntime) -> Result<(), Fail> {
 }
 
 #[test]
-fn a_refused_image_is_told(rt: HostRuntime) {
+fn a_refused_image_is_reported(rt: HostRuntime) {
     let image = image(&rt, DOUBLE);
     for length in [0, 3, 14, 41] {
         let run = recorded(&rt, image.get(..length).unwrap_or(&[]), with_order("x"));
@@ -544,7 +544,7 @@ fn times(rt: &HostRuntime, trace: &[u8]) -> Result<Vec<u32>, Fail> {
 }
 
 #[test]
-fn milliseconds_since_the_start_are_told(rt: HostRuntime) -> Result<(), Fail> {
+fn milliseconds_since_the_start_are_answered(rt: HostRuntime) -> Result<(), Fail> {
     let image = image(&rt, TWICE_THE_TIME);
     let run = recorded(&rt, image.as_slice(), BY_THREADS);
     assert_eq!(rt; run.status, 0);
@@ -567,7 +567,7 @@ fn a_refused_image_runs_no_thread(rt: HostRuntime) {
 }
 
 #[test]
-fn failing_writers_are_told_by_threads_too(rt: HostRuntime) -> Result<(), Fail> {
+fn failing_writers_are_reported_by_threads_too(rt: HostRuntime) -> Result<(), Fail> {
     let image = eight(&rt)?;
     let run = recorded(
         &rt,

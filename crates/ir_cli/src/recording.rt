@@ -1,6 +1,6 @@
 //! An image in, the trace of a run of its guest and a line for each thread out.
 
-ghost use Rattle.std.specs.Prelude.{◌≡◌, ◌≢◌, ◌<◌, ◌≤◌, ◌+◌, ℕ, List, Some, None, Ok, Err, true, false, IfOk, IfErr, OnOk, [], length, map, replicate, option_map};
+ghost use Rattle.std.specs.Prelude.{◌≡◌, ◌≢◌, ◌<◌, ◌≤◌, ◌+◌, ℕ, List, Some, None, Ok, Err, true, false, IfOk, IfErr, OnOk, ◌⊎◌, [], length, map, replicate, option_map};
 ghost use Rattle.std.specs.String.{string_bytes};
 ghost use Rattle.std.specs.Io.KnownBytes.{Appends};
 ghost use Rattle.ir_thread.specs.Calls.{most_budget};
@@ -11,6 +11,7 @@ ghost use Rattle.ir_cli.specs.Recording.{origins, IsRecordedOf, line_by, thread_
 ghost use Rattle.ir_cli.specs.Sources.{made_with, is_counted};
 ghost use Rattle.ir_cli.specs.Faults.{fault_status, Refuses, WriteFails, Stops};
 ghost use Rattle.ir_cli.specs.declared.record_fault.RecordFault.{RecordFault};
+ghost use Rattle.ir_cli.specs.declared.record_fault.RecordFault.TheVariants.{NoMem, Clock};
 
 use crate::order::{bad_item, read_order};
 use crate::program_world::ProgramWorld;
@@ -21,7 +22,7 @@ use crate::whole_file::WholeSink;
 use ir_debug::Sink;
 use ir_image::read_image;
 use ir_object::Gate;
-use ir_record::{record, record_in_turns};
+use ir_record::{RecordErr, record, record_in_turns};
 use ir_stream::write_all;
 use ir_trace::{ThreadTrace, Trace, write_trace};
 use std::alloc::{AllocError, Global};
@@ -52,6 +53,19 @@ fn worlds<'a, C>(
     Ok(worlds)
 }
 
+// What stops a recording by threads: memory, or the clock of a thread that asks for the time.
+fn stopped_by<C: Clock>(why: RecordErr<ProgramWorld<C>>) -> RecordFault
+    ensures { (result ≡ NoMem) ⊎ (result ≡ Clock) }
+{
+    let RecordErr::World { thread, worlds } = why else {
+        return RecordFault::NoMem;
+    };
+    match worlds.get(thread as usize) {
+        Some(world) if world.is_full() => RecordFault::NoMem,
+        _ => RecordFault::Clock,
+    }
+}
+
 // The recording of the image's guest by the order that the list spells, on one thread.
 fn recorded_in_order<C: Clock>(
     clock: &C,
@@ -70,8 +84,11 @@ fn recorded_in_order<C: Clock>(
     let threads = image.entries().len();
     let order = read_order(alloc, list, threads)?;
     let worlds = worlds(alloc, clock, Time::Counted, threads, random, file)?;
-    let (trace, _) = record_in_turns(alloc, &image, order.as_slice(), worlds, budget)?;
-    Ok(trace)
+    match record_in_turns(alloc, &image, order.as_slice(), worlds, budget) {
+        Ok((trace, _)) => Ok(trace),
+        // A world that counts its time fails only where it has no room for more answers.
+        Err(_) => Err(RecordFault::NoMem),
+    }
 }
 
 // A recording of the image's guest by threads.
@@ -94,8 +111,10 @@ fn recorded_by_threads<R: Threads + Wait + Sync + Clock, G: Gate + Sync>(
         return Err(RecordFault::Clock);
     };
     let worlds = worlds(alloc, rt, Time::Since(start), threads, random, file)?;
-    let (trace, _) = record(rt, alloc, &image, worlds, gate, budget)?;
-    Ok(trace)
+    match record(rt, alloc, &image, worlds, gate, budget) {
+        Ok((trace, _)) => Ok(trace),
+        Err(why) => Err(stopped_by(why)),
+    }
 }
 
 // The recording of the image's guest: by the order that the list spells, or by threads.
@@ -132,7 +151,8 @@ fn line_by(
     format!(in alloc; "thread {number} end {end} code {code} steps {steps} events {events}\n")
 }
 
-fn thread_line(alloc: Global, number: usize, thread: &ThreadTrace) -> Result<String, AllocError>
+/// The line of a thread.
+pub fn thread_line(alloc: Global, number: usize, thread: &ThreadTrace) -> Result<String, AllocError>
     ensures { IfOk result (λ s. string_bytes s ≡ thread_line number thread.now) }
 {
     let end = thread.end();
@@ -262,7 +282,7 @@ pub fn record_run<R: Threads + Wait + Sync + Clock, G: Gate + Sync, W: WholeSink
     requires budget { budget ≤ most_budget }
     requires writes { W.broken trace.old ≡ false }
     requires prints { O.broken out.old ≡ false }
-    requires tells { E.broken faults.old ≡ false }
+    requires reports { E.broken faults.old ≡ false }
     // The trace of the run by the order, or of some complete run, was written, and its lines, and no fault told.
     ensures done { result ≡ 0 → (recorded : Recorded) × IsRecordedOf image.now (option_map (λ s. s.now) order.entry) budget random input.now recorded × Appends (W.written trace.old) (W.written trace.new) (encoding recorded) × Appends (O.written out.old) (O.written out.new) (lines_of recorded) }
     ensures whole { result ≡ 0 → W.whole trace.new ≡ true }

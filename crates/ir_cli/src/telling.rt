@@ -3,13 +3,13 @@
 ghost use Rattle.std.specs.Prelude.{◌≡◌, true, false, OnOk, OnErr};
 ghost use Rattle.std.specs.Io.KnownBytes.{Appends};
 ghost use Rattle.ir_stream.specs.Devices.{AppendsPrefix};
-ghost use Rattle.ir_cli.specs.Writers.{writer_of, Tells, fault_text};
+ghost use Rattle.ir_cli.specs.Writers.{writer_of, Reports, fault_text};
 
 use ir_debug::{DeviceErr, Sink};
 use ir_stream::write_all;
 
 // Writes one line that says what failed, or is wrong, and why.
-fn told<E: Sink>(
+fn reported<E: Sink>(
     faults: &mut E,
     before: &str,
     name: &str,
@@ -28,7 +28,7 @@ fn told<E: Sink>(
 pub fn tell_of<E: Sink>(faults: &mut E, before: &str, name: &str, what: &str, why: &str)
     requires works { E.broken faults.old ≡ false }
 {
-    let _ = told(faults, before, name, what, why);
+    let _ = reported(faults, before, name, what, why);
 }
 
 // Writes the line that tells a fault.
@@ -45,7 +45,7 @@ fn put_line<E: Sink>(faults: &mut E, words: &str) -> Result<(), DeviceErr>
 /// Tells a fault in one line, for which no memory is taken. Nobody is left to tell where that fails.
 pub fn tell<E: Sink>(faults: &mut E, words: &str)
     requires works { E.broken faults.old ≡ false }
-    ensures { Tells (writer_of (E.written faults.old) (E.written faults.new) (E.broken faults.new)) (fault_text words.now) }
+    ensures { Reports (writer_of (E.written faults.old) (E.written faults.new) (E.broken faults.new)) (fault_text words.now) }
 {
     let _ = put_line(faults, words);
 }

@@ -5,18 +5,17 @@ ghost use Rattle.std.specs.Prelude.{◌≡◌, false};
 use crate::bundle::{bundle, bundled};
 use crate::fault::BundleErr;
 use crate::whole_file::WholeSink;
-use ir_debug::{DeviceErr, Ended, SessionErr, Sink, Source, session_up_to};
-use ir_object::OpenGate;
+use ir_debug::{DeviceErr, Sink, Source};
 use std::test::Fail;
 use std::thread::Threads;
 use std::time::Clock;
 
 // Gives its bytes; the call of this number fails, and each after it.
 #[derive(Drop)]
-struct Bytes<'a> {
-    left: &'a [u8],
-    calls_left: u64,
-    failed: bool,
+pub struct Bytes<'a> {
+    pub left: &'a [u8],
+    pub calls_left: u64,
+    pub failed: bool,
 }
 
 impl Source for Bytes<'_> {
@@ -166,30 +165,12 @@ fn answered<R: AllocGlobal + Threads + Clock + Sync>(
 }
 
 // Each row: a trace line, commands, the answers, and the exit status.
-const ROWS: [(&[u8], &[u8], &[u8], u8); 7] = [
+const ROWS: [(&[u8], &[u8], &[u8], u8); 4] = [
     (TRACE, COMMANDS, ANSWERS, 0),
     (
         b"4952543101000000e8030000000000000700000000000000019000000000000000",
         b"step 0 1\n",
         b"thread 0 disagrees event 0 step 5\n",
-        4,
-    ),
-    (
-        b"4952543101000000e8030000000000000500000000000000019000000000000000",
-        b"step 0 1\n",
-        b"thread 0 disagrees event 0 step 5\n",
-        4,
-    ),
-    (
-        b"4952543101000000e8030000000000000600000000000000010000000000000000",
-        b"step 0 1\n",
-        b"thread 0 disagrees event 0 step 5\n",
-        4,
-    ),
-    (
-        b"495254310100000002000000000000000600000000000000019000000000000000",
-        b"step 0 1\n",
-        b"thread 0 disagrees event 0 step 2\n",
         4,
     ),
     (
@@ -219,18 +200,47 @@ fn rows(rt: HostRuntime) -> Result<(), Fail> {
     Ok(())
 }
 
+// Both lines as they stand, the answers, and the exit status: capitals and a carriage return are taken, what isn't
+// there is empty, and what is no digit is told.
+const DIGITS: [(&[u8], &[u8], u8); 9] = [
+    (b"49524931010\n4952543101\n", b"", 1),
+    (b"4g\n4952543101\n", b"", 1),
+    (b" 49524931 \n4952543101\n", b"", 1),
+    (b"49524931\nzz\n", b"", 1),
+    (b"", b"image refused 1\n", 3),
+    (b"\n4952543101\n", b"image refused 1\n", 3),
+    (b"49524931010006\r\n", b"image refused 1\n", 3),
+    (
+        b"495249310100060000000000000000000100130580049308200073000000\
+3305A5009308100073000000",
+        b"trace refused 1\n",
+        3,
+    ),
+    (
+        b"495249310100060000000000000000000100130580049308200073000000\
+3305A5009308100073000000\r\n\
+4952543101000000E8030000000000000600000000000000019000000000000000\r\nstep 0 6\r\nstep 0 0\r",
+        b"ready\nat 6 end\nat 6 end\n",
+        0,
+    ),
+];
+
 #[test]
-fn odd_digits(rt: HostRuntime) -> Result<(), Fail> {
-    let (writer, faults, status) = answered(&rt, b"49524931010", TRACE, COMMANDS, 100)?;
-    assert!(rt; writer.bytes.is_empty());
-    assert!(rt;
-        faults
-            .bytes
-            .as_slice()
-            .starts_with(b"ir: a line of the image")
-    );
-    assert_eq!(rt; status, 1);
-    Ok(())
+fn lines_of_digits(rt: HostRuntime) {
+    for (input, answers, wanted) in DIGITS {
+        let mut reader = Bytes {
+            left: input,
+            calls_left: ENDLESS,
+            failed: false,
+        };
+        let mut writer = empty_page(&rt, 100, ENDLESS);
+        let mut faults = empty_page(&rt, 100, ENDLESS);
+        let status = bundle(&rt, rt.alloc(), &mut reader, &mut writer, &mut faults);
+        assert_eq!(rt; writer.bytes.as_slice(), answers);
+        assert_eq!(rt; status, wanted);
+        let is_told = faults.bytes.as_slice().starts_with(b"ir: a line of the");
+        assert_eq!(rt; is_told, wanted == 1);
+    }
 }
 
 // After the failed read of this number, what was written is all answers to the lines that were read whole.
@@ -266,59 +276,5 @@ fn each_write_fails(rt: HostRuntime) -> Result<(), Fail> {
         assert_eq!(rt; writer.bytes.len() as u64, calls_left);
         assert!(rt; ANSWERS.starts_with(writer.bytes.as_slice()));
     }
-    Ok(())
-}
-
-const IMAGE_BYTES: [u8; 42] = [
-    0x49, 0x52, 0x49, 0x31, 1, 0, 6, 0, 0, 0, 0, 0, 0, 0, 0, 0, 1, 0, 0x13, 0x05, 0x80, 0x04, 0x93,
-    0x08, 0x20, 0, 0x73, 0, 0, 0, 0x33, 0x05, 0xa5, 0, 0x93, 0x08, 0x10, 0, 0x73, 0, 0, 0,
-];
-
-const TRACE_BYTES: [u8; 33] = [
-    0x49, 0x52, 0x54, 0x31, 1, 0, 0, 0, 0xe8, 0x03, 0, 0, 0, 0, 0, 0, 6, 0, 0, 0, 0, 0, 0, 0, 1,
-    0x90, 0, 0, 0, 0, 0, 0, 0,
-];
-
-#[test]
-fn at_the_limit(rt: HostRuntime) -> Result<(), Fail> {
-    let mut writer = empty_page(&rt, 100, ENDLESS);
-    let mut reader = Bytes {
-        left: b"step 0 0\nstep 0 0\n",
-        calls_left: 10,
-        failed: false,
-    };
-    let ended = session_up_to(
-        &rt,
-        rt.alloc(),
-        10,
-        &IMAGE_BYTES,
-        &TRACE_BYTES,
-        &mut reader,
-        &mut writer,
-        &OpenGate,
-    );
-    assert!(rt; matches!(ended, Err(SessionErr::TooLong)));
-    assert_eq!(rt; writer.bytes.as_slice(), b"ready\nat 0 start\n".as_slice());
-    let mut writer = empty_page(&rt, 100, ENDLESS);
-    let mut reader = Bytes {
-        left: b"regs 9\nquit\n",
-        calls_left: 12,
-        failed: false,
-    };
-    let ended = session_up_to(
-        &rt,
-        rt.alloc(),
-        12,
-        &IMAGE_BYTES,
-        &TRACE_BYTES,
-        &mut reader,
-        &mut writer,
-        &OpenGate,
-    );
-    assert!(rt; matches!(ended, Ok(Ended::Quit)));
-    assert_eq!(rt;
-        writer.bytes.as_slice(),
-        b"ready\nrefused 3 no such thread\nbye\n".as_slice()
-    );
     Ok(())
 }

@@ -3,9 +3,9 @@
 ghost use Rattle.std.specs.Prelude.{◌≡◌, Bool, OnOk, OnErr, None, false, true};
 
 use crate::files::NewFile;
+use crate::folder::Folder;
 use crate::reason::reason;
 use ir_debug::{DeviceErr, Sink};
-use std::fs;
 
 /// A sink whose bytes may stand elsewhere until they are whole.
 pub trait WholeSink: Sink {
@@ -33,39 +33,31 @@ pub trait WholeSink: Sink {
 /// putting it there, nothing of it is left and its place is as it was. What stands there and is no file, as a device or a
 /// link, is written to as it is.
 #[derive(Drop)]
-pub struct WholeFile<'a> {
-    rt: &'a HostRuntime,
+pub struct WholeFile<'a, D: Folder> {
+    folder: &'a D,
     place: &'a str,
     beside: Option<&'a str>,
-    file: NewFile<'a>,
+    file: NewFile<'a, D>,
     failed: bool,
     why: &'static str,
     whole: bool,
 }
 
-// Whether something stands there that another file may not be put in the place of.
-fn is_kept(rt: &HostRuntime, place: &str) -> bool {
-    match fs::symlink_metadata(rt, place) {
-        Ok(found) => !found.is_file(),
-        Err(_) => false,
-    }
-}
-
-impl<'a> WholeFile<'a> {
+impl<'a, D: Folder> WholeFile<'a, D> {
     /// The file of a place, to be written beside it first, to which nothing was written yet.
-    pub fn new(rt: &'a HostRuntime, place: &'a str, beside: &'a str) -> WholeFile<'a>
+    pub fn new(folder: &'a D, place: &'a str, beside: &'a str) -> WholeFile<'a, D>
         ensures { result.failed ≡ false }
     {
-        let beside = if is_kept(rt, place) {
+        let beside = if folder.is_kept(place) {
             None
         } else {
             Some(beside)
         };
         WholeFile {
-            rt,
+            folder,
             place,
             beside,
-            file: NewFile::new(rt, beside.unwrap_or(place)),
+            file: NewFile::new(folder, beside.unwrap_or(place)),
             failed: false,
             why: "",
             whole: false,
@@ -85,7 +77,7 @@ impl<'a> WholeFile<'a> {
         self.why = why;
         match self.beside {
             Some(beside) if self.file.is_made() => {
-                let _ = fs::remove_file(self.rt, beside);
+                let _ = self.folder.remove(beside);
             }
             _ => {}
         }
@@ -93,7 +85,7 @@ impl<'a> WholeFile<'a> {
     }
 }
 
-impl Sink for WholeFile<'_> {
+impl<D: Folder> Sink for WholeFile<'_, D> {
     ghost written = { λ _. None };
 
     ghost broken = { λ f. f.failed };
@@ -113,12 +105,12 @@ impl Sink for WholeFile<'_> {
     }
 }
 
-impl WholeSink for WholeFile<'_> {
+impl<D: Folder> WholeSink for WholeFile<'_, D> {
     ghost whole = { λ f. f.whole };
 
     fn finish(&mut self) -> Result<(), DeviceErr> {
         if let Some(beside) = self.beside {
-            if let Err(error) = fs::rename(self.rt, beside, self.place) {
+            if let Err(error) = self.folder.rename(beside, self.place) {
                 return Err(self.fail(reason(error.kind())));
             }
         }

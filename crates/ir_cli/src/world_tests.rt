@@ -31,9 +31,9 @@ fn start() -> io::Result<Instant> {
 }
 
 #[test]
-fn whole_milliseconds_are_told(rt: HostRuntime) -> Result<(), Fail> {
+fn whole_milliseconds_are_answered(rt: HostRuntime) -> Result<(), Fail> {
     let start = start()?;
-    for (now, told) in [
+    for (now, wanted) in [
         (Duration::from_millis(5_000), 0),
         (Duration::from_micros(5_001_999), 1),
         (Duration::from_millis(6_234), 1_234),
@@ -44,7 +44,7 @@ fn whole_milliseconds_are_told(rt: HostRuntime) -> Result<(), Fail> {
     ] {
         let clock = Still(Some(now));
         let mut world = ProgramWorld::new(rt.alloc(), &clock, Time::Since(start), 0, &[])?;
-        assert_eq!(rt; world.answer(EnvKind::Clock), Ok(told));
+        assert_eq!(rt; world.answer(EnvKind::Clock), Ok(wanted));
         assert_eq!(rt; world.answer(EnvKind::Input), Ok(u32::MAX));
         assert!(rt; !world.failed());
     }

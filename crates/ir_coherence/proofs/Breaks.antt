@@ -10,7 +10,7 @@ use Rattle.ir_runs.specs.declared.access.Access.TheVariants.{Writing}
 use Rattle.ir_log.specs.Logging.{label_of}
 use Rattle.ir_log.specs.declared.event.Event.{Event}
 use Rattle.ir_trace.specs.Recorded.{Recorded, RecordedThread, IsRecorded, IsRecordedThread}
-use Rattle.ir_trace.specs.Told.{absent, recorded_thread, trace_of}
+use Rattle.ir_trace.specs.TraceOf.{absent, recorded_thread, trace_of}
 use Rattle.ir_runs.specs.Coherent.{reads, IsCoherent}
 use Rattle.ir_coherence.specs.Counting.{writes, reads_in, writes_in, reads_of, writes_of, cause_by, CountsMore, CountsAll, HasRoom, FirstCause, NoCause}
 use Rattle.ir_runs.specs.Cuts.{At}
@@ -87,15 +87,15 @@ event_at (x ∷ xs) zero m at = (x, refl, at)
 event_at (x ∷ xs) (suc i) m at = event_at xs i m at
 
 -- the tables' counts name what the trace's counts name
-as_counted : (n : ℕ) (told : Trace) (c : EntryCounts) → CountsAll n told c → (m : Label)
-    → cause_by (reads_of c) (writes_of c) m ≡ cause_by (reads_in n told) (writes_in n told) m
-as_counted n told c all m = λ i. cause_by (λ o v. all.reads o v i) (λ o v. all.writes o v i) m
+as_counted : (n : ℕ) (emitted : Trace) (c : EntryCounts) → CountsAll n emitted c → (m : Label)
+    → cause_by (reads_of c) (writes_of c) m ≡ cause_by (reads_in n emitted) (writes_in n emitted) m
+as_counted n emitted c all m = λ i. cause_by (λ o v. all.reads o v i) (λ o v. all.writes o v i) m
 
 -- what has a cause stands in the trace
-entry_of : (n : ℕ) (told : Trace) (t i : ℕ) (d : Cause) → HasCause n told t i d → (m : Label) × At (told.logs t) i m
-entry_of n told t i Unmade has = (In has.object has.access (suc has.version) has.left, has.entry)
-entry_of n told t i Twice has = (In has.1.object Writing has.1.version has.1.left, has.1.entry)
-entry_of n told t i Readers has = (In has.2.object Writing has.2.version has.2.left, has.2.entry)
+entry_of : (n : ℕ) (emitted : Trace) (t i : ℕ) (d : Cause) → HasCause n emitted t i d → (m : Label) × At (emitted.logs t) i m
+entry_of n emitted t i Unmade has = (In has.object has.access (suc has.version) has.left, has.entry)
+entry_of n emitted t i Twice has = (In has.1.object Writing has.1.version has.1.left, has.1.entry)
+entry_of n emitted t i Readers has = (In has.2.object Writing has.2.version has.2.left, has.2.entry)
 
 silent : (r : Recorded) (c : EntryCounts) → CountsAll (length r.threads) (trace_of r) c → (t i : ℕ) (m : Label)
     → At ((trace_of r).logs t) i m → ((e : Event) → slice_get (recorded_thread r t).events i ≡ Some e

@@ -12,11 +12,11 @@ use Rattle.ir_coherence.specs.declared.cause.Cause.{Cause}
 use Rattle.ir_coherence.specs.declared.cause.Cause.TheVariants.{Unmade, Twice, Readers}
 use Rattle.ir_coherence.proofs.Writes.{at_same, IsOf, some_entry, entry_counted, two_entries, another_entry}
 
-unmade_yes : (n : ℕ) (told : Trace) → IsOf n told → (t i o v l : ℕ) (a : Access) → At (told.logs t) i (In o a v l)
-    → nobody_made (writes_in n told) o v ≡ true → IsUnmade told t i
-unmade_yes n told of t i o zero l a at h = absurd
-    (omega (arith, ltb-true 0 0 (and_parts (nat_lt 0 0) (writes_in n told o (zero - 1) == 0) h).0))
-unmade_yes n told of t i o (suc v) l a at h = record {
+unmade_yes : (n : ℕ) (emitted : Trace) → IsOf n emitted → (t i o v l : ℕ) (a : Access) → At (emitted.logs t) i (In o a v l)
+    → nobody_made (writes_in n emitted) o v ≡ true → IsUnmade emitted t i
+unmade_yes n emitted of t i o zero l a at h = absurd
+    (omega (arith, ltb-true 0 0 (and_parts (nat_lt 0 0) (writes_in n emitted o (zero - 1) == 0) h).0))
+unmade_yes n emitted of t i o (suc v) l a at h = record {
   object = o;
   access = a;
   version = v;
@@ -24,38 +24,38 @@ unmade_yes n told of t i o (suc v) l a at h = record {
   entry = at;
   unmade = λ u j k w. omega (
     arith,
-    entry_counted n told of o v u j k w,
-    ap (writes_in n told o) before,
+    entry_counted n emitted of o v u j k w,
+    ap (writes_in n emitted o) before,
     eqb-true
-        (writes_in n told o (suc v - 1)) 0 (and_parts (nat_lt 0 (suc v)) (writes_in n told o (suc v - 1) == 0) h).1,
+        (writes_in n emitted o (suc v - 1)) 0 (and_parts (nat_lt 0 (suc v)) (writes_in n emitted o (suc v - 1) == 0) h).1,
   );
 }
   where
     before : suc v - 1 ≡ v
     before = omega arith
 
-unmade_no : (n : ℕ) (told : Trace) → (t i o v l : ℕ) (a : Access) → At (told.logs t) i (In o a v l)
-    → nobody_made (writes_in n told) o v ≡ false → IsUnmade told t i → ⊥
-unmade_no n told t i o v l a at h un =
-    let same : In un.object un.access (suc un.version) un.left ≡ In o a v l = at_same (told.logs t) i _ _ un.entry at in
+unmade_no : (n : ℕ) (emitted : Trace) → (t i o v l : ℕ) (a : Access) → At (emitted.logs t) i (In o a v l)
+    → nobody_made (writes_in n emitted) o v ≡ false → IsUnmade emitted t i → ⊥
+unmade_no n emitted t i o v l a at h un =
+    let same : In un.object un.access (suc un.version) un.left ≡ In o a v l = at_same (emitted.logs t) i _ _ un.entry at in
     let object : un.object ≡ o = cc in
     let version : suc un.version ≡ v = cc in
-    elim (and_cases (nat_lt 0 v) (writes_in n told o (v - 1) == 0) h) [
+    elim (and_cases (nat_lt 0 v) (writes_in n emitted o (v - 1) == 0) h) [
       | inl first ↦ omega (arith, ltb-false 0 v first)
-      | inr some ↦ let made = some_entry n told o (v - 1) (positive (writes_in n told o (v - 1)) some) in
+      | inr some ↦ let made = some_entry n emitted o (v - 1) (positive (writes_in n emitted o (v - 1)) some) in
           let before : v - 1 ≡ un.version = omega arith in
-          let at_version = subst (λ z. At (told.logs made.0) made.1 (In o Writing z made.2)) before made.3 in
-          un.unmade made.0 made.1 made.2 (subst (λ z. At (told.logs made.0) made.1 (In z Writing un.version made.2)) (sym object)
+          let at_version = subst (λ z. At (emitted.logs made.0) made.1 (In o Writing z made.2)) before made.3 in
+          un.unmade made.0 made.1 made.2 (subst (λ z. At (emitted.logs made.0) made.1 (In z Writing un.version made.2)) (sym object)
           at_version)
     ]
   where
     positive : (k : ℕ) → (k == 0) ≡ false → 0 < k
     positive k e = let ne : k ≡ 0 → ⊥ = eqb-false k 0 e in omega arith
 
-twice_yes : (n : ℕ) (told : Trace) → IsOf n told → (t i o v l : ℕ) → At (told.logs t) i (In o Writing v l)
-    → nat_lt 1 (writes_in n told o v) ≡ true → IsTwice told t i
-twice_yes n told of t i o v l at h =
-    let r = another_entry n told of o v t i l at (ltb-true 1 (writes_in n told o v) h) in
+twice_yes : (n : ℕ) (emitted : Trace) → IsOf n emitted → (t i o v l : ℕ) → At (emitted.logs t) i (In o Writing v l)
+    → nat_lt 1 (writes_in n emitted o v) ≡ true → IsTwice emitted t i
+twice_yes n emitted of t i o v l at h =
+    let r = another_entry n emitted of o v t i l at (ltb-true 1 (writes_in n emitted o v) h) in
     record {
       object = o;
       version = v;
@@ -68,35 +68,35 @@ twice_yes n told of t i o v l at h =
       apart = r.4;
     }
 
-twice_no : (n : ℕ) (told : Trace) → IsOf n told → (t i o v l : ℕ) → At (told.logs t) i (In o Writing v l)
-    → nat_lt 1 (writes_in n told o v) ≡ false → IsTwice told t i → ⊥
-twice_no n told of t i o v l at h two =
-    let same : In two.object Writing two.version two.left ≡ In o Writing v l = at_same (told.logs t) i _ _ two.entry at in
+twice_no : (n : ℕ) (emitted : Trace) → IsOf n emitted → (t i o v l : ℕ) → At (emitted.logs t) i (In o Writing v l)
+    → nat_lt 1 (writes_in n emitted o v) ≡ false → IsTwice emitted t i → ⊥
+twice_no n emitted of t i o v l at h two =
+    let same : In two.object Writing two.version two.left ≡ In o Writing v l = at_same (emitted.logs t) i _ _ two.entry at in
     let object : two.object ≡ o = cc in
     let version : two.version ≡ v = cc in
-    let many = two_entries n told of two.object two.version t i two.left two.thread two.event two.readers two.entry two.another two.apart in
+    let many = two_entries n emitted of two.object two.version t i two.left two.thread two.event two.readers two.entry two.another two.apart in
     omega (
       arith,
       many,
-      ap (λ z. writes_in n told z two.version) object,
-      ap (λ z. writes_in n told o z) version,
+      ap (λ z. writes_in n emitted z two.version) object,
+      ap (λ z. writes_in n emitted o z) version,
       ltb-false 1
-          (writes_in n told o v) h,
+          (writes_in n emitted o v) h,
     )
 
-miscounted_yes : (n : ℕ) (told : Trace) → (t i o v l : ℕ) → At (told.logs t) i (In o Writing v l) → (l == reads_in n told o v) ≡ false
-    → IsMiscounted n told t i
-miscounted_yes n told t i o v l at h = record { object = o; version = v; left = l; entry = at; other = eqb-false l (reads_in n told o v) h }
+miscounted_yes : (n : ℕ) (emitted : Trace) → (t i o v l : ℕ) → At (emitted.logs t) i (In o Writing v l) → (l == reads_in n emitted o v) ≡ false
+    → IsMiscounted n emitted t i
+miscounted_yes n emitted t i o v l at h = record { object = o; version = v; left = l; entry = at; other = eqb-false l (reads_in n emitted o v) h }
 
-miscounted_no : (n : ℕ) (told : Trace) → (t i o v l : ℕ) → At (told.logs t) i (In o Writing v l) → (l == reads_in n told o v) ≡ true
-    → IsMiscounted n told t i → ⊥
-miscounted_no n told t i o v l at h mis =
-    let same : In mis.object Writing mis.version mis.left ≡ In o Writing v l = at_same (told.logs t) i _ _ mis.entry at in
+miscounted_no : (n : ℕ) (emitted : Trace) → (t i o v l : ℕ) → At (emitted.logs t) i (In o Writing v l) → (l == reads_in n emitted o v) ≡ true
+    → IsMiscounted n emitted t i → ⊥
+miscounted_no n emitted t i o v l at h mis =
+    let same : In mis.object Writing mis.version mis.left ≡ In o Writing v l = at_same (emitted.logs t) i _ _ mis.entry at in
     let object : mis.object ≡ o = cc in
     let version : mis.version ≡ v = cc in
     let left : mis.left ≡ l = cc in
-    mis.other (left ∙ eqb-true l (reads_in n told o v) h ∙ ap (λ z. reads_in n told z v) (sym object)
-    ∙ ap (λ z. reads_in n told mis.object z) (sym version))
+    mis.other (left ∙ eqb-true l (reads_in n emitted o v) h ∙ ap (λ z. reads_in n emitted z v) (sym object)
+    ∙ ap (λ z. reads_in n emitted mis.object z) (sym version))
 
 -- the first of three
 abbrev pub FirstOf : Type 0 → Type 0 → Type 0 → Cause → Type 0
@@ -140,60 +140,60 @@ read_unnamed P Q S false pn q s Unmade e f = pn refl f
 read_unnamed P Q S false pn q s Twice e f = q f.1
 read_unnamed P Q S false pn q s Readers e f = s f.2
 
-first_of : (n : ℕ) (told : Trace) (t i : ℕ) (c : Cause) → FirstOf (IsUnmade told t i) (IsTwice told t i) (IsMiscounted n told t i) c
-    → HasCause n told t i c
-first_of n told t i Unmade f = f
-first_of n told t i Twice f = f
-first_of n told t i Readers f = f
+first_of : (n : ℕ) (emitted : Trace) (t i : ℕ) (c : Cause) → FirstOf (IsUnmade emitted t i) (IsTwice emitted t i) (IsMiscounted n emitted t i) c
+    → HasCause n emitted t i c
+first_of n emitted t i Unmade f = f
+first_of n emitted t i Twice f = f
+first_of n emitted t i Readers f = f
 
-of_first : (n : ℕ) (told : Trace) (t i : ℕ) (c : Cause) → HasCause n told t i c
-    → FirstOf (IsUnmade told t i) (IsTwice told t i) (IsMiscounted n told t i) c
-of_first n told t i Unmade f = f
-of_first n told t i Twice f = f
-of_first n told t i Readers f = f
+of_first : (n : ℕ) (emitted : Trace) (t i : ℕ) (c : Cause) → HasCause n emitted t i c
+    → FirstOf (IsUnmade emitted t i) (IsTwice emitted t i) (IsMiscounted n emitted t i) c
+of_first n emitted t i Unmade f = f
+of_first n emitted t i Twice f = f
+of_first n emitted t i Readers f = f
 
 -- a label that is no entry breaks nothing
-no_entry : (n : ℕ) (told : Trace) (t i : ℕ) (m : Label) → At (told.logs t) i m → ((o v l : ℕ) (a : Access) → In o a v l ≡ m → ⊥)
-    → (c : Cause) → HasCause n told t i c → ⊥
-no_entry n told t i m at none Unmade f = none f.object (suc f.version) f.left f.access (at_same (told.logs t) i _ _ f.entry at)
-no_entry n told t i m at none Twice f = none f.1.object f.1.version f.1.left Writing (at_same (told.logs t) i _ _ f.1.entry at)
-no_entry n told t i m at none Readers f = none f.2.object f.2.version f.2.left Writing (at_same (told.logs t) i _ _ f.2.entry at)
+no_entry : (n : ℕ) (emitted : Trace) (t i : ℕ) (m : Label) → At (emitted.logs t) i m → ((o v l : ℕ) (a : Access) → In o a v l ≡ m → ⊥)
+    → (c : Cause) → HasCause n emitted t i c → ⊥
+no_entry n emitted t i m at none Unmade f = none f.object (suc f.version) f.left f.access (at_same (emitted.logs t) i _ _ f.entry at)
+no_entry n emitted t i m at none Twice f = none f.1.object f.1.version f.1.left Writing (at_same (emitted.logs t) i _ _ f.1.entry at)
+no_entry n emitted t i m at none Readers f = none f.2.object f.2.version f.2.left Writing (at_same (emitted.logs t) i _ _ f.2.entry at)
 
 -- what the counts name is the first cause
-pub named : (n : ℕ) (told : Trace) → IsOf n told → (t i : ℕ) (m : Label) (c : Cause) → At (told.logs t) i m
-    → cause_by (reads_in n told) (writes_in n told) m ≡ Some c → HasCause n told t i c
-named n told of t i Quiet c at e = absurd (let bad : None ≡ Some c = e in cc)
-named n told of t i (Answer k x) c at e = absurd (let bad : None ≡ Some c = e in cc)
-named n told of t i (In o Reading v l) c at e =
-    first_of n told t i c (read_named (IsUnmade told t i) (IsTwice told t i) (IsMiscounted n told t i) (nobody_made (writes_in n told) o v)
-    (unmade_yes n told of t i o v l Reading at) c e)
-named n told of t i (In o Writing v l) c at e =
-    first_of n told t i c (write_named (IsUnmade told t i) (IsTwice told t i) (IsMiscounted n told t i) (nobody_made (writes_in n told) o v)
-    (nat_lt 1 (writes_in n told o v)) (l == reads_in n told o v)
-    (unmade_yes n told of t i o v l Writing at) (unmade_no n told t i o v l Writing at)
-    (twice_yes n told of t i o v l at) (twice_no n told of t i o v l at)
-    (miscounted_yes n told t i o v l at) c e)
-named n told of t i (Refused p) c at e = absurd (let bad : None ≡ Some c = e in cc)
-named n told of t i (Out p a w) c at e = absurd (let bad : None ≡ Some c = e in cc)
+pub named : (n : ℕ) (emitted : Trace) → IsOf n emitted → (t i : ℕ) (m : Label) (c : Cause) → At (emitted.logs t) i m
+    → cause_by (reads_in n emitted) (writes_in n emitted) m ≡ Some c → HasCause n emitted t i c
+named n emitted of t i Quiet c at e = absurd (let bad : None ≡ Some c = e in cc)
+named n emitted of t i (Answer k x) c at e = absurd (let bad : None ≡ Some c = e in cc)
+named n emitted of t i (In o Reading v l) c at e =
+    first_of n emitted t i c (read_named (IsUnmade emitted t i) (IsTwice emitted t i) (IsMiscounted n emitted t i) (nobody_made (writes_in n emitted) o v)
+    (unmade_yes n emitted of t i o v l Reading at) c e)
+named n emitted of t i (In o Writing v l) c at e =
+    first_of n emitted t i c (write_named (IsUnmade emitted t i) (IsTwice emitted t i) (IsMiscounted n emitted t i) (nobody_made (writes_in n emitted) o v)
+    (nat_lt 1 (writes_in n emitted o v)) (l == reads_in n emitted o v)
+    (unmade_yes n emitted of t i o v l Writing at) (unmade_no n emitted t i o v l Writing at)
+    (twice_yes n emitted of t i o v l at) (twice_no n emitted of t i o v l at)
+    (miscounted_yes n emitted t i o v l at) c e)
+named n emitted of t i (Refused p) c at e = absurd (let bad : None ≡ Some c = e in cc)
+named n emitted of t i (Out p a w) c at e = absurd (let bad : None ≡ Some c = e in cc)
 
 -- where the counts name none, there is none
-pub unnamed : (n : ℕ) (told : Trace) → IsOf n told → (t i : ℕ) (m : Label) → At (told.logs t) i m
-    → cause_by (reads_in n told) (writes_in n told) m ≡ None → (c : Cause) → HasCause n told t i c → ⊥
-unnamed n told of t i Quiet at e c f = no_entry n told t i Quiet at (λ o v l a q. cc) c f
-unnamed n told of t i (Answer k x) at e c f = no_entry n told t i (Answer k x) at (λ o v l a q. cc) c f
-unnamed n told of t i (In o Reading v l) at e c f =
-    read_unnamed (IsUnmade told t i) (IsTwice told t i) (IsMiscounted n told t i) (nobody_made (writes_in n told) o v)
-    (unmade_no n told t i o v l Reading at)
-    (λ two. let bad : In two.object Writing two.version two.left ≡ In o Reading v l = at_same (told.logs t) i _ _ two.entry at in cc)
-    (λ mis. let bad : In mis.object Writing mis.version mis.left ≡ In o Reading v l = at_same (told.logs t) i _ _ mis.entry at in cc)
-    c e (of_first n told t i c f)
-unnamed n told of t i (In o Writing v l) at e c f =
-    write_unnamed (IsUnmade told t i) (IsTwice told t i) (IsMiscounted n told t i) (nobody_made (writes_in n told) o v)
-    (nat_lt 1 (writes_in n told o v)) (l == reads_in n told o v)
-    (unmade_no n told t i o v l Writing at) (twice_no n told of t i o v l at) (miscounted_no n told t i o v l at) c e
-    (of_first n told t i c f)
-unnamed n told of t i (Refused p) at e c f = no_entry n told t i (Refused p) at (λ o v l a q. cc) c f
-unnamed n told of t i (Out p x w) at e c f = no_entry n told t i (Out p x w) at (λ o v l a q. cc) c f
+pub unnamed : (n : ℕ) (emitted : Trace) → IsOf n emitted → (t i : ℕ) (m : Label) → At (emitted.logs t) i m
+    → cause_by (reads_in n emitted) (writes_in n emitted) m ≡ None → (c : Cause) → HasCause n emitted t i c → ⊥
+unnamed n emitted of t i Quiet at e c f = no_entry n emitted t i Quiet at (λ o v l a q. cc) c f
+unnamed n emitted of t i (Answer k x) at e c f = no_entry n emitted t i (Answer k x) at (λ o v l a q. cc) c f
+unnamed n emitted of t i (In o Reading v l) at e c f =
+    read_unnamed (IsUnmade emitted t i) (IsTwice emitted t i) (IsMiscounted n emitted t i) (nobody_made (writes_in n emitted) o v)
+    (unmade_no n emitted t i o v l Reading at)
+    (λ two. let bad : In two.object Writing two.version two.left ≡ In o Reading v l = at_same (emitted.logs t) i _ _ two.entry at in cc)
+    (λ mis. let bad : In mis.object Writing mis.version mis.left ≡ In o Reading v l = at_same (emitted.logs t) i _ _ mis.entry at in cc)
+    c e (of_first n emitted t i c f)
+unnamed n emitted of t i (In o Writing v l) at e c f =
+    write_unnamed (IsUnmade emitted t i) (IsTwice emitted t i) (IsMiscounted n emitted t i) (nobody_made (writes_in n emitted) o v)
+    (nat_lt 1 (writes_in n emitted o v)) (l == reads_in n emitted o v)
+    (unmade_no n emitted t i o v l Writing at) (twice_no n emitted of t i o v l at) (miscounted_no n emitted t i o v l at) c e
+    (of_first n emitted t i c f)
+unnamed n emitted of t i (Refused p) at e c f = no_entry n emitted t i (Refused p) at (λ o v l a q. cc) c f
+unnamed n emitted of t i (Out p x w) at e c f = no_entry n emitted t i (Out p x w) at (λ o v l a q. cc) c f
 
 -- no cause of a trace's event, by decision
 option_cases : (x : Option Cause) → (x ≡ None) ⊎ ((c : Cause) × (x ≡ Some c))
@@ -201,48 +201,48 @@ option_cases None = inl refl
 option_cases (Some c) = inr (c, refl)
 
 pub coherent_unbroken : CoherentUnbroken
-coherent_unbroken n told co t i Unmade f =
+coherent_unbroken n emitted co t i Unmade f =
     let made = co.made t i f.object f.version f.left f.access f.entry in
     f.unmade made.0 made.1 made.2 made.3
-coherent_unbroken n told co t i Twice f =
+coherent_unbroken n emitted co t i Twice f =
     let two = f.1 in
     let same = co.writer t i two.thread two.event two.object two.version two.left two.readers two.entry two.another in
     two.apart same.0 same.1
-coherent_unbroken n told co t i Readers f =
+coherent_unbroken n emitted co t i Readers f =
     let mis = f.2 in
     mis.other (co.readers t i mis.object mis.version mis.left mis.entry)
 
 -- where no event has a cause by the counts, the trace is coherent
-pub silent_coherent : (n : ℕ) (told : Trace) → IsOf n told
-    → ((t i : ℕ) (m : Label) → At (told.logs t) i m → cause_by (reads_in n told) (writes_in n told) m ≡ None) → IsCoherent n told
-silent_coherent n told of none = record {
-  made = λ t i o v l a at. made_by t i o v l a at (cases_lt 0 (writes_in n told o v));
+pub silent_coherent : (n : ℕ) (emitted : Trace) → IsOf n emitted
+    → ((t i : ℕ) (m : Label) → At (emitted.logs t) i m → cause_by (reads_in n emitted) (writes_in n emitted) m ≡ None) → IsCoherent n emitted
+silent_coherent n emitted of none = record {
+  made = λ t i o v l a at. made_by t i o v l a at (cases_lt 0 (writes_in n emitted o v));
   writer = λ t i u j o v l k at bt. one_by t i u j o v l k at bt (cases_eq t u) (cases_eq i j);
-  readers = λ t i o v l at. readers_by t i o v l at (cases_eq l (reads_in n told o v));
+  readers = λ t i o v l at. readers_by t i o v l at (cases_eq l (reads_in n emitted o v));
 }
   where
-    broken : (t i : ℕ) (m : Label) → At (told.logs t) i m → (c : Cause) → HasCause n told t i c → ⊥
-    broken t i m at = unnamed n told of t i m at (none t i m at)
+    broken : (t i : ℕ) (m : Label) → At (emitted.logs t) i m → (c : Cause) → HasCause n emitted t i c → ⊥
+    broken t i m at = unnamed n emitted of t i m at (none t i m at)
 
-    made_by : (t i o v l : ℕ) (a : Access) → At (told.logs t) i (In o a (suc v) l) → (0 < writes_in n told o v) ⊎ (writes_in n told o v ≤ 0)
-        → (u j k : ℕ) × At (told.logs u) j (In o Writing v k)
-    made_by t i o v l a at (inl some) = some_entry n told o v some
+    made_by : (t i o v l : ℕ) (a : Access) → At (emitted.logs t) i (In o a (suc v) l) → (0 < writes_in n emitted o v) ⊎ (writes_in n emitted o v ≤ 0)
+        → (u j k : ℕ) × At (emitted.logs u) j (In o Writing v k)
+    made_by t i o v l a at (inl some) = some_entry n emitted o v some
     made_by t i o v l a at (inr no_one) = absurd (broken t i (In o a (suc v) l) at Unmade record {
       object = o;
       access = a;
       version = v;
       left = l;
       entry = at;
-      unmade = λ u j k w. omega (arith, entry_counted n told of o v u j k w);
+      unmade = λ u j k w. omega (arith, entry_counted n emitted of o v u j k w);
     })
 
-    unmade_not : (t i : ℕ) (m : Label) → At (told.logs t) i m → IsUnmade told t i → ⊥
+    unmade_not : (t i : ℕ) (m : Label) → At (emitted.logs t) i m → IsUnmade emitted t i → ⊥
     unmade_not t i m at = broken t i m at Unmade
 
-    twice_not : (t i : ℕ) (m : Label) → At (told.logs t) i m → IsTwice told t i → ⊥
+    twice_not : (t i : ℕ) (m : Label) → At (emitted.logs t) i m → IsTwice emitted t i → ⊥
     twice_not t i m at two = broken t i m at Twice (unmade_not t i m at, two)
 
-    one_by : (t i u j o v l k : ℕ) → At (told.logs t) i (In o Writing v l) → At (told.logs u) j (In o Writing v k) → (t ≡ u) ⊎ (t ≡ u → ⊥)
+    one_by : (t i u j o v l k : ℕ) → At (emitted.logs t) i (In o Writing v l) → At (emitted.logs u) j (In o Writing v k) → (t ≡ u) ⊎ (t ≡ u → ⊥)
         → (i ≡ j) ⊎ (i ≡ j → ⊥) → (t ≡ u) × (i ≡ j)
     one_by t i u j o v l k at bt (inl e) (inl f) = (e, f)
     one_by t i u j o v l k at bt (inl e) (inr ne) =
@@ -251,8 +251,8 @@ silent_coherent n told of none = record {
     one_by t i u j o v l k at bt (inr ne) f = absurd (twice_not t i (In o Writing v l) at
         record { object = o; version = v; left = l; entry = at; thread = u; event = j; readers = k; another = bt; apart = λ e _. ne e })
 
-    readers_by : (t i o v l : ℕ) → At (told.logs t) i (In o Writing v l) → (l ≡ reads_in n told o v) ⊎ (l ≡ reads_in n told o v → ⊥)
-        → l ≡ reads_in n told o v
+    readers_by : (t i o v l : ℕ) → At (emitted.logs t) i (In o Writing v l) → (l ≡ reads_in n emitted o v) ⊎ (l ≡ reads_in n emitted o v → ⊥)
+        → l ≡ reads_in n emitted o v
     readers_by t i o v l at (inl e) = e
     readers_by t i o v l at (inr ne) = absurd (broken t i (In o Writing v l) at Readers (
       unmade_not t i (In o Writing v l) at,
@@ -261,11 +261,11 @@ silent_coherent n told of none = record {
     ))
 
 pub unbroken_coherent : UnbrokenCoherent
-unbroken_coherent n told of none = silent_coherent n told of
-    (λ t i m at. go t i m at (option_cases (cause_by (reads_in n told) (writes_in n told) m)))
+unbroken_coherent n emitted of none = silent_coherent n emitted of
+    (λ t i m at. go t i m at (option_cases (cause_by (reads_in n emitted) (writes_in n emitted) m)))
   where
-    go : (t i : ℕ) (m : Label) → At (told.logs t) i m → (cause_by (reads_in n told) (writes_in n told) m ≡ None)
-        ⊎ ((c : Cause) × (cause_by (reads_in n told) (writes_in n told) m ≡ Some c))
-        → cause_by (reads_in n told) (writes_in n told) m ≡ None
+    go : (t i : ℕ) (m : Label) → At (emitted.logs t) i m → (cause_by (reads_in n emitted) (writes_in n emitted) m ≡ None)
+        ⊎ ((c : Cause) × (cause_by (reads_in n emitted) (writes_in n emitted) m ≡ Some c))
+        → cause_by (reads_in n emitted) (writes_in n emitted) m ≡ None
     go t i m at (inl e) = e
-    go t i m at (inr some) = absurd (none t i some.0 (named n told of t i m some.0 at some.1))
+    go t i m at (inr some) = absurd (none t i some.0 (named n emitted of t i m some.0 at some.1))

@@ -108,51 +108,51 @@ sum_other (suc n) t f l h = elim (cases_eq n t) [
 
 -- the logs of all threads but the first n are empty
 abbrev pub IsOf : ℕ → Trace → Type 0
-IsOf n told = (t : ℕ) → n ≤ t → told.logs t ≡ []
+IsOf n emitted = (t : ℕ) → n ≤ t → emitted.logs t ≡ []
 
-pub is_thread : (n : ℕ) (told : Trace) → IsOf n told → (t i : ℕ) (m : Label) → At (told.logs t) i m → t < n
-is_thread n told of t i m at = elim (cases_lt t n) [
+pub is_thread : (n : ℕ) (emitted : Trace) → IsOf n emitted → (t i : ℕ) (m : Label) → At (emitted.logs t) i m → t < n
+is_thread n emitted of t i m at = elim (cases_lt t n) [
   | inl less ↦ less
   | inr past ↦ absurd (subst (λ ks. At ks i m) (of t past) at)
 ]
 
-pub some_entry : (n : ℕ) (told : Trace) (o v : ℕ) → 0 < writes_in n told o v → (u j k : ℕ) × At (told.logs u) j (In o Writing v k)
-some_entry n told o v h =
-    let s = sum_some n (λ u. writes o v (told.logs u)) h in
-    let w = some_write o v (told.logs s.0) s.2 in
+pub some_entry : (n : ℕ) (emitted : Trace) (o v : ℕ) → 0 < writes_in n emitted o v → (u j k : ℕ) × At (emitted.logs u) j (In o Writing v k)
+some_entry n emitted o v h =
+    let s = sum_some n (λ u. writes o v (emitted.logs u)) h in
+    let w = some_write o v (emitted.logs s.0) s.2 in
     (s.0, w.0, w.1, w.2)
 
-pub entry_counted : (n : ℕ) (told : Trace) → IsOf n told → (o v u j k : ℕ) → At (told.logs u) j (In o Writing v k)
-    → 0 < writes_in n told o v
-entry_counted n told of o v u j k at =
+pub entry_counted : (n : ℕ) (emitted : Trace) → IsOf n emitted → (o v u j k : ℕ) → At (emitted.logs u) j (In o Writing v k)
+    → 0 < writes_in n emitted o v
+entry_counted n emitted of o v u j k at =
     omega (
       arith,
-      write_counted o v k (told.logs u) j at,
-      sum_has n u (λ u. writes o v (told.logs u))
-          (is_thread n told of u j (In o Writing v k) at),
+      write_counted o v k (emitted.logs u) j at,
+      sum_has n u (λ u. writes o v (emitted.logs u))
+          (is_thread n emitted of u j (In o Writing v k) at),
     )
 
-pub two_entries : (n : ℕ) (told : Trace) → IsOf n told → (o v t i k u j l : ℕ) → At (told.logs t) i (In o Writing v k)
-    → At (told.logs u) j (In o Writing v l) → (t ≡ u → i ≡ j → ⊥) → 1 < writes_in n told o v
-two_entries n told of o v t i k u j l a b ne = elim (cases_eq t u) [
+pub two_entries : (n : ℕ) (emitted : Trace) → IsOf n emitted → (o v t i k u j l : ℕ) → At (emitted.logs t) i (In o Writing v k)
+    → At (emitted.logs u) j (In o Writing v l) → (t ≡ u → i ≡ j → ⊥) → 1 < writes_in n emitted o v
+two_entries n emitted of o v t i k u j l a b ne = elim (cases_eq t u) [
   | inl e ↦ omega (
     arith,
-    two_writes o v k l (told.logs t) i j a (subst (λ z. At (told.logs z) j (In o Writing v l)) (sym e) b) (ne e),
-    sum_has n t (λ u. writes o v (told.logs u)) (is_thread n told of t i (In o Writing v k) a),
+    two_writes o v k l (emitted.logs t) i j a (subst (λ z. At (emitted.logs z) j (In o Writing v l)) (sym e) b) (ne e),
+    sum_has n t (λ u. writes o v (emitted.logs u)) (is_thread n emitted of t i (In o Writing v k) a),
   )
   | inr ne' ↦ omega (
     arith,
-    write_counted o v k (told.logs t) i a,
-    write_counted o v l (told.logs u) j b,
+    write_counted o v k (emitted.logs t) i a,
+    write_counted o v l (emitted.logs u) j b,
     sum_two n t u
-        (λ u. writes o v (told.logs u)) (is_thread n told of t i (In o Writing v k) a) (is_thread n told of u j (In o Writing v l) b) ne',
+        (λ u. writes o v (emitted.logs u)) (is_thread n emitted of t i (In o Writing v k) a) (is_thread n emitted of u j (In o Writing v l) b) ne',
   )
 ]
 
-pub another_entry : (n : ℕ) (told : Trace) → IsOf n told → (o v t i k : ℕ) → At (told.logs t) i (In o Writing v k)
-    → 1 < writes_in n told o v → (u j l : ℕ) × At (told.logs u) j (In o Writing v l) × (t ≡ u → i ≡ j → ⊥)
-another_entry n told of o v t i k a h = elim (sum_other n t (λ u. writes o v (told.logs u)) (is_thread n told of t i (In o Writing v k) a)
+pub another_entry : (n : ℕ) (emitted : Trace) → IsOf n emitted → (o v t i k : ℕ) → At (emitted.logs t) i (In o Writing v k)
+    → 1 < writes_in n emitted o v → (u j l : ℕ) × At (emitted.logs u) j (In o Writing v l) × (t ≡ u → i ≡ j → ⊥)
+another_entry n emitted of o v t i k a h = elim (sum_other n t (λ u. writes o v (emitted.logs u)) (is_thread n emitted of t i (In o Writing v k) a)
     h) [
-      | inl two ↦ let r = another_write o v k (told.logs t) i a two in (t, r.0, r.1, r.2, λ _. r.3)
-      | inr far ↦ let w = some_write o v (told.logs far.0) far.2 in (far.0, w.0, w.1, w.2, λ e _. far.1 e)
+      | inl two ↦ let r = another_write o v k (emitted.logs t) i a two in (t, r.0, r.1, r.2, λ _. r.3)
+      | inr far ↦ let w = some_write o v (emitted.logs far.0) far.2 in (far.0, w.0, w.1, w.2, λ e _. far.1 e)
     ]

@@ -4,7 +4,7 @@ ghost use Rattle.std.specs.Prelude.{◌≡◌, ◌<◌, ◌≤◌, length, map, 
 ghost use Rattle.std.specs.List.{AllByRecursion};
 ghost use Rattle.ir_log.specs.Logging.{label_of};
 ghost use Rattle.ir_trace.specs.Recorded.{IsEvent};
-ghost use Rattle.ir_trace.specs.Told.{trace_of};
+ghost use Rattle.ir_trace.specs.TraceOf.{trace_of};
 ghost use Rattle.ir_coherence.specs.Counting.{CountsMore, CountsAll, HasRoom, AreSettled};
 
 use crate::entry_counts::EntryCounts;

@@ -8,6 +8,7 @@ use Rattle.ir_command.specs.declared.command.Command.{Command}
 use Rattle.ir_command.specs.declared.command.Command.TheVariants as command
 use Rattle.ir_command.specs.declared.command.Move.TheVariants.{Step, Back, Goto, Start, End}
 use Rattle.ir_command.specs.declared.command.Show.TheVariants.{Registers, Memory, Object, Output, Log, Next}
+use Rattle.ir_command.specs.declared.command.Keeping.TheVariants.{Keep, Load, Drop, Kept}
 use Rattle.ir_command.specs.declared.refusal.Refusal.{Refusal}
 use Rattle.ir_command.specs.declared.refusal.Refusal.TheVariants.{UnknownCommand, BadArgument, LineTooLong}
 
@@ -62,6 +63,10 @@ table =
     row (codes "out") (Small ∷ []) (λ ns. command.Show (Output (first ns))) ∷
     row (codes "log") (Small ∷ []) (λ ns. command.Show (Log (first ns))) ∷
     row (codes "next") (Small ∷ []) (λ ns. command.Show (Next (first ns))) ∷
+    row (codes "keep") [] (λ ns. command.Keeping Keep) ∷
+    row (codes "load") (Small ∷ []) (λ ns. command.Keeping (Load (first ns))) ∷
+    row (codes "drop") (Small ∷ []) (λ ns. command.Keeping (Drop (first ns))) ∷
+    row (codes "kept") [] (λ ns. command.Keeping Kept) ∷
     row (codes "quit") [] (λ ns. command.Quit) ∷
     []
 

@@ -11,6 +11,8 @@ pub enum Command {
     Position,
     /// Show what stands at the cut.
     Show(Show),
+    /// Something about the cuts that are kept.
+    Keeping(Keeping),
     /// `quit`: end the session.
     Quit,
 }
@@ -59,6 +61,19 @@ pub enum Show {
     Next {
         thread: u32,
     },
+}
+
+/// What is asked about the cuts that are kept, each by a number.
+#[derive(Clone, Copy, Debug, PartialEq, Eq)]
+pub enum Keeping {
+    /// `keep`: keep the cut.
+    Keep,
+    /// `load N`: move all threads to a kept cut.
+    Load { number: u32 },
+    /// `drop N`: keep a cut no longer.
+    Drop { number: u32 },
+    /// `kept`: show each number, and the positions of its cut.
+    Kept,
 }
 
 /// How many bytes are shown: 1 to 256.

@@ -7,7 +7,7 @@ ghost use Rattle.ir_command.specs.Commands.{command_of, command_named};
 use crate::arguments::{
     no_argument, one_number, thread_and_bytes, thread_and_position, two_numbers,
 };
-use crate::command::{Command, Move, Show};
+use crate::command::{Command, Keeping, Move, Show};
 use crate::refusal::Refusal;
 use crate::words::{next_word, without_return};
 
@@ -50,6 +50,14 @@ fn named(name: &[u8], words: &[u8]) -> Result<Command, Refusal>
         one_number(words).map(|thread| Command::Show(Show::Log { thread }))
     } else if name == b"next".as_slice() {
         one_number(words).map(|thread| Command::Show(Show::Next { thread }))
+    } else if name == b"keep".as_slice() {
+        no_argument(words).map(|()| Command::Keeping(Keeping::Keep))
+    } else if name == b"load".as_slice() {
+        one_number(words).map(|number| Command::Keeping(Keeping::Load { number }))
+    } else if name == b"drop".as_slice() {
+        one_number(words).map(|number| Command::Keeping(Keeping::Drop { number }))
+    } else if name == b"kept".as_slice() {
+        no_argument(words).map(|()| Command::Keeping(Keeping::Kept))
     } else if name == b"quit".as_slice() {
         no_argument(words).map(|()| Command::Quit)
     } else {

@@ -17,6 +17,31 @@ fn bytes_shown(thread: u32, address: u32, bytes: u128) -> Result<Option<Command>
 }
 
 #[test]
+fn kept_cuts_are_asked_by_their_numbers(rt: HostRuntime) {
+    let cases: [(&[u8], Keeping); 6] = [
+        (b"keep", Keeping::Keep),
+        (b"  kept\t\r", Keeping::Kept),
+        (b"load 1", Keeping::Load { number: 1 }),
+        (b"load 0xffffffff", Keeping::Load { number: u32::MAX }),
+        (b"drop 0", Keeping::Drop { number: 0 }),
+        (b"drop\t64", Keeping::Drop { number: 64 }),
+    ];
+    for (line, want) in cases {
+        assert_eq!(rt; parse_line(line), Ok(Some(Command::Keeping(want))));
+    }
+    for line in [
+        b"keep 1".as_slice(),
+        b"load",
+        b"load 1 2",
+        b"drop -1",
+        b"drop 4294967296",
+        b"kept all",
+    ] {
+        assert_eq!(rt; parse_line(line), Err(Refusal::BadArgument));
+    }
+}
+
+#[test]
 fn moves_have_their_forms(rt: HostRuntime) {
     let most = u32::MAX;
     let cases: [(&[u8], Command); 7] = [
@@ -176,8 +201,8 @@ fn other_names_are_unknown(rt: HostRuntime) {
         b"clear 1",
         b"cont 0",
         b"rcont 0",
-        b"keep",
-        b"kept 1 2",
+        b"keeps",
+        b"KEPT",
         b"\rstep 0 1",
     ];
     for line in cases {

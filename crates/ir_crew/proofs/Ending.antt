@@ -14,8 +14,8 @@ use Rattle.ir_object.specs.Order.{Shared, objects_after}
 use Rattle.ir_object.specs.Word.{fields_of}
 use Rattle.ir_crew.specs.Ends.{empty, AreSeats, AreTracks, IsEnd, IsLaid, IsObjectOf}
 use Rattle.ir_crew.specs.Plays.{M, all_but_first, first_alone}
-use Rattle.ir_crew.specs.Rule.{View, start_objects, Tells, IsTable, Fits, Kept, tracks_from}
-use Rattle.ir_crew.proofs.Known.{nothing_tells, small_now}
+use Rattle.ir_crew.specs.Rule.{View, start_objects, Represents, IsTable, Fits, Kept, tracks_from}
+use Rattle.ir_crew.proofs.Known.{nothing_represents, small_now}
 use Rattle.ir_crew.proofs.Steps.{track}
 
 -- ---- the words before the first step
@@ -23,8 +23,8 @@ use Rattle.ir_crew.proofs.Steps.{track}
 pub starts : (g : Guest) (ws : List ℕ) → IsGuest g → IsLaid g.words ws → IsTable (length g.entries) (object_count g) (start_objects g) ws
 starts g ws guest laid = record {
   size = laid.size;
-  words = λ o lt. subst (λ z. Tells (length g.entries) (fields_of z) (start_objects g o)) (sym (laid.free o lt))
-      (nothing_tells (length g.entries) (start_objects g o).words);
+  words = λ o lt. subst (λ z. Represents (length g.entries) (fields_of z) (start_objects g o)) (sym (laid.free o lt))
+      (nothing_represents (length g.entries) (start_objects g o).words);
   contents = λ o i lt small. laid.contents o i small (let whole = guest.whole_objects in omega (arith, lt, small, whole))
       ∙ sym (get_or-take object_words (drop (object_words * o) g.words) i 0 small ∙ get_or-drop (object_words * o) g.words i 0);
 }
@@ -45,10 +45,10 @@ seats_more id t u (y ∷ ys) x h e i m = (h.0, seats_more id (suc t) u ys x h.1 
 
 pub dealt : (l m n : ℕ) (me w : M) → me ≡ (tracks_from l (suc m), []) → w ≡ (all_but_first me.0, me.1) → n ≡ suc l
     → w ≡ (tracks_from n m, [])
-dealt l m n me w is told long = told ∙ (λ i. (all_but_first (is i).0, (is i).1)) ∙ (λ i. (tracks_from (sym long i) m, []))
+dealt l m n me w is emitted long = emitted ∙ (λ i. (all_but_first (is i).0, (is i).1)) ∙ (λ i. (tracks_from (sym long i) m, []))
 
 pub dealt_first : (l m : ℕ) (me w : M) → me ≡ (tracks_from l (suc m), []) → w ≡ (first_alone me.0, []) → w ≡ (track l [] ∷ [], [])
-dealt_first l m me w is told = told ∙ (λ i. (first_alone (is i).0, []))
+dealt_first l m me w is emitted = emitted ∙ (λ i. (first_alone (is i).0, []))
 
 pub all_but : (l m k : ℕ) (me : M) → me ≡ (tracks_from l m, []) → m ≡ suc k → me ≡ (tracks_from l (suc k), [])
 all_but l m k me is e = is ∙ (λ i. (tracks_from l (e i), []))
@@ -92,11 +92,11 @@ elem_or (x ∷ xs) (suc k) y e = elem_or xs k y e
 stands : (n count o : ℕ) (f : ℕ → Object) (ws : List ℕ) (c : Cell) → IsTable n count f ws → o < count → IsObjectOf ws o c
     → StandsFor n c (f o)
 stands n count o f ws c r lt is =
-    let tells : Tells n c.fields (f o) = subst (λ z. Tells n z (f o))
+    let represents : Represents n c.fields (f o) = subst (λ z. Represents n z (f o))
     (ap fields_of (elem_or ws (word_place o) is.word is.head) ∙ sym is.fields) (r.words o lt) in record {
-      version = tells.version;
-      left = tells.left;
-      inside = tells.inside;
+      version = represents.version;
+      left = represents.left;
+      inside = represents.inside;
       words = λ i small. sym (elem_or ws (content_place o i) (get_or c.words i 0) (is.contents i small)) ∙ r.contents o i lt small;
     }
 

@@ -12,7 +12,7 @@ use Rattle.ir_runs.specs.Machine.{Act, Silent, Result, Entry, Refusal, Exit, Loa
 use Rattle.ir_runs.specs.declared.access.Access.{Access}
 use Rattle.ir_runs.specs.declared.access.Access.TheVariants.{Reading, Writing}
 use Rattle.ir_object.specs.Cell.{one_if_reading, readers, has_writer}
-use Rattle.ir_runs.specs.Object.{Object, target, Admits, acted, told}
+use Rattle.ir_runs.specs.Object.{Object, target, Admits, acted, emitted}
 use Rattle.ir_object.specs.Layout.{word_place}
 use Rattle.ir_object.specs.Order.{Shared, keep_if, of_thread, objects_then, objects_after, order_labels, Uses, IsStep, IsLegal, inside_after}
 use Rattle.ir_object.specs.Word.{bit_of, fields_of, entered, left_by}
@@ -20,7 +20,7 @@ use Rattle.ir_object.specs.declared.fields.Fields.{Fields}
 use Rattle.ir_object.proofs.CallerLemmas.{then_same, then_other, alone_acted, Alone, inside_run, entry_counts, leave_counts, can_leave, writer_admitted}
 use Rattle.ir_runs.proofs.CallerLemmas.{upd_same, upd_other, upd_elim}
 use Rattle.ir_crew.specs.Plays.{inside_by, version_if, version_then, entered_at}
-use Rattle.ir_crew.specs.Rule.{View, one_if_entry, entries, label_of, start_objects, Tells, Kept}
+use Rattle.ir_crew.specs.Rule.{View, one_if_entry, entries, label_of, start_objects, Represents, Kept}
 use Rattle.ir_crew.specs.declared.deed.ObjectStep.{ObjectStep}
 use Rattle.ir_crew.specs.declared.deed.Track.{Track}
 use Rattle.ir_crew.proofs.Counting.{all_entries, total_le, entries_total}
@@ -31,7 +31,7 @@ abbrev pub weight : Fields → ℕ
 weight f = f.version + f.left + f.inside + bit_of f.writer
 
 pub record Light (n k : ℕ) (f : Fields) (b : Object) : Type 0 where
-  pub tells : Tells n f b
+  pub represents : Represents n f b
   pub light : weight f ≤ k
 
 bit_off : (b : Bool) → b ≡ false → bit_of b ≡ 0
@@ -47,11 +47,11 @@ light_then m n k t Silent f b lt use_is can alone l = absurd use_is
 light_then m n k t (Result i v) f b lt use_is can alone l = absurd use_is
 light_then m n k t (Refusal o) f b lt use_is can alone l = absurd use_is
 light_then m n k t Never f b lt use_is can alone l = absurd use_is
-light_then m n k t (Load o i) f b lt use_is can alone l = (f, record { tells = l.tells; light = let w = l.light in omega (arith, w) })
+light_then m n k t (Load o i) f b lt use_is can alone l = (f, record { represents = l.represents; light = let w = l.light in omega (arith, w) })
 light_then m n k t (Store o i w) f b lt use_is can alone l = (
   f,
   record {
-    tells = record { version = l.tells.version; left = l.tells.left; inside = l.tells.inside };
+    represents = record { version = l.represents.version; left = l.represents.left; inside = l.represents.inside };
     light = let z = l.light in
         omega (arith, z);
   },
@@ -59,11 +59,11 @@ light_then m n k t (Store o i w) f b lt use_is can alone l = (
 light_then m n k t (Entry o Reading v) f b lt use_is can alone l = (
   entered Reading f,
   record {
-    tells = record {
-      version = l.tells.version;
-      left = l.tells.left;
+    represents = record {
+      version = l.represents.version;
+      left = l.represents.left;
       inside =
-          entry_counts n f b.inside t Reading lt use_is l.tells.inside;
+          entry_counts n f b.inside t Reading lt use_is l.represents.inside;
     };
     light = let w = l.light in omega (arith, w);
   },
@@ -71,37 +71,37 @@ light_then m n k t (Entry o Reading v) f b lt use_is can alone l = (
 light_then m n k t (Entry o Writing v) f b lt use_is can alone l = (
   entered Writing f,
   record {
-    tells = record {
-      version = l.tells.version;
-      left = l.tells.left;
+    represents = record {
+      version = l.represents.version;
+      left = l.represents.left;
       inside =
-          entry_counts n f b.inside t Writing lt use_is l.tells.inside;
+          entry_counts n f b.inside t Writing lt use_is l.represents.inside;
     };
-    light = let w = l.light in let off = bit_off f.writer (writer_admitted n f b.inside l.tells.inside can).0 in omega (arith, w, off);
+    light = let w = l.light in let off = bit_off f.writer (writer_admitted n f b.inside l.represents.inside can).0 in omega (arith, w, off);
   },
 )
 light_then m n k t (Exit o Reading) f b lt use_is can alone l =
-    let some_in : 0 < f.inside = can_leave n f b.inside t Reading lt use_is l.tells.inside in (
+    let some_in : 0 < f.inside = can_leave n f b.inside t Reading lt use_is l.represents.inside in (
       left_by Reading f,
       record {
-        tells = record {
-          version = l.tells.version;
-          left = let e = l.tells.left in omega (arith, e);
+        represents = record {
+          version = l.represents.version;
+          left = let e = l.represents.left in omega (arith, e);
           inside =
-              leave_counts n f b.inside t Reading lt use_is (λ e. absurd (cc e)) l.tells.inside;
+              leave_counts n f b.inside t Reading lt use_is (λ e. absurd (cc e)) l.represents.inside;
         };
         light = let w = l.light in omega (arith, w, some_in);
       },
     )
 light_then m n k t (Exit o Writing) f b lt use_is can alone l =
-    let on = bit_on f.writer (can_leave n f b.inside t Writing lt use_is l.tells.inside) in (
+    let on = bit_on f.writer (can_leave n f b.inside t Writing lt use_is l.represents.inside) in (
       left_by Writing f,
       record {
-        tells = record {
-          version = let e = l.tells.version in omega (arith, e);
+        represents = record {
+          version = let e = l.represents.version in omega (arith, e);
           left = refl;
           inside =
-              leave_counts n f b.inside t Writing lt use_is (λ _ u ne. alone t u (λ e. ne (sym e)) use_is) l.tells.inside;
+              leave_counts n f b.inside t Writing lt use_is (λ _ u ne. alone t u (λ e. ne (sym e)) use_is) l.represents.inside;
         };
         light = let w = l.light in omega (arith, w, on);
       },
@@ -123,7 +123,7 @@ alone_run m n count f (x ∷ xs) l h = alone_run m n count (objects_then f x) xs
 light_run : {T : Type 0} (m : Machine T) (n count k : ℕ) (f : ℕ → Object) (xs : List (ℕ × Shared)) (o : ℕ) (g : Fields)
     → IsLegal m n count f xs → ((p : ℕ) → Alone (f p).inside) → Light n k g (f o) → (h : Fields)
     × Light n (k + all_entries xs) h (objects_after f xs o)
-light_run m n count k f [] o g l a is = (g, record { tells = is.tells; light = let w = is.light in omega (arith, w) })
+light_run m n count k f [] o g l a is = (g, record { represents = is.represents; light = let w = is.light in omega (arith, w) })
 light_run m n count k f (x ∷ xs) o g l a is =
     let next : (h : Fields) × Light n (k + one_if_entry x.1.0) h (objects_then f x o) = elim (cases_eq o (target x.1.0)) [
       | inl e ↦
@@ -136,11 +136,11 @@ light_run m n count k f (x ∷ xs) o g l a is =
       | inr ne ↦ (
         g,
         subst (Light n (k + one_if_entry x.1.0) g) (sym (then_other f x o ne))
-            (record { tells = is.tells; light = let w = is.light in omega (arith, w) }),
+            (record { represents = is.represents; light = let w = is.light in omega (arith, w) }),
       )
     ] in
     let r = light_run m n count (k + one_if_entry x.1.0) (objects_then f x) xs o next.0 l.1 (alone_then m n count f x l.0 a) next.1 in
-    (r.0, record { tells = r.1.tells; light = let w = r.1.light in omega (arith, w) })
+    (r.0, record { represents = r.1.represents; light = let w = r.1.light in omega (arith, w) })
 
 -- ---- contents are words
 
@@ -175,7 +175,7 @@ Since t b v = b.inside t ≡ Some Writing → b.version ≡ v
 
 -- a step of its own on the object
 since_own : {T : Type 0} (m : Machine T) (q : Act) (t v : ℕ) (b : Object) → Uses q (b.inside t) → Since t b v
-    → Since t (acted q t b) (version_then (target q) (told q b) v)
+    → Since t (acted q t b) (version_then (target q) (emitted q b) v)
 since_own m Silent t v b u h = absurd u
 since_own m (Result k w) t v b u h = absurd u
 since_own m (Refusal o) t v b u h = absurd u
@@ -201,7 +201,7 @@ since_other m (Load o i) t u v b s a ne h = h
 since_other m (Store o i w) t u v b s a ne h = h
 
 -- what is told of another object
-version_elsewhere : (q : Act) (b : Object) (o v : ℕ) → o ≢ target q → version_then o (told q b) v ≡ v
+version_elsewhere : (q : Act) (b : Object) (o v : ℕ) → o ≢ target q → version_then o (emitted q b) v ≡ v
 version_elsewhere Silent b o v ne = refl
 version_elsewhere (Result k w) b o v ne = refl
 version_elsewhere (Entry p Reading w) b o v ne = ap (λ c. version_if c b.version v) (ne_eqb o p ne)
@@ -223,17 +223,17 @@ since_run m n count f (x ∷ xs) t o v l a h =
     let goes = λ (w : ℕ) (s : Since t (objects_then f x o) w). since_run m n count (objects_then f x) xs t o w l.1
     (alone_then m n count f x l.0 a) s in
     elim (cases_eq t x.0) [
-      | inl own ↦ subst (λ c. Since t (objects_after (objects_then f x) xs o) (entered_at o v (keep_if c (told q b) more)))
+      | inl own ↦ subst (λ c. Since t (objects_after (objects_then f x) xs o) (entered_at o v (keep_if c (emitted q b) more)))
           (sym (eq-eqb t x.0 own))
-          (goes (version_then o (told q b) v) (elim (cases_eq o (target q)) [
-            | inl e ↦ subst (λ p. Since t (objects_then f x p) (version_then p (told q b) v)) (sym e)
-                (subst (λ z. Since t z (version_then (target q) (told q b) v)) (sym (then_same f x))
-                (subst (λ u. Since t (acted q u b) (version_then (target q) (told q b) v)) own
+          (goes (version_then o (emitted q b) v) (elim (cases_eq o (target q)) [
+            | inl e ↦ subst (λ p. Since t (objects_then f x p) (version_then p (emitted q b) v)) (sym e)
+                (subst (λ z. Since t z (version_then (target q) (emitted q b) v)) (sym (then_same f x))
+                (subst (λ u. Since t (acted q u b) (version_then (target q) (emitted q b) v)) own
                 (since_own m q t v b (subst (λ u. Uses q (b.inside u)) (sym own) l.0.uses) (subst (λ p. Since t (f p) v) e h))))
-            | inr ne ↦ subst (λ z. Since t z (version_then o (told q b) v)) (sym (then_other f x o ne))
+            | inr ne ↦ subst (λ z. Since t z (version_then o (emitted q b) v)) (sym (then_other f x o ne))
                 (subst (Since t (f o)) (sym (version_elsewhere q b o v ne)) h)
           ]))
-      | inr other ↦ subst (λ c. Since t (objects_after (objects_then f x) xs o) (entered_at o v (keep_if c (told q b) more)))
+      | inr other ↦ subst (λ c. Since t (objects_after (objects_then f x) xs o) (entered_at o v (keep_if c (emitted q b) more)))
           (sym (ne_eqb t x.0 other))
           (goes v (elim (cases_eq o (target q)) [
             | inl e ↦ subst (λ p. Since t (objects_then f x p) v) (sym e)
@@ -246,7 +246,7 @@ since_run m n count f (x ∷ xs) t o v l a h =
 -- ---- what is known of one object as one thread steps on it
 
 pub record IsAt (n t o : ℕ) (h : List ObjectStep) (b : Object) (w : ℕ) : Type 0 where
-  pub tells : Tells n (fields_of w) b
+  pub represents : Represents n (fields_of w) b
   pub light : weight (fields_of w) ≤ most_threads * most_events
   pub narrow : (fields_of w).inside ≤ most_threads
   pub inside : b.inside t ≡ inside_by o h
@@ -265,7 +265,7 @@ readers_le (suc n) f = let r = readers_le n f in let s = one_at_most (f n) in om
     one_at_most (Some Writing) = omega arith
 
 -- two words that say the same object are equally heavy
-same_weight : (n : ℕ) (f g : Fields) (b : Object) → Tells n f b → Tells n g b → weight f ≡ weight g
+same_weight : (n : ℕ) (f g : Fields) (b : Object) → Represents n f b → Represents n g b → weight f ≡ weight g
 same_weight n f g b s t =
     let v : f.version ≡ g.version = s.version ∙ sym t.version in
     let l : f.left ≡ g.left = s.left ∙ sym t.left in
@@ -284,8 +284,8 @@ no_writer (suc n) = ap (λ b. Rattle.std.specs.Prelude.◌||◌ b false) (no_wri
 abbrev pub nothing : Fields
 nothing = record { version = 0; left = 0; inside = 0; writer = false }
 
-pub nothing_tells : (n : ℕ) (words : ℕ → ℕ) → Tells n nothing (record { version = 0; left = 0; inside = λ t. None; words = words })
-nothing_tells n words = record {
+pub nothing_represents : (n : ℕ) (words : ℕ → ℕ) → Represents n nothing (record { version = 0; left = 0; inside = λ t. None; words = words })
+nothing_represents n words = record {
   version = refl;
   left = refl;
   inside =
@@ -328,17 +328,17 @@ at_now g x k id o q at lt =
     let n : ℕ = length g.entries in
     let own = (k.fits id (q ∷ []) at).0.0 in
     let l = light_run m n (object_count g) 0 (start_objects g) k.steps o nothing k.legal (start_alone g)
-    (record { tells = nothing_tells n (start_objects g o).words; light = omega arith }) in
-    let tells : Tells n (fields_of (get_or x.words (word_place o) 0)) (now_of g k.steps o) = k.table.words o lt in
-    let same = same_weight n (fields_of (get_or x.words (word_place o) 0)) l.0 (now_of g k.steps o) tells l.1.tells in
+    (record { represents = nothing_represents n (start_objects g o).words; light = omega arith }) in
+    let represents : Represents n (fields_of (get_or x.words (word_place o) 0)) (now_of g k.steps o) = k.table.words o lt in
+    let same = same_weight n (fields_of (get_or x.words (word_place o) 0)) l.0 (now_of g k.steps o) represents l.1.represents in
     let light = l.1.light in
     let sum = entries_total m n (object_count g) (start_objects g) k.steps k.legal in
     let few = k.guest.few_threads in
     let most = total_le n most_events (λ t. entries (of_thread t k.steps)) k.few few in
     let in_all = readers_le n (now_of g k.steps o).inside in
-    let counted = tells.inside.readers in
+    let counted = represents.inside.readers in
     record {
-      tells = tells;
+      represents = represents;
       light = omega (arith, same, light, sum, most, few);
       narrow = omega (arith, in_all, counted, few);
       inside = inside_run (start_objects g) k.steps q.thread o ∙ ap (inside_after o None) own.steps_are;

@@ -15,14 +15,14 @@ use Rattle.ir_runs.specs.Machine.{Entry, Exit, Store, upd}
 use Rattle.ir_runs.specs.Labels.{Label}
 use Rattle.ir_runs.specs.declared.access.Access.TheVariants.{Reading, Writing}
 use Rattle.ir_object.specs.Cell.{Admitted}
-use Rattle.ir_runs.specs.Object.{Object, target, Admits, acted, reply, told}
+use Rattle.ir_runs.specs.Object.{Object, target, Admits, acted, reply, emitted}
 use Rattle.ir_object.specs.Layout.{word_place, content_place}
 use Rattle.ir_object.specs.Order.{Shared, of_thread, objects_after, order_labels, Uses}
 use Rattle.ir_object.specs.Word.{version_unit, left_limit, reader_leaves, fields_of}
 use Rattle.ir_object.proofs.CallerLemmas.{of_own, of_other, after_more, labels_more, legal_more, entry_counts, leave_counts, can_leave, admits_reader, admits_writer, read_entry_word, write_entry_word, read_leave_word, version_word}
 use Rattle.ir_runs.proofs.CallerLemmas.{upd_same, upd_other, upd_id}
 use Rattle.ir_crew.specs.Plays.{IsAlone, history, did, inside_by, entered_at, M, object_of, index_of, IsSight, looked, tried, read_entry, write_entry, entered_read, entered_write, left_reading, left_writing, got, wrote}
-use Rattle.ir_crew.specs.Rule.{View, shared_by, label_by, shared_of, label_of, one_if_entry, entries, start_objects, Tells, IsTable, IsTrack, Fits, Kept}
+use Rattle.ir_crew.specs.Rule.{View, shared_by, label_by, shared_of, label_of, one_if_entry, entries, start_objects, Represents, IsTable, IsTrack, Fits, Kept}
 use Rattle.ir_crew.specs.declared.deed.Deed.{Deed}
 use Rattle.ir_crew.specs.declared.deed.Deed.TheVariants.{Enter, Leave, Get, Put}
 use Rattle.ir_crew.specs.declared.deed.ObjectStep.{ObjectStep}
@@ -53,7 +53,7 @@ pub record May (g : Guest) (t o : ℕ) (d : Deed) (b : Object) : Type 0 where
   pub uses : Uses (shared_by o d).0 (b.inside t)
   pub admits : Admits (thread_machine g.code) (shared_by o d).0 b
   pub answers : reply (shared_by o d).0 b ≡ (shared_by o d).1
-  pub tells : told (shared_by o d).0 b ≡ label_by o d
+  pub represents : emitted (shared_by o d).0 b ≡ label_by o d
 
 -- the tracks of another seat stay as they are
 others_stay : (n t : ℕ) (f : ℕ → Object) (steps : List (ℕ × Shared)) (s : Shared) (seat : ℕ → ℕ) (id : ℕ) (v : View) → seat t ≢ id
@@ -66,7 +66,7 @@ others_stay n t f steps s seat id (k ∷ ks) ne h =
           thread = h.0.0.thread;
           steps_are = of_other t k.thread steps s apart ∙ h.0.0.steps_are;
           labels_are = ap (of_thread k.thread) (labels_more f steps (t, s))
-              ∙ of_other t k.thread (order_labels f steps) (told s.0 (objects_after f steps (target s.0))) apart ∙ h.0.0.labels_are;
+              ∙ of_other t k.thread (order_labels f steps) (emitted s.0 (objects_after f steps (target s.0))) apart ∙ h.0.0.labels_are;
         },
         h.0.1,
       ),
@@ -91,8 +91,8 @@ adds g x k id t o h d at lt may room ws hs table =
     let new : IsTrack (length g.entries) f steps (track t (h ++ act o d ∷ [])) = record {
       thread = own.0.thread;
       steps_are = mine;
-      labels_are = ap (of_thread t) (labels_more f k.steps (t, s)) ∙ of_own t (order_labels f k.steps) (told s.0 (now (target s.0)))
-          ∙ (λ i. own.0.labels_are i ++ (ap (λ p. told s.0 (now p)) is ∙ may.tells) i ∷ []) ∙ sym (map_more label_of h (act o d));
+      labels_are = ap (of_thread t) (labels_more f k.steps (t, s)) ∙ of_own t (order_labels f k.steps) (emitted s.0 (now (target s.0)))
+          ∙ (λ i. own.0.labels_are i ++ (ap (λ p. emitted s.0 (now p)) is ∙ may.represents) i ∷ []) ∙ sym (map_more label_of h (act o d));
     } in
     record {
       guest = k.guest;
@@ -132,17 +132,17 @@ stays g x k id i v hs at = subst (λ (z : List ℕ × List View). Kept g (record
 
 -- an object's word and its state are changed together
 head_changes : (n count : ℕ) (f : ℕ → Object) (ws : List ℕ) (o w : ℕ) (y : Object) → IsTable n count f ws → o < count
-    → Tells n (fields_of w) y → y.words ≡ (f o).words → IsTable n count (upd f o y) (set ws (word_place o) w)
-head_changes n count f ws o w y r lt tells same = record {
+    → Represents n (fields_of w) y → y.words ≡ (f o).words → IsTable n count (upd f o y) (set ws (word_place o) w)
+head_changes n count f ws o w y r lt represents same = record {
   size = length-set ws (word_place o) w ∙ r.size;
   words = λ p small. elim (cases_eq p o) [
-    | inl e ↦ subst (λ z. Tells n (fields_of (get_or (set ws (word_place o) w) (word_place z) 0)) (upd f o y z)) (sym e)
-        (subst (λ z. Tells n (fields_of z) (upd f o y o))
+    | inl e ↦ subst (λ z. Represents n (fields_of (get_or (set ws (word_place o) w) (word_place z) 0)) (upd f o y z)) (sym e)
+        (subst (λ z. Represents n (fields_of z) (upd f o y o))
         (sym (get_or-set_same ws (word_place o) w 0 (let s = r.size in omega (arith, s, lt))))
-        (subst (Tells n (fields_of w)) (sym (upd_same f o y)) tells))
-    | inr ne ↦ subst (λ z. Tells n (fields_of z) (upd f o y p))
+        (subst (Represents n (fields_of w)) (sym (upd_same f o y)) represents))
+    | inr ne ↦ subst (λ z. Represents n (fields_of z) (upd f o y p))
         (sym (get_or-set_other ws (word_place o) (word_place p) w 0 (λ e. ne (omega (arith, e)))))
-        (subst (Tells n (fields_of (get_or ws (word_place p) 0))) (sym (upd_other f o p y ne)) (r.words p small))
+        (subst (Represents n (fields_of (get_or ws (word_place p) 0))) (sym (upd_other f o p y ne)) (r.words p small))
   ];
   contents = λ p i small fits. get_or-set_other ws (word_place o) (content_place p i) w 0 (λ e. omega (arith, e, fits))
       ∙ r.contents p i small fits ∙ elim (cases_eq p o) [
@@ -154,15 +154,15 @@ head_changes n count f ws o w y r lt tells same = record {
 
 -- a word of contents is written
 cell_changes : (n count : ℕ) (f : ℕ → Object) (ws : List ℕ) (o i v : ℕ) (y : Object) → IsTable n count f ws → o < count → i < object_words
-    → Tells n (fields_of (get_or ws (word_place o) 0)) y → y.words ≡ upd (f o).words i v
+    → Represents n (fields_of (get_or ws (word_place o) 0)) y → y.words ≡ upd (f o).words i v
     → IsTable n count (upd f o y) (set ws (content_place o i) v)
-cell_changes n count f ws o i v y r lt small tells is = record {
+cell_changes n count f ws o i v y r lt small represents is = record {
   size = length-set ws (content_place o i) v ∙ r.size;
-  words = λ p fits. subst (λ z. Tells n (fields_of z) (upd f o y p))
+  words = λ p fits. subst (λ z. Represents n (fields_of z) (upd f o y p))
       (sym (get_or-set_other ws (content_place o i) (word_place p) v 0 (λ e. omega (arith, e, small)))) (elim (cases_eq p o) [
-        | inl e ↦ subst (λ z. Tells n (fields_of (get_or ws (word_place z) 0)) (upd f o y z)) (sym e)
-            (subst (Tells n (fields_of (get_or ws (word_place o) 0))) (sym (upd_same f o y)) tells)
-        | inr ne ↦ subst (Tells n (fields_of (get_or ws (word_place p) 0))) (sym (upd_other f o p y ne)) (r.words p fits)
+        | inl e ↦ subst (λ z. Represents n (fields_of (get_or ws (word_place z) 0)) (upd f o y z)) (sym e)
+            (subst (Represents n (fields_of (get_or ws (word_place o) 0))) (sym (upd_same f o y)) represents)
+        | inr ne ↦ subst (Represents n (fields_of (get_or ws (word_place p) 0))) (sym (upd_other f o p y ne)) (r.words p fits)
       ]);
   contents = λ p j fits lt8. elim (cases_eq p o) [
     | inl e ↦ subst (λ z. get_or (set ws (content_place o i) v) (content_place z j) 0 ≡ (upd f o y z).words j) (sym e)
@@ -200,7 +200,7 @@ below w l = let v : (fields_of w).version ≤ weight (fields_of w) = omega arith
 sees : (n t o : ℕ) (h : List ObjectStep) (b : Object) (w : ℕ) → IsAt n t o h b w → IsSight h o w
 sees n t o h b w a = record {
   small = let l = below w a.light in omega (arith, l);
-  version = λ is. a.tells.version ∙ a.version (a.inside ∙ is);
+  version = λ is. a.represents.version ∙ a.version (a.inside ∙ is);
 }
 
 pub looks : (g : Guest) (slots id o : ℕ) (me : M) → IsAlone me.0 → o < object_count g
@@ -224,7 +224,7 @@ looks g slots id o (q ∷ [], c) alone lt x k homes at small = (
 -- the step is the deed's, and the new word says the object after it
 pub record Turns (g : Guest) (t o : ℕ) (d : Deed) (w : ℕ) (b : Object) : Type 0 where
   pub may : May g t o d b
-  pub tells : Tells (length g.entries) (fields_of w) (acted (shared_by o d).0 t b)
+  pub represents : Represents (length g.entries) (fields_of w) (acted (shared_by o d).0 t b)
   pub words : (acted (shared_by o d).0 t b).words ≡ b.words
 
 -- a compare-exchange: where the word is the one expected, the thread takes a step that the object admits, and the word is that of the
@@ -249,7 +249,7 @@ tries g slots id o old new d (q ∷ [], c) alone lt room step_is x k homes at sm
             (sym (eq-eqb w old hit))
             (adds g x k id q.thread o q.steps (d old) at lt m.may room (set x.words (word_place o) new) x.homes
             (head_changes (length g.entries) (object_count g) (now_of g k.steps) x.words o new (acted (shared_by o (d old)).0 q.thread b)
-            k.table lt m.tells m.words)),
+            k.table lt m.represents m.words)),
         ((λ _. λ i. (did (q ∷ []) (sym (object_is o) i) (d (sym hit i)), c)), (λ miss. absurd (miss hit)), bound),
       )
       | inr miss ↦ (
@@ -274,17 +274,17 @@ enters_read g slots id o old me alone lt room outside free =
     let out : b.inside t ≡ None = a.inside ∙ outside in record {
       may = record {
         uses = out;
-        admits = admits_reader n (fields_of old) b.inside a.tells.inside free;
+        admits = admits_reader n (fields_of old) b.inside a.represents.inside free;
         answers = refl;
-        tells = λ i. Rattle.ir_runs.specs.Labels.In o Reading (sym a.tells.version i) 0;
+        represents = λ i. Rattle.ir_runs.specs.Labels.In o Reading (sym a.represents.version i) 0;
       };
-      tells = subst (λ f. Tells n f (acted (Entry o Reading 0) t b))
+      represents = subst (λ f. Represents n f (acted (Entry o Reading 0) t b))
           (sym (read_entry_word old free (let few = a.narrow in omega (arith, few))))
           (record {
-            version = a.tells.version;
-            left = a.tells.left;
+            version = a.represents.version;
+            left = a.represents.left;
             inside =
-                entry_counts n (fields_of old) b.inside t Reading a.thread out a.tells.inside;
+                entry_counts n (fields_of old) b.inside t Reading a.thread out a.represents.inside;
           });
       words = refl;
     })
@@ -296,19 +296,19 @@ pub enters_write : (g : Guest) (slots id o old : ℕ) (me : M) → IsAlone me.0 
 enters_write g slots id o old me alone lt room free =
     tries g slots id o old (old + 1) write_entry me alone lt (omega (arith, room)) (λ t b a.
     let n : ℕ = length g.entries in
-    let nobody : (u : ℕ) → b.inside u ≡ None = admits_writer n (fields_of old) b.inside a.tells.inside free in record {
+    let nobody : (u : ℕ) → b.inside u ≡ None = admits_writer n (fields_of old) b.inside a.represents.inside free in record {
       may = record {
         uses = nobody t;
         admits = nobody;
         answers = refl;
-        tells = λ i. Rattle.ir_runs.specs.Labels.In o Writing (sym a.tells.version i) (sym a.tells.left i);
+        represents = λ i. Rattle.ir_runs.specs.Labels.In o Writing (sym a.represents.version i) (sym a.represents.left i);
       };
-      tells = subst (λ f. Tells n f (acted (Entry o Writing 0) t b)) (sym (write_entry_word old free))
+      represents = subst (λ f. Represents n f (acted (Entry o Writing 0) t b)) (sym (write_entry_word old free))
           (record {
-            version = a.tells.version;
-            left = a.tells.left;
+            version = a.represents.version;
+            left = a.represents.left;
             inside =
-                entry_counts n (fields_of old) b.inside t Writing a.thread (nobody t) a.tells.inside;
+                entry_counts n (fields_of old) b.inside t Writing a.thread (nobody t) a.represents.inside;
           });
       words = refl;
     })
@@ -320,9 +320,9 @@ changes : (g : Guest) (slots id o : ℕ) (f : ℕ → ℕ) (d : Object → Deed)
     → ((b : Object) → one_if_entry (shared_by o (d b)).0 ≡ 0)
     → ((t w : ℕ) (b : Object) → IsAt (length g.entries) t o (history me.0) b w → Turns g t o (d b) (f w) b)
     → ((w : ℕ) (b : Object) → tell w (did me.0 o (d b), me.1)) → Allows (Kept g) slots id me (word_place o) f tell
-changes g slots id o f d tell ([], c) alone lt no_entry step_is tells x k homes at small = absurd alone
-changes g slots id o f d tell (k2 ∷ l ∷ ks, c) alone lt no_entry step_is tells x k homes at small = absurd alone
-changes g slots id o f d tell (q ∷ [], c) alone lt no_entry step_is tells x k homes at small =
+changes g slots id o f d tell ([], c) alone lt no_entry step_is represents x k homes at small = absurd alone
+changes g slots id o f d tell (k2 ∷ l ∷ ks, c) alone lt no_entry step_is represents x k homes at small = absurd alone
+changes g slots id o f d tell (q ∷ [], c) alone lt no_entry step_is represents x k homes at small =
     let w : ℕ = get_or x.words (word_place o) 0 in
     let b : Object = now_of g k.steps o in
     let m = step_is q.thread w b (at_now g x k id o q at lt) in
@@ -334,8 +334,8 @@ changes g slots id o f d tell (q ∷ [], c) alone lt no_entry step_is tells x k 
       tt,
       adds g x k id q.thread o q.steps (d b) at lt m.may (omega (arith, few, none_more)) (set x.words (word_place o) (f w)) x.homes
           (head_changes (length g.entries) (object_count g) (now_of g k.steps) x.words o (f w) (acted (shared_by o (d b)).0 q.thread b)
-          k.table lt m.tells m.words),
-      tells w b,
+          k.table lt m.represents m.words),
+      represents w b,
     )
 
 pub leaves_read : (g : Guest) (slots id o : ℕ) (me : M) → IsAlone me.0 → o < object_count g → inside_by o (history me.0) ≡ Some Reading
@@ -346,13 +346,13 @@ leaves_read g slots id o me alone lt inside = changes g slots id o (λ n. (n + r
     (λ t w b a.
     let n : ℕ = length g.entries in
     let is : b.inside t ≡ Some Reading = a.inside ∙ inside in
-    let some_in : 0 < (fields_of w).inside = can_leave n (fields_of w) b.inside t Reading a.thread is a.tells.inside in record {
-      may = record { uses = is; admits = tt; answers = refl; tells = refl };
-      tells = subst (λ f. Tells n f (acted (Exit o Reading) t b))
+    let some_in : 0 < (fields_of w).inside = can_leave n (fields_of w) b.inside t Reading a.thread is a.represents.inside in record {
+      may = record { uses = is; admits = tt; answers = refl; represents = refl };
+      represents = subst (λ f. Represents n f (acted (Exit o Reading) t b))
           (sym (read_leave_word w some_in (left_small w a.light) (let v = below w a.light in omega (arith, v)))) (record {
-            version = a.tells.version;
-            left = let e = a.tells.left in omega (arith, e);
-            inside = leave_counts n (fields_of w) b.inside t Reading a.thread is (λ e. absurd (cc e)) a.tells.inside;
+            version = a.represents.version;
+            left = let e = a.represents.left in omega (arith, e);
+            inside = leave_counts n (fields_of w) b.inside t Reading a.thread is (λ e. absurd (cc e)) a.represents.inside;
           });
       words = refl;
     })
@@ -368,12 +368,12 @@ leaves_write g slots id o v me alone lt inside version =
     (λ t w b a.
     let n : ℕ = length g.entries in
     let is : b.inside t ≡ Some Writing = a.inside ∙ inside in record {
-      may = record { uses = is; admits = tt; answers = refl; tells = refl };
-      tells = subst (λ f. Tells n f (acted (Exit o Writing) t b))
-          (sym (version_word v (fields_of w) (a.tells.version ∙ a.version is ∙ sym version))) (record {
-            version = let e = a.tells.version in omega (arith, e);
+      may = record { uses = is; admits = tt; answers = refl; represents = refl };
+      represents = subst (λ f. Represents n f (acted (Exit o Writing) t b))
+          (sym (version_word v (fields_of w) (a.represents.version ∙ a.version is ∙ sym version))) (record {
+            version = let e = a.represents.version in omega (arith, e);
             left = refl;
-            inside = leave_counts n (fields_of w) b.inside t Writing a.thread is (λ _ u ne. a.alone t u (λ e. ne (sym e)) is) a.tells.inside;
+            inside = leave_counts n (fields_of w) b.inside t Writing a.thread is (λ _ u ne. a.alone t u (λ e. ne (sym e)) is) a.represents.inside;
           });
       words = refl;
     })
@@ -409,7 +409,7 @@ gets g slots id o i (q ∷ [], c) alone lt small inside x k homes at fits =
       keeps,
       tt,
       adds g x k id q.thread o q.steps (Get i w) at lt
-          (record { uses = (small, λ e. inside (sym a.inside ∙ e)); admits = tt; answers = sym is; tells = refl }) (omega (arith, few))
+          (record { uses = (small, λ e. inside (sym a.inside ∙ e)); admits = tt; answers = sym is; represents = refl }) (omega (arith, few))
           (set x.words (content_place o i) w) x.homes same,
       (
         (λ j. (did (q ∷ []) (sym (object_is_cell o i small) j) (Get (sym (index_is_cell o i small) j) w), c)),
@@ -433,10 +433,10 @@ puts g slots id o i v (q ∷ [], c) alone lt small fit inside x k homes at fits 
       keeps,
       tt,
       adds g x k id q.thread o q.steps (Put i v) at lt
-          (record { uses = (small, fit, a.inside ∙ inside); admits = tt; answers = refl; tells = refl }) (omega (arith, few))
+          (record { uses = (small, fit, a.inside ∙ inside); admits = tt; answers = refl; represents = refl }) (omega (arith, few))
           (set x.words (content_place o i) v) x.homes
           (cell_changes (length g.entries) (object_count g) now x.words o i v (acted (Store o i v) q.thread b) k.table lt small
-          (record { version = a.tells.version; left = a.tells.left; inside = a.tells.inside }) refl),
+          (record { version = a.represents.version; left = a.represents.left; inside = a.represents.inside }) refl),
       (λ j. (did (q ∷ []) (sym (object_is_cell o i small) j) (Put (sym (index_is_cell o i small) j) v), c)),
     )
 
@@ -444,12 +444,12 @@ puts g slots id o i v (q ∷ [], c) alone lt small fit inside x k homes at fits 
 
 pub tried_hit : (d : ℕ → Deed) (slots o old new n : ℕ) (me first w : M) → tried d (step slots (word_place o) old new none) me n w → n ≡ old
     → me ≡ first → w ≡ (did first.0 o (d old), first.1)
-tried_hit d slots o old new n me first w told hit is = told.0 hit ∙ (λ i. (did (is i).0 (object_is o i) (d (hit i)), (is i).1))
+tried_hit d slots o old new n me first w emitted hit is = emitted.0 hit ∙ (λ i. (did (is i).0 (object_is o i) (d (hit i)), (is i).1))
 
 pub alone_as : (me first : M) → me ≡ first → IsAlone first.0 → IsAlone me.0
 alone_as me first is a = subst (λ (m : M). IsAlone m.0) (sym is) a
 
 pub seen_version : (me w : M) (o n slots : ℕ) → looked (step slots (word_place o) 0 0 none) me n w
     → inside_by o (history me.0) ≡ Some Writing → (fields_of n).version ≡ entered_at o 0 (map label_of (history w.0))
-seen_version me w o n slots told inside = let q = subst (λ z. IsSight (history me.0) z n) (object_is o) told.1 in
-    q.version inside ∙ sym (ap (λ (m : M). entered_at o 0 (map label_of (history m.0))) told.0)
+seen_version me w o n slots emitted inside = let q = subst (λ z. IsSight (history me.0) z n) (object_is o) emitted.1 in
+    q.version inside ∙ sym (ap (λ (m : M). entered_at o 0 (map label_of (history m.0))) emitted.0)

@@ -1,4 +1,4 @@
--- What each step of the table tells the seat that takes it.
+-- What each step of the table emits the seat that takes it.
 use Rattle.std.specs.Prelude.{◌≡◌, ◌≢◌, ℕ, ◌-◌, ◌/◌, ◌%◌, ◌^◌, ◌<◌, Bool, true, false, eqb, List, [], ◌∷◌, ◌++◌, map, Option, Some, None}
 use Rattle.atomic_table.specs.Table.{Me, Step}
 use Rattle.ir_runs.specs.Labels.{Label, Quiet, Answer, In, Refused, Out}
@@ -59,7 +59,7 @@ object_of word = (word - word_place 0) / apart
 abbrev pub index_of : ℕ → ℕ
 index_of word = (word - content_place 0 0) % apart
 
--- what a look at an object's word tells: it has room for an entry, and while the thread is inside for writing, the version is that of its
+-- what a look at an object's word emits: it has room for an entry, and while the thread is inside for writing, the version is that of its
 -- entry
 pub record IsSight (h : List ObjectStep) (o n : ℕ) : Type 0 where
   pub small : n < 2 ^ 63

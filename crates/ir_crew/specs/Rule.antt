@@ -30,7 +30,7 @@ shared_by o (Leave a v) = (Exit o a, 0)
 shared_by o (Get i w) = (Load o i, w)
 shared_by o (Put i w) = (Store o i w, 0)
 
--- what it tells
+-- what it emits
 abbrev pub label_by : ℕ → Deed → Label
 label_by o (Enter a v l) = In o a v l
 label_by o (Leave a v) = Out o a v
@@ -70,7 +70,7 @@ start_objects g o = record {
 }
 
 -- a word of n threads says this of the object
-pub record Tells (n : ℕ) (f : Fields) (b : Object) : Type 0 where
+pub record Represents (n : ℕ) (f : Fields) (b : Object) : Type 0 where
   pub version : f.version ≡ b.version
   pub left : f.left ≡ b.left
   pub inside : Counts n f b.inside
@@ -78,7 +78,7 @@ pub record Tells (n : ℕ) (f : Fields) (b : Object) : Type 0 where
 -- the words are those of so many objects
 pub record IsTable (n count : ℕ) (objects : ℕ → Object) (ws : List ℕ) : Type 0 where
   pub size : length ws ≡ table_length count
-  pub words : (o : ℕ) → o < count → Tells n (fields_of (slice_index ws (word_place o))) (objects o)
+  pub words : (o : ℕ) → o < count → Represents n (fields_of (slice_index ws (word_place o))) (objects o)
   pub contents : (o i : ℕ) → o < count → i < object_words → slice_index ws (content_place o i) ≡ (objects o).words i
 
 -- the track has the object steps of its thread, one of n, in the order of all, with what they were answered

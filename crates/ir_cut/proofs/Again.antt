@@ -12,11 +12,11 @@ use Rattle.ir_log.specs.declared.event.Event.{Event}
 use Rattle.ir_log.specs.declared.event.Event.TheVariants.{Answer as Result, Read, Write}
 use Rattle.ir_trace.specs.Recorded.{IsRecorded, IsEvent}
 use Rattle.std.specs.List.{AllByRecursion, slice_index_or}
-use Rattle.ir_trace.specs.Told.{recorded_thread}
-use Rattle.ir_runs.specs.Cuts.{At, Tells}
+use Rattle.ir_trace.specs.TraceOf.{recorded_thread}
+use Rattle.ir_runs.specs.Cuts.{At, Emits}
 use Rattle.ir_fit.specs.Fit.{FittedTrace, HasRun, IsRunOf}
 use Rattle.ir_fit.specs.Places.{places_of, leaves_of}
-use Rattle.ir_fit.proofs.CallerLemmas.{starts, idle_trail, tells_below, get_at, at_get, entry_of}
+use Rattle.ir_fit.proofs.CallerLemmas.{starts, idle_trail, emits_below, get_at, at_get, entry_of}
 use Rattle.ir_coherence.proofs.CallerLemmas.{thread_fits}
 use Rattle.ir_cut.specs.Positions.{machine_of, start_of}
 
@@ -59,14 +59,14 @@ again f h run is = record {
 
 -- a step is of a thread that there is
 pub teller : (f : FittedTrace) → HasRun f → (run : List Step) → IsRunOf f.guest f.recorded run → (t i : ℕ) (k : Label)
-    → Tells (machine_of f) (start_of f) run t i k → t < length f.guest.entries
+    → Emits (machine_of f) (start_of f) run t i k → t < length f.guest.entries
 unfolding again
-teller f h run is t i k told = tells_below f (again f h run is) t i k told
+teller f h run is t i k emitted = emits_below f (again f h run is) t i k emitted
 
 -- and one of those that it takes
-pub place_within : (f : FittedTrace) (run : List Step) (t i : ℕ) (k : Label) → Tells (machine_of f) (start_of f) run t i k
+pub place_within : (f : FittedTrace) (run : List Step) (t i : ℕ) (k : Label) → Emits (machine_of f) (start_of f) run t i k
     → i < count (machine_of f) (start_of f) run t
-place_within f run t i k told = (get_at (trail (machine_of f) (start_of f) run t) i (told.0, k) told.1).0
+place_within f run t i k emitted = (get_at (trail (machine_of f) (start_of f) run t) i (emitted.0, k) emitted.1).0
 
 -- ---- what is told by an entry stands in the trace
 
@@ -83,12 +83,12 @@ words_of objects (y ∷ es) all (suc e) x o a v l h is = words_of objects es all
 
 -- a version that is entered is a word
 pub entered_word : (f : FittedTrace) → HasRun f → IsRecorded f.recorded → (run : List Step) → IsRunOf f.guest f.recorded run
-    → (t i o : ℕ) (a : Access) (v l : ℕ) → Tells (machine_of f) (start_of f) run t i (In o a v l) → v < 2 ^ 32
+    → (t i o : ℕ) (a : Access) (v l : ℕ) → Emits (machine_of f) (start_of f) run t i (In o a v l) → v < 2 ^ 32
 unfolding again
-entered_word f h recorded run is t i o a v l told =
-    let there : t < length f.guest.entries = teller f h run is t i (In o a v l) told in
+entered_word f h recorded run is t i o a v l emitted =
+    let there : t < length f.guest.entries = teller f h run is t i (In o a v l) emitted in
     let es : List Event = (recorded_thread f.recorded t).events in
-    let e = entry_of f (again f h run is) t i o a v l told in
+    let e = entry_of f (again f h run is) t i o a v l emitted in
     let d : Event = Read 0 0 in
     words_of f.recorded.objects es (thread_fits f.recorded recorded t (let same = is.0.threads in omega (arith, same, there))).events_fit
     e.0 (slice_index_or es e.0 d) o a v l (at_get es e.0 d e.1) (e.3 d)

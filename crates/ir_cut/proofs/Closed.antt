@@ -7,8 +7,8 @@ use Rattle.std.proofs.lemmas.List.{get_or_past}
 use Rattle.std.proofs.lemmas.Option.{slice_get_within, slice_get-get_or}
 use Rattle.ir_log.specs.Logging.{label_of}
 use Rattle.ir_log.specs.declared.event.Event.{Event}
-use Rattle.ir_trace.specs.Told.{recorded_thread}
-use Rattle.ir_runs.specs.Cuts.{Tells, Needs}
+use Rattle.ir_trace.specs.TraceOf.{recorded_thread}
+use Rattle.ir_runs.specs.Cuts.{Emits, Needs}
 use Rattle.ir_fit.specs.Fit.{FittedTrace, HasRun, IsFitted}
 use Rattle.ir_fit.specs.Places.{placed_at}
 use Rattle.ir_cut.specs.Positions.{machine_of, start_of, cut_of, EachRun, IsConsistentCut}
@@ -26,10 +26,10 @@ FirstMet f qs t n = (e : ℕ) (x : Event) → e < n → slice_get (recorded_thre
 closed_by : (f : FittedTrace) → IsFitted f → (qs : List ℕ) (t n : ℕ) → FirstMet f qs t n
     → ((e i : ℕ) → slice_get (placed_at f.placed t).entries e ≡ Some i → i < cut_of qs t → e < n)
     → EachRun f (λ run. IsClosed f run (cut_of qs) t)
-closed_by f fit qs t n met first run is i k tells inside w j b at need =
+closed_by f fit qs t n met first run is i k emits inside w j b at need =
     let x = entered b k need in
     let e = (listed f fit.run run is).entry t i x.object x.access x.version x.left
-    (subst (Tells (machine_of f) (start_of f) run t i) x.is tells) in
+    (subst (Emits (machine_of f) (start_of f) run t i) x.is emits) in
     met e.0 e.1 (first e.0 i e.2 inside) e.3 run is w j b at (subst (Needs b) (x.is ∙ sym e.4) need)
 
 -- at the end of the log
@@ -117,7 +117,7 @@ pub each_closed : (f : FittedTrace) → IsFitted f → (qs : List ℕ) → IsCon
     → (cut_of qs t ≤ (recorded_thread f.recorded t).steps) × EachRun f (λ run. IsClosed f run (cut_of qs) t)
 each_closed f fit qs h t there = (
   (let a = (h fit.run.run fit.run.whole).0 t in let b = fit.run.whole.1.steps t there in omega (arith, a, b)),
-  (λ run is i k tells inside u j b says n. (h run is).1 t i u j k b tells says n inside),
+  (λ run is i k emits inside u j b says n. (h run is).1 t i u j k b emits says n inside),
 )
 
 -- one more

@@ -6,7 +6,7 @@ use Rattle.std.proofs.lemmas.List.{get_or_past}
 use Rattle.std.proofs.lemmas.Option.{slice_get_within, slice_get-get_or, get_or_from_slice_get}
 use Rattle.ir_log.specs.declared.event.Event.TheVariants.{Read}
 use Rattle.ir_fit.proofs.CallerLemmas as kept
-use Rattle.ir_fit.proofs.CallerLemmas.{tells_below, entries_long, entry_tells, entry_of, leave_tells, leave_of}
+use Rattle.ir_fit.proofs.CallerLemmas.{emits_below, entries_long, entry_emits, entry_of, leave_emits, leave_of}
 use Rattle.ir_cut.proofs.Again.{again}
 use Rattle.std.specs.Prelude.{slice_get}
 use Rattle.ir_runs.specs.Labels.{In, Out}
@@ -14,8 +14,8 @@ use Rattle.ir_runs.specs.declared.access.Access.{Access}
 use Rattle.ir_runs.specs.Run.{Step}
 use Rattle.ir_log.specs.Logging.{label_of}
 use Rattle.ir_log.specs.declared.event.Event.{Event}
-use Rattle.ir_trace.specs.Told.{recorded_thread}
-use Rattle.ir_runs.specs.Cuts.{Tells}
+use Rattle.ir_trace.specs.TraceOf.{recorded_thread}
+use Rattle.ir_runs.specs.Cuts.{Emits}
 use Rattle.ir_fit.specs.Fit.{FittedTrace, HasRun, IsRunOf}
 use Rattle.ir_fit.specs.Places.{placed_at, none_placed}
 use Rattle.ir_fit.specs.declared.leave.Leave.{Leave}
@@ -25,15 +25,15 @@ use Rattle.ir_cut.specs.Positions.{machine_of, start_of}
 pub record Listed (f : FittedTrace) (run : List Step) : Type 0 where
   pub sizes : (t : ℕ) → t < length f.guest.entries → length (placed_at f.placed t).entries ≡ length (recorded_thread f.recorded t).events
   pub event : (t e i : ℕ) (x : Event) → t < length f.guest.entries → slice_get (recorded_thread f.recorded t).events e ≡ Some x
-      → slice_get (placed_at f.placed t).entries e ≡ Some i → Tells (machine_of f) (start_of f) run t i (label_of x)
-  pub entry : (t i o : ℕ) (a : Access) (v l : ℕ) → Tells (machine_of f) (start_of f) run t i (In o a v l) → (e : ℕ) × (x : Event)
+      → slice_get (placed_at f.placed t).entries e ≡ Some i → Emits (machine_of f) (start_of f) run t i (label_of x)
+  pub entry : (t i o : ℕ) (a : Access) (v l : ℕ) → Emits (machine_of f) (start_of f) run t i (In o a v l) → (e : ℕ) × (x : Event)
       × (slice_get (placed_at f.placed t).entries e ≡ Some i) × (slice_get (recorded_thread f.recorded t).events e ≡ Some x)
       × (label_of x ≡ In o a v l)
   pub rise : (t e d i j : ℕ) → t < length f.guest.entries → e < d → slice_get (placed_at f.placed t).entries e ≡ Some i
       → slice_get (placed_at f.placed t).entries d ≡ Some j → i < j
   pub left : (t e : ℕ) (l : Leave) → t < length f.guest.entries → slice_get (placed_at f.placed t).leaves e ≡ Some l
-      → Tells (machine_of f) (start_of f) run t l.position (Out l.object l.access l.version)
-  pub leave : (t i o : ℕ) (a : Access) (v : ℕ) → Tells (machine_of f) (start_of f) run t i (Out o a v) → (e : ℕ)
+      → Emits (machine_of f) (start_of f) run t l.position (Out l.object l.access l.version)
+  pub leave : (t i o : ℕ) (a : Access) (v : ℕ) → Emits (machine_of f) (start_of f) run t i (Out o a v) → (e : ℕ)
       × (slice_get (placed_at f.placed t).leaves e ≡ Some (record { position = i; object = o; access = a; version = v }))
   pub fall : (t e d : ℕ) (l r : Leave) → t < length f.guest.entries → e < d → slice_get (placed_at f.placed t).leaves e ≡ Some l
       → slice_get (placed_at f.placed t).leaves d ≡ Some r → l.position < r.position
@@ -46,14 +46,14 @@ listed f h run is =
       sizes = λ t there. entries_long f k t there;
       event = λ t e i x there at place.
           let inside = slice_get_within (recorded_thread f.recorded t).events e x at in
-          subst (λ m. Tells (machine_of f) (start_of f) run t i (label_of m))
+          subst (λ m. Emits (machine_of f) (start_of f) run t i (label_of m))
           (get_or_from_slice_get (recorded_thread f.recorded t).events e x x at)
-          (subst (λ j. Tells (machine_of f) (start_of f) run t j (label_of (slice_index_or (recorded_thread f.recorded t).events e x)))
-          (get_or_from_slice_get (placed_at f.placed t).entries e i 0 place) (entry_tells f k t there e x inside));
-      entry = λ t i o a v l told.
-          let there = tells_below f k t i (In o a v l) told in
+          (subst (λ j. Emits (machine_of f) (start_of f) run t j (label_of (slice_index_or (recorded_thread f.recorded t).events e x)))
+          (get_or_from_slice_get (placed_at f.placed t).entries e i 0 place) (entry_emits f k t there e x inside));
+      entry = λ t i o a v l emitted.
+          let there = emits_below f k t i (In o a v l) emitted in
           let d : Event = Read 0 0 in
-          let e = entry_of f k t i o a v l told in
+          let e = entry_of f k t i o a v l emitted in
           let inside = e.1 in
           let size = entries_long f k t there in (
             e.0,
@@ -70,10 +70,10 @@ listed f h run is =
           omega (arith, up, low, high);
       left = λ t e l there at.
           let inside = slice_get_within (placed_at f.placed t).leaves e l at in
-          subst (λ z. Tells (machine_of f) (start_of f) run t z.position (Out z.object z.access z.version))
-          (get_or_from_slice_get (placed_at f.placed t).leaves e l l at) (leave_tells f k t there e l inside);
-      leave = λ t i o a v told.
-          let e = leave_of f k t i o a v told in
+          subst (λ z. Emits (machine_of f) (start_of f) run t z.position (Out z.object z.access z.version))
+          (get_or_from_slice_get (placed_at f.placed t).leaves e l l at) (leave_emits f k t there e l inside);
+      leave = λ t i o a v emitted.
+          let e = leave_of f k t i o a v emitted in
           let d : Leave = record { position = i; object = o; access = a; version = v } in
           (e.0, slice_get-get_or (placed_at f.placed t).leaves e.0 d e.1 ∙ ap Some (e.2 d));
       fall = λ t e d l r there less first second.

@@ -6,7 +6,7 @@ use Rattle.ir_runs.specs.declared.env_kind.EnvKind.{EnvKind}
 use Rattle.ir_log.specs.Logging.{label_of}
 use Rattle.ir_log.specs.declared.event.Event.{Event}
 use Rattle.ir_log.specs.declared.event.Event.TheVariants.{Read, Write}
-use Rattle.ir_runs.specs.Cuts.{Tells, Needs, Cut}
+use Rattle.ir_runs.specs.Cuts.{Emits, Needs, Cut}
 use Rattle.ir_fit.specs.Fit.{FittedTrace, IsFitted}
 use Rattle.ir_fit.specs.declared.leave.Leave.{Leave}
 use Rattle.ir_cut.specs.Moving.{EachPlace, IsRaised, IsLowered}
@@ -73,7 +73,7 @@ answer_needs kind x (Out p Writing w) h = h
 -- where each step of one kind is of the other
 inside_from : (f : FittedTrace) (P R : Label → Type 0) → ((k : Label) → R k → P k) → (c : Cut) → EachRun f (λ run. AreInside f run P c)
     → EachRun f (λ run. AreInside f run R c)
-inside_from f P R to c h run is t i k tells r = h run is t i k tells (to k r)
+inside_from f P R to c h run is t i k emits r = h run is t i k emits (to k r)
 
 pub made_inside : (f : FittedTrace) → IsFitted f → (o v w : ℕ) (ps : List Place) → OnlyLeaves f o Writing w ps → AllLeaves f o Writing w ps
     → (xs : List ℕ) (b : Bool) → (1 ≤ v) × (w ≡ v - 1)
@@ -101,8 +101,8 @@ pub write_inside : (f : FittedTrace) → IsFitted f → (x : Event) (o v l : ℕ
 write_inside f k x o v l ps only all xs a b is so made test =
     let leaves = leaves_inside f k o Reading v ps only all xs in
     subst (λ z. IsTrue b ↔ EachRun f (λ run. AreInside f run (NeededBy (label_of z)) (cut_of xs))) (sym is) (
-      (λ read run is t i m tells n. elim (maker_or_reader o v l m n)
-          [ inl maker ↦ made.0 so run is t i m tells maker | inr reader ↦ leaves.0 (test.0 read) run is t i m tells reader ]),
+      (λ read run is t i m emits n. elim (maker_or_reader o v l m n)
+          [ inl maker ↦ made.0 so run is t i m emits maker | inr reader ↦ leaves.0 (test.0 read) run is t i m emits reader ]),
       (λ h. test.1 (leaves.1 (inside_from f (NeededBy (In o Writing v l)) (λ z. z ≡ Out o Reading v) (reader_needed o v l) (cut_of xs) h))),
     )
 
@@ -141,7 +141,7 @@ read_raised f x o v old new is h run ok = subst (λ z. RaisedFor f run (NeededBy
 -- nothing is needed of the first version, and by a result
 pub first_raised : (f : FittedTrace) (o v : ℕ) (xs : List ℕ) → v ≡ 0
     → EachRun f (λ run. RaisedFor f run (NeededBy (In o Reading v 0)) xs xs)
-first_raised f o v xs is run ok = raised_nothing f run (NeededBy (In o Reading v 0)) (λ t i k tells n. nobody_made o v 0 is k n) xs
+first_raised f o v xs is run ok = raised_nothing f run (NeededBy (In o Reading v 0)) (λ t i k emits n. nobody_made o v 0 is k n) xs
 
 -- ---- positions lowered from what needs a leave
 
@@ -206,8 +206,8 @@ pub last_lowered : (f : FittedTrace) → IsFitted f → (x : Leave) (xs : List �
     → EachRun f (λ run. LoweredFor f run (Needing x) xs xs)
 last_lowered f k x xs is last run ok = subst (λ a. LoweredFor f run (Needs (Out x.object a x.version)) xs xs) (sym is)
     (lowered_nothing f run (Needs (Out x.object Writing x.version))
-    (λ t i m tells n.
+    (λ t i m emits n.
     let e = writing_needs x.object x.version (x.version + 1) refl m n in
     last (entered_word f k.run k.within run ok t i x.object e.0 (x.version + 1) e.1
-    (subst (Tells (machine_of f) (start_of f) run t i) e.2 tells)))
+    (subst (Emits (machine_of f) (start_of f) run t i) e.2 emits)))
     xs)

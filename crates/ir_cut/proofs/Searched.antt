@@ -11,8 +11,8 @@ use Rattle.ir_runs.specs.declared.access.Access.TheVariants.{Reading, Writing}
 use Rattle.ir_runs.specs.Run.{Step, count}
 use Rattle.ir_log.specs.Logging.{label_of}
 use Rattle.ir_log.specs.declared.event.Event.{Event}
-use Rattle.ir_trace.specs.Told.{recorded_thread}
-use Rattle.ir_runs.specs.Cuts.{Tells, Needs, Cut, IsCut, Consistent}
+use Rattle.ir_trace.specs.TraceOf.{recorded_thread}
+use Rattle.ir_runs.specs.Cuts.{Emits, Needs, Cut, IsCut, Consistent}
 use Rattle.ir_fit.specs.Fit.{FittedTrace, HasRun, IsRunOf}
 use Rattle.ir_fit.specs.Places.{placed_at}
 use Rattle.ir_fit.specs.declared.leave.Leave.{Leave}
@@ -78,12 +78,12 @@ no_number next n u e size l = elim (cases_lt u n) [
 
 pub inside_more : (f : FittedTrace) (run : List Step) (P : Label → Type 0) (c d : Cut) → ((u : ℕ) → c u ≤ d u) → AreInside f run P c
     → AreInside f run P d
-inside_more f run P c d up h t i k tells is = let l = h t i k tells is in let m = up t in omega (arith, l, m)
+inside_more f run P c d up h t i k emits is = let l = h t i k emits is in let m = up t in omega (arith, l, m)
 
 -- what an event of a step in a consistent cut needs is inside
 pub step_met : (f : FittedTrace) (run : List Step) (c : Cut) → Consistent (machine_of f) (start_of f) run c → (t i : ℕ) (k : Label)
-    → Tells (machine_of f) (start_of f) run t i k → i < c t → AreInside f run (NeededBy k) c
-step_met f run c con t i k tells l u j b at n = con t i u j k b tells at n l
+    → Emits (machine_of f) (start_of f) run t i k → i < c t → AreInside f run (NeededBy k) c
+step_met f run c con t i k emits l u j b at n = con t i u j k b emits at n l
 
 pub rising_start : (f : FittedTrace) (run : List Step) → IsRunOf f.guest f.recorded run → Listed f run → (ps qs next : List ℕ) (t k : ℕ)
     → IsCut (machine_of f) (start_of f) run (cut_of ps) → Consistent (machine_of f) (start_of f) run (cut_of ps)
@@ -126,14 +126,14 @@ pub rising_more : (f : FittedTrace) (run : List Step) → Listed f run → (ps q
     → cut_of next' u ≡ cut_of next u + 1 → ((w : ℕ) → w ≢ u → cut_of next' w ≡ cut_of next w)
     → Rising f ps t k qs' next' run
 rising_more f run list ps qs qs' next next' t k u x r there below at raised own rest =
-    let tells : Tells (machine_of f) (start_of f) run u below.0 (label_of x) = list.event u (cut_of next u) below.0 x there at below.1 in
+    let emits : Emits (machine_of f) (start_of f) run u below.0 (label_of x) = list.event u (cut_of next u) below.0 x there at below.1 in
     record {
       above = λ w. let a = r.above w in let b = raised.above w in omega (arith, a, b);
       reaches = let a = r.reaches in let b = raised.above t in omega (arith, a, b);
       cut = raised.least (count (machine_of f) (start_of f) run) r.cut (λ w j b says _. place_within f run w j b says);
       least = λ c cut con over reach.
           let low = r.least c cut con over reach in
-          raised.least c low (step_met f run c con u below.0 (label_of x) tells (let a = below.2 in let b = low u in omega (arith, a, b)));
+          raised.least c low (step_met f run c con u below.0 (label_of x) emits (let a = below.2 in let b = low u in omega (arith, a, b)));
       met = λ w e y l says. elim (cases_eq w u) [
         | inr ne ↦ inside_more f run (NeededBy (label_of y)) (cut_of qs) (cut_of qs') raised.above
             (r.met w e y (omega (arith, l, rest w ne)) says)
@@ -177,7 +177,7 @@ rising_over f h run is list ps qs next t k r none = record {
   consistent = λ u i w j a b at says n l.
       let there : u < length f.guest.entries = teller f h run is u i a at in
       let x = entered b a n in
-      let e = list.entry u i x.object x.access x.version x.left (subst (Tells (machine_of f) (start_of f) run u i) x.is at) in
+      let e = list.entry u i x.object x.access x.version x.left (subst (Emits (machine_of f) (start_of f) run u i) x.is at) in
       r.met u e.0 e.1 (behind f run list qs next u e.0 i there (none u there) e.2 l) e.3 w j b says (subst (Needs b) (x.is ∙ sym e.4) n);
   above = r.above;
   reaches = r.reaches;
@@ -188,14 +188,14 @@ rising_over f h run is list ps qs next t k r none = record {
 
 pub outside_less : (f : FittedTrace) (run : List Step) (P : Label → Type 0) (c d : Cut) → ((u : ℕ) → d u ≤ c u) → AreOutside f run P c
     → AreOutside f run P d
-outside_less f run P c d down h t i k tells is = let l = h t i k tells is in let m = down t in omega (arith, l, m)
+outside_less f run P c d down h t i k emits is = let l = h t i k emits is in let m = down t in omega (arith, l, m)
 
 -- what needs a leave that isn't in a consistent cut is outside
 pub step_unmet : (f : FittedTrace) (run : List Step) (c : Cut) → Consistent (machine_of f) (start_of f) run c → (t i : ℕ) (b : Label)
-    → Tells (machine_of f) (start_of f) run t i b → c t ≤ i → AreOutside f run (λ a. Needs b a) c
-step_unmet f run c con t i b tells l u j a at n = elim (cases_lt j (c u)) [
+    → Emits (machine_of f) (start_of f) run t i b → c t ≤ i → AreOutside f run (λ a. Needs b a) c
+step_unmet f run c con t i b emits l u j a at n = elim (cases_lt j (c u)) [
   | inr past ↦ past
-  | inl less ↦ let inside = con u j t i a b at tells n less in absurd (omega (arith, inside, l))
+  | inl less ↦ let inside = con u j t i a b at emits n less in absurd (omega (arith, inside, l))
 ]
 
 pub falling_start : (f : FittedTrace) (run : List Step) → Listed f run → (ps qs next : List ℕ) (t k : ℕ)
@@ -262,7 +262,7 @@ falling_over f h run is list ps qs next t k cut r none = record {
   consistent = λ u i w j a b at says n l.
       let there : w < length f.guest.entries = teller f h run is w j b says in
       let x = left b a n in
-      let e = list.leave w j x.object x.access x.version (subst (Tells (machine_of f) (start_of f) run w j) x.is says) in
+      let e = list.leave w j x.object x.access x.version (subst (Emits (machine_of f) (start_of f) run w j) x.is says) in
       elim (cases_lt e.0 (cut_of next w)) [
         | inl first ↦ none w there e.0 (record { position = j; object = x.object; access = x.access; version = x.version }) first e.1
         | inr past ↦ let out = r.unmet w e.0 (record { position = j; object = x.object; access = x.access; version = x.version }) past e.1 u

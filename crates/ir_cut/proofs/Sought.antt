@@ -7,7 +7,7 @@ use Rattle.ir_runs.specs.Labels.{Label, In, Out}
 use Rattle.ir_runs.specs.declared.access.Access.{Access}
 use Rattle.ir_runs.specs.Run.{Step, count}
 use Rattle.ir_trace.specs.Recorded.{IsRecorded}
-use Rattle.ir_runs.specs.Cuts.{Tells, Cut}
+use Rattle.ir_runs.specs.Cuts.{Emits, Cut}
 use Rattle.ir_fit.specs.Fit.{FittedTrace, HasRun, IsRunOf, IsFitted}
 use Rattle.ir_coherence.proofs.CallerLemmas.{thread_fits}
 use Rattle.ir_cut.specs.Moving.{ArePlaced, EachPlace, IsRaised, IsLowered}
@@ -19,8 +19,8 @@ use Rattle.ir_cut.proofs.Again.{again, teller, place_within}
 
 -- the places are those of the steps of the run that tell so
 pub record AreOf (f : FittedTrace) (run : List Step) (P : Label → Type 0) (ps : List Place) : Type 0 where
-  pub only : (p : Place) → Contains ps p → (k : Label) × P k × Tells (machine_of f) (start_of f) run p.thread p.position k
-  pub all : (t i : ℕ) (k : Label) → Tells (machine_of f) (start_of f) run t i k → P k → (v : ℕ)
+  pub only : (p : Place) → Contains ps p → (k : Label) × P k × Emits (machine_of f) (start_of f) run p.thread p.position k
+  pub all : (t i : ℕ) (k : Label) → Emits (machine_of f) (start_of f) run t i k → P k → (v : ℕ)
       × Contains ps (record { position = i; version = v; thread = t })
 
 contained : (ps : List Place) (i : ℕ) (p : Place) → slice_get ps i ≡ Some p → Contains ps p
@@ -33,7 +33,7 @@ pub leaves_are : (f : FittedTrace) → HasRun f → (o : ℕ) (a : Access) (v : 
 unfolding again
 leaves_are f h o a v ps only all run is = record {
   only = λ p c. (Out o a v, refl, (only (again f h run is) p c).1);
-  all = λ t i k tells e. (v, all (again f h run is) t i (subst (Tells (machine_of f) (start_of f) run t i) e tells));
+  all = λ t i k emits e. (v, all (again f h run is) t i (subst (Emits (machine_of f) (start_of f) run t i) e emits));
 }
 
 pub entries_are : (f : FittedTrace) → HasRun f → (o : ℕ) (a : Access) (v : ℕ) (ps : List Place) → OnlyEntries f o a v ps
@@ -41,7 +41,7 @@ pub entries_are : (f : FittedTrace) → HasRun f → (o : ℕ) (a : Access) (v :
 unfolding again
 entries_are f h o a v ps only all run is = record {
   only = λ p c. let e = (only (again f h run is) p c).1 in (In o a v e.0, (e.0, refl), e.1);
-  all = λ t i k tells e. (v, all (again f h run is) t i e.0 (subst (Tells (machine_of f) (start_of f) run t i) e.1 tells));
+  all = λ t i k emits e. (v, all (again f h run is) t i e.0 (subst (Emits (machine_of f) (start_of f) run t i) e.1 emits));
 }
 
 -- ---- each of them can be counted
@@ -60,8 +60,8 @@ are_placed f h run is recorded P ps of i p l e =
 
 pub inside_all : (f : FittedTrace) (run : List Step) (P : Label → Type 0) (ps : List Place) → AreOf f run P ps → (c : Cut)
     → EachPlace ps (length ps) (λ p. p.position < c p.thread) → AreInside f run P c
-inside_all f run P ps of c each t i k tells is =
-    let a = of.all t i k tells is in
+inside_all f run P ps of c each t i k emits is =
+    let a = of.all t i k emits is in
     each a.1.0 (record { position = i; version = a.0; thread = t }) a.1.1 (slice_get_read ps (length ps) a.1.0 _ refl a.1.1 (sym a.1.2))
 
 pub inside_each : (f : FittedTrace) (run : List Step) (P : Label → Type 0) (ps : List Place) → AreOf f run P ps → (c : Cut)
@@ -82,7 +82,7 @@ pub lowered_for : (f : FittedTrace) (run : List Step) (P : Label → Type 0) (ps
 lowered_for f run P ps of old new r = record {
   size = r.size;
   below = r.below;
-  outside = λ t i k tells is. let a = of.all t i k tells is in
+  outside = λ t i k emits is. let a = of.all t i k emits is in
       r.outside a.1.0 (record { position = i; version = a.0; thread = t }) a.1.1
       (slice_get_read ps (length ps) a.1.0 _ refl a.1.1 (sym a.1.2));
   greatest = λ c down outside. r.greatest c down
@@ -96,12 +96,12 @@ pub raised_both : (f : FittedTrace) (run : List Step) (P Q R : Label → Type 0)
 raised_both f run P Q R split first second a b c r s = record {
   size = s.size ∙ r.size;
   above = λ u. let x = r.above u in let y = s.above u in omega (arith, x, y);
-  inside = λ t i k tells is. elim (split k is) [
-    | inl p ↦ let x = r.inside t i k tells p in let y = s.above t in omega (arith, x, y)
-    | inr q ↦ s.inside t i k tells q
+  inside = λ t i k emits is. elim (split k is) [
+    | inl p ↦ let x = r.inside t i k emits p in let y = s.above t in omega (arith, x, y)
+    | inr q ↦ s.inside t i k emits q
   ];
-  least = λ d up inside. s.least d (r.least d up (λ t i k tells p. inside t i k tells (first k p)))
-      (λ t i k tells q. inside t i k tells (second k q));
+  least = λ d up inside. s.least d (r.least d up (λ t i k emits p. inside t i k emits (first k p)))
+      (λ t i k emits q. inside t i k emits (second k q));
 }
 
 pub lowered_both : (f : FittedTrace) (run : List Step) (P Q R : Label → Type 0) → ((k : Label) → R k → P k ⊎ Q k)
@@ -110,12 +110,12 @@ pub lowered_both : (f : FittedTrace) (run : List Step) (P Q R : Label → Type 0
 lowered_both f run P Q R split first second a b c r s = record {
   size = s.size ∙ r.size;
   below = λ u. let x = r.below u in let y = s.below u in omega (arith, x, y);
-  outside = λ t i k tells is. elim (split k is) [
-    | inl p ↦ let x = r.outside t i k tells p in let y = s.below t in omega (arith, x, y)
-    | inr q ↦ s.outside t i k tells q
+  outside = λ t i k emits is. elim (split k is) [
+    | inl p ↦ let x = r.outside t i k emits p in let y = s.below t in omega (arith, x, y)
+    | inr q ↦ s.outside t i k emits q
   ];
-  greatest = λ d down outside. s.greatest d (r.greatest d down (λ t i k tells p. outside t i k tells (first k p)))
-      (λ t i k tells q. outside t i k tells (second k q));
+  greatest = λ d down outside. s.greatest d (r.greatest d down (λ t i k emits p. outside t i k emits (first k p)))
+      (λ t i k emits q. outside t i k emits (second k q));
 }
 
 -- for the same steps in other words
@@ -124,8 +124,8 @@ pub raised_same : (f : FittedTrace) (run : List Step) (P R : Label → Type 0) �
 raised_same f run P R to from a b r = record {
   size = r.size;
   above = r.above;
-  inside = λ t i k tells is. r.inside t i k tells (to k is);
-  least = λ d up inside. r.least d up (λ t i k tells p. inside t i k tells (from k p));
+  inside = λ t i k emits is. r.inside t i k emits (to k is);
+  least = λ d up inside. r.least d up (λ t i k emits p. inside t i k emits (from k p));
 }
 
 pub lowered_same : (f : FittedTrace) (run : List Step) (P R : Label → Type 0) → ((k : Label) → R k → P k) → ((k : Label) → P k → R k)
@@ -133,26 +133,26 @@ pub lowered_same : (f : FittedTrace) (run : List Step) (P R : Label → Type 0) 
 lowered_same f run P R to from a b r = record {
   size = r.size;
   below = r.below;
-  outside = λ t i k tells is. r.outside t i k tells (to k is);
-  greatest = λ d down outside. r.greatest d down (λ t i k tells p. outside t i k tells (from k p));
+  outside = λ t i k emits is. r.outside t i k emits (to k is);
+  greatest = λ d down outside. r.greatest d down (λ t i k emits p. outside t i k emits (from k p));
 }
 
--- nothing is moved where no step tells so
+-- nothing is moved where no step emits so
 pub raised_nothing : (f : FittedTrace) (run : List Step) (P : Label → Type 0)
-    → ((t i : ℕ) (k : Label) → Tells (machine_of f) (start_of f) run t i k → P k → ⊥) → (xs : List ℕ) → RaisedFor f run P xs xs
+    → ((t i : ℕ) (k : Label) → Emits (machine_of f) (start_of f) run t i k → P k → ⊥) → (xs : List ℕ) → RaisedFor f run P xs xs
 raised_nothing f run P none xs = record {
   size = refl;
   above = λ u. le_refl (cut_of xs u);
-  inside = λ t i k tells is. absurd (none t i k tells is);
+  inside = λ t i k emits is. absurd (none t i k emits is);
   least = λ c up inside u. up u;
 }
 
 pub lowered_nothing : (f : FittedTrace) (run : List Step) (P : Label → Type 0)
-    → ((t i : ℕ) (k : Label) → Tells (machine_of f) (start_of f) run t i k → P k → ⊥) → (xs : List ℕ) → LoweredFor f run P xs xs
+    → ((t i : ℕ) (k : Label) → Emits (machine_of f) (start_of f) run t i k → P k → ⊥) → (xs : List ℕ) → LoweredFor f run P xs xs
 lowered_nothing f run P none xs = record {
   size = refl;
   below = λ u. le_refl (cut_of xs u);
-  outside = λ t i k tells is. absurd (none t i k tells is);
+  outside = λ t i k emits is. absurd (none t i k emits is);
   greatest = λ c down outside u. down u;
 }
 

@@ -4,7 +4,7 @@ use Rattle.ir_image.specs.Guest.{Guest}
 use Rattle.ir_runs.specs.Labels.{Label, logged}
 use Rattle.ir_flat.specs.Flat.{start_flat, tables, machine}
 use Rattle.ir_runs.specs.Run.{Step, Can, label, IsRun, end, count}
-use Rattle.ir_runs.specs.Cuts.{Tells, Cut, IsCut, Consistent, part, Admitted}
+use Rattle.ir_runs.specs.Cuts.{Emits, Cut, IsCut, Consistent, part, Admitted}
 use Rattle.ir_runs.specs.Extremes.{IsLeast, IsGreatest}
 
 -- a thread that is admitted stays so at every later consistent cut in which it has gone no further
@@ -53,5 +53,5 @@ GreatestExact = (guest : Guest) (budget : ℕ) (run : List Step) → let f = sta
 abbrev pub FollowersAdmitted : Type 0
 FollowersAdmitted = (guest : Guest) (budget : ℕ) (run : List Step) → let f = start_flat guest budget in IsRun (machine f) (tables f) run
     → (p : Cut) → IsCut (machine f) (tables f) run p → Consistent (machine f) (tables f) run p
-    → (t r : ℕ) (k : Label) → Can (machine f) (end (machine f) (tables f) (part run p)) (t, r) → Tells (machine f) (tables f) run t (p t) k
+    → (t r : ℕ) (k : Label) → Can (machine f) (end (machine f) (tables f) (part run p)) (t, r) → Emits (machine f) (tables f) run t (p t) k
     → logged k [] ≡ logged (label (machine f) (end (machine f) (tables f) (part run p)) (t, r)) [] → Admitted (machine f) (tables f) run p t

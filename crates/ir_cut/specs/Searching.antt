@@ -5,9 +5,9 @@ use Rattle.ir_runs.specs.declared.access.Access.{Access}
 use Rattle.ir_runs.specs.Run.{Step}
 use Rattle.ir_log.specs.Logging.{label_of}
 use Rattle.ir_log.specs.declared.event.Event.{Event}
-use Rattle.ir_trace.specs.Told.{recorded_thread}
+use Rattle.ir_trace.specs.TraceOf.{recorded_thread}
 use Rattle.ir_runs.specs.Coherent.{sum_below}
-use Rattle.ir_runs.specs.Cuts.{Tells, Needs, Cut, IsCut, Consistent}
+use Rattle.ir_runs.specs.Cuts.{Emits, Needs, Cut, IsCut, Consistent}
 use Rattle.ir_fit.specs.Fit.{FittedTrace}
 use Rattle.ir_fit.specs.Places.{placed_at}
 use Rattle.ir_fit.specs.declared.leave.Leave.{Leave}
@@ -15,11 +15,11 @@ use Rattle.ir_cut.specs.Positions.{machine_of, start_of, cut_of}
 
 -- the steps that tell so are inside the cut
 abbrev pub AreInside : FittedTrace → List Step → (Label → Type 0) → Cut → Type 0
-AreInside f run P c = (t i : ℕ) (k : Label) → Tells (machine_of f) (start_of f) run t i k → P k → i < c t
+AreInside f run P c = (t i : ℕ) (k : Label) → Emits (machine_of f) (start_of f) run t i k → P k → i < c t
 
 -- the steps that tell so are outside
 abbrev pub AreOutside : FittedTrace → List Step → (Label → Type 0) → Cut → Type 0
-AreOutside f run P c = (t i : ℕ) (k : Label) → Tells (machine_of f) (start_of f) run t i k → P k → c t ≤ i
+AreOutside f run P c = (t i : ℕ) (k : Label) → Emits (machine_of f) (start_of f) run t i k → P k → c t ≤ i
 
 -- the least positions at or above the old ones with the steps that tell so inside
 pub record RaisedFor (f : FittedTrace) (run : List Step) (P : Label → Type 0) (old new : List ℕ) : Type 0 where
@@ -35,17 +35,17 @@ pub record LoweredFor (f : FittedTrace) (run : List Step) (P : Label → Type 0)
   pub outside : AreOutside f run P (cut_of new)
   pub greatest : (c : Cut) → ((u : ℕ) → c u ≤ cut_of old u) → AreOutside f run P c → (u : ℕ) → c u ≤ cut_of new u
 
--- what an entry that tells k needs
+-- what an entry that emits k needs
 abbrev pub NeededBy : Label → Label → Type 0
-NeededBy k told = Needs told k
+NeededBy k emitted = Needs emitted k
 
 -- what needs a leave
 abbrev pub Needing : Leave → Label → Type 0
-Needing l told = Needs (Out l.object l.access l.version) told
+Needing l emitted = Needs (Out l.object l.access l.version) emitted
 
 -- an entry of object o at version v
 abbrev pub IsEntryAt : ℕ → ℕ → Label → Type 0
-IsEntryAt o v told = (a : Access) × (l : ℕ) × (told ≡ In o a v l)
+IsEntryAt o v emitted = (a : Access) × (l : ℕ) × (emitted ≡ In o a v l)
 
 -- on the way from ps up to the least cut with thread t at k or more: no position is above that cut's, and what the first so many events of
 -- each thread need is inside
@@ -102,7 +102,7 @@ pub record AreLeaves (f : FittedTrace) (next : List ℕ) : Type 0 where
 
 -- what the steps of thread t in the cut need is in it
 abbrev pub IsClosed : FittedTrace → List Step → Cut → ℕ → Type 0
-IsClosed f run c t = (i : ℕ) (k : Label) → Tells (machine_of f) (start_of f) run t i k → i < c t → AreInside f run (NeededBy k) c
+IsClosed f run c t = (i : ℕ) (k : Label) → Emits (machine_of f) (start_of f) run t i k → i < c t → AreInside f run (NeededBy k) c
 
 -- how many events are behind the first so many of each thread
 abbrev pub events_left : FittedTrace → List ℕ → ℕ

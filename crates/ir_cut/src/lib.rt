@@ -9,8 +9,6 @@ mod logs;
 mod moving;
 mod needs;
 mod rising;
-#[cfg(test)]
-mod tests;
 
 pub use consistency::consistent;
 pub use cut::Cut;

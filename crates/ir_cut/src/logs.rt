@@ -1,7 +1,7 @@
 //! The logs of a fitted trace.
 
 ghost use Rattle.std.specs.Prelude.{◌≡◌, ◌<◌, length};
-ghost use Rattle.ir_trace.specs.Told.{recorded_thread};
+ghost use Rattle.ir_trace.specs.TraceOf.{recorded_thread};
 ghost use Rattle.ir_fit.specs.Places.{placed_at};
 ghost use Rattle.ir_fit.specs.Fit.{IsFitted};
 

@@ -1,6 +1,6 @@
 -- What the debugger carries out is what the small machine may answer.
 use Rattle.std.proofs.Common.{◌≡◌, ℕ, ◌<◌, arith, Bool, true, false, List, length, sym, ap, subst, ◌∙◌, refl, inl, None, Some}
-use Rattle.std.specs.Prelude.{not, nat_lt, Option, if◌then◌else◌}
+use Rattle.std.specs.Prelude.{not, nat_lt, codes, ◌+◌, ◌++◌, Option, if◌then◌else◌}
 use Rattle.std.proofs.lemmas.List.{get_or_default}
 use Rattle.std.proofs.lemmas.Bool.{ltb-true}
 use Rattle.std.specs.List.{slice_index_or}
@@ -18,10 +18,11 @@ use Rattle.ir_command.specs.declared.refusal.Refusal.{Refusal}
 use Rattle.ir_command.specs.declared.refusal.Refusal.TheVariants.{NoSuchThread}
 use Rattle.ir_debug.specs.declared.answer.Answer.{Answer}
 use Rattle.ir_debug.specs.declared.answer.Answer.TheVariants as answer
-use Rattle.ir_debug.specs.Machine.Desk.{Desk, threads_of, moved, spoken}
+use Rattle.ir_command.specs.declared.command.Keeping.TheVariants.{Keep, Load, Drop, Kept}
+use Rattle.ir_debug.specs.Machine.Desk.{Desk, threads_of, moved, spoken, kept_cut, with_kept, without_kept}
 use Rattle.ir_debug.specs.Machine.Refusals.{if_some, thread_moved, refusal_of, is_at_hand}
 use Rattle.ir_debug.specs.Machine.Shown.{shown}
-use Rattle.ir_debug.specs.Machine.Texts.{next_text}
+use Rattle.ir_debug.specs.Machine.Texts.{number_line, positions_text, kept_text, next_text}
 use Rattle.ir_debug.specs.Machine.Answers.{Answers, AnswersBy}
 use Rattle.ir_debug.specs.Debugging.{Debugging, IsThere, answer_text}
 
@@ -78,10 +79,10 @@ unfolding shown
 next_shown d s t x line there is text run whole =
     text ∙ ap (λ z. next_text d.fitted.guest.code z) (is ∙ (there.at.each run whole).threads t)
 
-pub next_told : (d : Desk) (e : Debugging) (threads : List thread.State) (code : List ℕ) (t : ℕ) (x : thread.State) (line : List ℕ)
+pub next_answered : (d : Desk) (e : Debugging) (threads : List thread.State) (code : List ℕ) (t : ℕ) (x : thread.State) (line : List ℕ)
     → e.desk ≡ spoken d → IsThere e → threads ≡ e.state.threads → code ≡ e.desk.fitted.guest.code → t < threads_of d.fitted
     → x ≡ slice_index_or threads t x → line ≡ next_text code x → EachRun d.fitted (λ run. line ≡ shown run d (Next t))
-next_told d e threads code t x line is there all same l read text =
+next_answered d e threads code t x line is there all same l read text =
     let stands : StandsAt d.fitted (cut_of d.at) e.state = subst (λ (z : Desk). StandsAt z.fitted (cut_of z.at) e.state) is there in
     let count = stands.at.threads in
     let long = ap (λ z. length z) all in
@@ -113,8 +114,24 @@ answered d next c asked a same none so run whole =
     subst (λ o. AnswersBy o run d c (answer_text run next a) next) (sym none)
     (subst (λ z. AnswersBy None run d z (answer_text run next a) next) (sym same) (so run whole))
 
-pub position_told : (d next : Desk) → next ≡ spoken d → AnswersSo d command.Position answer.Position next
-position_told d next is run whole = inl (ap (λ z. answer_text run z answer.Position) is, is)
+pub position_answered : (d next : Desk) → next ≡ spoken d → AnswersSo d command.Position answer.Position next
+position_answered d next is run whole = inl (ap (λ z. answer_text run z answer.Position) is, is)
 
-pub quit_told : (d next : Desk) → next ≡ spoken d → AnswersSo d command.Quit answer.Bye next
-quit_told d next is run whole = inl (refl, is)
+pub quit_answered : (d next : Desk) → next ≡ spoken d → AnswersSo d command.Quit answer.Bye next
+quit_answered d next is run whole = inl (refl, is)
+
+-- ---- kept cuts
+
+pub kept_answered : (d next : Desk) (n : ℕ) → n ≡ d.last_kept + 1 → next ≡ with_kept d
+    → AnswersSo d (command.Keeping Keep) (answer.Kept n) next
+kept_answered d next n number is run whole = inl (ap (number_line (codes "kept ")) number, is)
+
+pub load_answered : (d next : Desk) (n : ℕ) (to : List ℕ) → kept_cut d.kept n ≡ Some to → next ≡ moved d to
+    → AnswersSo d (command.Keeping (Load n)) answer.Position next
+load_answered d next n to found is run whole = inl (to, found, (ap (λ z. positions_text z.at ++ codes "\n") is, is))
+
+pub drop_answered : (d next : Desk) (n : ℕ) → next ≡ without_kept d n → AnswersSo d (command.Keeping (Drop n)) (answer.Dropped n) next
+drop_answered d next n is run whole = inl (refl, is)
+
+pub list_answered : (d next : Desk) → next ≡ spoken d → AnswersSo d (command.Keeping Kept) answer.KeptCuts next
+list_answered d next is run whole = inl (ap (λ z. kept_text z.kept) is, is)

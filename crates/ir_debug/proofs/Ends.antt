@@ -23,7 +23,7 @@ first_number (suc n) (suc t) = first_number n t
 pub first_consistent : (f : FittedTrace) → IsConsistentCut f (first_cut f)
 first_consistent f run whole = (
   λ t. let none = first_number (threads_of f) t in omega (arith, none),
-  λ t k u j a b told needed needs less. let none = first_number (threads_of f) t in absurd (omega (arith, none, less)),
+  λ t k u j a b emitted needed needs less. let none = first_number (threads_of f) t in absurd (omega (arith, none, less)),
 )
 
 first_zero : (f : FittedTrace) (at : List ℕ) (t : ℕ) → at ≡ first_cut f → cut_of at t ≡ 0
@@ -78,7 +78,7 @@ last_steps f run whole t = elim (cases_lt t (threads_of f)) [
 pub last_consistent : (f : FittedTrace) → IsConsistentCut f (last_cut f)
 last_consistent f run whole = (
   λ t. let all = last_steps f run whole t in omega (arith, all),
-  λ t k u j a b told needed needs less. let all = last_steps f run whole u in
+  λ t k u j a b emitted needed needs less. let all = last_steps f run whole u in
       let within = (get_at (trail (machine_of f) (start_of f) run u) j (needed.0, b) needed.1).0 in
       omega (arith, all, within),
 )

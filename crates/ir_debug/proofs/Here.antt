@@ -96,6 +96,9 @@ texts d (answer.Moved move) last run is = refl
 texts d answer.Position last run is = refl
 texts d (answer.Shown s) last run is = shows_here d s last.2 (λ t named. thread_below d.desk (command.Show s) t last.0 named) run is
 texts d (answer.Next line) last run is = refl
+texts d (answer.Kept number) last run is = refl
+texts d (answer.Dropped number) last run is = refl
+texts d answer.KeptCuts last run is = refl
 texts d (answer.Refused refusal) last run is = refl
 texts d answer.Bye last run is = refl
 

@@ -1,5 +1,5 @@
 -- Where moves lead.
-use Rattle.std.proofs.Common.{◌≡◌, ℕ, ◌+◌, ◌-◌, ◌^◌, ◌<◌, ◌≤◌, min, arith, Bool, List, sym, ap, subst, ◌∙◌}
+use Rattle.std.proofs.Common.{◌≡◌, ℕ, ◌+◌, ◌-◌, ◌^◌, ◌<◌, ◌≤◌, min, arith, List, sym, ap, subst, ◌∙◌}
 use Rattle.std.proofs.lemmas.Bool.{le-leb, lt-leb}
 use Rattle.ir_runs.specs.Extremes.{IsLeast, IsGreatest}
 use Rattle.ir_fit.specs.Fit.{FittedTrace}
@@ -9,44 +9,44 @@ use Rattle.ir_command.specs.declared.command.Move.TheVariants.{Step, Back}
 use Rattle.ir_debug.specs.Machine.Desk.{last_of}
 use Rattle.ir_debug.specs.Machine.Moves.{Leads, ToLeast, ToGreatest, ToEither, ToPosition}
 
-to_least : (f : FittedTrace) (at to : List ℕ) (t k j : ℕ) → IsLeastCut f at t k to → k ≡ j → (fresh : Bool)
-    → EachRun f (λ run. ToLeast run (record { fitted = f; at = at; fresh = fresh }) t j to)
-to_least f at to t k j least same fresh run whole = (
+to_least : (f : FittedTrace) (at to : List ℕ) (t k j : ℕ) → IsLeastCut f at t k to → k ≡ j
+    → EachRun f (λ run. ToLeast run f at t j to)
+to_least f at to t k j least same run whole = (
   least.0,
   subst (λ n. IsLeast (machine_of f) (start_of f) run (cut_of at) t n (cut_of to)) same (least.1 run whole),
 )
 
-to_greatest : (f : FittedTrace) (at to : List ℕ) (t k j : ℕ) → IsGreatestCut f at t k to → k ≡ j → (fresh : Bool)
-    → EachRun f (λ run. ToGreatest run (record { fitted = f; at = at; fresh = fresh }) t j to)
-to_greatest f at to t k j greatest same fresh run whole = (
+to_greatest : (f : FittedTrace) (at to : List ℕ) (t k j : ℕ) → IsGreatestCut f at t k to → k ≡ j
+    → EachRun f (λ run. ToGreatest run f at t j to)
+to_greatest f at to t k j greatest same run whole = (
   greatest.0,
   subst (λ n. IsGreatest (machine_of f) (start_of f) run (cut_of at) t n (cut_of to)) same (greatest.1 run whole),
 )
 
--- what the cut of a move is for each run, whatever the last answer was
+-- what the cut of a move is for each run
 abbrev pub LeadsSo : FittedTrace → List ℕ → Move → List ℕ → Type 0
-LeadsSo f at m to = (fresh : Bool) → EachRun f (λ run. Leads run (record { fitted = f; at = at; fresh = fresh }) m to)
+LeadsSo f at m to = EachRun f (λ run. Leads run f at m to)
 
 abbrev pub ToPositionSo : FittedTrace → List ℕ → ℕ → ℕ → List ℕ → Type 0
-ToPositionSo f at t k to = (fresh : Bool) → EachRun f (λ run. ToPosition run (record { fitted = f; at = at; fresh = fresh }) t k to)
+ToPositionSo f at t k to = EachRun f (λ run. ToPosition run f at t k to)
 
 -- to a position that isn't below the thread's
 pub up_to : (f : FittedTrace) (at to : List ℕ) (t k position last here : ℕ) → k ≡ min position last → last ≡ last_of f t
     → here ≡ cut_of at t → here ≤ k → IsLeastCut f at t k to → ToPositionSo f at t (min position (last_of f t)) to
-up_to f at to t k position last here most is stands up least fresh run whole =
+up_to f at to t k position last here most is stands up least run whole =
     let wanted : k ≡ min position (last_of f t) = most ∙ ap (min position) is in
-    subst (λ b. ToEither b run (record { fitted = f; at = at; fresh = fresh }) t (min position (last_of f t)) to)
+    subst (λ b. ToEither b run f at t (min position (last_of f t)) to)
     (sym (le-leb (cut_of at t) (min position (last_of f t)) (omega (arith, wanted, stands, up))))
-    (to_least f at to t k (min position (last_of f t)) least wanted fresh run whole)
+    (to_least f at to t k (min position (last_of f t)) least wanted run whole)
 
 -- to one that is
 pub down_to : (f : FittedTrace) (at to : List ℕ) (t k position last here : ℕ) → k ≡ min position last → last ≡ last_of f t
     → here ≡ cut_of at t → k < here → IsGreatestCut f at t k to → ToPositionSo f at t (min position (last_of f t)) to
-down_to f at to t k position last here most is stands down greatest fresh run whole =
+down_to f at to t k position last here most is stands down greatest run whole =
     let wanted : k ≡ min position (last_of f t) = most ∙ ap (min position) is in
-    subst (λ b. ToEither b run (record { fitted = f; at = at; fresh = fresh }) t (min position (last_of f t)) to)
+    subst (λ b. ToEither b run f at t (min position (last_of f t)) to)
     (sym (lt-leb (cut_of at t) (min position (last_of f t)) (omega (arith, wanted, stands, down))))
-    (to_greatest f at to t k (min position (last_of f t)) greatest wanted fresh run whole)
+    (to_greatest f at to t k (min position (last_of f t)) greatest wanted run whole)
 
 -- steps on, counted no further than a position can be
 pub steps_on : (f : FittedTrace) (at to : List ℕ) (m : Move) (t n k sum last here : ℕ) → m ≡ Step t n → here ≡ cut_of at t

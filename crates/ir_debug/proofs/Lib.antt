@@ -7,6 +7,7 @@ mod Machine
 mod Brought
 mod Ends
 mod Leading
+mod KeptCuts
 mod CarriedOut
 mod Rows
 mod RowsOne

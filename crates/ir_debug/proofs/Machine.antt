@@ -1,20 +1,16 @@
 -- The small machine as one that answers lines.
-use Rattle.std.proofs.Common.{◌≡◌, ◌<◌, ℕ, List, length, take, sym, ap, subst, ◌∙◌, arith, inl, inr, true, Option, Some, None, Result, Ok, Err, refl}
-use Rattle.std.specs.Prelude.{nat_lt}
-use Rattle.std.proofs.lemmas.Bool.{cases_lt, lt-ltb}
-use Rattle.std.proofs.lemmas.List.{take_all, length-take}
+use Rattle.std.proofs.Common.{◌≡◌, ℕ, List, ap, ◌∙◌, inl, inr, Option, Some, None, Result, Ok, Err, refl}
 use Rattle.ir_runs.specs.Run.{Step}
-use Rattle.ir_cut.specs.Positions.{EachRun}
 use Rattle.ir_stream.specs.Answers.{Replying}
-use Rattle.ir_command.specs.Limits.{most_line}
-use Rattle.ir_command.specs.Commands.{command_of}
 use Rattle.ir_command.specs.declared.command.Command.{Command}
 use Rattle.ir_command.specs.declared.command.Command.TheVariants.{Move, Position, Show, Quit}
+use Rattle.ir_command.specs.declared.command.Command.TheVariants as command
+use Rattle.ir_command.specs.declared.command.Keeping.{Keeping}
+use Rattle.ir_command.specs.declared.command.Keeping.TheVariants.{Keep, Load, Drop, Kept}
 use Rattle.ir_command.specs.declared.refusal.Refusal.{Refusal}
-use Rattle.ir_command.specs.declared.refusal.Refusal.TheVariants.{LineTooLong}
 use Rattle.ir_debug.specs.Machine.Desk.{Desk}
 use Rattle.ir_debug.specs.Machine.Refusals.{refusal_of}
-use Rattle.ir_debug.specs.Machine.Answers.{Gives, CarriesOut, AnswersBy, Answers, RepliesBy, Replies, quits_by, quits}
+use Rattle.ir_debug.specs.Machine.Answers.{Gives, Keeps, CarriesOut, AnswersBy, Answers, RepliesBy, Replies}
 
 pub small_machine : Replying Desk
 small_machine = Replies
@@ -24,10 +20,17 @@ small_machine = Replies
 keeps : (d after next : Desk) (answer text : List ℕ) → after.fitted ≡ d.fitted → Gives answer after text next → next.fitted ≡ d.fitted
 keeps d after next answer text same is = ap (λ (x : Desk). x.fitted) is.1 ∙ same
 
+carried_keeping : (d : Desk) (k : Keeping) (text : List ℕ) (next : Desk) → Keeps d k text next → next.fitted ≡ d.fitted
+carried_keeping d Keep text next is = keeps d _ next _ text refl is
+carried_keeping d (Load n) text next (to, found, is) = keeps d _ next _ text refl is
+carried_keeping d (Drop n) text next is = keeps d _ next _ text refl is
+carried_keeping d Kept text next is = keeps d _ next _ text refl is
+
 carried : (run : List Step) (d : Desk) (c : Command) (text : List ℕ) (next : Desk) → CarriesOut run d c text next → next.fitted ≡ d.fitted
 carried run d (Move move) text next (to, leads, is) = keeps d _ next _ text refl is
 carried run d Position text next is = keeps d _ next _ text refl is
 carried run d (Show show) text next is = keeps d _ next _ text refl is
+carried run d (command.Keeping k) text next is = carried_keeping d k text next is
 carried run d Quit text next is = keeps d _ next _ text refl is
 
 answered : (r : Option Refusal) (run : List Step) (d : Desk) (c : Command) (text : List ℕ) (next : Desk) → AnswersBy r run d c text next

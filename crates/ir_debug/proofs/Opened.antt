@@ -1,14 +1,14 @@
 -- From the answers to lines to the bytes of a session.
-use Rattle.std.proofs.Common.{◌≡◌, ◌≢◌, ℕ, List, [], ◌∷◌, ◌++◌, Option, Some, None, Result, Ok, Err, refl, sym, ap, subst, ◌∙◌, append_assoc, arith, false}
+use Rattle.std.proofs.Common.{◌≡◌, ℕ, List, [], ◌∷◌, ◌++◌, Option, Some, None, Result, Ok, Err, refl, sym, ap, subst, arith}
 use Rattle.std.specs.Prelude.{IfSome}
 use Rattle.std.proofs.lemmas.List.{append-nil}
-use Rattle.std.specs.Io.KnownBytes.{Appends, Consumes, IsAtEnd}
+use Rattle.std.specs.Io.KnownBytes.{Appends, Consumes}
 use Rattle.std.proofs.KnownBytes.{Appends-trans}
 use Rattle.ir_stream.specs.Lines.{cut, lines_of, heard}
-use Rattle.ir_stream.specs.Answers.{Answered, Wrote, WrotePrefix, through, some_quits}
+use Rattle.ir_stream.specs.Answers.{Answered, Wrote, WrotePrefix, through}
 use Rattle.ir_stream.proofs.CallerLemmas.{prefix_after}
 use Rattle.ir_stream.specs.Devices.{AppendsPrefix, Reads}
-use Rattle.ir_stream.specs.Endings.{IfEnded, LeadsTo, ends}
+use Rattle.ir_stream.specs.Endings.{IfEnded, LeadsTo}
 use Rattle.ir_stream.specs.declared.serving.Served.{Served}
 use Rattle.ir_stream.specs.declared.serving.Served.TheVariants as served
 use Rattle.ir_stream.specs.declared.serving.Fault.{Fault}
@@ -20,7 +20,7 @@ use Rattle.ir_debug.specs.Debugging.{Debugging}
 use Rattle.ir_debug.specs.Opened.{opening_of}
 use Rattle.ir_debug.specs.declared.opening.Opened.{Opened}
 use Rattle.ir_debug.specs.declared.opening.Opened.TheVariants as opened
-use Rattle.ir_debug.specs.Session.{Session, AnsweredWhole, AnsweredInPart, Emits, Writes, WritesPrefix, IfServed, ended_by, ending_of}
+use Rattle.ir_debug.specs.Session.{Session, AnsweredInPart, SessionText, Writes, WritesPrefix, IfServed, ended_by, ending_of}
 use Rattle.ir_debug.specs.declared.ended.Ended.{Ended}
 use Rattle.ir_debug.specs.declared.ended.SessionErr.{SessionErr}
 use Rattle.ir_debug.specs.declared.ended.SessionErr.TheVariants as err
@@ -45,13 +45,13 @@ through-none [] e = refl
 through-none (l ∷ ls) e = absurd cc
 
 -- the opening lines alone, where there are no other lines
-emits-none : (o : Opening) (lines : List (List ℕ)) → lines ≡ [] → Emits o lines (opening_text o)
+text-none : (o : Opening) (lines : List (List ℕ)) → lines ≡ [] → SessionText o lines (opening_text o)
 unfolding Answered
-emits-none (ImageRefused e) lines none = refl
-emits-none (TraceRefused e) lines none = refl
-emits-none (Unfit v) lines none = refl
-emits-none (Ready d) [] none = ([], d, (refl, refl), sym (append-nil (opening_text (Ready d))))
-emits-none (Ready d) (l ∷ ls) none = absurd cc
+text-none (ImageRefused e) lines none = refl
+text-none (TraceRefused e) lines none = refl
+text-none (Unfit v) lines none = refl
+text-none (Ready d) [] none = ([], d, (refl, refl), sym (append-nil (opening_text (Ready d))))
+text-none (Ready d) (l ∷ ls) none = absurd cc
 
 -- the writer failed in the opening lines
 pub none_read : (image trace : List ℕ) (o : Opening) (limit : ℕ) (a w0 w1 : Option (List ℕ)) → Opens image trace o
@@ -65,7 +65,7 @@ none_read image trace o limit a w0 w1 opens prefix = record {
     opens = opens;
     goes = through-none (lines_of []) no_line;
     ended = λ some. absurd (some no_rest);
-    wrote = record { text = opening_text o; emits = emits-none o (lines_of []) no_line; grown = prefix };
+    wrote = record { text = opening_text o; session_text = text-none o (lines_of []) no_line; grown = prefix };
   };
 }
 
@@ -73,7 +73,7 @@ none_read image trace o limit a w0 w1 opens prefix = record {
 
 -- nothing but the opening lines is written, whatever the lines
 abbrev pub IsRefusal : Opening → Type 0
-IsRefusal o = (lines : List (List ℕ)) → Emits o lines (opening_text o)
+IsRefusal o = (lines : List (List ℕ)) → SessionText o lines (opening_text o)
 
 pub image_refusal : (e : _) → IsRefusal (ImageRefused e)
 image_refusal e = λ lines. refl
@@ -91,7 +91,7 @@ refused image trace o limit result w0 w1 input opens is ending grown = record {
   opening = o;
   opens = opens;
   ending = ending;
-  wrote = record { text = opening_text o; emits = is (through quits (heard limit input)); grown = grown };
+  wrote = record { text = opening_text o; session_text = is (through quits (heard limit input)); grown = grown };
 }
 
 pub reads_nothing : (limit : ℕ) (a : Option (List ℕ)) (P : List ℕ → Type 0) → P [] → Reads limit a a P
@@ -137,7 +137,7 @@ pub writes : (d : Desk) (lines : List (List ℕ)) (w0 w1 w2 : Option (List ℕ))
     → Wrote Replies d lines w1 w2 → Writes (Ready d) lines w0 w2
 writes d lines w0 w1 w2 begun wrote = record {
   text = opening_text (Ready d) ++ wrote.text;
-  emits = (wrote.text, wrote.last, wrote.answered, refl);
+  session_text = (wrote.text, wrote.last, wrote.answered, refl);
   grown = Appends-trans w0 w1 w2 (opening_text (Ready d)) wrote.text begun wrote.grown;
 }
 
@@ -146,7 +146,7 @@ pub writes_prefix : (d : Desk) (lines : List (List ℕ)) (w0 w1 w2 : Option (Lis
     → WrotePrefix Replies d lines w1 w2 → WritesPrefix (Ready d) lines w0 w2
 writes_prefix d lines w0 w1 w2 begun wrote = record {
   text = opening_text (Ready d) ++ wrote.text;
-  emits = (wrote.text, wrote.last, wrote.answered, refl);
+  session_text = (wrote.text, wrote.last, wrote.answered, refl);
   grown = prefix_after w0 w1 w2 (opening_text (Ready d)) wrote.text begun wrote.grown;
 }
 

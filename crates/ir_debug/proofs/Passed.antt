@@ -1,35 +1,43 @@
 -- What is known of what a command names that isn't refused.
 use Rattle.std.proofs.Common.{◌≡◌, ◌<◌, ◌≤◌, ◌&&◌, ◌+◌, ◌*◌, ℕ, Bool, true, false, length, Option, Some, None, refl, sym, ap, ◌∙◌, arith}
-use Rattle.std.specs.Prelude.{◌||◌, ◌^◌, not, nat_lt, nat_le, if◌then◌else◌}
+use Rattle.std.specs.Prelude.{◌||◌, ◌^◌, not, nat_lt, nat_le, is_some, if◌then◌else◌}
 use Rattle.std.proofs.lemmas.Bool.{ltb-true, leb-true}
 use Rattle.ir_image.specs.Guest.{Guest, code_start, memory_start, object_count}
 use Rattle.ir_mach.specs.Core.{memory_size}
 use Rattle.ir_mach.specs.Memory.{lies_in_memory}
 use Rattle.ir_command.specs.declared.command.Command.{Command}
-use Rattle.ir_command.specs.declared.refusal.Refusal.TheVariants.{NoSuchThread, NoSuchObject, BadAddress}
-use Rattle.ir_debug.specs.Machine.Desk.{Desk, threads_of}
-use Rattle.ir_debug.specs.Machine.Refusals.{if_some, thread_named, object_named, lies_in_code, has_address, refusal_of}
+use Rattle.ir_command.specs.declared.refusal.Refusal.TheVariants.{NoSuchThread, NoSuchObject, NoSuchNumber, BadAddress, Full}
+use Rattle.ir_command.specs.declared.command.Command.TheVariants as command
+use Rattle.ir_command.specs.declared.command.Keeping.TheVariants.{Keep, Load}
+use Rattle.ir_debug.specs.Machine.Desk.{Desk, threads_of, kept_cut, most_kept}
+use Rattle.ir_debug.specs.Machine.Refusals.{if_some, thread_named, object_named, lies_in_code, has_number, has_address, has_place, refusal_of}
 
--- the three tests
+-- the tests
 pub record Passes (d : Desk) (c : Command) : Type 0 where
   pub thread : if_some (thread_named c) (λ t. nat_lt t (threads_of d.fitted)) ≡ true
   pub object : if_some (object_named c) (λ o. nat_lt o (object_count d.fitted.guest)) ≡ true
+  pub number : has_number d.kept c ≡ true
   pub address : has_address d.fitted.guest c ≡ true
+  pub place : has_place d.kept c ≡ true
 
-three : (a b c : Bool)
-    → (if not a then Some NoSuchThread else if not b then Some NoSuchObject else if not c then Some BadAddress else None) ≡ None
-    → (a ≡ true) × (b ≡ true) × (c ≡ true)
-three true true true e = (refl, refl, refl)
-three true true false e = absurd cc
-three true false c e = absurd cc
-three false b c e = absurd cc
+five : (a b n c p : Bool)
+    → (if not a then Some NoSuchThread else if not b then Some NoSuchObject else if not n then Some NoSuchNumber else
+    if not c then Some BadAddress else if not p then Some Full else None) ≡ None
+    → (a ≡ true) × (b ≡ true) × (n ≡ true) × (c ≡ true) × (p ≡ true)
+five true true true true true e = (refl, refl, refl, refl, refl)
+five true true true true false e = absurd cc
+five true true true false p e = absurd cc
+five true true false c p e = absurd cc
+five true false n c p e = absurd cc
+five false b n c p e = absurd cc
 
 pub passes : (d : Desk) (c : Command) → refusal_of d c ≡ None → Passes d c
 unfolding refusal_of
 passes d c none =
-    let t = three (if_some (thread_named c) (λ t. nat_lt t (threads_of d.fitted)))
-    (if_some (object_named c) (λ o. nat_lt o (object_count d.fitted.guest))) (has_address d.fitted.guest c) none in
-    record { thread = t.0; object = t.1; address = t.2 }
+    let t = five (if_some (thread_named c) (λ t. nat_lt t (threads_of d.fitted)))
+    (if_some (object_named c) (λ o. nat_lt o (object_count d.fitted.guest))) (has_number d.kept c) (has_address d.fitted.guest c)
+    (has_place d.kept c) none in
+    record { thread = t.0; object = t.1; number = t.2; address = t.3; place = t.4 }
 
 if_named : (n : ℕ) (named : Option ℕ) (x : ℕ) → if_some named (λ y. nat_lt y n) ≡ true → named ≡ Some x → x < n
 if_named n (Some y) x test is = ltb-true x n (ap (λ z. if_some z (λ w. nat_lt w n)) (sym is) ∙ test)
@@ -62,3 +70,11 @@ address_low g size address short =
     (λ e. let le = leb-true (address + size) (memory_start + memory_size)
     (second_true (nat_le memory_start address) (nat_le (address + size) (memory_start + memory_size)) e) in
     omega (arith, le))
+
+-- ---- kept cuts
+
+pub number_kept : (d : Desk) (n : ℕ) → refusal_of d (command.Keeping (Load n)) ≡ None → is_some (kept_cut d.kept n) ≡ true
+number_kept d n none = (passes d (command.Keeping (Load n)) none).number
+
+pub place_left : (d : Desk) → refusal_of d (command.Keeping Keep) ≡ None → length d.kept < most_kept + 1
+place_left d none = ltb-true (length d.kept) (most_kept + 1) (passes d (command.Keeping Keep) none).place

@@ -1,8 +1,7 @@
 -- From an answer to the small machine's reply to a line.
-use Rattle.std.proofs.Common.{◌≡◌, ℕ, List, [], Option, Some, None, Result, Ok, Err, refl, sym, subst}
+use Rattle.std.proofs.Common.{◌≡◌, ℕ, List, [], Option, None, Result, Ok, refl, sym, subst}
 use Rattle.std.specs.Io.KnownBytes.{Appends}
 use Rattle.std.proofs.KnownBytes.{Appends-nil}
-use Rattle.ir_runs.specs.Run.{Step}
 use Rattle.ir_fit.specs.Fit.{FittedTrace, IsRunOf}
 use Rattle.ir_command.specs.Commands.{command_of}
 use Rattle.ir_command.specs.declared.command.Command.{Command}
@@ -10,9 +9,8 @@ use Rattle.ir_command.specs.declared.refusal.Refusal.{Refusal}
 use Rattle.ir_stream.specs.Answers.{Replied, RepliedPrefix}
 use Rattle.ir_stream.specs.Devices.{AppendsPrefix}
 use Rattle.ir_debug.specs.declared.answer.Answer.{Answer}
-use Rattle.ir_debug.specs.Machine.Desk.{Desk}
 use Rattle.ir_debug.specs.Machine.Answers.{RepliesBy, Replies}
-use Rattle.ir_debug.specs.Debugging.{Debugging, IsAnswer, IsText, answer_text}
+use Rattle.ir_debug.specs.Debugging.{Debugging, IsAnswer, IsText}
 
 -- the answer's text is one that the small machine may reply with
 replies : (asked : Result (Option Command) Refusal) (line : List ℕ) (old new : Debugging) (answer : Answer) (P : List ℕ → Type 0)

@@ -9,7 +9,7 @@ use Rattle.ir_runs.specs.Object as object
 use Rattle.ir_flat.specs.Flat.{idle, thread_of, cell_of, object_with}
 use Rattle.ir_log.specs.Logging.{label_of}
 use Rattle.ir_log.specs.declared.event.Event.{Event}
-use Rattle.ir_trace.specs.Told.{recorded_thread}
+use Rattle.ir_trace.specs.TraceOf.{recorded_thread}
 use Rattle.ir_cut.specs.Positions.{EachRun}
 use Rattle.ir_weave.specs.Standing.{flat_in}
 use Rattle.ir_command.specs.declared.command.Show.{Show}
@@ -22,7 +22,7 @@ use Rattle.ir_debug.specs.Machine.Answers.{moved_text}
 use Rattle.ir_debug.specs.Machine.Desk.{threads_of}
 use Rattle.ir_debug.specs.Machine.Refusals.{thread_shown}
 use Rattle.ir_debug.specs.Machine.Shown.{shown, bytes_from}
-use Rattle.ir_debug.specs.Machine.Texts.{positions_text, inside_for, joined, memory_text, output_text, object_text, log_text, next_text}
+use Rattle.ir_debug.specs.Machine.Texts.{number_line, positions_text, kept_text, inside_for, joined, memory_text, output_text, object_text, log_text, next_text}
 
 -- what a thread is inside an object for, if it is inside
 abbrev pub held_by : List thread.State → ℕ → ℕ → Option Access
@@ -67,6 +67,9 @@ text_here d (answer.Moved move) = moved_text d.desk.fitted move d.desk.at
 text_here d answer.Position = positions_text d.desk.at ++ codes "\n"
 text_here d (answer.Shown show) = shown_here d show
 text_here d (answer.Next line) = line.items
+text_here d (answer.Kept number) = number_line (codes "kept ") number
+text_here d (answer.Dropped number) = number_line (codes "dropped ") number
+text_here d answer.KeptCuts = kept_text d.desk.kept
 text_here d (answer.Refused refusal) = refusal_text refusal
 text_here d answer.Bye = codes "bye\n"
 

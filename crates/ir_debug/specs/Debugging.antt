@@ -1,22 +1,20 @@
 -- The debugger between two commands, and the texts of its answers.
-use Rattle.std.specs.Prelude.{◌≡◌, ℕ, ⊤, Bool, true, List, ◌++◌, codes, Option, Some, None, Result}
-use Rattle.std.specs.Io.KnownBytes.{Appends}
+use Rattle.std.specs.Prelude.{◌≡◌, ℕ, ⊤, true, List, ◌++◌, codes, Option, None, Result}
 use Rattle.ir_runs.specs.Run.{Step}
 use Rattle.ir_fit.specs.Fit.{FittedTrace}
 use Rattle.ir_cut.specs.Positions.{EachRun, cut_of}
 use Rattle.ir_weave.specs.Standing.{Standing, StandsAt, flat_in}
 use Rattle.ir_weave.specs.States.{positions}
-use Rattle.ir_stream.specs.Devices.{AppendsPrefix}
 use Rattle.ir_command.specs.declared.command.Command.{Command}
 use Rattle.ir_command.specs.declared.command.Command.TheVariants as command
 use Rattle.ir_command.specs.declared.refusal.Refusal.{Refusal}
 use Rattle.ir_debug.specs.declared.answer.Answer.{Answer}
-use Rattle.ir_debug.specs.declared.answer.Answer.TheVariants.{Moved, Position, Shown, Next, Refused, Bye}
+use Rattle.ir_debug.specs.declared.answer.Answer.TheVariants.{Moved, Position, Shown, Next, Kept, Dropped, KeptCuts, Refused, Bye}
 use Rattle.ir_debug.specs.Answers.{refusal_text}
 use Rattle.ir_debug.specs.Machine.Desk.{Desk, IsDesk}
 use Rattle.ir_debug.specs.Machine.Refusals.{refusal_of, is_at_hand}
 use Rattle.ir_debug.specs.Machine.Shown.{shown}
-use Rattle.ir_debug.specs.Machine.Texts.{positions_text}
+use Rattle.ir_debug.specs.Machine.Texts.{number_line, positions_text, kept_text}
 use Rattle.ir_debug.specs.Machine.Answers.{moved_text, RepliesBy}
 
 -- the small machine, and beside it the guest's threads and objects at some consistent cut
@@ -44,6 +42,9 @@ answer_text run d (Moved move) = moved_text d.fitted move d.at
 answer_text run d Position = positions_text d.at ++ codes "\n"
 answer_text run d (Shown show) = shown run d show
 answer_text run d (Next line) = line.items
+answer_text run d (Kept number) = number_line (codes "kept ") number
+answer_text run d (Dropped number) = number_line (codes "dropped ") number
+answer_text run d KeptCuts = kept_text d.kept
 answer_text run d (Refused refusal) = refusal_text refusal
 answer_text run d Bye = codes "bye\n"
 
@@ -53,6 +54,9 @@ IsLast d (Moved move) = refusal_of d.desk (command.Move move) ≡ None
 IsLast d (Shown show) = (refusal_of d.desk (command.Show show) ≡ None) × (is_at_hand show ≡ true) × IsThere d
 IsLast d Position = ⊤
 IsLast d (Next line) = ⊤
+IsLast d (Kept number) = ⊤
+IsLast d (Dropped number) = ⊤
+IsLast d KeptCuts = ⊤
 IsLast d (Refused refusal) = ⊤
 IsLast d Bye = ⊤
 

@@ -18,6 +18,10 @@ use Rattle.ir_debug.specs.declared.ended.Ended.TheVariants.{Quit, InputEnd, Imag
 use Rattle.ir_debug.specs.declared.ended.SessionErr.{SessionErr}
 use Rattle.ir_debug.specs.declared.ended.SessionErr.TheVariants.{NoMem, Read, Write, TooLong}
 
+-- the most bytes that a session reads
+abbrev pub most_input : ℕ
+most_input = 1073741824
+
 -- ---- how it ends
 
 abbrev pub ended_by : Result Served Fault → Result Ended SessionErr
@@ -54,23 +58,23 @@ IfRefused (Err e) P = ⊤
 -- ---- what it writes
 
 -- the machine may answer the lines in turn so that this is the session's text: the opening lines and all answers
-abbrev pub Emits : Opening → List (List ℕ) → List ℕ → Type 0
-Emits (opening.ImageRefused e) lines text = text ≡ opening_text (opening.ImageRefused e)
-Emits (opening.TraceRefused e) lines text = text ≡ opening_text (opening.TraceRefused e)
-Emits (opening.Unfit v) lines text = text ≡ opening_text (opening.Unfit v)
-Emits (opening.Ready d) lines text = (answers : List ℕ) × (last : Desk) × Answered Replies d lines answers last
+abbrev pub SessionText : Opening → List (List ℕ) → List ℕ → Type 0
+SessionText (opening.ImageRefused e) lines text = text ≡ opening_text (opening.ImageRefused e)
+SessionText (opening.TraceRefused e) lines text = text ≡ opening_text (opening.TraceRefused e)
+SessionText (opening.Unfit v) lines text = text ≡ opening_text (opening.Unfit v)
+SessionText (opening.Ready d) lines text = (answers : List ℕ) × (last : Desk) × Answered Replies d lines answers last
     × (text ≡ opening_text (opening.Ready d) ++ answers)
 
 -- the writer took such a text
 pub record Writes (o : Opening) (lines : List (List ℕ)) (old new : Option (List ℕ)) : Type 0 where
   pub text : List ℕ
-  pub emits : Emits o lines text
+  pub session_text : SessionText o lines text
   pub grown : Appends old new text
 
 -- the writer took a prefix of such a text
 pub record WritesPrefix (o : Opening) (lines : List (List ℕ)) (old new : Option (List ℕ)) : Type 0 where
   pub text : List ℕ
-  pub emits : Emits o lines text
+  pub session_text : SessionText o lines text
   pub grown : AppendsPrefix old new text
 
 -- the input leads to this result, and the writer took the opening lines and the answers to the lines up to and with the first that quits

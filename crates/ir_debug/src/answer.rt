@@ -13,6 +13,12 @@ pub enum Answer {
     Shown(Show),
     /// To `next`: the line of the thread's next step.
     Next(Vec<u8>),
+    /// To `keep`: the number of the cut.
+    Kept(u32),
+    /// To `drop`: the number of the cut.
+    Dropped(u32),
+    /// To `kept`: each number, and the positions of its cut.
+    KeptCuts,
     /// A refusal, after which the debugger is as before.
     Refused(Refusal),
     /// To `quit`.

@@ -1,6 +1,8 @@
 //! The texts of answers, as they are written.
 
-ghost use Rattle.std.specs.Prelude.{◌≡◌, ◌≤◌, ◌<◌, ◌+◌, ◌++◌, OnOk, OnErr, codes, true, None};
+ghost use Rattle.std.specs.Prelude.{◌≡◌, ◌≤◌, ◌<◌, ◌+◌, ◌++◌, OnOk, OnErr, codes, true, None, length};
+ghost use Rattle.std.specs.List.{AllByRecursion};
+ghost use Rattle.ir_image.specs.Guest.{most_threads};
 ghost use Rattle.std.specs.Io.KnownBytes.{Appends};
 ghost use Rattle.arrayvec.specs.ArrayVec.{array_vec_len};
 ghost use Rattle.ir_stream.specs.Devices.{AppendsPrefix};
@@ -11,14 +13,15 @@ ghost use Rattle.ir_debug.specs.Debugging.{IsLast, IsText};
 ghost use Rattle.ir_debug.specs.Machine.Answers.{moved_text};
 ghost use Rattle.ir_debug.specs.Machine.Desk.{threads_of, last_of, position_of};
 ghost use Rattle.ir_debug.specs.Machine.Refusals.{refusal_of};
-ghost use Rattle.ir_debug.specs.Machine.Texts.{positions_text, stop_text};
+ghost use Rattle.ir_debug.specs.Machine.Texts.{number_line, positions_text, stop_text, kept_line, kept_text};
 
 use crate::answer::Answer;
 use crate::debugger::Debugger;
+use crate::kept::KeptCut;
 use crate::positions::{put_positions, put_stop};
 use crate::refusals::thread_moved;
 use crate::showing::write_shown;
-use crate::text::{Text, put_refusal};
+use crate::text::{Text, put_number, put_refusal};
 use ir_command::{Move, Refusal};
 use ir_stream::{DeviceErr, Sink, append, write_all};
 
@@ -91,6 +94,58 @@ fn write_refusal<W: Sink>(refusal: Refusal, writer: &mut W) -> Result<(), Device
     write_all(writer, text.as_slice())
 }
 
+// Writes words and a number in a line.
+fn write_number<W: Sink>(words: &[u8], number: u32, writer: &mut W) -> Result<(), DeviceErr>
+    requires { length words.now ≤ 256 }
+    ensures ok { OnOk result (Appends (W.written writer.old) (W.written writer.new) (number_line words.now number)) }
+    ensures stays { OnOk result (W.broken writer.new ≡ W.broken writer.old) }
+    ensures prefix { OnErr result (AppendsPrefix (W.written writer.old) (W.written writer.new) (number_line words.now number)) }
+    ensures err { OnErr result (W.broken writer.new ≡ true) }
+{
+    let mut text = Text::new();
+    put_number(&mut text, words, number as u64);
+    append(&mut text, b"\n");
+    write_all(writer, text.as_slice())
+}
+
+// Puts the line of a kept cut into an empty text.
+fn put_kept(text: &mut Text, kept: &KeptCut)
+    requires empty { array_vec_len text.old ≡ 0 }
+    requires few { length kept.now.cut ≤ most_threads }
+    ensures { text.new.items ≡ text.old.items ++ kept_line kept.now }
+{
+    put_number(text, b"", kept.number() as u64);
+    append(text, b" ");
+    put_positions(text, kept.cut().positions());
+    append(text, b"\n");
+}
+
+// Writes a line for each kept cut.
+fn write_kept<W: Sink>(kept: &[KeptCut], writer: &mut W) -> Result<(), DeviceErr>
+    requires { AllByRecursion (λ k. length k.cut ≤ most_threads) kept.now }
+    ensures ok { OnOk result (Appends (W.written writer.old) (W.written writer.new) (kept_text kept.now)) }
+    ensures stays { OnOk result (W.broken writer.new ≡ W.broken writer.old) }
+    ensures prefix { OnErr result (AppendsPrefix (W.written writer.old) (W.written writer.new) (kept_text kept.now)) }
+    ensures err { OnErr result (W.broken writer.new ≡ true) }
+{
+    for i in 0..kept.len() {
+        let mut text = Text::new();
+        put_kept(&mut text, &kept[i]);
+        write_all(writer, text.as_slice())?;
+    }
+    Ok(())
+}
+
+fn write_cuts<W: Sink>(debugger: &Debugger, writer: &mut W) -> Result<(), DeviceErr>
+    ensures ok { OnOk result (Appends (W.written writer.old) (W.written writer.new) (kept_text debugger.now.desk.kept)) }
+    ensures stays { OnOk result (W.broken writer.new ≡ W.broken writer.old) }
+    ensures prefix { OnErr result (AppendsPrefix (W.written writer.old) (W.written writer.new) (kept_text debugger.now.desk.kept)) }
+    ensures err { OnErr result (W.broken writer.new ≡ true) }
+{
+    debugger.fitted().image().entries();
+    write_kept(debugger.kept(), writer)
+}
+
 // The text by the threads and objects in hand.
 fn write_here<W: Sink>(
     debugger: &Debugger,
@@ -108,6 +163,9 @@ fn write_here<W: Sink>(
         Answer::Position => write_position(debugger, writer),
         Answer::Shown(show) => write_shown(debugger, *show, writer),
         Answer::Next(line) => write_all(writer, line.as_slice()),
+        Answer::Kept(number) => write_number(b"kept ", *number, writer),
+        Answer::Dropped(number) => write_number(b"dropped ", *number, writer),
+        Answer::KeptCuts => write_cuts(debugger, writer),
         Answer::Refused(refusal) => write_refusal(*refusal, writer),
         Answer::Bye => write_all(writer, b"bye\n"),
     }

@@ -6,8 +6,9 @@ ghost use Rattle.ir_debug.specs.Debugging.{Debugging, IsDebugging};
 use crate::answer::Answer;
 use crate::bringing::bring;
 use crate::destinations::{destination, first_cut};
+use crate::kept::{KeptCut, MOST_KEPT, forget, kept_cut};
 use crate::next::next_line;
-use ir_command::{Command, Move, Refusal, Show};
+use ir_command::{Command, Keeping, Move, Refusal, Show};
 use ir_cut::Cut;
 use ir_fit::Fitted;
 use ir_object::Gate;
@@ -25,25 +26,28 @@ pub struct Debugger {
     fitted: Fitted,
     at: Cut,
     fresh: bool,
+    kept: Vec<KeptCut>,
+    last_kept: u32,
     state: State,
 }
 
 impl Model for Debugger {
     ghost Value = { Debugging };
 
-    ghost view = { λ d. record { desk = record { fitted = d.fitted; at = d.at; fresh = d.fresh }; state = d.state } };
+    ghost view = { λ d. record { desk = record { fitted = d.fitted; at = d.at; fresh = d.fresh; kept = d.kept.items; last_kept = d.last_kept }; state = d.state } };
 
-    ghost invariant = { λ d. IsDebugging (record { desk = record { fitted = d.fitted; at = d.at; fresh = d.fresh }; state = d.state }) };
+    ghost invariant = { λ d. IsDebugging (record { desk = record { fitted = d.fitted; at = d.at; fresh = d.fresh; kept = d.kept.items; last_kept = d.last_kept }; state = d.state }) };
 }
 
 impl Debugger {
-    ghost use Rattle.std.specs.Prelude.{◌<◌, List, ℕ, None, false, length, IfOk, OnOk, OnErr};
+    ghost use Rattle.std.specs.Prelude.{◌<◌, ◌+◌, List, ℕ, None, Some, false, length, IfOk, OnOk, OnErr};
     ghost use Rattle.ir_cut.specs.Positions.{EachRun, IsConsistentCut, cut_of};
     ghost use Rattle.ir_command.specs.declared.command.Command.TheVariants as command;
     ghost use Rattle.ir_command.specs.declared.command.Show.TheVariants as show;
+    ghost use Rattle.ir_command.specs.declared.command.Keeping.TheVariants as keeping;
     ghost use Rattle.ir_command.specs.declared.refusal.Refusal.TheVariants as refusal;
     ghost use Rattle.ir_debug.specs.declared.answer.Answer.TheVariants as answer;
-    ghost use Rattle.ir_debug.specs.Machine.Desk.{IsDesk, desk_of, moved, spoken, threads_of};
+    ghost use Rattle.ir_debug.specs.Machine.Desk.{IsDesk, desk_of, moved, spoken, with_kept, without_kept, kept_cut, threads_of};
     ghost use Rattle.ir_debug.specs.Machine.Refusals.{refusal_of};
     ghost use Rattle.ir_debug.specs.Machine.Moves.{Leads};
     ghost use Rattle.ir_debug.specs.Machine.Shown.{shown};
@@ -59,11 +63,15 @@ impl Debugger {
     {
         fitted.known();
         let at = first_cut(alloc, &fitted)?;
+        let mut kept = Vec::with_capacity(alloc, MOST_KEPT + 1)?;
+        kept.push(KeptCut::new(0, at.copy()?))?;
         let state = State::start(alloc, &fitted)?;
         Ok(Debugger {
             fitted,
             at,
             fresh: true,
+            kept,
+            last_kept: 0,
             state,
         })
     }
@@ -81,6 +89,14 @@ impl Debugger {
         ensures { result.now ≡ self.now.desk.at }
     {
         &self.at
+    }
+
+    /// The kept cuts, the last that was kept at the end.
+    pub fn kept(&self) -> &[KeptCut]
+        ensures value { result.now ≡ self.now.desk.kept }
+        ensures desk { IsDesk self.now.desk }
+    {
+        self.kept.as_slice()
     }
 
     // The threads and objects in hand, which stand at the cut only where an answer needs them.
@@ -143,7 +159,7 @@ impl Debugger {
         gate: &G,
     ) -> Result<(), AllocError>
         requires { refusal_of self.old.desk (command.Move to) ≡ None }
-        ensures ok { OnOk result ((cut : List ℕ) × EachRun self.old.desk.fitted (λ run. Leads run self.old.desk to cut) × (self.new.desk ≡ moved self.old.desk cut)) }
+        ensures ok { OnOk result ((cut : List ℕ) × EachRun self.old.desk.fitted (λ run. Leads run self.old.desk.fitted self.old.desk.at to cut) × (self.new.desk ≡ moved self.old.desk cut)) }
         ensures err { OnErr result (self.new.desk ≡ spoken self.old.desk) }
     {
         self.fresh = false;
@@ -212,14 +228,87 @@ impl Debugger {
         }
     }
 
+    // Keeps the cut, and answers its number. Numbers that ran out count as memory.
+    fn keep(&mut self) -> Result<u32, AllocError>
+        requires { refusal_of self.old.desk (command.Keeping keeping.Keep) ≡ None }
+        ensures number { IfOk result (λ n. n ≡ self.old.desk.last_kept + 1) }
+        ensures ok { OnOk result (self.new.desk ≡ with_kept self.old.desk) }
+        ensures err { OnErr result (self.new.desk ≡ spoken self.old.desk) }
+    {
+        self.fresh = false;
+        let number = self.last_kept.checked_add(1).ok_or(AllocError)?;
+        self.kept.push(KeptCut::new(number, self.at.copy()?))?;
+        self.last_kept = number;
+        Ok(number)
+    }
+
+    // Goes to a kept cut.
+    fn load<R: Threads + Clock + Sync, G: Gate + Sync>(
+        &mut self,
+        rt: &R,
+        alloc: Global,
+        number: u32,
+        gate: &G,
+    ) -> Result<(), AllocError>
+        requires { refusal_of self.old.desk (command.Keeping (keeping.Load number)) ≡ None }
+        ensures ok { OnOk result ((cut : List ℕ) × (kept_cut self.old.desk.kept number ≡ Some cut) × (self.new.desk ≡ moved self.old.desk cut)) }
+        ensures err { OnErr result (self.new.desk ≡ spoken self.old.desk) }
+    {
+        self.fresh = false;
+        let cut = kept_cut(self.kept.as_slice(), number).unwrap().copy()?;
+        self.go_to(rt, alloc, cut, gate)
+    }
+
+    // Keeps a cut no longer.
+    fn drop_kept(&mut self, number: u32)
+        ensures { self.new.desk ≡ without_kept self.old.desk number }
+    {
+        self.fresh = false;
+        forget(&mut self.kept, number);
+    }
+
+    // The answer to a command about kept cuts that isn't refused.
+    fn answer_keeping<R: Threads + Clock + Sync, G: Gate + Sync>(
+        &mut self,
+        rt: &R,
+        alloc: Global,
+        asked: Keeping,
+        gate: &G,
+    ) -> Answer
+        requires { refusal_of self.old.desk (command.Keeping asked) ≡ None }
+        ensures fitted { self.new.desk.fitted ≡ self.old.desk.fitted }
+        ensures answers { EachRun self.old.desk.fitted (λ run. AnswersBy None run self.old.desk (command.Keeping asked) (answer_text run self.new.desk result) self.new.desk) }
+        ensures last { IsLast self.new result }
+    {
+        match asked {
+            Keeping::Keep => match self.keep() {
+                Ok(number) => Answer::Kept(number),
+                Err(AllocError) => self.refuse(Refusal::NoMemory),
+            },
+            Keeping::Load { number } => match self.load(rt, alloc, number, gate) {
+                Ok(()) => Answer::Position,
+                Err(AllocError) => self.refuse(Refusal::NoMemory),
+            },
+            Keeping::Drop { number } => {
+                self.drop_kept(number);
+                Answer::Dropped(number)
+            }
+            Keeping::Kept => {
+                self.fresh = false;
+                Answer::KeptCuts
+            }
+        }
+    }
+
     /// Carries out a command. A move brings the threads to the cut to which it leads: forwards from where they stand, on
     /// threads of the system's, and where one has to go back, from the start anew. Before something is shown, threads
     /// that a move left elsewhere for lack of memory are brought to the cut.
     ///
     /// What the answer tells is that of every run of the guest with the trace. A command is refused that names a thread
-    /// or an object that there isn't, or bytes that aren't all in the code or in private memory; and where memory runs
-    /// out, which after `open` and after a move happens to no command that shows something but `next`. A refusal leaves
-    /// all positions as they were.
+    /// or an object that there isn't, the number of no kept cut, or bytes that aren't all in the code or in private memory;
+    /// that would keep a 65th cut beside the start; and where memory runs out, which after `open` and after a move happens
+    /// to no command that shows something but `next`, and never to `drop` and `kept`. A refusal leaves all positions and
+    /// the kept cuts as they were.
     pub fn command<R: Threads + Clock + Sync, G: Gate + Sync>(
         &mut self,
         rt: &R,
@@ -237,6 +326,7 @@ impl Debugger {
         match *command {
             Command::Move(to) => self.answer_move(rt, alloc, to, gate),
             Command::Show(show) => self.answer_show(rt, alloc, show, gate),
+            Command::Keeping(asked) => self.answer_keeping(rt, alloc, asked, gate),
             Command::Position => {
                 self.fresh = false;
                 Answer::Position

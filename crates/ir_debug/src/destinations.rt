@@ -1,6 +1,6 @@
 //! The cuts to which moves lead.
 
-ghost use Rattle.std.specs.Prelude.{◌≡◌, ◌<◌, Bool, true, min, nat_lt, length, IfOk};
+ghost use Rattle.std.specs.Prelude.{◌≡◌, ◌<◌, true, min, nat_lt, length, IfOk};
 ghost use Rattle.ir_cut.specs.Positions.{EachRun, IsConsistentCut};
 ghost use Rattle.ir_debug.specs.Machine.Desk.{threads_of, last_of, first_cut, last_cut};
 ghost use Rattle.ir_debug.specs.Machine.Refusals.{if_some, thread_moved};
@@ -67,7 +67,7 @@ fn to_position(
 ) -> Result<Cut, AllocError>
     requires cut { (length at.now ≡ threads_of fitted.now) × IsConsistentCut fitted.now at.now }
     requires thread { t < threads_of fitted.now }
-    ensures leads { IfOk result (λ c. (fresh : Bool) → EachRun fitted.now (λ run. ToPosition run (record { fitted = fitted.now; at = at.now; fresh = fresh }) t (min position (last_of fitted.now t)) c)) }
+    ensures leads { IfOk result (λ c. EachRun fitted.now (λ run. ToPosition run fitted.now at.now t (min position (last_of fitted.now t)) c)) }
     ensures size { IfOk result (λ c. length c ≡ threads_of fitted.now) }
     ensures consistent { IfOk result (λ c. IsConsistentCut fitted.now c) }
 {
@@ -86,7 +86,7 @@ fn to_position(
 pub fn destination(alloc: Global, fitted: &Fitted, at: &Cut, to: Move) -> Result<Cut, AllocError>
     requires cut { (length at.now ≡ threads_of fitted.now) × IsConsistentCut fitted.now at.now }
     requires thread { if_some (thread_moved to) (λ t. nat_lt t (threads_of fitted.now)) ≡ true }
-    ensures leads { IfOk result (λ c. (fresh : Bool) → EachRun fitted.now (λ run. Leads run (record { fitted = fitted.now; at = at.now; fresh = fresh }) to c)) }
+    ensures leads { IfOk result (λ c. EachRun fitted.now (λ run. Leads run fitted.now at.now to c)) }
     ensures size { IfOk result (λ c. length c ≡ threads_of fitted.now) }
     ensures consistent { IfOk result (λ c. IsConsistentCut fitted.now c) }
 {

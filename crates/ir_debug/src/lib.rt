@@ -7,11 +7,10 @@ mod answering;
 mod bringing;
 mod bytes;
 mod debugger;
-#[cfg(test)]
-mod debugger_tests;
 mod destinations;
 mod ended;
 mod events;
+mod kept;
 mod next;
 mod objects;
 mod open;

@@ -1,11 +1,12 @@
 //! The commands that are refused, whatever the run.
 
 ghost use Rattle.std.specs.Prelude.{◌≡◌};
-ghost use Rattle.ir_debug.specs.Machine.Refusals.{thread_moved, thread_shown, thread_named, object_named, has_address};
+ghost use Rattle.ir_debug.specs.Machine.Refusals.{thread_moved, thread_shown, thread_named, object_named, has_number, has_address, has_place};
 
 use crate::debugger::Debugger;
 use crate::destinations::thread_count;
-use ir_command::{Command, Move, Refusal, Show};
+use crate::kept::{KeptCut, MOST_KEPT, kept_cut};
+use ir_command::{Command, Keeping, Move, Refusal, Show};
 use ir_image::{CODE_START, Image, MEMORY_SIZE, MEMORY_START, OBJECT_WORDS};
 
 /// The thread that a move names.
@@ -40,7 +41,7 @@ fn thread_named(command: &Command) -> Option<u32>
     match *command {
         Command::Move(to) => thread_moved(to),
         Command::Show(show) => thread_shown(show),
-        Command::Position | Command::Quit => None,
+        Command::Keeping(_) | Command::Position | Command::Quit => None,
     }
 }
 
@@ -51,6 +52,29 @@ fn object_named(command: &Command) -> Option<u32>
     match *command {
         Command::Show(Show::Object { object }) => Some(object),
         _ => None,
+    }
+}
+
+// Whether a cut is kept by the number that a command names; the start isn't dropped.
+fn has_number(kept: &[KeptCut], command: &Command) -> bool
+    ensures { result ≡ has_number kept.now command.now }
+{
+    match *command {
+        Command::Keeping(Keeping::Load { number }) => kept_cut(kept, number).is_some(),
+        Command::Keeping(Keeping::Drop { number }) => {
+            number != 0 && kept_cut(kept, number).is_some()
+        }
+        _ => true,
+    }
+}
+
+// Whether there is place for the cut that a command keeps.
+fn has_place(kept: &[KeptCut], command: &Command) -> bool
+    ensures { result ≡ has_place kept.now command.now }
+{
+    match *command {
+        Command::Keeping(Keeping::Keep) => kept.len() <= MOST_KEPT,
+        _ => true,
     }
 }
 
@@ -72,7 +96,8 @@ fn has_address(image: &Image, command: &Command) -> bool
 impl Debugger {
     ghost use Rattle.ir_debug.specs.Machine.Refusals.{refusal_of};
 
-    // Why a command is refused, if it is: its thread, its object or its bytes aren't there, in this order.
+    // Why a command is refused, if it is: its thread, its object, its kept cut or its bytes aren't there, or no cut more has
+    // place, in this order.
     #[tactic(auto, unfolding(crate::specs::Machine::Refusals::refusal_of))]
     pub(crate) fn refusal_of(&self, command: &Command) -> Option<Refusal>
         ensures { result ≡ refusal_of self.now.desk command.now }
@@ -89,8 +114,14 @@ impl Debugger {
                 return Some(Refusal::NoSuchObject);
             }
         }
+        if !has_number(self.kept(), command) {
+            return Some(Refusal::NoSuchNumber);
+        }
         if !has_address(image, command) {
             return Some(Refusal::BadAddress);
+        }
+        if !has_place(self.kept(), command) {
+            return Some(Refusal::Full);
         }
         None
     }

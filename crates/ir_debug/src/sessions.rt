@@ -2,7 +2,7 @@
 
 ghost use Rattle.std.specs.Prelude.{◌≡◌, ◌≤◌, true, false, Err, IfSome};
 ghost use Rattle.ir_stream.specs.Devices.{Reads};
-ghost use Rattle.ir_debug.specs.Session.{IfServed, IfRefused, Session, AnsweredWhole, AnsweredInPart, ended_by};
+ghost use Rattle.ir_debug.specs.Session.{most_input, IfServed, IfRefused, Session, AnsweredWhole, AnsweredInPart, ended_by};
 
 use crate::announcing::announce;
 use crate::debugger::Debugger;
@@ -51,7 +51,7 @@ pub fn session_up_to<T: Threads + Clock + Sync, R: Source, W: Sink, G: Gate + Sy
     writer: &mut W,
     gate: &G,
 ) -> Result<Ended, SessionErr>
-    requires limit { limit ≤ 1073741824 }
+    requires limit { limit ≤ most_input }
     requires reads { R.broken reader.old ≡ false }
     requires writes { W.broken writer.old ≡ false }
     // Where no device fails and memory doesn't run out, the bytes that were read lead to the result and to what was
@@ -105,18 +105,18 @@ pub fn session<T: Threads + Clock + Sync, R: Source, W: Sink, G: Gate + Sync>(
 ) -> Result<Ended, SessionErr>
     requires reads { R.broken reader.old ≡ false }
     requires writes { W.broken writer.old ≡ false }
-    ensures ended { IfServed result (Reads 1073741824 (R.left reader.old) (R.left reader.new)
-        (Session image.now trace.now 1073741824 result (W.written writer.old) (W.written writer.new))) }
+    ensures ended { IfServed result (Reads most_input (R.left reader.old) (R.left reader.new)
+        (Session image.now trace.now most_input result (W.written writer.old) (W.written writer.new))) }
     ensures works { IfServed result ((R.broken reader.new ≡ false) × (W.broken writer.new ≡ false)) }
     ensures known { IfServed result (IfSome (R.left reader.old)
-        (Session image.now trace.now 1073741824 result (W.written writer.old) (W.written writer.new))) }
+        (Session image.now trace.now most_input result (W.written writer.old) (W.written writer.new))) }
     ensures unread { IfRefused result (reader.new ≡ reader.old) }
     ensures no_memory { result ≡ Err SessionErr.NoMem → (reader.new ≡ reader.old) × (writer.new ≡ writer.old) }
     ensures read { result ≡ Err SessionErr.Read → (R.broken reader.new ≡ true) × (W.broken writer.new ≡ false)
-        × Reads 1073741824 (R.left reader.old) (R.left reader.new)
+        × Reads most_input (R.left reader.old) (R.left reader.new)
         (AnsweredWhole image.now trace.now (W.written writer.old) (W.written writer.new)) }
     ensures write { result ≡ Err SessionErr.Write → (R.broken reader.new ≡ false) × (W.broken writer.new ≡ true)
-        × Reads 1073741824 (R.left reader.old) (R.left reader.new)
+        × Reads most_input (R.left reader.old) (R.left reader.new)
         (AnsweredInPart image.now trace.now (R.left reader.new) (W.written writer.old) (W.written writer.new)) }
 {
     session_up_to(rt, alloc, MOST_INPUT, image, trace, reader, writer, gate)

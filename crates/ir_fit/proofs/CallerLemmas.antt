@@ -4,4 +4,4 @@ pub use Rattle.ir_fit.proofs.Guests.{starts}
 -- what is seen of a thread's next step, by what the thread asks
 pub use Rattle.ir_fit.proofs.Seen.{end_asked, ends_asked, call_follows, found_open, found_shut, entry_follows, entry_waits, asks_env, asks_entry, call_disagrees, entry_disagrees, seen_stops}
 -- where the entries and leaves of a run stand: the positions that are kept, against what the steps tell
-pub use Rattle.ir_fit.proofs.Listed.{at_get, get_at, idle_trail, tells_below, entries_long, entry_tells, entry_of, entries_rise, leave_tells, leave_of, leaves_rise}
+pub use Rattle.ir_fit.proofs.Listed.{at_get, get_at, idle_trail, emits_below, entries_long, entry_emits, entry_of, entries_rise, leave_emits, leave_of, leaves_rise}

@@ -11,12 +11,12 @@ use Rattle.ir_runs.specs.Run.{join_if}
 use Rattle.ir_log.specs.Logging.{label_of}
 use Rattle.ir_log.specs.declared.event.Event.{Event}
 use Rattle.ir_log.specs.declared.event.Event.TheVariants.{Answer, Read, Write}
-use Rattle.ir_trace.specs.Told.{recorded_thread}
-use Rattle.ir_fit.proofs.Listed.{at_get, get_at, tells_below, entries_long, entry_tells, entry_of, leave_tells, leave_of}
+use Rattle.ir_trace.specs.TraceOf.{recorded_thread}
+use Rattle.ir_fit.proofs.Listed.{at_get, get_at, emits_below, entries_long, entry_emits, entry_of, leave_emits, leave_of}
 use Rattle.ir_runs.specs.Cuts.{At}
 use Rattle.ir_fit.specs.Fit.{FittedTrace}
 use Rattle.ir_fit.specs.Places.{placed_at}
-use Rattle.ir_fit.specs.Visits.{TellsIn, OnlyLeaves, AllLeaves, OnlyEntries, AllEntries, Visit, left_by, entered_by, of_threads, all_left, all_entered, same_access, picked, Listing, listed, IsListing}
+use Rattle.ir_fit.specs.Visits.{EmitsIn, OnlyLeaves, AllLeaves, OnlyEntries, AllEntries, Visit, left_by, entered_by, of_threads, all_left, all_entered, same_access, picked, Listing, listed, IsListing}
 use Rattle.ir_fit.specs.declared.leave.Leave.{Leave}
 use Rattle.ir_fit.specs.declared.place.Place.{Place}
 
@@ -136,10 +136,10 @@ of_entered t (Read o w ∷ es) (k ∷ ks) (suc j) v h = behind_entered (Read o w
 of_entered t (Write o w l ∷ es) (k ∷ ks) zero v h = prefix_entered (Write o w l) es k ks t o Writing w l v refl h
 of_entered t (Write o w l ∷ es) (k ∷ ks) (suc j) v h = behind_entered (Write o w l) es k ks t v (of_entered t es ks j v h)
 
--- the entry that an event tells of
-abbrev told_visit : ℕ → ℕ → Label → Visit
-told_visit t k (In o a w l) = (o, a, record { position = k; version = w; thread = t })
-told_visit t k _ = (0, Reading, record { position = k; version = 0; thread = t })
+-- the entry that an event emits of
+abbrev emitted_visit : ℕ → ℕ → Label → Visit
+emitted_visit t k (In o a w l) = (o, a, record { position = k; version = w; thread = t })
+emitted_visit t k _ = (0, Reading, record { position = k; version = 0; thread = t })
 
 to_entered : (t : ℕ) (es : List Event) (ks : List ℕ) (i : ℕ) (e : Event) (k o : ℕ) (a : Access) (w l : ℕ) → At es i e → At ks i k
     → label_of e ≡ In o a w l → Contains (entered_by t es ks) (o, a, record { position = k; version = w; thread = t })
@@ -147,9 +147,9 @@ to_entered t [] ks i e k o a w l at place is = absurd at
 to_entered t (d ∷ es) [] i e k o a w l at place is = absurd place
 to_entered t (Answer kind value ∷ es) (q ∷ ks) zero e k o a w l at place is = absurd (cc (ap label_of at ∙ is))
 to_entered t (Read p x ∷ es) (q ∷ ks) zero e k o a w l at place is =
-    (0, omega arith, ap (told_visit t q) (ap label_of at ∙ is) ∙ ap (λ z. (o, a, record { position = z; version = w; thread = t })) place)
+    (0, omega arith, ap (emitted_visit t q) (ap label_of at ∙ is) ∙ ap (λ z. (o, a, record { position = z; version = w; thread = t })) place)
 to_entered t (Write p x r ∷ es) (q ∷ ks) zero e k o a w l at place is =
-    (0, omega arith, ap (told_visit t q) (ap label_of at ∙ is) ∙ ap (λ z. (o, a, record { position = z; version = w; thread = t })) place)
+    (0, omega arith, ap (emitted_visit t q) (ap label_of at ∙ is) ∙ ap (λ z. (o, a, record { position = z; version = w; thread = t })) place)
 to_entered t (Answer kind value ∷ es) (q ∷ ks) (suc i) e k o a w l at place is = to_entered t es ks i e k o a w l at place is
 to_entered t (Read p x ∷ es) (q ∷ ks) (suc i) e k o a w l at place is =
     Contains-append_right ((p, Reading, record { position = q; version = x; thread = t }) ∷ []) (entered_by t es ks) _
@@ -187,21 +187,21 @@ only_leaves f x is o l a v ps found h p c =
     let at = contains_at (left_by t ls) (o, a, p) some.2 in
     let leave = of_left t ls at.0 (o, a, p) at.1 in
     let got = get_at ls at.0 leave.0 leave.1 in
-    let told = subst (λ (e : Leave). TellsIn f h t e.position (Out e.object e.access e.version)) (got.1 leave.0)
-    (leave_tells f h t (let lt = some.1 in let n = h.each in omega (arith, lt, n)) at.0 leave.0 got.0) in (
+    let emitted = subst (λ (e : Leave). EmitsIn f h t e.position (Out e.object e.access e.version)) (got.1 leave.0)
+    (leave_emits f h t (let lt = some.1 in let n = h.each in omega (arith, lt, n)) at.0 leave.0 got.0) in (
       q.1,
-      subst (λ w. TellsIn f h p.thread p.position (Out o a w)) q.1
-          (subst (λ (z : Visit). TellsIn f h z.2.thread z.2.position (Out z.0 z.1 z.2.version)) leave.2 told),
+      subst (λ w. EmitsIn f h p.thread p.position (Out o a w)) q.1
+          (subst (λ (z : Visit). EmitsIn f h z.2.thread z.2.position (Out z.0 z.1 z.2.version)) leave.2 emitted),
     )
 
 pub all_leaves : (f : FittedTrace) (x : Listing) → IsListing (all_left f.placed) x → (o : ℕ) → o < 2 ^ 8
     → (a : Access) (v : ℕ) (ps : List Place) → ((p : Place) → Contains (listed x o a) p → p.version ≡ v → Contains ps p)
     → AllLeaves f o a v ps
-all_leaves f x is o l a v ps found h t k told =
+all_leaves f x is o l a v ps found h t k emitted =
     let p : Place = record { position = k; version = v; thread = t } in
-    let below = tells_below f h t k (Out o a v) told in
+    let below = emits_below f h t k (Out o a v) emitted in
     let ls : List Leave = (placed_at f.placed t).leaves in
-    let leave = leave_of f h t k o a v told in
+    let leave = leave_of f h t k o a v emitted in
     let e : Leave = record { position = k; object = o; access = a; version = v } in
     let at : At (left_by t ls) leave.0 (o, a, p) =
     to_left t ls leave.0 e (subst (At ls leave.0) (leave.2 e) (at_get ls leave.0 e leave.1)) in
@@ -223,28 +223,28 @@ only_entries f x is o l a v ps found h p c =
     let (i, e, event, place, thread, (n, label)) = of_entered t es ks at.0 (o, a, p) at.1 in
     let got = get_at es i e event in
     let stands = get_at ks i p.position place in
-    let told : TellsIn f h t (get_or ks i 0) (label_of (get_or es i e)) =
-    entry_tells f h t (let lt = some.1 in let m = h.each in omega (arith, lt, m)) i e got.0 in
-    let here : TellsIn f h t p.position (In o a p.version n) =
-    subst (λ k. TellsIn f h t k (In o a p.version n)) (stands.1 0)
-    (subst (TellsIn f h t (get_or ks i 0)) (ap label_of (got.1 e) ∙ label) told) in (
+    let emitted : EmitsIn f h t (get_or ks i 0) (label_of (get_or es i e)) =
+    entry_emits f h t (let lt = some.1 in let m = h.each in omega (arith, lt, m)) i e got.0 in
+    let here : EmitsIn f h t p.position (In o a p.version n) =
+    subst (λ k. EmitsIn f h t k (In o a p.version n)) (stands.1 0)
+    (subst (EmitsIn f h t (get_or ks i 0)) (ap label_of (got.1 e) ∙ label) emitted) in (
       q.1,
       (
         n,
-        subst (λ w. TellsIn f h p.thread p.position (In o a w n)) q.1
-            (subst (λ u. TellsIn f h u p.position (In o a p.version n)) (sym thread) here),
+        subst (λ w. EmitsIn f h p.thread p.position (In o a w n)) q.1
+            (subst (λ u. EmitsIn f h u p.position (In o a p.version n)) (sym thread) here),
       ),
     )
 
 pub all_entries : (f : FittedTrace) (x : Listing) → IsListing (all_entered f.recorded f.placed) x → (o : ℕ) → o < 2 ^ 8
     → (a : Access) (v : ℕ) (ps : List Place) → ((p : Place) → Contains (listed x o a) p → p.version ≡ v → Contains ps p)
     → AllEntries f o a v ps
-all_entries f x is o l a v ps found h t k n told =
+all_entries f x is o l a v ps found h t k n emitted =
     let p : Place = record { position = k; version = v; thread = t } in
-    let below = tells_below f h t k (In o a v n) told in
+    let below = emits_below f h t k (In o a v n) emitted in
     let es : List Event = (recorded_thread f.recorded t).events in
     let ks : List ℕ = (placed_at f.placed t).entries in
-    let (i, li, place, label) = entry_of f h t k o a v n told in
+    let (i, li, place, label) = entry_of f h t k o a v n emitted in
     let d : Event = Read 0 0 in
     let at : At ks i k = subst (At ks i) place (at_get ks i 0 (let m = entries_long f h t below in omega (arith, li, m))) in
     found p (listed_all (all_entered f.recorded f.placed) x is o l a p

@@ -1,6 +1,7 @@
 -- Whether a recorded trace is that of a run of a guest's, by the run that follows it furthest.
 use Rattle.std.proofs.Common.{◌≡◌, ◌≢◌, ℕ, zero, suc, ◌<◌, ◌≤◌, true, List, [], ◌∷◌, ◌++◌, ◌⊎◌, length, map, Some, refl, sym, ap, ◌∙◌, subst, arith, inl, inr, get_or}
 use Rattle.std.specs.Prelude.{slice_get}
+use Rattle.std.proofs.lemmas.List.{length-map}
 use Rattle.std.specs.List.{AllByRecursion}
 use Rattle.std.proofs.lemmas.Bool.{cases_lt}
 use Rattle.std.proofs.lemmas.Bool.Decides.{nat_tests}
@@ -18,7 +19,7 @@ use Rattle.ir_log.specs.Logging.{label_of}
 use Rattle.ir_log.specs.declared.event.Event.{Event}
 use Rattle.ir_log.specs.declared.event.Event.TheVariants.{Answer, Read, Write}
 use Rattle.ir_trace.specs.Recorded.{Recorded, RecordedThread, IsRecorded, IsRecordedThread, IsEvent, IsResult}
-use Rattle.ir_trace.specs.Told.{absent, trace_of}
+use Rattle.ir_trace.specs.TraceOf.{absent, trace_of}
 use Rattle.ir_coherence.proofs.CallerLemmas.{coherent_unbroken}
 use Rattle.ir_fit.proofs.Guests.{starts, lives}
 use Rattle.ir_coherence.specs.Breaking.{IsFirstBreak}
@@ -27,7 +28,8 @@ use Rattle.ir_runs.specs.Cuts.{At}
 use Rattle.ir_fit.specs.Fit.{HasHeader, IsRunOf, HasRun, GoesFurthest, AreVerdicts, IsRefused, BreaksBy}
 use Rattle.ir_fit.specs.Follower.{IsFollowed, AreStanding}
 use Rattle.ir_runs.specs.Following as following
-use Rattle.ir_fit.specs.Places.{Placed}
+use Rattle.ir_fit.specs.Places.{placed_at}
+use Rattle.ir_fit.specs.Growing.{Growing, grown, growing_at}
 use Rattle.ir_runs.specs.Standing.{StandsAs}
 use Rattle.ir_runs.specs.Verdicts as verdicts
 use Rattle.ir_runs.specs.Verdicts.{HoldsEvents, IsWhole}
@@ -175,7 +177,7 @@ breaks_refuse g r header (Refused (verdict.Incoherent t i c)) b =
 
 -- not all threads are the same at the end of the run that was followed
 pub threads_refuse : (g : Guest) (r : Recorded) → IsRecorded r → HasHeader g r → IsCoherent (length g.entries) (trace_of r)
-    → (f : Flat) (ps : List Placed) → IsFollowed g r f ps → (vs : List ThreadVerdict) → length vs ≡ length f.threads → AreStanding r f ps vs
+    → (f : Flat) (ps : List Growing) → IsFollowed g r f ps → (vs : List ThreadVerdict) → length vs ≡ length f.threads → AreStanding r f ps vs
     → (t : ℕ) (v : ThreadVerdict) → slice_get vs t ≡ Some v → v ≢ Same
     → (HasHeader g r × IsCoherent (length g.entries) (trace_of r) × AreVerdicts g r vs) × ((run : List Step) → IsRunOf g r run → ⊥)
 threads_refuse g r is header co f ps followed vs each stand t v at ne =
@@ -183,11 +185,16 @@ threads_refuse g r is header co f ps followed vs each stand t v at ne =
     let both = verdicts_of g r is header co k.run k.follows vs (each ∙ k.threads) (stand g k) in
     ((header, co, both.1), none_of g r co k.run both.0 t v (stand g k t v at) ne)
 
+grown_at : (ps : List Growing) (t : ℕ) → placed_at (map grown ps) t ≡ grown (growing_at ps t)
+grown_at [] t = refl
+grown_at (x ∷ xs) zero = refl
+grown_at (x ∷ xs) (suc t) = grown_at xs t
+
 -- all are the same
-pub threads_accept : (g : Guest) (r : Recorded) → HasHeader g r → (f : Flat) (ps : List Placed) → IsFollowed g r f ps
+pub threads_accept : (g : Guest) (r : Recorded) → HasHeader g r → (f : Flat) (ps : List Growing) → IsFollowed g r f ps
     → length ps ≡ length f.threads → (vs : List ThreadVerdict) → length vs ≡ length f.threads → AreStanding r f ps vs
     → ((t : ℕ) (v : ThreadVerdict) → slice_get vs t ≡ Some v → v ≡ Same)
-    → HasRun (record { guest = g; recorded = r; placed = ps })
+    → HasRun (record { guest = g; recorded = r; placed = map grown ps })
 threads_accept g r header f ps followed placed vs each stand same =
     let k = followed.follower in
     record {
@@ -196,7 +203,7 @@ threads_accept g r header f ps followed placed vs each stand same =
           let v = there vs t (omega (arith, l, each, k.threads)) in
           subst (StandsAs (thread_machine g.code) (tables (start_flat g r.budget)) (trace_of r) k.run t) (same t v.0 v.1)
           (stand g k t v.0 v.1));
-      each = placed ∙ k.threads;
-      entries = k.placed;
-      leaves = k.left;
+      each = length-map ps grown ∙ placed ∙ k.threads;
+      entries = λ t l. ap (λ z. z.entries) (grown_at ps t) ∙ k.placed t l;
+      leaves = λ t l. ap (λ z. z.leaves) (grown_at ps t) ∙ k.left t l;
     }

@@ -15,12 +15,12 @@ use Rattle.ir_flat.proofs.CallerLemmas.{start_idle}
 use Rattle.ir_log.specs.Logging.{label_of}
 use Rattle.ir_log.specs.declared.event.Event.{Event}
 use Rattle.ir_log.specs.declared.event.Event.TheVariants as logged_event
-use Rattle.ir_trace.specs.Told.{recorded_thread}
+use Rattle.ir_trace.specs.TraceOf.{recorded_thread}
 use Rattle.ir_runs.proofs.CallerLemmas.{trail_other, below_idle}
 use Rattle.ir_runs.specs.Cuts.{At}
 use Rattle.ir_fit.specs.Fit.{FittedTrace, HasRun}
 use Rattle.ir_fit.specs.Places.{placed_at, place_if, places_from, leave_if, leaves_from}
-use Rattle.ir_fit.specs.Visits.{TellsIn}
+use Rattle.ir_fit.specs.Visits.{EmitsIn}
 use Rattle.ir_fit.specs.declared.leave.Leave.{Leave}
 
 -- ---- one step
@@ -50,7 +50,7 @@ places_long n (x ∷ xs) = elim (logs_or x.1) [
   | inr p ↦ ap length (p.place n (places_from (suc n) xs)) ∙ places_long (suc n) xs ∙ sym (ap length (p.event (events xs)))
 ]
 
--- the step at position k tells e, where the first of these stands at n
+-- the step at position k emits e, where the first of these stands at n
 abbrev StepAt : {T : Type 0} → ℕ → List (T × Label) → ℕ → Label → Type 0
 StepAt {T} n xs k e = (j : ℕ) × (k ≡ n + j) × ((x : T) × At xs j (x, e))
 
@@ -63,9 +63,9 @@ step_of_event : {T : Type 0} (n : ℕ) (xs : List (T × Label)) (i k : ℕ) (e :
 step_of_event n [] i k e h g = absurd h
 step_of_event n (x ∷ xs) zero k e h g = elim (logs_or x.1) [
   | inl l ↦
-      let tells : x.1 ≡ e = subst (λ es. At es 0 e) (l.event (events xs)) h in
+      let emits : x.1 ≡ e = subst (λ es. At es 0 e) (l.event (events xs)) h in
       let at : n ≡ k = subst (λ ks. At ks 0 k) (l.place n (places_from (suc n) xs)) g in
-      (0, sym at ∙ (let q : n ≡ n + 0 = omega arith in q), (x.0, ap (λ m. (x.0, m)) tells))
+      (0, sym at ∙ (let q : n ≡ n + 0 = omega arith in q), (x.0, ap (λ m. (x.0, m)) emits))
   | inr p ↦ onward n x xs k e (step_of_event (suc n) xs 0 k e (subst (λ es. At es 0 e) (p.event (events xs)) h)
       (subst (λ ks. At ks 0 k) (p.place n (places_from (suc n) xs)) g))
 ]
@@ -233,13 +233,13 @@ idle_trail m s n idle (e ∷ run) ok t l =
     trail_other m s e run t (λ q. absurd (omega (arith, q, l, g.0))) ∙ idle_trail m (after m s e) n g.1 run ok.1 t l
 
 -- only the guest's threads take steps
-pub tells_below : (f : FittedTrace) (h : HasRun f) (t k : ℕ) (e : Label) → TellsIn f h t k e → t < length f.guest.entries
-tells_below f h t k e told = elim (cases_lt t (length f.guest.entries)) [
+pub emits_below : (f : FittedTrace) (h : HasRun f) (t k : ℕ) (e : Label) → EmitsIn f h t k e → t < length f.guest.entries
+emits_below f h t k e emitted = elim (cases_lt t (length f.guest.entries)) [
   | inl l ↦ l
   | inr past ↦
       let none : trail_in f h t ≡ [] = idle_trail (thread_machine f.guest.code) (tables (start_flat f.guest f.recorded.budget))
       (length f.guest.entries) (start_idle f.guest f.recorded.budget) h.run h.whole.1.runs t past in
-      absurd (subst (λ xs. At xs k (told.0, e)) none told.1)
+      absurd (subst (λ xs. At xs k (emitted.0, e)) none emitted.1)
 ]
 
 -- a thread takes as many steps in the run as were recorded
@@ -249,12 +249,12 @@ pub steps_in : (f : FittedTrace) (h : HasRun f) (t : ℕ) → t < length f.guest
 steps_in f h t l = h.whole.1.steps t l
 
 -- no step stands past them
-pub tells_within : (f : FittedTrace) (h : HasRun f) (t k : ℕ) (e : Label) → TellsIn f h t k e → k < (recorded_thread f.recorded t).steps
-tells_within f h t k e told = subst (λ n. k < n) (steps_in f h t (tells_below f h t k e told))
-    (get_at (trail_in f h t) k (told.0, e) told.1).0
+pub emits_within : (f : FittedTrace) (h : HasRun f) (t k : ℕ) (e : Label) → EmitsIn f h t k e → k < (recorded_thread f.recorded t).steps
+emits_within f h t k e emitted = subst (λ n. k < n) (steps_in f h t (emits_below f h t k e emitted))
+    (get_at (trail_in f h t) k (emitted.0, e) emitted.1).0
 
-told_by : (f : FittedTrace) (h : HasRun f) (t k : ℕ) (e : Label) → StepAt 0 (trail_in f h t) k e → TellsIn f h t k e
-told_by f h t k e g = (g.2.0, subst (λ j. At (trail_in f h t) j (g.2.0, e)) (let q : g.0 ≡ k = omega (arith, g.1) in q) g.2.1)
+emitted_by : (f : FittedTrace) (h : HasRun f) (t k : ℕ) (e : Label) → StepAt 0 (trail_in f h t) k e → EmitsIn f h t k e
+emitted_by f h t k e g = (g.2.0, subst (λ j. At (trail_in f h t) j (g.2.0, e)) (let q : g.0 ≡ k = omega (arith, g.1) in q) g.2.1)
 
 -- a thread has as many positions as events
 pub entries_long : (f : FittedTrace) (h : HasRun f) (t : ℕ) → t < length f.guest.entries
@@ -262,11 +262,11 @@ pub entries_long : (f : FittedTrace) (h : HasRun f) (t : ℕ) → t < length f.g
 entries_long f h t l = ap length (h.entries t l) ∙ places_long 0 (trail_in f h t) ∙ ap length (h.whole.1.logs t l)
     ∙ length-map (recorded_thread f.recorded t).events label_of
 
--- the step at the position of event i tells event i
-pub entry_tells : (f : FittedTrace) (h : HasRun f) (t : ℕ) → t < length f.guest.entries → (i : ℕ) (d : Event)
+-- the step at the position of event i emits event i
+pub entry_emits : (f : FittedTrace) (h : HasRun f) (t : ℕ) → t < length f.guest.entries → (i : ℕ) (d : Event)
     → i < length (recorded_thread f.recorded t).events
-    → TellsIn f h t (get_or (placed_at f.placed t).entries i 0) (label_of (get_or (recorded_thread f.recorded t).events i d))
-entry_tells f h t l i d li =
+    → EmitsIn f h t (get_or (placed_at f.placed t).entries i 0) (label_of (get_or (recorded_thread f.recorded t).events i d))
+entry_emits f h t l i d li =
     let es : List Event = (recorded_thread f.recorded t).events in
     let k : ℕ = get_or (placed_at f.placed t).entries i 0 in
     let e : Label = label_of (get_or es i d) in
@@ -274,17 +274,17 @@ entry_tells f h t l i d li =
     (at_get (map label_of es) i e (let n = length-map es label_of in omega (arith, n, li))) in
     let place : At (placed_at f.placed t).entries i k =
     at_get (placed_at f.placed t).entries i 0 (let n = entries_long f h t l in omega (arith, n, li)) in
-    told_by f h t k e (step_of_event 0 (trail_in f h t) i k e (subst (λ xs. At xs i e) (sym (h.whole.1.logs t l)) event)
+    emitted_by f h t k e (step_of_event 0 (trail_in f h t) i k e (subst (λ xs. At xs i e) (sym (h.whole.1.logs t l)) event)
     (subst (λ xs. At xs i k) (h.entries t l) place))
 
 -- a step that is logged is an event's, at its position
-pub event_of : (f : FittedTrace) (h : HasRun f) (t k : ℕ) (e : Label) → ((es : List Label) → logged e es ≡ e ∷ es) → TellsIn f h t k e
+pub event_of : (f : FittedTrace) (h : HasRun f) (t k : ℕ) (e : Label) → ((es : List Label) → logged e es ≡ e ∷ es) → EmitsIn f h t k e
     → (i : ℕ) × (i < length (recorded_thread f.recorded t).events) × (get_or (placed_at f.placed t).entries i 0 ≡ k)
     × ((d : Event) → label_of (get_or (recorded_thread f.recorded t).events i d) ≡ e)
-event_of f h t k e logs told =
-    let l = tells_below f h t k e told in
+event_of f h t k e logs emitted =
+    let l = emits_below f h t k e emitted in
     let es : List Event = (recorded_thread f.recorded t).events in
-    let g = event_of_step 0 (trail_in f h t) k told.0 e logs told.1 in
+    let g = event_of_step 0 (trail_in f h t) k emitted.0 e logs emitted.1 in
     let event : At (map label_of es) g.0 e = subst (λ xs. At xs g.0 e) (h.whole.1.logs t l) g.1 in
     let place : At (placed_at f.placed t).entries g.0 (0 + k) = subst (λ xs. At xs g.0 (0 + k)) (sym (h.entries t l)) g.2 in
     let found = get_at (map label_of es) g.0 e event in
@@ -297,16 +297,16 @@ event_of f h t k e logs told =
     )
 
 -- each entry is an event's
-pub entry_of : (f : FittedTrace) (h : HasRun f) (t k o : ℕ) (a : Access) (v n : ℕ) → TellsIn f h t k (In o a v n)
+pub entry_of : (f : FittedTrace) (h : HasRun f) (t k o : ℕ) (a : Access) (v n : ℕ) → EmitsIn f h t k (In o a v n)
     → (i : ℕ) × (i < length (recorded_thread f.recorded t).events) × (get_or (placed_at f.placed t).entries i 0 ≡ k)
     × ((d : Event) → label_of (get_or (recorded_thread f.recorded t).events i d) ≡ In o a v n)
-entry_of f h t k o a v n told = event_of f h t k (In o a v n) (λ es. refl) told
+entry_of f h t k o a v n emitted = event_of f h t k (In o a v n) (λ es. refl) emitted
 
 -- so is each answer
-pub answer_of : (f : FittedTrace) (h : HasRun f) (t k : ℕ) (kind : EnvKind) (value : ℕ) → TellsIn f h t k (Answer kind value)
+pub answer_of : (f : FittedTrace) (h : HasRun f) (t k : ℕ) (kind : EnvKind) (value : ℕ) → EmitsIn f h t k (Answer kind value)
     → (i : ℕ) × (i < length (recorded_thread f.recorded t).events) × (get_or (placed_at f.placed t).entries i 0 ≡ k)
     × ((d : Event) → label_of (get_or (recorded_thread f.recorded t).events i d) ≡ Answer kind value)
-answer_of f h t k kind value told = event_of f h t k (Answer kind value) (λ es. refl) told
+answer_of f h t k kind value emitted = event_of f h t k (Answer kind value) (λ es. refl) emitted
 
 -- the positions of the events rise
 pub entries_rise : (f : FittedTrace) (h : HasRun f) (t : ℕ) → t < length f.guest.entries → (i j : ℕ) → i < j
@@ -318,27 +318,27 @@ pub entry_within : (f : FittedTrace) (h : HasRun f) (t : ℕ) → t < length f.g
     → i < length (placed_at f.placed t).entries → get_or (placed_at f.placed t).entries i 0 < (recorded_thread f.recorded t).steps
 entry_within f h t l i li =
     let d : Event = logged_event.Answer Clock 0 in
-    tells_within f h t (get_or (placed_at f.placed t).entries i 0) (label_of (get_or (recorded_thread f.recorded t).events i d))
-    (entry_tells f h t l i d (let n = entries_long f h t l in omega (arith, n, li)))
+    emits_within f h t (get_or (placed_at f.placed t).entries i 0) (label_of (get_or (recorded_thread f.recorded t).events i d))
+    (entry_emits f h t l i d (let n = entries_long f h t l in omega (arith, n, li)))
 
--- the step of leave i tells leave i
-pub leave_tells : (f : FittedTrace) (h : HasRun f) (t : ℕ) → t < length f.guest.entries → (i : ℕ) (d : Leave)
+-- the step of leave i emits leave i
+pub leave_emits : (f : FittedTrace) (h : HasRun f) (t : ℕ) → t < length f.guest.entries → (i : ℕ) (d : Leave)
     → i < length (placed_at f.placed t).leaves
-    → TellsIn f h t (get_or (placed_at f.placed t).leaves i d).position
+    → EmitsIn f h t (get_or (placed_at f.placed t).leaves i d).position
     (Out (get_or (placed_at f.placed t).leaves i d).object (get_or (placed_at f.placed t).leaves i d).access
     (get_or (placed_at f.placed t).leaves i d).version)
-leave_tells f h t l i d li =
+leave_emits f h t l i d li =
     let e : Leave = get_or (placed_at f.placed t).leaves i d in
-    told_by f h t e.position (Out e.object e.access e.version)
+    emitted_by f h t e.position (Out e.object e.access e.version)
     (step_of_leave 0 (trail_in f h t) i e (subst (λ xs. At xs i e) (h.leaves t l) (at_get (placed_at f.placed t).leaves i d li)))
 
 -- each leave is one of these
-pub leave_of : (f : FittedTrace) (h : HasRun f) (t k o : ℕ) (a : Access) (v : ℕ) → TellsIn f h t k (Out o a v)
+pub leave_of : (f : FittedTrace) (h : HasRun f) (t k o : ℕ) (a : Access) (v : ℕ) → EmitsIn f h t k (Out o a v)
     → (i : ℕ) × (i < length (placed_at f.placed t).leaves)
     × ((d : Leave) → get_or (placed_at f.placed t).leaves i d ≡ record { position = k; object = o; access = a; version = v })
-leave_of f h t k o a v told =
-    let l = tells_below f h t k (Out o a v) told in
-    let g = leave_of_step 0 (trail_in f h t) k told.0 o a v told.1 in
+leave_of f h t k o a v emitted =
+    let l = emits_below f h t k (Out o a v) emitted in
+    let g = leave_of_step 0 (trail_in f h t) k emitted.0 o a v emitted.1 in
     let at : At (placed_at f.placed t).leaves g.0 (leave_at (0 + k) o a v) =
     subst (λ xs. At xs g.0 (leave_at (0 + k) o a v)) (sym (h.leaves t l)) g.1 in
     let found = get_at (placed_at f.placed t).leaves g.0 (leave_at (0 + k) o a v) at in
@@ -363,4 +363,4 @@ pub leave_within : (f : FittedTrace) (h : HasRun f) (t : ℕ) → t < length f.g
     → i < length (placed_at f.placed t).leaves → (get_or (placed_at f.placed t).leaves i d).position < (recorded_thread f.recorded t).steps
 leave_within f h t l i d li =
     let e : Leave = get_or (placed_at f.placed t).leaves i d in
-    tells_within f h t e.position (Out e.object e.access e.version) (leave_tells f h t l i d li)
+    emits_within f h t e.position (Out e.object e.access e.version) (leave_emits f h t l i d li)

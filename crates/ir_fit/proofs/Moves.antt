@@ -17,18 +17,19 @@ use Rattle.ir_thread.specs.State as thread
 use Rattle.ir_thread.specs.Calls.{Permits}
 use Rattle.ir_runs.specs.declared.access.Access.{Access}
 use Rattle.ir_thread.specs.declared.ask.Ask.TheVariants.{Private, Done, Leave as Leaves}
-use Rattle.ir_runs.specs.Object.{target, told, reply, Admits}
+use Rattle.ir_runs.specs.Object.{target, emitted, reply, Admits}
 use Rattle.ir_flat.specs.Alone.{WentAlone}
 use Rattle.ir_flat.specs.Flat.{Flat, thread_of, tables, machine as machine_of, start_flat, start_threads, idle, IsFlat}
 use Rattle.ir_runs.specs.Run.{State, Step, act, asked, Can, after, label, end, trail, events, log, count}
 use Rattle.ir_flat.proofs.CallerLemmas.{tally, really_done, moved_thread, now_after, fresh, no_steps, threads_length, cells_length}
 use Rattle.ir_log.specs.Logging.{label_of}
 use Rattle.ir_trace.specs.Recorded.{Recorded, RecordedThread}
-use Rattle.ir_trace.specs.Told.{recorded_thread, absent, trace_of}
+use Rattle.ir_trace.specs.TraceOf.{recorded_thread, absent, trace_of}
 use Rattle.ir_fit.specs.Ahead.{steps_ahead, log_ahead, StepFollows, CanFollow, IsStopped, AgreesAhead, IsMove}
 use Rattle.ir_runs.specs.Coherent.{sum_below}
 use Rattle.ir_fit.specs.Follower.{IsFollower, IsFollowed, IsPlaced, GoesOn, all_ahead}
-use Rattle.ir_fit.specs.Places.{Placed, placed_at, placed_by, placed_more, none_placed, place_if, leave_if, places_of, leaves_of}
+use Rattle.ir_fit.specs.Places.{place_if, leave_if, places_of, leaves_of}
+use Rattle.ir_fit.specs.Growing.{Growing, growing_at, placed_by, placed_more, none_growing}
 use Rattle.ir_runs.specs.Following.{Check, unlogged, left_log, left_steps, Fits, Follows, Meets, closing}
 use Rattle.ir_runs.specs.Standing.{StandsAs}
 use Rattle.ir_runs.specs.Verdicts.{Agrees}
@@ -36,7 +37,7 @@ use Rattle.ir_runs.specs.declared.thread_verdict.ThreadVerdict.{ThreadVerdict}
 use Rattle.ir_runs.specs.declared.thread_verdict.ThreadVerdict.TheVariants.{Same, Disagrees, Starves}
 use Rattle.ir_fit.specs.declared.follower.look.Move.{Move}
 use Rattle.ir_fit.proofs.Placed.{AllQuiet, quiet_join, quiet_places, quiet_leaves, places_append, leaves_append, placed_entries, placed_leaves, placed_room, placed_count, placed_fewer}
-use Rattle.ir_fit.proofs.Seen.{end_asked, ends_asked, tells, events_within}
+use Rattle.ir_fit.proofs.Seen.{end_asked, ends_asked, emits, events_within}
 
 -- ---- what is left
 
@@ -63,12 +64,12 @@ abbrev pub GuestFollows : Guest → Recorded → List Step → Type 0
 GuestFollows guest r run = Follows (closing (guest_machine guest r) (trace_of r)) (guest_machine guest r) (guest_start guest r) (trace_of r)
     run
 
-pub made : (guest : Guest) (r : Recorded) (f : Flat) (ps : List Placed) (run : List Step) → GuestFollows guest r run
+pub made : (guest : Guest) (r : Recorded) (f : Flat) (ps : List Growing) (run : List Step) → GuestFollows guest r run
     → tables f ≡ end (guest_machine guest r) (guest_start guest r) run → f.code ≡ guest.code → length f.threads ≡ length guest.entries
     → length f.objects ≡ object_count guest
-    → ((t : ℕ) → t < length guest.entries → (placed_at ps t).entries ≡ places_of
+    → ((t : ℕ) → t < length guest.entries → (growing_at ps t).entries ≡ places_of
     (trail (guest_machine guest r) (guest_start guest r) run t))
-    → ((t : ℕ) → t < length guest.entries → (placed_at ps t).leaves ≡ leaves_of (trail (guest_machine guest r) (guest_start guest r) run t))
+    → ((t : ℕ) → t < length guest.entries → (growing_at ps t).leaves ≡ leaves_of (trail (guest_machine guest r) (guest_start guest r) run t))
     → IsFollower guest r f ps
 made guest r f ps run h ends code threads objects placed left = record {
   run = run;
@@ -90,18 +91,18 @@ made guest r f ps run h ends code threads objects placed left = record {
     from_zero : (a b : ℕ) → a ≡ 0 → a + b ≡ b
     from_zero a b e = omega (arith, e)
 
-pub started : (guest : Guest) (r : Recorded) (ps : List Placed)
-    → ((t : ℕ) → ((placed_at ps t).entries ≡ []) × ((placed_at ps t).leaves ≡ [])) → IsFollower guest r (start_flat guest r.budget) ps
+pub started : (guest : Guest) (r : Recorded) (ps : List Growing)
+    → ((t : ℕ) → ((growing_at ps t).entries ≡ []) × ((growing_at ps t).leaves ≡ [])) → IsFollower guest r (start_flat guest r.budget) ps
 started guest r ps none = made guest r (start_flat guest r.budget) ps [] (tt, λ t. tt)
     refl refl (threads_length guest r.budget 0 (length guest.entries)) (cells_length guest.words (object_count guest)) (λ t l. (none t).0)
     (λ t l. (none t).1)
 
-pub steps_are : (guest : Guest) (r : Recorded) (f : Flat) (ps : List Placed) → (k : IsFollower guest r f ps) → (t : ℕ)
+pub steps_are : (guest : Guest) (r : Recorded) (f : Flat) (ps : List Growing) → (k : IsFollower guest r f ps) → (t : ℕ)
     → steps_ahead r f t ≡ left_steps (trail (guest_machine guest r) (guest_start guest r) k.run t) ((trace_of r).steps t)
 steps_are guest r f ps k t = ap (λ n. (recorded_thread r t).steps - n) (k.steps t)
     ∙ sym (steps_over_is (trail (guest_machine guest r) (guest_start guest r) k.run t) ((trace_of r).steps t))
 
-pub log_is : (guest : Guest) (r : Recorded) (f : Flat) (ps : List Placed) → (k : IsFollower guest r f ps) → (t : ℕ)
+pub log_is : (guest : Guest) (r : Recorded) (f : Flat) (ps : List Growing) → (k : IsFollower guest r f ps) → (t : ℕ)
     → log_ahead r f t ≡ left_log (trail (guest_machine guest r) (guest_start guest r) k.run t) ((trace_of r).logs t)
 log_is guest r f ps k t = ap (λ n. drop n (map label_of (recorded_thread r t).events)) (k.events t)
     ∙ sym (log_over_is (closing (guest_machine guest r) (trace_of r) t) ((trace_of r).steps t) ((trace_of r).logs t)
@@ -112,7 +113,7 @@ abbrev pub Of : Type 1
 Of = Machine thread.State → State thread.State → ℕ → List Label → Type 0
 
 -- holds at the end of the run
-pub there : (guest : Guest) (r : Recorded) (f : Flat) (ps : List Placed) → (k : IsFollower guest r f ps) → (t : ℕ) (P : Of)
+pub there : (guest : Guest) (r : Recorded) (f : Flat) (ps : List Growing) → (k : IsFollower guest r f ps) → (t : ℕ) (P : Of)
     → P (machine_of f) (tables f) (steps_ahead r f t) (log_ahead r f t)
     → P (guest_machine guest r) (end (guest_machine guest r) (guest_start guest r) k.run)
     (left_steps (trail (guest_machine guest r) (guest_start guest r) k.run t) ((trace_of r).steps t))
@@ -125,7 +126,7 @@ there guest r f ps k t P h =
     (subst (λ z. P m z (steps_ahead r f t) (log_ahead r f t)) k.ends
     (subst (λ c. P (thread_machine c) (tables f) (steps_ahead r f t) (log_ahead r f t)) k.code h)))
 
-pub back : (guest : Guest) (r : Recorded) (f : Flat) (ps : List Placed) → (k : IsFollower guest r f ps) → (t : ℕ) (P : Of)
+pub back : (guest : Guest) (r : Recorded) (f : Flat) (ps : List Growing) → (k : IsFollower guest r f ps) → (t : ℕ) (P : Of)
     → P (guest_machine guest r) (end (guest_machine guest r) (guest_start guest r) k.run)
     (left_steps (trail (guest_machine guest r) (guest_start guest r) k.run t) ((trace_of r).steps t))
     (left_log (trail (guest_machine guest r) (guest_start guest r) k.run t) ((trace_of r).logs t))
@@ -141,16 +142,16 @@ back guest r f ps k t P h =
 -- ---- one step more
 
 -- what is kept after a step, of the thread that takes it and of another
-module _ (guest : Guest) (r : Recorded) (f : Flat) (ps qs : List Placed) (n : Move) (move : IsMove r f n)
+module _ (guest : Guest) (r : Recorded) (f : Flat) (ps qs : List Growing) (n : Move) (move : IsMove r f n)
     (each : length ps ≡ length f.threads) (more : qs ≡ placed_more f ps n.thread n.asked) (k : IsFollower guest r f ps) where
-  kept_own : placed_at qs n.thread ≡ placed_by f n.thread (placed_at ps n.thread) n.asked
-  kept_own = ap (λ z. placed_at z n.thread) more
-      ∙ get_or-set_same ps n.thread (placed_by f n.thread (placed_at ps n.thread) n.asked) none_placed
+  kept_own : growing_at qs n.thread ≡ placed_by f n.thread (growing_at ps n.thread) n.asked
+  kept_own = ap (λ z. growing_at z n.thread) more
+      ∙ get_or-set_same ps n.thread (placed_by f n.thread (growing_at ps n.thread) n.asked) none_growing
       (let l = move.below in omega (arith, l, each))
 
-  kept_other : (u : ℕ) → u ≢ n.thread → placed_at qs u ≡ placed_at ps u
-  kept_other u ne = ap (λ z. placed_at z u) more
-      ∙ get_or-set_other ps n.thread u (placed_by f n.thread (placed_at ps n.thread) n.asked) none_placed ne
+  kept_other : (u : ℕ) → u ≢ n.thread → growing_at qs u ≡ growing_at ps u
+  kept_other u ne = ap (λ z. growing_at z u) more
+      ∙ get_or-set_other ps n.thread u (placed_by f n.thread (growing_at ps n.thread) n.asked) none_growing ne
 
   own_steps : trail (guest_machine guest r) (guest_start guest r) (k.run ++ (n.thread, n.result) ∷ []) n.thread ≡ trail
       (guest_machine guest r) (guest_start guest r) k.run n.thread ++ (
@@ -169,9 +170,9 @@ module _ (guest : Guest) (r : Recorded) (f : Flat) (ps qs : List Placed) (n : Mo
       (trail_other (guest_machine guest r) (end (guest_machine guest r) (guest_start guest r) k.run) (n.thread, n.result) [] u ne)
       ∙ append-nil _
 
-  tells_there : tells f n.asked n.result ≡ label (guest_machine guest r) (end (guest_machine guest r) (guest_start guest r) k.run)
+  emits_there : emits f n.asked n.result ≡ label (guest_machine guest r) (end (guest_machine guest r) (guest_start guest r) k.run)
       (n.thread, n.result)
-  tells_there = ap (λ q. tells f q n.result) move.asked ∙ ap (λ c. label (thread_machine c) (tables f) (n.thread, n.result)) k.code
+  emits_there = ap (λ q. emits f q n.result) move.asked ∙ ap (λ c. label (thread_machine c) (tables f) (n.thread, n.result)) k.code
       ∙ ap (λ z. label (guest_machine guest r) z (n.thread, n.result)) k.ends
 
   position : (thread_of f n.thread).steps ≡ 0 + length (trail (guest_machine guest r) (guest_start guest r) k.run n.thread)
@@ -179,15 +180,15 @@ module _ (guest : Guest) (r : Recorded) (f : Flat) (ps qs : List Placed) (n : Mo
       (trail (guest_machine guest r) (guest_start guest r) k.run n.thread) = omega arith in e)
 
   more_placed : (t : ℕ) → t < length guest.entries
-      → (placed_at qs t).entries ≡ places_of (trail (guest_machine guest r) (guest_start guest r) (k.run ++ (n.thread, n.result) ∷ []) t)
+      → (growing_at qs t).entries ≡ places_of (trail (guest_machine guest r) (guest_start guest r) (k.run ++ (n.thread, n.result) ∷ []) t)
   more_placed t l = elim (cases_eq t n.thread) [
-    | inl e ↦ subst (λ u. (placed_at qs u).entries ≡ places_of
+    | inl e ↦ subst (λ u. (growing_at qs u).entries ≡ places_of
         (trail (guest_machine guest r) (guest_start guest r) (k.run ++ (n.thread, n.result) ∷ []) u)) (sym e)
-        (ap (λ z. z.entries) kept_own ∙ placed_entries f n.thread n.result (placed_at ps n.thread) n.asked
-        ∙ ap (λ z. z ++ place_if (tells f n.asked n.result) (thread_of f n.thread).steps [])
+        (ap (λ z. z.entries) kept_own ∙ placed_entries f n.thread n.result (growing_at ps n.thread) n.asked
+        ∙ ap (λ z. z ++ place_if (emits f n.asked n.result) (thread_of f n.thread).steps [])
         (k.placed n.thread (subst (λ u. u < length guest.entries) e l))
         ∙ ap (λ z. places_of (trail (guest_machine guest r) (guest_start guest r) k.run n.thread) ++ z)
-        (ap (λ z. place_if z (thread_of f n.thread).steps []) tells_there
+        (ap (λ z. place_if z (thread_of f n.thread).steps []) emits_there
         ∙ ap (λ (i : ℕ). place_if (label (guest_machine guest r) (end (guest_machine guest r) (guest_start guest r) k.run)
         (n.thread, n.result)) i []) position)
         ∙ sym (places_append 0 (trail (guest_machine guest r) (guest_start guest r) k.run n.thread)
@@ -200,15 +201,15 @@ module _ (guest : Guest) (r : Recorded) (f : Flat) (ps qs : List Placed) (n : Mo
   ]
 
   more_left : (t : ℕ) → t < length guest.entries
-      → (placed_at qs t).leaves ≡ leaves_of (trail (guest_machine guest r) (guest_start guest r) (k.run ++ (n.thread, n.result) ∷ []) t)
+      → (growing_at qs t).leaves ≡ leaves_of (trail (guest_machine guest r) (guest_start guest r) (k.run ++ (n.thread, n.result) ∷ []) t)
   more_left t l = elim (cases_eq t n.thread) [
-    | inl e ↦ subst (λ u. (placed_at qs u).leaves ≡ leaves_of
+    | inl e ↦ subst (λ u. (growing_at qs u).leaves ≡ leaves_of
         (trail (guest_machine guest r) (guest_start guest r) (k.run ++ (n.thread, n.result) ∷ []) u)) (sym e)
-        (ap (λ z. z.leaves) kept_own ∙ placed_leaves f n.thread n.result (placed_at ps n.thread) n.asked
-        ∙ ap (λ z. z ++ leave_if (tells f n.asked n.result) (thread_of f n.thread).steps [])
+        (ap (λ z. z.leaves) kept_own ∙ placed_leaves f n.thread n.result (growing_at ps n.thread) n.asked
+        ∙ ap (λ z. z ++ leave_if (emits f n.asked n.result) (thread_of f n.thread).steps [])
         (k.left n.thread (subst (λ u. u < length guest.entries) e l))
         ∙ ap (λ z. leaves_of (trail (guest_machine guest r) (guest_start guest r) k.run n.thread) ++ z)
-        (ap (λ z. leave_if z (thread_of f n.thread).steps []) tells_there
+        (ap (λ z. leave_if z (thread_of f n.thread).steps []) emits_there
         ∙ ap (λ (i : ℕ). leave_if (label (guest_machine guest r) (end (guest_machine guest r) (guest_start guest r) k.run)
         (n.thread, n.result)) i []) position)
         ∙ sym (leaves_append 0 (trail (guest_machine guest r) (guest_start guest r) k.run n.thread)
@@ -220,7 +221,7 @@ module _ (guest : Guest) (r : Recorded) (f : Flat) (ps qs : List Placed) (n : Mo
     | inr ne ↦ ap (λ z. z.leaves) (kept_other t ne) ∙ k.left t l ∙ ap (λ z. leaves_of z) (sym (other_steps t ne))
   ]
 
-pub moves : (guest : Guest) (r : Recorded) (f g : Flat) (ps qs : List Placed) (n : Move) → IsMove r f n → length ps ≡ length f.threads
+pub moves : (guest : Guest) (r : Recorded) (f g : Flat) (ps qs : List Growing) (n : Move) → IsMove r f n → length ps ≡ length f.threads
     → qs ≡ placed_more f ps n.thread n.asked → tables g ≡ after (machine_of f) (tables f) (n.thread, n.result) → g.code ≡ f.code
     → length g.threads ≡ length f.threads → length g.objects ≡ length f.objects
     → IsFollower guest r f ps → IsFollower guest r g qs
@@ -257,8 +258,8 @@ alone_follows code tr s run t (suc n) h each le =
     let step : Follows (closing m tr) m s tr (run ++ e ∷ []) = goes_further m s tr run h t 0
     (subst (λ q. Admits m (act_of (shared_ask q) 0) ((end m s run).objects (target (act_of (shared_ask q) 0)))) (sym is) tt) (
       omega (arith, le),
-      subst (λ q. logged (told (act_of (shared_ask q) 0) ((end m s run).objects (target (act_of (shared_ask q) 0))))
-          (unlogged (told (act_of (shared_ask q) 0) ((end m s run).objects (target (act_of (shared_ask q) 0)))) es) ≡ es) (sym is) refl,
+      subst (λ q. logged (emitted (act_of (shared_ask q) 0) ((end m s run).objects (target (act_of (shared_ask q) 0))))
+          (unlogged (emitted (act_of (shared_ask q) 0) ((end m s run).objects (target (act_of (shared_ask q) 0)))) es) ≡ es) (sym is) refl,
       subst (λ z. Meets z (tr.ends t) (m.size x) left es) (sym (ends_asked code x ∙ ap end_asked is)) tt,
     ) in
     let size : length (trail m s (run ++ e ∷ []) t) ≡ length (trail m s run t) + 1 =
@@ -281,10 +282,10 @@ alone_quiet code s t (suc n) each u =
     let m = thread_machine code in
     let is : ask_of code (s.now t) ≡ Private = each 0 (omega arith) in
     quiet_join (eqb u t) (s.now u, label m s (t, 0)) (trail m (after m s (t, 0)) (replicate n (t, 0)) u)
-    (ap (λ q. told (act_of (shared_ask q) 0) (s.objects (target (act_of (shared_ask q) 0)))) is)
+    (ap (λ q. emitted (act_of (shared_ask q) 0) (s.objects (target (act_of (shared_ask q) 0)))) is)
     (alone_quiet code (after m s (t, 0)) t n (λ k l. each (suc k) (omega (arith, l))) u)
 
-pub went_follows : (guest : Guest) (r : Recorded) (f g : Flat) (ps : List Placed) (t n : ℕ) → WentAlone f g t n → n ≤ steps_ahead r f t
+pub went_follows : (guest : Guest) (r : Recorded) (f g : Flat) (ps : List Growing) (t n : ℕ) → WentAlone f g t n → n ≤ steps_ahead r f t
     → IsFollower guest r f ps → IsFollower guest r g ps
 went_follows guest r f g ps t n w le k =
     let m = guest_machine guest r in
@@ -334,7 +335,7 @@ went_fewer r f g t n w =
 
 -- ---- what is kept keeps up
 
-module _ (r : Recorded) (f g : Flat) (ps qs : List Placed) (n : Move) (move : IsMove r f n) (kept : IsPlaced r f ps)
+module _ (r : Recorded) (f g : Flat) (ps qs : List Growing) (n : Move) (move : IsMove r f n) (kept : IsPlaced r f ps)
     (more : qs ≡ placed_more f ps n.thread n.asked) (taken : tables g ≡ after (machine_of f) (tables f) (n.thread, n.result))
     (threads : length g.threads ≡ length f.threads) where
   now_own : thread_of g n.thread ≡ moved_thread f.code (tables f) (n.thread, n.result)
@@ -345,26 +346,26 @@ module _ (r : Recorded) (f g : Flat) (ps qs : List Placed) (n : Move) (move : Is
   now_else u ne = ap (λ s. s.now u) taken ∙ ap (λ now. now u) (now_after f.code (tables f) (n.thread, n.result))
       ∙ upd_other (thread_of f) n.thread u (moved_thread f.code (tables f) (n.thread, n.result)) ne
 
-  at_own : placed_at qs n.thread ≡ placed_by f n.thread (placed_at ps n.thread) (ask_of f.code (thread_of f n.thread))
-  at_own = ap (λ z. placed_at z n.thread) more
-      ∙ get_or-set_same ps n.thread (placed_by f n.thread (placed_at ps n.thread) n.asked) none_placed
-      (let l = move.below in let e = kept.each in omega (arith, l, e)) ∙ ap (placed_by f n.thread (placed_at ps n.thread)) move.asked
+  at_own : growing_at qs n.thread ≡ placed_by f n.thread (growing_at ps n.thread) (ask_of f.code (thread_of f n.thread))
+  at_own = ap (λ z. growing_at z n.thread) more
+      ∙ get_or-set_same ps n.thread (placed_by f n.thread (growing_at ps n.thread) n.asked) none_growing
+      (let l = move.below in let e = kept.each in omega (arith, l, e)) ∙ ap (placed_by f n.thread (growing_at ps n.thread)) move.asked
 
-  at_else : (u : ℕ) → u ≢ n.thread → placed_at qs u ≡ placed_at ps u
-  at_else u ne = ap (λ z. placed_at z u) more ∙ get_or-set_other ps n.thread u (placed_by f n.thread (placed_at ps n.thread) n.asked)
-      none_placed ne
+  at_else : (u : ℕ) → u ≢ n.thread → growing_at qs u ≡ growing_at ps u
+  at_else u ne = ap (λ z. growing_at z u) more ∙ get_or-set_other ps n.thread u (placed_by f n.thread (growing_at ps n.thread) n.asked)
+      none_growing ne
 
   -- what holds of a thread and what is kept of it
-  each_of : (P : ℕ → thread.State → Placed → Type 0)
+  each_of : (P : ℕ → thread.State → Growing → Type 0)
       → P n.thread (moved_thread f.code (tables f) (n.thread, n.result))
-      (placed_by f n.thread (placed_at ps n.thread) (ask_of f.code (thread_of f n.thread)))
-      → ((u : ℕ) → u < length f.threads → P u (thread_of f u) (placed_at ps u)) → (u : ℕ) → u < length g.threads
-      → P u (thread_of g u) (placed_at qs u)
+      (placed_by f n.thread (growing_at ps n.thread) (ask_of f.code (thread_of f n.thread)))
+      → ((u : ℕ) → u < length f.threads → P u (thread_of f u) (growing_at ps u)) → (u : ℕ) → u < length g.threads
+      → P u (thread_of g u) (growing_at qs u)
   each_of P own others u l = elim (cases_eq u n.thread) [
-    | inl e ↦ subst (λ z. P z (thread_of g z) (placed_at qs z)) (sym e)
-        (subst (λ x. P n.thread x (placed_at qs n.thread)) (sym now_own)
+    | inl e ↦ subst (λ z. P z (thread_of g z) (growing_at qs z)) (sym e)
+        (subst (λ x. P n.thread x (growing_at qs n.thread)) (sym now_own)
         (subst (P n.thread (moved_thread f.code (tables f) (n.thread, n.result))) (sym at_own) own))
-    | inr ne ↦ subst (λ x. P u x (placed_at qs u)) (sym (now_else u ne))
+    | inr ne ↦ subst (λ x. P u x (growing_at qs u)) (sym (now_else u ne))
         (subst (P u (thread_of f u)) (sym (at_else u ne)) (others u (omega (arith, l, threads))))
   ]
 
@@ -372,12 +373,12 @@ module _ (r : Recorded) (f g : Flat) (ps qs : List Placed) (n : Move) (move : Is
   placed_on = record {
     each = ap (λ z. length z) more ∙ length-set ps n.thread _ ∙ kept.each ∙ sym threads;
     rooms = each_of (λ u x p. p.room ≡ length (recorded_thread r u).events)
-        (placed_room f n.thread (placed_at ps n.thread) (ask_of f.code (thread_of f n.thread)) ∙ kept.rooms n.thread move.below) kept.rooms;
+        (placed_room f n.thread (growing_at ps n.thread) (ask_of f.code (thread_of f n.thread)) ∙ kept.rooms n.thread move.below) kept.rooms;
     counts = each_of (λ u x p. length p.entries ≡ x.events)
-        (placed_count f.code f n.thread (placed_at ps n.thread) (thread_of f n.thread) (ask_of f.code (thread_of f n.thread)) _
+        (placed_count f.code f n.thread (growing_at ps n.thread) (thread_of f n.thread) (ask_of f.code (thread_of f n.thread)) _
         (kept.counts n.thread move.below)) kept.counts;
     fewer = each_of (λ u x p. length p.leaves + held_count x.held ≤ x.events)
-        (placed_fewer f.code f n.thread (placed_at ps n.thread) (thread_of f n.thread) (ask_of f.code (thread_of f n.thread)) _
+        (placed_fewer f.code f n.thread (growing_at ps n.thread) (thread_of f n.thread) (ask_of f.code (thread_of f n.thread)) _
         (ask_permits f.code (thread_of f n.thread)) (kept.fewer n.thread move.below)) kept.fewer;
     within = each_of (λ u x p. x.events ≤ length (recorded_thread r u).events)
         (events_within r f n.thread n.result _ move.follows (kept.within n.thread move.below)) kept.within;
@@ -389,16 +390,16 @@ pub leave_object : (f : Flat) (t o : ℕ) (a : Access) → IsFlat f → t < leng
 leave_object f t o a flat l is = let p = subst (Permits (thread_of f t)) is (ask_permits f.code (thread_of f t)) in
     omega (arith, p.1, flat.places t l)
 
-pub leave_room : (r : Recorded) (f : Flat) (ps : List Placed) (t o : ℕ) (a : Access) → IsPlaced r f ps → t < length f.threads
-    → ask_of f.code (thread_of f t) ≡ Leaves o a → length (placed_at ps t).leaves < (placed_at ps t).room
+pub leave_room : (r : Recorded) (f : Flat) (ps : List Growing) (t o : ℕ) (a : Access) → IsPlaced r f ps → t < length f.threads
+    → ask_of f.code (thread_of f t) ≡ Leaves o a → length (growing_at ps t).leaves < (growing_at ps t).room
 leave_room r f ps t o a kept l is =
     let p = subst (Permits (thread_of f t)) is (ask_permits f.code (thread_of f t)) in
     let some = one_fewer (thread_of f t).held o p.1 (λ none. cc (p.2, none)) in
     omega (arith, some, kept.fewer t l, kept.within t l, kept.rooms t l)
 
 -- what is found at a place is what is kept of that thread
-pub kept_found : (ps : List Placed) (t : ℕ) (p : Placed) → t < length ps → p ≡ get_or ps t p → p ≡ placed_at ps t
-kept_found ps t p l e = e ∙ get_or_default ps t p none_placed l
+pub kept_found : (ps : List Growing) (t : ℕ) (p : Growing) → t < length ps → p ≡ get_or ps t p → p ≡ growing_at ps t
+kept_found ps t p l e = e ∙ get_or_default ps t p none_growing l
 
 -- private steps keep what is held
 step_held : (code : List ℕ) (s : State thread.State) (t u : ℕ) → ask_of code (s.now t) ≡ Private
@@ -418,7 +419,7 @@ alone_held code s t (suc n) each u =
     alone_held code (after (thread_machine code) s (t, 0)) t n (λ k l. each (suc k) (omega (arith, l))) u
     ∙ step_held code s t u (each 0 (omega arith))
 
-pub went_placed : (r : Recorded) (f g : Flat) (ps : List Placed) (t n : ℕ) → IsPlaced r f ps → WentAlone f g t n → IsPlaced r g ps
+pub went_placed : (r : Recorded) (f g : Flat) (ps : List Growing) (t n : ℕ) → IsPlaced r f ps → WentAlone f g t n → IsPlaced r g ps
 went_placed r f g ps t n kept w =
     let events_same : (u : ℕ) → (thread_of g u).events ≡ (thread_of f u).events =
     λ u. ap (λ s. (s.now u).events) w.ends ∙ (tally f.code (tables f) (replicate n (t, 0)) w.runs u).events
@@ -430,8 +431,8 @@ went_placed r f g ps t n kept w =
       each = kept.each ∙ sym w.threads;
       rooms = λ u l. kept.rooms u (omega (arith, l, w.threads));
       counts = λ u l. kept.counts u (omega (arith, l, w.threads)) ∙ sym (events_same u);
-      fewer = λ u l. subst (λ h. length (placed_at ps u).leaves + held_count h ≤ (thread_of g u).events) (sym (held_same u))
-          (subst (λ e. length (placed_at ps u).leaves + held_count (thread_of f u).held ≤ e) (sym (events_same u))
+      fewer = λ u l. subst (λ h. length (growing_at ps u).leaves + held_count h ≤ (thread_of g u).events) (sym (held_same u))
+          (subst (λ e. length (growing_at ps u).leaves + held_count (thread_of f u).held ≤ e) (sym (events_same u))
           (kept.fewer u (omega (arith, l, w.threads))));
       within = λ u l. subst (λ e. e ≤ length (recorded_thread r u).events) (sym (events_same u))
           (kept.within u (omega (arith, l, w.threads)));
@@ -439,8 +440,8 @@ went_placed r f g ps t n kept w =
 
 -- ---- what is kept at the start
 
--- nothing, with room for what the trace tells of a thread
-abbrev pub room_for : RecordedThread → Placed
+-- nothing, with room for what the trace emits of a thread
+abbrev pub room_for : RecordedThread → Growing
 room_for t = record { entries = []; leaves = []; room = length t.events }
 
 none_held : (guest : Guest) (budget from n t : ℕ) → held_count (get_or (start_threads guest budget from n) t idle).held ≡ 0
@@ -449,15 +450,15 @@ none_held guest budget from (suc n) zero = sum_by-replicate one_if_held (object_
     ∙ (let e : object_count guest * 0 ≡ 0 = omega arith in e)
 none_held guest budget from (suc n) (suc t) = none_held guest budget (suc from) n t
 
-room_at : (rs : List RecordedThread) (t : ℕ) → placed_at (map room_for rs) t ≡ room_for (get_or rs t absent)
+room_at : (rs : List RecordedThread) (t : ℕ) → growing_at (map room_for rs) t ≡ room_for (get_or rs t absent)
 room_at [] t = refl
 room_at (x ∷ rs) zero = refl
 room_at (x ∷ rs) (suc t) = room_at rs t
 
-pub start_placed : (guest : Guest) (r : Recorded) (f : Flat) (ps : List Placed) → f ≡ start_flat guest r.budget
+pub start_placed : (guest : Guest) (r : Recorded) (f : Flat) (ps : List Growing) → f ≡ start_flat guest r.budget
     → ps ≡ map room_for r.threads → length r.threads ≡ length f.threads → IsPlaced r f ps
 start_placed guest r f ps start rooms count =
-    let at : (t : ℕ) → placed_at ps t ≡ room_for (recorded_thread r t) = λ t. ap (λ z. placed_at z t) rooms ∙ room_at r.threads t in
+    let at : (t : ℕ) → growing_at ps t ≡ room_for (recorded_thread r t) = λ t. ap (λ z. growing_at z t) rooms ∙ room_at r.threads t in
     let no_events : (t : ℕ) → (thread_of f t).events ≡ 0 = λ t. ap (λ z. (thread_of z t).events) start
     ∙ (fresh guest r.budget 0 (length guest.entries) t).events in
     let no_held : (t : ℕ) → held_count (thread_of f t).held ≡ 0 = λ t. ap (λ z. held_count (thread_of z t).held) start
@@ -466,22 +467,22 @@ start_placed guest r f ps start rooms count =
       each = ap (λ z. length z) rooms ∙ length-map r.threads room_for ∙ count;
       rooms = λ t l. ap (λ z. z.room) (at t);
       counts = λ t l. ap (λ z. length z.entries) (at t) ∙ sym (no_events t);
-      fewer = λ t l. let none : length (placed_at ps t).leaves ≡ 0 = ap (λ z. length z.leaves) (at t) in let held = no_held t in
+      fewer = λ t l. let none : length (growing_at ps t).leaves ≡ 0 = ap (λ z. length z.leaves) (at t) in let held = no_held t in
           omega (arith, none, held);
       within = λ t l. let none = no_events t in omega (arith, none);
     }
 
-pub start_none : (r : Recorded) (ps : List Placed) → ps ≡ map room_for r.threads → (t : ℕ) → ((placed_at ps t).entries ≡ [])
-    × ((placed_at ps t).leaves ≡ [])
+pub start_none : (r : Recorded) (ps : List Growing) → ps ≡ map room_for r.threads → (t : ℕ) → ((growing_at ps t).entries ≡ [])
+    × ((growing_at ps t).leaves ≡ [])
 start_none r ps rooms t = (
-  ap (λ z. (placed_at z t).entries) rooms
+  ap (λ z. (growing_at z t).entries) rooms
       ∙ ap (λ z. z.entries) (room_at r.threads t),
-  ap (λ z. (placed_at z t).leaves) rooms ∙ ap (λ z. z.leaves) (room_at r.threads t),
+  ap (λ z. (growing_at z t).leaves) rooms ∙ ap (λ z. z.leaves) (room_at r.threads t),
 )
 
 -- ---- going on
 
-pub went_on : (r : Recorded) (f g : Flat) (ps : List Placed) (t n : ℕ) → WentAlone f g t n → n ≤ steps_ahead r f t → GoesOn r f ps g ps
+pub went_on : (r : Recorded) (f g : Flat) (ps : List Growing) (t n : ℕ) → WentAlone f g t n → n ≤ steps_ahead r f t → GoesOn r f ps g ps
 went_on r f g ps t n w le = record {
   follows = λ guest. went_follows guest r f g ps t n w le;
   threads = w.threads;
@@ -491,12 +492,12 @@ went_on r f g ps t n w le = record {
 }
 
 -- a step that was taken
-pub record Taken (r : Recorded) (f : Flat) (ps : List Placed) (g : Flat) (qs : List Placed) : Type 0 where
+pub record Taken (r : Recorded) (f : Flat) (ps : List Growing) (g : Flat) (qs : List Growing) : Type 0 where
   pub goes : GoesOn r f ps g qs
   pub less : all_ahead r g < all_ahead r f
   pub placed : IsPlaced r g qs
 
-moved_on : (r : Recorded) (f g : Flat) (ps qs : List Placed) (n : Move) → IsMove r f n → IsPlaced r f ps
+moved_on : (r : Recorded) (f g : Flat) (ps qs : List Growing) (n : Move) → IsMove r f n → IsPlaced r f ps
     → qs ≡ placed_more f ps n.thread n.asked → tables g ≡ after (machine_of f) (tables f) (n.thread, n.result) → g.code ≡ f.code
     → length g.threads ≡ length f.threads → length g.objects ≡ length f.objects → Taken r f ps g qs
 moved_on r f g ps qs n move kept more taken code threads objects =
@@ -512,7 +513,7 @@ moved_on r f g ps qs n move kept more taken code threads objects =
       placed = placed_on r f g ps qs n move kept more taken threads;
     }
 
-pub taken_by : {X E : Type 0} (result : Result X E) (r : Recorded) (f g h : Flat) (ps qs : List Placed) (n : Move) → IsMove r f n
+pub taken_by : {X E : Type 0} (result : Result X E) (r : Recorded) (f g h : Flat) (ps qs : List Growing) (n : Move) → IsMove r f n
     → IsPlaced r f ps → qs ≡ placed_more f ps n.thread n.asked → h ≡ f
     → OnOk result (tables g ≡ after (machine_of h) (tables h) (n.thread, n.result)) → g.code ≡ h.code → length g.threads ≡ length h.threads
     → length g.objects ≡ length h.objects
@@ -523,10 +524,10 @@ taken_by (Ok x) r f g h ps qs n move kept more same taken code threads objects n
 taken_by (Err x) r f g h ps qs n move kept more same taken code threads objects never =
     absurd (never (subst (λ z. Can (machine_of z) (tables z) (n.thread, n.result)) (sym same) move.follows.0))
 
-pub stays : (r : Recorded) (f : Flat) (ps : List Placed) → GoesOn r f ps f ps
+pub stays : (r : Recorded) (f : Flat) (ps : List Growing) → GoesOn r f ps f ps
 stays r f ps = record { follows = λ guest k. k; threads = refl; objects = refl; fewer = omega arith }
 
-pub goes_both : (r : Recorded) (f g h : Flat) (ps qs os : List Placed) → GoesOn r f ps g qs → GoesOn r g qs h os → GoesOn r f ps h os
+pub goes_both : (r : Recorded) (f g h : Flat) (ps qs os : List Growing) → GoesOn r f ps g qs → GoesOn r g qs h os → GoesOn r f ps h os
 goes_both r f g h ps qs os p q = record {
   follows = λ guest k. q.follows guest (p.follows guest k);
   threads = q.threads ∙ p.threads;
@@ -535,13 +536,13 @@ goes_both r f g h ps qs os p q = record {
 }
 
 -- going on by private steps
-pub went_further : (r q : Recorded) (f g h : Flat) (ps qs : List Placed) (t n left : ℕ) → q ≡ r → GoesOn r f ps g qs → WentAlone g h t n
+pub went_further : (r q : Recorded) (f g h : Flat) (ps qs : List Growing) (t n left : ℕ) → q ≡ r → GoesOn r f ps g qs → WentAlone g h t n
     → n ≤ left → left ≡ steps_ahead q g t → GoesOn r f ps h qs
 went_further r q f g h ps qs t n left same goes w le is =
     goes_both r f g h ps qs qs goes (subst (λ z. GoesOn z g qs h qs) same (went_on q g h qs t n w (omega (arith, le, is))))
 
 -- and by a further step
-pub moved_further : (r q : Recorded) (f g h i : Flat) (ps qs os : List Placed) (t n left : ℕ) → q ≡ r → GoesOn r f ps g qs
+pub moved_further : (r q : Recorded) (f g h i : Flat) (ps qs os : List Growing) (t n left : ℕ) → q ≡ r → GoesOn r f ps g qs
     → WentAlone g h t n → n ≤ left → left ≡ steps_ahead q g t → GoesOn q h qs i os → GoesOn r f ps i os
 moved_further r q f g h i ps qs os t n left same goes w le is move =
     goes_both r f h i ps qs os (went_further r q f g h ps qs t n left same goes w le is) (subst (λ z. GoesOn z h qs i os) same move)
@@ -552,14 +553,14 @@ pub moved_less : (r q : Recorded) (f g h : Flat) (t n : ℕ) → WentAlone f g t
 moved_less r q f g h t n w less = let same = went_fewer r f g t n w in omega (arith, same, less)
 
 -- a step after a look, and what comes behind it
-pub chained : (r q p : Recorded) (f g g' h i : Flat) (ps bs bs' cs ds : List Placed) → GoesOn r f ps g bs → g' ≡ g → bs' ≡ bs → q ≡ r
+pub chained : (r q p : Recorded) (f g g' h i : Flat) (ps bs bs' cs ds : List Growing) → GoesOn r f ps g bs → g' ≡ g → bs' ≡ bs → q ≡ r
     → GoesOn q g' bs' h cs → p ≡ q → GoesOn p h cs i ds → GoesOn r f ps i ds
 chained r q p f g g' h i ps bs bs' cs ds goes same kept trace step after_it then =
     goes_both r f h i ps cs ds (goes_both r f g h ps bs cs goes
     (subst (λ z. GoesOn r z bs h cs) same (subst (λ z. GoesOn r g' z h cs) kept (subst (λ z. GoesOn z g' bs' h cs) trace step))))
     (subst (λ z. GoesOn z h cs i ds) (after_it ∙ trace) then)
 
-pub chained_less : (r q p o : Recorded) (g g' h i : Flat) (cs ds : List Placed) → g' ≡ g → q ≡ r → all_ahead p h < all_ahead q g'
+pub chained_less : (r q p o : Recorded) (g g' h i : Flat) (cs ds : List Growing) → g' ≡ g → q ≡ r → all_ahead p h < all_ahead q g'
     → GoesOn p h cs i ds → o ≡ p → all_ahead o i < all_ahead r g
 chained_less r q p o g g' h i cs ds same trace less then last =
     let fewer = then.fewer in
@@ -578,32 +579,32 @@ last_follows guest r run t v h =
     let m = guest_machine guest r in
     let s = guest_start guest r in
     let last = fits_last (closing m (trace_of r) t) ((trace_of r).steps t) ((trace_of r).logs t) (trail m s run t)
-    ((end m s run).now t, told (act m (end m s run) (t, v)) ((end m s run).objects (target (act m (end m s run) (t, v)))))
+    ((end m s run).now t, emitted (act m (end m s run) (t, v)) ((end m s run).objects (target (act m (end m s run) (t, v)))))
     (subst (Fits (closing m (trace_of r) t) ((trace_of r).steps t) ((trace_of r).logs t))
     (trail_append m s run ((t, v) ∷ []) t ∙ ap (λ z. trail m s run t ++ z) (trail_same m (end m s run) (t, v) [])) (h.1 t)) in
     (run_last m s run (t, v) h.0, last.0, last.1, last.2)
 
 -- a thread that is stopped can't go on along the run
-pub never_on : (guest : Guest) (r : Recorded) (f : Flat) (ps : List Placed) → (k : IsFollower guest r f ps) → (t v : ℕ) → IsStopped r f t
+pub never_on : (guest : Guest) (r : Recorded) (f : Flat) (ps : List Growing) → (k : IsFollower guest r f ps) → (t v : ℕ) → IsStopped r f t
     → GuestFollows guest r (k.run ++ (t, v) ∷ []) → ⊥
 never_on guest r f ps k t v stopped h = stopped v
     (back guest r f ps k t (λ n z a es. StepFollows n (trace_of r) z a es t v) (last_follows guest r k.run t v h))
 
 -- what holds of thread t at the end of a follower's run
-abbrev pub Stands : (guest : Guest) (r : Recorded) (f : Flat) (ps : List Placed) → IsFollower guest r f ps → ℕ → ThreadVerdict → Type 0
+abbrev pub Stands : (guest : Guest) (r : Recorded) (f : Flat) (ps : List Growing) → IsFollower guest r f ps → ℕ → ThreadVerdict → Type 0
 Stands guest r f ps k t v = StandsAs (guest_machine guest r) (guest_start guest r) (trace_of r) k.run t v
 
-pub stands_same : (guest : Guest) (r : Recorded) (f : Flat) (ps : List Placed) → (k : IsFollower guest r f ps) → (t : ℕ)
+pub stands_same : (guest : Guest) (r : Recorded) (f : Flat) (ps : List Growing) → (k : IsFollower guest r f ps) → (t : ℕ)
     → ask_of f.code (thread_of f t) ≡ Done → Stands guest r f ps k t Same
 stands_same guest r f ps k t done = there guest r f ps k t (λ m s n es. asked m s t ≡ machine.Done) (ap shared_ask done)
 
-not_done : (guest : Guest) (r : Recorded) (f : Flat) (ps : List Placed) → (k : IsFollower guest r f ps) → (t : ℕ)
+not_done : (guest : Guest) (r : Recorded) (f : Flat) (ps : List Growing) → (k : IsFollower guest r f ps) → (t : ℕ)
     → ask_of f.code (thread_of f t) ≢ Done → asked (guest_machine guest r) (end (guest_machine guest r) (guest_start guest r) k.run) t ≢
     machine.Done
 not_done guest r f ps k t ne done = ne (really_done (ask_of f.code (thread_of f t))
     (back guest r f ps k t (λ m s n es. asked m s t ≡ machine.Done) done))
 
-pub stands_disagrees : (guest : Guest) (r : Recorded) (f : Flat) (ps : List Placed) → (k : IsFollower guest r f ps) → (t : ℕ)
+pub stands_disagrees : (guest : Guest) (r : Recorded) (f : Flat) (ps : List Growing) → (k : IsFollower guest r f ps) → (t : ℕ)
     → ask_of f.code (thread_of f t) ≢ Done → (AgreesAhead r f t → ⊥)
     → Stands guest r f ps k t (Disagrees (thread_of f t).events (thread_of f t).steps)
 stands_disagrees guest r f ps k t ne other = (
@@ -613,7 +614,7 @@ stands_disagrees guest r f ps k t ne other = (
   k.steps t,
 )
 
-pub stands_starves : (guest : Guest) (r : Recorded) (f : Flat) (ps : List Placed) → (k : IsFollower guest r f ps) → (t : ℕ)
+pub stands_starves : (guest : Guest) (r : Recorded) (f : Flat) (ps : List Growing) → (k : IsFollower guest r f ps) → (t : ℕ)
     → ask_of f.code (thread_of f t) ≢ Done → AgreesAhead r f t → IsStopped r f t → Stands guest r f ps k t (Starves (thread_of f t).events)
 stands_starves guest r f ps k t ne same stopped = (
   not_done guest r f ps k t ne,
@@ -623,7 +624,7 @@ stands_starves guest r f ps k t ne same stopped = (
 )
 
 -- each thread that is stopped has a verdict
-pub stands_some : (guest : Guest) (r : Recorded) (f : Flat) (ps : List Placed) → (k : IsFollower guest r f ps) → (t : ℕ) → IsStopped r f t
+pub stands_some : (guest : Guest) (r : Recorded) (f : Flat) (ps : List Growing) → (k : IsFollower guest r f ps) → (t : ℕ) → IsStopped r f t
     → (v : ThreadVerdict) × Stands guest r f ps k t v
 stands_some guest r f ps k t stopped =
     let m = guest_machine guest r in
@@ -638,8 +639,8 @@ stands_some guest r f ps k t stopped =
     ]
 
 -- the guest at the end
-pub followed_there : (guest : Guest) (r : Recorded) (f g : Flat) (ps qs : List Placed) → f ≡ start_flat guest r.budget
-    → ((t : ℕ) → ((placed_at ps t).entries ≡ []) × ((placed_at ps t).leaves ≡ [])) → GoesOn r f ps g qs
+pub followed_there : (guest : Guest) (r : Recorded) (f g : Flat) (ps qs : List Growing) → f ≡ start_flat guest r.budget
+    → ((t : ℕ) → ((growing_at ps t).entries ≡ []) × ((growing_at ps t).leaves ≡ [])) → GoesOn r f ps g qs
     → ((t : ℕ) → t < length g.threads → IsStopped r g t) → IsFollowed guest r g qs
 followed_there guest r f g ps qs start none goes stopped =
     let k : IsFollower guest r g qs = goes.follows guest (subst (λ z. IsFollower guest r z ps) (sym start) (started guest r ps none)) in

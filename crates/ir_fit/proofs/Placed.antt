@@ -11,10 +11,11 @@ use Rattle.ir_thread.specs.declared.ask.Ask.TheVariants.{Private, Env, Enter, Le
 use Rattle.ir_thread.specs.declared.ask.Reply.{Reply}
 use Rattle.ir_thread.proofs.CallerLemmas.{one_fewer}
 use Rattle.ir_flat.specs.Flat.{Flat, thread_of}
-use Rattle.ir_fit.proofs.Seen.{tells}
+use Rattle.ir_fit.proofs.Seen.{emits}
 use Rattle.ir_runs.specs.Labels.{Label, Quiet, Answer, In, Refused, Out}
 use Rattle.ir_runs.specs.Run.{join_if}
-use Rattle.ir_fit.specs.Places.{Placed, placed_by, place_if, places_from, leave_if, leaves_from}
+use Rattle.ir_fit.specs.Places.{place_if, places_from, leave_if, leaves_from}
+use Rattle.ir_fit.specs.Growing.{Growing, placed_by}
 use Rattle.ir_fit.specs.declared.leave.Leave.{Leave}
 
 place_prefix : (k : Label) (i : ℕ) (ps qs : List ℕ) → place_if k i (ps ++ qs) ≡ place_if k i ps ++ qs
@@ -66,8 +67,8 @@ quiet_join false x xs h rest = rest
 
 -- ---- what a step adds
 
-pub placed_entries : (f : Flat) (t v : ℕ) (p : Placed) (q : Ask)
-    → (placed_by f t p q).entries ≡ p.entries ++ place_if (tells f q v) (thread_of f t).steps []
+pub placed_entries : (f : Flat) (t v : ℕ) (p : Growing) (q : Ask)
+    → (placed_by f t p q).entries ≡ p.entries ++ place_if (emits f q v) (thread_of f t).steps []
 placed_entries f t v p Private = sym (append-nil p.entries)
 placed_entries f t v p (Env kind) = refl
 placed_entries f t v p (Enter o Reading) = refl
@@ -79,8 +80,8 @@ placed_entries f t v p Print = sym (append-nil p.entries)
 placed_entries f t v p (End e) = sym (append-nil p.entries)
 placed_entries f t v p Done = sym (append-nil p.entries)
 
-pub placed_leaves : (f : Flat) (t v : ℕ) (p : Placed) (q : Ask)
-    → (placed_by f t p q).leaves ≡ p.leaves ++ leave_if (tells f q v) (thread_of f t).steps []
+pub placed_leaves : (f : Flat) (t v : ℕ) (p : Growing) (q : Ask)
+    → (placed_by f t p q).leaves ≡ p.leaves ++ leave_if (emits f q v) (thread_of f t).steps []
 placed_leaves f t v p Private = sym (append-nil p.leaves)
 placed_leaves f t v p (Env kind) = sym (append-nil p.leaves)
 placed_leaves f t v p (Enter o Reading) = sym (append-nil p.leaves)
@@ -92,7 +93,7 @@ placed_leaves f t v p Print = sym (append-nil p.leaves)
 placed_leaves f t v p (End e) = sym (append-nil p.leaves)
 placed_leaves f t v p Done = sym (append-nil p.leaves)
 
-pub placed_room : (f : Flat) (t : ℕ) (p : Placed) (q : Ask) → (placed_by f t p q).room ≡ p.room
+pub placed_room : (f : Flat) (t : ℕ) (p : Growing) (q : Ask) → (placed_by f t p q).room ≡ p.room
 placed_room f t p Private = refl
 placed_room f t p (Env kind) = refl
 placed_room f t p (Enter o a) = refl
@@ -108,7 +109,7 @@ placed_room f t p Done = refl
 one_longer : {X : Type 0} (xs : List X) (x : X) → length (xs ++ x ∷ []) ≡ length xs + 1
 one_longer xs x = length-append xs (x ∷ [])
 
-pub placed_count : (code : List ℕ) (f : Flat) (t : ℕ) (p : Placed) (x : thread.State) (q : Ask) (r : Reply) → length p.entries ≡ x.events
+pub placed_count : (code : List ℕ) (f : Flat) (t : ℕ) (p : Growing) (x : thread.State) (q : Ask) (r : Reply) → length p.entries ≡ x.events
     → length (placed_by f t p q).entries ≡ (after_ask code x q r).events
 placed_count code f t p x Private r h = h
 placed_count code f t p x (Env kind) r h = let n = one_longer p.entries (thread_of f t).steps in omega (arith, n, h)
@@ -126,7 +127,7 @@ held_more held o a l = let sums = sum_by-set one_if_held held o (Some a) None l 
 is_some : (x : Option Access) (a : Access) → x ≡ Some a → x ≡ None → ⊥
 is_some x a e n = cc (e, n)
 
-pub placed_fewer : (code : List ℕ) (f : Flat) (t : ℕ) (p : Placed) (x : thread.State) (q : Ask) (r : Reply) → Permits x q
+pub placed_fewer : (code : List ℕ) (f : Flat) (t : ℕ) (p : Growing) (x : thread.State) (q : Ask) (r : Reply) → Permits x q
     → length p.leaves + held_count x.held ≤ x.events
     → length (placed_by f t p q).leaves + held_count (after_ask code x q r).held ≤ (after_ask code x q r).events
 placed_fewer code f t p x Private r k h = h

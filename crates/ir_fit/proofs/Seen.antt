@@ -22,7 +22,7 @@ use Rattle.ir_thread.specs.declared.ask.Reply.{Reply}
 use Rattle.ir_thread.specs.declared.end.End as end
 use Rattle.ir_thread.proofs.CallerLemmas.{ask_permits, over}
 use Rattle.ir_object.specs.Cell.{Cell, Admitted}
-use Rattle.ir_runs.specs.Object.{target, Admits, told}
+use Rattle.ir_runs.specs.Object.{target, Admits, emitted}
 use Rattle.ir_flat.specs.Flat.{Flat, thread_of, cell_of, tables, machine, IsFlat}
 use Rattle.ir_flat.proofs.CallerLemmas.{may_admits, added}
 use Rattle.std.proofs.lemmas.Option.{slice_get_within}
@@ -30,7 +30,7 @@ use Rattle.ir_log.specs.Logging.{label_of, Suits}
 use Rattle.ir_log.specs.declared.event.Event.{Event}
 use Rattle.ir_log.specs.declared.event.Event.TheVariants.{Answer, Read, Write}
 use Rattle.ir_trace.specs.Recorded.{Recorded, IsResult, IsEvent, IsRecordedThread}
-use Rattle.ir_trace.specs.Told.{recorded_thread, trace_of}
+use Rattle.ir_trace.specs.TraceOf.{recorded_thread, trace_of}
 use Rattle.ir_fit.specs.Ahead.{steps_ahead, log_ahead, CanFollow, IsStopped, AgreesAhead, IsOpen, IsOwn, EndsSo, IsSeen}
 use Rattle.ir_fit.specs.declared.follower.look.Look.{Look}
 use Rattle.ir_fit.specs.declared.follower.look.Look.TheVariants as look
@@ -67,15 +67,15 @@ ends_asked code s = ends_by code s (reply_of (ask_of code s) 0) (ask_of code s) 
 
 -- ---- steps by what is asked
 
--- what a step tells that is asked so and has this result
-abbrev pub tells : Flat → Ask → ℕ → Label
-tells f q v = told (act_of (shared_ask q) v) ((tables f).objects (target (act_of (shared_ask q) v)))
+-- what a step emits that is asked so and has this result
+abbrev pub emits : Flat → Ask → ℕ → Label
+emits f q v = emitted (act_of (shared_ask q) v) ((tables f).objects (target (act_of (shared_ask q) v)))
 
 -- a step that is asked so follows, where n steps and the log es are left
 pub record FollowsAs (r : Recorded) (f : Flat) (t v n : ℕ) (es : List Label) (q : Ask) : Type 0 where
   pub can : Admits (machine f) (act_of (shared_ask q) v) ((tables f).objects (target (act_of (shared_ask q) v)))
   pub steps : 0 < n
-  pub logs : logged (tells f q v) (unlogged (tells f q v) es) ≡ es
+  pub logs : logged (emits f q v) (unlogged (emits f q v) es) ≡ es
   pub ends : Meets (end_asked q) ((trace_of r).ends t) (held_count (thread_of f t).held) n es
 
 pub follows_as : (r : Recorded) (f : Flat) (t v : ℕ) (q : Ask) → ask_of f.code (thread_of f t) ≡ q → CanFollow r f t v
@@ -212,12 +212,12 @@ call_follows r f t v kind j fits is steps next suits =
 
 open_entry : (f : Flat) (t v o : ℕ) (a : Access) (e : Event) (es rest : List Label) → es ≡ label_of e ∷ rest → Suits (Enter o a) e
     → IsOpen (cell_of f o) e → (Admitted a (cell_of f o).fields)
-    × (logged (tells f (Enter o a) v) (unlogged (tells f (Enter o a) v) es) ≡ es)
+    × (logged (emits f (Enter o a) v) (unlogged (emits f (Enter o a) v) es) ≡ es)
 open_entry f t v o a (Answer k w) es rest is suits h = absurd h
 open_entry f t v o a (Read p w) es rest is suits h =
     let object : ◌≡◌ {A = ℕ} o p = sym (let e : ◌≡◌ {A = ℕ} p o = cc suits in e) in
     let access : ◌≡◌ {A = Access} Reading a = cc suits in
-    subst (λ z. (Admitted z (cell_of f o).fields) × (logged (tells f (Enter o z) v) (unlogged (tells f (Enter o z) v) es) ≡ es)) access (
+    subst (λ z. (Admitted z (cell_of f o).fields) × (logged (emits f (Enter o z) v) (unlogged (emits f (Enter o z) v) es) ≡ es)) access (
       h.1,
       ap (λ z. labels.In o Reading (cell_of f o).fields.version 0 ∷ unlogged (labels.In o Reading (cell_of f o).fields.version 0) z) is
           ∙ (λ i. labels.In (object i) Reading (h.0 i) 0 ∷ rest) ∙ sym is,
@@ -225,7 +225,7 @@ open_entry f t v o a (Read p w) es rest is suits h =
 open_entry f t v o a (Write p w l) es rest is suits h =
     let object : ◌≡◌ {A = ℕ} o p = sym (let e : ◌≡◌ {A = ℕ} p o = cc suits in e) in
     let access : ◌≡◌ {A = Access} Writing a = cc suits in
-    subst (λ z. (Admitted z (cell_of f o).fields) × (logged (tells f (Enter o z) v) (unlogged (tells f (Enter o z) v) es) ≡ es)) access (
+    subst (λ z. (Admitted z (cell_of f o).fields) × (logged (emits f (Enter o z) v) (unlogged (emits f (Enter o z) v) es) ≡ es)) access (
       h.2,
       ap (λ z. labels.In o Writing (cell_of f o).fields.version (cell_of f o).fields.left
           ∷ unlogged (labels.In o Writing (cell_of f o).fields.version (cell_of f o).fields.left) z) is
@@ -233,21 +233,21 @@ open_entry f t v o a (Write p w l) es rest is suits h =
     )
 
 entry_open : (f : Flat) (t v o : ℕ) (a : Access) (e : Event) (es rest : List Label) → es ≡ label_of e ∷ rest → Suits (Enter o a) e
-    → Admitted a (cell_of f o).fields → logged (tells f (Enter o a) v) (unlogged (tells f (Enter o a) v) es) ≡ es → IsOpen (cell_of f o) e
+    → Admitted a (cell_of f o).fields → logged (emits f (Enter o a) v) (unlogged (emits f (Enter o a) v) es) ≡ es → IsOpen (cell_of f o) e
 entry_open f t v o a (Answer k w) es rest is suits can h = absurd (cc suits)
 entry_open f t v o a (Read p w) es rest is suits can h =
     let access : ◌≡◌ {A = Access} a Reading = sym (let e : ◌≡◌ {A = Access} Reading a = cc suits in e) in
-    let tells_read : labels.In o Reading (cell_of f o).fields.version 0
+    let emits_read : labels.In o Reading (cell_of f o).fields.version 0
     ∷ unlogged (labels.In o Reading (cell_of f o).fields.version 0) es ≡ es =
-    subst (λ z. logged (tells f (Enter o z) v) (unlogged (tells f (Enter o z) v) es) ≡ es) access h in
-    let both = tells_read ∙ is in
+    subst (λ z. logged (emits f (Enter o z) v) (unlogged (emits f (Enter o z) v) es) ≡ es) access h in
+    let both = emits_read ∙ is in
     ((let e : ◌≡◌ {A = ℕ} (cell_of f o).fields.version w = cc both in e), subst (λ z. Admitted z (cell_of f o).fields) access can)
 entry_open f t v o a (Write p w l) es rest is suits can h =
     let access : ◌≡◌ {A = Access} a Writing = sym (let e : ◌≡◌ {A = Access} Writing a = cc suits in e) in
-    let tells_write : labels.In o Writing (cell_of f o).fields.version (cell_of f o).fields.left
+    let emits_write : labels.In o Writing (cell_of f o).fields.version (cell_of f o).fields.left
     ∷ unlogged (labels.In o Writing (cell_of f o).fields.version (cell_of f o).fields.left) es ≡ es =
-    subst (λ z. logged (tells f (Enter o z) v) (unlogged (tells f (Enter o z) v) es) ≡ es) access h in
-    let both = tells_write ∙ is in (
+    subst (λ z. logged (emits f (Enter o z) v) (unlogged (emits f (Enter o z) v) es) ≡ es) access h in
+    let both = emits_write ∙ is in (
       (let e : ◌≡◌ {A = ℕ} (cell_of f o).fields.version w = cc both in e),
       (let e : ◌≡◌ {A = ℕ} (cell_of f o).fields.left l = cc both in e),
       subst (λ z. Admitted z (cell_of f o).fields) access can,
@@ -393,7 +393,7 @@ seen_other r f t l seen stopped (inr g) =
     let goes = subst (IsSeen r f t) g.1 seen in
     absurd (stopped g.0.result (subst (λ u. CanFollow r f u g.0.result) goes.0 goes.1.follows))
 
-suits_logged : (f : Flat) (v : ℕ) (es : List Label) (q : Ask) → logged (tells f q v) (unlogged (tells f q v) es) ≡ es
+suits_logged : (f : Flat) (v : ℕ) (es : List Label) (q : Ask) → logged (emits f q v) (unlogged (emits f q v) es) ≡ es
     → verdicts.Suits (shared_ask q) es
 suits_logged f v es Private h = tt
 suits_logged f v es (Env kind) h = subst (verdicts.Suits (machine.Env kind)) h refl

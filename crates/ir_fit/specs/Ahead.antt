@@ -17,7 +17,7 @@ use Rattle.ir_log.specs.Logging.{label_of}
 use Rattle.ir_log.specs.declared.event.Event.{Event}
 use Rattle.ir_log.specs.declared.event.Event.TheVariants.{Answer, Read, Write}
 use Rattle.ir_trace.specs.Recorded.{Recorded}
-use Rattle.ir_trace.specs.Told.{recorded_thread, trace_of}
+use Rattle.ir_trace.specs.TraceOf.{recorded_thread, trace_of}
 use Rattle.ir_runs.specs.Following.{unlogged, closing}
 use Rattle.ir_runs.specs.Verdicts.{Agrees}
 use Rattle.ir_fit.specs.declared.follower.look.Look.{Look}
@@ -64,7 +64,7 @@ pub record EndsSo (r : Recorded) (f : Flat) (t : ℕ) (e : End) : Type 0 where
   pub steps : steps_ahead r f t ≡ suc (held_count (thread_of f t).held)
   pub events : length (recorded_thread r t).events ≤ (thread_of f t).events
 
--- a step that the trace tells nothing of
+-- a step that the trace emits nothing of
 abbrev pub IsOwn : ask.Ask → Type 0
 IsOwn (asks.Env kind) = ⊥
 IsOwn (asks.Enter object access) = ⊥
@@ -78,7 +78,7 @@ pub record IsMove (r : Recorded) (f : Flat) (m : Move) : Type 0 where
   pub asked : m.asked ≡ ask_of f.code (thread_of f m.thread)
   pub follows : CanFollow r f m.thread m.result
 
--- the next step of thread t is an entry, and the next event that the trace tells of it is this one
+-- the next step of thread t is an entry, and the next event that the trace emits of it is this one
 pub record IsEntryAhead (r : Recorded) (f : Flat) (t : ℕ) (e : Event) : Type 0 where
   pub object : ℕ
   pub access : Access

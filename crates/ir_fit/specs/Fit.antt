@@ -4,7 +4,7 @@ use Rattle.ir_image.specs.Guest.{Guest, object_count}
 use Rattle.ir_flat.specs.Flat.{start_flat, tables, machine}
 use Rattle.ir_runs.specs.Run.{Step, trail}
 use Rattle.ir_trace.specs.Recorded.{Recorded, IsRecorded}
-use Rattle.ir_trace.specs.Told.{trace_of}
+use Rattle.ir_trace.specs.TraceOf.{trace_of}
 use Rattle.ir_coherence.specs.Breaking.{IsFirstBreak}
 use Rattle.ir_runs.specs.Coherent.{IsCoherent}
 use Rattle.ir_runs.specs.Following.{Follows, IsMaximal, closing}

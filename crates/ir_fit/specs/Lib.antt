@@ -3,5 +3,6 @@ pub mod Fit
 pub mod Numbers
 pub mod Ahead
 pub mod Places
+pub mod Growing
 pub mod Follower
 pub mod Visits

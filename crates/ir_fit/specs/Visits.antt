@@ -10,8 +10,8 @@ use Rattle.ir_runs.specs.Run.{join_if}
 use Rattle.ir_log.specs.declared.event.Event.{Event}
 use Rattle.ir_log.specs.declared.event.Event.TheVariants.{Answer, Read, Write}
 use Rattle.ir_trace.specs.Recorded.{Recorded}
-use Rattle.ir_trace.specs.Told.{recorded_thread}
-use Rattle.ir_runs.specs.Cuts.{Tells}
+use Rattle.ir_trace.specs.TraceOf.{recorded_thread}
+use Rattle.ir_runs.specs.Cuts.{Emits}
 use Rattle.ir_fit.specs.Fit.{FittedTrace, HasRun}
 use Rattle.ir_fit.specs.Places.{Placed, placed_at}
 use Rattle.ir_fit.specs.declared.leave.Leave.{Leave}
@@ -19,27 +19,27 @@ use Rattle.ir_fit.specs.declared.place.Place.{Place}
 
 -- ---- what the steps of a run tell
 
--- step k of thread t tells this in the run that is kept
-abbrev pub TellsIn : (f : FittedTrace) → HasRun f → ℕ → ℕ → Label → Type 0
-TellsIn f h t k told = Tells (machine (start_flat f.guest f.recorded.budget)) (tables (start_flat f.guest f.recorded.budget)) h.run t k told
+-- step k of thread t emits this in the run that is kept
+abbrev pub EmitsIn : (f : FittedTrace) → HasRun f → ℕ → ℕ → Label → Type 0
+EmitsIn f h t k emitted = Emits (machine (start_flat f.guest f.recorded.budget)) (tables (start_flat f.guest f.recorded.budget)) h.run t k emitted
 
 -- each of these is a step by which object o was left after such access at version v
 abbrev pub OnlyLeaves : FittedTrace → ℕ → Access → ℕ → List Place → Type 0
-OnlyLeaves f o a v ps = (h : HasRun f) (p : Place) → Contains ps p → (p.version ≡ v) × TellsIn f h p.thread p.position (Out o a v)
+OnlyLeaves f o a v ps = (h : HasRun f) (p : Place) → Contains ps p → (p.version ≡ v) × EmitsIn f h p.thread p.position (Out o a v)
 
 -- each such step is one of these
 abbrev pub AllLeaves : FittedTrace → ℕ → Access → ℕ → List Place → Type 0
-AllLeaves f o a v ps = (h : HasRun f) (t k : ℕ) → TellsIn f h t k (Out o a v)
+AllLeaves f o a v ps = (h : HasRun f) (t k : ℕ) → EmitsIn f h t k (Out o a v)
     → Contains ps (record { position = k; version = v; thread = t })
 
 -- each of these is a step by which object o was entered for such access at version v
 abbrev pub OnlyEntries : FittedTrace → ℕ → Access → ℕ → List Place → Type 0
 OnlyEntries f o a v ps = (h : HasRun f) (p : Place) → Contains ps p → (p.version ≡ v)
-    × ((l : ℕ) × TellsIn f h p.thread p.position (In o a v l))
+    × ((l : ℕ) × EmitsIn f h p.thread p.position (In o a v l))
 
 -- each such step is one of these
 abbrev pub AllEntries : FittedTrace → ℕ → Access → ℕ → List Place → Type 0
-AllEntries f o a v ps = (h : HasRun f) (t k l : ℕ) → TellsIn f h t k (In o a v l)
+AllEntries f o a v ps = (h : HasRun f) (t k l : ℕ) → EmitsIn f h t k (In o a v l)
     → Contains ps (record { position = k; version = v; thread = t })
 
 -- ---- how they are listed

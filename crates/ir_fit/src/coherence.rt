@@ -1,7 +1,7 @@
 //! Whether a trace is coherent.
 
 ghost use Rattle.std.specs.Prelude.{length, IfErr, OnOk};
-ghost use Rattle.ir_trace.specs.Told.{trace_of};
+ghost use Rattle.ir_trace.specs.TraceOf.{trace_of};
 ghost use Rattle.ir_runs.specs.Coherent.{IsCoherent};
 ghost use Rattle.ir_fit.specs.Fit.{BreaksBy};
 

@@ -44,7 +44,7 @@ pub fn guest(alloc: Global, starts: &[u8], objects: u8, code: &[u32]) -> Result<
 
 // What `fit` answers.
 #[derive(Clone, Copy, Debug, PartialEq)]
-enum Told {
+enum Judged {
     Fits,
     Header(HeaderCause),
     Breaks(u8, u32, Cause),
@@ -54,37 +54,37 @@ enum Told {
 }
 
 // What a verdict says.
-fn said(verdict: &Verdict) -> Told {
+fn said(verdict: &Verdict) -> Judged {
     match verdict {
-        Verdict::Header(cause) => Told::Header(*cause),
+        Verdict::Header(cause) => Judged::Header(*cause),
         Verdict::Incoherent {
             thread,
             event,
             cause,
-        } => Told::Breaks(*thread, *event, *cause),
-        Verdict::Threads(each) => Told::Threads(each.get(0).copied(), each.get(1).copied()),
+        } => Judged::Breaks(*thread, *event, *cause),
+        Verdict::Threads(each) => Judged::Threads(each.get(0).copied(), each.get(1).copied()),
     }
 }
 
 // What `fit` answers of the guest and the trace of these bytes.
-fn answer_of(alloc: Global, image: Image, bytes: &[u8]) -> Result<Told, Fail> {
+fn answer_of(alloc: Global, image: Image, bytes: &[u8]) -> Result<Judged, Fail> {
     let trace = read_trace(alloc, bytes)?;
     let answer = fit(alloc, image, trace);
     Ok(match &answer {
-        Ok(_) => Told::Fits,
-        Err(FitErr::NoMem) => Told::NoMem,
+        Ok(_) => Judged::Fits,
+        Err(FitErr::NoMem) => Judged::NoMem,
         Err(FitErr::Refused(verdict)) => said(verdict),
     })
 }
 
 // That the only thread disagrees.
-fn disagrees(event: u32, step: u64) -> Told {
-    Told::Threads(Some(ThreadVerdict::Disagrees { event, step }), None)
+fn disagrees(event: u32, step: u64) -> Judged {
+    Judged::Threads(Some(ThreadVerdict::Disagrees { event, step }), None)
 }
 
 // That the only thread starves.
-fn starves(event: u32) -> Told {
-    Told::Threads(Some(ThreadVerdict::Starves { event }), None)
+fn starves(event: u32) -> Judged {
+    Judged::Threads(Some(ThreadVerdict::Starves { event }), None)
 }
 
 // Prints a byte and ends with its double as the code.
@@ -107,7 +107,7 @@ fn double_trace(budget: u8, steps: [u8; 8], code: u8) -> [u8; 33] {
 }
 
 // Says what is said of the thread that prints, along such a trace.
-fn double(alloc: Global, budget: u8, steps: [u8; 8], code: u8) -> Result<Told, Fail> {
+fn double(alloc: Global, budget: u8, steps: [u8; 8], code: u8) -> Result<Judged, Fail> {
     let image = guest(alloc, &[0], 0, &DOUBLE)?;
     answer_of(alloc, image, &double_trace(budget, steps, code))
 }
@@ -115,7 +115,7 @@ fn double(alloc: Global, budget: u8, steps: [u8; 8], code: u8) -> Result<Told, F
 #[test]
 fn an_own_trace_fits(rt: HostRuntime) -> Result<(), Fail> {
     let said = double(rt.alloc(), 100, [6, 0, 0, 0, 0, 0, 0, 0], 144)?;
-    assert_eq!(rt; said, Told::Fits);
+    assert_eq!(rt; said, Judged::Fits);
     Ok(())
 }
 
@@ -159,7 +159,7 @@ pub const READ_AND_WRITE: [u32; 11] = [
 ];
 
 // Says what is said of the thread that reads and writes, along a trace with so many events.
-fn read_and_write(alloc: Global, count: u8, events: &[u8]) -> Result<Told, Fail> {
+fn read_and_write(alloc: Global, count: u8, events: &[u8]) -> Result<Judged, Fail> {
     let image = guest(alloc, &[0], 1, &READ_AND_WRITE)?;
     let mut bytes = Vec::new(alloc);
     bytes.extend_from_slice(&[0x49, 0x52, 0x54, 0x31, 1, 1, 0, 0, 100, 0, 0, 0, 0, 0, 0, 0])?;
@@ -171,11 +171,11 @@ fn read_and_write(alloc: Global, count: u8, events: &[u8]) -> Result<Told, Fail>
 #[test]
 fn a_writer_has_its_readers(rt: HostRuntime) -> Result<(), Fail> {
     let own = [4, 0, 0, 0, 0, 0, 5, 0, 0, 0, 0, 0, 1, 0, 0, 0];
-    assert_eq!(rt; read_and_write(rt.alloc(), 2, &own)?, Told::Fits);
+    assert_eq!(rt; read_and_write(rt.alloc(), 2, &own)?, Judged::Fits);
     let none = [4, 0, 0, 0, 0, 0, 5, 0, 0, 0, 0, 0, 0, 0, 0, 0];
     assert_eq!(rt;
         read_and_write(rt.alloc(), 2, &none)?,
-        Told::Breaks(0, 1, Cause::Readers)
+        Judged::Breaks(0, 1, Cause::Readers)
     );
     Ok(())
 }
@@ -300,7 +300,7 @@ pub fn crossed_trace(first: [u8; 2], second: [u8; 2]) -> [u8; 90] {
 }
 
 // What is answered of the two threads along such a trace.
-fn crossed(alloc: Global, first: [u8; 2], second: [u8; 2]) -> Result<Told, Fail> {
+fn crossed(alloc: Global, first: [u8; 2], second: [u8; 2]) -> Result<Judged, Fail> {
     let image = guest(alloc, &[0, 48], 2, &CROSSED)?;
     answer_of(alloc, image, &crossed_trace(first, second))
 }
@@ -310,15 +310,15 @@ fn each_waits_for_the_other(rt: HostRuntime) -> Result<(), Fail> {
     let starves = Some(ThreadVerdict::Starves { event: 0 });
     assert_eq!(rt;
         crossed(rt.alloc(), [1, 0], [1, 0])?,
-        Told::Threads(starves, starves)
+        Judged::Threads(starves, starves)
     );
     Ok(())
 }
 
 #[test]
 fn who_waits_goes_on_after_the_leave(rt: HostRuntime) -> Result<(), Fail> {
-    assert_eq!(rt; crossed(rt.alloc(), [1, 1], [0, 0])?, Told::Fits);
-    assert_eq!(rt; crossed(rt.alloc(), [0, 1], [0, 1])?, Told::Fits);
+    assert_eq!(rt; crossed(rt.alloc(), [1, 1], [0, 0])?, Judged::Fits);
+    assert_eq!(rt; crossed(rt.alloc(), [0, 1], [0, 1])?, Judged::Fits);
     Ok(())
 }
 
@@ -326,11 +326,11 @@ fn who_waits_goes_on_after_the_leave(rt: HostRuntime) -> Result<(), Fail> {
 fn an_incoherent_trace_is_named_before_any_step(rt: HostRuntime) -> Result<(), Fail> {
     assert_eq!(rt;
         crossed(rt.alloc(), [0, 0], [0, 0])?,
-        Told::Breaks(0, 0, Cause::Twice)
+        Judged::Breaks(0, 0, Cause::Twice)
     );
     assert_eq!(rt;
         crossed(rt.alloc(), [2, 1], [0, 0])?,
-        Told::Breaks(0, 0, Cause::Unmade)
+        Judged::Breaks(0, 0, Cause::Unmade)
     );
     Ok(())
 }
@@ -341,12 +341,12 @@ fn the_header_comes_first(rt: HostRuntime) -> Result<(), Fail> {
     let fewer = guest(rt.alloc(), &[0], 2, &CROSSED)?;
     assert_eq!(rt;
         answer_of(rt.alloc(), fewer, &bytes)?,
-        Told::Header(HeaderCause::Threads)
+        Judged::Header(HeaderCause::Threads)
     );
     let more = guest(rt.alloc(), &[0, 48], 3, &CROSSED)?;
     assert_eq!(rt;
         answer_of(rt.alloc(), more, &bytes)?,
-        Told::Header(HeaderCause::Objects)
+        Judged::Header(HeaderCause::Objects)
     );
     Ok(())
 }

@@ -12,8 +12,8 @@ use crate::fit_err::FitErr;
 use crate::fitted::Fitted;
 use crate::follower::Follower;
 use crate::follower::ending::followed;
+use crate::follower::growing::{GrowingPlaces, all_grown};
 use crate::header::same_header;
-use crate::places::Places;
 use crate::verdict::Verdict;
 use ir_image::Image;
 use ir_runs::ThreadVerdict;
@@ -37,7 +37,7 @@ impl Follower<'_> {
     }
 
     // The trace, and where each thread's events and leaves stand.
-    fn into_parts(self) -> (Trace, Vec<Places>)
+    fn into_parts(self) -> (Trace, Vec<GrowingPlaces>)
         ensures trace { result.0 ≡ self.entry.trace }
         ensures places { result.1.items ≡ self.entry.places.items }
     {
@@ -82,6 +82,7 @@ pub fn fit(alloc: Global, image: Image, trace: Trace) -> Result<Fitted, FitErr>
     if !all_same(&verdicts) {
         return Err(FitErr::Refused(Verdict::Threads(verdicts)));
     }
-    let (trace, places) = follower.into_parts();
+    let (trace, growing) = follower.into_parts();
+    let places = all_grown(alloc, growing)?;
     Ok(Fitted::new(alloc, image, trace, places)?)
 }

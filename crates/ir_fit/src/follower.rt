@@ -3,17 +3,18 @@
 ghost use Rattle.std.specs.Prelude.{◌≡◌, ◌<◌, length};
 ghost use Rattle.ir_flat.specs.Flat.{thread_of, cell_of, IsFlat};
 ghost use Rattle.ir_trace.specs.Recorded.{IsRecordedThread};
-ghost use Rattle.ir_trace.specs.Told.{recorded_thread};
+ghost use Rattle.ir_trace.specs.TraceOf.{recorded_thread};
 ghost use Rattle.ir_fit.specs.Ahead.{steps_ahead};
 
+use crate::follower::growing::GrowingPlaces;
 use crate::follower::readiness::Readiness;
-use crate::places::Places;
 use ir_flat::Flat;
 use ir_object::Object;
 use ir_thread::Thread;
 use ir_trace::{ThreadTrace, Trace};
 
 pub mod ending;
+pub mod growing;
 pub mod look;
 mod readiness;
 mod running;
@@ -25,7 +26,7 @@ pub struct Follower<'a> {
     pub flat: Flat<'a>,
     pub trace: Trace,
     pub ready: Vec<Readiness>,
-    pub places: Vec<Places>,
+    pub places: Vec<GrowingPlaces>,
 }
 
 impl Follower<'_> {
@@ -45,9 +46,9 @@ impl Follower<'_> {
     }
 
     // What the trace tells of thread t.
-    pub fn told(&self, t: usize) -> &ThreadTrace
+    pub fn emitted(&self, t: usize) -> &ThreadTrace
         requires { t < length self.now.trace.threads }
-        ensures told { result.now ≡ recorded_thread self.now.trace t }
+        ensures emitted { result.now ≡ recorded_thread self.now.trace t }
         ensures within { IsRecordedThread self.now.trace.objects (recorded_thread self.now.trace t) }
     {
         &self.trace.threads()[t]
@@ -56,9 +57,11 @@ impl Follower<'_> {
     // How many steps the trace leaves to thread t.
     pub fn steps_left(&self, t: usize) -> u64
         requires thread { t < length self.now.flat.threads }
-        requires told { t < length self.now.trace.threads }
+        requires emitted { t < length self.now.trace.threads }
         ensures { result ≡ steps_ahead self.now.trace self.now.flat t }
     {
-        self.told(t).steps().saturating_sub(self.thread(t).steps())
+        self.emitted(t)
+            .steps()
+            .saturating_sub(self.thread(t).steps())
     }
 }

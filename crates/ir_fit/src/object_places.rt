@@ -82,7 +82,7 @@ impl ObjectPlaces {
     // Those at this version, where they are in order.
     pub fn at(&self, version: u32) -> &[Place]
         requires { IsNonDecreasingBy (λ (p : Place). p.version) self.now }
-        ensures told { (p : Place) → Contains result.now p → Contains self.now p × (p.version ≡ version) }
+        ensures emitted { (p : Place) → Contains result.now p → Contains self.now p × (p.version ≡ version) }
         ensures all { (p : Place) → Contains self.now p → p.version ≡ version → Contains result.now p }
     {
         let places = self.places.as_slice();

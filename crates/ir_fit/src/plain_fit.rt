@@ -145,8 +145,8 @@ struct Place {
     // The position where the thread would be done, if its next step ended it.
     last: u64,
     next: Option<Event>,
-    told_steps: u64,
-    told_end: End,
+    emitted_steps: u64,
+    emitted_end: End,
 }
 
 // Where thread t stands, if there is such a thread.
@@ -155,16 +155,20 @@ fn place_of(flat: &Flat, trace: &Trace, t: usize) -> Option<Place> {
         return None;
     }
     let thread = flat.threads().get(t)?;
-    let told = trace.threads().get(t)?;
+    let emitted = trace.threads().get(t)?;
     let held = thread.held().iter().filter(|place| place.is_some()).count();
     Some(Place {
         asked: flat.ask(t),
         steps: thread.steps(),
         events: thread.events(),
         last: thread.steps() + 1 + held as u64,
-        next: told.log().events().get(thread.events() as usize).copied(),
-        told_steps: told.steps(),
-        told_end: told.end(),
+        next: emitted
+            .log()
+            .events()
+            .get(thread.events() as usize)
+            .copied(),
+        emitted_steps: emitted.steps(),
+        emitted_end: emitted.end(),
     })
 }
 
@@ -172,13 +176,25 @@ impl Place {
     // Where an event is asked for, the next one is of that kind and object.
     fn suits(self) -> bool {
         match (self.asked, self.next) {
-            (Ask::Env(kind), Some(Event::Answer(told, _))) => kind == told,
-            (Ask::Enter(object, Access::Reading), Some(Event::Read { object: told, .. })) => {
-                object == told
-            }
-            (Ask::Enter(object, Access::Writing), Some(Event::Write { object: told, .. })) => {
-                object == told
-            }
+            (Ask::Env(kind), Some(Event::Answer(emitted, _))) => kind == emitted,
+            (
+                Ask::Enter(object, Access::Reading),
+                Some(
+                    Event::Read {
+                        object: emitted,
+                        ..
+                    },
+                ),
+            ) => { object == emitted }
+            (
+                Ask::Enter(object, Access::Writing),
+                Some(
+                    Event::Write {
+                        object: emitted,
+                        ..
+                    },
+                ),
+            ) => { object == emitted }
             (Ask::Env(_) | Ask::Enter(..), _) => false,
             _ => true,
         }
@@ -188,7 +204,7 @@ impl Place {
     fn ends_so(self) -> bool {
         match self.asked {
             Ask::End(end) => {
-                end == self.told_end && self.next.is_none() && self.last == self.told_steps
+                end == self.emitted_end && self.next.is_none() && self.last == self.emitted_steps
             }
             _ => true,
         }
@@ -196,7 +212,7 @@ impl Place {
 
     // The thread's next step is the trace's, whether it can be taken now or not.
     fn agrees(self) -> bool {
-        self.steps < self.told_steps && self.suits() && self.ends_so()
+        self.steps < self.emitted_steps && self.suits() && self.ends_so()
     }
 
     // An entry has the version and the readers of the next event.
@@ -221,7 +237,7 @@ impl Place {
     }
 
     // The result that the next event has.
-    fn result_told(self) -> u32 {
+    fn result_emitted(self) -> u32 {
         match self.next {
             Some(Event::Answer(_, value)) => value,
             _ => 0,
@@ -255,7 +271,7 @@ fn after_step<'a>(
         return Ok(None);
     }
     let mut copy = flat.copy()?;
-    if copy.step(t, place.result_told()).is_err() {
+    if copy.step(t, place.result_emitted()).is_err() {
         return Ok(None);
     }
     go_on(&mut copy, trace, t);

@@ -121,7 +121,7 @@ impl Visits {
     // Those at the version.
     pub fn at(&self, object: u8, access: Access, version: u32) -> &[Place]
         requires { IsNonDecreasingBy (λ (p : Place). p.version) (listed self.now object access) }
-        ensures told { (p : Place) → Contains result.now p → Contains (listed self.now object access) p × (p.version ≡ version) }
+        ensures emitted { (p : Place) → Contains result.now p → Contains (listed self.now object access) p × (p.version ≡ version) }
         ensures all { (p : Place) → Contains (listed self.now object access) p → p.version ≡ version → Contains result.now p }
     {
         self.list(object, access).at(version)

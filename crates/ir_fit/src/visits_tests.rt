@@ -20,15 +20,15 @@ const LOST_UPDATE: [u8; 82] = [
 // The first three of the places: thread, position and version.
 type Three = [Option<(u8, u64, u32)>; 3];
 
-fn told(place: &Place) -> (u8, u64, u32) {
+fn emitted(place: &Place) -> (u8, u64, u32) {
     (place.thread, place.position, place.version)
 }
 
 fn three(places: &[Place]) -> Three {
     [
-        places.first().map(told),
-        places.get(1).map(told),
-        places.get(2).map(told),
+        places.first().map(emitted),
+        places.get(1).map(emitted),
+        places.get(2).map(emitted),
     ]
 }
 

@@ -8,7 +8,7 @@ use Rattle.ir_thread.specs.State as thread
 use Rattle.ir_thread.specs.declared.ask.Ask.TheVariants.{Private}
 use Rattle.ir_thread.specs.declared.ask.Reply.TheVariants.{Go}
 use Rattle.ir_thread.proofs.CallerLemmas.{ask_permits}
-use Rattle.ir_runs.specs.Object.{target, told}
+use Rattle.ir_runs.specs.Object.{target, emitted}
 use Rattle.ir_runs.specs.Machine.{act_of}
 use Rattle.ir_thread.specs.Instance.{shared_ask}
 use Rattle.ir_flat.specs.Alone.{WentAlone}
@@ -38,9 +38,9 @@ quiet_first : (b : Bool) (x : thread.State) (k : Label) (xs : List (thread.State
 quiet_first true x k xs e = ap (λ z. events ((x, z) ∷ xs)) e
 quiet_first false x k xs e = refl
 
--- a private step tells nothing
-tells_nothing : (f : Flat) (t : ℕ) → ask_of f.code (thread_of f t) ≡ Private → label (machine f) (tables f) (t, 0) ≡ Quiet
-tells_nothing f t is = ap (λ q. told (act_of (shared_ask q) 0) ((tables f).objects (target (act_of (shared_ask q) 0)))) is
+-- a private step emits nothing
+emits_nothing : (f : Flat) (t : ℕ) → ask_of f.code (thread_of f t) ≡ Private → label (machine f) (tables f) (t, 0) ≡ Quiet
+emits_nothing f t is = ap (λ q. emitted (act_of (shared_ask q) 0) ((tables f).objects (target (act_of (shared_ask q) 0)))) is
 
 -- no step
 nothing_done : (f : Flat) (t : ℕ) (y : thread.State) → PrivateSteps f.code 0 (thread_of f t) y → WentAlone f (with_thread f t y) t 0
@@ -85,7 +85,7 @@ one_more f t y n flat l p rest =
       ends = sym (ap tables again_flat) ∙ w.ends ∙ ap (λ s. end (machine f) s (replicate n (t, 0))) first;
       each = λ k below. at_step k below is first w;
       quiet = λ u. quiet_first (eqb u t) ((tables f).now u) (label (machine f) (tables f) (t, 0))
-          (trail (machine f) (after (machine f) (tables f) (t, 0)) (replicate n (t, 0)) u) (tells_nothing f t is)
+          (trail (machine f) (after (machine f) (tables f) (t, 0)) (replicate n (t, 0)) u) (emits_nothing f t is)
           ∙ ap (λ s. log (machine f) s (replicate n (t, 0)) u) (sym first) ∙ w.quiet u;
       code = refl;
       threads = length-set f.threads t y;

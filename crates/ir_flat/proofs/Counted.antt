@@ -11,7 +11,7 @@ use Rattle.ir_runs.specs.declared.access.Access.TheVariants.{Reading, Writing}
 use Rattle.ir_thread.specs.declared.ask.Ask.{Ask}
 use Rattle.ir_thread.specs.declared.ask.Ask.TheVariants.{Private, Env, Enter, Leave, Get, Put, Print, End, Done}
 use Rattle.ir_thread.specs.declared.ask.Reply.{Reply}
-use Rattle.ir_runs.specs.Object.{Object, target, reply, told, Admits}
+use Rattle.ir_runs.specs.Object.{Object, target, reply, emitted, Admits}
 use Rattle.ir_runs.proofs.CallerLemmas.{upd_same, upd_other}
 use Rattle.ir_runs.specs.Run.{State, Step, act, Can, after, label, IsRun, end, join_if, trail, events, log, count}
 use Rattle.ir_flat.proofs.Kept.{added, events_added}
@@ -42,7 +42,7 @@ really_done Print e = absurd (cc e)
 really_done (End k) e = absurd (cc e)
 really_done Done e = refl
 
-label_added : (q : Ask) (r : ℕ) (b : Object) → length (logged (told (act_of (shared_ask q) r) b) []) ≡ added q
+label_added : (q : Ask) (r : ℕ) (b : Object) → length (logged (emitted (act_of (shared_ask q) r) b) []) ≡ added q
 label_added Private r b = refl
 label_added (Env kind) r b = refl
 label_added (Enter o Reading) r b = refl

@@ -4,7 +4,7 @@ use Rattle.std.proofs.Math.Path.{fun_ext}
 use Rattle.std.proofs.lemmas.Bool.{cases_eq, cases_lt, lt-ltb, le-ltb, eqb-true}
 use Rattle.ir_runs.specs.Machine.{Ask, Private, Env, Enter, Try, Leave, Get, Put, Done, Act, act_of, Silent, Result, Entry, Refusal, Exit, Load, Store, Never, Machine, upd}
 use Rattle.ir_runs.specs.Labels.{Label}
-use Rattle.ir_runs.specs.Object.{Object, target, Admits, acted, reply, told}
+use Rattle.ir_runs.specs.Object.{Object, target, Admits, acted, reply, emitted}
 use Rattle.ir_object.specs.Order.{is_shared, Shared, keep_if, of_thread, IsAllowed, objects_after, order_labels}
 use Rattle.ir_runs.proofs.CallerLemmas.{upd_same, upd_other, upd_id, run_append, trail_append, end_append}
 use Rattle.ir_runs.specs.Run.{State, Step, moved, Can, after, IsRun, end, trail, join_if, label}
@@ -70,9 +70,9 @@ pub record Led {T : Type 0} (m : Machine T) (now : ℕ → T) (t : ℕ) (x : T) 
   pub trails : (ks : List Label) → trail m (With now t x f) (map (λ r. (t, r)) ls) t ++ alone_trail m y ws ks ≡ alone_trail m x vs ks
   pub others : (u : ℕ) → u ≢ t → trail m (With now t x f) (map (λ r. (t, r)) ls) u ≡ []
 
--- what a private step tells
+-- what a private step emits
 private_label : {T : Type 0} (m : Machine T) (q : Act) (v : ℕ) (b : Object) (ks : List Label) → is_shared q ≡ false → MayReply m q v
-    → told q b ≡ alone_label q ks
+    → emitted q b ≡ alone_label q ks
 private_label m Silent v b ks p h = refl
 private_label m (Refusal _) v b ks p h = refl
 private_label m (Result k res) v b ks p h = refl
@@ -123,7 +123,7 @@ leads_on m now t x f v vs h false p k =
           ∷ (trail m z (map (λ r. (t, r)) (lead m (m.take x v) vs)) t ++ alone_trail m (led m (m.take x v) vs) (remain m (m.take x v) vs)
           ks)) g.1
           ∙ ap (λ z. (upd now t x t, label m (With now t x f) (t, v)) ∷ z) (k.trails ks)
-          ∙ ap (λ z. (z, told (act_of (m.ask z) v) (f (target (act_of (m.ask z) v)))) ∷ alone_trail m (m.take x v) vs ks) (upd_same now t x)
+          ∙ ap (λ z. (z, emitted (act_of (m.ask z) v) (f (target (act_of (m.ask z) v)))) ∷ alone_trail m (m.take x v) vs ks) (upd_same now t x)
           ∙ ap (λ z. (x, z) ∷ alone_trail m (m.take x v) vs ks)
           (private_label m (act_of (m.ask x) v) v (f (target (act_of (m.ask x) v))) ks p h.0)
           ∙ ap (λ b. (x, alone_label (act_of (m.ask x) v) ks) ∷ alone_trail m (m.take x v) vs (labels_left b ks)) (sym p);
@@ -347,9 +347,9 @@ spliced {T} m now f rs n (x ∷ xs) idle alone steps allowed =
     (λ u. two now rs t (m.take y v) (tail_of ws) u (λ w a b. shared_steps m a b ≡ of_thread w xs) c.steps
     (λ ne. steps u ∙ ap (λ b. keep_if b x.1 (of_thread u xs)) (ne_eqb u t ne)))
     allowed.2 in
-    let k0 : Label = told q (f (target q)) in
+    let k0 : Label = emitted q (f (target q)) in
     let marked : label m (With now t y f) (t, v) ≡ k0 =
-    ap (λ w. told (act_of (m.ask w) v) (f (target (act_of (m.ask w) v)))) (upd_same now t y) ∙ ap (λ w. told w (f (target w))) c.does in
+    ap (λ w. emitted (act_of (m.ask w) v) (f (target (act_of (m.ask w) v)))) (upd_same now t y) ∙ ap (λ w. emitted w (f (target w))) c.does in
     let same : (u : ℕ) → trail m (state_of now f) (map (λ r. (t, r)) (lead m (now t) (rs t))) u ≡ trail m (With now t (now t) f)
     (map (λ r. (t, r)) (lead m (now t) (rs t))) u =
     λ u. ap (λ w. trail m w (map (λ r. (t, r)) (lead m (now t) (rs t))) u) (sym (with_now now t f)) in

@@ -64,7 +64,7 @@ splice m now rs n [] = last_steps rs n
 splice m now rs n (x ∷ xs) = map (λ r. (x.0, r)) (lead m (now x.0) (rs x.0)) ++ (x.0, x.1.1)
     ∷ splice m (upd now x.0 (m.take (led m (now x.0) (rs x.0)) x.1.1)) (upd rs x.0 (tail_of (remain m (now x.0) (rs x.0)))) n xs
 
--- what a step of a thread alone tells, where ks is what its object steps tell
+-- what a step of a thread alone emits, where ks is what its object steps tell
 abbrev pub alone_label : Act → List Label → Label
 alone_label Silent ks = Quiet
 alone_label (Result k v) ks = Answer k v

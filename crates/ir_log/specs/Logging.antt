@@ -1,4 +1,4 @@
--- What an event tells of a step.
+-- The label that an event stands for.
 use Rattle.std.specs.Prelude.{◌≡◌}
 use Rattle.ir_runs.specs.Labels.{Label}
 use Rattle.ir_runs.specs.Labels as labels

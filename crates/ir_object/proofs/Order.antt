@@ -6,7 +6,7 @@ use Rattle.ir_runs.specs.Machine.{Act, Silent, Result, Entry, Refusal, Exit, Loa
 use Rattle.ir_runs.specs.Labels.{Label}
 use Rattle.ir_runs.specs.declared.access.Access.{Access}
 use Rattle.ir_runs.specs.declared.access.Access.TheVariants.{Reading, Writing}
-use Rattle.ir_runs.specs.Object.{Object, target, Admits, acted, reply, told}
+use Rattle.ir_runs.specs.Object.{Object, target, Admits, acted, reply, emitted}
 use Rattle.ir_object.specs.Order.{is_shared, Shared, keep_if, of_thread, objects_then, objects_after, IsAllowed, order_labels, Uses, IsStep, IsLegal, inside_then, inside_if, inside_after}
 use Rattle.ir_runs.proofs.CallerLemmas.{upd_same, upd_other, upd_elim}
 
@@ -37,9 +37,9 @@ after_more f [] x = refl
 after_more f (y ∷ xs) x = after_more (objects_then f y) xs x
 
 pub labels_more : (f : ℕ → Object) (xs : List (ℕ × Shared)) (x : ℕ × Shared)
-    → order_labels f (xs ++ x ∷ []) ≡ order_labels f xs ++ (x.0, told x.1.0 (objects_after f xs (target x.1.0))) ∷ []
+    → order_labels f (xs ++ x ∷ []) ≡ order_labels f xs ++ (x.0, emitted x.1.0 (objects_after f xs (target x.1.0))) ∷ []
 labels_more f [] x = refl
-labels_more f (y ∷ xs) x = ap (λ z. (y.0, told y.1.0 (f (target y.1.0))) ∷ z) (labels_more (objects_then f y) xs x)
+labels_more f (y ∷ xs) x = ap (λ z. (y.0, emitted y.1.0 (f (target y.1.0))) ∷ z) (labels_more (objects_then f y) xs x)
 
 pub legal_more : {T : Type 0} (m : Machine T) (n count : ℕ) (f : ℕ → Object) (xs : List (ℕ × Shared)) (x : ℕ × Shared)
     → IsLegal m n count f xs → IsStep m n count (objects_after f xs) x → IsLegal m n count f (xs ++ x ∷ [])

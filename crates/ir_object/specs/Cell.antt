@@ -59,7 +59,7 @@ pub record StandsFor (n : ℕ) (c : Cell) (b : Object) : Type 0 where
   pub inside : Counts n c.fields b.inside
   pub words : (i : ℕ) → i < object_words → slice_index c.words i ≡ b.words i
 
--- the word tells who may enter and leave, and the code's object goes on standing for the object after each step of a thread
+-- the word emits who may enter and leave, and the code's object goes on standing for the object after each step of a thread
 pub record WordsStand : Type 0 where
   pub reads : (n : ℕ) (f : Fields) (inside : ℕ → Option Access) → Counts n f inside
       → Admitted Reading f ↔ ((u : ℕ) → inside u ≢ Some Writing)

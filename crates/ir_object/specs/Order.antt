@@ -5,7 +5,7 @@ use Rattle.ir_runs.specs.Machine.{Act, Silent, Result, Entry, Refusal, Exit, Loa
 use Rattle.ir_runs.specs.Labels.{Label}
 use Rattle.ir_runs.specs.declared.access.Access.{Access}
 use Rattle.ir_runs.specs.declared.access.Access.TheVariants.{Writing}
-use Rattle.ir_runs.specs.Object.{Object, target, Admits, acted, reply, told}
+use Rattle.ir_runs.specs.Object.{Object, target, Admits, acted, reply, emitted}
 
 -- whether the act is about an object
 abbrev pub is_shared : Act → Bool
@@ -46,10 +46,10 @@ abbrev pub IsAllowed : {T : Type 0} → Machine T → (ℕ → Object) → List 
 IsAllowed m f [] = Unit {0}
 IsAllowed m f (x ∷ xs) = Admits m x.1.0 (f (target x.1.0)) × (reply x.1.0 (f (target x.1.0)) ≡ x.1.1) × IsAllowed m (objects_then f x) xs
 
--- what each object step of the order tells
+-- what each object step of the order emits
 abbrev pub order_labels : (ℕ → Object) → List (ℕ × Shared) → List (ℕ × Label)
 order_labels f [] = []
-order_labels f (x ∷ xs) = (x.0, told x.1.0 (f (target x.1.0))) ∷ order_labels (objects_then f x) xs
+order_labels f (x ∷ xs) = (x.0, emitted x.1.0 (f (target x.1.0))) ∷ order_labels (objects_then f x) xs
 
 -- how a thread is inside the object that it does this to
 abbrev pub Uses : Act → Option Access → Type 0

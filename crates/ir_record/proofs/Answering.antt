@@ -7,7 +7,7 @@ use Rattle.ir_runs.specs.Labels.{Answer}
 use Rattle.ir_thread.specs.declared.ask.Ask.TheVariants.{Env}
 use Rattle.ir_runs.specs.declared.env_kind.EnvKind.{EnvKind}
 use Rattle.ir_thread.proofs.CallerLemmas.{ask_permits}
-use Rattle.ir_runs.specs.Object.{target, told, Admits}
+use Rattle.ir_runs.specs.Object.{target, emitted, Admits}
 use Rattle.ir_flat.specs.Flat.{Flat, thread_of, tables, machine, IsFlat}
 use Rattle.ir_runs.specs.Run.{Can, after}
 use Rattle.ir_flat.proofs.CallerLemmas.{added}
@@ -62,7 +62,7 @@ answer_took f g logs more t value kind a answers given l e =
       code = a.code;
       threads = a.threads;
       objects = a.objects;
-      tells = ap (λ q. told (act_of (shared_ask q) value) ((tables f).objects (target (act_of (shared_ask q) value)))) a.asked;
+      emits = ap (λ q. emitted (act_of (shared_ask q) value) ((tables f).objects (target (act_of (shared_ask q) value)))) a.asked;
       own_log = subst (λ z. labels_at z t ≡ labels_at logs t ++ Answer kind value ∷ []) (sym a.logged)
           (labels_pushed logs t (event.Answer kind value) a.new (omega (arith, a.below, a.tape.one_each)) a.pushed);
       own_answers = ap (λ z. answers_at z t) e ∙ get_or-set_same answers t (answers_at answers t ++ (kind, value) ∷ []) [] l;

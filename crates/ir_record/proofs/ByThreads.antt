@@ -26,13 +26,13 @@ use Rattle.ir_flat.proofs.CallerLemmas.{start_none, start_idle, spliced}
 use Rattle.ir_log.specs.Logged.{Logged}
 use Rattle.ir_log.specs.Logging as logging
 use Rattle.ir_trace.specs.Recorded.{Recorded}
-use Rattle.ir_trace.specs.Told.{absent}
+use Rattle.ir_trace.specs.TraceOf.{absent}
 use Rattle.ir_record.specs.Gathered.{IsThreadTrace}
 use Rattle.ir_record.specs.Progress.{no_log, answers_at}
 use Rattle.ir_record.specs.Recording.{IsRecordingOfSome}
 use Rattle.ir_record.specs.Working.{Work, IsWorking}
 use Rattle.ir_record.specs.Worlds.{Answered, answers_in}
-use Rattle.ir_record.proofs.Telling.{StandAtEnd, told_there, printed_there, answered_there}
+use Rattle.ir_record.proofs.Telling.{StandAtEnd, emitted_there, printed_there, answered_there}
 
 -- ---- the start
 
@@ -195,11 +195,11 @@ recorded_of g budget before ws v objects over e view trace counted limit all tra
     (subst (λ z. IsAllowed m z e.steps) (sym same) (allowed m (length g.entries) (object_count g) (start_objects g) e.steps e.legal)) in
     let now : ℕ → thread.State = λ t. (work_at ws t).thread in
     let logs : ℕ → Logged = λ t. (work_at ws t).log in
-    let told : ℕ → List Answered = λ t. (work_at ws t).answers in
+    let emitted : ℕ → List Answered = λ t. (work_at ws t).answers in
     let own_log : (t : ℕ) → t < length g.entries → map logging.label_of (logs t).events ≡ log m s run t = λ t l.
     sym (ap events (k.trails t) ∙ ap (λ z. events (alone_trail m (s.now t) (rs t) (of_thread t (order_labels z e.steps)))) same
     ∙ (p t).logged l) in
-    let stand : StandAtEnd g budget run before now logs told = record {
+    let stand : StandAtEnd g budget run before now logs emitted = record {
       runs = k.ok;
       threads = λ t l. sym (k.threads t ∙ (p t).threads_are l);
       logged = own_log;
@@ -209,13 +209,13 @@ recorded_of g budget before ws v objects over e view trace counted limit all tra
     record {
       run = run;
       of = record {
-        told = told_there g budget run before now logs told stand (λ t. ap (λ x. shared_ask (ask_of g.code x)) (k.threads t) ∙ (p t).done)
+        emitted = emitted_there g budget run before now logs emitted stand (λ t. ap (λ x. shared_ask (ask_of g.code x)) (k.threads t) ∙ (p t).done)
             trace counted limit all traces;
-        printed = printed_there g budget run before now logs told stand outputs
+        printed = printed_there g budget run before now logs emitted stand outputs
             (ap (λ z. length z) printed ∙ length-map ws (λ w. w.thread.output) ∙ size)
             (λ t l. ap (λ z. slice_get z t) printed ∙ slice_get-map (λ w. w.thread.output) ws t
             ∙ ap (option_map (λ w. w.thread.output)) (slice_get-get_or ws t no_work (omega (arith, l, size))));
-        answered = answered_there g budget run before now logs told stand answers
+        answered = answered_there g budget run before now logs emitted stand answers
             (ap (λ z. length z) given ∙ length-map ws (λ w. w.answers) ∙ size)
             (λ t l. ap (λ z. slice_get z t) given ∙ slice_get-map (λ w. w.answers) ws t
             ∙ ap (option_map (λ w. w.answers)) (slice_get-get_or ws t no_work (omega (arith, l, size))));

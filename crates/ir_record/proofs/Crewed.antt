@@ -13,7 +13,7 @@ use Rattle.ir_thread.proofs.CallerLemmas.{ask_permits}
 use Rattle.ir_crew.specs.Plays.{M}
 use Rattle.ir_log.specs.Logged.{Logged}
 use Rattle.ir_trace.specs.Recorded.{RecordedThread}
-use Rattle.ir_trace.specs.Told.{absent}
+use Rattle.ir_trace.specs.TraceOf.{absent}
 use Rattle.ir_record.specs.Gathered.{IsThreadTrace}
 use Rattle.ir_record.specs.Progress.{answers_at}
 use Rattle.ir_record.specs.Threads.{IsNew, AreNew, IsOver, AreTraces, IsSeatOf, views_of, Pairs}

@@ -24,7 +24,7 @@ use Rattle.ir_runs.specs.InOrder.{HasNone, rounds}
 use Rattle.ir_record.specs.Progress.{Progress, Took, IsReady, log_at, answers_at, no_log}
 use Rattle.ir_record.specs.Recording.{IsRecording}
 use Rattle.ir_record.specs.Worlds.{Answered, NoneFailed}
-use Rattle.ir_record.proofs.Telling.{StandAtEnd, told_there, printed_there, answered_there}
+use Rattle.ir_record.proofs.Telling.{StandAtEnd, emitted_there, printed_there, answered_there}
 
 -- ---- the start
 
@@ -154,7 +154,7 @@ recorded_there guest budget order before b o failed ready trace objects limit tr
       run = o.took.run;
       by_order = record { count = o.count; turns = o.took.turns; done = done_there guest budget order before b o };
       of = record {
-        told = told_there guest budget o.took.run before (thread_of b.flat) (log_at b.logs) (answers_at b.answers) stand
+        emitted = emitted_there guest budget o.took.run before (thread_of b.flat) (log_at b.logs) (answers_at b.answers) stand
             (done_there guest budget order before b o) trace
             (objects ∙ o.took.objects ∙ cells_length guest.words (object_count guest)) limit (traces.count ∙ logs)
             (λ t l. traces.each t (omega (arith, l, logs)));

@@ -10,7 +10,7 @@ use Rattle.ir_runs.specs.declared.access.Access.TheVariants.{Reading, Writing}
 use Rattle.ir_thread.specs.declared.ask.Ask.{Ask}
 use Rattle.ir_thread.specs.declared.ask.Ask.TheVariants.{Private, Env, Enter, Leave, Get, Put, Print, End, Done}
 use Rattle.ir_thread.proofs.CallerLemmas.{ask_permits}
-use Rattle.ir_runs.specs.Object.{Object, target, told, Admits}
+use Rattle.ir_runs.specs.Object.{Object, target, emitted, Admits}
 use Rattle.ir_flat.specs.Flat.{Flat, thread_of, tables, machine, IsFlat}
 use Rattle.ir_runs.specs.Run.{Can, after, label}
 use Rattle.ir_flat.proofs.CallerLemmas.{added}
@@ -76,7 +76,7 @@ pub record Entering (f g : Flat) (logs more : List Logged) (t o : ℕ) (a : Acce
   pub flat : IsFlat f
   pub below : t < length f.threads
   pub asked : ask_of f.code (thread_of f t) ≡ Enter o a
-  pub tells : label_of e ≡ told (machine.Entry o a 0) ((tables f).objects o)
+  pub emits : label_of e ≡ emitted (machine.Entry o a 0) ((tables f).objects o)
   pub fits : IsEvent (length f.objects) e
   pub can : Can (machine f) (tables f) (t, 0)
   pub taken : tables g ≡ after (machine f) (tables f) (t, 0)
@@ -93,11 +93,11 @@ enter_tape f g logs more t o a e x =
     x.pushed)
 
 -- what an entry tells is logged, and is no answer
-entry_logged : (o : ℕ) (a : Access) (b : Object) → logged (told (machine.Entry o a 0) b) [] ≡ told (machine.Entry o a 0) b ∷ []
+entry_logged : (o : ℕ) (a : Access) (b : Object) → logged (emitted (machine.Entry o a 0) b) [] ≡ emitted (machine.Entry o a 0) b ∷ []
 entry_logged o Reading b = refl
 entry_logged o Writing b = refl
 
-entry_unanswered : (o : ℕ) (a : Access) (b : Object) → answers_in (logged (told (machine.Entry o a 0) b) []) ≡ []
+entry_unanswered : (o : ℕ) (a : Access) (b : Object) → answers_in (logged (emitted (machine.Entry o a 0) b) []) ≡ []
 entry_unanswered o Reading b = refl
 entry_unanswered o Writing b = refl
 
@@ -105,7 +105,7 @@ pub enter_took : (f g : Flat) (logs more : List Logged) (t o : ℕ) (a : Access)
     → (answers : List (List Answered))
     → TookIf true (t ∷ []) (record { flat = f; logs = logs; answers = answers }) (record { flat = g; logs = more; answers = answers })
 enter_took f g logs more t o a e x answers =
-    let k : Label = told (machine.Entry o a 0) ((tables f).objects o) in
+    let k : Label = emitted (machine.Entry o a 0) ((tables f).objects o) in
     took_one t 0 k (record { flat = f; logs = logs; answers = answers }) (record { flat = g; logs = more; answers = answers }) (record {
       below = x.below;
       few = flat_few f x.flat;
@@ -114,10 +114,10 @@ enter_took f g logs more t o a e x answers =
       code = x.code;
       threads = x.threads;
       objects = x.objects;
-      tells = ap (λ q. told (act_of (shared_ask q) 0) ((tables f).objects (target (act_of (shared_ask q) 0)))) x.asked;
+      emits = ap (λ q. emitted (act_of (shared_ask q) 0) ((tables f).objects (target (act_of (shared_ask q) 0)))) x.asked;
       own_log = subst (λ z. labels_at z t ≡ labels_at logs t ++ logged k []) (sym x.logged)
           (labels_pushed logs t e x.new (omega (arith, x.below, x.tape.one_each)) x.pushed
-          ∙ ap (λ z. labels_at logs t ++ z) (ap (λ z. z ∷ []) x.tells ∙ sym (entry_logged o a ((tables f).objects o))));
+          ∙ ap (λ z. labels_at logs t ++ z) (ap (λ z. z ∷ []) x.emits ∙ sym (entry_logged o a ((tables f).objects o))));
       own_answers = sym (append-nil (answers_at answers t))
           ∙ ap (λ z. answers_at answers t ++ z) (sym (entry_unanswered o a ((tables f).objects o)));
       other_logs = λ u ne. subst (λ z. labels_at z u ≡ labels_at logs u) (sym x.logged) (labels_other logs t u x.new ne);
@@ -147,7 +147,7 @@ quiet_added Print k = refl
 quiet_added (End e) k = refl
 quiet_added Done k = refl
 
-quiet_logged : (q : Ask) (b : Object) → IsQuiet q → logged (told (act_of (shared_ask q) 0) b) [] ≡ []
+quiet_logged : (q : Ask) (b : Object) → IsQuiet q → logged (emitted (act_of (shared_ask q) 0) b) [] ≡ []
 quiet_logged Private b k = refl
 quiet_logged (Env kind) b k = absurd k
 quiet_logged (Enter o a) b k = absurd k
@@ -174,7 +174,7 @@ go_took f g logs t x answers =
       code = x.code;
       threads = x.threads;
       objects = x.objects;
-      tells = refl;
+      emits = refl;
       own_log = sym (append-nil (labels_at logs t)) ∙ ap (λ z. labels_at logs t ++ z) (sym none);
       own_answers = sym (append-nil (answers_at answers t)) ∙ ap (λ z. answers_at answers t ++ answers_in z) (sym none);
       other_logs = λ u ne. refl;

@@ -8,7 +8,7 @@ use Rattle.ir_flat.specs.Flat.{Flat, thread_of, idle}
 use Rattle.ir_log.specs.Logged.{Logged}
 use Rattle.ir_trace.specs.Recorded.{RecordedThread}
 use Rattle.ir_record.specs.Gathered.{IsThreadTrace, AreThreadTraces}
-use Rattle.ir_trace.specs.Told.{absent}
+use Rattle.ir_trace.specs.TraceOf.{absent}
 use Rattle.ir_record.proofs.Logs.{map_append}
 use Rattle.ir_record.specs.Progress.{log_at, no_log}
 

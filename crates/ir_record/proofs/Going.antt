@@ -133,7 +133,7 @@ turn_steps s a b g c t k l below flat is h took w = by_turn took.took.turns
         let same_machine : machine b.flat ≡ m = ap thread_machine took.took.code in
         let h' : IsAhead m c (after m s (t, r)) (tables b.flat) =
         subst (IsAhead m c (after m s (t, r))) (sym is_after) (stepped m c s (tables a.flat) t r is h) in
-        let told : (u : ℕ) → log m (tables a.flat) took.took.run u ≡ log m s ((t, r) ∷ []) u = λ u. ap (λ z. log m (tables a.flat) z u) one
+        let emitted : (u : ℕ) → log m (tables a.flat) took.took.run u ≡ log m s ((t, r) ∷ []) u = λ u. ap (λ z. log m (tables a.flat) z u) one
         ∙ same_log m s (tables a.flat) t r u (label_there m c s (tables a.flat) t r is h) in
         record {
           went = record {
@@ -147,8 +147,8 @@ turn_steps s a b g c t k l below flat is h took w = by_turn took.took.turns
             code = w.code ∙ took.took.code;
             threads = w.threads ∙ took.took.threads;
             objects = w.objects ∙ took.took.objects;
-            logs = λ u less. took.took.logs u less ∙ ap (λ z. labels_at a.logs u ++ z) (told u);
-            answers = λ u less. took.took.answers u less ∙ ap (λ z. answers_at a.answers u ++ answers_in z) (told u);
+            logs = λ u less. took.took.logs u less ∙ ap (λ z. labels_at a.logs u ++ z) (emitted u);
+            answers = λ u less. took.took.answers u less ∙ ap (λ z. answers_at a.answers u ++ answers_in z) (emitted u);
             fewer =
                 let n : ℕ = length a.flat.threads in
                 let first = took.took.fewer in

@@ -4,7 +4,7 @@ use Rattle.std.proofs.Math.Path.{fun_ext}
 use Rattle.std.proofs.lemmas.Bool.{cases_eq}
 use Rattle.ir_runs.specs.Machine.{Machine, Private, act_of, upd}
 use Rattle.ir_runs.specs.Labels.{Quiet}
-use Rattle.ir_runs.specs.Object.{Object, target, Admits, acted, reply, told}
+use Rattle.ir_runs.specs.Object.{Object, target, Admits, acted, reply, emitted}
 use Rattle.ir_runs.proofs.CallerLemmas.{upd_same, upd_other, upd_id}
 use Rattle.ir_runs.specs.Run.{State, Can, after, label, end}
 use Rattle.ir_record.specs.Ahead.{alone, lead, IsAhead}
@@ -16,7 +16,7 @@ pub can_alone : {T : Type 0} (m : Machine T) (s : State T) (t : ℕ) → m.ask (
 can_alone m s t is = subst (λ q. Admits m (act_of q 0) (s.objects (target (act_of q 0)))) (sym is) tt
 
 pub quiet_alone : {T : Type 0} (m : Machine T) (s : State T) (t : ℕ) → m.ask (s.now t) ≡ Private → label m s (t, 0) ≡ Quiet
-quiet_alone m s t is = ap (λ q. told (act_of q 0) (s.objects (target (act_of q 0)))) is
+quiet_alone m s t is = ap (λ q. emitted (act_of q 0) (s.objects (target (act_of q 0)))) is
 
 own_alone : {T : Type 0} (m : Machine T) (s : State T) (t : ℕ) → m.ask (s.now t) ≡ Private → (after m s (t, 0)).now t ≡ m.take (s.now t) 0
 unfolding after
@@ -81,8 +81,8 @@ none_there m ahead s later t is h none r can =
 pub label_there : {T : Type 0} (m : Machine T) (ahead : List ℕ) (s later : State T) (t r : ℕ) → lead ahead t ≡ 0 → IsAhead m ahead s later
     → label m later (t, r) ≡ label m s (t, r)
 label_there m ahead s later t r is h =
-    ap (λ x. told (act_of (m.ask x) r) (later.objects (target (act_of (m.ask x) r)))) (now_there m ahead s later t is h)
-    ∙ ap (λ objects. told (act_of (m.ask (s.now t)) r) (objects (target (act_of (m.ask (s.now t)) r)))) h.objects
+    ap (λ x. emitted (act_of (m.ask x) r) (later.objects (target (act_of (m.ask x) r)))) (now_there m ahead s later t is h)
+    ∙ ap (λ objects. emitted (act_of (m.ask (s.now t)) r) (objects (target (act_of (m.ask (s.now t)) r)))) h.objects
 
 thread_there : {T : Type 0} (m : Machine T) (ahead : List ℕ) (s later : State T) (t r : ℕ) → lead ahead t ≡ 0 → IsAhead m ahead s later
     → (after m later (t, r)).now t ≡ (after m s (t, r)).now t

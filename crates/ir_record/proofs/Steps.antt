@@ -48,7 +48,7 @@ pub record OneStep (t r : ℕ) (k : Label) (a b : Progress) : Type 0 where
   pub code : b.flat.code ≡ a.flat.code
   pub threads : length b.flat.threads ≡ length a.flat.threads
   pub objects : length b.flat.objects ≡ length a.flat.objects
-  pub tells : label (machine a.flat) (tables a.flat) (t, r) ≡ k
+  pub emits : label (machine a.flat) (tables a.flat) (t, r) ≡ k
   pub own_log : labels_at b.logs t ≡ labels_at a.logs t ++ logged k []
   pub own_answers : answers_at b.answers t ≡ answers_at a.answers t ++ answers_in (logged k [])
   pub other_logs : (u : ℕ) → u ≢ t → labels_at b.logs u ≡ labels_at a.logs u
@@ -64,14 +64,14 @@ took_step t r k a b s = record {
   objects = s.objects;
   logs = λ u l. elim (cases_eq u t) [
     | inl e ↦ subst (λ z. labels_at b.logs z ≡ labels_at a.logs z ++ log (machine a.flat) (tables a.flat) ((t, r) ∷ []) z) (sym e)
-        (s.own_log ∙ ap (λ z. labels_at a.logs t ++ z) (sym (log_own a.flat t r ∙ ap (λ z. logged z []) s.tells)))
+        (s.own_log ∙ ap (λ z. labels_at a.logs t ++ z) (sym (log_own a.flat t r ∙ ap (λ z. logged z []) s.emits)))
     | inr ne ↦ s.other_logs u ne ∙ sym (append-nil (labels_at a.logs u))
         ∙ ap (λ z. labels_at a.logs u ++ z) (sym (log_other a.flat t r u ne))
   ];
   answers = λ u l. elim (cases_eq u t) [
     | inl e ↦ subst (λ z. answers_at b.answers z ≡ answers_at a.answers z ++ answers_in
         (log (machine a.flat) (tables a.flat) ((t, r) ∷ []) z)) (sym e)
-        (s.own_answers ∙ ap (λ z. answers_at a.answers t ++ answers_in z) (sym (log_own a.flat t r ∙ ap (λ z. logged z []) s.tells)))
+        (s.own_answers ∙ ap (λ z. answers_at a.answers t ++ answers_in z) (sym (log_own a.flat t r ∙ ap (λ z. logged z []) s.emits)))
     | inr ne ↦ s.other_answers u ne ∙ sym (append-nil (answers_at a.answers u))
         ∙ ap (λ z. answers_at a.answers u ++ answers_in z) (sym (log_other a.flat t r u ne))
   ];

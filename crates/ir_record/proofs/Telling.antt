@@ -13,7 +13,7 @@ use Rattle.ir_flat.proofs.CallerLemmas.{tally, no_steps}
 use Rattle.ir_log.specs.Logged.{Logged}
 use Rattle.ir_log.specs.Logging.{label_of}
 use Rattle.ir_trace.specs.Recorded.{Recorded, RecordedThread}
-use Rattle.ir_trace.specs.Told.{absent}
+use Rattle.ir_trace.specs.TraceOf.{absent}
 use Rattle.ir_record.specs.Gathered.{IsThreadTrace}
 use Rattle.ir_record.specs.Progress.{answers_at}
 use Rattle.ir_record.specs.Recording.{IsTraceOf, AreOutputs, AreAnswers}
@@ -36,12 +36,12 @@ ends_by r x e = ap (option_map (λ k. (end_number k, end_code k))) (sym e)
 
 module _ (guest : Guest) (budget : ℕ) (run : List Step) (before : List (List Answered)) (now : ℕ → thread.State) (logs : ℕ → Logged)
     (given : ℕ → List Answered) where
-  pub told_there : StandAtEnd guest budget run before now logs given
+  pub emitted_there : StandAtEnd guest budget run before now logs given
       → IsDone (thread_machine guest.code) (end (thread_machine guest.code) (tables (start_flat guest budget)) run) → (trace : Recorded)
       → trace.objects ≡ object_count guest → trace.budget ≡ budget → length trace.threads ≡ length guest.entries
       → ((t : ℕ) → t < length guest.entries → IsThreadTrace (now t) (logs t) (get_or trace.threads t absent))
       → IsTraceOf guest budget run trace
-  told_there s done trace objects limit all each = record {
+  emitted_there s done trace objects limit all each = record {
     objects = objects;
     limit = limit;
     threads = all;

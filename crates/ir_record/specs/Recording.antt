@@ -5,7 +5,7 @@ use Rattle.ir_flat.specs.Flat.{start_flat, tables, machine}
 use Rattle.ir_runs.specs.Run.{Step, log, end}
 use Rattle.ir_runs.specs.Verdicts.{IsWhole}
 use Rattle.ir_trace.specs.Recorded.{Recorded}
-use Rattle.ir_trace.specs.Told.{trace_of}
+use Rattle.ir_trace.specs.TraceOf.{trace_of}
 use Rattle.ir_runs.specs.InOrder.{IsByOrder}
 use Rattle.ir_record.specs.Progress.{answers_at}
 use Rattle.ir_record.specs.Worlds.{Answered, answers_in, NoneFailed, IsFirstFailed, AreSameWorlds}
@@ -36,7 +36,7 @@ pub record AreAnswers (guest : Guest) (budget : ℕ) (run : List Step) (before a
 -- the trace, the outputs and the worlds' answers of this run of the guest, which is complete
 pub record IsRecordingOf (guest : Guest) (budget : ℕ) (run : List Step) (before : List (List Answered)) (trace : Recorded)
     (outputs : List (List ℕ)) (answers : List (List Answered)) : Type 0 where
-  pub told : IsTraceOf guest budget run trace
+  pub emitted : IsTraceOf guest budget run trace
   pub printed : AreOutputs guest budget run outputs
   pub answered : AreAnswers guest budget run before answers
 

@@ -8,7 +8,7 @@ ghost use Rattle.ir_thread.specs.Instance.{is_result};
 ghost use Rattle.ir_thread.specs.declared.ask.Ask.TheVariants.{Env, Enter};
 ghost use Rattle.ir_flat.specs.Flat.{tables};
 ghost use Rattle.ir_log.specs.Logging.{label_of};
-ghost use Rattle.ir_runs.specs.Object.{told};
+ghost use Rattle.ir_runs.specs.Object.{emitted};
 ghost use Rattle.ir_runs.specs.Machine as act;
 ghost use Rattle.ir_trace.specs.Recorded.{IsEvent};
 ghost use Rattle.ir_record.specs.Progress.{progress, Took, TookIf, IsTape, IsQuiet, answers_at};
@@ -48,7 +48,7 @@ impl Tape<'_> {
     // What is logged of an entry to the object now.
     fn entry(&self, object: u8, access: Access) -> Event
         requires { object < length self.now.flat.objects }
-        ensures told { label_of result ≡ told (act.Entry object access 0) ((tables self.now.flat).objects object) }
+        ensures emitted { label_of result ≡ emitted (act.Entry object access 0) ((tables self.now.flat).objects object) }
         ensures fits { IsEvent (length self.now.flat.objects) result }
     {
         let fields = self.flat.objects()[object as usize].fields();

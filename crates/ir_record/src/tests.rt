@@ -16,12 +16,12 @@ use std::test::Fail;
 #[derive(Debug, Drop)]
 pub struct Script {
     left: Vec<u32>,
-    told: Vec<(EnvKind, u32)>,
+    answered: Vec<(EnvKind, u32)>,
     failed: bool,
 }
 
 impl World for Script {
-    ghost answers = { λ s. s.told.items };
+    ghost answers = { λ s. s.answered.items };
 
     ghost origin = { λ _. tt };
 
@@ -35,7 +35,7 @@ impl World for Script {
                 return Err(WorldErr);
             }
         };
-        if self.told.push((kind, value)).is_err() {
+        if self.answered.push((kind, value)).is_err() {
             self.failed = true;
             return Err(WorldErr);
         }
@@ -50,7 +50,7 @@ impl World for Script {
 impl Script {
     // How many answers it gave.
     pub fn answered(&self) -> usize {
-        self.told.len()
+        self.answered.len()
     }
 }
 
@@ -107,7 +107,7 @@ pub fn worlds(alloc: Global, count: usize, answers: &[u32]) -> Result<Vec<Script
         let left = Vec::from_slice(alloc, answers)?;
         worlds.push(Script {
             left,
-            told: Vec::new(alloc),
+            answered: Vec::new(alloc),
             failed: false,
         })?;
     }

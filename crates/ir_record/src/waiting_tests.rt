@@ -122,20 +122,20 @@ impl<'a> Plain<'a> {
     }
 
     // Whether the trace of thread t says what the thread did.
-    fn is_told(&self, t: usize, told: &ThreadTrace) -> bool {
+    fn is_emitted(&self, t: usize, emitted: &ThreadTrace) -> bool {
         let (Some(thread), Some(entries)) = (self.flat.threads().get(t), self.entries.get(t)) else {
             return false;
         };
-        told.steps() == thread.steps()
-            && Some(told.end()) == thread.ended()
-            && told.log().events() == entries.as_slice()
+        emitted.steps() == thread.steps()
+            && Some(emitted.end()) == thread.ended()
+            && emitted.log().events() == entries.as_slice()
     }
 
     // Whether the trace says what all threads did.
-    fn are_told(&self, trace: &Trace) -> bool {
+    fn are_emitted(&self, trace: &Trace) -> bool {
         let threads = trace.threads();
         for t in 0..threads.len() {
-            if !self.is_told(t, &threads[t]) {
+            if !self.is_emitted(t, &threads[t]) {
                 return false;
             }
         }
@@ -149,7 +149,7 @@ fn is_plain(alloc: Global, words: [u32; 2], threads: u8, order: &[u8]) -> Result
     let mut plain = Plain::start(alloc, &image)?;
     plain.run(order)?;
     let (trace, _) = recorded(alloc, &image, order, &[], BUDGET)?;
-    Ok(plain.are_told(&trace))
+    Ok(plain.are_emitted(&trace))
 }
 
 // The first thread is in the object, where an order leaves it, or another one.

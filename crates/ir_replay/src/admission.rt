@@ -25,7 +25,7 @@ fn events_of(flat: &Flat<'_>, t: usize) -> u32
 
 // The result of thread t's next step, a call of the environment.
 fn call_result(fitted: &Fitted, flat: &Flat<'_>, t: usize, kind: EnvKind) -> Option<u32>
-    requires told { t < length fitted.now.guest.entries }
+    requires emitted { t < length fitted.now.guest.entries }
     requires thread { t < length flat.now.threads }
     requires asked { ask_of flat.now.code (thread_of flat.now t) ≡ ask.Env kind }
     requires steps { 0 < steps_ahead fitted.now.recorded flat.now t }
@@ -47,7 +47,7 @@ fn entry_result(
     object: u8,
     access: Access,
 ) -> Option<u32>
-    requires told { t < length fitted.now.guest.entries }
+    requires emitted { t < length fitted.now.guest.entries }
     requires thread { t < length flat.now.threads }
     requires asked { ask_of flat.now.code (thread_of flat.now t) ≡ ask.Enter object access }
     requires steps { 0 < steps_ahead fitted.now.recorded flat.now t }
@@ -69,7 +69,7 @@ fn entry_result(
 
 // The result with which thread t takes its next step as the log says; none where it can't now.
 pub fn next_result(fitted: &Fitted, flat: &Flat<'_>, t: usize, asked: Ask) -> Option<u32>
-    requires told { t < length fitted.now.guest.entries }
+    requires emitted { t < length fitted.now.guest.entries }
     requires thread { t < length flat.now.threads }
     requires asked { asked ≡ ask_of flat.now.code (thread_of flat.now t) }
     requires steps { 0 < steps_ahead fitted.now.recorded flat.now t }

@@ -14,10 +14,6 @@ mod seat_tests;
 mod stepping;
 mod stretch;
 mod telling;
-#[cfg(test)]
-mod tests;
-#[cfg(test)]
-mod waiting_tests;
 mod worker;
 
 pub use ir_weave::{State, one_state_each};

@@ -12,7 +12,7 @@ use Rattle.ir_runs.proofs.Early.{early}
 use Rattle.ir_runs.proofs.Order.{whole, consistent_same}
 use Rattle.ir_runs.proofs.Same.{Goes, goes}
 use Rattle.ir_runs.proofs.Sort.{Sorted, sort}
-use Rattle.ir_runs.specs.Cuts.{At, Tells, Cut, IsCut, Consistent, part, further, Admitted}
+use Rattle.ir_runs.specs.Cuts.{At, Emits, Cut, IsCut, Consistent, part, further, Admitted}
 
 logged_any : (k : Label) (es : List Label) → logged k es ≡ logged k [] ++ es
 logged_any Quiet es = refl
@@ -50,9 +50,9 @@ moment_append [] more t = refl
 moment_append (e ∷ run) more t = ap (λ z. cond (eqb t e.0) (suc z) z) (moment_append run more t)
 
 pub admitted : {T : Type 0} (m : Machine T) → IsLawful m → (s : State T) → Good m s → (run : List Step) → IsRun m s run → (p : Cut)
-    → IsCut m s run p → Consistent m s run p → (t r : ℕ) (k : Label) → Can m (end m s (part run p)) (t, r) → Tells m s run t (p t) k
+    → IsCut m s run p → Consistent m s run p → (t r : ℕ) (k : Label) → Can m (end m s (part run p)) (t, r) → Emits m s run t (p t) k
     → logged k [] ≡ logged (label m (end m s (part run p)) (t, r)) [] → Admitted m s run p t
-admitted m law s good run ok p cut c t r k can tells l =
+admitted m law s good run ok p cut c t r k can emits l =
     let z : Sorted m s run p = sort m law s good run ok p c in
     let s1 = end m s (part run p) in
     let prefix : List Step = part run p ++ (t, r) ∷ [] in
@@ -63,7 +63,7 @@ admitted m law s good run ok p cut c t r k can tells l =
     ∙ ap (λ b. take (p t) (trail m s run t) ++ join_if b (s1.now t, label m s1 (t, r)) []) (eq-eqb t t refl) in
     let at_u : (u : ℕ) → u ≢ t → trail m s prefix u ≡ take (p u) (trail m s run u) = λ u ne. more u
     ∙ ap (λ b. take (p u) (trail m s run u) ++ join_if b (s1.now u, label m s1 (t, r)) []) (ne_eqb u t ne) ∙ append-nil _ in
-    let short : p t < count m s run t = at_length (trail m s run t) (p t) (tells.0, k) tells.1 in
+    let short : p t < count m s run t = at_length (trail m s run t) (p t) (emits.0, k) emits.1 in
     let counts : (u : ℕ) → count m s prefix u ≡ further p t u = λ u. elim (cases_eq u t) [
       | inl e ↦ subst (λ w. count m s prefix w ≡ further p t w) (sym e)
           (omega (
@@ -84,7 +84,7 @@ admitted m law s good run ok p cut c t r k can tells l =
           (ap (λ y. events y ++ events (drop (further p t t) (trail m s run t))) at_t
           ∙ ap (λ y. events (take (p t) (trail m s run t) ++ (s1.now t, label m s1 (t, r)) ∷ []) ++ events (drop y (trail m s run t)))
           (further_same p t)
-          ∙ one_logs (trail m s run t) (p t) (s1.now t) tells.0 (label m s1 (t, r)) k tells.1 l)
+          ∙ one_logs (trail m s run t) (p t) (s1.now t) emits.0 (label m s1 (t, r)) k emits.1 l)
       | inr ne ↦ ap (λ y. events y ++ events (drop (further p t u) (trail m s run u))) (at_u u ne)
           ∙ ap (λ y. events (take (p u) (trail m s run u)) ++ events (drop y (trail m s run u))) (further_other p t u ne)
           ∙ sym (events_append (take (p u) (trail m s run u)) (drop (p u) (trail m s run u)))

@@ -6,7 +6,7 @@ use Rattle.ir_runs.specs.Machine.{Act, act_of, Silent, Result, Entry, Refusal, E
 use Rattle.ir_runs.specs.Labels.{Label}
 use Rattle.ir_runs.specs.declared.access.Access.{Access}
 use Rattle.ir_runs.specs.declared.access.Access.TheVariants.{Reading, Writing}
-use Rattle.ir_runs.specs.Object.{Object, target, Admits, acted, told}
+use Rattle.ir_runs.specs.Object.{Object, target, Admits, acted, emitted}
 use Rattle.ir_runs.proofs.Tables.{upd_same, upd_other}
 use Rattle.ir_runs.specs.Run.{act, State, Step, Can, after, label, IsRun, join_if, trail}
 use Rattle.ir_runs.proofs.Good.{Inside, Good, inside_now, stays_good}
@@ -25,7 +25,7 @@ before_entry m b t x ne i a h w e = elim (cases_eq w t) [
 
 -- The step of u was admitted before that of t, unless it needs that.
 back1 : {T : Type 0} (m : Machine T) (b : Object) (t u : ℕ) (q q' : Act) → target q' ≡ target q → Inside q (b.inside t) → Admits m q b
-    → Admits m q' (acted q t b) → (Needs (told q b) (told q' (acted q t b)) → ⊥) → Admits m q' b × (Clash q q' → ⊥)
+    → Admits m q' (acted q t b) → (Needs (emitted q b) (emitted q' (acted q t b)) → ⊥) → Admits m q' b × (Clash q q' → ⊥)
 back1 m b t u Silent q' same i h h' free = (h', λ c. c)
 back1 m b t u (Refusal _) q' same i h h' free = (h', λ c. c)
 back1 m b t u (Result k res) q' same i h h' free = (h', λ c. c)
@@ -81,14 +81,14 @@ back m law s good e e' ne can can' free =
     let p : s1.now e'.0 ≡ s.now e'.0 = now_other m s e e'.0 ne in
     let h : Admits m q' (s1.objects (target q')) =
     subst (λ z. Admits m (act_of (m.ask z) e'.1) (s1.objects (target (act_of (m.ask z) e'.1)))) p can' in
-    let f : Needs (label m s e) (told q' (s1.objects (target q'))) → ⊥ =
-    subst (λ z. Needs (label m s e) (told (act_of (m.ask z) e'.1) (s1.objects (target (act_of (m.ask z) e'.1)))) → ⊥) p free in
+    let f : Needs (label m s e) (emitted q' (s1.objects (target q'))) → ⊥ =
+    subst (λ z. Needs (label m s e) (emitted (act_of (m.ask z) e'.1) (s1.objects (target (act_of (m.ask z) e'.1)))) → ⊥) p free in
     elim (cases_eq (target q') (target q)) [
       | inl same ↦
           let c : s1.objects (target q') ≡ acted q e.0 (s.objects (target q)) = ap s1.objects same ∙ upd_same s.objects (target q) _ in
           let z : Admits m q' (s.objects (target q)) × (Clash q q' → ⊥) =
           back1 m (s.objects (target q)) e.0 e'.0 q q' same (inside_now m law s good e) can
-          (subst (Admits m q') c h) (subst (λ y. Needs (label m s e) (told q' y) → ⊥) c f) in
+          (subst (Admits m q') c h) (subst (λ y. Needs (label m s e) (emitted q' y) → ⊥) c f) in
           (subst (λ y. Admits m q' (s.objects y)) (sym same) z.0, λ y. z.1 y.1)
       | inr other ↦ (subst (Admits m q') (upd_other s.objects (target q) (target q') _ other) h, λ y. other y.0)
     ]

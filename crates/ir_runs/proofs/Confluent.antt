@@ -5,7 +5,7 @@ use Rattle.std.proofs.lemmas.Bool.{cases_eq, eqb-true, cases_lt}
 use Rattle.ir_runs.specs.Machine.{Act, act_of, Entry, Done, Machine, IsLawful}
 use Rattle.ir_runs.specs.Labels.{Label, Quiet, Answer, In, Refused, Out, logged, Trace}
 use Rattle.ir_runs.specs.declared.access.Access.TheVariants.{Reading, Writing}
-use Rattle.ir_runs.specs.Object.{Object, target, Admits, told}
+use Rattle.ir_runs.specs.Object.{Object, target, Admits, emitted}
 use Rattle.ir_runs.specs.Run.{act, State, Step, asked, Can, after, label, IsRun, end, join_if, trail, IsStart, IsIdle}
 use Rattle.ir_runs.proofs.Good.{Good, stays_good}
 use Rattle.ir_runs.proofs.Append.{trail_append, run_append}
@@ -132,8 +132,8 @@ reader_waits : (n : ℕ) {T : Type 0} (m : Machine T) (tr : Trace) → IsCoheren
 reader_waits n m tr co s rem f e d o ans ans' can is a a' is' less =
     let b : Object = s.objects o in
     let v : ℕ = b.version in
-    let k : label m s e ≡ In o Writing v b.left = ap (λ z. told z (s.objects (target z))) a in
-    let k' : label m s d ≡ In o Reading v 0 = ap (λ z. told z (s.objects (target z))) a' in
+    let k : label m s e ≡ In o Writing v b.left = ap (λ z. emitted z (s.objects (target z))) a in
+    let k' : label m s d ≡ In o Reading v 0 = ap (λ z. emitted z (s.objects (target z))) a' in
     let i = f.within e.0 0 (In o Writing v b.left)
     (subst (λ z. At z 0 (In o Writing v b.left)) (ap (λ z. logged z (unlogged (label m s e) (rem e.0))) (sym k) ∙ is) refl) in
     let all : b.left ≡ sum_below n (λ u. reads o v (tr.logs u)) = co.readers e.0 i.0 o v b.left i.1 in
@@ -159,8 +159,8 @@ no_clash : (n : ℕ) {T : Type 0} (m : Machine T) → IsLawful m → (tr : Trace
     → logged (label m s e) (unlogged (label m s e) (rem e.0)) ≡ rem e.0 → logged (label m s d) (unlogged (label m s d) (rem d.0)) ≡ rem d.0
     → (q q' : Act) → act m s e ≡ q → act m s d ≡ q' → target q' ≡ target q → Clash q q' → ⊥
 no_clash n m law tr co s rem f e d ne can can' is is' (Entry o Writing ans) (Entry p Writing ans') a a' same c =
-    let k : label m s e ≡ In o Writing (s.objects o).version (s.objects o).left = ap (λ z. told z (s.objects (target z))) a in
-    let k' : label m s d ≡ In o Writing (s.objects o).version (s.objects o).left = ap (λ z. told z (s.objects (target z))) a'
+    let k : label m s e ≡ In o Writing (s.objects o).version (s.objects o).left = ap (λ z. emitted z (s.objects (target z))) a in
+    let k' : label m s d ≡ In o Writing (s.objects o).version (s.objects o).left = ap (λ z. emitted z (s.objects (target z))) a'
     ∙ ap (λ z. In z Writing (s.objects z).version (s.objects z).left) same in
     let i = f.within e.0 0 (In o Writing (s.objects o).version (s.objects o).left)
     (subst (λ z. At z 0 (In o Writing (s.objects o).version (s.objects o).left))
@@ -272,10 +272,10 @@ same_logs : {T : Type 0} (E : Check T) (m : Machine T) (s : State T) (run : List
 same_logs E m s run ok e can n es x j xs is h fits =
     let k : Heads m s e.0 x j = heads m s run ok e.0 x j (subst (λ z. At z 0 (x, j)) (sym is) refl) in
     let g : Fits E n es ((x, j) ∷ xs) = subst (Fits E n es) is h in
-    ap (λ z. logged z []) k.tells
+    ap (λ z. logged z []) k.emits
     ∙ agree m (asked m s e.0) e.1 k.result (s.objects (target (act m s e))) k.object (unlogged (label m s e) es) [] (unlogged j es) can
     k.admits
-    (append-nil _ ∙ fits ∙ sym g.1 ∙ ap (λ z. logged z (unlogged j es)) k.tells)
+    (append-nil _ ∙ fits ∙ sym g.1 ∙ ap (λ z. logged z (unlogged j es)) k.emits)
 
 -- A run that follows a coherent trace is the beginning of each maximal one.
 pub confluent : {T : Type 0} (E : Ending T) (n : ℕ) (m : Machine T) → IsLawful m → (tr : Trace) → IsCoherent n tr

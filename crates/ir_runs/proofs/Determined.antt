@@ -9,7 +9,7 @@ use Rattle.ir_runs.proofs.Append.{events_append}
 use Rattle.ir_runs.proofs.Same.{Goes, goes, Alike, alike, now_other, no_steps}
 use Rattle.ir_runs.proofs.Sort.{Sorted, sort}
 use Rattle.ir_runs.specs.Alike.{SameTrace, SameRun}
-use Rattle.ir_runs.specs.Cuts.{AtCut, At, Tells, Cut, IsCut, Consistent, part, further, Admitted}
+use Rattle.ir_runs.specs.Cuts.{AtCut, At, Emits, Cut, IsCut, Consistent, part, further, Admitted}
 
 -- the cuts of two runs with the same trails
 pub trails_cut : {T : Type 0} (m : Machine T) (s : State T) (run run' : List Step) → ((u : ℕ) → trail m s run u ≡ trail m s run' u)
@@ -58,7 +58,7 @@ pub record Single {T : Type 0} (m : Machine T) (s : State T) (run : List Step) (
   pub result : ℕ
   pub can : Can m s (t, result)
   pub same_end : after m s (t, result) ≡ end m s run
-  pub tells : At (trail m s run t) 0 (s.now t, label m s (t, result))
+  pub emits : At (trail m s run t) 0 (s.now t, label m s (t, result))
 
 pub count_head : {T : Type 0} (m : Machine T) (s : State T) (e : Step) (run : List Step) (u : ℕ)
     → count m s (e ∷ run) u ≡ cond (eqb u e.0) (suc (count m (after m s e) run u)) (count m (after m s e) run u)
@@ -85,7 +85,7 @@ single m s (e ∷ run) ok t one none = elim (cases_eq e.0 t) [
         result = e.1;
         can = ok.0;
         same_end = ap (end m (after m s e)) (sym empty);
-        tells = subst (λ b. At (join_if b (s.now e.0, label m s e) (trail m (after m s e) run e.0)) 0 (s.now e.0, label m s e))
+        emits = subst (λ b. At (join_if b (s.now e.0, label m s e) (trail m (after m s e) run e.0)) 0 (s.now e.0, label m s e))
             (sym (eq-eqb e.0 e.0 refl)) refl;
       })
 ]
@@ -146,7 +146,7 @@ at_cut m law s good run ok p cut c =
   where
     one_step : (t : ℕ) → Admitted m s run p t → Sorted m s run p → (r : ℕ) × Can m (end m s (part run p)) (t, r)
         × (after m (end m s (part run p)) (t, r) ≡ end m s (part run (further p t)))
-        × Tells m s run t (p t) (label m (end m s (part run p)) (t, r))
+        × Emits m s run t (p t) (label m (end m s (part run p)) (t, r))
     one_step t ad z =
         let q : Cut = further p t in
         let y : Sorted m s run q = sort m law s good run ok q ad.1 in
@@ -180,7 +180,7 @@ at_cut m law s good run ok p cut c =
                 (subst (λ w. At w (p t + 0) ((end m s (part run p)).now t, label m (end m s (part run p)) (t, k.result)))
                 (g.same_trail t ∙ y.same_trail t)
                 (at_more (trail m s (part run p) t) (trail m (end m s (part run p)) g.rest t) 0 (p t) _
-                (omega (arith, ap length (z.same_trail t), length-take (p t) (trail m s run t), cut t)) k.tells))),
+                (omega (arith, ap length (z.same_trail t), length-take (p t) (trail m s run t), cut t)) k.emits))),
           ),
         )
       where

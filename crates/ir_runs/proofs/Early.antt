@@ -1,18 +1,18 @@
 -- What a step needs comes before it in the run.
--- what a leave tells of the object
+-- what a leave emits of the object
 use Rattle.std.proofs.Common.{◌≡◌, ◌≢◌, ℕ, suc, zero, ◌<◌, Bool, true, false, cond, eqb, List, [], ◌∷◌, Some, None, refl, sym, ap, ◌∙◌, subst, arith, inl, inr, ◌⊎◌, eq-eqb}
 use Rattle.std.proofs.lemmas.Bool.{cases_eq, eqb-true}
 use Rattle.ir_runs.specs.Machine.{Act, Silent, Result, Entry, Refusal, Exit, Load, Store, Never, Machine, IsLawful}
 use Rattle.ir_runs.specs.Labels.{Label, Out}
 use Rattle.ir_runs.specs.declared.access.Access.{Access}
 use Rattle.ir_runs.specs.declared.access.Access.TheVariants.{Reading, Writing}
-use Rattle.ir_runs.specs.Object.{Object, target, told}
+use Rattle.ir_runs.specs.Object.{Object, target, emitted}
 use Rattle.ir_runs.proofs.Tables.{upd_same}
 use Rattle.ir_runs.specs.Run.{act, State, Step, Can, after, label, IsRun, join_if, trail}
 use Rattle.ir_runs.proofs.Good.{Inside, Good, stays_good, inside_now}
 use Rattle.ir_runs.proofs.Pull.{objects_after}
 use Rattle.ir_runs.proofs.Ratchet.{Taken, taken, Writes, Writes_kept, Least, Least_kept}
-use Rattle.ir_runs.specs.Cuts.{At, Tells, Needs, Cut, Consistent}
+use Rattle.ir_runs.specs.Cuts.{At, Emits, Needs, Cut, Consistent}
 
 -- the cut after the first i steps of the run
 abbrev pub moment : List Step → ℕ → Cut
@@ -24,16 +24,16 @@ pub record Leaving (b : Object) (o : ℕ) (a : Access) (v : ℕ) (q : Act) : Typ
   pub does : q ≡ Exit o a
   pub version : b.version ≡ v
 
-told_out : (q : Act) (b : Object) (o : ℕ) (a : Access) (v : ℕ) → told q b ≡ Out o a v → Leaving b o a v q
-told_out Silent b o a v h = absurd (cc h)
-told_out (Refusal _) b o a v h = absurd (cc h)
-told_out (Result k x) b o a v h = absurd (cc h)
-told_out (Entry p Reading x) b o a v h = absurd (cc h)
-told_out (Entry p Writing x) b o a v h = absurd (cc h)
-told_out (Exit p c) b o a v h = record { does = cc h; version = cc h }
-told_out (Load p j) b o a v h = absurd (cc h)
-told_out (Store p j w) b o a v h = absurd (cc h)
-told_out Never b o a v h = absurd (cc h)
+emitted_out : (q : Act) (b : Object) (o : ℕ) (a : Access) (v : ℕ) → emitted q b ≡ Out o a v → Leaving b o a v q
+emitted_out Silent b o a v h = absurd (cc h)
+emitted_out (Refusal _) b o a v h = absurd (cc h)
+emitted_out (Result k x) b o a v h = absurd (cc h)
+emitted_out (Entry p Reading x) b o a v h = absurd (cc h)
+emitted_out (Entry p Writing x) b o a v h = absurd (cc h)
+emitted_out (Exit p c) b o a v h = record { does = cc h; version = cc h }
+emitted_out (Load p j) b o a v h = absurd (cc h)
+emitted_out (Store p j w) b o a v h = absurd (cc h)
+emitted_out Never b o a v h = absurd (cc h)
 
 -- a leave that was taken, as the object saw it
 pub record Left (R : Object → Type 0) (o : ℕ) (a : Access) (v t : ℕ) : Type 0 where
@@ -47,7 +47,7 @@ left : {T : Type 0} (m : Machine T) → IsLawful m → (R : Object → Type 0) (
     → Left R o a v t
 left m law R o a v t k =
     let q : Act = act m k.state k.step in
-    let e : Leaving (k.state.objects (target q)) o a v q = told_out q (k.state.objects (target q)) o a v k.tells in
+    let e : Leaving (k.state.objects (target q)) o a v q = emitted_out q (k.state.objects (target q)) o a v k.emits in
     record {
       object = k.state.objects o;
       kept = k.kept;
@@ -70,7 +70,7 @@ past m law s good e can run ok u j x p o a w ans is h n =
 -- nothing that a step needs comes after it
 pub no_later : {T : Type 0} (m : Machine T) → IsLawful m → (s : State T) → Good m s → (e : Step) → Can m s e → (run : List Step)
     → IsRun m (after m s e) run → (u j : ℕ) (x : T) (b : Label) (q : Act) → act m s e ≡ q
-    → At (trail m (after m s e) run u) j (x, b) → Needs b (told q (s.objects (target q))) → ⊥
+    → At (trail m (after m s e) run u) j (x, b) → Needs b (emitted q (s.objects (target q))) → ⊥
 no_later m law s good e can run ok u j x (Out p Writing w) (Entry o Reading ans) is h n =
     past m law s good e can run ok u j x p o Reading w ans is h n
 no_later m law s good e can run ok u j x (Out p Writing w) (Entry o Writing ans) is h n =
@@ -97,7 +97,7 @@ no_later m law s good e can run ok u j x _ _ is h n = absurd n
 pub record Placed {T : Type 0} (m : Machine T) (s : State T) (e : Step) (run : List Step) (t k : ℕ) (a : Label) : Type 0 where
   pub place : ℕ
   pub is : k ≡ cond (eqb t e.0) (suc place) place
-  pub tells : Tells m (after m s e) run t place a
+  pub emits : Emits m (after m s e) run t place a
 
 placed_in : {A : Type 0} (b : Bool) (x y : A) (xs : List A) (k : ℕ) → At (join_if b x xs) k y → ((b ≡ true) × (k ≡ 0) × (x ≡ y))
     ⊎ ((j : ℕ) × (k ≡ cond b (suc j) j) × At xs j y)
@@ -105,11 +105,11 @@ placed_in true x y xs zero h = inl (refl, refl, h)
 placed_in true x y xs (suc k) h = inr (k, refl, h)
 placed_in false x y xs k h = inr (k, refl, h)
 
-pub placed : {T : Type 0} (m : Machine T) (s : State T) (e : Step) (run : List Step) (t k : ℕ) (a : Label) → Tells m s (e ∷ run) t k a
+pub placed : {T : Type 0} (m : Machine T) (s : State T) (e : Step) (run : List Step) (t k : ℕ) (a : Label) → Emits m s (e ∷ run) t k a
     → ((t ≡ e.0) × (k ≡ 0) × (a ≡ label m s e)) ⊎ Placed m s e run t k a
 placed m s e run t k a h = elim (placed_in (eqb t e.0) (s.now t, label m s e) (h.0, a) (trail m (after m s e) run t) k h.1) [
   | inl p ↦ inl (eqb-true t e.0 p.0, p.1, sym (ap (λ z. z.1) p.2))
-  | inr p ↦ inr (record { place = p.0; is = p.1; tells = (h.0, p.2) })
+  | inr p ↦ inr (record { place = p.0; is = p.1; emits = (h.0, p.2) })
 ]
 
 pub both_up : (b : Bool) (k n : ℕ) → k < n → cond b (suc k) k < cond b (suc n) n
@@ -129,10 +129,10 @@ early m law s good (e ∷ run) ok (suc i) t k u j a b h g n l = elim (placed m s
   | inl p ↦ subst (λ z. z < cond (eqb u e.0) (suc (moment run i u)) (moment run i u)) (sym p.1)
       (subst (λ z. 0 < cond z (suc (moment run i u)) (moment run i u)) (sym (eq-eqb u e.0 p.0)) (zero_less (moment run i u)))
   | inr p ↦ elim (placed m s e run t k a h) [
-    | inl c ↦ absurd (no_later m law s good e ok.0 run ok.1 u p.place p.tells.0 b (act m s e) refl p.tells.1 (subst (Needs b) c.2 n))
+    | inl c ↦ absurd (no_later m law s good e ok.0 run ok.1 u p.place p.emits.0 b (act m s e) refl p.emits.1 (subst (Needs b) c.2 n))
     | inr c ↦ subst (λ z. z < cond (eqb u e.0) (suc (moment run i u)) (moment run i u)) (sym p.is)
         (both_up (eqb u e.0) p.place (moment run i u)
-        (early m law (after m s e) (stays_good m law s good e ok.0) run ok.1 i t c.place u p.place a b c.tells p.tells n
+        (early m law (after m s e) (stays_good m law s good e ok.0) run ok.1 i t c.place u p.place a b c.emits p.emits n
         (both_down (eqb t e.0) c.place (moment run i t)
         (subst (λ z. z < cond (eqb t e.0) (suc (moment run i t)) (moment run i t)) c.is l))))
   ]

@@ -3,7 +3,7 @@ use Rattle.std.proofs.Common.{◌≡◌, ◌≢◌, ℕ, suc, List, [], ◌∷�
 use Rattle.std.proofs.lemmas.Bool.{cases_eq}
 use Rattle.ir_runs.specs.Machine.{Private, Done, act_of, Machine, IsClosing}
 use Rattle.ir_runs.specs.Labels.{Quiet, Out, logged}
-use Rattle.ir_runs.specs.Object.{target, Admits, reply, told}
+use Rattle.ir_runs.specs.Object.{target, Admits, reply, emitted}
 use Rattle.ir_runs.proofs.Tables.{upd_same}
 use Rattle.ir_runs.specs.Run.{act, State, Step, asked, Can, after, label, IsRun, end, join_if, trail, IsDone, events, trace}
 use Rattle.ir_runs.proofs.Follow.{fits_own}
@@ -37,11 +37,11 @@ over_here : {T : Type 0} (m : Machine T) → IsClosing m → (s : State T) (d : 
 over_here m c s d run can e h k =
     let v : ℕ = reply (act m s d) (s.objects (target (act m s d))) in
     let g = c.leaves (s.now d.0) v e h (not_done m s d can) in
-    let told_out : label m s d ≡ Out g.0 g.1 (s.objects g.0).version =
-    ap (λ q. told (act_of q d.1) (s.objects (target (act_of q d.1)))) g.2 in
+    let emitted_out : label m s d ≡ Out g.0 g.1 (s.objects g.0).version =
+    ap (λ q. emitted (act_of q d.1) (s.objects (target (act_of q d.1)))) g.2 in
     record {
       steps = ap length (trail_same m s d run) ∙ ap suc (k.steps ∙ ap m.size (now_same m s d)) ∙ sym g.3;
-      silent = ap events (trail_same m s d run) ∙ ap (λ z. logged z (events (trail m (after m s d) run d.0))) told_out ∙ k.silent;
+      silent = ap events (trail_same m s d run) ∙ ap (λ z. logged z (events (trail m (after m s d) run d.0))) emitted_out ∙ k.silent;
       ended = k.ended;
     }
 
@@ -82,7 +82,7 @@ at_end m c s d e h =
     let p : (after m s d).now d.0 ≡ m.take x 0 = now_same m s d
     ∙ ap (λ q. m.take x (reply (act_of q d.1) (s.objects (target (act_of q d.1))))) z.0 in
     record {
-      quiet = ap (λ q. told (act_of q d.1) (s.objects (target (act_of q d.1)))) z.0;
+      quiet = ap (λ q. emitted (act_of q d.1) (s.objects (target (act_of q d.1)))) z.0;
       ended = ap m.ended p ∙ g.1;
       size = ap m.size p ∙ z.1;
     }

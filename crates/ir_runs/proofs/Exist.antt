@@ -10,7 +10,7 @@ use Rattle.ir_runs.specs.Extremes.{IsLeast}
 use Rattle.ir_runs.proofs.Determined.{count_head}
 use Rattle.ir_runs.proofs.Early.{placed, no_later}
 use Rattle.ir_runs.proofs.Sort.{later, foremost, consistent_later, lower_up}
-use Rattle.ir_runs.specs.Cuts.{Tells, Needs, Cut, IsCut, Consistent, lower, further}
+use Rattle.ir_runs.specs.Cuts.{Emits, Needs, Cut, IsCut, Consistent, lower, further}
 
 pub needs_or : (a b : Label) → Needs a b ⊎ (Needs a b → ⊥)
 needs_or (Out o Writing w) (In p c v l) = elim (cases_eq o p)
@@ -21,25 +21,25 @@ needs_or (Out o Reading w) _ = inr (λ h. h)
 needs_or (Out o Writing w) _ = inr (λ h. h)
 needs_or _ _ = inr (λ h. h)
 
--- a step of the cut that needs what k tells
+-- a step of the cut that needs what k emits
 pub record Wants {T : Type 0} (m : Machine T) (s : State T) (run : List Step) (q : Cut) (k : Label) : Type 0 where
   pub thread : ℕ
   pub place : ℕ
-  pub told : Label
-  pub tells : Tells m s run thread place told
+  pub emitted : Label
+  pub emits : Emits m s run thread place emitted
   pub inside : place < q thread
-  pub needs : Needs k told
+  pub needs : Needs k emitted
 
 wants_or : {T : Type 0} (m : Machine T) (s : State T) (run : List Step) (q : Cut) (k : Label) → Wants m s run q k
-    ⊎ ((t j : ℕ) (a : Label) → Tells m s run t j a → j < q t → Needs k a → ⊥)
+    ⊎ ((t j : ℕ) (a : Label) → Emits m s run t j a → j < q t → Needs k a → ⊥)
 wants_or m s [] q k = inr (λ t j a h l n. h.1)
 wants_or m s (e ∷ run) q k = elim (wants_or m (after m s e) run (lower q e.0) k) [
   | inl w ↦ inl (record {
     thread = w.thread;
     place = cond (eqb w.thread e.0) (suc w.place) w.place;
-    told = w.told;
-    tells =
-        later m s e run w.thread w.place w.told w.tells;
+    emitted = w.emitted;
+    emits =
+        later m s e run w.thread w.place w.emitted w.emits;
     inside = lower_up (eqb w.thread e.0) w.place (q w.thread) w.inside;
     needs =
         w.needs;
@@ -47,13 +47,13 @@ wants_or m s (e ∷ run) q k = elim (wants_or m (after m s e) run (lower q e.0) 
   | inr none ↦ elim (cases_lt 0 (q e.0)) [
     | inr out ↦ inr (λ t j a h l n. elim (placed m s e run t j a h) [
       | inl p ↦ absurd (omega (arith, out, l, p.1, ap q p.0))
-      | inr p ↦ none t p.place a p.tells (down (eqb t e.0) p.place (q t) (subst (λ z. z < q t) p.is l)) n
+      | inr p ↦ none t p.place a p.emits (down (eqb t e.0) p.place (q t) (subst (λ z. z < q t) p.is l)) n
     ])
     | inl inside ↦ elim (needs_or k (label m s e)) [
-      | inl n ↦ inl (record { thread = e.0; place = 0; told = label m s e; tells = foremost m s e run; inside = inside; needs = n })
+      | inl n ↦ inl (record { thread = e.0; place = 0; emitted = label m s e; emits = foremost m s e run; inside = inside; needs = n })
       | inr free ↦ inr (λ t j a h l n. elim (placed m s e run t j a h) [
         | inl p ↦ free (subst (Needs k) p.2 n)
-        | inr p ↦ none t p.place a p.tells (down (eqb t e.0) p.place (q t) (subst (λ z. z < q t) p.is l)) n
+        | inr p ↦ none t p.place a p.emits (down (eqb t e.0) p.place (q t) (subst (λ z. z < q t) p.is l)) n
       ])
     ]
   ]
@@ -84,9 +84,9 @@ with_first m law s good e run ok b q k must = record {
   consistent = λ t i u j a d h g n l. elim (placed m s e run u j d g) [
     | inl p ↦ subst (λ z. z < further q e.0 u) (sym p.1) (subst (λ z. 0 < cond z (suc (q u)) (q u)) (sym (eq-eqb u e.0 p.0)) (first (q u)))
     | inr p ↦ elim (placed m s e run t i a h) [
-      | inl c ↦ absurd (no_later m law s good e ok.0 run ok.1 u p.place p.tells.0 d (act m s e) refl p.tells.1 (subst (Needs d) c.2 n))
+      | inl c ↦ absurd (no_later m law s good e ok.0 run ok.1 u p.place p.emits.0 d (act m s e) refl p.emits.1 (subst (Needs d) c.2 n))
       | inr c ↦ subst (λ z. z < further q e.0 u) (sym p.is)
-          (both_up (eqb u e.0) p.place (q u) (k.consistent t c.place u p.place a d c.tells p.tells n
+          (both_up (eqb u e.0) p.place (q u) (k.consistent t c.place u p.place a d c.emits p.emits n
           (both_down (eqb t e.0) c.place (q t) (subst (λ z. z < further q e.0 t) c.is l))))
     ]
   ];
@@ -122,7 +122,7 @@ with_first m law s good e run ok b q k must = record {
 -- without the first step
 without_first : {T : Type 0} (m : Machine T) (s : State T) (e : Step) (run : List Step) (b q : Cut)
     → Closed m (after m s e) run (lower b e.0) q → b e.0 ≡ 0 → q e.0 ≡ 0
-    → ((t j : ℕ) (a : Label) → Tells m (after m s e) run t j a → j < q t → Needs (label m s e) a → ⊥) → Closed m s (e ∷ run) b q
+    → ((t j : ℕ) (a : Label) → Emits m (after m s e) run t j a → j < q t → Needs (label m s e) a → ⊥) → Closed m s (e ∷ run) b q
 without_first m s e run b q k none zero' free = record {
   cut = λ u. omega (arith, count_head m s e run u, more (eqb u e.0) (count m (after m s e) run u), k.cut u);
   consistent = λ t i u j a d h g n l. elim (placed m s e run t i a h) [
@@ -132,9 +132,9 @@ without_first m s e run b q k none zero' free = record {
       | inr other ↦
           let i' : i ≡ c.place = c.is ∙ ap (λ z. cond z (suc c.place) c.place) (ne_eqb t e.0 other) in
           elim (placed m s e run u j d g) [
-            | inl p ↦ absurd (free t c.place a c.tells (omega (arith, l, i')) (subst (λ z. Needs z a) p.2 n))
+            | inl p ↦ absurd (free t c.place a c.emits (omega (arith, l, i')) (subst (λ z. Needs z a) p.2 n))
             | inr p ↦
-                let less : p.place < q u = k.consistent t c.place u p.place a d c.tells p.tells n (omega (arith, l, i')) in
+                let less : p.place < q u = k.consistent t c.place u p.place a d c.emits p.emits n (omega (arith, l, i')) in
                 elim (cases_eq u e.0) [
                   | inl same ↦ absurd (omega (arith, less, ap q same, zero'))
                   | inr differ ↦ subst (λ z. z < q u) (sym (p.is ∙ ap (λ z. cond z (suc p.place) p.place) (ne_eqb u e.0 differ))) less
@@ -186,8 +186,8 @@ closed m law s good (e ∷ run) ok b cut =
           | inl w ↦ (
             further k.0 e.0,
             with_first m law s good e run ok b k.0 k.1 (λ c con up low.
-                con w.thread (cond (eqb w.thread e.0) (suc w.place) w.place) e.0 0 w.told (label m s e)
-                (later m s e run w.thread w.place w.told w.tells) (foremost m s e run) w.needs
+                con w.thread (cond (eqb w.thread e.0) (suc w.place) w.place) e.0 0 w.emitted (label m s e)
+                (later m s e run w.thread w.place w.emitted w.emits) (foremost m s e run) w.needs
                 (lower_up (eqb w.thread e.0) w.place (c w.thread) (omega (arith, w.inside, low w.thread)))),
           )
           | inr free ↦ (k.0, without_first m s e run b k.0 k.1 (omega arith) (omega arith) free)

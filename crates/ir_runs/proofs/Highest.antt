@@ -11,7 +11,7 @@ use Rattle.ir_runs.proofs.Determined.{count_head}
 use Rattle.ir_runs.proofs.Early.{placed, no_later, both_up, both_down}
 use Rattle.ir_runs.proofs.Exist.{needs_or}
 use Rattle.ir_runs.proofs.Sort.{later, foremost, consistent_later, lower_up}
-use Rattle.ir_runs.specs.Cuts.{Tells, Needs, Cut, IsCut, Consistent, lower, further}
+use Rattle.ir_runs.specs.Cuts.{Emits, Needs, Cut, IsCut, Consistent, lower, further}
 
 abbrev pub Among : Label → List Label → Type 0
 Among k [] = ⊥
@@ -29,7 +29,7 @@ needs_any (x ∷ xs) a = elim (needs_or x a) [
 
 -- no step of the cut needs what is left out
 abbrev pub Avoids : {T : Type 0} → Machine T → State T → List Step → Cut → List Label → Type 0
-Avoids m s run q out = (t i : ℕ) (a k : Label) → Tells m s run t i a → i < q t → Among k out → Needs k a → ⊥
+Avoids m s run q out = (t i : ℕ) (a k : Label) → Emits m s run t i a → i < q t → Among k out → Needs k a → ⊥
 
 -- the greatest consistent cut at or below b that avoids what is left out
 pub record Highest {T : Type 0} (m : Machine T) (s : State T) (run : List Step) (b : Cut) (out : List Label) (q : Cut) : Type 0 where
@@ -55,15 +55,15 @@ with_first m law s good e run ok b q out more free k = record {
     | inl p ↦ subst (λ z. z < further q e.0 u) (sym p.1)
         (subst (λ z. 0 < cond z (suc (q u)) (q u)) (sym (eq-eqb u e.0 p.0)) (first_less (q u)))
     | inr p ↦ elim (placed m s e run t i a h) [
-      | inl c ↦ absurd (no_later m law s good e ok.0 run ok.1 u p.place p.tells.0 d (act m s e) refl p.tells.1 (subst (Needs d) c.2 n))
+      | inl c ↦ absurd (no_later m law s good e ok.0 run ok.1 u p.place p.emits.0 d (act m s e) refl p.emits.1 (subst (Needs d) c.2 n))
       | inr c ↦ subst (λ z. z < further q e.0 u) (sym p.is)
-          (both_up (eqb u e.0) p.place (q u) (k.consistent t c.place u p.place a d c.tells p.tells n
+          (both_up (eqb u e.0) p.place (q u) (k.consistent t c.place u p.place a d c.emits p.emits n
           (both_down (eqb t e.0) c.place (q t) (subst (λ z. z < further q e.0 t) c.is l))))
     ]
   ];
   avoids = λ t i a x h l g n. elim (placed m s e run t i a h) [
     | inl c ↦ free x g (subst (Needs x) c.2 n)
-    | inr c ↦ k.avoids t c.place a x c.tells (both_down (eqb t e.0) c.place (q t) (subst (λ z. z < further q e.0 t) c.is l)) g n
+    | inr c ↦ k.avoids t c.place a x c.emits (both_down (eqb t e.0) c.place (q t) (subst (λ z. z < further q e.0 t) c.is l)) g n
   ];
   below = λ u. under (eqb u e.0) (q u) (b u) (k.below u) (λ p. subst (λ z. 0 < b z) (sym (eqb-true u e.0 p)) more);
   greatest = λ c con av down u. over (eqb u e.0) (c u) (q u)
@@ -97,13 +97,13 @@ without_first m s e run b q out never k = record {
     | inr c ↦
         let l' : c.place < q t = at_other t i c.place c.is l in
         elim (placed m s e run u j d g) [
-          | inl p ↦ absurd (k.avoids t c.place a d c.tells l' (inl (sym p.2)) n)
-          | inr p ↦ from_other u j p.place p.is (k.consistent t c.place u p.place a d c.tells p.tells n l')
+          | inl p ↦ absurd (k.avoids t c.place a d c.emits l' (inl (sym p.2)) n)
+          | inr p ↦ from_other u j p.place p.is (k.consistent t c.place u p.place a d c.emits p.emits n l')
         ]
   ];
   avoids = λ t i a x h l g n. elim (placed m s e run t i a h) [
     | inl c ↦ omega (arith, l, ap q c.0, none)
-    | inr c ↦ k.avoids t c.place a x c.tells (at_other t i c.place c.is l) (inr g) n
+    | inr c ↦ k.avoids t c.place a x c.emits (at_other t i c.place c.is l) (inr g) n
   ];
   below = λ u. nothing_less (eqb u e.0) (q u) (b u) (k.below u);
   greatest = λ c con av down u. k.greatest c
@@ -115,7 +115,7 @@ without_first m s e run b q out never k = record {
           arith,
           never c av down,
           con t (cond (eqb t e.0) (suc i) i) e.0 0 a x (later m s e run t i a h)
-              (subst (Tells m s (e ∷ run) e.0 0) same (foremost m s e run)) n (to_later c (never c av down) t i l),
+              (subst (Emits m s (e ∷ run) e.0 0) same (foremost m s e run)) n (to_later c (never c av down) t i l),
         )
         | inr among ↦ av t (cond (eqb t e.0) (suc i) i) a x (later m s e run t i a h) (to_later c (never c av down) t i l) among n
       ])

@@ -7,7 +7,7 @@ use Rattle.ir_runs.specs.declared.access.Access.{Access}
 use Rattle.ir_runs.specs.declared.env_kind.EnvKind.{EnvKind}
 use Rattle.ir_runs.specs.declared.env_kind.EnvKind.TheVariants.{Clock, Random, Input}
 use Rattle.ir_runs.specs.declared.access.Access.TheVariants.{Reading, Writing}
-use Rattle.ir_runs.specs.Object.{Object, target, Admits, reply, told}
+use Rattle.ir_runs.specs.Object.{Object, target, Admits, reply, emitted}
 use Rattle.ir_runs.specs.Run.{act, State, Step, Can, after, label, IsRun, end, trail, IsStart, IsIdle, IsDone, events, log, count}
 use Rattle.ir_runs.proofs.Good.{Good}
 use Rattle.ir_runs.proofs.Append.{trail_append, run_append}
@@ -158,7 +158,7 @@ at_left (x ∷ xs) es i j h = let g = at_left xs (unlogged x.1 es) i j h in at_u
 -- where no step goes on, an entry is waited for
 waits : {T : Type 0} (m : Machine T) (q : Ask) (es : List Label) → Suits q es → q ≢ Done → ((i : ℕ) (k : Label) → At es i k → IsEvent m k)
     → ((r : ℕ) → ((b : Object) → Admits m (act_of q r) b)
-    → ((b : Object) → logged (told (act_of q r) b) (unlogged (told (act_of q r) b) es) ≡ es) → ⊥) → Awaits q es
+    → ((b : Object) → logged (emitted (act_of q r) b) (unlogged (emitted (act_of q r) b) es) ≡ es) → ⊥) → Awaits q es
 waits m Private es suits ne ev stop = absurd (stop 0 (λ b. tt) (λ b. refl))
 waits m (Env k) (Answer j v ∷ es) suits ne ev stop =
     absurd (stop v (λ b. subst (λ z. m.fits z v ≡ true) suits (ev 0 (Answer j v) refl)) (λ b. ap (λ z. Answer z v ∷ es) (sym suits)))

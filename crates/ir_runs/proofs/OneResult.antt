@@ -3,7 +3,7 @@
 use Rattle.std.proofs.Common.{◌≡◌, ℕ, suc, zero, pred, ◌<◌, List, [], ◌∷◌, ◌++◌, refl, ap, ◌∙◌, subst}
 use Rattle.ir_runs.specs.Machine.{Ask, Private, Env, Enter, Try, Leave, Get, Put, Done, act_of, Machine}
 use Rattle.ir_runs.specs.Labels.{Label, Quiet, Answer, In, Refused, Out, logged, Trace}
-use Rattle.ir_runs.specs.Object.{Object, target, Admits, told}
+use Rattle.ir_runs.specs.Object.{Object, target, Admits, emitted}
 use Rattle.ir_runs.specs.Run.{act, State, Step, asked, Can, after, label, IsRun, end, trail}
 use Rattle.ir_runs.proofs.Append.{trail_append}
 use Rattle.ir_runs.proofs.Ending.{trail_same, run_last}
@@ -13,7 +13,7 @@ use Rattle.ir_runs.specs.Following.{Check, unlogged, Fits, Follows, IsMaximal, l
 use Rattle.ir_runs.specs.Verdicts.{result_of}
 
 pub one_act : {T : Type 0} (m : Machine T) (q : Ask) (r : ℕ) (b : Object) (es : List Label) → Admits m (act_of q r) b
-    → logged (told (act_of q r) b) (unlogged (told (act_of q r) b) es) ≡ es → act_of q r ≡ act_of q (result_of q es)
+    → logged (emitted (act_of q r) b) (unlogged (emitted (act_of q r) b) es) ≡ es → act_of q r ≡ act_of q (result_of q es)
 one_act m Private r b es can h = refl
 one_act m (Env k) r b [] can h = absurd (cc h)
 one_act m (Env k) r b (Quiet ∷ es) can h = absurd (cc h)
@@ -90,6 +90,6 @@ one_step_each m tr s run none e f =
     let p : act m s1 e ≡ act m s1 (t, r) = one_act m (asked m s1 t) e.1 (s1.objects (target (act m s1 e))) es last.can last.logs in
     none t (goes_further m s tr run (follows_prefix m tr s run e f) t r (subst (λ z. Admits m z (s1.objects (target z))) p last.can) (
       last.left,
-      subst (λ z. logged (told z (s1.objects (target z))) (unlogged (told z (s1.objects (target z))) es) ≡ es) p last.logs,
+      subst (λ z. logged (emitted z (s1.objects (target z))) (unlogged (emitted z (s1.objects (target z))) es) ≡ es) p last.logs,
       last.closes,
     ))

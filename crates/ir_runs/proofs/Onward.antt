@@ -4,7 +4,7 @@ use Rattle.std.proofs.lemmas.Bool.{cases_eq, cases_lt, eqb-true}
 use Rattle.ir_runs.specs.Machine.{Done, Act, Silent, Result, Entry, Refusal, Exit, Load, Store, Never, Machine, IsLawful}
 use Rattle.ir_runs.specs.Labels.{Label, Quiet, Answer, In, Refused, Out, logged, Trace}
 use Rattle.ir_runs.specs.declared.access.Access.TheVariants.{Reading, Writing}
-use Rattle.ir_runs.specs.Object.{target, Admits, told}
+use Rattle.ir_runs.specs.Object.{target, Admits, emitted}
 use Rattle.ir_runs.specs.Run.{act, State, Step, asked, Can, after, label, trail}
 use Rattle.ir_runs.proofs.Good.{Good, stays_good}
 use Rattle.ir_runs.proofs.Stuck.{search_below, is_writing, is_inside, not_inside}
@@ -142,7 +142,7 @@ build (suc d) n m law tr s good idle ns rem less = elim (search_threads (λ t. N
               subst (λ z. Admits m z (s.objects (target z))) p h.0.0,
               (
                 f.0,
-                subst (λ z. logged (told z (s.objects (target z))) (unlogged (told z (s.objects (target z))) (rem x.0)) ≡ rem x.0) p
+                subst (λ z. logged (emitted z (s.objects (target z))) (unlogged (emitted z (s.objects (target z))) (rem x.0)) ≡ rem x.0) p
                     f.1,
                 f.2,
               ),

@@ -6,12 +6,12 @@ use Rattle.ir_runs.specs.Machine.{Done, Act, act_of, Silent, Result, Entry, Refu
 use Rattle.ir_runs.specs.Labels.{Label, Quiet, Answer, In, Refused, Out, logged}
 use Rattle.ir_runs.specs.declared.access.Access.{Access}
 use Rattle.ir_runs.specs.declared.access.Access.TheVariants.{Reading, Writing}
-use Rattle.ir_runs.specs.Object.{Object, target, Admits, acted, told}
+use Rattle.ir_runs.specs.Object.{Object, target, Admits, acted, emitted}
 use Rattle.ir_runs.proofs.Tables.{upd_same, upd_elim}
 use Rattle.ir_runs.specs.Run.{act, State, Step, asked, Can, after, label, IsRun, join_if, trail, IsStart, IsIdle, events, log, trace}
 use Rattle.ir_runs.proofs.Good.{Exclusive, Inside, Good, stays_good, inside_now}
 use Rattle.ir_runs.proofs.Pull.{entered, past_writer, objects_after}
-use Rattle.ir_runs.proofs.Ratchet.{taken, Writes, Writes_kept, told_in, Entering}
+use Rattle.ir_runs.proofs.Ratchet.{taken, Writes, Writes_kept, emitted_in, Entering}
 use Rattle.ir_runs.proofs.Same.{now_other}
 use Rattle.ir_runs.proofs.Tally.{Tally, tally_step, tally_start, sum_same, sum_zero, is_reader, counted}
 use Rattle.ir_runs.specs.Coherent.{reads_one, reads, sum_below, IsCoherent}
@@ -77,7 +77,7 @@ after_writer : {T : Type 0} (m : Machine T) → IsLawful m → (s : State T) →
     → At (log m (after m s e) run t) i (In o a v k) → ⊥
 after_writer m law s good e can run ok o v l is t i a k h =
     let q : Act = act m s e in
-    let en : Entering m (s.objects (target q)) o Writing v l q = told_in m q (s.objects (target q)) o Writing v l (sym is) in
+    let en : Entering m (s.objects (target q)) o Writing v l q = emitted_in m q (s.objects (target q)) o Writing v l (sym is) in
     let ver : (s.objects o).version ≡ v = ap (λ z. (s.objects (target z)).version) (sym en.does) ∙ en.version in
     let g = event_at (trail m (after m s e) run t) i (In o a v k) h in
     past_writer m v e.0 o a k (entered m (Writes v e.0) o a v k t
@@ -160,7 +160,7 @@ all_readers m law n s good idle c tally [] ok t i o v l h = absurd h
 all_readers m law n s good idle c tally (e ∷ run) ok t i o v l h = elim (event_cases m s e run t i (In o Writing v l) h) [
   | inl p ↦
       let q : Act = act m s e in
-      let en : Entering m (s.objects (target q)) o Writing v l q = told_in m q (s.objects (target q)) o Writing v l (sym p.is) in
+      let en : Entering m (s.objects (target q)) o Writing v l q = emitted_in m q (s.objects (target q)) o Writing v l (sym p.is) in
       let empty : (u : ℕ) → (s.objects o).inside u ≡ None = subst (λ z. Admits m z (s.objects (target z))) en.does ok.0 in
       let ver : (s.objects o).version ≡ v = ap (λ z. (s.objects (target z)).version) (sym en.does) ∙ en.version in
       let left : (s.objects o).left ≡ l = ap (λ z. (s.objects (target z)).left) (sym en.does) ∙ en.left refl in
@@ -231,7 +231,7 @@ made_step m law s good Q made e new =
     let z = made1 m q e.0 b (good.exclusive (target q)) (inside_now m law s good e) (Q (target q)) (made.past (target q))
     (made.inside (target q))
     (λ o ans is. subst (λ w. Q (target w) (s.objects (target w)).version) (sym is)
-    (new o (s.objects o).version (s.objects o).left (ap (λ w. told w (s.objects (target w))) is))) in
+    (new o (s.objects o).version (s.objects o).left (ap (λ w. emitted w (s.objects (target w))) is))) in
     record {
       past = λ o v. upd_elim s.objects (target q) (acted q e.0 b) o (λ d. v < d.version → Q o v)
           (λ here l. subst (λ w. Q w v) (sym here) (z.0 v l)) (λ _ l. made.past o v l);
@@ -264,7 +264,7 @@ made_by m law s good Q made [] ok all t i o v l a h = absurd h
 made_by m law s good Q made (e ∷ run) ok all t i o v l a h = elim (event_cases m s e run t i (In o a (suc v) l) h) [
   | inl p ↦
       let q : Act = act m s e in
-      let en : Entering m (s.objects (target q)) o a (suc v) l q = told_in m q (s.objects (target q)) o a (suc v) l (sym p.is) in
+      let en : Entering m (s.objects (target q)) o a (suc v) l q = emitted_in m q (s.objects (target q)) o a (suc v) l (sym p.is) in
       let ver : (s.objects o).version ≡ suc v = ap (λ z. (s.objects (target z)).version) (sym en.does) ∙ en.version in
       made.past o v (omega arith)
   | inr p ↦ made_by m law (after m s e) (stays_good m law s good e ok.0) Q

@@ -6,11 +6,11 @@ use Rattle.ir_runs.specs.Machine.{Ask, Private, Env, Enter, Try, Leave, Get, Put
 use Rattle.ir_runs.specs.Labels.{Label, Quiet, Answer, In, Refused, Out, logged}
 use Rattle.ir_runs.specs.declared.access.Access.{Access}
 use Rattle.ir_runs.specs.declared.access.Access.TheVariants.{Reading, Writing}
-use Rattle.ir_runs.specs.Object.{Object, target, Admits, acted, told}
+use Rattle.ir_runs.specs.Object.{Object, target, Admits, acted, emitted}
 use Rattle.ir_runs.proofs.Tables.{upd_same}
 use Rattle.ir_runs.specs.Run.{act, State, moved, Step, asked, Can, after, label, IsRun, end, join_if, trail}
 use Rattle.ir_runs.proofs.Good.{Good, stays_good}
-use Rattle.ir_runs.proofs.Ratchet.{Taken, taken, Writes, Reads, Writes_kept, Reads_kept, Entering, told_in}
+use Rattle.ir_runs.proofs.Ratchet.{Taken, taken, Writes, Reads, Writes_kept, Reads_kept, Entering, emitted_in}
 use Rattle.ir_runs.proofs.Steps.{Clashes, Keeps, keeps, commute}
 use Rattle.ir_runs.proofs.Swap.{Clash}
 use Rattle.ir_runs.specs.Cuts.{At}
@@ -27,7 +27,7 @@ pub entered : {T : Type 0} (m : Machine T) (R : Object → Type 0) (o : ℕ) (a 
     → Entered m R o a v l
 entered m R o a v l t k =
     let q : Act = act m k.state k.step in
-    let e : Entering m (k.state.objects (target q)) o a v l q = told_in m q (k.state.objects (target q)) o a v l k.tells in
+    let e : Entering m (k.state.objects (target q)) o a v l q = emitted_in m q (k.state.objects (target q)) o a v l k.emits in
     record {
       object = k.state.objects o;
       answer = e.answer;
@@ -54,11 +54,11 @@ unfolding after
 objects_after m s e q p = subst (λ z. (after m s e).objects (target z) ≡ acted z e.0 (s.objects (target z))) p
     (upd_same s.objects (target (act m s e)) _)
 
--- after an entry, another that clashed with it tells something else
+-- after an entry, another that clashed with it emits something else
 never : {T : Type 0} (m : Machine T) → IsLawful m → (s : State T) → Good m s → (e : Step) → Can m s e → (run : List Step)
     → IsRun m (after m s e) run → (t k : ℕ) (x : T)
     → (q' q : Act) → act m s e ≡ q' → target q ≡ target q' → Clash q' q
-    → At (trail m (after m s e) run t) k (x, told q (s.objects (target q))) → ⊥
+    → At (trail m (after m s e) run t) k (x, emitted q (s.objects (target q))) → ⊥
 never m law s good e can run ok t k x (Entry o Writing ans) (Entry p Reading ans') is same c h =
     past_writer m (s.objects p).version e.0 p Reading 0 (entered m (Writes (s.objects p).version e.0) p Reading _ _ t
     (taken m law (Writes (s.objects p).version e.0) (Writes_kept m _ _) (after m s e) (stays_good m law s good e can) run ok p
@@ -106,7 +106,7 @@ clash_sym _ _ c = absurd c
 
 -- results with which an ask logs the same are one act
 pub same_act : {T : Type 0} (m : Machine T) (q : Ask) (r r' : ℕ) (b b' : Object) (xs ys zs : List Label) → Admits m (act_of q r) b
-    → Admits m (act_of q r') b' → logged (told (act_of q r) b) xs ++ ys ≡ logged (told (act_of q r') b') zs → act_of q r ≡ act_of q r'
+    → Admits m (act_of q r') b' → logged (emitted (act_of q r) b) xs ++ ys ≡ logged (emitted (act_of q r') b') zs → act_of q r ≡ act_of q r'
 same_act m Private r r' b b' xs ys zs can can' h = refl
 same_act m (Env k) r r' b b' xs ys zs can can' h = cc h
 same_act m (Enter o a) r r' b b' xs ys zs can can' h = refl
@@ -152,12 +152,12 @@ logged_in (In p c v' l') o a v l h = cc h
 logged_in (Refused p) o a v l h = absurd (cc h)
 logged_in (Out p c v') o a v l h = absurd (cc h)
 
-clash_told : (q' q : Act) (b : Object) (k : Label) → Clash q' q → logged k [] ≡ logged (told q b) [] → k ≡ told q b
-clash_told q' (Entry o Reading x) b k c h = logged_in k o Reading _ _ h
-clash_told q' (Entry o Writing x) b k c h = logged_in k o Writing _ _ h
-clash_told (Entry p Reading x) _ b k c h = absurd c
-clash_told (Entry p Writing x) _ b k c h = absurd c
-clash_told _ _ b k c h = absurd c
+clash_emitted : (q' q : Act) (b : Object) (k : Label) → Clash q' q → logged k [] ≡ logged (emitted q b) [] → k ≡ emitted q b
+clash_emitted q' (Entry o Reading x) b k c h = logged_in k o Reading _ _ h
+clash_emitted q' (Entry o Writing x) b k c h = logged_in k o Writing _ _ h
+clash_emitted (Entry p Reading x) _ b k c h = absurd c
+clash_emitted (Entry p Writing x) _ b k c h = absurd c
+clash_emitted _ _ b k c h = absurd c
 
 pull_first : {T : Type 0} (m : Machine T) (s : State T) (e : Step) (run : List Step) → IsRun m s (e ∷ run) → (r : ℕ) → Can m s (e.0, r)
     → logged (label m s e) [] ≡ logged (label m s (e.0, r)) [] → Pulled m s (e ∷ run) e.0 r
@@ -170,7 +170,7 @@ pull_first m s e run ok r can h =
       ok = subst (λ z. IsRun m z run) (sym p) ok.1;
       same_end = ap (λ z. end m z run) p;
       same_trail = λ u. ap (λ z. join_if (eqb u e.0) (s.now u, label m s (e.0, r)) (trail m z run u)) p
-          ∙ ap (λ z. join_if (eqb u e.0) (s.now u, told z (s.objects (target z))) (trail m (after m s e) run u)) a;
+          ∙ ap (λ z. join_if (eqb u e.0) (s.now u, emitted z (s.objects (target z))) (trail m (after m s e) run u)) a;
     }
 
 pull_later : {T : Type 0} (m : Machine T) → IsLawful m → (s : State T) → Good m s → (e : Step) (run : List Step) → IsRun m s (e ∷ run)
@@ -181,7 +181,7 @@ pull_later : {T : Type 0} (m : Machine T) → IsLawful m → (s : State T) → G
 pull_later m law s good e run ok t r other can x j h l ih =
     let free : Clashes m s e (t, r) → ⊥ = λ c. never m law s good e ok.0 run ok.1 t 0 x (act m s e) (act m s (t, r)) refl c.0 c.1
     (subst (λ z. At (trail m (after m s e) run t) 0 (x, z))
-    (clash_told (act m s e) (act m s (t, r)) (s.objects (target (act m s (t, r)))) j c.1 l) h) in
+    (clash_emitted (act m s e) (act m s (t, r)) (s.objects (target (act m s (t, r)))) j c.1 l) h) in
     let free' : Clashes m s (t, r) e → ⊥ = λ c. free (sym c.0, clash_sym _ _ c.1) in
     let k : Keeps m s e (t, r) = keeps m law s good e (t, r) (λ p. other (sym p)) ok.0 can free in
     let k' : Keeps m s (t, r) e = keeps m law s good (t, r) e other can ok.0 free' in

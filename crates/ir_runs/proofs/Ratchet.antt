@@ -6,7 +6,7 @@ use Rattle.ir_runs.specs.Machine.{Act, Silent, Result, Entry, Refusal, Exit, Loa
 use Rattle.ir_runs.specs.Labels.{Label, In}
 use Rattle.ir_runs.specs.declared.access.Access.{Access}
 use Rattle.ir_runs.specs.declared.access.Access.TheVariants.{Reading, Writing}
-use Rattle.ir_runs.specs.Object.{Object, target, Admits, acted, told}
+use Rattle.ir_runs.specs.Object.{Object, target, Admits, acted, emitted}
 use Rattle.ir_runs.proofs.Tables.{upd_other, upd_elim}
 use Rattle.ir_runs.specs.Run.{act, State, Step, Can, after, label, IsRun, join_if, trail}
 use Rattle.ir_runs.proofs.Good.{Exclusive, Inside, Good, inside_now, stays_good}
@@ -31,7 +31,7 @@ pub record Taken {T : Type 0} (m : Machine T) (R : Object → Type 0) (o t : ℕ
   pub step : Step
   pub can : Can m state step
   pub who : step.0 ≡ t
-  pub tells : label m state step ≡ k
+  pub emits : label m state step ≡ k
   pub kept : R (state.objects o)
 
 pub at_join : {A : Type 0} (b : Bool) (x y : A) (xs : List A) (k : ℕ) → At (join_if b x xs) k y → ((b ≡ true) × (x ≡ y))
@@ -46,7 +46,7 @@ pub taken : {T : Type 0} (m : Machine T) → IsLawful m → (R : Object → Type
 taken m law R kept s good [] ok o here t k x μ h = absurd h
 taken m law R kept s good (e ∷ run) ok o here t k x μ h =
     elim (at_join (eqb t e.0) (s.now t, label m s e) (x, μ) (trail m (after m s e) run t) k h) [
-      | inl p ↦ record { state = s; good = good; step = e; can = ok.0; who = sym (eqb-true t e.0 p.0); tells = ap (λ z. z.1) p.1; kept = here }
+      | inl p ↦ record { state = s; good = good; step = e; can = ok.0; who = sym (eqb-true t e.0 p.0); emits = ap (λ z. z.1) p.1; kept = here }
       | inr p ↦ taken m law R kept (after m s e) (stays_good m law s good e ok.0) run ok.1 o (kept_step m law R kept s good e ok.0 o here) t p.0
           x μ p.1
     ]
@@ -116,21 +116,21 @@ Reads_kept m v l u b t (Load o j) ex i h k = k
 Reads_kept m v l u b t (Store o j w) ex i h k = k
 Reads_kept m v l u b t Never ex i h k = k
 
--- what an entry tells of the object
+-- what an entry emits of the object
 pub record Entering {T : Type 0} (m : Machine T) (b : Object) (o : ℕ) (a : Access) (v l : ℕ) (q : Act) : Type 0 where
   pub answer : ℕ
   pub does : q ≡ Entry o a answer
   pub version : b.version ≡ v
   pub left : a ≡ Writing → b.left ≡ l
 
-pub told_in : {T : Type 0} (m : Machine T) (q : Act) (b : Object) (o : ℕ) (a : Access) (v l : ℕ) → told q b ≡ In o a v l
+pub emitted_in : {T : Type 0} (m : Machine T) (q : Act) (b : Object) (o : ℕ) (a : Access) (v l : ℕ) → emitted q b ≡ In o a v l
     → Entering m b o a v l q
-told_in m Silent b o a v l h = absurd (cc h)
-told_in m (Refusal _) b o a v l h = absurd (cc h)
-told_in m (Result k x) b o a v l h = absurd (cc h)
-told_in m (Entry p Reading x) b o a v l h = record { answer = x; does = cc h; version = cc h; left = λ w. absurd (cc (h, w)) }
-told_in m (Entry p Writing x) b o a v l h = record { answer = x; does = cc h; version = cc h; left = λ w. cc h }
-told_in m (Exit p c) b o a v l h = absurd (cc h)
-told_in m (Load p j) b o a v l h = absurd (cc h)
-told_in m (Store p j w) b o a v l h = absurd (cc h)
-told_in m Never b o a v l h = absurd (cc h)
+emitted_in m Silent b o a v l h = absurd (cc h)
+emitted_in m (Refusal _) b o a v l h = absurd (cc h)
+emitted_in m (Result k x) b o a v l h = absurd (cc h)
+emitted_in m (Entry p Reading x) b o a v l h = record { answer = x; does = cc h; version = cc h; left = λ w. absurd (cc (h, w)) }
+emitted_in m (Entry p Writing x) b o a v l h = record { answer = x; does = cc h; version = cc h; left = λ w. cc h }
+emitted_in m (Exit p c) b o a v l h = absurd (cc h)
+emitted_in m (Load p j) b o a v l h = absurd (cc h)
+emitted_in m (Store p j w) b o a v l h = absurd (cc h)
+emitted_in m Never b o a v l h = absurd (cc h)

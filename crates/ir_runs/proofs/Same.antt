@@ -5,7 +5,7 @@ use Rattle.std.proofs.lemmas.Bool.{cases_eq}
 use Rattle.ir_runs.specs.Machine.{Ask, Act, act_of, Silent, Result, Entry, Refusal, Exit, Load, Store, Never, Machine, IsLawful}
 use Rattle.ir_runs.specs.Labels.{Label, Quiet, Answer, In, Refused, Out, logged}
 use Rattle.ir_runs.specs.declared.access.Access.TheVariants.{Reading, Writing}
-use Rattle.ir_runs.specs.Object.{Object, Admits, target, told}
+use Rattle.ir_runs.specs.Object.{Object, Admits, target, emitted}
 use Rattle.ir_runs.proofs.Tables.{upd_other}
 use Rattle.ir_runs.specs.Run.{act, State, Can, Step, asked, after, label, IsRun, end, join_if, trail, events, log, count}
 use Rattle.ir_runs.proofs.Good.{Good, stays_good}
@@ -16,7 +16,7 @@ pub record Heads {T : Type 0} (m : Machine T) (s : State T) (t : ℕ) (x : T) (j
   pub result : ℕ
   pub object : Object
   pub admits : Admits m (act m s (t, result)) object
-  pub tells : j ≡ told (act m s (t, result)) object
+  pub emits : j ≡ emitted (act m s (t, result)) object
 
 pub now_other : {T : Type 0} (m : Machine T) (s : State T) (e : Step) (t : ℕ) → t ≢ e.0 → (after m s e).now t ≡ s.now t
 unfolding after
@@ -30,7 +30,7 @@ heads m s (e ∷ run) ok t x j h = elim (cases_eq t e.0) [
     result = e.1;
     object = s.objects (target (act m s (t, e.1)));
     admits = subst (λ z. Can m s (z, e.1)) (sym same) ok.0;
-    tells = subst (λ z. j ≡ label m s (z, e.1)) (sym same)
+    emits = subst (λ z. j ≡ label m s (z, e.1)) (sym same)
         (sym (ap (λ z. z.1) (subst (λ b. At (join_if b (s.now t, label m s e) (trail m (after m s e) run t)) 0 (x, j)) (eq-eqb t e.0 same)
         h)));
   }
@@ -42,19 +42,19 @@ heads m s (e ∷ run) ok t x j h = elim (cases_eq t e.0) [
         result = k.result;
         object = k.object;
         admits = subst (λ z. Admits m z k.object) p k.admits;
-        tells = k.tells
-            ∙ ap (λ z. told z k.object) p;
+        emits = k.emits
+            ∙ ap (λ z. emitted z k.object) p;
       }
 ]
 
 -- where both log, the logs of one step are one
 pub agree : {T : Type 0} (m : Machine T) (q : Ask) (r r' : ℕ) (b b' : Object) (xs ys zs : List Label) → Admits m (act_of q r) b
-    → Admits m (act_of q r') b' → logged (told (act_of q r) b) xs ++ ys ≡ logged (told (act_of q r') b') zs
-    → logged (told (act_of q r') b') [] ≡ logged (told (act_of q r) b) []
+    → Admits m (act_of q r') b' → logged (emitted (act_of q r) b) xs ++ ys ≡ logged (emitted (act_of q r') b') zs
+    → logged (emitted (act_of q r') b') [] ≡ logged (emitted (act_of q r) b) []
 agree m q r r' b b' xs ys zs can can' h = by_act (act_of q r) (act_of q r') (same_act m q r r' b b' xs ys zs can can' h) h
   where
-    one : (a : Act) (b b' : Object) (xs ys zs : List Label) → logged (told a b) xs ++ ys ≡ logged (told a b') zs
-        → logged (told a b') [] ≡ logged (told a b) []
+    one : (a : Act) (b b' : Object) (xs ys zs : List Label) → logged (emitted a b) xs ++ ys ≡ logged (emitted a b') zs
+        → logged (emitted a b') [] ≡ logged (emitted a b) []
     one Silent b b' xs ys zs h = refl
     one (Refusal o) b b' xs ys zs h = refl
     one (Result k v) b b' xs ys zs h = refl
@@ -65,9 +65,9 @@ agree m q r r' b b' xs ys zs can can' h = by_act (act_of q r) (act_of q r') (sam
     one (Store o j w) b b' xs ys zs h = refl
     one Never b b' xs ys zs h = refl
 
-    by_act : (a a' : Act) → a ≡ a' → logged (told a b) xs ++ ys ≡ logged (told a' b') zs → logged (told a' b') [] ≡ logged (told a b) []
-    by_act a a' p h = subst (λ z. logged (told z b') [] ≡ logged (told a b) []) p
-        (one a b b' xs ys zs (subst (λ z. logged (told a b) xs ++ ys ≡ logged (told z b') zs) (sym p) h))
+    by_act : (a a' : Act) → a ≡ a' → logged (emitted a b) xs ++ ys ≡ logged (emitted a' b') zs → logged (emitted a' b') [] ≡ logged (emitted a b) []
+    by_act a a' p h = subst (λ z. logged (emitted z b') [] ≡ logged (emitted a b) []) p
+        (one a b b' xs ys zs (subst (λ z. logged (emitted a b) xs ++ ys ≡ logged (emitted z b') zs) (sym p) h))
 
 logged_tail : (k : Label) (xs ys zs : List Label) → logged k xs ++ ys ≡ logged k zs → xs ++ ys ≡ zs
 logged_tail Quiet xs ys zs h = h
@@ -111,12 +111,12 @@ first_logs : {T : Type 0} (m : Machine T) (s : State T) (e : Step) (prefix run :
     → events (trail m s (e ∷ prefix) e.0) ++ ys ≡ events (trail m s run e.0) → logged j [] ≡ logged (label m s e) []
 first_logs m s e prefix run can ok x j xs ys is h =
     let k : Heads m s e.0 x j = heads m s run ok e.0 x j (subst (λ z. At z 0 (x, j)) (sym is) refl) in
-    ap (λ z. logged z []) k.tells
+    ap (λ z. logged z []) k.emits
     ∙ agree m (asked m s e.0) e.1 k.result (s.objects (target (act m s e))) k.object (events (trail m (after m s e) prefix e.0)) ys
     (events xs) can k.admits
     (subst (λ b. events (join_if b (s.now e.0, label m s e) (trail m (after m s e) prefix e.0)) ++ ys ≡ logged
-    (told (act m s (e.0, k.result)) k.object) (events xs)) (eq-eqb e.0 e.0 refl)
-    (h ∙ ap events is ∙ ap (λ z. logged z (events xs)) k.tells))
+    (emitted (act m s (e.0, k.result)) k.object) (events xs)) (eq-eqb e.0 e.0 refl)
+    (h ∙ ap events is ∙ ap (λ z. logged z (events xs)) k.emits))
 
 pub goes : {T : Type 0} (m : Machine T) → IsLawful m → (s : State T) → Good m s → (prefix run : List Step) → IsRun m s prefix
     → IsRun m s run → (left : ℕ → List Label)

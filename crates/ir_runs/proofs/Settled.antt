@@ -4,7 +4,7 @@ use Rattle.std.proofs.lemmas.Bool.{cases_lt}
 use Rattle.ir_runs.specs.Machine.{Ask, Private, Env, Enter, Try, Leave, Get, Put, Done, act_of, Machine, IsLawful}
 use Rattle.ir_runs.specs.Labels.{Label, Quiet, Answer, In, Refused, Out, logged, Trace}
 use Rattle.ir_runs.specs.declared.access.Access.TheVariants.{Reading, Writing}
-use Rattle.ir_runs.specs.Object.{Object, target, Admits, told}
+use Rattle.ir_runs.specs.Object.{Object, target, Admits, emitted}
 use Rattle.ir_runs.specs.Run.{State, Step, asked, end, IsStart, IsIdle, IsDone}
 use Rattle.ir_runs.proofs.Good.{Good}
 use Rattle.ir_runs.proofs.Stuck.{run_idle}
@@ -20,7 +20,7 @@ use Rattle.ir_runs.specs.declared.thread_verdict.ThreadVerdict.TheVariants.{Same
 
 -- what is logged of a step that follows suits what was asked
 suits_of : {T : Type 0} (m : Machine T) (q : Ask) (r : ℕ) (b : Object) (es : List Label) → Admits m (act_of q r) b
-    → logged (told (act_of q r) b) (unlogged (told (act_of q r) b) es) ≡ es → Suits q es
+    → logged (emitted (act_of q r) b) (unlogged (emitted (act_of q r) b) es) ≡ es → Suits q es
 suits_of m Private r b es can h = tt
 suits_of m (Env k) r b [] can h = absurd (cc h)
 suits_of m (Env k) r b (Quiet ∷ es) can h = absurd (cc h)

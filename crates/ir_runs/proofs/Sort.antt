@@ -6,19 +6,19 @@ use Rattle.ir_runs.specs.Labels.{Label}
 use Rattle.ir_runs.specs.Run.{State, Step, Can, after, label, IsRun, join_if, trail}
 use Rattle.ir_runs.proofs.Good.{Good, stays_good}
 use Rattle.ir_runs.proofs.Back.{Skipped, skip}
-use Rattle.ir_runs.specs.Cuts.{At, Tells, Cut, Consistent, lower, part}
+use Rattle.ir_runs.specs.Cuts.{At, Emits, Cut, Consistent, lower, part}
 
 at_later : {A : Type 0} (b : Bool) (x y : A) (xs : List A) (k : ℕ) → At xs k y → At (join_if b x xs) (cond b (suc k) k) y
 at_later true x y xs k h = h
 at_later false x y xs k h = h
 
 -- a step after the first
-pub later : {T : Type 0} (m : Machine T) (s : State T) (e : Step) (run : List Step) (t k : ℕ) (a : Label) → Tells m (after m s e) run t k a
-    → Tells m s (e ∷ run) t (cond (eqb t e.0) (suc k) k) a
+pub later : {T : Type 0} (m : Machine T) (s : State T) (e : Step) (run : List Step) (t k : ℕ) (a : Label) → Emits m (after m s e) run t k a
+    → Emits m s (e ∷ run) t (cond (eqb t e.0) (suc k) k) a
 later m s e run t k a h = (h.0, at_later (eqb t e.0) (s.now t, label m s e) (h.0, a) (trail m (after m s e) run t) k h.1)
 
 -- the first step
-pub foremost : {T : Type 0} (m : Machine T) (s : State T) (e : Step) (run : List Step) → Tells m s (e ∷ run) e.0 0 (label m s e)
+pub foremost : {T : Type 0} (m : Machine T) (s : State T) (e : Step) (run : List Step) → Emits m s (e ∷ run) e.0 0 (label m s e)
 foremost m s e run = (
   s.now e.0,
   subst (λ b. At (join_if b (s.now e.0, label m s e) (trail m (after m s e) run e.0)) 0

@@ -3,7 +3,7 @@
 use Rattle.std.proofs.Common.{◌≡◌, ◌≢◌, ℕ, sym, ap, ◌∙◌, subst, inl, inr}
 use Rattle.std.proofs.lemmas.Bool.{cases_eq}
 use Rattle.ir_runs.specs.Machine.{Act, act_of, Machine, upd, IsLawful}
-use Rattle.ir_runs.specs.Object.{Object, target, Admits, acted, reply, told}
+use Rattle.ir_runs.specs.Object.{Object, target, Admits, acted, reply, emitted}
 use Rattle.ir_runs.proofs.Tables.{upd_same, upd_other}
 use Rattle.ir_runs.specs.Run.{act, State, moved, Step, Can, after, label}
 use Rattle.ir_runs.proofs.Good.{Inside, Good, inside_now}
@@ -33,18 +33,18 @@ pub record Keeps {T : Type 0} (m : Machine T) (s : State T) (e e' : Step) : Type
 -- the object that q' is about, where another changes the one that q is about
 pub sees : {T : Type 0} (m : Machine T) (f : ℕ → Object) (o : ℕ) (F : Object → Object) (u : ℕ) (q : Act) → Admits m q (f (target q))
     → (target q ≡ o → Commutes m (f o) F u q)
-    → Admits m q (upd f o (F (f o)) (target q)) × (told q (upd f o (F (f o)) (target q)) ≡ told q (f (target q)))
+    → Admits m q (upd f o (F (f o)) (target q)) × (emitted q (upd f o (F (f o)) (target q)) ≡ emitted q (f (target q)))
     × (reply q (upd f o (F (f o)) (target q)) ≡ reply q (f (target q)))
 sees m f o F u q h same = elim (cases_eq (target q) o) [
   | inl e ↦ let c : Commutes m (f o) F u q = same e in
       let p : upd f o (F (f o)) (target q) ≡ F (f o) = ap (upd f o (F (f o))) e ∙ upd_same f o _ in (
         subst (Admits m q) (sym p) c.admits,
-        ap (told q) p ∙ c.told_same ∙ ap (λ z. told q (f z)) (sym e),
+        ap (emitted q) p ∙ c.emitted_same ∙ ap (λ z. emitted q (f z)) (sym e),
         ap (reply q) p ∙ c.reply_same
             ∙ ap (λ z. reply q (f z)) (sym e),
       )
   | inr ne ↦ let p : upd f o (F (f o)) (target q) ≡ f (target q) = upd_other f o (target q) _ ne in
-      (subst (Admits m q) (sym p) h, ap (told q) p, ap (reply q) p)
+      (subst (Admits m q) (sym p) h, ap (emitted q) p, ap (reply q) p)
 ]
 
 -- the object facts at the state s
@@ -68,7 +68,7 @@ keeps m law s good e e' ne can can' free =
     let z = sees m s.objects (target q) (acted q e.0) e'.0 (act m s e') can' (commutes_at m law s good e e' ne can can' free) in
     record {
       can = subst (λ y. Admits m (act_of (m.ask y) e'.1) ((after m s e).objects (target (act_of (m.ask y) e'.1)))) (sym still) z.0;
-      label_same = ap (λ y. told (act_of (m.ask y) e'.1) ((after m s e).objects (target (act_of (m.ask y) e'.1)))) still ∙ z.1;
+      label_same = ap (λ y. emitted (act_of (m.ask y) e'.1) ((after m s e).objects (target (act_of (m.ask y) e'.1)))) still ∙ z.1;
       now_same = still;
       reply_same = z.2;
     }

@@ -6,7 +6,7 @@ use Rattle.ir_runs.specs.Machine.{Act, Silent, Result, Entry, Refusal, Exit, Loa
 use Rattle.ir_runs.specs.declared.access.Access.{Access}
 use Rattle.ir_runs.specs.declared.access.Access.TheVariants.{Reading, Writing}
 use Rattle.ir_runs.proofs.Good.{Exclusive, Inside}
-use Rattle.ir_runs.specs.Object.{Object, Admits, acted, reply, told}
+use Rattle.ir_runs.specs.Object.{Object, Admits, acted, reply, emitted}
 
 pub upd_comm : {A : Type 0} (f : ℕ → A) (i j : ℕ) (v w : A) → i ≢ j → upd (upd f i v) j w ≡ upd (upd f j w) i v
 unfolding upd
@@ -31,20 +31,20 @@ IsEntry _ = ⊥
 -- The step of u, which asks q, is what it was once f changed the object, and the order makes no difference.
 pub record Commutes {T : Type 0} (m : Machine T) (b : Object) (f : Object → Object) (u : ℕ) (q : Act) : Type 0 where
   pub admits : Admits m q (f b)
-  pub told_same : told q (f b) ≡ told q b
+  pub emitted_same : emitted q (f b) ≡ emitted q b
   pub reply_same : reply q (f b) ≡ reply q b
   pub order : acted q u (f b) ≡ f (acted q u b)
 
 -- one that changes nothing
 idle : {T : Type 0} (m : Machine T) (b : Object) (u : ℕ) (q : Act) → Admits m q b → Commutes m b (λ c. c) u q
-idle m b u q h = record { admits = h; told_same = refl; reply_same = refl; order = refl }
+idle m b u q h = record { admits = h; emitted_same = refl; reply_same = refl; order = refl }
 
 -- beside one that is alone inside there are only asks about nothing
 alone : {T : Type 0} (m : Machine T) (b : Object) (f : Object → Object) (u : ℕ) (q : Act) → b.inside u ≡ None → Inside q (b.inside u)
     → Admits m q b → (IsEntry q → ⊥) → Commutes m b f u q
-alone m b f u Silent none i h free = record { admits = tt; told_same = refl; reply_same = refl; order = refl }
-alone m b f u (Refusal _) none i h free = record { admits = tt; told_same = refl; reply_same = refl; order = refl }
-alone m b f u (Result k res) none i h free = record { admits = h; told_same = refl; reply_same = refl; order = refl }
+alone m b f u Silent none i h free = record { admits = tt; emitted_same = refl; reply_same = refl; order = refl }
+alone m b f u (Refusal _) none i h free = record { admits = tt; emitted_same = refl; reply_same = refl; order = refl }
+alone m b f u (Result k res) none i h free = record { admits = h; emitted_same = refl; reply_same = refl; order = refl }
 alone m b f u (Entry o a ans) none i h free = absurd (free tt)
 alone m b f u (Exit o a) none i h free = absurd (cc (none, i))
 alone m b f u (Load o j) none i h free = absurd (i none)
@@ -103,13 +103,13 @@ swap1 m b ex t u ne (Entry o Reading ans) q' i i' h h' free = enter_read q' i' h
   where
     enter_read : (q' : Act) → Inside q' (b.inside u) → Admits m q' b → (Clash (Entry o Reading ans) q' → ⊥)
         → Commutes m b (acted (Entry o Reading ans) t) u q'
-    enter_read Silent i' h' free = record { admits = tt; told_same = refl; reply_same = refl; order = refl }
-    enter_read (Refusal _) i' h' free = record { admits = tt; told_same = refl; reply_same = refl; order = refl }
-    enter_read (Result k res) i' h' free = record { admits = h'; told_same = refl; reply_same = refl; order = refl }
+    enter_read Silent i' h' free = record { admits = tt; emitted_same = refl; reply_same = refl; order = refl }
+    enter_read (Refusal _) i' h' free = record { admits = tt; emitted_same = refl; reply_same = refl; order = refl }
+    enter_read (Result k res) i' h' free = record { admits = h'; emitted_same = refl; reply_same = refl; order = refl }
     enter_read (Entry p Reading ans') i' h' free =
         record {
           admits = entered_reading b t h';
-          told_same = refl;
+          emitted_same = refl;
           reply_same = refl;
           order =
               some_path _ _ refl refl (upd_comm b.inside t u _ _ ne) refl;
@@ -117,24 +117,24 @@ swap1 m b ex t u ne (Entry o Reading ans) q' i i' h h' free = enter_read q' i' h
     enter_read (Entry p Writing ans') i' h' free = absurd (free tt)
     enter_read (Exit p Reading) i' h' free = record {
       admits = tt;
-      told_same = refl;
+      emitted_same = refl;
       reply_same = refl;
       order =
           some_path _ _ refl refl (upd_comm b.inside t u _ _ ne) refl;
     }
     enter_read (Exit p Writing) i' h' free = absurd (h u i')
-    enter_read (Load p j) i' h' free = record { admits = tt; told_same = refl; reply_same = refl; order = refl }
+    enter_read (Load p j) i' h' free = record { admits = tt; emitted_same = refl; reply_same = refl; order = refl }
     enter_read (Store p j w) i' h' free = absurd (h u i')
     enter_read Never i' h' free = absurd h'
 swap1 m b ex t u ne (Exit o Reading) q' i i' h h' free = leave_read q' i' h'
   where
     leave_read : (q' : Act) → Inside q' (b.inside u) → Admits m q' b → Commutes m b (acted (Exit o Reading) t) u q'
-    leave_read Silent i' h' = record { admits = tt; told_same = refl; reply_same = refl; order = refl }
-    leave_read (Refusal _) i' h' = record { admits = tt; told_same = refl; reply_same = refl; order = refl }
-    leave_read (Result k res) i' h' = record { admits = h'; told_same = refl; reply_same = refl; order = refl }
+    leave_read Silent i' h' = record { admits = tt; emitted_same = refl; reply_same = refl; order = refl }
+    leave_read (Refusal _) i' h' = record { admits = tt; emitted_same = refl; reply_same = refl; order = refl }
+    leave_read (Result k res) i' h' = record { admits = h'; emitted_same = refl; reply_same = refl; order = refl }
     leave_read (Entry p Reading ans') i' h' = record {
       admits = left_reading b t h';
-      told_same = refl;
+      emitted_same = refl;
       reply_same = refl;
       order =
           some_path _ _ refl refl (upd_comm b.inside t u _ _ ne) refl;
@@ -142,12 +142,12 @@ swap1 m b ex t u ne (Exit o Reading) q' i i' h h' free = leave_read q' i' h'
     leave_read (Entry p Writing ans') i' h' = absurd (cc (i, h' t))
     leave_read (Exit p Reading) i' h' = record {
       admits = tt;
-      told_same = refl;
+      emitted_same = refl;
       reply_same = refl;
       order =
           some_path _ _ refl refl (upd_comm b.inside t u _ _ ne) refl;
     }
     leave_read (Exit p Writing) i' h' = absurd (cc (ex u t (λ e. ne (sym e)) i', i))
-    leave_read (Load p j) i' h' = record { admits = tt; told_same = refl; reply_same = refl; order = refl }
+    leave_read (Load p j) i' h' = record { admits = tt; emitted_same = refl; reply_same = refl; order = refl }
     leave_read (Store p j w) i' h' = absurd (cc (ex u t (λ e. ne (sym e)) i', i))
     leave_read Never i' h' = absurd h'

@@ -5,7 +5,7 @@ use Rattle.ir_runs.specs.Machine.{Act, Silent, Result, Entry, Refusal, Exit, Loa
 use Rattle.ir_runs.specs.Labels.{Label, In}
 use Rattle.ir_runs.specs.declared.access.Access.{Access}
 use Rattle.ir_runs.specs.declared.access.Access.TheVariants.{Reading, Writing}
-use Rattle.ir_runs.specs.Object.{Object, target, Admits, acted, told}
+use Rattle.ir_runs.specs.Object.{Object, target, Admits, acted, emitted}
 use Rattle.ir_runs.proofs.Tables.{upd_same, upd_other, upd_elim}
 use Rattle.ir_runs.specs.Run.{act, State, Step, Can, after, label, IsStart}
 use Rattle.ir_runs.proofs.Good.{Exclusive, Inside, Good, inside_now}
@@ -90,7 +90,7 @@ leave_reader n t b l i = sum_more n t (λ u. is_reader (upd b.inside t None u)) 
 balance1 : {T : Type 0} (m : Machine T) (n t : ℕ) (q : Act) (b : Object) → t < n → Exclusive b → Inside q (b.inside t) → Admits m q b
     → (f : ℕ → ℕ → ℕ) → b.left + readers_inside n b ≡ sum_below n (f b.version) → ((v u : ℕ) → b.version < v → f v u ≡ 0)
     → (acted q t b).left + readers_inside n (acted q t b) ≡ sum_below n
-    (λ u. f (acted q t b).version u + counted (target q) (acted q t b).version (told q b) t u)
+    (λ u. f (acted q t b).version u + counted (target q) (acted q t b).version (emitted q b) t u)
 balance1 m n t Silent b l ex i h f bal later = bal ∙ plain n t (f b.version)
 balance1 m n t (Refusal _) b l ex i h f bal later = bal ∙ plain n t (f b.version)
 balance1 m n t (Result k res) b l ex i h f bal later = bal ∙ plain n t (f b.version)
@@ -120,32 +120,32 @@ balance1 m n t (Store o j w) b l ex i h f bal later = bal ∙ plain n t (f b.ver
 balance1 m n t Never b l ex i h f bal later = absurd h
 
 -- what is told is of the object that is asked about, at its version
-told_elsewhere : (q : Act) (b : Object) (o v : ℕ) → o ≢ target q → reads_one o v (told q b) ≡ 0
-told_elsewhere Silent b o v ne = refl
-told_elsewhere (Refusal _) b o v ne = refl
-told_elsewhere (Result k res) b o v ne = refl
-told_elsewhere (Entry p Reading ans') b o v ne = ap (λ z. cond z (cond (eqb b.version v) 1 0) 0) (ne_eqb p o (λ e. ne (sym e)))
-told_elsewhere (Entry p Writing ans') b o v ne = refl
-told_elsewhere (Exit p a) b o v ne = refl
-told_elsewhere (Load p j) b o v ne = refl
-told_elsewhere (Store p j w) b o v ne = refl
-told_elsewhere Never b o v ne = refl
+emitted_elsewhere : (q : Act) (b : Object) (o v : ℕ) → o ≢ target q → reads_one o v (emitted q b) ≡ 0
+emitted_elsewhere Silent b o v ne = refl
+emitted_elsewhere (Refusal _) b o v ne = refl
+emitted_elsewhere (Result k res) b o v ne = refl
+emitted_elsewhere (Entry p Reading ans') b o v ne = ap (λ z. cond z (cond (eqb b.version v) 1 0) 0) (ne_eqb p o (λ e. ne (sym e)))
+emitted_elsewhere (Entry p Writing ans') b o v ne = refl
+emitted_elsewhere (Exit p a) b o v ne = refl
+emitted_elsewhere (Load p j) b o v ne = refl
+emitted_elsewhere (Store p j w) b o v ne = refl
+emitted_elsewhere Never b o v ne = refl
 
-told_before : (q : Act) (b : Object) (o v : ℕ) → b.version < v → reads_one o v (told q b) ≡ 0
-told_before Silent b o v l = refl
-told_before (Refusal _) b o v l = refl
-told_before (Result k res) b o v l = refl
-told_before (Entry p Reading ans') b o v l = ap (λ z. cond (eqb p o) (cond z 1 0) 0) (ne_eqb b.version v (λ e. omega arith))
+emitted_before : (q : Act) (b : Object) (o v : ℕ) → b.version < v → reads_one o v (emitted q b) ≡ 0
+emitted_before Silent b o v l = refl
+emitted_before (Refusal _) b o v l = refl
+emitted_before (Result k res) b o v l = refl
+emitted_before (Entry p Reading ans') b o v l = ap (λ z. cond (eqb p o) (cond z 1 0) 0) (ne_eqb b.version v (λ e. omega arith))
     ∙ zeros (eqb p o)
   where
     zeros : (b : Bool) → ◌≡◌ {A = ℕ} (cond b 0 0) 0
     zeros true = refl
     zeros false = refl
-told_before (Entry p Writing ans') b o v l = refl
-told_before (Exit p a) b o v l = refl
-told_before (Load p j) b o v l = refl
-told_before (Store p j w) b o v l = refl
-told_before Never b o v l = refl
+emitted_before (Entry p Writing ans') b o v l = refl
+emitted_before (Exit p a) b o v l = refl
+emitted_before (Load p j) b o v l = refl
+emitted_before (Store p j w) b o v l = refl
+emitted_before Never b o v l = refl
 
 grows : (q : Act) (t : ℕ) (b : Object) → b.version ≤ (acted q t b).version
 grows Silent t b = omega arith
@@ -177,13 +177,13 @@ tally_step m law n s good c tally e can l =
           (tally.later (target q))))
           (λ other. tally.balance o ∙ sum_same n _ _
           (λ u _. absent (c o (s.objects o).version u) (reads_one o (s.objects o).version (label m s e)) (eqb u e.0)
-          (told_elsewhere q b o (s.objects o).version other)));
+          (emitted_elsewhere q b o (s.objects o).version other)));
       later = λ o v t. upd_elim s.objects (target q) (acted q e.0 b) o (λ d. d.version < v → c o v t + counted o v (label m s e) e.0 t ≡ 0)
           (λ here less. let z : b.version < v = omega (arith, less, grows q e.0 b) in
           none_counted (c o v t) (reads_one o v (label m s e)) (eqb t e.0)
-          (subst (λ w. c w v t ≡ 0) (sym here) (tally.later (target q) v t z)) (told_before q b o v z))
+          (subst (λ w. c w v t ≡ 0) (sym here) (tally.later (target q) v t z)) (emitted_before q b o v z))
           (λ other less. none_counted (c o v t) (reads_one o v (label m s e)) (eqb t e.0) (tally.later o v t less)
-          (told_elsewhere q b o v other));
+          (emitted_elsewhere q b o v other));
     }
   where
     absent : (c k : ℕ) (b : Bool) → k ≡ 0 → c ≡ c + cond b k 0

@@ -12,11 +12,11 @@ At [] k x = ⊥
 At (y ∷ ys) zero x = y ≡ x
 At (y ∷ ys) (suc k) x = At ys k x
 
--- step k of thread t tells this
-abbrev pub Tells : {T : Type 0} → Machine T → State T → List Step → ℕ → ℕ → Label → Type 0
-Tells {T} m s run t k told = (x : T) × At (trail m s run t) k (x, told)
+-- step k of thread t emits this
+abbrev pub Emits : {T : Type 0} → Machine T → State T → List Step → ℕ → ℕ → Label → Type 0
+Emits {T} m s run t k emitted = (x : T) × At (trail m s run t) k (x, emitted)
 
--- what tells the second needs what tells the first: an entry needs the writer's leave that made its version, an entry for writing each
+-- what emits the second needs what emits the first: an entry needs the writer's leave that made its version, an entry for writing each
 -- reader's leave of its version
 abbrev pub Needs : Label → Label → Type 0
 Needs (Out o Writing w) (In p a v l) = (o ≡ p) × (v ≡ suc w)
@@ -34,7 +34,7 @@ IsCut m s run p = (t : ℕ) → p t ≤ count m s run t
 
 -- what a step of the cut needs is in the cut
 abbrev pub Consistent : {T : Type 0} → Machine T → State T → List Step → Cut → Type 0
-Consistent m s run p = (t k u j : ℕ) (a b : Label) → Tells m s run t k a → Tells m s run u j b → Needs b a → k < p t → j < p u
+Consistent m s run p = (t k u j : ℕ) (a b : Label) → Emits m s run t k a → Emits m s run u j b → Needs b a → k < p t → j < p u
 
 -- the positions that are left after a step of thread t
 abbrev pub lower : Cut → ℕ → Cut
@@ -64,4 +64,4 @@ pub record AtCut {T : Type 0} (m : Machine T) (s : State T) (run : List Step) (p
   pub threads : (t : ℕ) → (end m s (part run p)).now t ≡ th m s run t (p t)
   pub steps : (t : ℕ) → Admitted m s run p t → (r : ℕ) × Can m (end m s (part run p)) (t, r)
       × (after m (end m s (part run p)) (t, r) ≡ end m s (part run (further p t)))
-      × Tells m s run t (p t) (label m (end m s (part run p)) (t, r))
+      × Emits m s run t (p t) (label m (end m s (part run p)) (t, r))

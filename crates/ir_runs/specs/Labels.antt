@@ -1,9 +1,9 @@
--- What a step tells others of, beside the thread that takes it.
+-- What a step emits others of, beside the thread that takes it.
 use Rattle.std.specs.Prelude.{ℕ, List, [], ◌∷◌, Option}
 use Rattle.ir_runs.specs.declared.access.Access.{Access}
 use Rattle.ir_runs.specs.declared.env_kind.EnvKind.{EnvKind}
 
--- what a step tells: nothing, the result of a call of the environment, an entry, a refused try, or a leave
+-- what a step emits: nothing, the result of a call of the environment, an entry, a refused try, or a leave
 pub data Label : Type 0 where
   Quiet : Label
   Answer : (kind : EnvKind) → (value : ℕ) → Label
@@ -19,7 +19,7 @@ logged (In o a v l) es = In o a v l ∷ es
 logged (Refused o) es = Refused o ∷ es
 logged (Out o a v) es = es
 
--- what is told of a run: of each thread how many steps it takes, its log, and its end and code
+-- the trace of a run: of each thread how many steps it takes, its log, and its end and code
 pub record Trace : Type 0 where
   pub steps : ℕ → ℕ
   pub logs : ℕ → List Label

@@ -61,14 +61,14 @@ reply (Load o i) b = b.words i
 reply (Store o i w) b = 0
 reply Never b = 0
 
--- what the act tells: an entry tells the version that it finds and, for writing, how many readers have left it
-abbrev pub told : Act → Object → Label
-told Silent b = Quiet
-told (Result k v) b = Answer k v
-told (Entry o Reading v) b = In o Reading b.version 0
-told (Entry o Writing v) b = In o Writing b.version b.left
-told (Refusal o) b = Refused o
-told (Exit o a) b = Out o a b.version
-told (Load o i) b = Quiet
-told (Store o i w) b = Quiet
-told Never b = Quiet
+-- what the act emits: an entry emits the version that it finds and, for writing, how many readers have left it
+abbrev pub emitted : Act → Object → Label
+emitted Silent b = Quiet
+emitted (Result k v) b = Answer k v
+emitted (Entry o Reading v) b = In o Reading b.version 0
+emitted (Entry o Writing v) b = In o Writing b.version b.left
+emitted (Refusal o) b = Refused o
+emitted (Exit o a) b = Out o a b.version
+emitted (Load o i) b = Quiet
+emitted (Store o i w) b = Quiet
+emitted Never b = Quiet

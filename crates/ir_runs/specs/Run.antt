@@ -3,7 +3,7 @@ use Rattle.std.specs.Prelude.{◌≡◌, ℕ, zero, suc, ◌<◌, ◌≤◌, Boo
 use Rattle.ir_runs.specs.Machine.{Ask, Done, Enter, Act, act_of, Machine, upd}
 use Rattle.ir_runs.specs.declared.access.Access.{Access}
 use Rattle.ir_runs.specs.Labels.{Label, logged, Trace}
-use Rattle.ir_runs.specs.Object.{Object, target, Admits, acted, reply, told}
+use Rattle.ir_runs.specs.Object.{Object, target, Admits, acted, reply, emitted}
 
 -- all threads, of any kind, and all objects at one moment
 pub record State (T : Type 0) : Type 0 where
@@ -37,9 +37,9 @@ moved m s t x q = record {
 unfoldable pub after : {T : Type 0} → Machine T → State T → Step → State T
 after m s e = moved m s e.0 (s.now e.0) (act m s e)
 
--- what the step tells
+-- what the step emits
 abbrev pub label : {T : Type 0} → Machine T → State T → Step → Label
-label m s e = told (act m s e) (s.objects (target (act m s e)))
+label m s e = emitted (act m s e) (s.objects (target (act m s e)))
 
 -- there is each step of the run, after those before it
 abbrev pub IsRun : {T : Type 0} → Machine T → State T → List Step → Type 0
@@ -56,7 +56,7 @@ abbrev pub join_if : {A : Type 0} → Bool → A → List A → List A
 join_if true x xs = x ∷ xs
 join_if false x xs = xs
 
--- the steps of thread t in the run, each with the thread before it and what it tells
+-- the steps of thread t in the run, each with the thread before it and what it emits
 abbrev pub trail : {T : Type 0} → Machine T → State T → List Step → ℕ → List (T × Label)
 trail m s [] t = []
 trail m s (e ∷ run) t = join_if (eqb t e.0) (s.now t, label m s e) (trail m (after m s e) run t)
@@ -80,7 +80,7 @@ thread_in [] k last = last
 thread_in (x ∷ xs) zero last = x.0
 thread_in (x ∷ xs) (suc k) last = thread_in xs k last
 
--- what is told of the run
+-- the trace of the run
 abbrev pub trace : {T : Type 0} → Machine T → State T → List Step → Trace
 trace m s run = record { steps = count m s run; logs = log m s run; ends = λ t. m.ended ((end m s run).now t) }
 

@@ -1,6 +1,4 @@
 -- What callers may cite of answers that were written.
--- a machine with one answer to each line wrote its answers, or a prefix of them
-pub use Rattle.ir_stream.proofs.Determined.{wrote_only, prefix_only}
 -- a prefix of a text is one of a longer text, and after all of a first text one of both
 pub use Rattle.ir_stream.proofs.Replies.{prefix_after, prefix_longer}
 -- the last line, which may be empty

@@ -1,7 +1,6 @@
 pub mod Lines
 pub mod Devices
 pub mod Answers
-pub mod Determined
 pub mod Nexts
 pub mod Endings
 pub mod Wrapped

@@ -4,16 +4,16 @@ use Rattle.ir_image.specs.Guest.{Guest}
 use Rattle.ir_flat.specs.Flat.{start_flat, tables, machine}
 use Rattle.ir_runs.specs.Run.{Step}
 use Rattle.ir_trace.specs.Recorded.{Recorded}
-use Rattle.ir_trace.specs.Told.{trace_of}
+use Rattle.ir_trace.specs.TraceOf.{trace_of}
 use Rattle.ir_record.specs.Recording.{IsTraceOf}
 use Rattle.ir_fit.specs.Fit.{IsRunOf}
 use Rattle.ir_runs.specs.Verdicts.{IsWhole}
 
--- what is told of a run is its trace, under the budget that is told
-pub told_whole : (guest : Guest) (budget : ℕ) (run : List Step) (trace : Recorded) → IsTraceOf guest budget run trace
+-- what is recorded of a run is its trace, under the recorded budget
+pub emitted_whole : (guest : Guest) (budget : ℕ) (run : List Step) (trace : Recorded) → IsTraceOf guest budget run trace
     → IsRunOf guest trace run
-told_whole guest budget run trace told = (
-  record { threads = told.threads; objects = told.objects },
+emitted_whole guest budget run trace emitted = (
+  record { threads = emitted.threads; objects = emitted.objects },
   subst (λ b. IsWhole (machine (start_flat guest b)) (tables (start_flat guest b)) (length guest.entries) (trace_of trace) run)
-      (sym told.limit) told.whole,
+      (sym emitted.limit) emitted.whole,
 )

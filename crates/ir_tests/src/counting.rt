@@ -11,12 +11,12 @@ use std::alloc::{AllocError, Global};
 #[derive(Debug, Drop)]
 pub struct Counting {
     next: u32,
-    told: Vec<(EnvKind, u32)>,
+    answered: Vec<(EnvKind, u32)>,
     failed: bool,
 }
 
 impl World for Counting {
-    ghost answers = { λ s. s.told.items };
+    ghost answers = { λ s. s.answered.items };
 
     ghost origin = { λ _. tt };
 
@@ -24,7 +24,7 @@ impl World for Counting {
 
     fn answer(&mut self, kind: EnvKind) -> Result<u32, WorldErr> {
         let value = self.next % 256;
-        if self.told.push((kind, value)).is_err() {
+        if self.answered.push((kind, value)).is_err() {
             self.failed = true;
             return Err(WorldErr);
         }
@@ -46,7 +46,7 @@ pub fn worlds(alloc: Global, count: usize) -> Result<Vec<Counting>, AllocError>
     for number in 0..count {
         worlds.push(Counting {
             next: 0,
-            told: Vec::new(alloc),
+            answered: Vec::new(alloc),
             failed: false,
         })?;
     }

@@ -1,16 +1,14 @@
 //! Sessions whose reader or writer fails, and a session whose two readers wait for each other.
 
-use crate::guests::{DOUBLED, TWO_COUNTERS, TWO_READERS};
-use crate::sessions::{answered, image_bytes};
-use crate::streams::{Bytes, ENDLESS, Page};
-use crate::traces::EventRow::Read;
-use crate::traces::{ENDED_BY_144, Ran, SECOND_FIRST, TraceRow, trace_bytes};
-use ir_debug::{Ended, SessionErr, session};
-use ir_object::{Gate, OpenGate};
-use ir_runs::Access;
-use std::sync::atomic::{AtomicBool, AtomicUsize, Ordering};
+use crate::guests::{DOUBLED, Source, TWO_COUNTERS, TWO_READERS};
+use crate::meeting::Meeting;
+use crate::sessions::{answered, answered_until};
+use crate::sources::image_bytes;
+use crate::streams::ENDLESS;
+use crate::traces::{BOTH_READ, ENDED_BY_144, SECOND_FIRST, TraceRow, trace_bytes};
+use ir_debug::{Ended, SessionErr};
+use ir_object::OpenGate;
 use std::test::Fail;
-use std::thread::yield_now;
 
 const NO_EVENTS: &str = "step 0 3\nregs 0\nstep 0 9\n";
 
@@ -19,7 +17,7 @@ const TO_A_WRITER: &str = "step 0 3\nobj 0\nlog 0\nnext 0\nback 1 1\n";
 const TO_THE_END: &str = "step 0 4294967295\nend\nobj 0\nnext 0\n";
 
 // A guest, its trace, and lines.
-const SESSIONS: [(&str, TraceRow, &str); 3] = [
+const SESSIONS: [(Source, TraceRow, &str); 3] = [
     (DOUBLED, ENDED_BY_144, NO_EVENTS),
     (TWO_COUNTERS, SECOND_FIRST, TO_A_WRITER),
     (TWO_COUNTERS, SECOND_FIRST, TO_THE_END),
@@ -43,19 +41,17 @@ fn each_read_fails_in_its_turn(rt: HostRuntime) -> Result<(), Fail> {
                 trace.as_slice(),
                 &whole[..last],
             );
-            let mut reader = Bytes::new(lines.as_bytes(), calls_left as u64);
-            let mut writer = Page::new(rt.alloc(), false, ENDLESS);
-            let ended = session(
+            let (written, ended) = answered_until(
                 &rt,
-                rt.alloc(),
                 image.as_slice(),
                 trace.as_slice(),
-                &mut reader,
-                &mut writer,
+                lines.as_bytes(),
+                calls_left as u64,
+                None,
                 &OpenGate,
             );
             assert_eq!(rt; ended, Err(SessionErr::Read));
-            assert_eq!(rt; writer.bytes.as_slice(), expected.bytes.as_slice());
+            assert_eq!(rt; written.bytes.as_slice(), expected.bytes.as_slice());
         }
     }
     Ok(())
@@ -69,20 +65,18 @@ fn each_write_fails_in_its_turn(rt: HostRuntime) -> Result<(), Fail> {
         let trace = trace_bytes(rt.alloc(), trace)?;
         let (all, _ended) = answered(&rt, image.as_slice(), trace.as_slice(), lines.as_bytes());
         for calls_left in 0..all.bytes.len() {
-            let mut reader = Bytes::new(lines.as_bytes(), ENDLESS);
-            let mut writer = Page::new(rt.alloc(), true, calls_left as u64);
-            let ended = session(
+            let (written, ended) = answered_until(
                 &rt,
-                rt.alloc(),
                 image.as_slice(),
                 trace.as_slice(),
-                &mut reader,
-                &mut writer,
+                lines.as_bytes(),
+                ENDLESS,
+                Some(calls_left as u64),
                 &OpenGate,
             );
             assert_eq!(rt; ended, Err(SessionErr::Write));
             assert_eq!(rt;
-                writer.bytes.as_slice(),
+                written.bytes.as_slice(),
                 &all.bytes.as_slice()[..calls_left]
             );
         }
@@ -90,65 +84,27 @@ fn each_write_fails_in_its_turn(rt: HostRuntime) -> Result<(), Fail> {
     Ok(())
 }
 
-// The turns that a thread waits for the other at most, each of which lets others run.
-const MOST_TURNS: usize = 1_000_000;
-
-// Holds whoever enters until two have entered.
-#[derive(Drop)]
-struct Meeting {
-    entries: AtomicUsize,
-    // Whether one waited in vain.
-    missed: AtomicBool,
-}
-
-impl Gate for Meeting {
-    fn entered(&self, _thread: u8, _object: u8, _access: Access) {
-        self.entries.fetch_add(1, Ordering::SeqCst);
-        for _ in 0..MOST_TURNS {
-            if self.entries.load(Ordering::SeqCst) >= 2 {
-                return;
-            }
-            yield_now();
-        }
-        self.missed.store(true, Ordering::SeqCst);
-    }
-
-    fn leaving(&self, _thread: u8, _object: u8, _access: Access) {}
-}
-
-// Both readers of version 0 are inside at once.
-const BOTH_READ: TraceRow = TraceRow {
-    objects: 1,
-    budget: 1000,
-    threads: &[Ran(7, 1, 0, &[Read(0, 0)]), Ran(7, 1, 0, &[Read(0, 0)])],
-};
-
 #[test]
 fn two_readers_replay(rt: HostRuntime) -> Result<(), Fail> {
     let image = image_bytes(rt.alloc(), TWO_READERS)?;
     let trace = trace_bytes(rt.alloc(), BOTH_READ)?;
-    let gate = Meeting {
-        entries: AtomicUsize::new(0),
-        missed: AtomicBool::new(false),
-    };
-    let mut reader = Bytes::new(b"end\nobj 0\n", ENDLESS);
-    let mut writer = Page::new(rt.alloc(), false, ENDLESS);
-    let ended = session(
+    let gate = Meeting::new();
+    let (written, ended) = answered_until(
         &rt,
-        rt.alloc(),
         image.as_slice(),
         trace.as_slice(),
-        &mut reader,
-        &mut writer,
+        b"end\nobj 0\n",
+        ENDLESS,
+        None,
         &gate,
     );
     assert_eq!(rt; ended, Ok(Ended::InputEnd));
     assert_eq!(rt;
-        writer.bytes.as_slice(),
+        written.bytes.as_slice(),
         b"ready\nat 7 7\nversion 0 left 2 readers - writer -\n\
 words 00000000 00000000 00000000 00000000 00000000 00000000 00000000 00000000\n"
             .as_slice()
     );
-    assert!(rt; !gate.missed.load(Ordering::SeqCst));
+    assert!(rt; !gate.missed());
     Ok(())
 }

@@ -114,6 +114,45 @@ fn each_end_comes_about(rt: HostRuntime) -> Result<(), Fail> {
     Ok(())
 }
 
+// Calls that are none, objects that there aren't, and what isn't held.
+#[test]
+fn a_call_ends_by_its_arguments(rt: HostRuntime) -> Result<(), Fail> {
+    for (code, end) in [
+        ("ecall", End::UnknownCall),
+        ("addi a7, zero, -1\n ecall", End::UnknownCall),
+        (
+            "addi a0, zero, 2\n addi a7, zero, 9\n ecall",
+            End::NoSuchObject,
+        ),
+        (
+            "addi a0, zero, -1\n addi a7, zero, 8\n ecall",
+            End::NoSuchObject,
+        ),
+        (
+            "addi a0, zero, 256\n addi a7, zero, 8\n ecall",
+            End::NoSuchObject,
+        ),
+        ("addi a7, zero, 10\n ecall", End::NotHeld),
+        ("addi a7, zero, 11\n ecall", End::NotHeld),
+    ] {
+        assert_eq!(rt; end_of(rt.alloc(), &[code], BUDGET)?, Some(end));
+    }
+    // Object 1 again, and a word of it that isn't given where it is held for reading.
+    assert_eq!(rt;
+        end_of(rt.alloc(), &[ENTER, ENTER], BUDGET)?,
+        Some(End::EntryOutOfOrder)
+    );
+    assert_eq!(rt;
+        end_of(
+            rt.alloc(),
+            &[LOWER_ENTRY, "addi a7, zero, 11\n ecall"],
+            BUDGET
+        )?,
+        Some(End::NotHeld)
+    );
+    Ok(())
+}
+
 // Of two conditions that fail at once, the first that is tested decides.
 #[test]
 fn the_first_condition_decides(rt: HostRuntime) -> Result<(), Fail> {

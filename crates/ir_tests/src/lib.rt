@@ -4,14 +4,26 @@
 #[cfg(test)]
 mod counting;
 #[cfg(test)]
+mod cut_tests;
+#[cfg(test)]
+mod debugger_tests;
+#[cfg(test)]
 mod device_tests;
 #[cfg(test)]
 mod ends;
 #[cfg(test)]
+mod example_tests;
+#[cfg(test)]
+mod examples;
+#[cfg(test)]
 mod guests;
+#[cfg(test)]
+mod kept_rows;
 mod laws;
 #[cfg(test)]
 mod line_tests;
+#[cfg(test)]
+mod meeting;
 #[cfg(test)]
 mod moved_rows;
 #[cfg(test)]
@@ -23,11 +35,13 @@ mod recordings;
 #[cfg(test)]
 mod refused_tests;
 #[cfg(test)]
+mod replay_tests;
+#[cfg(test)]
 mod replays;
 #[cfg(test)]
 mod sessions;
 #[cfg(test)]
-mod small_guests;
+mod sources;
 #[cfg(test)]
 mod states;
 #[cfg(test)]

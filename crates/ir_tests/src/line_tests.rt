@@ -1,9 +1,12 @@
 //! Lines at their limits, and what the next step is shown as.
 
 use crate::guests::{DOUBLED, TWO_COUNTERS};
-use crate::sessions::{answered, image_bytes};
+use crate::sessions::answered;
+use crate::sources::image_bytes;
+use crate::streams::{Bytes, ENDLESS, Page};
 use crate::traces::{ENDED_BY_144, Ran, SECOND_FIRST, TraceRow, trace_bytes};
-use ir_debug::Ended;
+use ir_debug::{Ended, MOST_INPUT, SessionErr, session_up_to};
+use ir_object::OpenGate;
 use std::alloc::{AllocError, Global};
 use std::test::Fail;
 
@@ -47,6 +50,52 @@ fn long_lines_are_refused(rt: HostRuntime) -> Result<(), Fail> {
         let (page, ended) = answered(&rt, image.as_slice(), trace.as_slice(), lines.as_slice());
         assert_eq!(rt; page.bytes.as_slice(), answers);
         assert_eq!(rt; ended, Ok(Ended::InputEnd));
+    }
+    Ok(())
+}
+
+// The most bytes to be read, after which no further read succeeds; the lines, what is answered, and how it ends.
+const LIMITED: [(u64, &[u8], &[u8], Result<Ended, SessionErr>); 4] = [
+    (
+        8,
+        b"pos\npos\npos\n",
+        b"ready\nat 0\nat 0\n",
+        Err(SessionErr::TooLong),
+    ),
+    (9, b"pos\nquit\n", b"ready\nat 0\nbye\n", Ok(Ended::Quit)),
+    (
+        10,
+        b"step 0 0\nstep 0 0\n",
+        b"ready\nat 0 start\n",
+        Err(SessionErr::TooLong),
+    ),
+    (
+        12,
+        b"regs 9\nquit\n",
+        b"ready\nrefused 3 no such thread\nbye\n",
+        Ok(Ended::Quit),
+    ),
+];
+
+#[test]
+fn no_byte_past_the_limit_is_read(rt: HostRuntime) -> Result<(), Fail> {
+    let image = image_bytes(rt.alloc(), DOUBLED)?;
+    let trace = trace_bytes(rt.alloc(), ENDED_BY_144)?;
+    for (limit, lines, answers, wanted) in LIMITED {
+        let mut reader = Bytes::new(lines, limit);
+        let mut writer = Page::new(rt.alloc(), false, ENDLESS);
+        let ended = session_up_to(
+            &rt,
+            rt.alloc(),
+            limit.min(MOST_INPUT),
+            image.as_slice(),
+            trace.as_slice(),
+            &mut reader,
+            &mut writer,
+            &OpenGate,
+        );
+        assert_eq!(rt; writer.bytes.as_slice(), answers);
+        assert_eq!(rt; ended, wanted);
     }
     Ok(())
 }
@@ -155,7 +204,7 @@ fn the_next_word_is_disassembled(rt: HostRuntime) -> Result<(), Fail> {
         source.push_str("main: .word ")?;
         source.push_str(word)?;
         source.push_str("\n.thread main\n")?;
-        let image = image_bytes(rt.alloc(), source.as_str())?;
+        let image = image_bytes(rt.alloc(), &[source.as_str()])?;
         let (page, _ended) = answered(&rt, image.as_slice(), trace.as_slice(), b"next 0\n");
         assert_eq!(rt; page.bytes.as_slice(), answers);
     }
@@ -187,7 +236,7 @@ fn numbers_are_printed_with_their_signs(rt: HostRuntime) -> Result<(), Fail> {
     let trace = trace_bytes(rt.alloc(), BROKEN_AFTER)?;
     for (number, answers) in NUMBERS {
         let source = format!(in rt.alloc(); "li a0, {number}\naddi a7, zero, 3\necall\nebreak\n")?;
-        let image = image_bytes(rt.alloc(), source.as_str())?;
+        let image = image_bytes(rt.alloc(), &[source.as_str()])?;
         let (page, _ended) = answered(&rt, image.as_slice(), trace.as_slice(), b"end\nout 0\n");
         assert_eq!(rt; page.bytes.as_slice(), answers);
     }

@@ -3,7 +3,7 @@
 use crate::counting::{Counting, worlds};
 use crate::guests::{COUNTER, GUESTS, SUMS};
 use crate::replays::{in_order, is_same, last, least_at};
-use ir_asm::assemble;
+use crate::sources::image_of;
 use ir_fit::{Fitted, fit};
 use ir_object::OpenGate;
 use ir_record::{Outputs, record, record_in_order};
@@ -19,9 +19,9 @@ const BUDGET: u64 = 1_000_000;
 fn recorded<R: Threads + Wait + Sync>(
     rt: &R,
     alloc: Global,
-    source: &str,
+    source: &[&str],
 ) -> Result<(Fitted, Outputs<Counting>), Fail> {
-    let image = assemble(alloc, source)?;
+    let image = image_of(alloc, source)?;
     let worlds = worlds(alloc, image.entries().len())?;
     let (trace, outputs) = record(rt, alloc, &image, worlds, &OpenGate, BUDGET)?;
     Ok((fit(alloc, image, trace)?, outputs))
@@ -105,8 +105,8 @@ fn two_hundred_recordings_replay(rt: HostRuntime) -> Result<(), Fail> {
 }
 
 // The source's guest recorded in an order, whose trace fits.
-fn recorded_in_order(alloc: Global, source: &str, order: &[u8]) -> Result<Fitted, Fail> {
-    let image = assemble(alloc, source)?;
+pub fn recorded_in_order(alloc: Global, source: &[&str], order: &[u8]) -> Result<Fitted, Fail> {
+    let image = image_of(alloc, source)?;
     let worlds = worlds(alloc, image.entries().len())?;
     let (trace, _outputs) = record_in_order(alloc, &image, order, worlds, BUDGET)?;
     Ok(fit(alloc, image, trace)?)

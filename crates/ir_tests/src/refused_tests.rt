@@ -1,9 +1,10 @@
 //! Images and traces in which some bytes stand for others.
 
-use crate::guests::{DOUBLED, TWO_COUNTERS};
-use crate::sessions::{answered, image_bytes};
-use crate::traces::{ENDED_BY_144, SECOND_FIRST, TraceRow, trace_bytes};
-use ir_debug::{Ended, SessionErr};
+use crate::guests::{DOUBLED, READ_THEN_WRITE, TWO_COUNTERS};
+use crate::sessions::{answered, ended_by};
+use crate::sources::image_bytes;
+use crate::traces::{ENDED_BY_144, READ_AND_WRITTEN, SECOND_FIRST, TraceRow, trace_bytes};
+use ir_debug::Ended;
 use std::alloc::{AllocError, Global};
 use std::process::Abort;
 use std::test::Fail;
@@ -61,12 +62,14 @@ const TRACES: [(Patch, &[u8]); 15] = [
 ];
 
 // The same for the trace of a guest of two threads, whose first event stands at byte 33.
-const EVENTS: [(Patch, &[u8]); 9] = [
+const EVENTS: [(Patch, &[u8]); 11] = [
     ((5, &[17], 6), b"trace refused 3\n"),
     ((4, &[9], 5), b"trace refused 3\n"),
     ((34, &[1], 35), b"trace refused 3\n"),
     ((33, &[4, 1, 0, 0, 0, 0], 43), b"trace refused 3\n"),
     ((33, &[0], 34), b"trace refused 4\n"),
+    ((33, &[6], 34), b"trace refused 4\n"),
+    ((33, &[6, 0], 43), b"trace refused 4\n"),
     ((33, &[7], 34), b"trace refused 4\n"),
     ((33, &[3, 0, 1, 0, 0], 43), b"trace refused 6\n"),
     ((33, &[3, 0xfe, 0xff, 0xff, 0xff], 43), b"trace refused 6\n"),
@@ -79,19 +82,6 @@ fn patched(alloc: Global, bytes: &[u8], patch: Patch) -> Result<Vec<u8>, AllocEr
     all.extend_from_slice(others)?;
     all.extend_from_slice(&bytes[from.min(bytes.len())..])?;
     Ok(all)
-}
-
-// How a session ends that opens so, where no line is asked for.
-fn ended_by(answer: &[u8]) -> Result<Ended, SessionErr> {
-    Ok(if answer.starts_with(b"image") {
-        Ended::ImageRefused
-    } else if answer.starts_with(b"trace") {
-        Ended::TraceRefused
-    } else if answer.starts_with(b"thread") {
-        Ended::NotFit
-    } else {
-        Ended::InputEnd
-    })
 }
 
 #[test]
@@ -113,7 +103,7 @@ fn images_are_refused_by_their_first_fault(rt: HostRuntime) -> Result<(), Fail> 
 // Asserts that each patch of the trace is answered so.
 fn each_patch_is_answered<R: AllocGlobal + Threads + Clock + Sync + Abort>(
     rt: &R,
-    guest: &str,
+    guest: &[&str],
     trace: TraceRow,
     patches: &[(Patch, &'static [u8])],
 ) -> Result<(), Fail> {
@@ -123,7 +113,7 @@ fn each_patch_is_answered<R: AllocGlobal + Threads + Clock + Sync + Abort>(
         let trace = patched(rt.alloc(), trace.as_slice(), *patch)?;
         let (page, ended) = answered(rt, image.as_slice(), trace.as_slice(), b"");
         assert_eq!(rt; page.bytes.as_slice(), *answer);
-        assert_eq!(rt; ended, ended_by(answer));
+        assert_eq!(rt; ended, Ok(ended_by(answer)));
     }
     Ok(())
 }
@@ -136,7 +126,11 @@ fn traces_are_refused_by_their_first_fault(rt: HostRuntime) -> Result<(), Fail> 
 
 #[test]
 fn each_prefix_is_short(rt: HostRuntime) -> Result<(), Fail> {
-    for (guest, trace) in [(DOUBLED, ENDED_BY_144), (TWO_COUNTERS, SECOND_FIRST)] {
+    for (guest, trace) in [
+        (DOUBLED, ENDED_BY_144),
+        (TWO_COUNTERS, SECOND_FIRST),
+        (READ_THEN_WRITE, READ_AND_WRITTEN),
+    ] {
         let image = image_bytes(rt.alloc(), guest)?;
         let trace = trace_bytes(rt.alloc(), trace)?;
         for length in 0..image.len() {
@@ -148,6 +142,53 @@ fn each_prefix_is_short(rt: HostRuntime) -> Result<(), Fail> {
             let (page, ended) = answered(&rt, image.as_slice(), &trace.as_slice()[..length], b"");
             assert_eq!(rt; page.bytes.as_slice(), b"trace refused 1\n".as_slice());
             assert_eq!(rt; ended, Ok(Ended::TraceRefused));
+        }
+    }
+    Ok(())
+}
+
+// These bytes with another at the place.
+fn changed(alloc: Global, bytes: &[u8], place: usize, byte: u8) -> Result<Vec<u8>, AllocError> {
+    let mut all = Vec::from_slice(alloc, bytes)?;
+    if let Some(changed) = all.get_mut(place) {
+        *changed = byte;
+    }
+    Ok(all)
+}
+
+// Whether a session of them opens, or says why it doesn't, and ends as it says.
+fn opens_or_tells<R: AllocGlobal + Threads + Clock + Sync>(
+    rt: &R,
+    image: &[u8],
+    trace: &[u8],
+) -> bool {
+    let (page, ended) = answered(rt, image, trace, b"");
+    let text = page.bytes.as_slice();
+    let is_told = text.starts_with(b"ready\n")
+        || text.starts_with(b"image refused ")
+        || text.starts_with(b"trace refused ")
+        || text.starts_with(b"header differs ")
+        || text.starts_with(b"incoherent thread ")
+        || text.starts_with(b"thread ");
+    is_told && ended == Ok(ended_by(text))
+}
+
+#[test]
+fn each_changed_byte_is_answered(rt: HostRuntime) -> Result<(), Fail> {
+    for (guest, trace) in [(DOUBLED, ENDED_BY_144), (READ_THEN_WRITE, READ_AND_WRITTEN)] {
+        let image = image_bytes(rt.alloc(), guest)?;
+        let trace = trace_bytes(rt.alloc(), trace)?;
+        for (place, own) in image.iter().enumerate() {
+            for byte in [*own ^ 1, *own ^ 0x80, 0, 255] {
+                let other = changed(rt.alloc(), image.as_slice(), place, byte)?;
+                assert!(rt; opens_or_tells(&rt, other.as_slice(), trace.as_slice()));
+            }
+        }
+        for (place, own) in trace.iter().enumerate() {
+            for byte in [*own ^ 1, *own ^ 0x80, 0, 255] {
+                let other = changed(rt.alloc(), trace.as_slice(), place, byte)?;
+                assert!(rt; opens_or_tells(&rt, image.as_slice(), other.as_slice()));
+            }
         }
     }
     Ok(())

@@ -1,6 +1,8 @@
 //! Traces in rows, and their bytes.
 
+use ir_trace::{Trace, read_trace};
 use std::alloc::{AllocError, Global};
+use std::test::Fail;
 
 /// An event: an answer's value; an entry's object, its version, and how many had read it.
 #[derive(Clone, Copy)]
@@ -48,6 +50,16 @@ pub const READ_AND_WRITTEN: TraceRow = TraceRow {
     threads: &[Ran(11, 1, 0, &[EventRow::Read(0, 0), EventRow::Write(0, 0, 1)])],
 };
 
+/// Of `TWO_READERS`: both readers of version 0 may be inside at once.
+pub const BOTH_READ: TraceRow = TraceRow {
+    objects: 1,
+    budget: 1000,
+    threads: &[
+        Ran(7, 1, 0, &[EventRow::Read(0, 0)]),
+        Ran(7, 1, 0, &[EventRow::Read(0, 0)]),
+    ],
+};
+
 fn put_answer(bytes: &mut Vec<u8>, tag: u8, value: u32) -> Result<(), AllocError> {
     bytes.push(tag)?;
     bytes.extend_from_slice(&value.to_le_bytes())
@@ -92,4 +104,9 @@ pub fn trace_bytes(alloc: Global, trace: TraceRow) -> Result<Vec<u8>, AllocError
         put_thread(&mut bytes, *thread)?;
     }
     Ok(bytes)
+}
+
+/// The trace itself.
+pub fn trace_of(alloc: Global, trace: TraceRow) -> Result<Trace, Fail> {
+    Ok(read_trace(alloc, trace_bytes(alloc, trace)?.as_slice())?)
 }

@@ -7,7 +7,7 @@ use Rattle.ir_runs.specs.Labels.{Label, Trace}
 use Rattle.ir_log.specs.Logging.{label_of}
 use Rattle.ir_log.specs.declared.event.Event.{Event}
 use Rattle.ir_trace.specs.Recorded.{RecordedThread, Recorded}
-use Rattle.ir_trace.specs.Told.{absent, trace_of}
+use Rattle.ir_trace.specs.TraceOf.{absent, trace_of}
 use Rattle.ir_trace.proofs.Taken.{end_again_by}
 
 -- different events are different labels
@@ -51,7 +51,7 @@ abbrev end_of_thread : RecordedThread → Option (ℕ × ℕ)
 end_of_thread t = both_numbers (end_number t.end) (end_code t.end)
 
 -- two lists of threads that are told alike
-record ToldAlike (xs ys : List RecordedThread) : Type 0 where
+record EmitAlike (xs ys : List RecordedThread) : Type 0 where
   steps : (t : ℕ) → (slice_index_or xs t absent).steps ≡ (slice_index_or ys t absent).steps
   logs : (t : ℕ) → map label_of (slice_index_or xs t absent).events ≡ map label_of (slice_index_or ys t absent).events
   ends : (t : ℕ) → end_of_thread (slice_index_or xs t absent) ≡ end_of_thread (slice_index_or ys t absent)
@@ -63,7 +63,7 @@ same_thread law x y s l e =
     let events = same_events law x.events y.events l in
     λ i. record { steps = s i; end = end i; events = events i }
 
-same_threads : OneLabelEach → (xs ys : List RecordedThread) → length xs ≡ length ys → ToldAlike xs ys → xs ≡ ys
+same_threads : OneLabelEach → (xs ys : List RecordedThread) → length xs ≡ length ys → EmitAlike xs ys → xs ≡ ys
 same_threads law [] [] n h = refl
 same_threads law [] (y ∷ ys) n h = absurd (omega (arith, n))
 same_threads law (x ∷ xs) [] n h = absurd (omega (arith, n))
@@ -73,9 +73,9 @@ same_threads law (x ∷ xs) (y ∷ ys) n h =
     (record { steps = λ t. h.steps (suc t); logs = λ t. h.logs (suc t); ends = λ t. h.ends (suc t) }) in
     ap (λ (k : RecordedThread). k ∷ xs) first ∙ ap (λ (k : List RecordedThread). y ∷ k) others
 
-pub told_apart_by : OneLabelEach → (a b : Recorded) → a.objects ≡ b.objects → a.budget ≡ b.budget → length a.threads ≡ length b.threads
+pub distinguished_by : OneLabelEach → (a b : Recorded) → a.objects ≡ b.objects → a.budget ≡ b.budget → length a.threads ≡ length b.threads
     → trace_of a ≡ trace_of b → a ≡ b
-told_apart_by law a b o n l e =
+distinguished_by law a b o n l e =
     let threads = same_threads law a.threads b.threads l
     (record {
       steps = λ t. ap (λ (x : Trace). x.steps t) e;

@@ -3,4 +3,4 @@ pub mod Refusal
 pub mod Encoding
 pub mod Reading
 pub mod Fields
-pub mod Told
+pub mod TraceOf

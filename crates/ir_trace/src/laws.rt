@@ -9,7 +9,7 @@ ghost use Rattle.ir_trace.specs.Recorded.{Recorded, IsRecorded};
 ghost use Rattle.ir_trace.specs.Encoding.{encoding};
 ghost use Rattle.ir_trace.specs.Reading.{recorded_at};
 ghost use Rattle.ir_trace.specs.Fields.{trace_fault};
-ghost use Rattle.ir_trace.specs.Told.{trace_of};
+ghost use Rattle.ir_trace.specs.TraceOf.{trace_of};
 
 use ir_log::one_label_each;
 
@@ -35,7 +35,7 @@ pub fn bytes_are_their_number()
 {}
 
 /// Recordings of as many objects and threads and of one budget that tell the same of a run are the same.
-pub fn told_apart()
+pub fn distinguished()
     ensures { (a b : Recorded) → a.objects ≡ b.objects → a.budget ≡ b.budget → length a.threads ≡ length b.threads → trace_of a ≡ trace_of b → a ≡ b }
 {
     one_label_each();

@@ -14,7 +14,7 @@ mod trace_err;
 mod writer;
 
 pub use laws::{
-    bytes_are_their_number, encoding_is_read, first_fault_is_named, read_is_encoded, told_apart,
+    bytes_are_their_number, distinguished, encoding_is_read, first_fault_is_named, read_is_encoded,
 };
 pub use reader::read_trace;
 pub use thread_trace::ThreadTrace;

@@ -5,7 +5,7 @@ ghost use Rattle.ir_log.specs.Logging.{Suits};
 ghost use Rattle.ir_log.specs.declared.event.Event.{Event};
 ghost use Rattle.ir_thread.specs.Calls.{most_events};
 ghost use Rattle.ir_trace.specs.Recorded.{Recorded, IsRecorded, IsRecordedThread};
-ghost use Rattle.ir_trace.specs.Told.{recorded_thread};
+ghost use Rattle.ir_trace.specs.TraceOf.{recorded_thread};
 
 use crate::thread_trace::ThreadTrace;
 use ir_log::{Cursor, Disagree, Event};

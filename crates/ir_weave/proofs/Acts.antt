@@ -19,7 +19,7 @@ use Rattle.ir_thread.specs.declared.ask.Ask.{Ask}
 use Rattle.ir_thread.specs.declared.ask.Ask.TheVariants.{Enter, Leave, Get, Put}
 use Rattle.ir_thread.specs.declared.ask.Reply.TheVariants.{Value}
 use Rattle.ir_object.specs.Cell.{Cell, Admitted as Enters}
-use Rattle.ir_runs.specs.Object.{target, told}
+use Rattle.ir_runs.specs.Object.{target, emitted}
 use Rattle.ir_object.specs.declared.fields.Fields.{Fields}
 use Rattle.ir_object.specs.Word.{reader_unit, left_unit, version_unit, inside_limit, left_limit, reader_leaves, IsFields, word_of, fields_of, entered, left_by, bit_of}
 use Rattle.ir_flat.specs.Flat.{Flat, IsFlat, idle, thread_of, cell_of, inside_of, tables}
@@ -27,8 +27,8 @@ use Rattle.ir_flat.specs.Next.{next}
 use Rattle.ir_runs.specs.Run.{count, label, end, trail}
 use Rattle.ir_flat.proofs.CallerLemmas.{logged_fits, few_inside, enter_fits, leave_fits, leave_allowed, thread_count}
 use Rattle.ir_log.specs.declared.event.Event.{Event}
-use Rattle.ir_trace.specs.Told.{recorded_thread}
-use Rattle.ir_runs.specs.Cuts.{At, Tells, part}
+use Rattle.ir_trace.specs.TraceOf.{recorded_thread}
+use Rattle.ir_runs.specs.Cuts.{At, Emits, part}
 use Rattle.ir_fit.specs.Fit.{FittedTrace}
 use Rattle.ir_cut.specs.Positions.{machine_of, start_of, EachRun}
 use Rattle.ir_runs.proofs.CallerLemmas.{persists}
@@ -147,7 +147,7 @@ looks_at slots id o a e y q c ahead inside entering x h homes at small =
     let event : slice_get (recorded_thread f.recorded t).events (thread_of cu.state t).events ≡ Some e =
     ap (λ (z : thread.State). slice_get (recorded_thread f.recorded t).events z.events) cu.own ∙ own_event in
     let nexts : IsNextObject f t q.position y.steps = touches_next f t q.position y (Enter o a) ahead entering.asking.asks (λ b. b) in
-    let told_event : IsEventAt f t y.steps e =
+    let emitted_event : IsEventAt f t y.steps e =
     λ run of. ap (λ (z : thread.State). slice_get (recorded_thread f.recorded t).events z.events) (sym (ahead.at run of).1)
     ∙ own_event in
     let table : IsTable cu.state.objects (set x.words (word_place o) n) =
@@ -162,7 +162,7 @@ looks_at slots id o a e y q c ahead inside entering x h homes at small =
             (λ on. open_admitted f cu.state t o a e h.run cu.flat cu.at (there k x h id q y at cu) ask has event entering.suits
             (opens_by (record { fields = fields_of n; words = [] }) (cell_of cu.state o) e same yes'))
             (set x.words (word_place o) n) x.homes table,
-        (y.steps, e, nexts, told_event, (λ b. refl), (λ no'. absurd (no' yes'))),
+        (y.steps, e, nexts, emitted_event, (λ b. refl), (λ no'. absurd (no' yes'))),
       )
       | inr no' ↦ (
         progress k t y.steps false ∷ [],
@@ -174,7 +174,7 @@ looks_at slots id o a e y q c ahead inside entering x h homes at small =
           y.steps,
           e,
           nexts,
-          told_event,
+          emitted_event,
           (λ yes'. absurd (no' yes')),
           (λ b. (
             refl,
@@ -343,18 +343,18 @@ left_reading_at slots id o y q c ahead inside is has x h homes at small =
     (record (cell_of cu.state o) { fields = left_by Reading (cell_of cu.state o).fields }) table m sum refl) in
     (made.0, keeps, tt, made.1, made.2)
 
--- what a writer's leave tells
-leave_tells : (f : FittedTrace) (s : Flat) (t o : ℕ) → IsStateAt f (positions s) s → ask_of s.code (thread_of s t) ≡ Leave o Writing
+-- what a writer's leave emits
+leave_emits : (f : FittedTrace) (s : Flat) (t o : ℕ) → IsStateAt f (positions s) s → ask_of s.code (thread_of s t) ≡ Leave o Writing
     → AdmittedAt f (positions s) t
-    → EachRun f (λ run. Tells (machine_of f) (start_of f) run t (positions s t) (Out o Writing (cell_of s o).fields.version))
-leave_tells f s t o at is ad run of =
+    → EachRun f (λ run. Emits (machine_of f) (start_of f) run t (positions s t) (Out o Writing (cell_of s o).fields.version))
+leave_emits f s t o at is ad run of =
     let some = (cut_at f run of (positions s) (at.each run of).cut (at.each run of).consistent).steps t (ad run of) in
-    let told_is : label (machine_of f) (end (machine_of f) (start_of f) (part run (positions s))) (t, some.0) ≡ Out o Writing
+    let emitted_is : label (machine_of f) (end (machine_of f) (start_of f) (part run (positions s))) (t, some.0) ≡ Out o Writing
     (cell_of s o).fields.version =
     ap (λ z. label (machine_of f) z (t, some.0)) (sym (tables_at f (positions s) s run of (at.each run of)))
-    ∙ ap (λ a. told (act_of (shared_ask a) some.0) ((tables s).objects (target (act_of (shared_ask a) some.0))))
+    ∙ ap (λ a. emitted (act_of (shared_ask a) some.0) ((tables s).objects (target (act_of (shared_ask a) some.0))))
     (ap (λ code. ask_of code (thread_of s t)) (sym at.code) ∙ is) in
-    subst (Tells (machine_of f) (start_of f) run t (positions s t)) told_is some.3
+    subst (Emits (machine_of f) (start_of f) run t (positions s t)) emitted_is some.3
 
 -- one label stands at each content_place
 pub same_label : {X : Type 0} (xs : List X) (k : ℕ) (a b : X) → At xs k a → At xs k b → a ≡ b
@@ -377,7 +377,7 @@ versions_at slots id o y q c ahead inside is has x h homes at small =
     let same : fields_of n ≡ (cell_of cu.state o).fields =
     found_fields n (cell_of h.state o).fields (cell_fits h.state o h.flat l) (h.table.heads o l)
     ∙ ap (λ cs. (object_in cs o).fields) (sym cu.objects) in
-    let tells = leave_tells f cu.state t o cu.at ask
+    let emits = leave_emits f cu.state t o cu.at ask
     (free_admitted f cu.state t cu.at (has_there f h.state t y cu has) (λ p a e. cc (sym ask ∙ e))) in
     let kept : Woven q.plan (record { words = set x.words (word_place o) n; homes = x.homes; views = set x.views id (q ∷ []) }) =
     subst (λ (z : List ℕ × List View). Woven q.plan (record { words = z.0; homes = x.homes; views = z.1 }))
@@ -394,8 +394,8 @@ versions_at slots id o y q c ahead inside is has x h homes at small =
         (λ run of p word asked.
             let o_is : o ≡ p = omega (arith, word) in
             let v_is : (cell_of cu.state o).fields.version ≡ n / version_unit = ap (λ (z : Fields). z.version) (sym same) in
-            subst (λ (z : ℕ × ℕ × ℕ). Tells (machine_of f) (start_of f) run t z.0 (Out z.1 Writing z.2))
-            (λ i. (ap (λ (z : thread.State). z.steps) cu.own i, o_is i, v_is i)) (tells run of)),
+            subst (λ (z : ℕ × ℕ × ℕ). Emits (machine_of f) (start_of f) run t z.0 (Out z.1 Writing z.2))
+            (λ i. (ap (λ (z : thread.State). z.steps) cu.own i, o_is i, v_is i)) (emits run of)),
       ),
     )
 
@@ -403,11 +403,11 @@ pub left_writing_at : (slots id o v : ℕ) (y : thread.State) (q : Progress) (c 
     → IsAhead (trace_in q.plan) q.thread q.position y → o < object_count (trace_in q.plan).guest
     → ask_of (trace_in q.plan).guest.code y ≡ Leave o Writing
     → HasStep (trace_in q.plan) q.thread y.steps
-    → EachRun (trace_in q.plan) (λ run. Tells (machine_of (trace_in q.plan)) (start_of (trace_in q.plan)) run q.thread y.steps
+    → EachRun (trace_in q.plan) (λ run. Emits (machine_of (trace_in q.plan)) (start_of (trace_in q.plan)) run q.thread y.steps
     (Out o Writing v))
     → Allows (Woven q.plan) slots id (q ∷ [], c) (word_place o) (λ _. (v + 1) * version_unit)
     (λ _. stepped_on (step slots (word_place o) ((v + 1) * version_unit) 0 none) (q ∷ [], c) ((v + 1) * version_unit))
-left_writing_at slots id o v y q c ahead inside is has tells x h homes at small =
+left_writing_at slots id o v y q c ahead inside is has emits x h homes at small =
     let f : FittedTrace = trace_in q.plan in
     let t : ℕ = q.thread in
     let cu : CaughtUp f h.state t y = caught q.plan x h id q y at ahead in
@@ -416,15 +416,15 @@ left_writing_at slots id o v y q c ahead inside is has tells x h homes at small 
     let m : o < length cu.state.objects = (let e = ap (λ (cs : List Cell). length cs) cu.objects in omega (arith, e, l)) in
     let goes = free_goes q.plan x h id q y at cu (Leave o Writing) (λ p b e. cc e) is has in
     let ask = asks_there f h.state t y (Leave o Writing) cu is in
-    let own = leave_tells f cu.state t o cu.at ask
+    let own = leave_emits f cu.state t o cu.at ask
     (free_admitted f cu.state t cu.at (has_there f h.state t y cu has) (λ p a e. cc (sym ask ∙ e))) h.run.run h.run.whole in
-    let mine : Tells (machine_of f) (start_of f) h.run.run t y.steps (Out o Writing (cell_of cu.state o).fields.version) =
-    subst (λ z. Tells (machine_of f) (start_of f) h.run.run t z (Out o Writing (cell_of cu.state o).fields.version))
+    let mine : Emits (machine_of f) (start_of f) h.run.run t y.steps (Out o Writing (cell_of cu.state o).fields.version) =
+    subst (λ z. Emits (machine_of f) (start_of f) h.run.run t z (Out o Writing (cell_of cu.state o).fields.version))
     (ap (λ (z : thread.State). z.steps) cu.own) own in
-    let told' = tells h.run.run h.run.whole in
+    let emitted' = emits h.run.run h.run.whole in
     let labels : Out o Writing v ≡ Out o Writing (cell_of cu.state o).fields.version =
-    ap (λ z. z.1) (same_label (trail (machine_of f) (start_of f) h.run.run t) y.steps (told'.0, Out o Writing v)
-    (mine.0, Out o Writing (cell_of cu.state o).fields.version) told'.1 mine.1) in
+    ap (λ z. z.1) (same_label (trail (machine_of f) (start_of f) h.run.run t) y.steps (emitted'.0, Out o Writing v)
+    (mine.0, Out o Writing (cell_of cu.state o).fields.version) emitted'.1 mine.1) in
     let version : v ≡ (cell_of cu.state o).fields.version = cc labels in
     let table : IsTable cu.state.objects x.words = subst (λ cs. IsTable cs x.words) (sym cu.objects) h.table in
     let word : w ≡ word_of (left_by Writing (cell_of cu.state o).fields) = omega (arith, version) in

@@ -8,7 +8,7 @@ use Rattle.ir_runs.specs.Cuts.{Cut, part}
 use Rattle.ir_flat.specs.Flat.{Flat, thread_of}
 use Rattle.ir_log.specs.Logging.{label_of}
 use Rattle.ir_log.specs.declared.event.Event.{Event}
-use Rattle.ir_trace.specs.Told.{recorded_thread}
+use Rattle.ir_trace.specs.TraceOf.{recorded_thread}
 use Rattle.ir_fit.specs.Fit.{FittedTrace, IsRunOf}
 use Rattle.ir_cut.specs.Positions.{machine_of, start_of}
 use Rattle.ir_weave.specs.States.{IsAt}

@@ -12,7 +12,7 @@ use Rattle.ir_runs.specs.Run.{State, Step, Can, label, IsRun, end, trail, events
 use Rattle.ir_runs.proofs.CallerLemmas.{events_append, Good, start_good, at_cut, Sorted, sort}
 use Rattle.ir_flat.proofs.CallerLemmas.{tally, fresh, no_steps, state_eq}
 use Rattle.ir_log.specs.Logging.{label_of}
-use Rattle.ir_trace.specs.Told.{recorded_thread}
+use Rattle.ir_trace.specs.TraceOf.{recorded_thread}
 use Rattle.ir_fit.specs.Ahead.{log_ahead}
 use Rattle.ir_runs.specs.Cuts.{Cut, AtCut, At, IsCut, Consistent, Admitted, part}
 use Rattle.ir_fit.specs.Fit.{FittedTrace, IsRunOf}
@@ -126,17 +126,17 @@ back f p s run is code at P h = subst (λ c. P (thread_machine c) (tables s)) (s
 abbrev pub CanLog : ℕ → ℕ → List Label → Machine thread.State → State thread.State → Type 0
 CanLog t r es m s = Can m s (t, r) × (logged (label m s (t, r)) (unlogged (label m s (t, r)) es) ≡ es)
 
--- a thread that is admitted can take its step, and logs what the trace tells next
+-- a thread that is admitted can take its step, and logs what the trace emits next
 pub admitted_next : (f : FittedTrace) (s : Flat) → IsStateAt f (positions s) s → (run : List Step) → IsRunOf f.guest f.recorded run
     → (t : ℕ) → t < length f.guest.entries → Admitted (machine_of f) (start_of f) run (positions s) t → (v : ℕ) × LogsNext f.recorded s t v
 admitted_next f s state run is t l ad =
     let at : IsAt f (positions s) s run = state.each run is in
     let next = (cut_at f run is (positions s) at.cut at.consistent).steps t ad in
-    let told : Label = label (machine_of f) (end (machine_of f) (start_of f) (part run (positions s))) (t, next.0) in
-    let first : log_ahead f.recorded s t ≡ logged told (events (drop (suc (positions s t)) (trail (machine_of f) (start_of f) run t))) =
+    let emitted : Label = label (machine_of f) (end (machine_of f) (start_of f) (part run (positions s))) (t, next.0) in
+    let first : log_ahead f.recorded s t ≡ logged emitted (events (drop (suc (positions s t)) (trail (machine_of f) (start_of f) run t))) =
     log_behind f (positions s) s run is at t l
-    ∙ ap events (drop_at (trail (machine_of f) (start_of f) run t) (positions s t) (next.3.0, told) next.3.1) in (
+    ∙ ap events (drop_at (trail (machine_of f) (start_of f) run t) (positions s t) (next.3.0, emitted) next.3.1) in (
       next.0,
       back f (positions s) s run is state.code at (CanLog t next.0 (log_ahead f.recorded s t))
-          (next.1, ap (λ es. logged told (unlogged told es)) first ∙ logged_back told _ ∙ sym first),
+          (next.1, ap (λ es. logged emitted (unlogged emitted es)) first ∙ logged_back emitted _ ∙ sym first),
     )

@@ -11,7 +11,7 @@ use Rattle.ir_flat.specs.Next.{next}
 use Rattle.ir_log.specs.Logging.{Suits}
 use Rattle.ir_log.specs.declared.event.Event.{Event}
 use Rattle.ir_log.specs.declared.event.Event.TheVariants.{Answer, Read, Write}
-use Rattle.ir_trace.specs.Told.{recorded_thread}
+use Rattle.ir_trace.specs.TraceOf.{recorded_thread}
 use Rattle.ir_fit.specs.Ahead.{steps_ahead, IsOpen}
 use Rattle.ir_runs.specs.Cuts.{Admitted, further}
 use Rattle.ir_fit.specs.Fit.{FittedTrace, HasRun}

@@ -14,7 +14,7 @@ use Rattle.ir_flat.specs.Flat.{Flat, IsFlat, thread_of, tables, machine as machi
 use Rattle.ir_flat.specs.Next.{next, MayStep}
 use Rattle.ir_runs.specs.Run.{Step, after, label, count, th}
 use Rattle.ir_flat.proofs.CallerLemmas.{can_by_may, taken_by, next_flat, thread_count, object_count}
-use Rattle.ir_runs.specs.Cuts.{Tells, Needs, Cut, further}
+use Rattle.ir_runs.specs.Cuts.{Emits, Needs, Cut, further}
 use Rattle.ir_fit.specs.Fit.{FittedTrace, HasRun, IsRunOf}
 use Rattle.ir_runs.specs.Following.{unlogged}
 use Rattle.ir_cut.specs.Positions.{machine_of, start_of}
@@ -49,7 +49,7 @@ next_code s t v Done = refl
 pub guest_thread : (f : FittedTrace) (s : Flat) (t : ℕ) → IsStateAt f (positions s) s → t < length s.threads → t < length f.guest.entries
 guest_thread f s t at l = let e = at.threads in omega (arith, l, e)
 
--- by a step that logs what the trace tells next
+-- by a step that logs what the trace emits next
 pub logs_on : (f : FittedTrace) (s : Flat) (t v : ℕ) (q : Ask) → IsFlat s → IsStateAt f (positions s) s → t < length s.threads
     → q ≡ ask_of s.code (thread_of s t) → HasStep f t (positions s t) → LogsNext f.recorded s t v → Goes f s t v q
 logs_on f s t v q flat at l is has logs =
@@ -150,7 +150,7 @@ free_admitted f s t at has ne run of = (
 )
   where
     last : (run : List Step) → IsRunOf f.guest f.recorded run → (u k w j : ℕ) (a b : Label) → u ≡ t → k ≡ positions s u
-        → Tells (machine_of f) (start_of f) run u k a → Needs b a → ⊥
+        → Emits (machine_of f) (start_of f) run u k a → Needs b a → ⊥
     last run of u k w j a b same here ha need =
         let z : StepOf (machine_of f) (th (machine_of f) (start_of f) run u k) (th (machine_of f) (start_of f) run u (suc k)) a =
         step_at (machine_of f) (start_of f) run of.1.runs u k a ha in
@@ -159,7 +159,7 @@ free_admitted f s t at has ne run of = (
         needs_none b (shared_ask (ask_of f.guest.code (th (machine_of f) (start_of f) run u k))) z.result z.object
         (shared_enter (ask_of f.guest.code (th (machine_of f) (start_of f) run u k)) (λ o c e. ne o c (sym asks ∙ e)))
         (shared_try (ask_of f.guest.code (th (machine_of f) (start_of f) run u k)))
-        (subst (Needs b) z.tells need)
+        (subst (Needs b) z.emits need)
 
 -- ---- steps that touch no object
 

@@ -14,15 +14,15 @@ use Rattle.ir_thread.specs.declared.ask.Ask.TheVariants.{Private, Env, Enter, Le
 use Rattle.ir_runs.specs.declared.env_kind.EnvKind.{EnvKind}
 use Rattle.ir_thread.specs.declared.ask.Reply.{Reply}
 use Rattle.ir_thread.specs.declared.ask.Reply.TheVariants.{Go, Value}
-use Rattle.ir_runs.specs.Object.{Object, reply, told, Admits}
+use Rattle.ir_runs.specs.Object.{Object, reply, emitted, Admits}
 use Rattle.ir_runs.specs.Run.{Step, trail, events, count}
 use Rattle.ir_runs.proofs.CallerLemmas.{events_append}
 use Rattle.ir_flat.proofs.CallerLemmas.{fresh, added, events_added, held_length}
 use Rattle.ir_log.specs.Logging.{label_of}
 use Rattle.ir_log.specs.declared.event.Event.{Event}
 use Rattle.ir_log.specs.declared.event.Event.TheVariants.{Answer as Answered}
-use Rattle.ir_trace.specs.Told.{recorded_thread}
-use Rattle.ir_runs.specs.Cuts.{At, Tells}
+use Rattle.ir_trace.specs.TraceOf.{recorded_thread}
+use Rattle.ir_runs.specs.Cuts.{At, Emits}
 use Rattle.ir_fit.specs.Fit.{FittedTrace, IsRunOf}
 use Rattle.ir_cut.specs.Positions.{machine_of, start_of, EachRun}
 use Rattle.ir_weave.specs.Ahead.{IsAlone, HasStep, IsThreadAt, IsAhead, ask_at, thread_at}
@@ -48,20 +48,20 @@ drop_at (y ∷ ys) (suc k) x h = drop_at ys k x h
 
 -- step k of thread t
 pub step_there : (f : FittedTrace) (run : List Step) (t k : ℕ) → k < count (machine_of f) (start_of f) run t → (a : Label)
-    × Tells (machine_of f) (start_of f) run t k a
+    × Emits (machine_of f) (start_of f) run t k a
 step_there f run t k l = let z = at_some (trail (machine_of f) (start_of f) run t) k l in (z.0.1, (z.0.0, z.1))
 
-told_count : (q : Ask) (r : ℕ) (b : Object) → length (logged (told (act_of (shared_ask q) r) b) []) ≡ added q
-told_count Private r b = refl
-told_count (Env kind) r b = refl
-told_count (Enter o Reading) r b = refl
-told_count (Enter o Writing) r b = refl
-told_count (Leave o a) r b = refl
-told_count (Get o i) r b = refl
-told_count (Put o i w) r b = refl
-told_count Print r b = refl
-told_count (End e) r b = refl
-told_count Done r b = refl
+emitted_count : (q : Ask) (r : ℕ) (b : Object) → length (logged (emitted (act_of (shared_ask q) r) b) []) ≡ added q
+emitted_count Private r b = refl
+emitted_count (Env kind) r b = refl
+emitted_count (Enter o Reading) r b = refl
+emitted_count (Enter o Writing) r b = refl
+emitted_count (Leave o a) r b = refl
+emitted_count (Get o i) r b = refl
+emitted_count (Put o i w) r b = refl
+emitted_count Print r b = refl
+emitted_count (End e) r b = refl
+emitted_count Done r b = refl
 
 taken : (code : List ℕ) (x : thread.State) (n : ℕ)
     → (thread_machine code).take x n ≡ after_ask code x (ask_of code x) (reply_of (ask_of code x) n)
@@ -84,7 +84,7 @@ counted f run of t (suc k) l =
     let q : Ask = ask_at f run t k in
     let more : (thread_at f run t (suc k)).events ≡ (thread_at f run t k).events + added q = ap (λ (x : thread.State). x.events) z.next
     ∙ events_next f.guest.code (thread_at f run t k) (reply (act_of (shared_ask q) z.result) z.object) in
-    let one : length (logged at.0 []) ≡ added q = ap (λ a. length (logged a [])) z.tells ∙ told_count q z.result z.object in
+    let one : length (logged at.0 []) ≡ added q = ap (λ a. length (logged a [])) z.emits ∙ emitted_count q z.result z.object in
     let before = counted f run of t k (omega (arith, l)) in
     let parts : events (take (suc k) (trail (machine_of f) (start_of f) run t)) ≡ events (take k (trail (machine_of f) (start_of f) run t))
     ++ logged at.0 [] =
@@ -114,7 +114,7 @@ first_label (x ∷ xs) zero a es h = (x, refl, cc h)
 first_label (x ∷ xs) (suc i) a es h = first_label xs i a es h
 
 logs_itself : (q : Ask) (r : ℕ) (b : Object) (es : List Label) → added q ≡ 1
-    → logged (told (act_of (shared_ask q) r) b) es ≡ told (act_of (shared_ask q) r) b ∷ es
+    → logged (emitted (act_of (shared_ask q) r) b) es ≡ emitted (act_of (shared_ask q) r) b ∷ es
 logs_itself Private r b es h = absurd (omega (arith, h))
 logs_itself (Env kind) r b es h = refl
 logs_itself (Enter o Reading) r b es h = refl
@@ -130,7 +130,7 @@ logs_itself Done r b es h = absurd (omega (arith, h))
 pub event_there : (f : FittedTrace) (run : List Step) → IsRunOf f.guest f.recorded run → (t k : ℕ) → t < length f.guest.entries
     → k < count (machine_of f) (start_of f) run t → added (ask_at f run t k) ≡ 1
     → (e : Event) × (slice_get (recorded_thread f.recorded t).events (thread_at f run t k).events ≡ Some e)
-    × Tells (machine_of f) (start_of f) run t k (label_of e)
+    × Emits (machine_of f) (start_of f) run t k (label_of e)
 event_there f run of t k l within one =
     let at = step_there f run t k within in
     let xs = trail (machine_of f) (start_of f) run t in
@@ -138,10 +138,10 @@ event_there f run of t k l within one =
     step_at (machine_of f) (start_of f) run of.1.runs t k at.0 at.1 in
     let es : List Label = events (drop (suc k) xs) in
     let first : drop (thread_at f run t k).events (map label_of (recorded_thread f.recorded t).events) ≡ at.0 ∷ es =
-    log_left f run of t k l (omega (arith, within)) ∙ ap events (drop_at xs k (at.1.0, at.0) at.1.1) ∙ ap (λ a. logged a es) z.tells
-    ∙ logs_itself (ask_at f run t k) z.result z.object es one ∙ ap (λ a. a ∷ es) (sym z.tells) in
+    log_left f run of t k l (omega (arith, within)) ∙ ap events (drop_at xs k (at.1.0, at.0) at.1.1) ∙ ap (λ a. logged a es) z.emits
+    ∙ logs_itself (ask_at f run t k) z.result z.object es one ∙ ap (λ a. a ∷ es) (sym z.emits) in
     let found = first_label (recorded_thread f.recorded t).events (thread_at f run t k).events at.0 es first in
-    (found.0, found.1, subst (Tells (machine_of f) (start_of f) run t k) (sym found.2) at.1)
+    (found.0, found.1, subst (Emits (machine_of f) (start_of f) run t k) (sym found.2) at.1)
 
 -- ---- the next step
 
@@ -174,10 +174,10 @@ next_go f run of t k q l is go =
     z.next ∙ taken f.guest.code (thread_at f run t k) n ∙ ap (λ a. after_ask f.guest.code (thread_at f run t k) a (reply_of a n)) is
     ∙ ap (after_ask f.guest.code (thread_at f run t k) q) (goes_on q go n)
 
-told_answer : (kind : EnvKind) (r : ℕ) (b : Object) (j : EnvKind) (v : ℕ) → told (act_of (shared_ask (Env kind)) r) b ≡ Answer j v → r ≡ v
-told_answer kind r b j v h = cc h
+emitted_answer : (kind : EnvKind) (r : ℕ) (b : Object) (j : EnvKind) (v : ℕ) → emitted (act_of (shared_ask (Env kind)) r) b ≡ Answer j v → r ≡ v
+emitted_answer kind r b j v h = cc h
 
--- where a call of the environment is answered as the trace tells
+-- where a call of the environment is answered as the trace emits
 pub next_answer : (f : FittedTrace) (run : List Step) → IsRunOf f.guest f.recorded run → (t k : ℕ) (kind j : EnvKind) (v : ℕ)
     → t < length f.guest.entries → k < count (machine_of f) (start_of f) run t → ask_at f run t k ≡ Env kind
     → slice_get (recorded_thread f.recorded t).events (thread_at f run t k).events ≡ Some (Answered j v)
@@ -187,9 +187,9 @@ next_answer f run of t k kind j v l within is event =
     let same : found.0 ≡ Answered j v = cc (found.1, event) in
     let z : StepOf (machine_of f) (thread_at f run t k) (thread_at f run t (suc k)) (label_of found.0) =
     step_at (machine_of f) (start_of f) run of.1.runs t k (label_of found.0) found.2 in
-    let tells : told (act_of (shared_ask (Env kind)) z.result) z.object ≡ Answer j v =
-    ap (λ a. told (act_of (shared_ask a) z.result) z.object) (sym is) ∙ sym z.tells ∙ ap label_of same in
-    let r : z.result ≡ v = told_answer kind z.result z.object j v tells in
+    let emits : emitted (act_of (shared_ask (Env kind)) z.result) z.object ≡ Answer j v =
+    ap (λ a. emitted (act_of (shared_ask a) z.result) z.object) (sym is) ∙ sym z.emits ∙ ap label_of same in
+    let r : z.result ≡ v = emitted_answer kind z.result z.object j v emits in
     z.next ∙ taken f.guest.code (thread_at f run t k) (reply (act_of (shared_ask (ask_at f run t k)) z.result) z.object)
     ∙ ap (λ a. after_ask f.guest.code (thread_at f run t k) a (reply_of a (reply (act_of (shared_ask a) z.result) z.object))) is
     ∙ ap (λ n. after_ask f.guest.code (thread_at f run t k) (Env kind) (Value n)) r

@@ -230,11 +230,11 @@ seats-snoc id k t u (y ∷ ys) x h e i m = (h.0, seats-snoc id k (suc t) u ys x 
 
 pub dealt : (k : Plan) (l m n : ℕ) (me w : M) → me ≡ (tracks_from k l (suc m), []) → w ≡ (all_but_first me.0, me.1) → n ≡ suc l
     → w ≡ (tracks_from k n m, [])
-dealt k l m n me w is told long = told ∙ (λ i. (all_but_first (is i).0, (is i).1)) ∙ (λ i. (tracks_from k (sym long i) m, []))
+dealt k l m n me w is emitted long = emitted ∙ (λ i. (all_but_first (is i).0, (is i).1)) ∙ (λ i. (tracks_from k (sym long i) m, []))
 
 pub dealt_first : (k : Plan) (l m : ℕ) (me w : M) → me ≡ (tracks_from k l (suc m), []) → w ≡ (first_alone me.0, [])
     → w ≡ (progress k l (opened_at k l) false ∷ [], [])
-dealt_first k l m me w is told = told ∙ (λ i. (first_alone (is i).0, []))
+dealt_first k l m me w is emitted = emitted ∙ (λ i. (first_alone (is i).0, []))
 
 pub all_but : (k : Plan) (l m n : ℕ) (me : M) → me ≡ (tracks_from k l m, []) → m ≡ suc n → me ≡ (tracks_from k l (suc n), [])
 all_but k l m n me is e = is ∙ (λ i. (tracks_from k l (e i), []))

@@ -16,7 +16,7 @@ use Rattle.ir_log.specs.Logging.{Suits}
 use Rattle.ir_log.specs.declared.event.Event.{Event}
 use Rattle.ir_log.specs.declared.event.Event.TheVariants.{Answer}
 use Rattle.ir_trace.specs.Recorded.{Recorded, IsRecordedThread}
-use Rattle.ir_trace.specs.Told.{recorded_thread, trace_of}
+use Rattle.ir_trace.specs.TraceOf.{recorded_thread, trace_of}
 use Rattle.ir_fit.specs.Ahead.{steps_ahead, log_ahead, CanFollow, IsOpen}
 use Rattle.ir_runs.specs.Following.{Meets}
 use Rattle.ir_fit.specs.declared.follower.look.Look.TheVariants as look

@@ -14,8 +14,8 @@ use Rattle.ir_thread.specs.declared.ask.Ask.{Ask}
 use Rattle.ir_thread.specs.declared.ask.Ask.TheVariants.{Enter, Leave, Get, Put}
 use Rattle.ir_thread.proofs.CallerLemmas.{ask_permits}
 use Rattle.ir_log.specs.declared.event.Event.{Event}
-use Rattle.ir_trace.specs.Told.{recorded_thread}
-use Rattle.ir_runs.specs.Cuts.{Tells}
+use Rattle.ir_trace.specs.TraceOf.{recorded_thread}
+use Rattle.ir_runs.specs.Cuts.{Emits}
 use Rattle.ir_fit.specs.Fit.{FittedTrace, HasRun}
 use Rattle.ir_cut.specs.Positions.{machine_of, start_of, EachRun}
 use Rattle.ir_weave.specs.Ahead.{IsAlone, HasStep, IsAhead, IsAsking, IsEntering, IsNextObject, ask_at, thread_at}
@@ -131,22 +131,22 @@ version_allows k slots id o x (q ∷ [], c) seated asking =
 
 pub write_leave_allows : (k : Plan) (slots id o v : ℕ) (x : thread.State) (me : M) → IsSeated k me.0 x
     → IsAsking (trace_in k) x (Leave o Writing)
-    → EachRun (trace_in k) (λ run. Tells (machine_of (trace_in k)) (start_of (trace_in k)) run x.number x.steps (Out o Writing v))
+    → EachRun (trace_in k) (λ run. Emits (machine_of (trace_in k)) (start_of (trace_in k)) run x.number x.steps (Out o Writing v))
     → Allows (Woven k) slots id me (word_place o) (λ _. (v + 1) * version_unit)
     (λ _. stepped_on (step slots (word_place o) ((v + 1) * version_unit) 0 none) me ((v + 1) * version_unit))
-write_leave_allows k slots id o v x ([], c) seated asking tells = absurd seated
-write_leave_allows k slots id o v x (q ∷ r ∷ qs, c) seated asking tells = absurd seated
-write_leave_allows k slots id o v x (q ∷ [], c) seated asking tells =
+write_leave_allows k slots id o v x ([], c) seated asking emits = absurd seated
+write_leave_allows k slots id o v x (q ∷ r ∷ qs, c) seated asking emits = absurd seated
+write_leave_allows k slots id o v x (q ∷ [], c) seated asking emits =
     let ask : IsAsking (trace_in q.plan) x (Leave o Writing) = there k q (λ f. IsAsking f x (Leave o Writing)) seated.0 asking in
-    let told : EachRun (trace_in q.plan) (λ run. Tells (machine_of (trace_in q.plan)) (start_of (trace_in q.plan)) run q.thread x.steps
+    let emitted : EachRun (trace_in q.plan) (λ run. Emits (machine_of (trace_in q.plan)) (start_of (trace_in q.plan)) run q.thread x.steps
     (Out o Writing v)) =
-    subst (λ z. EachRun (trace_in q.plan) (λ run. Tells (machine_of (trace_in q.plan)) (start_of (trace_in q.plan)) run z x.steps
+    subst (λ z. EachRun (trace_in q.plan) (λ run. Emits (machine_of (trace_in q.plan)) (start_of (trace_in q.plan)) run z x.steps
     (Out o Writing v))) seated.1.number
-    (there k q (λ f. EachRun f (λ run. Tells (machine_of f) (start_of f) run x.number x.steps (Out o Writing v))) seated.0 tells) in
+    (there k q (λ f. EachRun f (λ run. Emits (machine_of f) (start_of f) run x.number x.steps (Out o Writing v))) seated.0 emits) in
     keyed k q (λ z. Allows (Woven z) slots id (q ∷ [], c) (word_place o) (λ _. (v + 1) * version_unit)
     (λ _. stepped_on (step slots (word_place o) ((v + 1) * version_unit) 0 none) (q ∷ [], c) ((v + 1) * version_unit))) seated.0
     (left_writing_at slots id o v x q c seated.1 (left_inside (trace_in q.plan) q.thread q.position x o Writing seated.1 ask.asks) ask.asks
-    (own_has (trace_in q.plan) q.thread q.position x seated.1 ask.has) told)
+    (own_has (trace_in q.plan) q.thread q.position x seated.1 ask.has) emitted)
 
 pub get_allows : (k : Plan) (slots id o i : ℕ) (x : thread.State) (me : M) → IsSeated k me.0 x → IsAsking (trace_in k) x (Get o i)
     → Allows (Woven k) slots id me (content_place o i) (λ n. n) (stepped_on (step slots (content_place o i) 0 0 none) me)
@@ -187,21 +187,21 @@ abbrev pub any_step : TableStep (Unit {0})
 any_step = step 0 0 0 0 none
 
 -- of a step on an object
-pub record WasTold (k : Plan) (x : thread.State) (me w : M) (n : ℕ) : Type 0 where
+pub record WasEmitted (k : Plan) (x : thread.State) (me w : M) (n : ℕ) : Type 0 where
   pub view : ◌≡◌ {A = M} w (view_at k x (suc x.steps) false, me.1)
   pub answers : Answers (trace_in k) x.number x.steps n
 
-pub step_told : (k : Plan) (x : thread.State) (asked : Ask) (me w : M) (n : ℕ) → IsSeated k me.0 x
-    → ask_of (trace_in k).guest.code x ≡ asked → (IsAlone asked → ⊥) → stepped_on any_step me n w → WasTold k x me w n
-step_told k x asked ([], c) w n seated is touches told = absurd seated
-step_told k x asked (q ∷ r ∷ qs, c) w n seated is touches told = absurd seated
-step_told k x asked (q ∷ [], c) w n seated is touches told =
+pub step_emitted : (k : Plan) (x : thread.State) (asked : Ask) (me w : M) (n : ℕ) → IsSeated k me.0 x
+    → ask_of (trace_in k).guest.code x ≡ asked → (IsAlone asked → ⊥) → stepped_on any_step me n w → WasEmitted k x me w n
+step_emitted k x asked ([], c) w n seated is touches emitted = absurd seated
+step_emitted k x asked (q ∷ r ∷ qs, c) w n seated is touches emitted = absurd seated
+step_emitted k x asked (q ∷ [], c) w n seated is touches emitted =
     let f : FittedTrace = trace_in q.plan in
     let ask : ask_of f.guest.code x ≡ asked = there k q (λ f. ask_of f.guest.code x ≡ asked) seated.0 is in
-    let here : told.0 ≡ x.steps = one_next f q.thread q.position told.0 x.steps seated.1.run told.1
+    let here : emitted.0 ≡ x.steps = one_next f q.thread q.position emitted.0 x.steps seated.1.run emitted.1
     (touches_next f q.thread q.position x asked seated.1 ask touches) in record {
-      view = told.2 ∙ (λ i. (same_view k q x (suc told.0) (suc x.steps) false seated.0 seated.1.number (ap suc here) i, c));
-      answers = subst (λ (z : Plan × ℕ × ℕ). Answers (trace_in z.0) z.1 z.2 n) (λ i. (seated.0 i, sym seated.1.number i, here i)) told.3;
+      view = emitted.2 ∙ (λ i. (same_view k q x (suc emitted.0) (suc x.steps) false seated.0 seated.1.number (ap suc here) i, c));
+      answers = subst (λ (z : Plan × ℕ × ℕ). Answers (trace_in z.0) z.1 z.2 n) (λ i. (seated.0 i, sym seated.1.number i, here i)) emitted.3;
     }
 
 -- of a load before an entry
@@ -209,27 +209,27 @@ pub record WasShown (k : Plan) (x : thread.State) (e : Event) (me w : M) (n : �
   pub opened : Opens n e → ◌≡◌ {A = M} w (view_at k x x.steps true, me.1)
   pub shut : (Opens n e → ⊥) → (◌≡◌ {A = M} w (view_at k x x.steps false, me.1)) × WasStopped k x.number x.steps
 
-pub look_told : (k : Plan) (x : thread.State) (o : ℕ) (a : Access) (e : Event) (me w : M) (n : ℕ) → IsSeated k me.0 x
+pub look_emitted : (k : Plan) (x : thread.State) (o : ℕ) (a : Access) (e : Event) (me w : M) (n : ℕ) → IsSeated k me.0 x
     → IsEntering (trace_in k) x o a e → looked any_step me n w → WasShown k x e me w n
-look_told k x o a e ([], c) w n seated entering told = absurd seated
-look_told k x o a e (q ∷ r ∷ qs, c) w n seated entering told = absurd seated
-look_told k x o a e (q ∷ [], c) w n seated entering told =
+look_emitted k x o a e ([], c) w n seated entering emitted = absurd seated
+look_emitted k x o a e (q ∷ r ∷ qs, c) w n seated entering emitted = absurd seated
+look_emitted k x o a e (q ∷ [], c) w n seated entering emitted =
     let f : FittedTrace = trace_in q.plan in
     let ent : IsEntering f x o a e = there k q (λ f. IsEntering f x o a e) seated.0 entering in
-    let here : told.0 ≡ x.steps = one_next f q.thread q.position told.0 x.steps seated.1.run told.2
+    let here : emitted.0 ≡ x.steps = one_next f q.thread q.position emitted.0 x.steps seated.1.run emitted.2
     (touches_next f q.thread q.position x (Enter o a) seated.1 ent.asking.asks (λ b. b)) in
-    let event : told.1 ≡ e =
-    same_event (recorded_thread f.recorded q.thread).events (thread_at f seated.1.run.run q.thread told.0).events told.1 e
-    (told.3 seated.1.run.run seated.1.run.whole)
+    let event : emitted.1 ≡ e =
+    same_event (recorded_thread f.recorded q.thread).events (thread_at f seated.1.run.run q.thread emitted.0).events emitted.1 e
+    (emitted.3 seated.1.run.run seated.1.run.whole)
     (ap (λ i. slice_get (recorded_thread f.recorded q.thread).events (thread_at f seated.1.run.run q.thread i).events) here
     ∙ ap (λ (z : thread.State). slice_get (recorded_thread f.recorded q.thread).events z.events)
     (sym (seated.1.at seated.1.run.run seated.1.run.whole).1)
     ∙ subst (λ t. slice_get (recorded_thread f.recorded t).events x.events ≡ Some e) seated.1.number ent.event) in record {
-      opened = λ on. told.4 (subst (Opens n) (sym event) on)
-          ∙ (λ i. (same_view k q x told.0 x.steps true seated.0 seated.1.number here i, c));
+      opened = λ on. emitted.4 (subst (Opens n) (sym event) on)
+          ∙ (λ i. (same_view k q x emitted.0 x.steps true seated.0 seated.1.number here i, c));
       shut = λ off.
-          let z = told.5 (λ on. off (subst (Opens n) event on)) in (
-            z.0 ∙ (λ i. (same_view k q x told.0 x.steps false seated.0 seated.1.number here i, c)),
+          let z = emitted.5 (λ on. off (subst (Opens n) event on)) in (
+            z.0 ∙ (λ i. (same_view k q x emitted.0 x.steps false seated.0 seated.1.number here i, c)),
             subst (λ (z : Plan × ℕ × ℕ). WasStopped z.0 z.1 z.2) (λ i. (seated.0 i, sym seated.1.number i, here i)) z.1,
           );
     }
@@ -241,25 +241,25 @@ look_told k x o a e (q ∷ [], c) w n seated entering told =
 pub record WasSeen (k : Plan) (x : thread.State) (o : ℕ) (me w : M) (n : ℕ) : Type 0 where
   pub view : ◌≡◌ {A = M} w me
   pub small : n < 2 ^ 63
-  pub version : EachRun (trace_in k) (λ run. Tells (machine_of (trace_in k)) (start_of (trace_in k)) run x.number x.steps
+  pub version : EachRun (trace_in k) (λ run. Emits (machine_of (trace_in k)) (start_of (trace_in k)) run x.number x.steps
       (Out o Writing (n / version_unit)))
 
-pub version_told : (k : Plan) (o : ℕ) (x : thread.State) (me w : M) (n : ℕ) → IsSeated k me.0 x → IsAsking (trace_in k) x (Leave o Writing)
+pub version_emitted : (k : Plan) (o : ℕ) (x : thread.State) (me w : M) (n : ℕ) → IsSeated k me.0 x → IsAsking (trace_in k) x (Leave o Writing)
     → read_version (step 0 (word_place o) 0 0 none) me n w → WasSeen k x o me w n
-version_told k o x ([], c) w n seated asking told = absurd seated
-version_told k o x (q ∷ r ∷ qs, c) w n seated asking told = absurd seated
-version_told k o x (q ∷ [], c) w n seated asking told =
+version_emitted k o x ([], c) w n seated asking emitted = absurd seated
+version_emitted k o x (q ∷ r ∷ qs, c) w n seated asking emitted = absurd seated
+version_emitted k o x (q ∷ [], c) w n seated asking emitted =
     let f : FittedTrace = trace_in q.plan in
     let ask : IsAsking f x (Leave o Writing) = there k q (λ f. IsAsking f x (Leave o Writing)) seated.0 asking in
-    let here : told.0 ≡ x.steps = one_next f q.thread q.position told.0 x.steps seated.1.run told.1
+    let here : emitted.0 ≡ x.steps = one_next f q.thread q.position emitted.0 x.steps seated.1.run emitted.1
     (touches_next f q.thread q.position x (Leave o Writing) seated.1 ask.asks (λ b. b)) in
-    let all : EachRun f (λ run. Tells (machine_of f) (start_of f) run q.thread told.0 (Out o Writing (n / version_unit))) =
-    λ run of. told.4 run of o refl (ap (ask_at f run q.thread) here ∙ ap (ask_of f.guest.code) (sym (seated.1.at run of).1)
+    let all : EachRun f (λ run. Emits (machine_of f) (start_of f) run q.thread emitted.0 (Out o Writing (n / version_unit))) =
+    λ run of. emitted.4 run of o refl (ap (ask_at f run q.thread) here ∙ ap (ask_of f.guest.code) (sym (seated.1.at run of).1)
     ∙ ask.asks) in record {
-      view = told.2;
-      small = told.3;
+      view = emitted.2;
+      small = emitted.3;
       version = subst (λ (z : Plan × ℕ × ℕ). EachRun (trace_in z.0)
-          (λ run. Tells (machine_of (trace_in z.0)) (start_of (trace_in z.0)) run z.1 z.2 (Out o Writing (n / version_unit))))
+          (λ run. Emits (machine_of (trace_in z.0)) (start_of (trace_in z.0)) run z.1 z.2 (Out o Writing (n / version_unit))))
           (λ i. (seated.0 i, sym seated.1.number i, here i)) all;
     }
 
@@ -346,15 +346,15 @@ pub test_false : (b : Bool) (P : Type 0) → IsTrue b ↔ P → b ≡ false → 
 test_false b P h e p = true≢false (sym (h.1 p) ∙ e)
 
 -- after the second
-pub entered_then : (k : Plan) (x : thread.State) (e : Event) (me w u : M) (n m : ℕ) → WasShown k x e me w n → Opens n e → WasTold k x w u m
+pub entered_then : (k : Plan) (x : thread.State) (e : Event) (me w u : M) (n m : ℕ) → WasShown k x e me w n → Opens n e → WasEmitted k x w u m
     → ◌≡◌ {A = M} u (view_at k x (suc x.steps) false, me.1)
-entered_then k x e me w u n m shown on told = told.view ∙ (λ i. (view_at k x (suc x.steps) false, (shown.opened on i).1))
+entered_then k x e me w u n m shown on emitted = emitted.view ∙ (λ i. (view_at k x (suc x.steps) false, (shown.opened on i).1))
 
 -- ---- a writer's leave in two steps
 
 pub seated_still : (k : Plan) (x : thread.State) (o : ℕ) (me w : M) (n : ℕ) → IsSeated k me.0 x → WasSeen k x o me w n → IsSeated k w.0 x
 seated_still k x o me w n seated seen = subst (λ (z : M). IsSeated k z.0 x) (sym seen.view) seated
 
-pub left_then : (k : Plan) (x : thread.State) (o : ℕ) (me w u : M) (n m : ℕ) → WasSeen k x o me w n → WasTold k x w u m
+pub left_then : (k : Plan) (x : thread.State) (o : ℕ) (me w u : M) (n m : ℕ) → WasSeen k x o me w n → WasEmitted k x w u m
     → ◌≡◌ {A = M} u (view_at k x (suc x.steps) false, me.1)
-left_then k x o me w u n m seen told = told.view ∙ (λ i. (view_at k x (suc x.steps) false, (seen.view i).1))
+left_then k x o me w u n m seen emitted = emitted.view ∙ (λ i. (view_at k x (suc x.steps) false, (seen.view i).1))

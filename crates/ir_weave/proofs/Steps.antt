@@ -14,13 +14,13 @@ use Rattle.ir_thread.specs.declared.ask.Ask.TheVariants.{Private, Env, Enter, Le
 use Rattle.ir_runs.specs.declared.env_kind.EnvKind.{EnvKind}
 use Rattle.ir_thread.specs.declared.ask.Reply.{Reply}
 use Rattle.ir_thread.specs.declared.ask.Reply.TheVariants.{Go, Value}
-use Rattle.ir_runs.specs.Object.{Object, told}
+use Rattle.ir_runs.specs.Object.{Object, emitted}
 use Rattle.ir_runs.specs.Run.{Step, count}
 use Rattle.ir_flat.proofs.CallerLemmas.{added}
 use Rattle.ir_log.specs.Logging.{label_of, Suits}
 use Rattle.ir_log.specs.declared.event.Event.{Event}
 use Rattle.ir_log.specs.declared.event.Event.TheVariants.{Answer as Answered, Read, Write}
-use Rattle.ir_trace.specs.Told.{recorded_thread}
+use Rattle.ir_trace.specs.TraceOf.{recorded_thread}
 use Rattle.ir_fit.specs.Fit.{FittedTrace, IsRunOf}
 use Rattle.ir_cut.specs.Positions.{machine_of, start_of, cut_of, IsConsistentCut}
 use Rattle.ir_weave.specs.Ahead.{IsAlone, HasStep, IsAhead, IsAsking, IsEntering, thread_at, ask_at}
@@ -117,7 +117,7 @@ get_takes k v x o i n seated asking answers = record {
 
 -- ---- the next event
 
-suits_by : (q : Ask) (e : Event) (r : ℕ) (b : Object) → label_of e ≡ told (act_of (shared_ask q) r) b → added q ≡ 1 → Suits q e
+suits_by : (q : Ask) (e : Event) (r : ℕ) (b : Object) → label_of e ≡ emitted (act_of (shared_ask q) r) b → added q ≡ 1 → Suits q e
 suits_by (Env k) (Answered j v) r b h one = let same : j ≡ k = cc h in ap Env same
 suits_by (Env k) (Read o v) r b h one = absurd (cc h)
 suits_by (Env k) (Write o v l) r b h one = absurd (cc h)
@@ -149,7 +149,7 @@ event_suits k v x q seated asking one =
     step_at (machine_of f) (start_of f) run of.1.runs x.number x.steps (label_of found.0) found.2 in (
       found.0,
       ap (λ (y : thread.State). slice_get (recorded_thread f.recorded x.number).events y.events) (ahead.at run of).1 ∙ found.1,
-      suits_by q found.0 z.result z.object (z.tells ∙ ap (λ a. told (act_of (shared_ask a) z.result) z.object) asks) one,
+      suits_by q found.0 z.result z.object (z.emits ∙ ap (λ a. emitted (act_of (shared_ask a) z.result) z.object) asks) one,
     )
 
 -- so that it is never missing

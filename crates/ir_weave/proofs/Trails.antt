@@ -1,4 +1,4 @@
--- What a step of a thread in a run tells, and the thread after it, by the thread before it.
+-- What a step of a thread in a run emits, and the thread after it, by the thread before it.
 use Rattle.std.proofs.Common.{◌≡◌, ◌≢◌, ℕ, suc, zero, List, [], ◌∷◌, refl, sym, ap, ◌∙◌, subst, inl, inr, eq-eqb, ne_eqb}
 use Rattle.std.proofs.lemmas.Bool.{cases_eq}
 use Rattle.ir_runs.specs.Machine.{Machine, Ask, act_of, upd}
@@ -6,16 +6,16 @@ use Rattle.ir_runs.specs.Machine as machine
 use Rattle.ir_runs.specs.Labels.{Label, Quiet, Answer, In, Refused, Out}
 use Rattle.ir_runs.specs.declared.access.Access.{Access}
 use Rattle.ir_runs.specs.declared.access.Access.TheVariants.{Reading, Writing}
-use Rattle.ir_runs.specs.Object.{Object, target, reply, told, Admits}
+use Rattle.ir_runs.specs.Object.{Object, target, reply, emitted, Admits}
 use Rattle.ir_runs.proofs.CallerLemmas.{upd_same, now_other}
 use Rattle.ir_runs.specs.Run.{State, Step, act, Can, IsRun, after, label, end, join_if, trail, thread_in, th}
-use Rattle.ir_runs.specs.Cuts.{At, Tells, Needs}
+use Rattle.ir_runs.specs.Cuts.{At, Emits, Needs}
 
 pub record StepOf {T : Type 0} (m : Machine T) (x y : T) (a : Label) : Type 0 where
   pub result : ℕ
   pub object : Object
   pub can : Admits m (act_of (m.ask x) result) object
-  pub tells : a ≡ told (act_of (m.ask x) result) object
+  pub emits : a ≡ emitted (act_of (m.ask x) result) object
   pub next : y ≡ m.take x (reply (act_of (m.ask x) result) object)
 
 -- the thread that steps
@@ -45,12 +45,12 @@ first_or m s e run t zero a x can later same at =
       result = e.1;
       object = s.objects (target (act m s e));
       can = can;
-      tells = sym (ap (λ z. z.1) at);
+      emits = sym (ap (λ z. z.1) at);
       next = first_thread m (after m s e) run e.0 ∙ now_same m s e;
     })
 first_or m s e run t (suc k) a x can later same at = later k at
 
-pub step_at : {T : Type 0} (m : Machine T) (s : State T) (run : List Step) → IsRun m s run → (t k : ℕ) (a : Label) → Tells m s run t k a
+pub step_at : {T : Type 0} (m : Machine T) (s : State T) (run : List Step) → IsRun m s run → (t k : ℕ) (a : Label) → Emits m s run t k a
     → StepOf m (th m s run t k) (th m s run t (suc k)) a
 step_at m s [] ok t k a h = absurd h.1
 step_at m s (e ∷ run) ok t k a h = elim (cases_eq t e.0) [
@@ -68,8 +68,8 @@ step_at m s (e ∷ run) ok t k a h = elim (cases_eq t e.0) [
 
 -- what isn't an entry needs nothing
 pub needs_none : (b : Label) (q : Ask) (r : ℕ) (x : Object) → ((o : ℕ) (a : Access) → q ≢ machine.Enter o a) → ((o : ℕ) → q ≢ machine.Try o)
-    → Needs b (told (act_of q r) x) → ⊥
-needs_none b q r x ne nt n = none b (told (act_of q r) x) (quiet q r x ne nt) n
+    → Needs b (emitted (act_of q r) x) → ⊥
+needs_none b q r x ne nt n = none b (emitted (act_of q r) x) (quiet q r x ne nt) n
   where
     NotIn : Label → Type 0
     NotIn Quiet = Unit {0}
@@ -79,7 +79,7 @@ needs_none b q r x ne nt n = none b (told (act_of q r) x) (quiet q r x ne nt) n
     NotIn (Out o a v) = Unit {0}
 
     quiet : (q : Ask) (r : ℕ) (x : Object) → ((o : ℕ) (a : Access) → q ≢ machine.Enter o a) → ((o : ℕ) → q ≢ machine.Try o)
-        → NotIn (told (act_of q r) x)
+        → NotIn (emitted (act_of q r) x)
     quiet machine.Private r x ne nt = tt
     quiet (machine.Env k) r x ne nt = tt
     quiet (machine.Enter o a) r x ne nt = absurd (ne o a refl)

@@ -9,7 +9,7 @@ use Rattle.ir_runs.specs.declared.access.Access.{Access}
 use Rattle.ir_runs.specs.Run.{Step, count, th}
 use Rattle.ir_log.specs.Logging.{Suits}
 use Rattle.ir_log.specs.declared.event.Event.{Event}
-use Rattle.ir_trace.specs.Told.{recorded_thread}
+use Rattle.ir_trace.specs.TraceOf.{recorded_thread}
 use Rattle.ir_fit.specs.Fit.{FittedTrace, HasRun}
 use Rattle.ir_cut.specs.Positions.{machine_of, start_of, EachRun}
 
@@ -63,7 +63,7 @@ pub record IsAsking (f : FittedTrace) (x : thread.State) (q : Ask) : Type 0 wher
   pub asks : ask_of f.guest.code x ≡ q
   pub has : HasStep f x.number x.steps
 
--- it is an entry, and this is the next event that the trace tells of the thread
+-- it is an entry, and this is the next event that the trace emits of the thread
 pub record IsEntering (f : FittedTrace) (x : thread.State) (o : ℕ) (a : Access) (e : Event) : Type 0 where
   pub asking : IsAsking f x (ask.Enter o a)
   pub event : slice_get (recorded_thread f.recorded x.number).events x.events ≡ Some e

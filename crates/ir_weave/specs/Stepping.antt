@@ -12,7 +12,7 @@ use Rattle.ir_runs.specs.Following.{unlogged}
 use Rattle.ir_cut.specs.Positions.{machine_of, start_of, cut_of, EachRun, IsConsistentCut}
 use Rattle.ir_weave.specs.States.{IsStateAt, positions}
 
--- thread t can take its next step now with this result, and logs by it what the trace tells next
+-- thread t can take its next step now with this result, and logs by it what the trace emits next
 abbrev pub LogsNext : Recorded → Flat → ℕ → ℕ → Type 0
 LogsNext r s t v = Can (machine s) (tables s) (t, v)
     × (logged (label (machine s) (tables s) (t, v)) (unlogged (label (machine s) (tables s) (t, v)) (log_ahead r s t)) ≡ log_ahead r s t)

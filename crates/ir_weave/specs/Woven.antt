@@ -16,9 +16,9 @@ use Rattle.ir_object.specs.Cell.{Cell}
 use Rattle.ir_object.specs.Word.{version_unit, fields_of, word_of}
 use Rattle.ir_flat.specs.Flat.{Flat, IsFlat}
 use Rattle.ir_log.specs.declared.event.Event.{Event}
-use Rattle.ir_trace.specs.Told.{recorded_thread}
+use Rattle.ir_trace.specs.TraceOf.{recorded_thread}
 use Rattle.ir_fit.specs.Ahead.{IsOpen}
-use Rattle.ir_runs.specs.Cuts.{Cut, IsCut, Consistent, Admitted, Tells}
+use Rattle.ir_runs.specs.Cuts.{Cut, IsCut, Consistent, Admitted, Emits}
 use Rattle.ir_fit.specs.Fit.{FittedTrace, HasRun}
 use Rattle.ir_cut.specs.Positions.{machine_of, start_of, EachRun}
 use Rattle.ir_weave.specs.Ahead.{thread_at, ask_at, IsNextObject, IsAhead}
@@ -90,7 +90,7 @@ pub record WasStopped (k : Plan) (t i : ℕ) : Type 0 where
   pub here : cut t ≡ i
   pub stopped : EachRun (trace_in k) (λ run. Admitted (machine_of (trace_in k)) (start_of (trace_in k)) run cut t → ⊥)
 
--- the next event that the trace tells of thread t after k of its steps
+-- the next event that the trace emits of thread t after k of its steps
 abbrev pub IsEventAt : FittedTrace → ℕ → ℕ → Event → Type 0
 IsEventAt f t k e = EachRun f (λ run. slice_get (recorded_thread f.recorded t).events (thread_at f run t k).events ≡ Some e)
 
@@ -106,9 +106,9 @@ Answers f t k n = EachRun f (λ run. (o i : ℕ) → ask_at f run t k ≡ ask.Ge
 -- where step k of thread t is a writer's leave of the object with this word, this is the version that it leaves
 abbrev pub Leaves : FittedTrace → ℕ → ℕ → ℕ → ℕ → Type 0
 Leaves f t k word v = EachRun f (λ run. (o : ℕ) → word ≡ word_place o → ask_at f run t k ≡ ask.Leave o Writing
-    → Tells (machine_of f) (start_of f) run t k (Out o Writing v))
+    → Emits (machine_of f) (start_of f) run t k (Out o Writing v))
 
--- what a load before an entry tells: the position is that of the entry; the thread is granted it where the word is open to its event, and
+-- what a load before an entry emits: the position is that of the entry; the thread is granted it where the word is open to its event, and
 -- else it wasn't admitted
 abbrev pub looked : Step (Unit {0}) → M → ℕ → M → Type 0
 looked s ([], c) n w = ⊥
@@ -118,14 +118,14 @@ looked s (q ∷ [], c) n w = (i : ℕ) × (e : Event) × IsNextObject (trace_in 
     × (Opens n e → w ≡ (progress q.plan q.thread i true ∷ [], c))
     × ((Opens n e → ⊥) → (w ≡ (progress q.plan q.thread i false ∷ [], c)) × WasStopped q.plan q.thread i)
 
--- what a step on an object tells: it is the thread's next such, and what was found where it is a load
+-- what a step on an object emits: it is the thread's next such, and what was found where it is a load
 abbrev pub stepped_on : Step (Unit {0}) → M → ℕ → M → Type 0
 stepped_on s ([], c) n w = ⊥
 stepped_on s (q ∷ r ∷ qs, c) n w = ⊥
 stepped_on s (q ∷ [], c) n w = (i : ℕ) × IsNextObject (trace_in q.plan) q.thread q.position i
     × (w ≡ (progress q.plan q.thread (suc i) false ∷ [], c)) × Answers (trace_in q.plan) q.thread i n
 
--- what a load before a writer's leave tells: the version that is left
+-- what a load before a writer's leave emits: the version that is left
 abbrev pub read_version : Step (Unit {0}) → M → ℕ → M → Type 0
 read_version s ([], c) n w = ⊥
 read_version s (q ∷ r ∷ qs, c) n w = ⊥

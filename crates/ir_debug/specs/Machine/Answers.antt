@@ -1,20 +1,22 @@
 -- What the small machine answers, and what it holds after the answer.
-use Rattle.std.specs.Prelude.{◌≡◌, ◌⊎◌, ℕ, Bool, true, false, List, [], ◌++◌, codes, Option, Some, None, Result, Ok, Err}
+use Rattle.std.specs.Prelude.{◌≡◌, ◌⊎◌, ◌+◌, ℕ, Bool, true, false, List, [], ◌++◌, codes, Option, Some, None, Result, Ok, Err}
 use Rattle.ir_runs.specs.Run.{Step}
 use Rattle.ir_fit.specs.Fit.{FittedTrace}
 use Rattle.ir_cut.specs.Positions.{EachRun, cut_of}
 use Rattle.ir_command.specs.Commands.{command_of}
 use Rattle.ir_command.specs.declared.command.Command.{Command}
-use Rattle.ir_command.specs.declared.command.Command.TheVariants.{Move, Position, Show, Quit}
+use Rattle.ir_command.specs.declared.command.Command.TheVariants.{Move, Position, Show, Keeping, Quit}
 use Rattle.ir_command.specs.declared.command.Move as command
+use Rattle.ir_command.specs.declared.command.Keeping as keeping
+use Rattle.ir_command.specs.declared.command.Keeping.TheVariants.{Keep, Load, Drop, Kept}
 use Rattle.ir_command.specs.declared.refusal.Refusal.{Refusal}
 use Rattle.ir_command.specs.declared.refusal.Refusal.TheVariants.{NoMemory}
 use Rattle.ir_debug.specs.Answers.{refusal_text}
-use Rattle.ir_debug.specs.Machine.Desk.{Desk, last_of, spoken, moved}
+use Rattle.ir_debug.specs.Machine.Desk.{Desk, last_of, spoken, moved, kept_cut, with_kept, without_kept}
 use Rattle.ir_debug.specs.Machine.Refusals.{thread_moved, refusal_of, may_lack}
 use Rattle.ir_debug.specs.Machine.Moves.{Leads}
 use Rattle.ir_debug.specs.Machine.Shown.{shown}
-use Rattle.ir_debug.specs.Machine.Texts.{positions_text, stop_text}
+use Rattle.ir_debug.specs.Machine.Texts.{number_line, positions_text, stop_text, kept_text}
 
 -- where the thread that a move names has stopped
 abbrev pub stopped_text : FittedTrace → Option ℕ → List ℕ → List ℕ
@@ -29,11 +31,19 @@ moved_text f move to = positions_text to ++ stopped_text f (thread_moved move) t
 abbrev pub Gives : List ℕ → Desk → List ℕ → Desk → Type 0
 Gives answer after text next = (text ≡ answer) × (next ≡ after)
 
+-- a command about kept cuts that isn't refused is answered so
+abbrev pub Keeps : Desk → keeping.Keeping → List ℕ → Desk → Type 0
+Keeps d Keep text next = Gives (number_line (codes "kept ") (d.last_kept + 1)) (with_kept d) text next
+Keeps d (Load n) text next = (to : List ℕ) × (kept_cut d.kept n ≡ Some to) × Gives (positions_text to ++ codes "\n") (moved d to) text next
+Keeps d (Drop n) text next = Gives (number_line (codes "dropped ") n) (without_kept d n) text next
+Keeps d Kept text next = Gives (kept_text d.kept) (spoken d) text next
+
 -- a command that isn't refused is answered so
 abbrev pub CarriesOut : List Step → Desk → Command → List ℕ → Desk → Type 0
-CarriesOut run d (Move move) text next = (to : List ℕ) × Leads run d move to × Gives (moved_text d.fitted move to) (moved d to) text next
+CarriesOut run d (Move move) text next = (to : List ℕ) × Leads run d.fitted d.at move to × Gives (moved_text d.fitted move to) (moved d to) text next
 CarriesOut run d Position text next = Gives (positions_text d.at ++ codes "\n") (spoken d) text next
 CarriesOut run d (Show show) text next = Gives (shown run d show) (spoken d) text next
+CarriesOut run d (Keeping keeping) text next = Keeps d keeping text next
 CarriesOut run d Quit text next = Gives (codes "bye\n") (spoken d) text next
 
 -- a refusal, after which the machine stands where it stood

@@ -1,10 +1,16 @@
 -- What the small machine holds beside the run.
-use Rattle.std.specs.Prelude.{◌≡◌, ℕ, zero, suc, ◌+◌, Bool, true, false, List, [], ◌∷◌, length, replicate}
+use Rattle.std.specs.Prelude.{◌≡◌, ◌≤◌, ◌==◌, ℕ, zero, suc, ◌+◌, not, Bool, true, false, List, [], ◌∷◌, ◌++◌, length, replicate, find, Option, option_map}
+use Rattle.std.specs.List.{filter, AllByRecursion}
 use Rattle.ir_runs.specs.Run.{Step, th}
 use Rattle.ir_thread.specs.State as thread
-use Rattle.ir_trace.specs.Told.{recorded_thread}
+use Rattle.ir_trace.specs.TraceOf.{recorded_thread}
 use Rattle.ir_fit.specs.Fit.{FittedTrace, HasRun}
 use Rattle.ir_cut.specs.Positions.{IsConsistentCut, machine_of, start_of, cut_of}
+
+-- a kept cut, and the number by which it is asked for
+pub record Kept : Type 0 where
+  pub number : ℕ
+  pub cut : List ℕ
 
 pub record Desk : Type 0 where
   -- the guest and its trace, of which there is a run
@@ -13,6 +19,10 @@ pub record Desk : Type 0 where
   pub at : List ℕ
   -- whether it has given no answer yet, or its last was a move's
   pub fresh : Bool
+  -- the kept cuts, the last number given to one at the end
+  pub kept : List Kept
+  -- that number, or 0
+  pub last_kept : ℕ
 
 -- how many threads the guest has
 abbrev pub threads_of : FittedTrace → ℕ
@@ -35,9 +45,16 @@ last_positions f from (suc n) = last_of f from ∷ last_positions f (from + 1) n
 abbrev pub last_cut : FittedTrace → List ℕ
 last_cut f = last_positions f 0 (threads_of f)
 
--- at the start
+-- at the start, which is kept as 0
 abbrev pub desk_of : FittedTrace → Desk
-desk_of f = record { fitted = f; at = first_cut f; fresh = true }
+desk_of f = record {
+  fitted = f;
+  at = first_cut f;
+  fresh = true;
+  kept =
+      record { number = 0; cut = first_cut f } ∷ [];
+  last_kept = 0;
+}
 
 -- after a move to this cut
 abbrev pub moved : Desk → List ℕ → Desk
@@ -47,6 +64,26 @@ moved d at = record d { at = at; fresh = true }
 abbrev pub spoken : Desk → Desk
 spoken d = record d { fresh = false }
 
+-- the kept cut of a number
+abbrev pub kept_cut : List Kept → ℕ → Option (List ℕ)
+kept_cut kept n = option_map (λ k. k.cut) (find (λ k. k.number == n) kept)
+
+-- all kept cuts but that of a number
+abbrev pub without : List Kept → ℕ → List Kept
+without kept n = filter (λ k. not (k.number == n)) kept
+
+-- the machine's cut is kept too, by the next number
+abbrev pub with_kept : Desk → Desk
+with_kept d = record (spoken d) { kept = d.kept ++ record { number = d.last_kept + 1; cut = d.at } ∷ []; last_kept = d.last_kept + 1 }
+
+-- one is kept no longer
+abbrev pub without_kept : Desk → ℕ → Desk
+without_kept d n = record (spoken d) { kept = without d.kept n }
+
+-- the most that are kept beside the start
+abbrev pub most_kept : ℕ
+most_kept = 64
+
 -- the position of a thread
 abbrev pub position_of : Desk → ℕ → ℕ
 position_of d t = cut_of d.at t
@@ -55,8 +92,18 @@ position_of d t = cut_of d.at t
 abbrev pub thread_at : FittedTrace → List Step → ℕ → ℕ → thread.State
 thread_at f run t k = th (machine_of f) (start_of f) run t k
 
+-- a consistent cut of the guest's threads
+abbrev pub Cuts : FittedTrace → List ℕ → Type 0
+Cuts f c = (length c ≡ threads_of f) × IsConsistentCut f c
+
+-- all kept cuts are such
+abbrev pub AllKept : FittedTrace → List Kept → Type 0
+AllKept f kept = AllByRecursion (λ k. Cuts f k.cut) kept
+
 -- what the machine always holds
 pub record IsDesk (d : Desk) : Type 0 where
   pub run : HasRun d.fitted
   pub size : length d.at ≡ threads_of d.fitted
   pub at : IsConsistentCut d.fitted d.at
+  pub kept : AllKept d.fitted d.kept
+  pub few : length d.kept ≤ most_kept + 1

@@ -1,5 +1,5 @@
 -- What is refused, whatever the run: the first reason in the order of the tests.
-use Rattle.std.specs.Prelude.{◌&&◌, ◌||◌, ℕ, ◌+◌, ◌*◌, not, nat_le, nat_lt, Bool, true, false, length, Option, Some, None, if◌then◌else◌}
+use Rattle.std.specs.Prelude.{◌&&◌, ◌||◌, ◌==◌, ℕ, ◌+◌, ◌*◌, not, nat_le, nat_lt, Bool, true, false, List, length, Option, Some, None, is_some, if◌then◌else◌}
 use Rattle.ir_image.specs.Guest.{Guest, code_start, object_count}
 use Rattle.ir_mach.specs.Memory.{lies_in_memory}
 use Rattle.ir_command.specs.declared.command.Command.{Command}
@@ -8,9 +8,12 @@ use Rattle.ir_command.specs.declared.command.Move.{Move}
 use Rattle.ir_command.specs.declared.command.Move.TheVariants.{Step, Back, Goto, Start, End}
 use Rattle.ir_command.specs.declared.command.Show.{Show}
 use Rattle.ir_command.specs.declared.command.Show.TheVariants.{Registers, Memory, Object, Output, Log, Next}
+use Rattle.ir_command.specs.declared.command.Keeping.{Keeping}
+use Rattle.ir_command.specs.declared.command.Keeping.TheVariants.{Keep, Load, Drop, Kept}
 use Rattle.ir_command.specs.declared.refusal.Refusal.{Refusal}
-use Rattle.ir_command.specs.declared.refusal.Refusal.TheVariants.{NoSuchThread, NoSuchObject, BadAddress}
-use Rattle.ir_debug.specs.Machine.Desk.{Desk, threads_of}
+use Rattle.ir_command.specs.declared.refusal.Refusal.TheVariants.{NoSuchThread, NoSuchObject, NoSuchNumber, BadAddress, Full}
+use Rattle.ir_debug.specs.Machine.Desk.{Desk, threads_of, kept_cut, most_kept}
+use Rattle.ir_debug.specs.Machine.Desk as desk
 
 -- a test of what is named, if anything is
 abbrev pub if_some : Option ℕ → (ℕ → Bool) → Bool
@@ -39,6 +42,7 @@ thread_shown (Next thread) = Some thread
 abbrev pub thread_named : Command → Option ℕ
 thread_named (command.Move move) = thread_moved move
 thread_named (command.Show show) = thread_shown show
+thread_named (command.Keeping keeping) = None
 thread_named command.Position = None
 thread_named command.Quit = None
 
@@ -47,6 +51,17 @@ object_named (command.Show (Object object)) = Some object
 object_named c = None
 
 -- ---- the tests
+
+-- a cut is kept by the number; the start isn't dropped
+abbrev pub has_number : List desk.Kept → Command → Bool
+has_number kept (command.Keeping (Load n)) = is_some (kept_cut kept n)
+has_number kept (command.Keeping (Drop n)) = not (n == 0) && is_some (kept_cut kept n)
+has_number kept c = true
+
+-- there is place for one more
+abbrev pub has_place : List desk.Kept → Command → Bool
+has_place kept (command.Keeping Keep) = nat_lt (length kept) (most_kept + 1)
+has_place kept c = true
 
 -- so many bytes from an address on lie in the code
 abbrev pub lies_in_code : Guest → ℕ → ℕ → Bool
@@ -62,7 +77,9 @@ unfoldable pub refusal_of : Desk → Command → Option Refusal
 refusal_of d c =
     if not (if_some (thread_named c) (λ t. nat_lt t (threads_of d.fitted))) then Some NoSuchThread else
     if not (if_some (object_named c) (λ o. nat_lt o (object_count d.fitted.guest))) then Some NoSuchObject else
+    if not (has_number d.kept c) then Some NoSuchNumber else
     if not (has_address d.fitted.guest c) then Some BadAddress else
+    if not (has_place d.kept c) then Some Full else
     None
 
 -- ---- out of memory
@@ -72,9 +89,17 @@ abbrev pub is_at_hand : Show → Bool
 is_at_hand (Next thread) = false
 is_at_hand show = true
 
+-- whether it may want memory
+abbrev pub takes_memory : Keeping → Bool
+takes_memory Keep = true
+takes_memory (Load n) = true
+takes_memory (Drop n) = false
+takes_memory Kept = false
+
 -- whether a command that isn't refused otherwise may be refused for lack of memory
 abbrev pub may_lack : Desk → Command → Bool
 may_lack d (command.Move move) = true
 may_lack d (command.Show show) = not (d.fresh && is_at_hand show)
+may_lack d (command.Keeping keeping) = takes_memory keeping
 may_lack d command.Position = false
 may_lack d command.Quit = false

@@ -15,6 +15,7 @@ use Rattle.ir_thread.specs.declared.end.End.{End}
 use Rattle.ir_runs.specs.Object.{Object}
 use Rattle.ir_disasm.specs.Printed.{text_of}
 use Rattle.ir_debug.specs.Answers.{hex_word}
+use Rattle.ir_debug.specs.Machine.Desk.{Kept}
 
 -- words and a number in a line
 abbrev pub number_line : List ℕ → ℕ → List ℕ
@@ -25,6 +26,15 @@ number_line words n = words ++ decimal n ++ codes "\n"
 -- the position of each thread
 abbrev pub positions_text : List ℕ → List ℕ
 positions_text at = codes "at" ++ flat_map (λ p. codes " " ++ decimal p) at
+
+-- a kept cut: its number, and the positions
+abbrev pub kept_line : Kept → List ℕ
+kept_line k = decimal k.number ++ codes " " ++ positions_text k.cut ++ codes "\n"
+
+-- a line for each
+unfoldable pub kept_text : List Kept → List ℕ
+kept_text [] = []
+kept_text (k ∷ ks) = kept_line k ++ kept_text ks
 
 -- whether a thread is at its last position, which is given, or at 0
 abbrev pub stop_text : ℕ → ℕ → List ℕ

@@ -3,15 +3,15 @@
 ghost use Rattle.std.specs.Prelude.{◌≡◌, ◌<◌, [], length, map, IfOk};
 ghost use Rattle.ir_image.specs.Guest.{Guest};
 ghost use Rattle.ir_flat.specs.Flat.{start_flat, tables, machine};
-ghost use Rattle.ir_trace.specs.Told.{trace_of};
+ghost use Rattle.ir_trace.specs.TraceOf.{trace_of};
 ghost use Rattle.ir_fit.specs.Ahead.{IsStopped};
 ghost use Rattle.ir_fit.specs.Follower.{IsFollower, IsFollowed, IsSized};
 ghost use Rattle.ir_runs.specs.Standing.{StandsAs};
 
 use crate::follower::Follower;
+use crate::follower::growing::GrowingPlaces;
 use crate::follower::look::Look;
 use crate::follower::readiness::Readiness;
-use crate::places::Places;
 use ir_flat::Flat;
 use ir_image::Image;
 use ir_runs::ThreadVerdict;
@@ -19,12 +19,12 @@ use ir_trace::{ThreadTrace, Trace};
 use std::alloc::{AllocError, Global};
 
 // Room for the places of each thread's events.
-fn rooms(alloc: Global, told: &[ThreadTrace]) -> Result<Vec<Places>, AllocError>
-    ensures { IfOk result (λ ps. ps.items ≡ map (λ t. record { entries = []; leaves = []; room = length t.events }) told.now) }
+fn rooms(alloc: Global, emitted: &[ThreadTrace]) -> Result<Vec<GrowingPlaces>, AllocError>
+    ensures { IfOk result (λ ps. ps.items ≡ map (λ t. record { entries = []; leaves = []; room = length t.events }) emitted.now) }
 {
-    let mut places = Vec::with_capacity(alloc, told.len())?;
-    for thread in told {
-        places.push(Places::new(alloc, thread.log().events().len())?)?;
+    let mut places = Vec::with_capacity(alloc, emitted.len())?;
+    for thread in emitted {
+        places.push(GrowingPlaces::new(alloc, thread.log().events().len())?)?;
     }
     Ok(places)
 }

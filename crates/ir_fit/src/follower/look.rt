@@ -9,7 +9,7 @@ ghost use Rattle.ir_flat.specs.Flat.{thread_of, IsFlat};
 ghost use Rattle.ir_log.specs.Logging.{Suits};
 ghost use Rattle.ir_log.specs.declared.event.Event.{Event};
 ghost use Rattle.ir_trace.specs.Recorded.{IsRecordedThread};
-ghost use Rattle.ir_trace.specs.Told.{recorded_thread};
+ghost use Rattle.ir_trace.specs.TraceOf.{recorded_thread};
 ghost use Rattle.ir_fit.specs.Ahead.{steps_ahead, IsOpen, EndsSo, IsOwn, IsSeen};
 
 use crate::follower::Follower;
@@ -75,7 +75,7 @@ impl Follower<'_> {
     // The next event that the trace tells of thread t, where it is one of what the thread asks.
     fn next_event(&self, t: usize, asked: Ask) -> Result<Event, Disagree>
         requires thread { t < length self.now.flat.threads }
-        requires told { t < length self.now.trace.threads }
+        requires emitted { t < length self.now.trace.threads }
         ensures next { IfOk result (λ event. slice_get (recorded_thread self.now.trace t).events (thread_of self.now.flat t).events ≡ Some event) }
         ensures suits { IfOk result (λ event. Suits asked event) }
         ensures flat { IsFlat self.now.flat }
@@ -88,7 +88,7 @@ impl Follower<'_> {
     // Thread t, whose next step is a call of the environment.
     fn look_call(&self, t: usize, kind: EnvKind) -> Look
         requires thread { t < length self.now.flat.threads }
-        requires told { t < length self.now.trace.threads }
+        requires emitted { t < length self.now.trace.threads }
         requires asked { ask_of self.now.flat.code (thread_of self.now.flat t) ≡ ask.Env kind }
         requires steps { 0 < steps_ahead self.now.trace self.now.flat t }
         ensures { IsSeen self.now.trace self.now.flat t result }
@@ -108,7 +108,7 @@ impl Follower<'_> {
     // Thread t, whose next step is an entry.
     fn look_entry(&self, t: usize, object: u8, access: Access) -> Look
         requires thread { t < length self.now.flat.threads }
-        requires told { t < length self.now.trace.threads }
+        requires emitted { t < length self.now.trace.threads }
         requires asked { ask_of self.now.flat.code (thread_of self.now.flat t) ≡ ask.Enter object access }
         requires steps { 0 < steps_ahead self.now.trace self.now.flat t }
         ensures { IsSeen self.now.trace self.now.flat t result }
@@ -133,21 +133,21 @@ impl Follower<'_> {
     // Whether the trace has this end of thread t, which is at it.
     fn ends_so(&self, t: usize, end: End) -> bool
         requires thread { t < length self.now.flat.threads }
-        requires told { t < length self.now.trace.threads }
+        requires emitted { t < length self.now.trace.threads }
         ensures { IsTrue result ↔ EndsSo self.now.trace self.now.flat t end }
     {
         let thread = self.thread(t);
-        let told = self.told(t);
-        told.end().number() == end.number()
-            && told.end().code() == end.code()
+        let emitted = self.emitted(t);
+        emitted.end().number() == end.number()
+            && emitted.end().code() == end.code()
             && self.steps_left(t) == held_count(thread.held()) + 1
-            && told.log().events().len() <= thread.events() as usize
+            && emitted.log().events().len() <= thread.events() as usize
     }
 
     // Thread t, whose next step is its end.
     fn look_end(&self, t: usize, end: End) -> Look
         requires thread { t < length self.now.flat.threads }
-        requires told { t < length self.now.trace.threads }
+        requires emitted { t < length self.now.trace.threads }
         requires asked { ask_of self.now.flat.code (thread_of self.now.flat t) ≡ ask.End end }
         requires steps { 0 < steps_ahead self.now.trace self.now.flat t }
         ensures { IsSeen self.now.trace self.now.flat t result }
@@ -181,7 +181,7 @@ impl Follower<'_> {
     // The next step of thread t beside the trace.
     pub fn look(&self, t: usize) -> Look
         requires thread { t < length self.now.flat.threads }
-        requires told { t < length self.now.trace.threads }
+        requires emitted { t < length self.now.trace.threads }
         ensures { IsSeen self.now.trace self.now.flat t result }
     {
         let asked = self.thread(t).ask(self.flat.code());

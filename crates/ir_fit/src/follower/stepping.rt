@@ -4,7 +4,7 @@ ghost use Rattle.std.specs.Prelude.{◌≡◌, ◌<◌, ◌+◌, ◌≤◌, leng
 ghost use Rattle.ir_fit.specs.Ahead.{IsMove};
 ghost use Rattle.ir_flat.specs.Flat.{IsFlat};
 ghost use Rattle.ir_fit.specs.Follower.{all_ahead, GoesOn, IsSized};
-ghost use Rattle.ir_fit.specs.Places.{placed_more};
+ghost use Rattle.ir_fit.specs.Growing.{placed_more};
 
 use crate::follower::Follower;
 use crate::follower::look::{Look, Move, is_open};

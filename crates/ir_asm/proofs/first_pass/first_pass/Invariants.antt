@@ -7,7 +7,7 @@ use Rattle.ir_asm.proofs.first_pass.first_pass.Given as goal
 -- the lines that are left
 abbrev pub invariant-loop-more : goal.invariant-loop-more
 invariant-loop-more l = record {
-  told : first_pass l.number (lines_left l.more l.rest) l.scan ≡ first_pass 1 (lines_of l.fn.source) l.fn.scan;
+  whole_is : first_pass l.number (lines_left l.more l.rest) l.scan ≡ first_pass 1 (lines_of l.fn.source) l.fn.scan;
   count : l.number + length (lines_left l.more l.rest) ≡ length (lines_of l.fn.source) + 1;
   small : l.number + size_left l.more l.rest ≤ length l.fn.source + 2;
 }

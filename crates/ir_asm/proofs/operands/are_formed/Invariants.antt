@@ -7,7 +7,7 @@ use Rattle.ir_asm.proofs.operands.are_formed.Given as goal
 -- what is left decides
 abbrev pub invariant-loop-more : goal.invariant-loop-more
 invariant-loop-more l = record {
-  told : are_formed l.form l.place (texts_left l.more l.rest) ≡ are_formed l.form 0 (texts_of l.text);
+  whole_is : are_formed l.form l.place (texts_left l.more l.rest) ≡ are_formed l.form 0 (texts_of l.text);
   small : l.place + size_left l.more l.rest ≤ length l.text + 1;
 }
 

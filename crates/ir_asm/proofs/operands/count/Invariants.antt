@@ -6,7 +6,7 @@ use Rattle.ir_asm.proofs.operands.count.Given as goal
 -- the operands so far, and those that are left
 abbrev pub invariant-loop-more : goal.invariant-loop-more
 invariant-loop-more l = record {
-  told : l.count + length (texts_left l.more l.rest) ≡ length (texts_of l.text);
+  whole_is : l.count + length (texts_left l.more l.rest) ≡ length (texts_of l.text);
   small : l.count + size_left l.more l.rest ≤ length l.text + 1;
 }
 

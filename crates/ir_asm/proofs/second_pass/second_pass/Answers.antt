@@ -15,12 +15,12 @@ put-requires-clause-few c =
 pub returns-in-Err : goal.returns-in-Err
 returns-in-Err c =
     let x = c.placed-item.result in
-    let told : (view : Unit {0} → Guest) → Answers view (Err c.at_line.result)
+    let whole_is : (view : Unit {0} → Guest) → Answers view (Err c.at_line.result)
     (second_pass c.args.scan.now c.args.all.now c.args.parts.now) =
     λ view. put_refused {X = Unit {0}} view c.args.scan.now c.args.all.now c.loop-placed.placed-index x c.loop-placed.parts
     c.put.new.parts c.in-Err.refusal c.at_line.result _ c.loop-placed-test.true c.placed-item.is c.at_line.ensures c.in-Err.ensures
-    c.loop-placed.invariant.told in
-    search (rules, told)
+    c.loop-placed.invariant.whole_is in
+    search (rules, whole_is)
 
 pub loop-placed-preserved : goal.loop-placed-preserved
 loop-placed-preserved c =
@@ -28,8 +28,8 @@ loop-placed-preserved c =
     let few : HasFewWords x.item = subst (λ y. HasFewWords y.item) (sym c.placed-item.is)
     (all_here (λ y. HasFewWords y.item) c.args.all.now c.loop-placed.placed-index x c.loop-placed-test.true c.requires.few) in
     record {
-      told = put_next c.args.scan.now c.args.all.now c.loop-placed.placed-index x c.loop-placed.parts c.put.new.parts _
-          c.loop-placed-test.true c.placed-item.is c.in-Ok.ensures c.loop-placed.invariant.told;
+      whole_is = put_next c.args.scan.now c.args.all.now c.loop-placed.placed-index x c.loop-placed.parts c.put.new.parts _
+          c.loop-placed-test.true c.placed-item.is c.in-Ok.ensures c.loop-placed.invariant.whole_is;
       there = words_stay c.args.scan.now x.address x.item c.loop-placed.parts c.put.new.parts few c.loop-placed.invariant.there
           c.in-Ok.ensures;
     }

@@ -1,6 +1,6 @@
 use Rattle.std.proofs.Common.{◌≡◌, ℕ, List, length, map, false, ap, ◌∙◌, arith}
 use Rattle.ir_cli.specs.Sources.{made_with}
-use Rattle.ir_cli.proofs.Fresh.{many, told_by, recorded_by}
+use Rattle.ir_cli.proofs.Fresh.{many, answered_by, recorded_by}
 use Rattle.ir_cli.proofs.recording.recorded_by_threads.Goals as goal
 
 pub record-requires-clause-each : goal.record-requires-clause-each
@@ -12,12 +12,12 @@ record-requires-clause-each g c =
     ap (λ (z : List ℕ). length z) c.entries-threads.ensures.value in
     omega (arith, count, same, c.in_ok-worlds.worlds.ok)
 
-pub returns-clause-recorded : goal.returns-clause-recorded
-returns-clause-recorded g c = recorded_by c.args.image.now c.args.budget c.args.random c.args.file.now c.in_ok-image.image
+pub returns-in-Ok-record-clause-recorded : goal.returns-in-Ok-record-clause-recorded
+returns-in-Ok-record-clause-recorded g c = recorded_by c.args.image.now c.args.budget c.args.random c.args.file.now c.in_ok-image.image
     c.entries-threads.result.now
-    (map (λ w. w.answers.items) c.in_ok-worlds.worlds.items) c.in_ok-trace.trace
-    (map (λ o. o.bytes.items) c.in_ok-trace.field-0-1.each.items) (map (λ o. o.world.answers.items) c.in_ok-trace.field-0-1.each.items)
-    c.in_ok-image.ensures.exact c.entries-threads.ensures.value c.in_ok-worlds.ensures.fresh c.in_ok-trace.ensures.recorded
-    (told_by (λ o. made_with o.world.time o.world.seed o.world.file.now) (λ o. o.world.answers.items) (λ o. (o.world.sources, o.world.gave))
-    false c.args.random c.args.file.now c.in_ok-trace.field-0-1.each.items (length c.entries-threads.result.now)
-    (c.in_ok-trace.ensures.origins ∙ c.in_ok-worlds.ensures.origins))
+    (map (λ w. w.answers.items) c.in_ok-worlds.worlds.items) c.in-Ok-record.trace
+    (map (λ o. o.bytes.items) c.in-Ok-record.field-0-1.each.items) (map (λ o. o.world.answers.items) c.in-Ok-record.field-0-1.each.items)
+    c.in_ok-image.ensures.exact c.entries-threads.ensures.value c.in_ok-worlds.ensures.fresh c.in-Ok-record.ensures.recorded
+    (answered_by (λ o. made_with o.world.time o.world.seed o.world.file.now) (λ o. o.world.answers.items) (λ o. (o.world.sources, o.world.gave))
+    false c.args.random c.args.file.now c.in-Ok-record.field-0-1.each.items (length c.entries-threads.result.now)
+    (c.in-Ok-record.ensures.origins ∙ c.in_ok-worlds.ensures.origins))

@@ -9,9 +9,9 @@ loop-left-preserved c =
     let rest : List ℕ = hex (c.loop-left.left - 1) c.args.number in
     record {
       few = omega arith;
-      told = ap (λ (l : List ℕ). l ++ rest) (c.in_ok-push_str.ensures.bytes
+      emitted = ap (λ (l : List ℕ). l ++ rest) (c.in_ok-push_str.ensures.bytes
           ∙ ap (λ (l : List ℕ). string_bytes c.loop-left.text ++ l) c.digit_at.ensures)
           ∙ append_assoc _ _ rest
           ∙ ap (λ (l : List ℕ). string_bytes c.loop-left.text ++ l) (sym (hex_step c.loop-left.left c.args.number (omega arith)))
-          ∙ c.loop-left.invariant.told;
+          ∙ c.loop-left.invariant.emitted;
     }

@@ -7,7 +7,7 @@ use Rattle.ir_disasm.proofs.disassembler.digits.Given as goal
 abbrev pub invariant-loop-left : goal.invariant-loop-left
 invariant-loop-left l = record {
   few : l.left ≤ 8;
-  told : string_bytes l.text ++ hex l.left l.number ≡ hex l.fn.count l.number;
+  emitted : string_bytes l.text ++ hex l.left l.number ≡ hex l.fn.count l.number;
 }
 
 abbrev pub decreases-loop-left : goal.decreases-loop-left

@@ -1,11 +1,12 @@
-use Rattle.std.proofs.Common.{◌≡◌, ◌∙◌, IfErr, List, length, slice_get, Some, sym, subst}
+use Rattle.std.proofs.Common.{◌≡◌, ◌∙◌, IfErr, List, length, map, ap, slice_get, Some, sym, subst}
 use Rattle.std.proofs.lemmas.Result.{err_from_is_err_and}
 use Rattle.ir_trace.specs.Recorded.{Recorded, IsRecorded}
 use Rattle.ir_runs.specs.Coherent.{IsCoherent}
 use Rattle.ir_fit.specs.Fit.{HasRun, IsRefused}
+use Rattle.ir_fit.specs.Growing.{grown}
 use Rattle.ir_fit.specs.Follower.{AreStanding}
 use Rattle.ir_runs.specs.declared.thread_verdict.ThreadVerdict.{ThreadVerdict}
-use Rattle.ir_trace.specs.Told.{trace_of}
+use Rattle.ir_trace.specs.TraceOf.{trace_of}
 use Rattle.ir_fit.proofs.Furthest.{breaks_refuse, threads_refuse, threads_accept}
 use Rattle.ir_fit.proofs.fitting.fit.Goals as goal
 
@@ -42,7 +43,7 @@ new-requires c =
       guest = c.args.image;
       recorded =
           sym (c.into_parts-trace.ensures.trace ∙ c.in_ok-follower.ensures.trace) i;
-      placed = sym c.into_parts-trace.ensures.places i;
+      placed = sym (c.in_ok-places.ensures ∙ ap (map grown) c.into_parts-trace.ensures.places) i;
     })
     (threads_accept c.args.image c.args.trace c.in_default.ensures.same c.in_ok-follower.follower.flat
     c.in_ok-follower.follower.places.items c.in_ok-follower.ensures.followed c.in_ok-follower.ensures.sized.placed.each vs

@@ -1,7 +1,7 @@
 use Rattle.std.proofs.Common.{◌≡◌, ◌∙◌, ◌<◌, ℕ, List, length, get_or, ap, subst, arith}
 use Rattle.std.proofs.lemmas.List.{get_or_read}
 use Rattle.ir_trace.specs.Recorded.{Recorded, RecordedThread}
-use Rattle.ir_trace.specs.Told.{absent, recorded_thread}
+use Rattle.ir_trace.specs.TraceOf.{absent, recorded_thread}
 use Rattle.ir_fit.specs.Places.{Placed, none_placed, placed_at}
 use Rattle.ir_fit.specs.Visits.{Visit, AddsAll, none_listed, of_threads, entered_by, all_entered}
 use Rattle.ir_fit.proofs.ByVersion.{adds_thread, is_listing}
@@ -16,11 +16,11 @@ loop-t-preserved c =
     let placed : c.index-places-t.result ≡ placed_at ps t =
     get_or_read ps t c.index-places-t.result c.loop-t-test.true c.index-places-t.is none_placed in
     let within : t < length c.threads-threads.result.now = omega (arith, c.loop-t-test.true, c.requires.threads, ap length threads) in
-    let told : c.index-threads-t.result ≡ recorded_thread r t =
+    let emitted : c.index-threads-t.result ≡ recorded_thread r t =
     get_or_read c.threads-threads.result.now t c.index-threads-t.result within c.index-threads-t.is absent
     ∙ ap (λ ts. get_or ts t absent) threads in
     let events : c.events.result.now ≡ (recorded_thread r t).events = c.events.ensures.value ∙ c.log.ensures
-    ∙ ap (λ (x : RecordedThread). x.events) told in
+    ∙ ap (λ (x : RecordedThread). x.events) emitted in
     let entries : c.entries.result.now ≡ (placed_at ps t).entries = c.entries.ensures ∙ ap (λ (p : Placed). p.entries) placed in
     adds_thread none_listed c.loop-t.visits c.add_entries.new.visits t
     (λ u. entered_by u (recorded_thread r u).events (placed_at ps u).entries) c.loop-t.invariant

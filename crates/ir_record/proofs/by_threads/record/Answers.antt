@@ -180,14 +180,14 @@ returns-clause-recorded g c =
     let over : AllOver c.args.image.now c.args.budget (map g.W.World.answers c.args.worlds.items) (map (work_of g.W.World.answers) end) =
     all_over g.W.World.answers g.W.World.broken g.W.World.origin c.args.image.now c.args.budget id old end c.args.worlds.items
     c.words.ensures.within new pairs none c.in_ok-workers.ensures.worlds each in
-    let told = c.gathered-seats.ensures.trace in
+    let emitted = c.gathered-seats.ensures.trace in
     let each_of = c.gathered-seats.result.2.each.items in
     recorded_of c.args.image.now c.args.budget (map g.W.World.answers c.args.worlds.items) (map (work_of g.W.World.answers) end)
     c.joined-seat.result.me.0 c.close.new.objects over
     (subst (λ z. IsEnd z c.joined-seat.result.me.0 c.close.new.objects) c.in_ok-crew.ensures.key c.close.ensures)
     (c.joined-seat.ensures.views ∙ ap views_of c.gathered-seats.ensures.seats ∙ views_tracks g.W.World.answers end)
-    c.gathered-seats.result.1 (told.0 ∙ counted) told.1 (traces_count end c.gathered-seats.result.1.threads told.2 ∙ long)
-    (λ t l. traces_at g.W.World.answers end c.gathered-seats.result.1.threads told.2 t (omega (arith, l, long)))
+    c.gathered-seats.result.1 (emitted.0 ∙ counted) emitted.1 (traces_count end c.gathered-seats.result.1.threads emitted.2 ∙ long)
+    (λ t l. traces_at g.W.World.answers end c.gathered-seats.result.1.threads emitted.2 t (omega (arith, l, long)))
     _ (c.gathered-seats.ensures.bytes ∙ sym (map_map (λ w. w.thread.output) (work_of g.W.World.answers) end))
     _ (sym (map_map g.W.World.answers (λ o. o.world) each_of) ∙ ap (map g.W.World.answers) c.gathered-seats.ensures.worlds
     ∙ map_map g.W.World.answers (λ w. w.world) end ∙ sym (map_map (λ w. w.answers) (work_of g.W.World.answers) end))

@@ -4,7 +4,7 @@ use Rattle.ir_log.specs.Logging.{Suits}
 use Rattle.ir_log.specs.declared.event.Event.{Event}
 use Rattle.ir_thread.specs.declared.ask.Ask.TheVariants.{Env}
 use Rattle.ir_trace.specs.Recorded.{Recorded, IsRecordedThread}
-use Rattle.ir_trace.specs.Told.{recorded_thread}
+use Rattle.ir_trace.specs.TraceOf.{recorded_thread}
 use Rattle.ir_weave.proofs.CallerLemmas.{call_next, call_none}
 use Rattle.ir_replay.proofs.admission.call_result.Goals as goal
 

@@ -12,15 +12,15 @@ returns-in_err-one-clause-exact c =
     let p = err_from_is_err_and c.from_residual-in_err-one.result c.from_residual-in_err-one.ensures.1 in
     rw (p.1, p.2) (ends c.in_err-one.field-0.0 (event_at c.args.objects) c.loop.log.events c.args.count c.loop.counter c.loop.rest.now
     (fields_at (event_at c.args.objects) c.args.count c.args.bytes.now) c.loop-test.true c.in_err-one.ensures.exact
-    c.loop.invariant.told)
+    c.loop.invariant.emitted)
 
 pub loop-preserved : goal.loop-preserved
 loop-preserved c =
     let events = ap (λ (l : Logged). l.events) c.push.ensures in
     record {
-      told = rw events (goes_on (event_at c.args.objects) c.loop.log.events c.args.count c.loop.counter c.loop.rest.now c.in_ok-one.one
+      emitted = rw events (goes_on (event_at c.args.objects) c.loop.log.events c.args.count c.loop.counter c.loop.rest.now c.in_ok-one.one
           c.in_ok-one.after.now (fields_at (event_at c.args.objects) c.args.count c.args.bytes.now) c.loop-test.true
-          c.in_ok-one.ensures.exact c.loop.invariant.told);
+          c.in_ok-one.ensures.exact c.loop.invariant.emitted);
       pushed = omega (arith, ap length events, length-append c.loop.log.events (c.in_ok-one.one ∷ []), c.loop.invariant.pushed);
       room = ap (λ (l : Logged). l.room) c.push.ensures ∙ c.loop.invariant.room;
       taken = omega (arith, c.in_ok-one.ensures.taken, c.loop.invariant.taken);
@@ -28,4 +28,4 @@ loop-preserved c =
 
 pub returns-clause-exact : goal.returns-clause-exact
 returns-clause-exact c = is_done (event_at c.args.objects) c.loop.log.events c.args.count c.loop.counter c.loop.rest.now
-    (fields_at (event_at c.args.objects) c.args.count c.args.bytes.now) c.loop-test.false c.loop.invariant.told
+    (fields_at (event_at c.args.objects) c.args.count c.args.bytes.now) c.loop-test.false c.loop.invariant.emitted

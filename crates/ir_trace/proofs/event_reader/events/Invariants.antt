@@ -6,7 +6,7 @@ use Rattle.ir_trace.proofs.event_reader.events.Given as goal
 
 abbrev pub invariant-loop : goal.invariant-loop
 invariant-loop l = record {
-  told : with_prefix l.log.events (fields_at (event_at l.objects) (l.count - l.counter) l.rest) ≡ fields_at (event_at l.objects) l.count
+  emitted : with_prefix l.log.events (fields_at (event_at l.objects) (l.count - l.counter) l.rest) ≡ fields_at (event_at l.objects) l.count
       l.bytes;
   pushed : length l.log.events ≡ l.counter;
   room : l.log.room ≡ min l.count (length l.bytes / 5);

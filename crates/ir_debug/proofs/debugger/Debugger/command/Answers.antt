@@ -3,7 +3,7 @@ use Rattle.ir_command.specs.declared.command.Command.TheVariants as command
 use Rattle.ir_debug.specs.declared.answer.Answer.TheVariants as answer
 use Rattle.ir_debug.specs.Machine.Desk.{spoken}
 use Rattle.ir_debug.specs.Debugging.{Debugging}
-use Rattle.ir_debug.proofs.CarriedOut.{refused, answered, position_told, quit_told}
+use Rattle.ir_debug.proofs.CarriedOut.{refused, answered, position_answered, quit_answered}
 use Rattle.ir_debug.proofs.debugger.Debugger.command.Goals as goal
 
 pub returns-in-Some-clause-answers : goal.returns-in-Some-clause-answers
@@ -21,13 +21,18 @@ returns-in-Show-clause-answers g c =
     answered c.args.self.now.desk c.answer_show.new.self.desk c.args.command.now (command.Show c.in-Show.show) c.answer_show.result
     c.in-Show.is (sym c.refusal_of.ensures ∙ c.in_default.is) c.answer_show.ensures.answers
 
+pub returns-in-Keeping-clause-answers : goal.returns-in-Keeping-clause-answers
+returns-in-Keeping-clause-answers g c =
+    answered c.args.self.now.desk c.answer_keeping.new.self.desk c.args.command.now (command.Keeping c.in-Keeping.asked)
+    c.answer_keeping.result c.in-Keeping.is (sym c.refusal_of.ensures ∙ c.in_default.is) c.answer_keeping.ensures.answers
+
 pub returns-in-Position-clause-answers : goal.returns-in-Position-clause-answers
 returns-in-Position-clause-answers g c =
     answered c.args.self.now.desk _ c.args.command.now command.Position answer.Position c.in-Position.is
     (sym c.refusal_of.ensures ∙ c.in_default.is)
-    (position_told c.args.self.now.desk _ (ap (λ (d : Debugging). spoken d.desk) c.self.view_is))
+    (position_answered c.args.self.now.desk _ (ap (λ (d : Debugging). spoken d.desk) c.self.view_is))
 
 pub returns-in-Quit-clause-answers : goal.returns-in-Quit-clause-answers
 returns-in-Quit-clause-answers g c =
     answered c.args.self.now.desk _ c.args.command.now command.Quit answer.Bye c.in-Quit.is
-    (sym c.refusal_of.ensures ∙ c.in_default.is) (quit_told c.args.self.now.desk _ (ap (λ (d : Debugging). spoken d.desk) c.self.view_is))
+    (sym c.refusal_of.ensures ∙ c.in_default.is) (quit_answered c.args.self.now.desk _ (ap (λ (d : Debugging). spoken d.desk) c.self.view_is))

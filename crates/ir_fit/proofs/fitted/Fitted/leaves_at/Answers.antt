@@ -10,7 +10,7 @@ returns-clause-only c =
     let f : FittedTrace = record { guest = inside.image; recorded = inside.trace; placed = inside.places.items } in
     subst (λ g. OnlyLeaves g c.args.object c.args.access c.args.version c.at.result.now) c.self.view_is
     (only_leaves f inside.left c.self.invariant.2 c.args.object c.ranges.object.fits c.args.access c.args.version c.at.result.now
-    c.at.ensures.told)
+    c.at.ensures.emitted)
 
 pub returns-clause-all : goal.returns-clause-all
 returns-clause-all c =

@@ -42,7 +42,7 @@ steps-preserved c = record {
 pub note-requires : goal.note-requires
 note-requires c = record {
   sized = record {
-    told = c.steps.invariant.sized.told ∙ sym c.run_instructions.ensures.went.threads;
+    emitted = c.steps.invariant.sized.emitted ∙ sym c.run_instructions.ensures.went.threads;
     known = c.steps.invariant.sized.known ∙ sym c.run_instructions.ensures.went.threads;
     placed = went_placed c.steps.self.trace c.steps.self.flat c.run_instructions.new.self c.steps.self.places.items c.args.t
         c.run_instructions.result c.steps.invariant.sized.placed c.run_instructions.ensures.went;
@@ -52,7 +52,7 @@ note-requires c = record {
 
 pub take-requires-clause-sized : goal.take-requires-clause-sized
 take-requires-clause-sized c = record {
-  told = c.steps.invariant.sized.told ∙ sym c.run_instructions.ensures.went.threads;
+  emitted = c.steps.invariant.sized.emitted ∙ sym c.run_instructions.ensures.went.threads;
   known = c.steps.invariant.sized.known ∙ sym c.run_instructions.ensures.went.threads;
   placed = went_placed c.steps.self.trace c.steps.self.flat c.run_instructions.new.self c.steps.self.places.items c.args.t
       c.run_instructions.result c.steps.invariant.sized.placed c.run_instructions.ensures.went;

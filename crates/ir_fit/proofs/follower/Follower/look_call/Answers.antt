@@ -3,7 +3,7 @@ use Rattle.std.specs.Prelude.{slice_get, Some}
 use Rattle.ir_flat.specs.Flat.{thread_of}
 use Rattle.ir_log.specs.Logging.{Suits}
 use Rattle.ir_thread.specs.declared.ask.Ask.TheVariants.{Env}
-use Rattle.ir_trace.specs.Told.{recorded_thread}
+use Rattle.ir_trace.specs.TraceOf.{recorded_thread}
 use Rattle.ir_fit.proofs.Seen.{call_follows, call_disagrees, asks_env}
 use Rattle.ir_fit.proofs.follower.Follower.look_call.Goals as goal
 

@@ -27,7 +27,7 @@ returns-in-Leave c = record {
       (left c).less;
   trace = c.place.ensures.trace;
   sized = record {
-    told = ap (λ z. length z.threads) c.place.ensures.trace ∙ c.requires.sized.told
+    emitted = ap (λ z. length z.threads) c.place.ensures.trace ∙ c.requires.sized.emitted
         ∙ sym (c.take.ensures.threads ∙ ap (λ z. length z.threads) c.place.ensures.flat);
     known = c.wake.ensures ∙ ap (λ v. length v.items) c.place.ensures.ready ∙ c.requires.sized.known
         ∙ sym (c.take.ensures.threads ∙ ap (λ z. length z.threads) c.place.ensures.flat);
@@ -42,7 +42,7 @@ returns-in_default c = record {
       (taken c).less;
   trace = c.place.ensures.trace;
   sized = record {
-    told = ap (λ z. length z.threads) c.place.ensures.trace ∙ c.requires.sized.told
+    emitted = ap (λ z. length z.threads) c.place.ensures.trace ∙ c.requires.sized.emitted
         ∙ sym (c.take.ensures.threads ∙ ap (λ z. length z.threads) c.place.ensures.flat);
     known = ap (λ v. length v.items) c.place.ensures.ready ∙ c.requires.sized.known
         ∙ sym (c.take.ensures.threads ∙ ap (λ z. length z.threads) c.place.ensures.flat);

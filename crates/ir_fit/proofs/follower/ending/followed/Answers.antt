@@ -15,7 +15,7 @@ follow-requires c =
     let rooms : c.in_ok-places.places.items ≡ map room_for c.args.trace.threads = c.in_ok-places.ensures
     ∙ ap (map room_for) c.threads.ensures.value in
     record {
-      told = c.requires ∙ sym threads;
+      emitted = c.requires ∙ sym threads;
       known = omega (arith, c.resize.new.self.ok, c.in_ok-resize.ensures.len, count, threads);
       placed = start_placed c.args.image.now c.args.trace c.in_ok-flat.flat c.in_ok-places.places.items
           (start ∙ ap (start_flat c.args.image.now) c.budget.ensures.value) rooms (c.requires ∙ sym threads);

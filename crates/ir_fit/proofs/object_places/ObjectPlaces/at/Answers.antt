@@ -12,8 +12,8 @@ pub count_up_to-requires : goal.count_up_to-requires
 count_up_to-requires c = rest_in_order c.as_slice-places.result.now c.count_before.result
     (subst (IsNonDecreasingBy (λ (p : Place). p.version)) (sym (c.as_slice-places.ensures.value ∙ c.self.view_is)) c.requires)
 
-pub returns-clause-told : goal.returns-clause-told
-returns-clause-told c = (at_version c.as_slice-places.result.now c.args.self.now c.count_before.result c.count_up_to.result c.args.version
+pub returns-clause-emitted : goal.returns-clause-emitted
+returns-clause-emitted c = (at_version c.as_slice-places.result.now c.args.self.now c.count_before.result c.count_up_to.result c.args.version
     (c.as_slice-places.ensures.value ∙ c.self.view_is) c.count_up_to.ensures.bound c.count_before.ensures.point
     c.count_up_to.ensures.point).0
 

@@ -23,7 +23,7 @@ loop-log-preserved c =
     let place : c.len-in-loop-log.result ≡ length at.threads.items = search rules in
     let found = thread_found c.args.self.flat c.threads.result.now c.len-in-loop-log.result c.index-threads-len.result
     c.threads.ensures.value (omega (arith, below, count, place)) c.index-threads-len.is in
-    let told : IsThreadTrace (thread_of c.args.self.flat (length at.threads.items)) x c.thread_trace.result =
+    let emitted : IsThreadTrace (thread_of c.args.self.flat (length at.threads.items)) x c.thread_trace.result =
     subst (λ k. IsThreadTrace (thread_of c.args.self.flat k) x c.thread_trace.result) place
     (subst (λ z. IsThreadTrace z x c.thread_trace.result) found c.thread_trace.ensures.value) in
     let fits : AllByRecursion (IsEvent objects) x.events =
@@ -35,7 +35,7 @@ loop-log-preserved c =
       size = size_on (into_iter_items at.log-iterator) rest x (into_iter_len at.log-iterator) (into_iter_len c.next.new.self)
           at.invariant.size c.in-Some.ensures.steps.0 c.in-Some.ensures.steps.1;
       traces = subst (λ z. AreThreadTraces c.args.self.flat (at.yielded ++ x ∷ []) z) (sym c.in_ok-push.ensures.items)
-          (gathered_more c.args.self.flat at.yielded x at.threads.items c.thread_trace.result at.invariant.traces told);
+          (gathered_more c.args.self.flat at.yielded x at.threads.items c.thread_trace.result at.invariant.traces emitted);
       fit = subst (λ z. AllByRecursion (IsRecordedThread objects) z) (sym c.in_ok-push.ensures.items)
           (all_append (IsRecordedThread objects) at.threads.items c.thread_trace.result at.invariant.fit
           (c.thread_trace.ensures.fits objects fits));

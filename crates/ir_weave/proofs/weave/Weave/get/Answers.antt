@@ -1,6 +1,6 @@
 use Rattle.std.proofs.Common.{ℕ, ◌<◌, ◌^◌, Fits, w32, arith}
 use Rattle.ir_thread.specs.declared.ask.Ask.TheVariants.{Get}
-use Rattle.ir_weave.proofs.Seats.{WasTold, get_allows, step_told, word_read, read_there}
+use Rattle.ir_weave.proofs.Seats.{WasEmitted, get_allows, step_emitted, word_read, read_there}
 use Rattle.ir_weave.proofs.weave.Weave.get.Goals as goal
 use Rattle.ir_weave.proofs.weave.Weave.get.Goals.{After-load}
 
@@ -17,16 +17,16 @@ load-requires c = (
 fits_word : (n : ℕ) → n < 2 ^ 32 → Fits w32 n
 fits_word n l = omega (arith, l)
 
-told : (c : After-load) → WasTold c.args.self.now.table.shared.key c.args.thread.now c.args.seat.now.me c.load.new.seat.me c.load.result
-told c = step_told c.args.self.now.table.shared.key c.args.thread.now (Get c.args.object c.args.index) c.args.seat.now.me c.load.new.seat.me
+emitted : (c : After-load) → WasEmitted c.args.self.now.table.shared.key c.args.thread.now c.args.seat.now.me c.load.new.seat.me c.load.result
+emitted c = step_emitted c.args.self.now.table.shared.key c.args.thread.now (Get c.args.object c.args.index) c.args.seat.now.me c.load.new.seat.me
     c.load.result c.requires.thread c.requires.asking.asks (λ b. b) c.load.ensures.2
 
 pub overflow_cast-result : goal.overflow_cast-result
 overflow_cast-result c = fits_word _ (word_read c.args.self.now.table.shared.key c.args.thread.now c.args.seat.now.me.0 c.args.object
-    c.args.index c.load.result c.requires.thread c.requires.asking (told c).answers)
+    c.args.index c.load.result c.requires.thread c.requires.asking (emitted c).answers)
 
 pub returns-clause-read : goal.returns-clause-read
-returns-clause-read c = (told c).view
+returns-clause-read c = (emitted c).view
 
 pub returns-clause-value : goal.returns-clause-value
-returns-clause-value c = (told c).answers
+returns-clause-value c = (emitted c).answers

@@ -1,7 +1,7 @@
 use Rattle.std.proofs.Common.{refl}
 use Rattle.ir_thread.specs.declared.ask.Ask.TheVariants.{Enter}
 use Rattle.ir_weave.specs.Woven.{Opens}
-use Rattle.ir_weave.proofs.Seats.{WasShown, look_allows, look_told, head_there, granted_by, test_true, test_false}
+use Rattle.ir_weave.proofs.Seats.{WasShown, look_allows, look_emitted, head_there, granted_by, test_true, test_false}
 use Rattle.ir_weave.proofs.weave.Weave.look.Goals as goal
 use Rattle.ir_weave.proofs.weave.Weave.look.Goals.{After-opens}
 
@@ -16,7 +16,7 @@ load-seen-requires c = (
 
 shown : (c : After-opens) → WasShown c.args.self.now.table.shared.key c.args.thread.now c.args.event c.args.seat.now.me
     c.load-seen.new.seat.me c.load-seen.result
-shown c = look_told c.args.self.now.table.shared.key c.args.thread.now c.args.object c.args.access c.args.event c.args.seat.now.me
+shown c = look_emitted c.args.self.now.table.shared.key c.args.thread.now c.args.object c.args.access c.args.event c.args.seat.now.me
     c.load-seen.new.seat.me c.load-seen.result c.requires.thread c.requires.entering c.load-seen.ensures.2
 
 pub returns-clause-granted : goal.returns-clause-granted

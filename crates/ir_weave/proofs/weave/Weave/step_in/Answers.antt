@@ -3,7 +3,7 @@ use Rattle.ir_runs.specs.declared.access.Access.TheVariants.{Reading, Writing}
 use Rattle.ir_thread.specs.declared.ask.Ask.TheVariants.{Enter}
 use Rattle.ir_weave.specs.Ahead.{IsAsking}
 use Rattle.ir_weave.specs.Woven.{trace_in}
-use Rattle.ir_weave.proofs.Seats.{enter_allows, step_told, head_there}
+use Rattle.ir_weave.proofs.Seats.{enter_allows, step_emitted, head_there}
 use Rattle.ir_weave.proofs.weave.Weave.step_in.Goals as goal
 
 pub fetch_add-requires : goal.fetch_add-requires
@@ -28,11 +28,11 @@ fetch_add-requires-in-Writing c = (
 
 pub returns-in-Reading-clause-entered : goal.returns-in-Reading-clause-entered
 returns-in-Reading-clause-entered c =
-    (step_told c.args.self.now.table.shared.key c.args.thread.now (Enter c.args.object c.args.access) c.args.seat.now.me
+    (step_emitted c.args.self.now.table.shared.key c.args.thread.now (Enter c.args.object c.args.access) c.args.seat.now.me
     c.fetch_add.new.seat.me c.fetch_add.result c.requires.granted.seated c.requires.asking.asks (λ b. b) c.fetch_add.ensures.2).view
 
 pub returns-in-Writing-clause-entered : goal.returns-in-Writing-clause-entered
 returns-in-Writing-clause-entered c =
-    (step_told c.args.self.now.table.shared.key c.args.thread.now (Enter c.args.object c.args.access) c.args.seat.now.me
+    (step_emitted c.args.self.now.table.shared.key c.args.thread.now (Enter c.args.object c.args.access) c.args.seat.now.me
     c.fetch_add-in-Writing.new.seat.me c.fetch_add-in-Writing.result c.requires.granted.seated c.requires.asking.asks (λ b. b)
     c.fetch_add-in-Writing.ensures.2).view

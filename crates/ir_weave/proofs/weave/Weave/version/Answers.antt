@@ -1,5 +1,5 @@
 use Rattle.std.proofs.Common.{arith}
-use Rattle.ir_weave.proofs.Seats.{WasSeen, version_allows, version_told, left_there}
+use Rattle.ir_weave.proofs.Seats.{WasSeen, version_allows, version_emitted, left_there}
 use Rattle.ir_runs.specs.declared.access.Access.TheVariants.{Writing}
 use Rattle.ir_weave.proofs.weave.Weave.version.Goals as goal
 use Rattle.ir_weave.proofs.weave.Weave.version.Goals.{After-load}
@@ -15,7 +15,7 @@ load-requires c = (
 
 seen : (c : After-load) → WasSeen c.args.self.now.table.shared.key c.args.thread.now c.args.object c.args.seat.now.me c.load.new.seat.me
     c.load.result
-seen c = version_told c.args.self.now.table.shared.key c.args.object c.args.thread.now c.args.seat.now.me c.load.new.seat.me c.load.result
+seen c = version_emitted c.args.self.now.table.shared.key c.args.object c.args.thread.now c.args.seat.now.me c.load.new.seat.me c.load.result
     c.requires.thread c.requires.asking c.load.ensures.2
 
 pub returns-clause-seat : goal.returns-clause-seat

@@ -1,0 +1,77 @@
+//! The files that the program reads and writes.
+
+use crate::places::Found;
+use std::fs::{self, File};
+use std::io::{self, Read, Write};
+use std::os::unix::fs::MetadataExt;
+
+/// Files by their paths.
+pub trait Folder {
+    /// A file that is open.
+    type Open: Read + Write + Drop;
+
+    /// Opens a file, to be read.
+    ///
+    /// # Errors
+    /// The reason why it can't be.
+    fn open(&self, path: &str) -> io::Result<Self::Open>;
+
+    /// Makes a file, or empties the one that stands there, to be written.
+    ///
+    /// # Errors
+    /// The reason why it can't be.
+    fn create(&self, path: &str) -> io::Result<Self::Open>;
+
+    /// Puts a file in another place, over what stood there.
+    ///
+    /// # Errors
+    /// The reason why it can't be, and all is as it was.
+    fn rename(&self, from: &str, to: &str) -> io::Result<()>;
+
+    /// Removes a file.
+    ///
+    /// # Errors
+    /// The reason why it can't be.
+    fn remove(&self, path: &str) -> io::Result<()>;
+
+    /// What stands at a path, links followed. Nothing is opened.
+    fn found_at(&self, path: &str) -> Found;
+
+    /// Whether something stands there that another file may not be put in the place of, as a device or a link.
+    fn is_kept(&self, path: &str) -> bool;
+}
+
+impl Folder for HostRuntime {
+    type Open = File;
+
+    fn open(&self, path: &str) -> io::Result<File> {
+        File::open(self, path)
+    }
+
+    fn create(&self, path: &str) -> io::Result<File> {
+        File::create(self, path)
+    }
+
+    fn rename(&self, from: &str, to: &str) -> io::Result<()> {
+        fs::rename(self, from, to)
+    }
+
+    fn remove(&self, path: &str) -> io::Result<()> {
+        fs::remove_file(self, path)
+    }
+
+    fn found_at(&self, path: &str) -> Found {
+        match fs::metadata(self, path) {
+            Ok(found) if found.is_file() => Found::File(found.dev(), found.ino()),
+            Ok(_) => Found::Other,
+            Err(_) => Found::Nothing,
+        }
+    }
+
+    fn is_kept(&self, path: &str) -> bool {
+        match fs::symlink_metadata(self, path) {
+            Ok(found) => !found.is_file(),
+            Err(_) => false,
+        }
+    }
+}

@@ -1,0 +1,166 @@
+//! A debugger over a guest of two threads that write one object, one after the other.
+
+use crate::guests::TWO_COUNTERS;
+use crate::replays::fitted;
+use crate::traces::SECOND_FIRST;
+use ir_command::{ByteCount, Command, Move, Refusal, Show};
+use ir_debug::{Answer, Debugger};
+use ir_object::OpenGate;
+use std::alloc::Global;
+use std::test::Fail;
+use std::thread::Threads;
+use std::time::Clock;
+
+// What kind of answer it is.
+#[derive(Clone, Copy, Debug, PartialEq)]
+enum Kind {
+    Moved,
+    Position,
+    Shown,
+    Next,
+    Kept,
+    Refused(Refusal),
+    Bye,
+}
+
+fn kind_of(answer: &Answer) -> Kind {
+    match answer {
+        Answer::Moved(_) => Kind::Moved,
+        Answer::Position => Kind::Position,
+        Answer::Shown(_) => Kind::Shown,
+        Answer::Next(_) => Kind::Next,
+        Answer::Kept(_) | Answer::Dropped(_) | Answer::KeptCuts => Kind::Kept,
+        Answer::Refused(refusal) => Kind::Refused(*refusal),
+        Answer::Bye => Kind::Bye,
+    }
+}
+
+type Pair = (u64, u64);
+
+// The positions of both threads.
+fn positions(debugger: &Debugger) -> Option<Pair> {
+    match debugger.at().positions() {
+        [first, second] => Some((*first, *second)),
+        _ => None,
+    }
+}
+
+// What is seen after a command.
+#[derive(Clone, Copy, Debug, PartialEq)]
+struct Sight {
+    kind: Kind,
+    at: Option<Pair>,
+}
+
+// After a command that leaves the positions there.
+const fn seen(kind: Kind, first: u64, second: u64) -> Sight {
+    Sight {
+        kind,
+        at: Some((first, second)),
+    }
+}
+
+// What is seen after each of eight commands.
+fn walk<R: Threads + Clock + Sync>(
+    rt: &R,
+    alloc: Global,
+    commands: &[Command; 8],
+) -> Result<[Sight; 8], Fail> {
+    let mut debugger = Debugger::open(alloc, fitted(alloc, TWO_COUNTERS, SECOND_FIRST)?)?;
+    let mut all = [seen(Kind::Bye, 0, 0); 8];
+    for i in 0..8 {
+        let answer = debugger.command(rt, alloc, &commands[i], &OpenGate);
+        all[i] = Sight {
+            kind: kind_of(&answer),
+            at: positions(&debugger),
+        };
+    }
+    Ok(all)
+}
+
+#[test]
+fn moves_take_the_other_thread_along(rt: HostRuntime) -> Result<(), Fail> {
+    let commands = [
+        Command::Move(Move::Step {
+            thread: 0,
+            count: 3,
+        }),
+        Command::Move(Move::Back {
+            thread: 1,
+            count: 1,
+        }),
+        Command::Move(Move::Goto {
+            thread: 0,
+            position: u64::MAX,
+        }),
+        Command::Move(Move::End),
+        Command::Move(Move::Goto {
+            thread: 1,
+            position: 15,
+        }),
+        Command::Move(Move::Start),
+        Command::Move(Move::Step {
+            thread: 1,
+            count: u32::MAX,
+        }),
+        Command::Move(Move::Back {
+            thread: 1,
+            count: u32::MAX,
+        }),
+    ];
+    let wanted = [
+        seen(Kind::Moved, 3, 15),
+        seen(Kind::Moved, 2, 14),
+        seen(Kind::Moved, 18, 15),
+        seen(Kind::Moved, 18, 18),
+        seen(Kind::Moved, 18, 15),
+        seen(Kind::Moved, 0, 0),
+        seen(Kind::Moved, 0, 18),
+        seen(Kind::Moved, 0, 0),
+    ];
+    assert_eq!(rt; walk(&rt, rt.alloc(), &commands)?, wanted);
+    Ok(())
+}
+
+#[test]
+fn what_is_not_there_is_refused(rt: HostRuntime) -> Result<(), Fail> {
+    let Some(two) = ByteCount::new(2) else {
+        return Ok(());
+    };
+    let commands = [
+        Command::Move(Move::Step {
+            thread: 0,
+            count: 3,
+        }),
+        Command::Move(Move::Back {
+            thread: 2,
+            count: 1,
+        }),
+        Command::Show(Show::Object { object: 0 }),
+        Command::Show(Show::Object { object: 1 }),
+        Command::Show(Show::Memory {
+            thread: 1,
+            address: 0x0011_0000 - 2,
+            size: two,
+        }),
+        Command::Show(Show::Memory {
+            thread: 1,
+            address: u32::MAX,
+            size: two,
+        }),
+        Command::Position,
+        Command::Quit,
+    ];
+    let wanted = [
+        seen(Kind::Moved, 3, 15),
+        seen(Kind::Refused(Refusal::NoSuchThread), 3, 15),
+        seen(Kind::Shown, 3, 15),
+        seen(Kind::Refused(Refusal::NoSuchObject), 3, 15),
+        seen(Kind::Shown, 3, 15),
+        seen(Kind::Refused(Refusal::BadAddress), 3, 15),
+        seen(Kind::Position, 3, 15),
+        seen(Kind::Bye, 3, 15),
+    ];
+    assert_eq!(rt; walk(&rt, rt.alloc(), &commands)?, wanted);
+    Ok(())
+}

@@ -1,0 +1,187 @@
+//! The guests of the folder `examples`. `scripts/rooms.py` refuses a text that differs from the file of its name there.
+
+pub const HELLO: &str =
+    "# Prints Hello, world! and a line feed, a byte at a time, and ends with code 0.
+
+        li      s0, text                # the next byte
+        li      s1, end                 # where the text ends
+next:   beq     s0, s1, done
+        lbu     a0, 0(s0)
+        addi    a7, zero, 2             # PUTC
+        ecall
+        addi    s0, s0, 1
+        jal     zero, next
+done:   addi    a0, zero, 0
+        addi    a7, zero, 1             # END
+        ecall
+
+        .data
+text:   .byte   72, 101, 108, 108, 111, 44, 32          # Hello, comma and space
+        .byte   119, 111, 114, 108, 100, 33, 10         # world!, line feed
+end:
+";
+
+pub const SUM: &str =
+    "# Adds the words of an array, prints the sum in decimal and ends with it as the code.
+
+        .data
+array:  .word   3, 1, 4, 1, 5, 9, 2, 6, 5, 3, 5, -2
+end:
+
+        .text
+        li      s0, array               # the next word
+        li      s1, end                 # where the array ends
+        addi    s2, zero, 0             # the sum so far
+next:   bgeu    s0, s1, done
+        lw      t0, 0(s0)
+        add     s2, s2, t0
+        addi    s0, s0, 4
+        jal     zero, next
+done:   add     a0, zero, s2
+        addi    a7, zero, 3             # PUTN
+        ecall
+        addi    a7, zero, 1             # END; the code is still in a0
+        ecall
+";
+
+pub const CALLS: &str =
+    "# Counts the moves of the towers of Hanoi with five discs by calls that keep what they need on the stack, which grows
+# down from the end of private memory, where sp stands at the start. Prints 31 and ends with it as the code.
+
+        addi    a0, zero, 5             # discs
+        jal     ra, moves
+        addi    a7, zero, 3             # PUTN
+        ecall
+        addi    a7, zero, 1             # END
+        ecall
+
+# a0: a number of discs; in return a0 is how many moves they take.
+moves:  bne     a0, zero, some
+        jalr    zero, 0(ra)             # none for no disc
+some:   addi    sp, sp, -12
+        sw      ra, 8(sp)
+        sw      s0, 4(sp)
+        addi    s0, a0, -1
+        addi    a0, s0, 0
+        jal     ra, moves               # all but the largest disc aside,
+        addi    a0, a0, 1               # the largest,
+        sw      a0, 0(sp)
+        addi    a0, s0, 0
+        jal     ra, moves               # and the others onto it
+        lw      t0, 0(sp)
+        add     a0, a0, t0
+        lw      s0, 4(sp)
+        lw      ra, 8(sp)
+        addi    sp, sp, 12
+        jalr    zero, 0(ra)
+";
+
+pub const COUNTER: &str =
+    "# Four threads add one each to a shared counter. Each holds the object for writing from its GET to its PUT, so the
+# counter is 4 in the end, whatever the order.
+
+        .objects 1
+        .thread main
+        .thread main
+        .thread main
+        .thread main
+
+main:   addi    a0, zero, 0
+        addi    a7, zero, 8             # ENTER_WRITE of object 0
+        ecall
+        addi    a0, zero, 0
+        addi    a1, zero, 0
+        addi    a7, zero, 10            # GET of word 0
+        ecall
+        addi    a2, a0, 1
+        addi    a0, zero, 0
+        addi    a1, zero, 0
+        addi    a7, zero, 11            # PUT of one more
+        ecall
+        addi    a0, zero, 0
+        addi    a7, zero, 9             # LEAVE
+        ecall
+        addi    a0, zero, 0
+        addi    a7, zero, 1             # END
+        ecall
+";
+
+pub const LOST_UPDATE: &str =
+    "# A lost update. Two threads add one each to a shared counter, but each gives the object back between its GET and its
+# PUT. Where both read before either writes, both write 1 and one update is lost.
+
+        .objects 1
+        .thread main
+        .thread main
+
+main:   addi    a0, zero, 0
+        addi    a7, zero, 7             # ENTER_READ of object 0
+        ecall
+        addi    a0, zero, 0
+        addi    a1, zero, 0
+        addi    a7, zero, 10            # GET of word 0
+        ecall
+        addi    s0, a0, 1
+        addi    a0, zero, 0
+        addi    a7, zero, 9             # LEAVE: from here on the other thread may write
+        ecall
+        addi    a0, zero, 0
+        addi    a7, zero, 8             # ENTER_WRITE
+        ecall
+        addi    a0, zero, 0
+        addi    a1, zero, 0
+        addi    a2, s0, 0
+        addi    a7, zero, 11            # PUT of what may be stale by now
+        ecall
+        addi    a0, zero, 0
+        addi    a7, zero, 9             # LEAVE
+        ecall
+        addi    a0, zero, 0
+        addi    a7, zero, 1             # END
+        ecall
+";
+
+pub const TWO_LOCKS: &str =
+    "# Two accounts and two threads, which move amounts in opposite directions. A thread may enter an object only if its
+# number is greater than those that it holds, so both enter account 0 first, and neither waits for the other forever.
+# In the end account 0 has 100 - 30 + 5 = 75 and account 1 has 50 + 30 - 5 = 75.
+
+        .objects 2
+        .object 0, 100
+        .object 1, 50
+        .thread first
+        .thread second
+
+first:  addi    s0, zero, -30           # what account 0 gains and account 1 loses
+        jal     zero, move
+second: addi    s0, zero, 5
+
+move:   addi    a0, zero, 0
+        addi    a7, zero, 8             # ENTER_WRITE of account 0
+        ecall
+        addi    a0, zero, 1
+        ecall                           # and then of account 1
+        addi    a0, zero, 0
+        jal     ra, change              # account 0 gains
+        sub     s0, zero, s0
+        addi    a0, zero, 1
+        jal     ra, change              # account 1 loses
+        addi    a0, zero, 1
+        addi    a7, zero, 9             # LEAVE of account 1
+        ecall
+        addi    a0, zero, 0
+        ecall                           # and of account 0
+        addi    a7, zero, 1             # END
+        ecall
+
+# Adds s0 to the first word of the object a0.
+change: addi    t0, a0, 0
+        addi    a1, zero, 0
+        addi    a7, zero, 10            # GET
+        ecall
+        add     a2, a0, s0
+        addi    a0, t0, 0
+        addi    a7, zero, 11            # PUT; a1 is still 0
+        ecall
+        jalr    zero, 0(ra)
+";

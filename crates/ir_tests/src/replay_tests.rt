@@ -1,0 +1,138 @@
+//! Guests of two threads with one object, brought to cuts by different orders, and by threads that wait for each other.
+
+use crate::guests::{NOTED_CLOCK, TWO_COUNTERS, TWO_READERS};
+use crate::meeting::Meeting;
+use crate::replays::{by_order, by_threads, fitted};
+use crate::states::same_state;
+use crate::traces::EventRow::{Clock, Read, Write};
+use crate::traces::{BOTH_READ, Ran, SECOND_FIRST, TraceRow};
+use ir_cut::Cut;
+use ir_fit::Fitted;
+use ir_object::Fields;
+use ir_replay::State;
+use std::alloc::Global;
+use std::test::Fail;
+
+type Pair = (u64, u64);
+
+// Both threads read version 0; then thread 1 writes it and thread 0 version 1. The clock says 70 to thread 0 and 80 to 1.
+const NOTED: TraceRow = TraceRow {
+    objects: 1,
+    budget: 1000,
+    threads: &[
+        Ran(18, 1, 0, &[Clock(70), Read(0, 0), Write(0, 1, 0)]),
+        Ran(18, 1, 0, &[Clock(80), Read(0, 0), Write(0, 0, 2)]),
+    ],
+};
+
+// The state at the cut by way of the order; none where the cut isn't consistent.
+fn state_at(alloc: Global, fitted: &Fitted, at: Pair, order: &[u8]) -> Result<Option<State>, Fail> {
+    let target = Cut::new(Vec::from_slice(alloc, &[at.0, at.1])?);
+    by_order(alloc, fitted, &target, order)
+}
+
+const ORDERS: [&[u8]; 4] = [
+    &[0; 40],
+    &[1; 40],
+    &[
+        0, 1, 0, 1, 0, 1, 0, 1, 0, 1, 0, 1, 0, 1, 0, 1, 0, 1, 0, 1, 0, 1, 0, 1, 0, 1, 0, 1, 0, 1,
+    ],
+    &[2, 255, 1, 1, 1, 0, 1, 1, 7],
+];
+
+// Whether each of the orders leads to the state to which none leads.
+fn is_alike(alloc: Global, fitted: &Fitted, at: Pair) -> Result<bool, Fail> {
+    let Some(first) = state_at(alloc, fitted, at, &[])? else {
+        return Ok(false);
+    };
+    for order in ORDERS {
+        match &state_at(alloc, fitted, at, order)? {
+            Some(other) if same_state(&first, other) => {}
+            _ => return Ok(false),
+        }
+    }
+    Ok(true)
+}
+
+// The steps of both threads, the object's fields and its first word.
+type Short = (u64, u64, Fields, u32);
+
+fn short(state: &State) -> Option<Short> {
+    match (state.threads(), state.objects()) {
+        ([first, second], [object]) => Some((
+            first.steps(),
+            second.steps(),
+            object.fields(),
+            object.get(0),
+        )),
+        _ => None,
+    }
+}
+
+fn short_at(alloc: Global, fitted: &Fitted, at: Pair) -> Result<Option<Short>, Fail> {
+    let found = state_at(alloc, fitted, at, &[])?;
+    Ok(found.as_ref().and_then(short))
+}
+
+const fn fields(version: u32, left: u32, inside: u8, writer: bool) -> Fields {
+    Fields {
+        version,
+        left,
+        inside,
+        writer,
+    }
+}
+
+#[test]
+fn each_order_leads_to_the_same_state(rt: HostRuntime) -> Result<(), Fail> {
+    let counters = fitted(rt.alloc(), TWO_COUNTERS, SECOND_FIRST)?;
+    for at in [(18, 18), (3, 15), (0, 18), (2, 7)] {
+        assert!(rt; is_alike(rt.alloc(), &counters, at)?);
+    }
+    let noted = fitted(rt.alloc(), NOTED_CLOCK, NOTED)?;
+    for at in [(18, 18), (9, 18), (6, 7), (2, 0)] {
+        assert!(rt; is_alike(rt.alloc(), &noted, at)?);
+    }
+    Ok(())
+}
+
+#[test]
+fn the_second_writer_adds_to_the_first(rt: HostRuntime) -> Result<(), Fail> {
+    let fitted = fitted(rt.alloc(), TWO_COUNTERS, SECOND_FIRST)?;
+    for (at, wanted) in [
+        ((18, 18), Some((18, 18, fields(2, 0, 0, false), 2))),
+        ((3, 15), Some((3, 15, fields(1, 0, 0, true), 1))),
+        ((3, 14), None),
+    ] {
+        assert_eq!(rt; short_at(rt.alloc(), &fitted, at)?, wanted);
+    }
+    Ok(())
+}
+
+#[test]
+fn answers_and_readers_are_the_traces(rt: HostRuntime) -> Result<(), Fail> {
+    let fitted = fitted(rt.alloc(), NOTED_CLOCK, NOTED)?;
+    for (at, wanted) in [
+        ((18, 18), Some((18, 18, fields(2, 0, 0, false), 70))),
+        ((9, 13), Some((9, 13, fields(0, 2, 0, true), 80))),
+        ((6, 9), Some((6, 9, fields(0, 1, 1, false), 0))),
+        ((7, 10), None),
+    ] {
+        assert_eq!(rt; short_at(rt.alloc(), &fitted, at)?, wanted);
+    }
+    Ok(())
+}
+
+#[test]
+fn two_readers_replay(rt: HostRuntime) -> Result<(), Fail> {
+    let fitted = fitted(rt.alloc(), TWO_READERS, BOTH_READ)?;
+    let gate = Meeting::new();
+    let target = Cut::new(Vec::from_slice(rt.alloc(), &[7, 7])?);
+    let found = by_threads(&rt, rt.alloc(), &fitted, &target, &gate)?;
+    assert_eq!(rt;
+        found.as_ref().and_then(short),
+        Some((7, 7, fields(0, 2, 0, false), 0))
+    );
+    assert!(rt; !gate.missed());
+    Ok(())
+}
