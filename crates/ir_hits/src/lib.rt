@@ -1,0 +1,10 @@
+//! Where the points that are set hit a thread of a recorded run: breakpoints, watched words and watched objects.
+#![tactic(auto)]
+
+mod hit;
+mod point;
+mod search;
+
+pub use hit::Hit;
+pub use point::NumberedPoint;
+pub use search::{first_hit, last_hit};
