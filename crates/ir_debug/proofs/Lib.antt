@@ -8,6 +8,7 @@ mod Brought
 mod Ends
 mod Leading
 mod KeptCuts
+mod Points
 mod CarriedOut
 mod Rows
 mod RowsOne

@@ -36,3 +36,9 @@ pub returns-in-Quit-clause-answers : goal.returns-in-Quit-clause-answers
 returns-in-Quit-clause-answers g c =
     answered c.args.self.now.desk _ c.args.command.now command.Quit answer.Bye c.in-Quit.is
     (sym c.refusal_of.ensures ∙ c.in_default.is) (quit_answered c.args.self.now.desk _ (ap (λ (d : Debugging). spoken d.desk) c.self.view_is))
+
+pub returns-in-Continue-clause-answers : goal.returns-in-Continue-clause-answers
+returns-in-Continue-clause-answers g c =
+    answered c.args.self.now.desk c.answer_continue.new.self.desk c.args.command.now
+    (command.Continue c.in-Continue.thread c.in-Continue.direction) c.answer_continue.result c.in-Continue.is
+    (sym c.refusal_of.ensures ∙ c.in_default.is) c.answer_continue.ensures.answers

@@ -14,6 +14,7 @@ invariant_of-self c =
         run = held.run;
         size = held.size;
         at = held.at;
+        points = held.points;
         kept = subst (AllKept c.self.inside.fitted) (sym c.forget.ensures)
             (all_without c.self.inside.fitted c.self.inside.kept.items c.args.number held.kept);
         few = omega (arith, less, same, few);

@@ -19,6 +19,7 @@ invariant_of-self-2 c =
         run = held.run;
         size = held.size;
         at = held.at;
+        points = held.points;
         kept = subst (AllKept f) (sym more) (all_more f old c.new.result held.kept
             (subst (Cuts f) (sym (ap (λ (k : Kept). k.cut) c.new.ensures ∙ c.in_ok-copy.ensures)) (held.size, held.at)));
         few = (let l = ap (λ (z : List Kept). length z) more in omega (arith, left, long, l));

@@ -13,6 +13,7 @@ invariant_of-result c =
         run = c.known.ensures.run;
         size = c.in_ok-at.ensures.size;
         at = c.in_ok-at.ensures.consistent;
+        points = tt;
         kept = subst (AllKept c.args.fitted) (sym one) (
           subst (Cuts c.args.fitted)
               (sym (ap (λ (k : Kept). k.cut) c.new.ensures ∙ c.in_ok-copy.ensures)) (c.in_ok-at.ensures.size, c.in_ok-at.ensures.consistent),
