@@ -89,9 +89,15 @@ threads stand at a cut, a position for each, at which all that their steps need 
   step T N      N steps of thread T forwards, the others no further than these need
   back T N      N steps of thread T backwards, the others no further than must be
   goto T K      thread T to position K, forwards or backwards
+  cont T        thread T forwards to the first position at which a point hits it, or to its last
+  rcont T       thread T backwards to the last position at which a point hits it, or to 0
   start         all threads to position 0
   end           all threads to their last positions
   pos           the position of each thread
+  break T A     sets a breakpoint: hits thread T before the instruction at address A of the code
+  watch T A     sets a watchpoint: hits thread T behind a step that changes the word at address A of its memory
+  owatch O      sets an object's watchpoint: hits a thread behind its step that leaves object O after writing
+  clear N       takes point N away; the three above answer `point N`, the next number from 1 on, and 64 may be set
   regs T        pc and registers of thread T
   mem T A N     N bytes, 1 to 256, from address A on, of the code or of thread T's memory
   obj O         object O: its version, who is inside, its words
@@ -103,8 +109,8 @@ threads stand at a cut, a position for each, at which all that their steps need 
   drop N        keeps the cut N no longer
   kept          each number, and the positions of its cut
   quit          ends the session
-Numbers are decimal, or `0x` and hexadecimal digits. A move answers `at` and the positions, then `end` where thread T is
-at its last and `start` where it is at 0. A line that can't be carried out is answered `refused R` and why, and changes
+Numbers are decimal, or `0x` and hexadecimal digits. A move answers `at` and the positions, then `hit N` where point N stopped
+thread T, `end` where it is at its last position and `start` where it is at 0. A line that can't be carried out is answered `refused R` and why, and changes
 nothing. At a terminal standard error prompts for each line.
 Exit status: 0 done, 1 a fault, 2 bad arguments, 3 a refused image or trace, 4 a trace that doesn't fit.
 ";

@@ -70,6 +70,17 @@ const DOUBLE: &str = "
         addi    a7, zero, 1             # END
 ";
 
+/// Stores one word twice where private memory begins, and ends with its address.
+pub const CHANGED_ONCE: Source = &[
+    "
+        lui     a0, 0x100
+        sw      a0, 0(a0)
+        sw      a0, 0(a0)
+        addi    a7, zero, 1             # END
+        ecall
+",
+];
+
 /// A call that there isn't, a7 being 0.
 pub const CALL_OF_ZERO: Source = &[CALL];
 

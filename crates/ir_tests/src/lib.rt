@@ -18,6 +18,8 @@ mod examples;
 #[cfg(test)]
 mod guests;
 #[cfg(test)]
+mod hit_rows;
+#[cfg(test)]
 mod kept_rows;
 mod laws;
 #[cfg(test)]
