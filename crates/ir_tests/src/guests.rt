@@ -104,6 +104,9 @@ pub const ILLEGAL_WORDS: Source = &[
 /// entry, 6 reads, 11 writes, 14 leaves and 17 ends.
 pub const TWO_COUNTERS: Source = &[ONE_OBJECT, AT_MAIN, AT_MAIN, COUNT];
 
+/// Three threads do so.
+pub const THREE_COUNTERS: Source = &[ONE_OBJECT, AT_MAIN, AT_MAIN, AT_MAIN, COUNT];
+
 /// Eight threads do the same.
 pub const COUNTER: Source = &[
     ONE_OBJECT, AT_MAIN, AT_MAIN, AT_MAIN, AT_MAIN, AT_MAIN, AT_MAIN, AT_MAIN, AT_MAIN, COUNT,

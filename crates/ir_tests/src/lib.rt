@@ -52,5 +52,7 @@ mod streams;
 mod traces;
 #[cfg(test)]
 mod verdict_rows;
+#[cfg(test)]
+mod walk_tests;
 
 pub use laws::recordings_fit;
