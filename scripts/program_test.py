@@ -102,9 +102,9 @@ def run(arguments, folder, **more):
     return subprocess.run([PROGRAM] + shlex.split(arguments), cwd=folder, timeout=120, **more)
 
 
-def shell(command, folder):
-    """A run of a command by bash, in which `./ir` is the program."""
-    return subprocess.run(["bash", "-c", command], cwd=folder, timeout=120, capture_output=True)
+def shell(command, folder, typed=b""):
+    """A run of a command by bash, in which `./ir` is the program, over what is typed."""
+    return subprocess.run(["bash", "-c", command], cwd=folder, timeout=120, input=typed, capture_output=True)
 
 
 def prepare(folder):
@@ -279,16 +279,16 @@ def test_large_order(folder):
 
 
 def commands_of(text):
-    """The commands of the README, with what they write; `..` stands for any lines."""
+    """The commands of the README, each with the lines that are typed at its prompts and those that it writes."""
     commands = []
     for line in text.splitlines():
         if line.startswith("    $ "):
-            commands.append((line[6:], []))
-        elif line.startswith("    ") and commands and commands[-1][1] is not None:
-            commands[-1][1].append(line[4:])
-        elif commands and commands[-1][1] is not None:
-            commands.append(("", None))
-    return [(command, lines) for command, lines in commands if command]
+            commands.append((line[6:], [], []))
+        elif line.startswith("    (ir) ") and commands:
+            commands[-1][1].append(line[9:])
+        elif line.startswith("    ") and commands:
+            commands[-1][2].append(line[4:])
+    return commands
 
 
 def matches(found, wanted):
@@ -305,8 +305,8 @@ def test_readme(folder):
     for name in ("crates", "examples"):
         (folder / name).symlink_to(ROOT / name)
     commands = commands_of((ROOT / "README.md").read_text())
-    for command, wanted in commands:
-        ended = shell(command, folder)
+    for command, typed, wanted in commands:
+        ended = shell(command, folder, "".join(f"{line}\n" for line in typed).encode())
         if wanted and not matches(ended.stdout.decode().splitlines(), wanted):
             raise Wrong(f"{command}: wrote {ended.stdout.decode()!r}")
         wants(f"{command}: standard error", ended.stderr, b"")
