@@ -8,7 +8,7 @@ mod Brought
 mod Ends
 mod Leading
 mod KeptCuts
-mod Points
+mod SetPoints
 mod CarriedOut
 mod Rows
 mod RowsOne

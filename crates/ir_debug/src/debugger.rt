@@ -8,7 +8,7 @@ use crate::bringing::bring;
 use crate::destinations::{destination, first_cut, stop};
 use crate::kept::{KeptCut, MOST_KEPT, forget, kept_cut};
 use crate::next::next_line;
-use crate::points::{Points, clear};
+use crate::points::Points;
 use ir_command::{Command, Direction, Keeping, Move, Point, Refusal, Show};
 use ir_cut::Cut;
 use ir_fit::Fitted;
@@ -43,7 +43,7 @@ impl Model for Debugger {
         fitted = d.fitted;
         at = d.at;
         fresh = d.fresh;
-        points = d.points.items;
+        points = d.points;
         last_point = d.last_point;
         kept = d.kept.items;
         last_kept = d.last_kept;
@@ -56,7 +56,7 @@ impl Model for Debugger {
         fitted = d.fitted;
         at = d.at;
         fresh = d.fresh;
-        points = d.points.items;
+        points = d.points;
         last_point = d.last_point;
         kept = d.kept.items;
         last_kept = d.last_kept;
@@ -91,12 +91,13 @@ impl Debugger {
         let at = first_cut(alloc, &fitted)?;
         let mut kept = Vec::with_capacity(alloc, MOST_KEPT + 1)?;
         kept.push(KeptCut::new(0, at.copy()?))?;
+        let points = Points::new(alloc)?;
         let state = State::start(alloc, &fitted)?;
         Ok(Debugger {
             fitted,
             at,
             fresh: true,
-            points: Points::new(),
+            points,
             last_point: 0,
             kept,
             last_kept: 0,
@@ -327,7 +328,7 @@ impl Debugger {
     {
         self.fresh = false;
         let number = self.last_point + 1;
-        self.points.push(NumberedPoint::new(number, point));
+        self.points.set(NumberedPoint::new(number, point));
         self.last_point = number;
         number
     }
@@ -337,7 +338,7 @@ impl Debugger {
         ensures { self.new.desk ≡ without_point self.old.desk number }
     {
         self.fresh = false;
-        clear(&mut self.points, number);
+        self.points.clear(number);
     }
 
     // The line of the next step of thread t.

@@ -1,9 +1,15 @@
 use Rattle.std.proofs.Common.{◌≡◌, ◌<◌, ◌+◌, ◌++◌, [], ◌∷◌, List, length, length-append, sym, ap, ◌∙◌, subst, arith}
 use Rattle.ir_debug.specs.Debugging.{Debugging}
-use Rattle.ir_debug.specs.Machine.Desk.{Kept, AllKept, Cuts, most_kept}
+use Rattle.ir_debug.specs.Machine.Desk.{Kept, AllKept, Cuts, most_kept, most_number}
 use Rattle.ir_debug.proofs.KeptCuts.{all_more}
-use Rattle.ir_debug.proofs.Passed.{place_left}
+use Rattle.ir_debug.proofs.Passed.{place_left, number_left}
 use Rattle.ir_debug.proofs.debugger.Debugger.keep.Goals as goal
+
+pub overflow_add-number : goal.overflow_add-number
+overflow_add-number c =
+    let left : c.self.inside.last_kept < most_number = subst (λ (z : Debugging). z.desk.last_kept < most_number) (sym c.self.view_is)
+    (number_left c.args.self.now.desk c.requires) in
+    omega (arith, left)
 
 pub invariant_of-self-2 : goal.invariant_of-self-2
 invariant_of-self-2 c =

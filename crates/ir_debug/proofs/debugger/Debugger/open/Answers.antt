@@ -1,4 +1,5 @@
 use Rattle.std.proofs.Common.{◌≡◌, ◌++◌, [], ◌∷◌, List, length, sym, ap, ◌∙◌, subst, arith}
+use Rattle.ir_hits.specs.Hits.{AreWatchable}
 use Rattle.ir_debug.specs.Machine.Desk.{Kept, Cuts, AllKept}
 use Rattle.ir_debug.proofs.Ends.{first_there}
 use Rattle.ir_debug.proofs.debugger.Debugger.open.Goals as goal
@@ -13,7 +14,7 @@ invariant_of-result c =
         run = c.known.ensures.run;
         size = c.in_ok-at.ensures.size;
         at = c.in_ok-at.ensures.consistent;
-        points = tt;
+        points = subst AreWatchable (sym c.in_ok-points.ensures) tt;
         kept = subst (AllKept c.args.fitted) (sym one) (
           subst (Cuts c.args.fitted)
               (sym (ap (λ (k : Kept). k.cut) c.new.ensures ∙ c.in_ok-copy.ensures)) (c.in_ok-at.ensures.size, c.in_ok-at.ensures.consistent),
