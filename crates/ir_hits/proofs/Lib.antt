@@ -1,0 +1,4 @@
+mod Leaves
+mod Hitting
+mod Windows
+mod Standing

@@ -1,14 +1,19 @@
 //! Where points hit a thread, found by taking the thread's steps anew.
 
-ghost use Rattle.std.specs.Prelude.{◌≡◌, ◌<◌, ◌≤◌, ℕ, length, IfOk};
+ghost use Rattle.std.specs.Prelude.{◌≡◌, ◌<◌, ◌≤◌, ◌+◌, ◌-◌, ℕ, length, IfOk};
 ghost use Rattle.ir_trace.specs.TraceOf.{recorded_thread};
-ghost use Rattle.ir_cut.specs.Positions.{EachRun};
+ghost use Rattle.ir_cut.specs.Positions.{EachRun, cut_of};
 ghost use Rattle.ir_weave.specs.Standing.{StandsAt, flat_in};
 ghost use Rattle.ir_weave.specs.States.{positions};
-ghost use Rattle.ir_hits.specs.Hits.{AreWatchable, IsFirstHit, IsLastHit};
+ghost use Rattle.ir_hits.specs.Hits.{AreWatchable, IsFirstHit, IsLastHit, NoneWithin};
+ghost use Rattle.ir_hits.specs.Searching.{AreLast, IsNextHit, reached};
 
+use crate::before::Before;
 use crate::hit::Hit;
 use crate::point::NumberedPoint;
+use crate::seeing::{keep_all, lowest, some_concerns};
+use crate::stepping::{last_cut, take_step};
+use ir_cut::Cut;
 use ir_fit::Fitted;
 use ir_object::Gate;
 use ir_replay::State;
@@ -16,8 +21,45 @@ use std::alloc::{AllocError, Global};
 use std::thread::Threads;
 use std::time::Clock;
 
+// Where a point hits thread t next, at most at a position. The thread goes on to there, and to that position where none does.
+fn next_hit<R: Threads + Clock + Sync, G: Gate + Sync>(
+    rt: &R,
+    alloc: Global,
+    fitted: &Fitted,
+    state: &mut State,
+    t: usize,
+    to: u64,
+    last: &Cut,
+    points: &[NumberedPoint],
+    kept: &mut [Before],
+    gate: &G,
+) -> Result<Option<Hit>, AllocError>
+    requires stands { StandsAt fitted.now (positions (flat_in fitted.now state.old)) state.old }
+    requires thread { t < length fitted.now.guest.entries }
+    requires last { AreLast fitted.now last.now }
+    requires within { (positions (flat_in fitted.now state.old) t ≤ to) × (to ≤ cut_of last.now t) }
+    requires points { AreWatchable points.now }
+    requires size { length kept.old ≡ length points.now }
+    ensures stands { StandsAt fitted.now (positions (flat_in fitted.now state.new)) state.new }
+    ensures hit { IfOk result (λ h. EachRun fitted.now (λ run. IsNextHit fitted.now run points.now t (positions (flat_in fitted.now state.old) t) to h)) }
+    ensures reached { IfOk result (λ h. positions (flat_in fitted.now state.new) t ≡ reached to h) }
+    ensures size { length kept.new ≡ length kept.old }
+{
+    let end = last.position(t);
+    'steps: while state.threads()[t].steps() < to {
+        keep_all(&state.threads()[t], t, points, kept);
+        take_step(rt, alloc, fitted, state, t, last, gate)?;
+        let thread = &state.threads()[t];
+        if let Some(number) = lowest(thread, t, end, points, kept) {
+            let position = thread.steps();
+            return Ok(Some(Hit { position, number }));
+        }
+    }
+    Ok(None)
+}
+
 /// Where a point first hits thread t above the position at which it stands, if one does. The threads and objects go on to there, or
-/// to the thread's last position; the other threads as far as its steps need.
+/// to the thread's last position; the other threads as far as its steps need. Where no point concerns the thread, they stay.
 ///
 /// # Errors
 /// Out of memory, with the threads and objects at some consistent cut.
@@ -36,11 +78,53 @@ pub fn first_hit<R: Threads + Clock + Sync, G: Gate + Sync>(
     ensures stands { StandsAt fitted.now (positions (flat_in fitted.now state.new)) state.new }
     ensures hit { IfOk result (λ h. EachRun fitted.now (λ run. IsFirstHit fitted.now run points.now t (positions (flat_in fitted.now state.old) t) h)) }
 {
-    todo!()
+    if !some_concerns(t, points) {
+        return Ok(None);
+    }
+    let last = last_cut(alloc, fitted)?;
+    let mut kept = vec![in alloc; Before::Nothing; points.len()]?;
+    let to = last.position(t);
+    next_hit(
+        rt, alloc, fitted, state, t, to, &last, points, &mut kept, gate,
+    )
+}
+
+// Where a point last hits thread t, at most at a position, where `found` is the last hit so far.
+fn last_in<R: Threads + Clock + Sync, G: Gate + Sync>(
+    rt: &R,
+    alloc: Global,
+    fitted: &Fitted,
+    state: &mut State,
+    t: usize,
+    to: u64,
+    last: &Cut,
+    points: &[NumberedPoint],
+    kept: &mut [Before],
+    found: Option<Hit>,
+    gate: &G,
+) -> Result<Option<Hit>, AllocError>
+    requires stands { StandsAt fitted.now (positions (flat_in fitted.now state.old)) state.old }
+    requires thread { t < length fitted.now.guest.entries }
+    requires last { AreLast fitted.now last.now }
+    requires within { (positions (flat_in fitted.now state.old) t ≤ to) × (to ≤ cut_of last.now t) }
+    requires points { AreWatchable points.now }
+    requires size { length kept.old ≡ length points.now }
+    requires found { EachRun fitted.now (λ run. IsLastHit fitted.now run points.now t (positions (flat_in fitted.now state.old) t + 1) found) }
+    ensures stands { StandsAt fitted.now (positions (flat_in fitted.now state.new)) state.new }
+    ensures hit { IfOk result (λ h. EachRun fitted.now (λ run. IsLastHit fitted.now run points.now t (to + 1) h)) }
+{
+    let mut found = found;
+    'hits: while let Some(hit) = next_hit(
+        rt, alloc, fitted, state, t, to, last, points, kept, gate,
+    )? {
+        found = Some(hit);
+    }
+    Ok(found)
 }
 
 /// Where a point last hits thread t below a position, if one does. The threads and objects are brought to the start, and go on until
-/// the thread is at the last position below this one; the other threads as far as its steps need.
+/// the thread is at the last position below this one; the other threads as far as its steps need. Where there is no such position,
+/// or no point concerns the thread, they stay.
 ///
 /// # Errors
 /// Out of memory, with the threads and objects at some consistent cut.
@@ -61,5 +145,27 @@ pub fn last_hit<R: Threads + Clock + Sync, G: Gate + Sync>(
     ensures stands { StandsAt fitted.now (positions (flat_in fitted.now state.new)) state.new }
     ensures hit { IfOk result (λ h. EachRun fitted.now (λ run. IsLastHit fitted.now run points.now t below h)) }
 {
-    todo!()
+    if below == 0 || !some_concerns(t, points) {
+        return Ok(None);
+    }
+    let last = last_cut(alloc, fitted)?;
+    let mut kept = vec![in alloc; Before::Nothing; points.len()]?;
+    *state = State::start(alloc, fitted)?;
+    let found = lowest(&state.threads()[t], t, last.position(t), points, &kept).map(|number| Hit {
+        position: 0,
+        number,
+    });
+    last_in(
+        rt,
+        alloc,
+        fitted,
+        state,
+        t,
+        below - 1,
+        &last,
+        points,
+        &mut kept,
+        found,
+        gate,
+    )
 }

@@ -1,0 +1,56 @@
+-- What points see of a thread before and after one of its steps.
+use Rattle.std.specs.Prelude.{◌≡◌, ◌≢◌, ℕ, ◌<◌, ◌≤◌, ⊤, List, length, slice_get, Option, Some, None}
+use Rattle.ir_mach.specs.Memory.{memory_word}
+use Rattle.ir_runs.specs.declared.access.Access.TheVariants.{Writing}
+use Rattle.ir_thread.specs.Held.{held_at}
+use Rattle.ir_thread.specs.State.{State}
+use Rattle.ir_command.specs.declared.command.Point.{Point}
+use Rattle.ir_command.specs.declared.command.Point.TheVariants.{Break, Watch, WatchObject}
+use Rattle.ir_hits.specs.declared.before.Before.{Before}
+use Rattle.ir_hits.specs.declared.before.Before.TheVariants.{Nothing, Word, Inside}
+use Rattle.ir_hits.specs.Hits.{Numbered}
+
+-- whether the point may hit thread t
+abbrev pub Concerns : ℕ → Point → Type 0
+Concerns t (Break u address) = u ≡ t
+Concerns t (Watch u address) = u ≡ t
+Concerns t (WatchObject object) = ⊤
+
+-- some point may
+abbrev pub SomeConcerns : ℕ → List Numbered → Type 0
+SomeConcerns t points = (i : ℕ) × (p : Numbered) × (slice_get points i ≡ Some p) × Concerns t p.point
+
+-- what the point kept of thread t, which was x
+abbrev pub Kept : ℕ → State → Point → Before → Type 0
+Kept t x (Break u address) before = ⊤
+Kept t x (Watch u address) Nothing = u ≢ t
+Kept t x (Watch u address) (Word word) = (u ≡ t) × (word ≡ memory_word x.core.memory address)
+Kept t x (Watch u address) Inside = ⊥
+Kept t x (WatchObject object) Nothing = held_at x.held object ≢ Some Writing
+Kept t x (WatchObject object) (Word word) = ⊥
+Kept t x (WatchObject object) Inside = held_at x.held object ≡ Some Writing
+
+-- what each point kept
+pub record AllKept (t : ℕ) (x : State) (points : List Numbered) (kept : List Before) : Type 0 where
+  pub size : length kept ≡ length points
+  pub each : (i : ℕ) (p : Numbered) (b : Before) → slice_get points i ≡ Some p → slice_get kept i ≡ Some b → Kept t x p.point b
+
+-- the point hits thread t, which is y and whose last position is this, where it kept so much of it before the step
+abbrev pub Hits : ℕ → ℕ → State → Before → Point → Type 0
+Hits t last y before (Break u address) = (u ≡ t) × (y.core.pc ≡ address) × (y.steps < last)
+Hits t last y Nothing (Watch u address) = ⊥
+Hits t last y (Word word) (Watch u address) = word ≢ memory_word y.core.memory address
+Hits t last y Inside (Watch u address) = ⊥
+Hits t last y Nothing (WatchObject object) = ⊥
+Hits t last y (Word word) (WatchObject object) = ⊥
+Hits t last y Inside (WatchObject object) = held_at y.held object ≢ Some Writing
+
+-- point i hits it, which is p
+abbrev pub HitsBy : ℕ → ℕ → State → List Before → List Numbered → ℕ → Numbered → Type 0
+HitsBy t last y kept points i p = (slice_get points i ≡ Some p) × ((b : Before) × (slice_get kept i ≡ Some b) × Hits t last y b p.point)
+
+-- the lowest number of those of the first n points that hit it; or none does
+abbrev pub IsLowestOf : ℕ → ℕ → State → List Before → List Numbered → ℕ → Option ℕ → Type 0
+IsLowestOf t last y kept points n None = (i : ℕ) (p : Numbered) → i < n → HitsBy t last y kept points i p → ⊥
+IsLowestOf t last y kept points n (Some m) = ((i : ℕ) × (p : Numbered) × HitsBy t last y kept points i p × (p.number ≡ m))
+    × ((i : ℕ) (p : Numbered) → i < n → HitsBy t last y kept points i p → m ≤ p.number)

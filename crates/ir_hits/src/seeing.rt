@@ -1,0 +1,121 @@
+//! What points see of a thread before and after one of its steps.
+
+ghost use Rattle.std.specs.Prelude.{◌≡◌, ◌<◌, ◌↔◌, ℕ, true, false, Some, length, slice_get, IsTrue};
+ghost use Rattle.ir_runs.specs.declared.access.Access.TheVariants.{Writing};
+ghost use Rattle.ir_thread.specs.Held.{held_at};
+ghost use Rattle.ir_hits.specs.Hits.{AreWatchable, IsWatchable};
+ghost use Rattle.ir_hits.specs.Seeing.{SomeConcerns, Concerns, Kept, AllKept, Hits, IsLowestOf};
+
+use crate::before::Before;
+use crate::point::NumberedPoint;
+use ir_command::Point;
+use ir_runs::Access;
+use ir_thread::Thread;
+
+// Whether the point may hit thread t.
+fn concerns(t: usize, point: Point) -> bool
+    ensures { IsTrue result ↔ Concerns t point }
+{
+    match point {
+        Point::Break { thread, .. } | Point::Watch { thread, .. } => thread as usize == t,
+        Point::WatchObject { .. } => true,
+    }
+}
+
+// Whether some point may.
+pub fn some_concerns(t: usize, points: &[NumberedPoint]) -> bool
+    ensures { result ≡ false → SomeConcerns t points.now → ⊥ }
+{
+    for i in 0..points.len() {
+        if concerns(t, points[i].point()) {
+            return true;
+        }
+    }
+    false
+}
+
+// Whether the thread is inside the object for writing.
+fn is_writing(thread: &Thread, object: u32) -> bool
+    ensures { IsTrue result ↔ (held_at thread.now.held object ≡ Some Writing) }
+{
+    let held = thread.held();
+    let o = object as usize;
+    o < held.len() && matches!(held[o], Some(Access::Writing))
+}
+
+// What the point keeps of thread t.
+fn keep(thread: &Thread, t: usize, point: Point) -> Before
+    requires { IsWatchable point }
+    ensures { Kept t thread.now point result }
+{
+    match point {
+        Point::Break { .. } => Before::Nothing,
+        Point::Watch { thread: u, address } => {
+            if u as usize == t {
+                Before::Word(thread.mach().load_word(address))
+            } else {
+                Before::Nothing
+            }
+        }
+        Point::WatchObject { object } => {
+            if is_writing(thread, object) {
+                Before::Inside
+            } else {
+                Before::Nothing
+            }
+        }
+    }
+}
+
+// What each point keeps of thread t.
+pub fn keep_all(thread: &Thread, t: usize, points: &[NumberedPoint], kept: &mut [Before])
+    requires points { AreWatchable points.now }
+    requires size { length kept.old ≡ length points.now }
+    ensures { AllKept t thread.now points.now kept.new }
+{
+    for i in 0..points.len() {
+        kept[i] = keep(thread, t, points[i].point());
+    }
+}
+
+// Whether the point hits thread t, whose last position is this, where it kept so much of it before the step.
+fn hits(thread: &Thread, t: usize, last: u64, before: Before, point: Point) -> bool
+    requires { IsWatchable point }
+    ensures { IsTrue result ↔ Hits t last thread.now before point }
+{
+    match point {
+        Point::Break { thread: u, address } => {
+            u as usize == t && thread.mach().pc() == address && thread.steps() < last
+        }
+        Point::Watch { address, .. } => match before {
+            Before::Word(word) => word != thread.mach().load_word(address),
+            Before::Nothing | Before::Inside => false,
+        },
+        Point::WatchObject { object } => match before {
+            Before::Inside => !is_writing(thread, object),
+            Before::Nothing | Before::Word(_) => false,
+        },
+    }
+}
+
+// The lowest number of the points that hit thread t, if one does.
+pub fn lowest(
+    thread: &Thread,
+    t: usize,
+    last: u64,
+    points: &[NumberedPoint],
+    kept: &[Before],
+) -> Option<u32>
+    requires points { AreWatchable points.now }
+    requires size { length kept.now ≡ length points.now }
+    ensures { IsLowestOf t last thread.now kept.now points.now (length points.now) result }
+{
+    let mut found: Option<u32> = None;
+    for i in 0..points.len() {
+        if hits(thread, t, last, kept[i], points[i].point()) {
+            let number = points[i].number();
+            found = Some(found.map_or(number, |least| least.min(number)));
+        }
+    }
+    found
+}
