@@ -2,3 +2,5 @@ mod Leaves
 mod Hitting
 mod Windows
 mod Standing
+mod Seen
+mod Onward

@@ -17,6 +17,7 @@ impl Model for NumberedPoint {
     ghost Value = { Numbered };
 
     ghost view = { λ p. record { number = p.number; point = p.point } };
+
     ghost inverse = { λ p. record { number = p.number; point = p.point } };
 }
 

@@ -12,7 +12,7 @@ use crate::before::Before;
 use crate::hit::Hit;
 use crate::point::NumberedPoint;
 use crate::seeing::{keep_all, lowest, some_concerns};
-use crate::stepping::{last_cut, take_step};
+use crate::stepping::{last_cut, take_step, thread_of};
 use ir_cut::Cut;
 use ir_fit::Fitted;
 use ir_object::Gate;
@@ -46,10 +46,10 @@ fn next_hit<R: Threads + Clock + Sync, G: Gate + Sync>(
     ensures size { length kept.new ≡ length kept.old }
 {
     let end = last.position(t);
-    'steps: while state.threads()[t].steps() < to {
-        keep_all(&state.threads()[t], t, points, kept);
+    'steps: while thread_of(state, t).steps() < to {
+        keep_all(thread_of(state, t), t, points, kept);
         take_step(rt, alloc, fitted, state, t, last, gate)?;
-        let thread = &state.threads()[t];
+        let thread = thread_of(state, t);
         if let Some(number) = lowest(thread, t, end, points, kept) {
             let position = thread.steps();
             return Ok(Some(Hit { position, number }));
@@ -151,7 +151,7 @@ pub fn last_hit<R: Threads + Clock + Sync, G: Gate + Sync>(
     let last = last_cut(alloc, fitted)?;
     let mut kept = vec![in alloc; Before::Nothing; points.len()]?;
     *state = State::start(alloc, fitted)?;
-    let found = lowest(&state.threads()[t], t, last.position(t), points, &kept).map(|number| Hit {
+    let found = lowest(thread_of(state, t), t, last.position(t), points, &kept).map(|number| Hit {
         position: 0,
         number,
     });

@@ -18,6 +18,14 @@ use std::mem;
 use std::thread::Threads;
 use std::time::Clock;
 
+// Thread t.
+pub fn thread_of(state: &State, t: usize) -> &Thread
+    requires { t < length state.now.threads }
+    ensures { result.now ≡ slice_index_or state.now.threads t idle }
+{
+    &state.threads()[t]
+}
+
 // The last positions of the threads.
 pub fn last_cut(alloc: Global, fitted: &Fitted) -> Result<Cut, AllocError>
     ensures { IfOk result (AreLast fitted.now) }
@@ -88,6 +96,7 @@ pub fn take_step<R: Threads + Clock + Sync, G: Gate + Sync>(
     ensures stands { StandsAt fitted.now (positions (flat_in fitted.now state.new)) state.new }
     ensures taken { OnOk result (positions (flat_in fitted.now state.new) t ≡ positions (flat_in fitted.now state.old) t + 1) }
 {
+    fitted.known();
     let none = State::build(Vec::new(alloc), Vec::new(alloc));
     let (here, taken) = advance_alone(fitted, mem::replace(state, none), t, last, 1, gate);
     *state = here;
@@ -95,6 +104,6 @@ pub fn take_step<R: Threads + Clock + Sync, G: Gate + Sync>(
         return Ok(());
     }
     let at = cut_here(alloc, state.threads())?;
-    let next = least(alloc, fitted, &at, t, at.position(t) + 1)?;
+    let next = least(alloc, fitted, &at, t, thread_of(state, t).steps() + 1)?;
     bring(rt, alloc, fitted, state, &next, gate)
 }
