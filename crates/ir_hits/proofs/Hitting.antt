@@ -25,10 +25,11 @@ hit_within f run t j (Break u address) h = omega (arith, h.2)
 hit_within f run t j (Watch u address) h = elim (cases_lt j (steps_of f run t)) [
   | inl l ↦ l
   | inr past ↦
-      let same : j ≡ h.1 = omega (arith, h.2) in
-      absurd (h.3 (ap (λ (x : State). memory_word x.core.memory address) (stays f run t h.1 (subst (λ i. steps_of f run t ≤ i) same past))))
+      let same : j ≡ h.1.0 = omega (arith, h.1.1) in
+      absurd (h.1.2 (ap (λ (x : State). memory_word x.core.memory address)
+      (stays f run t h.1.0 (subst (λ i. steps_of f run t ≤ i) same past))))
 ]
-hit_within f run t j (WatchObject object) h = let within = emits_within f run t h.0 (Out object Writing h.2) h.3 in omega (arith, h.1, within)
+hit_within f run t j (WatchObject object) h = let within = emits_within f run t h.0 (Out object Writing h.2.0) h.2.1 in omega (arith, h.1, within)
 
 -- what hits after step j is seen there
 pub hit_seen : (f : FittedTrace) (run : List Step) → IsRunOf f.guest f.recorded run → (t j last : ℕ)
@@ -37,7 +38,7 @@ pub hit_seen : (f : FittedTrace) (run : List Step) → IsRunOf f.guest f.recorde
 hit_seen f run whole t j last steps all (Break u address) b k h = (h.0, h.1, omega (arith, h.2, steps, all))
 hit_seen f run whole t j last steps all (Watch u address) Nothing k h = k h.0
 hit_seen f run whole t j last steps all (Watch u address) (Word word) k h = λ same.
-    subst (Changes f run t address) (let e : h.1 ≡ j = omega (arith, h.2) in e) h.3 (sym k.1 ∙ same)
+    subst (Changes f run t address) (let e : h.1.0 ≡ j = omega (arith, h.1.1) in e) h.1.2 (sym k.1 ∙ same)
 hit_seen f run whole t j last steps all (Watch u address) Inside k h = k
 hit_seen f run whole t j last steps all (WatchObject object) Nothing k h =
     k (was_inside f run whole t j object (subst (LeavesWritten f run t object) (let e : h.0 ≡ j = omega (arith, h.1) in e) h.2)).0
@@ -61,7 +62,7 @@ seen_hit f run whole t j last less steps all (WatchObject object) Inside k h = (
 pub hit_start : (f : FittedTrace) (run : List Step) (t last : ℕ) → (thread_at f run t 0).steps ≡ 0 → last ≡ steps_of f run t → (p : Point)
     → HitBy f run t 0 p → Hits t last (thread_at f run t 0) Nothing p
 hit_start f run t last steps all (Break u address) h = (h.0, h.1, omega (arith, h.2, steps, all))
-hit_start f run t last steps all (Watch u address) h = omega (arith, h.2)
+hit_start f run t last steps all (Watch u address) h = omega (arith, h.1.1)
 hit_start f run t last steps all (WatchObject object) h = omega (arith, h.1)
 
 pub start_hit : (f : FittedTrace) (run : List Step) (t last : ℕ) → (thread_at f run t 0).steps ≡ 0 → last ≡ steps_of f run t → (p : Point)
@@ -78,7 +79,7 @@ hit_concerns f run t k (WatchObject object) h = tt
 
 pub none_concerns : (f : FittedTrace) (run : List Step) (points : List Numbered) (t : ℕ) → (SomeConcerns t points → ⊥) → (k n : ℕ)
     → HitByNumber f run points t k n → ⊥
-none_concerns f run points t none k n h = none (h.0, (h.1, (h.2, hit_concerns f run t k h.1.point h.4)))
+none_concerns f run points t none k n h = none (h.0, h.1, h.2, hit_concerns f run t k h.1.point h.4)
 
 -- ---- all points
 
@@ -103,13 +104,13 @@ hits_by : (f : FittedTrace) (run : List Step) (points : List Numbered) (kept : L
     → HitsBy t last y kept points i p
 hits_by f run points kept t k last y s i p is h =
     let b = kept_some points kept i p s.size is in
-    (is, (b.0, (b.1, s.seen i p b.0 is b.1 h)))
+    (is, b.0, b.1, s.seen i p b.0 is b.1 h)
 
 -- the lowest number of those that are seen to hit
 pub lowest_hit : (f : FittedTrace) (run : List Step) (points : List Numbered) (kept : List Before) (t k last : ℕ) (y : State) (m : ℕ)
     → IsSeen f run points kept t k last y → IsLowestOf t last y kept points (length points) (Some m) → IsLowest f run points t k m
 lowest_hit f run points kept t k last y m s found = record {
-  hits = let h = found.0 in (h.0, (h.1, (h.2.0, (h.3, s.hit h.0 h.1 h.2.1 h.2.0 h.2.2 h.2.3))));
+  hits = let h = found.0 in (h.0, h.1, h.2.0, h.3, s.hit h.0 h.1 h.2.1 h.2.0 h.2.2 h.2.3);
   lowest = λ n h. subst (λ z. m ≤ z) h.3 (found.1 h.0 h.1 (slice_get_within points h.0 h.1 h.2)
       (hits_by f run points kept t k last y s h.0 h.1 h.2 h.4));
 }

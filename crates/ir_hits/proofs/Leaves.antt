@@ -22,7 +22,7 @@ use Rattle.ir_hits.specs.Hits.{thread_at, steps_of, LeavesWritten}
 -- ---- one step
 
 -- the ask behind a leave
-leave_of : Label → Ask
+abbrev leave_of : Label → Ask
 leave_of Quiet = machine.Private
 leave_of (Answer k v) = machine.Private
 leave_of (In o a v l) = machine.Private
@@ -31,17 +31,17 @@ leave_of (Out o a v) = machine.Leave o a
 
 -- what leaves an object asked to
 leave_asked : (q : Ask) (r o v : ℕ) (b : Object) → emitted (act_of q r) b ≡ Out o Writing v → q ≡ machine.Leave o Writing
-leave_asked machine.Private r o v b e = absurd (cc (ap leave_of e))
-leave_asked (machine.Env k) r o v b e = absurd (cc (ap leave_of e))
-leave_asked (machine.Enter p Reading) r o v b e = absurd (cc (ap leave_of e))
-leave_asked (machine.Enter p Writing) r o v b e = absurd (cc (ap leave_of e))
-leave_asked (machine.Try p) zero o v b e = absurd (cc (ap leave_of e))
-leave_asked (machine.Try p) (suc zero) o v b e = absurd (cc (ap leave_of e))
-leave_asked (machine.Try p) (suc (suc r)) o v b e = absurd (cc (ap leave_of e))
+leave_asked machine.Private r o v b e = absurd (cc e)
+leave_asked (machine.Env k) r o v b e = absurd (cc e)
+leave_asked (machine.Enter p Reading) r o v b e = absurd (cc e)
+leave_asked (machine.Enter p Writing) r o v b e = absurd (cc e)
+leave_asked (machine.Try p) zero o v b e = absurd (cc e)
+leave_asked (machine.Try p) (suc zero) o v b e = absurd (cc e)
+leave_asked (machine.Try p) (suc (suc r)) o v b e = absurd (cc e)
 leave_asked (machine.Leave p a) r o v b e = ap leave_of e
-leave_asked (machine.Get p i) r o v b e = absurd (cc (ap leave_of e))
-leave_asked (machine.Put p i w) r o v b e = absurd (cc (ap leave_of e))
-leave_asked machine.Done r o v b e = absurd (cc (ap leave_of e))
+leave_asked (machine.Get p i) r o v b e = absurd (cc e)
+leave_asked (machine.Put p i w) r o v b e = absurd (cc e)
+leave_asked machine.Done r o v b e = absurd (cc e)
 
 -- what isn't held isn't held for writing
 not_none : (h : Option Access) → h ≡ None → h ≡ Some Writing → ⊥

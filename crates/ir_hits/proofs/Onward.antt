@@ -2,6 +2,7 @@
 use Rattle.std.proofs.Common.{◌≡◌, ℕ, suc, ◌+◌, ◌<◌, ◌≤◌, List, length, Option, Some, None, refl, sym, ap, ◌∙◌, subst, arith}
 use Rattle.std.specs.List.{slice_index_or}
 use Rattle.std.specs.Prelude.{option_map}
+use Rattle.ir_thread.specs.State.{State}
 use Rattle.ir_flat.specs.Flat.{idle}
 use Rattle.ir_runs.specs.Run.{Step}
 use Rattle.ir_fit.specs.Fit.{FittedTrace, IsRunOf}
@@ -20,11 +21,23 @@ use Rattle.ir_hits.proofs.Windows.{none_more, last_first, last_none}
 -- thread t has taken a step, before which the points kept so much
 pub record IsStep (f : FittedTrace) (last : List ℕ) (points : List Numbered) (kept : List Before) (t : ℕ) (old new : Standing)
     : Type 0 where
-  pub last : AreLast f last
+  pub ends : AreLast f last
   pub before : StandsAt f (positions (flat_in f old)) old
   pub after : StandsAt f (positions (flat_in f new)) new
   pub taken : positions (flat_in f new) t ≡ positions (flat_in f old) t + 1
-  pub kept : AllKept t (slice_index_or old.threads t idle) points kept
+  pub all : AllKept t (slice_index_or old.threads t idle) points kept
+
+pub is_step : (f : FittedTrace) (last : List ℕ) (points : List Numbered) (kept : List Before) (t : ℕ) (old new : Standing) (x : State)
+    → x ≡ slice_index_or old.threads t idle → AreLast f last → StandsAt f (positions (flat_in f old)) old
+    → StandsAt f (positions (flat_in f new)) new → positions (flat_in f new) t ≡ positions (flat_in f old) t + 1
+    → AllKept t x points kept → IsStep f last points kept t old new
+is_step f last points kept t old new x is ends before after taken all = record {
+  ends = ends;
+  before = before;
+  after = after;
+  taken = taken;
+  all = subst (λ z. AllKept t z points kept) is all;
+}
 
 seen_step : (f : FittedTrace) (last : List ℕ) (points : List Numbered) (kept : List Before) (t : ℕ) (old new : Standing) (end : ℕ)
     → IsStep f last points kept t old new → end ≡ cut_of last t → (run : List Step) → IsRunOf f.guest f.recorded run
@@ -36,36 +49,39 @@ seen_step f last points kept t old new end s is run whole =
     subst (λ k. IsSeen f run points kept t k end (slice_index_or new.threads t idle)) (sym next)
     (seen_after f run whole points kept t j end (slice_index_or old.threads t idle) (slice_index_or new.threads t idle)
     (thread_here f old s.before run whole t j refl) (thread_here f new s.after run whole t (suc j) next) next
-    (end_steps f last s.last run whole t end is) (omega (arith, within, next)) s.kept)
+    (end_steps f last s.ends run whole t end is) (omega (arith, within, next)) s.all)
 
 -- a point hits there
 pub next_found : (f : FittedTrace) (last : List ℕ) (points : List Numbered) (kept : List Before) (t : ℕ) (old new : Standing) (end p to : ℕ)
-    (h : Hit) → IsStep f last points kept t old new → end ≡ cut_of last t → p ≤ positions (flat_in f old) t
-    → positions (flat_in f old) t < to
+    (y : State) (h : Hit) → y ≡ slice_index_or new.threads t idle → IsStep f last points kept t old new → end ≡ cut_of last t
+    → p ≤ positions (flat_in f old) t → positions (flat_in f old) t < to
     → EachRun f (λ run. NoneWithin f run points t (suc p) (suc (positions (flat_in f old) t)))
-    → IsLowestOf t end (slice_index_or new.threads t idle) kept points (length points) (Some h.number)
+    → (found : Option ℕ) → found ≡ Some h.number → IsLowestOf t end y kept points (length points) found
     → h.position ≡ positions (flat_in f new) t → EachRun f (λ run. IsNextHit f run points t p to (Some h))
-next_found f last points kept t old new end p to h s is low less none found at run whole =
-    let next : h.position ≡ suc (positions (flat_in f old) t) = omega (arith, at, s.taken) in (
+next_found f last points kept t old new end p to y h y_is s is low less none found some all at run whole =
+    let next : h.position ≡ suc (positions (flat_in f old) t) = omega (arith, at, s.taken) in
+    let lowest : IsLowestOf t end (slice_index_or new.threads t idle) kept points (length points) (Some h.number) =
+    subst (λ (z : State × Option ℕ). IsLowestOf t end z.0 kept points (length points) z.1) (λ i. (y_is i, some i)) all in (
       omega (arith, next, low),
       omega (arith, next, less),
       subst (NoneWithin f run points t (suc p)) (sym next) (none run whole),
       subst (λ k. IsLowest f run points t k h.number) (sym at) (lowest_hit f run points kept t (positions (flat_in f new) t) end
-          (slice_index_or new.threads t idle) h.number (seen_step f last points kept t old new end s is run whole) found),
+          (slice_index_or new.threads t idle) h.number (seen_step f last points kept t old new end s is run whole) lowest),
     )
 
 -- or none does
 pub next_none : (f : FittedTrace) (last : List ℕ) (points : List Numbered) (kept : List Before) (t : ℕ) (old new : Standing) (end p : ℕ)
-    → IsStep f last points kept t old new → end ≡ cut_of last t
+    (y : State) → y ≡ slice_index_or new.threads t idle → IsStep f last points kept t old new → end ≡ cut_of last t
     → EachRun f (λ run. NoneWithin f run points t (suc p) (suc (positions (flat_in f old) t)))
-    → IsLowestOf t end (slice_index_or new.threads t idle) kept points (length points) None
+    → (found : Option ℕ) → found ≡ None → IsLowestOf t end y kept points (length points) found
     → EachRun f (λ run. NoneWithin f run points t (suc p) (suc (positions (flat_in f new) t)))
-next_none f last points kept t old new end p s is none found run whole =
+next_none f last points kept t old new end p y y_is s is none found none_is all run whole =
     none_more f run points t (suc p) (positions (flat_in f new) t)
     (subst (NoneWithin f run points t (suc p)) (let e : suc (positions (flat_in f old) t) ≡ positions (flat_in f new) t =
     omega (arith, s.taken) in e) (none run whole))
     (none_hits f run points kept t (positions (flat_in f new) t) end (slice_index_or new.threads t idle)
-    (seen_step f last points kept t old new end s is run whole) found)
+    (seen_step f last points kept t old new end s is run whole)
+    (subst (λ (z : State × Option ℕ). IsLowestOf t end z.0 kept points (length points) z.1) (λ i. (y_is i, none_is i)) all))
 
 -- ---- the start
 

@@ -1,14 +1,15 @@
 -- Loops over points, and over the positions of threads.
-use Rattle.std.proofs.Common.{◌≡◌, ◌≢◌, ℕ, suc, zero, ◌+◌, ◌<◌, ◌≤◌, ◌⊎◌, List, [], ◌∷◌, ◌++◌, length, get_or, Option, Some, None, refl, sym, ap, ◌∙◌, subst, inl, inr, arith, get_or-replicate, length-replicate}
+use Rattle.std.proofs.Common.{◌≡◌, ◌≢◌, ℕ, suc, zero, ◌+◌, ◌<◌, ◌≤◌, ◌⊎◌, List, [], ◌∷◌, ◌++◌, length, get_or, Option, Some, None, refl, sym, ap, ◌∙◌, subst, inl, inr, arith}
 use Rattle.std.specs.Prelude.{slice_get, slice_set, min, replicate}
 use Rattle.std.proofs.lemmas.Bool.{cases_eq, cases_lt}
-use Rattle.std.proofs.lemmas.Option.{same_Some, slice_get_within, get_or_from_slice_get}
-use Rattle.std.proofs.lemmas.List.{get_or-append}
+use Rattle.std.proofs.lemmas.Option.{same_Some, slice_get_within, slice_get_read, slice_get-get_or, get_or_from_slice_get}
+use Rattle.std.proofs.lemmas.List.{get_or_append_left, get_or-replicate, length-replicate}
 use Rattle.std.proofs.Math.Seq.{get_or-append_seam}
 use Rattle.ir_thread.specs.State.{State}
 use Rattle.ir_cut.specs.Positions.{cut_of}
+use Rattle.ir_command.specs.declared.command.Point.{Point}
 use Rattle.ir_hits.specs.Hits.{Numbered, IsWatchable, AreWatchable}
-use Rattle.ir_hits.specs.Seeing.{Concerns, Kept, AllKept, Hits, HitsBy, IsLowestOf}
+use Rattle.ir_hits.specs.Seeing.{Concerns, Kept, AllKept, Hits, HitsBy, IsLowestOf, lower_of}
 use Rattle.ir_hits.specs.declared.before.Before.{Before}
 use Rattle.ir_hits.specs.declared.before.Before.TheVariants.{Nothing}
 
@@ -84,14 +85,14 @@ nothing_kept n i b is =
 pub lowest_same : (t last : ℕ) (y : State) (kept : List Before) (points : List Numbered) (n : ℕ) (q : Numbered) (b : Before)
     → slice_get points n ≡ Some q → slice_get kept n ≡ Some b → (Hits t last y b q.point → ⊥) → (found : Option ℕ)
     → IsLowestOf t last y kept points n found → IsLowestOf t last y kept points (n + 1) found
-lowest_same t last y kept points n q b is was no found h = by found h
+lowest_same t last y kept points n q b is was not found h = by found h
   where
     misses : (i : ℕ) (p : Numbered) → i ≡ n → HitsBy t last y kept points i p → ⊥
-    misses i p same g = no (subst (λ (z : Numbered × Before). Hits t last y z.1 z.0.point)
+    misses i p same g = not (subst (λ (z : Numbered × Before). Hits t last y z.1 z.0.point)
         (λ k. (sym (same_at points n i q p is g.0 same) k, sym (same_at kept n i b g.1 was g.2 same) k)) g.3)
 
     by : (found : Option ℕ) → IsLowestOf t last y kept points n found → IsLowestOf t last y kept points (n + 1) found
-    by None none i p less g = elim (cases_eq i n) [
+    by None none = λ i p less g. elim (cases_eq i n) [
       | inl same ↦ misses i p same g
       | inr ne ↦ none i p (omega (arith, less, ne)) g
     ]
@@ -109,7 +110,7 @@ pub lowest_here : (t last : ℕ) (y : State) (kept : List Before) (points : List
     → ((i : ℕ) (p : Numbered) → i < n → HitsBy t last y kept points i p → q.number ≤ p.number)
     → IsLowestOf t last y kept points (n + 1) (Some q.number)
 lowest_here t last y kept points n q b is was hits low = (
-  (n, (q, ((is, (b, (was, hits))), refl))),
+  (n, q, (is, b, was, hits), refl),
   λ i p less g. elim (cases_eq i n) [
     | inl same ↦ let e : q.number ≡ p.number = ap (λ (z : Numbered). z.number) (same_at points n i q p is g.0 same) in omega (arith, e)
     | inr ne ↦ low i p (omega (arith, less, ne)) g
@@ -128,11 +129,7 @@ lowest_there t last y kept points n m q is low some = (
   ],
 )
 
--- the lowest number so far and the next that hits
-abbrev pub lower_of : Option ℕ → ℕ → ℕ
-lower_of None n = n
-lower_of (Some m) n = min m n
-
+-- the lowest number so far, and the next that hits
 pub lowest_more : (t last : ℕ) (y : State) (kept : List Before) (points : List Numbered) (n : ℕ) (q : Numbered) (b : Before)
     → slice_get points n ≡ Some q → slice_get kept n ≡ Some b → Hits t last y b q.point → (found : Option ℕ)
     → IsLowestOf t last y kept points n found → IsLowestOf t last y kept points (n + 1) (Some (lower_of found q.number))
@@ -145,6 +142,24 @@ lowest_more t last y kept points n q b is was hits (Some m) some = elim (cases_l
       (lowest_there t last y kept points n m q is past some)
 ]
 
+-- the same of what is read of both lists
+pub lowest_passed : (t last : ℕ) (y : State) (kept : List Before) (points : List Numbered) (n : ℕ) (q : Numbered) (d : Before) (at : Point)
+    → n < length points → length kept ≡ length points → q ≡ get_or points n q → at ≡ q.point → (Hits t last y (get_or kept n d) at → ⊥)
+    → (found next : Option ℕ) → next ≡ found → IsLowestOf t last y kept points n found → IsLowestOf t last y kept points (n + 1) next
+lowest_passed t last y kept points n q d at l size is of not found next same h =
+    subst (IsLowestOf t last y kept points (n + 1)) (sym same)
+    (lowest_same t last y kept points n q (get_or kept n d) (slice_get_read points (length points) n q refl l is)
+    (slice_get-get_or kept n d (omega (arith, l, size))) (λ g. not (subst (Hits t last y (get_or kept n d)) (sym of) g)) found h)
+
+pub lowest_taken : (t last : ℕ) (y : State) (kept : List Before) (points : List Numbered) (n : ℕ) (q : Numbered) (d : Before) (at : Point)
+    → n < length points → length kept ≡ length points → q ≡ get_or points n q → at ≡ q.point → Hits t last y (get_or kept n d) at
+    → (found next : Option ℕ) (number lower : ℕ) → number ≡ q.number → lower ≡ lower_of found number → next ≡ Some lower
+    → IsLowestOf t last y kept points n found → IsLowestOf t last y kept points (n + 1) next
+lowest_taken t last y kept points n q d at l size is of hits found next number lower named low same h =
+    subst (IsLowestOf t last y kept points (n + 1)) (sym (same ∙ ap Some (low ∙ ap (lower_of found) named)))
+    (lowest_more t last y kept points n q (get_or kept n d) (slice_get_read points (length points) n q refl l is)
+    (slice_get-get_or kept n d (omega (arith, l, size))) (subst (Hits t last y (get_or kept n d)) of hits) found h)
+
 -- ---- positions
 
 -- one more number of a list, at its end
@@ -152,5 +167,5 @@ pub one_more : (xs ys : List ℕ) (x n : ℕ) (of : ℕ → ℕ) → ys ≡ xs +
     → ((u : ℕ) → u < n → cut_of xs u ≡ of u) → (u : ℕ) → u < n + 1 → cut_of ys u ≡ of u
 one_more xs ys x n of more size is before u less = ap (λ zs. cut_of zs u) more ∙ elim (cases_eq u n) [
   | inl same ↦ ap (cut_of (xs ++ x ∷ [])) (same ∙ sym size) ∙ get_or-append_seam xs x [] 0 ∙ is ∙ ap of (sym same)
-  | inr ne ↦ get_or-append xs (x ∷ []) 0 u (omega (arith, less, ne, size)) ∙ before u (omega (arith, less, ne))
+  | inr ne ↦ get_or_append_left xs (x ∷ []) 0 u (omega (arith, less, ne, size)) ∙ before u (omega (arith, less, ne))
 ]

@@ -80,12 +80,19 @@ pub record IsHere (f : FittedTrace) (s : Standing) (at : List ℕ) : Type 0 wher
   pub consistent : IsConsistentCut f at
   pub here : (t : ℕ) → positions (flat_in f s) t ≡ cut_of at t
 
-pub is_here : (f : FittedTrace) (s : Standing) (at : List ℕ) → StandsAt f (positions (flat_in f s)) s → length at ≡ length s.threads
+here_by : (f : FittedTrace) (s : Standing) (at : List ℕ) → StandsAt f (positions (flat_in f s)) s → length at ≡ length s.threads
     → ((t : ℕ) → t < length s.threads → cut_of at t ≡ (slice_index_or s.threads t idle).steps) → IsHere f s at
-is_here f s at stands size here = record {
+here_by f s at stands size here = record {
   size = size ∙ stands.at.threads;
   consistent = λ run whole. subst (λ (p : Cut). IsCut (machine_of f) (start_of f) run p × Consistent (machine_of f) (start_of f) run p)
       (fun_ext (cut_same f s at size here))
       ((stands.at.each run whole).cut, (stands.at.each run whole).consistent);
   here = cut_same f s at size here;
 }
+
+-- the cut that is read off these threads
+pub is_here : (f : FittedTrace) (s : Standing) (at : List ℕ) (threads : List thread.State) → threads ≡ s.threads
+    → StandsAt f (positions (flat_in f s)) s → length at ≡ length threads
+    → ((t : ℕ) → t < length threads → cut_of at t ≡ (slice_index_or threads t idle).steps) → IsHere f s at
+is_here f s at threads same stands size here = here_by f s at stands (size ∙ ap length same)
+    (subst (λ (xs : List thread.State). (t : ℕ) → t < length xs → cut_of at t ≡ (slice_index_or xs t idle).steps) same here)

@@ -1,5 +1,5 @@
 -- Windows of a thread's positions, one after the other.
-use Rattle.std.proofs.Common.{◌≡◌, ◌≢◌, ℕ, suc, ◌+◌, ◌<◌, ◌≤◌, List, Option, Some, None, refl, sym, ap, ◌∙◌, subst, inl, inr, arith}
+use Rattle.std.proofs.Common.{◌≡◌, ◌≢◌, ℕ, suc, zero, ◌+◌, ◌<◌, ◌≤◌, List, Option, Some, None, refl, sym, ap, ◌∙◌, subst, inl, inr, arith}
 use Rattle.std.proofs.lemmas.Bool.{cases_eq, cases_lt}
 use Rattle.ir_runs.specs.Run.{Step}
 use Rattle.ir_fit.specs.Fit.{FittedTrace}
@@ -38,7 +38,7 @@ first_next f run points t p to all None next = λ j n above h. elim (cases_lt j 
 ]
   where
     behind : (j n : ℕ) → suc to ≤ j → HitByNumber f run points t j n → ⊥
-    behind 0 n past h = omega (arith, past)
+    behind zero n past h = omega (arith, past)
     behind (suc j) n past h = let within = hit_within f run t j h.1.point h.4 in omega (arith, past, within, all)
 
 -- a hit is the last up to where it stands

@@ -1,5 +1,5 @@
 -- What points see of a thread before and after one of its steps.
-use Rattle.std.specs.Prelude.{◌≡◌, ◌≢◌, ℕ, ◌<◌, ◌≤◌, ⊤, List, length, slice_get, Option, Some, None}
+use Rattle.std.specs.Prelude.{◌≡◌, ◌≢◌, ℕ, ◌<◌, ◌≤◌, ⊤, List, length, slice_get, min, Option, Some, None}
 use Rattle.ir_mach.specs.Memory.{memory_word}
 use Rattle.ir_runs.specs.declared.access.Access.TheVariants.{Writing}
 use Rattle.ir_thread.specs.Held.{held_at}
@@ -47,7 +47,12 @@ Hits t last y Inside (WatchObject object) = held_at y.held object ≢ Some Writi
 
 -- point i hits it, which is p
 abbrev pub HitsBy : ℕ → ℕ → State → List Before → List Numbered → ℕ → Numbered → Type 0
-HitsBy t last y kept points i p = (slice_get points i ≡ Some p) × ((b : Before) × (slice_get kept i ≡ Some b) × Hits t last y b p.point)
+HitsBy t last y kept points i p = (slice_get points i ≡ Some p) × (b : Before) × (slice_get kept i ≡ Some b) × Hits t last y b p.point
+
+-- the lower of both numbers, where there are two
+abbrev pub lower_of : Option ℕ → ℕ → ℕ
+lower_of None n = n
+lower_of (Some m) n = min m n
 
 -- the lowest number of those of the first n points that hit it; or none does
 abbrev pub IsLowestOf : ℕ → ℕ → State → List Before → List Numbered → ℕ → Option ℕ → Type 0

@@ -81,6 +81,7 @@ pub fn first_hit<R: Threads + Clock + Sync, G: Gate + Sync>(
     if !some_concerns(t, points) {
         return Ok(None);
     }
+    fitted.known();
     let last = last_cut(alloc, fitted)?;
     let mut kept = vec![in alloc; Before::Nothing; points.len()]?;
     let to = last.position(t);
@@ -113,6 +114,7 @@ fn last_in<R: Threads + Clock + Sync, G: Gate + Sync>(
     ensures stands { StandsAt fitted.now (positions (flat_in fitted.now state.new)) state.new }
     ensures hit { IfOk result (λ h. EachRun fitted.now (λ run. IsLastHit fitted.now run points.now t (to + 1) h)) }
 {
+    fitted.known();
     let mut found = found;
     'hits: while let Some(hit) = next_hit(
         rt, alloc, fitted, state, t, to, last, points, kept, gate,

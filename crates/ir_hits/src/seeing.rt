@@ -4,7 +4,7 @@ ghost use Rattle.std.specs.Prelude.{◌≡◌, ◌<◌, ◌↔◌, ℕ, true, fa
 ghost use Rattle.ir_runs.specs.declared.access.Access.TheVariants.{Writing};
 ghost use Rattle.ir_thread.specs.Held.{held_at};
 ghost use Rattle.ir_hits.specs.Hits.{AreWatchable, IsWatchable};
-ghost use Rattle.ir_hits.specs.Seeing.{SomeConcerns, Concerns, Kept, AllKept, Hits, IsLowestOf};
+ghost use Rattle.ir_hits.specs.Seeing.{SomeConcerns, Concerns, Kept, AllKept, Hits, IsLowestOf, lower_of};
 
 use crate::before::Before;
 use crate::point::NumberedPoint;
@@ -98,6 +98,13 @@ fn hits(thread: &Thread, t: usize, last: u64, before: Before, point: Point) -> b
     }
 }
 
+// The lower of both numbers, where there are two.
+fn lower(found: Option<u32>, number: u32) -> u32
+    ensures { result ≡ lower_of found number }
+{
+    found.map_or(number, |least| least.min(number))
+}
+
 // The lowest number of the points that hit thread t, if one does.
 pub fn lowest(
     thread: &Thread,
@@ -112,9 +119,10 @@ pub fn lowest(
 {
     let mut found: Option<u32> = None;
     for i in 0..points.len() {
-        if hits(thread, t, last, kept[i], points[i].point()) {
-            let number = points[i].number();
-            found = Some(found.map_or(number, |least| least.min(number)));
+        let point = points[i];
+        let before = kept[i];
+        if hits(thread, t, last, before, point.point()) {
+            found = Some(lower(found, point.number()));
         }
     }
     found

@@ -1,4 +1,3 @@
-use Rattle.std.proofs.Common.{subst, ap}
 use Rattle.ir_replay.proofs.Reached.{target_at, under_at, alone_stands, alone_below, alone_gone, alone_rests}
 use Rattle.ir_replay.proofs.alone.advance_alone.Goals as goal
 
