@@ -1,7 +1,6 @@
 -- What a step of a thread shows of the points.
 use Rattle.std.proofs.Common.{◌≡◌, ℕ, suc, ◌+◌, ◌<◌, ◌≤◌, List, length, Option, Some, None, refl, sym, ap, ◌∙◌, subst, arith}
 use Rattle.std.specs.List.{slice_index_or}
-use Rattle.std.specs.Prelude.{option_map}
 use Rattle.ir_thread.specs.State.{State}
 use Rattle.ir_flat.specs.Flat.{idle}
 use Rattle.ir_runs.specs.Run.{Step}
@@ -10,7 +9,7 @@ use Rattle.ir_cut.specs.Positions.{cut_of, EachRun}
 use Rattle.ir_weave.specs.Standing.{Standing, StandsAt, flat_in}
 use Rattle.ir_weave.specs.States.{positions}
 use Rattle.ir_hits.specs.Hits.{Numbered, NoneWithin, IsLowest, IsLastHit, steps_of}
-use Rattle.ir_hits.specs.Searching.{AreLast, IsNextHit}
+use Rattle.ir_hits.specs.Searching.{AreLast, IsNextHit, IsStartHit}
 use Rattle.ir_hits.specs.Seeing.{AllKept, IsLowestOf}
 use Rattle.ir_hits.specs.declared.before.Before.{Before}
 use Rattle.ir_hits.specs.declared.hit.Hit.{Hit}
@@ -96,16 +95,17 @@ seen_start f last points kept t s end are start is size none run whole =
     (end_steps f last are run whole t end is) size none
 
 -- the hit at the start, if there is one, is the last so far
-pub start_last : (f : FittedTrace) (last : List ℕ) (points : List Numbered) (kept : List Before) (t : ℕ) (s : Standing) (end : ℕ)
-    → AreLast f last → AtStart f s t → end ≡ cut_of last t → length kept ≡ length points → AllNothing kept → (found : Option ℕ)
-    → IsLowestOf t end (slice_index_or s.threads t idle) kept points (length points) found
-    → EachRun f (λ run. IsLastHit f run points t (positions (flat_in f s) t + 1)
-    (option_map (λ n. record { position = 0; number = n }) found))
-start_last f last points kept t s end are start is size none None found run whole =
+pub start_last : (f : FittedTrace) (last : List ℕ) (points : List Numbered) (kept : List Before) (t : ℕ) (s : Standing) (end : ℕ) (y : State)
+    → y ≡ slice_index_or s.threads t idle → AreLast f last → AtStart f s t → end ≡ cut_of last t → length kept ≡ length points
+    → AllNothing kept → (found : Option Hit) → IsStartHit t end y kept points found
+    → EachRun f (λ run. IsLastHit f run points t (positions (flat_in f s) t + 1) found)
+start_last f last points kept t s end y y_is are start is size none None found run whole =
     last_none f run points t (positions (flat_in f s) t) start.1
     (none_hits f run points kept t 0 end (slice_index_or s.threads t idle)
-    (seen_start f last points kept t s end are start is size none run whole) found)
-start_last f last points kept t s end are start is size none (Some n) found run whole =
-    last_first f run points t (positions (flat_in f s) t) n start.1
-    (lowest_hit f run points kept t 0 end (slice_index_or s.threads t idle) n
-    (seen_start f last points kept t s end are start is size none run whole) found)
+    (seen_start f last points kept t s end are start is size none run whole)
+    (subst (λ z. IsLowestOf t end z kept points (length points) None) y_is found))
+start_last f last points kept t s end y y_is are start is size none (Some h) found run whole =
+    last_first f run points t (positions (flat_in f s) t) h start.1 found.0
+    (lowest_hit f run points kept t 0 end (slice_index_or s.threads t idle) h.number
+    (seen_start f last points kept t s end are start is size none run whole)
+    (subst (λ z. IsLowestOf t end z kept points (length points) (Some h.number)) y_is found.1))

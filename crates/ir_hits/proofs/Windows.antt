@@ -58,9 +58,13 @@ last_stays f run points t p to within None last next =
     none_both f run points t 0 (p + 1) (to + 1) last up
 
 -- the start is the last position so far
-pub last_first : (f : FittedTrace) (run : List Step) (points : List Numbered) (t p n : ℕ) → p ≡ 0 → IsLowest f run points t 0 n
-    → IsLastHit f run points t (p + 1) (Some (record { position = 0; number = n }))
-last_first f run points t p n start here = (omega (arith, start), none_yet f run points t 1 (p + 1) (omega (arith, start)), here)
+pub last_first : (f : FittedTrace) (run : List Step) (points : List Numbered) (t p : ℕ) (h : Hit) → p ≡ 0 → h.position ≡ 0
+    → IsLowest f run points t 0 h.number → IsLastHit f run points t (p + 1) (Some h)
+last_first f run points t p h start at here = (
+  omega (arith, start, at),
+  none_yet f run points t (suc h.position) (p + 1) (omega (arith, start, at)),
+  subst (λ k. IsLowest f run points t k h.number) (sym at) here,
+)
 
 pub last_none : (f : FittedTrace) (run : List Step) (points : List Numbered) (t p : ℕ) → p ≡ 0
     → ((n : ℕ) → HitByNumber f run points t 0 n → ⊥) → IsLastHit f run points t (p + 1) None

@@ -4,6 +4,9 @@ use Rattle.ir_trace.specs.TraceOf.{recorded_thread}
 use Rattle.ir_runs.specs.Run.{Step}
 use Rattle.ir_fit.specs.Fit.{FittedTrace}
 use Rattle.ir_cut.specs.Positions.{cut_of}
+use Rattle.ir_thread.specs.State.{State}
+use Rattle.ir_hits.specs.declared.before.Before.{Before}
+use Rattle.ir_hits.specs.Seeing.{IsLowestOf}
 use Rattle.ir_hits.specs.Hits.{Numbered, NoneWithin, IsLowest}
 use Rattle.ir_hits.specs.declared.hit.Hit.{Hit}
 
@@ -22,3 +25,8 @@ IsNextHit f run points t p to None = NoneWithin f run points t (suc p) (suc to)
 abbrev pub reached : ℕ → Option Hit → ℕ
 reached to (Some h) = h.position
 reached to None = to
+
+-- the points hit thread t at its start, where it is y and they kept so much; or none does
+abbrev pub IsStartHit : ℕ → ℕ → State → List Before → List Numbered → Option Hit → Type 0
+IsStartHit t last y kept points (Some h) = (h.position ≡ 0) × IsLowestOf t last y kept points (length points) (Some h.number)
+IsStartHit t last y kept points None = IsLowestOf t last y kept points (length points) None

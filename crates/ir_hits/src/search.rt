@@ -6,7 +6,7 @@ ghost use Rattle.ir_cut.specs.Positions.{EachRun, cut_of};
 ghost use Rattle.ir_weave.specs.Standing.{StandsAt, flat_in};
 ghost use Rattle.ir_weave.specs.States.{positions};
 ghost use Rattle.ir_hits.specs.Hits.{AreWatchable, IsFirstHit, IsLastHit, NoneWithin};
-ghost use Rattle.ir_hits.specs.Searching.{AreLast, IsNextHit, reached};
+ghost use Rattle.ir_hits.specs.Searching.{AreLast, IsNextHit, IsStartHit, reached};
 
 use crate::before::Before;
 use crate::hit::Hit;
@@ -17,6 +17,7 @@ use ir_cut::Cut;
 use ir_fit::Fitted;
 use ir_object::Gate;
 use ir_replay::State;
+use ir_thread::Thread;
 use std::alloc::{AllocError, Global};
 use std::thread::Threads;
 use std::time::Clock;
@@ -90,6 +91,25 @@ pub fn first_hit<R: Threads + Clock + Sync, G: Gate + Sync>(
     )
 }
 
+// The hit of thread t at its start, if a point hits there.
+fn start_hit(
+    thread: &Thread,
+    t: usize,
+    end: u64,
+    points: &[NumberedPoint],
+    kept: &[Before],
+) -> Option<Hit>
+    requires points { AreWatchable points.now }
+    requires size { length kept.now ≡ length points.now }
+    ensures { IsStartHit t end thread.now kept.now points.now result }
+{
+    let number = lowest(thread, t, end, points, kept)?;
+    Some(Hit {
+        position: 0,
+        number,
+    })
+}
+
 // Where a point last hits thread t, at most at a position, where `found` is the last hit so far.
 fn last_in<R: Threads + Clock + Sync, G: Gate + Sync>(
     rt: &R,
@@ -153,10 +173,7 @@ pub fn last_hit<R: Threads + Clock + Sync, G: Gate + Sync>(
     let last = last_cut(alloc, fitted)?;
     let mut kept = vec![in alloc; Before::Nothing; points.len()]?;
     *state = State::start(alloc, fitted)?;
-    let found = lowest(thread_of(state, t), t, last.position(t), points, &kept).map(|number| Hit {
-        position: 0,
-        number,
-    });
+    let found = start_hit(thread_of(state, t), t, last.position(t), points, &kept);
     last_in(
         rt,
         alloc,
