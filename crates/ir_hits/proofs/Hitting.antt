@@ -1,10 +1,10 @@
 -- Where points hit a thread of a run, by what they see of it before and after its steps.
-use Rattle.std.proofs.Common.{◌≡◌, ◌≢◌, ℕ, suc, ◌<◌, ◌≤◌, List, length, Option, Some, None, refl, sym, ap, ◌∙◌, subst, inl, inr, arith}
+use Rattle.std.proofs.Common.{◌≡◌, ℕ, suc, ◌<◌, ◌≤◌, List, length, Some, None, refl, sym, ap, ◌∙◌, subst, inl, inr, arith}
 use Rattle.std.specs.Prelude.{slice_get}
 use Rattle.std.proofs.lemmas.Bool.{cases_lt}
-use Rattle.std.proofs.lemmas.Option.{slice_get_within, slice_get_cases, same_Some}
+use Rattle.std.proofs.lemmas.Option.{slice_get_within, slice_get_cases}
 use Rattle.ir_mach.specs.Memory.{memory_word}
-use Rattle.ir_runs.specs.Labels.{Label, Out}
+use Rattle.ir_runs.specs.Labels.{Out}
 use Rattle.ir_runs.specs.declared.access.Access.TheVariants.{Writing}
 use Rattle.ir_runs.specs.Run.{Step}
 use Rattle.ir_thread.specs.State.{State}
@@ -12,7 +12,7 @@ use Rattle.ir_fit.specs.Fit.{FittedTrace, IsRunOf}
 use Rattle.ir_command.specs.declared.command.Point.{Point}
 use Rattle.ir_command.specs.declared.command.Point.TheVariants.{Break, Watch, WatchObject}
 use Rattle.ir_hits.specs.Hits.{Numbered, thread_at, steps_of, HitBy, HitByNumber, Changes, LeavesWritten, IsLowest}
-use Rattle.ir_hits.specs.Seeing.{Concerns, SomeConcerns, Kept, AllKept, Hits, HitsBy, IsLowestOf}
+use Rattle.ir_hits.specs.Seeing.{Kept, AllKept, Hits, HitsBy, IsLowestOf}
 use Rattle.ir_hits.specs.declared.before.Before.{Before}
 use Rattle.ir_hits.specs.declared.before.Before.TheVariants.{Nothing, Word, Inside}
 use Rattle.ir_hits.proofs.Leaves.{emits_within, stays, was_inside, leaves}
@@ -70,16 +70,6 @@ pub start_hit : (f : FittedTrace) (run : List Step) (t last : ℕ) → (thread_a
 start_hit f run t last steps all (Break u address) h = (h.0, h.1, omega (arith, h.2, steps, all))
 start_hit f run t last steps all (Watch u address) h = absurd h
 start_hit f run t last steps all (WatchObject object) h = absurd h
-
--- a point that doesn't concern the thread never hits it
-hit_concerns : (f : FittedTrace) (run : List Step) (t k : ℕ) (p : Point) → HitBy f run t k p → Concerns t p
-hit_concerns f run t k (Break u address) h = h.0
-hit_concerns f run t k (Watch u address) h = h.0
-hit_concerns f run t k (WatchObject object) h = tt
-
-pub none_concerns : (f : FittedTrace) (run : List Step) (points : List Numbered) (t : ℕ) → (SomeConcerns t points → ⊥) → (k n : ℕ)
-    → HitByNumber f run points t k n → ⊥
-none_concerns f run points t none k n h = none (h.0, h.1, h.2, hit_concerns f run t k h.1.point h.4)
 
 -- ---- all points
 

@@ -1,6 +1,6 @@
 -- A thread's leaves after writing, by what it holds before and after its steps.
 use Rattle.std.proofs.Common.{◌≡◌, ◌≢◌, ℕ, suc, zero, ◌<◌, ◌≤◌, List, [], ◌∷◌, length, Option, Some, None, refl, sym, ap, ◌∙◌, subst, inl, inr, arith, get_or}
-use Rattle.std.proofs.lemmas.Bool.{cases_eq, cases_lt}
+use Rattle.std.proofs.lemmas.Bool.{cases_eq}
 use Rattle.std.proofs.lemmas.Option.{same_Some}
 use Rattle.ir_runs.specs.Machine.{Machine, Ask, act_of, upd, held_after, Holds}
 use Rattle.ir_runs.specs.Machine as machine
@@ -9,7 +9,7 @@ use Rattle.ir_runs.specs.declared.access.Access.{Access}
 use Rattle.ir_runs.specs.declared.access.Access.TheVariants.{Reading, Writing}
 use Rattle.ir_runs.specs.Object.{Object, reply, emitted}
 use Rattle.ir_runs.specs.Run.{Step, trail, thread_in, end}
-use Rattle.ir_runs.specs.Cuts.{At, Emits}
+use Rattle.ir_runs.specs.Cuts.{Emits}
 use Rattle.ir_runs.proofs.CallerLemmas.{upd_same, upd_other}
 use Rattle.ir_thread.specs.State as thread
 use Rattle.ir_thread.specs.Held.{held_at}

@@ -1,5 +1,5 @@
 -- What a step of a thread shows of the points.
-use Rattle.std.proofs.Common.{◌≡◌, ℕ, suc, ◌+◌, ◌<◌, ◌≤◌, List, length, Option, Some, None, refl, sym, ap, ◌∙◌, subst, arith}
+use Rattle.std.proofs.Common.{◌≡◌, ℕ, suc, ◌+◌, ◌<◌, ◌≤◌, List, length, Option, Some, None, refl, sym, subst, arith}
 use Rattle.std.specs.List.{slice_index_or}
 use Rattle.ir_thread.specs.State.{State}
 use Rattle.ir_flat.specs.Flat.{idle}
@@ -8,7 +8,7 @@ use Rattle.ir_fit.specs.Fit.{FittedTrace, IsRunOf}
 use Rattle.ir_cut.specs.Positions.{cut_of, EachRun}
 use Rattle.ir_weave.specs.Standing.{Standing, StandsAt, flat_in}
 use Rattle.ir_weave.specs.States.{positions}
-use Rattle.ir_hits.specs.Hits.{Numbered, NoneWithin, IsLowest, IsLastHit, steps_of}
+use Rattle.ir_hits.specs.Hits.{Numbered, NoneWithin, IsLowest, IsLastHit}
 use Rattle.ir_hits.specs.Searching.{AreLast, IsNextHit, IsStartHit}
 use Rattle.ir_hits.specs.Seeing.{AllKept, IsLowestOf}
 use Rattle.ir_hits.specs.declared.before.Before.{Before}

@@ -1,41 +1,20 @@
 -- Loops over points, and over the positions of threads.
-use Rattle.std.proofs.Common.{◌≡◌, ◌≢◌, ℕ, suc, zero, ◌+◌, ◌<◌, ◌≤◌, ◌⊎◌, List, [], ◌∷◌, ◌++◌, length, get_or, Option, Some, None, refl, sym, ap, ◌∙◌, subst, inl, inr, arith}
-use Rattle.std.specs.Prelude.{slice_get, slice_set, min, replicate}
+use Rattle.std.proofs.Common.{◌≡◌, ℕ, ◌+◌, ◌<◌, ◌≤◌, List, length, get_or, Option, Some, None, refl, sym, ap, ◌∙◌, subst, inl, inr, arith}
+use Rattle.std.specs.Prelude.{slice_get, min, replicate}
 use Rattle.std.proofs.lemmas.Bool.{cases_eq, cases_lt}
 use Rattle.std.proofs.lemmas.Option.{same_Some, slice_get_within, slice_get_read, slice_get-get_or, get_or_from_slice_get}
-use Rattle.std.proofs.lemmas.List.{get_or_append_left, get_or-replicate, length-replicate}
-use Rattle.std.proofs.Math.Seq.{get_or-append_seam}
+use Rattle.std.proofs.lemmas.List.{get_or-replicate, length-replicate}
 use Rattle.ir_thread.specs.State.{State}
-use Rattle.ir_cut.specs.Positions.{cut_of}
 use Rattle.ir_command.specs.declared.command.Point.{Point}
-use Rattle.ir_hits.specs.Hits.{Numbered, IsWatchable, AreWatchable}
-use Rattle.ir_hits.specs.Seeing.{Concerns, Kept, AllKept, Hits, HitsBy, IsLowestOf, lower_of}
+use Rattle.ir_hits.specs.Hits.{Numbered}
+use Rattle.ir_hits.specs.Seeing.{Concerns, Kept, Hits, HitsBy, IsLowestOf, lower_of}
 use Rattle.ir_hits.specs.declared.before.Before.{Before}
 use Rattle.ir_hits.specs.declared.before.Before.TheVariants.{Nothing}
 
 -- ---- elements
 
--- what stands in the list is what is written, or stood there
-set_seen : {X : Type 0} (xs : List X) (i o : ℕ) (w y : X) → slice_get (slice_set xs i w) o ≡ Some y → ((o ≡ i) × (y ≡ w))
-    ⊎ ((o ≢ i) × (slice_get xs o ≡ Some y))
-set_seen [] i o w y e = absurd (let bad : None ≡ Some y = e in cc)
-set_seen (x ∷ xs) zero zero w y e = inl (refl, sym (same_Some w y e))
-set_seen (x ∷ xs) zero (suc o) w y e = inr ((λ q. absurd (omega (arith, q))), e)
-set_seen (x ∷ xs) (suc i) zero w y e = inr ((λ q. absurd (omega (arith, q))), e)
-set_seen (x ∷ xs) (suc i) (suc o) w y e = elim (set_seen xs i o w y e) [
-  | inl h ↦ inl (ap suc h.0, h.1)
-  | inr h ↦ inr ((λ q. h.0 (omega (arith, q))), h.1)
-]
-
 same_at : {X : Type 0} (xs : List X) (i j : ℕ) (x y : X) → slice_get xs i ≡ Some x → slice_get xs j ≡ Some y → j ≡ i → x ≡ y
 same_at xs i j x y one two same = same_Some x y (sym one ∙ ap (slice_get xs) (sym same) ∙ two)
-
--- each point may be watched
-pub watchable : (points : List Numbered) (i : ℕ) (d : Numbered) → AreWatchable points → i < length points
-    → IsWatchable (get_or points i d).point
-watchable [] i d all l = absurd (omega (arith, l))
-watchable (p ∷ points) zero d all l = all.0
-watchable (p ∷ points) (suc i) d all l = watchable points i d all.1 (omega (arith, l))
 
 -- ---- points that may hit
 
@@ -43,35 +22,12 @@ watchable (p ∷ points) (suc i) d all l = watchable points i d all.1 (omega (ar
 abbrev pub NoneConcerns : ℕ → List Numbered → ℕ → Type 0
 NoneConcerns t points n = (j : ℕ) (p : Numbered) → j < n → slice_get points j ≡ Some p → Concerns t p.point → ⊥
 
-pub concerns_more : (t : ℕ) (points : List Numbered) (n : ℕ) (q : Numbered) → slice_get points n ≡ Some q → (Concerns t q.point → ⊥)
-    → NoneConcerns t points n → NoneConcerns t points (n + 1)
-concerns_more t points n q is none before j p less here c = elim (cases_eq j n) [
-  | inl same ↦ none (subst (λ (z : Numbered). Concerns t z.point) (sym (same_at points n j q p is here same)) c)
-  | inr ne ↦ before j p (omega (arith, less, ne)) here c
-]
-
 -- ---- what points keep
 
 -- the first n points kept what they had to
 abbrev pub KeptFirst : ℕ → State → List Numbered → List Before → ℕ → Type 0
 KeptFirst t x points kept n = (j : ℕ) (p : Numbered) (b : Before) → j < n → slice_get points j ≡ Some p → slice_get kept j ≡ Some b
     → Kept t x p.point b
-
-pub kept_more : (t : ℕ) (x : State) (points : List Numbered) (kept : List Before) (n : ℕ) (q : Numbered) (w : Before)
-    → slice_get points n ≡ Some q → Kept t x q.point w → KeptFirst t x points kept n → KeptFirst t x points (slice_set kept n w) (n + 1)
-kept_more t x points kept n q w is k first j p b less here there = elim (set_seen kept n j w b there) [
-  | inl new ↦ subst (λ z. Kept t x p.point z) (sym new.1) (subst (λ (z : Numbered). Kept t x z.point w)
-      (same_at points n j q p is here new.0) k)
-  | inr old ↦ first j p b (let ne = old.0 in omega (arith, less, ne)) here old.1
-]
-
--- all did
-pub kept_all : (t : ℕ) (x : State) (points : List Numbered) (kept : List Before) (n : ℕ) → length points ≤ n → length kept ≡ length points
-    → KeptFirst t x points kept n → AllKept t x points kept
-kept_all t x points kept n all size first = record {
-  size = size;
-  each = λ i p b here there. first i p b (let l = slice_get_within points i p here in omega (arith, all, l)) here there;
-}
 
 -- a list of one value holds no other
 pub nothing_kept : (n i : ℕ) (b : Before) → slice_get (replicate n Nothing) i ≡ Some b → b ≡ Nothing
@@ -159,13 +115,3 @@ lowest_taken t last y kept points n q d at l size is of hits found next number l
     subst (IsLowestOf t last y kept points (n + 1)) (sym (same ∙ ap Some (low ∙ ap (lower_of found) named)))
     (lowest_more t last y kept points n q (get_or kept n d) (slice_get_read points (length points) n q refl l is)
     (slice_get-get_or kept n d (omega (arith, l, size))) (subst (Hits t last y (get_or kept n d)) of hits) found h)
-
--- ---- positions
-
--- one more number of a list, at its end
-pub one_more : (xs ys : List ℕ) (x n : ℕ) (of : ℕ → ℕ) → ys ≡ xs ++ x ∷ [] → length xs ≡ n → x ≡ of n
-    → ((u : ℕ) → u < n → cut_of xs u ≡ of u) → (u : ℕ) → u < n + 1 → cut_of ys u ≡ of u
-one_more xs ys x n of more size is before u less = ap (λ zs. cut_of zs u) more ∙ elim (cases_eq u n) [
-  | inl same ↦ ap (cut_of (xs ++ x ∷ [])) (same ∙ sym size) ∙ get_or-append_seam xs x [] 0 ∙ is ∙ ap of (sym same)
-  | inr ne ↦ get_or_append_left xs (x ∷ []) 0 u (omega (arith, less, ne, size)) ∙ before u (omega (arith, less, ne))
-]

@@ -1,20 +1,19 @@
 -- Threads and objects of a guest, and the cuts at which they stand.
-use Rattle.std.proofs.Common.{◌≡◌, ℕ, suc, ◌+◌, ◌<◌, ◌≤◌, List, length, refl, sym, ap, ◌∙◌, subst, inl, inr, arith}
+use Rattle.std.proofs.Common.{◌≡◌, ℕ, ◌<◌, ◌≤◌, List, length, sym, ap, ◌∙◌, subst, inl, inr, arith}
 use Rattle.std.specs.List.{slice_index_or}
 use Rattle.std.proofs.Math.Path.{fun_ext}
 use Rattle.std.proofs.lemmas.Bool.{cases_lt}
 use Rattle.std.proofs.lemmas.List.{get_or_past}
 use Rattle.ir_thread.specs.State as thread
-use Rattle.ir_flat.specs.Flat.{idle, thread_of}
+use Rattle.ir_flat.specs.Flat.{idle}
 use Rattle.ir_flat.proofs.CallerLemmas.{start_idle}
 use Rattle.ir_runs.specs.Run.{Step, trail, count}
 use Rattle.ir_runs.specs.Cuts.{Cut, IsCut, Consistent}
-use Rattle.ir_trace.specs.TraceOf.{recorded_thread}
 use Rattle.ir_fit.specs.Fit.{FittedTrace, IsRunOf}
 use Rattle.ir_fit.proofs.CallerLemmas.{idle_trail, get_at}
 use Rattle.ir_cut.specs.Positions.{machine_of, start_of, cut_of, IsConsistentCut}
 use Rattle.ir_weave.specs.Standing.{Standing, StandsAt, flat_in}
-use Rattle.ir_weave.specs.States.{IsAt, positions}
+use Rattle.ir_weave.specs.States.{positions}
 use Rattle.ir_hits.specs.Hits.{thread_at, steps_of}
 use Rattle.ir_hits.specs.Searching.{AreLast}
 
@@ -56,14 +55,15 @@ end_steps f last are run whole t end is = is ∙ last_steps f last are run whole
 pub stands_own : (f : FittedTrace) (p : Cut) (s : Standing) → StandsAt f p s → StandsAt f (positions (flat_in f s)) s
 stands_own f p s h = subst (λ (q : Cut). StandsAt f q s) (fun_ext (λ t. sym (h.at.steps t))) h
 
--- and is there
-pub stands_there : (f : FittedTrace) (p : Cut) (s : Standing) → StandsAt f p s → (t : ℕ) → positions (flat_in f s) t ≡ p t
-stands_there f p s h t = h.at.steps t
-
 -- a thread of the state is the run's
 pub thread_here : (f : FittedTrace) (s : Standing) → StandsAt f (positions (flat_in f s)) s → (run : List Step)
     → IsRunOf f.guest f.recorded run → (t k : ℕ) → positions (flat_in f s) t ≡ k → slice_index_or s.threads t idle ≡ thread_at f run t k
 thread_here f s stands run whole t k at = (stands.at.each run whole).threads t ∙ ap (thread_at f run t) at
+
+-- how many steps it has taken
+pub steps_here : (f : FittedTrace) (s : Standing) (t n : ℕ) (x : thread.State) → x ≡ slice_index_or s.threads t idle → n ≡ x.steps
+    → n ≡ positions (flat_in f s) t
+steps_here f s t n x is steps = steps ∙ ap (λ (y : thread.State). y.steps) is
 
 -- a list of the threads' positions is the cut at which they stand
 cut_same : (f : FittedTrace) (s : Standing) (at : List ℕ) → length at ≡ length s.threads

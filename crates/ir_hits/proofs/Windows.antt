@@ -1,10 +1,10 @@
 -- Windows of a thread's positions, one after the other.
-use Rattle.std.proofs.Common.{◌≡◌, ◌≢◌, ℕ, suc, zero, ◌+◌, ◌<◌, ◌≤◌, List, Option, Some, None, refl, sym, ap, ◌∙◌, subst, inl, inr, arith}
+use Rattle.std.proofs.Common.{◌≡◌, ◌∙◌, ap, ℕ, suc, zero, ◌+◌, ◌≤◌, List, Option, Some, None, sym, subst, inl, inr, arith}
 use Rattle.std.proofs.lemmas.Bool.{cases_eq, cases_lt}
 use Rattle.ir_runs.specs.Run.{Step}
 use Rattle.ir_fit.specs.Fit.{FittedTrace}
 use Rattle.ir_hits.specs.Hits.{Numbered, HitByNumber, NoneWithin, IsLowest, IsFirstHit, IsLastHit, steps_of}
-use Rattle.ir_hits.specs.Searching.{IsNextHit}
+use Rattle.ir_hits.specs.Searching.{IsNextHit, reached}
 use Rattle.ir_hits.specs.declared.hit.Hit.{Hit}
 use Rattle.ir_hits.proofs.Hitting.{hit_within}
 
@@ -40,6 +40,10 @@ first_next f run points t p to all None next = λ j n above h. elim (cases_lt j 
     behind : (j n : ℕ) → suc to ≤ j → HitByNumber f run points t j n → ⊥
     behind zero n past h = omega (arith, past)
     behind (suc j) n past h = let within = hit_within f run t j h.1.point h.4 in omega (arith, past, within, all)
+
+-- where the thread stands that has gone on to a hit
+pub at_hit : (to p : ℕ) (found : Option Hit) (h : Hit) → p ≡ reached to found → found ≡ Some h → p ≡ h.position
+at_hit to p found h there is = there ∙ ap (reached to) is
 
 -- a hit is the last up to where it stands
 pub last_here : (f : FittedTrace) (run : List Step) (points : List Numbered) (t p to q : ℕ) (h : Hit) → q ≡ h.position

@@ -1,4 +1,4 @@
-use Rattle.std.proofs.Common.{refl, arith}
+use Rattle.std.proofs.Common.{arith}
 use Rattle.std.proofs.lemmas.Result.{IfOk-weaker}
 use Rattle.ir_cut.specs.Positions.{EachRun}
 use Rattle.ir_weave.specs.Standing.{flat_in}

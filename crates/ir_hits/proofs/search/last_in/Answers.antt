@@ -1,8 +1,8 @@
-use Rattle.std.proofs.Common.{◌≡◌, ◌<◌, ◌-◌, ap, ◌∙◌, subst, arith}
+use Rattle.std.proofs.Common.{◌≡◌, ◌<◌, ◌-◌, ◌∙◌, subst, arith}
 use Rattle.ir_weave.specs.Standing.{flat_in}
 use Rattle.ir_weave.specs.States.{positions}
-use Rattle.ir_hits.specs.Searching.{IsNextHit, reached}
-use Rattle.ir_hits.proofs.Windows.{last_here, last_stays}
+use Rattle.ir_hits.specs.Searching.{IsNextHit}
+use Rattle.ir_hits.proofs.Windows.{at_hit, last_here, last_stays}
 use Rattle.ir_hits.proofs.search.last_in.Goals as goal
 
 pub hits-smaller : goal.hits-smaller
@@ -13,7 +13,8 @@ hits-smaller g c =
     let run = c.known.ensures.run.run in
     let next = subst (IsNextHit f run c.args.points.now c.args.t old c.args.to) c.in-Some.is
     (c.in_ok-hit.ensures.hit run c.known.ensures.run.whole) in
-    let at : new ≡ c.in-Some.hit.position = c.in_ok-hit.ensures.reached ∙ ap (reached c.args.to) c.in-Some.is in
+    let at : new ≡ c.in-Some.hit.position = at_hit c.args.to new c.in_ok-hit.field-0 c.in-Some.hit
+    c.in_ok-hit.ensures.reached c.in-Some.is in
     let less : c.args.to - new < c.args.to - old = omega (arith, next.0, next.1, at) in
     less
 
@@ -25,7 +26,8 @@ hits-preserved g c =
     let run = c.known.ensures.run.run in
     let next = subst (IsNextHit f run c.args.points.now c.args.t old c.args.to) c.in-Some.is
     (c.in_ok-hit.ensures.hit run c.known.ensures.run.whole) in
-    let at : new ≡ c.in-Some.hit.position = c.in_ok-hit.ensures.reached ∙ ap (reached c.args.to) c.in-Some.is in
+    let at : new ≡ c.in-Some.hit.position = at_hit c.args.to new c.in_ok-hit.field-0 c.in-Some.hit
+    c.in_ok-hit.ensures.reached c.in-Some.is in
     record {
       stands = c.next_hit.ensures.stands;
       within = omega (arith, at, next.1);

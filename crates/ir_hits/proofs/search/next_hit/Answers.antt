@@ -1,7 +1,7 @@
-use Rattle.std.proofs.Common.{◌≡◌, suc, ap, sym, ◌∙◌, arith}
-use Rattle.ir_thread.specs.State.{State}
+use Rattle.std.proofs.Common.{◌≡◌, arith}
 use Rattle.ir_weave.specs.Standing.{flat_in}
 use Rattle.ir_weave.specs.States.{positions}
+use Rattle.ir_hits.proofs.Standing.{steps_here}
 use Rattle.ir_hits.proofs.Onward.{is_step, next_found, next_none}
 use Rattle.ir_hits.proofs.search.next_hit.Goals as goal
 
@@ -10,7 +10,8 @@ returns-in-Some-clause-hit g c =
     let f = c.args.fitted.now in
     let t = c.args.t in
     let here : c.steps-in-steps.result ≡ positions (flat_in f c.steps.state) t =
-    c.steps-in-steps.ensures.value ∙ ap (λ (x : State). x.steps) c.thread_of.ensures in
+    steps_here c.args.fitted.now c.steps.state c.args.t c.steps-in-steps.result c.thread_of.result.now c.thread_of.ensures
+    c.steps-in-steps.ensures.value in
     next_found f c.args.last.now c.args.points.now c.keep_all.new.kept t c.steps.state c.take_step.new.state c.position-end.result
     (positions (flat_in f c.args.state.now) t) c.args.to c.thread_of-thread.result.now
     (record { position = c.steps-position.result; number = c.in-Some.number }) c.thread_of-thread.ensures
@@ -18,14 +19,16 @@ returns-in-Some-clause-hit g c =
     c.thread_of-in-steps.ensures c.requires.last c.steps.invariant.stands c.take_step.ensures.stands c.in_ok-take_step.ensures.taken
     c.keep_all.ensures) c.position-end.ensures c.steps.invariant.above (omega (arith, here, c.steps-test.true)) c.steps.invariant.none
     c.lowest.result c.in-Some.is c.lowest.ensures
-    (c.steps-position.ensures.value ∙ ap (λ (x : State). x.steps) c.thread_of-thread.ensures)
+    (steps_here f c.take_step.new.state t c.steps-position.result c.thread_of-thread.result.now c.thread_of-thread.ensures
+    c.steps-position.ensures.value)
 
 pub steps-preserved : goal.steps-preserved
 steps-preserved g c =
     let f = c.args.fitted.now in
     let t = c.args.t in
     let here : c.steps-in-steps.result ≡ positions (flat_in f c.steps.state) t =
-    c.steps-in-steps.ensures.value ∙ ap (λ (x : State). x.steps) c.thread_of.ensures in
+    steps_here c.args.fitted.now c.steps.state c.args.t c.steps-in-steps.result c.thread_of.result.now c.thread_of.ensures
+    c.steps-in-steps.ensures.value in
     let taken = c.in_ok-take_step.ensures.taken in
     let above = c.steps.invariant.above in
     record {
@@ -44,5 +47,6 @@ steps-preserved g c =
 pub returns-clause-hit : goal.returns-clause-hit
 returns-clause-hit g c run whole j n low high h =
     let here : c.steps-in-steps.result ≡ positions (flat_in c.args.fitted.now c.steps.state) c.args.t =
-    c.steps-in-steps.ensures.value ∙ ap (λ (x : State). x.steps) c.thread_of.ensures in
+    steps_here c.args.fitted.now c.steps.state c.args.t c.steps-in-steps.result c.thread_of.result.now c.thread_of.ensures
+    c.steps-in-steps.ensures.value in
     c.steps.invariant.none run whole j n low (omega (arith, high, here, c.steps-test.false)) h

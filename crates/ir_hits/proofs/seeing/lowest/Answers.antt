@@ -1,4 +1,4 @@
-use Rattle.std.proofs.Common.{◌≡◌, true, rules, length, subst, arith}
+use Rattle.std.proofs.Common.{◌≡◌, true, rules, subst, arith}
 use Rattle.ir_hits.specs.Seeing.{IsLowestOf}
 use Rattle.ir_hits.proofs.Seen.{lowest_passed, lowest_taken}
 use Rattle.ir_hits.proofs.seeing.lowest.Goals.{then-hits, else-hits}
