@@ -26,7 +26,7 @@ abbrev pub reached : ℕ → Option Hit → ℕ
 reached to (Some h) = h.position
 reached to None = to
 
--- the points hit thread t at its start, where it is y and they kept so much; or none does
+-- the points hit thread t at its start, where it is y and they noted this; or none does
 abbrev pub IsStartHit : ℕ → ℕ → State → List Before → List Numbered → Option Hit → Type 0
-IsStartHit t last y kept points (Some h) = (h.position ≡ 0) × IsLowestOf t last y kept points (length points) (Some h.number)
-IsStartHit t last y kept points None = IsLowestOf t last y kept points (length points) None
+IsStartHit t last y notes points (Some h) = (h.position ≡ 0) × IsLowestOf t last y notes points (length points) (Some h.number)
+IsStartHit t last y notes points None = IsLowestOf t last y notes points (length points) None

@@ -1,6 +1,6 @@
-//! What a point keeps of a thread before its step.
+//! What a point notes of a thread before a step.
 
-/// What a point keeps of a thread before the thread's next step.
+/// What a point notes of a thread before the thread's next step.
 #[derive(Clone, Copy, Debug, PartialEq, Eq)]
 pub enum Before {
     /// Nothing that may be behind a hit.

@@ -1,17 +1,17 @@
 //! Where points hit a thread, found by taking the thread's steps anew.
 
-ghost use Rattle.std.specs.Prelude.{◌≡◌, ◌<◌, ◌≤◌, ◌+◌, ◌-◌, ℕ, length, IfOk};
+ghost use Rattle.std.specs.Prelude.{◌≡◌, ◌<◌, ◌≤◌, ◌+◌, length, IfOk};
 ghost use Rattle.ir_trace.specs.TraceOf.{recorded_thread};
 ghost use Rattle.ir_cut.specs.Positions.{EachRun, cut_of};
 ghost use Rattle.ir_weave.specs.Standing.{StandsAt, flat_in};
 ghost use Rattle.ir_weave.specs.States.{positions};
-ghost use Rattle.ir_hits.specs.Hits.{AreWatchable, IsFirstHit, IsLastHit, NoneWithin};
+ghost use Rattle.ir_hits.specs.Hits.{AreWatchable, IsFirstHit, IsLastHit};
 ghost use Rattle.ir_hits.specs.Searching.{AreLast, IsNextHit, IsStartHit, reached};
 
 use crate::before::Before;
 use crate::hit::Hit;
 use crate::point::NumberedPoint;
-use crate::seeing::{keep_all, lowest, some_concerns};
+use crate::seeing::{lowest, note_all, some_concerns};
 use crate::stepping::{last_cut, take_step, thread_of};
 use ir_cut::Cut;
 use ir_fit::Fitted;
@@ -32,7 +32,7 @@ fn next_hit<R: Threads + Clock + Sync, G: Gate + Sync>(
     to: u64,
     last: &Cut,
     points: &[NumberedPoint],
-    kept: &mut [Before],
+    notes: &mut [Before],
     gate: &G,
 ) -> Result<Option<Hit>, AllocError>
     requires stands { StandsAt fitted.now (positions (flat_in fitted.now state.old)) state.old }
@@ -40,18 +40,18 @@ fn next_hit<R: Threads + Clock + Sync, G: Gate + Sync>(
     requires last { AreLast fitted.now last.now }
     requires within { (positions (flat_in fitted.now state.old) t ≤ to) × (to ≤ cut_of last.now t) }
     requires points { AreWatchable points.now }
-    requires size { length kept.old ≡ length points.now }
+    requires size { length notes.old ≡ length points.now }
     ensures stands { StandsAt fitted.now (positions (flat_in fitted.now state.new)) state.new }
     ensures hit { IfOk result (λ h. EachRun fitted.now (λ run. IsNextHit fitted.now run points.now t (positions (flat_in fitted.now state.old) t) to h)) }
     ensures reached { IfOk result (λ h. positions (flat_in fitted.now state.new) t ≡ reached to h) }
-    ensures size { length kept.new ≡ length kept.old }
+    ensures size { length notes.new ≡ length notes.old }
 {
     let end = last.position(t);
     'steps: while thread_of(state, t).steps() < to {
-        keep_all(thread_of(state, t), t, points, kept);
+        note_all(thread_of(state, t), t, points, notes);
         take_step(rt, alloc, fitted, state, t, last, gate)?;
         let thread = thread_of(state, t);
-        if let Some(number) = lowest(thread, t, end, points, kept) {
+        if let Some(number) = lowest(thread, t, end, points, notes) {
             let position = thread.steps();
             return Ok(Some(Hit { position, number }));
         }
@@ -84,10 +84,10 @@ pub fn first_hit<R: Threads + Clock + Sync, G: Gate + Sync>(
     }
     fitted.known();
     let last = last_cut(alloc, fitted)?;
-    let mut kept = vec![in alloc; Before::Nothing; points.len()]?;
+    let mut notes = vec![in alloc; Before::Nothing; points.len()]?;
     let to = last.position(t);
     next_hit(
-        rt, alloc, fitted, state, t, to, &last, points, &mut kept, gate,
+        rt, alloc, fitted, state, t, to, &last, points, &mut notes, gate,
     )
 }
 
@@ -97,13 +97,13 @@ fn start_hit(
     t: usize,
     end: u64,
     points: &[NumberedPoint],
-    kept: &[Before],
+    notes: &[Before],
 ) -> Option<Hit>
     requires points { AreWatchable points.now }
-    requires size { length kept.now ≡ length points.now }
-    ensures { IsStartHit t end thread.now kept.now points.now result }
+    requires size { length notes.now ≡ length points.now }
+    ensures { IsStartHit t end thread.now notes.now points.now result }
 {
-    let number = lowest(thread, t, end, points, kept)?;
+    let number = lowest(thread, t, end, points, notes)?;
     Some(Hit {
         position: 0,
         number,
@@ -120,7 +120,7 @@ fn last_in<R: Threads + Clock + Sync, G: Gate + Sync>(
     to: u64,
     last: &Cut,
     points: &[NumberedPoint],
-    kept: &mut [Before],
+    notes: &mut [Before],
     found: Option<Hit>,
     gate: &G,
 ) -> Result<Option<Hit>, AllocError>
@@ -129,7 +129,7 @@ fn last_in<R: Threads + Clock + Sync, G: Gate + Sync>(
     requires last { AreLast fitted.now last.now }
     requires within { (positions (flat_in fitted.now state.old) t ≤ to) × (to ≤ cut_of last.now t) }
     requires points { AreWatchable points.now }
-    requires size { length kept.old ≡ length points.now }
+    requires size { length notes.old ≡ length points.now }
     requires found { EachRun fitted.now (λ run. IsLastHit fitted.now run points.now t (positions (flat_in fitted.now state.old) t + 1) found) }
     ensures stands { StandsAt fitted.now (positions (flat_in fitted.now state.new)) state.new }
     ensures hit { IfOk result (λ h. EachRun fitted.now (λ run. IsLastHit fitted.now run points.now t (to + 1) h)) }
@@ -137,7 +137,7 @@ fn last_in<R: Threads + Clock + Sync, G: Gate + Sync>(
     fitted.known();
     let mut found = found;
     'hits: while let Some(hit) = next_hit(
-        rt, alloc, fitted, state, t, to, last, points, kept, gate,
+        rt, alloc, fitted, state, t, to, last, points, notes, gate,
     )? {
         found = Some(hit);
     }
@@ -171,9 +171,9 @@ pub fn last_hit<R: Threads + Clock + Sync, G: Gate + Sync>(
         return Ok(None);
     }
     let last = last_cut(alloc, fitted)?;
-    let mut kept = vec![in alloc; Before::Nothing; points.len()]?;
+    let mut notes = vec![in alloc; Before::Nothing; points.len()]?;
     *state = State::start(alloc, fitted)?;
-    let found = start_hit(thread_of(state, t), t, last.position(t), points, &kept);
+    let found = start_hit(thread_of(state, t), t, last.position(t), points, &notes);
     last_in(
         rt,
         alloc,
@@ -183,7 +183,7 @@ pub fn last_hit<R: Threads + Clock + Sync, G: Gate + Sync>(
         below - 1,
         &last,
         points,
-        &mut kept,
+        &mut notes,
         found,
         gate,
     )

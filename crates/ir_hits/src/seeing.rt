@@ -1,10 +1,10 @@
 //! What points see of a thread before and after one of its steps.
 
-ghost use Rattle.std.specs.Prelude.{◌≡◌, ◌<◌, ◌↔◌, ℕ, true, false, Some, length, slice_get, IsTrue};
+ghost use Rattle.std.specs.Prelude.{◌≡◌, ◌<◌, ◌↔◌, true, false, Some, length, IsTrue};
 ghost use Rattle.ir_runs.specs.declared.access.Access.TheVariants.{Writing};
 ghost use Rattle.ir_thread.specs.Held.{held_at};
 ghost use Rattle.ir_hits.specs.Hits.{AreWatchable, IsWatchable};
-ghost use Rattle.ir_hits.specs.Seeing.{SomeConcerns, Concerns, Kept, AllKept, Hits, IsLowestOf, lower_of};
+ghost use Rattle.ir_hits.specs.Seeing.{SomeConcerns, Concerns, IsNoted, AllNoted, SeesHit, IsLowestOf, lower_of};
 
 use crate::before::Before;
 use crate::point::NumberedPoint;
@@ -43,10 +43,10 @@ fn is_writing(thread: &Thread, object: u32) -> bool
     o < held.len() && matches!(held[o], Some(Access::Writing))
 }
 
-// What the point keeps of thread t.
-fn keep(thread: &Thread, t: usize, point: Point) -> Before
+// What the point notes of thread t.
+fn note(thread: &Thread, t: usize, point: Point) -> Before
     requires { IsWatchable point }
-    ensures { Kept t thread.now point result }
+    ensures { IsNoted t thread.now point result }
 {
     match point {
         Point::Break { .. } => Before::Nothing,
@@ -67,21 +67,21 @@ fn keep(thread: &Thread, t: usize, point: Point) -> Before
     }
 }
 
-// What each point keeps of thread t.
-pub fn keep_all(thread: &Thread, t: usize, points: &[NumberedPoint], kept: &mut [Before])
+// What each point notes of thread t.
+pub fn note_all(thread: &Thread, t: usize, points: &[NumberedPoint], notes: &mut [Before])
     requires points { AreWatchable points.now }
-    requires size { length kept.old ≡ length points.now }
-    ensures { AllKept t thread.now points.now kept.new }
+    requires size { length notes.old ≡ length points.now }
+    ensures { AllNoted t thread.now points.now notes.new }
 {
     for i in 0..points.len() {
-        kept[i] = keep(thread, t, points[i].point());
+        notes[i] = note(thread, t, points[i].point());
     }
 }
 
-// Whether the point hits thread t, whose last position is this, where it kept so much of it before the step.
+// Whether the point hits thread t, whose last position is this, where it noted this of it before the step.
 fn hits(thread: &Thread, t: usize, last: u64, before: Before, point: Point) -> bool
     requires { IsWatchable point }
-    ensures { IsTrue result ↔ Hits t last thread.now before point }
+    ensures { IsTrue result ↔ SeesHit t last thread.now before point }
 {
     match point {
         Point::Break { thread: u, address } => {
@@ -111,16 +111,16 @@ pub fn lowest(
     t: usize,
     last: u64,
     points: &[NumberedPoint],
-    kept: &[Before],
+    notes: &[Before],
 ) -> Option<u32>
     requires points { AreWatchable points.now }
-    requires size { length kept.now ≡ length points.now }
-    ensures { IsLowestOf t last thread.now kept.now points.now (length points.now) result }
+    requires size { length notes.now ≡ length points.now }
+    ensures { IsLowestOf t last thread.now notes.now points.now (length points.now) result }
 {
     let mut found: Option<u32> = None;
     for i in 0..points.len() {
         let point = points[i];
-        let before = kept[i];
+        let before = notes[i];
         if hits(thread, t, last, before, point.point()) {
             found = Some(lower(found, point.number()));
         }

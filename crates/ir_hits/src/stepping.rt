@@ -1,7 +1,6 @@
 //! One step of a thread.
 
 ghost use Rattle.std.specs.Prelude.{◌≡◌, ◌<◌, ◌≤◌, ◌+◌, ℕ, length, slice_index_or, IfOk, OnOk};
-ghost use Rattle.ir_trace.specs.TraceOf.{recorded_thread};
 ghost use Rattle.ir_cut.specs.Positions.{IsConsistentCut, cut_of};
 ghost use Rattle.ir_flat.specs.Flat.{idle};
 ghost use Rattle.ir_weave.specs.Standing.{StandsAt, flat_in};

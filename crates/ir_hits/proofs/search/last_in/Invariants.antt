@@ -10,7 +10,7 @@ invariant-hits g l = record {
   stands : StandsAt l.fitted (positions (flat_in l.fitted l.state)) l.state;
   within : positions (flat_in l.fitted l.state) l.t ≤ l.to;
   last : EachRun l.fitted (λ run. IsLastHit l.fitted run l.points l.t (positions (flat_in l.fitted l.state) l.t + 1) l.found);
-  size : length l.kept ≡ length l.points;
+  size : length l.notes ≡ length l.points;
 }
 
 abbrev pub decreases-hits : goal.decreases-hits

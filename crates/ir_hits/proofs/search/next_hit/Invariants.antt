@@ -12,7 +12,7 @@ invariant-steps g l = record {
   above : positions (flat_in l.fitted l.fn.state) l.t ≤ positions (flat_in l.fitted l.state) l.t;
   none : EachRun l.fitted (λ run. NoneWithin l.fitted run l.points l.t (suc (positions (flat_in l.fitted l.fn.state) l.t))
       (suc (positions (flat_in l.fitted l.state) l.t)));
-  size : length l.kept ≡ length l.points;
+  size : length l.notes ≡ length l.points;
 }
 
 abbrev pub decreases-steps : goal.decreases-steps
