@@ -4,7 +4,6 @@ mod Opened
 mod ThreadLines
 mod Replying
 mod Machine
-mod Brought
 mod Ends
 mod Leading
 mod KeptCuts

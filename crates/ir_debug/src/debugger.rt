@@ -4,11 +4,11 @@ ghost use Rattle.std.specs.Prelude.{◌≡◌};
 ghost use Rattle.ir_debug.specs.Debugging.{Debugging, IsDebugging};
 
 use crate::answer::Answer;
-use crate::bringing::bring;
 use crate::destinations::{destination, first_cut, stop};
 use crate::kept::{KeptCut, MOST_KEPT, forget, kept_cut};
 use crate::next::next_line;
 use crate::points::Points;
+use ir_checkpoint::Checkpoints;
 use ir_command::{Command, Direction, Keeping, Move, Point, Refusal, Show};
 use ir_cut::Cut;
 use ir_fit::Fitted;
@@ -33,6 +33,8 @@ pub struct Debugger {
     kept: Vec<KeptCut>,
     last_kept: u32,
     state: State,
+    // States for moves to begin at. A cut that is kept has its own among them, under its number.
+    checkpoints: Checkpoints,
 }
 
 impl Model for Debugger {
@@ -49,6 +51,7 @@ impl Model for Debugger {
         last_kept = d.last_kept;
       };
       state = d.state;
+      checkpoints = d.checkpoints;
     } };
 
     ghost invariant = { λ d. IsDebugging (record {
@@ -62,6 +65,7 @@ impl Model for Debugger {
         last_kept = d.last_kept;
       };
       state = d.state;
+      checkpoints = d.checkpoints;
     }) };
 }
 
@@ -93,6 +97,7 @@ impl Debugger {
         kept.push(KeptCut::new(0, at.copy()?))?;
         let points = Points::new(alloc)?;
         let state = State::start(alloc, &fitted)?;
+        let checkpoints = Checkpoints::new(alloc, &fitted)?;
         Ok(Debugger {
             fitted,
             at,
@@ -102,6 +107,7 @@ impl Debugger {
             kept,
             last_kept: 0,
             state,
+            checkpoints,
         })
     }
 
@@ -177,7 +183,9 @@ impl Debugger {
         ensures lacks { OnErr result (self.old.desk.fresh ≡ false) }
     {
         self.fresh = false;
-        bring(rt, alloc, &self.fitted, &mut self.state, &self.at, gate)
+        let state = &mut self.state;
+        self.checkpoints
+            .bring(rt, alloc, &self.fitted, state, &self.at, gate)
     }
 
     // Brings all threads to a cut, which is the debugger's then.
@@ -194,7 +202,9 @@ impl Debugger {
         ensures err { OnErr result (self.new.desk ≡ spoken self.old.desk) }
     {
         self.fresh = false;
-        bring(rt, alloc, &self.fitted, &mut self.state, &to, gate)?;
+        let state = &mut self.state;
+        self.checkpoints
+            .bring(rt, alloc, &self.fitted, state, &to, gate)?;
         self.at = to;
         self.fresh = true;
         Ok(())
@@ -383,8 +393,13 @@ impl Debugger {
         }
     }
 
-    // Keeps the cut, and answers its number.
-    fn keep(&mut self) -> Result<u32, AllocError>
+    // Keeps the cut and the state there, and answers its number.
+    fn keep<R: Threads + Clock + Sync, G: Gate + Sync>(
+        &mut self,
+        rt: &R,
+        alloc: Global,
+        gate: &G,
+    ) -> Result<u32, AllocError>
         requires { refusal_of self.old.desk (command.Keeping keeping.Keep) ≡ None }
         ensures number { IfOk result (λ n. n ≡ self.old.desk.last_kept + 1) }
         ensures ok { OnOk result (self.new.desk ≡ with_kept self.old.desk) }
@@ -392,7 +407,12 @@ impl Debugger {
     {
         self.fresh = false;
         let number = self.last_kept + 1;
-        self.kept.push(KeptCut::new(number, self.at.copy()?))?;
+        let state = &mut self.state;
+        self.checkpoints
+            .bring(rt, alloc, &self.fitted, state, &self.at, gate)?;
+        let cut = self.at.copy()?;
+        self.checkpoints.keep(&self.fitted, &self.state)?;
+        self.kept.push(KeptCut::new(number, cut))?;
         self.last_kept = number;
         Ok(number)
     }
@@ -420,6 +440,7 @@ impl Debugger {
     {
         self.fresh = false;
         forget(&mut self.kept, number);
+        self.checkpoints.drop_kept(&self.fitted, number);
     }
 
     // The answer to a command about kept cuts that isn't refused.
@@ -436,7 +457,7 @@ impl Debugger {
         ensures last { IsLast self.new result }
     {
         match asked {
-            Keeping::Keep => match self.keep() {
+            Keeping::Keep => match self.keep(rt, alloc, gate) {
                 Ok(number) => Answer::Kept(number),
                 Err(AllocError) => self.refuse(Refusal::NoMemory),
             },
@@ -455,8 +476,8 @@ impl Debugger {
         }
     }
 
-    /// Carries out a command. A move brings the threads to the cut to which it leads: forwards from where they stand, on
-    /// threads of the system's, and where one has to go back, from the start anew. Before something is shown, threads
+    /// Carries out a command. A move brings the threads to the cut to which it leads, on threads of the system's: from where
+    /// they stand, or from the nearest state that is kept at or below it, by `keep` or on the way of an earlier move. Before something is shown, threads
     /// that a move left elsewhere for lack of memory are brought to the cut.
     ///
     /// `cont` and `rcont` take a thread's steps anew, one by one, to find where a point hits it: `cont` from where it

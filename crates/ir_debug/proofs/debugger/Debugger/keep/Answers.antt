@@ -31,5 +31,6 @@ invariant_of-self-2 c =
         few = (let l = ap (λ (z : List Kept). length z) more in omega (arith, left, long, l));
       };
       stands = c.self.invariant.stands;
+      checkpoints = held;
       fresh = λ e. absurd (cc e);
     }

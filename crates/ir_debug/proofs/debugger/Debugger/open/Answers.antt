@@ -23,5 +23,6 @@ invariant_of-result c =
         few = omega (arith, long);
       };
       stands = c.in_ok-state.ensures.own;
+      checkpoints = c.in_ok-checkpoints.ensures;
       fresh = λ e. first_there c.args.fitted c.in_ok-state.state c.in_ok-at.at c.in_ok-at.ensures.first c.in_ok-state.ensures.start;
     }

@@ -31,5 +31,6 @@ invariant_of-self c =
         few = held.few;
       };
       stands = c.self.invariant.stands;
+      checkpoints = c.self.invariant.checkpoints;
       fresh = λ e. absurd (cc e);
     }
