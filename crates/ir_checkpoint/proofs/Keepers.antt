@@ -15,7 +15,7 @@ use Rattle.ir_checkpoint.proofs.Brought.{stands_own}
 
 -- the start stands
 pub start_stands : (f : FittedTrace) (k : Keeping) → IsNew f k → AllStand f k.kept
-start_stands f k new = subst (λ (x : Keeping). AllStand f x.kept) (sym new.2.1) (stands_own f (λ _. 0) new.0 new.1, tt)
+start_stands f k new = subst (λ (x : Keeping). AllStand f x.kept) (sym new.2) (stands_own f (λ _. 0) new.0 new.1, tt)
 
 -- each has as many threads as the guest
 pub as_many : (f : FittedTrace) (kept : List Kept) (n : ℕ) → AllStand f kept → n ≡ length f.guest.entries

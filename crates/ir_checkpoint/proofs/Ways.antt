@@ -1,9 +1,10 @@
 -- Cuts on the way of a move.
-use Rattle.std.proofs.Common.{◌≡◌, ◌<◌, ◌≤◌, ◌+◌, ◌-◌, ◌/◌, ℕ, List, length, map, refl, sym, ap, ◌∙◌, subst, arith, inl, inr}
+use Rattle.std.proofs.Common.{◌≡◌, ◌<◌, ◌≤◌, ◌+◌, ◌-◌, ◌/◌, ℕ, List, Result, Ok, Err, length, map, refl, sym, ap, ◌∙◌, subst, arith, inl, inr}
 use Rattle.std.proofs.Math.Path.{fun_ext}
 use Rattle.std.proofs.Math.ListN.{get_or-map}
 use Rattle.std.proofs.lemmas.List.{length-map}
 use Rattle.std.proofs.Math.Nat.{div-le_self}
+use Rattle.std.specs.Prelude.{IfOk}
 use Rattle.std.specs.List.{slice_index_or}
 use Rattle.ir_trace.specs.TraceOf.{recorded_thread}
 use Rattle.ir_thread.specs.State as thread
@@ -58,7 +59,7 @@ pub begins : (f : FittedTrace) (s : Standing) (target cut : List ℕ) → Stands
 begins f s target cut h is below =
     let same = own_cut f s cut is in
     record {
-      size = ap length is ∙ length-map (λ (x : thread.State). x.steps) s.threads ∙ h.at.threads;
+      size = ap length is ∙ length-map s.threads (λ (x : thread.State). x.steps) ∙ h.at.threads;
       consistent = own_consistent f s cut h same;
       above = λ t. omega arith;
       below = subst (λ (q : Cut). (t : ℕ) → q t ≤ cut_of target t) (sym same) below;
@@ -76,3 +77,11 @@ below_target f low target cut s way at t = let same = at.at.steps t in let le = 
 -- the first piece of a way ends on it
 pub piece_below : (from to pieces : ℕ) → from ≤ to → from + (to - from) / pieces ≤ to
 piece_below from to pieces order = let le = div-le_self (to - from) pieces in omega (arith, order, le)
+
+-- a result that is the least cut, and consistent
+pub further_ok : {E : Type 0} (r : Result (List ℕ) E) (f : FittedTrace) (low : Cut) (target cut : List ℕ) (t k : ℕ) → HasRun f
+    → IsConsistentCut f target → IsOnWay f low (cut_of target) cut → k ≤ cut_of target t → IfOk r (λ c. IsLeastCut f cut t k c)
+    → IfOk r (λ c. IsConsistentCut f c) → IfOk r (λ c. IsOnWay f low (cut_of target) c)
+further_ok (Ok new) f low target cut t k h target_is way le least consistent =
+    further f low target cut new t k h target_is way le least consistent
+further_ok (Err e) f low target cut t k h target_is way le least consistent = tt

@@ -191,7 +191,41 @@ impl Checkpoints {
         }
     }
 
-    // Goes on to the target, which no thread is past, and keeps states on a long way.
+    // Goes on towards the target, which no thread is past, until it is near, and keeps states on the way.
+    fn approach<R: Threads + Clock + Sync, G: Gate + Sync>(
+        &mut self,
+        rt: &R,
+        alloc: Global,
+        fitted: &Fitted,
+        state: State,
+        target: &Cut,
+        gate: &G,
+    ) -> Result<State, (State, AllocError)>
+        requires checkpoints { AreCheckpoints fitted.now self.old }
+        requires stands { Stands fitted.now state }
+        requires target { (length target.now ≡ length fitted.now.guest.entries) × IsConsistentCut fitted.now target.now }
+        requires below { (t : ℕ) → positions (flat_in fitted.now state) t ≤ cut_of target.now t }
+        ensures checkpoints { AreCheckpoints fitted.now self.new }
+        ensures stands { IfOk result (λ s. Stands fitted.now s) }
+        ensures below { IfOk result (λ s. (t : ℕ) → positions (flat_in fitted.now s) t ≤ cut_of target.now t) }
+        ensures err { IfErr result (λ e. Stands fitted.now e.0) }
+    {
+        let mut state = state;
+        let present = steps_before(target);
+        let gap = gap_of(present.saturating_sub(steps_of(state.threads())));
+        'stops: for _ in 0..MOST_STOPS {
+            let Some(stop) = next_stop(alloc, fitted, &state, target, gap) else {
+                return Ok(state);
+            };
+            state = advance(rt, alloc, fitted, state, &stop, gate)?;
+            if !self.note(fitted, &state, present) {
+                return Ok(state);
+            }
+        }
+        Ok(state)
+    }
+
+    // Goes on to the target, which no thread is past.
     fn forward<R: Threads + Clock + Sync, G: Gate + Sync>(
         &mut self,
         rt: &R,
@@ -209,19 +243,8 @@ impl Checkpoints {
         ensures ok { IfOk result (λ s. StandsAt fitted.now (cut_of target.now) s) }
         ensures err { IfErr result (λ e. Stands fitted.now e.0) }
     {
-        let mut state = state;
-        let present = steps_before(target);
-        let gap = gap_of(present.saturating_sub(steps_of(state.threads())));
-        'stops: for _ in 0..MOST_STOPS {
-            let Some(stop) = next_stop(alloc, fitted, &state, target, gap) else {
-                break;
-            };
-            state = advance(rt, alloc, fitted, state, &stop, gate)?;
-            if !self.note(fitted, &state, present) {
-                break;
-            }
-        }
-        advance(rt, alloc, fitted, state, target, gate)
+        let near = self.approach(rt, alloc, fitted, state, target, gate)?;
+        advance(rt, alloc, fitted, near, target, gate)
     }
 
     /// Brings threads and objects to the target: by `advance`, from where they stand, or from the kept state at or below the target with

@@ -3,7 +3,7 @@ use Rattle.ir_cut.specs.Positions.{cut_of}
 use Rattle.ir_weave.specs.Standing.{flat_in}
 use Rattle.ir_weave.specs.States.{positions}
 use Rattle.ir_checkpoint.specs.Checkpoints.{AreCheckpoints, Stands}
-use Rattle.ir_checkpoint.proofs.checkpoints.Checkpoints.forward.Given as goal
+use Rattle.ir_checkpoint.proofs.checkpoints.Checkpoints.approach.Given as goal
 
 abbrev pub invariant-stops : goal.invariant-stops
 invariant-stops g l = record {
