@@ -31,12 +31,3 @@ there_at f target s h size there = subst (λ (q : Cut). StandsAt f q s) (fun_ext
   | inl l ↦ there t l
   | inr past ↦ no_steps f s t past ∙ sym (no_target f target s t h size past)
 ])) h
-
--- no thread is past its target
-pub none_past : (f : FittedTrace) (target : List ℕ) (s : Standing) → Stands f s → length target ≡ length f.guest.entries
-    → ((t : ℕ) → t < length s.threads → (slice_index_or s.threads t idle).steps ≤ cut_of target t)
-    → (t : ℕ) → positions (flat_in f s) t ≤ cut_of target t
-none_past f target s h size each t = elim (cases_lt t (length s.threads)) [
-  | inl l ↦ each t l
-  | inr past ↦ (let none = no_steps f s t past in omega (arith, none))
-]

@@ -1,5 +1,5 @@
 -- What two keepers keep, where each state is the guest at some consistent cut.
-use Rattle.std.proofs.Common.{◌≡◌, ◌≤◌, ◌==◌, ◌&&◌, ℕ, zero, suc, Bool, true, false, nat_le, if◌then◌else◌, List, [], ◌∷◌, length, map, Option, Some, None, option_map, refl, sym, ap, ◌∙◌, subst, arith}
+use Rattle.std.proofs.Common.{◌≡◌, ◌≤◌, ◌==◌, ◌&&◌, ℕ, zero, suc, Bool, true, false, nat_le, if◌then◌else◌, List, [], ◌∷◌, length, map, Option, Some, option_map, refl, sym, ap, ◌∙◌, subst, arith}
 use Rattle.std.proofs.lemmas.Bool.{leb-true}
 use Rattle.std.proofs.lemmas.List.Elements.{All-nil, All-cons}
 use Rattle.std.specs.List.{All, slice_index_or}
@@ -9,13 +9,8 @@ use Rattle.ir_fit.specs.Fit.{FittedTrace}
 use Rattle.ir_cut.specs.Positions.{cut_of}
 use Rattle.ir_weave.specs.Standing.{Standing, flat_in}
 use Rattle.ir_weave.specs.States.{positions}
-use Rattle.ir_keep.specs.Keeping.{Kept, Keeping, IsNew, IsNearest, first_kept, with_next, without, kept_as, cut_in, is_below}
+use Rattle.ir_keep.specs.Keeping.{Kept, Keeping, IsNearest, without, kept_as, is_below}
 use Rattle.ir_checkpoint.specs.Checkpoints.{Stands, AllStand}
-use Rattle.ir_checkpoint.proofs.Brought.{stands_own}
-
--- the start stands
-pub start_stands : (f : FittedTrace) (k : Keeping) → IsNew f k → AllStand f k.kept
-start_stands f k new = subst (λ (x : Keeping). AllStand f x.kept) (sym new.2) (stands_own f (λ _. 0) new.0 new.1, tt)
 
 -- each has as many threads as the guest
 pub as_many : (f : FittedTrace) (kept : List Kept) (n : ℕ) → AllStand f kept → n ≡ length f.guest.entries
@@ -23,11 +18,6 @@ pub as_many : (f : FittedTrace) (kept : List Kept) (n : ℕ) → AllStand f kept
 as_many f [] n all same = All-nil (λ (k : Kept). length k.state.threads ≡ n)
 as_many f (k ∷ kept) n all same =
     All-cons (λ (x : Kept). length x.state.threads ≡ n) k kept (all.0.at.threads ∙ sym same) (as_many f kept n all.1 same)
-
--- with one more
-pub one_more : (f : FittedTrace) (kept : List Kept) (n : ℕ) (s : Standing) → AllStand f kept → Stands f s → AllStand f (with_next n s kept)
-one_more f [] n s all stands = tt
-one_more f (greatest ∷ others) n s all stands = (stands, all)
 
 by_kept : (f : FittedTrace) (k : Kept) (rest : List Kept) (b : Bool) → Stands f k.state → AllStand f rest
     → AllStand f (if b then rest else k ∷ rest)

@@ -1,9 +1,8 @@
 -- Cuts on the way of a move.
-use Rattle.std.proofs.Common.{◌≡◌, ◌<◌, ◌≤◌, ◌+◌, ◌-◌, ◌/◌, ℕ, List, Result, Ok, Err, length, map, refl, sym, ap, ◌∙◌, subst, arith, inl, inr}
+use Rattle.std.proofs.Common.{◌≡◌, ◌<◌, ◌≤◌, ℕ, List, Result, Ok, Err, length, map, sym, ap, ◌∙◌, subst, arith}
 use Rattle.std.proofs.Math.Path.{fun_ext}
 use Rattle.std.proofs.Math.ListN.{get_or-map}
 use Rattle.std.proofs.lemmas.List.{length-map}
-use Rattle.std.proofs.Math.Nat.{div-le_self}
 use Rattle.std.specs.Prelude.{IfOk}
 use Rattle.std.specs.List.{slice_index_or}
 use Rattle.ir_trace.specs.TraceOf.{recorded_thread}
@@ -16,7 +15,6 @@ use Rattle.ir_weave.specs.Standing.{Standing, StandsAt, flat_in}
 use Rattle.ir_weave.specs.States.{positions}
 use Rattle.ir_checkpoint.specs.Checkpoints.{Stands}
 use Rattle.ir_checkpoint.specs.Parts.{IsOnWay}
-use Rattle.ir_checkpoint.proofs.Brought.{stands_own}
 
 -- a cut that can be reached is within the threads' steps
 pub within : (f : FittedTrace) (target : List ℕ) (t k : ℕ) → HasRun f → IsConsistentCut f target → t < length f.guest.entries
@@ -73,10 +71,6 @@ from_own f s target from cut is way = subst (λ (q : Cut). IsOnWay f q (cut_of t
 pub below_target : (f : FittedTrace) (low : Cut) (target cut : List ℕ) (s : Standing) → IsOnWay f low (cut_of target) cut
     → StandsAt f (cut_of cut) s → (t : ℕ) → positions (flat_in f s) t ≤ cut_of target t
 below_target f low target cut s way at t = let same = at.at.steps t in let le = way.below t in omega (arith, same, le)
-
--- the first piece of a way ends on it
-pub piece_below : (from to pieces : ℕ) → from ≤ to → from + (to - from) / pieces ≤ to
-piece_below from to pieces order = let le = div-le_self (to - from) pieces in omega (arith, order, le)
 
 -- a result that is the least cut, and consistent
 pub further_ok : {E : Type 0} (r : Result (List ℕ) E) (f : FittedTrace) (low : Cut) (target cut : List ℕ) (t k : ℕ) → HasRun f

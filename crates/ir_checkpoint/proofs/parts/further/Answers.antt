@@ -1,4 +1,4 @@
-use Rattle.std.proofs.Common.{◌≤◌, arith}
+use Rattle.std.proofs.Common.{arith}
 use Rattle.ir_cut.specs.Positions.{cut_of}
 use Rattle.ir_checkpoint.proofs.Ways.{within, further_ok}
 use Rattle.ir_checkpoint.proofs.parts.further.Goals as goal

@@ -1,4 +1,4 @@
-use Rattle.std.proofs.Common.{◌≡◌, List, ℕ, map, subst, ap, ◌∙◌}
+use Rattle.std.proofs.Common.{map, ap, ◌∙◌}
 use Rattle.std.proofs.lemmas.Result.{IfOk-weaker}
 use Rattle.ir_checkpoint.proofs.Ways.{begins, from_own}
 use Rattle.ir_checkpoint.proofs.parts.part_of.Goals as goal
