@@ -393,7 +393,23 @@ impl Debugger {
         }
     }
 
-    // Keeps the cut and the state there, and answers its number.
+    // Keeps the cut and the state in hand, and answers the cut's number.
+    fn keep_here(&mut self) -> Result<u32, AllocError>
+        requires { refusal_of self.old.desk (command.Keeping keeping.Keep) ≡ None }
+        ensures number { IfOk result (λ n. n ≡ self.old.desk.last_kept + 1) }
+        ensures ok { OnOk result (self.new.desk ≡ with_kept self.old.desk) }
+        ensures err { OnErr result (self.new.desk ≡ spoken self.old.desk) }
+    {
+        self.fresh = false;
+        let number = self.last_kept + 1;
+        let cut = self.at.copy()?;
+        self.checkpoints.keep(&self.fitted, &self.state)?;
+        self.kept.push(KeptCut::new(number, cut))?;
+        self.last_kept = number;
+        Ok(number)
+    }
+
+    // Keeps the cut and the state there.
     fn keep<R: Threads + Clock + Sync, G: Gate + Sync>(
         &mut self,
         rt: &R,
@@ -405,16 +421,8 @@ impl Debugger {
         ensures ok { OnOk result (self.new.desk ≡ with_kept self.old.desk) }
         ensures err { OnErr result (self.new.desk ≡ spoken self.old.desk) }
     {
-        self.fresh = false;
-        let number = self.last_kept + 1;
-        let state = &mut self.state;
-        self.checkpoints
-            .bring(rt, alloc, &self.fitted, state, &self.at, gate)?;
-        let cut = self.at.copy()?;
-        self.checkpoints.keep(&self.fitted, &self.state)?;
-        self.kept.push(KeptCut::new(number, cut))?;
-        self.last_kept = number;
-        Ok(number)
+        self.bring_here(rt, alloc, gate)?;
+        self.keep_here()
     }
 
     // Goes to a kept cut.
