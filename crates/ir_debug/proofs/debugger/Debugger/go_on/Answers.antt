@@ -26,3 +26,8 @@ pub stop-requires-clause-within : goal.stop-requires-clause-within
 stop-requires-clause-within g c =
     stop_within c.self.inside.fitted c.args.self.now.desk c.args.thread c.args.direction c.in_ok-hit.hit (same g c)
     c.self.invariant.desk.run (stop-requires-clause-thread g c) c.in_ok-hit.ensures.finds
+
+pub go_to-requires-clause-consistent : goal.go_to-requires-clause-consistent
+go_to-requires-clause-consistent g c κs within =
+    subst (λ (f : FittedTrace). IsConsistentCut f c.in_ok-cut.cut) (ap (λ (d : Debugging). d.desk.fitted) c.self.view_is)
+    c.in_ok-cut.ensures.consistent
