@@ -4,11 +4,10 @@ mod Opened
 mod ThreadLines
 mod Replying
 mod Machine
-mod Brought
 mod Ends
 mod Leading
 mod KeptCuts
-mod Points
+mod SetPoints
 mod CarriedOut
 mod Rows
 mod RowsOne

@@ -3,8 +3,8 @@ use Rattle.std.specs.Prelude.{◌≡◌, ◌<◌, ℕ, ⊤, true, List, ◌++◌
 use Rattle.ir_runs.specs.Run.{Step}
 use Rattle.ir_fit.specs.Fit.{FittedTrace}
 use Rattle.ir_cut.specs.Positions.{EachRun, cut_of}
-use Rattle.ir_weave.specs.Standing.{Standing, StandsAt, flat_in}
-use Rattle.ir_weave.specs.States.{positions}
+use Rattle.ir_weave.specs.Standing.{Standing, StandsAt}
+use Rattle.ir_checkpoint.specs.Checkpoints.{Checkpoints, AreCheckpoints, Stands}
 use Rattle.ir_command.specs.declared.command.Command.{Command}
 use Rattle.ir_command.specs.declared.command.Command.TheVariants as command
 use Rattle.ir_command.specs.declared.refusal.Refusal.{Refusal}
@@ -17,14 +17,11 @@ use Rattle.ir_debug.specs.Machine.Shown.{shown}
 use Rattle.ir_debug.specs.Machine.Texts.{number_line, positions_text, kept_text}
 use Rattle.ir_debug.specs.Machine.Answers.{moved_text, continued_text, RepliesBy}
 
--- the small machine, and beside it the guest's threads and objects at some consistent cut
+-- the small machine, and beside it the guest's threads and objects at some consistent cut, and at others that are kept
 pub record Debugging : Type 0 where
   pub desk : Desk
   pub state : Standing
-
--- the guest at a cut, its own positions
-abbrev pub Stands : FittedTrace → Standing → Type 0
-Stands f s = StandsAt f (positions (flat_in f s)) s
+  pub checkpoints : Checkpoints
 
 -- the guest at the small machine's cut
 abbrev pub IsThere : Debugging → Type 0
@@ -33,6 +30,7 @@ IsThere d = StandsAt d.desk.fitted (cut_of d.desk.at) d.state
 pub record IsDebugging (d : Debugging) : Type 0 where
   pub desk : IsDesk d.desk
   pub stands : Stands d.desk.fitted d.state
+  pub checkpoints : AreCheckpoints d.desk.fitted d.checkpoints
   -- before the first answer, and after a move
   pub fresh : d.desk.fresh ≡ true → IsThere d
 

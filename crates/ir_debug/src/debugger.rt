@@ -4,11 +4,11 @@ ghost use Rattle.std.specs.Prelude.{◌≡◌};
 ghost use Rattle.ir_debug.specs.Debugging.{Debugging, IsDebugging};
 
 use crate::answer::Answer;
-use crate::bringing::bring;
 use crate::destinations::{destination, first_cut, stop};
 use crate::kept::{KeptCut, MOST_KEPT, forget, kept_cut};
 use crate::next::next_line;
-use crate::points::{Points, clear};
+use crate::points::Points;
+use ir_checkpoint::Checkpoints;
 use ir_command::{Command, Direction, Keeping, Move, Point, Refusal, Show};
 use ir_cut::Cut;
 use ir_fit::Fitted;
@@ -33,6 +33,8 @@ pub struct Debugger {
     kept: Vec<KeptCut>,
     last_kept: u32,
     state: State,
+    // States for moves to begin at. A cut that is kept has its own among them, under its number.
+    checkpoints: Checkpoints,
 }
 
 impl Model for Debugger {
@@ -43,12 +45,13 @@ impl Model for Debugger {
         fitted = d.fitted;
         at = d.at;
         fresh = d.fresh;
-        points = d.points.items;
+        points = d.points;
         last_point = d.last_point;
         kept = d.kept.items;
         last_kept = d.last_kept;
       };
       state = d.state;
+      checkpoints = d.checkpoints;
     } };
 
     ghost invariant = { λ d. IsDebugging (record {
@@ -56,12 +59,13 @@ impl Model for Debugger {
         fitted = d.fitted;
         at = d.at;
         fresh = d.fresh;
-        points = d.points.items;
+        points = d.points;
         last_point = d.last_point;
         kept = d.kept.items;
         last_kept = d.last_kept;
       };
       state = d.state;
+      checkpoints = d.checkpoints;
     }) };
 }
 
@@ -91,16 +95,19 @@ impl Debugger {
         let at = first_cut(alloc, &fitted)?;
         let mut kept = Vec::with_capacity(alloc, MOST_KEPT + 1)?;
         kept.push(KeptCut::new(0, at.copy()?))?;
+        let points = Points::new(alloc)?;
         let state = State::start(alloc, &fitted)?;
+        let checkpoints = Checkpoints::new(alloc, &fitted)?;
         Ok(Debugger {
             fitted,
             at,
             fresh: true,
-            points: Points::new(),
+            points,
             last_point: 0,
             kept,
             last_kept: 0,
             state,
+            checkpoints,
         })
     }
 
@@ -176,7 +183,9 @@ impl Debugger {
         ensures lacks { OnErr result (self.old.desk.fresh ≡ false) }
     {
         self.fresh = false;
-        bring(rt, alloc, &self.fitted, &mut self.state, &self.at, gate)
+        let state = &mut self.state;
+        self.checkpoints
+            .bring(rt, alloc, &self.fitted, state, &self.at, gate)
     }
 
     // Brings all threads to a cut, which is the debugger's then.
@@ -193,7 +202,9 @@ impl Debugger {
         ensures err { OnErr result (self.new.desk ≡ spoken self.old.desk) }
     {
         self.fresh = false;
-        bring(rt, alloc, &self.fitted, &mut self.state, &to, gate)?;
+        let state = &mut self.state;
+        self.checkpoints
+            .bring(rt, alloc, &self.fitted, state, &to, gate)?;
         self.at = to;
         self.fresh = true;
         Ok(())
@@ -327,7 +338,7 @@ impl Debugger {
     {
         self.fresh = false;
         let number = self.last_point + 1;
-        self.points.push(NumberedPoint::new(number, point));
+        self.points.set(NumberedPoint::new(number, point));
         self.last_point = number;
         number
     }
@@ -337,7 +348,7 @@ impl Debugger {
         ensures { self.new.desk ≡ without_point self.old.desk number }
     {
         self.fresh = false;
-        clear(&mut self.points, number);
+        self.points.clear(number);
     }
 
     // The line of the next step of thread t.
@@ -382,8 +393,8 @@ impl Debugger {
         }
     }
 
-    // Keeps the cut, and answers its number.
-    fn keep(&mut self) -> Result<u32, AllocError>
+    // Keeps the cut and the state in hand, and answers the cut's number.
+    fn keep_here(&mut self) -> Result<u32, AllocError>
         requires { refusal_of self.old.desk (command.Keeping keeping.Keep) ≡ None }
         ensures number { IfOk result (λ n. n ≡ self.old.desk.last_kept + 1) }
         ensures ok { OnOk result (self.new.desk ≡ with_kept self.old.desk) }
@@ -391,9 +402,27 @@ impl Debugger {
     {
         self.fresh = false;
         let number = self.last_kept + 1;
-        self.kept.push(KeptCut::new(number, self.at.copy()?))?;
+        let cut = self.at.copy()?;
+        self.checkpoints.keep(&self.fitted, &self.state)?;
+        self.kept.push(KeptCut::new(number, cut))?;
         self.last_kept = number;
         Ok(number)
+    }
+
+    // Keeps the cut and the state there.
+    fn keep<R: Threads + Clock + Sync, G: Gate + Sync>(
+        &mut self,
+        rt: &R,
+        alloc: Global,
+        gate: &G,
+    ) -> Result<u32, AllocError>
+        requires { refusal_of self.old.desk (command.Keeping keeping.Keep) ≡ None }
+        ensures number { IfOk result (λ n. n ≡ self.old.desk.last_kept + 1) }
+        ensures ok { OnOk result (self.new.desk ≡ with_kept self.old.desk) }
+        ensures err { OnErr result (self.new.desk ≡ spoken self.old.desk) }
+    {
+        self.bring_here(rt, alloc, gate)?;
+        self.keep_here()
     }
 
     // Goes to a kept cut.
@@ -419,6 +448,7 @@ impl Debugger {
     {
         self.fresh = false;
         forget(&mut self.kept, number);
+        self.checkpoints.drop_kept(&self.fitted, number);
     }
 
     // The answer to a command about kept cuts that isn't refused.
@@ -435,7 +465,7 @@ impl Debugger {
         ensures last { IsLast self.new result }
     {
         match asked {
-            Keeping::Keep => match self.keep() {
+            Keeping::Keep => match self.keep(rt, alloc, gate) {
                 Ok(number) => Answer::Kept(number),
                 Err(AllocError) => self.refuse(Refusal::NoMemory),
             },
@@ -454,8 +484,8 @@ impl Debugger {
         }
     }
 
-    /// Carries out a command. A move brings the threads to the cut to which it leads: forwards from where they stand, on
-    /// threads of the system's, and where one has to go back, from the start anew. Before something is shown, threads
+    /// Carries out a command. A move brings the threads to the cut to which it leads, on threads of the system's: from where
+    /// they stand, or from the nearest state that is kept at or below it, by `keep` or on the way of an earlier move. Before something is shown, threads
     /// that a move left elsewhere for lack of memory are brought to the cut.
     ///
     /// `cont` and `rcont` take a thread's steps anew, one by one, to find where a point hits it: `cont` from where it

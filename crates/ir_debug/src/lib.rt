@@ -4,7 +4,6 @@
 mod announcing;
 mod answer;
 mod answering;
-mod bringing;
 mod bytes;
 mod debugger;
 mod destinations;

@@ -1,9 +1,12 @@
 //! Where the points that are set hit a thread of a recorded run: breakpoints, watched words and watched objects.
 #![tactic(auto)]
 
+mod before;
 mod hit;
 mod point;
 mod search;
+mod seeing;
+mod stepping;
 
 pub use hit::Hit;
 pub use point::NumberedPoint;

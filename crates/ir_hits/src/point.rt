@@ -17,6 +17,8 @@ impl Model for NumberedPoint {
     ghost Value = { Numbered };
 
     ghost view = { λ p. record { number = p.number; point = p.point } };
+
+    ghost inverse = { λ p. record { number = p.number; point = p.point } };
 }
 
 impl NumberedPoint {

@@ -1,5 +1,5 @@
 use Rattle.std.proofs.Common.{arith, sym, ◌∙◌}
-use Rattle.ir_debug.proofs.Points.{found, further, found_none}
+use Rattle.ir_debug.proofs.SetPoints.{found, further, found_none}
 use Rattle.ir_debug.proofs.points.is_set.Goals as goal
 
 pub loop-each-preserved : goal.loop-each-preserved

@@ -20,5 +20,6 @@ invariant_of-self c =
         few = omega (arith, less, same, few);
       };
       stands = c.self.invariant.stands;
+      checkpoints = c.drop_kept.ensures;
       fresh = λ e. absurd (cc e);
     }

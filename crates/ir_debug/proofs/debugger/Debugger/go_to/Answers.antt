@@ -24,5 +24,6 @@ invariant_of-self-2 g c =
         few = c.self.invariant.desk.few;
       };
       stands = c.in_ok-bring.ensures.stands;
+      checkpoints = c.in_ok-bring.ensures.checkpoints;
       fresh = λ e. c.in_ok-bring.ensures.there;
     }

@@ -1,0 +1,11 @@
+//! Moves of a replay in both directions: threads and objects are brought to any consistent cut, from the checkpoint that is nearest.
+#![tactic(auto)]
+
+mod bringing;
+mod checkpoints;
+mod parts;
+mod passed;
+#[cfg(test)]
+mod tests;
+
+pub use checkpoints::Checkpoints;
