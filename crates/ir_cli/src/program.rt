@@ -8,6 +8,7 @@ use crate::bundle::bundle;
 use crate::debugging::debug_run;
 use crate::files::{MOST_BYTES, MOST_INPUT, NewFile, read_file};
 use crate::folder::Folder;
+use crate::output_files::{OutputFiles, output_paths};
 use crate::places::loses;
 use crate::prompting::Prompting;
 use crate::recording::record_run;
@@ -15,9 +16,10 @@ use crate::telling::tell_of;
 use crate::tracing::trace_run;
 use crate::whole_file::WholeFile;
 use ir_debug::{Sink, Source};
+use ir_image::{ImageErr, read_image};
 use ir_object::Gate;
 use ir_stream::write_all;
-use std::alloc::Global;
+use std::alloc::{AllocError, Global};
 use std::sync::Wait;
 use std::thread::Threads;
 use std::time::Clock;
@@ -233,6 +235,128 @@ fn loses_input<D: Folder, E: Sink>(
     }
 }
 
+// The paths of what the threads of an image print, if they are asked for. Bytes that are no image have no threads.
+fn paths_of(
+    alloc: Global,
+    arguments: &RecordArguments,
+    image: &[u8],
+) -> Result<Option<Vec<String>>, AllocError> {
+    let Some(prefix) = &arguments.output else {
+        return Ok(None);
+    };
+    let threads = match read_image(alloc, image) {
+        Ok(image) => image.entries().len(),
+        Err(ImageErr::NoMem) => return Err(AllocError),
+        Err(_) => 0,
+    };
+    Ok(Some(output_paths(alloc, prefix.as_str(), threads)?))
+}
+
+// Whether what a thread prints would be written over another file of its recording.
+fn loses_other<D: Folder, E: Sink>(
+    folder: &D,
+    faults: &mut E,
+    arguments: &RecordArguments,
+    path: &str,
+) -> bool
+    ensures kept { result ≡ false → faults.new ≡ faults.old }
+{
+    let image = arguments.image.as_str();
+    let trace = arguments.trace.as_str();
+    if is_lost(
+        folder,
+        faults,
+        "PREFIX.T would be written over IMAGE",
+        image,
+        path,
+    ) || is_lost(
+        folder,
+        faults,
+        "PREFIX.T would be written over TRACE",
+        trace,
+        path,
+    ) {
+        return true;
+    }
+    match &arguments.input {
+        Some(file) => is_lost(
+            folder,
+            faults,
+            "PREFIX.T would be written over FILE",
+            file.as_str(),
+            path,
+        ),
+        None => false,
+    }
+}
+
+// The same of any of these threads.
+fn any_loses<D: Folder, E: Sink>(
+    folder: &D,
+    faults: &mut E,
+    arguments: &RecordArguments,
+    paths: &[String],
+) -> bool
+    ensures kept { result ≡ false → faults.new ≡ faults.old }
+{
+    for path in paths {
+        if loses_other(folder, faults, arguments, path.as_str()) {
+            return true;
+        }
+    }
+    false
+}
+
+// Records the guest of an image into the trace, once it is known what it would be written over.
+fn record_image<R, D, G, O, E>(
+    rt: &R,
+    alloc: Global,
+    folder: &D,
+    gate: &G,
+    arguments: &RecordArguments,
+    image: &[u8],
+    trace: &mut WholeFile<'_, D>,
+    out: &mut O,
+    faults: &mut E,
+) -> u8
+where
+    R: Threads + Wait + Sync + Clock,
+    D: Folder,
+    G: Gate + Sync,
+    O: Sink,
+    E: Sink,
+    requires writes { trace.old.failed ≡ false }
+    requires prints { O.broken out.old ≡ false }
+    requires reports { E.broken faults.old ≡ false }
+{
+    let Ok(paths) = paths_of(alloc, arguments, image) else {
+        say(faults, "memory ran out", "", "");
+        return FAULT;
+    };
+    let paths = paths.as_ref().map(|paths| paths.as_slice());
+    if any_loses(folder, faults, arguments, paths.unwrap_or(&[])) {
+        return BAD_ARGUMENTS;
+    }
+    let Some(input) = input_of(alloc, folder, faults, arguments) else {
+        return FAULT;
+    };
+    let mut outputs = OutputFiles::new(folder, paths, arguments.trace.as_str());
+    record_run(
+        rt,
+        alloc,
+        gate,
+        image,
+        arguments.order.as_ref().map(|list| list.as_str()),
+        arguments.budget,
+        arguments.random,
+        input.as_slice(),
+        trace,
+        &mut outputs,
+        out,
+        faults,
+    )
+}
+
 // Records a guest into a file.
 fn record_file<R, D, G, O, E>(
     rt: &R,
@@ -263,18 +387,13 @@ where
     let Some(image) = bytes_of(alloc, folder, faults, arguments.image.as_str(), MOST_BYTES) else {
         return FAULT;
     };
-    let Some(input) = input_of(alloc, folder, faults, arguments) else {
-        return FAULT;
-    };
-    record_run(
+    record_image(
         rt,
         alloc,
+        folder,
         gate,
+        arguments,
         image.as_slice(),
-        arguments.order.as_ref().map(|list| list.as_str()),
-        arguments.budget,
-        arguments.random,
-        input.as_slice(),
         &mut trace,
         out,
         faults,
