@@ -1,8 +1,8 @@
 -- Outputs that are put one after another.
 use Rattle.std.proofs.Common.{Bool, true, ◌≡◌, ◌≤◌, ◌<◌, ◌+◌, ℕ, List, [], ◌∷◌, ◌++◌, length, map, take, get_or, Option, None, Some, sym, ap, ◌∙◌, subst, arith, append_assoc, append-nil}
-use Rattle.std.specs.List.{enumerate_from}
-use Rattle.std.proofs.lemmas.List.{length-map, get_or-map, take_more, take_all}
-use Rattle.std.proofs.lemmas.List.FromFn.{length-enumerate_from, get_or-enumerate_from}
+use Rattle.std.specs.List.{enumerate_from, range_with_len}
+use Rattle.std.proofs.lemmas.List.{length-map, map-append, get_or-map, take_more, take_all}
+use Rattle.std.proofs.lemmas.List.FromFn.{length-enumerate_from, get_or-enumerate_from, map-range_with_len_more}
 use Rattle.ir_cli.specs.Outputs.{Printed, by_thread, Gains, output_writer_of, FailedAtOne}
 
 pub gains_none : (a : Option (List Printed)) → Gains a a []
@@ -56,3 +56,15 @@ one_not_put of a b c failed n vs some before kept broke =
       taken = subst (Gains a c) (append-nil first) (gains_both a b c first [] before kept);
       broke = broke;
     }
+
+-- ---- lists that grow by one
+
+pub mapped_more : {A B C : Type 0} (f : A → C) (g : B → C) (old new : List A) (a : A) (ys : List B) (b : B) → map f old ≡ map g ys
+    → f a ≡ g b → new ≡ old ++ a ∷ [] → map f new ≡ map g (ys ++ b ∷ [])
+mapped_more f g old new a ys b before here e = ap (map f) e ∙ map-append f old (a ∷ []) ∙ ap (λ z. z ++ f a ∷ []) before
+    ∙ ap (λ z. map g ys ++ z ∷ []) here ∙ sym (map-append g ys (b ∷ []))
+
+pub numbered_more : {A C : Type 0} (f : A → C) (g : ℕ → C) (old new : List A) (a : A) (n : ℕ) → map f old ≡ map g (range_with_len 0 n)
+    → f a ≡ g n → new ≡ old ++ a ∷ [] → map f new ≡ map g (range_with_len 0 (n + 1))
+numbered_more f g old new a n before here e = ap (map f) e ∙ map-append f old (a ∷ []) ∙ ap (λ z. z ++ f a ∷ []) before
+    ∙ ap (λ z. map g (range_with_len 0 n) ++ z ∷ []) here ∙ sym (map-range_with_len_more g 0 n n (omega arith))

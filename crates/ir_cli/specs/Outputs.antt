@@ -1,5 +1,5 @@
 -- What takes the outputs of a recording, a thread's at a time.
-use Rattle.std.specs.Prelude.{◌≡◌, ◌<◌, ℕ, Bool, true, List, ◌++◌, length, take, ⊤, Option, None, Some}
+use Rattle.std.specs.Prelude.{◌≡◌, ◌<◌, ℕ, Bool, true, List, ◌++◌, length, take, codes, decimal, ⊤, Option, None, Some}
 use Rattle.std.specs.List.{enumerate_from}
 
 -- the number of a thread, and what it printed
@@ -9,6 +9,10 @@ Printed = ℕ × List ℕ
 -- what each thread printed, with its number, from thread 0 on
 abbrev pub by_thread : List (List ℕ) → List Printed
 by_thread printed = enumerate_from 0 printed
+
+-- the path of the file of thread t's output
+abbrev pub output_path : List ℕ → ℕ → List ℕ
+output_path prefix t = prefix ++ (codes "." ++ decimal t)
 
 -- known outputs grow by these
 abbrev pub Gains : Option (List Printed) → Option (List Printed) → List Printed → Type 0

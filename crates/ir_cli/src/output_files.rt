@@ -1,9 +1,10 @@
 //! Files of what the threads of a recording print.
 
-ghost use Rattle.std.specs.Prelude.{◌≡◌, Bool, ◌∷◌, [], OnOk, OnErr, None, true, false};
+ghost use Rattle.std.specs.Prelude.{◌≡◌, Bool, List, ◌∷◌, [], map, OnOk, OnErr, IfOk, None, true, false};
 ghost use Rattle.std.specs.declared.option.Option.{Option};
-ghost use Rattle.std.specs.List.{List};
-ghost use Rattle.ir_cli.specs.Outputs.{Printed, Gains};
+ghost use Rattle.std.specs.List.{range_with_len};
+ghost use Rattle.std.specs.String.{string_bytes};
+ghost use Rattle.ir_cli.specs.Outputs.{Printed, Gains, output_path};
 
 use crate::files::NewFile;
 use crate::folder::Folder;
@@ -37,18 +38,22 @@ pub trait OutputSink {
     fn why(&self) -> &str;
 }
 
-/// The paths of so many threads' outputs: `PREFIX.T` for thread T.
+fn output_path(alloc: Global, prefix: &str, thread: usize) -> Result<String, AllocError>
+    ensures { IfOk result (λ s. string_bytes s ≡ output_path prefix.now thread) }
+{
+    format!(in alloc; "{prefix}.{thread}")
+}
+
+/// The paths of the files of so many threads' outputs: `PREFIX.T` for thread T.
 ///
 /// # Errors
 /// Want of memory.
-pub fn output_paths(
-    alloc: Global,
-    prefix: &str,
-    threads: usize,
-) -> Result<Vec<String>, AllocError> {
+pub fn output_paths(alloc: Global, prefix: &str, threads: usize) -> Result<Vec<String>, AllocError>
+    ensures { IfOk result (λ v. map string_bytes v.items ≡ map (output_path prefix.now) (range_with_len 0 threads)) }
+{
     let mut paths = Vec::with_capacity(alloc, threads)?;
     for thread in 0..threads {
-        paths.push(format!(in alloc; "{prefix}.{thread}")?)?;
+        paths.push(output_path(alloc, prefix, thread)?)?;
     }
     Ok(paths)
 }

@@ -1,6 +1,6 @@
 //! What the program does by its words, over streams and a folder.
 
-ghost use Rattle.std.specs.Prelude.{◌≡◌, OnSome, false};
+ghost use Rattle.std.specs.Prelude.{◌≡◌, OnSome, OnOk, false};
 
 use crate::arguments::{Asked, RecordArguments, parsed};
 use crate::assembling::asm_run;
@@ -307,57 +307,31 @@ fn any_loses<D: Folder, E: Sink>(
     false
 }
 
-// Records the guest of an image into the trace, once it is known what it would be written over.
-fn record_image<R, D, G, O, E>(
-    rt: &R,
+// The paths of what the threads of an image print, if they are asked for. Where memory runs out, or one would be written
+// over another file of the recording, that is told, and the exit status is answered.
+fn output_places<D: Folder, E: Sink>(
     alloc: Global,
     folder: &D,
-    gate: &G,
+    faults: &mut E,
     arguments: &RecordArguments,
     image: &[u8],
-    trace: &mut WholeFile<'_, D>,
-    out: &mut O,
-    faults: &mut E,
-) -> u8
-where
-    R: Threads + Wait + Sync + Clock,
-    D: Folder,
-    G: Gate + Sync,
-    O: Sink,
-    E: Sink,
-    requires writes { trace.old.failed ≡ false }
-    requires prints { O.broken out.old ≡ false }
-    requires reports { E.broken faults.old ≡ false }
+) -> Result<Option<Vec<String>>, u8>
+    ensures kept { OnOk result (faults.new ≡ faults.old) }
 {
     let Ok(paths) = paths_of(alloc, arguments, image) else {
         say(faults, "memory ran out", "", "");
-        return FAULT;
+        return Err(FAULT);
     };
-    let paths = paths.as_ref().map(|paths| paths.as_slice());
-    if any_loses(folder, faults, arguments, paths.unwrap_or(&[])) {
-        return BAD_ARGUMENTS;
+    match &paths {
+        Some(each) if any_loses(folder, faults, arguments, each.as_slice()) => {
+            return Err(BAD_ARGUMENTS);
+        }
+        _ => {}
     }
-    let Some(input) = input_of(alloc, folder, faults, arguments) else {
-        return FAULT;
-    };
-    let mut outputs = OutputFiles::new(folder, paths, arguments.trace.as_str());
-    record_run(
-        rt,
-        alloc,
-        gate,
-        image,
-        arguments.order.as_ref().map(|list| list.as_str()),
-        arguments.budget,
-        arguments.random,
-        input.as_slice(),
-        trace,
-        &mut outputs,
-        out,
-        faults,
-    )
+    Ok(paths)
 }
 
-// Records a guest into a file.
+// Records a guest into a file, and what its threads print into others where they are asked for.
 fn record_file<R, D, G, O, E>(
     rt: &R,
     alloc: Global,
@@ -376,25 +350,38 @@ where
     requires writes { O.broken out.old ≡ false }
     requires reports { E.broken faults.old ≡ false }
 {
-    let Ok(beside) = format!(in alloc; "{}.part", arguments.trace) else {
+    let place = arguments.trace.as_str();
+    let Ok(beside) = format!(in alloc; "{place}.part") else {
         say(faults, "memory ran out", "", "");
         return FAULT;
     };
-    let mut trace = WholeFile::new(folder, arguments.trace.as_str(), beside.as_str());
+    let mut trace = WholeFile::new(folder, place, beside.as_str());
     if loses_input(folder, faults, arguments, trace.first_place()) {
         return BAD_ARGUMENTS;
     }
     let Some(image) = bytes_of(alloc, folder, faults, arguments.image.as_str(), MOST_BYTES) else {
         return FAULT;
     };
-    record_image(
+    let paths = match output_places(alloc, folder, faults, arguments, image.as_slice()) {
+        Ok(paths) => paths,
+        Err(status) => return status,
+    };
+    let Some(input) = input_of(alloc, folder, faults, arguments) else {
+        return FAULT;
+    };
+    let paths = paths.as_ref().map(|paths| paths.as_slice());
+    let mut outputs = OutputFiles::new(folder, paths, place);
+    record_run(
         rt,
         alloc,
-        folder,
         gate,
-        arguments,
         image.as_slice(),
+        arguments.order.as_ref().map(|list| list.as_str()),
+        arguments.budget,
+        arguments.random,
+        input.as_slice(),
         &mut trace,
+        &mut outputs,
         out,
         faults,
     )
