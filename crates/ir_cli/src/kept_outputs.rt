@@ -35,10 +35,11 @@ pub fn no_outputs(rt: &impl AllocGlobal, calls_left: u64) -> KeptOutputs
 
 impl KeptOutputs {
     ghost use Rattle.std.specs.Prelude.{◌++◌, ◌∷◌, [], map, OnOk, OnErr};
+    ghost use Rattle.ir_cli.specs.Outputs.{Printed};
 
     // Keeps a copy.
     fn add(&mut self, thread: usize, bytes: &[u8]) -> Result<(), AllocError>
-        ensures ok { OnOk result (map (λ o. (o.thread, o.bytes.items)) self.new.each.items ≡ map (λ o. (o.thread, o.bytes.items)) self.old.each.items ++ (thread, bytes.now) ∷ []) }
+        ensures ok { OnOk result (map {B = Printed} (λ o. (o.thread, o.bytes.items)) self.new.each.items ≡ map {B = Printed} (λ o. (o.thread, o.bytes.items)) self.old.each.items ++ (thread, bytes.now) ∷ []) }
         ensures err { OnErr result (self.new.each.items ≡ self.old.each.items) }
         ensures failed { self.new.failed ≡ self.old.failed }
     {
@@ -50,8 +51,9 @@ impl KeptOutputs {
 
 impl OutputSink for KeptOutputs {
     ghost use Rattle.std.specs.Prelude.{Some, map};
+    ghost use Rattle.ir_cli.specs.Outputs.{Printed};
 
-    ghost taken = { λ k. Some (map (λ o. (o.thread, o.bytes.items)) k.each.items) };
+    ghost taken = { λ k. Some (map {B = Printed} (λ o. (o.thread, o.bytes.items)) k.each.items) };
 
     ghost broken = { λ k. k.failed };
 
