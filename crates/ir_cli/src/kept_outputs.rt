@@ -62,7 +62,7 @@ impl OutputSink for KeptOutputs {
             self.failed = true;
             return Err(DeviceErr);
         }
-        self.calls_left -= 1;
+        self.calls_left = self.calls_left.saturating_sub(1);
         Ok(())
     }
 
