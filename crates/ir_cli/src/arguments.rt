@@ -146,6 +146,8 @@ const RANDOM: &str = "random";
 
 const INPUT: &str = "input";
 
+const OUTPUT: &str = "output";
+
 const RECORD_ABOUT: &str = "Records a guest, and prints a line for each thread";
 
 const RECORD_AFTER: &str =
@@ -161,6 +163,7 @@ list, rounds over the threads from 0 on take one step of each that has one, unti
 CLOCK gives milliseconds since the start, modulo 2^32; with LIST it counts its own calls from 0, in each thread.
 RANDOM gives PCG32's words, started by S plus the thread's number; each thread reads its own copy of FILE, of at most
 1048576 bytes, or nothing. TRACE is written as TRACE.part, which is renamed once it is whole.
+With PREFIX what thread T printed is then written to PREFIX.T, which is empty where it printed nothing, before the lines.
 A line is `thread T end E code C steps S events N`; the ends E are
    1 END                   6 a bad load              11 an object that isn't held
    2 EBREAK                7 a bad store             12 too much output
@@ -185,6 +188,8 @@ pub struct RecordArguments {
     pub random: u64,
     /// The file that guests read.
     pub input: Option<String>,
+    /// What the paths of the files of what threads print begin with, if they are asked for.
+    pub output: Option<String>,
     ghost within: { budget ≤ most_budget },
 }
 
@@ -243,7 +248,8 @@ fn record_command<'a>(alloc: Global) -> Result<Command<'a>, AllocError> {
         .arg(order)?
         .arg(budget_arg(alloc))?
         .arg(random_arg(alloc))?
-        .arg(input_arg(alloc))
+        .arg(input_arg(alloc))?
+        .arg(output_arg(alloc))
 }
 
 fn debug_command<'a>(alloc: Global) -> Result<Command<'a>, AllocError> {
@@ -293,6 +299,13 @@ fn input_arg<'a>(alloc: Global) -> Arg<'a> {
         .long(INPUT)
         .value_name("FILE")
         .help("The file that guests read")
+}
+
+fn output_arg<'a>(alloc: Global) -> Arg<'a> {
+    Arg::new(alloc, OUTPUT)
+        .long(OUTPUT)
+        .value_name("PREFIX")
+        .help("What each thread T prints is written to the file PREFIX.T")
 }
 
 fn command<'a>(alloc: Global) -> Result<Command<'a>, AllocError> {
@@ -383,6 +396,7 @@ fn recording(alloc: Global, matches: &ArgMatches<'_>) -> Result<Asked, AllocErro
         budget: most,
         random: start,
         input: given_text(alloc, matches, INPUT)?,
+        output: given_text(alloc, matches, OUTPUT)?,
     }))
 }
 
