@@ -35,7 +35,8 @@ by_first f k one rest true first others is = let same : k ≡ one = cc is in sub
 by_first f k one rest false first others is = others is
 
 -- the one of a number
-pub one_stands : (f : FittedTrace) (kept : List Kept) (n : ℕ) (one : Kept) → AllStand f kept → kept_as n kept ≡ Some one → Stands f one.state
+pub one_stands : (f : FittedTrace) (kept : List Kept) (n : ℕ) (one : Kept) → AllStand f kept → kept_as n kept ≡ Some one
+    → Stands f one.state
 one_stands f [] n one all is = absurd cc
 one_stands f (k ∷ kept) n one all is =
     by_first f k one (kept_as n kept) (k.number == n) all.0 (one_stands f kept n one all.1) is

@@ -21,6 +21,9 @@ use std::mem;
 use std::thread::Threads;
 use std::time::Clock;
 
+#[cfg(test)]
+mod tests;
+
 // The most stops of one move.
 const MOST_STOPS: usize = 64;
 

@@ -5,7 +5,5 @@ mod bringing;
 mod checkpoints;
 mod parts;
 mod passed;
-#[cfg(test)]
-mod tests;
 
 pub use checkpoints::Checkpoints;

@@ -4,6 +4,9 @@ ghost use Rattle.std.specs.Prelude.{◌<◌, length};
 
 use arrayvec::ArrayVec;
 
+#[cfg(test)]
+mod tests;
+
 // The most that are kept at once.
 const MOST_PASSED: usize = 64;
 

@@ -1,6 +1,6 @@
 //! Which of the states that moves have passed is given up.
 
-use crate::passed::{Passed, PassedCut};
+use super::{Passed, PassedCut};
 
 // The number of the one that is given up of those after so many steps, kept under the numbers from 1 on.
 fn given_up(steps: &[u64], present: u64) -> u32 {
