@@ -276,8 +276,8 @@ def continuing():
         best_of_five([IR, "record", source, made, "--budget", "1000000000"], b"", lambda out: out.count(b" end 1 ") == 1)
         rows = (
             (b"", b"end", 1),
-            (b"end\n", b"back 0 1", 20),
-            (b"end\ngoto 0 %d\n" % (steps // 2), b"back 0 1", 20),
+            (b"end\n", b"back 0 1", 500),
+            (b"end\ngoto 0 %d\n" % (steps // 2), b"back 0 1", 500),
             (b"break 0 0x%x\n" % never, b"cont 0", 1),
             (b"watch 0 0x10fff8\n", b"cont 0", 1),
             (b"break 0 0x%x\nend\n" % never, b"rcont 0", 1),

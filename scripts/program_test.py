@@ -394,7 +394,7 @@ def test_readme(folder):
         if wanted and not matches(ended.stdout.decode().splitlines(), wanted):
             raise Wrong(f"{command}: wrote {ended.stdout.decode()!r}")
         wants(f"{command}: standard error", ended.stderr, b"")
-    if len(commands) < 5:
+    if len(commands) < 3:
         raise Wrong("the README has no commands")
 
 
