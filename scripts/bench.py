@@ -264,6 +264,31 @@ def sessions():
         print(f"{'log 0, after end':28}{100:>10}{100 / (took - start):>12.0f}{size / (took - start) / 1e6:>8.1f}")
 
 
+def continuing():
+    """The first guest: a step back, again and again, and continued both ways, in milliseconds each."""
+    print(f"{'one thread, lines':44}{'count':>8}{'ms each':>10}")
+    name, code, steps = next(guest for guest in guests())
+    never = CODE + 4 * len(code)
+    with tempfile.TemporaryDirectory() as folder:
+        source, made = os.path.join(folder, "image"), os.path.join(folder, "trace")
+        with open(source, "wb") as f:
+            f.write(image(code + [addi(0, 0, 0)]))
+        best_of_five([IR, "record", source, made, "--budget", "1000000000"], b"", lambda out: out.count(b" end 1 ") == 1)
+        rows = (
+            (b"", b"end", 1),
+            (b"end\n", b"back 0 1", 500),
+            (b"end\ngoto 0 %d\n" % (steps // 2), b"back 0 1", 500),
+            (b"break 0 0x%x\n" % never, b"cont 0", 1),
+            (b"watch 0 0x10fff8\n", b"cont 0", 1),
+            (b"break 0 0x%x\nend\n" % never, b"rcont 0", 1),
+        )
+        for before, line, count in rows:
+            base, _ = session_of(source, made, before + b"pos\n")
+            took, _ = session_of(source, made, before + (line + b"\n") * count)
+            label = (before + line).decode().replace("\n", "; ")
+            print(f"{label:44}{count:>8}{(took - base) / count * 1e3:>10.2f}")
+
+
 def coherence():
     """Eight logs of 1,048,576 write entries each, their versions by turns."""
     count = 1 << 20
@@ -288,6 +313,6 @@ def assembling():
             print(f"{count:<24}{count // 4:>12}{took:>10.3f}{count / took:>12.0f}")
 
 
-PARTS = {part.__name__: part for part in (speeds, traces, by_threads, sessions, coherence, assembling)}
+PARTS = {part.__name__: part for part in (speeds, traces, by_threads, sessions, continuing, coherence, assembling)}
 for part in sys.argv[3:] or PARTS:
     PARTS[part]()

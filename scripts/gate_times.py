@@ -3,8 +3,8 @@
 
 python3 scripts/gate_times.py rt ci > gate.log
 
-What the command prints passes through. Each process of the prover is looked at twice a second (/proc), so that up to
-half a second of each isn't counted. Columns: the crate's own proof and building it, its tests, its must-fail edits.
+What the command prints passes through. Each process of the prover that the command started is looked at twice a second (/proc), so that
+up to half a second of each isn't counted. Columns: the crate's own proof and building it, its tests, its must-fail edits.
 """
 import os
 import re
@@ -18,6 +18,8 @@ from pathlib import Path
 TICKS = os.sysconf("SC_CLK_TCK")
 CRATE = re.compile(r"--crate-name (\w+)")
 COLUMNS = ("proof", "tests", "edits")
+# Inherited by all that the command starts, so that another prover beside it isn't counted.
+MARK = f"GATE_TIMES={os.getpid()}"
 
 
 def column_of(words):
@@ -35,7 +37,7 @@ def processes():
         try:
             words = (folder / "cmdline").read_bytes().decode(errors="replace").replace("\0", " ")
             crate = CRATE.search(words) if "/rattle " in words else None
-            if crate is None:
+            if crate is None or MARK.encode() not in (folder / "environ").read_bytes().split(b"\0"):
                 continue
             where = os.readlink(folder / "cwd")
             stat = (folder / "stat").read_text().rpartition(")")[2].split()
@@ -75,7 +77,8 @@ def main():
     watching = threading.Thread(target=watch, args=(ended, seen), daemon=True)
     start = time.monotonic()
     watching.start()
-    status = subprocess.run(sys.argv[1:], check=False).returncode
+    name, _, value = MARK.partition("=")
+    status = subprocess.run(sys.argv[1:], check=False, env=os.environ | {name: value}).returncode
     ended.set()
     watching.join()
     print(f"\n{(time.monotonic() - start) / 60:.1f} minutes by the clock\n")

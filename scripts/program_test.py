@@ -28,11 +28,22 @@ DOUBLE = """
         ecall
 """
 
+# Two threads; the first prints a byte, the second nothing.
+TWO = """
+        .thread prints
+        .thread silent
+prints: addi a0, zero, 65
+        addi a7, zero, 2
+        ecall
+silent: ebreak
+"""
+
 # Never ends by itself.
 FOREVER = "again: jal zero, again\n"
 
-# What a recording of the first prints, and what is told where nobody takes it.
+# What recordings of the first and the second print, and what is told where nobody takes it.
 DOUBLE_LINE = b"thread 0 end 1 code 144 steps 6 events 0\n"
+TWO_LINES = b"thread 0 end 2 code 0 steps 4 events 0\nthread 1 end 2 code 0 steps 1 events 0\n"
 FULL = b"ir: standard output can't be written\n"
 
 # Each row: the arguments, the exit status, and what standard error says.
@@ -82,6 +93,26 @@ OWN_FILES = [
     ("record d.trc.part d.trc", "ir: d.trc.part: TRACE.part would be written over IMAGE\n"),
 ]
 
+# Each row: the arguments of a recording of two threads whose outputs would be written over another of its files, and the
+# message.
+OWN_OUTPUTS = [
+    ("two.img two.trc --output link", "ir: link.0: PREFIX.T would be written over IMAGE\n"),
+    ("two.img two.trc --output hard", "ir: hard.1: PREFIX.T would be written over IMAGE\n"),
+    ("two.img new.1 --output new", "ir: new.1: PREFIX.T would be written over TRACE\n"),
+    ("two.img two.trc --output input --input input.1", "ir: input.1: PREFIX.T would be written over FILE\n"),
+]
+
+# Each row: the arguments of such a recording, the message, and what was written before.
+FAILED_OUTPUTS = [
+    ("two.img two.trc --output full", "ir: full.0 can't be written: no space is left\n", {}),
+    ("two.img two.trc --output none/out", "ir: none/out.0 can't be written: no such file or folder\n", {}),
+    ("two.img two.trc --output held", "ir: held.1 can't be written: it is a folder\n", {"held.0": b"A"}),
+    # Only once the first file is there are the two known to be one.
+    ("two.img two.trc --output one", "ir: one.1 can't be written: it is another file of this recording\n", {"one.0": b"A"}),
+    ("two.img new.0 --output ./new", "ir: ./new.0 can't be written: it is another file of this recording\n", {}),
+    ("two.img two.trc --output far", "ir: far.1 can't be written: it is another file of this recording\n", {"far.0": b"A"}),
+]
+
 
 class Wrong(Exception):
     """What a test found."""
@@ -102,9 +133,9 @@ def run(arguments, folder, **more):
     return subprocess.run([PROGRAM] + shlex.split(arguments), cwd=folder, timeout=120, **more)
 
 
-def shell(command, folder):
-    """A run of a command by bash, in which `./ir` is the program."""
-    return subprocess.run(["bash", "-c", command], cwd=folder, timeout=120, capture_output=True)
+def shell(command, folder, typed=b""):
+    """A run of a command by bash, in which `./ir` is the program, over what is typed."""
+    return subprocess.run(["bash", "-c", command], cwd=folder, timeout=120, input=typed, capture_output=True)
 
 
 def prepare(folder):
@@ -112,12 +143,13 @@ def prepare(folder):
     (folder / "ir").symlink_to(PROGRAM)
     (folder / "folder").mkdir()
     (folder / "d.s").write_text(DOUBLE)
+    (folder / "two.s").write_text(TWO)
     (folder / "forever.s").write_text(FOREVER)
     (folder / "bad.s").write_text("nop\nx\n")
     for name, size in (("long", 100_000_001), ("longer", 1_048_577)):
         with open(folder / name, "wb") as file:
             file.truncate(size)
-    for name in ("d", "forever"):
+    for name in ("d", "two", "forever"):
         wants("assembling", run(f"asm {name}.s {name}.img", folder).returncode, 0)
     wants("recording", run("record d.img whole.trc --order 0", folder).returncode, 0)
 
@@ -145,6 +177,58 @@ def test_own_files(folder):
         wants(arguments, (ended.returncode, ended.stdout, ended.stderr.decode()), (2, b"", message))
     for name in names:
         wants(name, (folder / name).read_bytes(), before[name])
+
+
+def test_outputs(folder):
+    """What each thread prints stands in a file of its own, where that is asked for."""
+    wants("no file", list(folder.glob("*.0")), [])
+    for prefix, more in (("out", ""), ("out", " --order 1,0"), ("folder/out", ""), ("folder/.", " --order 0")):
+        for thread in (0, 1):
+            if (folder / f"{prefix}.{thread}").exists():
+                (folder / f"{prefix}.{thread}").write_bytes(b"an older output")
+        ended = run(f"record two.img two.trc --output {prefix}{more}", folder)
+        wants(prefix, (ended.returncode, ended.stdout, ended.stderr), (0, TWO_LINES, b""))
+        for thread, printed in enumerate((b"A", b"")):
+            wants(f"{prefix}.{thread}", (folder / f"{prefix}.{thread}").read_bytes(), printed)
+        wants(f"{prefix}.2", (folder / f"{prefix}.2").exists(), False)
+    # An image of one thread has one output.
+    (folder / "other.1").write_bytes(b"input")
+    wants("one thread", run("record d.img d.trc --output other --input other.1", folder).returncode, 0)
+    wants("other.0", (folder / "other.0").read_bytes(), b"H")
+    wants("other.1", (folder / "other.1").read_bytes(), b"input")
+
+
+def test_own_outputs(folder):
+    """Outputs aren't written over what is read, or over the trace; nothing is written then."""
+    (folder / "link.0").symlink_to("two.img")
+    os.link(folder / "two.img", folder / "hard.1")
+    (folder / "input.1").write_bytes(b"input")
+    image = (folder / "two.img").read_bytes()
+    for arguments, message in OWN_OUTPUTS:
+        ended = run(f"record {arguments}", folder)
+        wants(arguments, (ended.returncode, ended.stdout, ended.stderr.decode()), (2, b"", message))
+        for name in ("two.trc", "link.1", "hard.0", "new.0", "new.1", "input.0"):
+            wants(f"{arguments}: {name}", (folder / name).exists(), False)
+    wants("two.img", (folder / "two.img").read_bytes(), image)
+    wants("input.1", (folder / "input.1").read_bytes(), b"input")
+
+
+def test_failed_outputs(folder):
+    """An output that can't be written is told; the trace and the outputs before it stand."""
+    wants("recording", run("record two.img whole2.trc --order 0", folder).returncode, 0)
+    whole = (folder / "whole2.trc").read_bytes()
+    (folder / "full.0").symlink_to("/dev/full")
+    (folder / "held.1").mkdir()
+    (folder / "one.1").symlink_to("one.0")
+    (folder / "far.1").symlink_to("two.trc")
+    for arguments, message, written in FAILED_OUTPUTS:
+        ended = run(f"record {arguments}", folder)
+        wants(arguments, (ended.returncode, ended.stdout, ended.stderr.decode()), (1, b"", message))
+        wants(f"{arguments}: the trace", (folder / arguments.split()[1]).read_bytes(), whole)
+        for name, printed in written.items():
+            wants(f"{arguments}: {name}", (folder / name).read_bytes(), printed)
+        (folder / arguments.split()[1]).unlink()
+    wants("full.1", (folder / "full.1").exists(), False)
 
 
 def test_trace(folder):
@@ -279,16 +363,16 @@ def test_large_order(folder):
 
 
 def commands_of(text):
-    """The commands of the README, with what they write; `..` stands for any lines."""
+    """The commands of the README, each with the lines that are typed at its prompts and those that it writes."""
     commands = []
     for line in text.splitlines():
         if line.startswith("    $ "):
-            commands.append((line[6:], []))
-        elif line.startswith("    ") and commands and commands[-1][1] is not None:
-            commands[-1][1].append(line[4:])
-        elif commands and commands[-1][1] is not None:
-            commands.append(("", None))
-    return [(command, lines) for command, lines in commands if command]
+            commands.append((line[6:], [], []))
+        elif line.startswith("    (ir) ") and commands:
+            commands[-1][1].append(line[9:])
+        elif line.startswith("    ") and commands:
+            commands[-1][2].append(line[4:])
+    return commands
 
 
 def matches(found, wanted):
@@ -305,12 +389,12 @@ def test_readme(folder):
     for name in ("crates", "examples"):
         (folder / name).symlink_to(ROOT / name)
     commands = commands_of((ROOT / "README.md").read_text())
-    for command, wanted in commands:
-        ended = shell(command, folder)
+    for command, typed, wanted in commands:
+        ended = shell(command, folder, "".join(f"{line}\n" for line in typed).encode())
         if wanted and not matches(ended.stdout.decode().splitlines(), wanted):
             raise Wrong(f"{command}: wrote {ended.stdout.decode()!r}")
         wants(f"{command}: standard error", ended.stderr, b"")
-    if len(commands) < 5:
+    if len(commands) < 3:
         raise Wrong("the README has no commands")
 
 

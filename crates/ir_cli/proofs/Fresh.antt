@@ -80,13 +80,12 @@ pub recorded_from : (image list : List ℕ) (budget random : ℕ) (file : List �
     → guest_at image ≡ Ok guest → entries ≡ guest.entries → order_of (length entries) list ≡ Some order → given ≡ order
     → before ≡ replicate (length entries) [] → IsRecording guest budget given before trace outputs answers
     → ((t : ℕ) → t < length entries → IsAnswered (origin_of true random file t) (get_or answers t []))
-    → IsRecordedOf image (Some list) budget random file trace
+    → IsRecordedOf image (Some list) budget random file trace outputs
 recorded_from image list budget random file guest entries order given before trace outputs answers is same spelled e silent h answered =
     let long : length entries ≡ length guest.entries = ap (λ (z : List ℕ). length z) same in
     record {
       guest = guest;
       is = is;
-      outputs = outputs;
       answers = answers;
       recorded = (
         order,
@@ -104,13 +103,12 @@ pub recorded_by : (image : List ℕ) (budget random : ℕ) (file : List ℕ) (gu
     → guest_at image ≡ Ok guest → entries ≡ guest.entries → before ≡ replicate (length entries) []
     → IsRecordingOfSome guest budget before trace outputs answers
     → ((t : ℕ) → t < length entries → IsAnswered (origin_of false random file t) (get_or answers t []))
-    → IsRecordedOf image None budget random file trace
+    → IsRecordedOf image None budget random file trace outputs
 recorded_by image budget random file guest entries before trace outputs answers is same silent h answered =
     let long : length entries ≡ length guest.entries = ap (λ (z : List ℕ). length z) same in
     record {
       guest = guest;
       is = is;
-      outputs = outputs;
       answers = answers;
       recorded = subst (λ (z : List (List Answered)). IsRecordingOfSome guest budget z trace outputs answers)
           (silent ∙ ap (λ (n : ℕ). replicate n []) long) h;

@@ -8,3 +8,4 @@ mod Giving
 mod Fresh
 mod Printed
 mod Listed
+mod Putting

@@ -8,11 +8,12 @@ use Rattle.ir_trace.specs.Recorded.{Recorded}
 use Rattle.ir_trace.specs.Encoding.{encoding}
 use Rattle.ir_cli.specs.Order.{order_of}
 use Rattle.ir_cli.specs.Recording.{lines_of}
+use Rattle.ir_cli.specs.Outputs.{OutputWriter, TookEach, FailedAtOne}
 use Rattle.ir_cli.specs.Writers.{Writer, Took, Failed}
 use Rattle.ir_cli.specs.declared.order.OrderErr.{OrderErr}
 use Rattle.ir_cli.specs.declared.order.OrderErr.TheVariants as order_err
 use Rattle.ir_cli.specs.declared.record_fault.RecordFault.{RecordFault}
-use Rattle.ir_cli.specs.declared.record_fault.RecordFault.TheVariants.{Clock, Image, Order, NoMem, Trace, Lines}
+use Rattle.ir_cli.specs.declared.record_fault.RecordFault.TheVariants.{Clock, Image, Order, NoMem, Trace, Output, Lines}
 
 -- the exit status of a fault
 abbrev pub fault_status : RecordFault → ℕ
@@ -21,6 +22,7 @@ fault_status Order = 3
 fault_status NoMem = 1
 fault_status Clock = 1
 fault_status Trace = 1
+fault_status Output = 1
 fault_status Lines = 1
 
 -- the fault that a refusal of the image is
@@ -45,19 +47,24 @@ Refuses Order image list = (guest : Guest) × (guest_at image ≡ Ok guest) × (
 Refuses Clock image list = list ≡ None
 Refuses NoMem image list = ⊤
 Refuses Trace image list = ⊥
+Refuses Output image list = ⊥
 Refuses Lines image list = ⊥
 
--- which of the writers of the trace and of the lines failed; the lines come after the whole trace
-abbrev pub WriteFails : RecordFault → List ℕ → List ℕ → Writer → Writer → Type 0 → Type 0
-WriteFails Trace bytes lines trace out untouched = Failed trace bytes × untouched
-WriteFails Lines bytes lines trace out untouched = Took trace bytes × Failed out lines
-WriteFails Clock bytes lines trace out untouched = ⊥
-WriteFails (Image e) bytes lines trace out untouched = ⊥
-WriteFails Order bytes lines trace out untouched = ⊥
-WriteFails NoMem bytes lines trace out untouched = ⊥
+-- which of the writers failed, of the trace, of the outputs and of the lines: the outputs come after the whole trace, and the
+-- lines after all outputs. The last two say that those of the outputs and of the lines are as before, and that of the lines
+abbrev pub WriteFails : RecordFault → List ℕ → List (List ℕ) → List ℕ → Writer → OutputWriter → Writer → Type 0 → Type 0 → Type 0
+WriteFails Trace bytes printed lines trace outputs out later last = Failed trace bytes × later
+WriteFails Output bytes printed lines trace outputs out later last = Took trace bytes × FailedAtOne outputs printed × last
+WriteFails Lines bytes printed lines trace outputs out later last = Took trace bytes × TookEach outputs printed × Failed out lines
+WriteFails Clock bytes printed lines trace outputs out later last = ⊥
+WriteFails (Image e) bytes printed lines trace outputs out later last = ⊥
+WriteFails Order bytes printed lines trace outputs out later last = ⊥
+WriteFails NoMem bytes printed lines trace outputs out later last = ⊥
 
--- a fault: nothing was written (both writers are as before), or there is a recording and a writer failed (where the
--- trace's did, the other is as before)
-abbrev pub Stops : RecordFault → List ℕ → Option (List ℕ) → (Recorded → Type 0) → Writer → Writer → Type 0 → Type 0 → Type 0
-Stops e image list IsIt trace out both second = (Refuses e image list × both)
-    ⊎ ((recorded : Recorded) × IsIt recorded × WriteFails e (encoding recorded) (lines_of recorded) trace out second)
+-- a fault: nothing was written (all writers are as before), or there is a recording, the trace and the outputs of one run, and
+-- a writer failed (those after it are as before)
+abbrev pub Stops : RecordFault → List ℕ → Option (List ℕ) → (Recorded → List (List ℕ) → Type 0) → Writer → OutputWriter → Writer
+    → Type 0 → Type 0 → Type 0 → Type 0
+Stops e image list IsIt trace outputs out all later last = (Refuses e image list × all)
+    ⊎ ((recorded : Recorded) × (printed : List (List ℕ)) × IsIt recorded printed
+    × WriteFails e (encoding recorded) printed (lines_of recorded) trace outputs out later last)

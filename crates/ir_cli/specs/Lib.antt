@@ -6,6 +6,7 @@ pub mod Order
 pub mod Sources
 pub mod Recording
 pub mod Writers
+pub mod Outputs
 pub mod Leaving
 pub mod Faults
 pub mod Places

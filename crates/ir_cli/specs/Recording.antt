@@ -34,12 +34,13 @@ IsRecordedBy (Some list) guest budget trace outputs answers = (order : List ℕ)
     × IsRecording guest budget order (unasked guest) trace outputs answers
 IsRecordedBy None guest budget trace outputs answers = IsRecordingOfSome guest budget (unasked guest) trace outputs answers
 
--- the trace is of such a run of the image's guest, whose threads were answered by random words, the file's bytes and a
--- count; without a list by a clock in the place of the count, of which nothing is said but that the answers are its own
-pub record IsRecordedOf (image : List ℕ) (list : Option (List ℕ)) (budget random : ℕ) (file : List ℕ) (trace : Recorded) : Type 0 where
+-- the trace and the outputs are of one such run of the image's guest, whose threads were answered by random words, the
+-- file's bytes and a count; without a list by a clock in the place of the count, of which nothing is said but that the
+-- answers are its own
+pub record IsRecordedOf (image : List ℕ) (list : Option (List ℕ)) (budget random : ℕ) (file : List ℕ) (trace : Recorded)
+    (outputs : List (List ℕ)) : Type 0 where
   pub guest : Guest
   pub is : guest_at image ≡ Ok guest
-  pub outputs : List (List ℕ)
   pub answers : List (List Answered)
   pub recorded : IsRecordedBy list guest budget trace outputs answers
   -- each thread was answered by its own sources

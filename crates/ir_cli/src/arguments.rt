@@ -89,9 +89,15 @@ threads stand at a cut, a position for each, at which all that their steps need 
   step T N      N steps of thread T forwards, the others no further than these need
   back T N      N steps of thread T backwards, the others no further than must be
   goto T K      thread T to position K, forwards or backwards
+  cont T        thread T forwards to the first position at which a point hits it, or to its last
+  rcont T       thread T backwards to the last position at which a point hits it, or to 0
   start         all threads to position 0
   end           all threads to their last positions
   pos           the position of each thread
+  break T A     sets a breakpoint: hits thread T before the instruction at address A of the code
+  watch T A     sets a watchpoint: hits thread T behind a step that changes the word at address A of its memory
+  owatch O      sets an object's watchpoint: hits a thread behind its step that leaves object O after writing
+  clear N       takes point N away; the three above answer `point N`, the next number from 1 on, and 64 may be set
   regs T        pc and registers of thread T
   mem T A N     N bytes, 1 to 256, from address A on, of the code or of thread T's memory
   obj O         object O: its version, who is inside, its words
@@ -103,8 +109,8 @@ threads stand at a cut, a position for each, at which all that their steps need 
   drop N        keeps the cut N no longer
   kept          each number, and the positions of its cut
   quit          ends the session
-Numbers are decimal, or `0x` and hexadecimal digits. A move answers `at` and the positions, then `end` where thread T is
-at its last and `start` where it is at 0. A line that can't be carried out is answered `refused R` and why, and changes
+Numbers are decimal, or `0x` and hexadecimal digits. A move answers `at` and the positions, then `hit N` where point N stopped
+thread T, `end` where it is at its last position and `start` where it is at 0. A line that can't be carried out is answered `refused R` and why, and changes
 nothing. At a terminal standard error prompts for each line.
 Exit status: 0 done, 1 a fault, 2 bad arguments, 3 a refused image or trace, 4 a trace that doesn't fit.
 ";
@@ -140,6 +146,8 @@ const RANDOM: &str = "random";
 
 const INPUT: &str = "input";
 
+const OUTPUT: &str = "output";
+
 const RECORD_ABOUT: &str = "Records a guest, and prints a line for each thread";
 
 const RECORD_AFTER: &str =
@@ -155,6 +163,7 @@ list, rounds over the threads from 0 on take one step of each that has one, unti
 CLOCK gives milliseconds since the start, modulo 2^32; with LIST it counts its own calls from 0, in each thread.
 RANDOM gives PCG32's words, started by S plus the thread's number; each thread reads its own copy of FILE, of at most
 1048576 bytes, or nothing. TRACE is written as TRACE.part, which is renamed once it is whole.
+With PREFIX what thread T printed is then written to PREFIX.T, which is empty where it printed nothing, before the lines.
 A line is `thread T end E code C steps S events N`; the ends E are
    1 END                   6 a bad load              11 an object that isn't held
    2 EBREAK                7 a bad store             12 too much output
@@ -179,6 +188,8 @@ pub struct RecordArguments {
     pub random: u64,
     /// The file that guests read.
     pub input: Option<String>,
+    /// What the paths of the files of what threads print begin with, if they are asked for.
+    pub output: Option<String>,
     ghost within: { budget ≤ most_budget },
 }
 
@@ -237,7 +248,8 @@ fn record_command<'a>(alloc: Global) -> Result<Command<'a>, AllocError> {
         .arg(order)?
         .arg(budget_arg(alloc))?
         .arg(random_arg(alloc))?
-        .arg(input_arg(alloc))
+        .arg(input_arg(alloc))?
+        .arg(output_arg(alloc))
 }
 
 fn debug_command<'a>(alloc: Global) -> Result<Command<'a>, AllocError> {
@@ -287,6 +299,13 @@ fn input_arg<'a>(alloc: Global) -> Arg<'a> {
         .long(INPUT)
         .value_name("FILE")
         .help("The file that guests read")
+}
+
+fn output_arg<'a>(alloc: Global) -> Arg<'a> {
+    Arg::new(alloc, OUTPUT)
+        .long(OUTPUT)
+        .value_name("PREFIX")
+        .help("What each thread T prints is written to the file PREFIX.T")
 }
 
 fn command<'a>(alloc: Global) -> Result<Command<'a>, AllocError> {
@@ -377,6 +396,7 @@ fn recording(alloc: Global, matches: &ArgMatches<'_>) -> Result<Asked, AllocErro
         budget: most,
         random: start,
         input: given_text(alloc, matches, INPUT)?,
+        output: given_text(alloc, matches, OUTPUT)?,
     }))
 }
 

@@ -12,11 +12,14 @@ mod debugging;
 mod fault;
 mod files;
 mod folder;
+#[cfg(test)]
+mod kept_outputs;
 mod line;
 mod list_err;
 mod listing;
 mod numeral;
 mod order;
+mod output_files;
 mod places;
 #[cfg(test)]
 mod places_tests;

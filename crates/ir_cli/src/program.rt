@@ -1,6 +1,6 @@
 //! What the program does by its words, over streams and a folder.
 
-ghost use Rattle.std.specs.Prelude.{◌≡◌, OnSome, false};
+ghost use Rattle.std.specs.Prelude.{◌≡◌, OnSome, OnOk, false};
 
 use crate::arguments::{Asked, RecordArguments, parsed};
 use crate::assembling::asm_run;
@@ -8,6 +8,7 @@ use crate::bundle::bundle;
 use crate::debugging::debug_run;
 use crate::files::{MOST_BYTES, MOST_INPUT, NewFile, read_file};
 use crate::folder::Folder;
+use crate::output_files::{OutputFiles, output_paths};
 use crate::places::loses;
 use crate::prompting::Prompting;
 use crate::recording::record_run;
@@ -15,9 +16,10 @@ use crate::telling::tell_of;
 use crate::tracing::trace_run;
 use crate::whole_file::WholeFile;
 use ir_debug::{Sink, Source};
+use ir_image::{ImageErr, read_image};
 use ir_object::Gate;
 use ir_stream::write_all;
-use std::alloc::Global;
+use std::alloc::{AllocError, Global};
 use std::sync::Wait;
 use std::thread::Threads;
 use std::time::Clock;
@@ -233,7 +235,103 @@ fn loses_input<D: Folder, E: Sink>(
     }
 }
 
-// Records a guest into a file.
+// The paths of what the threads of an image print, if they are asked for. Bytes that are no image have no threads.
+fn paths_of(
+    alloc: Global,
+    arguments: &RecordArguments,
+    image: &[u8],
+) -> Result<Option<Vec<String>>, AllocError> {
+    let Some(prefix) = &arguments.output else {
+        return Ok(None);
+    };
+    let threads = match read_image(alloc, image) {
+        Ok(image) => image.entries().len(),
+        Err(ImageErr::NoMem) => return Err(AllocError),
+        Err(_) => 0,
+    };
+    Ok(Some(output_paths(alloc, prefix.as_str(), threads)?))
+}
+
+// Whether what a thread prints would be written over another file of its recording.
+fn loses_other<D: Folder, E: Sink>(
+    folder: &D,
+    faults: &mut E,
+    arguments: &RecordArguments,
+    path: &str,
+) -> bool
+    ensures kept { result ≡ false → faults.new ≡ faults.old }
+{
+    let image = arguments.image.as_str();
+    let trace = arguments.trace.as_str();
+    if is_lost(
+        folder,
+        faults,
+        "PREFIX.T would be written over IMAGE",
+        image,
+        path,
+    ) || is_lost(
+        folder,
+        faults,
+        "PREFIX.T would be written over TRACE",
+        trace,
+        path,
+    ) {
+        return true;
+    }
+    match &arguments.input {
+        Some(file) => is_lost(
+            folder,
+            faults,
+            "PREFIX.T would be written over FILE",
+            file.as_str(),
+            path,
+        ),
+        None => false,
+    }
+}
+
+// The same of any of these threads.
+fn any_loses<D: Folder, E: Sink>(
+    folder: &D,
+    faults: &mut E,
+    arguments: &RecordArguments,
+    paths: &[String],
+) -> bool
+    ensures kept { result ≡ false → faults.new ≡ faults.old }
+{
+    for path in paths {
+        if loses_other(folder, faults, arguments, path.as_str()) {
+            return true;
+        }
+    }
+    false
+}
+
+// The paths of what the threads of an image print, if they are asked for. Where memory runs out, or one would be written
+// over another file of the recording, that is told, and the exit status is answered.
+fn output_places<D: Folder, E: Sink>(
+    alloc: Global,
+    folder: &D,
+    faults: &mut E,
+    arguments: &RecordArguments,
+    image: &[u8],
+) -> Result<Option<Vec<String>>, u8>
+    ensures kept { OnOk result (faults.new ≡ faults.old) }
+{
+    let Ok(paths) = paths_of(alloc, arguments, image) else {
+        say(faults, "memory ran out", "", "");
+        return Err(FAULT);
+    };
+    match &paths {
+        Some(each) if any_loses(folder, faults, arguments, each.as_slice()) => {
+            return Err(BAD_ARGUMENTS);
+        }
+        _ => {}
+    }
+    Ok(paths)
+}
+
+// Records a guest into a file, and what its threads print into others where they are asked for.
 fn record_file<R, D, G, O, E>(
     rt: &R,
     alloc: Global,
@@ -252,20 +350,27 @@ where
     requires writes { O.broken out.old ≡ false }
     requires reports { E.broken faults.old ≡ false }
 {
-    let Ok(beside) = format!(in alloc; "{}.part", arguments.trace) else {
+    let place = arguments.trace.as_str();
+    let Ok(beside) = format!(in alloc; "{place}.part") else {
         say(faults, "memory ran out", "", "");
         return FAULT;
     };
-    let mut trace = WholeFile::new(folder, arguments.trace.as_str(), beside.as_str());
+    let mut trace = WholeFile::new(folder, place, beside.as_str());
     if loses_input(folder, faults, arguments, trace.first_place()) {
         return BAD_ARGUMENTS;
     }
     let Some(image) = bytes_of(alloc, folder, faults, arguments.image.as_str(), MOST_BYTES) else {
         return FAULT;
     };
+    let paths = match output_places(alloc, folder, faults, arguments, image.as_slice()) {
+        Ok(paths) => paths,
+        Err(status) => return status,
+    };
     let Some(input) = input_of(alloc, folder, faults, arguments) else {
         return FAULT;
     };
+    let paths = paths.as_ref().map(|paths| paths.as_slice());
+    let mut outputs = OutputFiles::new(folder, paths, place);
     record_run(
         rt,
         alloc,
@@ -276,6 +381,7 @@ where
         arguments.random,
         input.as_slice(),
         &mut trace,
+        &mut outputs,
         out,
         faults,
     )

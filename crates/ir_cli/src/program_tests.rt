@@ -14,6 +14,10 @@ use std::time::Clock;
 const DOUBLE: &[u8] =
     b"addi a0, zero, 72\naddi a7, zero, 2\necall\nadd a0, a0, a0\naddi a7, zero, 1\necall\n";
 
+// Two threads; the first prints A, the second nothing.
+const TWO: &[u8] =
+    b".thread prints\n.thread silent\nprints: addi a0, zero, 65\naddi a7, zero, 2\necall\nsilent: ebreak\n";
+
 // A run of the program by these words, which reads this: its status, and what it wrote and told.
 fn ran<R: Threads + Wait + Sync + Clock + Eprint + AllocGlobal>(
     rt: &R,
@@ -47,7 +51,8 @@ fn ran<R: Threads + Wait + Sync + Clock + Eprint + AllocGlobal>(
     Ok((status, out, faults))
 }
 
-// A source and its image, a source with a fault, a file that is too long to be read by guests, and a folder.
+// Two sources and their images, one of them at a second path, a source with a fault, a file that is too long to be read by
+// guests, and folders.
 fn prepared<R: Threads + Wait + Sync + Clock + Eprint + AllocGlobal>(
     rt: &R,
 ) -> Result<Shelf, Fail> {
@@ -59,12 +64,20 @@ fn prepared<R: Threads + Wait + Sync + Clock + Eprint + AllocGlobal>(
     long.resize(1_048_577, 0)?;
     shelf.add_file("longer", long.as_slice())?;
     shelf.add_folder("folder")?;
-    ran(rt, &shelf, "ir asm d.s d.img", b"", 0)?;
+    shelf.add_folder("held.1")?;
+    shelf.add_file("two.s", TWO)?;
+    for line in [
+        "ir asm d.s d.img",
+        "ir asm two.s two.img",
+        "ir asm two.s image.1",
+    ] {
+        ran(rt, &shelf, line, b"", 0)?;
+    }
     Ok(shelf)
 }
 
 // The words, the exit status, and what is told.
-const ROWS: [(&str, u8, &str); 35] = [
+const ROWS: [(&str, u8, &str); 44] = [
     (
         "ir asm",
         2,
@@ -130,6 +143,51 @@ const ROWS: [(&str, u8, &str); 35] = [
         "ir record d.img held.trc --input held.trc.part",
         2,
         "ir: held.trc.part: TRACE.part would be written over FILE\n",
+    ),
+    (
+        "ir record image.1 d.trc --output image",
+        2,
+        "ir: image.1: PREFIX.T would be written over IMAGE\n",
+    ),
+    (
+        "ir record two.img out.0 --output out",
+        2,
+        "ir: out.0: PREFIX.T would be written over TRACE\n",
+    ),
+    (
+        "ir record two.img out.1 --output out",
+        2,
+        "ir: out.1: PREFIX.T would be written over TRACE\n",
+    ),
+    (
+        "ir record two.img d.trc --output image --input image.1",
+        2,
+        "ir: image.1: PREFIX.T would be written over FILE\n",
+    ),
+    (
+        "ir record none.1 d.trc --output none",
+        1,
+        "ir: none.1 can't be read: no such file or folder\n",
+    ),
+    (
+        "ir record d.s d.trc --output image",
+        3,
+        "ir: the image is refused, 2: these bytes are no image\n",
+    ),
+    (
+        "ir record two.img d.trc --output image --order 2",
+        3,
+        "ir: LIST: the item '2' names no thread of the image\n",
+    ),
+    (
+        "ir record d.img d.trc --output",
+        2,
+        "ir: a value is required for '--output <PREFIX>' but none was supplied\n",
+    ),
+    (
+        "ir record two.img none/d.trc --output out",
+        1,
+        "ir: none/d.trc can't be written: no such file or folder\n",
     ),
     (
         "ir asm none.s d2.img",
@@ -242,7 +300,7 @@ fn what_stops_it_is_told(rt: HostRuntime) -> Result<(), Fail> {
         assert_eq!(rt; status, wanted);
         assert!(rt; out.bytes.is_empty());
         assert_eq!(rt; faults.bytes.as_slice(), message.as_bytes());
-        for path in ["d2.img", "d.trc", "d.trc.part"] {
+        for path in ["d2.img", "d.trc", "d.trc.part", "out.0", "out.1"] {
             assert!(rt; shelf.bytes_of(path).is_none());
         }
     }
@@ -294,6 +352,66 @@ fn what_is_done_is_written(rt: HostRuntime) -> Result<(), Fail> {
         assert!(rt; faults.bytes.is_empty());
     }
     assert!(rt; shelf.bytes_of("d.trc.part").is_none());
+    Ok(())
+}
+
+// The bytes of a file are these.
+fn holds(shelf: &Shelf, path: &str, wanted: &[u8]) -> bool {
+    shelf
+        .bytes_of(path)
+        .is_some_and(|bytes| bytes.as_slice() == wanted)
+}
+
+#[test]
+fn outputs_are_written_where_they_are_asked_for(rt: HostRuntime) -> Result<(), Fail> {
+    let shelf = prepared(&rt)?;
+    shelf.add_file("out.0", b"an older output")?;
+    for (line, is_asked_for) in [
+        ("ir record two.img d.trc --order 0", false),
+        ("ir record two.img d.trc --output out", true),
+        ("ir record two.img d2.trc --output other --order 1,0", true),
+    ] {
+        let (status, _, faults) = ran(&rt, &shelf, line, b"", ENDLESS)?;
+        assert!(rt; status == 0 && faults.bytes.is_empty());
+        assert_eq!(rt; holds(&shelf, "out.0", b"A"), is_asked_for);
+        assert_eq!(rt; holds(&shelf, "out.1", b""), is_asked_for);
+        assert!(rt; shelf.bytes_of("out.2").is_none());
+    }
+    assert!(rt; holds(&shelf, "other.0", b"A") && holds(&shelf, "other.1", b""));
+    // One thread has one output, so another file may have the next name.
+    let (status, ..) = ran(
+        &rt,
+        &shelf,
+        "ir record d.img image.trc --output image --input image.1",
+        b"",
+        ENDLESS,
+    )?;
+    assert_eq!(rt; status, 0);
+    assert!(rt; holds(&shelf, "image.0", b"H"));
+    Ok(())
+}
+
+#[test]
+fn an_output_that_cannot_be_written_is_told(rt: HostRuntime) -> Result<(), Fail> {
+    let shelf = prepared(&rt)?;
+    for (line, why) in [
+        (
+            "ir record two.img d.trc --output none/out",
+            "ir: none/out.0 can't be written: no such file or folder\n",
+        ),
+        (
+            "ir record two.img d.trc --output held",
+            "ir: held.1 can't be written: it is a folder\n",
+        ),
+    ] {
+        let (status, out, faults) = ran(&rt, &shelf, line, b"", ENDLESS)?;
+        assert_eq!(rt; status, 1);
+        assert!(rt; out.bytes.is_empty());
+        assert_eq!(rt; faults.bytes.as_slice(), why.as_bytes());
+    }
+    // What was written before stays.
+    assert!(rt; shelf.bytes_of("d.trc").is_some());
+    assert!(rt; holds(&shelf, "held.0", b"A"));
     Ok(())
 }
 

@@ -19,6 +19,8 @@ pub enum RecordFault {
     Clock,
     /// The trace can't be written.
     Trace,
+    /// What a thread printed can't be written.
+    Output,
     /// The lines can't be written.
     Lines,
 }
@@ -33,7 +35,7 @@ impl RecordFault {
         match self {
             RecordFault::Image(_) | RecordFault::Order => 3,
             RecordFault::NoMem | RecordFault::Clock => 1,
-            RecordFault::Trace | RecordFault::Lines => 1,
+            RecordFault::Trace | RecordFault::Output | RecordFault::Lines => 1,
         }
     }
 
@@ -47,6 +49,7 @@ impl RecordFault {
             RecordFault::NoMem => "memory ran out",
             RecordFault::Clock => "the clock can't be read",
             RecordFault::Trace => "the trace can't be written",
+            RecordFault::Output => "an output can't be written",
             RecordFault::Lines => "standard output can't be written",
         }
     }

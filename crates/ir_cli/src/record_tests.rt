@@ -3,6 +3,7 @@
 ghost use Rattle.std.specs.Prelude.{◌≤◌};
 
 use crate::assembling::asm_run;
+use crate::kept_outputs::{KeptOutputs, no_outputs};
 use crate::recording::record_run;
 use crate::tests::{ENDLESS, Page, empty_page};
 use ir_log::Event;
@@ -120,6 +121,25 @@ main:   addi a7, zero, 6
         ebreak
 ";
 
+// Threads 0 and 2 print their numbers and a letter, thread 1 nothing.
+const PRINTS: &str = "
+        .thread prints
+        .thread silent
+        .thread prints
+prints: addi a7, zero, 12
+        ecall
+        addi a7, zero, 3
+        ecall
+        addi a0, zero, 65
+        addi a7, zero, 2
+        ecall
+silent: addi a0, zero, 0
+        addi a7, zero, 1
+        ecall
+";
+
+const PRINTED: [&[u8]; 3] = [b"0\nA", b"", b"2\nA"];
+
 fn image(rt: &HostRuntime, source: &str) -> Vec<u8> {
     let mut image = empty_page(rt, 1000, ENDLESS);
     let mut faults = empty_page(rt, 1000, ENDLESS);
@@ -132,6 +152,7 @@ fn image(rt: &HostRuntime, source: &str) -> Vec<u8> {
 struct Run {
     status: u8,
     trace: Page,
+    outputs: KeptOutputs,
     out: Page,
     faults: Page,
 }
@@ -144,6 +165,7 @@ struct How<'a> {
     random: u64,
     input: &'a [u8],
     trace_calls: u64,
+    output_calls: u64,
     out_calls: u64,
 }
 
@@ -153,6 +175,7 @@ const HOW: How<'static> = How {
     random: 0,
     input: &[],
     trace_calls: ENDLESS,
+    output_calls: ENDLESS,
     out_calls: ENDLESS,
 };
 
@@ -162,6 +185,7 @@ fn recorded<R: Threads + Wait + Sync + Clock + AllocGlobal>(
     how: How<'_>,
 ) -> Run {
     let mut trace = empty_page(rt, 7, how.trace_calls);
+    let mut outputs = no_outputs(rt, how.output_calls);
     let mut out = empty_page(rt, 7, how.out_calls);
     let mut faults = empty_page(rt, 7, ENDLESS);
     let status = record_run(
@@ -174,12 +198,14 @@ fn recorded<R: Threads + Wait + Sync + Clock + AllocGlobal>(
         how.random,
         how.input,
         &mut trace,
+        &mut outputs,
         &mut out,
         &mut faults,
     );
     Run {
         status,
         trace,
+        outputs,
         out,
         faults,
     }
@@ -428,6 +454,76 @@ fn lines_that_fail_leave_the_trace(rt: HostRuntime) {
             b"ir: standard output can't be written\n".as_slice()
         );
     }
+}
+
+// How many outputs were kept, each its own thread's and what that prints; None if one is not.
+fn outputs_kept(run: &Run) -> Option<usize> {
+    for (thread, output) in run.outputs.each.iter().enumerate() {
+        let printed = PRINTED.get(thread)?;
+        if output.thread != thread || output.bytes.as_slice() != *printed {
+            return None;
+        }
+    }
+    Some(run.outputs.each.len())
+}
+
+#[test]
+fn what_each_thread_prints_is_its_output(rt: HostRuntime) {
+    let image = image(&rt, PRINTS);
+    for order in [Some("0"), Some("2x3,1,0x100"), None] {
+        let run = recorded(&rt, image.as_slice(), How { order, ..HOW });
+        assert_eq!(rt; run.status, 0);
+        assert!(rt; run.trace.whole && run.faults.bytes.is_empty());
+        assert_eq!(rt; outputs_kept(&run), Some(3));
+    }
+}
+
+#[test]
+fn an_output_that_fails_leaves_those_before_and_no_line(rt: HostRuntime) {
+    let image = image(&rt, PRINTS);
+    for output_calls in 0..3 {
+        for order in [Some("0"), None] {
+            let how = How {
+                order,
+                output_calls,
+                ..HOW
+            };
+            let run = recorded(&rt, image.as_slice(), how);
+            assert_eq!(rt; run.status, 1);
+            assert!(rt; run.trace.whole && run.outputs.failed);
+            assert_eq!(rt; outputs_kept(&run), Some(output_calls as usize));
+            assert!(rt; run.out.bytes.is_empty() && !run.out.failed);
+            assert_eq!(rt;
+                run.faults.bytes.as_slice(),
+                b"ir: output can't be written: its calls are used up\n".as_slice()
+            );
+        }
+    }
+}
+
+#[test]
+fn outputs_come_after_the_trace_and_before_the_lines(rt: HostRuntime) {
+    let image = image(&rt, PRINTS);
+    let run = recorded(
+        &rt,
+        image.as_slice(),
+        How {
+            trace_calls: 3,
+            ..HOW
+        },
+    );
+    assert!(rt; run.status == 1 && run.trace.failed);
+    assert!(rt; run.outputs.each.is_empty() && !run.outputs.failed);
+    let run = recorded(
+        &rt,
+        image.as_slice(),
+        How {
+            out_calls: 0,
+            ..HOW
+        },
+    );
+    assert!(rt; run.status == 1 && run.out.failed);
+    assert_eq!(rt; outputs_kept(&run), Some(3));
 }
 
 // Without an order: on real threads.

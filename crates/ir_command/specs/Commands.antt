@@ -7,6 +7,8 @@ use Rattle.ir_command.specs.Numbers.{number_of, number_up_to}
 use Rattle.ir_command.specs.declared.command.Command.{Command}
 use Rattle.ir_command.specs.declared.command.Command.TheVariants as command
 use Rattle.ir_command.specs.declared.command.Move.TheVariants.{Step, Back, Goto, Start, End}
+use Rattle.ir_command.specs.declared.command.Direction.TheVariants.{Forwards, Backwards}
+use Rattle.ir_command.specs.declared.command.Point.TheVariants.{Break, Watch, WatchObject}
 use Rattle.ir_command.specs.declared.command.Show.TheVariants.{Registers, Memory, Object, Output, Log, Next}
 use Rattle.ir_command.specs.declared.command.Keeping.TheVariants.{Keep, Load, Drop, Kept}
 use Rattle.ir_command.specs.declared.refusal.Refusal.{Refusal}
@@ -54,9 +56,15 @@ table =
     row (codes "step") (Small ∷ Small ∷ []) (λ ns. command.Move (Step (first ns) (second ns))) ∷
     row (codes "back") (Small ∷ Small ∷ []) (λ ns. command.Move (Back (first ns) (second ns))) ∷
     row (codes "goto") (Small ∷ Position ∷ []) (λ ns. command.Move (Goto (first ns) (second ns))) ∷
+    row (codes "cont") (Small ∷ []) (λ ns. command.Continue (first ns) Forwards) ∷
+    row (codes "rcont") (Small ∷ []) (λ ns. command.Continue (first ns) Backwards) ∷
     row (codes "start") [] (λ ns. command.Move Start) ∷
     row (codes "end") [] (λ ns. command.Move End) ∷
     row (codes "pos") [] (λ ns. command.Position) ∷
+    row (codes "break") (Small ∷ Small ∷ []) (λ ns. command.Set (Break (first ns) (second ns))) ∷
+    row (codes "watch") (Small ∷ Small ∷ []) (λ ns. command.Set (Watch (first ns) (second ns))) ∷
+    row (codes "owatch") (Small ∷ []) (λ ns. command.Set (WatchObject (first ns))) ∷
+    row (codes "clear") (Small ∷ []) (λ ns. command.Clear (first ns)) ∷
     row (codes "regs") (Small ∷ []) (λ ns. command.Show (Registers (first ns))) ∷
     row (codes "mem") (Small ∷ Small ∷ Bytes ∷ []) (λ ns. command.Show (Memory (first ns) (second ns) (third ns))) ∷
     row (codes "obj") (Small ∷ []) (λ ns. command.Show (Object (first ns))) ∷

@@ -7,10 +7,17 @@ use std::marker::Model;
 pub enum Command {
     /// A move of all threads to another cut.
     Move(Move),
+    /// `cont T` and `rcont T`: a move that takes a thread to where a point hits it first in this direction, or to the
+    /// end of its steps there.
+    Continue { thread: u32, direction: Direction },
     /// `pos`: tell the position of each thread.
     Position,
     /// Show what stands at the cut.
     Show(Show),
+    /// Set a point.
+    Set(Point),
+    /// `clear N`: take a point away.
+    Clear { number: u32 },
     /// Something about the cuts that are kept.
     Keeping(Keeping),
     /// `quit`: end the session.
@@ -30,6 +37,24 @@ pub enum Move {
     Start,
     /// `end`: all threads to their last positions.
     End,
+}
+
+/// Which way a thread is taken.
+#[derive(Clone, Copy, Debug, PartialEq, Eq)]
+pub enum Direction {
+    Forwards,
+    Backwards,
+}
+
+/// What a thread is stopped at when it is continued.
+#[derive(Clone, Copy, Debug, PartialEq, Eq)]
+pub enum Point {
+    /// `break T A`: a breakpoint, before the thread's instruction at this address.
+    Break { thread: u32, address: u32 },
+    /// `watch T A`: a watchpoint, behind a step that changes the word of the thread's private memory at this address.
+    Watch { thread: u32, address: u32 },
+    /// `owatch O`: a watchpoint of an object, behind a thread's own step that leaves it after writing.
+    WatchObject { object: u32 },
 }
 
 /// What is shown of the guest at the cut.

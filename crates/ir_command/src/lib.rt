@@ -10,7 +10,7 @@ mod refusal;
 mod tests;
 mod words;
 
-pub use command::{ByteCount, Command, Keeping, Move, Show};
+pub use command::{ByteCount, Command, Direction, Keeping, Move, Point, Show};
 pub use parse::{MOST_LINE, parse_line};
 pub use refusal::Refusal;
 pub use words::{next_word, without_return};

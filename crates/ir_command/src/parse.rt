@@ -7,7 +7,7 @@ ghost use Rattle.ir_command.specs.Commands.{command_of, command_named};
 use crate::arguments::{
     no_argument, one_number, thread_and_bytes, thread_and_position, two_numbers,
 };
-use crate::command::{Command, Keeping, Move, Show};
+use crate::command::{Command, Direction, Keeping, Move, Point, Show};
 use crate::refusal::Refusal;
 use crate::words::{next_word, without_return};
 
@@ -28,12 +28,30 @@ fn named(name: &[u8], words: &[u8]) -> Result<Command, Refusal>
             thread,
             position,
         }))
+    } else if name == b"cont".as_slice() {
+        one_number(words).map(|thread| Command::Continue {
+            thread,
+            direction: Direction::Forwards,
+        })
+    } else if name == b"rcont".as_slice() {
+        one_number(words).map(|thread| Command::Continue {
+            thread,
+            direction: Direction::Backwards,
+        })
     } else if name == b"start".as_slice() {
         no_argument(words).map(|()| Command::Move(Move::Start))
     } else if name == b"end".as_slice() {
         no_argument(words).map(|()| Command::Move(Move::End))
     } else if name == b"pos".as_slice() {
         no_argument(words).map(|()| Command::Position)
+    } else if name == b"break".as_slice() {
+        two_numbers(words).map(|(thread, address)| Command::Set(Point::Break { thread, address }))
+    } else if name == b"watch".as_slice() {
+        two_numbers(words).map(|(thread, address)| Command::Set(Point::Watch { thread, address }))
+    } else if name == b"owatch".as_slice() {
+        one_number(words).map(|object| Command::Set(Point::WatchObject { object }))
+    } else if name == b"clear".as_slice() {
+        one_number(words).map(|number| Command::Clear { number })
     } else if name == b"regs".as_slice() {
         one_number(words).map(|thread| Command::Show(Show::Registers { thread }))
     } else if name == b"mem".as_slice() {

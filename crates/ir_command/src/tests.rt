@@ -42,6 +42,67 @@ fn kept_cuts_are_asked_by_their_numbers(rt: HostRuntime) {
 }
 
 #[test]
+fn points_are_set_and_cleared(rt: HostRuntime) {
+    let address = 0x100000;
+    let most = u32::MAX;
+    let cases: [(&[u8], Command); 5] = [
+        (
+            b"break 1 0x10048",
+            Command::Set(Point::Break {
+                thread: 1,
+                address: 65608,
+            }),
+        ),
+        (
+            b" watch\t4294967295 1048576\r",
+            Command::Set(Point::Watch {
+                thread: most,
+                address,
+            }),
+        ),
+        (
+            b"owatch 0xffffffff",
+            Command::Set(Point::WatchObject { object: most }),
+        ),
+        (b"clear 0", Command::Clear { number: 0 }),
+        (b"clear 64", Command::Clear { number: 64 }),
+    ];
+    for (line, want) in cases {
+        assert_eq!(rt; parse_line(line), Ok(Some(want)));
+    }
+    for line in [
+        b"break 0".as_slice(),
+        b"break 0 0 0",
+        b"watch 0 x",
+        b"watch 0 4294967296",
+        b"owatch",
+        b"owatch 0 0",
+        b"clear",
+        b"clear all",
+    ] {
+        assert_eq!(rt; parse_line(line), Err(Refusal::BadArgument));
+    }
+}
+
+#[test]
+fn a_thread_is_continued_both_ways(rt: HostRuntime) {
+    let cases: [(&[u8], u32, Direction); 3] = [
+        (b"cont 0", 0, Direction::Forwards),
+        (b"cont 4294967295", u32::MAX, Direction::Forwards),
+        (b"rcont 7", 7, Direction::Backwards),
+    ];
+    for (line, thread, direction) in cases {
+        assert_eq!(rt;
+            parse_line(line),
+            Ok(Some(Command::Continue { thread, direction }))
+        );
+    }
+    for line in [b"cont".as_slice(), b"cont 0 1", b"rcont", b"rcont -1"] {
+        assert_eq!(rt; parse_line(line), Err(Refusal::BadArgument));
+    }
+}
+
+#[test]
 fn moves_have_their_forms(rt: HostRuntime) {
     let most = u32::MAX;
     let cases: [(&[u8], Command); 7] = [
@@ -195,12 +256,12 @@ fn other_names_are_unknown(rt: HostRuntime) {
         b"ste 0 1",
         b"step,0,1",
         b"help",
-        b"break 0 0x10000",
-        b"watch 0 0x100000",
-        b"owatch 0",
-        b"clear 1",
-        b"cont 0",
-        b"rcont 0",
+        b"brea 0 0x10000",
+        b"watchs 0 0x100000",
+        b"owatc 0",
+        b"Clear 1",
+        b"continue 0",
+        b"rcon 0",
         b"keeps",
         b"KEPT",
         b"\rstep 0 1",

@@ -19,11 +19,15 @@ use Rattle.ir_command.specs.declared.refusal.Refusal.TheVariants.{NoSuchThread}
 use Rattle.ir_debug.specs.declared.answer.Answer.{Answer}
 use Rattle.ir_debug.specs.declared.answer.Answer.TheVariants as answer
 use Rattle.ir_command.specs.declared.command.Keeping.TheVariants.{Keep, Load, Drop, Kept}
-use Rattle.ir_debug.specs.Machine.Desk.{Desk, threads_of, moved, spoken, kept_cut, with_kept, without_kept}
+use Rattle.ir_debug.specs.Machine.Desk.{Desk, threads_of, moved, spoken, with_point, without_point, kept_cut, with_kept, without_kept}
+use Rattle.ir_command.specs.declared.command.Direction.{Direction}
+use Rattle.ir_command.specs.declared.command.Point.{Point}
+use Rattle.ir_hits.specs.declared.hit.Hit.{Hit}
+use Rattle.ir_debug.specs.Machine.Moves.{Continues}
 use Rattle.ir_debug.specs.Machine.Refusals.{if_some, thread_moved, refusal_of, is_at_hand}
 use Rattle.ir_debug.specs.Machine.Shown.{shown}
 use Rattle.ir_debug.specs.Machine.Texts.{number_line, positions_text, kept_text, next_text}
-use Rattle.ir_debug.specs.Machine.Answers.{Answers, AnswersBy}
+use Rattle.ir_debug.specs.Machine.Answers.{Answers, AnswersBy, continued_text}
 use Rattle.ir_debug.specs.Debugging.{Debugging, IsThere, answer_text}
 
 -- the machine at d may give this answer and be at next then, and the command isn't refused otherwise
@@ -119,6 +123,21 @@ position_answered d next is run whole = inl (ap (λ z. answer_text run z answer.
 
 pub quit_answered : (d next : Desk) → next ≡ spoken d → AnswersSo d command.Quit answer.Bye next
 quit_answered d next is run whole = inl (refl, is)
+
+-- ---- points
+
+pub continue_answered : (d next : Desk) (t : ℕ) (direction : Direction) (hit : Option Hit) (to : List ℕ)
+    → EachRun d.fitted (λ run. Continues run d t direction hit to) → next ≡ moved d to
+    → AnswersSo d (command.Continue t direction) (answer.Continued t hit) next
+continue_answered d next t direction hit to goes is run whole =
+    inl (to, hit, goes run whole, (ap (λ (z : Desk). continued_text z.fitted t hit z.at) is, is))
+
+pub set_answered : (d next : Desk) (point : Point) (n : ℕ) → n ≡ d.last_point + 1 → next ≡ with_point d point
+    → AnswersSo d (command.Set point) (answer.Set n) next
+set_answered d next point n number is run whole = inl (ap (number_line (codes "point ")) number, is)
+
+pub clear_answered : (d next : Desk) (n : ℕ) → next ≡ without_point d n → AnswersSo d (command.Clear n) (answer.Cleared n) next
+clear_answered d next n is run whole = inl (refl, is)
 
 -- ---- kept cuts
 

@@ -93,6 +93,9 @@ object_read d s objects threads x o is last same alike read =
 
 texts : (d : Debugging) (a : Answer) → IsLast d a → EachRun d.desk.fitted (λ run. text_here d a ≡ answer_text run d.desk a)
 texts d (answer.Moved move) last run is = refl
+texts d (answer.Continued t hit) last run is = refl
+texts d (answer.Set number) last run is = refl
+texts d (answer.Cleared number) last run is = refl
 texts d answer.Position last run is = refl
 texts d (answer.Shown s) last run is = shows_here d s last.2 (λ t named. thread_below d.desk (command.Show s) t last.0 named) run is
 texts d (answer.Next line) last run is = refl

@@ -1,13 +1,16 @@
 -- Where moves lead.
-use Rattle.std.proofs.Common.{◌≡◌, ℕ, ◌+◌, ◌-◌, ◌^◌, ◌<◌, ◌≤◌, min, arith, List, sym, ap, subst, ◌∙◌}
+use Rattle.std.proofs.Common.{◌≡◌, ℕ, ◌+◌, ◌-◌, ◌^◌, ◌<◌, ◌≤◌, min, arith, List, Option, sym, ap, subst, ◌∙◌}
 use Rattle.std.proofs.lemmas.Bool.{le-leb, lt-leb}
 use Rattle.ir_runs.specs.Extremes.{IsLeast, IsGreatest}
 use Rattle.ir_fit.specs.Fit.{FittedTrace}
 use Rattle.ir_cut.specs.Positions.{machine_of, start_of, cut_of, EachRun, IsLeastCut, IsGreatestCut}
+use Rattle.ir_command.specs.declared.command.Direction.{Direction}
+use Rattle.ir_command.specs.declared.command.Direction.TheVariants.{Forwards, Backwards}
 use Rattle.ir_command.specs.declared.command.Move.{Move}
+use Rattle.ir_hits.specs.declared.hit.Hit.{Hit}
 use Rattle.ir_command.specs.declared.command.Move.TheVariants.{Step, Back}
 use Rattle.ir_debug.specs.Machine.Desk.{last_of}
-use Rattle.ir_debug.specs.Machine.Moves.{Leads, ToLeast, ToGreatest, ToEither, ToPosition}
+use Rattle.ir_debug.specs.Machine.Moves.{Leads, ToLeast, ToGreatest, ToEither, ToPosition, StopsAt, stop_of}
 
 to_least : (f : FittedTrace) (at to : List ℕ) (t k j : ℕ) → IsLeastCut f at t k to → k ≡ j
     → EachRun f (λ run. ToLeast run f at t j to)
@@ -62,3 +65,21 @@ pub steps_back : (f : FittedTrace) (at to : List ℕ) (m : Move) (t n k here : �
 steps_back f at to m t n k here asked stands less greatest =
     subst (λ z. LeadsSo f at z to) (sym asked)
     (to_greatest f at to t k (cut_of at t - n) greatest (less ∙ ap (λ z. z - n) stands))
+
+-- ---- to a hit
+
+-- the thread stops so at the hit, whichever run it is
+abbrev pub StopsSo : FittedTrace → List ℕ → ℕ → Direction → Option Hit → List ℕ → Type 0
+StopsSo f at t direction hit to = EachRun f (λ run. StopsAt run f at t direction (stop_of f t direction hit) to)
+
+pub stops_up : (f : FittedTrace) (at to : List ℕ) (t k : ℕ) (direction : Direction) (hit : Option Hit) → direction ≡ Forwards
+    → k ≡ stop_of f t direction hit → IsLeastCut f at t k to → StopsSo f at t direction hit to
+stops_up f at to t k direction hit is place least run whole =
+    subst (λ n. StopsAt run f at t direction n to) place
+    (subst (λ z. StopsAt run f at t z k to) (sym is) (least.0, least.1 run whole))
+
+pub stops_down : (f : FittedTrace) (at to : List ℕ) (t k : ℕ) (direction : Direction) (hit : Option Hit) → direction ≡ Backwards
+    → k ≡ stop_of f t direction hit → IsGreatestCut f at t k to → StopsSo f at t direction hit to
+stops_down f at to t k direction hit is place greatest run whole =
+    subst (λ n. StopsAt run f at t direction n to) place
+    (subst (λ z. StopsAt run f at t z k to) (sym is) (greatest.0, greatest.1 run whole))

@@ -4,10 +4,10 @@ mod Opened
 mod ThreadLines
 mod Replying
 mod Machine
-mod Brought
 mod Ends
 mod Leading
 mod KeptCuts
+mod SetPoints
 mod CarriedOut
 mod Rows
 mod RowsOne

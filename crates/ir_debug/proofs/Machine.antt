@@ -3,7 +3,7 @@ use Rattle.std.proofs.Common.{◌≡◌, ℕ, List, ap, ◌∙◌, inl, inr, Opt
 use Rattle.ir_runs.specs.Run.{Step}
 use Rattle.ir_stream.specs.Answers.{Replying}
 use Rattle.ir_command.specs.declared.command.Command.{Command}
-use Rattle.ir_command.specs.declared.command.Command.TheVariants.{Move, Position, Show, Quit}
+use Rattle.ir_command.specs.declared.command.Command.TheVariants.{Move, Continue, Position, Show, Set, Clear, Quit}
 use Rattle.ir_command.specs.declared.command.Command.TheVariants as command
 use Rattle.ir_command.specs.declared.command.Keeping.{Keeping}
 use Rattle.ir_command.specs.declared.command.Keeping.TheVariants.{Keep, Load, Drop, Kept}
@@ -28,6 +28,9 @@ carried_keeping d Kept text next is = keeps d _ next _ text refl is
 
 carried : (run : List Step) (d : Desk) (c : Command) (text : List ℕ) (next : Desk) → CarriesOut run d c text next → next.fitted ≡ d.fitted
 carried run d (Move move) text next (to, leads, is) = keeps d _ next _ text refl is
+carried run d (Continue t direction) text next (to, hit, goes, is) = keeps d _ next _ text refl is
+carried run d (Set point) text next is = keeps d _ next _ text refl is
+carried run d (Clear n) text next is = keeps d _ next _ text refl is
 carried run d Position text next is = keeps d _ next _ text refl is
 carried run d (Show show) text next is = keeps d _ next _ text refl is
 carried run d (command.Keeping k) text next is = carried_keeping d k text next is

@@ -1,24 +1,28 @@
 -- What is known of what a command names that isn't refused.
-use Rattle.std.proofs.Common.{◌≡◌, ◌<◌, ◌≤◌, ◌&&◌, ◌+◌, ◌*◌, ℕ, Bool, true, false, length, Option, Some, None, refl, sym, ap, ◌∙◌, arith}
+use Rattle.std.proofs.Common.{◌≡◌, ◌<◌, ◌≤◌, ◌&&◌, ◌+◌, ◌*◌, ◌%◌, ◌==◌, ℕ, Bool, true, false, length, Option, Some, None, refl, sym, ap, ◌∙◌, arith}
 use Rattle.std.specs.Prelude.{◌||◌, ◌^◌, not, nat_lt, nat_le, is_some, if◌then◌else◌}
 use Rattle.std.proofs.lemmas.Bool.{ltb-true, leb-true}
+use Rattle.std.proofs.lemmas.Bool.Decides.{nat_tests}
 use Rattle.ir_image.specs.Guest.{Guest, code_start, memory_start, object_count}
 use Rattle.ir_mach.specs.Core.{memory_size}
-use Rattle.ir_mach.specs.Memory.{lies_in_memory}
+use Rattle.ir_mach.specs.Memory.{lies_in_memory, IsMemoryWord}
 use Rattle.ir_command.specs.declared.command.Command.{Command}
 use Rattle.ir_command.specs.declared.refusal.Refusal.TheVariants.{NoSuchThread, NoSuchObject, NoSuchNumber, BadAddress, Full}
 use Rattle.ir_command.specs.declared.command.Command.TheVariants as command
 use Rattle.ir_command.specs.declared.command.Keeping.TheVariants.{Keep, Load}
-use Rattle.ir_debug.specs.Machine.Desk.{Desk, threads_of, kept_cut, most_kept}
+use Rattle.ir_command.specs.declared.command.Point.{Point}
+use Rattle.ir_command.specs.declared.command.Point.TheVariants.{Break, Watch, WatchObject}
+use Rattle.ir_hits.specs.Hits.{IsWatchable}
+use Rattle.ir_debug.specs.Machine.Desk.{Desk, threads_of, kept_cut, most_kept, most_points, most_number}
 use Rattle.ir_debug.specs.Machine.Refusals.{if_some, thread_named, object_named, lies_in_code, has_number, has_address, has_place, refusal_of}
 
 -- the tests
 pub record Passes (d : Desk) (c : Command) : Type 0 where
   pub thread : if_some (thread_named c) (λ t. nat_lt t (threads_of d.fitted)) ≡ true
   pub object : if_some (object_named c) (λ o. nat_lt o (object_count d.fitted.guest)) ≡ true
-  pub number : has_number d.kept c ≡ true
+  pub number : has_number d c ≡ true
   pub address : has_address d.fitted.guest c ≡ true
-  pub place : has_place d.kept c ≡ true
+  pub place : has_place d c ≡ true
 
 five : (a b n c p : Bool)
     → (if not a then Some NoSuchThread else if not b then Some NoSuchObject else if not n then Some NoSuchNumber else
@@ -35,8 +39,8 @@ pub passes : (d : Desk) (c : Command) → refusal_of d c ≡ None → Passes d c
 unfolding refusal_of
 passes d c none =
     let t = five (if_some (thread_named c) (λ t. nat_lt t (threads_of d.fitted)))
-    (if_some (object_named c) (λ o. nat_lt o (object_count d.fitted.guest))) (has_number d.kept c) (has_address d.fitted.guest c)
-    (has_place d.kept c) none in
+    (if_some (object_named c) (λ o. nat_lt o (object_count d.fitted.guest))) (has_number d c) (has_address d.fitted.guest c)
+    (has_place d c) none in
     record { thread = t.0; object = t.1; number = t.2; address = t.3; place = t.4 }
 
 if_named : (n : ℕ) (named : Option ℕ) (x : ℕ) → if_some named (λ y. nat_lt y n) ≡ true → named ≡ Some x → x < n
@@ -50,6 +54,10 @@ thread_below d c t none is = if_named (threads_of d.fitted) (thread_named c) t (
 -- the object too
 pub object_below : (d : Desk) (c : Command) (o : ℕ) → refusal_of d c ≡ None → object_named c ≡ Some o → o < object_count d.fitted.guest
 object_below d c o none is = if_named (object_count d.fitted.guest) (object_named c) o (passes d c none).object is
+
+first_true : (a b : Bool) → a && b ≡ true → a ≡ true
+first_true true b e = refl
+first_true false b e = absurd cc
 
 second_true : (a b : Bool) → a && b ≡ true → b ≡ true
 second_true true b e = e
@@ -77,4 +85,35 @@ pub number_kept : (d : Desk) (n : ℕ) → refusal_of d (command.Keeping (Load n
 number_kept d n none = (passes d (command.Keeping (Load n)) none).number
 
 pub place_left : (d : Desk) → refusal_of d (command.Keeping Keep) ≡ None → length d.kept < most_kept + 1
-place_left d none = ltb-true (length d.kept) (most_kept + 1) (passes d (command.Keeping Keep) none).place
+place_left d none = ltb-true (length d.kept) (most_kept + 1)
+    (first_true (nat_lt (length d.kept) (most_kept + 1)) (nat_lt d.last_kept most_number) (passes d (command.Keeping Keep) none).place)
+
+pub number_left : (d : Desk) → refusal_of d (command.Keeping Keep) ≡ None → d.last_kept < most_number
+number_left d none = ltb-true d.last_kept most_number
+    (second_true (nat_lt (length d.kept) (most_kept + 1)) (nat_lt d.last_kept most_number) (passes d (command.Keeping Keep) none).place)
+
+-- ---- points
+
+pub point_place : (d : Desk) (p : Point) → refusal_of d (command.Set p) ≡ None → length d.points < most_points
+point_place d p none = ltb-true (length d.points) most_points
+    (first_true (nat_lt (length d.points) most_points) (nat_lt d.last_point most_number) (passes d (command.Set p) none).place)
+
+pub point_number : (d : Desk) (p : Point) → refusal_of d (command.Set p) ≡ None → d.last_point < most_number
+point_number d p none = ltb-true d.last_point most_number
+    (second_true (nat_lt (length d.points) most_points) (nat_lt d.last_point most_number) (passes d (command.Set p) none).place)
+
+word_there : (address : ℕ) → (address % 4 == 0) && lies_in_memory 4 address ≡ true → IsMemoryWord address
+word_there address test =
+    let whole = first_true (address % 4 == 0) (lies_in_memory 4 address) test in
+    let inside = second_true (address % 4 == 0) (lies_in_memory 4 address) test in
+    let low = leb-true memory_start address
+    (first_true (nat_le memory_start address) (nat_le (address + 4) (memory_start + memory_size)) inside) in
+    let high = leb-true (address + 4) (memory_start + memory_size)
+    (second_true (nat_le memory_start address) (nat_le (address + 4) (memory_start + memory_size)) inside) in
+    record { aligned = grind (arith, nat_tests, whole); low = low; high = omega (arith, high) }
+
+-- the word that it watches is one of private memory
+pub watchable : (d : Desk) (p : Point) → refusal_of d (command.Set p) ≡ None → IsWatchable p
+watchable d (Break t address) none = tt
+watchable d (Watch t address) none = word_there address (passes d (command.Set (Watch t address)) none).address
+watchable d (WatchObject object) none = tt

@@ -17,7 +17,8 @@ use Rattle.ir_command.specs.Words.{words_of}
 use Rattle.ir_command.specs.Numbers.{number_of, numeral}
 use Rattle.ir_command.specs.Commands.{command_of, command_named}
 use Rattle.ir_command.specs.declared.command.Command.{Command}
-use Rattle.ir_command.specs.declared.command.Command.TheVariants.{Move, Position, Show, Quit}
+use Rattle.ir_command.specs.declared.command.Command.TheVariants.{Move, Position, Show, Set, Quit}
+use Rattle.ir_command.specs.declared.command.Point.TheVariants.{Break}
 use Rattle.ir_command.specs.declared.command.Move.TheVariants.{Step, Goto, Start, End}
 use Rattle.ir_command.specs.declared.command.Show.TheVariants.{Registers, Memory, Object, Next}
 use Rattle.ir_command.specs.declared.refusal.Refusal.{Refusal}
@@ -42,7 +43,7 @@ line_0 : command_of (codes "jump") ≡ no UnknownCommand
 unfolding command_of command_named words_of number_of numeral
 line_0 = refl
 
-line_1 : command_of (codes "break 0 0x1001c") ≡ no UnknownCommand
+line_1 : command_of (codes "break 0 0x1001c") ≡ some (Set (Break 0 0x1001c))
 unfolding command_of command_named words_of number_of numeral
 line_1 = refl
 

@@ -18,7 +18,7 @@ use Rattle.ir_debug.specs.declared.answer.Answer.{Answer}
 use Rattle.ir_debug.specs.declared.answer.Answer.TheVariants as answer
 use Rattle.ir_debug.specs.Answers.{machine_text, refusal_text}
 use Rattle.ir_debug.specs.Debugging.{Debugging, IsThere}
-use Rattle.ir_debug.specs.Machine.Answers.{moved_text}
+use Rattle.ir_debug.specs.Machine.Answers.{moved_text, continued_text}
 use Rattle.ir_debug.specs.Machine.Desk.{threads_of}
 use Rattle.ir_debug.specs.Machine.Refusals.{thread_shown}
 use Rattle.ir_debug.specs.Machine.Shown.{shown, bytes_from}
@@ -64,6 +64,9 @@ shown_here d (Next t) = next_text d.desk.fitted.guest.code (thread_here d t)
 -- the text of an answer by them
 abbrev pub text_here : Debugging → Answer → List ℕ
 text_here d (answer.Moved move) = moved_text d.desk.fitted move d.desk.at
+text_here d (answer.Continued t hit) = continued_text d.desk.fitted t hit d.desk.at
+text_here d (answer.Set number) = number_line (codes "point ") number
+text_here d (answer.Cleared number) = number_line (codes "cleared ") number
 text_here d answer.Position = positions_text d.desk.at ++ codes "\n"
 text_here d (answer.Shown show) = shown_here d show
 text_here d (answer.Next line) = line.items

@@ -1,30 +1,27 @@
 -- The debugger between two commands, and the texts of its answers.
-use Rattle.std.specs.Prelude.{◌≡◌, ℕ, ⊤, true, List, ◌++◌, codes, Option, None, Result}
+use Rattle.std.specs.Prelude.{◌≡◌, ◌<◌, ℕ, ⊤, true, List, ◌++◌, codes, Option, None, Result}
 use Rattle.ir_runs.specs.Run.{Step}
 use Rattle.ir_fit.specs.Fit.{FittedTrace}
 use Rattle.ir_cut.specs.Positions.{EachRun, cut_of}
-use Rattle.ir_weave.specs.Standing.{Standing, StandsAt, flat_in}
-use Rattle.ir_weave.specs.States.{positions}
+use Rattle.ir_weave.specs.Standing.{Standing, StandsAt}
+use Rattle.ir_checkpoint.specs.Checkpoints.{Checkpoints, AreCheckpoints, Stands}
 use Rattle.ir_command.specs.declared.command.Command.{Command}
 use Rattle.ir_command.specs.declared.command.Command.TheVariants as command
 use Rattle.ir_command.specs.declared.refusal.Refusal.{Refusal}
 use Rattle.ir_debug.specs.declared.answer.Answer.{Answer}
-use Rattle.ir_debug.specs.declared.answer.Answer.TheVariants.{Moved, Position, Shown, Next, Kept, Dropped, KeptCuts, Refused, Bye}
+use Rattle.ir_debug.specs.declared.answer.Answer.TheVariants.{Moved, Continued, Position, Shown, Next, Set, Cleared, Kept, Dropped, KeptCuts, Refused, Bye}
 use Rattle.ir_debug.specs.Answers.{refusal_text}
-use Rattle.ir_debug.specs.Machine.Desk.{Desk, IsDesk}
+use Rattle.ir_debug.specs.Machine.Desk.{Desk, IsDesk, threads_of}
 use Rattle.ir_debug.specs.Machine.Refusals.{refusal_of, is_at_hand}
 use Rattle.ir_debug.specs.Machine.Shown.{shown}
 use Rattle.ir_debug.specs.Machine.Texts.{number_line, positions_text, kept_text}
-use Rattle.ir_debug.specs.Machine.Answers.{moved_text, RepliesBy}
+use Rattle.ir_debug.specs.Machine.Answers.{moved_text, continued_text, RepliesBy}
 
--- the small machine, and beside it the guest's threads and objects at some consistent cut
+-- the small machine, and beside it the guest's threads and objects at some consistent cut, and at others that are kept
 pub record Debugging : Type 0 where
   pub desk : Desk
   pub state : Standing
-
--- the guest at a cut, its own positions
-abbrev pub Stands : FittedTrace → Standing → Type 0
-Stands f s = StandsAt f (positions (flat_in f s)) s
+  pub checkpoints : Checkpoints
 
 -- the guest at the small machine's cut
 abbrev pub IsThere : Debugging → Type 0
@@ -33,12 +30,16 @@ IsThere d = StandsAt d.desk.fitted (cut_of d.desk.at) d.state
 pub record IsDebugging (d : Debugging) : Type 0 where
   pub desk : IsDesk d.desk
   pub stands : Stands d.desk.fitted d.state
+  pub checkpoints : AreCheckpoints d.desk.fitted d.checkpoints
   -- before the first answer, and after a move
   pub fresh : d.desk.fresh ≡ true → IsThere d
 
 -- the text of an answer that the small machine gave and is then so
 abbrev pub answer_text : List Step → Desk → Answer → List ℕ
 answer_text run d (Moved move) = moved_text d.fitted move d.at
+answer_text run d (Continued t hit) = continued_text d.fitted t hit d.at
+answer_text run d (Set number) = number_line (codes "point ") number
+answer_text run d (Cleared number) = number_line (codes "cleared ") number
 answer_text run d Position = positions_text d.at ++ codes "\n"
 answer_text run d (Shown show) = shown run d show
 answer_text run d (Next line) = line.items
@@ -52,6 +53,9 @@ answer_text run d Bye = codes "bye\n"
 abbrev pub IsLast : Debugging → Answer → Type 0
 IsLast d (Moved move) = refusal_of d.desk (command.Move move) ≡ None
 IsLast d (Shown show) = (refusal_of d.desk (command.Show show) ≡ None) × (is_at_hand show ≡ true) × IsThere d
+IsLast d (Continued t hit) = t < threads_of d.desk.fitted
+IsLast d (Set number) = ⊤
+IsLast d (Cleared number) = ⊤
 IsLast d Position = ⊤
 IsLast d (Next line) = ⊤
 IsLast d (Kept number) = ⊤

@@ -10,10 +10,10 @@ ghost use Rattle.ir_command.specs.declared.command.Command.TheVariants as comman
 ghost use Rattle.ir_debug.specs.Answers.{refusal_text};
 ghost use Rattle.ir_debug.specs.AtHand.{text_here};
 ghost use Rattle.ir_debug.specs.Debugging.{IsLast, IsText};
-ghost use Rattle.ir_debug.specs.Machine.Answers.{moved_text};
+ghost use Rattle.ir_debug.specs.Machine.Answers.{moved_text, continued_text};
 ghost use Rattle.ir_debug.specs.Machine.Desk.{threads_of, last_of, position_of};
 ghost use Rattle.ir_debug.specs.Machine.Refusals.{refusal_of};
-ghost use Rattle.ir_debug.specs.Machine.Texts.{number_line, positions_text, stop_text, kept_line, kept_text};
+ghost use Rattle.ir_debug.specs.Machine.Texts.{number_line, positions_text, hit_text, stop_text, kept_line, kept_text};
 
 use crate::answer::Answer;
 use crate::debugger::Debugger;
@@ -23,6 +23,7 @@ use crate::refusals::thread_moved;
 use crate::showing::write_shown;
 use crate::text::{Text, put_number, put_refusal};
 use ir_command::{Move, Refusal};
+use ir_hits::Hit;
 use ir_stream::{DeviceErr, Sink, append, write_all};
 
 // Puts at the end where all threads are.
@@ -68,6 +69,45 @@ fn write_moved<W: Sink>(debugger: &Debugger, asked: Move, writer: &mut W) -> Res
 {
     let mut text = Text::new();
     put_moved(&mut text, debugger, asked);
+    write_all(writer, text.as_slice())
+}
+
+// Puts at the end which point hit, if one did.
+fn put_hit(text: &mut Text, hit: Option<Hit>)
+    requires { array_vec_len text.old ≤ 170 }
+    ensures text { text.new.items ≡ text.old.items ++ hit_text hit }
+    ensures len { array_vec_len text.new ≤ array_vec_len text.old + 25 }
+{
+    if let Some(hit) = hit {
+        put_number(text, b" hit ", hit.number as u64);
+    }
+}
+
+fn put_continued(text: &mut Text, debugger: &Debugger, thread: u32, hit: Option<Hit>)
+    requires empty { array_vec_len text.old ≡ 0 }
+    requires thread { thread < threads_of debugger.now.desk.fitted }
+    ensures { text.new.items ≡ text.old.items ++ continued_text debugger.now.desk.fitted thread hit debugger.now.desk.at }
+{
+    put_cut(text, debugger);
+    put_hit(text, hit);
+    put_stopped(text, debugger, thread);
+    append(text, b"\n");
+}
+
+fn write_continued<W: Sink>(
+    debugger: &Debugger,
+    thread: u32,
+    hit: Option<Hit>,
+    writer: &mut W,
+) -> Result<(), DeviceErr>
+    requires { thread < threads_of debugger.now.desk.fitted }
+    ensures ok { OnOk result (Appends (W.written writer.old) (W.written writer.new) (continued_text debugger.now.desk.fitted thread hit debugger.now.desk.at)) }
+    ensures stays { OnOk result (W.broken writer.new ≡ W.broken writer.old) }
+    ensures prefix { OnErr result (AppendsPrefix (W.written writer.old) (W.written writer.new) (continued_text debugger.now.desk.fitted thread hit debugger.now.desk.at)) }
+    ensures err { OnErr result (W.broken writer.new ≡ true) }
+{
+    let mut text = Text::new();
+    put_continued(&mut text, debugger, thread, hit);
     write_all(writer, text.as_slice())
 }
 
@@ -160,9 +200,12 @@ fn write_here<W: Sink>(
 {
     match answer {
         Answer::Moved(asked) => write_moved(debugger, *asked, writer),
+        Answer::Continued(thread, hit) => write_continued(debugger, *thread, *hit, writer),
         Answer::Position => write_position(debugger, writer),
         Answer::Shown(show) => write_shown(debugger, *show, writer),
         Answer::Next(line) => write_all(writer, line.as_slice()),
+        Answer::Set(number) => write_number(b"point ", *number, writer),
+        Answer::Cleared(number) => write_number(b"cleared ", *number, writer),
         Answer::Kept(number) => write_number(b"kept ", *number, writer),
         Answer::Dropped(number) => write_number(b"dropped ", *number, writer),
         Answer::KeptCuts => write_cuts(debugger, writer),

@@ -4,13 +4,15 @@ ghost use Rattle.std.specs.Prelude.{◌≡◌};
 ghost use Rattle.ir_debug.specs.Debugging.{Debugging, IsDebugging};
 
 use crate::answer::Answer;
-use crate::bringing::bring;
-use crate::destinations::{destination, first_cut};
+use crate::destinations::{destination, first_cut, stop};
 use crate::kept::{KeptCut, MOST_KEPT, forget, kept_cut};
 use crate::next::next_line;
-use ir_command::{Command, Keeping, Move, Refusal, Show};
+use crate::points::Points;
+use ir_checkpoint::Checkpoints;
+use ir_command::{Command, Direction, Keeping, Move, Point, Refusal, Show};
 use ir_cut::Cut;
 use ir_fit::Fitted;
+use ir_hits::{Hit, NumberedPoint, first_hit, last_hit};
 use ir_object::Gate;
 use ir_replay::State;
 use std::alloc::{AllocError, Global};
@@ -26,17 +28,45 @@ pub struct Debugger {
     fitted: Fitted,
     at: Cut,
     fresh: bool,
+    points: Points,
+    last_point: u32,
     kept: Vec<KeptCut>,
     last_kept: u32,
     state: State,
+    // States for moves to begin at. A cut that is kept has its own among them, under its number.
+    checkpoints: Checkpoints,
 }
 
 impl Model for Debugger {
     ghost Value = { Debugging };
 
-    ghost view = { λ d. record { desk = record { fitted = d.fitted; at = d.at; fresh = d.fresh; kept = d.kept.items; last_kept = d.last_kept }; state = d.state } };
+    ghost view = { λ d. record {
+      desk = record {
+        fitted = d.fitted;
+        at = d.at;
+        fresh = d.fresh;
+        points = d.points;
+        last_point = d.last_point;
+        kept = d.kept.items;
+        last_kept = d.last_kept;
+      };
+      state = d.state;
+      checkpoints = d.checkpoints;
+    } };
 
-    ghost invariant = { λ d. IsDebugging (record { desk = record { fitted = d.fitted; at = d.at; fresh = d.fresh; kept = d.kept.items; last_kept = d.last_kept }; state = d.state }) };
+    ghost invariant = { λ d. IsDebugging (record {
+      desk = record {
+        fitted = d.fitted;
+        at = d.at;
+        fresh = d.fresh;
+        points = d.points;
+        last_point = d.last_point;
+        kept = d.kept.items;
+        last_kept = d.last_kept;
+      };
+      state = d.state;
+      checkpoints = d.checkpoints;
+    }) };
 }
 
 impl Debugger {
@@ -47,9 +77,9 @@ impl Debugger {
     ghost use Rattle.ir_command.specs.declared.command.Keeping.TheVariants as keeping;
     ghost use Rattle.ir_command.specs.declared.refusal.Refusal.TheVariants as refusal;
     ghost use Rattle.ir_debug.specs.declared.answer.Answer.TheVariants as answer;
-    ghost use Rattle.ir_debug.specs.Machine.Desk.{IsDesk, desk_of, moved, spoken, with_kept, without_kept, kept_cut, threads_of};
+    ghost use Rattle.ir_debug.specs.Machine.Desk.{IsDesk, desk_of, moved, spoken, with_point, without_point, with_kept, without_kept, kept_cut, threads_of};
     ghost use Rattle.ir_debug.specs.Machine.Refusals.{refusal_of};
-    ghost use Rattle.ir_debug.specs.Machine.Moves.{Leads};
+    ghost use Rattle.ir_debug.specs.Machine.Moves.{Leads, Finds, Continues};
     ghost use Rattle.ir_debug.specs.Machine.Shown.{shown};
     ghost use Rattle.ir_debug.specs.Machine.Answers.{Answers, AnswersBy};
     ghost use Rattle.ir_debug.specs.Debugging.{IsLast, IsThere, answer_text};
@@ -65,14 +95,19 @@ impl Debugger {
         let at = first_cut(alloc, &fitted)?;
         let mut kept = Vec::with_capacity(alloc, MOST_KEPT + 1)?;
         kept.push(KeptCut::new(0, at.copy()?))?;
+        let points = Points::new(alloc)?;
         let state = State::start(alloc, &fitted)?;
+        let checkpoints = Checkpoints::new(alloc, &fitted)?;
         Ok(Debugger {
             fitted,
             at,
             fresh: true,
+            points,
+            last_point: 0,
             kept,
             last_kept: 0,
             state,
+            checkpoints,
         })
     }
 
@@ -89,6 +124,27 @@ impl Debugger {
         ensures { result.now ≡ self.now.desk.at }
     {
         &self.at
+    }
+
+    /// The points that are set, the last at the end.
+    pub fn points(&self) -> &[NumberedPoint]
+        ensures { result.now ≡ self.now.desk.points }
+    {
+        self.points.as_slice()
+    }
+
+    // The last number that a point was given, or 0.
+    pub(crate) fn last_point(&self) -> u32
+        ensures { result ≡ self.now.desk.last_point }
+    {
+        self.last_point
+    }
+
+    // The last number that a kept cut was given, or 0.
+    pub(crate) fn last_kept(&self) -> u32
+        ensures { result ≡ self.now.desk.last_kept }
+    {
+        self.last_kept
     }
 
     /// The kept cuts, the last that was kept at the end.
@@ -127,7 +183,9 @@ impl Debugger {
         ensures lacks { OnErr result (self.old.desk.fresh ≡ false) }
     {
         self.fresh = false;
-        bring(rt, alloc, &self.fitted, &mut self.state, &self.at, gate)
+        let state = &mut self.state;
+        self.checkpoints
+            .bring(rt, alloc, &self.fitted, state, &self.at, gate)
     }
 
     // Brings all threads to a cut, which is the debugger's then.
@@ -144,7 +202,9 @@ impl Debugger {
         ensures err { OnErr result (self.new.desk ≡ spoken self.old.desk) }
     {
         self.fresh = false;
-        bring(rt, alloc, &self.fitted, &mut self.state, &to, gate)?;
+        let state = &mut self.state;
+        self.checkpoints
+            .bring(rt, alloc, &self.fitted, state, &to, gate)?;
         self.at = to;
         self.fresh = true;
         Ok(())
@@ -184,6 +244,111 @@ impl Debugger {
             Ok(()) => Answer::Moved(to),
             Err(AllocError) => self.refuse(Refusal::NoMemory),
         }
+    }
+
+    // The hit that a thread finds from its position in this direction.
+    fn find_hit<R: Threads + Clock + Sync, G: Gate + Sync>(
+        &mut self,
+        rt: &R,
+        alloc: Global,
+        thread: u32,
+        direction: Direction,
+        gate: &G,
+    ) -> Result<Option<Hit>, AllocError>
+        requires { thread < threads_of self.old.desk.fitted }
+        ensures desk { self.new.desk ≡ spoken self.old.desk }
+        ensures finds { IfOk result (λ hit. EachRun self.old.desk.fitted (λ run. Finds run self.old.desk thread direction hit)) }
+    {
+        let t = thread as usize;
+        match direction {
+            Direction::Forwards => {
+                self.bring_here(rt, alloc, gate)?;
+                let points = self.points.as_slice();
+                first_hit(rt, alloc, &self.fitted, &mut self.state, t, points, gate)
+            }
+            Direction::Backwards => {
+                self.fresh = false;
+                let below = self.at.position(t);
+                let points = self.points.as_slice();
+                last_hit(
+                    rt,
+                    alloc,
+                    &self.fitted,
+                    &mut self.state,
+                    t,
+                    below,
+                    points,
+                    gate,
+                )
+            }
+        }
+    }
+
+    // Takes a thread to the hit that it finds in this direction, or to the end of its steps there.
+    fn go_on<R: Threads + Clock + Sync, G: Gate + Sync>(
+        &mut self,
+        rt: &R,
+        alloc: Global,
+        thread: u32,
+        direction: Direction,
+        gate: &G,
+    ) -> Result<Option<Hit>, AllocError>
+        requires { refusal_of self.old.desk (command.Continue thread direction) ≡ None }
+        ensures ok { IfOk result (λ hit. (cut : List ℕ) × EachRun self.old.desk.fitted (λ run. Continues run self.old.desk thread direction hit cut) × (self.new.desk ≡ moved self.old.desk cut)) }
+        ensures err { OnErr result (self.new.desk ≡ spoken self.old.desk) }
+    {
+        let hit = self.find_hit(rt, alloc, thread, direction, gate)?;
+        let cut = stop(
+            alloc,
+            &self.fitted,
+            &self.at,
+            thread as usize,
+            direction,
+            hit,
+        )?;
+        self.go_to(rt, alloc, cut, gate)?;
+        Ok(hit)
+    }
+
+    // The answer to `cont` or `rcont` that isn't refused.
+    fn answer_continue<R: Threads + Clock + Sync, G: Gate + Sync>(
+        &mut self,
+        rt: &R,
+        alloc: Global,
+        thread: u32,
+        direction: Direction,
+        gate: &G,
+    ) -> Answer
+        requires { refusal_of self.old.desk (command.Continue thread direction) ≡ None }
+        ensures fitted { self.new.desk.fitted ≡ self.old.desk.fitted }
+        ensures answers { EachRun self.old.desk.fitted (λ run. AnswersBy None run self.old.desk (command.Continue thread direction) (answer_text run self.new.desk result) self.new.desk) }
+        ensures last { IsLast self.new result }
+    {
+        match self.go_on(rt, alloc, thread, direction, gate) {
+            Ok(hit) => Answer::Continued(thread, hit),
+            Err(AllocError) => self.refuse(Refusal::NoMemory),
+        }
+    }
+
+    // Sets a point, and answers its number.
+    fn set(&mut self, point: Point) -> u32
+        requires { refusal_of self.old.desk (command.Set point) ≡ None }
+        ensures number { result ≡ self.old.desk.last_point + 1 }
+        ensures desk { self.new.desk ≡ with_point self.old.desk point }
+    {
+        self.fresh = false;
+        let number = self.last_point + 1;
+        self.points.set(NumberedPoint::new(number, point));
+        self.last_point = number;
+        number
+    }
+
+    // Takes a point away.
+    fn clear(&mut self, number: u32)
+        ensures { self.new.desk ≡ without_point self.old.desk number }
+    {
+        self.fresh = false;
+        self.points.clear(number);
     }
 
     // The line of the next step of thread t.
@@ -228,18 +393,36 @@ impl Debugger {
         }
     }
 
-    // Keeps the cut, and answers its number. Numbers that ran out count as memory.
-    fn keep(&mut self) -> Result<u32, AllocError>
+    // Keeps the cut and the state in hand, and answers the cut's number.
+    fn keep_here(&mut self) -> Result<u32, AllocError>
         requires { refusal_of self.old.desk (command.Keeping keeping.Keep) ≡ None }
         ensures number { IfOk result (λ n. n ≡ self.old.desk.last_kept + 1) }
         ensures ok { OnOk result (self.new.desk ≡ with_kept self.old.desk) }
         ensures err { OnErr result (self.new.desk ≡ spoken self.old.desk) }
     {
         self.fresh = false;
-        let number = self.last_kept.checked_add(1).ok_or(AllocError)?;
-        self.kept.push(KeptCut::new(number, self.at.copy()?))?;
+        let number = self.last_kept + 1;
+        let cut = self.at.copy()?;
+        self.checkpoints.keep(&self.fitted, &self.state)?;
+        self.kept.push(KeptCut::new(number, cut))?;
         self.last_kept = number;
         Ok(number)
+    }
+
+    // Keeps the cut and the state there.
+    fn keep<R: Threads + Clock + Sync, G: Gate + Sync>(
+        &mut self,
+        rt: &R,
+        alloc: Global,
+        gate: &G,
+    ) -> Result<u32, AllocError>
+        requires { refusal_of self.old.desk (command.Keeping keeping.Keep) ≡ None }
+        ensures number { IfOk result (λ n. n ≡ self.old.desk.last_kept + 1) }
+        ensures ok { OnOk result (self.new.desk ≡ with_kept self.old.desk) }
+        ensures err { OnErr result (self.new.desk ≡ spoken self.old.desk) }
+    {
+        self.bring_here(rt, alloc, gate)?;
+        self.keep_here()
     }
 
     // Goes to a kept cut.
@@ -265,6 +448,7 @@ impl Debugger {
     {
         self.fresh = false;
         forget(&mut self.kept, number);
+        self.checkpoints.drop_kept(&self.fitted, number);
     }
 
     // The answer to a command about kept cuts that isn't refused.
@@ -281,7 +465,7 @@ impl Debugger {
         ensures last { IsLast self.new result }
     {
         match asked {
-            Keeping::Keep => match self.keep() {
+            Keeping::Keep => match self.keep(rt, alloc, gate) {
                 Ok(number) => Answer::Kept(number),
                 Err(AllocError) => self.refuse(Refusal::NoMemory),
             },
@@ -300,15 +484,19 @@ impl Debugger {
         }
     }
 
-    /// Carries out a command. A move brings the threads to the cut to which it leads: forwards from where they stand, on
-    /// threads of the system's, and where one has to go back, from the start anew. Before something is shown, threads
+    /// Carries out a command. A move brings the threads to the cut to which it leads, on threads of the system's: from where
+    /// they stand, or from the nearest state that is kept at or below it, by `keep` or on the way of an earlier move. Before something is shown, threads
     /// that a move left elsewhere for lack of memory are brought to the cut.
     ///
+    /// `cont` and `rcont` take a thread's steps anew, one by one, to find where a point hits it: `cont` from where it
+    /// stands, `rcont` from the start.
+    ///
     /// What the answer tells is that of every run of the guest with the trace. A command is refused that names a thread
-    /// or an object that there isn't, the number of no kept cut, or bytes that aren't all in the code or in private memory;
-    /// that would keep a 65th cut beside the start; and where memory runs out, which after `open` and after a move happens
-    /// to no command that shows something but `next`, and never to `drop` and `kept`. A refusal leaves all positions and
-    /// the kept cuts as they were.
+    /// or an object that there isn't, the number of no point and no kept cut, bytes that aren't all in the code or in private
+    /// memory, or for a point no word of these; that would set a 65th point, or keep a 65th cut beside the start; and where
+    /// memory runs out, which after `open` and after a move happens to no command that shows something but `next`, and never
+    /// to one that sets or clears a point, `drop` and `kept`. A refusal leaves all positions, points and kept cuts as they
+    /// were.
     pub fn command<R: Threads + Clock + Sync, G: Gate + Sync>(
         &mut self,
         rt: &R,
@@ -325,7 +513,15 @@ impl Debugger {
         }
         match *command {
             Command::Move(to) => self.answer_move(rt, alloc, to, gate),
+            Command::Continue { thread, direction } => {
+                self.answer_continue(rt, alloc, thread, direction, gate)
+            }
             Command::Show(show) => self.answer_show(rt, alloc, show, gate),
+            Command::Set(point) => Answer::Set(self.set(point)),
+            Command::Clear { number } => {
+                self.clear(number);
+                Answer::Cleared(number)
+            }
             Command::Keeping(asked) => self.answer_keeping(rt, alloc, asked, gate),
             Command::Position => {
                 self.fresh = false;

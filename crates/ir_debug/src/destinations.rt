@@ -1,14 +1,15 @@
 //! The cuts to which moves lead.
 
-ghost use Rattle.std.specs.Prelude.{◌≡◌, ◌<◌, true, min, nat_lt, length, IfOk};
+ghost use Rattle.std.specs.Prelude.{◌≡◌, ◌<◌, ◌≤◌, true, min, nat_lt, length, IfOk};
 ghost use Rattle.ir_cut.specs.Positions.{EachRun, IsConsistentCut};
 ghost use Rattle.ir_debug.specs.Machine.Desk.{threads_of, last_of, first_cut, last_cut};
 ghost use Rattle.ir_debug.specs.Machine.Refusals.{if_some, thread_moved};
-ghost use Rattle.ir_debug.specs.Machine.Moves.{Leads, ToPosition};
+ghost use Rattle.ir_debug.specs.Machine.Moves.{Leads, StopsAt, stop_of, ToPosition};
 
-use ir_command::Move;
+use ir_command::{Direction, Move};
 use ir_cut::{Cut, greatest, least};
 use ir_fit::Fitted;
+use ir_hits::Hit;
 use std::alloc::{AllocError, Global};
 
 /// How many threads the guest has.
@@ -106,5 +107,43 @@ pub fn destination(alloc: Global, fitted: &Fitted, at: &Cut, to: Move) -> Result
         }
         Move::Start => first_cut(alloc, fitted),
         Move::End => last_cut(alloc, fitted),
+    }
+}
+
+// Where a thread stops that is continued: at the hit; or at its last position, or at 0.
+fn stop_of(fitted: &Fitted, t: usize, direction: Direction, hit: Option<Hit>) -> u64
+    requires { t < threads_of fitted.now }
+    ensures { result ≡ stop_of fitted.now t direction hit }
+{
+    match (hit, direction) {
+        (Some(hit), _) => hit.position,
+        (None, Direction::Forwards) => last_position(fitted, t),
+        (None, Direction::Backwards) => 0,
+    }
+}
+
+/// The cut at which all threads are, when the one that is continued in this direction stops at the hit.
+///
+/// # Errors
+/// Out of memory.
+pub fn stop(
+    alloc: Global,
+    fitted: &Fitted,
+    at: &Cut,
+    t: usize,
+    direction: Direction,
+    hit: Option<Hit>,
+) -> Result<Cut, AllocError>
+    requires cut { (length at.now ≡ threads_of fitted.now) × IsConsistentCut fitted.now at.now }
+    requires thread { t < threads_of fitted.now }
+    requires within { stop_of fitted.now t direction hit ≤ last_of fitted.now t }
+    ensures stops { IfOk result (λ c. EachRun fitted.now (λ run. StopsAt run fitted.now at.now t direction (stop_of fitted.now t direction hit) c)) }
+    ensures size { IfOk result (λ c. length c ≡ threads_of fitted.now) }
+    ensures consistent { IfOk result (λ c. IsConsistentCut fitted.now c) }
+{
+    let position = stop_of(fitted, t, direction, hit);
+    match direction {
+        Direction::Forwards => least(alloc, fitted, at, t, position),
+        Direction::Backwards => greatest(alloc, fitted, at, t, position),
     }
 }

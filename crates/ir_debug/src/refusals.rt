@@ -1,12 +1,14 @@
 //! The commands that are refused, whatever the run.
 
-ghost use Rattle.std.specs.Prelude.{◌≡◌};
-ghost use Rattle.ir_debug.specs.Machine.Refusals.{thread_moved, thread_shown, thread_named, object_named, has_number, has_address, has_place};
+ghost use Rattle.std.specs.Prelude.{◌≡◌, ◌≤◌};
+ghost use Rattle.ir_mach.specs.Memory.{lies_in_memory};
+ghost use Rattle.ir_debug.specs.Machine.Refusals.{thread_moved, thread_shown, thread_pointed, thread_named, object_named, lies_in_code, has_address};
 
 use crate::debugger::Debugger;
 use crate::destinations::thread_count;
-use crate::kept::{KeptCut, MOST_KEPT, kept_cut};
-use ir_command::{Command, Keeping, Move, Refusal, Show};
+use crate::kept::{MOST_KEPT, kept_cut};
+use crate::points::{MOST_POINTS, is_set};
+use ir_command::{Command, Keeping, Move, Point, Refusal, Show};
 use ir_image::{CODE_START, Image, MEMORY_SIZE, MEMORY_START, OBJECT_WORDS};
 
 /// The thread that a move names.
@@ -34,14 +36,26 @@ fn thread_shown(show: Show) -> Option<u32>
     }
 }
 
+// The thread whose pc or word a point looks at.
+fn thread_pointed(point: Point) -> Option<u32>
+    ensures { result ≡ thread_pointed point }
+{
+    match point {
+        Point::Break { thread, .. } | Point::Watch { thread, .. } => Some(thread),
+        Point::WatchObject { .. } => None,
+    }
+}
+
 // The thread that a command names.
 fn thread_named(command: &Command) -> Option<u32>
     ensures { result ≡ thread_named command.now }
 {
     match *command {
         Command::Move(to) => thread_moved(to),
+        Command::Continue { thread, .. } => Some(thread),
         Command::Show(show) => thread_shown(show),
-        Command::Keeping(_) | Command::Position | Command::Quit => None,
+        Command::Set(point) => thread_pointed(point),
+        Command::Clear { .. } | Command::Keeping(_) | Command::Position | Command::Quit => None,
     }
 }
 
@@ -51,53 +65,83 @@ fn object_named(command: &Command) -> Option<u32>
 {
     match *command {
         Command::Show(Show::Object { object }) => Some(object),
+        Command::Set(Point::WatchObject { object }) => Some(object),
         _ => None,
     }
 }
 
-// Whether a cut is kept by the number that a command names; the start isn't dropped.
-fn has_number(kept: &[KeptCut], command: &Command) -> bool
-    ensures { result ≡ has_number kept.now command.now }
+// Whether so many bytes from an address on lie in the code.
+fn lies_in_code(image: &Image, width: usize, address: u32) -> bool
+    requires { width ≤ 256 }
+    ensures { result ≡ lies_in_code image.now width address }
+{
+    let start = address as u64;
+    let code_start = CODE_START as u64;
+    let code_end = code_start + 4 * image.code().words().len() as u64;
+    code_start <= start && start + width as u64 <= code_end
+}
+
+// Whether so many bytes from an address on lie in private memory.
+fn lies_in_memory(width: usize, address: u32) -> bool
+    requires { width ≤ 256 }
+    ensures { result ≡ lies_in_memory width address }
+{
+    let start = address as u64;
+    let memory_start = MEMORY_START as u64;
+    memory_start <= start && start + width as u64 <= memory_start + MEMORY_SIZE as u64
+}
+
+// Whether the bytes that a command shows are all of the code or of private memory, and the word at which a point is set is
+// one of the code or of private memory.
+fn has_address(image: &Image, command: &Command) -> bool
+    ensures { result ≡ has_address image.now command.now }
 {
     match *command {
-        Command::Keeping(Keeping::Load { number }) => kept_cut(kept, number).is_some(),
-        Command::Keeping(Keeping::Drop { number }) => {
-            number != 0 && kept_cut(kept, number).is_some()
+        Command::Show(Show::Memory { address, size, .. }) => {
+            lies_in_code(image, size.get(), address) || lies_in_memory(size.get(), address)
+        }
+        Command::Set(Point::Break { address, .. }) => {
+            address % 4 == 0 && lies_in_code(image, 4, address)
+        }
+        Command::Set(Point::Watch { address, .. }) => {
+            address % 4 == 0 && lies_in_memory(4, address)
         }
         _ => true,
     }
 }
 
-// Whether there is place for the cut that a command keeps.
-fn has_place(kept: &[KeptCut], command: &Command) -> bool
-    ensures { result ≡ has_place kept.now command.now }
-{
-    match *command {
-        Command::Keeping(Keeping::Keep) => kept.len() <= MOST_KEPT,
-        _ => true,
-    }
-}
-
-// Whether the bytes that a command shows are all bytes of the code or of private memory.
-fn has_address(image: &Image, command: &Command) -> bool
-    ensures { result ≡ has_address image.now command.now }
-{
-    let Command::Show(Show::Memory { address, size, .. }) = *command else {
-        return true;
-    };
-    let start = address as u64;
-    let end = start + size.get() as u64;
-    let code_start = CODE_START as u64;
-    let memory_start = MEMORY_START as u64;
-    (code_start <= start && end <= code_start + 4 * image.code().words().len() as u64)
-        || (memory_start <= start && end <= memory_start + MEMORY_SIZE as u64)
-}
-
 impl Debugger {
-    ghost use Rattle.ir_debug.specs.Machine.Refusals.{refusal_of};
+    ghost use Rattle.ir_debug.specs.Machine.Refusals.{refusal_of, has_number, has_place};
 
-    // Why a command is refused, if it is: its thread, its object, its kept cut or its bytes aren't there, or no cut more has
-    // place, in this order.
+    // Whether a point is set, or a cut kept, by the number that a command names; the start isn't dropped.
+    fn has_number(&self, command: &Command) -> bool
+        ensures { result ≡ has_number self.now.desk command.now }
+    {
+        match *command {
+            Command::Clear { number } => is_set(self.points(), number),
+            Command::Keeping(Keeping::Load { number }) => kept_cut(self.kept(), number).is_some(),
+            Command::Keeping(Keeping::Drop { number }) => {
+                number != 0 && kept_cut(self.kept(), number).is_some()
+            }
+            _ => true,
+        }
+    }
+
+    // Whether there is place for the point that a command sets, or the cut that it keeps, and a number.
+    fn has_place(&self, command: &Command) -> bool
+        ensures { result ≡ has_place self.now.desk command.now }
+    {
+        match *command {
+            Command::Set(_) => self.points().len() < MOST_POINTS && self.last_point() < u32::MAX,
+            Command::Keeping(Keeping::Keep) => {
+                self.kept().len() <= MOST_KEPT && self.last_kept() < u32::MAX
+            }
+            _ => true,
+        }
+    }
+
+    // Why a command is refused, if it is: its thread, its object, its point or kept cut or its bytes aren't there, or there is no
+    // place for one more, in this order.
     #[tactic(auto, unfolding(crate::specs::Machine::Refusals::refusal_of))]
     pub(crate) fn refusal_of(&self, command: &Command) -> Option<Refusal>
         ensures { result ≡ refusal_of self.now.desk command.now }
@@ -114,13 +158,13 @@ impl Debugger {
                 return Some(Refusal::NoSuchObject);
             }
         }
-        if !has_number(self.kept(), command) {
+        if !self.has_number(command) {
             return Some(Refusal::NoSuchNumber);
         }
         if !has_address(image, command) {
             return Some(Refusal::BadAddress);
         }
-        if !has_place(self.kept(), command) {
+        if !self.has_place(command) {
             return Some(Refusal::Full);
         }
         None

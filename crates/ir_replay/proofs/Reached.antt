@@ -1,5 +1,5 @@
 -- Where threads rest, and that all are then at their targets.
-use Rattle.std.proofs.Common.{◌≡◌, ℕ, ◌-◌, ◌<◌, ◌≤◌, List, length, sym, refl, subst, arith, inl, inr, ◌⊎◌}
+use Rattle.std.proofs.Common.{◌≡◌, ℕ, ◌+◌, ◌-◌, ◌<◌, ◌≤◌, List, length, sym, refl, subst, arith, inl, inr, ◌⊎◌}
 use Rattle.std.proofs.Math.Path.{fun_ext}
 use Rattle.std.proofs.lemmas.Bool.{cases_lt}
 use Rattle.std.proofs.lemmas.List.{get_or_past}
@@ -13,7 +13,7 @@ use Rattle.ir_cut.specs.Positions.{machine_of, start_of, cut_of, IsConsistentCut
 use Rattle.ir_runs.proofs.CallerLemmas.{Progress, progress}
 use Rattle.ir_weave.specs.Standing.{Standing, StandsAt, flat_in}
 use Rattle.ir_weave.specs.States.{IsAt, IsStateAt, positions}
-use Rattle.ir_weave.specs.Stepping.{LogsNext, IsTarget, IsUnder, IsSame, Rests, steps_left}
+use Rattle.ir_weave.specs.Stepping.{LogsNext, IsTarget, IsUnder, HasGone, IsSame, Rests, steps_left}
 use Rattle.ir_weave.proofs.CallerLemmas.{law, good, admitted_next}
 use Rattle.ir_replay.specs.Rounds.{IsBetween, Goes}
 
@@ -117,3 +117,31 @@ all_there f target old s b size there =
       | inr past ↦ let none : cut_of target t ≡ 0 = get_or_past target t 0 (let e = b.stands.at.threads in omega (arith, past, e, size)) in
           let below = b.below t in omega (arith, none, below)
     ])) b.stands
+
+-- ---- one thread that has gone on alone
+
+pub alone_stands : (f : FittedTrace) (aim : List ℕ) (s : Flat) (state : Standing) → IsUnder f aim s
+    → state ≡ record { threads = s.threads; objects = s.objects } → IsFlat s → StandsAt f (positions (flat_in f state)) state
+alone_stands f aim s state under is flat =
+    subst (λ (z : Standing). StandsAt f (positions (flat_in f z)) z) (sym is)
+    (stands_from f (positions s) s (record { threads = s.threads; objects = s.objects }) refl flat under.state)
+
+pub alone_below : (f : FittedTrace) (target aim : List ℕ) (s : Flat) (state : Standing) → aim ≡ target → IsUnder f aim s
+    → state ≡ record { threads = s.threads; objects = s.objects } → (u : ℕ) → positions (flat_in f state) u ≤ cut_of target u
+alone_below f target aim s state same under is u =
+    subst (λ (z : List ℕ × Standing). positions (flat_in f z.1) u ≤ cut_of z.0 u) (λ i. (same i, sym is i)) (under.below u)
+
+pub alone_gone : (f : FittedTrace) (old state : Standing) (first s : Flat) (t n : ℕ) → first ≡ flat_in f old → HasGone first s t n
+    → state ≡ record { threads = s.threads; objects = s.objects } → HasGone (flat_in f old) (flat_in f state) t n
+alone_gone f old state first s t n was gone is = record {
+  own = subst (λ (z : Standing × Flat). positions (flat_in f z.0) t ≡ positions z.1 t + n) (λ i. (sym is i, was i)) gone.own;
+  others = λ u ne. subst (λ (z : Standing × Flat). positions (flat_in f z.0) u ≡ positions z.1 u) (λ i. (sym is i, was i))
+      (gone.others u ne);
+}
+
+pub alone_rests : (f : FittedTrace) (target aim : List ℕ) (state : Standing) (s : Flat) (t : ℕ) → aim ≡ target → Rests f aim s t
+    → state ≡ record { threads = s.threads; objects = s.objects } → Rests f target (flat_in f state) t
+alone_rests f target aim state s t same rest is =
+    subst (λ (z : List ℕ × Standing). (cut_of z.0 t ≤ positions (flat_in f z.1) t)
+    ⊎ ((run : List Step) → IsRunOf f.guest f.recorded run
+    → Admitted (machine_of f) (start_of f) run (positions (flat_in f z.1)) t → ⊥)) (λ i. (same i, sym is i)) rest

@@ -2,6 +2,7 @@
 #![tactic(auto)]
 
 mod admission;
+mod alone;
 #[cfg(test)]
 mod guests;
 mod moves;
@@ -16,5 +17,6 @@ mod stretch;
 mod telling;
 mod worker;
 
+pub use alone::advance_alone;
 pub use ir_weave::{State, one_state_each};
 pub use moves::{advance, advance_in_order};

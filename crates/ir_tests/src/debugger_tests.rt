@@ -3,7 +3,7 @@
 use crate::guests::TWO_COUNTERS;
 use crate::replays::fitted;
 use crate::traces::SECOND_FIRST;
-use ir_command::{ByteCount, Command, Move, Refusal, Show};
+use ir_command::{ByteCount, Command, Direction, Move, Point, Refusal, Show};
 use ir_debug::{Answer, Debugger};
 use ir_object::OpenGate;
 use std::alloc::Global;
@@ -18,6 +18,7 @@ enum Kind {
     Position,
     Shown,
     Next,
+    Point,
     Kept,
     Refused(Refusal),
     Bye,
@@ -25,10 +26,11 @@ enum Kind {
 
 fn kind_of(answer: &Answer) -> Kind {
     match answer {
-        Answer::Moved(_) => Kind::Moved,
+        Answer::Moved(_) | Answer::Continued(..) => Kind::Moved,
         Answer::Position => Kind::Position,
         Answer::Shown(_) => Kind::Shown,
         Answer::Next(_) => Kind::Next,
+        Answer::Set(_) | Answer::Cleared(_) => Kind::Point,
         Answer::Kept(_) | Answer::Dropped(_) | Answer::KeptCuts => Kind::Kept,
         Answer::Refused(refusal) => Kind::Refused(*refusal),
         Answer::Bye => Kind::Bye,
@@ -160,6 +162,47 @@ fn what_is_not_there_is_refused(rt: HostRuntime) -> Result<(), Fail> {
         seen(Kind::Refused(Refusal::BadAddress), 3, 15),
         seen(Kind::Position, 3, 15),
         seen(Kind::Bye, 3, 15),
+    ];
+    assert_eq!(rt; walk(&rt, rt.alloc(), &commands)?, wanted);
+    Ok(())
+}
+
+#[test]
+fn points_are_set_and_found(rt: HostRuntime) -> Result<(), Fail> {
+    let commands = [
+        Command::Set(Point::WatchObject { object: 0 }),
+        Command::Set(Point::Break {
+            thread: 1,
+            address: 0x0001_0002,
+        }),
+        Command::Continue {
+            thread: 0,
+            direction: Direction::Forwards,
+        },
+        Command::Continue {
+            thread: 0,
+            direction: Direction::Forwards,
+        },
+        Command::Clear { number: 2 },
+        Command::Clear { number: 1 },
+        Command::Continue {
+            thread: 0,
+            direction: Direction::Backwards,
+        },
+        Command::Continue {
+            thread: 2,
+            direction: Direction::Backwards,
+        },
+    ];
+    let wanted = [
+        seen(Kind::Point, 0, 0),
+        seen(Kind::Refused(Refusal::BadAddress), 0, 0),
+        seen(Kind::Moved, 15, 15),
+        seen(Kind::Moved, 18, 15),
+        seen(Kind::Refused(Refusal::NoSuchNumber), 18, 15),
+        seen(Kind::Point, 18, 15),
+        seen(Kind::Moved, 0, 15),
+        seen(Kind::Refused(Refusal::NoSuchThread), 0, 15),
     ];
     assert_eq!(rt; walk(&rt, rt.alloc(), &commands)?, wanted);
     Ok(())

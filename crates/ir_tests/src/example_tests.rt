@@ -1,6 +1,6 @@
 //! What the examples print and leave in their objects.
 
-use crate::examples::{CALLS, COUNTER, HELLO, LOST_UPDATE, SUM, TWO_LOCKS};
+use crate::examples::{CALLS, COUNTER, HELLO, LOST_UPDATE, OVERWRITTEN, SUM, TWO_LOCKS};
 use crate::recordings::recorded_in_order;
 use crate::replays::{in_order, last};
 use crate::sources::image_bytes;
@@ -13,13 +13,14 @@ use std::test::Fail;
 // after a recording in rounds.
 type Example = (&'static str, usize, End, &'static str, &'static [u32]);
 
-const EXAMPLES: [Example; 6] = [
+const EXAMPLES: [Example; 7] = [
     (HELLO, 84, End::Exit(0), "Hello, world!\n", &[]),
     (SUM, 126, End::Exit(42), "42\n", &[]),
     (CALLS, 114, End::Exit(31), "31\n", &[]),
     (COUNTER, 134, End::Exit(0), "", &[4]),
     (LOST_UPDATE, 154, End::Exit(0), "", &[1]),
     (TWO_LOCKS, 202, End::Exit(0), "", &[75, 75]),
+    (OVERWRITTEN, 102, End::Exit(0), "4\n", &[]),
 ];
 
 // Whether the objects' first words are these.

@@ -70,6 +70,17 @@ const DOUBLE: &str = "
         addi    a7, zero, 1             # END
 ";
 
+/// Stores one word twice where private memory begins, and ends with its address.
+pub const CHANGED_ONCE: Source = &[
+    "
+        lui     a0, 0x100
+        sw      a0, 0(a0)
+        sw      a0, 0(a0)
+        addi    a7, zero, 1             # END
+        ecall
+",
+];
+
 /// A call that there isn't, a7 being 0.
 pub const CALL_OF_ZERO: Source = &[CALL];
 
@@ -92,6 +103,9 @@ pub const ILLEGAL_WORDS: Source = &[
 /// Two threads add one each to the first word of object 0, which they hold for writing: 18 steps each, of which 2 is the
 /// entry, 6 reads, 11 writes, 14 leaves and 17 ends.
 pub const TWO_COUNTERS: Source = &[ONE_OBJECT, AT_MAIN, AT_MAIN, COUNT];
+
+/// Three threads do so.
+pub const THREE_COUNTERS: Source = &[ONE_OBJECT, AT_MAIN, AT_MAIN, AT_MAIN, COUNT];
 
 /// Eight threads do the same.
 pub const COUNTER: Source = &[

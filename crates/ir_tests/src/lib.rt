@@ -18,6 +18,8 @@ mod examples;
 #[cfg(test)]
 mod guests;
 #[cfg(test)]
+mod hit_rows;
+#[cfg(test)]
 mod kept_rows;
 mod laws;
 #[cfg(test)]
@@ -50,5 +52,7 @@ mod streams;
 mod traces;
 #[cfg(test)]
 mod verdict_rows;
+#[cfg(test)]
+mod walk_tests;
 
 pub use laws::recordings_fit;

@@ -5,18 +5,19 @@ use Rattle.ir_fit.specs.Fit.{FittedTrace}
 use Rattle.ir_cut.specs.Positions.{EachRun, cut_of}
 use Rattle.ir_command.specs.Commands.{command_of}
 use Rattle.ir_command.specs.declared.command.Command.{Command}
-use Rattle.ir_command.specs.declared.command.Command.TheVariants.{Move, Position, Show, Keeping, Quit}
+use Rattle.ir_command.specs.declared.command.Command.TheVariants.{Move, Continue, Position, Show, Set, Clear, Keeping, Quit}
 use Rattle.ir_command.specs.declared.command.Move as command
 use Rattle.ir_command.specs.declared.command.Keeping as keeping
 use Rattle.ir_command.specs.declared.command.Keeping.TheVariants.{Keep, Load, Drop, Kept}
 use Rattle.ir_command.specs.declared.refusal.Refusal.{Refusal}
 use Rattle.ir_command.specs.declared.refusal.Refusal.TheVariants.{NoMemory}
+use Rattle.ir_hits.specs.declared.hit.Hit.{Hit}
 use Rattle.ir_debug.specs.Answers.{refusal_text}
-use Rattle.ir_debug.specs.Machine.Desk.{Desk, last_of, spoken, moved, kept_cut, with_kept, without_kept}
+use Rattle.ir_debug.specs.Machine.Desk.{Desk, last_of, spoken, moved, with_point, without_point, kept_cut, with_kept, without_kept}
 use Rattle.ir_debug.specs.Machine.Refusals.{thread_moved, refusal_of, may_lack}
-use Rattle.ir_debug.specs.Machine.Moves.{Leads}
+use Rattle.ir_debug.specs.Machine.Moves.{Leads, Continues}
 use Rattle.ir_debug.specs.Machine.Shown.{shown}
-use Rattle.ir_debug.specs.Machine.Texts.{number_line, positions_text, stop_text, kept_text}
+use Rattle.ir_debug.specs.Machine.Texts.{number_line, positions_text, hit_text, stop_text, kept_text}
 
 -- where the thread that a move names has stopped
 abbrev pub stopped_text : FittedTrace → Option ℕ → List ℕ → List ℕ
@@ -26,6 +27,10 @@ stopped_text f None at = []
 -- the answer to a move that led to this cut
 abbrev pub moved_text : FittedTrace → command.Move → List ℕ → List ℕ
 moved_text f move to = positions_text to ++ stopped_text f (thread_moved move) to ++ codes "\n"
+
+-- the answer to a thread that was continued, and came to this cut
+abbrev pub continued_text : FittedTrace → ℕ → Option Hit → List ℕ → List ℕ
+continued_text f t hit to = positions_text to ++ hit_text hit ++ stop_text (last_of f t) (cut_of to t) ++ codes "\n"
 
 -- this is answered, and the machine is then so
 abbrev pub Gives : List ℕ → Desk → List ℕ → Desk → Type 0
@@ -41,6 +46,10 @@ Keeps d Kept text next = Gives (kept_text d.kept) (spoken d) text next
 -- a command that isn't refused is answered so
 abbrev pub CarriesOut : List Step → Desk → Command → List ℕ → Desk → Type 0
 CarriesOut run d (Move move) text next = (to : List ℕ) × Leads run d.fitted d.at move to × Gives (moved_text d.fitted move to) (moved d to) text next
+CarriesOut run d (Continue t direction) text next = (to : List ℕ) × (hit : Option Hit) × Continues run d t direction hit to
+    × Gives (continued_text d.fitted t hit to) (moved d to) text next
+CarriesOut run d (Set point) text next = Gives (number_line (codes "point ") (d.last_point + 1)) (with_point d point) text next
+CarriesOut run d (Clear n) text next = Gives (number_line (codes "cleared ") n) (without_point d n) text next
 CarriesOut run d Position text next = Gives (positions_text d.at ++ codes "\n") (spoken d) text next
 CarriesOut run d (Show show) text next = Gives (shown run d show) (spoken d) text next
 CarriesOut run d (Keeping keeping) text next = Keeps d keeping text next

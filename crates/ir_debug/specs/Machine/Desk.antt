@@ -1,11 +1,14 @@
 -- What the small machine holds beside the run.
-use Rattle.std.specs.Prelude.{◌≡◌, ◌≤◌, ◌==◌, ℕ, zero, suc, ◌+◌, not, Bool, true, false, List, [], ◌∷◌, ◌++◌, length, replicate, find, Option, option_map}
+use Rattle.std.specs.Prelude.{◌≡◌, ◌≤◌, ◌==◌, ℕ, zero, suc, ◌+◌, not, Bool, true, false, List, [], ◌∷◌, ◌++◌, length, replicate, find, is_some, Option, option_map}
 use Rattle.std.specs.List.{filter, AllByRecursion}
 use Rattle.ir_runs.specs.Run.{Step, th}
 use Rattle.ir_thread.specs.State as thread
 use Rattle.ir_trace.specs.TraceOf.{recorded_thread}
 use Rattle.ir_fit.specs.Fit.{FittedTrace, HasRun}
 use Rattle.ir_cut.specs.Positions.{IsConsistentCut, machine_of, start_of, cut_of}
+use Rattle.ir_command.specs.Limits.{most_small}
+use Rattle.ir_command.specs.declared.command.Point.{Point}
+use Rattle.ir_hits.specs.Hits.{Numbered, AreWatchable}
 
 -- a kept cut, and the number by which it is asked for
 pub record Kept : Type 0 where
@@ -19,6 +22,10 @@ pub record Desk : Type 0 where
   pub at : List ℕ
   -- whether it has given no answer yet, or its last was a move's
   pub fresh : Bool
+  -- the points that are set, the last at the end
+  pub points : List Numbered
+  -- the last number that a point was given, or 0
+  pub last_point : ℕ
   -- the kept cuts, the last number given to one at the end
   pub kept : List Kept
   -- that number, or 0
@@ -51,6 +58,8 @@ desk_of f = record {
   fitted = f;
   at = first_cut f;
   fresh = true;
+  points = [];
+  last_point = 0;
   kept =
       record { number = 0; cut = first_cut f } ∷ [];
   last_kept = 0;
@@ -63,6 +72,22 @@ moved d at = record d { at = at; fresh = true }
 -- after any other answer
 abbrev pub spoken : Desk → Desk
 spoken d = record d { fresh = false }
+
+-- whether a point of this number is set
+abbrev pub is_set : List Numbered → ℕ → Bool
+is_set points n = is_some (find (λ p. p.number == n) points)
+
+-- all points but that of a number
+abbrev pub points_without : List Numbered → ℕ → List Numbered
+points_without points n = filter (λ p. not (p.number == n)) points
+
+-- one more point is set, by the next number
+abbrev pub with_point : Desk → Point → Desk
+with_point d point = record (spoken d) { points = d.points ++ record { number = d.last_point + 1; point = point } ∷ []; last_point = d.last_point + 1 }
+
+-- one is set no longer
+abbrev pub without_point : Desk → ℕ → Desk
+without_point d n = record (spoken d) { points = points_without d.points n }
 
 -- the kept cut of a number
 abbrev pub kept_cut : List Kept → ℕ → Option (List ℕ)
@@ -83,6 +108,14 @@ without_kept d n = record (spoken d) { kept = without d.kept n }
 -- the most that are kept beside the start
 abbrev pub most_kept : ℕ
 most_kept = 64
+
+-- the most points that are set
+abbrev pub most_points : ℕ
+most_points = 64
+
+-- the last number that a point or a kept cut may be given
+abbrev pub most_number : ℕ
+most_number = most_small
 
 -- the position of a thread
 abbrev pub position_of : Desk → ℕ → ℕ
@@ -105,5 +138,6 @@ pub record IsDesk (d : Desk) : Type 0 where
   pub run : HasRun d.fitted
   pub size : length d.at ≡ threads_of d.fitted
   pub at : IsConsistentCut d.fitted d.at
+  pub points : AreWatchable d.points
   pub kept : AllKept d.fitted d.kept
   pub few : length d.kept ≤ most_kept + 1

@@ -1,12 +1,16 @@
 -- The cut that a move leads to.
-use Rattle.std.specs.Prelude.{◌≡◌, ℕ, ◌+◌, ◌-◌, min, nat_le, Bool, true, false, List, length}
+use Rattle.std.specs.Prelude.{◌≡◌, ℕ, ◌+◌, ◌-◌, min, nat_le, Bool, true, false, List, length, Option, Some, None}
 use Rattle.ir_runs.specs.Run as run
 use Rattle.ir_runs.specs.Extremes.{IsLeast, IsGreatest}
 use Rattle.ir_cut.specs.Positions.{machine_of, start_of, cut_of}
+use Rattle.ir_command.specs.declared.command.Direction.{Direction}
+use Rattle.ir_command.specs.declared.command.Direction.TheVariants.{Forwards, Backwards}
 use Rattle.ir_command.specs.declared.command.Move.{Move}
 use Rattle.ir_command.specs.declared.command.Move.TheVariants.{Step, Back, Goto, Start, End}
 use Rattle.ir_fit.specs.Fit.{FittedTrace}
-use Rattle.ir_debug.specs.Machine.Desk.{threads_of, last_of, first_cut, last_cut}
+use Rattle.ir_hits.specs.Hits.{Numbered, IsFirstHit, IsLastHit}
+use Rattle.ir_hits.specs.declared.hit.Hit.{Hit}
+use Rattle.ir_debug.specs.Machine.Desk.{Desk, threads_of, last_of, first_cut, last_cut}
 
 -- the least cut at or above this one with thread t at k or more
 abbrev pub ToLeast : List run.Step → FittedTrace → List ℕ → ℕ → ℕ → List ℕ → Type 0
@@ -32,3 +36,26 @@ Leads steps f at (Back t count) to = ToGreatest steps f at t (cut_of at t - coun
 Leads steps f at (Goto t k) to = ToPosition steps f at t (min k (last_of f t)) to
 Leads steps f at Start to = to ≡ first_cut f
 Leads steps f at End to = to ≡ last_cut f
+
+-- ---- to a hit
+
+-- the hit that thread t finds from its position in this direction
+abbrev pub Finds : List run.Step → Desk → ℕ → Direction → Option Hit → Type 0
+Finds steps d t Forwards hit = IsFirstHit d.fitted steps d.points t (cut_of d.at t) hit
+Finds steps d t Backwards hit = IsLastHit d.fitted steps d.points t (cut_of d.at t) hit
+
+-- where it stops: there; or at its last position, or at 0
+abbrev pub stop_of : FittedTrace → ℕ → Direction → Option Hit → ℕ
+stop_of f t direction (Some hit) = hit.position
+stop_of f t Forwards None = last_of f t
+stop_of f t Backwards None = 0
+
+-- the cut at which it stops there
+abbrev pub StopsAt : List run.Step → FittedTrace → List ℕ → ℕ → Direction → ℕ → List ℕ → Type 0
+StopsAt steps f at t Forwards k to = ToLeast steps f at t k to
+StopsAt steps f at t Backwards k to = ToGreatest steps f at t k to
+
+-- thread t, continued in this direction, finds this hit, and all threads come to this cut
+abbrev pub Continues : List run.Step → Desk → ℕ → Direction → Option Hit → List ℕ → Type 0
+Continues steps d t direction hit to = Finds steps d t direction hit
+    × StopsAt steps d.fitted d.at t direction (stop_of d.fitted t direction hit) to

@@ -1,19 +1,20 @@
 -- What is refused, whatever the run: the first reason in the order of the tests.
-use Rattle.std.specs.Prelude.{◌&&◌, ◌||◌, ◌==◌, ℕ, ◌+◌, ◌*◌, not, nat_le, nat_lt, Bool, true, false, List, length, Option, Some, None, is_some, if◌then◌else◌}
+use Rattle.std.specs.Prelude.{◌&&◌, ◌||◌, ◌==◌, ℕ, ◌+◌, ◌*◌, ◌%◌, not, nat_le, nat_lt, Bool, true, false, length, Option, Some, None, is_some, if◌then◌else◌}
 use Rattle.ir_image.specs.Guest.{Guest, code_start, object_count}
 use Rattle.ir_mach.specs.Memory.{lies_in_memory}
 use Rattle.ir_command.specs.declared.command.Command.{Command}
 use Rattle.ir_command.specs.declared.command.Command.TheVariants as command
 use Rattle.ir_command.specs.declared.command.Move.{Move}
 use Rattle.ir_command.specs.declared.command.Move.TheVariants.{Step, Back, Goto, Start, End}
+use Rattle.ir_command.specs.declared.command.Point.{Point}
+use Rattle.ir_command.specs.declared.command.Point.TheVariants.{Break, Watch, WatchObject}
 use Rattle.ir_command.specs.declared.command.Show.{Show}
 use Rattle.ir_command.specs.declared.command.Show.TheVariants.{Registers, Memory, Object, Output, Log, Next}
 use Rattle.ir_command.specs.declared.command.Keeping.{Keeping}
 use Rattle.ir_command.specs.declared.command.Keeping.TheVariants.{Keep, Load, Drop, Kept}
 use Rattle.ir_command.specs.declared.refusal.Refusal.{Refusal}
 use Rattle.ir_command.specs.declared.refusal.Refusal.TheVariants.{NoSuchThread, NoSuchObject, NoSuchNumber, BadAddress, Full}
-use Rattle.ir_debug.specs.Machine.Desk.{Desk, threads_of, kept_cut, most_kept}
-use Rattle.ir_debug.specs.Machine.Desk as desk
+use Rattle.ir_debug.specs.Machine.Desk.{Desk, threads_of, is_set, kept_cut, most_kept, most_points, most_number}
 
 -- a test of what is named, if anything is
 abbrev pub if_some : Option ℕ → (ℕ → Bool) → Bool
@@ -39,8 +40,17 @@ thread_shown (Output thread) = Some thread
 thread_shown (Log thread) = Some thread
 thread_shown (Next thread) = Some thread
 
+-- the thread whose pc or word a point looks at
+abbrev pub thread_pointed : Point → Option ℕ
+thread_pointed (Break thread address) = Some thread
+thread_pointed (Watch thread address) = Some thread
+thread_pointed (WatchObject object) = None
+
 abbrev pub thread_named : Command → Option ℕ
 thread_named (command.Move move) = thread_moved move
+thread_named (command.Continue thread direction) = Some thread
+thread_named (command.Set point) = thread_pointed point
+thread_named (command.Clear number) = None
 thread_named (command.Show show) = thread_shown show
 thread_named (command.Keeping keeping) = None
 thread_named command.Position = None
@@ -48,28 +58,33 @@ thread_named command.Quit = None
 
 abbrev pub object_named : Command → Option ℕ
 object_named (command.Show (Object object)) = Some object
+object_named (command.Set (WatchObject object)) = Some object
 object_named c = None
 
 -- ---- the tests
 
--- a cut is kept by the number; the start isn't dropped
-abbrev pub has_number : List desk.Kept → Command → Bool
-has_number kept (command.Keeping (Load n)) = is_some (kept_cut kept n)
-has_number kept (command.Keeping (Drop n)) = not (n == 0) && is_some (kept_cut kept n)
-has_number kept c = true
+-- a point is set, or a cut kept, by the number; the start isn't dropped
+abbrev pub has_number : Desk → Command → Bool
+has_number d (command.Clear n) = is_set d.points n
+has_number d (command.Keeping (Load n)) = is_some (kept_cut d.kept n)
+has_number d (command.Keeping (Drop n)) = not (n == 0) && is_some (kept_cut d.kept n)
+has_number d c = true
 
--- there is place for one more
-abbrev pub has_place : List desk.Kept → Command → Bool
-has_place kept (command.Keeping Keep) = nat_lt (length kept) (most_kept + 1)
-has_place kept c = true
+-- there is place for one more, and a number
+abbrev pub has_place : Desk → Command → Bool
+has_place d (command.Set point) = nat_lt (length d.points) most_points && nat_lt d.last_point most_number
+has_place d (command.Keeping Keep) = nat_lt (length d.kept) (most_kept + 1) && nat_lt d.last_kept most_number
+has_place d c = true
 
 -- so many bytes from an address on lie in the code
 abbrev pub lies_in_code : Guest → ℕ → ℕ → Bool
 lies_in_code g width address = nat_le code_start address && nat_le (address + width) (code_start + 4 * length g.code)
 
--- bytes are shown of the code or of private memory
+-- bytes are shown of the code or of private memory; a breakpoint stands at a word of the code, a watchpoint at one of private memory
 abbrev pub has_address : Guest → Command → Bool
 has_address g (command.Show (Memory thread address size)) = lies_in_code g size address || lies_in_memory size address
+has_address g (command.Set (Break thread address)) = (address % 4 == 0) && lies_in_code g 4 address
+has_address g (command.Set (Watch thread address)) = (address % 4 == 0) && lies_in_memory 4 address
 has_address g c = true
 
 -- why a command is refused, if it is
@@ -77,9 +92,9 @@ unfoldable pub refusal_of : Desk → Command → Option Refusal
 refusal_of d c =
     if not (if_some (thread_named c) (λ t. nat_lt t (threads_of d.fitted))) then Some NoSuchThread else
     if not (if_some (object_named c) (λ o. nat_lt o (object_count d.fitted.guest))) then Some NoSuchObject else
-    if not (has_number d.kept c) then Some NoSuchNumber else
+    if not (has_number d c) then Some NoSuchNumber else
     if not (has_address d.fitted.guest c) then Some BadAddress else
-    if not (has_place d.kept c) then Some Full else
+    if not (has_place d c) then Some Full else
     None
 
 -- ---- out of memory
@@ -99,6 +114,9 @@ takes_memory Kept = false
 -- whether a command that isn't refused otherwise may be refused for lack of memory
 abbrev pub may_lack : Desk → Command → Bool
 may_lack d (command.Move move) = true
+may_lack d (command.Continue thread direction) = true
+may_lack d (command.Set point) = false
+may_lack d (command.Clear number) = false
 may_lack d (command.Show show) = not (d.fresh && is_at_hand show)
 may_lack d (command.Keeping keeping) = takes_memory keeping
 may_lack d command.Position = false

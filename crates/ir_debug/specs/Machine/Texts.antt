@@ -14,6 +14,7 @@ use Rattle.ir_runs.specs.declared.env_kind.EnvKind.TheVariants.{Clock, Random, I
 use Rattle.ir_thread.specs.declared.end.End.{End}
 use Rattle.ir_runs.specs.Object.{Object}
 use Rattle.ir_disasm.specs.Printed.{text_of}
+use Rattle.ir_hits.specs.declared.hit.Hit.{Hit}
 use Rattle.ir_debug.specs.Answers.{hex_word}
 use Rattle.ir_debug.specs.Machine.Desk.{Kept}
 
@@ -35,6 +36,11 @@ kept_line k = decimal k.number ++ codes " " ++ positions_text k.cut ++ codes "\n
 unfoldable pub kept_text : List Kept → List ℕ
 kept_text [] = []
 kept_text (k ∷ ks) = kept_line k ++ kept_text ks
+
+-- the point that hit, if one did
+abbrev pub hit_text : Option Hit → List ℕ
+hit_text (Some hit) = codes " hit " ++ decimal hit.number
+hit_text None = []
 
 -- whether a thread is at its last position, which is given, or at 0
 abbrev pub stop_text : ℕ → ℕ → List ℕ

@@ -3,7 +3,7 @@ use Rattle.ir_command.specs.declared.command.Command.TheVariants as command
 use Rattle.ir_debug.specs.declared.answer.Answer.TheVariants as answer
 use Rattle.ir_debug.specs.Machine.Desk.{spoken}
 use Rattle.ir_debug.specs.Debugging.{Debugging}
-use Rattle.ir_debug.proofs.CarriedOut.{refused, answered, position_answered, quit_answered}
+use Rattle.ir_debug.proofs.CarriedOut.{refused, answered, position_answered, quit_answered, set_answered, clear_answered}
 use Rattle.ir_debug.proofs.debugger.Debugger.command.Goals as goal
 
 pub returns-in-Some-clause-answers : goal.returns-in-Some-clause-answers
@@ -36,3 +36,21 @@ pub returns-in-Quit-clause-answers : goal.returns-in-Quit-clause-answers
 returns-in-Quit-clause-answers g c =
     answered c.args.self.now.desk _ c.args.command.now command.Quit answer.Bye c.in-Quit.is
     (sym c.refusal_of.ensures ∙ c.in_default.is) (quit_answered c.args.self.now.desk _ (ap (λ (d : Debugging). spoken d.desk) c.self.view_is))
+
+pub returns-in-Continue-clause-answers : goal.returns-in-Continue-clause-answers
+returns-in-Continue-clause-answers g c =
+    answered c.args.self.now.desk c.answer_continue.new.self.desk c.args.command.now
+    (command.Continue c.in-Continue.thread c.in-Continue.direction) c.answer_continue.result c.in-Continue.is
+    (sym c.refusal_of.ensures ∙ c.in_default.is) c.answer_continue.ensures.answers
+
+pub returns-in-Set-clause-answers : goal.returns-in-Set-clause-answers
+returns-in-Set-clause-answers g c =
+    answered c.args.self.now.desk c.set.new.self.desk c.args.command.now (command.Set c.in-Set.point) (answer.Set c.set.result) c.in-Set.is
+    (sym c.refusal_of.ensures ∙ c.in_default.is)
+    (set_answered c.args.self.now.desk c.set.new.self.desk c.in-Set.point c.set.result c.set.ensures.number c.set.ensures.desk)
+
+pub returns-in-Clear-clause-answers : goal.returns-in-Clear-clause-answers
+returns-in-Clear-clause-answers g c =
+    answered c.args.self.now.desk c.clear.new.self.desk c.args.command.now (command.Clear c.in-Clear.number)
+    (answer.Cleared c.in-Clear.number) c.in-Clear.is (sym c.refusal_of.ensures ∙ c.in_default.is)
+    (clear_answered c.args.self.now.desk c.clear.new.self.desk c.in-Clear.number c.clear.ensures)

@@ -14,10 +14,12 @@ invariant_of-self c =
         run = held.run;
         size = held.size;
         at = held.at;
+        points = held.points;
         kept = subst (AllKept c.self.inside.fitted) (sym c.forget.ensures)
             (all_without c.self.inside.fitted c.self.inside.kept.items c.args.number held.kept);
         few = omega (arith, less, same, few);
       };
       stands = c.self.invariant.stands;
+      checkpoints = c.drop_kept.ensures;
       fresh = λ e. absurd (cc e);
     }

@@ -19,9 +19,11 @@ invariant_of-self-2 g c =
         run = c.self.invariant.desk.run;
         size = subst (λ (f : FittedTrace). length c.args.to ≡ threads_of f) (sym same) c.requires.size;
         at = subst (λ (f : FittedTrace). IsConsistentCut f c.args.to) (sym same) c.requires.consistent;
+        points = c.self.invariant.desk.points;
         kept = c.self.invariant.desk.kept;
         few = c.self.invariant.desk.few;
       };
       stands = c.in_ok-bring.ensures.stands;
+      checkpoints = c.in_ok-bring.ensures.checkpoints;
       fresh = λ e. c.in_ok-bring.ensures.there;
     }

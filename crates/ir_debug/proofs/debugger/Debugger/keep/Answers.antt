@@ -1,28 +1,9 @@
-use Rattle.std.proofs.Common.{◌≡◌, ◌<◌, ◌+◌, ◌++◌, [], ◌∷◌, List, length, length-append, sym, ap, ◌∙◌, subst, arith}
-use Rattle.ir_debug.specs.Debugging.{Debugging}
-use Rattle.ir_debug.specs.Machine.Desk.{Kept, AllKept, Cuts, most_kept}
-use Rattle.ir_debug.proofs.KeptCuts.{all_more}
-use Rattle.ir_debug.proofs.Passed.{place_left}
+use Rattle.std.proofs.Common.{◌∙◌}
+use Rattle.ir_command.specs.declared.command.Command.TheVariants as command
+use Rattle.ir_command.specs.declared.command.Keeping.TheVariants as keeping
+use Rattle.ir_debug.proofs.CarriedOut.{refusal_spoken}
 use Rattle.ir_debug.proofs.debugger.Debugger.keep.Goals as goal
 
-pub invariant_of-self-2 : goal.invariant_of-self-2
-invariant_of-self-2 c =
-    let f = c.self.inside.fitted in
-    let old : List Kept = c.self.inside.kept.items in
-    let more : c.push.new.self.items ≡ old ++ c.new.result ∷ [] = c.in_ok-push.ensures.items in
-    let held = c.self.invariant.desk in
-    let left : length old < most_kept + 1 = subst (λ (z : Debugging). length z.desk.kept < most_kept + 1) (sym c.self.view_is)
-    (place_left c.args.self.now.desk c.requires) in
-    let long = length-append old (c.new.result ∷ []) in
-    record {
-      desk = record {
-        run = held.run;
-        size = held.size;
-        at = held.at;
-        kept = subst (AllKept f) (sym more) (all_more f old c.new.result held.kept
-            (subst (Cuts f) (sym (ap (λ (k : Kept). k.cut) c.new.ensures ∙ c.in_ok-copy.ensures)) (held.size, held.at)));
-        few = (let l = ap (λ (z : List Kept). length z) more in omega (arith, left, long, l));
-      };
-      stands = c.self.invariant.stands;
-      fresh = λ e. absurd (cc e);
-    }
+pub keep_here-requires : goal.keep_here-requires
+keep_here-requires g c =
+    refusal_spoken c.args.self.now.desk c.bring_here.new.self.desk (command.Keeping keeping.Keep) c.in_ok-bring_here.ensures.desk ∙ c.requires

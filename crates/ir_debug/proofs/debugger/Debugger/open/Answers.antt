@@ -1,4 +1,5 @@
 use Rattle.std.proofs.Common.{◌≡◌, ◌++◌, [], ◌∷◌, List, length, sym, ap, ◌∙◌, subst, arith}
+use Rattle.ir_hits.specs.Hits.{AreWatchable}
 use Rattle.ir_debug.specs.Machine.Desk.{Kept, Cuts, AllKept}
 use Rattle.ir_debug.proofs.Ends.{first_there}
 use Rattle.ir_debug.proofs.debugger.Debugger.open.Goals as goal
@@ -13,6 +14,7 @@ invariant_of-result c =
         run = c.known.ensures.run;
         size = c.in_ok-at.ensures.size;
         at = c.in_ok-at.ensures.consistent;
+        points = subst AreWatchable (sym c.in_ok-points.ensures) tt;
         kept = subst (AllKept c.args.fitted) (sym one) (
           subst (Cuts c.args.fitted)
               (sym (ap (λ (k : Kept). k.cut) c.new.ensures ∙ c.in_ok-copy.ensures)) (c.in_ok-at.ensures.size, c.in_ok-at.ensures.consistent),
@@ -21,5 +23,6 @@ invariant_of-result c =
         few = omega (arith, long);
       };
       stands = c.in_ok-state.ensures.own;
+      checkpoints = c.in_ok-checkpoints.ensures;
       fresh = λ e. first_there c.args.fitted c.in_ok-state.state c.in_ok-at.at c.in_ok-at.ensures.first c.in_ok-state.ensures.start;
     }

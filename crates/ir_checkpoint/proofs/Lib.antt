@@ -1,0 +1,3 @@
+mod Brought
+mod Keepers
+mod Ways

@@ -1,0 +1,81 @@
+-- Cuts on the way of a move.
+use Rattle.std.proofs.Common.{◌≡◌, ◌<◌, ◌≤◌, ℕ, List, Result, Ok, Err, length, map, sym, ap, ◌∙◌, subst, arith}
+use Rattle.std.proofs.Math.Path.{fun_ext}
+use Rattle.std.proofs.Math.ListN.{get_or-map}
+use Rattle.std.proofs.lemmas.List.{length-map}
+use Rattle.std.specs.Prelude.{IfOk}
+use Rattle.std.specs.List.{slice_index_or}
+use Rattle.ir_trace.specs.TraceOf.{recorded_thread}
+use Rattle.ir_thread.specs.State as thread
+use Rattle.ir_flat.specs.Flat.{idle}
+use Rattle.ir_runs.specs.Cuts.{Cut, IsCut, Consistent}
+use Rattle.ir_fit.specs.Fit.{FittedTrace, HasRun}
+use Rattle.ir_cut.specs.Positions.{machine_of, start_of, cut_of, IsConsistentCut, IsLeastCut}
+use Rattle.ir_weave.specs.Standing.{Standing, StandsAt, flat_in}
+use Rattle.ir_weave.specs.States.{positions}
+use Rattle.ir_checkpoint.specs.Checkpoints.{Stands}
+use Rattle.ir_checkpoint.specs.Parts.{IsOnWay}
+
+-- a cut that can be reached is within the threads' steps
+pub within : (f : FittedTrace) (target : List ℕ) (t k : ℕ) → HasRun f → IsConsistentCut f target → t < length f.guest.entries
+    → k ≤ cut_of target t → k ≤ (recorded_thread f.recorded t).steps
+within f target t k h target_is l le =
+    let count = h.whole.1.steps t l in
+    let inside = (target_is h.run h.whole).0 t in
+    omega (arith, le, inside, count)
+
+-- the least cut with a thread further lies below each such that is above
+pub further : (f : FittedTrace) (low : Cut) (target cut new : List ℕ) (t k : ℕ) → HasRun f → IsConsistentCut f target
+    → IsOnWay f low (cut_of target) cut → k ≤ cut_of target t → IsLeastCut f cut t k new → IsConsistentCut f new
+    → IsOnWay f low (cut_of target) new
+further f low target cut new t k h target_is way le least consistent =
+    let one = least.1 h.run h.whole in
+    let aim = target_is h.run h.whole in
+    record {
+      size = least.0;
+      consistent = consistent;
+      above = λ u. (let a = way.above u in let b = one.above u in omega (arith, a, b));
+      below = one.least (cut_of target) aim.0 aim.1 way.below le;
+    }
+
+-- the threads' own positions, as a list
+own_position : (threads : List thread.State) (t : ℕ) → cut_of (map (λ x. x.steps) threads) t ≡ (slice_index_or threads t idle).steps
+own_position threads t = get_or-map (λ (x : thread.State). x.steps) threads t idle
+
+pub own_cut : (f : FittedTrace) (s : Standing) (cut : List ℕ) → cut ≡ map (λ t. t.steps) s.threads → cut_of cut ≡ positions (flat_in f s)
+own_cut f s cut is = fun_ext (λ t. ap (λ (c : List ℕ). cut_of c t) is ∙ own_position s.threads t)
+
+own_consistent : (f : FittedTrace) (s : Standing) (cut : List ℕ) → Stands f s → cut_of cut ≡ positions (flat_in f s) → IsConsistentCut f cut
+own_consistent f s cut h same run whole =
+    let at = h.at.each run whole in
+    subst (λ (q : Cut). IsCut (machine_of f) (start_of f) run q × Consistent (machine_of f) (start_of f) run q) (sym same)
+    (at.cut, at.consistent)
+
+-- they are the beginning of the way
+pub begins : (f : FittedTrace) (s : Standing) (target cut : List ℕ) → Stands f s → cut ≡ map (λ t. t.steps) s.threads
+    → ((t : ℕ) → positions (flat_in f s) t ≤ cut_of target t) → IsOnWay f (cut_of cut) (cut_of target) cut
+begins f s target cut h is below =
+    let same = own_cut f s cut is in
+    record {
+      size = ap length is ∙ length-map s.threads (λ (x : thread.State). x.steps) ∙ h.at.threads;
+      consistent = own_consistent f s cut h same;
+      above = λ t. omega arith;
+      below = subst (λ (q : Cut). (t : ℕ) → q t ≤ cut_of target t) (sym same) below;
+    }
+
+pub from_own : (f : FittedTrace) (s : Standing) (target from cut : List ℕ) → from ≡ map (λ t. t.steps) s.threads
+    → IsOnWay f (cut_of from) (cut_of target) cut → IsOnWay f (positions (flat_in f s)) (cut_of target) cut
+from_own f s target from cut is way = subst (λ (q : Cut). IsOnWay f q (cut_of target) cut) (own_cut f s from is) way
+
+-- what stands at such a cut isn't past the target
+pub below_target : (f : FittedTrace) (low : Cut) (target cut : List ℕ) (s : Standing) → IsOnWay f low (cut_of target) cut
+    → StandsAt f (cut_of cut) s → (t : ℕ) → positions (flat_in f s) t ≤ cut_of target t
+below_target f low target cut s way at t = let same = at.at.steps t in let le = way.below t in omega (arith, same, le)
+
+-- a result that is the least cut, and consistent
+pub further_ok : {E : Type 0} (r : Result (List ℕ) E) (f : FittedTrace) (low : Cut) (target cut : List ℕ) (t k : ℕ) → HasRun f
+    → IsConsistentCut f target → IsOnWay f low (cut_of target) cut → k ≤ cut_of target t → IfOk r (λ c. IsLeastCut f cut t k c)
+    → IfOk r (λ c. IsConsistentCut f c) → IfOk r (λ c. IsOnWay f low (cut_of target) c)
+further_ok (Ok new) f low target cut t k h target_is way le least consistent =
+    further f low target cut new t k h target_is way le least consistent
+further_ok (Err e) f low target cut t k h target_is way le least consistent = tt

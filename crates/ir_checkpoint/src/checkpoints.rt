@@ -1,0 +1,296 @@
+//! States that are kept for moves to begin at.
+
+ghost use Rattle.std.specs.Prelude.{◌≡◌, ◌≤◌, ℕ, length, IfOk, IfErr, OnOk, IsOk};
+ghost use Rattle.ir_cut.specs.Positions.{IsConsistentCut, cut_of};
+ghost use Rattle.ir_keep.specs.Keeping.{IsNearest};
+ghost use Rattle.ir_weave.specs.Standing.{StandsAt, flat_in};
+ghost use Rattle.ir_weave.specs.States.{positions};
+ghost use Rattle.ir_checkpoint.specs.Checkpoints as checkpoints;
+ghost use Rattle.ir_checkpoint.specs.Checkpoints.{AllStand, Stands};
+
+use crate::bringing::{gap_of, is_past, is_there, next_stop, steps_before, steps_of};
+use crate::passed::{Passed, PassedCut};
+use ir_cut::Cut;
+use ir_fit::Fitted;
+use ir_keep::{KeepErr, Keeper};
+use ir_object::Gate;
+use ir_replay::{State, advance};
+use std::alloc::{AllocError, Global};
+use std::marker::Model;
+use std::mem;
+use std::thread::Threads;
+use std::time::Clock;
+
+#[cfg(test)]
+mod tests;
+
+// The most stops of one move.
+const MOST_STOPS: usize = 64;
+
+/// States of one replay that are kept for moves to begin at: the start, at most 64 that were asked for, and at most 64 that moves have
+/// passed, which are given up again as moves pass others. In clauses what two keepers keep.
+#[derive(Drop)]
+pub struct Checkpoints {
+    asked: Keeper,
+    passed: Keeper,
+    // The numbers of those that moves have passed, and where they lie.
+    places: Passed,
+}
+
+impl Model for Checkpoints {
+    ghost Value = { checkpoints.Checkpoints };
+
+    ghost view = { λ c. record { asked = c.asked; passed = c.passed } };
+}
+
+// Keeps a state, and answers its number. None where 64 are kept beside the start, or all numbers were given.
+fn keep_in(fitted: &Fitted, keeper: &mut Keeper, state: &State) -> Result<Option<u32>, AllocError>
+    requires kept { AllStand fitted.now keeper.old.kept }
+    requires stands { Stands fitted.now state.now }
+    ensures { AllStand fitted.now keeper.new.kept }
+{
+    if keeper.last() == u32::MAX {
+        return Ok(None);
+    }
+    match keeper.keep(state) {
+        Ok(number) => Ok(Some(number)),
+        Err(KeepErr::Full) => Ok(None),
+        Err(KeepErr::NoMem) => Err(AllocError),
+    }
+}
+
+// Gives up the state kept as this number, if it is kept, and isn't the start.
+fn drop_in(fitted: &Fitted, keeper: &mut Keeper, number: u32)
+    requires { AllStand fitted.now keeper.old.kept }
+    ensures { AllStand fitted.now keeper.new.kept }
+{
+    if number != 0 && keeper.cut(number).is_some() {
+        keeper.drop_kept(number);
+    }
+}
+
+// The number of the nearest state at or below the target.
+fn nearest_in(fitted: &Fitted, keeper: &Keeper, target: &Cut) -> u32
+    requires kept { AllStand fitted.now keeper.now.kept }
+    requires target { length target.now ≡ length fitted.now.guest.entries }
+    ensures { IsNearest target.now keeper.now result }
+{
+    keeper.nearest(target)
+}
+
+// How many steps are before the state kept as this number.
+fn steps_in(keeper: &Keeper, number: u32) -> u64 {
+    match keeper.cut(number) {
+        None => 0,
+        Some(cut) => steps_before(cut),
+    }
+}
+
+// The nearest state at or below the target.
+fn restore_in(
+    fitted: &Fitted,
+    keeper: &Keeper,
+    number: u32,
+    target: &Cut,
+) -> Result<State, AllocError>
+    requires kept { AllStand fitted.now keeper.now.kept }
+    requires nearest { IsNearest target.now keeper.now number }
+    ensures stands { IfOk result (λ s. Stands fitted.now s) }
+    ensures below { IfOk result (λ s. (t : ℕ) → positions (flat_in fitted.now s) t ≤ cut_of target.now t) }
+{
+    keeper.restore(number)
+}
+
+impl Checkpoints {
+    ghost use Rattle.ir_checkpoint.specs.Checkpoints.{AreCheckpoints};
+
+    /// The start alone.
+    ///
+    /// # Errors
+    /// Out of memory.
+    pub fn new(alloc: Global, fitted: &Fitted) -> Result<Checkpoints, AllocError>
+        ensures { IfOk result (λ c. AreCheckpoints fitted.now c) }
+    {
+        Ok(Checkpoints {
+            asked: Keeper::new(alloc, fitted)?,
+            passed: Keeper::new(alloc, fitted)?,
+            places: Passed::new(),
+        })
+    }
+
+    /// Keeps a state, under the next number from 1 on. Where 64 are kept beside the start, or all numbers were given, it isn't kept.
+    ///
+    /// # Errors
+    /// Out of memory; nothing changes.
+    pub fn keep(&mut self, fitted: &Fitted, state: &State) -> Result<(), AllocError>
+        requires checkpoints { AreCheckpoints fitted.now self.old }
+        requires stands { Stands fitted.now state.now }
+        ensures { AreCheckpoints fitted.now self.new }
+    {
+        keep_in(fitted, &mut self.asked, state)?;
+        Ok(())
+    }
+
+    /// Gives up the state kept as this number, if it is kept, and isn't the start.
+    pub fn drop_kept(&mut self, fitted: &Fitted, number: u32)
+        requires { AreCheckpoints fitted.now self.old }
+        ensures { AreCheckpoints fitted.now self.new }
+    {
+        drop_in(fitted, &mut self.asked, number);
+    }
+
+    // How many steps are before the nearest state at or below the target.
+    fn steps_kept(&self, fitted: &Fitted, target: &Cut) -> u64
+        requires checkpoints { AreCheckpoints fitted.now self.now }
+        requires target { length target.now ≡ length fitted.now.guest.entries }
+    {
+        let asked = steps_in(&self.asked, nearest_in(fitted, &self.asked, target));
+        let passed = steps_in(&self.passed, nearest_in(fitted, &self.passed, target));
+        asked.max(passed)
+    }
+
+    // The nearest state at or below the target.
+    fn restore(&self, fitted: &Fitted, target: &Cut) -> Result<State, AllocError>
+        requires checkpoints { AreCheckpoints fitted.now self.now }
+        requires target { length target.now ≡ length fitted.now.guest.entries }
+        ensures stands { IfOk result (λ s. Stands fitted.now s) }
+        ensures below { IfOk result (λ s. (t : ℕ) → positions (flat_in fitted.now s) t ≤ cut_of target.now t) }
+    {
+        let asked = nearest_in(fitted, &self.asked, target);
+        let passed = nearest_in(fitted, &self.passed, target);
+        if steps_in(&self.passed, passed) > steps_in(&self.asked, asked) {
+            restore_in(fitted, &self.passed, passed, target)
+        } else {
+            restore_in(fitted, &self.asked, asked, target)
+        }
+    }
+
+    // Gives up the state that moves have passed which is missed the least, seen from so many steps.
+    fn give_up(&mut self, fitted: &Fitted, present: u64)
+        requires { AreCheckpoints fitted.now self.old }
+        ensures { AreCheckpoints fitted.now self.new }
+    {
+        if let Some(gone) = self.places.give_up(present) {
+            drop_in(fitted, &mut self.passed, gone.number);
+        }
+    }
+
+    // Keeps a state that a move passes, in place of another where there are 64; whether it is kept.
+    fn note(&mut self, fitted: &Fitted, state: &State, present: u64) -> bool
+        requires checkpoints { AreCheckpoints fitted.now self.old }
+        requires stands { Stands fitted.now state.now }
+        ensures { AreCheckpoints fitted.now self.new }
+    {
+        if self.places.is_full() {
+            self.give_up(fitted, present);
+        }
+        match keep_in(fitted, &mut self.passed, state) {
+            Ok(Some(number)) => {
+                let steps = steps_of(state.threads());
+                self.places.add(PassedCut { number, steps });
+                true
+            }
+            _ => false,
+        }
+    }
+
+    // Goes on towards the target, which no thread is past, until it is near, and keeps states on the way.
+    fn approach<R: Threads + Clock + Sync, G: Gate + Sync>(
+        &mut self,
+        rt: &R,
+        alloc: Global,
+        fitted: &Fitted,
+        state: State,
+        target: &Cut,
+        gate: &G,
+    ) -> Result<State, (State, AllocError)>
+        requires checkpoints { AreCheckpoints fitted.now self.old }
+        requires stands { Stands fitted.now state }
+        requires target { (length target.now ≡ length fitted.now.guest.entries) × IsConsistentCut fitted.now target.now }
+        requires below { (t : ℕ) → positions (flat_in fitted.now state) t ≤ cut_of target.now t }
+        ensures checkpoints { AreCheckpoints fitted.now self.new }
+        ensures stands { IfOk result (λ s. Stands fitted.now s) }
+        ensures below { IfOk result (λ s. (t : ℕ) → positions (flat_in fitted.now s) t ≤ cut_of target.now t) }
+        ensures err { IfErr result (λ e. Stands fitted.now e.0) }
+    {
+        let mut state = state;
+        let present = steps_before(target);
+        let gap = gap_of(present.saturating_sub(steps_of(state.threads())));
+        'stops: for _ in 0..MOST_STOPS {
+            let Some(stop) = next_stop(alloc, fitted, &state, target, gap) else {
+                return Ok(state);
+            };
+            state = advance(rt, alloc, fitted, state, &stop, gate)?;
+            if !self.note(fitted, &state, present) {
+                return Ok(state);
+            }
+        }
+        Ok(state)
+    }
+
+    // Goes on to the target, which no thread is past.
+    fn forward<R: Threads + Clock + Sync, G: Gate + Sync>(
+        &mut self,
+        rt: &R,
+        alloc: Global,
+        fitted: &Fitted,
+        state: State,
+        target: &Cut,
+        gate: &G,
+    ) -> Result<State, (State, AllocError)>
+        requires checkpoints { AreCheckpoints fitted.now self.old }
+        requires stands { Stands fitted.now state }
+        requires target { (length target.now ≡ length fitted.now.guest.entries) × IsConsistentCut fitted.now target.now }
+        requires below { (t : ℕ) → positions (flat_in fitted.now state) t ≤ cut_of target.now t }
+        ensures checkpoints { AreCheckpoints fitted.now self.new }
+        ensures ok { IfOk result (λ s. StandsAt fitted.now (cut_of target.now) s) }
+        ensures err { IfErr result (λ e. Stands fitted.now e.0) }
+    {
+        let near = self.approach(rt, alloc, fitted, state, target, gate)?;
+        advance(rt, alloc, fitted, near, target, gate)
+    }
+
+    /// Brings threads and objects to the target: by `advance`, from where they stand, or from the kept state at or below the target with
+    /// the most steps before it, where that is nearer or a thread is past its target. On a long way it keeps states that it passes: of
+    /// those that are the fewest steps apart, as seen from the target, one is given up when there are 64. A want of memory for one of
+    /// these is none for the move. Where they stand at the target already it takes no memory, and succeeds.
+    ///
+    /// # Errors
+    /// Out of memory, with the threads and objects at some consistent cut.
+    pub fn bring<R: Threads + Clock + Sync, G: Gate + Sync>(
+        &mut self,
+        rt: &R,
+        alloc: Global,
+        fitted: &Fitted,
+        state: &mut State,
+        target: &Cut,
+        gate: &G,
+    ) -> Result<(), AllocError>
+        requires checkpoints { AreCheckpoints fitted.now self.old }
+        requires stands { Stands fitted.now state.old }
+        requires target { (length target.now ≡ length fitted.now.guest.entries) × IsConsistentCut fitted.now target.now }
+        ensures checkpoints { AreCheckpoints fitted.now self.new }
+        ensures stands { Stands fitted.now state.new }
+        ensures there { OnOk result (StandsAt fitted.now (cut_of target.now) state.new) }
+        ensures already { StandsAt fitted.now (cut_of target.now) state.old → IsOk result }
+    {
+        if is_there(state.threads(), target) {
+            return Ok(());
+        }
+        let is_nearer = self.steps_kept(fitted, target) > steps_of(state.threads());
+        if is_nearer || is_past(state.threads(), target) {
+            *state = self.restore(fitted, target)?;
+        }
+        let none = State::build(Vec::new(alloc), Vec::new(alloc));
+        match self.forward(rt, alloc, fitted, mem::replace(state, none), target, gate) {
+            Ok(there) => {
+                *state = there;
+                Ok(())
+            }
+            Err((between, error)) => {
+                *state = between;
+                Err(error)
+            }
+        }
+    }
+}

@@ -1,0 +1,41 @@
+-- What takes the outputs of a recording, a thread's at a time.
+use Rattle.std.specs.Prelude.{◌≡◌, ◌<◌, ℕ, Bool, true, List, ◌++◌, length, take, codes, decimal, ⊤, Option, None, Some}
+use Rattle.std.specs.List.{enumerate_from}
+
+-- the number of a thread, and what it printed
+abbrev pub Printed : Type 0
+Printed = ℕ × List ℕ
+
+-- what each thread printed, with its number, from thread 0 on
+abbrev pub by_thread : List (List ℕ) → List Printed
+by_thread printed = enumerate_from 0 printed
+
+-- the path of the file of thread t's output
+abbrev pub output_path : List ℕ → ℕ → List ℕ
+output_path prefix t = prefix ++ (codes "." ++ decimal t)
+
+-- known outputs grow by these
+abbrev pub Gains : Option (List Printed) → Option (List Printed) → List Printed → Type 0
+Gains None new more = ⊤
+Gains (Some xs) None more = ⊥
+Gains (Some xs) (Some ys) more = ys ≡ xs ++ more
+
+-- the outputs that were taken whole before and after, and whether one of them was not
+pub record OutputWriter : Type 0 where
+  pub before : Option (List Printed)
+  pub after : Option (List Printed)
+  pub failed : Bool
+
+abbrev pub output_writer_of : Option (List Printed) → Option (List Printed) → Bool → OutputWriter
+output_writer_of before after failed = record { before = before; after = after; failed = failed }
+
+-- it took what each thread printed, as that thread's
+abbrev pub TookEach : OutputWriter → List (List ℕ) → Type 0
+TookEach w printed = Gains w.before w.after (by_thread printed)
+
+-- it failed at what a thread printed, and took the outputs of the threads below
+pub record FailedAtOne (w : OutputWriter) (printed : List (List ℕ)) : Type 0 where
+  pub thread : ℕ
+  pub is_one : thread < length printed
+  pub taken : Gains w.before w.after (take thread (by_thread printed))
+  pub broke : w.failed ≡ true

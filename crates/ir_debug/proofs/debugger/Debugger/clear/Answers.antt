@@ -1,0 +1,21 @@
+use Rattle.std.proofs.Common.{sym, subst}
+use Rattle.ir_hits.specs.Hits.{AreWatchable}
+use Rattle.ir_debug.proofs.SetPoints.{all_without}
+use Rattle.ir_debug.proofs.debugger.Debugger.clear.Goals as goal
+
+pub invariant_of-self : goal.invariant_of-self
+invariant_of-self c =
+    let held = c.self.invariant.desk in
+    record {
+      desk = record {
+        run = held.run;
+        size = held.size;
+        at = held.at;
+        points = subst AreWatchable (sym c.clear.ensures) (all_without c.self.inside.points c.args.number held.points);
+        kept = held.kept;
+        few = held.few;
+      };
+      stands = c.self.invariant.stands;
+      checkpoints = c.self.invariant.checkpoints;
+      fresh = λ e. absurd (cc e);
+    }

@@ -1,0 +1,36 @@
+use Rattle.std.proofs.Common.{◌≡◌, ◌<◌, ◌++◌, [], ◌∷◌, List, length, sym, ap, ◌∙◌, subst, arith}
+use Rattle.ir_hits.specs.Hits.{Numbered, AreWatchable, IsWatchable}
+use Rattle.ir_debug.specs.Debugging.{Debugging}
+use Rattle.ir_debug.specs.Machine.Desk.{most_points, most_number}
+use Rattle.ir_debug.proofs.SetPoints.{all_more}
+use Rattle.ir_debug.proofs.Passed.{point_place, point_number, watchable}
+use Rattle.ir_debug.proofs.debugger.Debugger.set.Goals as goal
+
+pub set-requires : goal.set-requires
+set-requires c =
+    subst (λ (z : Debugging). length z.desk.points < most_points) (sym c.self.view_is) (point_place c.args.self.now.desk c.args.point c.requires)
+
+pub overflow_add-number : goal.overflow_add-number
+overflow_add-number c =
+    let left : c.self.inside.last_point < most_number = subst (λ (z : Debugging). z.desk.last_point < most_number) (sym c.self.view_is)
+    (point_number c.args.self.now.desk c.args.point c.requires) in
+    omega (arith, left)
+
+pub invariant_of-self : goal.invariant_of-self
+invariant_of-self c =
+    let held = c.self.invariant.desk in
+    let old : List Numbered = c.self.inside.points in
+    record {
+      desk = record {
+        run = held.run;
+        size = held.size;
+        at = held.at;
+        points = subst AreWatchable (sym c.set.ensures) (all_more old c.new.result held.points
+            (subst IsWatchable (sym (ap (λ (p : Numbered). p.point) c.new.ensures)) (watchable c.args.self.now.desk c.args.point c.requires)));
+        kept = held.kept;
+        few = held.few;
+      };
+      stands = c.self.invariant.stands;
+      checkpoints = c.self.invariant.checkpoints;
+      fresh = λ e. absurd (cc e);
+    }

@@ -1,0 +1,6 @@
+mod Leaves
+mod Hitting
+mod Windows
+mod Standing
+mod Seen
+mod Onward

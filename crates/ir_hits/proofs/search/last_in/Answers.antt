@@ -1,0 +1,44 @@
+use Rattle.std.proofs.Common.{◌≡◌, ◌<◌, ◌-◌, ◌∙◌, subst, arith}
+use Rattle.ir_weave.specs.Standing.{flat_in}
+use Rattle.ir_weave.specs.States.{positions}
+use Rattle.ir_hits.specs.Searching.{IsNextHit}
+use Rattle.ir_hits.proofs.Windows.{at_hit, last_here, last_stays}
+use Rattle.ir_hits.proofs.search.last_in.Goals as goal
+
+pub hits-smaller : goal.hits-smaller
+hits-smaller g c =
+    let f = c.args.fitted.now in
+    let old = positions (flat_in f c.hits.state) c.args.t in
+    let new = positions (flat_in f c.next_hit.new.state) c.args.t in
+    let run = c.known.ensures.run.run in
+    let next = subst (IsNextHit f run c.args.points.now c.args.t old c.args.to) c.in-Some.is
+    (c.in_ok-hit.ensures.hit run c.known.ensures.run.whole) in
+    let at : new ≡ c.in-Some.hit.position = at_hit c.args.to new c.in_ok-hit.field-0 c.in-Some.hit
+    c.in_ok-hit.ensures.reached c.in-Some.is in
+    let less : c.args.to - new < c.args.to - old = omega (arith, next.0, next.1, at) in
+    less
+
+pub hits-preserved : goal.hits-preserved
+hits-preserved g c =
+    let f = c.args.fitted.now in
+    let old = positions (flat_in f c.hits.state) c.args.t in
+    let new = positions (flat_in f c.next_hit.new.state) c.args.t in
+    let run = c.known.ensures.run.run in
+    let next = subst (IsNextHit f run c.args.points.now c.args.t old c.args.to) c.in-Some.is
+    (c.in_ok-hit.ensures.hit run c.known.ensures.run.whole) in
+    let at : new ≡ c.in-Some.hit.position = at_hit c.args.to new c.in_ok-hit.field-0 c.in-Some.hit
+    c.in_ok-hit.ensures.reached c.in-Some.is in
+    record {
+      stands = c.next_hit.ensures.stands;
+      within = omega (arith, at, next.1);
+      last = λ run whole. last_here f run c.args.points.now c.args.t old c.args.to new c.in-Some.hit at
+          (subst (IsNextHit f run c.args.points.now c.args.t old c.args.to) c.in-Some.is (c.in_ok-hit.ensures.hit run whole));
+      size = c.next_hit.ensures.size ∙ c.hits.invariant.size;
+    }
+
+pub returns-clause-hit : goal.returns-clause-hit
+returns-clause-hit g c run whole =
+    let f = c.args.fitted.now in
+    let old = positions (flat_in f c.hits.state) c.args.t in
+    last_stays f run c.args.points.now c.args.t old c.args.to c.hits.invariant.within c.hits.found (c.hits.invariant.last run whole)
+    (subst (IsNextHit f run c.args.points.now c.args.t old c.args.to) c.in_default.is (c.in_ok-hit.ensures.hit run whole))

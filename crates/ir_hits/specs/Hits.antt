@@ -1,0 +1,77 @@
+-- Where points hit the threads of a run.
+use Rattle.std.specs.Prelude.{◌≡◌, ◌≢◌, ℕ, suc, ◌<◌, ◌≤◌, ⊤, List, slice_get, Option, Some, None}
+use Rattle.std.specs.List.{AllByRecursion}
+use Rattle.ir_mach.specs.Memory.{IsMemoryWord, memory_word}
+use Rattle.ir_thread.specs.State as thread
+use Rattle.ir_runs.specs.declared.access.Access.TheVariants.{Writing}
+use Rattle.ir_runs.specs.Labels.{Out}
+use Rattle.ir_runs.specs.Run.{Step, th, count}
+use Rattle.ir_runs.specs.Cuts.{Emits}
+use Rattle.ir_fit.specs.Fit.{FittedTrace}
+use Rattle.ir_cut.specs.Positions.{machine_of, start_of}
+use Rattle.ir_command.specs.declared.command.Point.{Point}
+use Rattle.ir_command.specs.declared.command.Point.TheVariants.{Break, Watch, WatchObject}
+use Rattle.ir_hits.specs.declared.hit.Hit.{Hit}
+
+-- a point, and the number that it goes by
+pub record Numbered : Type 0 where
+  pub number : ℕ
+  pub point : Point
+
+-- a watched word is one of private memory
+abbrev pub IsWatchable : Point → Type 0
+IsWatchable (Break t address) = ⊤
+IsWatchable (Watch t address) = IsMemoryWord address
+IsWatchable (WatchObject object) = ⊤
+
+abbrev pub AreWatchable : List Numbered → Type 0
+AreWatchable points = AllByRecursion (λ p. IsWatchable p.point) points
+
+-- thread t of the run just after its k-th own step
+abbrev pub thread_at : FittedTrace → List Step → ℕ → ℕ → thread.State
+thread_at f run t k = th (machine_of f) (start_of f) run t k
+
+-- how many steps it takes
+abbrev pub steps_of : FittedTrace → List Step → ℕ → ℕ
+steps_of f run t = count (machine_of f) (start_of f) run t
+
+-- the watched word of thread t before step j isn't what it is after it
+abbrev pub Changes : FittedTrace → List Step → ℕ → ℕ → ℕ → Type 0
+Changes f run t address j = memory_word (thread_at f run t j).core.memory address
+    ≢ memory_word (thread_at f run t (suc j)).core.memory address
+
+-- step j of thread t leaves the object after writing
+abbrev pub LeavesWritten : FittedTrace → List Step → ℕ → ℕ → ℕ → Type 0
+LeavesWritten f run t object j = (version : ℕ) × Emits (machine_of f) (start_of f) run t j (Out object Writing version)
+
+-- the point hits thread t at position k: its pc is there, and it has a step left; or the step to k changed the word; or it left the
+-- object after writing
+abbrev pub HitBy : FittedTrace → List Step → ℕ → ℕ → Point → Type 0
+HitBy f run t k (Break u address) = (u ≡ t) × ((thread_at f run t k).core.pc ≡ address) × (k < steps_of f run t)
+HitBy f run t k (Watch u address) = (u ≡ t) × ((j : ℕ) × (k ≡ suc j) × Changes f run t address j)
+HitBy f run t k (WatchObject object) = (j : ℕ) × (k ≡ suc j) × LeavesWritten f run t object j
+
+-- a point of this number hits
+abbrev pub HitByNumber : FittedTrace → List Step → List Numbered → ℕ → ℕ → ℕ → Type 0
+HitByNumber f run points t k n = (i : ℕ) × (p : Numbered) × (slice_get points i ≡ Some p) × (p.number ≡ n) × HitBy f run t k p.point
+
+-- the lowest number of the points that hit
+pub record IsLowest (f : FittedTrace) (run : List Step) (points : List Numbered) (t k n : ℕ) : Type 0 where
+  pub hits : HitByNumber f run points t k n
+  pub lowest : (m : ℕ) → HitByNumber f run points t k m → n ≤ m
+
+-- no point hits at a position from the first on and below the second
+abbrev pub NoneWithin : FittedTrace → List Step → List Numbered → ℕ → ℕ → ℕ → Type 0
+NoneWithin f run points t from to = (j n : ℕ) → from ≤ j → j < to → HitByNumber f run points t j n → ⊥
+
+-- the first position above p at which a point hits, and the lowest number of those that do; or no point hits above p
+abbrev pub IsFirstHit : FittedTrace → List Step → List Numbered → ℕ → ℕ → Option Hit → Type 0
+IsFirstHit f run points t p (Some h) = (p < h.position) × NoneWithin f run points t (suc p) h.position
+    × IsLowest f run points t h.position h.number
+IsFirstHit f run points t p None = (j n : ℕ) → p < j → HitByNumber f run points t j n → ⊥
+
+-- the last position below p at which a point hits, and the lowest number of those that do; or no point hits below p
+abbrev pub IsLastHit : FittedTrace → List Step → List Numbered → ℕ → ℕ → Option Hit → Type 0
+IsLastHit f run points t p (Some h) = (h.position < p) × NoneWithin f run points t (suc h.position) p
+    × IsLowest f run points t h.position h.number
+IsLastHit f run points t p None = NoneWithin f run points t 0 p

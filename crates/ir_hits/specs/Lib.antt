@@ -1,0 +1,3 @@
+pub mod Hits
+pub mod Seeing
+pub mod Searching

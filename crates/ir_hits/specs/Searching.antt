@@ -1,0 +1,32 @@
+-- Windows of a thread's positions.
+use Rattle.std.specs.Prelude.{◌≡◌, ℕ, suc, ◌<◌, ◌≤◌, List, length, Option, Some, None}
+use Rattle.ir_trace.specs.TraceOf.{recorded_thread}
+use Rattle.ir_runs.specs.Run.{Step}
+use Rattle.ir_fit.specs.Fit.{FittedTrace}
+use Rattle.ir_cut.specs.Positions.{cut_of}
+use Rattle.ir_thread.specs.State.{State}
+use Rattle.ir_hits.specs.declared.before.Before.{Before}
+use Rattle.ir_hits.specs.Seeing.{IsLowestOf}
+use Rattle.ir_hits.specs.Hits.{Numbered, NoneWithin, IsLowest}
+use Rattle.ir_hits.specs.declared.hit.Hit.{Hit}
+
+-- the last positions of the guest's threads
+pub record AreLast (f : FittedTrace) (last : List ℕ) : Type 0 where
+  pub size : length last ≡ length f.guest.entries
+  pub steps : (t : ℕ) → t < length f.guest.entries → cut_of last t ≡ (recorded_thread f.recorded t).steps
+
+-- the first position above p, and at most to, at which a point hits, and the lowest number of those that do; or no point hits there
+abbrev pub IsNextHit : FittedTrace → List Step → List Numbered → ℕ → ℕ → ℕ → Option Hit → Type 0
+IsNextHit f run points t p to (Some h) = (p < h.position) × (h.position ≤ to) × NoneWithin f run points t (suc p) h.position
+    × IsLowest f run points t h.position h.number
+IsNextHit f run points t p to None = NoneWithin f run points t (suc p) (suc to)
+
+-- where the thread stands that has gone on to there
+abbrev pub reached : ℕ → Option Hit → ℕ
+reached to (Some h) = h.position
+reached to None = to
+
+-- the points hit thread t at its start, where it is y and they noted this; or none does
+abbrev pub IsStartHit : ℕ → ℕ → State → List Before → List Numbered → Option Hit → Type 0
+IsStartHit t last y notes points (Some h) = (h.position ≡ 0) × IsLowestOf t last y notes points (length points) (Some h.number)
+IsStartHit t last y notes points None = IsLowestOf t last y notes points (length points) None

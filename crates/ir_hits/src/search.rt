@@ -1,0 +1,190 @@
+//! Where points hit a thread, found by taking the thread's steps anew.
+
+ghost use Rattle.std.specs.Prelude.{◌≡◌, ◌<◌, ◌≤◌, ◌+◌, length, IfOk};
+ghost use Rattle.ir_trace.specs.TraceOf.{recorded_thread};
+ghost use Rattle.ir_cut.specs.Positions.{EachRun, cut_of};
+ghost use Rattle.ir_weave.specs.Standing.{StandsAt, flat_in};
+ghost use Rattle.ir_weave.specs.States.{positions};
+ghost use Rattle.ir_hits.specs.Hits.{AreWatchable, IsFirstHit, IsLastHit};
+ghost use Rattle.ir_hits.specs.Searching.{AreLast, IsNextHit, IsStartHit, reached};
+
+use crate::before::Before;
+use crate::hit::Hit;
+use crate::point::NumberedPoint;
+use crate::seeing::{lowest, note_all, some_concerns};
+use crate::stepping::{last_cut, take_step, thread_of};
+use ir_cut::Cut;
+use ir_fit::Fitted;
+use ir_object::Gate;
+use ir_replay::State;
+use ir_thread::Thread;
+use std::alloc::{AllocError, Global};
+use std::thread::Threads;
+use std::time::Clock;
+
+// Where a point hits thread t next, at most at a position. The thread goes on to there, and to that position where none does.
+fn next_hit<R: Threads + Clock + Sync, G: Gate + Sync>(
+    rt: &R,
+    alloc: Global,
+    fitted: &Fitted,
+    state: &mut State,
+    t: usize,
+    to: u64,
+    last: &Cut,
+    points: &[NumberedPoint],
+    notes: &mut [Before],
+    gate: &G,
+) -> Result<Option<Hit>, AllocError>
+    requires stands { StandsAt fitted.now (positions (flat_in fitted.now state.old)) state.old }
+    requires thread { t < length fitted.now.guest.entries }
+    requires last { AreLast fitted.now last.now }
+    requires within { (positions (flat_in fitted.now state.old) t ≤ to) × (to ≤ cut_of last.now t) }
+    requires points { AreWatchable points.now }
+    requires size { length notes.old ≡ length points.now }
+    ensures stands { StandsAt fitted.now (positions (flat_in fitted.now state.new)) state.new }
+    ensures hit { IfOk result (λ h. EachRun fitted.now (λ run. IsNextHit fitted.now run points.now t (positions (flat_in fitted.now state.old) t) to h)) }
+    ensures reached { IfOk result (λ h. positions (flat_in fitted.now state.new) t ≡ reached to h) }
+    ensures size { length notes.new ≡ length notes.old }
+{
+    let end = last.position(t);
+    'steps: while thread_of(state, t).steps() < to {
+        note_all(thread_of(state, t), t, points, notes);
+        take_step(rt, alloc, fitted, state, t, last, gate)?;
+        let thread = thread_of(state, t);
+        if let Some(number) = lowest(thread, t, end, points, notes) {
+            let position = thread.steps();
+            return Ok(Some(Hit { position, number }));
+        }
+    }
+    Ok(None)
+}
+
+/// Where a point first hits thread t above the position at which it stands, if one does. The threads and objects go on to there, or
+/// to the thread's last position; the other threads as far as its steps need. Where no point concerns the thread, they stay.
+///
+/// # Errors
+/// Out of memory, with the threads and objects at some consistent cut.
+pub fn first_hit<R: Threads + Clock + Sync, G: Gate + Sync>(
+    rt: &R,
+    alloc: Global,
+    fitted: &Fitted,
+    state: &mut State,
+    t: usize,
+    points: &[NumberedPoint],
+    gate: &G,
+) -> Result<Option<Hit>, AllocError>
+    requires stands { StandsAt fitted.now (positions (flat_in fitted.now state.old)) state.old }
+    requires thread { t < length fitted.now.guest.entries }
+    requires points { AreWatchable points.now }
+    ensures stands { StandsAt fitted.now (positions (flat_in fitted.now state.new)) state.new }
+    ensures hit { IfOk result (λ h. EachRun fitted.now (λ run. IsFirstHit fitted.now run points.now t (positions (flat_in fitted.now state.old) t) h)) }
+{
+    if !some_concerns(t, points) {
+        return Ok(None);
+    }
+    fitted.known();
+    let last = last_cut(alloc, fitted)?;
+    let mut notes = vec![in alloc; Before::Nothing; points.len()]?;
+    let to = last.position(t);
+    next_hit(
+        rt, alloc, fitted, state, t, to, &last, points, &mut notes, gate,
+    )
+}
+
+// The hit of thread t at its start, if a point hits there.
+fn start_hit(
+    thread: &Thread,
+    t: usize,
+    end: u64,
+    points: &[NumberedPoint],
+    notes: &[Before],
+) -> Option<Hit>
+    requires points { AreWatchable points.now }
+    requires size { length notes.now ≡ length points.now }
+    ensures { IsStartHit t end thread.now notes.now points.now result }
+{
+    let number = lowest(thread, t, end, points, notes)?;
+    Some(Hit {
+        position: 0,
+        number,
+    })
+}
+
+// Where a point last hits thread t, at most at a position, where `found` is the last hit so far.
+fn last_in<R: Threads + Clock + Sync, G: Gate + Sync>(
+    rt: &R,
+    alloc: Global,
+    fitted: &Fitted,
+    state: &mut State,
+    t: usize,
+    to: u64,
+    last: &Cut,
+    points: &[NumberedPoint],
+    notes: &mut [Before],
+    found: Option<Hit>,
+    gate: &G,
+) -> Result<Option<Hit>, AllocError>
+    requires stands { StandsAt fitted.now (positions (flat_in fitted.now state.old)) state.old }
+    requires thread { t < length fitted.now.guest.entries }
+    requires last { AreLast fitted.now last.now }
+    requires within { (positions (flat_in fitted.now state.old) t ≤ to) × (to ≤ cut_of last.now t) }
+    requires points { AreWatchable points.now }
+    requires size { length notes.old ≡ length points.now }
+    requires found { EachRun fitted.now (λ run. IsLastHit fitted.now run points.now t (positions (flat_in fitted.now state.old) t + 1) found) }
+    ensures stands { StandsAt fitted.now (positions (flat_in fitted.now state.new)) state.new }
+    ensures hit { IfOk result (λ h. EachRun fitted.now (λ run. IsLastHit fitted.now run points.now t (to + 1) h)) }
+{
+    fitted.known();
+    let mut found = found;
+    'hits: while let Some(hit) = next_hit(
+        rt, alloc, fitted, state, t, to, last, points, notes, gate,
+    )? {
+        found = Some(hit);
+    }
+    Ok(found)
+}
+
+/// Where a point last hits thread t below a position, if one does. The threads and objects are brought to the start, and go on until
+/// the thread is at the last position below this one; the other threads as far as its steps need. Where there is no such position,
+/// or no point concerns the thread, they stay.
+///
+/// # Errors
+/// Out of memory, with the threads and objects at some consistent cut.
+pub fn last_hit<R: Threads + Clock + Sync, G: Gate + Sync>(
+    rt: &R,
+    alloc: Global,
+    fitted: &Fitted,
+    state: &mut State,
+    t: usize,
+    below: u64,
+    points: &[NumberedPoint],
+    gate: &G,
+) -> Result<Option<Hit>, AllocError>
+    requires stands { StandsAt fitted.now (positions (flat_in fitted.now state.old)) state.old }
+    requires thread { t < length fitted.now.guest.entries }
+    requires below { below ≤ (recorded_thread fitted.now.recorded t).steps }
+    requires points { AreWatchable points.now }
+    ensures stands { StandsAt fitted.now (positions (flat_in fitted.now state.new)) state.new }
+    ensures hit { IfOk result (λ h. EachRun fitted.now (λ run. IsLastHit fitted.now run points.now t below h)) }
+{
+    if below == 0 || !some_concerns(t, points) {
+        return Ok(None);
+    }
+    let last = last_cut(alloc, fitted)?;
+    let mut notes = vec![in alloc; Before::Nothing; points.len()]?;
+    *state = State::start(alloc, fitted)?;
+    let found = start_hit(thread_of(state, t), t, last.position(t), points, &notes);
+    last_in(
+        rt,
+        alloc,
+        fitted,
+        state,
+        t,
+        below - 1,
+        &last,
+        points,
+        &mut notes,
+        found,
+        gate,
+    )
+}

@@ -1,0 +1,108 @@
+//! One step of a thread.
+
+ghost use Rattle.std.specs.Prelude.{◌≡◌, ◌<◌, ◌≤◌, ◌+◌, ℕ, length, slice_index_or, IfOk, OnOk};
+ghost use Rattle.ir_cut.specs.Positions.{IsConsistentCut, cut_of};
+ghost use Rattle.ir_flat.specs.Flat.{idle};
+ghost use Rattle.ir_weave.specs.Standing.{StandsAt, flat_in};
+ghost use Rattle.ir_weave.specs.States.{positions};
+ghost use Rattle.ir_hits.specs.Searching.{AreLast};
+
+use ir_cut::{Cut, least};
+use ir_fit::Fitted;
+use ir_object::Gate;
+use ir_replay::{State, advance, advance_alone};
+use ir_thread::Thread;
+use std::alloc::{AllocError, Global};
+use std::mem;
+use std::thread::Threads;
+use std::time::Clock;
+
+// Thread t.
+pub fn thread_of(state: &State, t: usize) -> &Thread
+    requires { t < length state.now.threads }
+    ensures { result.now ≡ slice_index_or state.now.threads t idle }
+{
+    &state.threads()[t]
+}
+
+// The last positions of the threads.
+pub fn last_cut(alloc: Global, fitted: &Fitted) -> Result<Cut, AllocError>
+    ensures { IfOk result (AreLast fitted.now) }
+{
+    fitted.known();
+    let threads = fitted.trace().threads();
+    let mut positions = Vec::with_capacity(alloc, threads.len())?;
+    for t in 0..threads.len() {
+        positions.push(threads[t].steps())?;
+    }
+    Ok(Cut::new(positions))
+}
+
+// Where the threads stand.
+fn cut_here(alloc: Global, threads: &[Thread]) -> Result<Cut, AllocError>
+    ensures size { IfOk result (λ c. length c ≡ length threads.now) }
+    ensures here { IfOk result (λ c. (t : ℕ) → t < length threads.now → cut_of c t ≡ (slice_index_or threads.now t idle).steps) }
+{
+    let mut positions = Vec::with_capacity(alloc, threads.len())?;
+    for t in 0..threads.len() {
+        positions.push(threads[t].steps())?;
+    }
+    Ok(Cut::new(positions))
+}
+
+// Brings the threads and objects to a later cut, or to one between.
+fn bring<R: Threads + Clock + Sync, G: Gate + Sync>(
+    rt: &R,
+    alloc: Global,
+    fitted: &Fitted,
+    state: &mut State,
+    target: &Cut,
+    gate: &G,
+) -> Result<(), AllocError>
+    requires stands { StandsAt fitted.now (positions (flat_in fitted.now state.old)) state.old }
+    requires target { (length target.now ≡ length fitted.now.guest.entries) × IsConsistentCut fitted.now target.now }
+    requires below { (t : ℕ) → positions (flat_in fitted.now state.old) t ≤ cut_of target.now t }
+    ensures stands { StandsAt fitted.now (positions (flat_in fitted.now state.new)) state.new }
+    ensures there { OnOk result ((t : ℕ) → positions (flat_in fitted.now state.new) t ≡ cut_of target.now t) }
+{
+    let none = State::build(Vec::new(alloc), Vec::new(alloc));
+    match advance(rt, alloc, fitted, mem::replace(state, none), target, gate) {
+        Ok(there) => {
+            *state = there;
+            Ok(())
+        }
+        Err((between, error)) => {
+            *state = between;
+            Err(error)
+        }
+    }
+}
+
+// Thread t takes its next step. The others stay, or go on as far as that step needs them.
+pub fn take_step<R: Threads + Clock + Sync, G: Gate + Sync>(
+    rt: &R,
+    alloc: Global,
+    fitted: &Fitted,
+    state: &mut State,
+    t: usize,
+    last: &Cut,
+    gate: &G,
+) -> Result<(), AllocError>
+    requires stands { StandsAt fitted.now (positions (flat_in fitted.now state.old)) state.old }
+    requires thread { t < length fitted.now.guest.entries }
+    requires last { AreLast fitted.now last.now }
+    requires below { positions (flat_in fitted.now state.old) t < cut_of last.now t }
+    ensures stands { StandsAt fitted.now (positions (flat_in fitted.now state.new)) state.new }
+    ensures taken { OnOk result (positions (flat_in fitted.now state.new) t ≡ positions (flat_in fitted.now state.old) t + 1) }
+{
+    fitted.known();
+    let none = State::build(Vec::new(alloc), Vec::new(alloc));
+    let (here, taken) = advance_alone(fitted, mem::replace(state, none), t, last, 1, gate);
+    *state = here;
+    if taken == 1 {
+        return Ok(());
+    }
+    let at = cut_here(alloc, state.threads())?;
+    let next = least(alloc, fitted, &at, t, thread_of(state, t).steps() + 1)?;
+    bring(rt, alloc, fitted, state, &next, gate)
+}

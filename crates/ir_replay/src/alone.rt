@@ -1,0 +1,40 @@
+//! One thread that goes on by itself.
+
+ghost use Rattle.std.specs.Prelude.{◌≡◌, ◌<◌, ◌≤◌, ℕ, length};
+ghost use Rattle.ir_cut.specs.Positions.{IsConsistentCut, cut_of};
+ghost use Rattle.ir_weave.specs.Standing.{StandsAt, flat_in};
+ghost use Rattle.ir_weave.specs.States.{positions};
+ghost use Rattle.ir_weave.specs.Stepping.{HasGone, Rests};
+
+use crate::stepping::go;
+use crate::stretch::{known, with_code, without_code};
+use ir_cut::Cut;
+use ir_fit::Fitted;
+use ir_object::Gate;
+use ir_weave::State;
+
+/// Takes thread t on by itself: until it has taken `most` steps, is at its target, or its next step isn't admitted, while the others
+/// stay where they are. The state then, and how many steps it took. Takes no memory. The gate is told of each entry and leave.
+pub fn advance_alone<G: Gate>(
+    fitted: &Fitted,
+    state: State,
+    t: usize,
+    target: &Cut,
+    most: u64,
+    gate: &G,
+) -> (State, u64)
+    requires state { StandsAt fitted.now (positions (flat_in fitted.now state)) state }
+    requires target { (length target.now ≡ length fitted.now.guest.entries) × IsConsistentCut fitted.now target.now }
+    requires below { (u : ℕ) → positions (flat_in fitted.now state) u ≤ cut_of target.now u }
+    requires thread { t < length fitted.now.guest.entries }
+    ensures stands { StandsAt fitted.now (positions (flat_in fitted.now result.0)) result.0 }
+    ensures below { (u : ℕ) → positions (flat_in fitted.now result.0) u ≤ cut_of target.now u }
+    ensures within { result.1 ≤ most }
+    ensures gone { HasGone (flat_in fitted.now state) (flat_in fitted.now result.0) t result.1 }
+    ensures rests { result.1 < most → Rests fitted.now target.now (flat_in fitted.now result.0) t }
+{
+    known(fitted);
+    let mut flat = with_code(fitted, state);
+    let taken = go(fitted, target.positions(), &mut flat, t, most, gate);
+    (without_code(flat), taken)
+}

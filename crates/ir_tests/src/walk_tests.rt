@@ -1,0 +1,115 @@
+//! A guest of three threads, walked from its end back to its start a step at a time, and forwards again.
+
+use crate::guests::THREE_COUNTERS;
+use crate::recordings::recorded_in_order;
+use crate::streams::{ENDLESS, Page};
+use ir_command::{Command, Move, Show};
+use ir_debug::{Debugger, write_answer};
+use ir_object::OpenGate;
+use std::alloc::Global;
+use std::test::Fail;
+use std::thread::Threads;
+use std::time::Clock;
+
+const THREADS: u32 = 3;
+
+// More turns than the threads have steps, though some of them find their thread at 0.
+const TURNS: u32 = 400;
+
+// A cut on the way, and what is shown there.
+#[derive(Drop)]
+struct Stop {
+    at: [u64; 3],
+    seen: Vec<u8>,
+}
+
+fn positions(debugger: &Debugger) -> [u64; 3] {
+    match debugger.at().positions() {
+        [first, second, third] => [*first, *second, *third],
+        _ => [u64::MAX; 3],
+    }
+}
+
+// Writes what a command shows. Whether it could.
+fn is_shown<R: Threads + Clock + Sync>(
+    rt: &R,
+    alloc: Global,
+    debugger: &mut Debugger,
+    show: Show,
+    page: &mut Page,
+) -> bool {
+    let answer = debugger.command(rt, alloc, &Command::Show(show), &OpenGate);
+    write_answer(debugger, &answer, page).is_ok()
+}
+
+// Registers, log, output and next step of each thread, and the object. Nothing where it couldn't be written.
+fn sight<R: Threads + Clock + Sync>(rt: &R, alloc: Global, debugger: &mut Debugger) -> Vec<u8> {
+    let mut page = Page::new(alloc, false, ENDLESS);
+    for thread in 0..THREADS {
+        for show in [
+            Show::Registers { thread },
+            Show::Log { thread },
+            Show::Output { thread },
+            Show::Next { thread },
+            Show::Object { object: 0 },
+        ] {
+            if !is_shown(rt, alloc, debugger, show, &mut page) {
+                return Vec::new(alloc);
+            }
+        }
+    }
+    page.bytes
+}
+
+// Goes back a step of a thread at a time, each in its turn, and tells all cuts on the way.
+fn back_to_start<R: Threads + Clock + Sync>(
+    rt: &R,
+    alloc: Global,
+    debugger: &mut Debugger,
+) -> Result<Vec<Stop>, Fail> {
+    let mut stops = Vec::new(alloc);
+    for turn in 0..TURNS {
+        let at = positions(debugger);
+        let seen = sight(rt, alloc, debugger);
+        stops.push(Stop { at, seen })?;
+        let back = Move::Back {
+            thread: turn % THREADS,
+            count: 1,
+        };
+        debugger.command(rt, alloc, &Command::Move(back), &OpenGate);
+    }
+    Ok(stops)
+}
+
+// Whether the same is shown where the threads come to the positions from below.
+fn is_seen_again<R: Threads + Clock + Sync>(
+    rt: &R,
+    alloc: Global,
+    debugger: &mut Debugger,
+    stop: &Stop,
+) -> bool {
+    for thread in 0..THREADS {
+        let position = stop.at[thread as usize];
+        let goto = Move::Goto { thread, position };
+        debugger.command(rt, alloc, &Command::Move(goto), &OpenGate);
+    }
+    let seen = sight(rt, alloc, debugger);
+    positions(debugger) == stop.at && seen.as_slice() == stop.seen.as_slice() && !seen.is_empty()
+}
+
+#[test]
+fn the_same_is_shown_both_ways(rt: HostRuntime) -> Result<(), Fail> {
+    let alloc = rt.alloc();
+    let order = [2, 2, 2, 2, 0, 1, 0, 1, 1, 2, 0, 0];
+    let mut debugger = Debugger::open(alloc, recorded_in_order(alloc, THREE_COUNTERS, &order)?)?;
+    debugger.command(&rt, alloc, &Command::Move(Move::End), &OpenGate);
+    assert_eq!(rt; positions(&debugger), [18, 18, 18]);
+    let stops = back_to_start(&rt, alloc, &mut debugger)?;
+    assert_eq!(rt; positions(&debugger), [0, 0, 0]);
+    for i in 0..stops.len() {
+        let stop = &stops[stops.len() - 1 - i];
+        assert!(rt; is_seen_again(&rt, alloc, &mut debugger, stop), "{i}");
+    }
+    assert_eq!(rt; positions(&debugger), [18, 18, 18]);
+    Ok(())
+}
