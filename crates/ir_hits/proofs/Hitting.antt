@@ -29,7 +29,8 @@ hit_within f run t j (Watch u address) h = elim (cases_lt j (steps_of f run t)) 
       absurd (h.1.2 (ap (λ (x : State). memory_word x.core.memory address)
       (stays f run t h.1.0 (subst (λ i. steps_of f run t ≤ i) same past))))
 ]
-hit_within f run t j (WatchObject object) h = let within = emits_within f run t h.0 (Out object Writing h.2.0) h.2.1 in omega (arith, h.1, within)
+hit_within f run t j (WatchObject object) h =
+    let within = emits_within f run t h.0 (Out object Writing h.2.0) h.2.1 in omega (arith, h.1, within)
 
 -- what hits after step j is seen there
 pub hit_seen : (f : FittedTrace) (run : List Step) → IsRunOf f.guest f.recorded run → (t j last : ℕ)
@@ -74,7 +75,8 @@ start_hit f run t last steps all (WatchObject object) h = absurd h
 -- ---- all points
 
 -- what is seen of thread t, which is y, is where the points hit it at position k
-pub record IsSeen (f : FittedTrace) (run : List Step) (points : List Numbered) (notes : List Before) (t k last : ℕ) (y : State) : Type 0 where
+pub record IsSeen (f : FittedTrace) (run : List Step) (points : List Numbered) (notes : List Before) (t k last : ℕ) (y : State)
+    : Type 0 where
   pub size : length notes ≡ length points
   pub seen : (i : ℕ) (p : Numbered) (b : Before) → slice_get points i ≡ Some p → slice_get notes i ≡ Some b → HitBy f run t k p.point
       → SeesHit t last y b p.point

@@ -51,9 +51,9 @@ seen_step f last points notes t old new end s is run whole =
     (end_steps f last s.ends run whole t end is) (omega (arith, within, next)) s.all)
 
 -- a point hits there
-pub next_found : (f : FittedTrace) (last : List ℕ) (points : List Numbered) (notes : List Before) (t : ℕ) (old new : Standing) (end p to : ℕ)
-    (y : State) (h : Hit) → y ≡ slice_index_or new.threads t idle → IsStep f last points notes t old new → end ≡ cut_of last t
-    → p ≤ positions (flat_in f old) t → positions (flat_in f old) t < to
+pub next_found : (f : FittedTrace) (last : List ℕ) (points : List Numbered) (notes : List Before) (t : ℕ) (old new : Standing)
+    (end p to : ℕ) (y : State) (h : Hit) → y ≡ slice_index_or new.threads t idle → IsStep f last points notes t old new
+    → end ≡ cut_of last t → p ≤ positions (flat_in f old) t → positions (flat_in f old) t < to
     → EachRun f (λ run. NoneWithin f run points t (suc p) (suc (positions (flat_in f old) t)))
     → (found : Option ℕ) → found ≡ Some h.number → IsLowestOf t end y notes points (length points) found
     → h.position ≡ positions (flat_in f new) t → EachRun f (λ run. IsNextHit f run points t p to (Some h))
@@ -95,8 +95,8 @@ seen_start f last points notes t s end are start is size none run whole =
     (end_steps f last are run whole t end is) size none
 
 -- the hit at the start, if there is one, is the last so far
-pub start_last : (f : FittedTrace) (last : List ℕ) (points : List Numbered) (notes : List Before) (t : ℕ) (s : Standing) (end : ℕ) (y : State)
-    → y ≡ slice_index_or s.threads t idle → AreLast f last → AtStart f s t → end ≡ cut_of last t → length notes ≡ length points
+pub start_last : (f : FittedTrace) (last : List ℕ) (points : List Numbered) (notes : List Before) (t : ℕ) (s : Standing) (end : ℕ)
+    (y : State) → y ≡ slice_index_or s.threads t idle → AreLast f last → AtStart f s t → end ≡ cut_of last t → length notes ≡ length points
     → AllNothing notes → (found : Option Hit) → IsStartHit t end y notes points found
     → EachRun f (λ run. IsLastHit f run points t (positions (flat_in f s) t + 1) found)
 start_last f last points notes t s end y y_is are start is size none None found run whole =

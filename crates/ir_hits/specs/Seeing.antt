@@ -47,7 +47,8 @@ SeesHit t last y Inside (WatchObject object) = held_at y.held object ≢ Some Wr
 
 -- point i hits it, which is p
 abbrev pub SeesHitAt : ℕ → ℕ → State → List Before → List Numbered → ℕ → Numbered → Type 0
-SeesHitAt t last y notes points i p = (slice_get points i ≡ Some p) × (b : Before) × (slice_get notes i ≡ Some b) × SeesHit t last y b p.point
+SeesHitAt t last y notes points i p = (slice_get points i ≡ Some p) × (b : Before) × (slice_get notes i ≡ Some b)
+    × SeesHit t last y b p.point
 
 -- the lower of both numbers, where there are two
 abbrev pub lower_of : Option ℕ → ℕ → ℕ
