@@ -59,7 +59,7 @@ at 3 15 hit 1\n",
 ];
 
 // Of `CHANGED_ONCE`.
-const TWICE_STORED: TraceRow = TraceRow {
+pub const TWICE_STORED: TraceRow = TraceRow {
     objects: 0,
     budget: 1000,
     threads: &[Ran(5, 1, 0x100000, &[])],

@@ -20,6 +20,8 @@ mod guests;
 #[cfg(test)]
 mod hit_rows;
 #[cfg(test)]
+mod keeper_tests;
+#[cfg(test)]
 mod kept_rows;
 mod laws;
 #[cfg(test)]
