@@ -1,4 +1,4 @@
-use crate::{Code, Fetched, ImageErr, Kind, read_image, write_image};
+use crate::{Code, Fetched, Image, ImageErr, Kind, read_image, write_image};
 use ir_isa::Inst;
 use std::alloc::{AllocError, Global};
 use std::test::Fail;
@@ -43,12 +43,8 @@ fn a_program_is_read_and_written(rt: HostRuntime) -> Result<(), Fail> {
         ]
         .as_slice()
     );
-    assert!(rt; image.bytes().is_empty());
-    assert!(rt; image.words().is_empty());
-    assert_eq!(rt;
-        write_image(rt.alloc(), &image)?.as_slice(),
-        PROGRAM.as_slice()
-    );
+    assert_eq!(rt; sizes(&image), (1, 6, 0, 0));
+    assert!(rt; is_written_again(rt.alloc(), &PROGRAM)?);
     Ok(())
 }
 
@@ -113,30 +109,69 @@ fn a_count_without_its_bytes_is_short(rt: HostRuntime) {
     assert_eq!(rt; ImageErr::NoMem.number(), None);
 }
 
-#[test]
-fn threads_objects_and_data_stand_in_order(rt: HostRuntime) -> Result<(), Fail> {
-    let mut bytes = Vec::new(rt.alloc());
+// How many entries, words of code, bytes of data and words of objects an image has.
+fn sizes(image: &Image) -> (usize, usize, usize, usize) {
+    let code = image.code().words();
+    let words = image.words();
+    (
+        image.entries().len(),
+        code.len(),
+        image.bytes().len(),
+        words.len(),
+    )
+}
+
+// The last entry, byte of data and word of an object.
+fn lasts(image: &Image) -> (Option<u32>, Option<u8>, Option<u32>) {
+    let entry = image.entries().last().copied();
+    let byte = image.bytes().last().copied();
+    (entry, byte, image.words().last().copied())
+}
+
+// Whether the image that is read of the bytes is written as they are.
+fn is_written_again(alloc: Global, bytes: &[u8]) -> Result<bool, Fail> {
+    let image = read_image(alloc, bytes)?;
+    let written = write_image(alloc, &image)?;
+    Ok(written.as_slice() == bytes)
+}
+
+// The first words of 16 objects.
+fn put_objects(bytes: &mut Vec<u8>) -> Result<(), AllocError> {
+    for word in 0..128u8 {
+        bytes.extend_from_slice(&[word, 0, 0, 0xff])?;
+    }
+    Ok(())
+}
+
+// Eight threads, the last of which begins at the second word of code, 16 objects and 3 bytes of data.
+fn small(alloc: Global) -> Result<Vec<u8>, AllocError> {
+    let mut bytes = Vec::new(alloc);
     bytes.extend_from_slice(&[0x49, 0x52, 0x49, 0x31, 8, 16, 2, 0, 0, 0, 3, 0, 0, 0])?;
     for _ in 0..7 {
         bytes.extend_from_slice(&[0, 0, 1, 0])?;
     }
-    bytes.extend_from_slice(&[4, 0, 1, 0])?;
-    bytes.extend_from_slice(&[0x73, 0, 0, 0, 0x73, 0, 0x10, 0])?;
-    bytes.extend_from_slice(&[7, 8, 9])?;
-    for word in 0..128u8 {
-        bytes.extend_from_slice(&[word, 0, 0, 0xff])?;
-    }
+    bytes.extend_from_slice(&[4, 0, 1, 0, 0x73, 0, 0, 0, 0x73, 0, 0x10, 0, 7, 8, 9])?;
+    put_objects(&mut bytes)?;
+    Ok(bytes)
+}
+
+#[test]
+fn threads_objects_and_data_stand_in_order(rt: HostRuntime) -> Result<(), Fail> {
+    let bytes = small(rt.alloc())?;
     let image = read_image(rt.alloc(), &bytes)?;
-    assert_eq!(rt; image.entries().last(), Some(&0x0001_0004));
-    assert_eq!(rt; image.entries().len(), 8);
-    assert_eq!(rt; image.code().words(), [0x73, 0x0010_0073].as_slice());
-    assert_eq!(rt; image.bytes(), [7, 8, 9].as_slice());
-    assert_eq!(rt; image.words().len(), 128);
-    assert_eq!(rt; image.words().last(), Some(&0xff00_007f));
+    assert_eq!(rt; sizes(&image), (8, 2, 3, 128));
     assert_eq!(rt;
-        write_image(rt.alloc(), &image)?.as_slice(),
-        bytes.as_slice()
+        lasts(&image),
+        (Some(0x0001_0004), Some(9), Some(0xff00_007f))
     );
+    assert_eq!(rt; image.code().words(), [0x73, 0x0010_0073].as_slice());
+    Ok(())
+}
+
+#[test]
+fn threads_objects_and_data_are_written_in_order(rt: HostRuntime) -> Result<(), Fail> {
+    let bytes = small(rt.alloc())?;
+    assert!(rt; is_written_again(rt.alloc(), &bytes)?);
     Ok(())
 }
 
@@ -153,31 +188,31 @@ fn largest(alloc: Global) -> Result<Vec<u8>, AllocError> {
     for _ in 0..16_384 {
         bytes.extend_from_slice(&[7, 8, 9, 10])?;
     }
-    for word in 0..128u8 {
-        bytes.extend_from_slice(&[word, 0, 0, 0xff])?;
-    }
+    put_objects(&mut bytes)?;
     Ok(bytes)
 }
 
 #[test]
-fn the_largest_image_is_read_and_written(rt: HostRuntime) -> Result<(), Fail> {
-    let mut bytes = largest(rt.alloc())?;
+fn the_largest_image_is_read(rt: HostRuntime) -> Result<(), Fail> {
+    let bytes = largest(rt.alloc())?;
     let image = read_image(rt.alloc(), &bytes)?;
-    assert_eq!(rt; image.entries(), [0x0001_fffc; 8].as_slice());
-    assert_eq!(rt; image.code().words().len(), 16_384);
+    assert_eq!(rt; sizes(&image), (8, 16_384, 65_536, 128));
     assert_eq!(rt;
+        lasts(&image),
+        (Some(0x0001_fffc), Some(10), Some(0xff00_007f))
+    );
+    let fetched = (
         image.code().fetch(0x0001_fffc),
-        Fetched::Found(Inst::Ecall)
+        image.code().fetch(0x0002_0000),
     );
-    assert_eq!(rt; image.code().fetch(0x0002_0000), Fetched::Outside);
-    assert_eq!(rt; image.bytes().len(), 65_536);
-    assert_eq!(rt; image.bytes().last(), Some(&10));
-    assert_eq!(rt; image.words().len(), 128);
-    assert_eq!(rt; image.words().last(), Some(&0xff00_007f));
-    assert_eq!(rt;
-        write_image(rt.alloc(), &image)?.as_slice(),
-        bytes.as_slice()
-    );
+    assert_eq!(rt; fetched, (Fetched::Found(Inst::Ecall), Fetched::Outside));
+    Ok(())
+}
+
+#[test]
+fn the_largest_image_is_written(rt: HostRuntime) -> Result<(), Fail> {
+    let mut bytes = largest(rt.alloc())?;
+    assert!(rt; is_written_again(rt.alloc(), &bytes)?);
     bytes.push(0)?;
     assert_eq!(rt; refusal(rt.alloc(), &bytes), Some(5));
     Ok(())
@@ -208,7 +243,7 @@ const LOWERED: [(Kind, u8, u8, u8, u32); 7] = [
 fn words_are_lowered_for_their_places(rt: HostRuntime) -> Result<(), Fail> {
     let code = Code::new(rt.alloc(), Vec::from_slice(rt.alloc(), &WORDS)?)?;
     assert_eq!(rt; code.operations().len(), LOWERED.len());
-    for (operation, wanted) in code.operations().iter().zip(LOWERED) {
+    for (operation, wanted) in code.operations().iter().zip(&LOWERED) {
         assert_eq!(rt;
             (
                 operation.kind,
@@ -217,7 +252,7 @@ fn words_are_lowered_for_their_places(rt: HostRuntime) -> Result<(), Fail> {
                 operation.rs2,
                 operation.imm
             ),
-            wanted
+            *wanted
         );
     }
     Ok(())
