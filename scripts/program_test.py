@@ -9,6 +9,7 @@ It needs Linux, and bash and xxd for the commands of the README. The last line i
 import os
 import resource
 import shlex
+import shutil
 import signal
 import subprocess
 import sys
@@ -67,6 +68,12 @@ ARGUMENTS = [
     ("record none.img d.trc", 1, "ir: none.img can't be read: no such file or folder\n"),
     ("record d.img d.trc --input none", 1, "ir: none can't be read: no such file or folder\n"),
     ("record d.img d.trc --input longer", 1, "ir: longer is over 1048576 bytes\n"),
+    ("record folder d.trc", 1, "ir: folder can't be read: it is a folder\n"),
+    ("record d.img folder", 1, "ir: folder can't be written: it is a folder\n"),
+    ("record d.img d.trc --input folder", 1, "ir: folder can't be read: it is a folder\n"),
+    ("debug folder whole.trc", 1, "ir: folder can't be read: it is a folder\n"),
+    ("debug d.img folder", 1, "ir: folder can't be read: it is a folder\n"),
+    ("debug d.img none.trc", 1, "ir: none.trc can't be read: no such file or folder\n"),
     ("record d.s d.trc", 3, "ir: the image is refused, 2: these bytes are no image\n"),
     ("record d.img d.trc --order 1", 3, "ir: LIST: the item '1' names no thread of the image\n"),
     ("record d.img d.trc --order -1", 3, "ir: LIST: the item '-1' is neither T nor TxN\n"),
@@ -87,6 +94,7 @@ OWN_FILES = [
     ("asm d.s ./d.s", "ir: ./d.s: IMAGE would be written over SOURCE\n"),
     ("asm d.s link.s", "ir: link.s: IMAGE would be written over SOURCE\n"),
     ("asm d.s hard.s", "ir: hard.s: IMAGE would be written over SOURCE\n"),
+    ("asm d.trc.part d.trc", "ir: d.trc.part: IMAGE.part would be written over SOURCE\n"),
     ("record d.img d.img", "ir: d.img: TRACE would be written over IMAGE\n"),
     ("record d.img link.img", "ir: link.img: TRACE would be written over IMAGE\n"),
     ("record d.img d.trc --input d.trc", "ir: d.trc: TRACE would be written over FILE\n"),
@@ -159,7 +167,7 @@ def test_arguments(folder):
     for arguments, status, message in ARGUMENTS:
         ended = run(arguments, folder)
         wants(arguments, (ended.returncode, ended.stdout, ended.stderr.decode()), (status, b"", message))
-        for name in ("d2.img", "d.trc", "d.trc.part"):
+        for name in ("d2.img", "d2.img.part", "d.trc", "d.trc.part"):
             wants(f"{arguments}: {name}", (folder / name).exists(), False)
 
 
@@ -285,12 +293,25 @@ def test_full_devices(folder):
 
 def test_closed_pipe(folder):
     """Nobody reads the output."""
-    for arguments in ("record d.img d.trc --order 0", "--help"):
+    for arguments in ("record d.img d.trc --order 0", "--help", "trace whole.trc", "debug d.img whole.trc"):
         reader, writer = os.pipe()
         os.close(reader)
         ended = run(arguments, folder, stdout=writer)
         os.close(writer)
         wants(arguments, (ended.returncode, ended.stderr), (1, FULL))
+
+
+def test_failed_sessions(folder):
+    """A session that can't write or read ends with status 1 and one line."""
+    for command in (
+        "./ir debug d.img whole.trc >/dev/full",
+        "./ir debug d.img whole.trc >&-",
+        "./ir debug d.img whole.trc <folder",
+        "./ir debug d.img whole.trc <&-",
+        "./ir <folder",
+    ):
+        ended = shell(command, folder)
+        wants(command, (ended.returncode, ended.stderr.count(b"\n"), ended.stderr[-1:]), (1, 1, b"\n"))
 
 
 def small_files():
@@ -300,16 +321,43 @@ def small_files():
 
 
 def test_half_written(folder):
-    """A trace that can't be written whole leaves what stood in its place, and nothing beside it."""
-    for before in (None, b"an older trace"):
-        if before is not None:
-            (folder / "d.trc").write_bytes(before)
-        ended = run("record d.img d.trc --order 0", folder, preexec_fn=small_files)
-        told = b"ir: d.trc can't be written: it would be too large\n"
-        wants("the end", (ended.returncode, ended.stdout, ended.stderr), (1, b"", told))
-        place = folder / "d.trc"
-        wants("what stood there", place.read_bytes() if place.exists() else None, before)
-        wants("what is left beside it", (folder / "d.trc.part").exists(), False)
+    """An image or a trace that can't be written whole leaves what stood in its place, and nothing beside it."""
+    for arguments, name in (("asm d.s d2.img", "d2.img"), ("record d.img d.trc --order 0", "d.trc")):
+        for before in (None, b"an older file"):
+            if before is not None:
+                (folder / name).write_bytes(before)
+            ended = run(arguments, folder, preexec_fn=small_files)
+            told = f"ir: {name} can't be written: it would be too large\n".encode()
+            wants("the end", (ended.returncode, ended.stdout, ended.stderr), (1, b"", told))
+            place = folder / name
+            wants("what stood there", place.read_bytes() if place.exists() else None, before)
+            wants("what is left beside it", (folder / f"{name}.part").exists(), False)
+
+
+def unprivileged():
+    """Without the rights of root, who may write anywhere."""
+    if os.geteuid() == 0:
+        os.setgroups([])
+        os.setgid(65534)
+        os.setuid(65534)
+
+
+def test_read_only_folder(folder):
+    """A folder that nothing may be written in is told, and nothing is."""
+    own = folder / "own"
+    shutil.copy(PROGRAM, own)
+    folder.chmod(0o755)
+    locked = folder / "locked"
+    locked.mkdir()
+    for name in ("d.s", "d.img"):
+        shutil.copy(folder / name, locked)
+        (locked / name).chmod(0o444)
+    locked.chmod(0o555)
+    for arguments, name in (("asm d.s d2.img", "d2.img"), ("record d.img d.trc --order 0", "d.trc"), ("record d.img d.trc", "d.trc")):
+        ended = subprocess.run([own, *arguments.split()], cwd=locked, capture_output=True, timeout=120, preexec_fn=unprivileged)
+        told = f"ir: {name} can't be written: permission denied\n".encode()
+        wants(arguments, (ended.returncode, ended.stdout, ended.stderr), (1, b"", told))
+    wants("what stands there", sorted(path.name for path in locked.iterdir()), ["d.img", "d.s"])
 
 
 def test_interrupt(folder):

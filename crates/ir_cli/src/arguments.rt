@@ -4,6 +4,7 @@ ghost use Rattle.std.specs.Prelude.{◌≤◌};
 ghost use Rattle.ir_thread.specs.Calls.{most_budget};
 
 use crate::numeral::number_within;
+use clap::error::ErrorKind;
 use clap::{Arg, ArgMatches, Command, Error};
 use ir_thread::MOST_BUDGET;
 use std::alloc::{AllocError, Global};
@@ -417,6 +418,7 @@ pub fn parsed(alloc: Global, arguments: &[String]) -> Asked {
     };
     match command.try_get_matches_from(arguments) {
         Ok(matches) => by_subcommand(alloc, &matches).unwrap_or(Asked::NoMem),
+        Err(error) if error.kind() == ErrorKind::OutOfMemory => Asked::NoMem,
         Err(error) => asked_for(alloc, &error).unwrap_or(Asked::NoMem),
     }
 }

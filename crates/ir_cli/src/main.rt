@@ -54,7 +54,7 @@ use ir_debug::FromStd;
 use program::{BAD_ARGUMENTS, FAULT, program};
 use progress::Progress;
 use standard::stand_ins;
-use std::io::{self, BufReader, IsTerminal};
+use std::io::{self, BufReader, ErrorKind, IsTerminal};
 use std::process::ExitCode;
 use std::sync::Wait;
 use std::thread::Threads;
@@ -68,9 +68,16 @@ fn complain(rt: &impl Eprint, why: &str) {
 // Does what the arguments ask for, over standard streams and the files of the system; the exit status. Threads that record
 // or replay are those of the second handle.
 fn run<R: Threads + Wait + Sync + Clock + Eprint>(rt: &HostRuntime, threads: &R) -> u8 {
-    let Ok(words) = collected(rt) else {
-        complain(rt, "an argument is no text");
-        return BAD_ARGUMENTS;
+    let words = match collected(rt) {
+        Ok(words) => words,
+        Err(error) if error.kind() == ErrorKind::InvalidData => {
+            complain(rt, "an argument is no text");
+            return BAD_ARGUMENTS;
+        }
+        Err(_) => {
+            complain(rt, "memory ran out");
+            return FAULT;
+        }
     };
     let Ok(input) = BufReader::new(rt.alloc(), rt.reader()) else {
         complain(rt, "memory ran out");

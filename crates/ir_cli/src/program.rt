@@ -6,7 +6,7 @@ use crate::arguments::{Asked, RecordArguments, parsed};
 use crate::assembling::asm_run;
 use crate::bundle::bundle;
 use crate::debugging::debug_run;
-use crate::files::{MOST_BYTES, MOST_INPUT, NewFile, read_file};
+use crate::files::{MOST_BYTES, MOST_INPUT, read_file};
 use crate::folder::Folder;
 use crate::output_files::{OutputFiles, output_paths};
 use crate::places::loses;
@@ -14,7 +14,7 @@ use crate::prompting::Prompting;
 use crate::recording::record_run;
 use crate::telling::tell_of;
 use crate::tracing::trace_run;
-use crate::whole_file::WholeFile;
+use crate::whole_file::{WholeFile, WholeSink};
 use ir_debug::{Sink, Source};
 use ir_image::{ImageErr, read_image};
 use ir_object::Gate;
@@ -141,7 +141,32 @@ fn is_lost<D: Folder, E: Sink>(
     is_lost
 }
 
-// Assembles a file into another.
+// Whether an image, or what it is written to first, would be written over its source.
+fn loses_source<D: Folder, E: Sink>(
+    folder: &D,
+    faults: &mut E,
+    source: &str,
+    image: &str,
+    first: &str,
+) -> bool
+    ensures kept { result ≡ false → faults.new ≡ faults.old }
+{
+    is_lost(
+        folder,
+        faults,
+        "IMAGE would be written over SOURCE",
+        source,
+        image,
+    ) || is_lost(
+        folder,
+        faults,
+        "IMAGE.part would be written over SOURCE",
+        source,
+        first,
+    )
+}
+
+// Assembles a file into another, which stands in its place only once it is whole.
 fn assemble_file<D: Folder, E: Sink>(
     alloc: Global,
     folder: &D,
@@ -151,23 +176,26 @@ fn assemble_file<D: Folder, E: Sink>(
 ) -> u8
     requires reports { E.broken faults.old ≡ false }
 {
-    if is_lost(
-        folder,
-        faults,
-        "IMAGE would be written over SOURCE",
-        source,
-        image,
-    ) {
+    let Ok(beside) = format!(in alloc; "{image}.part") else {
+        say(faults, "memory ran out", "", "");
+        return FAULT;
+    };
+    let mut file = WholeFile::new(folder, image, beside.as_str());
+    if loses_source(folder, faults, source, image, file.first_place()) {
         return BAD_ARGUMENTS;
     }
     let Some(bytes) = bytes_of(alloc, folder, faults, source, MOST_BYTES) else {
         return FAULT;
     };
-    let mut file = NewFile::new(folder, image);
     let status = asm_run(alloc, bytes.as_slice(), &mut file, faults);
-    if status == FAULT && file.failed() {
+    if status == DONE {
+        let _ = file.finish();
+    }
+    if file.failed() {
         say(faults, image, " can't be written: ", file.why());
-    } else if status == FAULT {
+        return FAULT;
+    }
+    if status == FAULT {
         say(faults, source, ": ", "memory ran out");
     }
     status
