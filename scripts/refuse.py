@@ -6,8 +6,8 @@
 Each row below is run again and again, with its first request for memory refused, then its second, and so on until a run asks for no more; a
 thread that isn't started is among the requests. A command of a session answers as it does with ample memory, or `refused 8 no memory`, after
 which position and kept cuts are as before and the same command answers as it would have. A session that can't be opened writes nothing. `ir asm`,
-`ir record` and `ir trace` end as with ample memory, or with status 1 and a line that says why; then lines that are missing are the last. A line a row says how many refusals
-were tried; the last line is `N passed, M failed`. Needs Linux and a C compiler (`cc`), for a library that is loaded before the program.
+`ir record` and `ir trace` end as with ample memory, or with status 1 and a line that says why; then lines that are missing are the last. A
+line a row says how many refusals were tried; the last line is `N passed, M failed`. Needs Linux and a C compiler (`cc`), for a library that is loaded before the program.
 """
 import argparse
 import concurrent.futures
@@ -81,11 +81,25 @@ again:  sub t3, t1, t2
         ecall
 """
 
-# Threads that add one each to the first word of an object.
+# An H is printed, and the end has twice its code.
+DOUBLED = """
+        addi a0, zero, 72
+        addi a7, zero, 2
+        ecall
+        add a0, a0, a0
+        addi a7, zero, 1
+        ecall
+"""
+
+# An entry for reading, and then one for writing.
+REENTERED = "        .objects 1\n        addi a0, zero, 0\n" + "".join(f"        addi a7, zero, {call}\n        ecall\n" for call in (7, 9, 8, 9, 1))
+
+# Threads that add one each to the first word of an object, in 18 steps.
 COUNT = """
 count:  addi a0, zero, 0
         addi a7, zero, 8
         ecall
+        addi a0, zero, 0
         addi a1, zero, 0
         addi a7, zero, 10
         ecall
@@ -94,6 +108,7 @@ count:  addi a0, zero, 0
         addi a1, zero, 0
         addi a7, zero, 11
         ecall
+        addi a0, zero, 0
         addi a7, zero, 9
         ecall
         addi a0, zero, 0
@@ -101,18 +116,26 @@ count:  addi a0, zero, 0
         ecall
 """
 
-COUNTERS = "        .objects 1\n" + "        .thread count\n" * 8 + COUNT
+
+def counters(threads):
+    """So many of them."""
+    return "        .objects 1\n" + "        .thread count\n" * threads + COUNT
+
 
 MOVES = ("step 0 3", "keep", "watch 0 0x100000", "break 0 0x10008", "end", "rcont 0", "back 0 1", "kept", "load 1", "cont 0", "goto 0 1",
          "drop 1", "keep", "clear 1", "regs 0", "mem 0 0x10000 8", "out 0", "log 0", "next 0", "start", "load 9", "obj 0", "quit")
 
 # The sessions: a name, the guest, the order of its recording (none: by threads), the commands.
 SESSIONS = (
-    ("one thread", "hello", "0", MOVES),
+    ("one thread", "doubled", "0", ("step 0 3", "regs 0", "step 0 9", "start", *MOVES)),
+    ("two writers", "two_counters", "1x18", ("step 0 3", "obj 0", "log 0", "next 0", "back 1 1", "start", "step 0 4294967295", "end", "obj 0",
+                                             "next 0", "start", "break 0 0x1001c", "cont 0", "cont 0", "rcont 0", "quit")),
+    ("a reader that writes", "reentered", "0", ("goto 0 7", "obj 0", "goto 0 3", "obj 0", "quit")),
     ("two threads and an object", "lost_update", "0x10,1x25", ("owatch 0", "cont 1", "rcont 1", *MOVES)),
     ("two threads that answer", "two_locks", "0,1", ("step 1 9", "keep", "end", "back 1 4", "obj 0", "log 1", "load 1", "quit")),
     ("stores of the same word", "stores", "0", ("watch 0 0x100000", "keep", "cont 0", "keep", "cont 0", "keep", "kept", "load 1", "quit")),
-    ("eight threads", "counters", None, ("end", "obj 0", "back 3 1", "keep", "start", "step 7 5", "load 1", "kept", "owatch 0", "rcont 0", "quit")),
+    ("eight threads", "eight_counters", None,
+     ("end", "obj 0", "back 3 1", "keep", "start", "step 7 5", "load 1", "kept", "owatch 0", "rcont 0", "cont 3", "quit")),
     ("checkpoints on the way", "long", "0", ("end", "back 0 1", "back 0 1", "goto 0 1500000", "back 0 1", "keep", "end", "load 1", "quit")),
 )
 
@@ -122,7 +145,7 @@ RUNS = (
     ("ir asm of a fault", "asm bad.s new.img", ("new.img",)),
     ("ir record with an order", "record lost_update.img new.trc --order 0x10,1x25 --output new", ("new.trc", "new.0", "new.1")),
     ("ir record by threads", "record hello.img new.trc --output new", ("new.trc", "new.0")),
-    ("ir record of eight threads", "record counters.img new.trc", None),
+    ("ir record of eight threads", "record eight_counters.img new.trc", None),
     ("ir trace", "trace lost_update.trc", ()),
 )
 
@@ -231,7 +254,8 @@ def eight_counted(folder, found):
     """Whether a recording of the eight threads is one of theirs."""
     status, out, error, written = found
     (folder / "found.trc").write_bytes(written.get("new.trc", b""))
-    again = subprocess.run([PROGRAM, "debug", "counters.img", "found.trc"], cwd=folder, input=b"end\nobj 0\nquit\n", capture_output=True, timeout=300)
+    again = subprocess.run([PROGRAM, "debug", "eight_counters.img", "found.trc"], cwd=folder, input=b"end\nobj 0\nquit\n",
+                           capture_output=True, timeout=300)
     wanted = b"version 8 left 0 readers - writer -\nwords 00000008 " in again.stdout
     return (status, out.count(b"\n"), error) == (0, 8, b"") and wanted
 
@@ -274,7 +298,8 @@ def walked(kind, row):
 def prepare(folder):
     """The guests and their recordings."""
     sources = {path.stem: path.read_text() for path in (ROOT / "examples").glob("*.s")}
-    sources |= {"stores": STORES, "long": LONG, "counters": COUNTERS}
+    sources |= {"doubled": DOUBLED, "reentered": REENTERED, "stores": STORES, "long": LONG,
+                "two_counters": counters(2), "eight_counters": counters(8)}
     for name, source in sources.items():
         (folder / f"{name}.s").write_text(source)
         subprocess.run([PROGRAM, "asm", f"{name}.s", f"{name}.img"], cwd=folder, check=True)
