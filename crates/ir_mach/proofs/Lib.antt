@@ -1,5 +1,6 @@
 mod Lists
 mod Guests
+mod Marking
 mod Runs
 mod Operations
 mod Meaning
