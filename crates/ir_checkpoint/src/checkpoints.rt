@@ -1,6 +1,6 @@
 //! States that are kept for moves to begin at.
 
-ghost use Rattle.std.specs.Prelude.{◌≡◌, ◌≤◌, ℕ, length, IfOk, IfErr, OnOk, IsOk};
+ghost use Rattle.std.specs.Prelude.{◌≡◌, ◌<◌, ◌≤◌, ◌⊎◌, ℕ, length, IfOk, IfErr, OnOk, IsOk};
 ghost use Rattle.ir_cut.specs.Positions.{IsConsistentCut, cut_of};
 ghost use Rattle.ir_keep.specs.Keeping.{IsNearest};
 ghost use Rattle.ir_weave.specs.Standing.{StandsAt, flat_in};
@@ -8,6 +8,7 @@ ghost use Rattle.ir_weave.specs.States.{positions};
 ghost use Rattle.ir_checkpoint.specs.Checkpoints as checkpoints;
 ghost use Rattle.ir_checkpoint.specs.Checkpoints.{AllStand, Stands};
 
+use crate::before::{last_below, restore_found};
 use crate::bringing::{gap_of, is_past, is_there, next_stop, steps_before, steps_of};
 use crate::passed::{Passed, PassedCut};
 use ir_cut::Cut;
@@ -165,6 +166,35 @@ impl Checkpoints {
         }
     }
 
+    /// A state in which thread t stands below a position: of all that are kept the one with the most steps of thread t. The start, where there
+    /// is none.
+    ///
+    /// # Errors
+    /// Out of memory.
+    pub fn restore_before(
+        &self,
+        alloc: Global,
+        fitted: &Fitted,
+        t: usize,
+        position: u64,
+    ) -> Result<State, AllocError>
+        requires checkpoints { AreCheckpoints fitted.now self.now }
+        requires thread { t < length fitted.now.guest.entries }
+        ensures stands { IfOk result (λ s. Stands fitted.now s) }
+        ensures before { IfOk result (λ s. (positions (flat_in fitted.now s) t < position) ⊎ (positions (flat_in fitted.now s) t ≡ 0)) }
+    {
+        let asked = last_below(fitted, &self.asked, t, position);
+        let passed = last_below(fitted, &self.passed, t, position);
+        match (asked, passed) {
+            (Some(asked), Some(passed)) if passed.position <= asked.position => {
+                restore_found(fitted, &self.asked, t, position, asked)
+            }
+            (_, Some(passed)) => restore_found(fitted, &self.passed, t, position, passed),
+            (Some(asked), None) => restore_found(fitted, &self.asked, t, position, asked),
+            (None, None) => State::start(alloc, fitted),
+        }
+    }
+
     // Gives up the state that moves have passed which is missed the least, seen from so many steps.
     fn give_up(&mut self, fitted: &Fitted, present: u64)
         requires { AreCheckpoints fitted.now self.old }
@@ -192,6 +222,15 @@ impl Checkpoints {
             }
             _ => false,
         }
+    }
+
+    /// Keeps a state that a search passes, as moves keep those that they pass. Where memory runs out it isn't kept.
+    pub fn pass(&mut self, fitted: &Fitted, state: &State)
+        requires checkpoints { AreCheckpoints fitted.now self.old }
+        requires stands { Stands fitted.now state.now }
+        ensures { AreCheckpoints fitted.now self.new }
+    {
+        self.note(fitted, state, steps_of(state.threads()));
     }
 
     // Goes on towards the target, which no thread is past, until it is near, and keeps states on the way.

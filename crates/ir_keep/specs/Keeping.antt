@@ -1,6 +1,6 @@
 -- What a keeper keeps.
-use Rattle.std.specs.Prelude.{◌≡◌, ◌==◌, ◌&&◌, ◌≤◌, ◌+◌, ℕ, suc, Bool, true, false, nat_le, List, [], ◌∷◌, length, map, flat_map, if◌then◌else◌, Option, Some, None}
-use Rattle.std.specs.List.{All}
+use Rattle.std.specs.Prelude.{◌≡◌, ◌==◌, ◌&&◌, ◌≤◌, ◌<◌, ◌+◌, ℕ, suc, Bool, true, false, nat_le, List, [], ◌∷◌, length, map, flat_map, if◌then◌else◌, Option, Some, None}
+use Rattle.std.specs.List.{All, slice_index_or}
 use Rattle.ir_fit.specs.Fit.{FittedTrace}
 use Rattle.ir_weave.specs.Standing.{Standing, StandsAt}
 use Rattle.ir_keep.specs.Pages.{all_pages, next_sources, origins, different}
@@ -84,6 +84,11 @@ pub record IsNearest (cut : List ℕ) (keeping : Keeping) (n : ℕ) : Type 0 whe
   pub below : is_below (cut_in one) cut ≡ true
   pub nearest : (m : ℕ) (other : Kept) → kept_as m keeping.kept ≡ Some other → is_below (cut_in other) cut ≡ true
       → total (cut_in other) ≤ total (cut_in one)
+
+-- the kept cut at a place has this number
+pub record IsNumberAt (place : ℕ) (keeping : Keeping) (n : ℕ) : Type 0 where
+  pub there : place < length keeping.kept
+  pub number : (d : Kept) → (slice_index_or keeping.kept place d).number ≡ n
 
 -- a state of as many threads as each that is kept
 abbrev pub IsLike : Standing → Keeping → Type 0
