@@ -1,6 +1,6 @@
 # The commands of the repository. Each needs the Rattle kit's `rt` and Python 3, and nothing else, but for `program-test`.
 
-.PHONY: all run test program-test bench
+.PHONY: all run test program-test mutate bench
 
 all: ir
 
@@ -25,6 +25,10 @@ test:
 # The program as a person runs it: devices, pipes, signals, the README's commands. Needs Linux, bash and xxd beside.
 program-test: ir
 	python3 scripts/program_test.py ./ir
+
+# Images and traces that lie, given to the program. Needs Linux.
+mutate: ir
+	python3 scripts/mutate.py ./ir
 
 # Millions of instructions per second, and the assembler's lines.
 bench: ir

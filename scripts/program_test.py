@@ -67,6 +67,12 @@ ARGUMENTS = [
     ("record none.img d.trc", 1, "ir: none.img can't be read: no such file or folder\n"),
     ("record d.img d.trc --input none", 1, "ir: none can't be read: no such file or folder\n"),
     ("record d.img d.trc --input longer", 1, "ir: longer is over 1048576 bytes\n"),
+    ("record folder d.trc", 1, "ir: folder can't be read: it is a folder\n"),
+    ("record d.img folder", 1, "ir: folder can't be written: it is a folder\n"),
+    ("record d.img d.trc --input folder", 1, "ir: folder can't be read: it is a folder\n"),
+    ("debug folder whole.trc", 1, "ir: folder can't be read: it is a folder\n"),
+    ("debug d.img folder", 1, "ir: folder can't be read: it is a folder\n"),
+    ("debug d.img none.trc", 1, "ir: none.trc can't be read: no such file or folder\n"),
     ("record d.s d.trc", 3, "ir: the image is refused, 2: these bytes are no image\n"),
     ("record d.img d.trc --order 1", 3, "ir: LIST: the item '1' names no thread of the image\n"),
     ("record d.img d.trc --order -1", 3, "ir: LIST: the item '-1' is neither T nor TxN\n"),
@@ -285,12 +291,46 @@ def test_full_devices(folder):
 
 def test_closed_pipe(folder):
     """Nobody reads the output."""
-    for arguments in ("record d.img d.trc --order 0", "--help"):
+    for arguments in ("record d.img d.trc --order 0", "--help", "trace whole.trc", "debug d.img whole.trc"):
         reader, writer = os.pipe()
         os.close(reader)
         ended = run(arguments, folder, stdout=writer)
         os.close(writer)
         wants(arguments, (ended.returncode, ended.stderr), (1, FULL))
+
+
+def test_failed_sessions(folder):
+    """A session that can't write or read ends with status 1 and one line."""
+    for command in (
+        "./ir debug d.img whole.trc >/dev/full",
+        "./ir debug d.img whole.trc >&-",
+        "./ir debug d.img whole.trc <folder",
+        "./ir debug d.img whole.trc <&-",
+        "./ir <folder",
+    ):
+        ended = shell(command, folder)
+        wants(command, (ended.returncode, ended.stderr.count(b"\n"), ended.stderr[-1:]), (1, 1, b"\n"))
+
+
+def without_rights():
+    """As a user who owns nothing; for root, whom no folder is read-only."""
+    if os.geteuid() == 0:
+        os.setgroups([])
+        os.setgid(65534)
+        os.setuid(65534)
+
+
+def test_read_only_folder(folder):
+    """Nothing is written into a folder that is read-only."""
+    held = folder / "held"
+    held.mkdir()
+    held.chmod(0o555)
+    folder.chmod(0o755)
+    for arguments, place in (("asm d.s held/d.img", "d.img"), ("record d.img held/d.trc --order 0", "d.trc")):
+        ended = run(arguments, folder, preexec_fn=without_rights)
+        message = f"ir: held/{place} can't be written: permission denied\n".encode()
+        wants(arguments, (ended.returncode, ended.stdout, ended.stderr), (1, b"", message))
+        wants(f"{arguments}: what is left", list(held.iterdir()), [])
 
 
 def small_files():
