@@ -1,6 +1,6 @@
 # The commands of the repository. Each needs the Rattle kit's `rt` and Python 3, and nothing else, but for `program-test`.
 
-.PHONY: all run test program-test mutate bench
+.PHONY: all run test program-test refuse mutate bench
 
 all: ir
 
@@ -25,6 +25,10 @@ test:
 # The program as a person runs it: devices, pipes, signals, the README's commands. Needs Linux, bash and xxd beside.
 program-test: ir
 	python3 scripts/program_test.py ./ir
+
+# Each request for memory refused in turn, in tests that judge by themselves. Needs Linux on x86-64, and root for starts of threads.
+refuse:
+	python3 scripts/refuse.py
 
 # Images and traces that lie, given to the program. Needs Linux.
 mutate: ir

@@ -81,6 +81,17 @@ pub const CHANGED_ONCE: Source = &[
 ",
 ];
 
+/// Counts down from 2,097,152: 4,194,307 steps.
+pub const COUNTED_DOWN: Source = &[
+    "
+        lui     a0, 0x200
+again:  addi    a0, a0, -1
+        bne     a0, zero, again
+        addi    a7, zero, 1             # END
+        ecall
+",
+];
+
 /// A call that there isn't, a7 being 0.
 pub const CALL_OF_ZERO: Source = &[CALL];
 

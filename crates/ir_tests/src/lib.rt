@@ -37,6 +37,10 @@ mod one_thread_rows;
 #[cfg(test)]
 mod recordings;
 #[cfg(test)]
+mod refusal_tests;
+#[cfg(test)]
+mod refusals;
+#[cfg(test)]
 mod refused_tests;
 #[cfg(test)]
 mod replay_tests;

@@ -1,7 +1,7 @@
 //! Readers and writers in memory, which fail when they are told to.
 
 use ir_debug::{DeviceErr, Sink, Source};
-use std::alloc::Global;
+use std::alloc::{AllocError, Global};
 
 /// So many calls that none of them fails.
 pub const ENDLESS: u64 = 1_000_000;
@@ -25,6 +25,11 @@ impl<'a> Bytes<'a> {
             calls_left,
             failed: false,
         }
+    }
+
+    // How many bytes it has left.
+    pub fn count(&self) -> usize {
+        self.left.len()
     }
 }
 
@@ -63,7 +68,7 @@ pub struct Page {
 }
 
 impl Page {
-    ghost use Rattle.std.specs.Prelude.{◌≡◌, false};
+    ghost use Rattle.std.specs.Prelude.{◌≡◌, false, IfOk};
 
     // An empty page.
     pub fn new(alloc: Global, takes_one: bool, calls_left: u64) -> Page
@@ -75,6 +80,18 @@ impl Page {
             calls_left,
             failed: false,
         }
+    }
+
+    // An empty page that takes so many bytes without memory.
+    pub fn with_room(alloc: Global, room: usize) -> Result<Page, AllocError>
+        ensures { IfOk result (λ page. page.failed ≡ false) }
+    {
+        Ok(Page {
+            bytes: Vec::with_capacity(alloc, room)?,
+            takes_one: false,
+            calls_left: ENDLESS,
+            failed: false,
+        })
     }
 }
 
