@@ -1,10 +1,10 @@
 #!/usr/bin/env python3
 """Images and traces that were cut or changed, opened by the program: each is refused, doesn't fit, or is served, and nothing else happens.
 
-    python3 scripts/mutate.py ./ir [--count N] [--seed S] [--jobs J]
+    python3 scripts/mutate.py ./ir [--few] [--count N] [--seed S] [--jobs J]
 
-Every proper prefix of each image and trace (of `examples`, and of a guest of three threads), ten changes of each of their bytes, and N random
-mutations of the traces of three threads (100,000 where none is given), each in a session of a few commands. A run may take 1 GiB of address space
+Every proper prefix of each image and trace (of `examples`, and of a guest of three threads), each other value of each of their bytes (with `--few`
+ten of the 255), and N random mutations of the traces of three threads (100,000 where none is given), each in a session of a few commands. A run may take 1 GiB of address space
 and 20 seconds of a processor. Then lengths and counts that aren't borne out. Needs Linux. The last line is `N passed, M failed`.
 """
 import argparse
@@ -145,18 +145,24 @@ def pairs(folder):
     return found, image, [recorded(folder, "three", order) for order in ORDERS]
 
 
-def systematic(name, image, trace):
-    """Each prefix, and ten changes of each byte."""
+def changed(bytes_, few):
+    """The bytes with one of them changed: its place, its new value, all of them."""
+    for place, byte in enumerate(bytes_):
+        others = {byte ^ 1 << bit for bit in range(8)} | {0, 255} if few else set(range(256))
+        for other in sorted(others - {byte}):
+            yield place, other, bytes_[:place] + bytes([other]) + bytes_[place + 1:]
+
+
+def systematic(name, image, trace, few):
+    """Each prefix, and changes of each byte."""
     for length in range(len(image)):
         yield f"{name}, image cut at {length}", image[:length], trace, b"image refused 1\n"
     for length in range(len(trace)):
         yield f"{name}, trace cut at {length}", image, trace[:length], b"trace refused 1\n"
-    for place, byte in enumerate(image):
-        for other in {byte ^ 1 << bit for bit in range(8)} | {0, 255} - {byte}:
-            yield f"{name}, image byte {place} {other}", image[:place] + bytes([other]) + image[place + 1:], trace, b""
-    for place, byte in enumerate(trace):
-        for other in {byte ^ 1 << bit for bit in range(8)} | {0, 255} - {byte}:
-            yield f"{name}, trace byte {place} {other}", image, trace[:place] + bytes([other]) + trace[place + 1:], b""
+    for place, other, bytes_ in changed(image, few):
+        yield f"{name}, image byte {place} {other}", bytes_, trace, b""
+    for place, other, bytes_ in changed(trace, few):
+        yield f"{name}, trace byte {place} {other}", image, bytes_, b""
 
 
 def mutated(chance, trace, others):
@@ -185,11 +191,11 @@ def mutated(chance, trace, others):
     return bytes(bytes_)
 
 
-def all_cases(folder, count, seed):
+def all_cases(folder, count, seed, few):
     """All that is tried, with a seed of its own for each random one."""
     found, image, traces = pairs(folder)
     for name, each, trace in found + [("three", image, traces[-1])]:
-        yield from systematic(name, each, trace)
+        yield from systematic(name, each, trace, few)
     for number in range(count):
         chance = random.Random(seed * 1_000_003 + number)
         trace = mutated(chance, chance.choice(traces), traces)
@@ -221,6 +227,7 @@ def main():
     global PROGRAM
     parser = argparse.ArgumentParser()
     parser.add_argument("program")
+    parser.add_argument("--few", action="store_true")
     parser.add_argument("--count", type=int, default=100_000)
     parser.add_argument("--seed", type=int, default=1)
     parser.add_argument("--jobs", type=int, default=len(os.sched_getaffinity(0)))
@@ -230,7 +237,7 @@ def main():
     with tempfile.TemporaryDirectory() as name:
         folder = Path(name)
         with concurrent.futures.ProcessPoolExecutor(words.jobs) as pool:
-            for found, fault in pool.map(judge, all_cases(folder, words.count, words.seed), chunksize=64):
+            for found, fault in pool.map(judge, all_cases(folder, words.count, words.seed, words.few), chunksize=64):
                 seen[found] = seen.get(found, 0) + 1
                 faults += [fault] if fault else []
         for fault in unborne(folder):

@@ -1,13 +1,14 @@
 #!/usr/bin/env python3
 """Each request for memory refused in turn: the program goes on, or says so, and loses nothing.
 
-    python3 scripts/refuse.py ./ir [--jobs J]
+    python3 scripts/refuse.py ./ir [--tests crates/ir_tests/out/ir_tests_tests] [--jobs J]
 
 Each row below is run again and again, with its first request for memory refused, then its second, and so on until a run asks for no more; a
 thread that isn't started is among the requests. A command of a session answers as it does with ample memory, or `refused 8 no memory`, after
 which position and kept cuts are as before and the same command answers as it would have. A session that can't be opened writes nothing. `ir asm`,
-`ir record` and `ir trace` end as with ample memory, or with status 1 and a line that says why; then lines that are missing are the last. A
-line a row says how many refusals were tried; the last line is `N passed, M failed`. Needs Linux and a C compiler (`cc`), for a library that is loaded before the program.
+`ir record` and `ir trace` end as with ample memory, or with status 1 and a line that says why; then lines that are missing are the last. With
+`--tests`, a built program of tests, so does each of its `memory_tests`, which has to pass whatever is refused. A line a row says how many refusals
+were tried; the last line is `N passed, M failed`. Needs Linux and a C compiler (`cc`), for a library that is loaded before the program.
 """
 import argparse
 import concurrent.futures
@@ -16,6 +17,8 @@ import subprocess
 import sys
 import tempfile
 from pathlib import Path
+
+from program_test import DOUBLE
 
 ROOT = Path(__file__).resolve().parent.parent
 PROGRAM = LIBRARY = ""
@@ -81,45 +84,16 @@ again:  sub t3, t1, t2
         ecall
 """
 
-# An H is printed, and the end has twice its code.
-DOUBLED = """
-        addi a0, zero, 72
-        addi a7, zero, 2
-        ecall
-        add a0, a0, a0
-        addi a7, zero, 1
-        ecall
-"""
-
 # An entry for reading, and then one for writing.
 REENTERED = "        .objects 1\n        addi a0, zero, 0\n" + "".join(f"        addi a7, zero, {call}\n        ecall\n" for call in (7, 9, 8, 9, 1))
 
-# Threads that add one each to the first word of an object, in 18 steps.
-COUNT = """
-count:  addi a0, zero, 0
-        addi a7, zero, 8
-        ecall
-        addi a0, zero, 0
-        addi a1, zero, 0
-        addi a7, zero, 10
-        ecall
-        addi a2, a0, 1
-        addi a0, zero, 0
-        addi a1, zero, 0
-        addi a7, zero, 11
-        ecall
-        addi a0, zero, 0
-        addi a7, zero, 9
-        ecall
-        addi a0, zero, 0
-        addi a7, zero, 1
-        ecall
-"""
+# One of the threads of `examples/counter.s`, each of which adds one to the first word of an object, in 18 steps.
+COUNTING = "        .thread main\n"
 
 
-def counters(threads):
-    """So many of them."""
-    return "        .objects 1\n" + "        .thread count\n" * threads + COUNT
+def counters(example, threads):
+    """That example with so many threads."""
+    return COUNTING * threads + example.replace(COUNTING, "")
 
 
 MOVES = ("step 0 3", "keep", "watch 0 0x100000", "break 0 0x10008", "end", "rcont 0", "back 0 1", "kept", "load 1", "cont 0", "goto 0 1",
@@ -155,13 +129,13 @@ class Wrong(Exception):
 
 
 class Refused:
-    """A run of the program whose request of this number is refused; none is, where it is 0."""
+    """A run of a program whose request of this number is refused; none is, where it is 0."""
 
-    def __init__(self, words, folder, number, **streams):
+    def __init__(self, words, folder, number, program="", **streams):
         self.reader, told = os.pipe()
         os.set_blocking(self.reader, False)
         more = {"LD_PRELOAD": LIBRARY, "REFUSED": str(number), "TOLD": str(told)}
-        self.run = subprocess.Popen([PROGRAM, *words.split()], cwd=folder, env=os.environ | more, pass_fds=(told,),
+        self.run = subprocess.Popen([program or PROGRAM, *words.split()], cwd=folder, env=os.environ | more, pass_fds=(told,),
                                     stdout=subprocess.PIPE, stderr=subprocess.PIPE, **streams)
         os.close(told)
 
@@ -273,20 +247,36 @@ def one_run(folder, words, files, ample, number):
     return met
 
 
+def one_test(folder, program, name, number):
+    """A test with one refusal, which has to pass. Whether there was a request of this number."""
+    status, out, error, met = Refused(name, folder, number, program, stdin=subprocess.DEVNULL).ended()
+    if status != 0:
+        raise Wrong(f"{status} {out!r} {error!r}")
+    return met
+
+
+def tried(kind, folder, row):
+    """What tries a row with the request of a number refused."""
+    if kind == "session":
+        found = answers_of(folder, row[1], row[3])
+        return lambda number: session(folder, row[1], found, number)
+    if kind == "run":
+        found, _ = whole(folder, row[1], row[2], 0)
+        return lambda number: one_run(folder, row[1], row[2], found, number)
+    return lambda number: one_test(folder, row[1], row[0], number)
+
+
 def walked(kind, row):
     """A row with each of its requests refused in turn: how many there were, and what was wrong."""
     faults, number = [], 0
     with tempfile.TemporaryDirectory() as name:
         folder = Path(name)
         prepare(folder)
-        if kind == "session":
-            found = answers_of(folder, row[1], row[3])
-        else:
-            found, _ = whole(folder, row[1], row[2], 0)
+        attempt = tried(kind, folder, row)
         while len(faults) < 5:
             number += 1
             try:
-                met = session(folder, row[1], found, number) if kind == "session" else one_run(folder, row[1], row[2], found, number)
+                met = attempt(number)
             except (Wrong, OSError, subprocess.TimeoutExpired) as wrong:
                 faults.append(f"{row[0]}, refusal {number}: {wrong}")
                 met = True
@@ -298,8 +288,8 @@ def walked(kind, row):
 def prepare(folder):
     """The guests and their recordings."""
     sources = {path.stem: path.read_text() for path in (ROOT / "examples").glob("*.s")}
-    sources |= {"doubled": DOUBLED, "reentered": REENTERED, "stores": STORES, "long": LONG,
-                "two_counters": counters(2), "eight_counters": counters(8)}
+    sources |= {"doubled": DOUBLE, "reentered": REENTERED, "stores": STORES, "long": LONG,
+                "two_counters": counters(sources["counter"], 2), "eight_counters": counters(sources["counter"], 8)}
     for name, source in sources.items():
         (folder / f"{name}.s").write_text(source)
         subprocess.run([PROGRAM, "asm", f"{name}.s", f"{name}.img"], cwd=folder, check=True)
@@ -313,15 +303,20 @@ def main():
     global PROGRAM, LIBRARY
     parser = argparse.ArgumentParser()
     parser.add_argument("program")
+    parser.add_argument("--tests")
     parser.add_argument("--jobs", type=int, default=len(os.sched_getaffinity(0)))
     words = parser.parse_args()
     PROGRAM = os.path.abspath(words.program)
     passed, failed = 0, 0
+    rows = [("session", row) for row in SESSIONS] + [("run", row) for row in RUNS]
+    if words.tests:
+        tests = os.path.abspath(words.tests)
+        listed = subprocess.run([tests, "--list"], check=True, capture_output=True, text=True).stdout.splitlines()
+        rows += [("test", (line.removesuffix(": test"), tests)) for line in listed if line.startswith("memory_tests::")]
     with tempfile.TemporaryDirectory() as name:
         LIBRARY = f"{name}/refusing.so"
         subprocess.run(["cc", "-O2", "-shared", "-fPIC", "-x", "c", "-", "-o", LIBRARY, "-ldl", "-lpthread"], input=SOURCE.encode(), check=True)
         with concurrent.futures.ThreadPoolExecutor(words.jobs) as pool:
-            rows = [("session", row) for row in SESSIONS] + [("run", row) for row in RUNS]
             for row, count, faults in pool.map(lambda both: walked(*both), rows):
                 print(f"{row}: {count} refusals, {len(faults)} wrong", flush=True)
                 for fault in faults:
