@@ -5,7 +5,7 @@ use crate::device_tests::{Bytes, ENDLESS, Page, empty_page};
 use crate::shelf::Shelf;
 use ir_object::OpenGate;
 use ir_program::program;
-use std::alloc::AllocGlobal;
+use std::alloc::{AllocError, AllocGlobal, Global};
 use std::sync::Wait;
 use std::test::Fail;
 use std::thread::Threads;
@@ -18,6 +18,15 @@ const DOUBLE: &[u8] =
 const TWO: &[u8] =
     b".thread prints\n.thread silent\nprints: addi a0, zero, 65\naddi a7, zero, 2\necall\nsilent: ebreak\n";
 
+// The words of a line.
+fn words_of(alloc: Global, line: &str) -> Result<Vec<String>, AllocError> {
+    let mut words = Vec::new(alloc);
+    for word in line.split(' ') {
+        words.push(String::from_str(alloc, word)?)?;
+    }
+    Ok(words)
+}
+
 // A run of the program by these words, which reads this: its status, and what it wrote and told.
 fn ran<R: Threads + Wait + Sync + Clock + Eprint + AllocGlobal>(
     rt: &R,
@@ -26,10 +35,7 @@ fn ran<R: Threads + Wait + Sync + Clock + Eprint + AllocGlobal>(
     input: &[u8],
     out_calls: u64,
 ) -> Result<(u8, Page, Page), Fail> {
-    let mut words = Vec::new(rt.alloc());
-    for word in line.split(' ') {
-        words.push(String::from_str(rt.alloc(), word)?)?;
-    }
+    let words = words_of(rt.alloc(), line)?;
     let input = Bytes {
         left: input,
         calls_left: ENDLESS,
@@ -49,6 +55,28 @@ fn ran<R: Threads + Wait + Sync + Clock + Eprint + AllocGlobal>(
         &mut faults,
     );
     Ok((status, out, faults))
+}
+
+// Whether a run of the program by these words, which reads this, ends with the status, writes this and tells this.
+fn says<R: Threads + Wait + Sync + Clock + Eprint + AllocGlobal>(
+    rt: &R,
+    shelf: &Shelf,
+    line: &str,
+    input: &[u8],
+    wanted: (u8, &str, &str),
+) -> Result<bool, Fail> {
+    let (status, out, faults) = ran(rt, shelf, line, input, ENDLESS)?;
+    let (number, written, told) = wanted;
+    Ok(status == number
+        && out.bytes.as_slice() == written.as_bytes()
+        && faults.bytes.as_slice() == told.as_bytes())
+}
+
+// The bytes of a file are these.
+fn holds(shelf: &Shelf, path: &str, wanted: &[u8]) -> bool {
+    shelf
+        .bytes_of(path)
+        .is_some_and(|bytes| bytes.as_slice() == wanted)
 }
 
 // Two sources and their images, one of them at a second path, a source with a fault, a file that is too long to be read by
@@ -292,23 +320,23 @@ const ROWS: [(&str, u8, &str); 44] = [
     ),
 ];
 
+// Whether none of the files stands that a run by a row's words would make.
+fn leaves_nothing(shelf: &Shelf) -> bool {
+    let mut is_left = false;
+    for path in ["d2.img", "d.trc", "d.trc.part", "out.0", "out.1"] {
+        is_left |= shelf.bytes_of(path).is_some();
+    }
+    !is_left
+}
+
 #[test]
 fn what_stops_it_is_told(rt: HostRuntime) -> Result<(), Fail> {
     let shelf = prepared(&rt)?;
-    for (line, wanted, message) in ROWS {
-        let (status, out, faults) = ran(&rt, &shelf, line, b"", ENDLESS)?;
-        assert_eq!(rt; status, wanted);
-        assert!(rt; out.bytes.is_empty());
-        assert_eq!(rt; faults.bytes.as_slice(), message.as_bytes());
-        for path in ["d2.img", "d.trc", "d.trc.part", "out.0", "out.1"] {
-            assert!(rt; shelf.bytes_of(path).is_none());
-        }
+    for (line, status, told) in ROWS {
+        assert!(rt; says(&rt, &shelf, line, b"", (status, "", told))?, "{line}");
+        assert!(rt; leaves_nothing(&shelf), "{line}");
     }
-    assert!(rt;
-        shelf
-            .bytes_of("d.s")
-            .is_some_and(|bytes| bytes.as_slice() == DOUBLE)
-    );
+    assert!(rt; holds(&shelf, "d.s", DOUBLE));
     Ok(())
 }
 
@@ -345,21 +373,30 @@ const TURNS: [(&str, &[u8], u8, &str); 8] = [
 #[test]
 fn what_is_done_is_written(rt: HostRuntime) -> Result<(), Fail> {
     let shelf = prepared(&rt)?;
-    for (line, input, wanted, written) in TURNS {
-        let (status, out, faults) = ran(&rt, &shelf, line, input, ENDLESS)?;
-        assert_eq!(rt; status, wanted);
-        assert_eq!(rt; out.bytes.as_slice(), written.as_bytes());
-        assert!(rt; faults.bytes.is_empty());
+    for (line, input, status, written) in TURNS {
+        assert!(rt; says(&rt, &shelf, line, input, (status, written, ""))?, "{line}");
     }
     assert!(rt; shelf.bytes_of("d.trc.part").is_none());
     Ok(())
 }
 
-// The bytes of a file are these.
-fn holds(shelf: &Shelf, path: &str, wanted: &[u8]) -> bool {
-    shelf
-        .bytes_of(path)
-        .is_some_and(|bytes| bytes.as_slice() == wanted)
+// Whether a run by these words ends well and tells nothing.
+fn goes_well<R: Threads + Wait + Sync + Clock + Eprint + AllocGlobal>(
+    rt: &R,
+    shelf: &Shelf,
+    line: &str,
+) -> Result<bool, Fail> {
+    let (status, _, faults) = ran(rt, shelf, line, b"", ENDLESS)?;
+    Ok(status == 0 && faults.bytes.is_empty())
+}
+
+// Whether the outputs of the two threads stand there, and no third.
+fn are_there(shelf: &Shelf) -> (bool, bool, bool) {
+    (
+        holds(shelf, "out.0", b"A"),
+        holds(shelf, "out.1", b""),
+        shelf.bytes_of("out.2").is_some(),
+    )
 }
 
 #[test]
@@ -371,22 +408,19 @@ fn outputs_are_written_where_they_are_asked_for(rt: HostRuntime) -> Result<(), F
         ("ir record two.img d.trc --output out", true),
         ("ir record two.img d2.trc --output other --order 1,0", true),
     ] {
-        let (status, _, faults) = ran(&rt, &shelf, line, b"", ENDLESS)?;
-        assert!(rt; status == 0 && faults.bytes.is_empty());
-        assert_eq!(rt; holds(&shelf, "out.0", b"A"), is_asked_for);
-        assert_eq!(rt; holds(&shelf, "out.1", b""), is_asked_for);
-        assert!(rt; shelf.bytes_of("out.2").is_none());
+        assert!(rt; goes_well(&rt, &shelf, line)?, "{line}");
+        assert_eq!(rt; are_there(&shelf), (is_asked_for, is_asked_for, false));
     }
     assert!(rt; holds(&shelf, "other.0", b"A") && holds(&shelf, "other.1", b""));
-    // One thread has one output, so another file may have the next name.
-    let (status, ..) = ran(
-        &rt,
-        &shelf,
-        "ir record d.img image.trc --output image --input image.1",
-        b"",
-        ENDLESS,
-    )?;
-    assert_eq!(rt; status, 0);
+    Ok(())
+}
+
+// One thread has one output, so another file may have the next name.
+#[test]
+fn one_thread_has_one_output(rt: HostRuntime) -> Result<(), Fail> {
+    let shelf = prepared(&rt)?;
+    let line = "ir record d.img image.trc --output image --input image.1";
+    assert!(rt; goes_well(&rt, &shelf, line)?);
     assert!(rt; holds(&shelf, "image.0", b"H"));
     Ok(())
 }
@@ -394,7 +428,7 @@ fn outputs_are_written_where_they_are_asked_for(rt: HostRuntime) -> Result<(), F
 #[test]
 fn an_output_that_cannot_be_written_is_told(rt: HostRuntime) -> Result<(), Fail> {
     let shelf = prepared(&rt)?;
-    for (line, why) in [
+    for (line, told) in [
         (
             "ir record two.img d.trc --output none/out",
             "ir: none/out.0 can't be written: no such file or folder\n",
@@ -404,15 +438,23 @@ fn an_output_that_cannot_be_written_is_told(rt: HostRuntime) -> Result<(), Fail>
             "ir: held.1 can't be written: it is a folder\n",
         ),
     ] {
-        let (status, out, faults) = ran(&rt, &shelf, line, b"", ENDLESS)?;
-        assert_eq!(rt; status, 1);
-        assert!(rt; out.bytes.is_empty());
-        assert_eq!(rt; faults.bytes.as_slice(), why.as_bytes());
+        assert!(rt; says(&rt, &shelf, line, b"", (1, "", told))?, "{line}");
     }
     // What was written before stays.
     assert!(rt; shelf.bytes_of("d.trc").is_some());
     assert!(rt; holds(&shelf, "held.0", b"A"));
     Ok(())
+}
+
+// Whether a run by these words whose standard output takes nothing says so.
+fn fails_at_output<R: Threads + Wait + Sync + Clock + Eprint + AllocGlobal>(
+    rt: &R,
+    shelf: &Shelf,
+    line: &str,
+    input: &[u8],
+) -> Result<bool, Fail> {
+    let (status, _, faults) = ran(rt, shelf, line, input, 0)?;
+    Ok(status == 1 && faults.bytes.as_slice() == b"ir: standard output can't be written\n")
 }
 
 #[test]
@@ -425,12 +467,7 @@ fn standard_output_that_fails_is_told(rt: HostRuntime) -> Result<(), Fail> {
         ("ir trace d.trc", b""),
         ("ir debug d.img d.trc", b"end\n"),
     ] {
-        let (status, _, faults) = ran(&rt, &shelf, line, input, 0)?;
-        assert_eq!(rt; status, 1);
-        assert_eq!(rt;
-            faults.bytes.as_slice(),
-            b"ir: standard output can't be written\n".as_slice()
-        );
+        assert!(rt; fails_at_output(&rt, &shelf, line, input)?, "{line}");
     }
     // The trace stands in its place all the same.
     assert!(rt; shelf.bytes_of("d.trc").is_some());
