@@ -67,9 +67,11 @@ fn says<R: Threads + Wait + Sync + Clock + Eprint + AllocGlobal>(
 ) -> Result<bool, Fail> {
     let (status, out, faults) = ran(rt, shelf, line, input, ENDLESS)?;
     let (number, written, told) = wanted;
-    Ok(status == number
-        && out.bytes.as_slice() == written.as_bytes()
-        && faults.bytes.as_slice() == told.as_bytes())
+    Ok(
+        status == number
+            && out.bytes.as_slice() == written.as_bytes()
+            && faults.bytes.as_slice() == told.as_bytes(),
+    )
 }
 
 // The bytes of a file are these.
@@ -374,7 +376,10 @@ const TURNS: [(&str, &[u8], u8, &str); 8] = [
 fn what_is_done_is_written(rt: HostRuntime) -> Result<(), Fail> {
     let shelf = prepared(&rt)?;
     for (line, input, status, written) in TURNS {
-        assert!(rt; says(&rt, &shelf, line, input, (status, written, ""))?, "{line}");
+        assert!(rt;
+            says(&rt, &shelf, line, input, (status, written, ""))?,
+            "{line}"
+        );
     }
     assert!(rt; shelf.bytes_of("d.trc.part").is_none());
     Ok(())
@@ -454,7 +459,10 @@ fn fails_at_output<R: Threads + Wait + Sync + Clock + Eprint + AllocGlobal>(
     input: &[u8],
 ) -> Result<bool, Fail> {
     let (status, _, faults) = ran(rt, shelf, line, input, 0)?;
-    Ok(status == 1 && faults.bytes.as_slice() == b"ir: standard output can't be written\n")
+    Ok(
+        status == 1
+            && faults.bytes.as_slice() == b"ir: standard output can't be written\n".as_slice(),
+    )
 }
 
 #[test]
