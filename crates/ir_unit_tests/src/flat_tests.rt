@@ -1,46 +1,12 @@
 //! Guests of a few instructions, stepped by hand.
 
-use crate::{Flat, NotAdmitted};
-use ir_image::{Image, read_image};
+use crate::guests::{
+    ECALL, ENTER_READ, ENTER_WRITE, EXIT, GET, INPUT, LEAVE, PRINT_BYTE, PRINT_NUMBER, PUT, guest,
+};
+use ir_flat::{Flat, NotAdmitted};
 use ir_thread::End;
 use std::alloc::Global;
 use std::test::Fail;
-
-const ECALL: u32 = 0x73;
-
-// addi a7, zero, 7, and so on for the other calls.
-const ENTER_READ: u32 = 0x0070_0893;
-
-const ENTER_WRITE: u32 = 0x0080_0893;
-
-const LEAVE: u32 = 0x0090_0893;
-
-const GET: u32 = 0x00a0_0893;
-
-const PUT: u32 = 0x00b0_0893;
-
-const EXIT: u32 = 0x0010_0893;
-
-const PRINT_BYTE: u32 = 0x0020_0893;
-
-const PRINT_NUMBER: u32 = 0x0030_0893;
-
-const INPUT: u32 = 0x0060_0893;
-
-// A guest of so many threads, which all start at the first word, and objects that begin with zeros.
-fn guest(alloc: Global, threads: u8, objects: u8, code: &[u32]) -> Result<Image, Fail> {
-    let mut bytes = Vec::new(alloc);
-    bytes.extend_from_slice(&[0x49, 0x52, 0x49, 0x31, threads, objects])?;
-    bytes.extend_from_slice(&[code.len().min(255) as u8, 0, 0, 0, 0, 0, 0, 0])?;
-    for _ in 0..threads {
-        bytes.extend_from_slice(&[0, 0, 1, 0])?;
-    }
-    for word in code {
-        bytes.extend_from_slice(&word.to_le_bytes())?;
-    }
-    bytes.resize(bytes.len().min(10_000) + 32 * objects as usize, 0)?;
-    Ok(read_image(alloc, &bytes)?)
-}
 
 // The thread tries so many steps, each with this answer.
 fn run(flat: &mut Flat, thread: usize, steps: u32, answer: u32) -> Result<(), NotAdmitted> {
@@ -60,7 +26,7 @@ fn end_of(flat: &Flat) -> Option<(u8, u64, u32)> {
 
 // The end of the only thread of a guest, run alone.
 fn end_alone(alloc: Global, objects: u8, code: &[u32]) -> Result<Option<(u8, u64, u32)>, Fail> {
-    let image = guest(alloc, 1, objects, code)?;
+    let image = guest(alloc, &[0], objects, code)?;
     let mut flat = Flat::start(alloc, &image, 1000)?;
     let _ = run(&mut flat, 0, 50, 0);
     Ok(end_of(&flat))
@@ -86,7 +52,7 @@ fn entries_and_leaves_change_the_word(rt: HostRuntime) -> Result<(), Fail> {
         EXIT,
         ECALL,
     ];
-    let image = guest(rt.alloc(), 1, 1, &code)?;
+    let image = guest(rt.alloc(), &[0], 1, &code)?;
     let mut flat = Flat::start(rt.alloc(), &image, 1000)?;
     assert_eq!(rt; word(&flat), Some(0));
     run(&mut flat, 0, 1, 0)?;
@@ -113,7 +79,7 @@ const PUT_AND_BREAK: [u32; 8] = [
 
 #[test]
 fn a_write_entry_given_back_keeps_its_puts(rt: HostRuntime) -> Result<(), Fail> {
-    let image = guest(rt.alloc(), 1, 1, &PUT_AND_BREAK)?;
+    let image = guest(rt.alloc(), &[0], 1, &PUT_AND_BREAK)?;
     let mut flat = Flat::start(rt.alloc(), &image, 1000)?;
     run(&mut flat, 0, 9, 0)?;
     assert_eq!(rt; end_of(&flat), Some((2, 9, 1)));
@@ -134,7 +100,7 @@ fn entries_rise(rt: HostRuntime) -> Result<(), Fail> {
 #[test]
 fn a_budget_ends_a_thread(rt: HostRuntime) -> Result<(), Fail> {
     let code = [0x0480_0513, PRINT_BYTE, ECALL, 0x00a5_0533, EXIT, ECALL];
-    let image = guest(rt.alloc(), 1, 0, &code)?;
+    let image = guest(rt.alloc(), &[0], 0, &code)?;
     let mut flat = Flat::start(rt.alloc(), &image, 2)?;
     let _ = run(&mut flat, 0, 50, 0);
     assert_eq!(rt; end_of(&flat), Some((13, 3, 0)));
@@ -146,7 +112,7 @@ fn a_budget_ends_a_thread(rt: HostRuntime) -> Result<(), Fail> {
 fn numbers_are_printed_with_their_sign(rt: HostRuntime) -> Result<(), Fail> {
     // addi a0, zero, -1; lui a0, 0x80000
     let code = [0xfff0_0513, PRINT_NUMBER, ECALL, 0x8000_0537, ECALL];
-    let image = guest(rt.alloc(), 1, 0, &code)?;
+    let image = guest(rt.alloc(), &[0], 0, &code)?;
     let mut flat = Flat::start(rt.alloc(), &image, 1000)?;
     run(&mut flat, 0, 5, 0)?;
     let same = flat
@@ -200,7 +166,7 @@ const READER_AND_WRITERS: [u32; 8] = [
 
 #[test]
 fn a_writer_waits_for_a_reader(rt: HostRuntime) -> Result<(), Fail> {
-    let image = guest(rt.alloc(), 2, 1, &READER_AND_WRITERS)?;
+    let image = guest(rt.alloc(), &[0, 0], 1, &READER_AND_WRITERS)?;
     let mut flat = Flat::start(rt.alloc(), &image, 1000)?;
     run(&mut flat, 0, 6, 0)?;
     run(&mut flat, 1, 5, 0)?;
@@ -217,7 +183,7 @@ fn a_writer_waits_for_a_reader(rt: HostRuntime) -> Result<(), Fail> {
 
 #[test]
 fn a_copy_goes_its_own_way(rt: HostRuntime) -> Result<(), Fail> {
-    let image = guest(rt.alloc(), 1, 1, &PUT_AND_BREAK)?;
+    let image = guest(rt.alloc(), &[0], 1, &PUT_AND_BREAK)?;
     let mut flat = Flat::start(rt.alloc(), &image, 1000)?;
     run(&mut flat, 0, 4, 0)?;
     let mut copy = flat.copy()?;
@@ -230,7 +196,7 @@ fn a_copy_goes_its_own_way(rt: HostRuntime) -> Result<(), Fail> {
 
 #[test]
 fn an_input_is_a_byte_or_the_end(rt: HostRuntime) -> Result<(), Fail> {
-    let image = guest(rt.alloc(), 1, 0, &[INPUT, ECALL, ECALL])?;
+    let image = guest(rt.alloc(), &[0], 0, &[INPUT, ECALL, ECALL])?;
     let mut flat = Flat::start(rt.alloc(), &image, 1000)?;
     run(&mut flat, 0, 1, 0)?;
     assert_eq!(rt; run(&mut flat, 0, 1, 256), Err(NotAdmitted));
@@ -252,7 +218,7 @@ fn together(flat: &mut Flat, limit: u64) -> u64 {
 
 #[test]
 fn private_steps_are_taken_together(rt: HostRuntime) -> Result<(), Fail> {
-    let image = guest(rt.alloc(), 1, 1, &PUT_AND_BREAK)?;
+    let image = guest(rt.alloc(), &[0], 1, &PUT_AND_BREAK)?;
     let mut flat = Flat::start(rt.alloc(), &image, 1000)?;
     assert_eq!(rt; (together(&mut flat, 1), together(&mut flat, 9)), (1, 1));
     assert_eq!(rt; together(&mut flat, 9), 0);
@@ -269,7 +235,7 @@ fn can_step(flat: &Flat, thread: usize) -> bool {
 
 #[test]
 fn who_waits_or_is_done_has_no_step(rt: HostRuntime) -> Result<(), Fail> {
-    let image = guest(rt.alloc(), 2, 1, &PUT_AND_BREAK)?;
+    let image = guest(rt.alloc(), &[0, 0], 1, &PUT_AND_BREAK)?;
     let mut flat = Flat::start(rt.alloc(), &image, 1000)?;
     assert_eq!(rt; (can_step(&flat, 0), can_step(&flat, 1)), (true, true));
     run(&mut flat, 0, 3, 0)?;
@@ -286,7 +252,7 @@ fn who_waits_or_is_done_has_no_step(rt: HostRuntime) -> Result<(), Fail> {
 
 #[test]
 fn a_call_of_the_environment_is_a_step(rt: HostRuntime) -> Result<(), Fail> {
-    let image = guest(rt.alloc(), 1, 0, &[INPUT, ECALL, ECALL])?;
+    let image = guest(rt.alloc(), &[0], 0, &[INPUT, ECALL, ECALL])?;
     let mut flat = Flat::start(rt.alloc(), &image, 1000)?;
     run(&mut flat, 0, 1, 0)?;
     assert_eq!(rt; can_step(&flat, 0), true);

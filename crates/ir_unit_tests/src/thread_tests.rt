@@ -1,6 +1,6 @@
 //! Threads answered by hand.
 
-use crate::{Ask, End, Reply, Thread};
+use ir_thread::{Ask, End, Reply, Thread};
 use ir_image::{Code, read_image};
 use ir_runs::{Access, EnvKind};
 use std::alloc::Global;

@@ -1,7 +1,7 @@
 //! The word beside a list of readers and a writer.
 
-use crate::{Object, Word};
 use ir_image::OBJECT_WORDS;
+use ir_object::{Object, Word};
 use ir_runs::Access;
 use std::test::Fail;
 

@@ -1,46 +1,14 @@
 //! Guests of a few instructions, run along traces that are theirs, and along others.
 
-use crate::{Cause, FitErr, Fitted, HeaderCause, Leave, Verdict, fit};
-use ir_image::{Image, read_image};
+use crate::guests::{
+    ECALL, ENTER_READ, ENTER_WRITE, EXIT, FIRST_OBJECT, LEAVE, PRINT_BYTE, SECOND_OBJECT, guest,
+};
+use ir_fit::{Cause, FitErr, Fitted, HeaderCause, Leave, Verdict, fit};
+use ir_image::Image;
 use ir_runs::{Access, ThreadVerdict};
 use ir_trace::read_trace;
 use std::alloc::Global;
 use std::test::Fail;
-
-const ECALL: u32 = 0x73;
-
-// addi a0, zero, 0.
-const FIRST_OBJECT: u32 = 0x0000_0513;
-
-// addi a0, zero, 1.
-const SECOND_OBJECT: u32 = 0x0010_0513;
-
-// addi a7, zero, 1, and so on for the other calls.
-const EXIT: u32 = 0x0010_0893;
-
-const PRINT_BYTE: u32 = 0x0020_0893;
-
-const ENTER_READ: u32 = 0x0070_0893;
-
-const ENTER_WRITE: u32 = 0x0080_0893;
-
-const LEAVE: u32 = 0x0090_0893;
-
-// A guest whose threads start at these words, and objects that begin with zeros.
-pub fn guest(alloc: Global, starts: &[u8], objects: u8, code: &[u32]) -> Result<Image, Fail> {
-    let mut bytes = Vec::new(alloc);
-    let threads = starts.len().min(8) as u8;
-    bytes.extend_from_slice(&[0x49, 0x52, 0x49, 0x31, threads, objects])?;
-    bytes.extend_from_slice(&[code.len().min(255) as u8, 0, 0, 0, 0, 0, 0, 0])?;
-    for start in starts {
-        bytes.extend_from_slice(&[*start, 0, 1, 0])?;
-    }
-    for word in code {
-        bytes.extend_from_slice(&word.to_le_bytes())?;
-    }
-    bytes.resize(bytes.len().min(10_000) + 32 * objects as usize, 0)?;
-    Ok(read_image(alloc, &bytes)?)
-}
 
 // What `fit` answers.
 #[derive(Clone, Copy, Debug, PartialEq)]

@@ -1,4 +1,7 @@
-use crate::{Cause, FitErr, HeaderCause, Verdict, coherent};
+//! Events that can stand beside each other, and such as can't.
+
+use crate::event_bytes::put;
+use ir_fit::{Cause, FitErr, HeaderCause, Verdict, coherent};
 use ir_log::Event;
 use ir_runs::EnvKind;
 use ir_trace::{Trace, read_trace};
@@ -22,29 +25,6 @@ const fn write(object: u8, version: u32, readers: u32) -> Event {
         object,
         version,
         readers,
-    }
-}
-
-// Adds the bytes of an event.
-pub fn put(bytes: &mut Vec<u8>, event: Event) -> Result<(), AllocError> {
-    match event {
-        Event::Answer(_, value) => {
-            bytes.push(1)?;
-            bytes.extend_from_slice(&value.to_le_bytes())
-        }
-        Event::Read { object, version } => {
-            bytes.extend_from_slice(&[4, object])?;
-            bytes.extend_from_slice(&version.to_le_bytes())
-        }
-        Event::Write {
-            object,
-            version,
-            readers,
-        } => {
-            bytes.extend_from_slice(&[5, object])?;
-            bytes.extend_from_slice(&version.to_le_bytes())?;
-            bytes.extend_from_slice(&readers.to_le_bytes())
-        }
     }
 }
 

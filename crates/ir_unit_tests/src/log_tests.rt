@@ -1,4 +1,6 @@
-use crate::{Cursor, Disagree, Event, Log};
+//! Logs that are filled by hand, and what is expected of their places.
+
+use ir_log::{Cursor, Disagree, Event, Log};
 use ir_runs::{Access, EnvKind};
 use ir_thread::{Ask, MOST_EVENTS};
 use std::alloc::{AllocError, Global};

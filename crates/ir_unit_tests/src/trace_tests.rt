@@ -1,7 +1,9 @@
-use crate::{Trace, TraceErr, read_trace, write_trace};
+//! Traces of a few bytes, and of as many as there can be, read and written.
+
 use ir_log::Event;
 use ir_runs::EnvKind;
 use ir_thread::End;
+use ir_trace::{Trace, TraceErr, read_trace, write_trace};
 use std::alloc::{AllocError, Global};
 use std::test::Fail;
 

@@ -1,5 +1,8 @@
-use super::*;
-use std::test::*;
+//! Lines of each command, and what they ask.
+
+use ir_command::{
+    ByteCount, Command, Direction, Keeping, Move, Point, Refusal, Show, parse_line,
+};
 
 const STEP: Command = Command::Move(Move::Step {
     thread: 0,

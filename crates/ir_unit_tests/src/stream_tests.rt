@@ -1,8 +1,9 @@
+//! Readers and writers of std as sources and sinks, and what is kept of a line.
+
 ghost use Rattle.std.specs.Prelude.{IfOk, ◌≤◌};
 
-use super::*;
+use ir_stream::{DeviceErr, FromStd, KEPT, Next, Sink, Source, append, keep, next_byte, write_all};
 use std::io::{Error, ErrorKind, Read, Write};
-use std::test::*;
 
 // A reader and writer of std that is interrupted, takes one byte, takes none, and fails.
 #[derive(Drop)]
