@@ -1,1 +1,1 @@
-mod Guests
+mod Words

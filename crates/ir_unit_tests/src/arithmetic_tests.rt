@@ -11,8 +11,7 @@ use ir_isa::RegisterOp::{
     Xor,
 };
 use ir_isa::{
-    BranchOffset, BranchOp, Immediate, ImmediateOp, Inst, RegisterOp, ShiftAmount, ShiftOp,
-    encode,
+    BranchOffset, BranchOp, Immediate, ImmediateOp, Inst, RegisterOp, ShiftAmount, ShiftOp, encode,
 };
 use ir_mach::{Mach, Ran};
 use std::alloc::{AllocError, Global};

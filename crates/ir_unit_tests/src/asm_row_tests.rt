@@ -368,7 +368,10 @@ fn is_laid(
 #[test]
 fn entries_data_and_objects_are_laid(rt: HostRuntime) -> Result<(), Fail> {
     for (source, entries, bytes, object) in LAID {
-        assert!(rt; is_laid(rt.alloc(), source, entries, bytes, object)?, "{source}");
+        assert!(rt;
+            is_laid(rt.alloc(), source, entries, bytes, object)?,
+            "{source}"
+        );
     }
     Ok(())
 }

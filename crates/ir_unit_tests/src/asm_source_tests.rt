@@ -92,13 +92,7 @@ fn repeated(
 }
 
 // A source as `repeated` makes it, and its first fault.
-type Repeated = (
-    &'static str,
-    usize,
-    &'static str,
-    &'static str,
-    (usize, u8),
-);
+type Repeated = (&'static str, usize, &'static str, &'static str, (usize, u8));
 
 const DISTANCES: [Repeated; 3] = [
     ("beq a0, a1, far\n", 1022, "nop\n", "far: nop", (0, 0)),
@@ -141,7 +135,10 @@ fn a_jump_goes_far(rt: HostRuntime) -> Result<(), Fail> {
     let first = "start: jal zero, far\n";
     let source = repeated(rt.alloc(), first, 15_000, "nop\n", "far: jal ra, start")?;
     let image = assemble(rt.alloc(), &source)?;
-    assert_eq!(rt; ends_of(&image), (15_002, Some(0x2650_e06f), Some(0xd9cf_10ef)));
+    assert_eq!(rt;
+        ends_of(&image),
+        (15_002, Some(0x2650_e06f), Some(0xd9cf_10ef))
+    );
     Ok(())
 }
 

@@ -75,6 +75,9 @@ fn a_number_out_of_its_limits_is_the_callers_fault(rt: HostRuntime) {
 #[test]
 fn a_field_that_is_not_whole_is_short_whatever_its_limits(rt: HostRuntime) {
     for (field, length) in [(0, 0), (1, 3), (2, 7), (3, 1), (4, 3)] {
-        assert!(rt; fault_at(field, &ALL[..length]) == Some(Fault::Short), "at {field}");
+        assert!(rt;
+            fault_at(field, &ALL[..length]) == Some(Fault::Short),
+            "at {field}"
+        );
     }
 }

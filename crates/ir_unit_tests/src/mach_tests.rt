@@ -173,7 +173,10 @@ fn after_jump(rt: &impl Abort, alloc: Global, more: i32) -> Result<(Ran, u32, u3
 fn jumps(rt: HostRuntime) -> Result<(), Fail> {
     for (more, wanted, pc, left) in JUMPS {
         assert!(rt; more == 5 || more == 6);
-        assert!(rt; after_jump(&rt, rt.alloc(), more)? == (wanted, pc, left), "by {more}");
+        assert!(rt;
+            after_jump(&rt, rt.alloc(), more)? == (wanted, pc, left),
+            "by {more}"
+        );
     }
     Ok(())
 }
@@ -220,7 +223,12 @@ fn branches(rt: HostRuntime) -> Result<(), Fail> {
 
 // The machine that wrote x0, and a0, and came to an EBREAK.
 fn broken(rt: &impl Abort, alloc: Global) -> Result<(Ran, Mach), Fail> {
-    last(rt, alloc, &[add(ZERO, ZERO, 1), add(A0, ZERO, 3), Inst::Ebreak], 2)
+    last(
+        rt,
+        alloc,
+        &[add(ZERO, ZERO, 1), add(A0, ZERO, 3), Inst::Ebreak],
+        2,
+    )
 }
 
 // A write to x0 is lost, and EBREAK ends the thread.
@@ -354,7 +362,10 @@ fn a_run_is_its_steps(rt: HostRuntime) -> Result<(), Fail> {
     let mut stepped = Mach::new(rt.alloc(), &image, 0)?;
     for steps in 1..15u64 {
         assert!(rt; stepped.step(image.code()) == Ran::Ran);
-        assert!(rt; leaves(rt.alloc(), &image, steps, &stepped)?, "after {steps}");
+        assert!(rt;
+            leaves(rt.alloc(), &image, steps, &stepped)?,
+            "after {steps}"
+        );
     }
     assert_eq!(rt; stepped.reg(6), 0);
     Ok(())

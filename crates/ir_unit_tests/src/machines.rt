@@ -6,9 +6,7 @@ ghost use Rattle.ir_image.specs.Guest.{IsWord, most_code_words};
 
 use crate::registers::{A0, T0, T1};
 use ir_image::{Code, Image, MOST_CODE_WORDS};
-use ir_isa::{
-    Immediate, ImmediateOp, Inst, LoadOp, Register, StoreOp, UpperImmediate, encode,
-};
+use ir_isa::{Immediate, ImmediateOp, Inst, LoadOp, Register, StoreOp, UpperImmediate, encode};
 use std::alloc::{AllocError, Global};
 use std::process::Abort;
 use std::test::Fail;

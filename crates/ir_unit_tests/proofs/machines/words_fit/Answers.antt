@@ -1,5 +1,5 @@
 use Rattle.std.proofs.Common.{rules}
-use Rattle.ir_unit_tests.proofs.Guests.{words_fit}
+use Rattle.ir_unit_tests.proofs.Words.{words_fit}
 use Rattle.ir_unit_tests.proofs.machines.words_fit.Goals as goal
 
 pub returns : goal.returns
