@@ -1,5 +1,4 @@
 mod Lists
-mod Guests
 mod Runs
 mod Operations
 mod Meaning

@@ -2,8 +2,6 @@
 #![tactic(auto)]
 
 mod arithmetic;
-#[cfg(test)]
-mod arithmetic_tests;
 mod effect;
 mod execute;
 mod laws;
@@ -13,8 +11,6 @@ mod outcome;
 mod performing;
 mod regs;
 mod run;
-#[cfg(test)]
-mod tests;
 
 pub use laws::{built_again, steps_together};
 pub use mach::{MEMORY_PAGES, Mach, PAGE_SIZE};

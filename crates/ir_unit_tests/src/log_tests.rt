@@ -1,4 +1,6 @@
-use crate::{Cursor, Disagree, Event, Log};
+//! Logs that are filled by hand, and what is expected of their places.
+
+use ir_log::{Cursor, Disagree, Event, Log};
 use ir_runs::{Access, EnvKind};
 use ir_thread::{Ask, MOST_EVENTS};
 use std::alloc::{AllocError, Global};
@@ -45,30 +47,29 @@ fn a_copy_has_the_room_too(rt: HostRuntime) -> Result<(), Fail> {
     Ok(())
 }
 
+// What is asked of that log, in turn, and what is expected then.
+const EXPECTED: [(Ask, Result<Event, Disagree>); 4] = [
+    (
+        Ask::Env(EnvKind::Clock),
+        Ok(Event::Answer(EnvKind::Clock, 5)),
+    ),
+    (Ask::Enter(3, Access::Reading), Ok(READ)),
+    (Ask::Enter(3, Access::Writing), Ok(WRITE)),
+    (Ask::Enter(3, Access::Writing), Err(Disagree)),
+];
+
 #[test]
 fn each_event_is_expected_in_its_turn(rt: HostRuntime) -> Result<(), Fail> {
     let log = three(rt.alloc())?;
     let mut cursor = Cursor::new();
-    assert_eq!(rt;
-        cursor.expect(&log, &Ask::Env(EnvKind::Clock)),
-        Ok(Event::Answer(EnvKind::Clock, 5))
-    );
-    cursor.advance();
-    assert_eq!(rt;
-        cursor.expect(&log, &Ask::Enter(3, Access::Reading)),
-        Ok(READ)
-    );
-    cursor.advance();
-    assert_eq!(rt;
-        cursor.expect(&log, &Ask::Enter(3, Access::Writing)),
-        Ok(WRITE)
-    );
-    cursor.advance();
-    assert_eq!(rt; cursor.place(), 3);
-    assert_eq!(rt;
-        cursor.expect(&log, &Ask::Enter(3, Access::Writing)),
-        Err(Disagree)
-    );
+    for (place, (ask, wanted)) in EXPECTED.iter().enumerate() {
+        assert_eq!(rt; cursor.place(), place);
+        let found = cursor.expect(&log, ask);
+        assert!(rt; found == *wanted);
+        if found.is_ok() {
+            cursor.advance();
+        }
+    }
     Ok(())
 }
 

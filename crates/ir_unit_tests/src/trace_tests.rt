@@ -1,7 +1,9 @@
-use crate::{Trace, TraceErr, read_trace, write_trace};
+//! Traces of a few bytes, and of as many as there can be, read and written.
+
 use ir_log::Event;
 use ir_runs::EnvKind;
 use ir_thread::End;
+use ir_trace::{Trace, TraceErr, read_trace, write_trace};
 use std::alloc::{AllocError, Global};
 use std::test::Fail;
 
@@ -71,49 +73,48 @@ fn events(trace: &Trace, thread: usize) -> &[Event] {
     }
 }
 
+const TRACES: [&[u8]; 4] = [&ONE_THREAD, &TWO_WRITERS, &READ_THEN_WRITE, &ANSWERS];
+
 #[test]
 fn traces_are_written_as_they_were_read(rt: HostRuntime) -> Result<(), Fail> {
-    assert!(rt; comes_again(rt.alloc(), &ONE_THREAD)?);
-    assert!(rt; comes_again(rt.alloc(), &TWO_WRITERS)?);
-    assert!(rt; comes_again(rt.alloc(), &READ_THEN_WRITE)?);
-    assert!(rt; comes_again(rt.alloc(), &ANSWERS)?);
+    for bytes in TRACES {
+        assert!(rt; comes_again(rt.alloc(), bytes)?);
+    }
     Ok(())
+}
+
+// The budget and the numbers of objects and threads.
+fn header(trace: &Trace) -> (u64, u8, usize) {
+    (trace.budget(), trace.objects(), trace.threads().len())
+}
+
+// The steps of a thread, its end and the room of its log.
+fn told(trace: &Trace, thread: usize) -> Option<(u64, End, usize)> {
+    let thread = trace.threads().get(thread)?;
+    Some((thread.steps(), thread.end(), thread.log().room()))
 }
 
 #[test]
 fn a_thread_without_events(rt: HostRuntime) -> Result<(), Fail> {
     let trace = read_trace(rt.alloc(), &ONE_THREAD)?;
-    assert_eq!(rt; trace.budget(), 1000);
-    assert_eq!(rt; trace.objects(), 0);
-    assert_eq!(rt; trace.threads().len(), 1);
-    let thread = &trace.threads()[0];
-    assert_eq!(rt; thread.steps(), 6);
-    assert_eq!(rt; thread.end(), End::Exit(144));
-    assert_eq!(rt; thread.log().room(), 0);
+    assert_eq!(rt; header(&trace), (1000, 0, 1));
+    assert_eq!(rt; told(&trace, 0), Some((6, End::Exit(144), 0)));
     Ok(())
 }
 
 #[test]
 fn two_writers_in_turn(rt: HostRuntime) -> Result<(), Fail> {
     let trace = read_trace(rt.alloc(), &TWO_WRITERS)?;
-    assert_eq!(rt; trace.objects(), 1);
-    assert_eq!(rt; trace.threads().len(), 2);
-    for thread in trace.threads() {
-        assert_eq!(rt; thread.steps(), 18);
-        assert_eq!(rt; thread.end(), End::Exit(0));
+    assert_eq!(rt; header(&trace), (1000, 1, 2));
+    for thread in 0..2usize {
+        assert_eq!(rt; told(&trace, thread), Some((18, End::Exit(0), 1)));
+        let written = Event::Write {
+            object: 0,
+            version: thread as u32,
+            readers: 0,
+        };
+        assert_eq!(rt; events(&trace, thread), [written].as_slice());
     }
-    let first = Event::Write {
-        object: 0,
-        version: 0,
-        readers: 0,
-    };
-    let second = Event::Write {
-        object: 0,
-        version: 1,
-        readers: 0,
-    };
-    assert_eq!(rt; events(&trace, 0), [first].as_slice());
-    assert_eq!(rt; events(&trace, 1), [second].as_slice());
     Ok(())
 }
 
@@ -133,32 +134,30 @@ fn a_reader_and_a_writer(rt: HostRuntime) -> Result<(), Fail> {
     Ok(())
 }
 
+// The events of the trace with an answer of each kind.
+const OF_EACH_KIND: [Event; 4] = [
+    Event::Answer(EnvKind::Clock, 0x0403_0201),
+    Event::Answer(EnvKind::Random, 0x0807_0605),
+    Event::Answer(EnvKind::Input, 255),
+    Event::Answer(EnvKind::Input, 0xffff_ffff),
+];
+
 #[test]
 fn answers_of_each_kind(rt: HostRuntime) -> Result<(), Fail> {
     let trace = read_trace(rt.alloc(), &ANSWERS)?;
-    assert_eq!(rt; trace.budget(), 1_000_000_000_000);
+    assert_eq!(rt; header(&trace), (1_000_000_000_000, 16, 1));
+    assert_eq!(rt; events(&trace, 0), OF_EACH_KIND.as_slice());
     assert_eq!(rt;
-        events(&trace, 0),
-        [
-            Event::Answer(EnvKind::Clock, 0x0403_0201),
-            Event::Answer(EnvKind::Random, 0x0807_0605),
-            Event::Answer(EnvKind::Input, 255),
-            Event::Answer(EnvKind::Input, 0xffff_ffff)
-        ]
-        .as_slice()
+        told(&trace, 0),
+        Some((0x8000_0000_0000_0007, End::LogFull, 4))
     );
-    let thread = &trace.threads()[0];
-    assert_eq!(rt; thread.end(), End::LogFull);
-    assert_eq!(rt; thread.steps(), 0x8000_0000_0000_0007);
     Ok(())
 }
 
 #[test]
 fn a_log_has_room_for_its_events_alone(rt: HostRuntime) -> Result<(), Fail> {
-    let trace = read_trace(rt.alloc(), &ANSWERS)?;
-    assert_eq!(rt; trace.threads()[0].log().room(), 4);
     let trace = read_trace(rt.alloc(), &READ_THEN_WRITE)?;
-    assert_eq!(rt; trace.threads()[0].log().room(), 2);
+    assert_eq!(rt; told(&trace, 0), Some((11, End::Exit(0), 2)));
     Ok(())
 }
 
@@ -172,19 +171,20 @@ fn a_copy_is_written_alike(rt: HostRuntime) -> Result<(), Fail> {
     Ok(())
 }
 
+// Whether the first bytes are refused as short, however many they are below all.
+fn prefixes_are_short(alloc: Global, bytes: &[u8]) -> bool {
+    for length in 0..bytes.len() {
+        if refusal(alloc, prefix(bytes, length)) != Some(1) {
+            return false;
+        }
+    }
+    true
+}
+
 #[test]
 fn every_prefix_is_short(rt: HostRuntime) {
-    for length in 0..33usize {
-        assert_eq!(rt; refusal(rt.alloc(), &ONE_THREAD[..length]), Some(1));
-    }
-    for length in 0..70usize {
-        assert_eq!(rt; refusal(rt.alloc(), &TWO_WRITERS[..length]), Some(1));
-    }
-    for length in 0..49usize {
-        assert_eq!(rt; refusal(rt.alloc(), &READ_THEN_WRITE[..length]), Some(1));
-    }
-    for length in 0..53usize {
-        assert_eq!(rt; refusal(rt.alloc(), &ANSWERS[..length]), Some(1));
+    for bytes in TRACES {
+        assert!(rt; prefixes_are_short(rt.alloc(), bytes));
     }
 }
 
@@ -197,74 +197,87 @@ fn one_byte_more_is_refused(rt: HostRuntime) -> Result<(), Fail> {
     Ok(())
 }
 
+// A trace, the place of another byte, the byte, and the refusal.
+type Fault = (&'static [u8], usize, u8, u8);
+
 // the magic, the numbers of threads and objects, the reserved bytes, the end, its code, the number of events
+const OF_THREADS: [Fault; 12] = [
+    (&ONE_THREAD, 0, 0, 2),
+    (&ONE_THREAD, 4, 0, 3),
+    (&ONE_THREAD, 4, 9, 3),
+    (&ONE_THREAD, 5, 17, 3),
+    (&ONE_THREAD, 6, 1, 5),
+    (&ONE_THREAD, 7, 1, 5),
+    (&ONE_THREAD, 13, 1, 3),
+    (&ONE_THREAD, 24, 0, 6),
+    (&ONE_THREAD, 24, 2, 6),
+    (&ONE_THREAD, 24, 15, 6),
+    (&ONE_THREAD, 31, 0x11, 3),
+    (&ONE_THREAD, 29, 1, 1),
+];
+
+// tags, objects, an input of 256 and of 0xffffff00, a budget over its limit by one
+const OF_EVENTS: [Fault; 8] = [
+    (&ANSWERS, 8, 1, 3),
+    (&ANSWERS, 33, 0, 4),
+    (&ANSWERS, 33, 6, 4),
+    (&ANSWERS, 43, 6, 4),
+    (&ANSWERS, 45, 1, 6),
+    (&ANSWERS, 49, 0, 6),
+    (&READ_THEN_WRITE, 34, 1, 3),
+    (&READ_THEN_WRITE, 40, 1, 3),
+];
+
 #[test]
 fn the_fault_is_named(rt: HostRuntime) -> Result<(), Fail> {
-    for (place, byte, want) in [
-        (0, 0, 2),
-        (4, 0, 3),
-        (4, 9, 3),
-        (5, 17, 3),
-        (6, 1, 5),
-        (7, 1, 5),
-        (13, 1, 3),
-        (24, 0, 6),
-        (24, 2, 6),
-        (24, 15, 6),
-        (31, 0x11, 3),
-        (29, 1, 1),
-    ] {
-        let bytes = changed(rt.alloc(), &ONE_THREAD, place, byte)?;
-        assert_eq!(rt; refusal(rt.alloc(), &bytes), Some(want), "at {place}");
+    for table in [OF_THREADS.as_slice(), OF_EVENTS.as_slice()] {
+        for (bytes, place, byte, want) in table {
+            let bytes = changed(rt.alloc(), bytes, *place, *byte)?;
+            assert_eq!(rt; refusal(rt.alloc(), &bytes), Some(*want), "at {place}");
+        }
     }
     Ok(())
 }
 
-// tags, objects, an input of 256 and of 0xffffff00, a budget over its limit by one
-#[test]
-fn the_fault_of_an_event_is_named(rt: HostRuntime) -> Result<(), Fail> {
-    for (place, byte, want) in [
-        (8, 1, 3),
-        (33, 0, 4),
-        (33, 6, 4),
-        (43, 6, 4),
-        (45, 1, 6),
-        (49, 0, 6),
-    ] {
-        let bytes = changed(rt.alloc(), &ANSWERS, place, byte)?;
-        assert_eq!(rt; refusal(rt.alloc(), &bytes), Some(want), "at {place}");
-    }
-    for place in [34, 40] {
-        let bytes = changed(rt.alloc(), &READ_THEN_WRITE, place, 1)?;
-        assert_eq!(rt; refusal(rt.alloc(), &bytes), Some(3));
-    }
-    Ok(())
+// A trace, two places with another byte each, how many bytes there are, and the refusal.
+type Faults = (&'static [u8], [(usize, u8); 2], usize, u8);
+
+const FAULTS: [Faults; 5] = [
+    // an object that there isn't, before its version is there
+    (&READ_THEN_WRITE, [(34, 1), (34, 1)], 35, 3),
+    // an end that there isn't, before its code is there
+    (&READ_THEN_WRITE, [(24, 15), (24, 15)], 25, 6),
+    // reserved bytes, before a budget over its limit
+    (&READ_THEN_WRITE, [(6, 1), (14, 1)], 49, 5),
+    // 1,048,576 events without their bytes, and one more
+    (&ONE_THREAD, [(31, 0x10), (31, 0x10)], 33, 1),
+    (&ONE_THREAD, [(31, 0x10), (29, 1)], 33, 3),
+];
+
+// The refusal of so many bytes with two others among them.
+fn refusal_of_two(
+    alloc: Global,
+    bytes: &[u8],
+    [first, second]: [(usize, u8); 2],
+    length: usize,
+) -> Result<Option<u8>, AllocError> {
+    let once = changed(alloc, bytes, first.0, first.1)?;
+    let twice = changed(alloc, &once, second.0, second.1)?;
+    Ok(refusal(alloc, prefix(&twice, length)))
 }
 
 #[test]
 fn the_first_fault_is_named(rt: HostRuntime) -> Result<(), Fail> {
-    // an object that there isn't, before its version is there
-    let object = changed(rt.alloc(), &READ_THEN_WRITE, 34, 1)?;
-    assert_eq!(rt; refusal(rt.alloc(), prefix(&object, 35)), Some(3));
-    // an end that there isn't, before its code is there
-    let end = changed(rt.alloc(), &READ_THEN_WRITE, 24, 15)?;
-    assert_eq!(rt; refusal(rt.alloc(), prefix(&end, 25)), Some(6));
-    // reserved bytes, before a budget over its limit
-    let reserved = changed(rt.alloc(), &READ_THEN_WRITE, 6, 1)?;
-    let both = changed(rt.alloc(), &reserved, 14, 1)?;
-    assert_eq!(rt; refusal(rt.alloc(), &both), Some(5));
+    for (bytes, places, length, want) in FAULTS {
+        let refused = refusal_of_two(rt.alloc(), bytes, places, length)?;
+        assert_eq!(rt; refused, Some(want), "of {length}");
+    }
     Ok(())
 }
 
 #[test]
-fn events_without_their_bytes_are_short(rt: HostRuntime) -> Result<(), Fail> {
-    // 1,048,576 events, and one more
-    let many = changed(rt.alloc(), &ONE_THREAD, 31, 0x10)?;
-    assert_eq!(rt; refusal(rt.alloc(), &many), Some(1));
-    let over = changed(rt.alloc(), &many, 29, 1)?;
-    assert_eq!(rt; refusal(rt.alloc(), &over), Some(3));
+fn want_of_memory_has_no_number(rt: HostRuntime) {
     assert_eq!(rt; TraceErr::NoMem.number(), None);
-    Ok(())
 }
 
 // Eight threads, 16 objects and a budget of 10^12; the first thread logged 1,048,576 events, and each took as many steps as can be said.
@@ -285,15 +298,18 @@ fn largest(alloc: Global) -> Result<Vec<u8>, AllocError> {
 }
 
 #[test]
-fn the_largest_counts_are_read_and_written(rt: HostRuntime) -> Result<(), Fail> {
-    let mut bytes = largest(rt.alloc())?;
-    let trace = read_trace(rt.alloc(), &bytes)?;
-    assert_eq!(rt; trace.objects(), 16);
-    assert_eq!(rt; trace.budget(), 1_000_000_000_000);
-    assert_eq!(rt; trace.threads().len(), 8);
+fn the_largest_counts_are_read(rt: HostRuntime) -> Result<(), Fail> {
+    let trace = read_trace(rt.alloc(), &largest(rt.alloc())?)?;
+    assert_eq!(rt; header(&trace), (1_000_000_000_000, 16, 8));
     for thread in trace.threads() {
         assert_eq!(rt; thread.steps(), 0xffff_ffff_ffff_ffff);
     }
+    Ok(())
+}
+
+#[test]
+fn the_most_events_are_read(rt: HostRuntime) -> Result<(), Fail> {
+    let trace = read_trace(rt.alloc(), &largest(rt.alloc())?)?;
     let last = Event::Write {
         object: 15,
         version: 0xffff_ffff,
@@ -301,10 +317,18 @@ fn the_largest_counts_are_read_and_written(rt: HostRuntime) -> Result<(), Fail> 
     };
     assert_eq!(rt; events(&trace, 0).len(), 1_048_576);
     assert_eq!(rt; events(&trace, 0).last(), Some(&last));
-    assert_eq!(rt;
-        write_trace(rt.alloc(), &trace)?.as_slice(),
-        bytes.as_slice()
-    );
+    Ok(())
+}
+
+#[test]
+fn the_largest_counts_are_written(rt: HostRuntime) -> Result<(), Fail> {
+    assert!(rt; comes_again(rt.alloc(), &largest(rt.alloc())?)?);
+    Ok(())
+}
+
+#[test]
+fn no_byte_follows_the_largest(rt: HostRuntime) -> Result<(), Fail> {
+    let mut bytes = largest(rt.alloc())?;
     bytes.push(0)?;
     assert_eq!(rt; refusal(rt.alloc(), &bytes), Some(7));
     Ok(())

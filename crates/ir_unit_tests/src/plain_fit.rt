@@ -1,7 +1,7 @@
 //! What `fit` answers of a trace of two threads, found by looking at all events and by trying all orders of the steps.
 //! Slow, and nothing of `fit` is used.
 
-use crate::Cause;
+use ir_fit::Cause;
 use ir_flat::Flat;
 use ir_log::Event;
 use ir_object::Object;

@@ -1,7 +1,8 @@
 //! Entries and leaves of fitted traces, looked up by object, access and version.
 
-use crate::fit_tests::{CROSSED, READ_AND_WRITE, crossed_trace, guest};
-use crate::{Fitted, Place, fit};
+use crate::fit_tests::{CROSSED, READ_AND_WRITE, crossed_trace};
+use crate::guests::guest;
+use ir_fit::{Fitted, Place, fit};
 use ir_image::Image;
 use ir_runs::Access;
 use ir_trace::read_trace;

@@ -1,6 +1,6 @@
-// Sources and what they give, worked out by hand from the tables of statements and causes.
+//! Sources and what they give, worked out by hand from the tables of statements and causes.
 
-use crate::{AsmErr, assemble};
+use ir_asm::{AsmErr, Cause, assemble};
 use ir_image::{Image, read_image, write_image};
 use std::alloc::Global;
 use std::test::Fail;
@@ -55,6 +55,12 @@ pub fn fault_of(alloc: Global, source: &str) -> (usize, u8) {
 }
 
 #[test]
+fn causes_have_numbers(rt: HostRuntime) {
+    assert_eq!(rt; Cause::BadByte.number(), 1);
+    assert_eq!(rt; Cause::BadLabel.number(), 12);
+}
+
+#[test]
 fn each_cause(rt: HostRuntime) {
     for (source, line, cause) in CAUSES {
         assert_eq!(rt; fault_of(rt.alloc(), source), (line, cause), "{source}");
@@ -85,15 +91,42 @@ fn repeated(
     Ok(source)
 }
 
+// A source as `repeated` makes it, and its first fault.
+type Repeated = (&'static str, usize, &'static str, &'static str, (usize, u8));
+
+const DISTANCES: [Repeated; 3] = [
+    ("beq a0, a1, far\n", 1022, "nop\n", "far: nop", (0, 0)),
+    ("beq a0, a1, far\n", 1024, "nop\n", "far: nop", (1, 8)),
+    ("far: nop\n", 1024, "nop\n", "beq a0, a1, far", (1026, 8)),
+];
+
+const SIZES: [Repeated; 3] = [
+    ("", 16_384, "nop\n", "", (0, 0)),
+    ("", 16_383, "nop\n", "li a0, 1", (16_384, 10)),
+    ("a: nop\n", 9, ".thread a\n", "", (10, 11)),
+];
+
+const LABELS: [Repeated; 2] = [
+    ("", 64, "a", ": nop", (0, 0)),
+    ("", 65, "a", ": nop", (1, 12)),
+];
+
 #[test]
-fn distances_at_the_limit(rt: HostRuntime) -> Result<(), Fail> {
-    let near = repeated(rt.alloc(), "beq a0, a1, far\n", 1022, "nop\n", "far: nop")?;
-    assert_eq!(rt; fault_of(rt.alloc(), &near), (0, 0));
-    let far = repeated(rt.alloc(), "beq a0, a1, far\n", 1024, "nop\n", "far: nop")?;
-    assert_eq!(rt; fault_of(rt.alloc(), &far), (1, 8));
-    let back = repeated(rt.alloc(), "far: nop\n", 1024, "nop\n", "beq a0, a1, far")?;
-    assert_eq!(rt; fault_of(rt.alloc(), &back), (1026, 8));
+fn limits(rt: HostRuntime) -> Result<(), Fail> {
+    for table in [DISTANCES.as_slice(), SIZES.as_slice(), LABELS.as_slice()] {
+        for (first, times, statement, last, fault) in table {
+            let source = repeated(rt.alloc(), first, *times, statement, last)?;
+            assert_eq!(rt; fault_of(rt.alloc(), &source), *fault, "of {times}");
+        }
+    }
     Ok(())
+}
+
+// How many words of code there are, the first and the last.
+fn ends_of(image: &Image) -> (usize, Option<u32>, Option<u32>) {
+    let words = image.code().words();
+    let first = words.first().copied();
+    (words.len(), first, words.last().copied())
 }
 
 // 60,004 bytes on, and back again.
@@ -102,29 +135,10 @@ fn a_jump_goes_far(rt: HostRuntime) -> Result<(), Fail> {
     let first = "start: jal zero, far\n";
     let source = repeated(rt.alloc(), first, 15_000, "nop\n", "far: jal ra, start")?;
     let image = assemble(rt.alloc(), &source)?;
-    assert_eq!(rt; image.code().words().len(), 15_002);
-    assert_eq!(rt; image.code().words().first(), Some(&0x2650_e06f));
-    assert_eq!(rt; image.code().words().last(), Some(&0xd9cf_10ef));
-    Ok(())
-}
-
-#[test]
-fn sizes_at_the_limit(rt: HostRuntime) -> Result<(), Fail> {
-    let full = repeated(rt.alloc(), "", 16_384, "nop\n", "")?;
-    assert_eq!(rt; fault_of(rt.alloc(), &full), (0, 0));
-    let over = repeated(rt.alloc(), "", 16_383, "nop\n", "li a0, 1")?;
-    assert_eq!(rt; fault_of(rt.alloc(), &over), (16_384, 10));
-    let threads = repeated(rt.alloc(), "a: nop\n", 9, ".thread a\n", "")?;
-    assert_eq!(rt; fault_of(rt.alloc(), &threads), (10, 11));
-    Ok(())
-}
-
-#[test]
-fn labels_have_64_characters(rt: HostRuntime) -> Result<(), Fail> {
-    let long = repeated(rt.alloc(), "", 64, "a", ": nop")?;
-    assert_eq!(rt; fault_of(rt.alloc(), &long), (0, 0));
-    let longer = repeated(rt.alloc(), "", 65, "a", ": nop")?;
-    assert_eq!(rt; fault_of(rt.alloc(), &longer), (1, 12));
+    assert_eq!(rt;
+        ends_of(&image),
+        (15_002, Some(0x2650_e06f), Some(0xd9cf_10ef))
+    );
     Ok(())
 }
 
@@ -159,8 +173,7 @@ fn one_thread(rt: HostRuntime) -> Result<(), Fail> {
     ];
     assert_eq!(rt; image.code().words(), words.as_slice());
     assert_eq!(rt; image.entries(), [0x0001_0000].as_slice());
-    assert!(rt; image.bytes().is_empty());
-    assert!(rt; image.words().is_empty());
+    assert!(rt; image.bytes().is_empty() && image.words().is_empty());
     Ok(())
 }
 
@@ -188,8 +201,9 @@ d: .word 258
 #[test]
 fn eight_threads(rt: HostRuntime) -> Result<(), Fail> {
     let image = again(rt.alloc(), EIGHT)?;
-    assert_eq!(rt; image.entries().len(), 8);
-    assert_eq!(rt; image.entries()[..2], [0x0001_0000, 0x0001_0008][..]);
+    let mut entries = [0x0001_0008; 8];
+    entries[0] = 0x0001_0000;
+    assert_eq!(rt; image.entries(), entries.as_slice());
     let words = [0x0010_0537, 0x0015_0513, 0xfeb5_1ce3];
     assert_eq!(rt; image.code().words(), words.as_slice());
     assert_eq!(rt; image.bytes(), [7, 2, 1, 0, 0, 0, 255].as_slice());
@@ -200,9 +214,8 @@ fn eight_threads(rt: HostRuntime) -> Result<(), Fail> {
 fn sixteen_objects(rt: HostRuntime) -> Result<(), Fail> {
     let image = again(rt.alloc(), EIGHT)?;
     let words = image.words();
-    assert_eq!(rt; words.len(), 128);
     let (zeros, last) = words.split_at(words.len().min(120));
-    assert!(rt; zeros.iter().all(|word| *word == 0));
+    assert!(rt; words.len() == 128 && zeros.iter().all(|word| *word == 0));
     assert_eq!(rt; last, [5, 0xffff_fffe, 0, 0, 0, 0, 0, 0].as_slice());
     Ok(())
 }

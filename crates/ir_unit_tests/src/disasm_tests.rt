@@ -1,6 +1,6 @@
-// Words and their texts, put together by hand from the manual's drawings.
+//! Words and their texts, put together by hand from the manual's drawings.
 
-use crate::disassemble;
+use ir_disasm::disassemble;
 
 // A word, where it stands, and its text.
 type Row = (u32, u32, &'static str);

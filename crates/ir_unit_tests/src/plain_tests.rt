@@ -1,9 +1,9 @@
 //! `fit` beside a plain program, on all short traces of a small guest.
 
-use crate::coherence_tests::put;
-use crate::fit_tests::guest;
+use crate::event_bytes::put;
+use crate::guests::guest;
 use crate::plain_fit::{Answer, broken, standing};
-use crate::{Cause, FitErr, Verdict, fit};
+use ir_fit::{Cause, FitErr, Verdict, fit};
 use ir_flat::Flat;
 use ir_log::Event;
 use ir_runs::{EnvKind, ThreadVerdict};

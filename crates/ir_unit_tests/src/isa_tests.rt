@@ -1,21 +1,10 @@
-// Words that were put together by hand from the manual's drawings.
+//! Words that were put together by hand from the manual's drawings.
 
-use crate::{
-    BranchOffset, BranchOp, Illegal, Immediate, ImmediateOp, Inst, JumpOffset, LoadOp, Register,
-    RegisterOp, ShiftAmount, ShiftOp, StoreOp, UpperImmediate, decode, encode, reg_name,
+use crate::registers::{A0, RA, SP, T0, T1, T2, ZERO};
+use ir_isa::{
+    BranchOffset, BranchOp, Illegal, Immediate, ImmediateOp, Inst, JumpOffset, LoadOp, RegisterOp,
+    ShiftAmount, ShiftOp, StoreOp, UpperImmediate, decode, encode, reg_name,
 };
-
-const RA: Register = Register { number: 1 };
-
-const SP: Register = Register { number: 2 };
-
-const T0: Register = Register { number: 5 };
-
-const T1: Register = Register { number: 6 };
-
-const T2: Register = Register { number: 7 };
-
-const A0: Register = Register { number: 10 };
 
 // One word of each format.
 const WORDS: [(u32, Inst); 13] = [
@@ -80,7 +69,7 @@ const WORDS: [(u32, Inst); 13] = [
         Inst::OpImm {
             op: ImmediateOp::Addi,
             rd: RA,
-            rs1: Register { number: 0 },
+            rs1: ZERO,
             imm: Immediate { value: 5 },
         },
     ),
@@ -105,8 +94,8 @@ const WORDS: [(u32, Inst); 13] = [
     (
         0x0ff0_000f,
         Inst::Fence {
-            rd: Register { number: 0 },
-            rs1: Register { number: 0 },
+            rd: ZERO,
+            rs1: ZERO,
             imm: Immediate { value: 0xff },
         },
     ),

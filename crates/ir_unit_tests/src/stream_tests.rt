@@ -1,8 +1,9 @@
+//! Readers and writers of std as sources and sinks, and what is kept of a line.
+
 ghost use Rattle.std.specs.Prelude.{IfOk, ◌≤◌};
 
-use super::*;
+use ir_stream::{DeviceErr, FromStd, KEPT, Next, Sink, Source, append, keep, next_byte, write_all};
 use std::io::{Error, ErrorKind, Read, Write};
-use std::test::*;
 
 // A reader and writer of std that is interrupted, takes one byte, takes none, and fails.
 #[derive(Drop)]
@@ -43,23 +44,38 @@ impl Write for Flaky {
 }
 
 #[test]
-fn wraps_readers_and_writers_of_std(rt: HostRuntime) {
+fn a_reader_of_std_is_a_source(rt: HostRuntime) {
     let mut reader = FromStd::new(b"ab".as_slice());
-    assert_eq!(rt; next_byte(&mut reader), Next::Byte(b'a'));
-    assert_eq!(rt; next_byte(&mut reader), Next::Byte(b'b'));
-    assert_eq!(rt; next_byte(&mut reader), Next::End);
-    assert!(rt; !Source::failed(&reader));
+    for wanted in [Next::Byte(b'a'), Next::Byte(b'b'), Next::End] {
+        assert_eq!(rt; next_byte(&mut reader), wanted);
+        assert!(rt; !Source::failed(&reader));
+    }
+}
+
+#[test]
+fn a_writer_of_std_is_a_sink(rt: HostRuntime) {
     let mut writer = FromStd::new(Vec::new(rt.alloc()));
     assert_eq!(rt; write_all(&mut writer, b"answers"), Ok(()));
     assert!(rt; !Sink::failed(&writer));
+}
+
+#[test]
+fn a_sink_fails_as_its_writer_does(rt: HostRuntime) {
     let mut flaky = FromStd::new(Flaky { calls: 0 });
     assert_eq!(rt; Sink::write(&mut flaky, b"xy"), Ok(1));
     assert!(rt; !Sink::failed(&flaky));
     assert_eq!(rt; Sink::write(&mut flaky, b"xy"), Err(DeviceErr));
     assert!(rt; Sink::failed(&flaky));
+}
+
+#[test]
+fn a_source_fails_as_its_reader_does(rt: HostRuntime) {
     let mut flaky = FromStd::new(Flaky { calls: 0 });
-    assert_eq!(rt; Source::read(&mut flaky, &mut [0]), Ok(1));
-    assert_eq!(rt; Source::read(&mut flaky, &mut [0]), Ok(0));
+    let read = (
+        Source::read(&mut flaky, &mut [0]),
+        Source::read(&mut flaky, &mut [0]),
+    );
+    assert_eq!(rt; read, (Ok(1), Ok(0)));
     assert!(rt; !Source::failed(&flaky));
     assert_eq!(rt; Source::read(&mut flaky, &mut [0]), Err(DeviceErr));
     assert!(rt; Source::failed(&flaky));

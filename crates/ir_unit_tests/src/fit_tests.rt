@@ -1,46 +1,14 @@
 //! Guests of a few instructions, run along traces that are theirs, and along others.
 
-use crate::{Cause, FitErr, Fitted, HeaderCause, Leave, Verdict, fit};
-use ir_image::{Image, read_image};
+use crate::guests::{
+    ECALL, ENTER_READ, ENTER_WRITE, EXIT, FIRST_OBJECT, LEAVE, PRINT_BYTE, SECOND_OBJECT, guest,
+};
+use ir_fit::{Cause, FitErr, Fitted, HeaderCause, Leave, Verdict, fit};
+use ir_image::Image;
 use ir_runs::{Access, ThreadVerdict};
 use ir_trace::read_trace;
 use std::alloc::Global;
 use std::test::Fail;
-
-const ECALL: u32 = 0x73;
-
-// addi a0, zero, 0.
-const FIRST_OBJECT: u32 = 0x0000_0513;
-
-// addi a0, zero, 1.
-const SECOND_OBJECT: u32 = 0x0010_0513;
-
-// addi a7, zero, 1, and so on for the other calls.
-const EXIT: u32 = 0x0010_0893;
-
-const PRINT_BYTE: u32 = 0x0020_0893;
-
-const ENTER_READ: u32 = 0x0070_0893;
-
-const ENTER_WRITE: u32 = 0x0080_0893;
-
-const LEAVE: u32 = 0x0090_0893;
-
-// A guest whose threads start at these words, and objects that begin with zeros.
-pub fn guest(alloc: Global, starts: &[u8], objects: u8, code: &[u32]) -> Result<Image, Fail> {
-    let mut bytes = Vec::new(alloc);
-    let threads = starts.len().min(8) as u8;
-    bytes.extend_from_slice(&[0x49, 0x52, 0x49, 0x31, threads, objects])?;
-    bytes.extend_from_slice(&[code.len().min(255) as u8, 0, 0, 0, 0, 0, 0, 0])?;
-    for start in starts {
-        bytes.extend_from_slice(&[*start, 0, 1, 0])?;
-    }
-    for word in code {
-        bytes.extend_from_slice(&word.to_le_bytes())?;
-    }
-    bytes.resize(bytes.len().min(10_000) + 32 * objects as usize, 0)?;
-    Ok(read_image(alloc, &bytes)?)
-}
 
 // What `fit` answers.
 #[derive(Clone, Copy, Debug, PartialEq)]
@@ -78,14 +46,23 @@ fn answer_of(alloc: Global, image: Image, bytes: &[u8]) -> Result<Judged, Fail> 
 }
 
 // That the only thread disagrees.
-fn disagrees(event: u32, step: u64) -> Judged {
-    Judged::Threads(Some(ThreadVerdict::Disagrees { event, step }), None)
-}
+const AT_STEP_2: Judged = Judged::Threads(
+    Some(ThreadVerdict::Disagrees { event: 0, step: 2 }),
+    None,
+);
 
-// That the only thread starves.
-fn starves(event: u32) -> Judged {
-    Judged::Threads(Some(ThreadVerdict::Starves { event }), None)
-}
+const AT_STEP_5: Judged = Judged::Threads(
+    Some(ThreadVerdict::Disagrees { event: 0, step: 5 }),
+    None,
+);
+
+const AT_STEP_10: Judged = Judged::Threads(
+    Some(ThreadVerdict::Disagrees { event: 2, step: 10 }),
+    None,
+);
+
+// That a thread starves at its first event.
+const STARVES: Option<ThreadVerdict> = Some(ThreadVerdict::Starves { event: 0 });
 
 // Prints a byte and ends with its double as the code.
 const DOUBLE: [u32; 6] = [
@@ -112,34 +89,21 @@ fn double(alloc: Global, budget: u8, steps: [u8; 8], code: u8) -> Result<Judged,
     answer_of(alloc, image, &double_trace(budget, steps, code))
 }
 
-#[test]
-fn an_own_trace_fits(rt: HostRuntime) -> Result<(), Fail> {
-    let said = double(rt.alloc(), 100, [6, 0, 0, 0, 0, 0, 0, 0], 144)?;
-    assert_eq!(rt; said, Judged::Fits);
-    Ok(())
-}
+// The budget, the steps, the code, and what is answered: the first trace is the thread's own.
+const DOUBLES: [(u8, [u8; 8], u8, Judged); 6] = [
+    (100, [6, 0, 0, 0, 0, 0, 0, 0], 144, Judged::Fits),
+    (100, [7, 0, 0, 0, 0, 0, 0, 0], 144, AT_STEP_5),
+    (100, [5, 0, 0, 0, 0, 0, 0, 0], 144, AT_STEP_5),
+    (100, [255; 8], 144, AT_STEP_5),
+    (100, [6, 0, 0, 0, 0, 0, 0, 0], 0, AT_STEP_5),
+    (2, [6, 0, 0, 0, 0, 0, 0, 0], 144, AT_STEP_2),
+];
 
 #[test]
-fn steps_are_those_of_the_end(rt: HostRuntime) -> Result<(), Fail> {
-    let other = disagrees(0, 5);
-    assert_eq!(rt;
-        double(rt.alloc(), 100, [7, 0, 0, 0, 0, 0, 0, 0], 144)?,
-        other
-    );
-    assert_eq!(rt;
-        double(rt.alloc(), 100, [5, 0, 0, 0, 0, 0, 0, 0], 144)?,
-        other
-    );
-    assert_eq!(rt; double(rt.alloc(), 100, [255; 8], 144)?, other);
-    Ok(())
-}
-
-#[test]
-fn code_and_budget_are_the_trace_s(rt: HostRuntime) -> Result<(), Fail> {
-    let code = double(rt.alloc(), 100, [6, 0, 0, 0, 0, 0, 0, 0], 0)?;
-    assert_eq!(rt; code, disagrees(0, 5));
-    let budget = double(rt.alloc(), 2, [6, 0, 0, 0, 0, 0, 0, 0], 144)?;
-    assert_eq!(rt; budget, disagrees(0, 2));
+fn steps_code_and_budget_are_the_trace_s(rt: HostRuntime) -> Result<(), Fail> {
+    for (budget, steps, code, wanted) in DOUBLES {
+        assert_eq!(rt; double(rt.alloc(), budget, steps, code)?, wanted);
+    }
     Ok(())
 }
 
@@ -168,38 +132,42 @@ fn read_and_write(alloc: Global, count: u8, events: &[u8]) -> Result<Judged, Fai
     answer_of(alloc, image, &bytes)
 }
 
-#[test]
-fn a_writer_has_its_readers(rt: HostRuntime) -> Result<(), Fail> {
-    let own = [4, 0, 0, 0, 0, 0, 5, 0, 0, 0, 0, 0, 1, 0, 0, 0];
-    assert_eq!(rt; read_and_write(rt.alloc(), 2, &own)?, Judged::Fits);
-    let none = [4, 0, 0, 0, 0, 0, 5, 0, 0, 0, 0, 0, 0, 0, 0, 0];
-    assert_eq!(rt;
-        read_and_write(rt.alloc(), 2, &none)?,
-        Judged::Breaks(0, 1, Cause::Readers)
-    );
-    Ok(())
-}
+// How many events there are, their bytes, and what is answered.
+const ENTRIES: [(u8, &[u8], Judged); 5] = [
+    // The own ones; then the writer has no readers.
+    (
+        2,
+        &[4, 0, 0, 0, 0, 0, 5, 0, 0, 0, 0, 0, 1, 0, 0, 0],
+        Judged::Fits,
+    ),
+    (
+        2,
+        &[4, 0, 0, 0, 0, 0, 5, 0, 0, 0, 0, 0, 0, 0, 0, 0],
+        Judged::Breaks(0, 1, Cause::Readers),
+    ),
+    // A version that never comes.
+    (
+        2,
+        &[4, 0, 1, 0, 0, 0, 5, 0, 0, 0, 0, 0, 0, 0, 0, 0],
+        Judged::Threads(STARVES, None),
+    ),
+    // Another entry.
+    (1, &[5, 0, 0, 0, 0, 0, 0, 0, 0, 0], AT_STEP_2),
+    // An event that isn't used up at the end.
+    (
+        3,
+        &[
+            4, 0, 0, 0, 0, 0, 5, 0, 0, 0, 0, 0, 1, 0, 0, 0, 1, 5, 0, 0, 0,
+        ],
+        AT_STEP_10,
+    ),
+];
 
 #[test]
-fn a_version_that_never_comes_starves(rt: HostRuntime) -> Result<(), Fail> {
-    let later = [4, 0, 1, 0, 0, 0, 5, 0, 0, 0, 0, 0, 0, 0, 0, 0];
-    assert_eq!(rt; read_and_write(rt.alloc(), 2, &later)?, starves(0));
-    Ok(())
-}
-
-#[test]
-fn another_entry_disagrees(rt: HostRuntime) -> Result<(), Fail> {
-    let other = [5, 0, 0, 0, 0, 0, 0, 0, 0, 0];
-    assert_eq!(rt; read_and_write(rt.alloc(), 1, &other)?, disagrees(0, 2));
-    Ok(())
-}
-
-#[test]
-fn events_are_used_up_at_the_end(rt: HostRuntime) -> Result<(), Fail> {
-    let more = [
-        4, 0, 0, 0, 0, 0, 5, 0, 0, 0, 0, 0, 1, 0, 0, 0, 1, 5, 0, 0, 0,
-    ];
-    assert_eq!(rt; read_and_write(rt.alloc(), 3, &more)?, disagrees(2, 10));
+fn entries_are_the_trace_s(rt: HostRuntime) -> Result<(), Fail> {
+    for (count, events, wanted) in ENTRIES {
+        assert_eq!(rt; read_and_write(rt.alloc(), count, events)?, wanted);
+    }
     Ok(())
 }
 
@@ -305,48 +273,38 @@ fn crossed(alloc: Global, first: [u8; 2], second: [u8; 2]) -> Result<Judged, Fai
     answer_of(alloc, image, &crossed_trace(first, second))
 }
 
+// The versions that the first and the second thread enter, and what is answered.
+const VERSIONS: [([u8; 2], [u8; 2], Judged); 5] = [
+    // Each waits for the other.
+    ([1, 0], [1, 0], Judged::Threads(STARVES, STARVES)),
+    // Who waits goes on after the leave.
+    ([1, 1], [0, 0], Judged::Fits),
+    ([0, 1], [0, 1], Judged::Fits),
+    // An incoherent trace is named before any step.
+    ([0, 0], [0, 0], Judged::Breaks(0, 0, Cause::Twice)),
+    ([2, 1], [0, 0], Judged::Breaks(0, 0, Cause::Unmade)),
+];
+
 #[test]
-fn each_waits_for_the_other(rt: HostRuntime) -> Result<(), Fail> {
-    let starves = Some(ThreadVerdict::Starves { event: 0 });
-    assert_eq!(rt;
-        crossed(rt.alloc(), [1, 0], [1, 0])?,
-        Judged::Threads(starves, starves)
-    );
+fn threads_wait_for_their_versions(rt: HostRuntime) -> Result<(), Fail> {
+    for (first, second, wanted) in VERSIONS {
+        assert_eq!(rt; crossed(rt.alloc(), first, second)?, wanted);
+    }
     Ok(())
 }
 
-#[test]
-fn who_waits_goes_on_after_the_leave(rt: HostRuntime) -> Result<(), Fail> {
-    assert_eq!(rt; crossed(rt.alloc(), [1, 1], [0, 0])?, Judged::Fits);
-    assert_eq!(rt; crossed(rt.alloc(), [0, 1], [0, 1])?, Judged::Fits);
-    Ok(())
-}
-
-#[test]
-fn an_incoherent_trace_is_named_before_any_step(rt: HostRuntime) -> Result<(), Fail> {
-    assert_eq!(rt;
-        crossed(rt.alloc(), [0, 0], [0, 0])?,
-        Judged::Breaks(0, 0, Cause::Twice)
-    );
-    assert_eq!(rt;
-        crossed(rt.alloc(), [2, 1], [0, 0])?,
-        Judged::Breaks(0, 0, Cause::Unmade)
-    );
-    Ok(())
-}
+// Where the threads of another guest start, how many objects it has, and what is answered.
+const HEADERS: [(&[u8], u8, HeaderCause); 2] = [
+    (&[0], 2, HeaderCause::Threads),
+    (&[0, 48], 3, HeaderCause::Objects),
+];
 
 #[test]
 fn the_header_comes_first(rt: HostRuntime) -> Result<(), Fail> {
-    let bytes = crossed_trace([0, 0], [0, 0]);
-    let fewer = guest(rt.alloc(), &[0], 2, &CROSSED)?;
-    assert_eq!(rt;
-        answer_of(rt.alloc(), fewer, &bytes)?,
-        Judged::Header(HeaderCause::Threads)
-    );
-    let more = guest(rt.alloc(), &[0, 48], 3, &CROSSED)?;
-    assert_eq!(rt;
-        answer_of(rt.alloc(), more, &bytes)?,
-        Judged::Header(HeaderCause::Objects)
-    );
+    for (starts, objects, cause) in HEADERS {
+        let image = guest(rt.alloc(), starts, objects, &CROSSED)?;
+        let said = answer_of(rt.alloc(), image, &crossed_trace([0, 0], [0, 0]))?;
+        assert_eq!(rt; said, Judged::Header(cause));
+    }
     Ok(())
 }

@@ -1,4 +1,6 @@
-use crate::{Code, Fetched, Image, ImageErr, Kind, read_image, write_image};
+//! Images of a few words, and of as many as there can be, read and written.
+
+use ir_image::{Code, Fetched, Image, ImageErr, Kind, Operation, read_image, write_image};
 use ir_isa::Inst;
 use std::alloc::{AllocError, Global};
 use std::test::Fail;
@@ -28,7 +30,7 @@ fn changed(place: usize, byte: u8) -> [u8; 42] {
 }
 
 #[test]
-fn a_program_is_read_and_written(rt: HostRuntime) -> Result<(), Fail> {
+fn a_program_is_read(rt: HostRuntime) -> Result<(), Fail> {
     let image = read_image(rt.alloc(), &PROGRAM)?;
     assert_eq!(rt; image.entries(), [0x0001_0000].as_slice());
     assert_eq!(rt;
@@ -44,6 +46,11 @@ fn a_program_is_read_and_written(rt: HostRuntime) -> Result<(), Fail> {
         .as_slice()
     );
     assert_eq!(rt; sizes(&image), (1, 6, 0, 0));
+    Ok(())
+}
+
+#[test]
+fn a_program_is_written(rt: HostRuntime) -> Result<(), Fail> {
     assert!(rt; is_written_again(rt.alloc(), &PROGRAM)?);
     Ok(())
 }
@@ -61,7 +68,7 @@ fn a_fetch_stays_in_the_code(rt: HostRuntime) -> Result<(), Fail> {
 }
 
 #[test]
-fn the_first_fault_is_named(rt: HostRuntime) -> Result<(), Fail> {
+fn each_prefix_is_short(rt: HostRuntime) {
     for length in 0..42usize {
         assert_eq!(rt;
             refusal(rt.alloc(), &PROGRAM[..length]),
@@ -69,43 +76,65 @@ fn the_first_fault_is_named(rt: HostRuntime) -> Result<(), Fail> {
             "at {length}"
         );
     }
-    let mut longer = Vec::new(rt.alloc());
-    longer.extend_from_slice(&PROGRAM)?;
-    longer.push(0)?;
+}
+
+#[test]
+fn one_byte_more_is_refused(rt: HostRuntime) {
+    let mut longer = [0; 43];
+    longer[..42].copy_from_slice(&PROGRAM);
     assert_eq!(rt; refusal(rt.alloc(), &longer), Some(5));
-    // the magic, the numbers of threads and objects, the words of code, the bytes of data, the entry
-    for (place, byte, want) in [
-        (0, 0, 2),
-        (4, 0, 3),
-        (4, 9, 3),
-        (5, 17, 3),
-        (7, 0x41, 3),
-        (12, 2, 3),
-        (14, 2, 4),
-        (14, 0x18, 4),
-        (16, 0, 4),
-    ] {
+}
+
+// A place of the program, the byte that is put there, and the refusal.
+const FAULTS: [(usize, u8, u8); 9] = [
+    (0, 0, 2), // the magic
+    (4, 0, 3), // the numbers of threads and objects
+    (4, 9, 3),
+    (5, 17, 3),
+    (7, 0x41, 3), // the words of code
+    (12, 2, 3), // the bytes of data
+    (14, 2, 4), // the entry
+    (14, 0x18, 4),
+    (16, 0, 4),
+];
+
+#[test]
+fn the_first_fault_is_named(rt: HostRuntime) {
+    for (place, byte, want) in FAULTS {
         assert_eq!(rt;
             refusal(rt.alloc(), &changed(place, byte)),
             Some(want),
             "at {place}"
         );
     }
-    Ok(())
 }
+
+// Counts without what they count, and the refusals: 16,384 words of code, one more, and 65,537 bytes of data.
+const COUNTS: [(&[u8], u8); 3] = [
+    (
+        &[
+            0x49, 0x52, 0x49, 0x31, 1, 0, 0x00, 0x40, 0, 0, 0, 0, 0, 0, 0, 0, 1, 0,
+        ],
+        1,
+    ),
+    (
+        &[
+            0x49, 0x52, 0x49, 0x31, 1, 0, 0x01, 0x40, 0, 0, 0, 0, 0, 0, 0, 0, 1, 0,
+        ],
+        3,
+    ),
+    (&[0x49, 0x52, 0x49, 0x31, 1, 0, 0, 0, 0, 0, 1, 0, 1, 0], 3),
+];
 
 #[test]
 fn a_count_without_its_bytes_is_short(rt: HostRuntime) {
-    let announced = [
-        0x49, 0x52, 0x49, 0x31, 1, 0, 0x00, 0x40, 0, 0, 0, 0, 0, 0, 0, 0, 1, 0,
-    ];
-    assert_eq!(rt; refusal(rt.alloc(), &announced), Some(1));
-    let over = [
-        0x49, 0x52, 0x49, 0x31, 1, 0, 0x01, 0x40, 0, 0, 0, 0, 0, 0, 0, 0, 1, 0,
-    ];
-    assert_eq!(rt; refusal(rt.alloc(), &over), Some(3));
-    let data = [0x49, 0x52, 0x49, 0x31, 1, 0, 0, 0, 0, 0, 1, 0, 1, 0];
-    assert_eq!(rt; refusal(rt.alloc(), &data), Some(3));
+    for (bytes, want) in COUNTS {
+        assert_eq!(rt; refusal(rt.alloc(), bytes), Some(want));
+    }
+}
+
+#[test]
+fn want_of_memory_has_no_number(rt: HostRuntime) {
     assert_eq!(rt; ImageErr::NoMem.number(), None);
 }
 
@@ -157,8 +186,7 @@ fn small(alloc: Global) -> Result<Vec<u8>, AllocError> {
 
 #[test]
 fn threads_objects_and_data_stand_in_order(rt: HostRuntime) -> Result<(), Fail> {
-    let bytes = small(rt.alloc())?;
-    let image = read_image(rt.alloc(), &bytes)?;
+    let image = read_image(rt.alloc(), &small(rt.alloc())?)?;
     assert_eq!(rt; sizes(&image), (8, 2, 3, 128));
     assert_eq!(rt;
         lasts(&image),
@@ -194,13 +222,18 @@ fn largest(alloc: Global) -> Result<Vec<u8>, AllocError> {
 
 #[test]
 fn the_largest_image_is_read(rt: HostRuntime) -> Result<(), Fail> {
-    let bytes = largest(rt.alloc())?;
-    let image = read_image(rt.alloc(), &bytes)?;
+    let image = read_image(rt.alloc(), &largest(rt.alloc())?)?;
     assert_eq!(rt; sizes(&image), (8, 16_384, 65_536, 128));
     assert_eq!(rt;
         lasts(&image),
         (Some(0x0001_fffc), Some(10), Some(0xff00_007f))
     );
+    Ok(())
+}
+
+#[test]
+fn the_last_word_of_the_largest_is_fetched(rt: HostRuntime) -> Result<(), Fail> {
+    let image = read_image(rt.alloc(), &largest(rt.alloc())?)?;
     let fetched = (
         image.code().fetch(0x0001_fffc),
         image.code().fetch(0x0002_0000),
@@ -211,8 +244,13 @@ fn the_largest_image_is_read(rt: HostRuntime) -> Result<(), Fail> {
 
 #[test]
 fn the_largest_image_is_written(rt: HostRuntime) -> Result<(), Fail> {
+    assert!(rt; is_written_again(rt.alloc(), &largest(rt.alloc())?)?);
+    Ok(())
+}
+
+#[test]
+fn no_byte_follows_the_largest(rt: HostRuntime) -> Result<(), Fail> {
     let mut bytes = largest(rt.alloc())?;
-    assert!(rt; is_written_again(rt.alloc(), &bytes)?);
     bytes.push(0)?;
     assert_eq!(rt; refusal(rt.alloc(), &bytes), Some(5));
     Ok(())
@@ -239,21 +277,22 @@ const LOWERED: [(Kind, u8, u8, u8, u32); 7] = [
     (Kind::Unusual, 32, 0, 0, 0),
 ];
 
+fn parts(operation: &Operation) -> (Kind, u8, u8, u8, u32) {
+    (
+        operation.kind,
+        operation.rd,
+        operation.rs1,
+        operation.rs2,
+        operation.imm,
+    )
+}
+
 #[test]
 fn words_are_lowered_for_their_places(rt: HostRuntime) -> Result<(), Fail> {
     let code = Code::new(rt.alloc(), Vec::from_slice(rt.alloc(), &WORDS)?)?;
     assert_eq!(rt; code.operations().len(), LOWERED.len());
     for (operation, wanted) in code.operations().iter().zip(&LOWERED) {
-        assert_eq!(rt;
-            (
-                operation.kind,
-                operation.rd,
-                operation.rs1,
-                operation.rs2,
-                operation.imm
-            ),
-            *wanted
-        );
+        assert_eq!(rt; parts(operation), *wanted);
     }
     Ok(())
 }

@@ -1,12 +1,20 @@
-// Results that the manual's text gives, worked by hand; many of the operands are those of the
-// public suite of instruction tests.
+//! Results that the manual's text gives, worked by hand; many of the operands are those of the
+//! public suite of instruction tests.
 
-use crate::arithmetic::{of_registers, shifted, takes, with_immediate};
+ghost use Rattle.std.specs.Prelude.{◌<◌, length, IfOk};
+
+use crate::machines::image_of;
+use crate::registers::{A0, T1, T2};
+use ir_image::Image;
 use ir_isa::RegisterOp::{
     Add, And, Div, Divu, Mul, Mulh, Mulhsu, Mulhu, Or, Rem, Remu, Sll, Slt, Sltu, Sra, Srl, Sub,
     Xor,
 };
-use ir_isa::{BranchOp, ImmediateOp, RegisterOp, ShiftOp};
+use ir_isa::{
+    BranchOffset, BranchOp, Immediate, ImmediateOp, Inst, RegisterOp, ShiftAmount, ShiftOp, encode,
+};
+use ir_mach::{Mach, Ran};
+use std::alloc::{AllocError, Global};
 
 // An operation, its two operands, and the result.
 const OF_REGISTERS: [(RegisterOp, u32, u32, u32); 80] = [
@@ -93,7 +101,7 @@ const OF_REGISTERS: [(RegisterOp, u32, u32, u32); 80] = [
 ];
 
 // A shift, its operand and amount, and the result.
-const SHIFTS: [(ShiftOp, u32, u32, u32); 7] = [
+const SHIFTS: [(ShiftOp, u32, u8, u32); 7] = [
     (ShiftOp::Slli, 0x0000_0001, 31, 0x8000_0000),
     (ShiftOp::Slli, 0x2121_2121, 14, 0x4848_4000),
     (ShiftOp::Srli, 0x8000_0000, 31, 0x0000_0001),
@@ -139,35 +147,138 @@ const BRANCHES: [(BranchOp, u32, u32, bool); 14] = [
     (BranchOp::Bgeu, 0x7fff_ffff, 0x8000_0000, false),
 ];
 
+// The program that loads a and b, which stand behind it, into t1 and t2, and carries out an instruction of them.
+fn image_with(alloc: Global, a: u32, b: u32, inst: &Inst) -> Result<Image, AllocError>
+    ensures { IfOk result (λ image. 0 < length image.entries) }
+{
+    // lui t0, 16; lw t1, 16(t0); lw t2, 20(t0)
+    let words = vec![in alloc; 0x0001_02b7, 0x0102_a303, 0x0142_a383, encode(inst), a, b]?;
+    image_of(alloc, words)
+}
+
+// a0 and pc after so many steps, where there are so many.
+fn by_steps(alloc: Global, image: &Image) -> Result<Option<(u32, u32)>, AllocError>
+    requires { 0 < length image.now.entries }
+{
+    let mut mach = Mach::new(alloc, image, 0)?;
+    for _ in 0..4 {
+        if mach.step(image.code()) != Ran::Ran {
+            return Ok(None);
+        }
+    }
+    Ok(Some((mach.reg(10), mach.pc())))
+}
+
+// The same after a run of four steps, which are lowered operations.
+fn by_run(alloc: Global, image: &Image) -> Result<Option<(u32, u32)>, AllocError>
+    requires { 0 < length image.now.entries }
+{
+    let mut mach = Mach::new(alloc, image, 0)?;
+    if mach.run(image.code(), 4) != 4 {
+        return Ok(None);
+    }
+    Ok(Some((mach.reg(10), mach.pc())))
+}
+
+// a0 and pc after the instruction of a in t1 and b in t2; none where steps and run differ.
+fn after(alloc: Global, inst: &Inst, a: u32, b: u32) -> Result<Option<(u32, u32)>, AllocError> {
+    let image = image_with(alloc, a, b, inst)?;
+    let stepped = by_steps(alloc, &image)?;
+    if by_run(alloc, &image)? != stepped {
+        return Ok(None);
+    }
+    Ok(stepped)
+}
+
+fn of_registers(alloc: Global, op: RegisterOp, a: u32, b: u32) -> Result<Option<u32>, AllocError> {
+    let inst = Inst::Op {
+        op,
+        rd: A0,
+        rs1: T1,
+        rs2: T2,
+    };
+    Ok(after(alloc, &inst, a, b)?.map(|(a0, _)| a0))
+}
+
+fn shifted(
+    alloc: Global,
+    op: ShiftOp,
+    a: u32,
+    amount: ShiftAmount,
+) -> Result<Option<u32>, AllocError> {
+    let inst = Inst::Shift {
+        op,
+        rd: A0,
+        rs1: T1,
+        amount,
+    };
+    Ok(after(alloc, &inst, a, 0)?.map(|(a0, _)| a0))
+}
+
+fn with_immediate(
+    alloc: Global,
+    op: ImmediateOp,
+    a: u32,
+    imm: Immediate,
+) -> Result<Option<u32>, AllocError> {
+    let inst = Inst::OpImm {
+        op,
+        rd: A0,
+        rs1: T1,
+        imm,
+    };
+    Ok(after(alloc, &inst, a, 0)?.map(|(a0, _)| a0))
+}
+
+// Whether a branch over the next word is taken.
+fn takes(alloc: Global, op: BranchOp, a: u32, b: u32) -> Result<Option<bool>, AllocError> {
+    let inst = Inst::Branch {
+        op,
+        rs1: T1,
+        rs2: T2,
+        offset: BranchOffset { value: 8 },
+    };
+    Ok(match after(alloc, &inst, a, b)? {
+        Some((_, 0x0001_0014)) => Some(true),
+        Some((_, 0x0001_0010)) => Some(false),
+        _ => None,
+    })
+}
+
 #[test]
-fn operations_of_registers(rt: HostRuntime) {
+fn operations_of_registers(rt: HostRuntime) -> Result<(), AllocError> {
     for (op, a, b, wanted) in OF_REGISTERS {
-        assert_eq!(rt; of_registers(op, a, b), wanted, "of {a:08x} and {b:08x}");
+        let result = of_registers(rt.alloc(), op, a, b)?;
+        assert_eq!(rt; result, Some(wanted), "of {a:08x} and {b:08x}");
     }
+    Ok(())
 }
 
 #[test]
-fn shifts(rt: HostRuntime) {
-    for (op, a, amount, wanted) in SHIFTS {
-        assert!(rt; amount < 32);
-        assert_eq!(rt; shifted(op, a, amount), wanted, "of {a:08x} by {amount}");
+fn shifts(rt: HostRuntime) -> Result<(), AllocError> {
+    for (op, a, bits, wanted) in SHIFTS {
+        assert!(rt; bits < 32);
+        let result = shifted(rt.alloc(), op, a, ShiftAmount { bits })?;
+        assert_eq!(rt; result, Some(wanted), "of {a:08x} by {bits}");
     }
+    Ok(())
 }
 
 #[test]
-fn operations_with_immediates(rt: HostRuntime) {
+fn operations_with_immediates(rt: HostRuntime) -> Result<(), AllocError> {
     for (op, a, value, wanted) in WITH_IMMEDIATES {
-        assert_eq!(rt;
-            with_immediate(op, a, value),
-            wanted,
-            "of {a:08x} and {value}"
-        );
+        assert!(rt; -2048 <= value && value <= 2047);
+        let result = with_immediate(rt.alloc(), op, a, Immediate { value })?;
+        assert_eq!(rt; result, Some(wanted), "of {a:08x} and {value}");
     }
+    Ok(())
 }
 
 #[test]
-fn branches(rt: HostRuntime) {
+fn branches(rt: HostRuntime) -> Result<(), AllocError> {
     for (op, a, b, wanted) in BRANCHES {
-        assert!(rt; takes(op, a, b) == wanted, "of {a:08x} and {b:08x}");
+        let taken = takes(rt.alloc(), op, a, b)?;
+        assert_eq!(rt; taken, Some(wanted), "of {a:08x} and {b:08x}");
     }
+    Ok(())
 }
