@@ -46,9 +46,9 @@ pub const GUESTS: [Guest; 8] = [
     },
 ];
 
-const ONE_OBJECT: &str = "        .objects 1\n";
+pub const ONE_OBJECT: &str = "        .objects 1\n";
 
-const AT_MAIN: &str = "        .thread main\n";
+pub const AT_MAIN: &str = "        .thread main\n";
 
 const READING: &str = "        .thread reader\n";
 

@@ -24,6 +24,11 @@ impl Meeting {
         }
     }
 
+    /// How often a thread entered.
+    pub fn entries(&self) -> usize {
+        self.entries.load(Ordering::SeqCst)
+    }
+
     pub fn missed(&self) -> bool {
         self.missed.load(Ordering::SeqCst)
     }
@@ -33,7 +38,7 @@ impl Gate for Meeting {
     fn entered(&self, _thread: u8, _object: u8, _access: Access) {
         self.entries.fetch_add(1, Ordering::SeqCst);
         for _ in 0..MOST_TURNS {
-            if self.entries.load(Ordering::SeqCst) >= 2 {
+            if self.entries() >= 2 {
                 return;
             }
             yield_now();
