@@ -260,6 +260,40 @@ pub const CROSSING: Source = &[
     "        ebreak\n",
 ];
 
+/// Thread 0 writes object 1 (step 2) and then object 0 (step 7), thread 1 object 0 (step 2) and then object 2 (step 7).
+pub const HANDED_ON: Source = &[
+    "
+        .objects 3
+        .thread first
+        .thread second
+",
+    "first:  addi    a0, zero, 1\n",
+    WRITE_AND_LEAVE,
+    "        addi    a0, zero, 0\n",
+    WRITE_AND_LEAVE,
+    END,
+    "second: addi    a0, zero, 0\n",
+    WRITE_AND_LEAVE,
+    "        addi    a0, zero, 2\n",
+    WRITE_AND_LEAVE,
+    END,
+];
+
+/// Each of two threads counts down from 2^18, in 2^19 + 4 steps.
+pub const COUNTDOWN: Source = &[
+    ONE_OBJECT,
+    AT_MAIN,
+    AT_MAIN,
+    "
+main:   lui     t0, 0x40
+again:  addi    t0, t0, -1
+        bne     t0, zero, again
+        addi    a0, zero, 0
+        addi    a7, zero, 1             # END
+        ecall
+",
+];
+
 /// Writes a byte over the last of its memory, which begins with 1 to 19, and prints 40 times `A`.
 pub const FORTY_BYTES: Source = &[
     "

@@ -2,6 +2,8 @@
 #![tactic(auto)]
 
 #[cfg(test)]
+mod checkpoint_tests;
+#[cfg(test)]
 mod cut_tests;
 #[cfg(test)]
 mod debugger_tests;
