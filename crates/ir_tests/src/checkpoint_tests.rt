@@ -64,9 +64,23 @@ fn walk<R: Threads + Clock + Sync>(rt: &R, alloc: Global) -> Result<[Seen; 3], F
     let fitted = fitted(alloc, COUNTDOWN, COUNTED_DOWN)?;
     let mut checkpoints = Checkpoints::new(alloc, &fitted)?;
     let mut state = State::start(alloc, &fitted)?;
-    let end = brought(rt, alloc, &fitted, &mut checkpoints, &mut state, (LAST, LAST))?;
+    let end = brought(
+        rt,
+        alloc,
+        &fitted,
+        &mut checkpoints,
+        &mut state,
+        (LAST, LAST),
+    )?;
     let at_end = (end, checkpoints.passed().last());
-    let before = brought(rt, alloc, &fitted, &mut checkpoints, &mut state, (LAST - 1, LAST))?;
+    let before = brought(
+        rt,
+        alloc,
+        &fitted,
+        &mut checkpoints,
+        &mut state,
+        (LAST - 1, LAST),
+    )?;
     let before_end = (before, checkpoints.passed().last());
     let back = brought(rt, alloc, &fitted, &mut checkpoints, &mut state, (3, LAST))?;
     Ok([at_end, before_end, (back, checkpoints.passed().last())])

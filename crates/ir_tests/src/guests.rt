@@ -294,6 +294,27 @@ again:  addi    t0, t0, -1
 ",
 ];
 
+/// Enters object 0 for writing (step 1), leaves the code, and releases the object.
+pub const HELD_OUTSIDE: Source = &[
+    "
+        .objects 1
+        .object 0, 0, 1, 2, 3, 4, 5, 6, -1
+        addi    a7, zero, 8             # ENTER_WRITE
+        ecall
+",
+];
+
+/// Prints `H` as often as t0 says.
+pub const PRINT: &str = "
+        addi    a0, zero, 72
+        addi    a7, zero, 2             # PUTC
+again:  beq     t0, zero, done
+        ecall
+        addi    t0, t0, -1
+        jal     zero, again
+done:   ebreak
+";
+
 /// Writes a byte over the last of its memory, which begins with 1 to 19, and prints 40 times `A`.
 pub const FORTY_BYTES: Source = &[
     "

@@ -70,5 +70,7 @@ mod waiting_tests;
 mod walk_tests;
 #[cfg(test)]
 mod worlds;
+#[cfg(test)]
+mod written_tests;
 
 pub use laws::recordings_fit;
