@@ -96,13 +96,9 @@ fn threads_are_brought_back_and_forth(rt: HostRuntime) -> Result<(), Fail> {
     Ok(())
 }
 
-// Whether states are kept as these numbers.
-fn are_kept(checkpoints: &Checkpoints, numbers: [u32; 3]) -> [bool; 3] {
-    let mut kept = [false; 3];
-    for (number, own) in numbers.iter().zip(&mut kept) {
-        *own = checkpoints.asked().cut(*number).is_some();
-    }
-    kept
+// Whether a state is kept as this number.
+fn is_kept(checkpoints: &Checkpoints, number: u32) -> bool {
+    checkpoints.asked().cut(number).is_some()
 }
 
 // Which of three states are kept when the second is dropped, the start too, and one that there isn't.
@@ -115,7 +111,11 @@ fn kept_and_dropped(alloc: Global) -> Result<[bool; 3], Fail> {
     checkpoints.drop_kept(&fitted, 0);
     checkpoints.drop_kept(&fitted, 1);
     checkpoints.drop_kept(&fitted, 3);
-    Ok(are_kept(&checkpoints, [0, 1, 2]))
+    Ok([
+        is_kept(&checkpoints, 0),
+        is_kept(&checkpoints, 1),
+        is_kept(&checkpoints, 2),
+    ])
 }
 
 #[test]

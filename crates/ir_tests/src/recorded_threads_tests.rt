@@ -6,6 +6,7 @@ use crate::recorded_guests::{ADDING, INPUTS, STAYING, WAITING};
 use crate::recordings::{BUDGET, by_threads};
 use crate::sources::image_of;
 use crate::traces::{BOTH_READ, TraceRow, is_trace};
+use crate::worlds::Script;
 use ir_log::Event;
 use ir_object::{Gate, OpenGate};
 use ir_record::RecordErr;
@@ -87,6 +88,21 @@ fn two_readers_record(rt: HostRuntime) -> Result<(), Fail> {
 // The thread whose world failed, and how many answers each of at most four worlds gave.
 type Failed = (u8, [Option<usize>; 4]);
 
+// How many answers a world gave, if there is one.
+fn answered(worlds: &[Script], number: usize) -> Option<usize> {
+    Some(worlds.get(number)?.answered())
+}
+
+// The same of each.
+fn all_answered(worlds: &[Script]) -> [Option<usize>; 4] {
+    [
+        answered(worlds, 0),
+        answered(worlds, 1),
+        answered(worlds, 2),
+        answered(worlds, 3),
+    ]
+}
+
 // Records a guest with a world that fails.
 fn failed<R: Threads + Wait + Sync, G: Gate + Sync>(
     rt: &R,
@@ -98,11 +114,7 @@ fn failed<R: Threads + Wait + Sync, G: Gate + Sync>(
     let image = image_of(alloc, source)?;
     match by_threads(rt, alloc, &image, gate, answers) {
         Err(RecordErr::World { thread, worlds }) => {
-            let mut answered = [None; 4];
-            for (world, own) in worlds.iter().zip(&mut answered) {
-                *own = Some(world.answered());
-            }
-            Ok(Some((thread, answered)))
+            Ok(Some((thread, all_answered(worlds.as_slice()))))
         }
         Ok(_) => Ok(None),
         Err(e) => Err(Fail::from(e)),
