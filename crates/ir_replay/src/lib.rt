@@ -3,15 +3,11 @@
 
 mod admission;
 mod alone;
-#[cfg(test)]
-mod guests;
 mod moves;
 mod pace;
 mod passes;
 mod patience;
 mod round;
-#[cfg(test)]
-mod seat_tests;
 mod stepping;
 mod stretch;
 mod telling;

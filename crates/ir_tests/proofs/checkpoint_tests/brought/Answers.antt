@@ -1,4 +1,4 @@
-use Rattle.ir_checkpoint.proofs.checkpoints.tests.brought.Goals as goal
+use Rattle.ir_tests.proofs.checkpoint_tests.brought.Goals as goal
 
 pub bring-requires-clause-target : goal.bring-requires-clause-target
 bring-requires-clause-target g c κs within = (

@@ -1,6 +1,9 @@
 //! Guests whose threads wait for one object, recorded as a plain round robin takes their steps one by one.
 
-use crate::tests::{guest, recorded};
+use crate::guests::Source;
+use crate::recorded_guests::{EIGHT_OF_BOTH, EIGHT_WRITERS, THREE_OF_BOTH, THREE_WRITERS};
+use crate::recordings::in_order;
+use crate::sources::image_of;
 use ir_flat::Flat;
 use ir_image::Image;
 use ir_log::Event;
@@ -11,40 +14,6 @@ use std::alloc::Global;
 use std::test::Fail;
 
 const BUDGET: u64 = 1000;
-
-// A thread makes as many rounds as its number and three, each through a loop outside the object and one inside it. The
-// two words say how t3 gets the number of the call that enters.
-fn entering(words: [u32; 2]) -> [u32; 21] {
-    [
-        0x00c0_0893, // addi a7, zero, 12
-        0x73, // ecall: the thread's number
-        words[0],
-        words[1],
-        0x0035_0293, // addi t0, a0, 3
-        0x0015_0393, // addi t2, a0, 1
-        0x0003_8313, // addi t1, t2, 0
-        0xfff3_0313, // addi t1, t1, -1
-        0xfe03_1ee3, // bne t1, zero, -4
-        0x0000_0513, // addi a0, zero, 0
-        0x000e_0893, // addi a7, t3, 0
-        0x73, // ecall: in
-        0x0040_0313, // addi t1, zero, 4
-        0xfff3_0313, // addi t1, t1, -1
-        0xfe03_1ee3, // bne t1, zero, -4
-        0x0090_0893, // addi a7, zero, 9
-        0x73, // ecall: out
-        0xfff2_8293, // addi t0, t0, -1
-        0xfc02_98e3, // bne t0, zero, -48
-        0x0010_0893, // addi a7, zero, 1
-        0x73, // ecall: the end
-    ]
-}
-
-// addi t3, zero, 8; addi t3, t3, 0: all enter for writing.
-const WRITERS: [u32; 2] = [0x0080_0e13, 0x000e_0e13];
-
-// andi t3, a0, 1; addi t3, t3, 7: an odd thread enters for writing, an even one for reading.
-const BOTH: [u32; 2] = [0x0015_7e13, 0x007e_0e13];
 
 // A guest whose steps are taken one by one, and the entries of its threads.
 #[derive(Drop)]
@@ -143,47 +112,62 @@ impl<'a> Plain<'a> {
     }
 }
 
-// Whether a recording by the order is what the plain turns make, for so many threads.
-fn is_plain(alloc: Global, words: [u32; 2], threads: u8, order: &[u8]) -> Result<bool, Fail> {
-    let image = guest(alloc, threads, 1, &entering(words))?;
+// Whether a recording by the order is what the plain turns make.
+fn is_plain(alloc: Global, source: Source, order: &[u8]) -> Result<bool, Fail> {
+    let image = image_of(alloc, source)?;
     let mut plain = Plain::start(alloc, &image)?;
     plain.run(order)?;
-    let (trace, _) = recorded(alloc, &image, order, &[], BUDGET)?;
+    let (trace, _outputs) = in_order(alloc, &image, order, &[], BUDGET)?;
     Ok(plain.are_emitted(&trace))
 }
 
-// The first thread is in the object, where an order leaves it, or another one.
-const FIRST_INSIDE: [u8; 14] = [0; 14];
+// A guest, and an order that leaves no thread in the object, the first, another one, and some of eight.
+type Waiting = (Source, &'static [u8]);
 
-const LAST_INSIDE: [u8; 22] = [2; 22];
+const WRITERS: [Waiting; 4] = [
+    (THREE_WRITERS, &[]),
+    (THREE_WRITERS, &[0; 14]),
+    (THREE_WRITERS, &[2; 22]),
+    (EIGHT_WRITERS, &[7, 1, 3]),
+];
+
+const BOTH: [Waiting; 4] = [
+    (THREE_OF_BOTH, &[]),
+    (THREE_OF_BOTH, &[0; 14]),
+    (THREE_OF_BOTH, &[2; 22]),
+    (EIGHT_OF_BOTH, &[7, 1, 3]),
+];
 
 #[test]
 fn writers_wait_for_each_other(rt: HostRuntime) -> Result<(), Fail> {
-    assert!(rt; is_plain(rt.alloc(), WRITERS, 3, &[])?);
-    assert!(rt; is_plain(rt.alloc(), WRITERS, 3, &FIRST_INSIDE)?);
-    assert!(rt; is_plain(rt.alloc(), WRITERS, 3, &LAST_INSIDE)?);
-    assert!(rt; is_plain(rt.alloc(), WRITERS, 8, &[7, 1, 3])?);
+    for (source, order) in WRITERS {
+        assert!(rt; is_plain(rt.alloc(), source, order)?);
+    }
     Ok(())
 }
 
 #[test]
 fn readers_and_writers_wait_for_each_other(rt: HostRuntime) -> Result<(), Fail> {
-    assert!(rt; is_plain(rt.alloc(), BOTH, 3, &[])?);
-    assert!(rt; is_plain(rt.alloc(), BOTH, 3, &FIRST_INSIDE)?);
-    assert!(rt; is_plain(rt.alloc(), BOTH, 3, &LAST_INSIDE)?);
-    assert!(rt; is_plain(rt.alloc(), BOTH, 8, &[7, 1, 3])?);
+    for (source, order) in BOTH {
+        assert!(rt; is_plain(rt.alloc(), source, order)?);
+    }
     Ok(())
 }
 
-#[test]
-fn a_round_robin_ends(rt: HostRuntime) -> Result<(), Fail> {
-    let image = guest(rt.alloc(), 3, 1, &entering(WRITERS))?;
-    let mut plain = Plain::start(rt.alloc(), &image)?;
+// How many entries there are in rounds.
+fn entries_in_rounds(alloc: Global, source: Source) -> Result<usize, Fail> {
+    let image = image_of(alloc, source)?;
+    let mut plain = Plain::start(alloc, &image)?;
     plain.run(&[])?;
     let mut entries = 0usize;
     for thread in plain.entries.as_slice() {
         entries = entries.saturating_add(thread.len());
     }
-    assert_eq!(rt; entries, 3 + 4 + 5);
+    Ok(entries)
+}
+
+#[test]
+fn a_round_robin_ends(rt: HostRuntime) -> Result<(), Fail> {
+    assert_eq!(rt; entries_in_rounds(rt.alloc(), THREE_WRITERS)?, 3 + 4 + 5);
     Ok(())
 }
