@@ -26,6 +26,11 @@ fn run(flat: &mut Flat, thread: usize, steps: u32, answer: u32) -> Result<(), No
     Ok(())
 }
 
+// Whether the first thread takes so many steps.
+fn goes(flat: &mut Flat, steps: u32) -> bool {
+    run(flat, 0, steps, 0).is_ok()
+}
+
 // The number of the first thread's end, its steps and its events.
 fn end_of(flat: &Flat) -> Option<(u8, u64, u32)> {
     let thread = flat.threads().first()?;
@@ -92,14 +97,21 @@ const WORDS: [(u32, u64); 6] = [
     (2, 0x1_0000_0000),
 ];
 
+// The first row that isn't so.
+fn other_word(flat: &mut Flat) -> Option<usize> {
+    for (row, (steps, bits)) in WORDS.iter().enumerate() {
+        if !goes(flat, *steps) || word(flat) != Some(*bits) {
+            return Some(row);
+        }
+    }
+    None
+}
+
 #[test]
 fn entries_and_leaves_change_the_word(rt: HostRuntime) -> Result<(), Fail> {
     let image = guest(rt.alloc(), &[0], 1, &ENTRIES_AND_LEAVES)?;
     let mut flat = Flat::start(rt.alloc(), &image, 1000)?;
-    for (steps, bits) in WORDS {
-        run(&mut flat, 0, steps, 0)?;
-        assert_eq!(rt; word(&flat), Some(bits));
-    }
+    assert_eq!(rt; other_word(&mut flat), None);
     assert_eq!(rt; end_of(&flat), Some((1, 11, 2)));
     Ok(())
 }
@@ -127,8 +139,8 @@ fn a_write_entry_given_back_keeps_its_puts(rt: HostRuntime) -> Result<(), Fail> 
 fn no_step_follows_the_end(rt: HostRuntime) -> Result<(), Fail> {
     let image = guest(rt.alloc(), &[0], 1, &PUT_AND_BREAK)?;
     let mut flat = Flat::start(rt.alloc(), &image, 1000)?;
-    run(&mut flat, 0, 9, 0)?;
-    assert_eq!(rt; run(&mut flat, 0, 1, 0), Err(NotAdmitted));
+    assert!(rt; goes(&mut flat, 9));
+    assert!(rt; run(&mut flat, 0, 1, 0) == Err(NotAdmitted));
     Ok(())
 }
 
@@ -172,14 +184,31 @@ fn each_end(rt: HostRuntime) -> Result<(), Fail> {
     Ok(())
 }
 
+// The end of the only thread of a guest, and whether its output is this.
+fn printed_alone(
+    alloc: Global,
+    code: &[u32],
+    budget: u64,
+    steps: u32,
+    output: &[u8],
+) -> Result<(Option<(u8, u64, u32)>, bool), Fail>
+    requires { budget ≤ most_budget }
+{
+    let image = guest(alloc, &[0], 0, code)?;
+    let mut flat = Flat::start(alloc, &image, budget)?;
+    let _ = run(&mut flat, 0, steps, 0);
+    let same = flat
+        .threads()
+        .first()
+        .map(|thread| thread.output() == output);
+    Ok((end_of(&flat), same == Some(true)))
+}
+
 #[test]
 fn a_budget_ends_a_thread(rt: HostRuntime) -> Result<(), Fail> {
     let code = [0x0480_0513, PRINT_BYTE, ECALL, 0x00a5_0533, EXIT, ECALL];
-    let image = guest(rt.alloc(), &[0], 0, &code)?;
-    let mut flat = Flat::start(rt.alloc(), &image, 2)?;
-    let _ = run(&mut flat, 0, 50, 0);
-    assert_eq!(rt; end_of(&flat), Some((13, 3, 0)));
-    assert_eq!(rt; flat.threads().first().map(|t| t.output().len()), Some(0));
+    let found = printed_alone(rt.alloc(), &code, 2, 50, b"")?;
+    assert_eq!(rt; found, (Some((13, 3, 0)), true));
     Ok(())
 }
 
@@ -187,14 +216,8 @@ fn a_budget_ends_a_thread(rt: HostRuntime) -> Result<(), Fail> {
 fn numbers_are_printed_with_their_sign(rt: HostRuntime) -> Result<(), Fail> {
     // addi a0, zero, -1; lui a0, 0x80000
     let code = [0xfff0_0513, PRINT_NUMBER, ECALL, 0x8000_0537, ECALL];
-    let image = guest(rt.alloc(), &[0], 0, &code)?;
-    let mut flat = Flat::start(rt.alloc(), &image, 1000)?;
-    run(&mut flat, 0, 5, 0)?;
-    let same = flat
-        .threads()
-        .first()
-        .map(|t| t.output() == b"-1\n-2147483648\n".as_slice());
-    assert_eq!(rt; same, Some(true));
+    let found = printed_alone(rt.alloc(), &code, 1000, 5, b"-1\n-2147483648\n")?;
+    assert_eq!(rt; found, (None, true));
     Ok(())
 }
 
@@ -221,15 +244,23 @@ const WAITING: [(usize, u32, bool, (Option<u64>, Option<u64>)); 5] = [
     (1, 1, true, (Some(257), Some(6))),
 ];
 
+// The first row that isn't so.
+fn other_wait(flat: &mut Flat) -> Option<usize> {
+    for (row, (thread, steps, admitted, wanted)) in WAITING.iter().enumerate() {
+        let went = run(flat, *thread, *steps, 0).is_ok();
+        let taken = flat.threads().last().map(|thread| thread.steps());
+        if went != *admitted || (word(flat), taken) != *wanted {
+            return Some(row);
+        }
+    }
+    None
+}
+
 #[test]
 fn a_writer_waits_for_a_reader(rt: HostRuntime) -> Result<(), Fail> {
     let image = guest(rt.alloc(), &[0, 0], 1, &READER_AND_WRITERS)?;
     let mut flat = Flat::start(rt.alloc(), &image, 1000)?;
-    for (thread, steps, admitted, wanted) in WAITING {
-        assert!(rt; run(&mut flat, thread, steps, 0).is_ok() == admitted);
-        let steps = flat.threads().last().map(|thread| thread.steps());
-        assert_eq!(rt; (word(&flat), steps), wanted);
-    }
+    assert_eq!(rt; other_wait(&mut flat), None);
     Ok(())
 }
 
@@ -259,16 +290,24 @@ const INPUTS: [(u32, bool, u32); 3] = [
     (0xffff_ffff, true, 0xffff_ffff),
 ];
 
+// The first row that isn't so.
+fn other_input(flat: &mut Flat) -> Option<usize> {
+    for (row, (answer, admitted, wanted)) in INPUTS.iter().enumerate() {
+        let went = run(flat, 0, 1, *answer).is_ok();
+        let read = flat.threads().first().map(|thread| thread.mach().reg(10));
+        if went != *admitted || read != Some(*wanted) {
+            return Some(row);
+        }
+    }
+    None
+}
+
 #[test]
 fn an_input_is_a_byte_or_the_end(rt: HostRuntime) -> Result<(), Fail> {
     let image = guest(rt.alloc(), &[0], 0, &[INPUT, ECALL, ECALL])?;
     let mut flat = Flat::start(rt.alloc(), &image, 1000)?;
-    run(&mut flat, 0, 1, 0)?;
-    for (answer, admitted, wanted) in INPUTS {
-        assert!(rt; run(&mut flat, 0, 1, answer).is_ok() == admitted);
-        let read = flat.threads().first().map(|t| t.mach().reg(10));
-        assert_eq!(rt; read, Some(wanted));
-    }
+    assert!(rt; goes(&mut flat, 1));
+    assert_eq!(rt; other_input(&mut flat), None);
     Ok(())
 }
 
@@ -281,15 +320,24 @@ fn together(flat: &mut Flat, limit: u64) -> u64 {
     }
 }
 
+// The limit, how many steps are taken, and how many others behind them.
+const TOGETHER: [(u64, u64, u32); 4] = [(1, 1, 0), (9, 1, 0), (9, 0, 1), (9, 3, 3)];
+
+// The first row that isn't so.
+fn other_count(flat: &mut Flat) -> Option<usize> {
+    for (row, (limit, taken, others)) in TOGETHER.iter().enumerate() {
+        if together(flat, *limit) != *taken || !goes(flat, *others) {
+            return Some(row);
+        }
+    }
+    None
+}
+
 #[test]
 fn private_steps_are_taken_together(rt: HostRuntime) -> Result<(), Fail> {
     let image = guest(rt.alloc(), &[0], 1, &PUT_AND_BREAK)?;
     let mut flat = Flat::start(rt.alloc(), &image, 1000)?;
-    // The limit, how many steps were taken, and how many others are taken behind them.
-    for (limit, taken, others) in [(1, 1, 0), (9, 1, 0), (9, 0, 1), (9, 3, 3)] {
-        assert_eq!(rt; together(&mut flat, limit), taken);
-        run(&mut flat, 0, others, 0)?;
-    }
+    assert_eq!(rt; other_count(&mut flat), None);
     assert_eq!(rt; end_of(&flat), Some((2, 9, 1)));
     Ok(())
 }
@@ -310,14 +358,22 @@ const TURNS: [(usize, u32, bool, (bool, bool)); 6] = [
     (1, 1, true, (false, true)),
 ];
 
+// The first row that isn't so.
+fn other_turn(flat: &mut Flat) -> Option<usize> {
+    for (row, (thread, steps, admitted, can)) in TURNS.iter().enumerate() {
+        let went = run(flat, *thread, *steps, 0).is_ok();
+        if went != *admitted || (can_step(flat, 0), can_step(flat, 1)) != *can {
+            return Some(row);
+        }
+    }
+    None
+}
+
 #[test]
 fn who_waits_or_is_done_has_no_step(rt: HostRuntime) -> Result<(), Fail> {
     let image = guest(rt.alloc(), &[0, 0], 1, &PUT_AND_BREAK)?;
     let mut flat = Flat::start(rt.alloc(), &image, 1000)?;
-    for (thread, steps, admitted, can) in TURNS {
-        assert!(rt; run(&mut flat, thread, steps, 0).is_ok() == admitted);
-        assert_eq!(rt; (can_step(&flat, 0), can_step(&flat, 1)), can);
-    }
+    assert_eq!(rt; other_turn(&mut flat), None);
     Ok(())
 }
 
@@ -325,7 +381,6 @@ fn who_waits_or_is_done_has_no_step(rt: HostRuntime) -> Result<(), Fail> {
 fn a_call_of_the_environment_is_a_step(rt: HostRuntime) -> Result<(), Fail> {
     let image = guest(rt.alloc(), &[0], 0, &[INPUT, ECALL, ECALL])?;
     let mut flat = Flat::start(rt.alloc(), &image, 1000)?;
-    run(&mut flat, 0, 1, 0)?;
-    assert_eq!(rt; can_step(&flat, 0), true);
+    assert!(rt; goes(&mut flat, 1) && can_step(&flat, 0));
     Ok(())
 }

@@ -24,14 +24,18 @@ fn three(alloc: Global) -> Result<Log, AllocError> {
     Ok(Log::from_events(events))
 }
 
+// Whether a log has this room and these events.
+fn holds(log: &Log, room: usize, events: &[Event]) -> bool {
+    log.room() == room && log.events() == events
+}
+
 #[test]
 fn events_stand_in_order(rt: HostRuntime) -> Result<(), Fail> {
     let mut log = Log::new(rt.alloc(), 2)?;
     assert_eq!(rt; log.room(), 2);
     log.push(READ);
     log.push(WRITE);
-    assert_eq!(rt; log.events(), [READ, WRITE].as_slice());
-    assert_eq!(rt; log.room(), 2);
+    assert!(rt; holds(&log, 2, &[READ, WRITE]));
     Ok(())
 }
 
@@ -41,9 +45,8 @@ fn a_copy_has_the_room_too(rt: HostRuntime) -> Result<(), Fail> {
     log.push(READ);
     let mut copy = log.copy()?;
     copy.push(WRITE);
-    assert_eq!(rt; copy.room(), 3);
-    assert_eq!(rt; copy.events(), [READ, WRITE].as_slice());
-    assert_eq!(rt; log.events(), [READ].as_slice());
+    assert!(rt; holds(&copy, 3, &[READ, WRITE]));
+    assert!(rt; holds(&log, 3, &[READ]));
     Ok(())
 }
 
@@ -90,10 +93,13 @@ fn each_kind_is_expected(rt: HostRuntime) -> Result<(), Fail> {
 fn a_log_gives_its_events_back(rt: HostRuntime) -> Result<(), Fail> {
     let log = three(rt.alloc())?;
     assert_eq!(rt; log.room(), 3);
-    assert_eq!(rt;
-        log.into_events().as_slice(),
-        [Event::Answer(EnvKind::Clock, 5), READ, WRITE].as_slice()
-    );
+    let events = [Event::Answer(EnvKind::Clock, 5), READ, WRITE];
+    assert!(rt; log.into_events().as_slice() == events.as_slice());
+    Ok(())
+}
+
+#[test]
+fn a_log_has_room_for_the_most_events(rt: HostRuntime) -> Result<(), Fail> {
     let most = MOST_EVENTS as usize;
     assert_eq!(rt; Log::new(rt.alloc(), most)?.room(), most);
     Ok(())
