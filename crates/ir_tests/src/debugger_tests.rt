@@ -47,20 +47,8 @@ fn positions(debugger: &Debugger) -> Option<Pair> {
     }
 }
 
-// What is seen after a command.
-#[derive(Clone, Copy, Debug, PartialEq)]
-struct Sight {
-    kind: Kind,
-    at: Option<Pair>,
-}
-
-// After a command that leaves the positions there.
-const fn seen(kind: Kind, first: u64, second: u64) -> Sight {
-    Sight {
-        kind,
-        at: Some((first, second)),
-    }
-}
+// What is seen after a command: the answer's kind, and the positions.
+type Sight = (Kind, Option<Pair>);
 
 // What is seen after each of eight commands.
 fn walk<R: Threads + Clock + Sync>(
@@ -69,13 +57,10 @@ fn walk<R: Threads + Clock + Sync>(
     commands: &[Command; 8],
 ) -> Result<[Sight; 8], Fail> {
     let mut debugger = Debugger::open(alloc, fitted(alloc, TWO_COUNTERS, SECOND_FIRST)?)?;
-    let mut all = [seen(Kind::Bye, 0, 0); 8];
+    let mut all = [(Kind::Bye, None); 8];
     for i in 0..8 {
         let answer = debugger.command(rt, alloc, &commands[i], &OpenGate);
-        all[i] = Sight {
-            kind: kind_of(&answer),
-            at: positions(&debugger),
-        };
+        all[i] = (kind_of(&answer), positions(&debugger));
     }
     Ok(all)
 }
@@ -111,14 +96,14 @@ const MOVES: [Command; 8] = [
 ];
 
 const MOVED: [Sight; 8] = [
-    seen(Kind::Moved, 3, 15),
-    seen(Kind::Moved, 2, 14),
-    seen(Kind::Moved, 18, 15),
-    seen(Kind::Moved, 18, 18),
-    seen(Kind::Moved, 18, 15),
-    seen(Kind::Moved, 0, 0),
-    seen(Kind::Moved, 0, 18),
-    seen(Kind::Moved, 0, 0),
+    (Kind::Moved, Some((3, 15))),
+    (Kind::Moved, Some((2, 14))),
+    (Kind::Moved, Some((18, 15))),
+    (Kind::Moved, Some((18, 18))),
+    (Kind::Moved, Some((18, 15))),
+    (Kind::Moved, Some((0, 0))),
+    (Kind::Moved, Some((0, 18))),
+    (Kind::Moved, Some((0, 0))),
 ];
 
 #[test]
@@ -157,14 +142,14 @@ fn shows(two: ByteCount) -> [Command; 8] {
 
 // What is seen after them.
 const SHOWN: [Sight; 8] = [
-    seen(Kind::Moved, 3, 15),
-    seen(Kind::Refused(Refusal::NoSuchThread), 3, 15),
-    seen(Kind::Shown, 3, 15),
-    seen(Kind::Refused(Refusal::NoSuchObject), 3, 15),
-    seen(Kind::Shown, 3, 15),
-    seen(Kind::Refused(Refusal::BadAddress), 3, 15),
-    seen(Kind::Position, 3, 15),
-    seen(Kind::Bye, 3, 15),
+    (Kind::Moved, Some((3, 15))),
+    (Kind::Refused(Refusal::NoSuchThread), Some((3, 15))),
+    (Kind::Shown, Some((3, 15))),
+    (Kind::Refused(Refusal::NoSuchObject), Some((3, 15))),
+    (Kind::Shown, Some((3, 15))),
+    (Kind::Refused(Refusal::BadAddress), Some((3, 15))),
+    (Kind::Position, Some((3, 15))),
+    (Kind::Bye, Some((3, 15))),
 ];
 
 #[test]
@@ -204,14 +189,14 @@ const POINTS: [Command; 8] = [
 ];
 
 const CONTINUED: [Sight; 8] = [
-    seen(Kind::Point, 0, 0),
-    seen(Kind::Refused(Refusal::BadAddress), 0, 0),
-    seen(Kind::Moved, 15, 15),
-    seen(Kind::Moved, 18, 15),
-    seen(Kind::Refused(Refusal::NoSuchNumber), 18, 15),
-    seen(Kind::Point, 18, 15),
-    seen(Kind::Moved, 0, 15),
-    seen(Kind::Refused(Refusal::NoSuchThread), 0, 15),
+    (Kind::Point, Some((0, 0))),
+    (Kind::Refused(Refusal::BadAddress), Some((0, 0))),
+    (Kind::Moved, Some((15, 15))),
+    (Kind::Moved, Some((18, 15))),
+    (Kind::Refused(Refusal::NoSuchNumber), Some((18, 15))),
+    (Kind::Point, Some((18, 15))),
+    (Kind::Moved, Some((0, 15))),
+    (Kind::Refused(Refusal::NoSuchThread), Some((0, 15))),
 ];
 
 #[test]

@@ -8,6 +8,8 @@ use ir_debug::{Ended, MOST_INPUT, SessionErr, session_up_to};
 use ir_object::OpenGate;
 use std::alloc::{AllocError, Global};
 use std::test::Fail;
+use std::thread::Threads;
+use std::time::Clock;
 
 // So many of a byte, and a line's rest.
 fn line_of(alloc: Global, count: usize, byte: u8, rest: &[u8]) -> Result<Vec<u8>, AllocError> {
@@ -41,8 +43,8 @@ const LONG: [(usize, u8, &[u8], &[u8]); 9] = [
 ];
 
 // Whether such a line is answered so.
-fn is_long_answered(
-    rt: &HostRuntime,
+fn is_long_answered<R: AllocGlobal + Threads + Clock + Sync>(
+    rt: &R,
     files: &Files,
     row: (usize, u8, &[u8], &[u8]),
 ) -> Result<bool, AllocError> {
@@ -84,8 +86,8 @@ const LIMITED: [(u64, &[u8], &[u8], Result<Ended, SessionErr>); 4] = [
 ];
 
 // Whether a session that reads no more is answered so and ends so.
-fn is_limited(
-    rt: &HostRuntime,
+fn is_limited<R: AllocGlobal + Threads + Clock + Sync>(
+    rt: &R,
     files: &Files,
     row: (u64, &[u8], &[u8], Result<Ended, SessionErr>),
 ) -> bool {
@@ -134,8 +136,8 @@ const REFUSED: [(&[u8], &[u8]); 12] = [
 ];
 
 // Whether the line is answered so, and the positions stay.
-fn is_refused(
-    rt: &HostRuntime,
+fn is_refused<R: AllocGlobal + Threads + Clock + Sync>(
+    rt: &R,
     files: &Files,
     line: &[u8],
     answers: &[u8],
@@ -220,7 +222,10 @@ fn source_of(alloc: Global, before: usize, word: &str) -> Result<String, AllocEr
 }
 
 // Whether its next step is shown so.
-fn is_disassembled(rt: &HostRuntime, row: (usize, &str, &[u8])) -> Result<bool, Fail> {
+fn is_disassembled<R: AllocGlobal + Threads + Clock + Sync>(
+    rt: &R,
+    row: (usize, &str, &[u8]),
+) -> Result<bool, Fail> {
     let (before, word, answers) = row;
     let source = source_of(rt.alloc(), before, word)?;
     let files = files_of(rt.alloc(), &[source.as_str()], UNRUN)?;
@@ -259,7 +264,11 @@ const BROKEN_AFTER: TraceRow = TraceRow {
 };
 
 // Whether it is printed so.
-fn is_printed(rt: &HostRuntime, number: &str, answers: &[u8]) -> Result<bool, Fail> {
+fn is_printed<R: AllocGlobal + Threads + Clock + Sync>(
+    rt: &R,
+    number: &str,
+    answers: &[u8],
+) -> Result<bool, Fail> {
     let source = [number, PRINT_NUMBER];
     let files = files_of(rt.alloc(), &source, BROKEN_AFTER)?;
     Ok(is_answered(rt, &files, b"end\nout 0\n", answers))

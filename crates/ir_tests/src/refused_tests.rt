@@ -5,6 +5,8 @@ use crate::sessions::{Files, answered, ended_by, files_of};
 use crate::traces::{ENDED_BY_144, READ_AND_WRITTEN, SECOND_FIRST, TraceRow};
 use std::alloc::{AllocError, Global};
 use std::test::Fail;
+use std::thread::Threads;
+use std::time::Clock;
 
 // The bytes before a place, others, and the bytes from a second place on.
 type Patch = (usize, &'static [u8], usize);
@@ -80,8 +82,8 @@ fn patched(alloc: Global, bytes: &[u8], patch: Patch) -> Result<Vec<u8>, AllocEr
 }
 
 // Whether an image with such a patch is answered so, beside this trace.
-fn is_image_refused(
-    rt: &HostRuntime,
+fn is_image_refused<R: AllocGlobal + Threads + Clock + Sync>(
+    rt: &R,
     files: &Files,
     trace: &[u8],
     patch: Patch,
@@ -92,7 +94,13 @@ fn is_image_refused(
 }
 
 // Whether a session is answered so, and ends as it says.
-fn is_told(rt: &HostRuntime, image: &[u8], trace: &[u8], lines: &[u8], answer: &[u8]) -> bool {
+fn is_told<R: AllocGlobal + Threads + Clock + Sync>(
+    rt: &R,
+    image: &[u8],
+    trace: &[u8],
+    lines: &[u8],
+    answer: &[u8],
+) -> bool {
     let (page, ended) = answered(rt, image, trace, lines);
     page.bytes.as_slice() == answer && ended == Ok(ended_by(answer))
 }
@@ -110,8 +118,8 @@ fn images_are_refused_by_their_first_fault(rt: HostRuntime) -> Result<(), Fail> 
 }
 
 // Whether a trace with such a patch is answered so.
-fn is_trace_answered(
-    rt: &HostRuntime,
+fn is_trace_answered<R: AllocGlobal + Threads + Clock + Sync>(
+    rt: &R,
     files: &Files,
     patch: Patch,
     answer: &[u8],
@@ -139,7 +147,7 @@ fn events_are_refused_by_their_first_fault(rt: HostRuntime) -> Result<(), Fail> 
 }
 
 // Whether each prefix of the image is short.
-fn each_image_is_short(rt: &HostRuntime, files: &Files) -> bool {
+fn each_image_is_short<R: AllocGlobal + Threads + Clock + Sync>(rt: &R, files: &Files) -> bool {
     for length in 0..files.image.len() {
         let (image, _rest) = files.image.as_slice().split_at(length);
         if !is_told(rt, image, files.trace.as_slice(), b"", b"image refused 1\n") {
@@ -150,7 +158,7 @@ fn each_image_is_short(rt: &HostRuntime, files: &Files) -> bool {
 }
 
 // The same of the trace.
-fn each_trace_is_short(rt: &HostRuntime, files: &Files) -> bool {
+fn each_trace_is_short<R: AllocGlobal + Threads + Clock + Sync>(rt: &R, files: &Files) -> bool {
     for length in 0..files.trace.len() {
         let (trace, _rest) = files.trace.as_slice().split_at(length);
         if !is_told(rt, files.image.as_slice(), trace, b"", b"trace refused 1\n") {
@@ -197,7 +205,11 @@ fn is_opening(text: &[u8]) -> bool {
 }
 
 // Whether a session of them opens, or says why it doesn't, and ends as it says.
-fn opens_or_tells(rt: &HostRuntime, image: &[u8], trace: &[u8]) -> bool {
+fn opens_or_tells<R: AllocGlobal + Threads + Clock + Sync>(
+    rt: &R,
+    image: &[u8],
+    trace: &[u8],
+) -> bool {
     let (page, ended) = answered(rt, image, trace, b"");
     let text = page.bytes.as_slice();
     is_opening(text) && ended == Ok(ended_by(text))
@@ -209,7 +221,12 @@ fn others(own: u8) -> [u8; 4] {
 }
 
 // Whether that holds with others for the byte at a place of the image.
-fn is_image_told(rt: &HostRuntime, files: &Files, place: usize, own: u8) -> Result<bool, Fail> {
+fn is_image_told<R: AllocGlobal + Threads + Clock + Sync>(
+    rt: &R,
+    files: &Files,
+    place: usize,
+    own: u8,
+) -> Result<bool, Fail> {
     for byte in others(own) {
         let image = changed(rt.alloc(), files.image.as_slice(), place, byte)?;
         if !opens_or_tells(rt, image.as_slice(), files.trace.as_slice()) {
@@ -220,7 +237,12 @@ fn is_image_told(rt: &HostRuntime, files: &Files, place: usize, own: u8) -> Resu
 }
 
 // The same of the trace.
-fn is_trace_told(rt: &HostRuntime, files: &Files, place: usize, own: u8) -> Result<bool, Fail> {
+fn is_trace_told<R: AllocGlobal + Threads + Clock + Sync>(
+    rt: &R,
+    files: &Files,
+    place: usize,
+    own: u8,
+) -> Result<bool, Fail> {
     for byte in others(own) {
         let trace = changed(rt.alloc(), files.trace.as_slice(), place, byte)?;
         if !opens_or_tells(rt, files.image.as_slice(), trace.as_slice()) {

@@ -81,7 +81,7 @@ fn a_long_log_is_written_whole(rt: HostRuntime) -> Result<(), Fail> {
         panic!(rt; "not written");
     };
     assert_eq!(rt; all.len(), 2005);
-    assert!(rt; all.as_slice()[1945..] == *LAST_LINES);
+    assert_eq!(rt; &all[1945..], LAST_LINES);
     for room in [0, 14, 1000, 2004] {
         assert!(rt; is_cut_off(rt.alloc(), events.as_slice(), all.as_slice(), room));
     }
