@@ -4,7 +4,8 @@
 mod progress;
 mod standard;
 
-use ir_program::{BAD_ARGUMENTS, FAULT, collected, program};
+use ir_arguments::collected;
+use ir_program::{BAD_ARGUMENTS, FAULT, program};
 use ir_stream::FromStd;
 use progress::Progress;
 use standard::stand_ins;

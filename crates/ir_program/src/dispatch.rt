@@ -2,12 +2,12 @@
 
 ghost use Rattle.std.specs.Prelude.{◌≡◌, OnSome, OnOk, false};
 
-use crate::arguments::{Asked, RecordArguments, parsed};
 use crate::assembling::asm_run;
 use crate::bundles::bundle;
 use crate::debugging::debug_run;
 use crate::prompting::Prompting;
 use crate::tracing::trace_run;
+use ir_arguments::{Asked, RecordArguments, parsed};
 use ir_debug::{Sink, Source};
 use ir_files::{
     Folder, MOST_BYTES, MOST_INPUT, OutputFiles, WholeFile, WholeSink, loses, output_paths,

@@ -1,7 +1,6 @@
 //! The program `ir` as one call of its arguments, a folder and its streams: assembling, recording, listing a trace, debugging.
 #![tactic(auto)]
 
-mod arguments;
 mod assembling;
 mod bundles;
 mod debugging;
@@ -13,7 +12,6 @@ mod listing;
 mod prompting;
 mod tracing;
 
-pub use arguments::{ASM_AFTER, Asked, RecordArguments, collected, parsed};
 pub use assembling::asm_run;
 pub use bundles::{bundle, bundled};
 pub use dispatch::{BAD_ARGUMENTS, DONE, FAULT, program};

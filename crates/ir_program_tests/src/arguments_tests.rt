@@ -1,7 +1,8 @@
 //! What wrong arguments are told, and that the help of `ir asm` names what there is.
 
 use crate::device_tests::{ENDLESS, empty_page};
-use ir_program::{ASM_AFTER, Asked, asm_run, parsed};
+use ir_arguments::{ASM_AFTER, Asked, parsed};
+use ir_program::asm_run;
 use ir_thread::Call;
 use std::test::Fail;
 
