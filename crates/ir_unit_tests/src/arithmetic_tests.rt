@@ -247,9 +247,9 @@ fn takes(alloc: Global, op: BranchOp, a: u32, b: u32) -> Result<Option<bool>, Al
 
 #[test]
 fn operations_of_registers(rt: HostRuntime) -> Result<(), AllocError> {
-    for (op, a, b, wanted) in OF_REGISTERS {
-        let result = of_registers(rt.alloc(), op, a, b)?;
-        assert_eq!(rt; result, Some(wanted), "of {a:08x} and {b:08x}");
+    for (op, a, b, wanted) in &OF_REGISTERS {
+        let result = of_registers(rt.alloc(), *op, *a, *b)?;
+        assert_eq!(rt; result, Some(*wanted), "of {a:08x} and {b:08x}");
     }
     Ok(())
 }

@@ -322,8 +322,8 @@ const LAID: [Laid; 8] = [
 
 #[test]
 fn each_fault_is_named(rt: HostRuntime) {
-    for (cause, line, source) in FAULTS {
-        assert_eq!(rt; fault_of(rt.alloc(), source), (line, cause), "{source}");
+    for (cause, line, source) in &FAULTS {
+        assert_eq!(rt; fault_of(rt.alloc(), source), (*line, *cause), "{source}");
     }
 }
 
@@ -337,7 +337,7 @@ fn has_words(alloc: Global, source: &str, words: &[u32]) -> Result<bool, Fail> {
 
 #[test]
 fn each_form_has_its_words(rt: HostRuntime) -> Result<(), Fail> {
-    for (source, words) in WORDS {
+    for (source, words) in &WORDS {
         assert!(rt; has_words(rt.alloc(), source, words)?, "{source}");
     }
     Ok(())
@@ -367,9 +367,9 @@ fn is_laid(
 
 #[test]
 fn entries_data_and_objects_are_laid(rt: HostRuntime) -> Result<(), Fail> {
-    for (source, entries, bytes, object) in LAID {
+    for (source, entries, bytes, object) in &LAID {
         assert!(rt;
-            is_laid(rt.alloc(), source, entries, bytes, object)?,
+            is_laid(rt.alloc(), source, entries, bytes, *object)?,
             "{source}"
         );
     }

@@ -62,15 +62,15 @@ fn causes_have_numbers(rt: HostRuntime) {
 
 #[test]
 fn each_cause(rt: HostRuntime) {
-    for (source, line, cause) in CAUSES {
-        assert_eq!(rt; fault_of(rt.alloc(), source), (line, cause), "{source}");
+    for (source, line, cause) in &CAUSES {
+        assert_eq!(rt; fault_of(rt.alloc(), source), (*line, *cause), "{source}");
     }
 }
 
 #[test]
 fn the_first_fault(rt: HostRuntime) {
-    for (source, line, cause) in ORDER {
-        assert_eq!(rt; fault_of(rt.alloc(), source), (line, cause), "{source}");
+    for (source, line, cause) in &ORDER {
+        assert_eq!(rt; fault_of(rt.alloc(), source), (*line, *cause), "{source}");
     }
 }
 

@@ -110,8 +110,8 @@ fn belong(word: u32, inst: &Inst) -> bool {
 
 #[test]
 fn words_and_instructions(rt: HostRuntime) {
-    for (word, inst) in WORDS {
-        assert!(rt; belong(word, &inst), "of {word:08x}");
+    for (word, inst) in &WORDS {
+        assert!(rt; belong(*word, inst), "of {word:08x}");
     }
 }
 
