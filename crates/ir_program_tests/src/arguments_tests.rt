@@ -44,7 +44,7 @@ const WRONG: [(&str, &str); 7] = [
 
 #[test]
 fn wrong_arguments_are_named(rt: HostRuntime) -> Result<(), Fail> {
-    for (line, wanted) in WRONG {
+    for &(line, wanted) in &WRONG {
         match asked(&rt, line)? {
             Asked::Nothing(why) => assert_eq!(rt; why.as_str(), wanted),
             _ => assert!(rt; false),

@@ -49,7 +49,7 @@ fn a_source_is_assembled(rt: HostRuntime) {
 
 #[test]
 fn a_fault_is_reported(rt: HostRuntime) {
-    for (source, line) in FAULTS {
+    for &(source, line) in &FAULTS {
         let (status, image, faults) = assembled(&rt, source, 3, 0, ENDLESS);
         assert_eq!(rt; status, 3);
         assert_eq!(rt; faults.bytes.as_slice(), line);

@@ -188,7 +188,7 @@ const ROWS: [(&[u8], &[u8], &[u8], u8); 4] = [
 
 #[test]
 fn rows(rt: HostRuntime) -> Result<(), Fail> {
-    for (trace, commands, answers, code) in ROWS {
+    for &(trace, commands, answers, code) in &ROWS {
         for most in [1, 100] {
             let (writer, faults, status) = answered(&rt, IMAGE, trace, commands, most)?;
             assert_eq!(rt; writer.bytes.as_slice(), answers);
@@ -226,7 +226,7 @@ const DIGITS: [(&[u8], &[u8], u8); 9] = [
 
 #[test]
 fn lines_of_digits(rt: HostRuntime) {
-    for (input, answers, wanted) in DIGITS {
+    for &(input, answers, wanted) in &DIGITS {
         let mut reader = Bytes {
             left: input,
             calls_left: ENDLESS,

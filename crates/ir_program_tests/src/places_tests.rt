@@ -23,7 +23,7 @@ const ROWS: [(&str, Found, &str, Found, bool); 8] = [
 
 #[test]
 fn the_same_file_is_lost(rt: HostRuntime) {
-    for (written, at_written, read, at_read, is_lost) in ROWS {
+    for &(written, at_written, read, at_read, is_lost) in &ROWS {
         assert_eq!(rt; loses(written, at_written, read, at_read), is_lost);
     }
 }

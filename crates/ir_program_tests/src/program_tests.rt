@@ -334,7 +334,7 @@ fn leaves_nothing(shelf: &Shelf) -> bool {
 #[test]
 fn what_stops_it_is_told(rt: HostRuntime) -> Result<(), Fail> {
     let shelf = prepared(&rt)?;
-    for (line, status, told) in ROWS {
+    for &(line, status, told) in &ROWS {
         assert!(rt; says(&rt, &shelf, line, b"", (status, "", told))?, "{line}");
         assert!(rt; leaves_nothing(&shelf), "{line}");
     }
@@ -375,7 +375,7 @@ const TURNS: [(&str, &[u8], u8, &str); 8] = [
 #[test]
 fn what_is_done_is_written(rt: HostRuntime) -> Result<(), Fail> {
     let shelf = prepared(&rt)?;
-    for (line, input, status, written) in TURNS {
+    for &(line, input, status, written) in &TURNS {
         assert!(rt;
             says(&rt, &shelf, line, input, (status, written, ""))?,
             "{line}"

@@ -369,7 +369,7 @@ const NO_ORDERS: [&str; 22] = [
 #[test]
 fn other_lists_are_refused(rt: HostRuntime) {
     let image = image(&rt, COUNT);
-    for order in NO_ORDERS {
+    for &order in &NO_ORDERS {
         let run = recorded(&rt, image.as_slice(), with_order(order));
         assert_eq!(rt; run.status, 3);
         assert!(rt; run.trace.bytes.is_empty() && run.out.bytes.is_empty());

@@ -60,7 +60,7 @@ const FAULTS: [(usize, u8, &[u8]); 6] = [
 
 #[test]
 fn a_refused_trace_is_told(rt: HostRuntime) {
-    for (place, byte, line) in FAULTS {
+    for &(place, byte, line) in &FAULTS {
         let mut trace = TRACE;
         trace[place] = byte;
         let (status, out, faults) = listed(&rt, &trace, 5, ENDLESS);

@@ -60,7 +60,7 @@ const CONSISTENT: [(Pair, bool); 4] = [
 #[test]
 fn an_entry_needs_its_maker(rt: HostRuntime) -> Result<(), Fail> {
     let fitted = fitted(rt.alloc(), TWO_COUNTERS, SECOND_FIRST)?;
-    for (at, wanted) in CONSISTENT {
+    for &(at, wanted) in &CONSISTENT {
         assert_eq!(rt; is_consistent(rt.alloc(), &fitted, at)?, wanted);
     }
     Ok(())
@@ -86,7 +86,7 @@ const GREATEST: [Search; 4] = [
 #[test]
 fn a_step_past_an_entry_brings_its_maker(rt: HostRuntime) -> Result<(), Fail> {
     let fitted = fitted(rt.alloc(), TWO_COUNTERS, SECOND_FIRST)?;
-    for (at, t, k, wanted) in LEAST {
+    for &(at, t, k, wanted) in &LEAST {
         assert_eq!(rt; least_of(rt.alloc(), &fitted, at, t, k)?, Some(wanted));
     }
     Ok(())
@@ -95,7 +95,7 @@ fn a_step_past_an_entry_brings_its_maker(rt: HostRuntime) -> Result<(), Fail> {
 #[test]
 fn a_step_back_past_a_leave_takes_the_entry_along(rt: HostRuntime) -> Result<(), Fail> {
     let fitted = fitted(rt.alloc(), TWO_COUNTERS, SECOND_FIRST)?;
-    for (at, t, k, wanted) in GREATEST {
+    for &(at, t, k, wanted) in &GREATEST {
         assert_eq!(rt; greatest_of(rt.alloc(), &fitted, at, t, k)?, Some(wanted));
     }
     Ok(())

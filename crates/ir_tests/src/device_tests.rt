@@ -63,7 +63,7 @@ fn each_read_fails<R: AllocGlobal + Threads + Clock + Sync>(
 
 #[test]
 fn each_read_fails_in_its_turn(rt: HostRuntime) -> Result<(), Fail> {
-    for (guest, trace, lines) in SESSIONS {
+    for &(guest, trace, lines) in &SESSIONS {
         let files = files_of(rt.alloc(), guest, trace)?;
         assert!(rt; each_read_fails(&rt, &files, lines.as_bytes()), "{lines}");
     }
@@ -102,7 +102,7 @@ fn each_write_fails<R: AllocGlobal + Threads + Clock + Sync>(
 
 #[test]
 fn each_write_fails_in_its_turn(rt: HostRuntime) -> Result<(), Fail> {
-    for (guest, trace, lines) in SESSIONS {
+    for &(guest, trace, lines) in &SESSIONS {
         let files = files_of(rt.alloc(), guest, trace)?;
         assert!(rt; each_write_fails(&rt, &files, lines.as_bytes()), "{lines}");
     }

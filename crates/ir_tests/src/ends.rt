@@ -109,7 +109,7 @@ const EACH: [Ended; 14] = [
 
 #[test]
 fn each_end_comes_about(rt: HostRuntime) -> Result<(), Fail> {
-    for row in EACH {
+    for &row in &EACH {
         assert!(rt; is_end(rt.alloc(), row)?);
     }
     Ok(())
@@ -151,7 +151,7 @@ const BY_ARGUMENTS: [Ended; 9] = [
 
 #[test]
 fn a_call_ends_by_its_arguments(rt: HostRuntime) -> Result<(), Fail> {
-    for row in BY_ARGUMENTS {
+    for &row in &BY_ARGUMENTS {
         assert!(rt; is_end(rt.alloc(), row)?);
     }
     Ok(())
@@ -173,7 +173,7 @@ const FIRST: [Ended; 5] = [
 
 #[test]
 fn the_first_condition_decides(rt: HostRuntime) -> Result<(), Fail> {
-    for row in FIRST {
+    for &row in &FIRST {
         assert!(rt; is_end(rt.alloc(), row)?);
     }
     Ok(())
@@ -210,7 +210,7 @@ const BUDGETS: [Ended; 9] = [
 
 #[test]
 fn the_budget_decides_before_the_step(rt: HostRuntime) -> Result<(), Fail> {
-    for row in BUDGETS {
+    for &row in &BUDGETS {
         assert!(rt; is_end(rt.alloc(), row)?);
     }
     Ok(())

@@ -51,7 +51,7 @@ fn does(alloc: Global, example: Example) -> Result<bool, Fail> {
 
 #[test]
 fn the_examples_do_what_they_say(rt: HostRuntime) -> Result<(), Fail> {
-    for example in EXAMPLES {
+    for &example in &EXAMPLES {
         let (source, length, _end, _printed, _words) = example;
         assert_eq!(rt; image_bytes(rt.alloc(), &[source])?.len(), length);
         assert!(rt; does(rt.alloc(), example)?, "{source}");

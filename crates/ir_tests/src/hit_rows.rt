@@ -138,7 +138,7 @@ fn two_threads_are_continued(rt: HostRuntime) -> Result<(), Fail> {
 
 #[test]
 fn one_thread_is_continued(rt: HostRuntime) -> Result<(), Fail> {
-    for (guest, trace, said) in OF_ONE {
+    for &(guest, trace, said) in &OF_ONE {
         are_answered(&rt, guest, trace, &[said])?;
     }
     Ok(())

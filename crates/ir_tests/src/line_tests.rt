@@ -56,7 +56,7 @@ fn is_long_answered<R: AllocGlobal + Threads + Clock + Sync>(
 #[test]
 fn long_lines_are_refused(rt: HostRuntime) -> Result<(), Fail> {
     let files = files_of(rt.alloc(), DOUBLED, ENDED_BY_144)?;
-    for row in LONG {
+    for &row in &LONG {
         assert!(rt; is_long_answered(&rt, &files, row)?);
     }
     Ok(())
@@ -110,7 +110,7 @@ fn is_limited<R: AllocGlobal + Threads + Clock + Sync>(
 #[test]
 fn no_byte_past_the_limit_is_read(rt: HostRuntime) -> Result<(), Fail> {
     let files = files_of(rt.alloc(), DOUBLED, ENDED_BY_144)?;
-    for row in LIMITED {
+    for &row in &LIMITED {
         assert!(rt; is_limited(&rt, &files, row));
     }
     Ok(())
@@ -152,7 +152,7 @@ fn is_refused<R: AllocGlobal + Threads + Clock + Sync>(
 #[test]
 fn refused_lines_change_nothing(rt: HostRuntime) -> Result<(), Fail> {
     let files = files_of(rt.alloc(), TWO_COUNTERS, SECOND_FIRST)?;
-    for (line, answers) in REFUSED {
+    for &(line, answers) in &REFUSED {
         assert!(rt; is_refused(&rt, &files, line, answers)?);
     }
     Ok(())
@@ -234,7 +234,7 @@ fn is_disassembled<R: AllocGlobal + Threads + Clock + Sync>(
 
 #[test]
 fn the_next_word_is_disassembled(rt: HostRuntime) -> Result<(), Fail> {
-    for row in WORDS {
+    for &row in &WORDS {
         assert!(rt; is_disassembled(&rt, row)?);
     }
     Ok(())
@@ -276,7 +276,7 @@ fn is_printed<R: AllocGlobal + Threads + Clock + Sync>(
 
 #[test]
 fn numbers_are_printed_with_their_signs(rt: HostRuntime) -> Result<(), Fail> {
-    for (number, answers) in NUMBERS {
+    for &(number, answers) in &NUMBERS {
         assert!(rt; is_printed(&rt, number, answers)?);
     }
     Ok(())

@@ -36,7 +36,7 @@ fn is_ordered(alloc: Global, row: Ordered) -> Result<bool, Fail> {
 
 #[test]
 fn the_order_says_who_is_first(rt: HostRuntime) -> Result<(), Fail> {
-    for row in ORDERED {
+    for &row in &ORDERED {
         assert!(rt; is_ordered(rt.alloc(), row)?);
     }
     Ok(())
@@ -109,7 +109,7 @@ fn is_alone(alloc: Global, row: Alone) -> Result<bool, Fail> {
 
 #[test]
 fn one_thread_is_recorded(rt: HostRuntime) -> Result<(), Fail> {
-    for row in ALONE {
+    for &row in &ALONE {
         assert!(rt; is_alone(rt.alloc(), row)?);
     }
     Ok(())

@@ -136,7 +136,7 @@ fn replays_in_each_order<R: Threads + Clock + Sync>(
     alloc: Global,
     guest: Guest,
 ) -> Result<bool, Fail> {
-    for order in ORDERS {
+    for &order in &ORDERS {
         let fitted = fitted_in_order(alloc, guest.source, order, BUDGET)?;
         if !ends_alike(rt, alloc, &fitted)? {
             return Ok(false);
@@ -157,7 +157,7 @@ fn replays_by_threads<R: Threads + Clock + Wait + Sync>(
 
 #[test]
 fn a_recording_of_each_guest_fits_and_replays(rt: HostRuntime) -> Result<(), Fail> {
-    for guest in GUESTS {
+    for &guest in &GUESTS {
         assert!(rt;
             replays_by_threads(&rt, rt.alloc(), guest)?,
             "{}",

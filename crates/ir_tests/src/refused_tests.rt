@@ -110,7 +110,7 @@ fn is_told<R: AllocGlobal + Threads + Clock + Sync>(
 fn images_are_refused_by_their_first_fault(rt: HostRuntime) -> Result<(), Fail> {
     let files = files_of(rt.alloc(), DOUBLED, ENDED_BY_144)?;
     let trace = files.trace.as_slice();
-    for (patch, answer) in IMAGES {
+    for &(patch, answer) in &IMAGES {
         assert!(rt; is_image_refused(&rt, &files, trace, patch, answer)?);
         assert!(rt; is_image_refused(&rt, &files, &trace[..trace.len().min(32)], patch, answer)?);
     }
@@ -131,7 +131,7 @@ fn is_trace_answered<R: AllocGlobal + Threads + Clock + Sync>(
 #[test]
 fn traces_are_refused_by_their_first_fault(rt: HostRuntime) -> Result<(), Fail> {
     let files = files_of(rt.alloc(), DOUBLED, ENDED_BY_144)?;
-    for (patch, answer) in TRACES {
+    for &(patch, answer) in &TRACES {
         assert!(rt; is_trace_answered(&rt, &files, patch, answer)?);
     }
     Ok(())
@@ -140,7 +140,7 @@ fn traces_are_refused_by_their_first_fault(rt: HostRuntime) -> Result<(), Fail> 
 #[test]
 fn events_are_refused_by_their_first_fault(rt: HostRuntime) -> Result<(), Fail> {
     let files = files_of(rt.alloc(), TWO_COUNTERS, SECOND_FIRST)?;
-    for (patch, answer) in EVENTS {
+    for &(patch, answer) in &EVENTS {
         assert!(rt; is_trace_answered(&rt, &files, patch, answer)?);
     }
     Ok(())
@@ -177,7 +177,7 @@ const WHOLE: [(Source, TraceRow); 3] = [
 
 #[test]
 fn each_prefix_is_short(rt: HostRuntime) -> Result<(), Fail> {
-    for (guest, trace) in WHOLE {
+    for &(guest, trace) in &WHOLE {
         let files = files_of(rt.alloc(), guest, trace)?;
         assert!(rt; each_image_is_short(&rt, &files));
         assert!(rt; each_trace_is_short(&rt, &files));
@@ -259,7 +259,7 @@ const CHANGED: [(Source, TraceRow); 2] = [
 
 #[test]
 fn each_changed_byte_of_an_image_is_answered(rt: HostRuntime) -> Result<(), Fail> {
-    for (guest, trace) in CHANGED {
+    for &(guest, trace) in &CHANGED {
         let files = files_of(rt.alloc(), guest, trace)?;
         for (place, own) in files.image.iter().enumerate() {
             assert!(rt; is_image_told(&rt, &files, place, *own)?, "{place}");
@@ -270,7 +270,7 @@ fn each_changed_byte_of_an_image_is_answered(rt: HostRuntime) -> Result<(), Fail
 
 #[test]
 fn each_changed_byte_of_a_trace_is_answered(rt: HostRuntime) -> Result<(), Fail> {
-    for (guest, trace) in CHANGED {
+    for &(guest, trace) in &CHANGED {
         let files = files_of(rt.alloc(), guest, trace)?;
         for (place, own) in files.trace.iter().enumerate() {
             assert!(rt; is_trace_told(&rt, &files, place, *own)?, "{place}");

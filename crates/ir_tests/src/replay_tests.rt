@@ -45,7 +45,7 @@ fn is_alike(alloc: Global, fitted: &Fitted, at: Pair) -> Result<bool, Fail> {
     let Some(first) = state_at(alloc, fitted, at, &[])? else {
         return Ok(false);
     };
-    for order in ORDERS {
+    for &order in &ORDERS {
         match &state_at(alloc, fitted, at, order)? {
             Some(other) if same_state(&first, other) => {}
             _ => return Ok(false),

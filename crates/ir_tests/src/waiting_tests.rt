@@ -140,7 +140,7 @@ const BOTH: [Waiting; 4] = [
 
 #[test]
 fn writers_wait_for_each_other(rt: HostRuntime) -> Result<(), Fail> {
-    for (source, order) in WRITERS {
+    for &(source, order) in &WRITERS {
         assert!(rt; is_plain(rt.alloc(), source, order)?);
     }
     Ok(())
@@ -148,7 +148,7 @@ fn writers_wait_for_each_other(rt: HostRuntime) -> Result<(), Fail> {
 
 #[test]
 fn readers_and_writers_wait_for_each_other(rt: HostRuntime) -> Result<(), Fail> {
-    for (source, order) in BOTH {
+    for &(source, order) in &BOTH {
         assert!(rt; is_plain(rt.alloc(), source, order)?);
     }
     Ok(())

@@ -51,7 +51,7 @@ fn is_written(alloc: Global, events: &[Event], bytes: &[u8]) -> bool {
 
 #[test]
 fn a_log_has_a_line_for_each_event_so_far(rt: HostRuntime) {
-    for (events, bytes) in LOGS {
+    for &(events, bytes) in &LOGS {
         assert!(rt; is_written(rt.alloc(), events, bytes));
     }
 }
@@ -118,7 +118,7 @@ const PRINTED: [Printed; 4] = [
 
 #[test]
 fn output_stands_in_lines_of_32_bytes(rt: HostRuntime) -> Result<(), Fail> {
-    for (count, threads, answers) in PRINTED {
+    for &(count, threads, answers) in &PRINTED {
         let trace = TraceRow {
             objects: 0,
             budget: 1000,

@@ -256,7 +256,7 @@ fn operations_of_registers(rt: HostRuntime) -> Result<(), AllocError> {
 
 #[test]
 fn shifts(rt: HostRuntime) -> Result<(), AllocError> {
-    for (op, a, bits, wanted) in SHIFTS {
+    for &(op, a, bits, wanted) in &SHIFTS {
         assert!(rt; bits < 32);
         let result = shifted(rt.alloc(), op, a, ShiftAmount { bits })?;
         assert_eq!(rt; result, Some(wanted), "of {a:08x} by {bits}");
@@ -266,7 +266,7 @@ fn shifts(rt: HostRuntime) -> Result<(), AllocError> {
 
 #[test]
 fn operations_with_immediates(rt: HostRuntime) -> Result<(), AllocError> {
-    for (op, a, value, wanted) in WITH_IMMEDIATES {
+    for &(op, a, value, wanted) in &WITH_IMMEDIATES {
         assert!(rt; -2048 <= value && value <= 2047);
         let result = with_immediate(rt.alloc(), op, a, Immediate { value })?;
         assert_eq!(rt; result, Some(wanted), "of {a:08x} and {value}");
@@ -276,7 +276,7 @@ fn operations_with_immediates(rt: HostRuntime) -> Result<(), AllocError> {
 
 #[test]
 fn branches(rt: HostRuntime) -> Result<(), AllocError> {
-    for (op, a, b, wanted) in BRANCHES {
+    for &(op, a, b, wanted) in &BRANCHES {
         let taken = takes(rt.alloc(), op, a, b)?;
         assert_eq!(rt; taken, Some(wanted), "of {a:08x} and {b:08x}");
     }

@@ -135,7 +135,7 @@ const BOTH_WAYS: [(&[u8], u32, Direction); 3] = [
 
 #[test]
 fn a_thread_is_continued_both_ways(rt: HostRuntime) {
-    for (line, thread, direction) in BOTH_WAYS {
+    for &(line, thread, direction) in &BOTH_WAYS {
         let want = Command::Continue { thread, direction };
         assert_eq!(rt; parse_line(line), Ok(Some(want)));
     }
@@ -160,7 +160,7 @@ fn bytes_shown(thread: u32, address: u32, bytes: u128) -> Option<Command> {
 
 #[test]
 fn memory_is_shown(rt: HostRuntime) {
-    for (line, thread, address, bytes) in MEMORY {
+    for &(line, thread, address, bytes) in &MEMORY {
         let shown = bytes_shown(thread, address, bytes);
         assert!(rt; shown.is_some());
         assert_eq!(rt; parse_line(line), Ok(shown));
@@ -286,7 +286,7 @@ const NAMES: [&[u8]; 15] = [
 
 #[test]
 fn other_names_are_unknown(rt: HostRuntime) {
-    for line in NAMES {
+    for &line in &NAMES {
         assert_eq!(rt; parse_line(line), Err(Refusal::UnknownCommand));
     }
 }

@@ -101,7 +101,7 @@ const DOUBLES: [(u8, [u8; 8], u8, Judged); 6] = [
 
 #[test]
 fn steps_code_and_budget_are_the_trace_s(rt: HostRuntime) -> Result<(), Fail> {
-    for (budget, steps, code, wanted) in DOUBLES {
+    for &(budget, steps, code, wanted) in &DOUBLES {
         assert_eq!(rt; double(rt.alloc(), budget, steps, code)?, wanted);
     }
     Ok(())
@@ -165,7 +165,7 @@ const ENTRIES: [(u8, &[u8], Judged); 5] = [
 
 #[test]
 fn entries_are_the_trace_s(rt: HostRuntime) -> Result<(), Fail> {
-    for (count, events, wanted) in ENTRIES {
+    for &(count, events, wanted) in &ENTRIES {
         assert_eq!(rt; read_and_write(rt.alloc(), count, events)?, wanted);
     }
     Ok(())
@@ -287,7 +287,7 @@ const VERSIONS: [([u8; 2], [u8; 2], Judged); 5] = [
 
 #[test]
 fn threads_wait_for_their_versions(rt: HostRuntime) -> Result<(), Fail> {
-    for (first, second, wanted) in VERSIONS {
+    for &(first, second, wanted) in &VERSIONS {
         assert_eq!(rt; crossed(rt.alloc(), first, second)?, wanted);
     }
     Ok(())
@@ -301,7 +301,7 @@ const HEADERS: [(&[u8], u8, HeaderCause); 2] = [
 
 #[test]
 fn the_header_comes_first(rt: HostRuntime) -> Result<(), Fail> {
-    for (starts, objects, cause) in HEADERS {
+    for &(starts, objects, cause) in &HEADERS {
         let image = guest(rt.alloc(), starts, objects, &CROSSED)?;
         let said = answer_of(rt.alloc(), image, &crossed_trace([0, 0], [0, 0]))?;
         assert_eq!(rt; said, Judged::Header(cause));

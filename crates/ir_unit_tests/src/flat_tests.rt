@@ -178,7 +178,7 @@ const ENDS: [EndRow; 5] = [
 
 #[test]
 fn each_end(rt: HostRuntime) -> Result<(), Fail> {
-    for (objects, code, wanted) in ENDS {
+    for &(objects, code, wanted) in &ENDS {
         assert_eq!(rt; end_alone(rt.alloc(), objects, code)?, Some(wanted));
     }
     Ok(())

@@ -109,7 +109,7 @@ const FAULTS: [(usize, u8, u8); 9] = [
 
 #[test]
 fn the_first_fault_is_named(rt: HostRuntime) {
-    for (place, byte, want) in FAULTS {
+    for &(place, byte, want) in &FAULTS {
         assert_eq!(rt;
             refusal(rt.alloc(), &changed(place, byte)),
             Some(want),
@@ -137,7 +137,7 @@ const COUNTS: [(&[u8], u8); 3] = [
 
 #[test]
 fn a_count_without_its_bytes_is_short(rt: HostRuntime) {
-    for (bytes, want) in COUNTS {
+    for &(bytes, want) in &COUNTS {
         assert_eq!(rt; refusal(rt.alloc(), bytes), Some(want));
     }
 }

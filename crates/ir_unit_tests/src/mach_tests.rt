@@ -78,7 +78,7 @@ fn loaded(wanted: Option<u32>) -> (Ran, u32, u32) {
 
 #[test]
 fn loads(rt: HostRuntime) -> Result<(), Fail> {
-    for (start, more, op, wanted) in LOADS {
+    for &(start, more, op, wanted) in &LOADS {
         assert!(rt; start % 0x1000 == 0 && -2048 <= more && more <= 2047);
         let after = after_load(&rt, rt.alloc(), start, more, op)?;
         assert!(rt; after == loaded(wanted), "of {start:08x} and {more}");
@@ -136,7 +136,7 @@ fn stored(start: u32, wanted: Option<u32>) -> (Ran, u32, u32) {
 
 #[test]
 fn stores(rt: HostRuntime) -> Result<(), Fail> {
-    for (start, more, op, wanted) in STORES {
+    for &(start, more, op, wanted) in &STORES {
         assert!(rt; start % 0x1000 == 0 && -2048 <= more && more <= 2047);
         let after = after_store(&rt, rt.alloc(), start, more, op)?;
         assert!(rt; after == stored(start, wanted), "of {start:08x} and {more}");
@@ -171,7 +171,7 @@ fn after_jump(rt: &impl Abort, alloc: Global, more: i32) -> Result<(Ran, u32, u3
 
 #[test]
 fn jumps(rt: HostRuntime) -> Result<(), Fail> {
-    for (more, wanted, pc, left) in JUMPS {
+    for &(more, wanted, pc, left) in &JUMPS {
         assert!(rt; more == 5 || more == 6);
         assert!(rt;
             after_jump(&rt, rt.alloc(), more)? == (wanted, pc, left),
@@ -213,7 +213,7 @@ fn after_branch(
 // A branch that isn't taken goes on, however misaligned its target.
 #[test]
 fn branches(rt: HostRuntime) -> Result<(), Fail> {
-    for (op, more, wanted, pc) in BRANCHES {
+    for &(op, more, wanted, pc) in &BRANCHES {
         assert!(rt; more == 6 || more == 8);
         let after = after_branch(&rt, rt.alloc(), op, BranchOffset { value: more })?;
         assert!(rt; after == (wanted, pc), "by {more}");

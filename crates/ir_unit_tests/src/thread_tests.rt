@@ -59,7 +59,7 @@ const HELD: [(u32, Ask, Option<End>, Option<Access>); 3] = [
 fn what_is_held_is_given_back(rt: HostRuntime) -> Result<(), Fail> {
     let image = read_image(rt.alloc(), &PROGRAM)?;
     let mut thread = Thread::new(rt.alloc(), &image, 0, 1000)?;
-    for (steps, asked, end, held) in HELD {
+    for &(steps, asked, end, held) in &HELD {
         run(&mut thread, image.code(), steps, 7);
         assert_eq!(rt; (thread.ask(image.code()), thread.ended()), (asked, end));
         assert_eq!(rt; thread.held(), [held].as_slice());
@@ -88,7 +88,7 @@ const RUNS: [(u32, u64, u64, u64); 4] = [(0, 9, 1, 1), (3, 1, 1, 5), (0, 9, 2, 7
 fn a_run_stops_where_a_step_is_not_private(rt: HostRuntime) -> Result<(), Fail> {
     let image = read_image(rt.alloc(), &PROGRAM)?;
     let mut thread = Thread::new(rt.alloc(), &image, 0, 1000)?;
-    for (steps, limit, gone, taken) in RUNS {
+    for &(steps, limit, gone, taken) in &RUNS {
         run(&mut thread, image.code(), steps, 7);
         assert_eq!(rt; thread.run(image.code(), limit), gone);
         assert_eq!(rt; thread.steps(), taken);

@@ -77,7 +77,7 @@ const TRACES: [&[u8]; 4] = [&ONE_THREAD, &TWO_WRITERS, &READ_THEN_WRITE, &ANSWER
 
 #[test]
 fn traces_are_written_as_they_were_read(rt: HostRuntime) -> Result<(), Fail> {
-    for bytes in TRACES {
+    for &bytes in &TRACES {
         assert!(rt; comes_again(rt.alloc(), bytes)?);
     }
     Ok(())
@@ -187,7 +187,7 @@ fn prefixes_are_short(alloc: Global, bytes: &[u8]) -> bool {
 
 #[test]
 fn every_prefix_is_short(rt: HostRuntime) {
-    for bytes in TRACES {
+    for &bytes in &TRACES {
         assert!(rt; prefixes_are_short(rt.alloc(), bytes));
     }
 }
@@ -272,7 +272,7 @@ fn refusal_of_two(
 
 #[test]
 fn the_first_fault_is_named(rt: HostRuntime) -> Result<(), Fail> {
-    for (bytes, places, length, want) in FAULTS {
+    for &(bytes, places, length, want) in &FAULTS {
         let refused = refusal_of_two(rt.alloc(), bytes, places, length)?;
         assert_eq!(rt; refused, Some(want), "of {length}");
     }
