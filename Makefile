@@ -20,7 +20,7 @@ run: ir
 # The merge gate: the rooms of the crates, and then every proof from nothing, must-fail edits, tests, programs.
 test:
 	python3 scripts/rooms.py
-	rt ci
+	RT_JOBS=$$(python3 scripts/prove.py --jobs) rt ci
 
 # Every edit, those that the gate tries and those beside it, each of which the prover has to refuse at what it changes.
 edits: ir
