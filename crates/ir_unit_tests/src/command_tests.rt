@@ -112,19 +112,23 @@ const OTHERS: [Row; 7] = [
     (b"quit", Command::Quit),
 ];
 
-#[test]
-fn commands_have_their_forms(rt: HostRuntime) {
-    for table in [
-        KEPT_CUTS.as_slice(),
-        POINTS.as_slice(),
-        MOVES.as_slice(),
-        BLANKS.as_slice(),
-        OTHERS.as_slice(),
-    ] {
-        for (line, want) in table {
-            assert_eq!(rt; parse_line(line), Ok(Some(*want)));
+// Whether each line asks its command.
+fn are_asked(table: &[Row]) -> bool {
+    for (line, want) in table {
+        if parse_line(line) != Ok(Some(*want)) {
+            return false;
         }
     }
+    true
+}
+
+#[test]
+fn commands_have_their_forms(rt: HostRuntime) {
+    assert!(rt; are_asked(&KEPT_CUTS));
+    assert!(rt; are_asked(&POINTS));
+    assert!(rt; are_asked(&MOVES));
+    assert!(rt; are_asked(&BLANKS));
+    assert!(rt; are_asked(&OTHERS));
 }
 
 const BOTH_WAYS: [(&[u8], u32, Direction); 3] = [
