@@ -1,6 +1,8 @@
 mod Lists
 mod Guests
+mod Marking
 mod Runs
+mod Keeping
 mod Operations
 mod Meaning
 mod Pages

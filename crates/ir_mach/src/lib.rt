@@ -8,6 +8,7 @@ mod effect;
 mod execute;
 mod laws;
 mod mach;
+mod marked;
 mod memory;
 mod outcome;
 mod performing;
@@ -15,8 +16,10 @@ mod regs;
 mod run;
 #[cfg(test)]
 mod tests;
+mod unmarked;
 
 pub use laws::{built_again, steps_together};
 pub use mach::{MEMORY_PAGES, Mach, PAGE_SIZE};
+pub use marked::MarkedCode;
 pub use outcome::{Fault, Ran};
 pub use regs::Regs;
