@@ -1,15 +1,15 @@
 -- A thread that goes on by itself at no marked word.
-use Rattle.std.proofs.Common.{◌≡◌, ℕ, ◌+◌, ◌-◌, ◌<◌, ◌≤◌, List, length, sym, subst, arith, inl, inr}
+use Rattle.std.proofs.Common.{◌≡◌, ℕ, ◌-◌, ◌<◌, ◌≤◌, List, length, sym, subst, arith, inl, inr}
 use Rattle.std.proofs.lemmas.Bool.{cases_lt}
 use Rattle.ir_mach.specs.Marks.{Marked}
 use Rattle.ir_thread.specs.Private.{UnmarkedSteps, StopsUnmarked}
 use Rattle.ir_flat.specs.Alone.{WentAlone}
-use Rattle.ir_flat.specs.Flat.{Flat, IsFlat, thread_of}
+use Rattle.ir_flat.specs.Flat.{Flat, thread_of}
 use Rattle.ir_fit.specs.Fit.{FittedTrace, HasRun}
 use Rattle.ir_cut.specs.Positions.{cut_of, IsConsistentCut}
 use Rattle.ir_weave.specs.Standing.{Standing, StandsAt, flat_in}
 use Rattle.ir_weave.specs.States.{positions}
-use Rattle.ir_weave.specs.Stepping.{IsTarget, IsUnder, HasGone}
+use Rattle.ir_weave.specs.Stepping.{IsUnder, HasGone}
 use Rattle.ir_weave.proofs.CallerLemmas.{alone_under, alone_own}
 use Rattle.ir_replay.specs.Alone.{RestsUnmarked}
 use Rattle.ir_replay.proofs.Going.{by_private}
@@ -34,8 +34,8 @@ unmarked_went f old state s new code t n was u is =
     subst (λ (z : Flat × Standing). UnmarkedSteps code n (thread_of z.0 t) (thread_of (flat_in f z.1) t)) (λ i. (was i, sym is i)) u
 
 -- one that took fewer than so many stopped at its target, or before what it doesn't take
-pub unmarked_rests : (f : FittedTrace) (target aim : List ℕ) (state : Standing) (s new : Flat) (code : Marked) (t n limit most : ℕ) → aim ≡ target
-    → WentAlone s new t n → (n < cut_of aim t - positions s t → n < most → n < limit) → (n < limit → StopsUnmarked code (thread_of new t))
+pub unmarked_rests : (f : FittedTrace) (target aim : List ℕ) (state : Standing) (s new : Flat) (code : Marked) (t n limit most : ℕ)
+    → aim ≡ target → WentAlone s new t n → (n < cut_of aim t - positions s t → n < most → n < limit) → (n < limit → StopsUnmarked code (thread_of new t))
     → state ≡ record { threads = new.threads; objects = new.objects } → n < most → RestsUnmarked target code (flat_in f state) t
 unmarked_rests f target aim state s new code t n limit most same w least stops is less =
     subst (λ (z : List ℕ × Standing). RestsUnmarked z.0 code (flat_in f z.1) t) (λ i. (same i, sym is i)) rests

@@ -1,7 +1,4 @@
-use Rattle.std.proofs.Common.{◌≡◌, ◌+◌, ◌-◌, ◌<◌, ◌≤◌, arith}
-use Rattle.ir_cut.specs.Positions.{cut_of}
-use Rattle.ir_weave.specs.States.{positions}
-use Rattle.ir_weave.specs.Stepping.{IsUnder}
+use Rattle.std.proofs.Common.{arith}
 use Rattle.ir_replay.proofs.Reached.{alone_stands, alone_below}
 use Rattle.ir_replay.proofs.Unmarked.{still_under, unmarked_gone, unmarked_went, unmarked_rests}
 use Rattle.ir_replay.proofs.alone.advance_unmarked.Goals as goal

@@ -27,4 +27,5 @@ returns-clause-steps c =
     let P : State → Type 0 = λ old. UnmarkedSteps c.args.code.now c.run_unmarked-taken.result old
     (advanced s c.run_unmarked-taken.new.self c.run_unmarked-taken.result) in
     subst P c.self.view_is
-    (unmarked_steps c.args.code.now s c.run_unmarked-taken.result c.run_unmarked-taken.new.self none (omega (arith, le)) c.run_unmarked-taken.ensures.steps)
+    (unmarked_steps c.args.code.now s c.run_unmarked-taken.result c.run_unmarked-taken.new.self none (omega (arith, le))
+    c.run_unmarked-taken.ensures.steps)
