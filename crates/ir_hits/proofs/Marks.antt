@@ -1,0 +1,125 @@
+-- Marks at the words of a code.
+use Rattle.std.proofs.Common.{◌≡◌, ℕ, suc, zero, ◌+◌, ◌-◌, ◌/◌, ◌<◌, ◌≤◌, Bool, true, false, List, [], ◌∷◌, length, map, set, Option, Some, None, refl, sym, subst, inl, inr, arith}
+use Rattle.std.specs.Prelude.{slice_get, nat_le, if◌then◌else◌}
+use Rattle.std.proofs.lemmas.Bool.{cases_eq}
+use Rattle.std.proofs.lemmas.Option.{slice_get_within}
+use Rattle.ir_isa.specs.declared.inst.Inst.{Inst}
+use Rattle.ir_isa.specs.declared.inst.Inst.TheVariants as inst
+use Rattle.ir_isa.specs.Decoded.{instruction_of}
+use Rattle.ir_image.specs.Guest.{code_start}
+use Rattle.ir_image.specs.Fetch.{fetched_word, decoded}
+use Rattle.ir_image.specs.declared.fetched.Fetched.{Fetched}
+use Rattle.ir_image.specs.declared.fetched.Fetched.TheVariants.{Found}
+use Rattle.ir_mach.specs.Marks.{Marked, mark_of, is_marked, IsStore, AreStoresMarked}
+use Rattle.ir_command.specs.declared.command.Point.{Point}
+use Rattle.ir_command.specs.declared.command.Point.TheVariants.{Break, Watch, WatchObject}
+use Rattle.ir_hits.specs.Hits.{Numbered}
+use Rattle.ir_hits.specs.Passing.{is_store, stores, KeepsMarks, IsBreakMarked, AreBreaksMarked, Watches, NoneWatches, IsCovered, AreCovered}
+use Rattle.ir_hits.proofs.Seen.{same_at}
+
+-- ---- stores
+
+by_store : (j : Inst) → IsStore j → is_store (Some j) ≡ true
+by_store (inst.Store op rs1 rs2 imm) s = refl
+by_store (inst.Lui rd imm) s = absurd s
+by_store (inst.Auipc rd imm) s = absurd s
+by_store (inst.Jal rd offset) s = absurd s
+by_store (inst.Jalr rd rs1 imm) s = absurd s
+by_store (inst.Branch op rs1 rs2 offset) s = absurd s
+by_store (inst.Load op rd rs1 imm) s = absurd s
+by_store (inst.OpImm op rd rs1 imm) s = absurd s
+by_store (inst.Shift op rd rs1 amount) s = absurd s
+by_store (inst.Op op rd rs1 rs2) s = absurd s
+by_store (inst.Fence rd rs1 imm) s = absurd s
+by_store inst.Ecall s = absurd s
+by_store inst.Ebreak s = absurd s
+
+store_found : (o : Option Inst) (i : Inst) → decoded o ≡ Found i → IsStore i → is_store o ≡ true
+store_found (Some j) i is store = let same : j ≡ i = cc in by_store j (subst IsStore (sym same) store)
+store_found None i is store = absurd cc
+
+store_there : (code : List ℕ) (place : ℕ) (i : Inst) → fetched_word (slice_get code place) ≡ Found i → IsStore i
+    → mark_of (map stores code) place ≡ true
+store_there [] place i is store = refl
+store_there (w ∷ ws) zero i is store = store_found (instruction_of w) i is store
+store_there (w ∷ ws) (suc place) i is store = store_there ws place i is store
+
+store_at : (b : Bool) (code : List ℕ) (place : ℕ) (i : Inst) → fetched_word (if b then slice_get code place else None) ≡ Found i → IsStore i
+    → (if b then mark_of (map stores code) place else true) ≡ true
+store_at true code place i is store = store_there code place i is store
+store_at false code place i is store = refl
+
+pub all_stores : (code : List ℕ) → AreStoresMarked code (map stores code)
+all_stores code pc i is store = store_at (nat_le code_start pc) code ((pc - code_start) / 4) i is store
+
+pub stores_marked : (code : List ℕ) (marks : List Bool) → marks ≡ map stores code → AreStoresMarked code marks
+stores_marked code marks is = subst (AreStoresMarked code) (sym is) (all_stores code)
+
+-- ---- one mark more
+
+mark_same : (marks : List Bool) (place : ℕ) → mark_of (set marks place true) place ≡ true
+mark_same [] zero = refl
+mark_same [] (suc place) = refl
+mark_same (m ∷ ms) zero = refl
+mark_same (m ∷ ms) (suc place) = mark_same ms place
+
+mark_kept : (marks : List Bool) (place other : ℕ) → mark_of marks other ≡ true → mark_of (set marks place true) other ≡ true
+mark_kept [] zero other is = is
+mark_kept [] (suc place) other is = is
+mark_kept (m ∷ ms) zero zero is = refl
+mark_kept (m ∷ ms) zero (suc other) is = is
+mark_kept (m ∷ ms) (suc place) zero is = is
+mark_kept (m ∷ ms) (suc place) (suc other) is = mark_kept ms place other is
+
+here_at : (b : Bool) (marks : List Bool) (place : ℕ) → (if b then mark_of (set marks place true) place else true) ≡ true
+here_at true marks place = mark_same marks place
+here_at false marks place = refl
+
+kept_at : (b : Bool) (marks : List Bool) (place other : ℕ) → (if b then mark_of marks other else true) ≡ true
+    → (if b then mark_of (set marks place true) other else true) ≡ true
+kept_at true marks place other is = mark_kept marks place other is
+kept_at false marks place other is = refl
+
+pub marked_here : (marks new : List Bool) (address place : ℕ) → place ≡ (address - code_start) / 4 → new ≡ set marks place true
+    → is_marked new address ≡ true
+marked_here marks new address place at is =
+    subst (λ (z : List Bool). is_marked z address ≡ true) (sym is)
+    (subst (λ p. is_marked (set marks p true) address ≡ true) (sym at)
+    (here_at (nat_le code_start address) marks ((address - code_start) / 4)))
+
+pub marked_on : (marks new : List Bool) (place : ℕ) → new ≡ set marks place true → KeepsMarks marks new
+marked_on marks new place is pc was =
+    subst (λ (z : List Bool). is_marked z pc ≡ true) (sym is)
+    (kept_at (nat_le code_start pc) marks place ((pc - code_start) / 4) was)
+
+-- ---- the points
+
+break_kept : (old new : List Bool) (t : ℕ) (p : Point) → KeepsMarks old new → IsBreakMarked old t p → IsBreakMarked new t p
+break_kept old new t (Break u address) kept is = λ same. kept address (is same)
+break_kept old new t (Watch u address) kept is = tt
+break_kept old new t (WatchObject object) kept is = tt
+
+-- one point more
+pub break_more : (old new : List Bool) (t : ℕ) (points : List Numbered) (n : ℕ) (q : Numbered) → slice_get points n ≡ Some q
+    → AreBreaksMarked old t points n → KeepsMarks old new → IsBreakMarked new t q.point → AreBreaksMarked new t points (n + 1)
+break_more old new t points n q is before kept here j p less found = elim (cases_eq j n) [
+  | inl same ↦ subst (λ (z : Numbered). IsBreakMarked new t z.point) (same_at points n j q p is found same) here
+  | inr ne ↦ break_kept old new t p.point kept (before j p (omega (arith, less, ne)) found)
+]
+
+watched : (t : ℕ) (points : List Numbered) (is_watched : Bool) (i : ℕ) (p : Numbered)
+    → (is_watched ≡ false → NoneWatches t points (length points)) → slice_get points i ≡ Some p → Watches t p.point → is_watched ≡ true
+watched t points true i p none is w = refl
+watched t points false i p none is w = absurd (none refl i p (slice_get_within points i p is) is w)
+
+pub covered : (code : List ℕ) (first marks : List Bool) (t : ℕ) (points : List Numbered) (is_watched : Bool)
+    → (is_watched ≡ false → NoneWatches t points (length points)) → (is_watched ≡ true → AreStoresMarked code first)
+    → KeepsMarks first marks → AreBreaksMarked marks t points (length points)
+    → AreCovered (record { words = code; marks = marks }) t points
+covered code first marks t points is_watched none stored kept breaks i p is = by p.point refl
+  where
+    by : (q : Point) → p.point ≡ q → IsCovered (record { words = code; marks = marks }) t q
+    by (Break u address) e = subst (IsBreakMarked marks t) e (breaks i p (slice_get_within points i p is) is)
+    by (Watch u address) e = λ same pc j found store.
+        kept pc (stored (watched t points is_watched i p none is (subst (Watches t) (sym e) same)) pc j found store)
+    by (WatchObject object) e = tt
