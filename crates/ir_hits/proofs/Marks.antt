@@ -1,7 +1,6 @@
 -- Marks at the words of a code.
-use Rattle.std.proofs.Common.{◌≡◌, ℕ, suc, zero, ◌+◌, ◌-◌, ◌/◌, ◌<◌, ◌≤◌, Bool, true, false, List, [], ◌∷◌, length, map, set, Option, Some, None, refl, sym, subst, inl, inr, arith}
+use Rattle.std.proofs.Common.{◌≡◌, ℕ, suc, zero, ◌-◌, ◌/◌, Bool, true, false, List, [], ◌∷◌, ◌++◌, length, map, set, take, Option, Some, None, refl, sym, ap, subst}
 use Rattle.std.specs.Prelude.{slice_get, nat_le, if◌then◌else◌}
-use Rattle.std.proofs.lemmas.Bool.{cases_eq}
 use Rattle.std.proofs.lemmas.Option.{slice_get_within}
 use Rattle.ir_isa.specs.declared.inst.Inst.{Inst}
 use Rattle.ir_isa.specs.declared.inst.Inst.TheVariants as inst
@@ -15,7 +14,6 @@ use Rattle.ir_command.specs.declared.command.Point.{Point}
 use Rattle.ir_command.specs.declared.command.Point.TheVariants.{Break, Watch, WatchObject}
 use Rattle.ir_hits.specs.Hits.{Numbered}
 use Rattle.ir_hits.specs.Passing.{is_store, stores, KeepsMarks, IsBreakMarked, AreBreaksMarked, Watches, NoneWatches, IsCovered, AreCovered}
-use Rattle.ir_hits.proofs.Seen.{same_at}
 
 -- ---- stores
 
@@ -94,19 +92,6 @@ marked_on marks new place is pc was =
 
 -- ---- the points
 
-break_kept : (old new : List Bool) (t : ℕ) (p : Point) → KeepsMarks old new → IsBreakMarked old t p → IsBreakMarked new t p
-break_kept old new t (Break u address) kept is = λ same. kept address (is same)
-break_kept old new t (Watch u address) kept is = tt
-break_kept old new t (WatchObject object) kept is = tt
-
--- one point more
-pub break_more : (old new : List Bool) (t : ℕ) (points : List Numbered) (n : ℕ) (q : Numbered) → slice_get points n ≡ Some q
-    → AreBreaksMarked old t points n → KeepsMarks old new → IsBreakMarked new t q.point → AreBreaksMarked new t points (n + 1)
-break_more old new t points n q is before kept here j p less found = elim (cases_eq j n) [
-  | inl same ↦ subst (λ (z : Numbered). IsBreakMarked new t z.point) (same_at points n j q p is found same) here
-  | inr ne ↦ break_kept old new t p.point kept (before j p (omega (arith, less, ne)) found)
-]
-
 watched : (t : ℕ) (points : List Numbered) (is_watched : Bool) (i : ℕ) (p : Numbered)
     → (is_watched ≡ false → NoneWatches t points (length points)) → slice_get points i ≡ Some p → Watches t p.point → is_watched ≡ true
 watched t points true i p none is w = refl
@@ -123,3 +108,11 @@ covered code first marks t points is_watched none stored kept breaks i p is = by
     by (Watch u address) e = λ same pc j found store.
         kept pc (stored (watched t points is_watched i p none is (subst (Watches t) (sym e) same)) pc j found store)
     by (WatchObject object) e = tt
+
+-- what is written back to a vector is all of it
+back_all : (xs ys : List Bool) → take (length xs) (xs ++ ys) ≡ xs
+back_all [] ys = refl
+back_all (x ∷ xs) ys = ap (λ (zs : List Bool). x ∷ zs) (back_all xs ys)
+
+pub written_back : (n : ℕ) (xs ys : List Bool) → length xs ≡ n → take n (xs ++ ys) ≡ xs
+written_back n xs ys size = subst (λ m. take m (xs ++ ys) ≡ xs) size (back_all xs ys)

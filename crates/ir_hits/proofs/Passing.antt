@@ -1,7 +1,6 @@
 -- What a thread passes over at instructions that aren't marked.
 use Rattle.std.proofs.Common.{◌≡◌, ℕ, suc, zero, ◌+◌, ◌-◌, ◌<◌, ◌≤◌, Bool, true, false, List, Some, refl, sym, ap, ◌∙◌, subst, add-zero, add-suc, inl, inr, arith}
-use Rattle.std.specs.Prelude.{◌⊎◌, slice_get}
-use Rattle.std.proofs.lemmas.Bool.{cases_lt}
+use Rattle.std.specs.Prelude.{slice_get}
 use Rattle.ir_mach.specs.Marks.{Marked, is_marked}
 use Rattle.ir_mach.specs.Memory.{memory_word}
 use Rattle.ir_runs.specs.Machine.{act_of}
@@ -87,7 +86,7 @@ stretch_memory f run code points t j n k x y (WatchObject object) s le c w = abs
 -- ---- no point hits between
 
 clash : (b : Bool) → b ≡ true → b ≡ false → ⊥
-clash b yes no = cc (yes, no)
+clash b is isnt = cc (is, isnt)
 
 none_hit : (f : FittedTrace) (run : List Step) (code : Marked) (points : List Numbered) (t j n k : ℕ) (x y : State) (p : Point)
     → IsStretch f run code points t j n x y → suc k < n → IsCovered code t p → HitBy f run t (suc (j + k)) p → ⊥
@@ -151,16 +150,8 @@ passed_more code t to here n old new at less some within gone steps = record {
   how = inr steps;
 }
 
-pub passed_one : (code : Marked) (t to n : ℕ) (old middle new : Flat) → positions old t < to → (0 < n → ⊥) → HasGone old middle t n
+pub passed_one : (code : Marked) (t to n : ℕ) (old middle new : Flat) → positions old t < to → n ≤ 0 → HasGone old middle t n
     → positions new t ≡ positions middle t + 1 → HasPassed code t to old new
-passed_one code t to n old middle new less none gone one = record {
-  count = 1;
-  some = omega arith;
-  taken = by (cases_lt 0 n);
-  within = (let next = by (cases_lt 0 n) in omega (arith, next, less));
-  how = inl refl;
-}
-  where
-    by : (0 < n) ⊎ (n ≤ 0) → positions new t ≡ positions old t + 1
-    by (inl more) = absurd (none more)
-    by (inr past) = let own = gone.own in omega (arith, own, past, one)
+passed_one code t to n old middle new less none gone one =
+    let next : positions new t ≡ positions old t + 1 = let own = gone.own in omega (arith, own, none, one) in
+    record { count = 1; some = omega arith; taken = next; within = omega (arith, next, less); how = inl refl }

@@ -33,6 +33,7 @@ fn first_marks(alloc: Global, code: &Code, is_watched: bool) -> Result<Vec<bool>
 fn mark(marks: &mut [bool], address: u32)
     ensures marked { is_marked marks.new address ≡ true }
     ensures kept { KeepsMarks marks.old marks.new }
+    ensures size { length marks.new ≡ length marks.old }
 {
     if address < CODE_START {
         return;
@@ -47,6 +48,7 @@ fn mark(marks: &mut [bool], address: u32)
 fn mark_break(marks: &mut [bool], t: usize, point: Point)
     ensures marked { IsBreakMarked marks.new t point }
     ensures kept { KeepsMarks marks.old marks.new }
+    ensures size { length marks.new ≡ length marks.old }
 {
     if let Point::Break { thread, address } = point {
         if thread as usize == t {
@@ -59,6 +61,7 @@ fn mark_break(marks: &mut [bool], t: usize, point: Point)
 fn mark_breaks(marks: &mut [bool], t: usize, points: &[NumberedPoint])
     ensures marked { AreBreaksMarked marks.new t points.now (length points.now) }
     ensures kept { KeepsMarks marks.old marks.new }
+    ensures size { length marks.new ≡ length marks.old }
 {
     for i in 0..points.len() {
         mark_break(marks, t, points[i].point());
