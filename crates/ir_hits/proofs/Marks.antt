@@ -1,5 +1,5 @@
 -- Marks at the words of a code.
-use Rattle.std.proofs.Common.{◌≡◌, ℕ, suc, zero, ◌-◌, ◌/◌, Bool, true, false, List, [], ◌∷◌, ◌++◌, length, map, set, take, Option, Some, None, refl, sym, ap, subst}
+use Rattle.std.proofs.Common.{◌≡◌, ℕ, suc, zero, ◌-◌, ◌/◌, Bool, true, false, List, [], ◌∷◌, ◌++◌, length, map, take, Option, Some, None, refl, sym, ap, subst}
 use Rattle.std.specs.Prelude.{slice_get, nat_le, if◌then◌else◌}
 use Rattle.std.proofs.lemmas.Option.{slice_get_within}
 use Rattle.ir_isa.specs.declared.inst.Inst.{Inst}
@@ -7,9 +7,8 @@ use Rattle.ir_isa.specs.declared.inst.Inst.TheVariants as inst
 use Rattle.ir_isa.specs.Decoded.{instruction_of}
 use Rattle.ir_image.specs.Guest.{code_start}
 use Rattle.ir_image.specs.Fetch.{fetched_word, decoded}
-use Rattle.ir_image.specs.declared.fetched.Fetched.{Fetched}
 use Rattle.ir_image.specs.declared.fetched.Fetched.TheVariants.{Found}
-use Rattle.ir_mach.specs.Marks.{Marked, mark_of, is_marked, IsStore, AreStoresMarked}
+use Rattle.ir_mach.specs.Marks.{mark_of, IsStore, AreStoresMarked}
 use Rattle.ir_command.specs.declared.command.Point.{Point}
 use Rattle.ir_command.specs.declared.command.Point.TheVariants.{Break, Watch, WatchObject}
 use Rattle.ir_hits.specs.Hits.{Numbered}
@@ -49,46 +48,6 @@ store_at false code place i is store = refl
 
 pub all_stores : (code : List ℕ) → AreStoresMarked code (map stores code)
 all_stores code pc i is store = store_at (nat_le code_start pc) code ((pc - code_start) / 4) i is store
-
-pub stores_marked : (code : List ℕ) (marks : List Bool) → marks ≡ map stores code → AreStoresMarked code marks
-stores_marked code marks is = subst (AreStoresMarked code) (sym is) (all_stores code)
-
--- ---- one mark more
-
-mark_same : (marks : List Bool) (place : ℕ) → mark_of (set marks place true) place ≡ true
-mark_same [] zero = refl
-mark_same [] (suc place) = refl
-mark_same (m ∷ ms) zero = refl
-mark_same (m ∷ ms) (suc place) = mark_same ms place
-
-mark_kept : (marks : List Bool) (place other : ℕ) → mark_of marks other ≡ true → mark_of (set marks place true) other ≡ true
-mark_kept [] zero other is = is
-mark_kept [] (suc place) other is = is
-mark_kept (m ∷ ms) zero zero is = refl
-mark_kept (m ∷ ms) zero (suc other) is = is
-mark_kept (m ∷ ms) (suc place) zero is = is
-mark_kept (m ∷ ms) (suc place) (suc other) is = mark_kept ms place other is
-
-here_at : (b : Bool) (marks : List Bool) (place : ℕ) → (if b then mark_of (set marks place true) place else true) ≡ true
-here_at true marks place = mark_same marks place
-here_at false marks place = refl
-
-kept_at : (b : Bool) (marks : List Bool) (place other : ℕ) → (if b then mark_of marks other else true) ≡ true
-    → (if b then mark_of (set marks place true) other else true) ≡ true
-kept_at true marks place other is = mark_kept marks place other is
-kept_at false marks place other is = refl
-
-pub marked_here : (marks new : List Bool) (address place : ℕ) → place ≡ (address - code_start) / 4 → new ≡ set marks place true
-    → is_marked new address ≡ true
-marked_here marks new address place at is =
-    subst (λ (z : List Bool). is_marked z address ≡ true) (sym is)
-    (subst (λ p. is_marked (set marks p true) address ≡ true) (sym at)
-    (here_at (nat_le code_start address) marks ((address - code_start) / 4)))
-
-pub marked_on : (marks new : List Bool) (place : ℕ) → new ≡ set marks place true → KeepsMarks marks new
-marked_on marks new place is pc was =
-    subst (λ (z : List Bool). is_marked z pc ≡ true) (sym is)
-    (kept_at (nat_le code_start pc) marks place ((pc - code_start) / 4) was)
 
 -- ---- the points
 

@@ -1,5 +1,5 @@
 -- What a thread that goes on shows of the points.
-use Rattle.std.proofs.Common.{◌≡◌, ℕ, suc, ◌+◌, ◌-◌, ◌<◌, ◌≤◌, List, length, Option, Some, None, refl, sym, subst, inl, inr, arith}
+use Rattle.std.proofs.Common.{◌≡◌, ℕ, suc, ◌+◌, ◌-◌, ◌≤◌, List, length, Option, Some, None, refl, sym, subst, inl, inr, arith}
 use Rattle.std.specs.List.{slice_index_or}
 use Rattle.ir_thread.specs.State.{State}
 use Rattle.ir_thread.specs.Private.{UnmarkedSteps}

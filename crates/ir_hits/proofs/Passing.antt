@@ -1,12 +1,10 @@
 -- What a thread passes over at instructions that aren't marked.
-use Rattle.std.proofs.Common.{◌≡◌, ℕ, suc, zero, ◌+◌, ◌-◌, ◌<◌, ◌≤◌, Bool, true, false, List, Some, refl, sym, ap, ◌∙◌, subst, add-zero, add-suc, inl, inr, arith}
-use Rattle.std.specs.Prelude.{slice_get}
+use Rattle.std.proofs.Common.{◌≡◌, ℕ, suc, zero, ◌+◌, ◌-◌, ◌<◌, ◌≤◌, Bool, true, false, List, refl, sym, ap, ◌∙◌, subst, add-zero, add-suc, inl, inr, arith}
 use Rattle.ir_mach.specs.Marks.{Marked, is_marked}
 use Rattle.ir_mach.specs.Memory.{memory_word}
 use Rattle.ir_runs.specs.Machine.{act_of}
 use Rattle.ir_runs.specs.Object.{reply}
 use Rattle.ir_runs.specs.Run.{Step}
-use Rattle.ir_runs.specs.declared.access.Access.TheVariants.{Writing}
 use Rattle.ir_thread.specs.State.{State}
 use Rattle.ir_thread.specs.Calls.{ask_of, after_reply, step_of, run_of}
 use Rattle.ir_thread.specs.Held.{held_at}
