@@ -22,8 +22,8 @@ returns-then-taken-gt0-clause-passed g c =
     at ∙ ap (λ z. positions (flat_in f z) t) (sym c.replace-here.ensures.value) in
     subst (λ z. HasPassed c.args.code.now t c.args.to (flat_in f z) new) c.replace-here.ensures.value
     (passed_more c.args.code.now t c.args.to c.steps.result c.advance_unmarked-there.result.1 (flat_in f c.replace-here.result) new here
-    (omega (arith, at, c.requires.within.0)) c.if-taken-gt0.true c.advance_unmarked-there.ensures.within c.advance_unmarked-there.ensures.gone
-    c.advance_unmarked-there.ensures.unmarked)
+    (omega (arith, at, c.requires.within.0)) c.if-taken-gt0.true c.advance_unmarked-there.ensures.within
+    c.advance_unmarked-there.ensures.gone c.advance_unmarked-there.ensures.unmarked)
 
 pub returns-clause-passed : goal.returns-clause-passed
 returns-clause-passed g c =
@@ -31,7 +31,9 @@ returns-clause-passed g c =
     let t = c.args.t in
     let middle = c.advance_unmarked-there.result.0 in
     on_ok_weaker c.take_step.result
-    (λ (one : positions (flat_in f c.take_step.new.state) t ≡ positions (flat_in f middle) t + 1). subst (λ z. HasPassed c.args.code.now t c.args.to (flat_in f z) (flat_in f c.take_step.new.state)) c.replace-here.ensures.value
+    (λ (one : positions (flat_in f c.take_step.new.state) t ≡ positions (flat_in f middle) t + 1).
+    subst (λ z. HasPassed c.args.code.now t c.args.to (flat_in f z) (flat_in f c.take_step.new.state)) c.replace-here.ensures.value
     (passed_one c.args.code.now t c.args.to c.advance_unmarked-there.result.1 (flat_in f c.replace-here.result) (flat_in f middle)
     (flat_in f c.take_step.new.state)
-    (subst (λ z. positions (flat_in f z) t < c.args.to) (sym c.replace-here.ensures.value) c.requires.within.0) c.if-taken-gt0.false c.advance_unmarked-there.ensures.gone one)) c.take_step.ensures.taken
+    (subst (λ z. positions (flat_in f z) t < c.args.to) (sym c.replace-here.ensures.value) c.requires.within.0)
+    c.if-taken-gt0.false c.advance_unmarked-there.ensures.gone one)) c.take_step.ensures.taken
