@@ -1,5 +1,7 @@
 mod Lists
+mod Marking
 mod Runs
+mod Keeping
 mod Operations
 mod Meaning
 mod Pages

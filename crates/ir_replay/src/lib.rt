@@ -13,6 +13,6 @@ mod stretch;
 mod telling;
 mod worker;
 
-pub use alone::advance_alone;
+pub use alone::{advance_alone, advance_unmarked};
 pub use ir_weave::{State, one_state_each};
 pub use moves::{advance, advance_in_order};
