@@ -35,6 +35,8 @@ mod mach_tests;
 #[cfg(test)]
 mod machines;
 #[cfg(test)]
+mod marked_tests;
+#[cfg(test)]
 mod object_tests;
 #[cfg(test)]
 mod plain_fit;
