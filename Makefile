@@ -1,6 +1,6 @@
 # The commands of the repository. Each needs the Rattle kit's `rt` and Python 3, and nothing else, but for the tests of the built program.
 
-.PHONY: all run test program-test refuse mutate bench
+.PHONY: all run test edits program-test refuse mutate bench
 
 all: ir
 
@@ -20,7 +20,11 @@ run: ir
 # The merge gate: the rooms of the crates, and then every proof from nothing, must-fail edits, tests, programs.
 test:
 	python3 scripts/rooms.py
-	rt ci
+	RT_JOBS=$$(python3 scripts/prove.py --jobs) rt ci
+
+# Every edit, those that the gate tries and those beside it, each of which the prover has to refuse at what it changes.
+edits: ir
+	python3 scripts/edits.py
 
 # The program as a person runs it: devices, pipes, signals, the README's commands. Needs Linux, bash and xxd beside.
 program-test: ir

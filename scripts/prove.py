@@ -2,18 +2,22 @@
 """Proves a crate and all that it stands on, crates side by side where neither stands on the other.
 
 python3 scripts/prove.py CRATE [JOBS]
+python3 scripts/prove.py --jobs
 
 Prints a line as each crate ends, with the seconds so far, and all that `rt all check` said of one that isn't proved. JOBS is how many are proved at
-once: else as many as there are processors with 4 GiB of memory each. What is proved already is only looked at.
+once: else as many as there are processors with 5 GiB of memory each. What is proved already is only looked at. With --jobs it prints that
+number and proves nothing: the gate hands it to `rt ci` as RT_JOBS, which by its own guess of memory, three times what is needed, checks a crate
+near the top with no other beside it.
 """
 import os
+import re
 import subprocess
 import sys
 import time
 from pathlib import Path
 
 TOP = Path(__file__).resolve().parent.parent
-GIB_EACH = 4
+GIB_EACH = 5
 
 
 def listed():
@@ -37,8 +41,8 @@ def needed(crate, below):
 
 def default_jobs():
     """How many checks have a processor and memory each."""
-    memory = os.sysconf("SC_PAGE_SIZE") * os.sysconf("SC_AVPHYS_PAGES")
-    return max(1, min(len(os.sched_getaffinity(0)), memory // (GIB_EACH << 30)))
+    found = re.search(r"^MemAvailable: +(\d+) kB", Path("/proc/meminfo").read_text(encoding="ascii"), re.MULTILINE)
+    return max(1, min(len(os.sched_getaffinity(0)), int(found[1]) // (GIB_EACH << 20)))
 
 
 def proved(crate, jobs, count):
@@ -60,8 +64,11 @@ def proved(crate, jobs, count):
 
 def main():
     below = listed()
+    if sys.argv[1:] == ["--jobs"]:
+        print(default_jobs())
+        return
     if len(sys.argv) not in (2, 3) or sys.argv[1] not in below:
-        sys.exit("usage: python3 scripts/prove.py CRATE [JOBS]")
+        sys.exit("usage: python3 scripts/prove.py CRATE [JOBS] | --jobs")
     crate = sys.argv[1]
     jobs = sys.argv[2] if len(sys.argv) == 3 else str(default_jobs())
     status, sections = proved(crate, jobs, len(needed(crate, below)))

@@ -4,12 +4,15 @@
 python3 scripts/rooms.py
 
 Of another crate's proofs a file may cite what its `proofs/CallerLemmas.antt` offers, and nothing else; no other module
-of `proofs/` is public; a crate stands in crates.txt on each crate that its files name; and the texts of ir_tests'
-`examples.rt` are those of the files of `examples`, since a test can read no file.
+of `proofs/` is public; a crate stands in crates.txt on each crate that its files name; the texts of ir_tests'
+`examples.rt` are those of the files of `examples`, since a test can read no file; and each edit of `edits/`, which the
+gate doesn't try, applies.
 """
 import re
 import sys
 from pathlib import Path
+
+from edits import BadEdit, applied, pairs_of
 
 TOP = Path(__file__).resolve().parent.parent
 CITED = re.compile(r"\bRattle\.(ir_\w+)\.proofs\.(\w+)")
@@ -66,9 +69,21 @@ def examples():
             yield f"examples/{name}.s: isn't the text of {name.upper()} in {EXAMPLES.relative_to(TOP)}"
 
 
+def stale_edits():
+    """Each edit that doesn't apply, as a line."""
+    for edit in sorted((TOP / "crates").glob("*/edits/*")):
+        try:
+            path, pairs = pairs_of(edit)
+            applied((edit.parent.parent / path).read_text(encoding="utf-8"), pairs)
+            if not pairs:
+                yield f"{edit.relative_to(TOP)}: changes nothing"
+        except (BadEdit, OSError) as error:
+            yield f"{edit.relative_to(TOP)}: {error}"
+
+
 def main():
-    found = [*faults(), *examples()]
-    print("\n".join(found) or "rooms: each crate cites what the others offer; the examples are as ir_tests has them")
+    found = [*faults(), *examples(), *stale_edits()]
+    print("\n".join(found) or "rooms: each crate cites what the others offer; the examples are as ir_tests has them; the edits apply")
     return 1 if found else 0
 
 

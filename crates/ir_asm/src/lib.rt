@@ -18,16 +18,10 @@ mod operands;
 mod parts;
 mod refusal;
 mod register;
-#[cfg(test)]
-mod row_tests;
 mod scan;
 mod second_pass;
-#[cfg(test)]
-mod source_tests;
 mod statement;
 mod table;
-#[cfg(test)]
-mod tests;
 mod text;
 
 pub use asm_err::AsmErr;

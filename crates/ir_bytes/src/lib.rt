@@ -2,8 +2,6 @@
 #![tactic(auto)]
 
 mod field;
-#[cfg(test)]
-mod tests;
 
 pub use field::{
     byte, byte_within, bytes, double, double_within, fixed_half, fixed_word, half, word,

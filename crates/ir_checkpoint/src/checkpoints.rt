@@ -21,9 +21,6 @@ use std::mem;
 use std::thread::Threads;
 use std::time::Clock;
 
-#[cfg(test)]
-mod tests;
-
 // The most stops of one move.
 const MOST_STOPS: usize = 64;
 
@@ -116,6 +113,20 @@ impl Checkpoints {
             passed: Keeper::new(alloc, fitted)?,
             places: Passed::new(),
         })
+    }
+
+    /// The states that were asked for.
+    pub fn asked(&self) -> &Keeper
+        ensures { result.now ≡ self.now.asked }
+    {
+        &self.asked
+    }
+
+    /// The states that moves have passed.
+    pub fn passed(&self) -> &Keeper
+        ensures { result.now ≡ self.now.passed }
+    {
+        &self.passed
     }
 
     /// Keeps a state, under the next number from 1 on. Where 64 are kept beside the start, or all numbers were given, it isn't kept.

@@ -1,57 +1,12 @@
 //! `ir`: a record and replay debugger for guests of RV32IM threads.
 #![tactic(auto)]
 
-mod arguments;
-#[cfg(test)]
-mod arguments_tests;
-#[cfg(test)]
-mod asm_tests;
-mod assembling;
-mod bundle;
-mod debugging;
-mod fault;
-mod files;
-mod folder;
-#[cfg(test)]
-mod kept_outputs;
-mod line;
-mod list_err;
-mod listing;
-mod numeral;
-mod order;
-mod output_files;
-mod places;
-#[cfg(test)]
-mod places_tests;
-mod program;
-#[cfg(test)]
-mod program_tests;
-mod program_world;
 mod progress;
-mod prompting;
-mod reason;
-mod record_fault;
-#[cfg(test)]
-mod record_tests;
-mod recording;
-#[cfg(test)]
-mod shelf;
-mod sources;
 mod standard;
-mod telling;
-#[cfg(test)]
-mod tests;
-mod time;
-#[cfg(test)]
-mod trace_tests;
-mod tracing;
-mod whole_file;
-#[cfg(test)]
-mod world_tests;
 
-use arguments::collected;
-use ir_debug::FromStd;
-use program::{BAD_ARGUMENTS, FAULT, program};
+use ir_arguments::collected;
+use ir_program::{BAD_ARGUMENTS, FAULT, program};
+use ir_stream::FromStd;
 use progress::Progress;
 use standard::stand_ins;
 use std::io::{self, BufReader, ErrorKind, IsTerminal};

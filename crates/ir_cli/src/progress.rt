@@ -1,8 +1,8 @@
 //! How far a long recording is.
 
-use crate::time::millis_since;
 use crossbeam_utils::CachePadded;
 use ir_object::Gate;
+use ir_record_run::millis_since;
 use ir_runs::Access;
 use std::sync::atomic::{AtomicU32, AtomicU64, Ordering};
 use std::time::{Clock, Instant};

@@ -6,8 +6,6 @@ mod command;
 mod number;
 mod parse;
 mod refusal;
-#[cfg(test)]
-mod tests;
 mod words;
 
 pub use command::{ByteCount, Command, Direction, Keeping, Move, Point, Show};

@@ -23,8 +23,6 @@ mod sessions;
 mod showing;
 mod text;
 mod verdicts;
-#[cfg(test)]
-mod written_tests;
 
 pub use answer::Answer;
 pub use answering::write_answer;

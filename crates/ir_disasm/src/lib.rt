@@ -3,7 +3,5 @@
 
 mod disassembler;
 mod names;
-#[cfg(test)]
-mod tests;
 
 pub use disassembler::disassemble;

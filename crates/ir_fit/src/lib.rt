@@ -3,11 +3,7 @@
 #![tactic(auto)]
 
 mod coherence;
-#[cfg(test)]
-mod coherence_tests;
 mod fit_err;
-#[cfg(test)]
-mod fit_tests;
 mod fitted;
 mod fitting;
 mod follower;
@@ -18,15 +14,9 @@ mod leave;
 mod object_places;
 mod place;
 mod places;
-#[cfg(test)]
-mod plain_fit;
-#[cfg(test)]
-mod plain_tests;
 mod verdict;
 mod visiting;
 mod visits;
-#[cfg(test)]
-mod visits_tests;
 
 pub use coherence::coherent;
 pub use fit_err::FitErr;

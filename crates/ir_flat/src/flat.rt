@@ -6,12 +6,13 @@ ghost use Rattle.ir_runs.specs.Run.{Can, after};
 ghost use Rattle.ir_flat.specs.Next.{next, MayStep};
 ghost use Rattle.ir_image.specs.Guest.{object_count};
 ghost use Rattle.ir_thread.specs.Calls.{most_budget, ask_of, Permits};
-ghost use Rattle.ir_thread.specs.Private.{NoInstruction};
+ghost use Rattle.ir_thread.specs.Private.{NoInstruction, UnmarkedSteps, StopsUnmarked};
 ghost use Rattle.std.specs.Prelude.{◌≡◌, ◌<◌, ◌≤◌, ◌↔◌, length, IfOk, OnOk, OnErr, IsTrue};
 
 use crate::parts::Parts;
 use crate::start;
 use ir_image::{Code, Image, OBJECT_WORDS};
+use ir_mach::MarkedCode;
 use ir_object::Object;
 use ir_thread::{Ask, Thread};
 use std::alloc::{AllocError, Global};
@@ -126,6 +127,20 @@ impl<'a> Flat<'a> {
         ensures stops { result < limit → NoInstruction self.new.code (thread_of self.new t) }
     {
         self.parts.run_instructions(t, limit)
+    }
+
+    /// Thread t takes instructions none of which is marked, at most `limit`, and how many they are. The marked code is the guest's.
+    /// It stops below the limit only where the next step is marked or no instruction.
+    pub fn run_unmarked(&mut self, t: usize, code: &MarkedCode<'_>, limit: u64) -> u64
+        requires thread { t < length self.old.threads }
+        requires code { code.now.words ≡ self.old.code }
+        ensures within { result ≤ limit }
+        ensures flat { IsFlat self.old }
+        ensures went { WentAlone self.old self.new t result }
+        ensures unmarked { UnmarkedSteps code.now result (thread_of self.old t) (thread_of self.new t) }
+        ensures stops { result < limit → StopsUnmarked code.now (thread_of self.new t) }
+    {
+        self.parts.run_unmarked(t, code, limit)
     }
 
     /// What thread t asks for at its next step.

@@ -5,8 +5,6 @@ mod flat;
 mod laws;
 mod parts;
 mod start;
-#[cfg(test)]
-mod tests;
 
 pub use flat::{Flat, NotAdmitted};
 pub use laws::{alone_is_lone, counts_fit, held_inside, nothing_stuck, splices, writers_alone};

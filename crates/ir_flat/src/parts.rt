@@ -7,11 +7,12 @@ ghost use Rattle.ir_object.specs.Cell.{Admitted, CanLeave};
 ghost use Rattle.ir_object.specs.Word.{IsFields, entered, left_by};
 ghost use Rattle.ir_thread.specs.Calls.{ask_of, run_of, after_reply, Permits, Suits};
 ghost use Rattle.ir_thread.specs.Instance.{is_result};
-ghost use Rattle.ir_thread.specs.Private.{NoInstruction};
+ghost use Rattle.ir_thread.specs.Private.{NoInstruction, UnmarkedSteps, StopsUnmarked};
 ghost use Rattle.ir_thread.specs.declared.ask.Ask.TheVariants.{Private};
 ghost use Rattle.std.specs.Prelude.{ℕ, ◌≡◌, ◌<◌, ◌≤◌, ◌≢◌, ◌↔◌, true, length, slice_index, slice_set, IsTrue, IfOk};
 
 use ir_image::Code;
+use ir_mach::MarkedCode;
 use ir_object::Object;
 use ir_runs::{Access, EnvKind};
 use ir_thread::{Ask, Reply, Thread};
@@ -122,6 +123,19 @@ impl<'a> Parts<'a> {
         ensures stops { result < limit → NoInstruction self.new.code (thread_of self.new t) }
     {
         self.threads[t].run_instructions(self.code, limit)
+    }
+
+    // Thread t takes instructions none of which is marked, at most so many, and how many they are.
+    pub fn run_unmarked(&mut self, t: usize, code: &MarkedCode<'_>, limit: u64) -> u64
+        requires thread { t < length self.old.threads }
+        requires code { code.now.words ≡ self.old.code }
+        ensures within { result ≤ limit }
+        ensures each { (k : ℕ) → k < result → ask_of self.old.code (run_of self.old.code k (thread_of self.old t)) ≡ Private }
+        ensures moved { self.new ≡ with_thread self.old t (run_of self.old.code result (thread_of self.old t)) }
+        ensures unmarked { UnmarkedSteps code.now result (thread_of self.old t) (thread_of self.new t) }
+        ensures stops { result < limit → StopsUnmarked code.now (thread_of self.new t) }
+    {
+        self.threads[t].run_unmarked(code, limit)
     }
 
     fn enter(&mut self, o: u8, access: Access)

@@ -4,3 +4,5 @@ mod Windows
 mod Standing
 mod Seen
 mod Onward
+mod Marks
+mod Passing

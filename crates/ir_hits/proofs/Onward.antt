@@ -1,85 +1,162 @@
--- What a step of a thread shows of the points.
-use Rattle.std.proofs.Common.{◌≡◌, ℕ, suc, ◌+◌, ◌<◌, ◌≤◌, List, length, Option, Some, None, refl, sym, subst, arith}
+-- What a thread that goes on shows of the points.
+use Rattle.std.proofs.Common.{◌≡◌, ℕ, suc, ◌+◌, ◌-◌, ◌≤◌, List, length, Option, Some, None, refl, sym, subst, inl, inr, arith}
 use Rattle.std.specs.List.{slice_index_or}
 use Rattle.ir_thread.specs.State.{State}
-use Rattle.ir_flat.specs.Flat.{idle}
+use Rattle.ir_thread.specs.Private.{UnmarkedSteps}
+use Rattle.ir_mach.specs.Marks.{Marked}
+use Rattle.ir_flat.specs.Flat.{idle, thread_of}
 use Rattle.ir_runs.specs.Run.{Step}
 use Rattle.ir_fit.specs.Fit.{FittedTrace, IsRunOf}
 use Rattle.ir_cut.specs.Positions.{cut_of, EachRun}
 use Rattle.ir_weave.specs.Standing.{Standing, StandsAt, flat_in}
 use Rattle.ir_weave.specs.States.{positions}
-use Rattle.ir_hits.specs.Hits.{Numbered, NoneWithin, IsLowest, IsLastHit}
+use Rattle.ir_hits.specs.Hits.{Numbered, thread_at, NoneWithin, IsLowest, IsLastHit}
 use Rattle.ir_hits.specs.Searching.{AreLast, IsNextHit, IsStartHit}
+use Rattle.ir_hits.specs.Passing.{AreCovered, HasPassed}
 use Rattle.ir_hits.specs.Seeing.{AllNoted, IsLowestOf}
 use Rattle.ir_hits.specs.declared.before.Before.{Before}
 use Rattle.ir_hits.specs.declared.hit.Hit.{Hit}
 use Rattle.ir_hits.proofs.Hitting.{IsSeen, AllNothing, seen_after, seen_first, lowest_hit, none_hits}
 use Rattle.ir_hits.proofs.Standing.{thread_here, end_steps}
-use Rattle.ir_hits.proofs.Windows.{none_more, last_first, last_none}
+use Rattle.ir_hits.proofs.Passing.{IsStretch, stretch_noted, stretch_none}
+use Rattle.ir_hits.proofs.Windows.{none_yet, none_more, none_both, last_first, last_none}
 
--- thread t has taken a step, before which the points noted so much
-pub record IsStep (f : FittedTrace) (last : List ℕ) (points : List Numbered) (notes : List Before) (t : ℕ) (old new : Standing)
-    : Type 0 where
+-- thread t has passed on, at least by a step; before that the points noted so much, and what they may hit at is marked
+pub record IsPassage (f : FittedTrace) (last : List ℕ) (code : Marked) (points : List Numbered) (notes : List Before) (t to : ℕ)
+    (old new : Standing) : Type 0 where
   pub ends : AreLast f last
+  pub words : code.words ≡ f.guest.code
+  pub covered : AreCovered code t points
   pub before : StandsAt f (positions (flat_in f old)) old
   pub after : StandsAt f (positions (flat_in f new)) new
-  pub taken : positions (flat_in f new) t ≡ positions (flat_in f old) t + 1
+  pub passed : HasPassed code t to (flat_in f old) (flat_in f new)
   pub all : AllNoted t (slice_index_or old.threads t idle) points notes
 
-pub is_step : (f : FittedTrace) (last : List ℕ) (points : List Numbered) (notes : List Before) (t : ℕ) (old new : Standing) (x : State)
-    → x ≡ slice_index_or old.threads t idle → AreLast f last → StandsAt f (positions (flat_in f old)) old
-    → StandsAt f (positions (flat_in f new)) new → positions (flat_in f new) t ≡ positions (flat_in f old) t + 1
-    → AllNoted t x points notes → IsStep f last points notes t old new
-is_step f last points notes t old new x is ends before after taken all = record {
+pub is_passage : (f : FittedTrace) (last : List ℕ) (code : Marked) (points : List Numbered) (notes : List Before) (t to : ℕ)
+    (old new : Standing) (x : State) → x ≡ slice_index_or old.threads t idle → AreLast f last → code.words ≡ f.guest.code
+    → AreCovered code t points → StandsAt f (positions (flat_in f old)) old → StandsAt f (positions (flat_in f new)) new
+    → HasPassed code t to (flat_in f old) (flat_in f new) → AllNoted t x points notes
+    → IsPassage f last code points notes t to old new
+is_passage f last code points notes t to old new x is ends words covered before after passed all = record {
   ends = ends;
+  words = words;
+  covered = covered;
   before = before;
   after = after;
-  taken = taken;
+  passed = passed;
   all = subst (λ z. AllNoted t z points notes) is all;
 }
 
-seen_step : (f : FittedTrace) (last : List ℕ) (points : List Numbered) (notes : List Before) (t : ℕ) (old new : Standing) (end : ℕ)
-    → IsStep f last points notes t old new → end ≡ cut_of last t → (run : List Step) → IsRunOf f.guest f.recorded run
-    → IsSeen f run points notes t (positions (flat_in f new) t) end (slice_index_or new.threads t idle)
-seen_step f last points notes t old new end s is run whole =
+-- the points noted so much of the thread before its k-th step, which comes at j or later, and hit it nowhere between
+record ComesTo (f : FittedTrace) (run : List Step) (points : List Numbered) (notes : List Before) (t j k : ℕ) : Type 0 where
+  pub all : AllNoted t (thread_at f run t k) points notes
+  pub none : NoneWithin f run points t (suc j) (suc k)
+
+-- by one step
+comes_one : (f : FittedTrace) (last : List ℕ) (code : Marked) (points : List Numbered) (notes : List Before) (t to : ℕ) (old new : Standing)
+    → IsPassage f last code points notes t to old new → (run : List Step) → IsRunOf f.guest f.recorded run → (k : ℕ)
+    → positions (flat_in f old) t ≡ k → ComesTo f run points notes t (positions (flat_in f old) t) k
+comes_one f last code points notes t to old new s run whole k at = record {
+  all = subst (λ z. AllNoted t z points notes) (thread_here f old s.before run whole t k at) s.all;
+  none = none_yet f run points t (suc (positions (flat_in f old) t)) (suc k) (omega (arith, at));
+}
+
+-- by several
+comes_more : (f : FittedTrace) (last : List ℕ) (code : Marked) (points : List Numbered) (notes : List Before) (t to : ℕ) (old new : Standing)
+    (s : IsPassage f last code points notes t to old new) → (run : List Step) → IsRunOf f.guest f.recorded run → (k : ℕ)
+    → positions (flat_in f new) t ≡ suc k
+    → UnmarkedSteps code s.passed.count (thread_of (flat_in f old) t) (thread_of (flat_in f new) t)
+    → ComesTo f run points notes t (positions (flat_in f old) t) k
+comes_more f last code points notes t to old new s run whole k next steps =
     let j : ℕ = positions (flat_in f old) t in
-    let next : positions (flat_in f new) t ≡ suc j = omega (arith, s.taken) in
+    let n : ℕ = s.passed.count in
+    let x : State = slice_index_or old.threads t idle in
+    let y : State = slice_index_or new.threads t idle in
+    let sum : suc k ≡ j + n = omega (arith, next, s.passed.taken) in
+    let on : j + (k - j) ≡ k = omega (arith, sum, s.passed.some) in
     let within = (s.after.at.each run whole).cut t in
-    subst (λ k. IsSeen f run points notes t k end (slice_index_or new.threads t idle)) (sym next)
-    (seen_after f run whole points notes t j end (slice_index_or old.threads t idle) (slice_index_or new.threads t idle)
-    (thread_here f old s.before run whole t j refl) (thread_here f new s.after run whole t (suc j) next) next
-    (end_steps f last s.ends run whole t end is) (omega (arith, within, next)) s.all)
+    let stretch : IsStretch f run code points t j n x y = record {
+      whole = whole;
+      words = s.words;
+      covered = s.covered;
+      at = sym (thread_here f old s.before run whole t j refl);
+      within = omega (arith, within, next, sum);
+      steps = steps;
+    } in
+    record {
+      all = subst (λ i. AllNoted t (thread_at f run t i) points notes) on
+          (stretch_noted f run code points notes t j n (k - j) x y stretch (omega (arith, sum)) s.all);
+      none = subst (NoneWithin f run points t (suc j)) (sym sum) (stretch_none f run code points t j n x y stretch);
+    }
+
+comes_to : (f : FittedTrace) (last : List ℕ) (code : Marked) (points : List Numbered) (notes : List Before) (t to : ℕ) (old new : Standing)
+    → IsPassage f last code points notes t to old new → (run : List Step) → IsRunOf f.guest f.recorded run → (k : ℕ)
+    → positions (flat_in f new) t ≡ suc k → ComesTo f run points notes t (positions (flat_in f old) t) k
+comes_to f last code points notes t to old new s run whole k next = elim s.passed.how [
+  | inl one ↦ comes_one f last code points notes t to old new s run whole k
+      (let e : positions (flat_in f old) t ≡ k = omega (arith, one, next, s.passed.taken) in e)
+  | inr steps ↦ comes_more f last code points notes t to old new s run whole k next steps
+]
+
+-- what is seen of the thread behind it
+pub record IsBehind (f : FittedTrace) (run : List Step) (points : List Numbered) (notes : List Before) (t end : ℕ) (old new : Standing)
+    : Type 0 where
+  pub seen : IsSeen f run points notes t (positions (flat_in f new) t) end (slice_index_or new.threads t idle)
+  pub none : NoneWithin f run points t (suc (positions (flat_in f old) t)) (positions (flat_in f new) t)
+
+behind_at : (f : FittedTrace) (last : List ℕ) (code : Marked) (points : List Numbered) (notes : List Before) (t to : ℕ) (old new : Standing)
+    (end k : ℕ) → IsPassage f last code points notes t to old new → end ≡ cut_of last t → (run : List Step)
+    → IsRunOf f.guest f.recorded run → positions (flat_in f new) t ≡ suc k → IsBehind f run points notes t end old new
+behind_at f last code points notes t to old new end k s is run whole next =
+    let comes = comes_to f last code points notes t to old new s run whole k next in
+    let within = (s.after.at.each run whole).cut t in
+    record {
+      seen = subst (λ i. IsSeen f run points notes t i end (slice_index_or new.threads t idle)) (sym next)
+          (seen_after f run whole points notes t k end (thread_at f run t k) (slice_index_or new.threads t idle) refl
+          (thread_here f new s.after run whole t (suc k) next) next (end_steps f last s.ends run whole t end is)
+          (omega (arith, within, next)) comes.all);
+      none = subst (NoneWithin f run points t (suc (positions (flat_in f old) t))) (sym next) comes.none;
+    }
+
+behind : (f : FittedTrace) (last : List ℕ) (code : Marked) (points : List Numbered) (notes : List Before) (t to : ℕ) (old new : Standing)
+    (end : ℕ) → IsPassage f last code points notes t to old new → end ≡ cut_of last t → (run : List Step)
+    → IsRunOf f.guest f.recorded run → IsBehind f run points notes t end old new
+behind f last code points notes t to old new end s is run whole =
+    behind_at f last code points notes t to old new end (positions (flat_in f new) t - 1) s is run whole
+    (omega (arith, s.passed.taken, s.passed.some))
 
 -- a point hits there
-pub next_found : (f : FittedTrace) (last : List ℕ) (points : List Numbered) (notes : List Before) (t : ℕ) (old new : Standing)
-    (end p to : ℕ) (y : State) (h : Hit) → y ≡ slice_index_or new.threads t idle → IsStep f last points notes t old new
-    → end ≡ cut_of last t → p ≤ positions (flat_in f old) t → positions (flat_in f old) t < to
+pub next_found : (f : FittedTrace) (last : List ℕ) (code : Marked) (points : List Numbered) (notes : List Before) (t to : ℕ)
+    (old new : Standing) (end p : ℕ) (y : State) (h : Hit) → y ≡ slice_index_or new.threads t idle
+    → IsPassage f last code points notes t to old new
+    → end ≡ cut_of last t → p ≤ positions (flat_in f old) t
     → EachRun f (λ run. NoneWithin f run points t (suc p) (suc (positions (flat_in f old) t)))
     → (found : Option ℕ) → found ≡ Some h.number → IsLowestOf t end y notes points (length points) found
     → h.position ≡ positions (flat_in f new) t → EachRun f (λ run. IsNextHit f run points t p to (Some h))
-next_found f last points notes t old new end p to y h y_is s is low less none found some all at run whole =
-    let next : h.position ≡ suc (positions (flat_in f old) t) = omega (arith, at, s.taken) in
+next_found f last code points notes t to old new end p y h y_is s is low none found some all at run whole =
+    let seen = behind f last code points notes t to old new end s is run whole in
     let lowest : IsLowestOf t end (slice_index_or new.threads t idle) notes points (length points) (Some h.number) =
     subst (λ (z : State × Option ℕ). IsLowestOf t end z.0 notes points (length points) z.1) (λ i. (y_is i, some i)) all in (
-      omega (arith, next, low),
-      omega (arith, next, less),
-      subst (NoneWithin f run points t (suc p)) (sym next) (none run whole),
+      omega (arith, at, low, s.passed.taken, s.passed.some),
+      omega (arith, at, s.passed.within),
+      subst (NoneWithin f run points t (suc p)) (sym at) (none_both f run points t (suc p) (suc (positions (flat_in f old) t))
+          (positions (flat_in f new) t) (none run whole) seen.none),
       subst (λ k. IsLowest f run points t k h.number) (sym at) (lowest_hit f run points notes t (positions (flat_in f new) t) end
-          (slice_index_or new.threads t idle) h.number (seen_step f last points notes t old new end s is run whole) lowest),
+          (slice_index_or new.threads t idle) h.number seen.seen lowest),
     )
 
 -- or none does
-pub next_none : (f : FittedTrace) (last : List ℕ) (points : List Numbered) (notes : List Before) (t : ℕ) (old new : Standing) (end p : ℕ)
-    (y : State) → y ≡ slice_index_or new.threads t idle → IsStep f last points notes t old new → end ≡ cut_of last t
+pub next_none : (f : FittedTrace) (last : List ℕ) (code : Marked) (points : List Numbered) (notes : List Before) (t to : ℕ)
+    (old new : Standing) (end p : ℕ) (y : State) → y ≡ slice_index_or new.threads t idle
+    → IsPassage f last code points notes t to old new → end ≡ cut_of last t
     → EachRun f (λ run. NoneWithin f run points t (suc p) (suc (positions (flat_in f old) t)))
     → (found : Option ℕ) → found ≡ None → IsLowestOf t end y notes points (length points) found
     → EachRun f (λ run. NoneWithin f run points t (suc p) (suc (positions (flat_in f new) t)))
-next_none f last points notes t old new end p y y_is s is none found none_is all run whole =
+next_none f last code points notes t to old new end p y y_is s is none found none_is all run whole =
+    let seen = behind f last code points notes t to old new end s is run whole in
     none_more f run points t (suc p) (positions (flat_in f new) t)
-    (subst (NoneWithin f run points t (suc p)) (let e : suc (positions (flat_in f old) t) ≡ positions (flat_in f new) t =
-    omega (arith, s.taken) in e) (none run whole))
-    (none_hits f run points notes t (positions (flat_in f new) t) end (slice_index_or new.threads t idle)
-    (seen_step f last points notes t old new end s is run whole)
+    (none_both f run points t (suc p) (suc (positions (flat_in f old) t)) (positions (flat_in f new) t) (none run whole) seen.none)
+    (none_hits f run points notes t (positions (flat_in f new) t) end (slice_index_or new.threads t idle) seen.seen
     (subst (λ (z : State × Option ℕ). IsLowestOf t end z.0 notes points (length points) z.1) (λ i. (y_is i, none_is i)) all))
 
 -- ---- the start

@@ -21,7 +21,7 @@ none_more f run points t from k before here j n low high h = elim (cases_eq j k)
 ]
 
 -- two windows
-none_both : (f : FittedTrace) (run : List Step) (points : List Numbered) (t from middle to : ℕ) → NoneWithin f run points t from middle
+pub none_both : (f : FittedTrace) (run : List Step) (points : List Numbered) (t from middle to : ℕ) → NoneWithin f run points t from middle
     → NoneWithin f run points t middle to → NoneWithin f run points t from to
 none_both f run points t from middle to one two j n low high h = elim (cases_lt j middle) [
   | inl l ↦ one j n low l h

@@ -1,3 +1,4 @@
 pub mod Hits
 pub mod Seeing
 pub mod Searching
+pub mod Passing

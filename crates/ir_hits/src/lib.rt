@@ -3,6 +3,7 @@
 
 mod before;
 mod hit;
+mod marking;
 mod point;
 mod search;
 mod seeing;

@@ -1,4 +1,4 @@
-//! Where points hit a thread, found by taking the thread's steps anew.
+//! Where points hit a thread, found by taking the thread's steps anew, at once where no point can hit.
 
 ghost use Rattle.std.specs.Prelude.{◌≡◌, ◌<◌, ◌≤◌, ◌+◌, length, IfOk};
 ghost use Rattle.ir_trace.specs.TraceOf.{recorded_thread};
@@ -6,15 +6,18 @@ ghost use Rattle.ir_cut.specs.Positions.{EachRun, cut_of};
 ghost use Rattle.ir_weave.specs.Standing.{StandsAt, flat_in};
 ghost use Rattle.ir_weave.specs.States.{positions};
 ghost use Rattle.ir_hits.specs.Hits.{AreWatchable, IsFirstHit, IsLastHit};
+ghost use Rattle.ir_hits.specs.Passing.{AreCovered};
 ghost use Rattle.ir_hits.specs.Searching.{AreLast, IsNextHit, IsStartHit, reached};
 
 use crate::before::Before;
 use crate::hit::Hit;
+use crate::marking::marked_code;
 use crate::point::NumberedPoint;
 use crate::seeing::{lowest, note_all, some_concerns};
-use crate::stepping::{last_cut, take_step, thread_of};
+use crate::stepping::{last_cut, take_steps, thread_of};
 use ir_cut::Cut;
 use ir_fit::Fitted;
+use ir_mach::MarkedCode;
 use ir_object::Gate;
 use ir_replay::State;
 use ir_thread::Thread;
@@ -31,6 +34,7 @@ fn next_hit<R: Threads + Clock + Sync, G: Gate + Sync>(
     t: usize,
     to: u64,
     last: &Cut,
+    code: &MarkedCode<'_>,
     points: &[NumberedPoint],
     notes: &mut [Before],
     gate: &G,
@@ -39,6 +43,8 @@ fn next_hit<R: Threads + Clock + Sync, G: Gate + Sync>(
     requires thread { t < length fitted.now.guest.entries }
     requires last { AreLast fitted.now last.now }
     requires within { (positions (flat_in fitted.now state.old) t ≤ to) × (to ≤ cut_of last.now t) }
+    requires code { code.now.words ≡ fitted.now.guest.code }
+    requires covered { AreCovered code.now t points.now }
     requires points { AreWatchable points.now }
     requires size { length notes.old ≡ length points.now }
     ensures stands { StandsAt fitted.now (positions (flat_in fitted.now state.new)) state.new }
@@ -49,7 +55,7 @@ fn next_hit<R: Threads + Clock + Sync, G: Gate + Sync>(
     let end = last.position(t);
     'steps: while thread_of(state, t).steps() < to {
         note_all(thread_of(state, t), t, points, notes);
-        take_step(rt, alloc, fitted, state, t, last, gate)?;
+        take_steps(rt, alloc, fitted, state, t, to, last, code, gate)?;
         let thread = thread_of(state, t);
         if let Some(number) = lowest(thread, t, end, points, notes) {
             let position = thread.steps();
@@ -84,10 +90,11 @@ pub fn first_hit<R: Threads + Clock + Sync, G: Gate + Sync>(
     }
     fitted.known();
     let last = last_cut(alloc, fitted)?;
+    let code = marked_code(alloc, fitted.image().code(), t, points)?;
     let mut notes = vec![in alloc; Before::Nothing; points.len()]?;
     let to = last.position(t);
     next_hit(
-        rt, alloc, fitted, state, t, to, &last, points, &mut notes, gate,
+        rt, alloc, fitted, state, t, to, &last, &code, points, &mut notes, gate,
     )
 }
 
@@ -119,6 +126,7 @@ fn last_in<R: Threads + Clock + Sync, G: Gate + Sync>(
     t: usize,
     to: u64,
     last: &Cut,
+    code: &MarkedCode<'_>,
     points: &[NumberedPoint],
     notes: &mut [Before],
     found: Option<Hit>,
@@ -128,6 +136,8 @@ fn last_in<R: Threads + Clock + Sync, G: Gate + Sync>(
     requires thread { t < length fitted.now.guest.entries }
     requires last { AreLast fitted.now last.now }
     requires within { (positions (flat_in fitted.now state.old) t ≤ to) × (to ≤ cut_of last.now t) }
+    requires code { code.now.words ≡ fitted.now.guest.code }
+    requires covered { AreCovered code.now t points.now }
     requires points { AreWatchable points.now }
     requires size { length notes.old ≡ length points.now }
     requires found { EachRun fitted.now (λ run. IsLastHit fitted.now run points.now t (positions (flat_in fitted.now state.old) t + 1) found) }
@@ -137,7 +147,7 @@ fn last_in<R: Threads + Clock + Sync, G: Gate + Sync>(
     fitted.known();
     let mut found = found;
     'hits: while let Some(hit) = next_hit(
-        rt, alloc, fitted, state, t, to, last, points, notes, gate,
+        rt, alloc, fitted, state, t, to, last, code, points, notes, gate,
     )? {
         found = Some(hit);
     }
@@ -171,6 +181,7 @@ pub fn last_hit<R: Threads + Clock + Sync, G: Gate + Sync>(
         return Ok(None);
     }
     let last = last_cut(alloc, fitted)?;
+    let code = marked_code(alloc, fitted.image().code(), t, points)?;
     let mut notes = vec![in alloc; Before::Nothing; points.len()]?;
     *state = State::start(alloc, fitted)?;
     let found = start_hit(thread_of(state, t), t, last.position(t), points, &notes);
@@ -182,6 +193,7 @@ pub fn last_hit<R: Threads + Clock + Sync, G: Gate + Sync>(
         t,
         below - 1,
         &last,
+        &code,
         points,
         &mut notes,
         found,

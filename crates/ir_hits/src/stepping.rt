@@ -1,16 +1,18 @@
-//! One step of a thread.
+//! Steps of a thread.
 
 ghost use Rattle.std.specs.Prelude.{◌≡◌, ◌<◌, ◌≤◌, ◌+◌, ℕ, length, slice_index_or, IfOk, OnOk};
 ghost use Rattle.ir_cut.specs.Positions.{IsConsistentCut, cut_of};
 ghost use Rattle.ir_flat.specs.Flat.{idle};
 ghost use Rattle.ir_weave.specs.Standing.{StandsAt, flat_in};
 ghost use Rattle.ir_weave.specs.States.{positions};
+ghost use Rattle.ir_hits.specs.Passing.{HasPassed};
 ghost use Rattle.ir_hits.specs.Searching.{AreLast};
 
 use ir_cut::{Cut, least};
 use ir_fit::Fitted;
+use ir_mach::MarkedCode;
 use ir_object::Gate;
-use ir_replay::{State, advance, advance_alone};
+use ir_replay::{State, advance, advance_alone, advance_unmarked};
 use ir_thread::Thread;
 use std::alloc::{AllocError, Global};
 use std::mem;
@@ -79,7 +81,7 @@ fn bring<R: Threads + Clock + Sync, G: Gate + Sync>(
 }
 
 // Thread t takes its next step. The others stay, or go on as far as that step needs them.
-pub fn take_step<R: Threads + Clock + Sync, G: Gate + Sync>(
+fn take_step<R: Threads + Clock + Sync, G: Gate + Sync>(
     rt: &R,
     alloc: Global,
     fitted: &Fitted,
@@ -105,4 +107,37 @@ pub fn take_step<R: Threads + Clock + Sync, G: Gate + Sync>(
     let at = cut_here(alloc, state.threads())?;
     let next = least(alloc, fitted, &at, t, thread_of(state, t).steps() + 1)?;
     bring(rt, alloc, fitted, state, &next, gate)
+}
+
+// Thread t goes on, at most to a position: over instructions none of which is marked; or by its next step, where that isn't such a one.
+// The others stay, or go on as far as that step needs them.
+pub fn take_steps<R: Threads + Clock + Sync, G: Gate + Sync>(
+    rt: &R,
+    alloc: Global,
+    fitted: &Fitted,
+    state: &mut State,
+    t: usize,
+    to: u64,
+    last: &Cut,
+    code: &MarkedCode<'_>,
+    gate: &G,
+) -> Result<(), AllocError>
+    requires stands { StandsAt fitted.now (positions (flat_in fitted.now state.old)) state.old }
+    requires thread { t < length fitted.now.guest.entries }
+    requires last { AreLast fitted.now last.now }
+    requires code { code.now.words ≡ fitted.now.guest.code }
+    requires within { (positions (flat_in fitted.now state.old) t < to) × (to ≤ cut_of last.now t) }
+    ensures stands { StandsAt fitted.now (positions (flat_in fitted.now state.new)) state.new }
+    ensures passed { OnOk result (HasPassed code.now t to (flat_in fitted.now state.old) (flat_in fitted.now state.new)) }
+{
+    fitted.known();
+    let most = to - thread_of(state, t).steps();
+    let none = State::build(Vec::new(alloc), Vec::new(alloc));
+    let here = mem::replace(state, none);
+    let (there, taken) = advance_unmarked(fitted, here, t, last, code, most);
+    *state = there;
+    if taken > 0 {
+        return Ok(());
+    }
+    take_step(rt, alloc, fitted, state, t, last, gate)
 }

@@ -11,8 +11,6 @@ mod layout;
 mod lowering;
 mod operation;
 mod reading;
-#[cfg(test)]
-mod tests;
 mod writing;
 
 pub use code::Code;

@@ -8,8 +8,6 @@ mod inst;
 mod laws;
 mod names;
 mod rows;
-#[cfg(test)]
-mod tests;
 
 pub use decoder::{Illegal, decode};
 pub use encoder::encode;

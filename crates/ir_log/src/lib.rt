@@ -5,8 +5,6 @@ mod cursor;
 mod event;
 mod laws;
 mod log;
-#[cfg(test)]
-mod tests;
 
 pub use cursor::{Cursor, Disagree};
 pub use event::Event;

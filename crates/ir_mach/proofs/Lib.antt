@@ -1,6 +1,7 @@
 mod Lists
-mod Guests
+mod Marking
 mod Runs
+mod Keeping
 mod Operations
 mod Meaning
 mod Pages

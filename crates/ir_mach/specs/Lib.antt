@@ -4,5 +4,6 @@ pub mod Memory
 pub mod Pages
 pub mod Execution
 pub mod Effects
+pub mod Marks
 pub mod Run
 pub mod Performing

@@ -2,21 +2,20 @@
 #![tactic(auto)]
 
 mod arithmetic;
-#[cfg(test)]
-mod arithmetic_tests;
 mod effect;
 mod execute;
 mod laws;
 mod mach;
+mod marked;
 mod memory;
 mod outcome;
 mod performing;
 mod regs;
 mod run;
-#[cfg(test)]
-mod tests;
+mod unmarked;
 
 pub use laws::{built_again, steps_together};
 pub use mach::{MEMORY_PAGES, Mach, PAGE_SIZE};
+pub use marked::MarkedCode;
 pub use outcome::{Fault, Ran};
 pub use regs::Regs;

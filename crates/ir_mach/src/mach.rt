@@ -1,6 +1,6 @@
 //! One machine: its pc, its registers and its private memory.
 
-ghost use Rattle.std.specs.Prelude.{◌≡◌, ◌<◌, ◌≤◌, ℕ, List, length, slice_index, take, IfOk, Some};
+ghost use Rattle.std.specs.Prelude.{◌≡◌, ◌<◌, ◌≤◌, ℕ, List, Bool, length, slice_index, take, IfOk, Some};
 ghost use Rattle.ir_isa.specs.declared.inst.LoadOp.TheVariants.{Lw};
 ghost use Rattle.ir_image.specs.Guest.{IsByte, IsWord};
 ghost use Rattle.ir_mach.specs.Core.{Core, IsCore, memory_size, register, start_core, start_memory};
@@ -11,7 +11,7 @@ use crate::memory::overwrite;
 use crate::outcome::Ran;
 use crate::performing::{Registers, address_of, carry_out, place_of};
 use byteorder::{ByteOrder, LittleEndian};
-use ir_image::{Code, Image, MEMORY_SIZE, MEMORY_START};
+use ir_image::{Code, Image, MEMORY_SIZE, MEMORY_START, Operation};
 use std::alloc::{AllocError, Global};
 use std::marker::Model;
 
@@ -69,7 +69,8 @@ fn bytes_fit(memory: &[u8])
 impl Mach {
     ghost use Rattle.ir_mach.specs.Effects.{applied, IsPossible};
     ghost use Rattle.ir_mach.specs.Execution.{outcome_of, ran_of, IsStep, past_call};
-    ghost use Rattle.ir_mach.specs.Run.{core_after};
+    ghost use Rattle.ir_mach.specs.Marks.{AreUnmarked};
+    ghost use Rattle.ir_mach.specs.Run.{unmarked_after};
 
     /// The machine of a thread before its first step: pc is the thread's entry, x2 the address just
     /// above private memory, the other registers 0, and private memory the image's data and then
@@ -181,18 +182,18 @@ impl Mach {
         self.apply(effect)
     }
 
-    // Carries out instructions, at most `limit`, as long as none is unusual, and says how many.
-    #[tactic(auto, using(crate::proofs::Runs::after_none))]
-    pub(crate) fn run_usual(&mut self, code: &Code, limit: u64) -> u64
+    // Carries out operations, at most `limit`, as long as none is unusual, and says how many.
+    #[tactic(auto, using(crate::proofs::Runs::unmarked_none))]
+    pub(crate) fn run_usual(&mut self, operations: &[Operation], limit: u64) -> u64
         ensures within { result ≤ limit }
-        ensures steps { core_after result code.now self.old ≡ Some self.new }
+        ensures steps { (code : List ℕ) (marks : List Bool) → AreUnmarked code marks operations.now → unmarked_after result code marks self.old ≡ Some self.new }
     {
         if self.pc % 4 != 0 {
             return 0;
         }
         let start = place_of(self.pc);
         let (place, done) = carry_out(
-            code,
+            operations,
             &mut self.registers,
             self.memory.as_mut_slice(),
             start,

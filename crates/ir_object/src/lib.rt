@@ -6,8 +6,6 @@ mod gate;
 mod laws;
 mod layout;
 mod object;
-#[cfg(test)]
-mod tests;
 mod word;
 
 pub use fields::Fields;

@@ -15,14 +15,8 @@ mod rounds;
 mod start;
 mod step;
 mod tape;
-#[cfg(test)]
-mod tests;
-#[cfg(test)]
-mod thread_tests;
 mod turn;
 mod turns;
-#[cfg(test)]
-mod waiting_tests;
 mod worker;
 mod worker_steps;
 mod workers;

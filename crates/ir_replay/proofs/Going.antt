@@ -17,6 +17,9 @@ use Rattle.ir_replay.proofs.Reached.{rests_same, all_reached}
 pub none_gone : (s : Flat) (t : ℕ) → HasGone s s t 0
 none_gone s t = record { own = omega arith; others = λ u ne. refl }
 
+pub by_private : (s new : Flat) (t n : ℕ) → WentAlone s new t n → HasGone s new t n
+by_private s new t n w = record { own = alone_own s new t n w; others = alone_others s new t n w }
+
 -- by private steps
 pub alone_on : (old s new : Flat) (t m n : ℕ) → HasGone old s t m → WentAlone s new t n → HasGone old new t (m + n)
 alone_on old s new t m n h w = record {

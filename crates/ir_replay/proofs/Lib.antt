@@ -1,5 +1,6 @@
 mod Reached
 mod Going
+mod Unmarked
 mod Gathered
 mod Dealt
 mod Down

@@ -1,3 +1,4 @@
 pub mod Passes
 pub mod Workers
 pub mod Rounds
+pub mod Alone

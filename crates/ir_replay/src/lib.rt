@@ -3,20 +3,16 @@
 
 mod admission;
 mod alone;
-#[cfg(test)]
-mod guests;
 mod moves;
 mod pace;
 mod passes;
 mod patience;
 mod round;
-#[cfg(test)]
-mod seat_tests;
 mod stepping;
 mod stretch;
 mod telling;
 mod worker;
 
-pub use alone::advance_alone;
+pub use alone::{advance_alone, advance_unmarked};
 pub use ir_weave::{State, one_state_each};
 pub use moves::{advance, advance_in_order};

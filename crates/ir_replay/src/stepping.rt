@@ -12,7 +12,7 @@ use ir_flat::Flat;
 use ir_object::Gate;
 
 // How many steps thread t has to its target.
-fn left(target: &[u64], flat: &Flat<'_>, t: usize) -> u64
+pub fn left(target: &[u64], flat: &Flat<'_>, t: usize) -> u64
     requires target { t < length target.now }
     requires thread { t < length flat.now.threads }
     ensures { result ≡ cut_of target.now t - positions flat.now t }

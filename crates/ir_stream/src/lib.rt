@@ -5,8 +5,6 @@ mod device;
 mod from_std;
 mod line;
 mod serving;
-#[cfg(test)]
-mod tests;
 mod text;
 
 pub use device::{DeviceErr, Sink, Source, write_all};

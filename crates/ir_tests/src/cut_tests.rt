@@ -49,38 +49,53 @@ fn greatest_of(
     Ok(found.as_ref().map(pair))
 }
 
-// Past an entry whose maker is at its own leave, past both, and past the end.
+// A cut, and whether it is consistent.
+const CONSISTENT: [(Pair, bool); 4] = [
+    ((3, 14), false), // past an entry whose maker is at its own leave
+    ((3, 15), true), // past both
+    ((2, 14), true),
+    ((19, 18), false), // past the end
+];
+
 #[test]
 fn an_entry_needs_its_maker(rt: HostRuntime) -> Result<(), Fail> {
     let fitted = fitted(rt.alloc(), TWO_COUNTERS, SECOND_FIRST)?;
-    for (at, wanted) in [
-        ((3, 14), false),
-        ((3, 15), true),
-        ((2, 14), true),
-        ((19, 18), false),
-    ] {
+    for &(at, wanted) in &CONSISTENT {
         assert_eq!(rt; is_consistent(rt.alloc(), &fitted, at)?, wanted);
     }
     Ok(())
 }
 
+// A cut, a thread, a position, and the cut that is found from there.
+type Search = (Pair, usize, u64, Pair);
+
+const LEAST: [Search; 4] = [
+    ((0, 0), 0, 3, (3, 15)),
+    ((0, 0), 1, 18, (0, 18)),
+    ((3, 15), 0, 18, (18, 15)),
+    ((3, 16), 0, 2, (3, 16)),
+];
+
+const GREATEST: [Search; 4] = [
+    ((3, 15), 1, 14, (2, 14)),
+    ((18, 18), 1, 0, (2, 0)),
+    ((18, 18), 0, 0, (0, 18)),
+    ((2, 9), 1, 12, (2, 9)),
+];
+
 #[test]
 fn a_step_past_an_entry_brings_its_maker(rt: HostRuntime) -> Result<(), Fail> {
     let fitted = fitted(rt.alloc(), TWO_COUNTERS, SECOND_FIRST)?;
-    for (at, t, k, wanted) in [
-        ((0, 0), 0, 3, (3, 15)),
-        ((0, 0), 1, 18, (0, 18)),
-        ((3, 15), 0, 18, (18, 15)),
-        ((3, 16), 0, 2, (3, 16)),
-    ] {
+    for &(at, t, k, wanted) in &LEAST {
         assert_eq!(rt; least_of(rt.alloc(), &fitted, at, t, k)?, Some(wanted));
     }
-    for (at, t, k, wanted) in [
-        ((3, 15), 1, 14, (2, 14)),
-        ((18, 18), 1, 0, (2, 0)),
-        ((18, 18), 0, 0, (0, 18)),
-        ((2, 9), 1, 12, (2, 9)),
-    ] {
+    Ok(())
+}
+
+#[test]
+fn a_step_back_past_a_leave_takes_the_entry_along(rt: HostRuntime) -> Result<(), Fail> {
+    let fitted = fitted(rt.alloc(), TWO_COUNTERS, SECOND_FIRST)?;
+    for &(at, t, k, wanted) in &GREATEST {
         assert_eq!(rt; greatest_of(rt.alloc(), &fitted, at, t, k)?, Some(wanted));
     }
     Ok(())
@@ -118,27 +133,34 @@ fn highest(alloc: Global, fitted: &Fitted, to: Pair, t: usize, k: u64) -> Result
     Ok(high)
 }
 
-// How many of the searches from this cut agree with those over all cuts.
-fn agreeing(alloc: Global, fitted: &Fitted, at: Pair) -> Result<u64, Fail> {
-    let mut count = 0u64;
-    for t in 0..2 {
-        for k in 0..19 {
-            let up = least_of(alloc, fitted, at, t, k)? == Some(lowest(alloc, fitted, at, t, k)?);
-            let down = greatest_of(alloc, fitted, at, t, k)?
-                == Some(highest(alloc, fitted, at, t, k)?);
-            count = count
-                .saturating_add(u64::from(up))
-                .saturating_add(u64::from(down));
+// Whether the least cut is the least of all.
+fn is_least(alloc: Global, fitted: &Fitted, at: Pair, t: usize, k: u64) -> Result<bool, Fail> {
+    let found = least_of(alloc, fitted, at, t, k)?;
+    Ok(found == Some(lowest(alloc, fitted, at, t, k)?))
+}
+
+// The same of the greatest.
+fn is_greatest(alloc: Global, fitted: &Fitted, at: Pair, t: usize, k: u64) -> Result<bool, Fail> {
+    let found = greatest_of(alloc, fitted, at, t, k)?;
+    Ok(found == Some(highest(alloc, fitted, at, t, k)?))
+}
+
+// Whether all searches of a thread's positions from this cut agree with those over all cuts.
+fn all_agree(alloc: Global, fitted: &Fitted, at: Pair, t: usize) -> Result<bool, Fail> {
+    for k in 0..19 {
+        if !is_least(alloc, fitted, at, t, k)? || !is_greatest(alloc, fitted, at, t, k)? {
+            return Ok(false);
         }
     }
-    Ok(count)
+    Ok(true)
 }
 
 #[test]
 fn searches_agree_with_all_cuts(rt: HostRuntime) -> Result<(), Fail> {
     let fitted = fitted(rt.alloc(), TWO_COUNTERS, SECOND_FIRST)?;
     for at in [(0, 0), (2, 2), (2, 14), (3, 15), (18, 18), (0, 18), (9, 17)] {
-        assert_eq!(rt; agreeing(rt.alloc(), &fitted, at)?, 2 * 19 * 2);
+        assert!(rt; all_agree(rt.alloc(), &fitted, at, 0)?);
+        assert!(rt; all_agree(rt.alloc(), &fitted, at, 1)?);
     }
     Ok(())
 }

@@ -47,20 +47,8 @@ fn positions(debugger: &Debugger) -> Option<Pair> {
     }
 }
 
-// What is seen after a command.
-#[derive(Clone, Copy, Debug, PartialEq)]
-struct Sight {
-    kind: Kind,
-    at: Option<Pair>,
-}
-
-// After a command that leaves the positions there.
-const fn seen(kind: Kind, first: u64, second: u64) -> Sight {
-    Sight {
-        kind,
-        at: Some((first, second)),
-    }
-}
+// What is seen after a command: the answer's kind, and the positions.
+type Sight = (Kind, Option<Pair>);
 
 // What is seen after each of eight commands.
 fn walk<R: Threads + Clock + Sync>(
@@ -69,67 +57,64 @@ fn walk<R: Threads + Clock + Sync>(
     commands: &[Command; 8],
 ) -> Result<[Sight; 8], Fail> {
     let mut debugger = Debugger::open(alloc, fitted(alloc, TWO_COUNTERS, SECOND_FIRST)?)?;
-    let mut all = [seen(Kind::Bye, 0, 0); 8];
+    let mut all = [(Kind::Bye, None); 8];
     for i in 0..8 {
         let answer = debugger.command(rt, alloc, &commands[i], &OpenGate);
-        all[i] = Sight {
-            kind: kind_of(&answer),
-            at: positions(&debugger),
-        };
+        all[i] = (kind_of(&answer), positions(&debugger));
     }
     Ok(all)
 }
 
+// Moves, and what is seen after each.
+const MOVES: [Command; 8] = [
+    Command::Move(Move::Step {
+        thread: 0,
+        count: 3,
+    }),
+    Command::Move(Move::Back {
+        thread: 1,
+        count: 1,
+    }),
+    Command::Move(Move::Goto {
+        thread: 0,
+        position: u64::MAX,
+    }),
+    Command::Move(Move::End),
+    Command::Move(Move::Goto {
+        thread: 1,
+        position: 15,
+    }),
+    Command::Move(Move::Start),
+    Command::Move(Move::Step {
+        thread: 1,
+        count: u32::MAX,
+    }),
+    Command::Move(Move::Back {
+        thread: 1,
+        count: u32::MAX,
+    }),
+];
+
+const MOVED: [Sight; 8] = [
+    (Kind::Moved, Some((3, 15))),
+    (Kind::Moved, Some((2, 14))),
+    (Kind::Moved, Some((18, 15))),
+    (Kind::Moved, Some((18, 18))),
+    (Kind::Moved, Some((18, 15))),
+    (Kind::Moved, Some((0, 0))),
+    (Kind::Moved, Some((0, 18))),
+    (Kind::Moved, Some((0, 0))),
+];
+
 #[test]
 fn moves_take_the_other_thread_along(rt: HostRuntime) -> Result<(), Fail> {
-    let commands = [
-        Command::Move(Move::Step {
-            thread: 0,
-            count: 3,
-        }),
-        Command::Move(Move::Back {
-            thread: 1,
-            count: 1,
-        }),
-        Command::Move(Move::Goto {
-            thread: 0,
-            position: u64::MAX,
-        }),
-        Command::Move(Move::End),
-        Command::Move(Move::Goto {
-            thread: 1,
-            position: 15,
-        }),
-        Command::Move(Move::Start),
-        Command::Move(Move::Step {
-            thread: 1,
-            count: u32::MAX,
-        }),
-        Command::Move(Move::Back {
-            thread: 1,
-            count: u32::MAX,
-        }),
-    ];
-    let wanted = [
-        seen(Kind::Moved, 3, 15),
-        seen(Kind::Moved, 2, 14),
-        seen(Kind::Moved, 18, 15),
-        seen(Kind::Moved, 18, 18),
-        seen(Kind::Moved, 18, 15),
-        seen(Kind::Moved, 0, 0),
-        seen(Kind::Moved, 0, 18),
-        seen(Kind::Moved, 0, 0),
-    ];
-    assert_eq!(rt; walk(&rt, rt.alloc(), &commands)?, wanted);
+    assert_eq!(rt; walk(&rt, rt.alloc(), &MOVES)?, MOVED);
     Ok(())
 }
 
-#[test]
-fn what_is_not_there_is_refused(rt: HostRuntime) -> Result<(), Fail> {
-    let Some(two) = ByteCount::new(2) else {
-        return Ok(());
-    };
-    let commands = [
+// Commands of which some name what isn't there, and two bytes that are.
+fn shows(two: ByteCount) -> [Command; 8] {
+    [
         Command::Move(Move::Step {
             thread: 0,
             count: 3,
@@ -152,58 +137,70 @@ fn what_is_not_there_is_refused(rt: HostRuntime) -> Result<(), Fail> {
         }),
         Command::Position,
         Command::Quit,
-    ];
-    let wanted = [
-        seen(Kind::Moved, 3, 15),
-        seen(Kind::Refused(Refusal::NoSuchThread), 3, 15),
-        seen(Kind::Shown, 3, 15),
-        seen(Kind::Refused(Refusal::NoSuchObject), 3, 15),
-        seen(Kind::Shown, 3, 15),
-        seen(Kind::Refused(Refusal::BadAddress), 3, 15),
-        seen(Kind::Position, 3, 15),
-        seen(Kind::Bye, 3, 15),
-    ];
-    assert_eq!(rt; walk(&rt, rt.alloc(), &commands)?, wanted);
+    ]
+}
+
+// What is seen after them.
+const SHOWN: [Sight; 8] = [
+    (Kind::Moved, Some((3, 15))),
+    (Kind::Refused(Refusal::NoSuchThread), Some((3, 15))),
+    (Kind::Shown, Some((3, 15))),
+    (Kind::Refused(Refusal::NoSuchObject), Some((3, 15))),
+    (Kind::Shown, Some((3, 15))),
+    (Kind::Refused(Refusal::BadAddress), Some((3, 15))),
+    (Kind::Position, Some((3, 15))),
+    (Kind::Bye, Some((3, 15))),
+];
+
+#[test]
+fn what_is_not_there_is_refused(rt: HostRuntime) -> Result<(), Fail> {
+    let Some(two) = ByteCount::new(2) else {
+        return Ok(());
+    };
+    assert_eq!(rt; walk(&rt, rt.alloc(), &shows(two))?, SHOWN);
     Ok(())
 }
 
+// Points that are set and cleared, moves to where they hit, and what is seen after each.
+const POINTS: [Command; 8] = [
+    Command::Set(Point::WatchObject { object: 0 }),
+    Command::Set(Point::Break {
+        thread: 1,
+        address: 0x0001_0002,
+    }),
+    Command::Continue {
+        thread: 0,
+        direction: Direction::Forwards,
+    },
+    Command::Continue {
+        thread: 0,
+        direction: Direction::Forwards,
+    },
+    Command::Clear { number: 2 },
+    Command::Clear { number: 1 },
+    Command::Continue {
+        thread: 0,
+        direction: Direction::Backwards,
+    },
+    Command::Continue {
+        thread: 2,
+        direction: Direction::Backwards,
+    },
+];
+
+const CONTINUED: [Sight; 8] = [
+    (Kind::Point, Some((0, 0))),
+    (Kind::Refused(Refusal::BadAddress), Some((0, 0))),
+    (Kind::Moved, Some((15, 15))),
+    (Kind::Moved, Some((18, 15))),
+    (Kind::Refused(Refusal::NoSuchNumber), Some((18, 15))),
+    (Kind::Point, Some((18, 15))),
+    (Kind::Moved, Some((0, 15))),
+    (Kind::Refused(Refusal::NoSuchThread), Some((0, 15))),
+];
+
 #[test]
 fn points_are_set_and_found(rt: HostRuntime) -> Result<(), Fail> {
-    let commands = [
-        Command::Set(Point::WatchObject { object: 0 }),
-        Command::Set(Point::Break {
-            thread: 1,
-            address: 0x0001_0002,
-        }),
-        Command::Continue {
-            thread: 0,
-            direction: Direction::Forwards,
-        },
-        Command::Continue {
-            thread: 0,
-            direction: Direction::Forwards,
-        },
-        Command::Clear { number: 2 },
-        Command::Clear { number: 1 },
-        Command::Continue {
-            thread: 0,
-            direction: Direction::Backwards,
-        },
-        Command::Continue {
-            thread: 2,
-            direction: Direction::Backwards,
-        },
-    ];
-    let wanted = [
-        seen(Kind::Point, 0, 0),
-        seen(Kind::Refused(Refusal::BadAddress), 0, 0),
-        seen(Kind::Moved, 15, 15),
-        seen(Kind::Moved, 18, 15),
-        seen(Kind::Refused(Refusal::NoSuchNumber), 18, 15),
-        seen(Kind::Point, 18, 15),
-        seen(Kind::Moved, 0, 15),
-        seen(Kind::Refused(Refusal::NoSuchThread), 0, 15),
-    ];
-    assert_eq!(rt; walk(&rt, rt.alloc(), &commands)?, wanted);
+    assert_eq!(rt; walk(&rt, rt.alloc(), &POINTS)?, CONTINUED);
     Ok(())
 }

@@ -2,13 +2,14 @@
 
 use crate::guests::{DOUBLED, Source, TWO_COUNTERS, TWO_READERS};
 use crate::meeting::Meeting;
-use crate::sessions::{answered, answered_until};
-use crate::sources::image_bytes;
+use crate::sessions::{Files, answer_of, answered_until, files_of};
 use crate::streams::ENDLESS;
-use crate::traces::{BOTH_READ, ENDED_BY_144, SECOND_FIRST, TraceRow, trace_bytes};
+use crate::traces::{BOTH_READ, ENDED_BY_144, SECOND_FIRST, TraceRow};
 use ir_debug::{Ended, SessionErr};
 use ir_object::OpenGate;
 use std::test::Fail;
+use std::thread::Threads;
+use std::time::Clock;
 
 const NO_EVENTS: &str = "step 0 3\nregs 0\nstep 0 9\n";
 
@@ -23,88 +24,103 @@ const SESSIONS: [(Source, TraceRow, &str); 3] = [
     (TWO_COUNTERS, SECOND_FIRST, TO_THE_END),
 ];
 
-// After a failed read, the opening line and the answers to the lines that were read whole.
+// The lines among these bytes that are whole.
+fn whole_lines(bytes: &[u8]) -> &[u8] {
+    match bytes.iter().rposition(|byte| *byte == b'\n') {
+        Some(last) => &bytes[..last + 1],
+        None => b"",
+    }
+}
+
+// Whether a session whose reads fail after so many answers the lines that it has read whole, after the opening line.
+fn is_read_failed<R: AllocGlobal + Threads + Clock + Sync>(
+    rt: &R,
+    files: &Files,
+    lines: &[u8],
+    calls: usize,
+) -> bool {
+    let (image, trace) = (files.image.as_slice(), files.trace.as_slice());
+    let reads = calls as u64;
+    let (written, ended) = answered_until(rt, image, trace, lines, reads, None, &OpenGate);
+    let (whole, _rest) = lines.split_at(calls.min(lines.len()));
+    let (expected, _ended) = answer_of(rt, files, whole_lines(whole));
+    ended == Err(SessionErr::Read) && written.bytes.as_slice() == expected.bytes.as_slice()
+}
+
+// Whether that holds of each read.
+fn each_read_fails<R: AllocGlobal + Threads + Clock + Sync>(
+    rt: &R,
+    files: &Files,
+    lines: &[u8],
+) -> bool {
+    for calls in 0..lines.len() {
+        if !is_read_failed(rt, files, lines, calls) {
+            return false;
+        }
+    }
+    is_read_failed(rt, files, lines, lines.len())
+}
+
 #[test]
 fn each_read_fails_in_its_turn(rt: HostRuntime) -> Result<(), Fail> {
-    for (guest, trace, lines) in SESSIONS {
-        let image = image_bytes(rt.alloc(), guest)?;
-        let trace = trace_bytes(rt.alloc(), trace)?;
-        for calls_left in 0..lines.len() + 1 {
-            let (whole, _rest) = lines.as_bytes().split_at(calls_left.min(lines.len()));
-            let last = whole
-                .iter()
-                .rposition(|byte| *byte == b'\n')
-                .map_or(0, |n| n + 1);
-            let (expected, _ended) = answered(
-                &rt,
-                image.as_slice(),
-                trace.as_slice(),
-                &whole[..last],
-            );
-            let (written, ended) = answered_until(
-                &rt,
-                image.as_slice(),
-                trace.as_slice(),
-                lines.as_bytes(),
-                calls_left as u64,
-                None,
-                &OpenGate,
-            );
-            assert_eq!(rt; ended, Err(SessionErr::Read));
-            assert_eq!(rt; written.bytes.as_slice(), expected.bytes.as_slice());
-        }
+    for &(guest, trace, lines) in &SESSIONS {
+        let files = files_of(rt.alloc(), guest, trace)?;
+        assert!(rt; each_read_fails(&rt, &files, lines.as_bytes()), "{lines}");
     }
     Ok(())
 }
 
-// After a failed write, a prefix of what is answered else.
+// Whether a session whose writes fail after so many has written a prefix of what is answered else.
+fn is_write_failed<R: AllocGlobal + Threads + Clock + Sync>(
+    rt: &R,
+    files: &Files,
+    lines: &[u8],
+    all: &[u8],
+    calls: usize,
+) -> bool {
+    let (image, trace) = (files.image.as_slice(), files.trace.as_slice());
+    let writes = Some(calls as u64);
+    let (written, ended) = answered_until(rt, image, trace, lines, ENDLESS, writes, &OpenGate);
+    let (prefix, _rest) = all.split_at(calls.min(all.len()));
+    ended == Err(SessionErr::Write) && written.bytes.as_slice() == prefix
+}
+
+// Whether that holds of each write.
+fn each_write_fails<R: AllocGlobal + Threads + Clock + Sync>(
+    rt: &R,
+    files: &Files,
+    lines: &[u8],
+) -> bool {
+    let (all, _ended) = answer_of(rt, files, lines);
+    for calls in 0..all.bytes.len() {
+        if !is_write_failed(rt, files, lines, all.bytes.as_slice(), calls) {
+            return false;
+        }
+    }
+    true
+}
+
 #[test]
 fn each_write_fails_in_its_turn(rt: HostRuntime) -> Result<(), Fail> {
-    for (guest, trace, lines) in SESSIONS {
-        let image = image_bytes(rt.alloc(), guest)?;
-        let trace = trace_bytes(rt.alloc(), trace)?;
-        let (all, _ended) = answered(&rt, image.as_slice(), trace.as_slice(), lines.as_bytes());
-        for calls_left in 0..all.bytes.len() {
-            let (written, ended) = answered_until(
-                &rt,
-                image.as_slice(),
-                trace.as_slice(),
-                lines.as_bytes(),
-                ENDLESS,
-                Some(calls_left as u64),
-                &OpenGate,
-            );
-            assert_eq!(rt; ended, Err(SessionErr::Write));
-            assert_eq!(rt;
-                written.bytes.as_slice(),
-                &all.bytes.as_slice()[..calls_left]
-            );
-        }
+    for &(guest, trace, lines) in &SESSIONS {
+        let files = files_of(rt.alloc(), guest, trace)?;
+        assert!(rt; each_write_fails(&rt, &files, lines.as_bytes()), "{lines}");
     }
     Ok(())
 }
+
+const BOTH_INSIDE: &[u8] = b"ready\nat 7 7\nversion 0 left 2 readers - writer -\n\
+words 00000000 00000000 00000000 00000000 00000000 00000000 00000000 00000000\n";
 
 #[test]
 fn two_readers_replay(rt: HostRuntime) -> Result<(), Fail> {
-    let image = image_bytes(rt.alloc(), TWO_READERS)?;
-    let trace = trace_bytes(rt.alloc(), BOTH_READ)?;
+    let files = files_of(rt.alloc(), TWO_READERS, BOTH_READ)?;
     let gate = Meeting::new();
-    let (written, ended) = answered_until(
-        &rt,
-        image.as_slice(),
-        trace.as_slice(),
-        b"end\nobj 0\n",
-        ENDLESS,
-        None,
-        &gate,
-    );
+    let (image, trace) = (files.image.as_slice(), files.trace.as_slice());
+    let lines = b"end\nobj 0\n";
+    let (written, ended) = answered_until(&rt, image, trace, lines, ENDLESS, None, &gate);
     assert_eq!(rt; ended, Ok(Ended::InputEnd));
-    assert_eq!(rt;
-        written.bytes.as_slice(),
-        b"ready\nat 7 7\nversion 0 left 2 readers - writer -\n\
-words 00000000 00000000 00000000 00000000 00000000 00000000 00000000 00000000\n"
-            .as_slice()
-    );
+    assert_eq!(rt; written.bytes.as_slice(), BOTH_INSIDE);
     assert!(rt; !gate.missed());
     Ok(())
 }

@@ -1,7 +1,7 @@
 //! What the examples print and leave in their objects.
 
 use crate::examples::{CALLS, COUNTER, HELLO, LOST_UPDATE, OVERWRITTEN, SUM, TWO_LOCKS};
-use crate::recordings::recorded_in_order;
+use crate::recordings::{BUDGET, fitted_in_order};
 use crate::replays::{in_order, last};
 use crate::sources::image_bytes;
 use ir_replay::State;
@@ -36,7 +36,7 @@ fn has_words(state: &State, words: &[u32]) -> bool {
 // Whether a recording in rounds ends, prints and leaves this.
 fn does(alloc: Global, example: Example) -> Result<bool, Fail> {
     let (source, _length, end, printed, words) = example;
-    let fitted = recorded_in_order(alloc, &[source], &[])?;
+    let fitted = fitted_in_order(alloc, &[source], &[], BUDGET)?;
     let Some(state) = in_order(alloc, &fitted, &last(alloc, &fitted)?)? else {
         return Ok(false);
     };
@@ -51,7 +51,7 @@ fn does(alloc: Global, example: Example) -> Result<bool, Fail> {
 
 #[test]
 fn the_examples_do_what_they_say(rt: HostRuntime) -> Result<(), Fail> {
-    for example in EXAMPLES {
+    for &example in &EXAMPLES {
         let (source, length, _end, _printed, _words) = example;
         assert_eq!(rt; image_bytes(rt.alloc(), &[source])?.len(), length);
         assert!(rt; does(rt.alloc(), example)?, "{source}");

@@ -46,9 +46,9 @@ pub const GUESTS: [Guest; 8] = [
     },
 ];
 
-const ONE_OBJECT: &str = "        .objects 1\n";
+pub const ONE_OBJECT: &str = "        .objects 1\n";
 
-const AT_MAIN: &str = "        .thread main\n";
+pub const AT_MAIN: &str = "        .thread main\n";
 
 const READING: &str = "        .thread reader\n";
 
@@ -259,6 +259,61 @@ pub const CROSSING: Source = &[
     WRITE_AND_LEAVE,
     "        ebreak\n",
 ];
+
+/// Thread 0 writes object 1 (step 2) and then object 0 (step 7), thread 1 object 0 (step 2) and then object 2 (step 7).
+pub const HANDED_ON: Source = &[
+    "
+        .objects 3
+        .thread first
+        .thread second
+",
+    "first:  addi    a0, zero, 1\n",
+    WRITE_AND_LEAVE,
+    "        addi    a0, zero, 0\n",
+    WRITE_AND_LEAVE,
+    END,
+    "second: addi    a0, zero, 0\n",
+    WRITE_AND_LEAVE,
+    "        addi    a0, zero, 2\n",
+    WRITE_AND_LEAVE,
+    END,
+];
+
+/// Each of two threads counts down from 2^18, in 2^19 + 4 steps.
+pub const COUNTDOWN: Source = &[
+    ONE_OBJECT,
+    AT_MAIN,
+    AT_MAIN,
+    "
+main:   lui     t0, 0x40
+again:  addi    t0, t0, -1
+        bne     t0, zero, again
+        addi    a0, zero, 0
+        addi    a7, zero, 1             # END
+        ecall
+",
+];
+
+/// Enters object 0 for writing (step 1), leaves the code, and releases the object.
+pub const HELD_OUTSIDE: Source = &[
+    "
+        .objects 1
+        .object 0, 0, 1, 2, 3, 4, 5, 6, -1
+        addi    a7, zero, 8             # ENTER_WRITE
+        ecall
+",
+];
+
+/// Prints `H` as often as t0 says.
+pub const PRINT: &str = "
+        addi    a0, zero, 72
+        addi    a7, zero, 2             # PUTC
+again:  beq     t0, zero, done
+        ecall
+        addi    t0, t0, -1
+        jal     zero, again
+done:   ebreak
+";
 
 /// Writes a byte over the last of its memory, which begins with 1 to 19, and prints 40 times `A`.
 pub const FORTY_BYTES: Source = &[

@@ -1,11 +1,9 @@
 //! Sessions that set points and go on to where they hit.
 
 use crate::guests::{BROKEN_INSIDE, CHANGED_ONCE, DOUBLED, READ_THEN_WRITE, Source, TWO_COUNTERS};
-use crate::sessions::{Said, answered, are_answered};
-use crate::sources::image_bytes;
+use crate::sessions::{Said, are_answered, files_of, is_answered};
 use crate::traces::EventRow::Write;
-use crate::traces::{ENDED_BY_144, READ_AND_WRITTEN, Ran, SECOND_FIRST, TraceRow, trace_bytes};
-use ir_debug::Ended;
+use crate::traces::{ENDED_BY_144, READ_AND_WRITTEN, Ran, SECOND_FIRST, TraceRow};
 use std::test::Fail;
 
 const OF_TWO: [Said; 7] = [
@@ -140,7 +138,7 @@ fn two_threads_are_continued(rt: HostRuntime) -> Result<(), Fail> {
 
 #[test]
 fn one_thread_is_continued(rt: HostRuntime) -> Result<(), Fail> {
-    for (guest, trace, said) in OF_ONE {
+    for &(guest, trace, said) in &OF_ONE {
         are_answered(&rt, guest, trace, &[said])?;
     }
     Ok(())
@@ -159,18 +157,21 @@ fn point_lines(rt: &HostRuntime, times: u32) -> Result<(String, String), Fail> {
     Ok((lines, answers))
 }
 
-#[test]
-fn sixty_four_points_are_set(rt: HostRuntime) -> Result<(), Fail> {
-    let (mut lines, mut answers) = point_lines(&rt, 64)?;
+// Those and more, when 64 are set.
+fn lines_when_full(rt: &HostRuntime) -> Result<(String, String), Fail> {
+    let (mut lines, mut answers) = point_lines(rt, 64)?;
     lines.push_str(
         "owatch 0\nbreak 0 0x10002\nowatch 1\nclear 7\nbreak 0 0x10044\nowatch 0\ncont 1\n",
     )?;
     answers.push_str("refused 9 full\nrefused 6 bad address\nrefused 4 no such object\n")?;
     answers.push_str("cleared 7\npoint 65\nrefused 9 full\nat 0 15 hit 1\n")?;
-    let image = image_bytes(rt.alloc(), TWO_COUNTERS)?;
-    let trace = trace_bytes(rt.alloc(), SECOND_FIRST)?;
-    let (page, ended) = answered(&rt, image.as_slice(), trace.as_slice(), lines.as_bytes());
-    assert_eq!(rt; page.bytes.as_slice(), answers.as_bytes());
-    assert_eq!(rt; ended, Ok(Ended::InputEnd));
+    Ok((lines, answers))
+}
+
+#[test]
+fn sixty_four_points_are_set(rt: HostRuntime) -> Result<(), Fail> {
+    let (lines, answers) = lines_when_full(&rt)?;
+    let files = files_of(rt.alloc(), TWO_COUNTERS, SECOND_FIRST)?;
+    assert!(rt; is_answered(&rt, &files, lines.as_bytes(), answers.as_bytes()));
     Ok(())
 }

@@ -46,18 +46,32 @@ fn pages_without(keeper: &mut Keeper, number: u32) -> u32 {
     keeper.pages()
 }
 
+// How many pages are kept at the start of a thread that stores twice, and after 1, 2 and 5 steps are kept.
+fn pages_kept(alloc: Global, fitted: &Fitted, keeper: &mut Keeper) -> Result<[u32; 4], Fail> {
+    Ok([
+        keeper.pages(),
+        pages_at(alloc, fitted, keeper, &[1])?,
+        pages_at(alloc, fitted, keeper, &[2])?,
+        pages_at(alloc, fitted, keeper, &[5])?,
+    ])
+}
+
+// And when the second is dropped, the third, and the third again.
+fn pages_dropped(keeper: &mut Keeper) -> [u32; 3] {
+    [
+        pages_without(keeper, 2),
+        pages_without(keeper, 3),
+        pages_without(keeper, 3),
+    ]
+}
+
 #[test]
 fn a_page_that_stays_the_same_is_kept_once(rt: HostRuntime) -> Result<(), Fail> {
-    let alloc = rt.alloc();
-    let fitted = fitted(alloc, CHANGED_ONCE, TWICE_STORED)?;
-    let mut keeper = Keeper::new(alloc, &fitted)?;
-    assert_eq!(rt; keeper.pages(), 16);
-    assert_eq!(rt; pages_at(alloc, &fitted, &mut keeper, &[1])?, 16);
-    assert_eq!(rt; pages_at(alloc, &fitted, &mut keeper, &[2])?, 17);
-    assert_eq!(rt; pages_at(alloc, &fitted, &mut keeper, &[5])?, 17);
-    assert_eq!(rt; pages_without(&mut keeper, 2), 17);
-    assert_eq!(rt; pages_without(&mut keeper, 3), 16);
-    assert_eq!(rt; pages_without(&mut keeper, 3), 0);
+    let fitted = fitted(rt.alloc(), CHANGED_ONCE, TWICE_STORED)?;
+    let mut keeper = Keeper::new(rt.alloc(), &fitted)?;
+    let kept = pages_kept(rt.alloc(), &fitted, &mut keeper)?;
+    assert_eq!(rt; kept, [16, 16, 17, 17]);
+    assert_eq!(rt; pages_dropped(&mut keeper), [17, 16, 0]);
     Ok(())
 }
 
@@ -79,16 +93,31 @@ fn is_given_back(
     Ok(same_state(&keeper.restore(number)?, &state))
 }
 
+// How many pages are kept when two cuts are, and when the first is dropped.
+fn pages_of_two(alloc: Global, fitted: &Fitted, keeper: &mut Keeper) -> Result<[u32; 3], Fail> {
+    Ok([
+        pages_at(alloc, fitted, keeper, &[3, 15])?,
+        pages_at(alloc, fitted, keeper, &[18, 18])?,
+        pages_without(keeper, 1),
+    ])
+}
+
+// Whether the second, the start and the first are given back.
+fn given_back(alloc: Global, fitted: &Fitted, keeper: &Keeper) -> Result<[bool; 3], Fail> {
+    Ok([
+        is_given_back(alloc, fitted, keeper, 2, &[18, 18])?,
+        is_given_back(alloc, fitted, keeper, 0, &[0, 0])?,
+        is_given_back(alloc, fitted, keeper, 1, &[3, 15])?,
+    ])
+}
+
 #[test]
 fn two_threads_that_store_nothing_have_32_pages(rt: HostRuntime) -> Result<(), Fail> {
-    let alloc = rt.alloc();
-    let fitted = fitted(alloc, TWO_COUNTERS, SECOND_FIRST)?;
-    let mut keeper = Keeper::new(alloc, &fitted)?;
-    assert_eq!(rt; pages_at(alloc, &fitted, &mut keeper, &[3, 15])?, 32);
-    assert_eq!(rt; pages_at(alloc, &fitted, &mut keeper, &[18, 18])?, 32);
-    assert_eq!(rt; pages_without(&mut keeper, 1), 32);
-    assert!(rt; is_given_back(alloc, &fitted, &keeper, 2, &[18, 18])?);
-    assert!(rt; is_given_back(alloc, &fitted, &keeper, 0, &[0, 0])?);
-    assert!(rt; !is_given_back(alloc, &fitted, &keeper, 1, &[3, 15])?);
+    let fitted = fitted(rt.alloc(), TWO_COUNTERS, SECOND_FIRST)?;
+    let mut keeper = Keeper::new(rt.alloc(), &fitted)?;
+    let pages = pages_of_two(rt.alloc(), &fitted, &mut keeper)?;
+    assert_eq!(rt; pages, [32, 32, 32]);
+    let given_back = given_back(rt.alloc(), &fitted, &keeper)?;
+    assert_eq!(rt; given_back, [true, true, false]);
     Ok(())
 }

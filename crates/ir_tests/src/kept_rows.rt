@@ -1,10 +1,8 @@
 //! Sessions that keep cuts and go back to them.
 
 use crate::guests::TWO_COUNTERS;
-use crate::sessions::{Said, answered, are_answered};
-use crate::sources::image_bytes;
-use crate::traces::{SECOND_FIRST, trace_bytes};
-use ir_debug::Ended;
+use crate::sessions::{Said, are_answered, files_of, is_answered};
+use crate::traces::SECOND_FIRST;
 use std::test::Fail;
 
 const KEPT: [Said; 6] = [
@@ -62,15 +60,18 @@ fn keep_lines(rt: &HostRuntime, times: u32) -> Result<(String, String), Fail> {
     Ok((lines, answers))
 }
 
-#[test]
-fn sixty_four_are_kept_beside_the_start(rt: HostRuntime) -> Result<(), Fail> {
-    let (mut lines, mut answers) = keep_lines(&rt, 64)?;
+// Those and more, when 64 are kept.
+fn lines_when_full(rt: &HostRuntime) -> Result<(String, String), Fail> {
+    let (mut lines, mut answers) = keep_lines(rt, 64)?;
     lines.push_str("keep\ndrop 64\nkeep\nkeep\nload 65\n")?;
     answers.push_str("refused 9 full\ndropped 64\nkept 65\nrefused 9 full\nat 0 0\n")?;
-    let image = image_bytes(rt.alloc(), TWO_COUNTERS)?;
-    let trace = trace_bytes(rt.alloc(), SECOND_FIRST)?;
-    let (page, ended) = answered(&rt, image.as_slice(), trace.as_slice(), lines.as_bytes());
-    assert_eq!(rt; page.bytes.as_slice(), answers.as_bytes());
-    assert_eq!(rt; ended, Ok(Ended::InputEnd));
+    Ok((lines, answers))
+}
+
+#[test]
+fn sixty_four_are_kept_beside_the_start(rt: HostRuntime) -> Result<(), Fail> {
+    let (lines, answers) = lines_when_full(&rt)?;
+    let files = files_of(rt.alloc(), TWO_COUNTERS, SECOND_FIRST)?;
+    assert!(rt; is_answered(&rt, &files, lines.as_bytes(), answers.as_bytes()));
     Ok(())
 }

@@ -2,7 +2,7 @@
 #![tactic(auto)]
 
 #[cfg(test)]
-mod counting;
+mod checkpoint_tests;
 #[cfg(test)]
 mod cut_tests;
 #[cfg(test)]
@@ -29,11 +29,21 @@ mod line_tests;
 #[cfg(test)]
 mod meeting;
 #[cfg(test)]
+mod memory_tests;
+#[cfg(test)]
 mod moved_rows;
 #[cfg(test)]
 mod object_rows;
 #[cfg(test)]
 mod one_thread_rows;
+#[cfg(test)]
+mod record_tests;
+#[cfg(test)]
+mod recorded_guests;
+#[cfg(test)]
+mod recorded_threads_tests;
+#[cfg(test)]
+mod recording_tests;
 #[cfg(test)]
 mod recordings;
 #[cfg(test)]
@@ -55,6 +65,12 @@ mod traces;
 #[cfg(test)]
 mod verdict_rows;
 #[cfg(test)]
+mod waiting_tests;
+#[cfg(test)]
 mod walk_tests;
+#[cfg(test)]
+mod worlds;
+#[cfg(test)]
+mod written_tests;
 
 pub use laws::recordings_fit;

@@ -1,14 +1,15 @@
 //! Lines at their limits, and what the next step is shown as.
 
 use crate::guests::{DOUBLED, TWO_COUNTERS};
-use crate::sessions::answered;
-use crate::sources::image_bytes;
+use crate::sessions::{Files, Said, are_answered, files_of, is_answered};
 use crate::streams::{Bytes, ENDLESS, Page};
-use crate::traces::{ENDED_BY_144, Ran, SECOND_FIRST, TraceRow, trace_bytes};
+use crate::traces::{ENDED_BY_144, Ran, SECOND_FIRST, TraceRow};
 use ir_debug::{Ended, MOST_INPUT, SessionErr, session_up_to};
 use ir_object::OpenGate;
 use std::alloc::{AllocError, Global};
 use std::test::Fail;
+use std::thread::Threads;
+use std::time::Clock;
 
 // So many of a byte, and a line's rest.
 fn line_of(alloc: Global, count: usize, byte: u8, rest: &[u8]) -> Result<Vec<u8>, AllocError> {
@@ -41,15 +42,22 @@ const LONG: [(usize, u8, &[u8], &[u8]); 9] = [
     (1025, b'x', b"", b"ready\nrefused 7 line too long\n"),
 ];
 
+// Whether such a line is answered so.
+fn is_long_answered<R: AllocGlobal + Threads + Clock + Sync>(
+    rt: &R,
+    files: &Files,
+    row: (usize, u8, &[u8], &[u8]),
+) -> Result<bool, AllocError> {
+    let (count, byte, rest, answers) = row;
+    let lines = line_of(rt.alloc(), count, byte, rest)?;
+    Ok(is_answered(rt, files, lines.as_slice(), answers))
+}
+
 #[test]
 fn long_lines_are_refused(rt: HostRuntime) -> Result<(), Fail> {
-    let image = image_bytes(rt.alloc(), DOUBLED)?;
-    let trace = trace_bytes(rt.alloc(), ENDED_BY_144)?;
-    for (count, byte, rest, answers) in LONG {
-        let lines = line_of(rt.alloc(), count, byte, rest)?;
-        let (page, ended) = answered(&rt, image.as_slice(), trace.as_slice(), lines.as_slice());
-        assert_eq!(rt; page.bytes.as_slice(), answers);
-        assert_eq!(rt; ended, Ok(Ended::InputEnd));
+    let files = files_of(rt.alloc(), DOUBLED, ENDED_BY_144)?;
+    for &row in &LONG {
+        assert!(rt; is_long_answered(&rt, &files, row)?);
     }
     Ok(())
 }
@@ -77,25 +85,33 @@ const LIMITED: [(u64, &[u8], &[u8], Result<Ended, SessionErr>); 4] = [
     ),
 ];
 
+// Whether a session that reads no more is answered so and ends so.
+fn is_limited<R: AllocGlobal + Threads + Clock + Sync>(
+    rt: &R,
+    files: &Files,
+    row: (u64, &[u8], &[u8], Result<Ended, SessionErr>),
+) -> bool {
+    let (limit, lines, answers, wanted) = row;
+    let mut reader = Bytes::new(lines, limit);
+    let mut writer = Page::new(rt.alloc(), false, ENDLESS);
+    let ended = session_up_to(
+        rt,
+        rt.alloc(),
+        limit.min(MOST_INPUT),
+        files.image.as_slice(),
+        files.trace.as_slice(),
+        &mut reader,
+        &mut writer,
+        &OpenGate,
+    );
+    writer.bytes.as_slice() == answers && ended == wanted
+}
+
 #[test]
 fn no_byte_past_the_limit_is_read(rt: HostRuntime) -> Result<(), Fail> {
-    let image = image_bytes(rt.alloc(), DOUBLED)?;
-    let trace = trace_bytes(rt.alloc(), ENDED_BY_144)?;
-    for (limit, lines, answers, wanted) in LIMITED {
-        let mut reader = Bytes::new(lines, limit);
-        let mut writer = Page::new(rt.alloc(), false, ENDLESS);
-        let ended = session_up_to(
-            &rt,
-            rt.alloc(),
-            limit.min(MOST_INPUT),
-            image.as_slice(),
-            trace.as_slice(),
-            &mut reader,
-            &mut writer,
-            &OpenGate,
-        );
-        assert_eq!(rt; writer.bytes.as_slice(), answers);
-        assert_eq!(rt; ended, wanted);
+    let files = files_of(rt.alloc(), DOUBLED, ENDED_BY_144)?;
+    for &row in &LIMITED {
+        assert!(rt; is_limited(&rt, &files, row));
     }
     Ok(())
 }
@@ -119,38 +135,38 @@ const REFUSED: [(&[u8], &[u8]); 12] = [
     (b"mem 1 4294967041 256\n", b"ready\nrefused 6 bad address\n"),
 ];
 
+// Whether the line is answered so, and the positions stay.
+fn is_refused<R: AllocGlobal + Threads + Clock + Sync>(
+    rt: &R,
+    files: &Files,
+    line: &[u8],
+    answers: &[u8],
+) -> Result<bool, AllocError> {
+    let mut lines = Vec::from_slice(rt.alloc(), line)?;
+    lines.extend_from_slice(b"pos\n")?;
+    let mut expected = Vec::from_slice(rt.alloc(), answers)?;
+    expected.extend_from_slice(b"at 0 0\n")?;
+    Ok(is_answered(rt, files, lines.as_slice(), expected.as_slice()))
+}
+
 #[test]
 fn refused_lines_change_nothing(rt: HostRuntime) -> Result<(), Fail> {
-    let image = image_bytes(rt.alloc(), TWO_COUNTERS)?;
-    let trace = trace_bytes(rt.alloc(), SECOND_FIRST)?;
-    for (line, answers) in REFUSED {
-        let mut lines = Vec::from_slice(rt.alloc(), line)?;
-        lines.extend_from_slice(b"pos\n")?;
-        let mut expected = Vec::from_slice(rt.alloc(), answers)?;
-        expected.extend_from_slice(b"at 0 0\n")?;
-        let (page, _ended) = answered(&rt, image.as_slice(), trace.as_slice(), lines.as_slice());
-        assert_eq!(rt; page.bytes.as_slice(), expected.as_slice());
+    let files = files_of(rt.alloc(), TWO_COUNTERS, SECOND_FIRST)?;
+    for &(line, answers) in &REFUSED {
+        assert!(rt; is_refused(&rt, &files, line, answers)?);
     }
     Ok(())
 }
 
 // Positions past the last are the last.
+const PAST_THE_LAST: [Said; 1] = [(
+    "goto 1 19\ngoto 0 1000000000000\nback 1 18\ngoto 1 18446744073709551615\nback 0 4294967295\n",
+    "ready\nat 0 18 end\nat 18 18 end\nat 2 0 start\nat 2 18 end\nat 0 18 start\n",
+)];
+
 #[test]
 fn positions_end_at_the_last(rt: HostRuntime) -> Result<(), Fail> {
-    let image = image_bytes(rt.alloc(), TWO_COUNTERS)?;
-    let trace = trace_bytes(rt.alloc(), SECOND_FIRST)?;
-    let (page, ended) = answered(
-        &rt,
-        image.as_slice(),
-        trace.as_slice(),
-        b"goto 1 19\ngoto 0 1000000000000\nback 1 18\ngoto 1 18446744073709551615\nback 0 4294967295\n",
-    );
-    assert_eq!(rt;
-        page.bytes.as_slice(),
-        b"ready\nat 0 18 end\nat 18 18 end\nat 2 0 start\nat 2 18 end\nat 0 18 start\n".as_slice()
-    );
-    assert_eq!(rt; ended, Ok(Ended::InputEnd));
-    Ok(())
+    are_answered(&rt, TWO_COUNTERS, SECOND_FIRST, &PAST_THE_LAST)
 }
 
 // Nothing is run: the budget is spent at once.
@@ -193,34 +209,50 @@ const WORDS: [(usize, &str, &[u8]); 13] = [
     ),
 ];
 
+// A guest of so many instructions and a word, at which its thread begins.
+fn source_of(alloc: Global, before: usize, word: &str) -> Result<String, AllocError> {
+    let mut source = String::new(alloc);
+    for _ in 0..before {
+        source.push_str("nop\n")?;
+    }
+    source.push_str("main: .word ")?;
+    source.push_str(word)?;
+    source.push_str("\n.thread main\n")?;
+    Ok(source)
+}
+
+// Whether its next step is shown so.
+fn is_disassembled<R: AllocGlobal + Threads + Clock + Sync>(
+    rt: &R,
+    row: (usize, &str, &[u8]),
+) -> Result<bool, Fail> {
+    let (before, word, answers) = row;
+    let source = source_of(rt.alloc(), before, word)?;
+    let files = files_of(rt.alloc(), &[source.as_str()], UNRUN)?;
+    Ok(is_answered(rt, &files, b"next 0\n", answers))
+}
+
 #[test]
 fn the_next_word_is_disassembled(rt: HostRuntime) -> Result<(), Fail> {
-    let trace = trace_bytes(rt.alloc(), UNRUN)?;
-    for (before, word, answers) in WORDS {
-        let mut source = String::new(rt.alloc());
-        for _ in 0..before {
-            source.push_str("nop\n")?;
-        }
-        source.push_str("main: .word ")?;
-        source.push_str(word)?;
-        source.push_str("\n.thread main\n")?;
-        let image = image_bytes(rt.alloc(), &[source.as_str()])?;
-        let (page, _ended) = answered(&rt, image.as_slice(), trace.as_slice(), b"next 0\n");
-        assert_eq!(rt; page.bytes.as_slice(), answers);
+    for &row in &WORDS {
+        assert!(rt; is_disassembled(&rt, row)?);
     }
     Ok(())
 }
 
-// A number in a0, and what PUTN prints of it.
+// Prints the number in a0.
+const PRINT_NUMBER: &str = "addi a7, zero, 3\necall\nebreak\n";
+
+// How a number gets into a0, and what is printed of it.
 const NUMBERS: [(&str, &[u8]); 4] = [
-    ("0xffffffff", b"ready\nat 5\nout 3\n2d310a\n"),
+    ("li a0, 0xffffffff", b"ready\nat 5\nout 3\n2d310a\n"),
     (
-        "0x80000000",
+        "li a0, 0x80000000",
         b"ready\nat 5\nout 12\n2d323134373438333634380a\n",
     ),
-    ("0", b"ready\nat 5\nout 2\n300a\n"),
+    ("li a0, 0", b"ready\nat 5\nout 2\n300a\n"),
     (
-        "0x7fffffff",
+        "li a0, 0x7fffffff",
         b"ready\nat 5\nout 11\n323134373438333634370a\n",
     ),
 ];
@@ -231,14 +263,21 @@ const BROKEN_AFTER: TraceRow = TraceRow {
     threads: &[Ran(5, 2, 0, &[])],
 };
 
+// Whether it is printed so.
+fn is_printed<R: AllocGlobal + Threads + Clock + Sync>(
+    rt: &R,
+    number: &str,
+    answers: &[u8],
+) -> Result<bool, Fail> {
+    let source = [number, PRINT_NUMBER];
+    let files = files_of(rt.alloc(), &source, BROKEN_AFTER)?;
+    Ok(is_answered(rt, &files, b"end\nout 0\n", answers))
+}
+
 #[test]
 fn numbers_are_printed_with_their_signs(rt: HostRuntime) -> Result<(), Fail> {
-    let trace = trace_bytes(rt.alloc(), BROKEN_AFTER)?;
-    for (number, answers) in NUMBERS {
-        let source = format!(in rt.alloc(); "li a0, {number}\naddi a7, zero, 3\necall\nebreak\n")?;
-        let image = image_bytes(rt.alloc(), &[source.as_str()])?;
-        let (page, _ended) = answered(&rt, image.as_slice(), trace.as_slice(), b"end\nout 0\n");
-        assert_eq!(rt; page.bytes.as_slice(), answers);
+    for &(number, answers) in &NUMBERS {
+        assert!(rt; is_printed(&rt, number, answers)?);
     }
     Ok(())
 }

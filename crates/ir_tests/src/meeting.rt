@@ -1,4 +1,4 @@
-//! A gate at which two threads meet.
+//! Gates at which two threads wait for each other.
 
 use ir_object::Gate;
 use ir_runs::Access;
@@ -7,6 +7,17 @@ use std::thread::yield_now;
 
 // The turns that a thread waits for the other at most, each of which lets others run.
 const MOST_TURNS: usize = 1_000_000;
+
+// Waits until so many are counted. Whether they are.
+fn is_reached(count: &AtomicUsize, wanted: usize) -> bool {
+    for _ in 0..MOST_TURNS {
+        if count.load(Ordering::SeqCst) >= wanted {
+            return true;
+        }
+        yield_now();
+    }
+    false
+}
 
 // Holds whoever enters until two have entered.
 #[derive(Drop)]
@@ -24,6 +35,11 @@ impl Meeting {
         }
     }
 
+    /// How often a thread entered.
+    pub fn entries(&self) -> usize {
+        self.entries.load(Ordering::SeqCst)
+    }
+
     pub fn missed(&self) -> bool {
         self.missed.load(Ordering::SeqCst)
     }
@@ -32,13 +48,55 @@ impl Meeting {
 impl Gate for Meeting {
     fn entered(&self, _thread: u8, _object: u8, _access: Access) {
         self.entries.fetch_add(1, Ordering::SeqCst);
-        for _ in 0..MOST_TURNS {
-            if self.entries.load(Ordering::SeqCst) >= 2 {
-                return;
-            }
-            yield_now();
+        if !is_reached(&self.entries, 2) {
+            self.missed.store(true, Ordering::SeqCst);
         }
-        self.missed.store(true, Ordering::SeqCst);
+    }
+
+    fn leaving(&self, _thread: u8, _object: u8, _access: Access) {}
+}
+
+// Holds thread 0 in object 1 until thread 1 is in object 2, and thread 1 there until thread 0 is in object 0.
+#[derive(Drop)]
+pub struct Handing {
+    // Of the last two entries, how many there were.
+    entries: AtomicUsize,
+    // Whether one waited in vain.
+    missed: AtomicBool,
+}
+
+impl Handing {
+    pub fn new() -> Handing {
+        Handing {
+            entries: AtomicUsize::new(0),
+            missed: AtomicBool::new(false),
+        }
+    }
+
+    pub fn missed(&self) -> bool {
+        self.missed.load(Ordering::SeqCst)
+    }
+
+    fn wait(&self, entries: usize) {
+        if !is_reached(&self.entries, entries) {
+            self.missed.store(true, Ordering::SeqCst);
+        }
+    }
+}
+
+impl Gate for Handing {
+    fn entered(&self, thread: u8, object: u8, _access: Access) {
+        match (thread, object) {
+            (0, 1) => self.wait(1),
+            (1, 2) => {
+                self.entries.fetch_add(1, Ordering::SeqCst);
+                self.wait(2);
+            }
+            (0, 0) => {
+                self.entries.fetch_add(1, Ordering::SeqCst);
+            }
+            _ => {}
+        }
     }
 
     fn leaving(&self, _thread: u8, _object: u8, _access: Access) {}

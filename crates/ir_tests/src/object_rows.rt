@@ -136,7 +136,7 @@ const LOGS: [Said; 1] = [(
 
 #[test]
 fn stopped_threads_are_shown(rt: HostRuntime) -> Result<(), Fail> {
-    for (guest, threads, said) in STOPPED {
+    for &(guest, threads, said) in &STOPPED {
         let trace = TraceRow {
             objects: 1,
             budget: 1000,

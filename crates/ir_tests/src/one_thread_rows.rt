@@ -192,7 +192,7 @@ fn moves_are_answered(rt: HostRuntime) -> Result<(), Fail> {
 
 #[test]
 fn disagreeing_threads_are_named(rt: HostRuntime) -> Result<(), Fail> {
-    for (budget, threads, verdict) in DISAGREEING {
+    for &(budget, threads, verdict) in &DISAGREEING {
         let trace = TraceRow {
             objects: 0,
             budget,
@@ -205,7 +205,7 @@ fn disagreeing_threads_are_named(rt: HostRuntime) -> Result<(), Fail> {
 
 #[test]
 fn ends_are_steps(rt: HostRuntime) -> Result<(), Fail> {
-    for (guest, budget, threads, said) in ENDS {
+    for &(guest, budget, threads, said) in &ENDS {
         let trace = TraceRow {
             objects: 0,
             budget,

@@ -1,12 +1,9 @@
 //! Images and traces in which some bytes stand for others.
 
-use crate::guests::{DOUBLED, READ_THEN_WRITE, TWO_COUNTERS};
-use crate::sessions::{answered, ended_by};
-use crate::sources::image_bytes;
-use crate::traces::{ENDED_BY_144, READ_AND_WRITTEN, SECOND_FIRST, TraceRow, trace_bytes};
-use ir_debug::Ended;
+use crate::guests::{DOUBLED, READ_THEN_WRITE, Source, TWO_COUNTERS};
+use crate::sessions::{Files, answered, ended_by, files_of};
+use crate::traces::{ENDED_BY_144, READ_AND_WRITTEN, SECOND_FIRST, TraceRow};
 use std::alloc::{AllocError, Global};
-use std::process::Abort;
 use std::test::Fail;
 use std::thread::Threads;
 use std::time::Clock;
@@ -84,65 +81,106 @@ fn patched(alloc: Global, bytes: &[u8], patch: Patch) -> Result<Vec<u8>, AllocEr
     Ok(all)
 }
 
+// Whether an image with such a patch is answered so, beside this trace.
+fn is_image_refused<R: AllocGlobal + Threads + Clock + Sync>(
+    rt: &R,
+    files: &Files,
+    trace: &[u8],
+    patch: Patch,
+    answer: &[u8],
+) -> Result<bool, AllocError> {
+    let image = patched(rt.alloc(), files.image.as_slice(), patch)?;
+    Ok(is_told(rt, image.as_slice(), trace, b"regs 0\n", answer))
+}
+
+// Whether a session is answered so, and ends as it says.
+fn is_told<R: AllocGlobal + Threads + Clock + Sync>(
+    rt: &R,
+    image: &[u8],
+    trace: &[u8],
+    lines: &[u8],
+    answer: &[u8],
+) -> bool {
+    let (page, ended) = answered(rt, image, trace, lines);
+    page.bytes.as_slice() == answer && ended == Ok(ended_by(answer))
+}
+
+// The image is judged first: beside a trace, or a part of one.
 #[test]
 fn images_are_refused_by_their_first_fault(rt: HostRuntime) -> Result<(), Fail> {
-    let image = image_bytes(rt.alloc(), DOUBLED)?;
-    let trace = trace_bytes(rt.alloc(), ENDED_BY_144)?;
-    for (patch, answer) in IMAGES {
-        let image = patched(rt.alloc(), image.as_slice(), patch)?;
-        // The image is judged first.
-        for trace in [trace.as_slice(), &trace.as_slice()[..trace.len().min(32)]] {
-            let (page, ended) = answered(&rt, image.as_slice(), trace, b"regs 0\n");
-            assert_eq!(rt; page.bytes.as_slice(), answer);
-            assert_eq!(rt; ended, Ok(Ended::ImageRefused));
-        }
+    let files = files_of(rt.alloc(), DOUBLED, ENDED_BY_144)?;
+    let trace = files.trace.as_slice();
+    for &(patch, answer) in &IMAGES {
+        assert!(rt; is_image_refused(&rt, &files, trace, patch, answer)?);
+        assert!(rt; is_image_refused(&rt, &files, &trace[..trace.len().min(32)], patch, answer)?);
     }
     Ok(())
 }
 
-// Asserts that each patch of the trace is answered so.
-fn each_patch_is_answered<R: AllocGlobal + Threads + Clock + Sync + Abort>(
+// Whether a trace with such a patch is answered so.
+fn is_trace_answered<R: AllocGlobal + Threads + Clock + Sync>(
     rt: &R,
-    guest: &[&str],
-    trace: TraceRow,
-    patches: &[(Patch, &'static [u8])],
-) -> Result<(), Fail> {
-    let image = image_bytes(rt.alloc(), guest)?;
-    let trace = trace_bytes(rt.alloc(), trace)?;
-    for (patch, answer) in patches {
-        let trace = patched(rt.alloc(), trace.as_slice(), *patch)?;
-        let (page, ended) = answered(rt, image.as_slice(), trace.as_slice(), b"");
-        assert_eq!(rt; page.bytes.as_slice(), *answer);
-        assert_eq!(rt; ended, Ok(ended_by(answer)));
-    }
-    Ok(())
+    files: &Files,
+    patch: Patch,
+    answer: &[u8],
+) -> Result<bool, AllocError> {
+    let trace = patched(rt.alloc(), files.trace.as_slice(), patch)?;
+    Ok(is_told(rt, files.image.as_slice(), trace.as_slice(), b"", answer))
 }
 
 #[test]
 fn traces_are_refused_by_their_first_fault(rt: HostRuntime) -> Result<(), Fail> {
-    each_patch_is_answered(&rt, DOUBLED, ENDED_BY_144, &TRACES)?;
-    each_patch_is_answered(&rt, TWO_COUNTERS, SECOND_FIRST, &EVENTS)
+    let files = files_of(rt.alloc(), DOUBLED, ENDED_BY_144)?;
+    for &(patch, answer) in &TRACES {
+        assert!(rt; is_trace_answered(&rt, &files, patch, answer)?);
+    }
+    Ok(())
 }
 
 #[test]
+fn events_are_refused_by_their_first_fault(rt: HostRuntime) -> Result<(), Fail> {
+    let files = files_of(rt.alloc(), TWO_COUNTERS, SECOND_FIRST)?;
+    for &(patch, answer) in &EVENTS {
+        assert!(rt; is_trace_answered(&rt, &files, patch, answer)?);
+    }
+    Ok(())
+}
+
+// Whether each prefix of the image is short.
+fn each_image_is_short<R: AllocGlobal + Threads + Clock + Sync>(rt: &R, files: &Files) -> bool {
+    for length in 0..files.image.len() {
+        let (image, _rest) = files.image.as_slice().split_at(length);
+        if !is_told(rt, image, files.trace.as_slice(), b"", b"image refused 1\n") {
+            return false;
+        }
+    }
+    true
+}
+
+// The same of the trace.
+fn each_trace_is_short<R: AllocGlobal + Threads + Clock + Sync>(rt: &R, files: &Files) -> bool {
+    for length in 0..files.trace.len() {
+        let (trace, _rest) = files.trace.as_slice().split_at(length);
+        if !is_told(rt, files.image.as_slice(), trace, b"", b"trace refused 1\n") {
+            return false;
+        }
+    }
+    true
+}
+
+// Guests and their traces.
+const WHOLE: [(Source, TraceRow); 3] = [
+    (DOUBLED, ENDED_BY_144),
+    (TWO_COUNTERS, SECOND_FIRST),
+    (READ_THEN_WRITE, READ_AND_WRITTEN),
+];
+
+#[test]
 fn each_prefix_is_short(rt: HostRuntime) -> Result<(), Fail> {
-    for (guest, trace) in [
-        (DOUBLED, ENDED_BY_144),
-        (TWO_COUNTERS, SECOND_FIRST),
-        (READ_THEN_WRITE, READ_AND_WRITTEN),
-    ] {
-        let image = image_bytes(rt.alloc(), guest)?;
-        let trace = trace_bytes(rt.alloc(), trace)?;
-        for length in 0..image.len() {
-            let (page, ended) = answered(&rt, &image.as_slice()[..length], trace.as_slice(), b"");
-            assert_eq!(rt; page.bytes.as_slice(), b"image refused 1\n".as_slice());
-            assert_eq!(rt; ended, Ok(Ended::ImageRefused));
-        }
-        for length in 0..trace.len() {
-            let (page, ended) = answered(&rt, image.as_slice(), &trace.as_slice()[..length], b"");
-            assert_eq!(rt; page.bytes.as_slice(), b"trace refused 1\n".as_slice());
-            assert_eq!(rt; ended, Ok(Ended::TraceRefused));
-        }
+    for &(guest, trace) in &WHOLE {
+        let files = files_of(rt.alloc(), guest, trace)?;
+        assert!(rt; each_image_is_short(&rt, &files));
+        assert!(rt; each_trace_is_short(&rt, &files));
     }
     Ok(())
 }
@@ -156,6 +194,16 @@ fn changed(alloc: Global, bytes: &[u8], place: usize, byte: u8) -> Result<Vec<u8
     Ok(all)
 }
 
+// Whether this is how a session opens, or why it doesn't.
+fn is_opening(text: &[u8]) -> bool {
+    text.starts_with(b"ready\n")
+        || text.starts_with(b"image refused ")
+        || text.starts_with(b"trace refused ")
+        || text.starts_with(b"header differs ")
+        || text.starts_with(b"incoherent thread ")
+        || text.starts_with(b"thread ")
+}
+
 // Whether a session of them opens, or says why it doesn't, and ends as it says.
 fn opens_or_tells<R: AllocGlobal + Threads + Clock + Sync>(
     rt: &R,
@@ -164,31 +212,68 @@ fn opens_or_tells<R: AllocGlobal + Threads + Clock + Sync>(
 ) -> bool {
     let (page, ended) = answered(rt, image, trace, b"");
     let text = page.bytes.as_slice();
-    let is_told = text.starts_with(b"ready\n")
-        || text.starts_with(b"image refused ")
-        || text.starts_with(b"trace refused ")
-        || text.starts_with(b"header differs ")
-        || text.starts_with(b"incoherent thread ")
-        || text.starts_with(b"thread ");
-    is_told && ended == Ok(ended_by(text))
+    is_opening(text) && ended == Ok(ended_by(text))
+}
+
+// What stands for a byte.
+fn others(own: u8) -> [u8; 4] {
+    [own ^ 1, own ^ 0x80, 0, 255]
+}
+
+// Whether that holds with others for the byte at a place of the image.
+fn is_image_told<R: AllocGlobal + Threads + Clock + Sync>(
+    rt: &R,
+    files: &Files,
+    place: usize,
+    own: u8,
+) -> Result<bool, Fail> {
+    for byte in others(own) {
+        let image = changed(rt.alloc(), files.image.as_slice(), place, byte)?;
+        if !opens_or_tells(rt, image.as_slice(), files.trace.as_slice()) {
+            return Ok(false);
+        }
+    }
+    Ok(true)
+}
+
+// The same of the trace.
+fn is_trace_told<R: AllocGlobal + Threads + Clock + Sync>(
+    rt: &R,
+    files: &Files,
+    place: usize,
+    own: u8,
+) -> Result<bool, Fail> {
+    for byte in others(own) {
+        let trace = changed(rt.alloc(), files.trace.as_slice(), place, byte)?;
+        if !opens_or_tells(rt, files.image.as_slice(), trace.as_slice()) {
+            return Ok(false);
+        }
+    }
+    Ok(true)
+}
+
+const CHANGED: [(Source, TraceRow); 2] = [
+    (DOUBLED, ENDED_BY_144),
+    (READ_THEN_WRITE, READ_AND_WRITTEN),
+];
+
+#[test]
+fn each_changed_byte_of_an_image_is_answered(rt: HostRuntime) -> Result<(), Fail> {
+    for &(guest, trace) in &CHANGED {
+        let files = files_of(rt.alloc(), guest, trace)?;
+        for (place, own) in files.image.iter().enumerate() {
+            assert!(rt; is_image_told(&rt, &files, place, *own)?, "{place}");
+        }
+    }
+    Ok(())
 }
 
 #[test]
-fn each_changed_byte_is_answered(rt: HostRuntime) -> Result<(), Fail> {
-    for (guest, trace) in [(DOUBLED, ENDED_BY_144), (READ_THEN_WRITE, READ_AND_WRITTEN)] {
-        let image = image_bytes(rt.alloc(), guest)?;
-        let trace = trace_bytes(rt.alloc(), trace)?;
-        for (place, own) in image.iter().enumerate() {
-            for byte in [*own ^ 1, *own ^ 0x80, 0, 255] {
-                let other = changed(rt.alloc(), image.as_slice(), place, byte)?;
-                assert!(rt; opens_or_tells(&rt, other.as_slice(), trace.as_slice()));
-            }
-        }
-        for (place, own) in trace.iter().enumerate() {
-            for byte in [*own ^ 1, *own ^ 0x80, 0, 255] {
-                let other = changed(rt.alloc(), trace.as_slice(), place, byte)?;
-                assert!(rt; opens_or_tells(&rt, image.as_slice(), other.as_slice()));
-            }
+fn each_changed_byte_of_a_trace_is_answered(rt: HostRuntime) -> Result<(), Fail> {
+    for &(guest, trace) in &CHANGED {
+        let files = files_of(rt.alloc(), guest, trace)?;
+        for (place, own) in files.trace.iter().enumerate() {
+            assert!(rt; is_trace_told(&rt, &files, place, *own)?, "{place}");
         }
     }
     Ok(())

@@ -1,7 +1,7 @@
 //! Guests of two threads with one object, brought to cuts by different orders, and by threads that wait for each other.
 
-use crate::guests::{NOTED_CLOCK, TWO_COUNTERS, TWO_READERS};
-use crate::meeting::Meeting;
+use crate::guests::{HANDED_ON, NOTED_CLOCK, TWO_COUNTERS, TWO_READERS};
+use crate::meeting::{Handing, Meeting};
 use crate::replays::{by_order, by_threads, fitted};
 use crate::states::same_state;
 use crate::traces::EventRow::{Clock, Read, Write};
@@ -45,7 +45,7 @@ fn is_alike(alloc: Global, fitted: &Fitted, at: Pair) -> Result<bool, Fail> {
     let Some(first) = state_at(alloc, fitted, at, &[])? else {
         return Ok(false);
     };
-    for order in ORDERS {
+    for &order in &ORDERS {
         match &state_at(alloc, fitted, at, order)? {
             Some(other) if same_state(&first, other) => {}
             _ => return Ok(false),
@@ -146,6 +146,37 @@ fn two_readers_replay(rt: HostRuntime) -> Result<(), Fail> {
         found.as_ref().and_then(short),
         Some((7, 7, fields(0, 2, 0, false), 0))
     );
+    assert!(rt; !gate.missed());
+    Ok(())
+}
+
+// Of `HANDED_ON`: thread 0 writes object 0 after thread 1.
+const HANDED_TO_0: TraceRow = TraceRow {
+    objects: 3,
+    budget: 1000,
+    threads: &[
+        Ran(12, 1, 0, &[Write(1, 0, 0), Write(0, 1, 0)]),
+        Ran(12, 1, 2, &[Write(0, 0, 0), Write(2, 0, 0)]),
+    ],
+};
+
+// How often each of three objects was written.
+fn versions(state: &State) -> Option<[u32; 3]> {
+    match state.objects() {
+        [a, b, c] => Some([a.fields().version, b.fields().version, c.fields().version]),
+        _ => None,
+    }
+}
+
+// Both threads are in one round, which begins before the first step: thread 0 enters what thread 1 has written and left in
+// it, while thread 1 waits in another object.
+#[test]
+fn judged_by_the_cut_that_is_reached(rt: HostRuntime) -> Result<(), Fail> {
+    let fitted = fitted(rt.alloc(), HANDED_ON, HANDED_TO_0)?;
+    let gate = Handing::new();
+    let target = Cut::new(Vec::from_slice(rt.alloc(), &[12, 12])?);
+    let found = by_threads(&rt, rt.alloc(), &fitted, &target, &gate)?;
+    assert_eq!(rt; found.as_ref().and_then(versions), Some([2, 1, 1]));
     assert!(rt; !gate.missed());
     Ok(())
 }

@@ -5,6 +5,7 @@ use crate::streams::{Bytes, ENDLESS, Page};
 use crate::traces::{TraceRow, trace_bytes};
 use ir_debug::{Ended, SessionErr, session};
 use ir_object::{Gate, OpenGate};
+use std::alloc::Global;
 use std::process::Abort;
 use std::test::Fail;
 use std::thread::Threads;
@@ -55,6 +56,41 @@ pub fn ended_by(answers: &[u8]) -> Ended {
     }
 }
 
+/// The bytes of a guest's image and of its trace.
+#[derive(Drop)]
+pub struct Files {
+    pub image: Vec<u8>,
+    pub trace: Vec<u8>,
+}
+
+/// Those of the guest and the trace.
+pub fn files_of(alloc: Global, guest: &[&str], trace: TraceRow) -> Result<Files, Fail> {
+    Ok(Files {
+        image: image_bytes(alloc, guest)?,
+        trace: trace_bytes(alloc, trace)?,
+    })
+}
+
+/// What a session of the files answers to lines.
+pub fn answer_of<R: AllocGlobal + Threads + Clock + Sync>(
+    rt: &R,
+    files: &Files,
+    lines: &[u8],
+) -> (Page, Result<Ended, SessionErr>) {
+    answered(rt, files.image.as_slice(), files.trace.as_slice(), lines)
+}
+
+/// Whether a session of the files answers so to lines, and ends as it says.
+pub fn is_answered<R: AllocGlobal + Threads + Clock + Sync>(
+    rt: &R,
+    files: &Files,
+    lines: &[u8],
+    answers: &[u8],
+) -> bool {
+    let (page, ended) = answer_of(rt, files, lines);
+    page.bytes.as_slice() == answers && ended == Ok(ended_by(answers))
+}
+
 /// Asserts that sessions of the guest and the trace answer so, each to its lines.
 pub fn are_answered<R: AllocGlobal + Threads + Clock + Sync + Abort>(
     rt: &R,
@@ -62,10 +98,9 @@ pub fn are_answered<R: AllocGlobal + Threads + Clock + Sync + Abort>(
     trace: TraceRow,
     sessions: &[Said],
 ) -> Result<(), Fail> {
-    let image = image_bytes(rt.alloc(), guest)?;
-    let trace = trace_bytes(rt.alloc(), trace)?;
+    let files = files_of(rt.alloc(), guest, trace)?;
     for (lines, answers) in sessions {
-        let (page, ended) = answered(rt, image.as_slice(), trace.as_slice(), lines.as_bytes());
+        let (page, ended) = answer_of(rt, &files, lines.as_bytes());
         assert_eq!(rt; page.bytes.as_slice(), answers.as_bytes());
         assert_eq!(rt; ended, Ok(ended_by(answers.as_bytes())));
     }

@@ -2,17 +2,22 @@
 
 use ir_asm::assemble;
 use ir_image::{Image, write_image};
-use std::alloc::Global;
+use std::alloc::{AllocError, Global};
 use std::test::Fail;
 
-/// The guest of the parts, one after the other.
-pub fn image_of(alloc: Global, parts: &[&str]) -> Result<Image, Fail> {
+/// The parts, one after the other.
+pub fn joined(alloc: Global, parts: &[&str]) -> Result<String, AllocError> {
     let mut source = String::new(alloc);
     for part in parts {
         source.push_str(part)?;
         source.push_str("\n")?;
     }
-    Ok(assemble(alloc, source.as_str())?)
+    Ok(source)
+}
+
+/// The guest of the parts.
+pub fn image_of(alloc: Global, parts: &[&str]) -> Result<Image, Fail> {
+    Ok(assemble(alloc, joined(alloc, parts)?.as_str())?)
 }
 
 /// The bytes of that image.

@@ -1,6 +1,6 @@
 //! Traces in rows, and their bytes.
 
-use ir_trace::{Trace, read_trace};
+use ir_trace::{Trace, read_trace, write_trace};
 use std::alloc::{AllocError, Global};
 use std::test::Fail;
 
@@ -40,6 +40,16 @@ pub const SECOND_FIRST: TraceRow = TraceRow {
     threads: &[
         Ran(18, 1, 0, &[EventRow::Write(0, 1, 0)]),
         Ran(18, 1, 0, &[EventRow::Write(0, 0, 0)]),
+    ],
+};
+
+/// Of `TWO_COUNTERS`: thread 0 is inside first.
+pub const FIRST_FIRST: TraceRow = TraceRow {
+    objects: 1,
+    budget: 1000,
+    threads: &[
+        Ran(18, 1, 0, &[EventRow::Write(0, 0, 0)]),
+        Ran(18, 1, 0, &[EventRow::Write(0, 1, 0)]),
     ],
 };
 
@@ -109,4 +119,10 @@ pub fn trace_bytes(alloc: Global, trace: TraceRow) -> Result<Vec<u8>, AllocError
 /// The trace itself.
 pub fn trace_of(alloc: Global, trace: TraceRow) -> Result<Trace, Fail> {
     Ok(read_trace(alloc, trace_bytes(alloc, trace)?.as_slice())?)
+}
+
+/// Whether this is the trace.
+pub fn is_trace(alloc: Global, trace: &Trace, wanted: TraceRow) -> Result<bool, Fail> {
+    let bytes = write_trace(alloc, trace)?;
+    Ok(bytes.as_slice() == trace_bytes(alloc, wanted)?.as_slice())
 }

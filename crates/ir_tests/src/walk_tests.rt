@@ -1,7 +1,7 @@
 //! A guest of three threads, walked from its end back to its start a step at a time, and forwards again.
 
 use crate::guests::THREE_COUNTERS;
-use crate::recordings::recorded_in_order;
+use crate::recordings::{BUDGET, fitted_in_order};
 use crate::streams::{ENDLESS, Page};
 use ir_command::{Command, Move, Show};
 use ir_debug::{Debugger, write_answer};
@@ -101,7 +101,8 @@ fn is_seen_again<R: Threads + Clock + Sync>(
 fn the_same_is_shown_both_ways(rt: HostRuntime) -> Result<(), Fail> {
     let alloc = rt.alloc();
     let order = [2, 2, 2, 2, 0, 1, 0, 1, 1, 2, 0, 0];
-    let mut debugger = Debugger::open(alloc, recorded_in_order(alloc, THREE_COUNTERS, &order)?)?;
+    let fitted = fitted_in_order(alloc, THREE_COUNTERS, &order, BUDGET)?;
+    let mut debugger = Debugger::open(alloc, fitted)?;
     debugger.command(&rt, alloc, &Command::Move(Move::End), &OpenGate);
     assert_eq!(rt; positions(&debugger), [18, 18, 18]);
     let stops = back_to_start(&rt, alloc, &mut debugger)?;

@@ -7,3 +7,7 @@ pub use Rattle.ir_thread.proofs.Asked.{ask_permits}
 pub use Rattle.ir_thread.proofs.Lawful.{lawful, over, closing}
 -- whoever answers a thread, it is the thread run alone
 pub use Rattle.ir_thread.proofs.Alone.{alone}
+-- private steps, the first of them, and what they leave as it is
+pub use Rattle.ir_thread.proofs.PrivateRuns.{IsKept, private_first, private_keep, private_held}
+-- those at instructions that aren't marked
+pub use Rattle.ir_thread.proofs.Unmarked.{none_unmarked, unmarked_first, unmarked_pc, unmarked_memory}

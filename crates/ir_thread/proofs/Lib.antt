@@ -3,6 +3,7 @@ mod Asked
 mod Lawful
 mod Alone
 mod PrivateRuns
+mod Unmarked
 mod Conditions
 mod Framed
 pub mod CallerLemmas

@@ -1,6 +1,6 @@
 -- Steps of the machine as steps of its thread.
-use Rattle.std.proofs.Common.{◌≡◌, ◌+◌, ◌-◌, ◌≤◌, ◌<◌, ℕ, zero, suc, Bool, true, false, leb, List, Some, None, refl, sym, ap, ◌∙◌, add-one, add-zero, add-suc, below_more, arith}
-use Rattle.std.specs.Prelude.{nat_lt}
+use Rattle.std.proofs.Common.{◌≡◌, ◌+◌, ◌-◌, ◌≤◌, ◌<◌, ℕ, zero, suc, Bool, true, false, leb, List, Some, None, refl, sym, ap, subst, ◌∙◌, add-one, add-zero, add-suc, below_more, arith}
+use Rattle.std.specs.Prelude.{nat_lt, is_some, Option, MatchOption}
 use Rattle.std.proofs.lemmas.Bool.{lt-leb, ltb-true, ltb-false}
 use Rattle.std.proofs.lemmas.Option.{option_and_then_some}
 use Rattle.ir_mach.specs.Core.{Core, Outcome, Goes, Calls, Ends}
@@ -11,6 +11,16 @@ use Rattle.ir_thread.specs.Calls.{ask_of, after_ask, after_reply, step_of, run_o
 use Rattle.ir_thread.specs.Private.{PrivateSteps}
 use Rattle.ir_thread.specs.declared.ask.Ask.TheVariants as ask
 use Rattle.ir_thread.specs.declared.ask.Reply.TheVariants.{Go}
+use Rattle.ir_thread.specs.declared.end.End.{End}
+
+-- a thread that hasn't ended has a step for each that its budget leaves
+pub running : (ended : Option End) → is_some ended ≡ false → ended ≡ None
+running None e = refl
+running (Some end) e = absurd cc
+
+pub within_budget : (ended : Option End) (P Q : Type 0) → ended ≡ None → MatchOption ended P (λ _. Q) → P
+within_budget None P Q e p = p
+within_budget (Some end) P Q e p = absurd cc
 
 -- the thread with another machine and so many steps more
 abbrev pub advanced : State → Core → ℕ → State
@@ -117,3 +127,53 @@ then_one code first s middle t before asks goes =
       each = λ k below. below_more (λ (j : ℕ). ask_of code (run_of code j s) ≡ ask.Private) first before.each
           (ap (λ m. ask_of code m) (sym here) ∙ asks) k (omega arith);
     }
+
+-- ---- the first of them, and what they leave as it is
+
+pub private_first : (code : List ℕ) (k n : ℕ) (s t : State) → k ≤ n → PrivateSteps code n s t → PrivateSteps code k s (run_of code k s)
+private_first code k n s t le p = record { steps = refl; each = λ j l. p.each j (omega (arith, l, le)) }
+
+-- all of a thread but its machine and its position
+pub record IsKept (s t : State) : Type 0 where
+  pub number : t.number ≡ s.number
+  pub held : t.held ≡ s.held
+  pub budget : t.budget ≡ s.budget
+  pub events : t.events ≡ s.events
+  pub output : t.output ≡ s.output
+  pub ended : t.ended ≡ s.ended
+
+one_kept : (code : List ℕ) (s : State) → ask_of code s ≡ ask.Private → IsKept s (step_of code s)
+unfolding step_of after_reply
+one_kept code s is = record {
+  number = ap (λ a. (after_ask code s a Go).number) is;
+  held = ap (λ a. (after_ask code s a Go).held) is;
+  budget = ap (λ a. (after_ask code s a Go).budget) is;
+  events = ap (λ a. (after_ask code s a Go).events) is;
+  output = ap (λ a. (after_ask code s a Go).output) is;
+  ended = ap (λ a. (after_ask code s a Go).ended) is;
+}
+
+kept_on : (s m t : State) → IsKept s m → IsKept m t → IsKept s t
+kept_on s m t a b = record {
+  number = b.number ∙ a.number;
+  held = b.held ∙ a.held;
+  budget = b.budget ∙ a.budget;
+  events = b.events ∙ a.events;
+  output = b.output ∙ a.output;
+  ended = b.ended ∙ a.ended;
+}
+
+run_keeps : (code : List ℕ) (n : ℕ) (s : State) → ((k : ℕ) → k < n → ask_of code (run_of code k s) ≡ ask.Private)
+    → IsKept s (run_of code n s)
+unfolding run_of
+run_keeps code zero s each = record { number = refl; held = refl; budget = refl; events = refl; output = refl; ended = refl }
+run_keeps code (suc n) s each =
+    kept_on s (run_of code n s) (step_of code (run_of code n s)) (run_keeps code n s (λ k l. each k (omega (arith, l))))
+    (one_kept code (run_of code n s) (each n (omega arith)))
+
+pub private_keep : (code : List ℕ) (n : ℕ) (s t : State) → PrivateSteps code n s t → IsKept s t
+private_keep code n s t p = subst (IsKept s) (sym p.steps) (run_keeps code n s p.each)
+
+-- what is held stays held
+pub private_held : (code : List ℕ) (n : ℕ) (s t : State) → PrivateSteps code n s t → t.held ≡ s.held
+private_held code n s t p = (private_keep code n s t p).held

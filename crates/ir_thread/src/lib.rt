@@ -8,8 +8,6 @@ mod frame;
 mod holding;
 mod laws;
 mod limits;
-#[cfg(test)]
-mod tests;
 mod thread;
 
 pub use ask::{Ask, Reply};

@@ -6,8 +6,6 @@ mod header;
 mod laws;
 mod layout;
 mod reader;
-#[cfg(test)]
-mod tests;
 mod thread_trace;
 mod trace;
 mod trace_err;

@@ -2,12 +2,13 @@
 
 ghost use Rattle.std.specs.Prelude.{◌≢◌, ◌<◌, ◌≤◌};
 ghost use Rattle.ir_thread.specs.Calls.{ask_of};
-ghost use Rattle.ir_thread.specs.Private.{PrivateSteps, NoInstruction};
+ghost use Rattle.ir_thread.specs.Private.{PrivateSteps, NoInstruction, UnmarkedSteps, StopsUnmarked};
 ghost use Rattle.ir_thread.specs.declared.ask.Ask.TheVariants as ask;
 
 use crate::ask::{Ask, Reply};
 use crate::thread::Thread;
 use ir_image::Code;
+use ir_mach::MarkedCode;
 
 impl Thread {
     /// Takes instructions, at most `limit`, and says how many they were: private steps, but no call. It stops below the limit
@@ -22,6 +23,24 @@ impl Thread {
             return 0;
         }
         let taken = self.mach.run(code, limit.min(self.budget - self.steps));
+        self.steps += taken;
+        taken
+    }
+
+    /// Takes instructions none of which is marked, at most `limit`, and says how many they were. It stops below the limit only
+    /// where the next step is marked or no instruction.
+    pub fn run_unmarked(&mut self, code: &MarkedCode<'_>, limit: u64) -> u64
+        ensures within { result ≤ limit }
+        ensures steps { UnmarkedSteps code.now result self.old self.new }
+        // Why it stopped.
+        ensures stops { result < limit → StopsUnmarked code.now self.new }
+    {
+        if self.ended.is_some() {
+            return 0;
+        }
+        let taken = self
+            .mach
+            .run_unmarked(code, limit.min(self.budget - self.steps));
         self.steps += taken;
         taken
     }

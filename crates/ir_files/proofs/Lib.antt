@@ -1,0 +1,4 @@
+mod InParts
+mod Putting
+mod ReadFiles
+pub mod CallerLemmas

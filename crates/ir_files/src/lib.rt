@@ -1,0 +1,17 @@
+//! Files that a program reads and writes, and what it tells on standard error.
+#![tactic(auto)]
+
+mod files;
+mod folder;
+mod output_files;
+mod places;
+mod reason;
+mod telling;
+mod whole_file;
+
+pub use files::{FileErr, MOST_BYTES, MOST_INPUT, NewFile, read_all, read_file};
+pub use folder::Folder;
+pub use output_files::{OutputFiles, OutputSink, output_paths};
+pub use places::{Found, loses};
+pub use telling::{tell, tell_of};
+pub use whole_file::{WholeFile, WholeSink};

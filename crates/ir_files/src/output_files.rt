@@ -1,0 +1,147 @@
+//! Files of what the threads of a recording print.
+
+ghost use Rattle.std.specs.Prelude.{◌≡◌, Bool, List, ◌∷◌, [], map, OnOk, OnErr, IfOk, None, true, false};
+ghost use Rattle.std.specs.declared.option.Option.{Option};
+ghost use Rattle.std.specs.List.{range_with_len};
+ghost use Rattle.std.specs.String.{string_bytes};
+ghost use Rattle.ir_files.specs.Outputs.{Printed, Gains, output_path};
+
+use crate::files::NewFile;
+use crate::folder::Folder;
+use crate::places::loses;
+use ir_stream::{DeviceErr, Sink, write_all};
+use std::alloc::{AllocError, Global};
+
+/// What takes the outputs of a recording, a thread's at a time. An `Err` makes `failed` true for good.
+pub trait OutputSink {
+    /// The outputs that it took whole so far, where it tells them.
+    ghost taken: { Self → Option (List Printed) };
+
+    /// Whether it has failed.
+    ghost broken: { Self → Bool };
+
+    /// Takes what a thread printed, all of it.
+    ///
+    /// # Errors
+    /// It can't be written; a part of it may be.
+    fn put(&mut self, thread: usize, bytes: &[u8]) -> Result<(), DeviceErr>
+        ensures taken { OnOk result (Gains (taken self.old) (taken self.new) ((thread, bytes.now) ∷ [])) }
+        ensures stays { OnOk result (broken self.new ≡ broken self.old) }
+        ensures kept { OnErr result (Gains (taken self.old) (taken self.new) []) }
+        ensures err { OnErr result (broken self.new ≡ true) };
+
+    /// What messages call the output that failed, if one did.
+    fn name(&self) -> &str;
+
+    /// Why it failed, if it did.
+    fn why(&self) -> &str;
+}
+
+fn output_path(alloc: Global, prefix: &str, thread: usize) -> Result<String, AllocError>
+    ensures { IfOk result (λ s. string_bytes s ≡ output_path prefix.now thread) }
+{
+    format!(in alloc; "{prefix}.{thread}")
+}
+
+/// The paths of the files of so many threads' outputs: `PREFIX.T` for thread T.
+///
+/// # Errors
+/// Want of memory.
+pub fn output_paths(alloc: Global, prefix: &str, threads: usize) -> Result<Vec<String>, AllocError>
+    ensures { IfOk result (λ v. map string_bytes v.items ≡ map (output_path prefix.now) (range_with_len 0 threads)) }
+{
+    let mut paths = Vec::with_capacity(alloc, threads)?;
+    for thread in 0..threads {
+        paths.push(output_path(alloc, prefix, thread)?)?;
+    }
+    Ok(paths)
+}
+
+/// The files of the threads' outputs. Each is made, or emptied, as it is put, also for a thread that printed nothing; what
+/// stands there and is no file, as a device or a link, is written to as it is. Where a write fails, a part of that output
+/// may stand there, and the outputs before it do. Without paths outputs go nowhere.
+#[derive(Drop)]
+pub struct OutputFiles<'a, D: Folder> {
+    folder: &'a D,
+    // A path for each thread, or none as nobody asked for the outputs.
+    paths: Option<&'a [String]>,
+    trace: &'a str,
+    failed: bool,
+    name: &'a str,
+    why: &'static str,
+}
+
+impl<'a, D: Folder> OutputFiles<'a, D> {
+    /// The files at these paths, beside a trace at this one.
+    pub fn new(folder: &'a D, paths: Option<&'a [String]>, trace: &'a str) -> OutputFiles<'a, D>
+        ensures { result.failed ≡ false }
+    {
+        OutputFiles {
+            folder,
+            paths,
+            trace,
+            failed: false,
+            name: "",
+            why: "",
+        }
+    }
+
+    // It failed at a path, for this reason.
+    fn fail(&mut self, name: &'a str, why: &'static str) -> DeviceErr
+        ensures { self.new.failed ≡ true }
+    {
+        self.failed = true;
+        self.name = name;
+        self.why = why;
+        DeviceErr
+    }
+
+    // Whether writing at a path loses the trace, or one of the outputs before, all of which stand there already.
+    fn loses_another(&self, path: &str, before: &[String]) -> bool {
+        let found = self.folder.found_at(path);
+        let trace = self.trace;
+        if loses(path, found, trace, self.folder.found_at(trace)) {
+            return true;
+        }
+        for other in before {
+            let other = other.as_str();
+            if loses(path, found, other, self.folder.found_at(other)) {
+                return true;
+            }
+        }
+        false
+    }
+}
+
+impl<D: Folder> OutputSink for OutputFiles<'_, D> {
+    ghost taken = { λ _. None };
+
+    ghost broken = { λ f. f.failed };
+
+    fn put(&mut self, thread: usize, bytes: &[u8]) -> Result<(), DeviceErr> {
+        let Some(paths) = self.paths else {
+            return Ok(());
+        };
+        let Some(path) = paths.get(thread) else {
+            return Err(self.fail("an output", "it has no path"));
+        };
+        let path = path.as_str();
+        if self.loses_another(path, &paths[..thread]) {
+            return Err(self.fail(path, "it is another file of this recording"));
+        }
+        let mut file = NewFile::new(self.folder, path);
+        // A write of no bytes makes the file too.
+        if file.write(&[]).is_err() || write_all(&mut file, bytes).is_err() {
+            return Err(self.fail(path, file.why()));
+        }
+        Ok(())
+    }
+
+    fn name(&self) -> &str {
+        self.name
+    }
+
+    fn why(&self) -> &str {
+        self.why
+    }
+}

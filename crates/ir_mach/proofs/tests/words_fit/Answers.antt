@@ -1,6 +1,0 @@
-use Rattle.std.proofs.Common.{rules}
-use Rattle.ir_mach.proofs.Guests.{words_fit}
-use Rattle.ir_mach.proofs.tests.words_fit.Goals as goal
-
-pub returns : goal.returns
-returns c = words_fit c.args.words.now (λ i. let h = c.type_inv.words i in search (rules, h))

@@ -1,0 +1,77 @@
+-- What a bundled session leaves of its reader and its writer.
+use Rattle.std.specs.Prelude.{◌≡◌, ◌⊎◌, ℕ, true, false, List, Option, IfSome, Result, Ok, Err, None}
+use Rattle.ir_stream.specs.Devices.{Reads}
+use Rattle.ir_debug.specs.Session.{Session, AnsweredWhole, AnsweredInPart, most_input}
+use Rattle.ir_debug.specs.declared.ended.Ended.{Ended}
+use Rattle.ir_debug.specs.declared.ended.SessionErr.{SessionErr}
+use Rattle.ir_debug.specs.declared.ended.SessionErr.TheVariants as session
+use Rattle.ir_program.specs.Bundle.{bundle_of, Bundled}
+use Rattle.ir_program.specs.Taking.{Reader, TakesBytes, IsInLines}
+use Rattle.ir_files.specs.Writers.{Writer}
+use Rattle.ir_program.specs.declared.fault.BundleErr.{BundleErr}
+use Rattle.ir_program.specs.declared.fault.BundleErr.TheVariants.{BadLine, NoMem, Read, Write, TooLong}
+
+-- the lines of an image and a trace were taken, and this holds of them and of what was read after them
+pub record Serves (old new : Option (List ℕ)) (P : List ℕ → List ℕ → List ℕ → Type 0) : Type 0 where
+  pub image : List ℕ
+  pub trace : List ℕ
+  pub after_image : Option (List ℕ)
+  pub after_trace : Option (List ℕ)
+  pub image_line : TakesBytes old after_image image
+  pub trace_line : TakesBytes after_image after_trace trace
+  pub commands : Reads most_input after_trace new (P image trace)
+
+-- their session came to this result, and wrote these bytes
+abbrev pub Came : Result Ended SessionErr → Option (List ℕ) → Option (List ℕ) → List ℕ → List ℕ → List ℕ → Type 0
+Came result old new image trace commands = Session image trace most_input result old new commands
+
+-- their session answered the lines that were read whole
+abbrev pub CameWhole : Option (List ℕ) → Option (List ℕ) → List ℕ → List ℕ → List ℕ → Type 0
+CameWhole old new image trace commands = AnsweredWhole image trace old new commands
+
+-- their session answered a part of the lines that were read
+abbrev pub CameInPart : Option (List ℕ) → Option (List ℕ) → Option (List ℕ) → List ℕ → List ℕ → List ℕ → Type 0
+CameInPart left old new image trace commands = AnsweredInPart image trace left old new commands
+
+-- neither the reader nor the writer has failed, and the bytes that were read led to this result and to what was written
+pub record Comes (result : Result Ended SessionErr) (reader : Reader) (writer : Writer) : Type 0 where
+  pub reads : reader.failed ≡ false
+  pub writes : writer.failed ≡ false
+  pub known : IfSome reader.before (Bundled result writer.before writer.after)
+  pub served : Serves reader.before reader.after (Came result writer.before writer.after)
+
+-- what a fault leaves, the last being that the writer is as it was
+abbrev pub Leaves : BundleErr → Reader → Writer → Type 0 → Type 0
+Leaves BadLine reader writer same = IfSome reader.before (λ input. bundle_of input ≡ None) × (reader.failed ≡ false) × same
+Leaves NoMem reader writer same = (reader.failed ≡ false) × same
+Leaves Read reader writer same =
+    (reader.failed ≡ true) × (writer.failed ≡ false)
+    × ((IsInLines reader.before reader.after × same) ⊎ Serves reader.before reader.after (CameWhole writer.before writer.after))
+Leaves Write reader writer same = (reader.failed ≡ false) × (writer.failed ≡ true)
+    × Serves reader.before reader.after (CameInPart reader.after writer.before writer.after)
+Leaves TooLong reader writer same = Comes (Err session.TooLong) reader writer
+
+-- ---- an image and a trace that aren't read from the lines
+
+-- neither the reader nor the writer has failed, and the bytes that were read led to this result and to what was written
+pub record Ends (image trace : List ℕ) (result : Result Ended SessionErr) (reader : Reader) (writer : Writer) : Type 0 where
+  pub reads : reader.failed ≡ false
+  pub writes : writer.failed ≡ false
+  pub known : IfSome reader.before (Session image trace most_input result writer.before writer.after)
+  pub served : Reads most_input reader.before reader.after (Session image trace most_input result writer.before writer.after)
+
+-- what a fault of their session leaves, the last being that reader and writer are as they were
+abbrev pub Stops : List ℕ → List ℕ → SessionErr → Reader → Writer → Type 0 → Type 0
+Stops image trace session.NoMem reader writer same = same
+Stops image trace session.Read reader writer same = (reader.failed ≡ true) × (writer.failed ≡ false)
+    × Reads most_input reader.before reader.after (AnsweredWhole image trace writer.before writer.after)
+Stops image trace session.Write reader writer same = (reader.failed ≡ false) × (writer.failed ≡ true)
+    × Reads most_input reader.before reader.after (AnsweredInPart image trace reader.after writer.before writer.after)
+Stops image trace session.TooLong reader writer same = Ends image trace (Err session.TooLong) reader writer
+
+-- the fault that is reported
+abbrev pub fault_of : SessionErr → BundleErr
+fault_of session.NoMem = NoMem
+fault_of session.Read = Read
+fault_of session.Write = Write
+fault_of session.TooLong = TooLong

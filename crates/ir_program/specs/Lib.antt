@@ -1,0 +1,5 @@
+pub mod Assembling
+pub mod Bundle
+pub mod Leaving
+pub mod Listing
+pub mod Taking

@@ -1,0 +1,52 @@
+-- A trace in lines.
+use Rattle.std.specs.Prelude.{◌≡◌, ℕ, ◌+◌, List, [], ◌∷◌, ◌++◌, codes, decimal, length, map, Result, Ok, Err, false}
+use Rattle.ir_stream.specs.Devices.{AppendsPrefix}
+use Rattle.ir_log.specs.Logging.{label_of}
+use Rattle.ir_trace.specs.Recorded.{RecordedThread, Recorded}
+use Rattle.ir_trace.specs.declared.trace_err.TraceErr.{TraceErr}
+use Rattle.ir_debug.specs.Machine.Texts.{log_text}
+use Rattle.ir_debug.specs.Machine.Opening.{TraceRefused, opening_text}
+use Rattle.ir_record_run.specs.Recording.{thread_line}
+use Rattle.ir_files.specs.Writers.{Writer, Failed}
+use Rattle.ir_program.specs.declared.fault.BundleErr.{BundleErr}
+use Rattle.ir_program.specs.declared.fault.BundleErr.TheVariants as fault
+use Rattle.ir_program.specs.declared.list_err.ListErr.{ListErr}
+use Rattle.ir_program.specs.declared.list_err.ListErr.TheVariants.{NoMem, Write}
+
+-- how many threads and objects, and the budget
+abbrev pub header_line : ℕ → ℕ → ℕ → List ℕ
+header_line threads objects budget =
+    codes "threads " ++ (decimal threads ++ (codes " objects " ++ (decimal objects ++ (codes " budget " ++ (decimal budget ++ 10 ∷ [])))))
+
+-- the line of thread t as its recording prints it, and all of its events as the debugger shows a log
+abbrev pub thread_listing : ℕ → RecordedThread → List ℕ
+thread_listing t r = thread_line t r ++ log_text (map label_of r.events) (length r.events)
+
+-- the same of the threads from number t on
+unfoldable pub threads_listing : ℕ → List RecordedThread → List ℕ
+threads_listing t [] = []
+threads_listing t (r ∷ rs) = thread_listing t r ++ threads_listing (t + 1) rs
+
+-- the lines of a trace
+abbrev pub listing : Recorded → List ℕ
+listing r = header_line (length r.threads) r.objects r.budget ++ threads_listing 0 r.threads
+
+-- what is written of the bytes of a trace: its lines, or the line with which a session refuses it
+abbrev pub shown : Result Recorded TraceErr → List ℕ
+shown (Ok r) = listing r
+shown (Err e) = opening_text (TraceRefused e)
+
+-- and the exit status
+abbrev pub status_of : Result Recorded TraceErr → ℕ
+status_of (Ok r) = 0
+status_of (Err e) = 3
+
+-- what is left where not all of a text was written
+abbrev pub Stops : ListErr → Writer → List ℕ → Type 0
+Stops NoMem writer text = AppendsPrefix writer.before writer.after text × (writer.failed ≡ false)
+Stops Write writer text = Failed writer text
+
+-- the fault that is reported
+abbrev pub fault_of : ListErr → BundleErr
+fault_of NoMem = fault.NoMem
+fault_of Write = fault.Write

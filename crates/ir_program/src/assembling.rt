@@ -1,0 +1,110 @@
+//! A source in, its image or its first fault out.
+
+ghost use Rattle.std.specs.Prelude.{◌≡◌, ◌⊎◌, ◌<◌, ℕ, List, false, map, IfOk, Ok, Err};
+ghost use Rattle.std.specs.String.{string_bytes};
+ghost use Rattle.std.specs.Io.KnownBytes.{Appends};
+ghost use Rattle.ir_asm.specs.Answered.{Answers};
+ghost use Rattle.ir_asm.specs.Source.{Fault};
+ghost use Rattle.ir_asm.specs.Passes.{assembled};
+ghost use Rattle.ir_program.specs.Assembling.{masked, image_bytes, fault_line, Stops};
+ghost use Rattle.ir_files.specs.Writers.{writer_of, Failed};
+
+use ir_asm::{AsmErr, Cause, assemble};
+use ir_debug::{DeviceErr, Sink};
+use ir_image::write_image;
+use ir_stream::write_all;
+use std::alloc::{AllocError, Global};
+
+const DONE: u8 = 0;
+
+const FAULT: u8 = 1;
+
+const REFUSED: u8 = 3;
+
+fn masked(byte: u8) -> u8
+    ensures exact { result ≡ masked byte }
+    ensures ascii { result < 128 }
+{
+    if byte > 0x7e { 1 } else { byte }
+}
+
+// The source as text, bytes that it may not hold among it.
+fn text_of(alloc: Global, source: &[u8]) -> Result<String, AllocError>
+    ensures { IfOk result (λ s. string_bytes s ≡ map masked source.now) }
+{
+    let mut text = String::with_capacity(alloc, source.len())?;
+    for byte in source {
+        text.push(masked(*byte) as char)?;
+    }
+    Ok(text)
+}
+
+// The bytes of the image of a source.
+fn image_of(alloc: Global, source: &[u8]) -> Result<Vec<u8>, AsmErr>
+    ensures { Answers (λ v. v.items) result (image_bytes source.now) }
+{
+    let text = text_of(alloc, source)?;
+    let image = assemble(alloc, &text)?;
+    Ok(write_image(alloc, &image)?)
+}
+
+fn fault_line(alloc: Global, line: usize, cause: Cause) -> Result<String, AllocError>
+    ensures { IfOk result (λ s. string_bytes s ≡ fault_line (record { line = line; cause = cause })) }
+{
+    let number = cause.number();
+    format!(in alloc; "line {line} error {number}\n")
+}
+
+// Tells a fault by its line and cause; the status.
+fn tell_place<E: Sink>(alloc: Global, faults: &mut E, line: usize, cause: Cause) -> u8
+    requires { E.broken faults.old ≡ false }
+    ensures status { (result ≡ 1) ⊎ (result ≡ 3) }
+    ensures reported { result ≡ 3 → Appends (E.written faults.old) (E.written faults.new) (fault_line (record { line = line; cause = cause })) }
+    ensures failed { result ≡ 1 → (faults.new ≡ faults.old)
+        ⊎ Failed (writer_of (E.written faults.old) (E.written faults.new) (E.broken faults.new)) (fault_line (record { line = line; cause = cause })) }
+{
+    match fault_line(alloc, line, cause) {
+        Ok(text) => match write_all(faults, text.as_bytes()) {
+            Ok(()) => REFUSED,
+            Err(DeviceErr) => FAULT,
+        },
+        Err(_) => FAULT,
+    }
+}
+
+// Writes an image; the status.
+fn put<W: Sink>(image: &mut W, bytes: &[u8]) -> u8
+    ensures status { (result ≡ 0) ⊎ (result ≡ 1) }
+    ensures done { result ≡ 0 → Appends (W.written image.old) (W.written image.new) bytes.now }
+    ensures failed { result ≡ 1 → Failed (writer_of (W.written image.old) (W.written image.new) (W.broken image.new)) bytes.now }
+{
+    match write_all(image, bytes) {
+        Ok(()) => DONE,
+        Err(DeviceErr) => FAULT,
+    }
+}
+
+/// Assembles a source: writes its image, or tells its first fault as a line `line L error C`. The answer is the exit
+/// status: 0 where all of the image was written, 3 where the source has a fault, which was told and nothing written; 1
+/// where memory ran out, with nothing written, or a writer failed. A byte of the source above 0x7E counts as the byte 1.
+pub fn asm_run<W: Sink, E: Sink>(alloc: Global, source: &[u8], image: &mut W, faults: &mut E) -> u8
+    requires writes { W.broken image.old ≡ false }
+    requires reports { E.broken faults.old ≡ false }
+    ensures status { (result ≡ 0) ⊎ (result ≡ 1) ⊎ (result ≡ 3) }
+    // The image was written, and no fault told.
+    ensures done { result ≡ 0 → (bytes : List ℕ) × (image_bytes source.now ≡ Ok bytes) × Appends (W.written image.old) (W.written image.new) bytes × (faults.new ≡ faults.old) }
+    // The first fault was told.
+    ensures refused { result ≡ 3 → (fault : Fault) × (image_bytes source.now ≡ Err fault) × Appends (E.written faults.old) (E.written faults.new) (fault_line fault) }
+    // Of a source with a fault nothing is written.
+    ensures unwritten { (fault : Fault) → image_bytes source.now ≡ Err fault → image.new ≡ image.old }
+    // Memory ran out and nothing was written or told, or a writer failed in what it was to take.
+    ensures stopped { result ≡ 1 → Stops source.now
+        (writer_of (W.written image.old) (W.written image.new) (W.broken image.new)) (image.new ≡ image.old)
+        (writer_of (E.written faults.old) (E.written faults.new) (E.broken faults.new)) (faults.new ≡ faults.old) }
+{
+    match image_of(alloc, source) {
+        Ok(bytes) => put(image, bytes.as_slice()),
+        Err(AsmErr::At { line, cause }) => tell_place(alloc, faults, line, cause),
+        Err(AsmErr::NoMem) => FAULT,
+    }
+}

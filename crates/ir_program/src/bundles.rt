@@ -1,0 +1,116 @@
+//! A session over one stream: an image and a trace in hexadecimal, each in a line, and then commands.
+
+ghost use Rattle.std.specs.Prelude.{◌≡◌, ◌≢◌, IfOk, IfErr, OnOk, Ok, false};
+ghost use Rattle.ir_program.specs.Bundle.{status_of, fault_words};
+ghost use Rattle.ir_program.specs.Leaving.{Comes, Leaves};
+ghost use Rattle.ir_files.specs.Writers.{writer_of, Reports, fault_text};
+ghost use Rattle.ir_program.specs.declared.fault.BundleErr.{BundleErr};
+ghost use Rattle.ir_debug.specs.declared.ended.Ended.{Ended};
+ghost use Rattle.ir_program.specs.Taking.{reader_of, TakesBytes, LineFails};
+
+use crate::fault::BundleErr;
+use crate::line::{bytes_of, read_line};
+use ir_debug::{Ended, SessionErr, Sink, Source, session};
+use ir_files::tell;
+use ir_object::OpenGate;
+use std::alloc::Global;
+use std::thread::Threads;
+use std::time::Clock;
+
+/// The exit status of a fault.
+pub const FAULT: u8 = 1;
+
+// The bytes of the next line of hexadecimal digits.
+fn next_bytes<R: Source>(alloc: Global, reader: &mut R) -> Result<Vec<u8>, BundleErr>
+    requires { R.broken reader.old ≡ false }
+    ensures ok { IfOk result (λ bytes. TakesBytes (R.left reader.old) (R.left reader.new) bytes.items) }
+    ensures stays { OnOk result (R.broken reader.new ≡ false) }
+    ensures fails { IfErr result (λ e. LineFails e (reader_of (R.left reader.old) (R.left reader.new) (R.broken reader.new))) }
+{
+    let line = read_line(alloc, reader)?;
+    bytes_of(alloc, line.as_slice())
+}
+
+/// Runs the session of an image and a trace that stand in hexadecimal in the reader's first two lines, over its other
+/// lines. A carriage return before a line feed or at the end is dropped, and a missing line is empty.
+///
+/// # Errors
+/// `BadLine`, with nothing written, where one of the two lines is no text of whole bytes in at most 4,194,304 digits of
+/// either case; want of memory; a fault of the session.
+pub fn bundled<T: Threads + Clock + Sync, R: Source, W: Sink>(
+    rt: &T,
+    alloc: Global,
+    reader: &mut R,
+    writer: &mut W,
+) -> Result<Ended, BundleErr>
+    requires reads { R.broken reader.old ≡ false }
+    requires writes { W.broken writer.old ≡ false }
+    // No device has failed, and the session of both lines read and wrote so.
+    ensures ok { IfOk result (λ ended. Comes (Ok ended)
+        (reader_of (R.left reader.old) (R.left reader.new) (R.broken reader.new))
+        (writer_of (W.written writer.old) (W.written writer.new) (W.broken writer.new))) }
+    // What a fault leaves: what was read before it, and what had been written by then.
+    ensures fault { IfErr result (λ e. Leaves e
+        (reader_of (R.left reader.old) (R.left reader.new) (R.broken reader.new))
+        (writer_of (W.written writer.old) (W.written writer.new) (W.broken writer.new)) (writer.new ≡ writer.old)) }
+{
+    let image = next_bytes(alloc, reader)?;
+    let trace = next_bytes(alloc, reader)?;
+    match session(
+        rt,
+        alloc,
+        image.as_slice(),
+        trace.as_slice(),
+        reader,
+        writer,
+        &OpenGate,
+    ) {
+        Ok(ended) => Ok(ended),
+        Err(SessionErr::NoMem) => Err(BundleErr::NoMem),
+        Err(SessionErr::Read) => Err(BundleErr::Read),
+        Err(SessionErr::Write) => Err(BundleErr::Write),
+        Err(SessionErr::TooLong) => Err(BundleErr::TooLong),
+    }
+}
+
+/// The exit status of a session that ended: 0, 3 for a refused image or trace, 4 for a trace that doesn't fit.
+pub fn status(ended: Ended) -> u8
+    ensures { result ≡ status_of ended }
+{
+    match ended {
+        Ended::Quit | Ended::InputEnd => 0,
+        Ended::ImageRefused | Ended::TraceRefused => 3,
+        Ended::NotFit => 4,
+    }
+}
+
+/// Runs a bundled session, and gives the exit status: 0 where it ended, 3 for a refused image or trace, 4 for a trace
+/// that doesn't fit, 1 for a fault, which is told in one line.
+pub fn bundle<T: Threads + Clock + Sync, R: Source, W: Sink, E: Sink>(
+    rt: &T,
+    alloc: Global,
+    reader: &mut R,
+    writer: &mut W,
+    faults: &mut E,
+) -> u8
+    requires reads { R.broken reader.old ≡ false }
+    requires writes { W.broken writer.old ≡ false }
+    requires reports { E.broken faults.old ≡ false }
+    // The status of a session that ended, whose bytes were written. No fault is told.
+    ensures ended { result ≢ 1 → (e : Ended) × (result ≡ status_of e) × Comes (Ok e)
+        (reader_of (R.left reader.old) (R.left reader.new) (R.broken reader.new))
+        (writer_of (W.written writer.old) (W.written writer.new) (W.broken writer.new)) × (faults.new ≡ faults.old) }
+    // Else what stopped it, what that leaves, and that it is told.
+    ensures stopped { result ≡ 1 → (e : BundleErr) × Leaves e
+        (reader_of (R.left reader.old) (R.left reader.new) (R.broken reader.new))
+        (writer_of (W.written writer.old) (W.written writer.new) (W.broken writer.new)) (writer.new ≡ writer.old)
+        × Reports (writer_of (E.written faults.old) (E.written faults.new) (E.broken faults.new)) (fault_text (fault_words e)) }
+{
+    match bundled(rt, alloc, reader, writer) {
+        Ok(ended) => status(ended),
+        Err(why) => {
+            tell(faults, why.words());
+            FAULT
+        }
+    }
+}

@@ -1,0 +1,19 @@
+//! The program `ir` as one call of its arguments, a folder and its streams: assembling, recording, listing a trace, debugging.
+#![tactic(auto)]
+
+mod assembling;
+mod bundles;
+mod debugging;
+mod dispatch;
+mod fault;
+mod line;
+mod list_err;
+mod listing;
+mod prompting;
+mod tracing;
+
+pub use assembling::asm_run;
+pub use bundles::{bundle, bundled};
+pub use dispatch::{BAD_ARGUMENTS, DONE, FAULT, program};
+pub use fault::BundleErr;
+pub use tracing::trace_run;

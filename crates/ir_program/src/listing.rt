@@ -1,0 +1,98 @@
+//! A trace in lines.
+
+ghost use Rattle.std.specs.Prelude.{◌≡◌, OnOk, IfOk, IfErr, length, false};
+ghost use Rattle.std.specs.String.{string_bytes};
+ghost use Rattle.std.specs.Io.KnownBytes.{Appends};
+ghost use Rattle.ir_debug.specs.Machine.Opening.{TraceRefused, opening_text};
+ghost use Rattle.ir_program.specs.Listing.{header_line, thread_listing, threads_listing, listing, Stops};
+ghost use Rattle.ir_files.specs.Writers.{writer_of};
+
+use crate::list_err::ListErr;
+use ir_debug::{Sink, write_log};
+use ir_record_run::thread_line;
+use ir_stream::write_all;
+use ir_trace::{ThreadTrace, Trace, TraceErr};
+use std::alloc::{AllocError, Global};
+
+fn header_line(
+    alloc: Global,
+    threads: usize,
+    objects: u8,
+    budget: u64,
+) -> Result<String, AllocError>
+    ensures { IfOk result (λ s. string_bytes s ≡ header_line threads objects budget) }
+{
+    format!(in alloc; "threads {threads} objects {objects} budget {budget}\n")
+}
+
+// Writes the line of a thread, and then its events.
+fn put_thread<W: Sink>(
+    alloc: Global,
+    number: usize,
+    thread: &ThreadTrace,
+    out: &mut W,
+) -> Result<(), ListErr>
+    requires { W.broken out.old ≡ false }
+    ensures ok { OnOk result (Appends (W.written out.old) (W.written out.new) (thread_listing number thread.now)) }
+    ensures works { OnOk result (W.broken out.new ≡ false) }
+    ensures fails { IfErr result (λ e. Stops e (writer_of (W.written out.old) (W.written out.new) (W.broken out.new)) (thread_listing number thread.now)) }
+{
+    let line = thread_line(alloc, number, thread)?;
+    write_all(out, line.as_bytes())?;
+    let events = thread.log().events();
+    write_log(events, events.len(), out)?;
+    Ok(())
+}
+
+// Writes the lines of each thread.
+fn put_threads<W: Sink>(alloc: Global, threads: &[ThreadTrace], out: &mut W) -> Result<(), ListErr>
+    requires { W.broken out.old ≡ false }
+    ensures ok { OnOk result (Appends (W.written out.old) (W.written out.new) (threads_listing 0 threads.now)) }
+    ensures works { OnOk result (W.broken out.new ≡ false) }
+    ensures fails { IfErr result (λ e. Stops e (writer_of (W.written out.old) (W.written out.new) (W.broken out.new)) (threads_listing 0 threads.now)) }
+{
+    for (number, thread) in threads.iter().enumerate() {
+        put_thread(alloc, number, thread, out)?;
+    }
+    Ok(())
+}
+
+/// Writes the lines of a trace: how many threads and objects there are and the budget, and for each thread the line of its
+/// recording and its whole log. The memory that is taken doesn't grow with the events.
+///
+/// # Errors
+/// Want of memory, or the writer failed; then a prefix of the lines was written.
+pub fn write_listing<W: Sink>(alloc: Global, trace: &Trace, out: &mut W) -> Result<(), ListErr>
+    requires { W.broken out.old ≡ false }
+    ensures ok { OnOk result (Appends (W.written out.old) (W.written out.new) (listing trace.now)) }
+    ensures works { OnOk result (W.broken out.new ≡ false) }
+    ensures fails { IfErr result (λ e. Stops e (writer_of (W.written out.old) (W.written out.new) (W.broken out.new)) (listing trace.now)) }
+{
+    let threads = trace.threads();
+    let header = header_line(alloc, threads.len(), trace.objects(), trace.budget())?;
+    write_all(out, header.as_bytes())?;
+    put_threads(alloc, threads, out)
+}
+
+// The line that refuses a trace for its fault of this number.
+fn refusal_line(alloc: Global, error: &TraceErr) -> Result<String, AllocError>
+    ensures { IfOk result (λ s. string_bytes s ≡ opening_text (TraceRefused error.now)) }
+{
+    let number = error.number().unwrap_or(0);
+    format!(in alloc; "trace refused {number}\n")
+}
+
+/// Writes the line with which a session refuses a trace.
+///
+/// # Errors
+/// Want of memory, or the writer failed; then a prefix of the line was written.
+pub fn write_refusal<W: Sink>(alloc: Global, error: &TraceErr, out: &mut W) -> Result<(), ListErr>
+    requires { W.broken out.old ≡ false }
+    ensures ok { OnOk result (Appends (W.written out.old) (W.written out.new) (opening_text (TraceRefused error.now))) }
+    ensures works { OnOk result (W.broken out.new ≡ false) }
+    ensures fails { IfErr result (λ e. Stops e (writer_of (W.written out.old) (W.written out.new) (W.broken out.new)) (opening_text (TraceRefused error.now))) }
+{
+    let line = refusal_line(alloc, error)?;
+    write_all(out, line.as_bytes())?;
+    Ok(())
+}

@@ -1,0 +1,141 @@
+//! What wrong arguments are told, and that the help of `ir asm` names what there is.
+
+use crate::device_tests::{ENDLESS, empty_page};
+use ir_arguments::{ASM_AFTER, Asked, parsed};
+use ir_program::asm_run;
+use ir_thread::Call;
+use std::test::Fail;
+
+fn asked(rt: &HostRuntime, line: &str) -> Result<Asked, Fail> {
+    let mut arguments = Vec::new(rt.alloc());
+    for argument in line.split(' ') {
+        arguments.push(String::from_str(rt.alloc(), argument)?)?;
+    }
+    Ok(parsed(rt.alloc(), arguments.as_slice()))
+}
+
+const WRONG: [(&str, &str); 7] = [
+    (
+        "ir asm",
+        "the following required arguments were not provided: <SOURCE> <IMAGE>",
+    ),
+    (
+        "ir record a.img",
+        "the following required arguments were not provided: <TRACE>",
+    ),
+    (
+        "ir record a.img a.trc --budget x",
+        "--budget: 'x' is no number up to 1000000000000",
+    ),
+    (
+        "ir record a.img a.trc --budget -1",
+        "--budget: '-1' is no number up to 1000000000000",
+    ),
+    (
+        "ir record a.img a.trc --random 1x",
+        "--random: '1x' is no number up to 18446744073709551615",
+    ),
+    (
+        "ir record a.img a.trc --fast",
+        "unexpected argument '--fast' found",
+    ),
+    ("ir play", "unrecognized subcommand 'play'"),
+];
+
+#[test]
+fn wrong_arguments_are_named(rt: HostRuntime) -> Result<(), Fail> {
+    for &(line, wanted) in &WRONG {
+        match asked(&rt, line)? {
+            Asked::Nothing(why) => assert_eq!(rt; why.as_str(), wanted),
+            _ => assert!(rt; false),
+        }
+    }
+    Ok(())
+}
+
+#[test]
+fn a_list_may_begin_with_a_hyphen(rt: HostRuntime) -> Result<(), Fail> {
+    match asked(&rt, "ir record a.img a.trc --order -1")? {
+        Asked::Recording(arguments) => {
+            assert_eq!(rt;
+                arguments.order.as_ref().map(|list| list.as_str()),
+                Some("-1")
+            )
+        }
+        _ => assert!(rt; false),
+    }
+    Ok(())
+}
+
+// Lines of the help from the one that begins so, to the next that is not set in.
+fn rows_after<'a>(alloc: std::alloc::Global, start: &str) -> Result<Vec<&'a str>, Fail> {
+    let mut rows = Vec::new(alloc);
+    let mut is_inside = false;
+    for line in ASM_AFTER.lines() {
+        if is_inside && !line.starts_with("  ") {
+            break;
+        }
+        if is_inside {
+            rows.push(line.trim())?;
+        }
+        is_inside = is_inside || line.starts_with(start);
+    }
+    Ok(rows)
+}
+
+// The operands of a form, each letter put in.
+fn operands_of(form: &str) -> &'static str {
+    match form {
+        "rd, rs1, rs2" => "a0, a1, a2",
+        "rd, rs1, V" => "a0, a1, 4",
+        "rd, V(rs1)" | "rs2, V(rs1)" => "a0, 4(a1)",
+        "rs1, rs2, TARGET" => "a0, a1, .+8",
+        "rd, TARGET" => "a0, .+8",
+        "rd, V" => "a0, 4",
+        _ => "",
+    }
+}
+
+// Whether the assembler takes a statement.
+fn is_taken(rt: &HostRuntime, name: &str, operands: &str) -> Result<bool, Fail> {
+    let source = format!(in rt.alloc(); "{name} {operands}\nnop\nnop\n")?;
+    let mut image = empty_page(rt, 1000, ENDLESS);
+    let mut faults = empty_page(rt, 1000, ENDLESS);
+    Ok(asm_run(rt.alloc(), source.as_bytes(), &mut image, &mut faults) == 0)
+}
+
+// Each of the 50 instructions stands in the help by its form.
+#[test]
+fn the_help_names_each_instruction(rt: HostRuntime) -> Result<(), Fail> {
+    let mut names = 0u32;
+    for row in rows_after(rt.alloc(), "Instructions")? {
+        let (form, more) = row.split_once("  ").unwrap_or((row, ""));
+        let (name, operands) = form.split_once(' ').unwrap_or((form, ""));
+        assert!(rt; is_taken(&rt, name, operands_of(operands))?);
+        names = names.wrapping_add(1);
+        let more = more.trim();
+        if let Some(others) = more.strip_prefix("so ") {
+            let (others, _) = others.split_once(';').unwrap_or((others, ""));
+            for other in others.split(", ") {
+                assert!(rt; is_taken(&rt, other, operands_of(operands))?);
+                names = names.wrapping_add(1);
+            }
+        }
+    }
+    assert_eq!(rt; names, 50);
+    Ok(())
+}
+
+#[test]
+fn the_help_numbers_each_call(rt: HostRuntime) -> Result<(), Fail> {
+    let mut last = 0u32;
+    for row in rows_after(rt.alloc(), "Calls")? {
+        let (number, _) = row.split_once(' ').unwrap_or((row, ""));
+        let next = last.wrapping_add(1);
+        assert_eq!(rt; number.parse::<u32>().ok(), Some(next));
+        last = next;
+        assert!(rt; Call::of_number(last).is_some());
+    }
+    assert!(rt; last > 0 && Call::of_number(last.wrapping_add(1)).is_none());
+    Ok(())
+}

@@ -1,0 +1,23 @@
+//! Tests of the program, over files in memory.
+#![tactic(auto)]
+
+#[cfg(test)]
+mod arguments_tests;
+#[cfg(test)]
+mod asm_tests;
+#[cfg(test)]
+mod device_tests;
+#[cfg(test)]
+mod kept_outputs;
+#[cfg(test)]
+mod places_tests;
+#[cfg(test)]
+mod program_tests;
+#[cfg(test)]
+mod record_tests;
+#[cfg(test)]
+mod shelf;
+#[cfg(test)]
+mod trace_tests;
+#[cfg(test)]
+mod world_tests;

@@ -1,0 +1,500 @@
+//! The program by its words, over a folder in memory: each exit status with its message, and files that aren't as they
+//! should be.
+
+use crate::device_tests::{Bytes, ENDLESS, Page, empty_page};
+use crate::shelf::Shelf;
+use ir_object::OpenGate;
+use ir_program::program;
+use std::alloc::{AllocError, AllocGlobal, Global};
+use std::sync::Wait;
+use std::test::Fail;
+use std::thread::Threads;
+use std::time::Clock;
+
+const DOUBLE: &[u8] =
+    b"addi a0, zero, 72\naddi a7, zero, 2\necall\nadd a0, a0, a0\naddi a7, zero, 1\necall\n";
+
+// Two threads; the first prints A, the second nothing.
+const TWO: &[u8] =
+    b".thread prints\n.thread silent\nprints: addi a0, zero, 65\naddi a7, zero, 2\necall\nsilent: ebreak\n";
+
+// The words of a line.
+fn words_of(alloc: Global, line: &str) -> Result<Vec<String>, AllocError> {
+    let mut words = Vec::new(alloc);
+    for word in line.split(' ') {
+        words.push(String::from_str(alloc, word)?)?;
+    }
+    Ok(words)
+}
+
+// A run of the program by these words, which reads this: its status, and what it wrote and told.
+fn ran<R: Threads + Wait + Sync + Clock + Eprint + AllocGlobal>(
+    rt: &R,
+    shelf: &Shelf,
+    line: &str,
+    input: &[u8],
+    out_calls: u64,
+) -> Result<(u8, Page, Page), Fail> {
+    let words = words_of(rt.alloc(), line)?;
+    let input = Bytes {
+        left: input,
+        calls_left: ENDLESS,
+        failed: false,
+    };
+    let mut out = empty_page(rt, 1000, out_calls);
+    let mut faults = empty_page(rt, 1000, ENDLESS);
+    let status = program(
+        rt,
+        rt.alloc(),
+        words.as_slice(),
+        &shelf,
+        &OpenGate,
+        input,
+        false,
+        &mut out,
+        &mut faults,
+    );
+    Ok((status, out, faults))
+}
+
+// Whether a run of the program by these words, which reads this, ends with the status, writes this and tells this.
+fn says<R: Threads + Wait + Sync + Clock + Eprint + AllocGlobal>(
+    rt: &R,
+    shelf: &Shelf,
+    line: &str,
+    input: &[u8],
+    wanted: (u8, &str, &str),
+) -> Result<bool, Fail> {
+    let (status, out, faults) = ran(rt, shelf, line, input, ENDLESS)?;
+    let (number, written, told) = wanted;
+    Ok(
+        status == number
+            && out.bytes.as_slice() == written.as_bytes()
+            && faults.bytes.as_slice() == told.as_bytes(),
+    )
+}
+
+// The bytes of a file are these.
+fn holds(shelf: &Shelf, path: &str, wanted: &[u8]) -> bool {
+    shelf
+        .bytes_of(path)
+        .is_some_and(|bytes| bytes.as_slice() == wanted)
+}
+
+// Two sources and their images, one of them at a second path, a source with a fault, a file that is too long to be read by
+// guests, and folders.
+fn prepared<R: Threads + Wait + Sync + Clock + Eprint + AllocGlobal>(
+    rt: &R,
+) -> Result<Shelf, Fail> {
+    let shelf = Shelf::new(rt.alloc());
+    shelf.add_file("d.s", DOUBLE)?;
+    shelf.add_file("bad.s", b"nop\nx\n")?;
+    shelf.add_file("held.trc.part", b"A")?;
+    let mut long = Vec::new(rt.alloc());
+    long.resize(1_048_577, 0)?;
+    shelf.add_file("longer", long.as_slice())?;
+    shelf.add_folder("folder")?;
+    shelf.add_folder("held.1")?;
+    shelf.add_file("two.s", TWO)?;
+    for line in [
+        "ir asm d.s d.img",
+        "ir asm two.s two.img",
+        "ir asm two.s image.1",
+    ] {
+        ran(rt, &shelf, line, b"", 0)?;
+    }
+    Ok(shelf)
+}
+
+// The words, the exit status, and what is told.
+const ROWS: [(&str, u8, &str); 44] = [
+    (
+        "ir asm",
+        2,
+        "ir: the following required arguments were not provided: <SOURCE> <IMAGE>\n",
+    ),
+    (
+        "ir record d.img",
+        2,
+        "ir: the following required arguments were not provided: <TRACE>\n",
+    ),
+    (
+        "ir trace",
+        2,
+        "ir: the following required arguments were not provided: <TRACE>\n",
+    ),
+    (
+        "ir debug d.img",
+        2,
+        "ir: the following required arguments were not provided: <TRACE>\n",
+    ),
+    ("ir play", 2, "ir: unrecognized subcommand 'play'\n"),
+    (
+        "ir asm d.s d2.img --fast",
+        2,
+        "ir: unexpected argument '--fast' found\n",
+    ),
+    (
+        "ir record d.img d.trc --budget x",
+        2,
+        "ir: --budget: 'x' is no number up to 1000000000000\n",
+    ),
+    (
+        "ir record d.img d.trc --random 1x",
+        2,
+        "ir: --random: '1x' is no number up to 18446744073709551615\n",
+    ),
+    (
+        "ir asm d.s d.s",
+        2,
+        "ir: d.s: IMAGE would be written over SOURCE\n",
+    ),
+    (
+        "ir asm none none",
+        2,
+        "ir: none: IMAGE would be written over SOURCE\n",
+    ),
+    (
+        "ir record d.img d.img",
+        2,
+        "ir: d.img: TRACE would be written over IMAGE\n",
+    ),
+    (
+        "ir record d.img longer --input longer",
+        2,
+        "ir: longer: TRACE would be written over FILE\n",
+    ),
+    (
+        "ir record held.trc.part held.trc",
+        2,
+        "ir: held.trc.part: TRACE.part would be written over IMAGE\n",
+    ),
+    (
+        "ir record d.img held.trc --input held.trc.part",
+        2,
+        "ir: held.trc.part: TRACE.part would be written over FILE\n",
+    ),
+    (
+        "ir record image.1 d.trc --output image",
+        2,
+        "ir: image.1: PREFIX.T would be written over IMAGE\n",
+    ),
+    (
+        "ir record two.img out.0 --output out",
+        2,
+        "ir: out.0: PREFIX.T would be written over TRACE\n",
+    ),
+    (
+        "ir record two.img out.1 --output out",
+        2,
+        "ir: out.1: PREFIX.T would be written over TRACE\n",
+    ),
+    (
+        "ir record two.img d.trc --output image --input image.1",
+        2,
+        "ir: image.1: PREFIX.T would be written over FILE\n",
+    ),
+    (
+        "ir record none.1 d.trc --output none",
+        1,
+        "ir: none.1 can't be read: no such file or folder\n",
+    ),
+    (
+        "ir record d.s d.trc --output image",
+        3,
+        "ir: the image is refused, 2: these bytes are no image\n",
+    ),
+    (
+        "ir record two.img d.trc --output image --order 2",
+        3,
+        "ir: LIST: the item '2' names no thread of the image\n",
+    ),
+    (
+        "ir record d.img d.trc --output",
+        2,
+        "ir: a value is required for '--output <PREFIX>' but none was supplied\n",
+    ),
+    (
+        "ir record two.img none/d.trc --output out",
+        1,
+        "ir: none/d.trc can't be written: no such file or folder\n",
+    ),
+    (
+        "ir asm none.s d2.img",
+        1,
+        "ir: none.s can't be read: no such file or folder\n",
+    ),
+    (
+        "ir asm folder d2.img",
+        1,
+        "ir: folder can't be read: it is a folder\n",
+    ),
+    (
+        "ir asm d.s folder",
+        1,
+        "ir: folder can't be written: it is a folder\n",
+    ),
+    (
+        "ir asm d.s none/d.img",
+        1,
+        "ir: none/d.img can't be written: no such file or folder\n",
+    ),
+    (
+        "ir record none.img d.trc",
+        1,
+        "ir: none.img can't be read: no such file or folder\n",
+    ),
+    (
+        "ir record folder d.trc",
+        1,
+        "ir: folder can't be read: it is a folder\n",
+    ),
+    (
+        "ir record d.img d.trc --input none",
+        1,
+        "ir: none can't be read: no such file or folder\n",
+    ),
+    (
+        "ir record d.img d.trc --input longer",
+        1,
+        "ir: longer is over 1048576 bytes\n",
+    ),
+    (
+        "ir record d.img none/d.trc",
+        1,
+        "ir: none/d.trc can't be written: no such file or folder\n",
+    ),
+    (
+        "ir record d.img folder",
+        1,
+        "ir: folder can't be written: it is a folder\n",
+    ),
+    (
+        "ir trace none.trc",
+        1,
+        "ir: none.trc can't be read: no such file or folder\n",
+    ),
+    (
+        "ir trace folder",
+        1,
+        "ir: folder can't be read: it is a folder\n",
+    ),
+    (
+        "ir debug none.img d.trc",
+        1,
+        "ir: none.img can't be read: no such file or folder\n",
+    ),
+    (
+        "ir debug d.img none.trc",
+        1,
+        "ir: none.trc can't be read: no such file or folder\n",
+    ),
+    ("ir asm bad.s d2.img", 3, "line 2 error 2\n"),
+    (
+        "ir record d.s d.trc",
+        3,
+        "ir: the image is refused, 2: these bytes are no image\n",
+    ),
+    (
+        "ir record d.img d.trc --order 1",
+        3,
+        "ir: LIST: the item '1' names no thread of the image\n",
+    ),
+    (
+        "ir record d.img d.trc --order -1",
+        3,
+        "ir: LIST: the item '-1' is neither T nor TxN\n",
+    ),
+    (
+        "ir record d.img d.trc --order 0x0",
+        3,
+        "ir: LIST: the item '0x0' has an N that is not from 1 to 1000000\n",
+    ),
+    (
+        "ir record d.img d.trc --order 0,",
+        3,
+        "ir: LIST: the item '' is neither T nor TxN\n",
+    ),
+    (
+        "ir record longer d.trc",
+        3,
+        "ir: the image is refused, 2: these bytes are no image\n",
+    ),
+];
+
+// Whether none of the files stands that a run by a row's words would make.
+fn leaves_nothing(shelf: &Shelf) -> bool {
+    let mut is_left = false;
+    for path in ["d2.img", "d.trc", "d.trc.part", "out.0", "out.1"] {
+        is_left |= shelf.bytes_of(path).is_some();
+    }
+    !is_left
+}
+
+#[test]
+fn what_stops_it_is_told(rt: HostRuntime) -> Result<(), Fail> {
+    let shelf = prepared(&rt)?;
+    for &(line, status, told) in &ROWS {
+        assert!(rt; says(&rt, &shelf, line, b"", (status, "", told))?, "{line}");
+        assert!(rt; leaves_nothing(&shelf), "{line}");
+    }
+    assert!(rt; holds(&shelf, "d.s", DOUBLE));
+    Ok(())
+}
+
+const LINE: &str = "thread 0 end 1 code 144 steps 6 events 0\n";
+
+// In turn: the words, what is read, the exit status, and what is written.
+const TURNS: [(&str, &[u8], u8, &str); 8] = [
+    ("ir record d.img d.trc --order 0", b"", 0, LINE),
+    ("ir record d.img d2.trc --budget 1000", b"", 0, LINE),
+    (
+        "ir trace d.trc",
+        b"",
+        0,
+        "threads 1 objects 0 budget 1000000\nthread 0 end 1 code 144 steps 6 events 0\nlog 0 of 0\n",
+    ),
+    ("ir trace d.img", b"", 3, "trace refused 2\n"),
+    (
+        "ir debug d.img d.trc",
+        b"end\nout 0\nfoo\nquit\n",
+        0,
+        "ready\nat 6\nout 1\n48\nrefused 1 unknown command\nbye\n",
+    ),
+    ("ir debug d.s d.trc", b"end\n", 3, "image refused 2\n"),
+    ("ir debug d.img d.img", b"end\n", 3, "trace refused 2\n"),
+    (
+        "ir",
+        b"495249310100060000000000000000000100130580049308200073000000\
+3305a5009308100073000000\n4952543101000000e8030000000000000700000000000000019000000000000000\n",
+        4,
+        "thread 0 disagrees event 0 step 5\n",
+    ),
+];
+
+#[test]
+fn what_is_done_is_written(rt: HostRuntime) -> Result<(), Fail> {
+    let shelf = prepared(&rt)?;
+    for &(line, input, status, written) in &TURNS {
+        assert!(rt;
+            says(&rt, &shelf, line, input, (status, written, ""))?,
+            "{line}"
+        );
+    }
+    assert!(rt; shelf.bytes_of("d.trc.part").is_none());
+    Ok(())
+}
+
+// Whether a run by these words ends well and tells nothing.
+fn goes_well<R: Threads + Wait + Sync + Clock + Eprint + AllocGlobal>(
+    rt: &R,
+    shelf: &Shelf,
+    line: &str,
+) -> Result<bool, Fail> {
+    let (status, _, faults) = ran(rt, shelf, line, b"", ENDLESS)?;
+    Ok(status == 0 && faults.bytes.is_empty())
+}
+
+// Whether the outputs of the two threads stand there, and no third.
+fn are_there(shelf: &Shelf) -> (bool, bool, bool) {
+    (
+        holds(shelf, "out.0", b"A"),
+        holds(shelf, "out.1", b""),
+        shelf.bytes_of("out.2").is_some(),
+    )
+}
+
+#[test]
+fn outputs_are_written_where_they_are_asked_for(rt: HostRuntime) -> Result<(), Fail> {
+    let shelf = prepared(&rt)?;
+    shelf.add_file("out.0", b"an older output")?;
+    for (line, is_asked_for) in [
+        ("ir record two.img d.trc --order 0", false),
+        ("ir record two.img d.trc --output out", true),
+        ("ir record two.img d2.trc --output other --order 1,0", true),
+    ] {
+        assert!(rt; goes_well(&rt, &shelf, line)?, "{line}");
+        assert_eq!(rt; are_there(&shelf), (is_asked_for, is_asked_for, false));
+    }
+    assert!(rt; holds(&shelf, "other.0", b"A") && holds(&shelf, "other.1", b""));
+    Ok(())
+}
+
+// One thread has one output, so another file may have the next name.
+#[test]
+fn one_thread_has_one_output(rt: HostRuntime) -> Result<(), Fail> {
+    let shelf = prepared(&rt)?;
+    let line = "ir record d.img image.trc --output image --input image.1";
+    assert!(rt; goes_well(&rt, &shelf, line)?);
+    assert!(rt; holds(&shelf, "image.0", b"H"));
+    Ok(())
+}
+
+#[test]
+fn an_output_that_cannot_be_written_is_told(rt: HostRuntime) -> Result<(), Fail> {
+    let shelf = prepared(&rt)?;
+    for (line, told) in [
+        (
+            "ir record two.img d.trc --output none/out",
+            "ir: none/out.0 can't be written: no such file or folder\n",
+        ),
+        (
+            "ir record two.img d.trc --output held",
+            "ir: held.1 can't be written: it is a folder\n",
+        ),
+    ] {
+        assert!(rt; says(&rt, &shelf, line, b"", (1, "", told))?, "{line}");
+    }
+    // What was written before stays.
+    assert!(rt; shelf.bytes_of("d.trc").is_some());
+    assert!(rt; holds(&shelf, "held.0", b"A"));
+    Ok(())
+}
+
+// Whether a run by these words whose standard output takes nothing says so.
+fn fails_at_output<R: Threads + Wait + Sync + Clock + Eprint + AllocGlobal>(
+    rt: &R,
+    shelf: &Shelf,
+    line: &str,
+    input: &[u8],
+) -> Result<bool, Fail> {
+    let (status, _, faults) = ran(rt, shelf, line, input, 0)?;
+    Ok(
+        status == 1
+            && faults.bytes.as_slice() == b"ir: standard output can't be written\n".as_slice(),
+    )
+}
+
+#[test]
+fn standard_output_that_fails_is_told(rt: HostRuntime) -> Result<(), Fail> {
+    let shelf = prepared(&rt)?;
+    for (line, input) in [
+        ("ir --help", b"".as_slice()),
+        ("ir trace --help", b""),
+        ("ir record d.img d.trc --order 0", b""),
+        ("ir trace d.trc", b""),
+        ("ir debug d.img d.trc", b"end\n"),
+    ] {
+        assert!(rt; fails_at_output(&rt, &shelf, line, input)?, "{line}");
+    }
+    // The trace stands in its place all the same.
+    assert!(rt; shelf.bytes_of("d.trc").is_some());
+    Ok(())
+}
+
+#[test]
+fn help_is_written(rt: HostRuntime) -> Result<(), Fail> {
+    let shelf = Shelf::new(rt.alloc());
+    for line in [
+        "ir --help",
+        "ir asm --help",
+        "ir record --help",
+        "ir trace --help",
+        "ir debug --help",
+    ] {
+        let (status, out, faults) = ran(&rt, &shelf, line, b"", ENDLESS)?;
+        assert_eq!(rt; status, 0);
+        assert!(rt; out.bytes.len() > 300 && faults.bytes.is_empty());
+    }
+    Ok(())
+}

@@ -1,0 +1,6 @@
+mod Fresh
+mod Giving
+mod Items
+mod Numerals
+mod Parts
+mod Printed

@@ -1,0 +1,70 @@
+-- Why there is no recording, and what that leaves.
+use Rattle.std.specs.Prelude.{◌≡◌, ℕ, List, length, ⊤, ◌⊎◌, Option, None, option_and_then, Ok, Err}
+use Rattle.ir_image.specs.Guest.{Guest}
+use Rattle.ir_image.specs.Reading.{guest_at}
+use Rattle.ir_image.specs.declared.image_err.ImageErr.{ImageErr}
+use Rattle.ir_image.specs.declared.image_err.ImageErr.TheVariants as image
+use Rattle.ir_trace.specs.Recorded.{Recorded}
+use Rattle.ir_trace.specs.Encoding.{encoding}
+use Rattle.ir_record_run.specs.Order.{order_of}
+use Rattle.ir_record_run.specs.Recording.{lines_of}
+use Rattle.ir_files.specs.Outputs.{OutputWriter, TookEach, FailedAtOne}
+use Rattle.ir_files.specs.Writers.{Writer, Took, Failed}
+use Rattle.ir_record_run.specs.declared.order.OrderErr.{OrderErr}
+use Rattle.ir_record_run.specs.declared.order.OrderErr.TheVariants as order_err
+use Rattle.ir_record_run.specs.declared.record_fault.RecordFault.{RecordFault}
+use Rattle.ir_record_run.specs.declared.record_fault.RecordFault.TheVariants.{Clock, Image, Order, NoMem, Trace, Output, Lines}
+
+-- the exit status of a fault
+abbrev pub fault_status : RecordFault → ℕ
+fault_status (Image e) = 3
+fault_status Order = 3
+fault_status NoMem = 1
+fault_status Clock = 1
+fault_status Trace = 1
+fault_status Output = 1
+fault_status Lines = 1
+
+-- the fault that a refusal of the image is
+abbrev pub of_image : ImageErr → RecordFault
+of_image image.Short = Image image.Short
+of_image image.Magic = Image image.Magic
+of_image image.Count = Image image.Count
+of_image image.Entry = Image image.Entry
+of_image image.Trailing = Image image.Trailing
+of_image image.NoMem = NoMem
+
+-- the fault that a refusal of the list is
+abbrev pub of_order : OrderErr → RecordFault
+of_order order_err.Bad = Order
+of_order order_err.NoMem = NoMem
+
+-- why nothing is recorded: the image's first fault, a list that spells no order, or without a list a clock that can't be
+-- read; that memory ran out says nothing of them
+abbrev pub Refuses : RecordFault → List ℕ → Option (List ℕ) → Type 0
+Refuses (Image e) image list = guest_at image ≡ Err e
+Refuses Order image list = (guest : Guest) × (guest_at image ≡ Ok guest) × (option_and_then (order_of (length guest.entries)) list ≡ None)
+Refuses Clock image list = list ≡ None
+Refuses NoMem image list = ⊤
+Refuses Trace image list = ⊥
+Refuses Output image list = ⊥
+Refuses Lines image list = ⊥
+
+-- which of the writers failed, of the trace, of the outputs and of the lines: the outputs come after the whole trace, and the
+-- lines after all outputs. The last two say that those of the outputs and of the lines are as before, and that of the lines
+abbrev pub WriteFails : RecordFault → List ℕ → List (List ℕ) → List ℕ → Writer → OutputWriter → Writer → Type 0 → Type 0 → Type 0
+WriteFails Trace bytes printed lines trace outputs out later last = Failed trace bytes × later
+WriteFails Output bytes printed lines trace outputs out later last = Took trace bytes × FailedAtOne outputs printed × last
+WriteFails Lines bytes printed lines trace outputs out later last = Took trace bytes × TookEach outputs printed × Failed out lines
+WriteFails Clock bytes printed lines trace outputs out later last = ⊥
+WriteFails (Image e) bytes printed lines trace outputs out later last = ⊥
+WriteFails Order bytes printed lines trace outputs out later last = ⊥
+WriteFails NoMem bytes printed lines trace outputs out later last = ⊥
+
+-- a fault: nothing was written (all writers are as before), or there is a recording, the trace and the outputs of one run, and
+-- a writer failed (those after it are as before)
+abbrev pub Stops : RecordFault → List ℕ → Option (List ℕ) → (Recorded → List (List ℕ) → Type 0) → Writer → OutputWriter → Writer
+    → Type 0 → Type 0 → Type 0 → Type 0
+Stops e image list IsIt trace outputs out all later last = (Refuses e image list × all)
+    ⊎ ((recorded : Recorded) × (printed : List (List ℕ)) × IsIt recorded printed
+    × WriteFails e (encoding recorded) printed (lines_of recorded) trace outputs out later last)

@@ -1,0 +1,5 @@
+pub mod Faults
+pub mod Numerals
+pub mod Order
+pub mod Recording
+pub mod Sources

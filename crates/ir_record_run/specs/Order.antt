@@ -1,0 +1,36 @@
+-- Lists that say which thread takes each next step.
+use Rattle.std.specs.Prelude.{ℕ, ◌-◌, ◌==◌, List, [], ◌∷◌, ◌++◌, replicate, Option, Some, None}
+use Rattle.std.specs.List.{slice_split}
+use Rattle.ir_record_run.specs.Numerals.{number_within}
+
+-- the most steps of an item
+abbrev pub most_turns : ℕ
+most_turns = 1000000
+
+-- so many steps of a thread, where both are numbers
+abbrev pub turns : Option ℕ → Option ℕ → Option (List ℕ)
+turns (Some thread) (Some count) = Some (replicate count thread)
+turns thread count = None
+
+-- an item by its parts: `T`, one step of thread T; or `TxN`, N steps of it
+abbrev pub item_by : ℕ → List (List ℕ) → Option (List ℕ)
+item_by threads (thread ∷ []) = turns (number_within 0 (threads - 1) thread) (Some 1)
+item_by threads (thread ∷ count ∷ []) = turns (number_within 0 (threads - 1) thread) (number_within 1 most_turns count)
+item_by threads parts = None
+
+-- what an item spells, its parts standing round the letter x
+abbrev pub item_of : ℕ → List ℕ → Option (List ℕ)
+item_of threads item = item_by threads (slice_split (λ b. b == 120) item)
+
+-- what the first item spells and then the others, if each spells something
+abbrev pub joined : Option (List ℕ) → Option (List ℕ) → Option (List ℕ)
+joined (Some first) (Some rest) = Some (first ++ rest)
+joined first rest = None
+
+abbrev pub items_of : ℕ → List (List ℕ) → Option (List ℕ)
+items_of threads [] = Some []
+items_of threads (item ∷ items) = joined (item_of threads item) (items_of threads items)
+
+-- the threads in the order that a list spells, which is items with commas between them; the guest has so many threads
+abbrev pub order_of : ℕ → List ℕ → Option (List ℕ)
+order_of threads list = items_of threads (slice_split (λ b. b == 44) list)

@@ -1,0 +1,67 @@
+-- What recording a guest writes.
+use Rattle.std.specs.Prelude.{◌≡◌, ◌<◌, ℕ, ◌+◌, ◌%◌, ◌^◌, List, [], ◌∷◌, ◌++◌, length, map, replicate, codes, decimal, Bool, Option, Some, None, Ok}
+use Rattle.std.specs.List.{range_with_len, slice_index_or}
+use Rattle.std.specs.Option.{is_some}
+use Rattle.ir_image.specs.Guest.{Guest}
+use Rattle.ir_image.specs.Reading.{guest_at}
+use Rattle.ir_thread.specs.Ends.{end_number, end_code}
+use Rattle.ir_trace.specs.Recorded.{RecordedThread, Recorded}
+use Rattle.ir_record.specs.Recording.{IsRecording, IsRecordingOfSome}
+use Rattle.ir_record.specs.Worlds.{Answered}
+use Rattle.ir_record_run.specs.Order.{order_of}
+use Rattle.ir_record_run.specs.Sources.{MadeWith, IsAnswered}
+
+-- the seed of the random words of thread t
+abbrev pub seed_of : ℕ → ℕ → ℕ
+seed_of random t = (random + t) % 2 ^ 64
+
+-- what the world of thread t is made with
+abbrev pub origin_of : Bool → ℕ → List ℕ → ℕ → MadeWith
+origin_of counted random file t = record { counted = counted; seed = seed_of random t; file = file }
+
+-- the same of so many threads
+abbrev pub origins : Bool → ℕ → List ℕ → ℕ → List MadeWith
+origins counted random file threads = map (origin_of counted random file) (range_with_len 0 threads)
+
+-- before the first step no world has answered
+abbrev pub unasked : Guest → List (List Answered)
+unasked guest = replicate (length guest.entries) []
+
+-- the trace, the outputs and the worlds' answers of one complete run of the guest: the one by the order that the list
+-- spells, or without a list some run
+abbrev pub IsRecordedBy : Option (List ℕ) → Guest → ℕ → Recorded → List (List ℕ) → List (List Answered) → Type 0
+IsRecordedBy (Some list) guest budget trace outputs answers = (order : List ℕ) × (order_of (length guest.entries) list ≡ Some order)
+    × IsRecording guest budget order (unasked guest) trace outputs answers
+IsRecordedBy None guest budget trace outputs answers = IsRecordingOfSome guest budget (unasked guest) trace outputs answers
+
+-- the trace and the outputs are of one such run of the image's guest, whose threads were answered by random words, the
+-- file's bytes and a count; without a list by a clock in the place of the count, of which nothing is said but that the
+-- answers are its own
+pub record IsRecordedOf (image : List ℕ) (list : Option (List ℕ)) (budget random : ℕ) (file : List ℕ) (trace : Recorded)
+    (outputs : List (List ℕ)) : Type 0 where
+  pub guest : Guest
+  pub is : guest_at image ≡ Ok guest
+  pub answers : List (List Answered)
+  pub recorded : IsRecordedBy list guest budget trace outputs answers
+  -- each thread was answered by its own sources
+  pub answered : (t : ℕ) → t < length guest.entries → IsAnswered (origin_of (is_some list) random file t) (slice_index_or answers t [])
+
+-- a thread's line: its number, the number and the code of its end, its steps, how many events it logged
+abbrev pub line_by : ℕ → ℕ → ℕ → ℕ → ℕ → List ℕ
+line_by t end code steps events =
+    codes "thread " ++ (decimal t ++ (codes " end " ++
+    (decimal end ++ (codes " code " ++ (decimal code ++
+    (codes " steps " ++ (decimal steps ++ (codes " events " ++ (decimal events ++ 10 ∷ [])))))))))
+
+-- the line of thread t
+abbrev pub thread_line : ℕ → RecordedThread → List ℕ
+thread_line t r = line_by t (end_number r.end) (end_code r.end) r.steps (length r.events)
+
+-- the lines of threads from number t on
+abbrev pub lines_from : ℕ → List RecordedThread → List ℕ
+lines_from t [] = []
+lines_from t (r ∷ rs) = thread_line t r ++ lines_from (t + 1) rs
+
+-- a line for each thread
+abbrev pub lines_of : Recorded → List ℕ
+lines_of trace = lines_from 0 trace.threads

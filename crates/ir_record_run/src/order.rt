@@ -1,0 +1,140 @@
+//! Lists that say which thread takes each next step.
+
+ghost use Rattle.std.specs.Prelude.{◌≡◌, ◌<◌, ◌-◌, ◌≤◌, [], ◌∷◌, length, MatchOption, IfOk, IfSome, Some, None, Err, option_map, replicate, ◌==◌};
+ghost use Rattle.std.specs.List.{slice_split};
+ghost use Rattle.ir_image.specs.Guest.{most_threads};
+ghost use Rattle.ir_record.specs.Turns.{order_of_turns};
+ghost use Rattle.ir_record_run.specs.Order.{item_of, order_of};
+ghost use Rattle.ir_record_run.specs.Numerals.{number_within};
+ghost use Rattle.ir_record_run.specs.declared.order.OrderErr.TheVariants.{Bad, NoMem};
+
+use crate::numeral::number_within;
+use ir_record::Turns;
+use std::alloc::{AllocError, AllocFailed, Global};
+
+/// The most steps of an item.
+const MOST_TURNS: u64 = 1_000_000;
+
+/// Why a list is no order.
+#[derive(Clone, Copy, Debug, PartialEq, Eq)]
+pub enum OrderErr {
+    /// It is malformed, or names a thread that there is not.
+    Bad,
+    /// Want of memory.
+    NoMem,
+}
+
+impl From<AllocError> for OrderErr {
+    ghost from_gives = { λ _ e. e ≡ NoMem };
+
+    fn from(_e: AllocError) -> OrderErr {
+        OrderErr::NoMem
+    }
+}
+
+impl<T: Drop> From<AllocFailed<T>> for OrderErr {
+    ghost from_gives = { λ _ e. e ≡ NoMem };
+
+    fn from(_e: AllocFailed<T>) -> OrderErr {
+        OrderErr::NoMem
+    }
+}
+
+// The part of a text before the first such character, and what follows it, if it stands there.
+fn first_part(text: &str, mark: char) -> (&str, Option<&str>)
+    requires { mark < 128 }
+    ensures parts { MatchOption result.1 (slice_split (λ b. b == mark) text.now ≡ result.0.now ∷ []) (λ rest. slice_split (λ b. b == mark) text.now ≡ result.0.now ∷ slice_split (λ b. b == mark) rest.now) }
+    ensures shorter { IfSome result.1 (λ rest. length rest.now < length text.now) }
+{
+    match text.split_once(mark) {
+        Some((part, rest)) => (part, Some(rest)),
+        None => (text, None),
+    }
+}
+
+// The thread of this number, where the guest has so many.
+fn thread_of(number: &str, threads: usize) -> Option<u8>
+    requires some { 1 ≤ threads }
+    requires few { threads ≤ most_threads }
+    ensures { result ≡ number_within 0 (threads - 1) number.now }
+{
+    match number_within(0, threads as u64 - 1, number) {
+        Some(thread) => Some(thread as u8),
+        None => None,
+    }
+}
+
+// The steps that an item spells.
+fn turns_of(item: &str, threads: usize) -> Option<Turns>
+    requires some { 1 ≤ threads }
+    requires few { threads ≤ most_threads }
+    ensures { option_map (λ t. replicate t.count t.thread) result ≡ item_of threads item.now }
+{
+    let (thread, count) = first_part(item, 'x');
+    let thread = thread_of(thread, threads)?;
+    match count {
+        Some(count) => {
+            let count = number_within(1, MOST_TURNS, count)?;
+            Some(Turns { thread, count })
+        }
+        None => Some(Turns { thread, count: 1 }),
+    }
+}
+
+// Whether a text is decimal digits.
+fn is_digits(text: &str) -> bool {
+    !text.is_empty() && text.bytes().all(|byte| byte.is_ascii_digit())
+}
+
+// Why an item spells no steps, in words, where it spells none.
+fn item_fault(item: &str, threads: usize) -> Option<&'static str>
+    requires some { 1 ≤ threads }
+    requires few { threads ≤ most_threads }
+    ensures bad { IfSome result (λ _. item_of threads item.now ≡ None) }
+{
+    if turns_of(item, threads).is_some() {
+        return None;
+    }
+    let (thread, count) = first_part(item, 'x');
+    if !is_digits(thread) || !is_digits(count.unwrap_or("1")) {
+        Some("is neither T nor TxN")
+    } else if thread_of(thread, threads).is_none() {
+        Some("names no thread of the image")
+    } else {
+        Some("has an N that is not from 1 to 1000000")
+    }
+}
+
+/// The first item of a list that spells no steps, and why, in words.
+pub fn bad_item(list: &str, threads: usize) -> Option<(&str, &'static str)>
+    requires some { 1 ≤ threads }
+    requires few { threads ≤ most_threads }
+{
+    for item in list.split(',') {
+        if let Some(why) = item_fault(item, threads) {
+            return Some((item, why));
+        }
+    }
+    None
+}
+
+/// The turns that a list spells, item by item; the guest has so many threads. It takes memory for each item.
+///
+/// # Errors
+/// `Bad` where the list spells none; want of memory.
+pub fn read_order(alloc: Global, list: &str, threads: usize) -> Result<Vec<Turns>, OrderErr>
+    requires some { 1 ≤ threads }
+    requires few { threads ≤ most_threads }
+    ensures spelled { IfOk result (λ order. order_of threads list.now ≡ Some (order_of_turns order.items)) }
+    ensures bad { result ≡ Err Bad → order_of threads list.now ≡ None }
+{
+    let mut order = Vec::new(alloc);
+    let mut rest = Some(list);
+    'items: while let Some(text) = rest {
+        let (item, others) = first_part(text, ',');
+        let turns = turns_of(item, threads).ok_or(OrderErr::Bad)?;
+        order.push(turns)?;
+        rest = others;
+    }
+    Ok(order)
+}

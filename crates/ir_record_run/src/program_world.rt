@@ -1,0 +1,105 @@
+//! The world of a thread that is recorded.
+
+ghost use Rattle.std.specs.Prelude.{◌≡◌, ◌≤◌, [], vec_len, vec_capacity, IfOk, false};
+ghost use Rattle.ir_thread.specs.Calls.{most_events};
+ghost use Rattle.ir_record_run.specs.Sources.{source, Gave, Gave-prop, MadeWith, made_with, is_counted, from_sources};
+
+use crate::sources::Sources;
+use crate::time::{Time, millis_since};
+use ir_record::{World, WorldErr};
+use ir_runs::EnvKind;
+use ir_thread::MOST_EVENTS;
+use std::alloc::{AllocError, Global};
+use std::time::Clock;
+
+/// The most answers: as many as a thread may log.
+pub const MOST_ANSWERS: usize = MOST_EVENTS as usize;
+
+/// Answers one thread.
+#[derive(Drop)]
+pub struct ProgramWorld<'a, C> {
+    clock: &'a C,
+    time: Time,
+    seed: u64,
+    file: &'a [u8],
+    sources: Sources<'a>,
+    answers: Vec<(EnvKind, u32)>,
+    failed: bool,
+    full: bool,
+    ghost room: { most_events ≤ vec_capacity answers },
+    ghost few: { sources.ticks ≤ vec_len answers },
+    ghost gave: { Gave (source seed file.now) (from_sources (is_counted time) answers.items) sources } by { Gave-prop (source seed file.now) (from_sources (is_counted time) answers.items) sources },
+}
+
+impl<'a, C> ProgramWorld<'a, C> {
+    /// A world whose time comes from where it is said, whose random words start from the seed, and whose input is the
+    /// file. The clock is read where the time is not counted.
+    ///
+    /// # Errors
+    /// Want of memory, which is made for all answers; no answer takes any.
+    pub fn new(
+        alloc: Global,
+        clock: &'a C,
+        time: Time,
+        seed: u64,
+        file: &'a [u8],
+    ) -> Result<ProgramWorld<'a, C>, AllocError>
+        ensures time { IfOk result (λ w. w.time ≡ time) }
+        ensures seed { IfOk result (λ w. w.seed ≡ seed) }
+        ensures file { IfOk result (λ w. w.file.now ≡ file.now) }
+        ensures fresh { IfOk result (λ w. w.answers.items ≡ []) }
+        ensures works { IfOk result (λ w. w.failed ≡ false) }
+    {
+        let answers = Vec::with_capacity(alloc, MOST_ANSWERS)?;
+        Ok(ProgramWorld {
+            clock,
+            time,
+            seed,
+            file,
+            sources: Sources::new(seed, file),
+            answers,
+            failed: false,
+            full: false,
+        })
+    }
+
+    /// Whether it failed since it has no room for more answers; else only its clock fails it.
+    pub fn is_full(&self) -> bool
+        ensures { result ≡ self.now.full }
+    {
+        self.full
+    }
+}
+
+impl<C: Clock> World for ProgramWorld<'_, C> {
+    ghost answers = { λ w. w.answers.items };
+
+    ghost Origin = { MadeWith };
+
+    ghost origin = { λ w. made_with w.time w.seed w.file.now };
+
+    ghost broken = { λ w. w.failed };
+
+    fn answer(&mut self, kind: EnvKind) -> Result<u32, WorldErr> {
+        if self.answers.len() >= MOST_ANSWERS {
+            self.failed = true;
+            self.full = true;
+            return Err(WorldErr);
+        }
+        if let (EnvKind::Clock, Time::Since(start)) = (kind, self.time) {
+            let Some(value) = millis_since(self.clock, start) else {
+                self.failed = true;
+                return Err(WorldErr);
+            };
+            self.answers.push_reserved((kind, value));
+            return Ok(value);
+        }
+        let value = self.sources.answer(kind);
+        self.answers.push_reserved((kind, value));
+        Ok(value)
+    }
+
+    fn failed(&self) -> bool {
+        self.failed
+    }
+}

@@ -1,0 +1,105 @@
+//! Why there is no recording.
+
+ghost use Rattle.std.specs.Prelude.{◌≡◌, ◌≤◌, length};
+
+use crate::order::OrderErr;
+use ir_image::ImageErr;
+use std::alloc::AllocError;
+
+/// Why a guest was not recorded, or its recording not written.
+#[derive(Debug, Drop)]
+pub enum RecordFault {
+    /// The image is refused.
+    Image(ImageErr),
+    /// The list spells no order of the guest's threads.
+    Order,
+    /// Want of memory.
+    NoMem,
+    /// The clock can't be read.
+    Clock,
+    /// The trace can't be written.
+    Trace,
+    /// What a thread printed can't be written.
+    Output,
+    /// The lines can't be written.
+    Lines,
+}
+
+impl RecordFault {
+    ghost use Rattle.ir_record_run.specs.Faults.{fault_status};
+
+    /// The exit status.
+    pub fn status(&self) -> u8
+        ensures { result ≡ fault_status self.now }
+    {
+        match self {
+            RecordFault::Image(_) | RecordFault::Order => 3,
+            RecordFault::NoMem | RecordFault::Clock => 1,
+            RecordFault::Trace | RecordFault::Output | RecordFault::Lines => 1,
+        }
+    }
+
+    /// The fault in words.
+    pub fn words(&self) -> &'static str
+        ensures { length result.now ≤ 100 }
+    {
+        match self {
+            RecordFault::Image(why) => image_words(why),
+            RecordFault::Order => "LIST is no order of this image's threads",
+            RecordFault::NoMem => "memory ran out",
+            RecordFault::Clock => "the clock can't be read",
+            RecordFault::Trace => "the trace can't be written",
+            RecordFault::Output => "an output can't be written",
+            RecordFault::Lines => "standard output can't be written",
+        }
+    }
+}
+
+fn image_words(why: &ImageErr) -> &'static str
+    ensures { length result.now ≤ 100 }
+{
+    match why {
+        ImageErr::Short => "the image is refused, 1: a field passes the end",
+        ImageErr::Magic => "the image is refused, 2: these bytes are no image",
+        ImageErr::Count => "the image is refused, 3: a count is over its limit, or no thread",
+        ImageErr::Entry => "the image is refused, 4: an entry is no place in the code",
+        ImageErr::Trailing => "the image is refused, 5: bytes stand after the end",
+        ImageErr::NoMem => "memory ran out",
+    }
+}
+
+impl From<ImageErr> for RecordFault {
+    ghost use Rattle.ir_record_run.specs.Faults.{of_image};
+
+    ghost from_gives = { λ e f. f ≡ of_image e };
+
+    fn from(e: ImageErr) -> RecordFault {
+        match e {
+            ImageErr::NoMem => RecordFault::NoMem,
+            why => RecordFault::Image(why),
+        }
+    }
+}
+
+impl From<OrderErr> for RecordFault {
+    ghost use Rattle.ir_record_run.specs.Faults.{of_order};
+
+    ghost from_gives = { λ e f. f ≡ of_order e };
+
+    fn from(e: OrderErr) -> RecordFault {
+        match e {
+            OrderErr::Bad => RecordFault::Order,
+            OrderErr::NoMem => RecordFault::NoMem,
+        }
+    }
+}
+
+impl From<AllocError> for RecordFault {
+    ghost use Rattle.ir_record_run.specs.declared.record_fault.RecordFault.TheVariants.{NoMem};
+
+    ghost from_gives = { λ _ e. e ≡ NoMem };
+
+    fn from(_e: AllocError) -> RecordFault {
+        RecordFault::NoMem
+    }
+}

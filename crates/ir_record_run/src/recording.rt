@@ -1,0 +1,369 @@
+//! An image in, the trace of a run of its guest, what each thread printed and a line for each thread out.
+
+ghost use Rattle.std.specs.Prelude.{◌≡◌, ◌≢◌, ◌<◌, ◌≤◌, ◌+◌, ℕ, List, Some, None, Ok, Err, true, false, IfOk, IfErr, OnOk, OnErr, ◌⊎◌, [], length, map, replicate, option_map};
+ghost use Rattle.std.specs.String.{string_bytes};
+ghost use Rattle.std.specs.Io.KnownBytes.{Appends};
+ghost use Rattle.ir_thread.specs.Calls.{most_budget};
+ghost use Rattle.ir_trace.specs.Recorded.{Recorded};
+ghost use Rattle.ir_trace.specs.Encoding.{encoding};
+ghost use Rattle.ir_record.specs.Recording.{printed_by};
+ghost use Rattle.ir_record.specs.Worlds.{NoneFailed};
+ghost use Rattle.ir_record_run.specs.Recording.{origins, IsRecordedOf, line_by, thread_line, lines_of};
+ghost use Rattle.ir_record_run.specs.Sources.{made_with, is_counted};
+ghost use Rattle.ir_files.specs.Outputs.{output_writer_of, TookEach, FailedAtOne};
+ghost use Rattle.ir_files.specs.Writers.{writer_of};
+ghost use Rattle.ir_record_run.specs.Faults.{fault_status, Refuses, WriteFails, Stops};
+ghost use Rattle.ir_record_run.specs.declared.record_fault.RecordFault.{RecordFault};
+ghost use Rattle.ir_record_run.specs.declared.record_fault.RecordFault.TheVariants.{NoMem, Clock};
+
+use crate::order::{bad_item, read_order};
+use crate::program_world::ProgramWorld;
+use crate::record_fault::RecordFault;
+use crate::time::Time;
+use ir_files::{OutputSink, WholeSink, tell, tell_of};
+use ir_image::read_image;
+use ir_object::Gate;
+use ir_record::{Outputs, RecordErr, record, record_in_turns};
+use ir_stream::{DeviceErr, Sink, write_all};
+use ir_trace::{ThreadTrace, Trace, write_trace};
+use std::alloc::{AllocError, Global};
+use std::sync::Wait;
+use std::thread::Threads;
+use std::time::{Clock, Instant};
+
+const DONE: u8 = 0;
+
+// The worlds of so many threads. Each has its own random words and its own copy of the file.
+fn worlds<'a, C>(
+    alloc: Global,
+    clock: &'a C,
+    time: Time,
+    threads: usize,
+    random: u64,
+    file: &'a [u8],
+) -> Result<Vec<ProgramWorld<'a, C>>, AllocError>
+    ensures origins { IfOk result (λ worlds. map (λ w. made_with w.time w.seed w.file.now) worlds.items ≡ origins (is_counted time) random file.now threads) }
+    ensures fresh { IfOk result (λ worlds. map (λ w. w.answers.items) worlds.items ≡ replicate threads []) }
+    ensures works { IfOk result (λ worlds. NoneFailed (map (λ w. w.failed) worlds.items)) }
+{
+    let mut worlds = Vec::with_capacity(alloc, threads)?;
+    for thread in 0..threads {
+        let seed = random.wrapping_add(thread as u64);
+        worlds.push(ProgramWorld::new(alloc, clock, time, seed, file)?)?;
+    }
+    Ok(worlds)
+}
+
+// What stops a recording by threads: memory, or the clock of a thread that asks for the time.
+fn stopped_by<C: Clock>(why: RecordErr<ProgramWorld<C>>) -> RecordFault
+    ensures { (result ≡ NoMem) ⊎ (result ≡ Clock) }
+{
+    let RecordErr::World { thread, worlds } = why else {
+        return RecordFault::NoMem;
+    };
+    match worlds.get(thread as usize) {
+        Some(world) if world.is_full() => RecordFault::NoMem,
+        _ => RecordFault::Clock,
+    }
+}
+
+// What each thread printed, without their worlds.
+fn printed<W: Drop>(alloc: Global, outputs: Outputs<W>) -> Result<Vec<Vec<u8>>, AllocError>
+    ensures { IfOk result (λ v. map (λ b. b.items) v.items ≡ printed_by outputs) }
+{
+    let mut printed = Vec::with_capacity(alloc, outputs.each.len())?;
+    for output in outputs.each {
+        printed.push(output.bytes)?;
+    }
+    Ok(printed)
+}
+
+// The recording of the image's guest by the order that the list spells, on one thread: the trace, and what each thread
+// printed.
+fn recorded_in_order<C: Clock>(
+    clock: &C,
+    alloc: Global,
+    image: &[u8],
+    list: &str,
+    budget: u64,
+    random: u64,
+    file: &[u8],
+) -> Result<(Trace, Vec<Vec<u8>>), RecordFault>
+    requires { budget ≤ most_budget }
+    ensures recorded { IfOk result (λ r. IsRecordedOf image.now (Some list.now) budget random file.now r.0 (map (λ b. b.items) r.1.items)) }
+    ensures refused { IfErr result (λ e. Refuses e image.now (Some list.now)) }
+{
+    let image = read_image(alloc, image)?;
+    let threads = image.entries().len();
+    let order = read_order(alloc, list, threads)?;
+    let worlds = worlds(alloc, clock, Time::Counted, threads, random, file)?;
+    match record_in_turns(alloc, &image, order.as_slice(), worlds, budget) {
+        Ok((trace, outputs)) => Ok((trace, printed(alloc, outputs)?)),
+        // A world that counts its time fails only where it has no room for more answers.
+        Err(_) => Err(RecordFault::NoMem),
+    }
+}
+
+// The same of a recording of the image's guest by threads.
+fn recorded_by_threads<R: Threads + Wait + Sync + Clock, G: Gate + Sync>(
+    rt: &R,
+    alloc: Global,
+    gate: &G,
+    image: &[u8],
+    budget: u64,
+    random: u64,
+    file: &[u8],
+) -> Result<(Trace, Vec<Vec<u8>>), RecordFault>
+    requires { budget ≤ most_budget }
+    ensures recorded { IfOk result (λ r. IsRecordedOf image.now None budget random file.now r.0 (map (λ b. b.items) r.1.items)) }
+    ensures refused { IfErr result (λ e. Refuses e image.now None) }
+{
+    let image = read_image(alloc, image)?;
+    let threads = image.entries().len();
+    let Ok(start) = Instant::now(rt) else {
+        return Err(RecordFault::Clock);
+    };
+    let worlds = worlds(alloc, rt, Time::Since(start), threads, random, file)?;
+    match record(rt, alloc, &image, worlds, gate, budget) {
+        Ok((trace, outputs)) => Ok((trace, printed(alloc, outputs)?)),
+        Err(why) => Err(stopped_by(why)),
+    }
+}
+
+// The same of the image's guest by the order that the list spells, or by threads.
+fn recorded<R: Threads + Wait + Sync + Clock, G: Gate + Sync>(
+    rt: &R,
+    alloc: Global,
+    gate: &G,
+    image: &[u8],
+    order: Option<&str>,
+    budget: u64,
+    random: u64,
+    file: &[u8],
+) -> Result<(Trace, Vec<Vec<u8>>), RecordFault>
+    requires { budget ≤ most_budget }
+    ensures recorded { IfOk result (λ r. IsRecordedOf image.now (option_map (λ s. s.now) order.entry) budget random file.now r.0 (map (λ b. b.items) r.1.items)) }
+    ensures refused { IfErr result (λ e. Refuses e image.now (option_map (λ s. s.now) order.entry)) }
+{
+    match order {
+        Some(list) => recorded_in_order(rt, alloc, image, list, budget, random, file),
+        None => recorded_by_threads(rt, alloc, gate, image, budget, random, file),
+    }
+}
+
+fn line_by(
+    alloc: Global,
+    number: usize,
+    end: u8,
+    code: u32,
+    steps: u64,
+    events: usize,
+) -> Result<String, AllocError>
+    ensures { IfOk result (λ s. string_bytes s ≡ line_by number end code steps events) }
+{
+    format!(in alloc; "thread {number} end {end} code {code} steps {steps} events {events}\n")
+}
+
+/// The line of a thread.
+pub fn thread_line(alloc: Global, number: usize, thread: &ThreadTrace) -> Result<String, AllocError>
+    ensures { IfOk result (λ s. string_bytes s ≡ thread_line number thread.now) }
+{
+    let end = thread.end();
+    let events = thread.log().events().len();
+    line_by(
+        alloc,
+        number,
+        end.number(),
+        end.code(),
+        thread.steps(),
+        events,
+    )
+}
+
+// A line for each thread.
+fn lines(alloc: Global, trace: &Trace) -> Result<String, AllocError>
+    ensures { IfOk result (λ s. string_bytes s ≡ lines_of trace.now) }
+{
+    let mut lines = String::new(alloc);
+    for (number, thread) in trace.threads().iter().enumerate() {
+        let line = thread_line(alloc, number, thread)?;
+        lines.push_str(line.as_str())?;
+    }
+    Ok(lines)
+}
+
+// Puts what each thread printed, in the order of their numbers.
+fn put_each<P: OutputSink>(outputs: &mut P, printed: &[Vec<u8>]) -> Result<(), DeviceErr>
+    ensures ok { OnOk result (TookEach (output_writer_of (P.taken outputs.old) (P.taken outputs.new) (P.broken outputs.new)) (map (λ b. b.items) printed.now)) }
+    ensures failed { OnErr result (FailedAtOne (output_writer_of (P.taken outputs.old) (P.taken outputs.new) (P.broken outputs.new)) (map (λ b. b.items) printed.now)) }
+{
+    for (thread, bytes) in printed.iter().enumerate() {
+        outputs.put(thread, bytes.as_slice())?;
+    }
+    Ok(())
+}
+
+// Writes the trace, which then stands in its place, then what each thread printed, and then the lines.
+fn written<W: WholeSink, P: OutputSink, O: Sink>(
+    trace: &mut W,
+    outputs: &mut P,
+    out: &mut O,
+    bytes: &[u8],
+    printed: &[Vec<u8>],
+    lines: &[u8],
+) -> Result<(), RecordFault>
+    ensures trace { OnOk result (Appends (W.written trace.old) (W.written trace.new) bytes.now) }
+    ensures whole { OnOk result (W.whole trace.new ≡ true) }
+    ensures outputs { OnOk result (TookEach (output_writer_of (P.taken outputs.old) (P.taken outputs.new) (P.broken outputs.new)) (map (λ b. b.items) printed.now)) }
+    ensures lines { OnOk result (Appends (O.written out.old) (O.written out.new) lines.now) }
+    ensures failed { IfErr result (λ e. WriteFails e bytes.now (map (λ b. b.items) printed.now) lines.now
+        (writer_of (W.written trace.old) (W.written trace.new) (W.broken trace.new))
+        (output_writer_of (P.taken outputs.old) (P.taken outputs.new) (P.broken outputs.new))
+        (writer_of (O.written out.old) (O.written out.new) (O.broken out.new))
+        ((outputs.new ≡ outputs.old) × (out.new ≡ out.old)) (out.new ≡ out.old)) }
+{
+    if write_all(trace, bytes).is_err() || trace.finish().is_err() {
+        return Err(RecordFault::Trace);
+    }
+    if put_each(outputs, printed).is_err() {
+        return Err(RecordFault::Output);
+    }
+    if write_all(out, lines).is_err() {
+        return Err(RecordFault::Lines);
+    }
+    Ok(())
+}
+
+// Records, and writes what was recorded.
+fn run<R: Threads + Wait + Sync + Clock, G: Gate + Sync, W: WholeSink, P: OutputSink, O: Sink>(
+    rt: &R,
+    alloc: Global,
+    gate: &G,
+    image: &[u8],
+    order: Option<&str>,
+    budget: u64,
+    random: u64,
+    input: &[u8],
+    trace: &mut W,
+    outputs: &mut P,
+    out: &mut O,
+) -> Result<(), RecordFault>
+    requires { budget ≤ most_budget }
+    ensures done { OnOk result ((recorded : Recorded) × (printed : List (List ℕ)) × IsRecordedOf image.now (option_map (λ s. s.now) order.entry) budget random input.now recorded printed
+        × Appends (W.written trace.old) (W.written trace.new) (encoding recorded)
+        × TookEach (output_writer_of (P.taken outputs.old) (P.taken outputs.new) (P.broken outputs.new)) printed
+        × Appends (O.written out.old) (O.written out.new) (lines_of recorded)) }
+    ensures whole { OnOk result (W.whole trace.new ≡ true) }
+    ensures stopped { IfErr result (λ e. Stops e image.now (option_map (λ s. s.now) order.entry) (IsRecordedOf image.now (option_map (λ s. s.now) order.entry) budget random input.now)
+        (writer_of (W.written trace.old) (W.written trace.new) (W.broken trace.new))
+        (output_writer_of (P.taken outputs.old) (P.taken outputs.new) (P.broken outputs.new))
+        (writer_of (O.written out.old) (O.written out.new) (O.broken out.new))
+        ((trace.new ≡ trace.old) × (outputs.new ≡ outputs.old) × (out.new ≡ out.old)) ((outputs.new ≡ outputs.old) × (out.new ≡ out.old)) (out.new ≡ out.old)) }
+{
+    let (recorded, printed) = recorded(rt, alloc, gate, image, order, budget, random, input)?;
+    let bytes = write_trace(alloc, &recorded)?;
+    let lines = lines(alloc, &recorded)?;
+    written(
+        trace,
+        outputs,
+        out,
+        bytes.as_slice(),
+        printed.as_slice(),
+        lines.as_bytes(),
+    )
+}
+
+// Tells that a list spells no order of an image's threads: which item doesn't, and why.
+fn tell_order<E: Sink>(alloc: Global, faults: &mut E, image: &[u8], list: &str)
+    requires { E.broken faults.old ≡ false }
+{
+    if let Ok(image) = read_image(alloc, image) {
+        if let Some((item, why)) = bad_item(list, image.entries().len()) {
+            tell_of(faults, "LIST: the item '", item, "' ", why);
+            return;
+        }
+    }
+    tell(faults, RecordFault::Order.words());
+}
+
+// Tells why nothing was recorded, or not all of it written.
+fn tell_fault<W: WholeSink, P: OutputSink, E: Sink>(
+    alloc: Global,
+    faults: &mut E,
+    why: &RecordFault,
+    image: &[u8],
+    order: Option<&str>,
+    trace: &W,
+    outputs: &P,
+)
+    requires { E.broken faults.old ≡ false }
+{
+    const UNWRITTEN: &str = " can't be written: ";
+    match (why, order) {
+        (RecordFault::Order, Some(list)) => tell_order(alloc, faults, image, list),
+        (RecordFault::Trace, _) => tell_of(faults, "", trace.name(), UNWRITTEN, trace.why()),
+        (RecordFault::Output, _) => tell_of(faults, "", outputs.name(), UNWRITTEN, outputs.why()),
+        _ => tell(faults, why.words()),
+    }
+}
+
+/// Records the guest of an image in the order that a list spells, on one thread; without a list on real threads. Writes
+/// the trace, then what each thread printed, an output each, and then a line `thread T end E code C steps S events N` for
+/// each thread. The budget is in steps, for each thread. RANDOM gives the words of PCG32, started for thread T by the
+/// number `random` plus T, modulo 2^64; CLOCK counts its own calls from 0, in each thread, and without a list gives the
+/// milliseconds since the start, modulo 2^32; each thread's INPUT gives all bytes of the input. Without a list it may wait
+/// for threads, and that it ends isn't promised; the gate is told of what they do.
+/// The answer is the exit status: 0 where all were written and the trace stands in its place, 3 where the image is
+/// refused or the list spells no order of its threads, and 1 where memory ran out, the clock can't be read or a writer
+/// failed; then what was written before stays. A fault is told in one line.
+pub fn record_run<
+    R: Threads + Wait + Sync + Clock,
+    G: Gate + Sync,
+    W: WholeSink,
+    P: OutputSink,
+    O: Sink,
+    E: Sink,
+>(
+    rt: &R,
+    alloc: Global,
+    gate: &G,
+    image: &[u8],
+    order: Option<&str>,
+    budget: u64,
+    random: u64,
+    input: &[u8],
+    trace: &mut W,
+    outputs: &mut P,
+    out: &mut O,
+    faults: &mut E,
+) -> u8
+    requires budget { budget ≤ most_budget }
+    requires writes { W.broken trace.old ≡ false }
+    requires puts { P.broken outputs.old ≡ false }
+    requires prints { O.broken out.old ≡ false }
+    requires reports { E.broken faults.old ≡ false }
+    // Of the run by the order, or of some complete run, the trace was written, what each of its threads printed as that
+    // thread's output, and its lines, and no fault told.
+    ensures done { result ≡ 0 → (recorded : Recorded) × (printed : List (List ℕ)) × IsRecordedOf image.now (option_map (λ s. s.now) order.entry) budget random input.now recorded printed
+        × Appends (W.written trace.old) (W.written trace.new) (encoding recorded)
+        × TookEach (output_writer_of (P.taken outputs.old) (P.taken outputs.new) (P.broken outputs.new)) printed
+        × Appends (O.written out.old) (O.written out.new) (lines_of recorded) }
+    ensures whole { result ≡ 0 → W.whole trace.new ≡ true }
+    ensures quiet { result ≡ 0 → faults.new ≡ faults.old }
+    // Else what stopped it, and what that left.
+    ensures stopped { result ≢ 0 → (e : RecordFault) × (result ≡ fault_status e) × Stops e image.now (option_map (λ s. s.now) order.entry) (IsRecordedOf image.now (option_map (λ s. s.now) order.entry) budget random input.now)
+        (writer_of (W.written trace.old) (W.written trace.new) (W.broken trace.new))
+        (output_writer_of (P.taken outputs.old) (P.taken outputs.new) (P.broken outputs.new))
+        (writer_of (O.written out.old) (O.written out.new) (O.broken out.new))
+        ((trace.new ≡ trace.old) × (outputs.new ≡ outputs.old) × (out.new ≡ out.old)) ((outputs.new ≡ outputs.old) × (out.new ≡ out.old)) (out.new ≡ out.old) }
+{
+    match run(
+        rt, alloc, gate, image, order, budget, random, input, trace, outputs, out,
+    ) {
+        Ok(()) => DONE,
+        Err(why) => {
+            tell_fault(alloc, faults, &why, image, order, trace, outputs);
+            why.status()
+        }
+    }
+}

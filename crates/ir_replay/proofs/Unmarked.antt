@@ -1,0 +1,47 @@
+-- A thread that goes on by itself at no marked word.
+use Rattle.std.proofs.Common.{◌≡◌, ℕ, ◌-◌, ◌<◌, ◌≤◌, List, length, sym, subst, arith, inl, inr}
+use Rattle.std.proofs.lemmas.Bool.{cases_lt}
+use Rattle.ir_mach.specs.Marks.{Marked}
+use Rattle.ir_thread.specs.Private.{UnmarkedSteps, StopsUnmarked}
+use Rattle.ir_flat.specs.Alone.{WentAlone}
+use Rattle.ir_flat.specs.Flat.{Flat, thread_of}
+use Rattle.ir_fit.specs.Fit.{FittedTrace, HasRun}
+use Rattle.ir_cut.specs.Positions.{cut_of, IsConsistentCut}
+use Rattle.ir_weave.specs.Standing.{Standing, StandsAt, flat_in}
+use Rattle.ir_weave.specs.States.{positions}
+use Rattle.ir_weave.specs.Stepping.{IsUnder, HasGone}
+use Rattle.ir_weave.proofs.CallerLemmas.{alone_under, alone_own}
+use Rattle.ir_replay.specs.Alone.{RestsUnmarked}
+use Rattle.ir_replay.proofs.Going.{by_private}
+use Rattle.ir_replay.proofs.Reached.{target_at, under_at, alone_gone}
+
+-- a thread that takes no more steps than are left to it isn't past its target
+pub still_under : (f : FittedTrace) (target aim : List ℕ) (state : Standing) (s new : Flat) (t n : ℕ) → s ≡ flat_in f state → aim ≡ target
+    → HasRun f → (length target ≡ length f.guest.entries) × IsConsistentCut f target
+    → StandsAt f (positions (flat_in f state)) state → ((u : ℕ) → positions (flat_in f state) u ≤ cut_of target u)
+    → n ≤ cut_of aim t - positions s t → WentAlone s new t n → IsUnder f aim new
+still_under f target aim state s new t n is same run consistent stands below few w =
+    alone_under f aim s new t n (target_at f target aim same run consistent) (under_at f target aim state s is same stands below) few w
+
+pub unmarked_gone : (f : FittedTrace) (old state : Standing) (s new : Flat) (t n : ℕ) → s ≡ flat_in f old → WentAlone s new t n
+    → state ≡ record { threads = new.threads; objects = new.objects } → HasGone (flat_in f old) (flat_in f state) t n
+unmarked_gone f old state s new t n was w is = alone_gone f old state s new t n was (by_private s new t n w) is
+
+pub unmarked_went : (f : FittedTrace) (old state : Standing) (s new : Flat) (code : Marked) (t n : ℕ) → s ≡ flat_in f old
+    → UnmarkedSteps code n (thread_of s t) (thread_of new t) → state ≡ record { threads = new.threads; objects = new.objects }
+    → UnmarkedSteps code n (thread_of (flat_in f old) t) (thread_of (flat_in f state) t)
+unmarked_went f old state s new code t n was u is =
+    subst (λ (z : Flat × Standing). UnmarkedSteps code n (thread_of z.0 t) (thread_of (flat_in f z.1) t)) (λ i. (was i, sym is i)) u
+
+-- one that took fewer than so many stopped at its target, or before what it doesn't take
+pub unmarked_rests : (f : FittedTrace) (target aim : List ℕ) (state : Standing) (s new : Flat) (code : Marked) (t n limit most : ℕ)
+    → aim ≡ target → WentAlone s new t n → (n < cut_of aim t - positions s t → n < most → n < limit) → (n < limit → StopsUnmarked code (thread_of new t))
+    → state ≡ record { threads = new.threads; objects = new.objects } → n < most → RestsUnmarked target code (flat_in f state) t
+unmarked_rests f target aim state s new code t n limit most same w least stops is less =
+    subst (λ (z : List ℕ × Standing). RestsUnmarked z.0 code (flat_in f z.1) t) (λ i. (same i, sym is i)) rests
+  where
+    rests : RestsUnmarked aim code new t
+    rests = elim (cases_lt (positions new t) (cut_of aim t)) [
+      | inr past ↦ inl past
+      | inl below ↦ inr (stops (least (let own = alone_own s new t n w in omega (arith, own, below)) less))
+    ]

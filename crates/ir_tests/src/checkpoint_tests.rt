@@ -1,0 +1,125 @@
+//! A guest of two threads that is brought back and forth, and what is kept of it.
+
+ghost use Rattle.ir_checkpoint.specs.Checkpoints.{AreCheckpoints, Stands};
+
+use crate::guests::COUNTDOWN;
+use crate::replays::{fitted, is_cut};
+use crate::traces::{Ran, TraceRow};
+use ir_checkpoint::Checkpoints;
+use ir_cut::Cut;
+use ir_fit::Fitted;
+use ir_object::OpenGate;
+use ir_replay::State;
+use std::alloc::Global;
+use std::test::Fail;
+use std::thread::Threads;
+use std::time::Clock;
+
+const LAST: u64 = (1 << 19) + 4;
+
+// Of `COUNTDOWN`.
+const COUNTED_DOWN: TraceRow = TraceRow {
+    objects: 1,
+    budget: 1_000_000,
+    threads: &[Ran(LAST, 1, 0, &[]), Ran(LAST, 1, 0, &[])],
+};
+
+type Pair = (u64, u64);
+
+// Where both threads stand.
+fn positions(state: &State) -> Option<Pair> {
+    match state.threads() {
+        [first, second] => Some((first.steps(), second.steps())),
+        _ => None,
+    }
+}
+
+// Where both threads stand that are brought to these positions.
+fn brought<R: Threads + Clock + Sync>(
+    rt: &R,
+    alloc: Global,
+    fitted: &Fitted,
+    checkpoints: &mut Checkpoints,
+    state: &mut State,
+    at: Pair,
+) -> Result<Option<Pair>, Fail>
+    requires checkpoints { AreCheckpoints fitted.now checkpoints.old }
+    requires stands { Stands fitted.now state.old }
+    ensures checkpoints { AreCheckpoints fitted.now checkpoints.new }
+    ensures stands { Stands fitted.now state.new }
+{
+    let target = Cut::new(Vec::from_slice(alloc, &[at.0, at.1])?);
+    if !is_cut(fitted, &target) {
+        return Ok(None);
+    }
+    checkpoints.bring(rt, alloc, fitted, state, &target, &OpenGate)?;
+    Ok(positions(state))
+}
+
+// What is seen after a move: where both threads stand, and how many states moves have passed so far.
+type Seen = (Option<Pair>, u32);
+
+// What is seen after moves to the end, a step before it, and far back.
+fn walk<R: Threads + Clock + Sync>(rt: &R, alloc: Global) -> Result<[Seen; 3], Fail> {
+    let fitted = fitted(alloc, COUNTDOWN, COUNTED_DOWN)?;
+    let mut checkpoints = Checkpoints::new(alloc, &fitted)?;
+    let mut state = State::start(alloc, &fitted)?;
+    let end = brought(
+        rt,
+        alloc,
+        &fitted,
+        &mut checkpoints,
+        &mut state,
+        (LAST, LAST),
+    )?;
+    let at_end = (end, checkpoints.passed().last());
+    let before = brought(
+        rt,
+        alloc,
+        &fitted,
+        &mut checkpoints,
+        &mut state,
+        (LAST - 1, LAST),
+    )?;
+    let before_end = (before, checkpoints.passed().last());
+    let back = brought(rt, alloc, &fitted, &mut checkpoints, &mut state, (3, LAST))?;
+    Ok([at_end, before_end, (back, checkpoints.passed().last())])
+}
+
+#[test]
+fn threads_are_brought_back_and_forth(rt: HostRuntime) -> Result<(), Fail> {
+    let [at_end, before_end, far_back] = walk(&rt, rt.alloc())?;
+    // At a half, three quarters and so on, as long as more than 2^16 steps are left.
+    assert_eq!(rt; at_end, (Some((LAST, LAST)), 5));
+    assert_eq!(rt; before_end, (Some((LAST - 1, LAST)), 5));
+    assert_eq!(rt; far_back.0, Some((3, LAST)));
+    Ok(())
+}
+
+// Whether a state is kept as this number.
+fn is_kept(checkpoints: &Checkpoints, number: u32) -> bool {
+    checkpoints.asked().cut(number).is_some()
+}
+
+// Which of three states are kept when the second is dropped, the start too, and one that there isn't.
+fn kept_and_dropped(alloc: Global) -> Result<[bool; 3], Fail> {
+    let fitted = fitted(alloc, COUNTDOWN, COUNTED_DOWN)?;
+    let mut checkpoints = Checkpoints::new(alloc, &fitted)?;
+    let state = State::start(alloc, &fitted)?;
+    checkpoints.keep(&fitted, &state)?;
+    checkpoints.keep(&fitted, &state)?;
+    checkpoints.drop_kept(&fitted, 0);
+    checkpoints.drop_kept(&fitted, 1);
+    checkpoints.drop_kept(&fitted, 3);
+    Ok([
+        is_kept(&checkpoints, 0),
+        is_kept(&checkpoints, 1),
+        is_kept(&checkpoints, 2),
+    ])
+}
+
+#[test]
+fn states_are_kept_until_they_are_dropped(rt: HostRuntime) -> Result<(), Fail> {
+    assert_eq!(rt; kept_and_dropped(rt.alloc())?, [true, false, true]);
+    Ok(())
+}

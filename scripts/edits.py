@@ -1,0 +1,133 @@
+#!/usr/bin/env python3
+"""Tries the edits of crates/X/must-fail and crates/X/edits many at once: the prover has to refuse each at the function that it changes.
+
+python3 scripts/edits.py [CRATE ...]
+
+Wants the crates proved (scripts/prove.py). Works on a copy in the folder .edits: edits of different functions of a crate are
+checked together, and each counts as refused where its own function is, for another reason than a call of one that is not proved. What
+isn't refused so is tried alone, where any function may be. A line an edit; fails where one is proved, or doesn't apply.
+"""
+import re
+import shutil
+import subprocess
+import sys
+from pathlib import Path
+
+TOP = Path(__file__).resolve().parent.parent
+COPY = TOP / ".edits"
+FUNCTION = re.compile(r"^ *(?:pub(?:\([a-z]+\))? )?(?:const )?fn (\w+)", re.MULTILINE)
+FAILED = re.compile(r"^fn (\S+): (?:no proof|not proved)(.*)$", re.MULTILINE)
+CALLS = re.compile(r"^:? ?(?:it calls `[^`]*`(?:, `[^`]*`| and `[^`]*`)*, which (?:is|are) not proved)?$")
+
+
+class BadEdit(Exception):
+    """An edit that doesn't apply."""
+
+
+def pairs_of(edit):
+    """The file that an edit changes, and its old and new texts."""
+    path, old, pairs = "", "", []
+    for line in edit.read_text(encoding="utf-8").split("\n"):
+        if line.startswith("file: "):
+            path = line[len("file: "):].strip()
+        elif line.startswith("old: "):
+            old = line[len("old: "):]
+        elif line.startswith("new:"):
+            pairs.append((old, line[len("new:"):].removeprefix(" ")))
+    return path, pairs
+
+
+def applied(text, pairs):
+    """The text with each old one exchanged."""
+    for old, new in pairs:
+        if text.count(old) != 1:
+            raise BadEdit(f"{old!r} stands {text.count(old)} times")
+        text = text.replace(old, new)
+    return text
+
+
+def place_of(crate, edit):
+    """The module and the function that an edit changes; no function where it changes a constant."""
+    path, pairs = pairs_of(edit)
+    text = (crate / path).read_text(encoding="utf-8")
+    applied(text, pairs)
+    before = FUNCTION.findall(text[:text.index(pairs[0][0])])
+    module = path.removeprefix("src/").removesuffix(".rt").replace("/", "::")
+    return f"{crate.name}::{module}::", before[-1] if before else None
+
+
+def batches(crate, edits):
+    """The edits in as few lists as have no function twice; the name of each function beside it."""
+    lists = []
+    for edit in edits:
+        place = place_of(crate, edit)
+        for batch in lists:
+            if place[1] and place not in [other for _, other in batch]:
+                batch.append((edit, place))
+                break
+        else:
+            lists.append([(edit, place)])
+    return lists
+
+
+def refused(crate, edits):
+    """Checks a copy of the crate with these edits; the functions that are refused for themselves, and whether the crate is."""
+    room = COPY / "crates" / crate.name
+    for part in ("src", "specs", "proofs"):
+        shutil.rmtree(room / part, ignore_errors=True)
+        if (crate / part).is_dir():
+            shutil.copytree(crate / part, room / part)
+    for edit in edits:
+        path, pairs = pairs_of(edit)
+        file = room / path
+        file.write_text(applied(file.read_text(encoding="utf-8"), pairs), encoding="utf-8")
+    ran = subprocess.run(["rt", "check", "--jobs", "1"], cwd=room, text=True, errors="replace",
+                         stdout=subprocess.PIPE, stderr=subprocess.STDOUT, check=False)
+    is_refused = ran.returncode == 1 and "\nlogic=not-proved" in ran.stdout
+    return {name for name, why in FAILED.findall(ran.stdout) if not CALLS.match(why)}, is_refused
+
+
+def is_named(place, names):
+    """Whether the function of an edit is among these."""
+    module, function = place
+    return any(name.startswith(module) and name.endswith(f"::{function}") for name in names)
+
+
+def tried(crate):
+    """Each edit of the crate with whether it is refused."""
+    edits = sorted([*crate.glob("must-fail/*.edit"), *crate.glob("edits/*.edit")])
+    for batch in batches(crate, edits):
+        names, is_refused = refused(crate, [edit for edit, _ in batch])
+        for edit, place in batch:
+            if is_refused and (len(batch) == 1 or is_named(place, names)):
+                yield edit, True
+            else:
+                yield edit, len(batch) > 1 and refused(crate, [edit])[1]
+
+
+def copied():
+    """Copies what a check reads: the proved crates share their files with the repository's, but for what is written anew."""
+    shutil.rmtree(COPY, ignore_errors=True)
+    COPY.mkdir()
+    for name in ("crates.txt", "HANDLES"):
+        shutil.copy(TOP / name, COPY / name)
+    subprocess.run(["cp", "-a", TOP / "crates", COPY / "crates"], check=True)
+    subprocess.run(["git", "init", "-q", COPY], check=True)
+
+
+def main():
+    names = sys.argv[1:] or sorted(path.parent.name for path in TOP.glob("crates/*/must-fail"))
+    copied()
+    proved = 0
+    try:
+        for name in names:
+            for edit, is_refused in tried(TOP / "crates" / name):
+                proved += not is_refused
+                print(f"{edit.relative_to(TOP)}: {'refused' if is_refused else 'NOT REFUSED'}", flush=True)
+    finally:
+        shutil.rmtree(COPY, ignore_errors=True)
+    return 1 if proved else 0
+
+
+if __name__ == "__main__":
+    sys.exit(main())
