@@ -155,13 +155,12 @@ impl Checkpoints {
         requires stands { Stands fitted.now state.now }
         ensures { AreCheckpoints fitted.now self.new }
     {
-        if keep_in(fitted, &mut self.asked, state).is_ok() {
-            return Ok(());
+        if let Err(AllocError) = keep_in(fitted, &mut self.asked, state) {
+            if !self.give_up_all(fitted) {
+                return Err(AllocError);
+            }
+            keep_in(fitted, &mut self.asked, state)?;
         }
-        if !self.give_up_all(fitted) {
-            return Err(AllocError);
-        }
-        keep_in(fitted, &mut self.asked, state)?;
         Ok(())
     }
 

@@ -264,28 +264,26 @@ impl Debugger {
         match direction {
             Direction::Forwards => {
                 self.bring_here(rt, alloc, gate)?;
-                hit_above(
-                    rt,
-                    alloc,
-                    &self.fitted,
-                    &mut self.checkpoints,
-                    &mut self.state,
-                    t,
-                    self.points.as_slice(),
-                    gate,
-                )
+                let points = self.points.as_slice();
+                let checkpoints = &mut self.checkpoints;
+                let state = &mut self.state;
+                hit_above(rt, alloc, &self.fitted, checkpoints, state, t, points, gate)
             }
             Direction::Backwards => {
                 self.fresh = false;
+                let at = self.at.position(t);
+                let points = self.points.as_slice();
+                let checkpoints = &mut self.checkpoints;
+                let state = &mut self.state;
                 hit_below(
                     rt,
                     alloc,
                     &self.fitted,
-                    &mut self.checkpoints,
-                    &mut self.state,
+                    checkpoints,
+                    state,
                     t,
-                    self.at.position(t),
-                    self.points.as_slice(),
+                    at,
+                    points,
                     gate,
                 )
             }

@@ -122,7 +122,14 @@ fn restored<R: Threads + Clock + Sync>(rt: &R, alloc: Global) -> Result<[Option<
     let mut state = State::start(alloc, &fitted)?;
     brought(rt, alloc, &fitted, &mut checkpoints, &mut state, (9, 3))?;
     checkpoints.keep(&fitted, &state)?;
-    brought(rt, alloc, &fitted, &mut checkpoints, &mut state, (LAST, LAST))?;
+    brought(
+        rt,
+        alloc,
+        &fitted,
+        &mut checkpoints,
+        &mut state,
+        (LAST, LAST),
+    )?;
     Ok([
         before(alloc, &fitted, &mut checkpoints, 0)?,
         before(alloc, &fitted, &mut checkpoints, 9)?,

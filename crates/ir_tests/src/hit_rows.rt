@@ -1,6 +1,8 @@
 //! Sessions that set points and go on to where they hit.
 
-use crate::guests::{BROKEN_INSIDE, CHANGED_ONCE, COUNTED_THRICE, DOUBLED, READ_THEN_WRITE, Source, TWO_COUNTERS};
+use crate::guests::{
+    BROKEN_INSIDE, CHANGED_ONCE, COUNTED_THRICE, DOUBLED, READ_THEN_WRITE, Source, TWO_COUNTERS,
+};
 use crate::sessions::{Said, are_answered, files_of, is_answered};
 use crate::traces::EventRow::Write;
 use crate::traces::{ENDED_BY_144, READ_AND_WRITTEN, Ran, SECOND_FIRST, TraceRow};
