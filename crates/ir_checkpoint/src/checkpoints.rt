@@ -137,7 +137,7 @@ impl Checkpoints {
         ensures { AreCheckpoints fitted.now self.new }
     {
         let were_any = !self.places.is_empty();
-        for _ in 0..MOST_PASSED {
+        'each: for _ in 0..MOST_PASSED {
             if let Some(gone) = self.places.take_last() {
                 drop_in(fitted, &mut self.passed, gone.number);
             }
