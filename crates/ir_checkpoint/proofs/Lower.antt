@@ -18,26 +18,26 @@ use Rattle.ir_checkpoint.proofs.Ways.{own_position}
 record IsCutIn (kept : List Kept) (n : ℕ) (cut : List ℕ) : Type 0 where
   pub one : Kept
   pub is : kept_as n kept ≡ Some one
-  pub cut : cut ≡ cut_in one
+  pub same : cut ≡ cut_in one
 
 cut_found : (kept : List Kept) (n : ℕ) (cut : List ℕ) (o : Option Kept) → kept_as n kept ≡ o → Some cut ≡ option_map cut_in o
     → IsCutIn kept n cut
 cut_found kept n cut None is found = absurd (cc found)
-cut_found kept n cut (Some one) is found = record { one = one; is = is; cut = same_Some cut (cut_in one) found }
+cut_found kept n cut (Some one) is found = record { one = one; is = is; same = same_Some cut (cut_in one) found }
 
 -- each has a position of each thread
 pub cut_length : (f : FittedTrace) (kept : List Kept) (n : ℕ) (cut : List ℕ) → AllStand f kept
     → Some cut ≡ option_map cut_in (kept_as n kept) → length cut ≡ length f.guest.entries
 cut_length f kept n cut all found =
     let k = cut_found kept n cut (kept_as n kept) (λ i. kept_as n kept) found in
-    ap length k.cut ∙ length-map k.one.state.threads (λ (x : thread.State). x.steps) ∙ (one_stands f kept n k.one all k.is).at.threads
+    ap length k.same ∙ length-map k.one.state.threads (λ (x : thread.State). x.steps) ∙ (one_stands f kept n k.one all k.is).at.threads
 
 -- where thread t stands in it
 pub is_below : (kept : List Kept) (n t p position : ℕ) (cut : List ℕ) → Some cut ≡ option_map cut_in (kept_as n kept) → p ≡ cut_of cut t
     → p < position → IsBelow kept t position (record { number = n; position = p })
 is_below kept n t p position cut found at less =
     let k = cut_found kept n cut (kept_as n kept) (λ i. kept_as n kept) found in
-    record { one = k.one; is = k.is; there = sym (at ∙ ap (λ (c : List ℕ). cut_of c t) k.cut); below = less }
+    record { one = k.one; is = k.is; there = sym (at ∙ ap (λ (c : List ℕ). cut_of c t) k.same); below = less }
 
 -- what is restored
 pub found_stands : (f : FittedTrace) (kept : List Kept) (t position : ℕ) (found : Found) (s : Standing) → AllStand f kept

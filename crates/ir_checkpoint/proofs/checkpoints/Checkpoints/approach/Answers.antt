@@ -15,3 +15,6 @@ stops-preserved g c = record {
   below = below_target c.args.fitted.now (positions (flat_in c.args.fitted.now c.stops.state)) c.args.target.now c.in-Some.stop
       c.in-Ok.there c.in-Some.ensures c.in-Ok.ensures.ok;
 }
+
+pub returns-then-not-note-clause-stands : goal.returns-then-not-note-clause-stands
+returns-then-not-note-clause-stands g c = stands_own c.args.fitted.now (cut_of c.in-Some.stop) c.in-Ok.there c.in-Ok.ensures.ok
