@@ -1,16 +1,14 @@
 -- Searches of one window of a thread's positions after the other.
-use Rattle.std.proofs.Common.{◌≡◌, ◌<◌, ◌≤◌, ◌+◌, ℕ, suc, List, length, Option, Some, None, sym, ap, ◌∙◌, subst, inl, inr, arith}
+use Rattle.std.proofs.Common.{◌≡◌, ◌<◌, ◌≤◌, ◌+◌, ℕ, suc, List, Option, Some, None, sym, ap, ◌∙◌, subst, inl, inr, arith}
 use Rattle.std.specs.List.{slice_index_or}
-use Rattle.ir_thread.specs.State as thread
 use Rattle.ir_flat.specs.Flat.{idle}
-use Rattle.ir_runs.specs.Run.{Step}
-use Rattle.ir_fit.specs.Fit.{FittedTrace, IsRunOf}
+use Rattle.ir_fit.specs.Fit.{FittedTrace}
 use Rattle.ir_cut.specs.Positions.{EachRun}
 use Rattle.ir_weave.specs.Standing.{Standing, flat_in}
 use Rattle.ir_weave.specs.States.{positions}
 use Rattle.ir_checkpoint.specs.Below.{IsBefore}
 use Rattle.ir_hits.specs.Hits.{Numbered, NoneWithin, IsFirstHit, IsLastHit}
-use Rattle.ir_hits.specs.Searching.{IsNextHit, IsLastFrom, NeverHits, reached, window_start}
+use Rattle.ir_hits.specs.Searching.{IsNextHit, IsLastFrom, reached, window_start}
 use Rattle.ir_hits.specs.declared.hit.Hit.{Hit}
 use Rattle.ir_hits.proofs.CallerLemmas.{none_both, begins_above, last_joined, last_found, next_joined, first_found, first_of_all}
 use Rattle.ir_debug.specs.Machine.Desk.{last_of, threads_of}
@@ -18,16 +16,6 @@ use Rattle.ir_debug.specs.Machine.Desk.{last_of, threads_of}
 -- how many steps a thread in hand has taken
 pub stands_here : (f : FittedTrace) (s : Standing) (t n : ℕ) → n ≡ (slice_index_or s.threads t idle).steps → n ≡ positions (flat_in f s) t
 stands_here f s t n is = is
-
--- ---- nothing hits
-
-pub first_never : (f : FittedTrace) (run : List Step) (points : List Numbered) (t p : ℕ) → NeverHits f run points t
-    → IsFirstHit f run points t p None
-first_never f run points t p never j n above h = never j n h
-
-pub last_never : (f : FittedTrace) (run : List Step) (points : List Numbered) (t p : ℕ) → NeverHits f run points t
-    → IsLastHit f run points t p None
-last_never f run points t p never j n low high h = never j n h
 
 -- ---- upwards
 
@@ -60,11 +48,6 @@ none_first f points t p q l all none run whole = first_of_all f run points t p q
 -- none hits it from a position on and below another
 abbrev pub NoneBelow : FittedTrace → List Numbered → ℕ → ℕ → ℕ → Type 0
 NoneBelow f points t from to = EachRun f (λ run. NoneWithin f run points t from to)
-
--- where a window begins isn't past its end
-pub before_within : (f : FittedTrace) (t to : ℕ) (s : Standing) → IsBefore f t to s → positions (flat_in f s) t ≤ to
-before_within f t to s (inl below) = omega (arith, below)
-before_within f t to s (inr start) = omega (arith, start)
 
 -- a hit below which none is known, and above which there is none
 pub hit_last : (f : FittedTrace) (points : List Numbered) (t from to p : ℕ) (found : Option Hit) (h : Hit) → to < p
