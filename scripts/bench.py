@@ -264,29 +264,84 @@ def sessions():
         print(f"{'log 0, after end':28}{100:>10}{100 / (took - start):>12.0f}{size / (took - start) / 1e6:>8.1f}")
 
 
-def continuing():
-    """The first guest: a step back, again and again, and continued both ways, in milliseconds each."""
-    print(f"{'one thread, lines':44}{'count':>8}{'ms each':>10}")
+def recorded(folder, code, threads=1, objects=0):
+    """The files of a guest and of its recording."""
+    source, made = (tempfile.mkstemp(dir=folder)[1] for _ in range(2))
+    with open(source, "wb") as f:
+        f.write(image(code, threads, objects))
+    best_of_five([IR, "record", source, made, "--budget", "1000000000"], b"", lambda out: out.count(b" end 1 ") == threads)
+    return source, made
+
+
+def hit_late(after):
+    """A counted loop, and another of so many times 4096 turns; the steps of both, and where the second begins."""
+    first, many = counted([], 12200 - after)
+    second, few = counted([], after)
+    head = first[:-3]
+    return head + second, many + few - 3, CODE + 4 * len(head)
+
+
+def four_pages():
+    """Stores to four pages in turn."""
+    place = [lui(A1, MEMORY >> 12), op(7, A0, T0, 3), op(1, A0, A0, 12), reg(0, 0, A0, A0, A1)]
+    return counted(place + [store(2, T0, 0, A0)], 3500)
+
+
+def timed(label, files, before, lines, count=1, run=None):
+    """Prints the milliseconds of each of so many lines after others; and beside it how many runs of the guest they are."""
+    base, _ = session_of(*files, before + b"pos\n")
+    took, _ = session_of(*files, before + lines)
+    each = (took - base) / count
+    print(f"{label:72}{count:>6}{each * 1e3:>10.2f}{f'{each / run:>8.2f}' if run else ''}", flush=True)
+
+
+def peak(files, lines):
+    """The most memory of a session, in KiB: the least of five."""
+    sizes = []
+    for _ in range(5):
+        run = subprocess.Popen([IR, "debug", *files], stdin=subprocess.PIPE, stdout=subprocess.DEVNULL)
+        run.stdin.write(lines)
+        run.stdin.close()
+        sizes.append(os.wait4(run.pid, 0)[2].ru_maxrss)
+    return min(sizes)
+
+
+def of_one_thread(folder):
+    """Steps back, and searches both ways, in 10^8 steps of one thread."""
     name, code, steps = next(guest for guest in guests())
-    never = CODE + 4 * len(code)
+    run = by_itself(b"run", code, steps) - by_itself(b"run", [addi(A7, 0, 1), ECALL], 2)
+    never = b"break 0 0x%x\n" % (CODE + 4 * len(code))
+    files = recorded(folder, code + [addi(0, 0, 0)])
+    half = b"end\ngoto 0 %d\n" % (steps // 2)
+    print(f"{'one thread of ' + str(steps) + ' steps, which run in ' + format(run * 1e3, '.0f') + ' ms':72}{'count':>6}{'ms each':>10}{'runs':>8}")
+    timed("end, with the states that it keeps on its way", files, b"", b"end\n", 1, run)
+    timed("end, with the states that are kept already", files, b"end\nstart\n", b"end\n", 1, run)
+    timed("back 0 1 at the end", files, b"end\n", b"back 0 1\n" * 500, 500)
+    timed("the first back 0 1 at the half, after end and goto", files, half, b"back 0 1\n")
+    timed("back 0 1 from there", files, half, b"back 0 1\n" * 500, 500)
+    timed("cont 0, a breakpoint that never hits", files, never, b"cont 0\n", 1, run)
+    timed("cont 0, a watched word that never changes", files, b"watch 0 0x10fff8\n", b"cont 0\n", 1, run)
+    timed("rcont 0 from the end, a breakpoint that never hits", files, never + b"end\n", b"rcont 0\n", 1, run)
+    code, steps, late = hit_late(122)
+    files = recorded(folder, code)
+    timed("rcont 0 from the end, a breakpoint last hit 10^6 steps ago", files, b"break 0 0x%x\nend\n" % late, b"rcont 0\n")
+
+
+def continuing():
+    """Moves back, searches both ways and checkpoints: milliseconds of lines, the time of those before them taken off."""
     with tempfile.TemporaryDirectory() as folder:
-        source, made = os.path.join(folder, "image"), os.path.join(folder, "trace")
-        with open(source, "wb") as f:
-            f.write(image(code + [addi(0, 0, 0)]))
-        best_of_five([IR, "record", source, made, "--budget", "1000000000"], b"", lambda out: out.count(b" end 1 ") == 1)
-        rows = (
-            (b"", b"end", 1),
-            (b"end\n", b"back 0 1", 500),
-            (b"end\ngoto 0 %d\n" % (steps // 2), b"back 0 1", 500),
-            (b"break 0 0x%x\n" % never, b"cont 0", 1),
-            (b"watch 0 0x10fff8\n", b"cont 0", 1),
-            (b"break 0 0x%x\nend\n" % never, b"rcont 0", 1),
-        )
-        for before, line, count in rows:
-            base, _ = session_of(source, made, before + b"pos\n")
-            took, _ = session_of(source, made, before + (line + b"\n") * count)
-            label = (before + line).decode().replace("\n", "; ")
-            print(f"{label:44}{count:>8}{(took - base) / count * 1e3:>10.2f}")
+        of_one_thread(folder)
+        code, steps = entering(46)
+        files = recorded(folder, code, 8, 1)
+        print(f"eight threads of {8 * steps} steps and {8 * 4096 * 32} entries")
+        timed("back 3 1 at the end", files, b"end\n", b"back 3 1\n" * 20, 20)
+        timed("the first of them", files, b"end\n", b"back 3 1\n")
+        pairs = b"".join(b"keep\ndrop %d\n" % number for number in range(2, 1002))
+        timed("keep where nothing changed, and drop", files, b"end\nkeep\n", pairs, 1000)
+        code, steps = four_pages()
+        files = recorded(folder, code)
+        few, many = peak(files, b"pos\n"), peak(files, b"end\n")
+        print(f"one thread that writes 4 pages, {steps} steps: at most {few} KiB, after end {many}; 64 times 4 pages are {64 * 16}")
 
 
 def coherence():

@@ -68,7 +68,7 @@ STORES = """
         ecall
 """
 
-# Three million steps, which write four pages.
+# Four million steps, which write four pages; the last two begin at 0x10028.
 LONG = """
         lui t0, 0x100
         lui t2, 0x4
@@ -111,6 +111,8 @@ SESSIONS = (
     ("eight threads", "eight_counters", None,
      ("end", "obj 0", "back 3 1", "keep", "start", "step 7 5", "load 1", "kept", "owatch 0", "rcont 0", "cont 3", "quit")),
     ("checkpoints on the way", "long", "0", ("end", "back 0 1", "back 0 1", "goto 0 1500000", "back 0 1", "keep", "end", "load 1", "quit")),
+    ("searches over checkpoints", "long", "0", ("break 0 0x10028", "cont 0", "end", "rcont 0", "watch 0 0x104000", "rcont 0", "cont 0", "clear 1",
+                                                "rcont 0", "cont 0", "quit")),
 )
 
 # What is done but for sessions: a name, the words, the files that may be written.

@@ -1,3 +1,4 @@
 mod Brought
 mod Keepers
+mod Lower
 mod Ways

@@ -13,6 +13,7 @@ use Rattle.ir_fit.specs.Fit.{FittedTrace, HasRun}
 use Rattle.ir_cut.specs.Positions.{machine_of, start_of, cut_of, IsConsistentCut, IsLeastCut}
 use Rattle.ir_weave.specs.Standing.{Standing, StandsAt, flat_in}
 use Rattle.ir_weave.specs.States.{positions}
+use Rattle.ir_replay.specs.Rounds.{IsBetween}
 use Rattle.ir_checkpoint.specs.Checkpoints.{Stands}
 use Rattle.ir_checkpoint.specs.Parts.{IsOnWay}
 
@@ -39,7 +40,7 @@ further f low target cut new t k h target_is way le least consistent =
     }
 
 -- the threads' own positions, as a list
-own_position : (threads : List thread.State) (t : ℕ) → cut_of (map (λ x. x.steps) threads) t ≡ (slice_index_or threads t idle).steps
+pub own_position : (threads : List thread.State) (t : ℕ) → cut_of (map (λ x. x.steps) threads) t ≡ (slice_index_or threads t idle).steps
 own_position threads t = get_or-map (λ (x : thread.State). x.steps) threads t idle
 
 pub own_cut : (f : FittedTrace) (s : Standing) (cut : List ℕ) → cut ≡ map (λ t. t.steps) s.threads → cut_of cut ≡ positions (flat_in f s)
@@ -71,6 +72,11 @@ from_own f s target from cut is way = subst (λ (q : Cut). IsOnWay f q (cut_of t
 pub below_target : (f : FittedTrace) (low : Cut) (target cut : List ℕ) (s : Standing) → IsOnWay f low (cut_of target) cut
     → StandsAt f (cut_of cut) s → (t : ℕ) → positions (flat_in f s) t ≤ cut_of target t
 below_target f low target cut s way at t = let same = at.at.steps t in let le = way.below t in omega (arith, same, le)
+
+-- what is between isn't either
+pub between_target : (f : FittedTrace) (low : Cut) (target cut : List ℕ) (old new : Standing) → IsOnWay f low (cut_of target) cut
+    → IsBetween f cut old new → (t : ℕ) → positions (flat_in f new) t ≤ cut_of target t
+between_target f low target cut old new way between t = let b = between.below t in let le = way.below t in omega (arith, b, le)
 
 -- a result that is the least cut, and consistent
 pub further_ok : {E : Type 0} (r : Result (List ℕ) E) (f : FittedTrace) (low : Cut) (target cut : List ℕ) (t k : ℕ) → HasRun f

@@ -1,15 +1,17 @@
 //! States that are kept for moves to begin at.
 
-ghost use Rattle.std.specs.Prelude.{◌≡◌, ◌≤◌, ℕ, length, IfOk, IfErr, OnOk, IsOk};
+ghost use Rattle.std.specs.Prelude.{◌≡◌, ◌<◌, ◌≤◌, ℕ, length, IfOk, IfErr, OnOk, IsOk};
 ghost use Rattle.ir_cut.specs.Positions.{IsConsistentCut, cut_of};
 ghost use Rattle.ir_keep.specs.Keeping.{IsNearest};
 ghost use Rattle.ir_weave.specs.Standing.{StandsAt, flat_in};
 ghost use Rattle.ir_weave.specs.States.{positions};
 ghost use Rattle.ir_checkpoint.specs.Checkpoints as checkpoints;
 ghost use Rattle.ir_checkpoint.specs.Checkpoints.{AllStand, Stands};
+ghost use Rattle.ir_checkpoint.specs.Below.{IsBefore};
 
+use crate::below::{is_further, last_below, restore_found};
 use crate::bringing::{gap_of, is_past, is_there, next_stop, steps_before, steps_of};
-use crate::passed::{Passed, PassedCut};
+use crate::passed::{MOST_PASSED, Passed, PassedCut};
 use ir_cut::Cut;
 use ir_fit::Fitted;
 use ir_keep::{KeepErr, Keeper};
@@ -129,16 +131,36 @@ impl Checkpoints {
         &self.passed
     }
 
-    /// Keeps a state, under the next number from 1 on. Where 64 are kept beside the start, or all numbers were given, it isn't kept.
+    // Gives up all states that moves have passed. Whether there were any.
+    fn give_up_all(&mut self, fitted: &Fitted) -> bool
+        requires { AreCheckpoints fitted.now self.old }
+        ensures { AreCheckpoints fitted.now self.new }
+    {
+        let were_any = !self.places.is_empty();
+        'each: for _ in 0..MOST_PASSED {
+            if let Some(gone) = self.places.take_last() {
+                drop_in(fitted, &mut self.passed, gone.number);
+            }
+        }
+        were_any
+    }
+
+    /// Keeps a state, under the next number from 1 on. Where 64 are kept beside the start, or all numbers were given, it isn't kept. Where
+    /// memory runs out those that moves have passed are given up, and it is tried again.
     ///
     /// # Errors
-    /// Out of memory; nothing changes.
+    /// Out of memory; the states that were asked for stay.
     pub fn keep(&mut self, fitted: &Fitted, state: &State) -> Result<(), AllocError>
         requires checkpoints { AreCheckpoints fitted.now self.old }
         requires stands { Stands fitted.now state.now }
         ensures { AreCheckpoints fitted.now self.new }
     {
-        keep_in(fitted, &mut self.asked, state)?;
+        if let Err(AllocError) = keep_in(fitted, &mut self.asked, state) {
+            if !self.give_up_all(fitted) {
+                return Err(AllocError);
+            }
+            keep_in(fitted, &mut self.asked, state)?;
+        }
         Ok(())
     }
 
@@ -161,7 +183,7 @@ impl Checkpoints {
     }
 
     // The nearest state at or below the target.
-    fn restore(&self, fitted: &Fitted, target: &Cut) -> Result<State, AllocError>
+    fn nearest(&self, fitted: &Fitted, target: &Cut) -> Result<State, AllocError>
         requires checkpoints { AreCheckpoints fitted.now self.now }
         requires target { length target.now ≡ length fitted.now.guest.entries }
         ensures stands { IfOk result (λ s. Stands fitted.now s) }
@@ -174,6 +196,75 @@ impl Checkpoints {
         } else {
             restore_in(fitted, &self.asked, asked, target)
         }
+    }
+
+    // That state, or where memory runs out the nearest that was asked for.
+    fn restore(&mut self, fitted: &Fitted, target: &Cut) -> Result<State, AllocError>
+        requires checkpoints { AreCheckpoints fitted.now self.old }
+        requires target { length target.now ≡ length fitted.now.guest.entries }
+        ensures checkpoints { AreCheckpoints fitted.now self.new }
+        ensures stands { IfOk result (λ s. Stands fitted.now s) }
+        ensures below { IfOk result (λ s. (t : ℕ) → positions (flat_in fitted.now s) t ≤ cut_of target.now t) }
+    {
+        if let Ok(state) = self.nearest(fitted, target) {
+            return Ok(state);
+        }
+        if !self.give_up_all(fitted) {
+            return Err(AllocError);
+        }
+        self.nearest(fitted, target)
+    }
+
+    // A state in which thread t stands below a position, the one with the most steps of it; the start, where there is none.
+    fn last_before(
+        &self,
+        alloc: Global,
+        fitted: &Fitted,
+        t: usize,
+        position: u64,
+    ) -> Result<State, AllocError>
+        requires checkpoints { AreCheckpoints fitted.now self.now }
+        requires thread { t < length fitted.now.guest.entries }
+        ensures stands { IfOk result (λ s. Stands fitted.now s) }
+        ensures before { IfOk result (IsBefore fitted.now t position) }
+    {
+        let asked = last_below(fitted, &self.asked, t, position);
+        if let Some(passed) = last_below(fitted, &self.passed, t, position) {
+            if is_further(asked, passed) {
+                return restore_found(fitted, &self.passed, t, position, passed);
+            }
+        }
+        match asked {
+            Some(asked) => restore_found(fitted, &self.asked, t, position, asked),
+            None => State::start(alloc, fitted),
+        }
+    }
+
+    /// A state in which thread t stands below a position: of all that are kept the one with the most steps of thread t, and the start
+    /// where there is none. Where memory runs out the states that moves have passed are given up, and it is tried again.
+    ///
+    /// # Errors
+    /// Out of memory.
+    pub fn restore_before(
+        &mut self,
+        alloc: Global,
+        fitted: &Fitted,
+        t: usize,
+        position: u64,
+    ) -> Result<State, AllocError>
+        requires checkpoints { AreCheckpoints fitted.now self.old }
+        requires thread { t < length fitted.now.guest.entries }
+        ensures checkpoints { AreCheckpoints fitted.now self.new }
+        ensures stands { IfOk result (λ s. Stands fitted.now s) }
+        ensures before { IfOk result (IsBefore fitted.now t position) }
+    {
+        if let Ok(state) = self.last_before(alloc, fitted, t, position) {
+            return Ok(state);
+        }
+        if !self.give_up_all(fitted) {
+            return Err(AllocError);
+        }
+        self.last_before(alloc, fitted, t, position)
     }
 
     // Gives up the state that moves have passed which is missed the least, seen from so many steps.
@@ -205,7 +296,16 @@ impl Checkpoints {
         }
     }
 
-    // Goes on towards the target, which no thread is past, until it is near, and keeps states on the way.
+    /// Keeps a state that a search passes, as moves keep those that they pass. Where memory runs out it isn't kept.
+    pub fn pass(&mut self, fitted: &Fitted, state: &State)
+        requires checkpoints { AreCheckpoints fitted.now self.old }
+        requires stands { Stands fitted.now state.now }
+        ensures { AreCheckpoints fitted.now self.new }
+    {
+        self.note(fitted, state, steps_of(state.threads()));
+    }
+
+    // Goes on towards the target, which no thread is past, until it is near or memory runs out, and keeps states on the way.
     fn approach<R: Threads + Clock + Sync, G: Gate + Sync>(
         &mut self,
         rt: &R,
@@ -214,32 +314,34 @@ impl Checkpoints {
         state: State,
         target: &Cut,
         gate: &G,
-    ) -> Result<State, (State, AllocError)>
+    ) -> State
         requires checkpoints { AreCheckpoints fitted.now self.old }
         requires stands { Stands fitted.now state }
         requires target { (length target.now ≡ length fitted.now.guest.entries) × IsConsistentCut fitted.now target.now }
         requires below { (t : ℕ) → positions (flat_in fitted.now state) t ≤ cut_of target.now t }
         ensures checkpoints { AreCheckpoints fitted.now self.new }
-        ensures stands { IfOk result (λ s. Stands fitted.now s) }
-        ensures below { IfOk result (λ s. (t : ℕ) → positions (flat_in fitted.now s) t ≤ cut_of target.now t) }
-        ensures err { IfErr result (λ e. Stands fitted.now e.0) }
+        ensures stands { Stands fitted.now result }
+        ensures below { (t : ℕ) → positions (flat_in fitted.now result) t ≤ cut_of target.now t }
     {
         let mut state = state;
         let present = steps_before(target);
         let gap = gap_of(present.saturating_sub(steps_of(state.threads())));
         'stops: for _ in 0..MOST_STOPS {
             let Some(stop) = next_stop(alloc, fitted, &state, target, gap) else {
-                return Ok(state);
+                return state;
             };
-            state = advance(rt, alloc, fitted, state, &stop, gate)?;
+            match advance(rt, alloc, fitted, state, &stop, gate) {
+                Ok(there) => state = there,
+                Err((between, AllocError)) => return between,
+            }
             if !self.note(fitted, &state, present) {
-                return Ok(state);
+                return state;
             }
         }
-        Ok(state)
+        state
     }
 
-    // Goes on to the target, which no thread is past.
+    // Goes on to the target, which no thread is past. Where memory runs out the states that moves have passed are given up, and it goes on.
     fn forward<R: Threads + Clock + Sync, G: Gate + Sync>(
         &mut self,
         rt: &R,
@@ -257,14 +359,23 @@ impl Checkpoints {
         ensures ok { IfOk result (λ s. StandsAt fitted.now (cut_of target.now) s) }
         ensures err { IfErr result (λ e. Stands fitted.now e.0) }
     {
-        let near = self.approach(rt, alloc, fitted, state, target, gate)?;
-        advance(rt, alloc, fitted, near, target, gate)
+        let near = self.approach(rt, alloc, fitted, state, target, gate);
+        match advance(rt, alloc, fitted, near, target, gate) {
+            Ok(there) => Ok(there),
+            Err((between, error)) => {
+                if !self.give_up_all(fitted) {
+                    return Err((between, error));
+                }
+                advance(rt, alloc, fitted, between, target, gate)
+            }
+        }
     }
 
     /// Brings threads and objects to the target: by `advance`, from where they stand, or from the kept state at or below the target with
     /// the most steps before it, where that is nearer or a thread is past its target. On a long way it keeps states that it passes: of
     /// those that are the fewest steps apart, as seen from the target, one is given up when there are 64. A want of memory for one of
-    /// these is none for the move. Where they stand at the target already it takes no memory, and succeeds.
+    /// these is none for the move; where the move itself wants for memory they are all given up, and it goes on. Where they stand at the
+    /// target already it takes no memory, and succeeds.
     ///
     /// # Errors
     /// Out of memory, with the threads and objects at some consistent cut.

@@ -7,8 +7,8 @@ use arrayvec::ArrayVec;
 #[cfg(test)]
 mod tests;
 
-// The most that are kept at once.
-const MOST_PASSED: usize = 64;
+/// The most that are kept at once.
+pub const MOST_PASSED: usize = 64;
 
 // So many times a gap is taken before it is divided by a distance: both are at most 2^43.
 const SCALE: u64 = 1 << 20;
@@ -56,6 +56,16 @@ impl Passed {
     /// Whether there is no room for another.
     pub fn is_full(&self) -> bool {
         self.cuts.is_full()
+    }
+
+    /// Whether there is none.
+    pub fn is_empty(&self) -> bool {
+        self.cuts.is_empty()
+    }
+
+    /// Takes one away. None where there is none.
+    pub fn take_last(&mut self) -> Option<PassedCut> {
+        self.cuts.pop()
     }
 
     /// Adds one, if there is room.

@@ -18,3 +18,4 @@ mod Buffers
 mod Insides
 mod Here
 mod Passed
+mod Searches

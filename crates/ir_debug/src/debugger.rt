@@ -8,11 +8,12 @@ use crate::destinations::{destination, first_cut, stop};
 use crate::kept::{KeptCut, MOST_KEPT, forget, kept_cut};
 use crate::next::next_line;
 use crate::points::Points;
+use crate::searching::{hit_above, hit_below};
 use ir_checkpoint::Checkpoints;
 use ir_command::{Command, Direction, Keeping, Move, Point, Refusal, Show};
 use ir_cut::Cut;
 use ir_fit::Fitted;
-use ir_hits::{Hit, NumberedPoint, first_hit, last_hit};
+use ir_hits::{Hit, NumberedPoint};
 use ir_object::Gate;
 use ir_replay::State;
 use std::alloc::{AllocError, Global};
@@ -264,19 +265,24 @@ impl Debugger {
             Direction::Forwards => {
                 self.bring_here(rt, alloc, gate)?;
                 let points = self.points.as_slice();
-                first_hit(rt, alloc, &self.fitted, &mut self.state, t, points, gate)
+                let checkpoints = &mut self.checkpoints;
+                let state = &mut self.state;
+                hit_above(rt, alloc, &self.fitted, checkpoints, state, t, points, gate)
             }
             Direction::Backwards => {
                 self.fresh = false;
-                let below = self.at.position(t);
+                let at = self.at.position(t);
                 let points = self.points.as_slice();
-                last_hit(
+                let checkpoints = &mut self.checkpoints;
+                let state = &mut self.state;
+                hit_below(
                     rt,
                     alloc,
                     &self.fitted,
-                    &mut self.state,
+                    checkpoints,
+                    state,
                     t,
-                    below,
+                    at,
                     points,
                     gate,
                 )
@@ -488,8 +494,8 @@ impl Debugger {
     /// they stand, or from the nearest state that is kept at or below it, by `keep` or on the way of an earlier move. Before something is shown, threads
     /// that a move left elsewhere for lack of memory are brought to the cut.
     ///
-    /// `cont` and `rcont` take a thread's steps anew, one by one, to find where a point hits it: `cont` from where it
-    /// stands, `rcont` from the start.
+    /// `cont` and `rcont` take a thread's steps anew to find where a point hits it. `cont` goes on from where it stands, and keeps states on
+    /// its way; `rcont` looks at one window of positions after the other, downwards, each from a state that is kept.
     ///
     /// What the answer tells is that of every run of the guest with the trace. A command is refused that names a thread
     /// or an object that there isn't, the number of no point and no kept cut, bytes that aren't all in the code or in private

@@ -18,6 +18,7 @@ mod points;
 mod positions;
 mod refusals;
 mod room;
+mod searching;
 mod serving;
 mod sessions;
 mod showing;

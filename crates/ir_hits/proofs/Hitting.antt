@@ -12,12 +12,22 @@ use Rattle.ir_fit.specs.Fit.{FittedTrace, IsRunOf}
 use Rattle.ir_command.specs.declared.command.Point.{Point}
 use Rattle.ir_command.specs.declared.command.Point.TheVariants.{Break, Watch, WatchObject}
 use Rattle.ir_hits.specs.Hits.{Numbered, thread_at, steps_of, HitBy, HitByNumber, Changes, LeavesWritten, IsLowest}
-use Rattle.ir_hits.specs.Seeing.{IsNoted, AllNoted, SeesHit, SeesHitAt, IsLowestOf}
+use Rattle.ir_hits.specs.Seeing.{Concerns, SomeConcerns, IsNoted, AllNoted, SeesHit, SeesHitAt, IsLowestOf}
 use Rattle.ir_hits.specs.declared.before.Before.{Before}
 use Rattle.ir_hits.specs.declared.before.Before.TheVariants.{Nothing, Word, Inside}
 use Rattle.ir_hits.proofs.Leaves.{emits_within, stays, was_inside, leaves}
 
 -- ---- one point
+
+-- a point that hits thread t may hit it
+may_hit : (f : FittedTrace) (run : List Step) (t k : ℕ) (p : Point) → HitBy f run t k p → Concerns t p
+may_hit f run t k (Break u address) h = h.0
+may_hit f run t k (Watch u address) h = h.0
+may_hit f run t k (WatchObject object) h = tt
+
+pub never_hits : (f : FittedTrace) (run : List Step) (points : List Numbered) (t k n : ℕ) → (SomeConcerns t points → ⊥)
+    → HitByNumber f run points t k n → ⊥
+never_hits f run points t k n none h = none (h.0, h.1, h.2, may_hit f run t k h.1.point h.4)
 
 -- no point hits behind the last step
 pub hit_within : (f : FittedTrace) (run : List Step) (t j : ℕ) (p : Point) → HitBy f run t (suc j) p → j < steps_of f run t

@@ -1,3 +1,4 @@
+pub mod CallerLemmas
 mod Leaves
 mod Hitting
 mod Windows

@@ -1,5 +1,5 @@
 -- What a thread that goes on shows of the points.
-use Rattle.std.proofs.Common.{◌≡◌, ℕ, suc, ◌+◌, ◌-◌, ◌≤◌, List, length, Option, Some, None, refl, sym, subst, inl, inr, arith}
+use Rattle.std.proofs.Common.{◌≡◌, ◌∙◌, ap, ℕ, zero, suc, ◌+◌, ◌-◌, ◌<◌, ◌≤◌, List, length, Option, Some, None, refl, sym, subst, inl, inr, arith}
 use Rattle.std.specs.List.{slice_index_or}
 use Rattle.ir_thread.specs.State.{State}
 use Rattle.ir_thread.specs.Private.{UnmarkedSteps}
@@ -11,7 +11,7 @@ use Rattle.ir_cut.specs.Positions.{cut_of, EachRun}
 use Rattle.ir_weave.specs.Standing.{Standing, StandsAt, flat_in}
 use Rattle.ir_weave.specs.States.{positions}
 use Rattle.ir_hits.specs.Hits.{Numbered, thread_at, NoneWithin, IsLowest, IsLastHit}
-use Rattle.ir_hits.specs.Searching.{AreLast, IsNextHit, IsStartHit}
+use Rattle.ir_hits.specs.Searching.{AreLast, IsLastFrom, IsNextHit, IsStartHit, window_start}
 use Rattle.ir_hits.specs.Passing.{AreCovered, HasPassed}
 use Rattle.ir_hits.specs.Seeing.{AllNoted, IsLowestOf}
 use Rattle.ir_hits.specs.declared.before.Before.{Before}
@@ -19,7 +19,8 @@ use Rattle.ir_hits.specs.declared.hit.Hit.{Hit}
 use Rattle.ir_hits.proofs.Hitting.{IsSeen, AllNothing, seen_after, seen_first, lowest_hit, none_hits}
 use Rattle.ir_hits.proofs.Standing.{thread_here, end_steps}
 use Rattle.ir_hits.proofs.Passing.{IsStretch, stretch_noted, stretch_none}
-use Rattle.ir_hits.proofs.Windows.{none_yet, none_more, none_both, last_first, last_none}
+use Rattle.ir_hits.proofs.Windows.{none_yet, none_more, last_first, last_none}
+use Rattle.ir_hits.proofs.CallerLemmas.{none_both}
 
 -- thread t has passed on, at least by a step; before that the points noted so much, and what they may hit at is marked
 pub record IsPassage (f : FittedTrace) (last : List ℕ) (code : Marked) (points : List Numbered) (notes : List Before) (t to : ℕ)
@@ -172,7 +173,7 @@ seen_start f last points notes t s end are start is size none run whole =
     (end_steps f last are run whole t end is) size none
 
 -- the hit at the start, if there is one, is the last so far
-pub start_last : (f : FittedTrace) (last : List ℕ) (points : List Numbered) (notes : List Before) (t : ℕ) (s : Standing) (end : ℕ)
+start_last : (f : FittedTrace) (last : List ℕ) (points : List Numbered) (notes : List Before) (t : ℕ) (s : Standing) (end : ℕ)
     (y : State) → y ≡ slice_index_or s.threads t idle → AreLast f last → AtStart f s t → end ≡ cut_of last t → length notes ≡ length points
     → AllNothing notes → (found : Option Hit) → IsStartHit t end y notes points found
     → EachRun f (λ run. IsLastHit f run points t (positions (flat_in f s) t + 1) found)
@@ -186,3 +187,34 @@ start_last f last points notes t s end y y_is are start is size none (Some h) fo
     (lowest_hit f run points notes t 0 end (slice_index_or s.threads t idle) h.number
     (seen_start f last points notes t s end are start is size none run whole)
     (subst (λ z. IsLowestOf t end z notes points (length points) (Some h.number)) y_is found.1))
+
+last_from_start : (f : FittedTrace) (run : List Step) (points : List Numbered) (t p : ℕ) (found : Option Hit)
+    → IsLastHit f run points t p found → IsLastFrom f run points t 0 p found
+last_from_start f run points t p (Some h) last = (omega arith, last.0, last.1, last.2)
+last_from_start f run points t p None last = last
+
+-- ---- where a window begins
+
+begun_at : (f : FittedTrace) (last : List ℕ) (points : List Numbered) (notes : List Before) (t : ℕ) (s : Standing) (end : ℕ)
+    (y : State) → y ≡ slice_index_or s.threads t idle → AreLast f last → StandsAt f (positions (flat_in f s)) s → end ≡ cut_of last t
+    → length notes ≡ length points → AllNothing notes → (found : Option Hit) → (y.steps ≡ 0 → IsStartHit t end y notes points found)
+    → (0 < y.steps → found ≡ None) → (p : ℕ) → positions (flat_in f s) t ≡ p
+    → EachRun f (λ run. IsLastFrom f run points t (window_start p) (p + 1) found)
+begun_at f last points notes t s end y y_is are stands is size none found start later zero at run whole =
+    let first : y.steps ≡ 0 = ap (λ (z : State). z.steps) y_is ∙ at in
+    last_from_start f run points t 1 found
+    (subst (λ k. IsLastHit f run points t (k + 1) found) at
+    (start_last f last points notes t s end y y_is are (stands, at) is size none found (start first) run whole))
+begun_at f last points notes t s end y y_is are stands is size none found start later (suc p) at run whole =
+    let above : y.steps ≡ suc p = ap (λ (z : State). z.steps) y_is ∙ at in
+    subst (IsLastFrom f run points t (suc (suc p)) (suc p + 1)) (sym (later (omega (arith, above))))
+    (none_yet f run points t (suc (suc p)) (suc p + 1) (omega arith))
+
+-- the hit at the start, if the thread stands there and there is one, is the last so far
+pub begun : (f : FittedTrace) (last : List ℕ) (points : List Numbered) (notes : List Before) (t : ℕ) (s : Standing) (end : ℕ)
+    (y : State) → y ≡ slice_index_or s.threads t idle → AreLast f last → StandsAt f (positions (flat_in f s)) s → end ≡ cut_of last t
+    → length notes ≡ length points → AllNothing notes → (found : Option Hit) → (y.steps ≡ 0 → IsStartHit t end y notes points found)
+    → (0 < y.steps → found ≡ None)
+    → EachRun f (λ run. IsLastFrom f run points t (window_start (positions (flat_in f s) t)) (positions (flat_in f s) t + 1) found)
+begun f last points notes t s end y y_is are stands is size none found start later =
+    begun_at f last points notes t s end y y_is are stands is size none found start later (positions (flat_in f s) t) refl

@@ -1,5 +1,5 @@
 -- Windows of a thread's positions.
-use Rattle.std.specs.Prelude.{◌≡◌, ℕ, suc, ◌<◌, ◌≤◌, List, length, Option, Some, None}
+use Rattle.std.specs.Prelude.{◌≡◌, ℕ, zero, suc, ◌<◌, ◌≤◌, List, length, Option, Some, None}
 use Rattle.ir_trace.specs.TraceOf.{recorded_thread}
 use Rattle.ir_runs.specs.Run.{Step}
 use Rattle.ir_fit.specs.Fit.{FittedTrace}
@@ -7,7 +7,7 @@ use Rattle.ir_cut.specs.Positions.{cut_of}
 use Rattle.ir_thread.specs.State.{State}
 use Rattle.ir_hits.specs.declared.before.Before.{Before}
 use Rattle.ir_hits.specs.Seeing.{IsLowestOf}
-use Rattle.ir_hits.specs.Hits.{Numbered, NoneWithin, IsLowest}
+use Rattle.ir_hits.specs.Hits.{Numbered, HitByNumber, NoneWithin, IsLowest}
 use Rattle.ir_hits.specs.declared.hit.Hit.{Hit}
 
 -- the last positions of the guest's threads
@@ -15,11 +15,27 @@ pub record AreLast (f : FittedTrace) (last : List ℕ) : Type 0 where
   pub size : length last ≡ length f.guest.entries
   pub steps : (t : ℕ) → t < length f.guest.entries → cut_of last t ≡ (recorded_thread f.recorded t).steps
 
+-- no point hits thread t anywhere
+abbrev pub NeverHits : FittedTrace → List Step → List Numbered → ℕ → Type 0
+NeverHits f run points t = (k n : ℕ) → HitByNumber f run points t k n → ⊥
+
 -- the first position above p, and at most to, at which a point hits, and the lowest number of those that do; or no point hits there
 abbrev pub IsNextHit : FittedTrace → List Step → List Numbered → ℕ → ℕ → ℕ → Option Hit → Type 0
 IsNextHit f run points t p to (Some h) = (p < h.position) × (h.position ≤ to) × NoneWithin f run points t (suc p) h.position
     × IsLowest f run points t h.position h.number
 IsNextHit f run points t p to None = NoneWithin f run points t (suc p) (suc to)
+
+-- the first position of a window that begins with the thread at p: the next, and at the start p itself
+abbrev pub window_start : ℕ → ℕ
+window_start zero = zero
+window_start (suc p) = suc (suc p)
+
+-- the last position from the first on and below the second at which a point hits, and the lowest number of those that do; or no
+-- point hits there
+abbrev pub IsLastFrom : FittedTrace → List Step → List Numbered → ℕ → ℕ → ℕ → Option Hit → Type 0
+IsLastFrom f run points t from p (Some h) = (from ≤ h.position) × (h.position < p) × NoneWithin f run points t (suc h.position) p
+    × IsLowest f run points t h.position h.number
+IsLastFrom f run points t from p None = NoneWithin f run points t from p
 
 -- where the thread stands that has gone on to there
 abbrev pub reached : ℕ → Option Hit → ℕ

@@ -11,4 +11,4 @@ mod stepping;
 
 pub use hit::Hit;
 pub use point::NumberedPoint;
-pub use search::{first_hit, last_hit};
+pub use search::{first_hit, last_hit, may_hit};

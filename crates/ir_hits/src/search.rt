@@ -1,13 +1,15 @@
 //! Where points hit a thread, found by taking the thread's steps anew, at once where no point can hit.
 
-ghost use Rattle.std.specs.Prelude.{◌≡◌, ◌<◌, ◌≤◌, ◌+◌, length, IfOk};
+ghost use Rattle.std.specs.Prelude.{◌≡◌, ◌<◌, ◌≤◌, ◌+◌, List, None, false, length, IfOk, OnOk};
+ghost use Rattle.ir_runs.specs.Run.{Step};
+ghost use Rattle.ir_fit.specs.Fit.{FittedTrace};
 ghost use Rattle.ir_trace.specs.TraceOf.{recorded_thread};
 ghost use Rattle.ir_cut.specs.Positions.{EachRun, cut_of};
 ghost use Rattle.ir_weave.specs.Standing.{StandsAt, flat_in};
 ghost use Rattle.ir_weave.specs.States.{positions};
-ghost use Rattle.ir_hits.specs.Hits.{AreWatchable, IsFirstHit, IsLastHit};
+ghost use Rattle.ir_hits.specs.Hits.{AreWatchable};
 ghost use Rattle.ir_hits.specs.Passing.{AreCovered};
-ghost use Rattle.ir_hits.specs.Searching.{AreLast, IsNextHit, IsStartHit, reached};
+ghost use Rattle.ir_hits.specs.Searching.{AreLast, IsLastFrom, IsNextHit, IsStartHit, NeverHits, reached, window_start};
 
 use crate::before::Before;
 use crate::hit::Hit;
@@ -24,6 +26,13 @@ use ir_thread::Thread;
 use std::alloc::{AllocError, Global};
 use std::thread::Threads;
 use std::time::Clock;
+
+/// Whether some point may hit thread t, wherever it stands.
+pub fn may_hit(t: usize, points: &[NumberedPoint]) -> bool
+    ensures { result ≡ false → (f : FittedTrace) (run : List Step) → NeverHits f run points.now t }
+{
+    some_concerns(t, points)
+}
 
 // Where a point hits thread t next, at most at a position. The thread goes on to there, and to that position where none does.
 fn next_hit<R: Threads + Clock + Sync, G: Gate + Sync>(
@@ -65,8 +74,8 @@ fn next_hit<R: Threads + Clock + Sync, G: Gate + Sync>(
     Ok(None)
 }
 
-/// Where a point first hits thread t above the position at which it stands, if one does. The threads and objects go on to there, or
-/// to the thread's last position; the other threads as far as its steps need. Where no point concerns the thread, they stay.
+/// Where a point first hits thread t above the position at which it stands and at most at another, if one does. The threads and objects
+/// go on to there, or to that other position; the other threads as far as its steps need.
 ///
 /// # Errors
 /// Out of memory, with the threads and objects at some consistent cut.
@@ -76,29 +85,27 @@ pub fn first_hit<R: Threads + Clock + Sync, G: Gate + Sync>(
     fitted: &Fitted,
     state: &mut State,
     t: usize,
+    to: u64,
     points: &[NumberedPoint],
     gate: &G,
 ) -> Result<Option<Hit>, AllocError>
     requires stands { StandsAt fitted.now (positions (flat_in fitted.now state.old)) state.old }
     requires thread { t < length fitted.now.guest.entries }
+    requires within { (positions (flat_in fitted.now state.old) t ≤ to) × (to ≤ (recorded_thread fitted.now.recorded t).steps) }
     requires points { AreWatchable points.now }
     ensures stands { StandsAt fitted.now (positions (flat_in fitted.now state.new)) state.new }
-    ensures hit { IfOk result (λ h. EachRun fitted.now (λ run. IsFirstHit fitted.now run points.now t (positions (flat_in fitted.now state.old) t) h)) }
+    ensures hit { IfOk result (λ h. EachRun fitted.now (λ run. IsNextHit fitted.now run points.now t (positions (flat_in fitted.now state.old) t) to h)) }
+    ensures reached { IfOk result (λ h. positions (flat_in fitted.now state.new) t ≡ reached to h) }
 {
-    if !some_concerns(t, points) {
-        return Ok(None);
-    }
-    fitted.known();
     let last = last_cut(alloc, fitted)?;
     let code = marked_code(alloc, fitted.image().code(), t, points)?;
     let mut notes = vec![in alloc; Before::Nothing; points.len()]?;
-    let to = last.position(t);
     next_hit(
         rt, alloc, fitted, state, t, to, &last, &code, points, &mut notes, gate,
     )
 }
 
-// The hit of thread t at its start, if a point hits there.
+// The hit of thread t where it stands, if that is its start and a point hits there.
 fn start_hit(
     thread: &Thread,
     t: usize,
@@ -108,8 +115,12 @@ fn start_hit(
 ) -> Option<Hit>
     requires points { AreWatchable points.now }
     requires size { length notes.now ≡ length points.now }
-    ensures { IsStartHit t end thread.now notes.now points.now result }
+    ensures start { thread.now.steps ≡ 0 → IsStartHit t end thread.now notes.now points.now result }
+    ensures later { 0 < thread.now.steps → result ≡ None }
 {
+    if thread.steps() > 0 {
+        return None;
+    }
     let number = lowest(thread, t, end, points, notes)?;
     Some(Hit {
         position: 0,
@@ -117,7 +128,7 @@ fn start_hit(
     })
 }
 
-// Where a point last hits thread t, at most at a position, where `found` is the last hit so far.
+// Where a point last hits thread t in a window that ends at a position, where `found` is the last hit so far.
 fn last_in<R: Threads + Clock + Sync, G: Gate + Sync>(
     rt: &R,
     alloc: Global,
@@ -140,9 +151,10 @@ fn last_in<R: Threads + Clock + Sync, G: Gate + Sync>(
     requires covered { AreCovered code.now t points.now }
     requires points { AreWatchable points.now }
     requires size { length notes.old ≡ length points.now }
-    requires found { EachRun fitted.now (λ run. IsLastHit fitted.now run points.now t (positions (flat_in fitted.now state.old) t + 1) found) }
+    requires found { EachRun fitted.now (λ run. IsLastFrom fitted.now run points.now t (window_start (positions (flat_in fitted.now state.old) t)) (positions (flat_in fitted.now state.old) t + 1) found) }
     ensures stands { StandsAt fitted.now (positions (flat_in fitted.now state.new)) state.new }
-    ensures hit { IfOk result (λ h. EachRun fitted.now (λ run. IsLastHit fitted.now run points.now t (to + 1) h)) }
+    ensures hit { IfOk result (λ h. EachRun fitted.now (λ run. IsLastFrom fitted.now run points.now t (window_start (positions (flat_in fitted.now state.old) t)) (to + 1) h)) }
+    ensures reached { OnOk result (positions (flat_in fitted.now state.new) t ≡ to) }
 {
     fitted.known();
     let mut found = found;
@@ -154,9 +166,8 @@ fn last_in<R: Threads + Clock + Sync, G: Gate + Sync>(
     Ok(found)
 }
 
-/// Where a point last hits thread t below a position, if one does. The threads and objects are brought to the start, and go on until
-/// the thread is at the last position below this one; the other threads as far as its steps need. Where there is no such position,
-/// or no point concerns the thread, they stay.
+/// Where a point last hits thread t above the position at which it stands, or also there where that is its start, and at most at
+/// another, if one does. The threads and objects go on to that other position; the other threads as far as its steps need.
 ///
 /// # Errors
 /// Out of memory, with the threads and objects at some consistent cut.
@@ -166,37 +177,24 @@ pub fn last_hit<R: Threads + Clock + Sync, G: Gate + Sync>(
     fitted: &Fitted,
     state: &mut State,
     t: usize,
-    below: u64,
+    to: u64,
     points: &[NumberedPoint],
     gate: &G,
 ) -> Result<Option<Hit>, AllocError>
     requires stands { StandsAt fitted.now (positions (flat_in fitted.now state.old)) state.old }
     requires thread { t < length fitted.now.guest.entries }
-    requires below { below ≤ (recorded_thread fitted.now.recorded t).steps }
+    requires within { (positions (flat_in fitted.now state.old) t ≤ to) × (to ≤ (recorded_thread fitted.now.recorded t).steps) }
     requires points { AreWatchable points.now }
     ensures stands { StandsAt fitted.now (positions (flat_in fitted.now state.new)) state.new }
-    ensures hit { IfOk result (λ h. EachRun fitted.now (λ run. IsLastHit fitted.now run points.now t below h)) }
+    ensures hit { IfOk result (λ h. EachRun fitted.now (λ run. IsLastFrom fitted.now run points.now t (window_start (positions (flat_in fitted.now state.old) t)) (to + 1) h)) }
+    ensures reached { OnOk result (positions (flat_in fitted.now state.new) t ≡ to) }
 {
-    if below == 0 || !some_concerns(t, points) {
-        return Ok(None);
-    }
     let last = last_cut(alloc, fitted)?;
     let code = marked_code(alloc, fitted.image().code(), t, points)?;
     let mut notes = vec![in alloc; Before::Nothing; points.len()]?;
-    *state = State::start(alloc, fitted)?;
-    let found = start_hit(thread_of(state, t), t, last.position(t), points, &notes);
+    let end = last.position(t);
+    let found = start_hit(thread_of(state, t), t, end, points, &notes);
     last_in(
-        rt,
-        alloc,
-        fitted,
-        state,
-        t,
-        below - 1,
-        &last,
-        &code,
-        points,
-        &mut notes,
-        found,
-        gate,
+        rt, alloc, fitted, state, t, to, &last, &code, points, &mut notes, found, gate,
     )
 }

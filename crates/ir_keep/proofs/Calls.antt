@@ -2,8 +2,8 @@
 use Rattle.std.proofs.Common.{◌≡◌, ◌≢◌, ◌+◌, ◌-◌, ◌*◌, ◌<◌, ◌≤◌, ℕ, zero, suc, List, [], ◌∷◌, ◌++◌, length, map, take, drop, set, get_or, Option, Some, None, option_map, refl, sym, ap, ◌∙◌, subst, arith}
 use Rattle.std.proofs.lemmas.List.{take_all, length-drop}
 use Rattle.std.proofs.lemmas.List.Elements.{All-head, All-cons}
-use Rattle.std.proofs.lemmas.Option.{none-some}
-use Rattle.std.specs.List.{All, remove}
+use Rattle.std.proofs.lemmas.Option.{none-some, slice_get_past}
+use Rattle.std.specs.List.{All, remove, slice_get}
 use Rattle.ir_image.specs.Guest.{most_threads}
 use Rattle.ir_fit.specs.Fit.{FittedTrace}
 use Rattle.ir_weave.specs.Standing.{Standing, StandsAt}
@@ -271,3 +271,24 @@ pub is_none : (last n p : ℕ) (entries slice : List Entry) (k : Keeping) → ke
 is_none last n p entries slice k view same at le =
     let place : p ≡ place_of n entries = at ∙ ap (place_of n) same in
     ap (λ (x : Keeping). kept_as n x.kept) (sym view) ∙ kept_nowhere n entries (omega (arith, le, place))
+
+-- ---- numbers by their places
+
+number_there : (place : ℕ) (entries : List Entry) (d : Entry) → place < length entries
+    → option_map (λ (x : Kept). x.number) (slice_get (all_kept entries) place) ≡ Some (get_or entries place d).number
+number_there place [] d lt = absurd (omega (arith, lt))
+number_there zero (e ∷ entries) d lt = refl
+number_there (suc place) (e ∷ entries) d lt = number_there place entries d (omega (arith, lt))
+
+pub number_kept : (last place number : ℕ) (entries : List Entry) (d : Entry) (k : Keeping) → keeping_of entries last ≡ k
+    → place < length entries → number ≡ (get_or entries place d).number
+    → Some number ≡ option_map (λ (x : Kept). x.number) (slice_get k.kept place)
+number_kept last place number entries d k view lt is =
+    ap Some is ∙ sym (number_there place entries d lt)
+    ∙ ap (λ (x : Keeping). option_map (λ (y : Kept). y.number) (slice_get x.kept place)) view
+
+pub number_past : (last place : ℕ) (entries : List Entry) (k : Keeping) → keeping_of entries last ≡ k → length entries ≤ place
+    → None ≡ option_map (λ (x : Kept). x.number) (slice_get k.kept place)
+number_past last place entries k view le =
+    sym (ap (option_map (λ (x : Kept). x.number)) (slice_get_past (all_kept entries) place (omega (arith, le, length_kept entries))))
+    ∙ ap (λ (x : Keeping). option_map (λ (y : Kept). y.number) (slice_get x.kept place)) view

@@ -1,6 +1,6 @@
 //! Cuts that are kept, with the state at each.
 
-ghost use Rattle.std.specs.Prelude.{◌≡◌, ◌≢◌, ◌↔◌, ◌+◌, ◌<◌, ◌≤◌, ℕ, length, IfOk, OnErr, IsErrOf, MatchOption, Some, None, option_map};
+ghost use Rattle.std.specs.Prelude.{◌≡◌, ◌≢◌, ◌↔◌, ◌+◌, ◌<◌, ◌≤◌, ℕ, length, slice_get, IfOk, OnErr, IsErrOf, MatchOption, Some, None, option_map};
 ghost use Rattle.ir_keep.specs.Keeping.{Keeping, IsCutFor, IsLike, IsNearest, IsNew, after_drop, after_keep, cut_in, kept_as, most_kept, page_count};
 ghost use Rattle.std.specs.List.{All};
 ghost use Rattle.ir_image.specs.Guest.{most_threads};
@@ -19,8 +19,8 @@ use ir_weave::State;
 use std::alloc::{AllocError, AllocFailed, Global};
 use std::marker::Model;
 
-// The start, and 64 beside it.
-const MOST_KEPT: usize = 65;
+/// The most cuts that are kept: the start, and 64 beside it.
+pub const MOST_KEPT: usize = 65;
 
 /// Why a state isn't kept.
 #[derive(Debug, Drop)]
@@ -165,6 +165,17 @@ impl Keeper {
         }
         let entry = &self.entries[place];
         Some(&entry.cut)
+    }
+
+    /// The number of the kept cut at a place; the greatest number has the first, and past the last there is none.
+    pub fn number_at(&self, place: usize) -> Option<u32>
+        ensures { result ≡ option_map (λ k. k.number) (slice_get self.now.kept place) }
+    {
+        if place >= self.entries.len() {
+            return None;
+        }
+        let entry = &self.entries[place];
+        Some(entry.number)
     }
 
     /// The state that was kept as n, which is kept.

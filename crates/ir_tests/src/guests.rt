@@ -294,6 +294,20 @@ again:  addi    t0, t0, -1
 ",
 ];
 
+/// Counts down from 2^19 three times, in 3 * 2^20 + 12 steps; each time begins at 0x10004, 2^20 + 3 steps after the one before.
+pub const COUNTED_THRICE: Source = &[
+    "
+        addi    t1, zero, 3
+outer:  lui     t0, 0x80
+again:  addi    t0, t0, -1
+        bne     t0, zero, again
+        addi    t1, t1, -1
+        bne     t1, zero, outer
+        addi    a7, zero, 1             # END
+        ecall
+",
+];
+
 /// Enters object 0 for writing (step 1), leaves the code, and releases the object.
 pub const HELD_OUTSIDE: Source = &[
     "

@@ -1,6 +1,8 @@
 //! Sessions that set points and go on to where they hit.
 
-use crate::guests::{BROKEN_INSIDE, CHANGED_ONCE, DOUBLED, READ_THEN_WRITE, Source, TWO_COUNTERS};
+use crate::guests::{
+    BROKEN_INSIDE, CHANGED_ONCE, COUNTED_THRICE, DOUBLED, READ_THEN_WRITE, Source, TWO_COUNTERS,
+};
 use crate::sessions::{Said, are_answered, files_of, is_answered};
 use crate::traces::EventRow::Write;
 use crate::traces::{ENDED_BY_144, READ_AND_WRITTEN, Ran, SECOND_FIRST, TraceRow};
@@ -130,6 +132,44 @@ at 7 hit 2\nat 0 start\n",
         ),
     ),
 ];
+
+// Of `COUNTED_THRICE`.
+const TWO_WINDOWS: TraceRow = TraceRow {
+    objects: 0,
+    budget: 10_000_000,
+    threads: &[Ran(3_145_740, 1, 0, &[])],
+};
+
+// Searches that go over more than two stretches, and so over states that are kept on the way.
+const OF_STRETCHES: [Said; 4] = [
+    // A hit in each.
+    (
+        "break 0 0x10004\ncont 0\ncont 0\ncont 0\ncont 0\nrcont 0\nrcont 0\nrcont 0\nrcont 0\nrcont 0\n",
+        "ready\npoint 1\nat 1 hit 1\nat 1048580 hit 1\nat 2097159 hit 1\nat 3145740 end\nat 2097159 hit 1\n\
+at 1048580 hit 1\nat 1 hit 1\nat 0 start\nat 0 start\n",
+    ),
+    // At the start alone.
+    (
+        "break 0 0x10000\nend\nrcont 0\nrcont 0\n",
+        "ready\npoint 1\nat 3145740\nat 0 hit 1 start\nat 0 start\n",
+    ),
+    // Where a state is kept, from far above and from right above; and where one is kept and the thread stands there.
+    (
+        "goto 0 1048580\nkeep\nbreak 0 0x10004\nend\nrcont 0\nrcont 0\nstep 0 1\nrcont 0\nrcont 0\n",
+        "ready\nat 1048580\nkept 1\npoint 1\nat 3145740\nat 2097159 hit 1\nat 1048580 hit 1\n\
+at 1048581\nat 1048580 hit 1\nat 1 hit 1\n",
+    ),
+    // Nowhere, both ways.
+    (
+        "watch 0 0x100000\ncont 0\nrcont 0\n",
+        "ready\npoint 1\nat 3145740 end\nat 0 start\n",
+    ),
+];
+
+#[test]
+fn long_ways_are_continued(rt: HostRuntime) -> Result<(), Fail> {
+    are_answered(&rt, COUNTED_THRICE, TWO_WINDOWS, &OF_STRETCHES)
+}
 
 #[test]
 fn two_threads_are_continued(rt: HostRuntime) -> Result<(), Fail> {

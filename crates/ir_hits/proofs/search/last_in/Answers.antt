@@ -1,7 +1,7 @@
-use Rattle.std.proofs.Common.{◌≡◌, ◌<◌, ◌-◌, ◌∙◌, subst, arith}
+use Rattle.std.proofs.Common.{◌≡◌, ◌<◌, ◌-◌, ◌∙◌, ap, subst, arith}
 use Rattle.ir_weave.specs.Standing.{flat_in}
 use Rattle.ir_weave.specs.States.{positions}
-use Rattle.ir_hits.specs.Searching.{IsNextHit}
+use Rattle.ir_hits.specs.Searching.{IsNextHit, reached, window_start}
 use Rattle.ir_hits.proofs.Windows.{at_hit, last_here, last_stays}
 use Rattle.ir_hits.proofs.search.last_in.Goals as goal
 
@@ -28,10 +28,13 @@ hits-preserved g c =
     (c.in_ok-hit.ensures.hit run c.known.ensures.run.whole) in
     let at : new ≡ c.in-Some.hit.position = at_hit c.args.to new c.in_ok-hit.field-0 c.in-Some.hit
     c.in_ok-hit.ensures.reached c.in-Some.is in
+    let above = c.hits.invariant.above in
     record {
       stands = c.next_hit.ensures.stands;
       within = omega (arith, at, next.1);
-      last = λ run whole. last_here f run c.args.points.now c.args.t old c.args.to new c.in-Some.hit at
+      above = omega (arith, above, at, next.0);
+      last = λ run whole. last_here f run c.args.points.now c.args.t (positions (flat_in f c.args.state.now) c.args.t) old c.args.to new
+          c.in-Some.hit above at
           (subst (IsNextHit f run c.args.points.now c.args.t old c.args.to) c.in-Some.is (c.in_ok-hit.ensures.hit run whole));
       size = c.next_hit.ensures.size ∙ c.hits.invariant.size;
     }
@@ -40,5 +43,9 @@ pub returns-clause-hit : goal.returns-clause-hit
 returns-clause-hit g c run whole =
     let f = c.args.fitted.now in
     let old = positions (flat_in f c.hits.state) c.args.t in
-    last_stays f run c.args.points.now c.args.t old c.args.to c.hits.invariant.within c.hits.found (c.hits.invariant.last run whole)
+    last_stays f run c.args.points.now c.args.t (window_start (positions (flat_in f c.args.state.now) c.args.t)) old c.args.to
+    c.hits.invariant.within c.hits.found (c.hits.invariant.last run whole)
     (subst (IsNextHit f run c.args.points.now c.args.t old c.args.to) c.in_default.is (c.in_ok-hit.ensures.hit run whole))
+
+pub returns-clause-reached : goal.returns-clause-reached
+returns-clause-reached g c = c.in_ok-hit.ensures.reached ∙ ap (reached c.args.to) c.in_default.is

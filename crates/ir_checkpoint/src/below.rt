@@ -1,0 +1,87 @@
+//! States that are kept in which a thread stands below a position.
+
+ghost use Rattle.std.specs.Prelude.{◌<◌, length, IfOk, IfSome};
+ghost use Rattle.ir_weave.specs.Standing.{flat_in};
+ghost use Rattle.ir_weave.specs.States.{positions};
+ghost use Rattle.ir_checkpoint.specs.Checkpoints.{AllStand, Stands};
+ghost use Rattle.ir_checkpoint.specs.Below.{IsBelow};
+
+use ir_fit::Fitted;
+use ir_keep::{Keeper, MOST_KEPT};
+use ir_replay::State;
+use std::alloc::AllocError;
+
+/// A state that is kept: its number, and where the thread that was asked for stands there.
+#[derive(Clone, Copy)]
+pub struct Found {
+    pub number: u32,
+    pub position: u64,
+}
+
+// The kept state at a place, if thread t stands below the position there.
+fn below_at(
+    fitted: &Fitted,
+    keeper: &Keeper,
+    place: usize,
+    t: usize,
+    position: u64,
+) -> Option<Found>
+    requires kept { AllStand fitted.now keeper.now.kept }
+    requires thread { t < length fitted.now.guest.entries }
+    ensures { IfSome result (IsBelow keeper.now.kept t position) }
+{
+    let number = keeper.number_at(place)?;
+    let cut = keeper.cut(number)?;
+    let own = cut.position(t);
+    if own >= position {
+        return None;
+    }
+    Some(Found {
+        number,
+        position: own,
+    })
+}
+
+/// Whether the thread stands further on than in the best so far.
+pub fn is_further(best: Option<Found>, found: Found) -> bool {
+    match best {
+        None => true,
+        Some(best) => best.position < found.position,
+    }
+}
+
+/// The state with the most steps of thread t, of those in which it stands below the position.
+pub fn last_below(fitted: &Fitted, keeper: &Keeper, t: usize, position: u64) -> Option<Found>
+    requires kept { AllStand fitted.now keeper.now.kept }
+    requires thread { t < length fitted.now.guest.entries }
+    ensures { IfSome result (IsBelow keeper.now.kept t position) }
+{
+    let mut best: Option<Found> = None;
+    for place in 0..MOST_KEPT {
+        if let Some(found) = below_at(fitted, keeper, place, t, position) {
+            if is_further(best, found) {
+                best = Some(found);
+            }
+        }
+    }
+    best
+}
+
+/// That state.
+///
+/// # Errors
+/// Out of memory.
+pub fn restore_found(
+    fitted: &Fitted,
+    keeper: &Keeper,
+    t: usize,
+    position: u64,
+    found: Found,
+) -> Result<State, AllocError>
+    requires kept { AllStand fitted.now keeper.now.kept }
+    requires below { IsBelow keeper.now.kept t position found }
+    ensures stands { IfOk result (λ s. Stands fitted.now s) }
+    ensures below { IfOk result (λ s. positions (flat_in fitted.now s) t < position) }
+{
+    keeper.restore(found.number)
+}

@@ -1,0 +1,43 @@
+use Rattle.std.proofs.Common.{◌≡◌, ◌≤◌, ◌∙◌, ap, arith}
+use Rattle.ir_weave.specs.Standing.{flat_in}
+use Rattle.ir_weave.specs.States.{positions}
+use Rattle.ir_hits.specs.Searching.{reached}
+use Rattle.ir_debug.specs.Machine.Desk.{last_of}
+use Rattle.ir_debug.proofs.Searches.{stands_here, hit_next, none_next, none_first}
+use Rattle.ir_debug.proofs.searching.hit_above.Goals as goal
+
+pub returns-in-Some-clause-hit : goal.returns-in-Some-clause-hit
+returns-in-Some-clause-hit g c =
+    let f = c.args.fitted.now in
+    let t = c.args.t in
+    hit_next f c.args.points.now t (positions (flat_in f c.args.state.now) t) (positions (flat_in f c.stretches.state) t)
+    c.stretch_end-to.result c.in_ok-hit.field-0 c.in-Some.hit c.stretches.invariant.above c.stretches.invariant.none
+    c.in_ok-hit.ensures.hit c.in-Some.is
+
+pub stretches-preserved : goal.stretches-preserved
+stretches-preserved g c =
+    let f = c.args.fitted.now in
+    let t = c.args.t in
+    let old = positions (flat_in f c.stretches.state) t in
+    let new = positions (flat_in f c.first_hit.new.state) t in
+    let to = c.stretch_end-to.result in
+    let at : new ≡ to = c.in_ok-hit.ensures.reached ∙ ap (reached to) c.in_default.is in
+    let here : c.position_of-in-stretches.result ≡ old =
+    stands_here f c.stretches.state t c.position_of-in-stretches.result c.position_of-in-stretches.ensures in
+    let above = c.stretches.invariant.above in
+    record {
+      checkpoints = c.pass.ensures;
+      stands = c.first_hit.ensures.stands;
+      above = omega (arith, above, at, here, c.stretch_end-to.ensures.above);
+      none = none_next f c.args.points.now t (positions (flat_in f c.args.state.now) t) old to new c.in_ok-hit.field-0
+          c.stretches.invariant.none c.in_ok-hit.ensures.hit c.in_ok-hit.ensures.reached c.in_default.is;
+    }
+
+pub returns-clause-hit : goal.returns-clause-hit
+returns-clause-hit g c =
+    let f = c.args.fitted.now in
+    let t = c.args.t in
+    let now = positions (flat_in f c.stretches.state) t in
+    let here : c.position_of.result ≡ now = stands_here f c.stretches.state t c.position_of.result c.position_of.ensures in
+    let all : last_of f t ≤ now = omega (arith, c.last_position-last.ensures, here, c.stretches-test.false) in
+    none_first f c.args.points.now t (positions (flat_in f c.args.state.now) t) now c.requires.thread all c.stretches.invariant.none

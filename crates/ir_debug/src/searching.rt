@@ -1,0 +1,123 @@
+//! Searches for hits: upwards they keep states on their way, downwards they begin at states that are kept.
+
+ghost use Rattle.std.specs.Prelude.{◌≡◌, ◌<◌, ◌≤◌, length, IfOk};
+ghost use Rattle.std.specs.List.{slice_index_or};
+ghost use Rattle.ir_flat.specs.Flat.{idle};
+ghost use Rattle.ir_cut.specs.Positions.{EachRun};
+ghost use Rattle.ir_weave.specs.Standing.{flat_in};
+ghost use Rattle.ir_weave.specs.States.{positions};
+ghost use Rattle.ir_checkpoint.specs.Checkpoints.{AreCheckpoints, Stands};
+ghost use Rattle.ir_hits.specs.Hits.{AreWatchable, IsFirstHit, IsLastHit};
+ghost use Rattle.ir_debug.specs.Machine.Desk.{last_of, threads_of};
+
+use crate::destinations::last_position;
+use ir_checkpoint::Checkpoints;
+use ir_fit::Fitted;
+use ir_hits::{Hit, NumberedPoint, first_hit, last_hit, may_hit};
+use ir_object::Gate;
+use ir_replay::State;
+use std::alloc::{AllocError, Global};
+use std::thread::Threads;
+use std::time::Clock;
+
+// So many steps a search upwards goes from one state that it keeps to the next.
+const STRETCH: u64 = 1 << 20;
+
+// Where thread t stands.
+fn position_of(state: &State, t: usize) -> u64
+    requires { t < length state.now.threads }
+    ensures { result ≡ (slice_index_or state.now.threads t idle).steps }
+{
+    state.threads()[t].steps()
+}
+
+// The last position of a stretch that begins at a position.
+fn stretch_end(position: u64, last: u64) -> u64
+    requires { position < last }
+    ensures above { position < result }
+    ensures within { result ≤ last }
+{
+    position.saturating_add(STRETCH).min(last)
+}
+
+/// Where a point first hits thread t above the position at which it stands, if one does. The threads and objects go on to there, or to the
+/// thread's last position; the other threads as far as its steps need. Where no point may hit the thread, they stay. On a long way it
+/// keeps states; a want of memory for one of these is none for the search.
+///
+/// # Errors
+/// Out of memory, with the threads and objects at some consistent cut.
+pub fn hit_above<R: Threads + Clock + Sync, G: Gate + Sync>(
+    rt: &R,
+    alloc: Global,
+    fitted: &Fitted,
+    checkpoints: &mut Checkpoints,
+    state: &mut State,
+    t: usize,
+    points: &[NumberedPoint],
+    gate: &G,
+) -> Result<Option<Hit>, AllocError>
+    requires checkpoints { AreCheckpoints fitted.now checkpoints.old }
+    requires stands { Stands fitted.now state.old }
+    requires thread { t < threads_of fitted.now }
+    requires points { AreWatchable points.now }
+    ensures checkpoints { AreCheckpoints fitted.now checkpoints.new }
+    ensures stands { Stands fitted.now state.new }
+    ensures hit { IfOk result (λ h. EachRun fitted.now (λ run. IsFirstHit fitted.now run points.now t (positions (flat_in fitted.now state.old) t) h)) }
+{
+    if !may_hit(t, points) {
+        return Ok(None);
+    }
+    fitted.known();
+    let last = last_position(fitted, t);
+    'stretches: while position_of(state, t) < last {
+        let to = stretch_end(position_of(state, t), last);
+        if let Some(hit) = first_hit(rt, alloc, fitted, state, t, to, points, gate)? {
+            return Ok(Some(hit));
+        }
+        checkpoints.pass(fitted, state);
+    }
+    Ok(None)
+}
+
+/// Where a point last hits thread t below a position, if one does. It looks at one window after the other, downwards, each from a state
+/// that is kept up to where the window before it began, so that it looks at each position once. The threads and objects are then at the
+/// end of the window in which the hit is, or of the first. Where no point may hit the thread, they stay.
+///
+/// # Errors
+/// Out of memory, with the threads and objects at some consistent cut.
+pub fn hit_below<R: Threads + Clock + Sync, G: Gate + Sync>(
+    rt: &R,
+    alloc: Global,
+    fitted: &Fitted,
+    checkpoints: &mut Checkpoints,
+    state: &mut State,
+    t: usize,
+    position: u64,
+    points: &[NumberedPoint],
+    gate: &G,
+) -> Result<Option<Hit>, AllocError>
+    requires checkpoints { AreCheckpoints fitted.now checkpoints.old }
+    requires stands { Stands fitted.now state.old }
+    requires thread { t < threads_of fitted.now }
+    requires within { position ≤ last_of fitted.now t }
+    requires points { AreWatchable points.now }
+    ensures checkpoints { AreCheckpoints fitted.now checkpoints.new }
+    ensures stands { Stands fitted.now state.new }
+    ensures hit { IfOk result (λ h. EachRun fitted.now (λ run. IsLastHit fitted.now run points.now t position h)) }
+{
+    if position == 0 || !may_hit(t, points) {
+        return Ok(None);
+    }
+    let mut to = position - 1;
+    'windows: loop {
+        *state = checkpoints.restore_before(alloc, fitted, t, to)?;
+        let from = position_of(state, t);
+        if let Some(hit) = last_hit(rt, alloc, fitted, state, t, to, points, gate)? {
+            return Ok(Some(hit));
+        }
+        if from == 0 {
+            return Ok(None);
+        }
+        to = from;
+    }
+}
