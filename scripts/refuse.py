@@ -8,8 +8,9 @@ thread that isn't started is among the requests. A command of a session answers 
 memory`, after which position and kept cuts are as before and the same command answers as it would have; and so do points, which a second run
 of the session asks for by moves to their hits. A session that can't be opened writes nothing. `ir asm`, `ir record` and `ir trace` end as with
 ample memory, or with status 1 and a line that says why; then lines that are missing are the last, and a file that is there is whole. Where a
-thread isn't started all is as with ample memory. With `--tests`, a built program of tests, so does each of its `memory_tests`, which has to pass
-whatever is refused. A line a row says how many refusals were tried, and what became of them; the last line is `N passed, M failed`. Needs Linux
+thread isn't started all is as with ample memory. Then the same with all requests refused from that one on, where a session may go on to want
+for memory, and ends by `quit`. With `--tests`, a built program of tests, each of its `memory_tests` is walked too, which has to pass whichever
+request is refused. A line a row says how many refusals were tried, and what became of them; the last line is `N passed, M failed`. Needs Linux
 and a C compiler (`cc`), for a library that is loaded before the program.
 """
 import argparse
@@ -28,7 +29,8 @@ ROOT = Path(__file__).resolve().parent.parent
 PROGRAM = LIBRARY = ""
 TOO_LITTLE = b"refused 8 no memory\n"
 
-# Refuses one request for memory (m) or for a thread (t), the one of this number, and tells it by that byte on a descriptor.
+# Refuses one request for memory (m) or for a thread (t), the one of this number, and tells it by that byte on a descriptor; where it is to last,
+# all after it too.
 SOURCE = r"""
 #define _GNU_SOURCE
 #include <dlfcn.h>
@@ -37,16 +39,20 @@ SOURCE = r"""
 #include <stdlib.h>
 #include <unistd.h>
 extern void *__libc_malloc(size_t), *__libc_calloc(size_t, size_t), *__libc_realloc(void *, size_t), *__libc_memalign(size_t, size_t);
-static long left = -1, told;
+static long refuses, lasts, left, told;
 __attribute__((constructor)) static void begin(void) {
     const char *number = getenv("REFUSED"), *descriptor = getenv("TOLD");
     told = descriptor ? atol(descriptor) : 2;
     left = number ? atol(number) : 0;
+    lasts = getenv("LASTS") != NULL;
+    refuses = left > 0;
 }
 static int refused(const char *kind) {
-    if (left <= 0 || __atomic_sub_fetch(&left, 1, __ATOMIC_SEQ_CST) != 0) return 0;
+    if (!refuses) return 0;
+    long now = __atomic_sub_fetch(&left, 1, __ATOMIC_SEQ_CST);
+    if (now > 0 || (now < 0 && !lasts)) return 0;
     errno = ENOMEM;
-    return write(told, kind, 1) == 1;
+    return now < 0 || write(told, kind, 1) == 1;
 }
 void *malloc(size_t n) { return refused("m") ? NULL : __libc_malloc(n); }
 void *calloc(size_t n, size_t m) { return refused("m") ? NULL : __libc_calloc(n, m); }
@@ -145,12 +151,12 @@ class Wrong(Exception):
 
 
 class Refused:
-    """A run of a program whose request of this number is refused; none is, where it is 0."""
+    """A run of a program whose request of this number is refused, and where that lasts all after it; none is, where it is 0."""
 
-    def __init__(self, words, folder, number, program="", **streams):
+    def __init__(self, words, folder, number, lasts=False, program="", **streams):
         self.reader, told = os.pipe()
         os.set_blocking(self.reader, False)
-        more = {"LD_PRELOAD": LIBRARY, "REFUSED": str(number), "TOLD": str(told)}
+        more = {"LD_PRELOAD": LIBRARY, "REFUSED": str(number), "TOLD": str(told)} | ({"LASTS": "1"} if lasts else {})
         self.run = subprocess.Popen([program or PROGRAM, *words.split()], cwd=folder, env=os.environ | more, pass_fds=(told,),
                                     stdout=subprocess.PIPE, stderr=subprocess.PIPE, **streams)
         os.close(told)
@@ -225,8 +231,28 @@ def compare(run, asked, commands, wanted):
         raise Wrong(f"after {asked.command}: {found!r}, before {wanted!r}")
 
 
-def converse(run, found, asks_points):
-    """Asks each command, and again one that wants for memory, where the points aren't asked for instead. Whether one wanted for it."""
+def after_want(run, asked, how):
+    """What is asked after a command that wanted for memory: once the command again, then the points, and while it lasts the command and the end.
+    Whether the session goes on."""
+    if how == "once":
+        compare(run, asked, ("pos", "kept", asked.command), asked.here + asked.answer)
+        return True
+    if how == "points":
+        compare(run, asked, (*POINTS, "quit"), asked.points + b"bye\n")
+        return False
+    compare(run, asked, ("pos", "kept"), asked.here)
+    ask(run.run, asked.command)
+    first = run.run.stdout.readline()
+    if first == TOO_LITTLE:
+        compare(run, asked, ("pos", "kept"), asked.here)
+    elif first + lines_of(run.run, asked.answer.count(b"\n") - 1) != asked.answer:
+        raise Wrong(f"{asked.command} again: {first!r} .., with ample memory {asked.answer!r}")
+    compare(run, asked, ("quit",), b"bye\n")
+    return False
+
+
+def converse(run, found, how):
+    """Asks each command, as long as the session goes on. Whether one wanted for memory."""
     wanted = False
     for asked in found:
         ask(run.run, asked.command)
@@ -235,10 +261,8 @@ def converse(run, found, asks_points):
             if not asked.may_want:
                 raise Wrong(f"{asked.command}: {first!r}")
             wanted = True
-            if asks_points:
-                compare(run, asked, (*POINTS, "quit"), asked.points + b"bye\n")
+            if not after_want(run, asked, how):
                 break
-            compare(run, asked, ("pos", "kept", asked.command), asked.here + asked.answer)
         elif first + lines_of(run.run, asked.answer.count(b"\n") - 1) != asked.answer:
             raise Wrong(f"{asked.command}: {first!r} .., with ample memory {asked.answer!r}")
     return wanted
@@ -251,27 +275,32 @@ def typed_before(folder, row):
     return b"".join((folder / f"{row[1]}.{end}").read_bytes().hex().encode() + b"\n" for end in ("img", "trc"))
 
 
-def session(folder, row, found, number, asks_points=False):
-    """A session with one refusal: what was refused, and what became of it."""
+def session(folder, row, found, number, how="once"):
+    """A session with one refusal: what was refused, and what became of it. Where one command wanted for memory, another that asks for the points;
+    then one in which the refusal lasts."""
     typed = typed_before(folder, row)
-    run = Refused("" if typed else f"debug {row[1]}.img {row[1]}.trc", folder, number, stdin=subprocess.PIPE)
+    words = "" if typed else f"debug {row[1]}.img {row[1]}.trc"
+    run = Refused(words, folder, number, how == "lasting", stdin=subprocess.PIPE)
     with contextlib.suppress(BrokenPipeError):
         run.run.stdin.write(typed)
         run.run.stdin.flush()
-    if not is_opened(run):
-        return "m", "not opened"
-    wanted = converse(run, found, asks_points)
-    status, out, error, met = run.ended()
-    if (status, out, error) != (0, b"", b"") or (wanted and met != "m"):
-        raise Wrong(f"the end: {status} {out!r} {error!r} {met!r}")
-    if wanted and not asks_points:
-        session(folder, row, found, number, True)
-    return met, "answered by refused 8" if wanted else "answered as with ample memory"
+    wanted, met, became = False, "m", "not opened"
+    if is_opened(run):
+        wanted = converse(run, found, how)
+        status, out, error, met = run.ended()
+        if (status, out, error) != (0, b"", b"") or (wanted and met != "m" and how != "lasting"):
+            raise Wrong(f"the end: {status} {out!r} {error!r} {met!r}")
+        became = "answered by refused 8" if wanted else "answered as with ample memory"
+    if how == "once" and wanted:
+        session(folder, row, found, number, "points")
+    if how == "once" and met:
+        session(folder, row, found, number, "lasting")
+    return met, became
 
 
-def whole(folder, words, files, number):
+def whole(folder, words, files, number, lasts=False):
     """What a run that is no session does: its end, and the files that it wrote."""
-    run = Refused(words, folder, number, stdin=subprocess.DEVNULL)
+    run = Refused(words, folder, number, lasts, stdin=subprocess.DEVNULL)
     status, out, error, met = run.ended()
     written = {}
     for name in files or ("new.trc",):
@@ -300,11 +329,11 @@ def is_ample(folder, files, found, ample):
     return (status, out.count(b"\n"), error) == (0, 8, b"") and eight_counted(folder, written.get("new.trc", b""))
 
 
-def one_run(folder, words, files, ample, number):
-    """A run with one refusal: what was refused, and what became of it."""
-    found, met = whole(folder, words, files, number)
+def ended_run(folder, words, files, ample, number, lasts):
+    """A run with one refusal or with all from there on: what was refused first, and what became of it."""
+    found, met = whole(folder, words, files, number, lasts)
     status, out, error, written = found
-    if met != "m" or (status, error.count(b"\n")) != (1, 1):
+    if (met != "m" and not lasts) or (status, error.count(b"\n")) != (1, 1):
         if not is_ample(folder, files, found, ample):
             raise Wrong(f"{met!r} {found[:3]!r} and {sorted(written)}")
         return met, "done as with ample memory"
@@ -318,9 +347,17 @@ def one_run(folder, words, files, ample, number):
     return met, "ended with status 1"
 
 
+def one_run(folder, words, files, ample, number):
+    """A run with one refusal: what was refused, and what became of it. Where there was one, another run in which it lasts."""
+    met, became = ended_run(folder, words, files, ample, number, False)
+    if met:
+        ended_run(folder, words, files, ample, number, True)
+    return met, became
+
+
 def one_test(folder, program, name, number):
     """A test with one refusal, which has to pass: what was refused."""
-    status, out, error, met = Refused(name, folder, number, program, stdin=subprocess.DEVNULL).ended()
+    status, out, error, met = Refused(name, folder, number, False, program, stdin=subprocess.DEVNULL).ended()
     if status != 0:
         raise Wrong(f"{status} {out!r} {error!r}")
     return met, "passed"
