@@ -1,6 +1,7 @@
 //! Sessions that read no more than a limit.
 
 use crate::guests::DOUBLED;
+use crate::line_tests::line_of;
 use crate::patches::{Patch, UNPATCHED, patched};
 use crate::sessions::{Files, files_of};
 use crate::streams::{Bytes, ENDLESS, Page};
@@ -13,9 +14,7 @@ use std::thread::Threads;
 use std::time::Clock;
 
 // The most bytes to be read, after which no further read succeeds; the lines, what is answered, and how it ends.
-type Limited = (u64, &'static [u8], &'static [u8], Result<Ended, SessionErr>);
-
-const LIMITED: [Limited; 4] = [
+const LIMITED: [(u64, &[u8], &[u8], Result<Ended, SessionErr>); 4] = [
     (
         8,
         b"pos\npos\npos\n",
@@ -41,7 +40,7 @@ const LIMITED: [Limited; 4] = [
 fn is_limited<R: AllocGlobal + Threads + Clock + Sync>(
     rt: &R,
     files: &Files,
-    row: Limited,
+    row: (u64, &[u8], &[u8], Result<Ended, SessionErr>),
 ) -> bool {
     let (limit, lines, answers, wanted) = row;
     let mut reader = Bytes::new(lines, limit);
@@ -65,6 +64,25 @@ fn no_byte_past_the_limit_is_read(rt: HostRuntime) -> Result<(), Fail> {
     for &row in &LIMITED {
         assert!(rt; is_limited(&rt, &files, row));
     }
+    Ok(())
+}
+
+const AFTER_5000: &[u8] = b"ready\nrefused 7 line too long\nat 0\n";
+
+#[test]
+fn a_long_line_counts_whole_towards_the_limit(rt: HostRuntime) -> Result<(), Fail> {
+    let files = files_of(rt.alloc(), DOUBLED, ENDED_BY_144)?;
+    let lines = line_of(rt.alloc(), 5000, b'x', b"\npos\n")?;
+    let (whole, short) = (lines.as_slice(), b"ready\n");
+    assert!(rt; is_limited(&rt, &files, (5006, whole, AFTER_5000, Ok(Ended::InputEnd))));
+    assert!(rt;
+        is_limited(
+            &rt,
+            &files,
+            (5005, whole, AFTER_5000, Err(SessionErr::TooLong))
+        )
+    );
+    assert!(rt; is_limited(&rt, &files, (5000, whole, short, Err(SessionErr::TooLong))));
     Ok(())
 }
 

@@ -9,7 +9,7 @@ use std::thread::Threads;
 use std::time::Clock;
 
 // So many of a byte, and a line's rest.
-fn line_of(alloc: Global, count: usize, byte: u8, rest: &[u8]) -> Result<Vec<u8>, AllocError> {
+pub fn line_of(alloc: Global, count: usize, byte: u8, rest: &[u8]) -> Result<Vec<u8>, AllocError> {
     let mut line = Vec::new(alloc);
     line.resize(count, byte)?;
     line.extend_from_slice(rest)?;
