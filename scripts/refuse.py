@@ -106,8 +106,10 @@ def counters(example, threads):
     return COUNTING * threads + example.replace(COUNTING, "")
 
 
-MOVES = ("step 0 3", "keep", "watch 0 0x100000", "break 0 0x10008", "end", "rcont 0", "back 0 1", "kept", "load 1", "cont 0", "goto 0 1",
-         "drop 1", "keep", "clear 1", "regs 0", "mem 0 0x10000 8", "out 0", "log 0", "next 0", "start", "load 9", "obj 0", "quit")
+# Moves of each kind, some of them looked at at once: then what is shown takes no memory.
+MOVES = ("step 0 3", "keep", "watch 0 0x100000", "break 0 0x10008", "end", "out 0", "rcont 0", "regs 0", "back 0 1", "regs 0", "kept", "load 1", "mem 0 0x10000 8",
+         "cont 0", "log 0", "goto 0 1", "regs 0", "drop 1", "keep", "clear 1", "regs 0", "mem 0 0x10000 8", "out 0", "log 0", "next 0", "start",
+         "regs 0", "load 9", "obj 0", "quit")
 
 # What may be answered by `refused 8`: these after any command, the others but for the first and right after a move.
 WANTING = {"step", "back", "goto", "start", "end", "cont", "rcont", "load", "keep", "next"}
