@@ -30,11 +30,18 @@ edits: ir
 program-test: ir
 	python3 scripts/program_test.py ./ir
 
-# Each request for memory refused in turn, on the built program. Needs Linux and a C compiler beside.
-refuse: ir
-	python3 scripts/refuse.py ./ir
+# The tests of ir_tests as a program, of which those about memory are run here. Proves them too.
+TESTS := crates/ir_tests/out/ir_tests_tests
 
-# Images and traces that were cut or changed, opened by the program. Needs Linux.
+$(TESTS): $(SOURCES)
+	python3 scripts/prove.py ir_tests
+	cd crates/ir_tests && rt test -- memory_tests
+
+# Each request for memory refused in turn, on the built program and in those tests. Needs Linux and a C compiler beside.
+refuse: ir $(TESTS)
+	python3 scripts/refuse.py ./ir --tests $(TESTS)
+
+# Images and traces that were cut or changed, opened by the program. Needs Linux and a C compiler beside.
 mutate: ir
 	python3 scripts/mutate.py ./ir
 

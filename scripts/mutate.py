@@ -3,12 +3,16 @@
 
     python3 scripts/mutate.py ./ir [--few] [--count N] [--seed S] [--jobs J]
 
-Every proper prefix of each image and trace (of `examples`, and of a guest of three threads), each other value of each of their bytes (with `--few`
-ten of the 255), and N random mutations of the traces of three threads (100,000 where none is given), each in a session of a few commands. A run may take 1 GiB of address space
-and 20 seconds of a processor. Then lengths and counts that aren't borne out. Needs Linux. The last line is `N passed, M failed`.
+Every proper prefix of each image and trace (of `examples`, and of guests of one to three threads below), each other value of each of their bytes
+(with `--few` ten of the 255), and N random mutations of the traces of three threads (100,000 where none is given), each in a session of a few
+commands. A run may take 1 GiB of address space and 20 seconds of a processor. Then counts and lengths that aren't borne out, of which each is
+told beside the most memory that was asked for at once: no more than without the count. Needs Linux and a C compiler (`cc`), for a library that
+counts the memory. The last line is `N passed, M failed`.
 """
 import argparse
+import collections
 import concurrent.futures
+import itertools
 import os
 import random
 import re
@@ -18,6 +22,9 @@ import subprocess
 import sys
 import tempfile
 from pathlib import Path
+
+from program_test import DOUBLE
+from refuse import REENTERED, STORES, counters
 
 ROOT = Path(__file__).resolve().parent.parent
 PROGRAM = ""
@@ -72,6 +79,61 @@ second: addi a7, zero, 4
         ebreak
 """
 
+# Ends inside an object, whose first word it has changed.
+BROKEN_INSIDE = "        .objects 1\n        addi a0, zero, 0\n        addi a7, zero, 8\n        ecall\n        addi a1, zero, 0\n" + """
+        addi a2, zero, 7
+        addi a7, zero, 11
+        ecall
+        ebreak
+"""
+
+# Enters object 3 and then object 2.
+FALLING = """
+        .objects 4
+        addi a0, zero, 3
+        addi a7, zero, 7
+        ecall
+        addi a0, zero, 2
+        ecall
+"""
+
+# Two threads enter an object for reading, leave it and end; of three the last enters it for writing.
+READERS = """
+        .objects 1
+        .thread reader
+        .thread reader
+reader: addi a0, zero, 0
+        addi a7, zero, 7
+        ecall
+        addi a7, zero, 9
+        ecall
+        addi a7, zero, 1
+        ecall
+"""
+READERS_AND_WRITER = READERS + """
+        .thread writer
+writer: addi a0, zero, 0
+        addi a7, zero, 8
+        ecall
+        addi a7, zero, 9
+        ecall
+        addi a7, zero, 1
+        ecall
+"""
+
+# Guests beside the examples: a name, the source, the order of the recording, the budget. Example `counter` has the loop of two counters.
+GUESTS = (
+    ("doubled", DOUBLE, "0", 1000),
+    ("doubled_short", DOUBLE, "0", 2),
+    ("two_counters", counters((ROOT / "examples" / "counter.s").read_text(), 2), "1x18", 1000),
+    ("reentered", REENTERED, "0", 1000),
+    ("stores", STORES, "0", 1000),
+    ("broken_inside", BROKEN_INSIDE, "0", 1000),
+    ("falling", FALLING, "0", 1000),
+    ("readers", READERS, "0,1", 1000),
+    ("readers_and_writer", READERS_AND_WRITER, "0x7,1x7", 1000),
+)
+
 # The orders in which the three are recorded.
 ORDERS = ("0", "2,1,0", "1x8,0x9,2x30", "0x6,1x12,2x12,0x20,1x30", "1,2,0,1,2,0,1,2,0,1,2,0,1,2,0,1,2,0")
 
@@ -80,16 +142,28 @@ VERDICTS = re.compile(rb"header differs \d+\n|incoherent thread \d+ event \d+ ca
                       rb"|(thread \d (same|disagrees event \d+ step \d+|starves event \d+)\n)+")
 
 
-def limited():
-    """A run's limits."""
-    resource.setrlimit(resource.RLIMIT_AS, (MOST_MEMORY, MOST_MEMORY))
-    resource.setrlimit(resource.RLIMIT_CPU, (MOST_SECONDS, MOST_SECONDS))
+def limited(words, typed, **how):
+    """The end of a run over what is typed, within its limits. It has them before its first line."""
+    streams = {"stdin": subprocess.PIPE, "stdout": subprocess.PIPE, "stderr": subprocess.PIPE}
+    with subprocess.Popen(words, **streams, **how) as run:
+        resource.prlimit(run.pid, resource.RLIMIT_AS, (MOST_MEMORY, MOST_MEMORY))
+        resource.prlimit(run.pid, resource.RLIMIT_CPU, (MOST_SECONDS, MOST_SECONDS))
+        try:
+            out, error = run.communicate(typed, timeout=120)
+        except subprocess.TimeoutExpired:
+            run.kill()
+            raise
+    return subprocess.CompletedProcess(words, run.returncode, out, error)
+
+
+def typed_of(image, trace):
+    """What is typed for a session over both."""
+    return image.hex().encode() + b"\n" + trace.hex().encode() + b"\n" + COMMANDS
 
 
 def session(image, trace):
     """The end of a session over both, and what it wrote."""
-    typed = image.hex().encode() + b"\n" + trace.hex().encode() + b"\n" + COMMANDS
-    return subprocess.run([PROGRAM], input=typed, capture_output=True, timeout=120, preexec_fn=limited)
+    return limited([PROGRAM], typed_of(image, trace))
 
 
 def outcome(ended):
@@ -128,19 +202,20 @@ def assembled(folder, name, source):
     return (folder / f"{name}.img").read_bytes()
 
 
-def recorded(folder, name, order):
+def recorded(folder, name, order, budget=1_000_000):
     """The trace of an image's guest by an order."""
-    words = shlex.split(f"record {name}.img {name}.trc --order {order} --input input")
+    words = shlex.split(f"record {name}.img {name}.trc --order {order} --budget {budget} --input input")
     subprocess.run([PROGRAM, *words], cwd=folder, check=True, stdout=subprocess.DEVNULL)
     return (folder / f"{name}.trc").read_bytes()
 
 
 def pairs(folder):
     """Images with traces, and of the three threads all traces."""
-    (folder / "input").write_bytes(b"input")
     found = []
     for path in sorted((ROOT / "examples").glob("*.s")):
         found.append((path.stem, assembled(folder, path.stem, path.read_text()), recorded(folder, path.stem, "0")))
+    for name, source, order, budget in GUESTS:
+        found.append((name, assembled(folder, name, source), recorded(folder, name, order, budget)))
     image = assembled(folder, "three", THREE)
     return found, image, [recorded(folder, "three", order) for order in ORDERS]
 
@@ -202,25 +277,98 @@ def all_cases(folder, count, seed, few):
         yield f"mutation {number} of seed {seed}", image, trace, b""
 
 
+# Keeps the most bytes that were asked for at once in a file of eight bytes.
+COUNTING = r"""
+#include <malloc.h>
+#include <stdlib.h>
+#include <sys/mman.h>
+extern void *__libc_malloc(size_t), *__libc_calloc(size_t, size_t), *__libc_realloc(void *, size_t), *__libc_memalign(size_t, size_t);
+extern void __libc_free(void *);
+static long now, unkept, *most = &unkept;
+__attribute__((constructor)) static void begin(void) {
+    void *kept = mmap(NULL, sizeof(long), PROT_READ | PROT_WRITE, MAP_SHARED, atoi(getenv("COUNTED")), 0);
+    if (kept == MAP_FAILED) abort();
+    most = kept;
+}
+static void *taken(void *p) {
+    long all = __atomic_add_fetch(&now, p ? malloc_usable_size(p) : 0, __ATOMIC_SEQ_CST), seen = *most;
+    while (all > seen && !__atomic_compare_exchange_n(most, &seen, all, 0, __ATOMIC_SEQ_CST, __ATOMIC_SEQ_CST)) {}
+    return p;
+}
+static void given(void *p) { __atomic_sub_fetch(&now, p ? malloc_usable_size(p) : 0, __ATOMIC_SEQ_CST); }
+void *malloc(size_t n) { return taken(__libc_malloc(n)); }
+void *calloc(size_t n, size_t m) { return taken(__libc_calloc(n, m)); }
+void *realloc(void *p, size_t n) {
+    given(p);
+    void *q = __libc_realloc(p, n);
+    return taken(q ? q : n ? p : q);
+}
+void *aligned_alloc(size_t a, size_t n) { return taken(__libc_memalign(a, n)); }
+void *memalign(size_t a, size_t n) { return taken(__libc_memalign(a, n)); }
+int posix_memalign(void **p, size_t a, size_t n) { return (*p = taken(__libc_memalign(a, n))) ? 0 : 12; }
+void free(void *p) { given(p); __libc_free(p); }
+"""
+
+
+def measured(library, words, typed, folder):
+    """The end of a run, and the most bytes that it asked for at once."""
+    with tempfile.TemporaryFile() as counted:
+        counted.write(bytes(8))
+        counted.flush()
+        more = {"LD_PRELOAD": library, "COUNTED": str(counted.fileno())}
+        ended = limited(words, typed, cwd=folder, env=os.environ | more, pass_fds=(counted.fileno(),))
+        counted.seek(0)
+        return ended, int.from_bytes(counted.read(8), sys.byteorder)
+
+
+def counts(image):
+    """Counts that the bytes don't bear: what, an image and a trace with the count, the same with the least count, and what is answered."""
+    def head(words, data):
+        return bytes.fromhex("495249310100") + words.to_bytes(4, "little") + data.to_bytes(4, "little") + bytes.fromhex("00000100")
+
+    def trace(events, threads=1):
+        start = b"IRT1" + bytes([threads, 0, 0, 0]) + (1_000_000).to_bytes(8, "little")
+        return start + (6).to_bytes(8, "little") + b"\1" + bytes(4) + events.to_bytes(4, "little")
+
+    image_short, trace_short = b"image refused 1\n", b"trace refused 1\n"
+    yield "16,384 words of code without them", head(16_384, 0), b"", head(1, 0), b"", image_short
+    yield "65,536 bytes of data without them", head(1, 65_536) + bytes(4), b"", head(1, 1) + bytes(4), b"", image_short
+    yield "1,048,576 events without them", image, trace(1_048_576), image, trace(1), trace_short
+    more = bytes([1]) * 9
+    yield "1,048,576 events, and one of them", image, trace(1_048_576) + more, image, trace(2) + more, trace_short
+    yield "eight threads with one of them", image, trace(1_048_576, 8), image, trace(1, 8), trace_short
+
+
 def unborne(folder):
-    """Lengths and counts that the bytes don't bear: what was wrong of each."""
+    """Counts and lengths that the bytes don't bear: what was wrong of each. A line of each is printed."""
+    library = f"{folder}/counting.so"
+    subprocess.run(["cc", "-O2", "-shared", "-fPIC", "-x", "c", "-", "-o", library], input=COUNTING.encode(), check=True)
     image, trace = assembled(folder, "hello", (ROOT / "examples" / "hello.s").read_text()), recorded(folder, "hello", "0")
-    words = bytes.fromhex("49524931 01 00 00400000 00000000 00000100")
-    events = bytes.fromhex("49525431 01 00 0000 40420f0000000000 0600000000000000 01 00000000 00001000")
-    longest = trace + bytes(100_000_000 - len(trace))
-    rows = (
-        ("16,384 words of code without them", words, trace, b"image refused 1\n"),
-        ("1,048,576 events without them", image, events, b"trace refused 1\n"),
-        ("100,000,000 bytes of zeros", image, bytes(100_000_000), b"trace refused 2\n"),
-        ("a trace, and zeros up to 100,000,000 bytes", image, longest, b"trace refused 7\n"),
-    )
-    for what, each, other, want in rows:
-        (folder / "u.img").write_bytes(each)
-        (folder / "u.trc").write_bytes(other)
-        ended = subprocess.run([PROGRAM, "debug", "u.img", "u.trc"], cwd=folder, input=COMMANDS, capture_output=True,
-                               timeout=120, preexec_fn=limited)
-        is_wanted = (ended.returncode, ended.stdout, ended.stderr) == (3, want, b"")
-        yield "" if is_wanted else f"{what}: {ended.returncode} {ended.stdout[:200]!r} {ended.stderr[:200]!r}"
+    for what, large_image, large_trace, least_image, least_trace, want in counts(image):
+        ended, most = measured(library, [PROGRAM], typed_of(large_image, large_trace), folder)
+        _, least = measured(library, [PROGRAM], typed_of(least_image, least_trace), folder)
+        print(f"{what}: {most} bytes at most, {least} with the least count", flush=True)
+        is_wanted = (ended.returncode, ended.stdout, ended.stderr) == (3, want, b"") and 0 < most <= least
+        yield "" if is_wanted else f"{what}: {ended.returncode} {ended.stdout[:200]!r} {ended.stderr[:200]!r}, {most} bytes, not {least}"
+    for what, long, want in (
+        ("100,000,000 bytes of zeros", bytes(100_000_000), b"trace refused 2\n"),
+        ("a trace, and zeros up to 100,000,000 bytes", trace + bytes(100_000_000 - len(trace)), b"trace refused 7\n"),
+    ):
+        (folder / "long.trc").write_bytes(long)
+        ended, most = measured(library, [PROGRAM, "debug", "hello.img", "long.trc"], COMMANDS, folder)
+        print(f"{what}: {most} bytes at most", flush=True)
+        is_wanted = (ended.returncode, ended.stdout, ended.stderr) == (3, want, b"") and len(long) <= most <= 3 * len(long)
+        yield "" if is_wanted else f"{what}: {ended.returncode} {ended.stdout[:200]!r} {ended.stderr[:200]!r}, {most} bytes"
+
+
+def judged(cases, jobs):
+    """What became of each case and what was wrong with it, ten thousand at a time, after which it is told how far it is."""
+    count = 0
+    with concurrent.futures.ProcessPoolExecutor(jobs) as pool:
+        while batch := list(itertools.islice(cases, 10_000)):
+            yield from pool.map(judge, batch, chunksize=64)
+            count += len(batch)
+            print(f"{count} tried, the last: {batch[-1][0]}", file=sys.stderr, flush=True)
 
 
 def main():
@@ -233,20 +381,20 @@ def main():
     parser.add_argument("--jobs", type=int, default=len(os.sched_getaffinity(0)))
     words = parser.parse_args()
     PROGRAM = os.path.abspath(words.program)
-    seen, faults = {}, []
+    seen, faults = collections.Counter(), []
     with tempfile.TemporaryDirectory() as name:
         folder = Path(name)
-        with concurrent.futures.ProcessPoolExecutor(words.jobs) as pool:
-            for found, fault in pool.map(judge, all_cases(folder, words.count, words.seed, words.few), chunksize=64):
-                seen[found] = seen.get(found, 0) + 1
-                faults += [fault] if fault else []
+        (folder / "input").write_bytes(b"input")
         for fault in unborne(folder):
-            seen["unborne"] = seen.get("unborne", 0) + (not fault)
+            seen["whose counts aren't borne"] += not fault
+            faults += [fault] if fault else []
+        for found, fault in judged(all_cases(folder, words.count, words.seed, words.few), words.jobs):
+            seen[found] += 1
             faults += [fault] if fault else []
     for fault in faults[:20]:
         print(fault)
     print(", ".join(f"{count} {what}" for what, count in sorted(seen.items(), key=str) if what))
-    print(f"{sum(seen.values()) - seen.get(None, 0)} passed, {len(faults)} failed")
+    print(f"{sum(seen.values()) - seen[None]} passed, {len(faults)} failed")
     return bool(faults)
 
 

@@ -299,6 +299,14 @@ def test_closed_pipe(folder):
         ended = run(arguments, folder, stdout=writer)
         os.close(writer)
         wants(arguments, (ended.returncode, ended.stderr), (1, FULL))
+    before = sorted(path.name for path in folder.iterdir())
+    for arguments in ("asm d.s /dev/stdout", "record d.img /dev/stdout --order 0", "record d.img /dev/stdout"):
+        reader, writer = os.pipe()
+        os.close(reader)
+        ended = run(arguments, folder, stdout=writer)
+        os.close(writer)
+        wants(arguments, (ended.returncode, ended.stderr), (1, b"ir: /dev/stdout can't be written: nobody reads it\n"))
+    wants("what is there", sorted(path.name for path in folder.iterdir()), before)
 
 
 def test_failed_sessions(folder):

@@ -4,14 +4,19 @@
     python3 scripts/refuse.py ./ir [--tests crates/ir_tests/out/ir_tests_tests] [--jobs J]
 
 Each row below is run again and again, with its first request for memory refused, then its second, and so on until a run asks for no more; a
-thread that isn't started is among the requests. A command of a session answers as it does with ample memory, or `refused 8 no memory`, after
-which position and kept cuts are as before and the same command answers as it would have. A session that can't be opened writes nothing. `ir asm`,
-`ir record` and `ir trace` end as with ample memory, or with status 1 and a line that says why; then lines that are missing are the last. With
-`--tests`, a built program of tests, so does each of its `memory_tests`, which has to pass whatever is refused. A line a row says how many refusals
-were tried; the last line is `N passed, M failed`. Needs Linux and a C compiler (`cc`), for a library that is loaded before the program.
+thread that isn't started is among the requests. A command of a session answers as it does with ample memory, or, where it may, `refused 8 no
+memory`, after which position and kept cuts are as before and the same command answers as it would have; and so do points, which a second run
+of the session asks for by moves to their hits. A session that can't be opened writes nothing. `ir asm`, `ir record` and `ir trace` end as with
+ample memory, or with status 1 and a line that says why; then lines that are missing are the last, and a file that is there is whole. Where a
+thread isn't started all is as with ample memory. Then the same with all requests refused from that one on, where a session may go on to want
+for memory, and ends by `quit`. With `--tests`, a built program of tests, each of its `memory_tests` is walked too, which has to pass whichever
+request is refused. A line a row says how many refusals were tried, and what became of them; the last line is `N passed, M failed`. Needs Linux
+and a C compiler (`cc`), for a library that is loaded before the program.
 """
 import argparse
+import collections
 import concurrent.futures
+import contextlib
 import os
 import subprocess
 import sys
@@ -24,7 +29,8 @@ ROOT = Path(__file__).resolve().parent.parent
 PROGRAM = LIBRARY = ""
 TOO_LITTLE = b"refused 8 no memory\n"
 
-# Refuses one request for memory or for a thread, the one of this number, and tells it by a byte on a descriptor.
+# Refuses one request for memory (m) or for a thread (t), the one of this number, and tells it by that byte on a descriptor; where it is to last,
+# all after it too.
 SOURCE = r"""
 #define _GNU_SOURCE
 #include <dlfcn.h>
@@ -33,29 +39,33 @@ SOURCE = r"""
 #include <stdlib.h>
 #include <unistd.h>
 extern void *__libc_malloc(size_t), *__libc_calloc(size_t, size_t), *__libc_realloc(void *, size_t), *__libc_memalign(size_t, size_t);
-static long left = -1, told;
+static long refuses, lasts, left, told;
 __attribute__((constructor)) static void begin(void) {
     const char *number = getenv("REFUSED"), *descriptor = getenv("TOLD");
     told = descriptor ? atol(descriptor) : 2;
     left = number ? atol(number) : 0;
+    lasts = getenv("LASTS") != NULL;
+    refuses = left > 0;
 }
-static int refused(void) {
-    if (left <= 0 || __atomic_sub_fetch(&left, 1, __ATOMIC_SEQ_CST) != 0) return 0;
+static int refused(const char *kind) {
+    if (!refuses) return 0;
+    long now = __atomic_sub_fetch(&left, 1, __ATOMIC_SEQ_CST);
+    if (now > 0 || (now < 0 && !lasts)) return 0;
     errno = ENOMEM;
-    return write(told, "x", 1) == 1;
+    return now < 0 || write(told, kind, 1) == 1;
 }
-void *malloc(size_t n) { return refused() ? NULL : __libc_malloc(n); }
-void *calloc(size_t n, size_t m) { return refused() ? NULL : __libc_calloc(n, m); }
-void *realloc(void *p, size_t n) { return refused() ? NULL : __libc_realloc(p, n); }
-void *aligned_alloc(size_t a, size_t n) { return refused() ? NULL : __libc_memalign(a, n); }
-void *memalign(size_t a, size_t n) { return refused() ? NULL : __libc_memalign(a, n); }
+void *malloc(size_t n) { return refused("m") ? NULL : __libc_malloc(n); }
+void *calloc(size_t n, size_t m) { return refused("m") ? NULL : __libc_calloc(n, m); }
+void *realloc(void *p, size_t n) { return refused("m") ? NULL : __libc_realloc(p, n); }
+void *aligned_alloc(size_t a, size_t n) { return refused("m") ? NULL : __libc_memalign(a, n); }
+void *memalign(size_t a, size_t n) { return refused("m") ? NULL : __libc_memalign(a, n); }
 int posix_memalign(void **p, size_t a, size_t n) {
-    *p = refused() ? NULL : __libc_memalign(a, n);
+    *p = refused("m") ? NULL : __libc_memalign(a, n);
     return *p ? 0 : ENOMEM;
 }
 int pthread_create(pthread_t *t, const pthread_attr_t *a, void *(*f)(void *), void *x) {
     int (*next)(pthread_t *, const pthread_attr_t *, void *(*)(void *), void *) = dlsym(RTLD_NEXT, "pthread_create");
-    return refused() ? EAGAIN : next(t, a, f, x);
+    return refused("t") ? EAGAIN : next(t, a, f, x);
 }
 """
 
@@ -96,18 +106,31 @@ def counters(example, threads):
     return COUNTING * threads + example.replace(COUNTING, "")
 
 
-MOVES = ("step 0 3", "keep", "watch 0 0x100000", "break 0 0x10008", "end", "rcont 0", "back 0 1", "kept", "load 1", "cont 0", "goto 0 1",
-         "drop 1", "keep", "clear 1", "regs 0", "mem 0 0x10000 8", "out 0", "log 0", "next 0", "start", "load 9", "obj 0", "quit")
+# Moves of each kind, some of them looked at at once: then what is shown takes no memory.
+MOVES = ("step 0 3", "keep", "watch 0 0x100000", "break 0 0x10008", "end", "out 0", "rcont 0", "regs 0", "back 0 1", "regs 0", "kept", "load 1", "mem 0 0x10000 8",
+         "cont 0", "log 0", "goto 0 1", "regs 0", "drop 1", "keep", "clear 1", "regs 0", "mem 0 0x10000 8", "out 0", "log 0", "next 0", "start",
+         "regs 0", "load 9", "obj 0", "quit")
+
+# What may be answered by `refused 8`: these after any command, the others but for the first and right after a move.
+WANTING = {"step", "back", "goto", "start", "end", "cont", "rcont", "load", "keep", "next"}
+SHOWING = {"regs", "mem", "obj", "out", "log"}
+
+# Tells which points are set: where they hit, each one's number, and the number of the next.
+POINTS = ("start", "cont 0", "cont 0", "cont 1", "end", "rcont 0", "rcont 1", "clear 1", "clear 2", "clear 3", "clear 4", "break 0 0x10000")
 
 # The sessions: a name, the guest, the order of its recording (none: by threads), the commands.
 SESSIONS = (
     ("one thread", "doubled", "0", ("step 0 3", "regs 0", "step 0 9", "start", *MOVES)),
+    ("its image and trace typed", "doubled", "0", ("step 0 3", "regs 0", "step 0 9", "keep", "back 0 1", "quit")),
     ("two writers", "two_counters", "1x18", ("step 0 3", "obj 0", "log 0", "next 0", "back 1 1", "start", "step 0 4294967295", "end", "obj 0",
                                              "next 0", "start", "break 0 0x1001c", "cont 0", "cont 0", "rcont 0", "quit")),
     ("a reader that writes", "reentered", "0", ("goto 0 7", "obj 0", "goto 0 3", "obj 0", "quit")),
     ("two threads and an object", "lost_update", "0x10,1x25", ("owatch 0", "cont 1", "rcont 1", *MOVES)),
     ("two threads that answer", "two_locks", "0,1", ("step 1 9", "keep", "end", "back 1 4", "obj 0", "log 1", "load 1", "quit")),
     ("stores of the same word", "stores", "0", ("watch 0 0x100000", "keep", "cont 0", "keep", "cont 0", "keep", "kept", "load 1", "quit")),
+    ("points of each kind", "two_counters", "1x18",
+     ("break 0 0x1001c", "watch 1 0x100000", "owatch 0", "cont 0", "mem 0 0x10000 8", "clear 2", "cont 1", "rcont 0", "break 1 0x10000", "keep",
+      "clear 1", "cont 0", "quit")),
     ("eight threads", "eight_counters", None,
      ("end", "obj 0", "back 3 1", "keep", "start", "step 7 5", "load 1", "kept", "owatch 0", "rcont 0", "cont 3", "quit")),
     ("checkpoints on the way", "long", "0", ("end", "back 0 1", "back 0 1", "goto 0 1500000", "back 0 1", "keep", "end", "load 1", "quit")),
@@ -118,6 +141,7 @@ SESSIONS = (
 # What is done but for sessions: a name, the words, the files that may be written.
 RUNS = (
     ("ir asm", "asm lost_update.s new.img", ("new.img",)),
+    ("ir record of two writers", "record two_counters.img new.trc --order 1x18 --budget 1000", ("new.trc",)),
     ("ir asm of a fault", "asm bad.s new.img", ("new.img",)),
     ("ir record with an order", "record lost_update.img new.trc --order 0x10,1x25 --output new", ("new.trc", "new.0", "new.1")),
     ("ir record by threads", "record hello.img new.trc --output new", ("new.trc", "new.0")),
@@ -131,23 +155,23 @@ class Wrong(Exception):
 
 
 class Refused:
-    """A run of a program whose request of this number is refused; none is, where it is 0."""
+    """A run of a program whose request of this number is refused, and where that lasts all after it; none is, where it is 0."""
 
-    def __init__(self, words, folder, number, program="", **streams):
+    def __init__(self, words, folder, number, lasts=False, program="", **streams):
         self.reader, told = os.pipe()
         os.set_blocking(self.reader, False)
-        more = {"LD_PRELOAD": LIBRARY, "REFUSED": str(number), "TOLD": str(told)}
+        more = {"LD_PRELOAD": LIBRARY, "REFUSED": str(number), "TOLD": str(told)} | ({"LASTS": "1"} if lasts else {})
         self.run = subprocess.Popen([program or PROGRAM, *words.split()], cwd=folder, env=os.environ | more, pass_fds=(told,),
                                     stdout=subprocess.PIPE, stderr=subprocess.PIPE, **streams)
         os.close(told)
 
     def ended(self):
-        """Its status, what it wrote and told since, and whether a request was refused."""
+        """Its status, what it wrote and told since, and what was refused: memory (m), a thread (t), or nothing."""
         out, error = self.run.communicate(timeout=300)
         try:
-            met = bool(os.read(self.reader, 8))
+            met = os.read(self.reader, 8).decode()
         except BlockingIOError:
-            met = False
+            met = ""
         os.close(self.reader)
         return self.run.returncode, out, error, met
 
@@ -169,51 +193,118 @@ def said(folder, name, commands):
     return subprocess.run([PROGRAM, "debug", f"{name}.img", f"{name}.trc"], cwd=folder, input=typed, capture_output=True, timeout=300).stdout
 
 
+Asked = collections.namedtuple("Asked", "command answer here points may_want")
+
+
 def answers_of(folder, name, commands):
-    """Each command, what it answers with ample memory, and what `pos` and `kept` answer before it."""
-    found = []
+    """Each command with what is answered with ample memory: to it, and to what asks for position, kept cuts and points before it."""
+    found, moved = [], True
     for place, command in enumerate(commands):
         before = len(said(folder, name, commands[:place]))
+        answer = said(folder, name, commands[:place + 1])[before:]
         here = said(folder, name, (*commands[:place], "pos", "kept"))[before:]
-        found.append((command, said(folder, name, commands[:place + 1])[before:], here))
-    if not all(answer for _, answer, _ in found):
+        points = said(folder, name, (*commands[:place], *POINTS))[before:]
+        word = command.split()[0]
+        may_want = (word in WANTING or word in SHOWING and not moved) and not answer.startswith(b"refused")
+        found.append(Asked(command, answer, here, points, may_want))
+        moved = answer.startswith(b"at ") and word != "pos"
+    if not all(asked.answer for asked in found):
         raise Wrong(f"a command without an answer: {found!r}")
     return found
 
 
-def session(folder, name, found, number):
-    """A session with one refusal. Whether there was a request of this number."""
-    run = Refused(f"debug {name}.img {name}.trc", folder, number, stdin=subprocess.PIPE)
-    if run.run.stdout.readline() != b"ready\n":
-        status, out, error, met = run.ended()
-        if (status, out, error.count(b"\n"), met) != (1, b"", 1, True):
-            raise Wrong(f"opening: {status} {out!r} {error!r}")
+def is_opened(run):
+    """Whether a session is opened; where it isn't, it says so and writes nothing."""
+    if run.run.stdout.readline() == b"ready\n":
         return True
-    for command, wanted, before in found:
+    with contextlib.suppress(BrokenPipeError):
+        run.run.stdin.close()
+    run.run.stdin = None
+    status, out, error, met = run.ended()
+    if (status, out, error.count(b"\n"), met) != (1, b"", 1, "m"):
+        raise Wrong(f"opening: {status} {out!r} {error!r} {met!r}")
+    return False
+
+
+def compare(run, asked, commands, wanted):
+    """Asks for what a command that wanted for memory may not have changed."""
+    for command in commands:
         ask(run.run, command)
+    found = lines_of(run.run, wanted.count(b"\n"))
+    if found != wanted:
+        raise Wrong(f"after {asked.command}: {found!r}, before {wanted!r}")
+
+
+def after_want(run, asked, how):
+    """What is asked after a command that wanted for memory: once the command again, then the points, and while it lasts the command and the end.
+    Whether the session goes on."""
+    if how == "once":
+        compare(run, asked, ("pos", "kept", asked.command), asked.here + asked.answer)
+        return True
+    if how == "points":
+        compare(run, asked, (*POINTS, "quit"), asked.points + b"bye\n")
+        return False
+    compare(run, asked, ("pos", "kept"), asked.here)
+    ask(run.run, asked.command)
+    first = run.run.stdout.readline()
+    if first == TOO_LITTLE:
+        compare(run, asked, ("pos", "kept"), asked.here)
+    elif first + lines_of(run.run, asked.answer.count(b"\n") - 1) != asked.answer:
+        raise Wrong(f"{asked.command} again: {first!r} .., with ample memory {asked.answer!r}")
+    compare(run, asked, ("quit",), b"bye\n")
+    return False
+
+
+def converse(run, found, how):
+    """Asks each command, as long as the session goes on. Whether one wanted for memory."""
+    wanted = False
+    for asked in found:
+        ask(run.run, asked.command)
         first = run.run.stdout.readline()
         if first == TOO_LITTLE:
-            if command == "quit" or wanted.startswith(b"refused"):
-                raise Wrong(f"{command}: {first!r}")
-            ask(run.run, "pos")
-            ask(run.run, "kept")
-            here = lines_of(run.run, before.count(b"\n"))
-            if here != before:
-                raise Wrong(f"after {command}: {here!r}, before {before!r}")
-            ask(run.run, command)
-            first = run.run.stdout.readline()
-        answer = first + lines_of(run.run, wanted.count(b"\n") - 1)
-        if answer != wanted:
-            raise Wrong(f"{command}: {answer!r}, with ample memory {wanted!r}")
-    status, out, error, met = run.ended()
-    if (status, out, error) != (0, b"", b""):
-        raise Wrong(f"the end: {status} {out!r} {error!r}")
-    return met
+            if not asked.may_want:
+                raise Wrong(f"{asked.command}: {first!r}")
+            wanted = True
+            if not after_want(run, asked, how):
+                break
+        elif first + lines_of(run.run, asked.answer.count(b"\n") - 1) != asked.answer:
+            raise Wrong(f"{asked.command}: {first!r} .., with ample memory {asked.answer!r}")
+    return wanted
 
 
-def whole(folder, words, files, number):
+def typed_before(folder, row):
+    """What is typed before the commands of a session: its image and its trace, or nothing where they are its arguments."""
+    if not row[0].endswith("typed"):
+        return b""
+    return b"".join((folder / f"{row[1]}.{end}").read_bytes().hex().encode() + b"\n" for end in ("img", "trc"))
+
+
+def session(folder, row, found, number, how="once"):
+    """A session with one refusal: what was refused, and what became of it. Where one command wanted for memory, another that asks for the points;
+    then one in which the refusal lasts."""
+    typed = typed_before(folder, row)
+    words = "" if typed else f"debug {row[1]}.img {row[1]}.trc"
+    run = Refused(words, folder, number, how == "lasting", stdin=subprocess.PIPE)
+    with contextlib.suppress(BrokenPipeError):
+        run.run.stdin.write(typed)
+        run.run.stdin.flush()
+    wanted, met, became = False, "m", "not opened"
+    if is_opened(run):
+        wanted = converse(run, found, how)
+        status, out, error, met = run.ended()
+        if (status, out, error) != (0, b"", b"") or (wanted and met != "m" and how != "lasting"):
+            raise Wrong(f"the end: {status} {out!r} {error!r} {met!r}")
+        became = "answered by refused 8" if wanted else "answered as with ample memory"
+    if how == "once" and wanted:
+        session(folder, row, found, number, "points")
+    if how == "once" and met:
+        session(folder, row, found, number, "lasting")
+    return met, became
+
+
+def whole(folder, words, files, number, lasts=False):
     """What a run that is no session does: its end, and the files that it wrote."""
-    run = Refused(words, folder, number, stdin=subprocess.DEVNULL)
+    run = Refused(words, folder, number, lasts, stdin=subprocess.DEVNULL)
     status, out, error, met = run.ended()
     written = {}
     for name in files or ("new.trc",):
@@ -226,42 +317,61 @@ def whole(folder, words, files, number):
     return (status, out, error, written), met
 
 
-def eight_counted(folder, found):
-    """Whether a recording of the eight threads is one of theirs."""
-    status, out, error, written = found
-    (folder / "found.trc").write_bytes(written.get("new.trc", b""))
+def eight_counted(folder, trace):
+    """Whether a trace of the eight threads is one of theirs."""
+    (folder / "found.trc").write_bytes(trace)
     again = subprocess.run([PROGRAM, "debug", "eight_counters.img", "found.trc"], cwd=folder, input=b"end\nobj 0\nquit\n",
                            capture_output=True, timeout=300)
-    wanted = b"version 8 left 0 readers - writer -\nwords 00000008 " in again.stdout
-    return (status, out.count(b"\n"), error) == (0, 8, b"") and wanted
+    return b"version 8 left 0 readers - writer -\nwords 00000008 " in again.stdout
+
+
+def is_ample(folder, files, found, ample):
+    """Whether a run did what it does with ample memory."""
+    if files is not None:
+        return found == ample
+    status, out, error, written = found
+    return (status, out.count(b"\n"), error) == (0, 8, b"") and eight_counted(folder, written.get("new.trc", b""))
+
+
+def ended_run(folder, words, files, ample, number, lasts):
+    """A run with one refusal or with all from there on: what was refused first, and what became of it."""
+    found, met = whole(folder, words, files, number, lasts)
+    status, out, error, written = found
+    if (met != "m" and not lasts) or (status, error.count(b"\n")) != (1, 1):
+        if not is_ample(folder, files, found, ample):
+            raise Wrong(f"{met!r} {found[:3]!r} and {sorted(written)}")
+        return met, "done as with ample memory"
+    if not ample[1].startswith(out) if files is not None else out:
+        raise Wrong(f"{found[:3]!r}")
+    if "new.trc" not in written and written.keys() - {"new.img"}:
+        raise Wrong(f"outputs without their trace: {found!r}")
+    for name in written.keys() & {"new.img", "new.trc"}:
+        if not (written[name] == ample[3][name] if files is not None else eight_counted(folder, written[name])):
+            raise Wrong(f"{name} isn't whole: {written[name]!r}")
+    return met, "ended with status 1"
 
 
 def one_run(folder, words, files, ample, number):
-    """A run with one refusal. Whether there was a request of this number."""
-    found, met = whole(folder, words, files, number)
-    status, out, error, written = found
-    begun = ample[1] if files is not None else b""
-    refused = met and (status, error.count(b"\n")) == (1, 1) and begun.startswith(out)
-    if refused and words.startswith("record") and written.keys() - {"new.trc"} and "new.trc" not in written:
-        raise Wrong(f"outputs without their trace: {found!r}")
-    if not refused and not (found == ample if files is not None else eight_counted(folder, found)):
-        raise Wrong(f"{found[:3]!r} and {sorted(written)}")
-    return met
+    """A run with one refusal: what was refused, and what became of it. Where there was one, another run in which it lasts."""
+    met, became = ended_run(folder, words, files, ample, number, False)
+    if met:
+        ended_run(folder, words, files, ample, number, True)
+    return met, became
 
 
 def one_test(folder, program, name, number):
-    """A test with one refusal, which has to pass. Whether there was a request of this number."""
-    status, out, error, met = Refused(name, folder, number, program, stdin=subprocess.DEVNULL).ended()
+    """A test with one refusal, which has to pass: what was refused."""
+    status, out, error, met = Refused(name, folder, number, False, program, stdin=subprocess.DEVNULL).ended()
     if status != 0:
         raise Wrong(f"{status} {out!r} {error!r}")
-    return met
+    return met, "passed"
 
 
 def tried(kind, folder, row):
     """What tries a row with the request of a number refused."""
     if kind == "session":
         found = answers_of(folder, row[1], row[3])
-        return lambda number: session(folder, row[1], found, number)
+        return lambda number: session(folder, row, found, number)
     if kind == "run":
         found, _ = whole(folder, row[1], row[2], 0)
         return lambda number: one_run(folder, row[1], row[2], found, number)
@@ -269,8 +379,8 @@ def tried(kind, folder, row):
 
 
 def walked(kind, row):
-    """A row with each of its requests refused in turn: how many there were, and what was wrong."""
-    faults, number = [], 0
+    """A row with each of its requests refused in turn: how many there were, what became of them, and what was wrong."""
+    faults, number, seen = [], 0, collections.Counter()
     with tempfile.TemporaryDirectory() as name:
         folder = Path(name)
         prepare(folder)
@@ -278,13 +388,15 @@ def walked(kind, row):
         while len(faults) < 5:
             number += 1
             try:
-                met = attempt(number)
+                met, became = attempt(number)
             except (Wrong, OSError, subprocess.TimeoutExpired) as wrong:
                 faults.append(f"{row[0]}, refusal {number}: {wrong}")
-                met = True
+                continue
             if not met:
                 break
-    return row[0], number - 1, faults
+            seen[became] += 1
+            seen["of a thread"] += met == "t"
+    return row[0], number - 1, seen, faults
 
 
 def prepare(folder):
@@ -319,8 +431,9 @@ def main():
         LIBRARY = f"{name}/refusing.so"
         subprocess.run(["cc", "-O2", "-shared", "-fPIC", "-x", "c", "-", "-o", LIBRARY, "-ldl", "-lpthread"], input=SOURCE.encode(), check=True)
         with concurrent.futures.ThreadPoolExecutor(words.jobs) as pool:
-            for row, count, faults in pool.map(lambda both: walked(*both), rows):
-                print(f"{row}: {count} refusals, {len(faults)} wrong", flush=True)
+            for row, count, seen, faults in pool.map(lambda both: walked(*both), rows):
+                became = ", ".join(f"{many} {what}" for what, many in seen.items() if many)
+                print(f"{row}: {count} refusals, {became}; {len(faults)} wrong", flush=True)
                 for fault in faults:
                     print(f"  {fault[:600]}")
                 passed, failed = passed + count - len(faults), failed + len(faults)

@@ -17,11 +17,14 @@ const TO_A_WRITER: &str = "step 0 3\nobj 0\nlog 0\nnext 0\nback 1 1\n";
 
 const TO_THE_END: &str = "step 0 4294967295\nend\nobj 0\nnext 0\n";
 
+const TO_A_HIT: &str = "break 0 0x1001c\ncont 0\ncont 0\nrcont 0\n";
+
 // A guest, its trace, and lines.
-const SESSIONS: [(Source, TraceRow, &str); 3] = [
+const SESSIONS: [(Source, TraceRow, &str); 4] = [
     (DOUBLED, ENDED_BY_144, NO_EVENTS),
     (TWO_COUNTERS, SECOND_FIRST, TO_A_WRITER),
     (TWO_COUNTERS, SECOND_FIRST, TO_THE_END),
+    (TWO_COUNTERS, SECOND_FIRST, TO_A_HIT),
 ];
 
 // The lines among these bytes that are whole.
@@ -105,6 +108,28 @@ fn each_write_fails_in_its_turn(rt: HostRuntime) -> Result<(), Fail> {
     for &(guest, trace, lines) in &SESSIONS {
         let files = files_of(rt.alloc(), guest, trace)?;
         assert!(rt; each_write_fails(&rt, &files, lines.as_bytes()), "{lines}");
+    }
+    Ok(())
+}
+
+// Whether a writer that takes a byte a call takes the same bytes, and the session ends the same.
+fn is_same_by_bytes<R: AllocGlobal + Threads + Clock + Sync>(
+    rt: &R,
+    files: &Files,
+    lines: &[u8],
+) -> bool {
+    let (image, trace) = (files.image.as_slice(), files.trace.as_slice());
+    let (all, ended) = answer_of(rt, files, lines);
+    let each = Some(ENDLESS);
+    let (written, by_bytes) = answered_until(rt, image, trace, lines, ENDLESS, each, &OpenGate);
+    written.bytes.as_slice() == all.bytes.as_slice() && by_bytes == ended
+}
+
+#[test]
+fn a_byte_a_call_makes_no_difference(rt: HostRuntime) -> Result<(), Fail> {
+    for &(guest, trace, lines) in &SESSIONS {
+        let files = files_of(rt.alloc(), guest, trace)?;
+        assert!(rt; is_same_by_bytes(&rt, &files, lines.as_bytes()), "{lines}");
     }
     Ok(())
 }

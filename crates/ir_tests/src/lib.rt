@@ -25,6 +25,8 @@ mod keeper_tests;
 mod kept_rows;
 mod laws;
 #[cfg(test)]
+mod limit_tests;
+#[cfg(test)]
 mod line_tests;
 #[cfg(test)]
 mod meeting;
@@ -36,6 +38,8 @@ mod moved_rows;
 mod object_rows;
 #[cfg(test)]
 mod one_thread_rows;
+#[cfg(test)]
+mod patches;
 #[cfg(test)]
 mod record_tests;
 #[cfg(test)]

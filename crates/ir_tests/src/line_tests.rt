@@ -2,17 +2,14 @@
 
 use crate::guests::{DOUBLED, TWO_COUNTERS};
 use crate::sessions::{Files, Said, are_answered, files_of, is_answered};
-use crate::streams::{Bytes, ENDLESS, Page};
 use crate::traces::{ENDED_BY_144, Ran, SECOND_FIRST, TraceRow};
-use ir_debug::{Ended, MOST_INPUT, SessionErr, session_up_to};
-use ir_object::OpenGate;
 use std::alloc::{AllocError, Global};
 use std::test::Fail;
 use std::thread::Threads;
 use std::time::Clock;
 
 // So many of a byte, and a line's rest.
-fn line_of(alloc: Global, count: usize, byte: u8, rest: &[u8]) -> Result<Vec<u8>, AllocError> {
+pub fn line_of(alloc: Global, count: usize, byte: u8, rest: &[u8]) -> Result<Vec<u8>, AllocError> {
     let mut line = Vec::new(alloc);
     line.resize(count, byte)?;
     line.extend_from_slice(rest)?;
@@ -36,8 +33,8 @@ const LONG: [(usize, u8, &[u8], &[u8]); 9] = [
     (
         5000,
         b'x',
-        b"\nstep 0 1\n",
-        b"ready\nrefused 7 line too long\nat 1\n",
+        b"\npos\nstep 0 1\n",
+        b"ready\nrefused 7 line too long\nat 0\nat 1\n",
     ),
     (1025, b'x', b"", b"ready\nrefused 7 line too long\n"),
 ];
@@ -58,60 +55,6 @@ fn long_lines_are_refused(rt: HostRuntime) -> Result<(), Fail> {
     let files = files_of(rt.alloc(), DOUBLED, ENDED_BY_144)?;
     for &row in &LONG {
         assert!(rt; is_long_answered(&rt, &files, row)?);
-    }
-    Ok(())
-}
-
-// The most bytes to be read, after which no further read succeeds; the lines, what is answered, and how it ends.
-const LIMITED: [(u64, &[u8], &[u8], Result<Ended, SessionErr>); 4] = [
-    (
-        8,
-        b"pos\npos\npos\n",
-        b"ready\nat 0\nat 0\n",
-        Err(SessionErr::TooLong),
-    ),
-    (9, b"pos\nquit\n", b"ready\nat 0\nbye\n", Ok(Ended::Quit)),
-    (
-        10,
-        b"step 0 0\nstep 0 0\n",
-        b"ready\nat 0 start\n",
-        Err(SessionErr::TooLong),
-    ),
-    (
-        12,
-        b"regs 9\nquit\n",
-        b"ready\nrefused 3 no such thread\nbye\n",
-        Ok(Ended::Quit),
-    ),
-];
-
-// Whether a session that reads no more is answered so and ends so.
-fn is_limited<R: AllocGlobal + Threads + Clock + Sync>(
-    rt: &R,
-    files: &Files,
-    row: (u64, &[u8], &[u8], Result<Ended, SessionErr>),
-) -> bool {
-    let (limit, lines, answers, wanted) = row;
-    let mut reader = Bytes::new(lines, limit);
-    let mut writer = Page::new(rt.alloc(), false, ENDLESS);
-    let ended = session_up_to(
-        rt,
-        rt.alloc(),
-        limit.min(MOST_INPUT),
-        files.image.as_slice(),
-        files.trace.as_slice(),
-        &mut reader,
-        &mut writer,
-        &OpenGate,
-    );
-    writer.bytes.as_slice() == answers && ended == wanted
-}
-
-#[test]
-fn no_byte_past_the_limit_is_read(rt: HostRuntime) -> Result<(), Fail> {
-    let files = files_of(rt.alloc(), DOUBLED, ENDED_BY_144)?;
-    for &row in &LIMITED {
-        assert!(rt; is_limited(&rt, &files, row));
     }
     Ok(())
 }

@@ -1,15 +1,13 @@
 //! Images and traces in which some bytes stand for others.
 
 use crate::guests::{DOUBLED, READ_THEN_WRITE, Source, TWO_COUNTERS};
+use crate::patches::{Patch, patched};
 use crate::sessions::{Files, answered, ended_by, files_of};
 use crate::traces::{ENDED_BY_144, READ_AND_WRITTEN, SECOND_FIRST, TraceRow};
 use std::alloc::{AllocError, Global};
 use std::test::Fail;
 use std::thread::Threads;
 use std::time::Clock;
-
-// The bytes before a place, others, and the bytes from a second place on.
-type Patch = (usize, &'static [u8], usize);
 
 // What stands for an image's bytes, and the cause by which it is refused.
 const IMAGES: [(Patch, &[u8]); 14] = [
@@ -34,7 +32,7 @@ const IMAGES: [(Patch, &[u8]); 14] = [
 ];
 
 // The same for the trace of a guest of one thread: at byte 24 its end stands, and at 29 the number of its events.
-const TRACES: [(Patch, &[u8]); 15] = [
+const TRACES: [(Patch, &[u8]); 16] = [
     ((32, &[], 33), b"trace refused 1\n"),
     ((29, &[0, 0, 0x10, 0], 33), b"trace refused 1\n"),
     ((0, b"IRI1", 4), b"trace refused 2\n"),
@@ -52,6 +50,11 @@ const TRACES: [(Patch, &[u8]); 15] = [
     ((33, &[0], 33), b"trace refused 7\n"),
     (
         (24, &[14, 0, 0, 0, 0], 29),
+        b"thread 0 disagrees event 0 step 5\n",
+    ),
+    // 18,446,744,073,709,551,615 steps
+    (
+        (16, &[255, 255, 255, 255, 255, 255, 255, 255], 24),
         b"thread 0 disagrees event 0 step 5\n",
     ),
     ((8, &[0, 0x10, 0xa5, 0xd4, 0xe8, 0, 0, 0], 16), b"ready\n"),
@@ -72,14 +75,6 @@ const EVENTS: [(Patch, &[u8]); 11] = [
     ((33, &[3, 0xfe, 0xff, 0xff, 0xff], 43), b"trace refused 6\n"),
     ((34, &[], 34), b"ready\n"),
 ];
-
-fn patched(alloc: Global, bytes: &[u8], patch: Patch) -> Result<Vec<u8>, AllocError> {
-    let (to, others, from) = patch;
-    let mut all = Vec::from_slice(alloc, &bytes[..to.min(bytes.len())])?;
-    all.extend_from_slice(others)?;
-    all.extend_from_slice(&bytes[from.min(bytes.len())..])?;
-    Ok(all)
-}
 
 // Whether an image with such a patch is answered so, beside this trace.
 fn is_image_refused<R: AllocGlobal + Threads + Clock + Sync>(
