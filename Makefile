@@ -30,12 +30,12 @@ edits: ir
 program-test: ir
 	python3 scripts/program_test.py ./ir
 
-# The tests of ir_tests as a program, of which those about memory are run here. Proves them too.
-TESTS := crates/ir_tests/out/ir_tests_tests
+# The tests of sessions as a program, of which those about memory are run here. Proves them too.
+TESTS := crates/ir_session_tests/out/ir_session_tests_tests
 
 $(TESTS): $(SOURCES)
-	python3 scripts/prove.py ir_tests
-	cd crates/ir_tests && rt test -- memory_tests
+	python3 scripts/prove.py ir_session_tests
+	cd crates/ir_session_tests && rt test -- memory_tests
 
 # Each request for memory refused in turn, on the built program and in those tests. Needs Linux and a C compiler beside.
 refuse: ir $(TESTS)

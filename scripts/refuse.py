@@ -1,7 +1,7 @@
 #!/usr/bin/env python3
 """Each request for memory refused in turn: the program goes on, or says so, and loses nothing.
 
-    python3 scripts/refuse.py ./ir [--tests crates/ir_tests/out/ir_tests_tests] [--jobs J]
+    python3 scripts/refuse.py ./ir [--tests crates/ir_session_tests/out/ir_session_tests_tests] [--jobs J]
 
 Each row below is run again and again, with its first request for memory refused, then its second, and so on until a run asks for no more; a
 thread that isn't started is among the requests. A command of a session answers as it does with ample memory, or, where it may, `refused 8 no

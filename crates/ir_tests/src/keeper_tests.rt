@@ -1,10 +1,9 @@
 //! How many pages are kept, and what is given back.
 
 use crate::guests::{CHANGED_ONCE, TWO_COUNTERS};
-use crate::hit_rows::TWICE_STORED;
 use crate::replays::{fitted, in_order};
 use crate::states::same_state;
-use crate::traces::SECOND_FIRST;
+use crate::traces::{SECOND_FIRST, TWICE_STORED};
 use ir_cut::Cut;
 use ir_fit::Fitted;
 use ir_keep::Keeper;

@@ -70,6 +70,12 @@ pub const BOTH_READ: TraceRow = TraceRow {
     ],
 };
 
+pub const TWICE_STORED: TraceRow = TraceRow {
+    objects: 0,
+    budget: 1000,
+    threads: &[Ran(5, 1, 0x100000, &[])],
+};
+
 fn put_answer(bytes: &mut Vec<u8>, tag: u8, value: u32) -> Result<(), AllocError> {
     bytes.push(tag)?;
     bytes.extend_from_slice(&value.to_le_bytes())

@@ -1,8 +1,8 @@
 //! Lines at their limits, and what the next step is shown as.
 
-use crate::guests::{DOUBLED, TWO_COUNTERS};
 use crate::sessions::{Files, Said, are_answered, files_of, is_answered};
-use crate::traces::{ENDED_BY_144, Ran, SECOND_FIRST, TraceRow};
+use ir_tests::guests::{DOUBLED, TWO_COUNTERS};
+use ir_tests::traces::{ENDED_BY_144, Ran, SECOND_FIRST, TraceRow};
 use std::alloc::{AllocError, Global};
 use std::test::Fail;
 use std::thread::Threads;

@@ -1,8 +1,8 @@
 //! Sessions that keep cuts and go back to them.
 
-use crate::guests::TWO_COUNTERS;
 use crate::sessions::{Said, are_answered, files_of, is_answered};
-use crate::traces::SECOND_FIRST;
+use ir_tests::guests::TWO_COUNTERS;
+use ir_tests::traces::SECOND_FIRST;
 use std::test::Fail;
 
 const KEPT: [Said; 6] = [

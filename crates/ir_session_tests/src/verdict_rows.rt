@@ -1,9 +1,9 @@
 //! Traces that are of no run of their guest.
 
-use crate::guests::{CROSSING, READ_THEN_WRITE, Source, TWO_COUNTERS};
 use crate::sessions::are_answered;
-use crate::traces::EventRow::{Clock, Read, Write};
-use crate::traces::{Ran, TraceRow};
+use ir_tests::guests::{CROSSING, READ_THEN_WRITE, Source, TWO_COUNTERS};
+use ir_tests::traces::EventRow::{Clock, Read, Write};
+use ir_tests::traces::{Ran, TraceRow};
 use std::test::Fail;
 
 // A guest; of a trace the objects, the budget and what the threads ran; and the verdict.

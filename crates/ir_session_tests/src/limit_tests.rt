@@ -1,13 +1,13 @@
 //! Sessions that read no more than a limit.
 
-use crate::guests::DOUBLED;
 use crate::line_tests::line_of;
-use crate::patches::{Patch, UNPATCHED, patched};
 use crate::sessions::{Files, files_of};
 use crate::streams::{Bytes, ENDLESS, Page};
-use crate::traces::ENDED_BY_144;
 use ir_debug::{Ended, MOST_INPUT, SessionErr, session_up_to};
 use ir_object::OpenGate;
+use ir_tests::guests::DOUBLED;
+use ir_tests::patches::{Patch, UNPATCHED, patched};
+use ir_tests::traces::ENDED_BY_144;
 use std::alloc::AllocError;
 use std::test::Fail;
 use std::thread::Threads;

@@ -1,11 +1,11 @@
 //! A debugger over a guest of two threads that write one object, one after the other.
 
-use crate::guests::TWO_COUNTERS;
-use crate::replays::fitted;
-use crate::traces::SECOND_FIRST;
 use ir_command::{ByteCount, Command, Direction, Move, Point, Refusal, Show};
 use ir_debug::{Answer, Debugger};
 use ir_object::OpenGate;
+use ir_tests::guests::TWO_COUNTERS;
+use ir_tests::replays::fitted;
+use ir_tests::traces::SECOND_FIRST;
 use std::alloc::Global;
 use std::test::Fail;
 use std::thread::Threads;

@@ -1,8 +1,8 @@
 //! Sessions that move two threads by what one does before the other.
 
-use crate::guests::TWO_COUNTERS;
 use crate::sessions::{Said, are_answered};
-use crate::traces::SECOND_FIRST;
+use ir_tests::guests::TWO_COUNTERS;
+use ir_tests::traces::SECOND_FIRST;
 use std::test::Fail;
 
 // Steps forwards and backwards take the other thread along.

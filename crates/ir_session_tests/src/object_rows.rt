@@ -1,12 +1,12 @@
 //! Sessions that show objects and events.
 
-use crate::guests::{
+use crate::sessions::{Said, are_answered};
+use ir_tests::guests::{
     BROKEN_INSIDE, EACH_EVENT, READ_THEN_WRITE, READERS_AND_WRITER, Source, WRITER_AND_READERS,
     WRITER_BETWEEN,
 };
-use crate::sessions::{Said, are_answered};
-use crate::traces::EventRow::{Clock, Input, Random, Read, Write};
-use crate::traces::{READ_AND_WRITTEN, Ran, TraceRow};
+use ir_tests::traces::EventRow::{Clock, Input, Random, Read, Write};
+use ir_tests::traces::{READ_AND_WRITTEN, Ran, TraceRow};
 use std::test::Fail;
 
 // A guest with one object, what its threads ran, and a session.

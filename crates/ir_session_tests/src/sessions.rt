@@ -1,10 +1,10 @@
 //! Sessions over bytes in memory.
 
-use crate::sources::image_bytes;
 use crate::streams::{Bytes, ENDLESS, Page};
-use crate::traces::{TraceRow, trace_bytes};
 use ir_debug::{Ended, SessionErr, session};
 use ir_object::{Gate, OpenGate};
+use ir_tests::sources::image_bytes;
+use ir_tests::traces::{TraceRow, trace_bytes};
 use std::alloc::Global;
 use std::process::Abort;
 use std::test::Fail;

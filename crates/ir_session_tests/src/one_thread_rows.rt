@@ -1,11 +1,11 @@
 //! Sessions of guests of one thread without objects.
 
-use crate::guests::{
+use crate::sessions::{Said, are_answered};
+use ir_tests::guests::{
     CALL_OF_ZERO, DOUBLED, DOUBLED_UNENDED, FORTY_BYTES, ILLEGAL_WORDS, NO_INSTRUCTION, ONE_NOP,
     Source,
 };
-use crate::sessions::{Said, are_answered};
-use crate::traces::{ENDED_BY_144, Ran, TraceRow};
+use ir_tests::traces::{ENDED_BY_144, Ran, TraceRow};
 use std::test::Fail;
 
 // What a session opens with, and where it ends.

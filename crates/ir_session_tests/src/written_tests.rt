@@ -1,13 +1,13 @@
 //! What is written of logs, output, memory, objects and next steps.
 
-use crate::guests::{HELD_OUTSIDE, PRINT};
 use crate::sessions::{Said, are_answered};
 use crate::streams::{ENDLESS, Page};
-use crate::traces::EventRow::Write;
-use crate::traces::{Ran, TraceRow};
 use ir_debug::{DeviceErr, Sink, write_log};
 use ir_log::Event;
 use ir_runs::EnvKind;
+use ir_tests::guests::{HELD_OUTSIDE, PRINT};
+use ir_tests::traces::EventRow::Write;
+use ir_tests::traces::{Ran, TraceRow};
 use std::alloc::{AllocError, Global};
 use std::test::Fail;
 

@@ -1,12 +1,12 @@
 //! Sessions whose reader or writer fails, and a session whose two readers wait for each other.
 
-use crate::guests::{DOUBLED, Source, TWO_COUNTERS, TWO_READERS};
-use crate::meeting::Meeting;
 use crate::sessions::{Files, answer_of, answered_until, files_of};
 use crate::streams::ENDLESS;
-use crate::traces::{BOTH_READ, ENDED_BY_144, SECOND_FIRST, TraceRow};
 use ir_debug::{Ended, SessionErr};
 use ir_object::OpenGate;
+use ir_tests::guests::{DOUBLED, Source, TWO_COUNTERS, TWO_READERS};
+use ir_tests::meeting::Meeting;
+use ir_tests::traces::{BOTH_READ, ENDED_BY_144, SECOND_FIRST, TraceRow};
 use std::test::Fail;
 use std::thread::Threads;
 use std::time::Clock;

@@ -1,4 +1,4 @@
-use Rattle.ir_tests.proofs.memory_tests.is_end_reached.Goals as goal
+use Rattle.ir_session_tests.proofs.memory_tests.is_end_reached.Goals as goal
 
 pub is_reached-requires-clause-target : goal.is_reached-requires-clause-target
 is_reached-requires-clause-target g c κs within =

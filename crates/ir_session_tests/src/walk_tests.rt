@@ -1,11 +1,11 @@
 //! A guest of three threads, walked from its end back to its start a step at a time, and forwards again.
 
-use crate::guests::THREE_COUNTERS;
-use crate::recordings::{BUDGET, fitted_in_order};
 use crate::streams::{ENDLESS, Page};
 use ir_command::{Command, Move, Show};
 use ir_debug::{Debugger, write_answer};
 use ir_object::OpenGate;
+use ir_tests::guests::THREE_COUNTERS;
+use ir_tests::recordings::{BUDGET, fitted_in_order};
 use std::alloc::Global;
 use std::test::Fail;
 use std::thread::Threads;

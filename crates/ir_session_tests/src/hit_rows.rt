@@ -1,11 +1,11 @@
 //! Sessions that set points and go on to where they hit.
 
-use crate::guests::{
+use crate::sessions::{Said, are_answered, files_of, is_answered};
+use ir_tests::guests::{
     BROKEN_INSIDE, CHANGED_ONCE, COUNTED_THRICE, DOUBLED, READ_THEN_WRITE, Source, TWO_COUNTERS,
 };
-use crate::sessions::{Said, are_answered, files_of, is_answered};
-use crate::traces::EventRow::Write;
-use crate::traces::{ENDED_BY_144, READ_AND_WRITTEN, Ran, SECOND_FIRST, TraceRow};
+use ir_tests::traces::EventRow::Write;
+use ir_tests::traces::{ENDED_BY_144, READ_AND_WRITTEN, Ran, SECOND_FIRST, TWICE_STORED, TraceRow};
 use std::test::Fail;
 
 const OF_TWO: [Said; 7] = [
@@ -59,12 +59,6 @@ at 3 15 hit 1\n",
 ];
 
 // Of `CHANGED_ONCE`.
-pub const TWICE_STORED: TraceRow = TraceRow {
-    objects: 0,
-    budget: 1000,
-    threads: &[Ran(5, 1, 0x100000, &[])],
-};
-
 // Of `BROKEN_INSIDE`.
 const RELEASED: TraceRow = TraceRow {
     objects: 1,

@@ -1,9 +1,9 @@
 //! Images and traces in which some bytes stand for others.
 
-use crate::guests::{DOUBLED, READ_THEN_WRITE, Source, TWO_COUNTERS};
-use crate::patches::{Patch, patched};
 use crate::sessions::{Files, answered, ended_by, files_of};
-use crate::traces::{ENDED_BY_144, READ_AND_WRITTEN, SECOND_FIRST, TraceRow};
+use ir_tests::guests::{DOUBLED, READ_THEN_WRITE, Source, TWO_COUNTERS};
+use ir_tests::patches::{Patch, patched};
+use ir_tests::traces::{ENDED_BY_144, READ_AND_WRITTEN, SECOND_FIRST, TraceRow};
 use std::alloc::{AllocError, Global};
 use std::test::Fail;
 use std::thread::Threads;
