@@ -100,13 +100,13 @@ fn memory_is_refused_before_the_first_entry_or_not_at_all(rt: HostRuntime) -> Re
 
 // A world that answers 0, and counts for all how often one was asked.
 #[derive(Drop)]
-struct Asked<'a> {
+struct Counting<'a> {
     count: &'a AtomicUsize,
     answered: Vec<(EnvKind, u32)>,
     failed: bool,
 }
 
-impl World for Asked<'_> {
+impl World for Counting<'_> {
     ghost answers = { λ w. w.answered.items };
 
     ghost origin = { λ _. tt };
@@ -128,14 +128,18 @@ impl World for Asked<'_> {
 }
 
 // So many of them, each with room for two answers.
-fn all_asked(alloc: Global, count: usize, asked: &AtomicUsize) -> Result<Vec<Asked<'_>>, AllocError>
+fn counting_worlds(
+    alloc: Global,
+    count: usize,
+    asked: &AtomicUsize,
+) -> Result<Vec<Counting<'_>>, AllocError>
     ensures count { IfOk result (λ worlds. length worlds.items ≡ count) }
     ensures works { IfOk result (λ worlds. NoneFailed (map (λ w. w.failed) worlds.items)) }
 {
     let mut worlds = Vec::with_capacity(alloc, count)?;
     for number in 0..count {
         let answered = Vec::with_capacity(alloc, 2)?;
-        worlds.push(Asked {
+        worlds.push(Counting {
             count: asked,
             answered,
             failed: false,
@@ -151,7 +155,7 @@ fn asked<R: Threads + Wait + Sync>(
     count: &AtomicUsize,
 ) -> Result<usize, Short> {
     let image = guest(alloc, TWO_ASKING)?;
-    let worlds = all_asked(alloc, image.entries().len(), count)?;
+    let worlds = counting_worlds(alloc, image.entries().len(), count)?;
     match record(rt, alloc, &image, worlds, &OpenGate, BUDGET) {
         Ok((trace, _outputs)) => Ok(trace.threads().len()),
         Err(RecordErr::NoMem) => Err(Short::Memory),
@@ -172,12 +176,12 @@ fn memory_is_refused_before_a_world_is_asked(rt: HostRuntime) -> Result<(), Fail
 
 // Whether each thread is at the cut.
 fn is_at(state: &State, target: &Cut) -> bool {
-    for (t, thread) in state.threads().iter().enumerate() {
-        if thread.steps() != target.position(t) {
+    for (thread, position) in state.threads().iter().zip(target.positions()) {
+        if thread.steps() != *position {
             return false;
         }
     }
-    true
+    state.threads().len() == target.positions().len()
 }
 
 // Whether the target is reached, by a second call where the first wanted for memory: from the state that it handed back.

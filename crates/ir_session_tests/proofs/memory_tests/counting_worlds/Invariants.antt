@@ -1,6 +1,6 @@
 use Rattle.std.proofs.Common.{◌≡◌, map, length}
 use Rattle.ir_record.specs.Worlds.{NoneFailed}
-use Rattle.ir_session_tests.proofs.memory_tests.all_asked.Given as goal
+use Rattle.ir_session_tests.proofs.memory_tests.counting_worlds.Given as goal
 
 abbrev pub invariant-loop-number : goal.invariant-loop-number
 invariant-loop-number l = record {

@@ -1,6 +1,6 @@
 use Rattle.std.proofs.Common.{refl}
 use Rattle.ir_record.proofs.CallerLemmas.{one_more_works, one_more_long}
-use Rattle.ir_session_tests.proofs.memory_tests.all_asked.Goals as goal
+use Rattle.ir_session_tests.proofs.memory_tests.counting_worlds.Goals as goal
 
 pub loop-number-preserved : goal.loop-number-preserved
 loop-number-preserved c = record {
