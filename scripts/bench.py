@@ -287,11 +287,29 @@ def four_pages():
     return counted(place + [store(2, T0, 0, A0)], 3500)
 
 
+def answering(files, before, lines):
+    """The seconds that a session takes to answer these lines after others, each sent once the one before is answered by its one line."""
+    with subprocess.Popen([IR, "debug", *files], stdin=subprocess.PIPE, stdout=subprocess.PIPE) as run:
+        def ask(line):
+            run.stdin.write(line)
+            run.stdin.flush()
+            return run.stdout.readline()
+
+        if run.stdout.readline() != b"ready\n" or not all(ask(line) for line in before.splitlines(True)):
+            sys.exit(f"{files}: no answer to {before!r}")
+        start = time.perf_counter()
+        answers = [ask(line) for line in lines.splitlines(True)]
+        took = time.perf_counter() - start
+        if any(answer.startswith(b"refused") for answer in answers):
+            sys.exit(f"{files}: {lines[:40]!r} is refused")
+        run.stdin.close()
+        run.stdout.read()
+    return took
+
+
 def timed(label, files, before, lines, count=1, run=None):
-    """Prints the milliseconds of each of so many lines after others; and beside it how many runs of the guest they are."""
-    base, _ = session_of(*files, before + b"pos\n")
-    took, _ = session_of(*files, before + lines)
-    each = (took - base) / count
+    """Prints the milliseconds of each of so many lines after others, the best of three sessions; and how many runs of the guest they are."""
+    each = min(answering(files, before, lines) for _ in range(3)) / count
     print(f"{label:72}{count:>6}{each * 1e3:>10.2f}{f'{each / run:>8.2f}' if run else ''}", flush=True)
 
 
@@ -328,7 +346,7 @@ def of_one_thread(folder):
 
 
 def continuing():
-    """Moves back, searches both ways and checkpoints: milliseconds of lines, the time of those before them taken off."""
+    """Moves back, searches both ways and checkpoints: the milliseconds in which lines are answered."""
     with tempfile.TemporaryDirectory() as folder:
         of_one_thread(folder)
         code, steps = entering(46)
