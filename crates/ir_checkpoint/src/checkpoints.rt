@@ -263,7 +263,7 @@ impl Checkpoints {
 
     /// Brings threads and objects to the target: by `advance`, from where they stand, or from the kept state at or below the target with
     /// the most steps before it, where that is nearer or a thread is past its target. On a long way it keeps states that it passes: of
-    /// those that are the fewest steps apart, as seen from the target, one is given up when there are 64. A want of memory for one of
+    /// those that are the fewest steps apart, as seen from the target, one is given up when there are 64. Running out of memory for one of
     /// these is none for the move. Where they stand at the target already it takes no memory, and succeeds.
     ///
     /// # Errors

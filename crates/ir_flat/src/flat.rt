@@ -42,7 +42,7 @@ impl<'a> Flat<'a> {
     /// The guest before its first step. The budget is in steps, for each thread; the profile says which system calls there are.
     ///
     /// # Errors
-    /// Want of memory.
+    /// Out of memory.
     pub fn start(
         alloc: Global,
         image: &'a Image,
@@ -82,7 +82,7 @@ impl<'a> Flat<'a> {
     /// An equal value with memory of its own for threads and objects.
     ///
     /// # Errors
-    /// Want of memory.
+    /// Out of memory.
     pub fn copy(&self) -> Result<Flat<'a>, AllocError>
         ensures { IfOk result (λ f. f ≡ self.now) }
     {

@@ -59,7 +59,7 @@ impl Thread {
     /// system calls there are.
     ///
     /// # Errors
-    /// Want of memory.
+    /// Out of memory.
     pub fn new(
         alloc: Global,
         image: &Image,
@@ -92,7 +92,7 @@ impl Thread {
     /// An equal thread with memory of its own.
     ///
     /// # Errors
-    /// Want of memory.
+    /// Out of memory.
     pub fn copy(&self) -> Result<Thread, AllocError>
         ensures { IfOk result (λ t. t ≡ self.now) }
     {
