@@ -22,14 +22,14 @@ use Rattle.ir_cut.specs.Positions.{machine_of, start_of}
 
 pub no_trail : (f : FittedTrace) (run : List Step) → IsRunOf f.guest f.recorded run → (t : ℕ) → length f.guest.entries ≤ t
     → trail (machine_of f) (start_of f) run t ≡ []
-no_trail f run is t l = idle_trail (machine_of f) (start_of f) (length f.guest.entries) (start_idle f.guest f.recorded.budget) run is.1.runs
+no_trail f run is t l = idle_trail (machine_of f) (start_of f) (length f.guest.entries) (start_idle f.guest f.recorded.budget f.recorded.profile) run is.1.runs
     t l
 
 -- runs with the trace have the same steps of each thread
 pub same_trail : (f : FittedTrace) (run run' : List Step) → IsRunOf f.guest f.recorded run → IsRunOf f.guest f.recorded run' → (t : ℕ)
     → trail (machine_of f) (start_of f) run t ≡ trail (machine_of f) (start_of f) run' t
 same_trail f run run' is is' =
-    (alike (machine_of f) (lawful f.guest.code) (start_of f) (start_good (machine_of f) (start_of f) (starts f.guest f.recorded.budget)) run
+    (alike (machine_of f) (lawful f.guest.code) (start_of f) (start_good (machine_of f) (start_of f) (starts f.guest f.recorded.budget f.recorded.profile)) run
     run' is.1.runs is'.1.runs
     (λ t. elim (cases_lt t (length f.guest.entries)) [
       | inl l ↦ is.1.logs t l ∙ sym (is'.1.logs t l)

@@ -76,7 +76,7 @@ events_next code x n = ap (λ (z : thread.State). z.events) (taken code x n)
 counted : (f : FittedTrace) (run : List Step) → IsRunOf f.guest f.recorded run → (t k : ℕ) → k ≤ count (machine_of f) (start_of f) run t
     → (thread_at f run t k).events ≡ length (events (take k (trail (machine_of f) (start_of f) run t)))
 counted f run of t zero l = ap (λ (z : thread.State). z.events) (first_thread (machine_of f) (start_of f) run t)
-    ∙ (fresh f.guest f.recorded.budget 0 (length f.guest.entries) t).events
+    ∙ (fresh f.guest f.recorded.budget f.recorded.profile 0 (length f.guest.entries) t).events
 counted f run of t (suc k) l =
     let at = step_there f run t k l in
     let z : StepOf (machine_of f) (thread_at f run t k) (thread_at f run t (suc k)) at.0 =
