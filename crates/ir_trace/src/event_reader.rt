@@ -78,11 +78,7 @@ fn write_entry(objects: u8, bytes: &[u8]) -> Result<(Event, &[u8]), TraceErr>
 }
 
 #[tactic(auto, unfolding(crate::specs::Reading::try_at, crate::specs::Reading::try_by))]
-fn refused_try(
-    profile: Profile,
-    objects: u8,
-    bytes: &[u8],
-) -> Result<(Event, &[u8]), TraceErr>
+fn refused_try(profile: Profile, objects: u8, bytes: &[u8]) -> Result<(Event, &[u8]), TraceErr>
     ensures exact { Gives (λ x. (x.0, x.1.now)) result (try_by profile objects bytes.now) }
     ensures taken { IfOk result (λ x. length x.1.now + shortest profile ≤ length bytes.now + 1) }
 {
@@ -96,12 +92,7 @@ fn refused_try(
 }
 
 #[tactic(auto, unfolding(crate::specs::Reading::event_by))]
-fn tagged(
-    profile: Profile,
-    tag: u8,
-    objects: u8,
-    bytes: &[u8],
-) -> Result<(Event, &[u8]), TraceErr>
+fn tagged(profile: Profile, tag: u8, objects: u8, bytes: &[u8]) -> Result<(Event, &[u8]), TraceErr>
     ensures exact { Gives (λ x. (x.0, x.1.now)) result (event_by profile tag objects bytes.now) }
     ensures taken { IfOk result (λ x. length x.1.now + shortest profile ≤ length bytes.now + 1) }
 {

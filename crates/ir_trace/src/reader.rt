@@ -101,22 +101,11 @@ fn trace(alloc: Global, bytes: &[u8]) -> Result<Trace, TraceErr>
     ensures exact { Gives (λ trace. trace) result (recorded_at bytes.now) }
 {
     let (header, rest) = header(bytes)?;
-    let (threads, rest) = threads(
-        alloc,
-        header.profile,
-        header.objects,
-        header.threads,
-        rest,
-    )?;
+    let (threads, rest) = threads(alloc, header.profile, header.objects, header.threads, rest)?;
     if !rest.is_empty() {
         return Err(TraceErr::Trailing);
     }
-    Ok(Trace::new(
-        header.objects,
-        header.budget,
-        threads,
-        header.profile,
-    ))
+    Ok(Trace::new(header.objects, header.budget, threads, header.profile))
 }
 
 /// The trace that the bytes encode, all of the bytes; the first four, `IRT1` or `IRT2`, say its profile. Numbers are little-endian, and room is taken only for events whose bytes are there.

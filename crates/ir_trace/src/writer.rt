@@ -8,7 +8,9 @@ ghost use Rattle.ir_thread.specs.Calls.{most_events};
 ghost use Rattle.ir_trace.specs.Encoding.{magic, header_encoding, kind_tag, event_encoding, end_encoding, thread_encoding, encoding};
 
 use crate::header::Header;
-use crate::layout::{ANSWER_LENGTH, HEADER_LENGTH, READ_LENGTH, THREAD_LENGTH, TRY_LENGTH, WRITE_LENGTH};
+use crate::layout::{
+    ANSWER_LENGTH, HEADER_LENGTH, READ_LENGTH, THREAD_LENGTH, TRY_LENGTH, WRITE_LENGTH,
+};
 use crate::thread_trace::ThreadTrace;
 use crate::trace::Trace;
 use byteorder::{ByteOrder, LittleEndian};

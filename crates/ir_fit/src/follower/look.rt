@@ -146,15 +146,15 @@ impl Follower<'_> {
                 asked,
                 result: 0,
             }),
-            Ok(event) => {
-                if is_open(self.object(object), event) {
+            Ok(entry) => {
+                if is_open(self.object(object), entry) {
                     Look::Goes(Move {
                         thread: t,
                         asked,
                         result: 1,
                     })
                 } else {
-                    Look::Waits(event)
+                    Look::Waits(entry)
                 }
             }
         }
