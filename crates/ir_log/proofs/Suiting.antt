@@ -1,5 +1,5 @@
 -- What an event is that suits what is asked.
-use Rattle.std.proofs.Common.{◌≡◌, ◌≢◌, ℕ, Some, inl, inr, ◌⊎◌}
+use Rattle.std.proofs.Common.{◌≡◌, ◌≢◌, ℕ, Some, inl, inr, ◌⊎◌, sym, ap, ◌∙◌}
 use Rattle.ir_runs.specs.declared.access.Access.{Access}
 use Rattle.ir_runs.specs.declared.access.Access.TheVariants.{Writing}
 use Rattle.ir_runs.specs.declared.env_kind.EnvKind.{EnvKind}
@@ -22,6 +22,19 @@ call_suits kind e h = no_try (ask.Env kind) e (λ o is. cc is) h
 
 pub entry_suits : (object : ℕ) (access : Access) (e : Event) → Suits (ask.Enter object access) e → ask_of e ≡ ask.Enter object access
 entry_suits object access e h = no_try (ask.Enter object access) e (λ o is. cc is) h
+
+-- who logs an entry asks for it, or tries to enter for writing
+pub entering_by : (q : Ask) (object : ℕ) (access : Access) (e : Event) → Suits q e → ask_of e ≡ ask.Enter object access
+    → (q ≡ ask.Enter object access) ⊎ ((q ≡ ask.Try object) × (access ≡ Writing))
+entering_by q object access e (inl is) enters = inl (sym is ∙ enters)
+entering_by q object access (Answer kind value) (inr is) enters = absurd (cc enters)
+entering_by q object access (Read o version) (inr is) enters = absurd (cc is)
+entering_by q object access (Write o version readers) (inr is) enters =
+    let same : ◌≡◌ {A = ℕ} o object = cc enters in
+    let writes : ◌≡◌ {A = Access} Writing access = cc enters in
+    let tries : ask.Try o ≡ q = cc is in
+    inr (sym tries ∙ ap ask.Try same, sym writes)
+entering_by q object access (Try o) (inr is) enters = absurd (cc enters)
 
 -- what suits a try: an entry for writing, or a refused try
 pub try_suits : (object : ℕ) (e : Event) → Suits (ask.Try object) e → (ask_of e ≡ ask.Enter object Writing) ⊎ (e ≡ Try object)
