@@ -13,7 +13,7 @@ use Rattle.ir_thread.specs.declared.ask.Reply.TheVariants.{Go, Value}
 use Rattle.ir_thread.specs.Instance.{shared_ask}
 use Rattle.ir_runs.specs.Machine.{act_of}
 use Rattle.ir_runs.specs.Object.{target, Admits}
-use Rattle.ir_thread.proofs.CallerLemmas.{one_fewer}
+use Rattle.ir_thread.proofs.CallerLemmas.{one_fewer, not_entered}
 use Rattle.ir_flat.specs.Flat.{Flat, thread_of, tables, machine}
 use Rattle.ir_fit.proofs.Seen.{emits}
 use Rattle.ir_runs.specs.Labels.{Label, Quiet, Answer, In, Refused, Out}
@@ -149,7 +149,7 @@ placed_fewer code f t p x (Enter o a) r k h = let more = held_more x.held o a k.
 placed_fewer code f t p x (Try o) Go k h = omega (arith, h)
 placed_fewer code f t p x (Try o) (Value zero) k h = omega (arith, h)
 placed_fewer code f t p x (Try o) (Value (suc zero)) k h = let more = held_more x.held o Writing k.2 in omega (arith, h, more)
-placed_fewer code f t p x (Try o) (Value (suc (suc v))) k h = omega (arith, h)
+placed_fewer code f t p x (Try o) (Value (suc (suc v))) k h = let same = ap held_count (not_entered x.held o v) in omega (arith, h, same)
 placed_fewer code f t p x (Leaves o a) r k h =
     let less = one_fewer x.held o k.1 (is_some (held_at x.held o) a k.2) in
     let n : length (placed_by f t p (Leaves o a)).leaves ≡ length p.leaves + 1 = one_longer p.leaves _ in

@@ -1,16 +1,17 @@
 -- Each step keeps what is kept.
-use Rattle.std.proofs.Common.{◌≡◌, ◌≢◌, ℕ, zero, suc, ◌+◌, ◌*◌, ◌<◌, ◌≤◌, List, length, length-set, Some, None, refl, sym, le_refl, ap, ◌∙◌, arith, inl, inr}
+use Rattle.std.proofs.Common.{◌≡◌, ◌≢◌, ℕ, zero, suc, ◌+◌, ◌*◌, ◌<◌, ◌≤◌, List, length, length-set, Option, Some, None, refl, sym, le_refl, ap, ◌∙◌, arith, inl, inr}
 use Rattle.std.proofs.lemmas.Bool.{cases_eq}
 use Rattle.ir_thread.specs.Calls.{ask_of, Permits, held_after_try, after_ask, after_reply, most_events}
 use Rattle.ir_thread.specs.Held.{held_at}
 use Rattle.ir_thread.specs.Instance.{shared_ask, reply_of, thread_machine}
 use Rattle.ir_runs.specs.Machine.{act_of, upd}
 use Rattle.ir_thread.specs.State as thread
+use Rattle.ir_runs.specs.declared.access.Access.{Access}
 use Rattle.ir_runs.specs.declared.access.Access.TheVariants.{Reading, Writing}
 use Rattle.ir_thread.specs.declared.ask.Ask.{Ask}
 use Rattle.ir_thread.specs.declared.ask.Ask.TheVariants.{Private, Env, Enter, Try, Leave, Get, Put, Print, End, Done}
 use Rattle.ir_thread.specs.declared.ask.Reply.{Reply}
-use Rattle.ir_thread.proofs.CallerLemmas.{ask_permits, lawful, above_held}
+use Rattle.ir_thread.proofs.CallerLemmas.{ask_permits, lawful, above_held, not_entered}
 use Rattle.ir_object.specs.Cell.{has_writer, one_if_reading, is_writing}
 use Rattle.ir_runs.specs.Object.{Object, target, Admits, acted, reply}
 use Rattle.ir_object.specs.Word.{bit_of}
@@ -53,7 +54,7 @@ events_bound x Done p h = omega arith
 try_length : (held : List (Option Access)) (o v : ℕ) → length (held_after_try (Value v) o held) ≡ length held
 try_length held o zero = refl
 try_length held o (suc zero) = length-set held o (Some Writing)
-try_length held o (suc (suc v)) = refl
+try_length held o (suc (suc v)) = ap (λ (h : List (Option Access)). length h) (not_entered held o v)
 
 pub held_length : (code : List ℕ) (x : thread.State) (q : Ask) (r : Reply) → length (after_ask code x q r).held ≡ length x.held
 held_length code x Private r = refl

@@ -1,5 +1,5 @@
 -- A thread enters in order, uses what it holds, and releases it after its end.
-use Rattle.std.proofs.Common.{◌≡◌, ◌≢◌, ℕ, zero, suc, ◌<◌, List, length, get_or, set, Option, Some, None, refl, sym, ap, ◌∙◌, subst, inl, inr, eqb, cond, eq-eqb, ne_eqb, get_or-set_same, get_or-set_other}
+use Rattle.std.proofs.Common.{◌≡◌, ◌≢◌, ℕ, zero, suc, ◌<◌, List, length, get_or, set, Option, Some, None, refl, sym, ap, ◌∙◌, subst, inl, inr, eqb, cond, eq-eqb, ne_eqb, get_or-set_same, get_or-set_other, arith}
 use Rattle.std.proofs.lemmas.Bool.{cases_eq}
 use Rattle.std.specs.Prelude.{option_map}
 use Rattle.ir_thread.specs.Calls.{ask_of, Permits, held_after_try, after_ask, after_reply}
@@ -41,12 +41,16 @@ asks_hold s Print p = tt
 asks_hold s (End e) p = tt
 asks_hold s Done p = none_held s.held p.1
 
+-- any other value than 1 leaves what is held
+pub not_entered : (held : List (Option Access)) (object value : ℕ) → held_after_try (Value (suc (suc value))) object held ≡ held
+not_entered held object value = ap (λ b. cond b (set held object (Some Writing)) held) (ne_eqb (suc (suc value)) 1 (λ e. omega (arith, e)))
+
 -- a try that is answered 1 enters, any other leaves what is held
 try_takes : (s : State) (object r i : ℕ) → object < length s.held
     → held_at (held_after_try (Value r) object s.held) i ≡ held_after (act_of (machine.Try object) r) (held_at s.held) i
 try_takes s object zero i l = refl
 try_takes s object (suc zero) i l = held_at-set s.held object (Some Writing) i l
-try_takes s object (suc (suc r)) i l = refl
+try_takes s object (suc (suc r)) i l = ap (λ held. held_at held i) (not_entered s.held object r)
 
 asks_take : (code : List ℕ) (s : State) (r i : ℕ) (q : Ask) → Permits s q
     → held_at (after_ask code s q (reply_of q r)).held i ≡ held_after (act_of (shared_ask q) r) (held_at s.held) i
