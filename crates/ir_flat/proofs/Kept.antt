@@ -11,6 +11,7 @@ use Rattle.ir_runs.specs.declared.access.Access.TheVariants.{Reading, Writing}
 use Rattle.ir_thread.specs.declared.ask.Ask.{Ask}
 use Rattle.ir_thread.specs.declared.ask.Ask.TheVariants.{Private, Env, Enter, Try, Leave, Get, Put, Print, End, Done}
 use Rattle.ir_thread.specs.declared.ask.Reply.{Reply}
+use Rattle.ir_thread.specs.declared.ask.Reply.TheVariants.{Go, Value}
 use Rattle.ir_thread.proofs.CallerLemmas.{ask_permits, lawful, above_held, not_entered}
 use Rattle.ir_object.specs.Cell.{has_writer, one_if_reading, is_writing}
 use Rattle.ir_runs.specs.Object.{Object, target, Admits, acted, reply}
