@@ -61,7 +61,7 @@ header_follow =
     (λ _ after. next budget_field λ b. after (headed p n m b))
     (field_follows Short Trailing reserved_field) (λ _.
     then_follows Short Trailing (field_at Short budget_field) (next budget_field)
-    (λ b b4. Ok (headed n m b, b4))
+    (λ b b4. Ok (headed p n m b, b4))
     (λ b after. after (headed p n m b))
     (field_follows Short Trailing budget_field) (λ b after b4. refl)))))
 

@@ -71,6 +71,9 @@ header_take all x fits e =
     (ok_is TraceErr (record { profile = first.0; threads = threads.0; objects = objects.0; budget = budget.0 }, budget.1) x e5)
     (header_taken all first threads objects reserved budget t0 t1 t2 t3 t4))
 
+four_parts : (a b c d rest : List ℕ) → (a ++ b ++ c ++ d) ++ rest ≡ a ++ (b ++ (c ++ (d ++ rest)))
+four_parts a b c d rest = simp append_assoc
+
 header_again : (h : Header) (rest : List ℕ) → IsWithin h → header_at (header_encoding h ++ rest) ≡ Ok (h, rest)
 unfolding header_at header_encoding
 header_again h rest within =
@@ -85,7 +88,8 @@ header_again h rest within =
     let e3 = reserved_again r2 in
     let e4 = field_again Short budget_field h.budget rest (omega (arith, within.budget_fits))
     (within_again 0 most_budget h.budget Count (omega arith) within.budget_fits) in
-    rw (e0, e1, e2, e3, e4) refl
+    ap header_at (four_parts (magic h.profile) (h.threads ∷ h.objects ∷ []) (little_bytes 2 0) (little_bytes 8 h.budget) rest)
+    ∙ rw (e0, e1, e2, e3, e4) refl
 
 -- ---- a thread
 
@@ -132,9 +136,6 @@ thread_takes profile objects bytes x fits e =
     (λ steps ended count events e0 e1 e2 e3 e4.
     subst (TakesThread profile objects bytes) (ok_is TraceErr (record { steps = steps.0; end = ended.0; events = events.0 }, events.1) x e4)
     (thread_taken profile objects bytes steps ended count events fits e0 e1 e2 e3))
-
-four_parts : (a b c d rest : List ℕ) → (a ++ b ++ c ++ d) ++ rest ≡ a ++ (b ++ (c ++ (d ++ rest)))
-four_parts a b c d rest = simp append_assoc
 
 thread_again : (profile : Profile) (objects : ℕ) (t : RecordedThread) (rest : List ℕ) → IsRecordedThread profile objects t
     → thread_at profile objects (thread_encoding t ++ rest) ≡ Ok (t, rest)
