@@ -30,9 +30,10 @@ impl Crew {
         }
         let entered = seen + Word::WRITER_ENTERS;
         let found = shared.compare_exchange::<TryWrite>(seat, place, seen, entered);
-        if found != seen {
-            return None;
+        if found == seen {
+            Some((word.version(), word.left()))
+        } else {
+            None
         }
-        Some((word.version(), word.left()))
     }
 }
