@@ -79,8 +79,9 @@ fn try_result(fitted: &Fitted, flat: &Flat<'_>, t: usize, object: u8) -> Option<
     match fitted.trace().next_event(t, before, Ask::Try(object)) {
         Err(_) => None,
         Ok(Event::Try { .. }) => Some(0),
-        Ok(event) => {
-            if is_open(&flat.objects()[object as usize], event) {
+        Ok(entry) => {
+            let found = &flat.objects()[object as usize];
+            if is_open(found, entry) {
                 Some(1)
             } else {
                 None

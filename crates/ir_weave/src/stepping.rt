@@ -91,13 +91,7 @@ impl Weave {
     }
 
     // A try, refused or an entry as the trace says; an entry if it is admitted. Whether it was taken.
-    fn try_in(
-        &self,
-        seat: &mut WeaveSeat,
-        thread: &mut Thread,
-        fitted: &Fitted,
-        object: u8,
-    ) -> bool
+    fn try_in(&self, seat: &mut WeaveSeat, thread: &mut Thread, fitted: &Fitted, object: u8) -> bool
         requires seat { seat.old.table_id ≡ self.now.table.shared.table_id }
         requires table { IsFor self.now.table.shared.key fitted.now }
         requires thread { IsSeated self.now.table.shared.key seat.old.me.0 thread.old }
