@@ -1,5 +1,6 @@
 //! A guest of two threads that is brought back and forth, and what is kept of it.
 
+ghost use Rattle.std.specs.Prelude.{◌<◌, length};
 ghost use Rattle.ir_checkpoint.specs.Checkpoints.{AreCheckpoints, Stands};
 
 use crate::guests::COUNTDOWN;
@@ -93,6 +94,56 @@ fn threads_are_brought_back_and_forth(rt: HostRuntime) -> Result<(), Fail> {
     assert_eq!(rt; at_end, (Some((LAST, LAST)), 5));
     assert_eq!(rt; before_end, (Some((LAST - 1, LAST)), 5));
     assert_eq!(rt; far_back.0, Some((3, LAST)));
+    Ok(())
+}
+
+// Where both threads stand in the state from which the first is searched below a position.
+fn before(
+    alloc: Global,
+    fitted: &Fitted,
+    checkpoints: &mut Checkpoints,
+    position: u64,
+) -> Result<Option<Pair>, Fail>
+    requires checkpoints { AreCheckpoints fitted.now checkpoints.old }
+    requires thread { 0 < length fitted.now.guest.entries }
+    ensures checkpoints { AreCheckpoints fitted.now checkpoints.new }
+{
+    let state = checkpoints.restore_before(alloc, fitted, 0, position)?;
+    Ok(positions(&state))
+}
+
+// Those before the start, a state that was asked for, the position behind it, and the end.
+fn restored<R: Threads + Clock + Sync>(rt: &R, alloc: Global) -> Result<[Option<Pair>; 4], Fail> {
+    let fitted = fitted(alloc, COUNTDOWN, COUNTED_DOWN)?;
+    if fitted.image().entries().is_empty() {
+        return Ok([None; 4]);
+    }
+    let mut checkpoints = Checkpoints::new(alloc, &fitted)?;
+    let mut state = State::start(alloc, &fitted)?;
+    brought(rt, alloc, &fitted, &mut checkpoints, &mut state, (9, 3))?;
+    checkpoints.keep(&fitted, &state)?;
+    brought(
+        rt,
+        alloc,
+        &fitted,
+        &mut checkpoints,
+        &mut state,
+        (LAST, LAST),
+    )?;
+    Ok([
+        before(alloc, &fitted, &mut checkpoints, 0)?,
+        before(alloc, &fitted, &mut checkpoints, 9)?,
+        before(alloc, &fitted, &mut checkpoints, 10)?,
+        before(alloc, &fitted, &mut checkpoints, LAST)?,
+    ])
+}
+
+#[test]
+fn the_last_state_before_a_position_is_restored(rt: HostRuntime) -> Result<(), Fail> {
+    let [start, at, behind, end] = restored(&rt, rt.alloc())?;
+    assert_eq!(rt; (start, at), (Some((0, 0)), Some((0, 0))));
+    assert_eq!(rt; behind, Some((9, 3)));
+    assert!(rt; matches!(end, Some((first, _)) if first > LAST / 2 && first < LAST));
     Ok(())
 }
 
