@@ -426,7 +426,7 @@ pub fn parsed(alloc: Global, arguments: &[String]) -> Asked {
 /// The arguments, of which the first is the program's name.
 ///
 /// # Errors
-/// Want of memory, or one is no text.
+/// Out of memory, or one is no text.
 pub fn collected<R: env::Env + AllocGlobal>(rt: &R) -> io::Result<Vec<String>> {
     let mut arguments = Vec::new(rt.alloc());
     for argument in env::args(rt)? {

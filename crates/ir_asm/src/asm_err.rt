@@ -9,7 +9,7 @@ use crate::refusal::Refusal;
 use std::alloc::AllocError;
 use thiserror::Error;
 
-/// The first fault of a source, or want of memory.
+/// The first fault of a source, or out of memory.
 #[derive(Debug, Drop, Error)]
 pub enum AsmErr {
     /// The line of the first fault, counted from 1, and what is wrong there.

@@ -63,7 +63,7 @@ fn parts_of(alloc: Global, scan: &Scan) -> Result<Parts, AsmErr>
 /// # Errors
 /// The first fault: the line, counted from 1, and its cause. A first pass goes over the lines for what each line says
 /// by itself, a second one for labels and objects; a source without code is at fault in the line after its last.
-/// Or want of memory.
+/// Or out of memory.
 pub fn assemble(alloc: Global, source: &str) -> Result<Image, AsmErr>
     ensures { Answers (λ i. i) result (assembled source.now) }
 {

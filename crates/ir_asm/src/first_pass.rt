@@ -85,7 +85,7 @@ fn first_line(text: &[u8]) -> (&[u8], Option<&[u8]>)
 /// After the lines of a source, of which each is gone over once; the answer is the number of the line that would follow.
 ///
 /// # Errors
-/// The first fault, or want of memory.
+/// The first fault, or out of memory.
 pub fn first_pass(alloc: Global, scan: &mut Scan, source: &[u8]) -> Result<usize, AsmErr>
     ensures exact { Answers (λ _. scan.new) result (first_pass 1 (lines_of source.now) scan.old) }
     ensures count { IfOk result (λ number. number ≡ length (lines_of source.now) + 1) }

@@ -6,7 +6,7 @@ ghost use Rattle.ir_asm.specs.declared.refusal.Refusal.TheVariants.{Faulty, NoMe
 use crate::cause::Cause;
 use std::alloc::{AllocError, AllocFailed};
 
-/// The fault of a line, or want of memory.
+/// The fault of a line, or out of memory.
 #[derive(Debug, Drop)]
 pub enum Refusal {
     Faulty(Cause),

@@ -162,7 +162,7 @@ fn put(
 /// After what was placed, in its order.
 ///
 /// # Errors
-/// The first fault, or want of memory.
+/// The first fault, or out of memory.
 pub fn second_pass(
     alloc: Global,
     scan: &Scan,

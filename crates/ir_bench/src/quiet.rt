@@ -33,7 +33,7 @@ impl World for Quiet {
 /// So many of them.
 ///
 /// # Errors
-/// Want of memory.
+/// Out of memory.
 pub fn worlds(alloc: Global, count: usize) -> Result<Vec<Quiet>, AllocError>
     ensures count { IfOk result (λ worlds. length worlds.items ≡ count) }
     ensures works { IfOk result (λ worlds. NoneFailed (map (λ w. w.failed) worlds.items)) }

@@ -7,7 +7,7 @@ ghost use Rattle.ir_checkpoint.specs.Checkpoints.{AllStand, Stands};
 ghost use Rattle.ir_checkpoint.specs.Below.{IsBelow};
 
 use ir_fit::Fitted;
-use ir_keep::{Keeper, MOST_KEPT};
+use ir_keep::{Keeper, MOST_STATES};
 use ir_replay::State;
 use std::alloc::AllocError;
 
@@ -57,7 +57,7 @@ pub fn last_below(fitted: &Fitted, keeper: &Keeper, t: usize, position: u64) -> 
     ensures { IfSome result (IsBelow keeper.now.kept t position) }
 {
     let mut best: Option<Found> = None;
-    for place in 0..MOST_KEPT {
+    for place in 0..MOST_STATES {
         if let Some(found) = below_at(fitted, keeper, place, t, position) {
             if is_further(best, found) {
                 best = Some(found);

@@ -16,7 +16,7 @@ use ir_thread::Thread;
 use std::alloc::{AllocError, Global};
 
 // So few steps before its target a move stops no more: they are soon taken again.
-const NEAR: u64 = 1 << 16;
+const NEAR: u64 = 1 << 14;
 
 // The least steps from one stop to the next, far from the target.
 const LEAST_GAP: u64 = 1 << 20;

@@ -131,8 +131,8 @@ impl Checkpoints {
         &self.passed
     }
 
-    // Gives up all states that moves have passed. Whether there were any.
-    fn give_up_all(&mut self, fitted: &Fitted) -> bool
+    /// Gives up all states that moves have passed, and their memory. Whether there were any.
+    pub fn give_up_all(&mut self, fitted: &Fitted) -> bool
         requires { AreCheckpoints fitted.now self.old }
         ensures { AreCheckpoints fitted.now self.new }
     {
@@ -373,9 +373,9 @@ impl Checkpoints {
 
     /// Brings threads and objects to the target: by `advance`, from where they stand, or from the kept state at or below the target with
     /// the most steps before it, where that is nearer or a thread is past its target. On a long way it keeps states that it passes: of
-    /// those that are the fewest steps apart, as seen from the target, one is given up when there are 64. A want of memory for one of
-    /// these is none for the move; where the move itself wants for memory they are all given up, and it goes on. Where they stand at the
-    /// target already it takes no memory, and succeeds.
+    /// those that are the fewest steps apart, as seen from the target, one is given up when there are 64. Where memory lacks for one of
+    /// these, the move goes on without it; where it lacks for the move itself they are all given up, and it goes on. Where they stand at
+    /// the target already it takes no memory, and succeeds.
     ///
     /// # Errors
     /// Out of memory, with the threads and objects at some consistent cut.

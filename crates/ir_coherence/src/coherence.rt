@@ -57,7 +57,7 @@ fn first_among(counts: &EntryCounts, trace: &Trace) -> Option<Incoherence>
 /// entries; the others are sorted, and looking one up takes the logarithm of their number at most.
 ///
 /// # Errors
-/// Want of memory.
+/// Out of memory.
 pub fn first_incoherence(alloc: Global, trace: &Trace) -> Result<Option<Incoherence>, AllocError>
     ensures coherent { IfOk result (λ found. IfNone found (IsCoherent (length trace.now.threads) (trace_of trace.now))) }
     ensures breaks { IfOk result (λ found. IfSome found (λ f. IsFirstBreak (length trace.now.threads) (trace_of trace.now) f.thread f.event f.cause)) }

@@ -51,7 +51,7 @@ fn add_log(counts: &mut EntryCounts, events: &[Event]) -> Result<(), AllocError>
 /// The entries of the whole trace, counted.
 ///
 /// # Errors
-/// Want of memory.
+/// Out of memory.
 pub fn count_entries(alloc: Global, trace: &Trace) -> Result<EntryCounts, AllocError>
     ensures counts { IfOk result (CountsAll (length trace.now.threads) (trace_of trace.now)) }
     ensures settled { IfOk result AreSettled }

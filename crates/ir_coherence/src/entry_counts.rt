@@ -40,7 +40,7 @@ impl EntryCounts {
     /// No entry of any object; for each object the number of versions that have a place of their own.
     ///
     /// # Errors
-    /// Want of memory.
+    /// Out of memory.
     pub fn new(alloc: Global, limits: &[usize]) -> Result<EntryCounts, AllocError>
         ensures { IfOk result (CountsNone (length limits.now)) }
     {
@@ -78,7 +78,7 @@ impl EntryCounts {
     /// Counts one more event.
     ///
     /// # Errors
-    /// Want of memory.
+    /// Out of memory.
     pub fn add(&mut self, event: Event) -> Result<(), AllocError>
         requires object { IsEvent (vec_len self.old.objects) event }
         requires room { HasRoom self.old 1 }
@@ -98,7 +98,7 @@ impl EntryCounts {
     /// Makes ready to be asked.
     ///
     /// # Errors
-    /// Want of memory.
+    /// Out of memory.
     pub fn settle(&mut self) -> Result<(), AllocError>
         ensures settled { OnOk result (AreSettled self.new) }
         ensures same { OnOk result (SameCounts self.old self.new) }

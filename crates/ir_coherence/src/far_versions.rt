@@ -68,7 +68,7 @@ impl FarVersions {
     /// One more.
     ///
     /// # Errors
-    /// Want of memory.
+    /// Out of memory.
     pub fn push(&mut self, version: u32) -> Result<(), AllocError>
         ensures { OnOk result (self.new.versions.items ≡ self.old.versions.items ++ version ∷ []) }
     {
@@ -79,7 +79,7 @@ impl FarVersions {
     /// Sorts them.
     ///
     /// # Errors
-    /// Want of memory.
+    /// Out of memory.
     pub fn sort(&mut self) -> Result<(), AllocError>
         ensures sorted { OnOk result (IsNonDecreasing self.new.versions.items) }
         ensures same { OnOk result ((v : ℕ) → occurrences v self.new.versions.items ≡ occurrences v self.old.versions.items) }

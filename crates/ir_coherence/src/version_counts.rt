@@ -27,7 +27,7 @@ impl VersionCounts {
     /// Counts one more entry at the version.
     ///
     /// # Errors
-    /// Want of memory.
+    /// Out of memory.
     pub fn add(&mut self, version: u32) -> Result<(), AllocError>
         requires { count self.old version + 1 < 2 ^ 32 }
         ensures { OnOk result (OneMore self.old self.new version) }
@@ -42,7 +42,7 @@ impl VersionCounts {
     /// Makes ready to be asked.
     ///
     /// # Errors
-    /// Want of memory.
+    /// Out of memory.
     pub fn settle(&mut self) -> Result<(), AllocError>
         ensures settled { OnOk result (IsSettled self.new) }
         ensures same { OnOk result ((v : ℕ) → count self.new v ≡ count self.old v) }

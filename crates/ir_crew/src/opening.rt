@@ -35,7 +35,7 @@ impl Crew {
     /// The objects of the guest, which nobody has entered, and a seat for each of its threads.
     ///
     /// # Errors
-    /// Want of memory.
+    /// Out of memory.
     pub fn open(alloc: Global, image: &Image) -> Result<(Crew, Vec<CrewSeat>), AllocError>
         ensures key { IfOk result (λ r. r.0.table.shared.key ≡ image.now) }
         ensures seats { IfOk result (λ r. AreSeats r.0.table.shared.table_id 0 r.1.items × (length r.1.items ≡ length image.now.entries)) }

@@ -44,7 +44,7 @@ impl Cut {
     /// An equal cut with memory of its own.
     ///
     /// # Errors
-    /// Want of memory.
+    /// Out of memory.
     pub fn copy(&self) -> Result<Cut, AllocError>
         ensures { IfOk result (λ c. c ≡ self.now) }
     {

@@ -107,7 +107,7 @@ fn fall(fitted: &Fitted, positions: &mut Vec<u64>, next: &mut Vec<usize>)
 /// cuts, the entries that need these, and the logarithm of the leaves before.
 ///
 /// # Errors
-/// Want of memory.
+/// Out of memory.
 pub fn greatest(
     alloc: Global,
     fitted: &Fitted,

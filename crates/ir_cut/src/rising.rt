@@ -93,7 +93,7 @@ fn rise(fitted: &Fitted, positions: &mut Vec<u64>, next: &mut Vec<usize>)
 /// both cuts, the leaves that these need, and the logarithm of the events before.
 ///
 /// # Errors
-/// Want of memory.
+/// Out of memory.
 pub fn least(alloc: Global, fitted: &Fitted, cut: &Cut, t: usize, k: u64) -> Result<Cut, AllocError>
     requires size { length cut.now ≡ length fitted.now.guest.entries }
     requires consistent { IsConsistentCut fitted.now cut.now }

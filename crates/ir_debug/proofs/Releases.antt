@@ -2,7 +2,7 @@
 use Rattle.std.proofs.Common.{◌≡◌, ℕ, List, Option, Some, None, refl, sym, ap, ◌∙◌}
 use Rattle.std.specs.Prelude.{codes}
 use Rattle.ir_runs.specs.declared.access.Access.{Access}
-use Rattle.ir_thread.specs.Calls.{ask_of, give_back}
+use Rattle.ir_thread.specs.Calls.{ask_of, release_ask}
 use Rattle.ir_thread.specs.Held.{highest}
 use Rattle.ir_thread.specs.State.{State}
 use Rattle.ir_thread.specs.declared.ask.Ask.{Ask}
@@ -15,7 +15,7 @@ abbrev pub line_of : Ask → List ℕ
 line_of (Leave o a) = number_line (codes "next give back ") o
 line_of q = codes "next done\n"
 
-releases : (top : Option (ℕ × Access)) → line_of (give_back top) ≡ released top
+releases : (top : Option (ℕ × Access)) → line_of (release_ask top) ≡ released top
 releases (Some (o, a)) = refl
 releases None = refl
 
@@ -23,5 +23,5 @@ pub by_ask : (code : List ℕ) (s : State) (q : Ask) (e : End) → s.ended ≡ S
 by_ask code s q e ended asked =
     ap (λ x. next_by x code s) ended ∙ sym (releases (highest s.held)) ∙ ap line_of (sym (asked ∙ asks code s e ended))
   where
-    asks : (code : List ℕ) (s : State) (e : End) → s.ended ≡ Some e → ask_of code s ≡ give_back (highest s.held)
+    asks : (code : List ℕ) (s : State) (e : End) → s.ended ≡ Some e → ask_of code s ≡ release_ask (highest s.held)
     asks code s e ended = rw ended refl

@@ -42,7 +42,7 @@ fn stretch_end(position: u64, last: u64) -> u64
 
 /// Where a point first hits thread t above the position at which it stands, if one does. The threads and objects go on to there, or to the
 /// thread's last position; the other threads as far as its steps need. Where no point may hit the thread, they stay. On a long way it
-/// keeps states; a want of memory for one of these is none for the search.
+/// keeps states; where memory lacks for one of these, the search goes on without it.
 ///
 /// # Errors
 /// Out of memory, with the threads and objects at some consistent cut.

@@ -247,7 +247,7 @@ fn printed(alloc: Global, pc: u32, inst: Inst) -> Result<String, AllocError>
 /// Branches and jumps have their distance and, as a comment, the address that they go to; a word that is no instruction is a `.word`.
 ///
 /// # Errors
-/// Want of memory.
+/// Out of memory.
 pub fn disassemble(alloc: Global, word: u32, pc: u32) -> Result<String, AllocError>
     ensures { IfOk result (λ s. string_bytes s ≡ text_of pc word) }
 {

@@ -52,7 +52,7 @@ pub fn read_all<R: Read + Drop>(alloc: Global, reader: R, most: u32) -> Result<V
 /// The bytes of a file, which may have so many at most.
 ///
 /// # Errors
-/// No such file, one that can't be read, one of more bytes, or want of memory.
+/// No such file, one that can't be read, one of more bytes, or out of memory.
 pub fn read_file<D: Folder>(
     alloc: Global,
     folder: &D,

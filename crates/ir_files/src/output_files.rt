@@ -46,7 +46,7 @@ fn output_path(alloc: Global, prefix: &str, thread: usize) -> Result<String, All
 /// The paths of the files of so many threads' outputs: `PREFIX.T` for thread T.
 ///
 /// # Errors
-/// Want of memory.
+/// Out of memory.
 pub fn output_paths(alloc: Global, prefix: &str, threads: usize) -> Result<Vec<String>, AllocError>
     ensures { IfOk result (λ v. map string_bytes v.items ≡ map (output_path prefix.now) (range_with_len 0 threads)) }
 {

@@ -41,7 +41,7 @@ NamesBreak r (Incoherent t i c) = IsFirstBreak (length r.threads) (trace_of r) t
 NamesBreak r (Header c) = ⊥
 NamesBreak r (verdict.Threads vs) = ⊥
 
--- want of memory, or such a verdict
+-- out of memory, or such a verdict
 abbrev pub BreaksBy : Recorded → FitErr → Type 0
 BreaksBy r NoMem = ⊤
 BreaksBy r (Refused v) = NamesBreak r v
@@ -87,7 +87,7 @@ IsRefusal guest r (Header c) = IsOther guest r c
 IsRefusal guest r (Incoherent t i c) = HasHeader guest r × IsFirstBreak (length guest.entries) (trace_of r) t i c
 IsRefusal guest r (verdict.Threads vs) = HasHeader guest r × IsCoherent (length guest.entries) (trace_of r) × AreVerdicts guest r vs.items
 
--- want of memory; or a refusal, and no run of the guest has the trace
+-- out of memory; or a refusal, and no run of the guest has the trace
 abbrev pub IsRefused : Guest → Recorded → FitErr → Type 0
 IsRefused guest r NoMem = ⊤
 IsRefused guest r (Refused v) = IsRefusal guest r v × ((run : List Step) → IsRunOf guest r run → ⊥)

@@ -94,7 +94,7 @@ pub fn rooms(trace: &Trace) -> Rooms {
 /// The entries of all threads, with room for so many.
 ///
 /// # Errors
-/// Want of memory.
+/// Out of memory.
 pub fn entered(
     alloc: Global,
     rooms: &Rooms,
@@ -122,7 +122,7 @@ pub fn entered(
 /// The leaves of all threads, with room for so many.
 ///
 /// # Errors
-/// Want of memory.
+/// Out of memory.
 pub fn left(alloc: Global, rooms: &Rooms, places: &[Places]) -> Result<Visits, AllocError>
     requires { length places.now ≤ most_threads }
     ensures { IfOk result (IsListing (all_left places.now)) }

@@ -41,7 +41,7 @@ impl<'a> Flat<'a> {
     /// The guest before its first step. The budget is in steps, for each thread.
     ///
     /// # Errors
-    /// Want of memory.
+    /// Out of memory.
     pub fn start(alloc: Global, image: &'a Image, budget: u64) -> Result<Flat<'a>, AllocError>
         requires { budget ≤ most_budget }
         ensures { IfOk result (λ f. f ≡ start_flat image.now budget) }
@@ -76,7 +76,7 @@ impl<'a> Flat<'a> {
     /// An equal value with memory of its own for threads and objects.
     ///
     /// # Errors
-    /// Want of memory.
+    /// Out of memory.
     pub fn copy(&self) -> Result<Flat<'a>, AllocError>
         ensures { IfOk result (λ f. f ≡ self.now) }
     {

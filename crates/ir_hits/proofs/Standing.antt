@@ -1,5 +1,5 @@
 -- Threads and objects of a guest, and the cuts at which they stand.
-use Rattle.std.proofs.Common.{◌≡◌, ℕ, ◌<◌, ◌≤◌, List, length, sym, ap, ◌∙◌, subst, inl, inr, arith}
+use Rattle.std.proofs.Common.{◌≡◌, ℕ, ◌<◌, List, length, sym, ap, ◌∙◌, subst, inl, inr, arith}
 use Rattle.std.specs.List.{slice_index_or}
 use Rattle.std.proofs.Math.Path.{fun_ext}
 use Rattle.std.proofs.lemmas.Bool.{cases_lt}
@@ -36,14 +36,6 @@ last_consistent f last are run whole = (
       let within = (get_at (trail (machine_of f) (start_of f) run u) j (needed.0, b) needed.1).0 in
       omega (arith, all, within),
 )
-
--- no thread is past them
-pub below_last : (f : FittedTrace) (last : List ℕ) (s : Standing) → AreLast f last → StandsAt f (positions (flat_in f s)) s
-    → (run : List Step) → IsRunOf f.guest f.recorded run → (t : ℕ) → positions (flat_in f s) t ≤ cut_of last t
-below_last f last s are stands run whole t =
-    let within = (stands.at.each run whole).cut t in
-    let all = last_steps f last are run whole t in
-    omega (arith, within, all)
 
 pub end_steps : (f : FittedTrace) (last : List ℕ) → AreLast f last → (run : List Step) → IsRunOf f.guest f.recorded run → (t end : ℕ)
     → end ≡ cut_of last t → end ≡ steps_of f run t

@@ -1,6 +1,6 @@
 -- Windows of a thread's positions, one after the other.
 use Rattle.std.proofs.Common.{◌≡◌, ◌∙◌, ap, ℕ, suc, zero, ◌+◌, ◌≤◌, List, Option, Some, None, sym, subst, inl, inr, arith}
-use Rattle.std.proofs.lemmas.Bool.{cases_eq, cases_lt}
+use Rattle.std.proofs.lemmas.Bool.{cases_eq}
 use Rattle.ir_runs.specs.Run.{Step}
 use Rattle.ir_fit.specs.Fit.{FittedTrace}
 use Rattle.ir_hits.specs.Hits.{Numbered, HitByNumber, NoneWithin, IsLowest, IsLastHit}

@@ -3,7 +3,7 @@ use Rattle.std.specs.Prelude.{ℕ, Option, Some, None}
 use Rattle.ir_image.specs.declared.image_err.ImageErr.{ImageErr}
 use Rattle.ir_image.specs.declared.image_err.ImageErr.TheVariants.{Short, Magic, Count, Entry, Trailing, NoMem}
 
--- the number that a fault goes by; want of memory is none of the bytes' and has 0
+-- the number that a fault goes by; running out of memory is none of the bytes' and has 0
 abbrev pub refusal_number : ImageErr → ℕ
 refusal_number Short = 1
 refusal_number Magic = 2

@@ -7,7 +7,7 @@ ghost use Rattle.ir_image.specs.Refusal.{number_of};
 use std::alloc::{AllocError, AllocFailed};
 use thiserror::Error;
 
-/// The first fault from the left, or want of memory.
+/// The first fault from the left, or out of memory.
 ///
 /// Fields are read from the left, each whole and then tested.
 #[derive(Debug, Drop, Error)]
@@ -27,7 +27,7 @@ pub enum ImageErr {
 }
 
 impl ImageErr {
-    /// The number of the fault, 1 to 5 in the order above, or `None` for want of memory.
+    /// The number of the fault, 1 to 5 in the order above, or `None` for out of memory.
     pub fn number(&self) -> Option<u8>
         ensures { result ≡ number_of self.now }
     {

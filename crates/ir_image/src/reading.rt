@@ -139,7 +139,7 @@ fn image(alloc: Global, bytes: &[u8]) -> Result<Image, ImageErr>
 /// The image that the bytes encode, all of the bytes. Numbers are little-endian, and memory is taken only for what the bytes hold.
 ///
 /// # Errors
-/// The first fault from the left, each field being read whole and then tested; or want of memory.
+/// The first fault from the left, each field being read whole and then tested; or out of memory.
 pub fn read_image(alloc: Global, bytes: &[u8]) -> Result<Image, ImageErr>
     // What is read is a guest within its limits, and encoded so.
     ensures found { IfOk result (λ image. IsGuest image × (bytes.now ≡ encoding image)) }

@@ -29,7 +29,7 @@ fn put_words(out: &mut Vec<u8>, words: &[u32]) -> Result<(), AllocError>
 /// The one encoding of the image.
 ///
 /// # Errors
-/// Want of memory.
+/// Out of memory.
 pub fn write_image(alloc: Global, image: &Image) -> Result<Vec<u8>, AllocError>
     ensures { IfOk result (λ v. v.items ≡ encoding image.now) }
 {

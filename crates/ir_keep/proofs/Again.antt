@@ -12,7 +12,7 @@ use Rattle.ir_thread.specs.Frames.{ThreadFrame, frame_of, thread_of}
 use Rattle.ir_flat.specs.Flat.{idle}
 use Rattle.ir_weave.specs.Standing.{Standing}
 use Rattle.ir_keep.specs.Pages.{all_pages, next_sources, same_bytes}
-use Rattle.ir_keep.specs.Keeping.{Kept, most_kept, first_kept, with_next}
+use Rattle.ir_keep.specs.Keeping.{Kept, most_states, first_kept, with_next}
 use Rattle.ir_keep.specs.Gathered.{HasMemory}
 use Rattle.ir_keep.specs.Store.{Page, Entry, blank, newer, laid, in_force, threads_of, kept_of, all_kept, changed, entry_of, IsEntry, AreEntries, AreBelow, AreFalling, AreWhole, AreNewer, AreLaid, AreFull, AreZero, HasStart, IsStore, thread_count}
 use Rattle.ir_keep.proofs.Laid.{changed_all, changed_sources, length-laid}
@@ -119,7 +119,7 @@ pub some_there : (entries : List Entry) → HasStart entries → 0 < length entr
 some_there [] start = absurd start
 some_there (entry ∷ older) start = omega arith
 
-pub store_next : (m last : ℕ) (s : Standing) (entries : List Entry) → IsStore m last entries → length entries < most_kept → All HasMemory s.threads → length s.threads ≡ m
+pub store_next : (m last : ℕ) (s : Standing) (entries : List Entry) → IsStore m last entries → length entries < most_states → All HasMemory s.threads → length s.threads ≡ m
     → IsStore m (suc last) (entry_of (suc last) s entries ∷ entries)
 store_next m last s [] store few all same = absurd store.start
 store_next m last s (entry ∷ older) store few all same =

@@ -9,7 +9,7 @@ use Rattle.ir_fit.specs.Fit.{FittedTrace}
 use Rattle.ir_weave.specs.Standing.{Standing, StandsAt}
 use Rattle.ir_keep.specs.Gathered.{HasMemory}
 use Rattle.ir_keep.specs.Pages.{all_pages}
-use Rattle.ir_keep.specs.Keeping.{Kept, most_kept, Keeping, IsNew, IsLike, IsCutFor, IsNearest, first_kept, after_keep, with_next, after_drop, kept_as, cut_in}
+use Rattle.ir_keep.specs.Keeping.{Kept, most_states, Keeping, IsNew, IsLike, IsCutFor, IsNearest, first_kept, after_keep, with_next, after_drop, kept_as, cut_in}
 use Rattle.ir_keep.specs.Store.{Page, Entry, in_force, threads_of, kept_of, all_kept, entry_of, taken_over, taken_away, place_of, AreEntries, AreFalling, AreLaid, AreFull, HasStart, IsStore, IsNearestPlace, thread_count, state_of}
 use Rattle.ir_keep.proofs.Laid.{entry_at}
 use Rattle.ir_keep.proofs.Whole.{full_whole, whole_force}
@@ -56,7 +56,7 @@ is_next last s entries slice new entry next =
     let one : last + 1 ≡ suc last = omega arith in
     next.2 ∙ (λ i. (next.1 ∙ λ j. entry_of (one j) s (next.0 j)) i ∷ entries)
 
-pub keep_store : (m last : ℕ) (s : Standing) (entries slice new : List Entry) (entry : Entry) → IsStore m last entries → length entries < most_kept → All HasMemory s.threads
+pub keep_store : (m last : ℕ) (s : Standing) (entries slice new : List Entry) (entry : Entry) → IsStore m last entries → length entries < most_states → All HasMemory s.threads
     → length s.threads ≡ m → IsNext last s entries slice new entry → IsStore (thread_count new) (last + 1) new
 keep_store m last s entries slice new entry store few all same next =
     let one : suc last ≡ last + 1 = omega arith in

@@ -21,8 +21,8 @@ pub record Keeping : Type 0 where
   pub last : ℕ
 
 -- the most cuts that are kept: the start, and 64 beside it
-abbrev pub most_kept : ℕ
-most_kept = 65
+abbrev pub most_states : ℕ
+most_states = 65
 
 -- every page of the start is of the start
 abbrev pub first_kept : Standing → Kept

@@ -8,7 +8,7 @@ use Rattle.ir_thread.specs.State as thread
 use Rattle.ir_object.specs.Cell.{Cell}
 use Rattle.ir_weave.specs.Standing.{Standing}
 use Rattle.ir_keep.specs.Pages.{all_pages, same_bytes}
-use Rattle.ir_keep.specs.Keeping.{Kept, most_kept, is_below, total}
+use Rattle.ir_keep.specs.Keeping.{Kept, most_states, is_below, total}
 
 -- a page and the number that it was first kept under
 pub record Page : Type 0 where
@@ -179,7 +179,7 @@ HasStart (entry ∷ next ∷ older) = HasStart (next ∷ older)
 
 -- entries of n threads, the last number given being this
 pub record IsStore (n last : ℕ) (entries : List Entry) : Type 0 where
-  pub few : length entries ≤ most_kept
+  pub few : length entries ≤ most_states
   pub threads : n ≤ most_threads
   pub each : AreEntries n entries
   pub numbers : AreFalling entries

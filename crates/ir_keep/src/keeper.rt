@@ -1,7 +1,7 @@
 //! Cuts that are kept, with the state at each.
 
 ghost use Rattle.std.specs.Prelude.{◌≡◌, ◌≢◌, ◌↔◌, ◌+◌, ◌<◌, ◌≤◌, ℕ, length, slice_get, IfOk, OnErr, IsErrOf, MatchOption, Some, None, option_map};
-ghost use Rattle.ir_keep.specs.Keeping.{Keeping, IsCutFor, IsLike, IsNearest, IsNew, after_drop, after_keep, cut_in, kept_as, most_kept, page_count};
+ghost use Rattle.ir_keep.specs.Keeping.{Keeping, IsCutFor, IsLike, IsNearest, IsNew, after_drop, after_keep, cut_in, kept_as, most_states, page_count};
 ghost use Rattle.std.specs.List.{All};
 ghost use Rattle.ir_image.specs.Guest.{most_threads};
 ghost use Rattle.ir_keep.specs.Store as store;
@@ -20,7 +20,7 @@ use std::alloc::{AllocError, AllocFailed, Global};
 use std::marker::Model;
 
 /// The most cuts that are kept: the start, and 64 beside it.
-pub const MOST_KEPT: usize = 65;
+pub const MOST_STATES: usize = 65;
 
 /// Why a state isn't kept.
 #[derive(Debug, Drop)]
@@ -131,9 +131,9 @@ impl Keeper {
         requires numbers { self.old.last < 4294967295 }
         ensures kept { IfOk result (λ n. (n ≡ self.old.last + 1) × (self.new ≡ after_keep state.now self.old)) }
         ensures refused { OnErr result (self.new ≡ self.old) }
-        ensures full { IsErrOf result Full ↔ (length self.old.kept ≡ most_kept) }
+        ensures full { IsErrOf result Full ↔ (length self.old.kept ≡ most_states) }
     {
-        if self.entries.len() >= MOST_KEPT {
+        if self.entries.len() >= MOST_STATES {
             return Err(KeepErr::Full);
         }
         let alloc = *self.entries.allocator();

@@ -27,7 +27,7 @@ impl Log {
     /// The log without events, with room for so many.
     ///
     /// # Errors
-    /// Want of memory.
+    /// Out of memory.
     pub fn new(alloc: Global, room: usize) -> Result<Log, AllocError>
         requires { room ≤ most_events }
         ensures { IfOk result (λ l. l ≡ record { events = []; room = room }) }
@@ -82,7 +82,7 @@ impl Log {
     /// An equal log with as much room.
     ///
     /// # Errors
-    /// Want of memory.
+    /// Out of memory.
     pub fn copy(&self) -> Result<Log, AllocError>
         ensures { IfOk result (λ l. l ≡ self.now) }
     {

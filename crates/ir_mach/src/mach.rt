@@ -77,7 +77,7 @@ impl Mach {
     /// zeros.
     ///
     /// # Errors
-    /// Want of memory.
+    /// Out of memory.
     pub fn new(alloc: Global, image: &Image, thread: usize) -> Result<Mach, AllocError>
         requires { thread < length image.now.entries }
         ensures { IfOk result (λ mach. mach ≡ start_core image.now thread) }
@@ -95,7 +95,7 @@ impl Mach {
     /// An equal machine with memory of its own.
     ///
     /// # Errors
-    /// Want of memory.
+    /// Out of memory.
     pub fn copy(&self) -> Result<Mach, AllocError>
         ensures { IfOk result (λ mach. mach ≡ self.now) }
     {

@@ -36,7 +36,7 @@ fn next_bytes<R: Source>(alloc: Global, reader: &mut R) -> Result<Vec<u8>, Bundl
 ///
 /// # Errors
 /// `BadLine`, with nothing written, where one of the two lines is no text of whole bytes in at most 4,194,304 digits of
-/// either case; want of memory; a fault of the session.
+/// either case; out of memory; a fault of the session.
 pub fn bundled<T: Threads + Clock + Sync, R: Source, W: Sink>(
     rt: &T,
     alloc: Global,

@@ -10,7 +10,7 @@ use std::alloc::{AllocError, AllocFailed};
 pub enum BundleErr {
     /// A line of the image or the trace isn't whole bytes in at most 4,194,304 hexadecimal digits.
     BadLine,
-    /// Want of memory.
+    /// Out of memory.
     NoMem,
     /// The reader failed.
     Read,

@@ -10,7 +10,7 @@ use std::alloc::AllocError;
 /// Why not all lines of a trace were written.
 #[derive(Clone, Copy, Debug, PartialEq, Eq)]
 pub enum ListErr {
-    /// Want of memory.
+    /// Out of memory.
     NoMem,
     /// The writer failed.
     Write,

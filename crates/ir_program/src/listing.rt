@@ -61,7 +61,7 @@ fn put_threads<W: Sink>(alloc: Global, threads: &[ThreadTrace], out: &mut W) -> 
 /// recording and its whole log. The memory that is taken doesn't grow with the events.
 ///
 /// # Errors
-/// Want of memory, or the writer failed; then a prefix of the lines was written.
+/// Out of memory, or the writer failed; then a prefix of the lines was written.
 pub fn write_listing<W: Sink>(alloc: Global, trace: &Trace, out: &mut W) -> Result<(), ListErr>
     requires { W.broken out.old ≡ false }
     ensures ok { OnOk result (Appends (W.written out.old) (W.written out.new) (listing trace.now)) }
@@ -85,7 +85,7 @@ fn refusal_line(alloc: Global, error: &TraceErr) -> Result<String, AllocError>
 /// Writes the line with which a session refuses a trace.
 ///
 /// # Errors
-/// Want of memory, or the writer failed; then a prefix of the line was written.
+/// Out of memory, or the writer failed; then a prefix of the line was written.
 pub fn write_refusal<W: Sink>(alloc: Global, error: &TraceErr, out: &mut W) -> Result<(), ListErr>
     requires { W.broken out.old ≡ false }
     ensures ok { OnOk result (Appends (W.written out.old) (W.written out.new) (opening_text (TraceRefused error.now))) }

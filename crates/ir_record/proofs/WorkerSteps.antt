@@ -400,7 +400,7 @@ pub log_room : (g : Guest) (w : Work) (kind : EnvKind) → IsWorker g w → ask_
 log_room g w kind i asked = let can = (permits g w (ask.Env kind) asked).1 in let n = i.3.count in let r = i.3.room in
     omega (arith, can, n, r)
 
--- ---- giving back
+-- ---- releasing
 
 pub did_alone : (me me' : M) (o : ℕ) (d : Deed) → me' ≡ (did me.0 o d, me.1) → IsAlone me.0 → IsAlone me'.0
 did_alone me me' o d e h = subst (λ (z : M). IsAlone z.0) (sym e) (go me.0 h)

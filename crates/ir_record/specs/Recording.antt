@@ -80,7 +80,7 @@ AllWork broken r = NoneFailed (each_world broken r.1)
 abbrev pub AreHandedBack : {W O : Type 0} → (W → O) → List W → Recorded × Outputs W → Type 0
 AreHandedBack origin before r = each_world origin r.1 ≡ map origin before
 
--- want of memory; or a world has failed, those of lower threads have not, and all worlds that were handed in are handed back, each gone
+-- out of memory; or a world has failed, those of lower threads have not, and all worlds that were handed in are handed back, each gone
 -- on by the answers that it gave
 abbrev pub IsFailure : {W O : Type 0} → (W → List Answered) → (W → Bool) → (W → O) → List W → RecordErr W → Type 0
 IsFailure answers broken origin before NoMem = ⊤

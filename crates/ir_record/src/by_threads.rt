@@ -33,7 +33,7 @@ fn blanks(alloc: Global, count: usize) -> Result<Vec<Object>, AllocError>
 /// runs it, and several such one after another. The budget is in steps, for each thread of the guest. Which of the guest's
 /// runs is recorded is open.
 ///
-/// The gate is told of each entry just after it, of each leave just before it, what a thread gives back at its end or after
+/// The gate is told of each entry just after it, of each leave just before it, what a thread releases at its end or after
 /// its world has failed among them, on the thread that enters or leaves, and of private steps. A gate that holds a thread up
 /// may hold up all.
 ///

@@ -7,7 +7,7 @@ use std::alloc::AllocError;
 /// Why there is no recording.
 #[derive(Debug, Drop)]
 pub enum RecordErr<W> {
-    /// Want of memory. The worlds are dropped.
+    /// Out of memory. The worlds are dropped.
     NoMem,
     /// A world failed, and the recording ended there.
     World {

@@ -176,7 +176,7 @@ impl<W: World> Worker<W> {
     }
 
     // It leaves all that its thread holds, the greatest object first.
-    fn give_back<G: Gate>(&mut self, crew: &Crew, gate: &G)
+    fn release_all<G: Gate>(&mut self, crew: &Crew, gate: &G)
         requires seat { self.old.seat.table_id ≡ crew.now.table.shared.table_id }
         requires worker { IsInside crew.now.table.shared.key self.old.seat.me self.old.thread }
         ensures { self.new.world ≡ self.old.world }
@@ -203,7 +203,7 @@ impl<W: World> Worker<W> {
                 return;
             }
             if let Err(_) = self.take_step(rt, crew, code, gate, asked) {
-                self.give_back(crew, gate);
+                self.release_all(crew, gate);
                 return;
             }
         }

@@ -20,7 +20,7 @@ const MOST_TURNS: u64 = 1_000_000;
 pub enum OrderErr {
     /// It is malformed, or names a thread that there is not.
     Bad,
-    /// Want of memory.
+    /// Out of memory.
     NoMem,
 }
 
@@ -121,7 +121,7 @@ pub fn bad_item(list: &str, threads: usize) -> Option<(&str, &'static str)>
 /// The turns that a list spells, item by item; the guest has so many threads. It takes memory for each item.
 ///
 /// # Errors
-/// `Bad` where the list spells none; want of memory.
+/// `Bad` where the list spells none; out of memory.
 pub fn read_order(alloc: Global, list: &str, threads: usize) -> Result<Vec<Turns>, OrderErr>
     requires some { 1 ≤ threads }
     requires few { threads ≤ most_threads }

@@ -36,7 +36,7 @@ impl<'a, C> ProgramWorld<'a, C> {
     /// file. The clock is read where the time is not counted.
     ///
     /// # Errors
-    /// Want of memory, which is made for all answers; no answer takes any.
+    /// Out of memory: room is made for all answers at once, and no answer takes any.
     pub fn new(
         alloc: Global,
         clock: &'a C,

@@ -13,7 +13,7 @@ pub enum RecordFault {
     Image(ImageErr),
     /// The list spells no order of the guest's threads.
     Order,
-    /// Want of memory.
+    /// Out of memory.
     NoMem,
     /// The clock can't be read.
     Clock,

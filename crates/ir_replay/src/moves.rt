@@ -114,7 +114,7 @@ fn turn<R: Threads + Clock + Sync, G: Gate + Sync>(
 /// has steps to take, it takes them all. The gate is told of each entry and leave.
 ///
 /// # Errors
-/// Want of memory, with the state at a consistent cut between.
+/// Out of memory, with the state at a consistent cut between.
 pub fn advance<R: Threads + Clock + Sync, G: Gate + Sync>(
     rt: &R,
     alloc: Global,

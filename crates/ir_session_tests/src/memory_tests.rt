@@ -163,7 +163,7 @@ fn asked<R: Threads + Wait + Sync>(
     }
 }
 
-// A recording that wants for memory has asked no world.
+// A recording that runs out of memory has asked no world.
 #[test]
 fn memory_is_refused_before_a_world_is_asked(rt: HostRuntime) -> Result<(), Fail> {
     let count = AtomicUsize::new(0);
@@ -235,7 +235,7 @@ fn a_replay_goes_on_from_where_memory_was_refused(rt: HostRuntime) -> Result<(),
 
 const AT_THE_START: &[u8] = b"ready\nat 0\n";
 
-// Whether a session that wants for memory has written nothing, and one whose writer does so a prefix of the answers.
+// Whether a session that runs out of memory has written nothing, and one whose writer does so a prefix of the answers.
 fn is_unwritten<R: AllocGlobal + Threads + Clock + Sync>(rt: &R) -> Result<bool, Short> {
     let image = guest(rt.alloc(), DOUBLED)?;
     let files = Files {

@@ -25,6 +25,6 @@ OrdersFit = (guest : Guest) (budget : ℕ) (order : List ℕ) (before : List (Li
     (answers : List (List Answered))
     → IsRecording guest budget order before trace outputs answers → HasTrace guest trace
 
--- where a run has the trace, judging it gives up for want of memory alone
+-- where a run has the trace, judging it gives up only where memory runs out
 abbrev pub NoRefusal : Type 0
 NoRefusal = (guest : Guest) (trace : Recorded) (e : FitErr) → HasTrace guest trace → IsRefused guest trace e → e ≡ NoMem

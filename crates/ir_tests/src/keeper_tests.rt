@@ -1,4 +1,4 @@
-//! How many pages are kept, and what is given back.
+//! How many pages are kept, and what is restored.
 
 use crate::guests::{CHANGED_ONCE, TWO_COUNTERS};
 use crate::replays::{fitted, in_order};
@@ -75,7 +75,7 @@ fn a_page_that_stays_the_same_is_kept_once(rt: HostRuntime) -> Result<(), Fail> 
 }
 
 // Whether the state kept by this number is the guest at these positions.
-fn is_given_back(
+fn is_restored(
     alloc: Global,
     fitted: &Fitted,
     keeper: &Keeper,
@@ -101,12 +101,12 @@ fn pages_of_two(alloc: Global, fitted: &Fitted, keeper: &mut Keeper) -> Result<[
     ])
 }
 
-// Whether the second, the start and the first are given back.
-fn given_back(alloc: Global, fitted: &Fitted, keeper: &Keeper) -> Result<[bool; 3], Fail> {
+// Whether the second, the start and the first are restored.
+fn restored(alloc: Global, fitted: &Fitted, keeper: &Keeper) -> Result<[bool; 3], Fail> {
     Ok([
-        is_given_back(alloc, fitted, keeper, 2, &[18, 18])?,
-        is_given_back(alloc, fitted, keeper, 0, &[0, 0])?,
-        is_given_back(alloc, fitted, keeper, 1, &[3, 15])?,
+        is_restored(alloc, fitted, keeper, 2, &[18, 18])?,
+        is_restored(alloc, fitted, keeper, 0, &[0, 0])?,
+        is_restored(alloc, fitted, keeper, 1, &[3, 15])?,
     ])
 }
 
@@ -116,7 +116,7 @@ fn two_threads_that_store_nothing_have_32_pages(rt: HostRuntime) -> Result<(), F
     let mut keeper = Keeper::new(rt.alloc(), &fitted)?;
     let pages = pages_of_two(rt.alloc(), &fitted, &mut keeper)?;
     assert_eq!(rt; pages, [32, 32, 32]);
-    let given_back = given_back(rt.alloc(), &fitted, &keeper)?;
-    assert_eq!(rt; given_back, [true, true, false]);
+    let restored = restored(rt.alloc(), &fitted, &keeper)?;
+    assert_eq!(rt; restored, [true, true, false]);
     Ok(())
 }

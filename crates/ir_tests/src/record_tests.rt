@@ -86,7 +86,7 @@ fn first(trace: &Trace) -> Option<Run> {
 type Alone = (Source, u64, Run, &'static [u8]);
 
 const ALONE: [Alone; 4] = [
-    // What is held at the end is given back.
+    // What is held at the end is released.
     (BROKEN_INSIDE, 1000, (2, 0, 9, 1), b""),
     // Entries rise.
     (FALLING, 1000, (10, 0, 6, 1), b""),

@@ -6,7 +6,7 @@ use Rattle.std.specs.Prelude.{nat_le, ◌&&◌}
 use Rattle.ir_image.specs.Guest.{object_words}
 use Rattle.ir_mach.specs.Core.{Outcome, Goes, Calls, Ends}
 use Rattle.ir_mach.specs.Execution.{outcome_of}
-use Rattle.ir_thread.specs.Calls.{a0, a1, a2, call_at, byte_text, number_text, printed, printed_by, print_ask, logged_ask, is_object, has_word, enter_ask, leave_ask, leave_held, get_ask, get_held, put_ask, put_held, call_ask, outcome_ask, give_back, ask_by, ask_of, IsRunning, CanLog, Permits, most_output, most_events}
+use Rattle.ir_thread.specs.Calls.{a0, a1, a2, call_at, byte_text, number_text, printed, printed_by, print_ask, logged_ask, is_object, has_word, enter_ask, leave_ask, leave_held, get_ask, get_held, put_ask, put_held, call_ask, outcome_ask, release_ask, ask_by, ask_of, IsRunning, CanLog, Permits, most_output, most_events}
 use Rattle.ir_thread.specs.Held.{held_at, highest, is_above}
 use Rattle.ir_thread.specs.State.{State}
 use Rattle.ir_runs.specs.declared.access.Access.{Access}
@@ -86,15 +86,15 @@ goes_on s (Goes core) runs = runs
 goes_on s (Ends fault) runs = runs.lives
 goes_on s Calls runs = calls s (call_at s) refl runs
 
-gives_back : (s : State) (h : Option (ℕ × Access)) → highest s.held ≡ h → s.ended ≢ None → Permits s (give_back h)
-gives_back s None e over = (over, e)
-gives_back s (Some top) e over = let t = top_held s.held top e in ((λ lives. absurd (over lives)), t.below, t.held)
+releases : (s : State) (h : Option (ℕ × Access)) → highest s.held ≡ h → s.ended ≢ None → Permits s (release_ask h)
+releases s None e over = (over, e)
+releases s (Some top) e over = let t = top_held s.held top e in ((λ lives. absurd (over lives)), t.below, t.held)
 
 pub ask_permits : (code : List ℕ) (s : State) → Permits s (ask_of code s)
 ask_permits code s = by s.ended refl
   where
     by : (e : Option End) → s.ended ≡ e → Permits s (ask_by code e s)
-    by (Some e) is = gives_back s (highest s.held) refl (λ none. cc (is, none))
+    by (Some e) is = releases s (highest s.held) refl (λ none. cc (is, none))
     by None is = cond_both (nat_le s.budget s.steps) (ask.End end.BudgetSpent) (outcome_ask (outcome_of code s.core) s) (Permits s)
         (λ _. is)
         (λ more. goes_on s (outcome_of code s.core)

@@ -171,13 +171,13 @@ abbrev pub running_ask : List ℕ → State → Ask
 running_ask code s = if nat_le s.budget s.steps then ask.End end.BudgetSpent else outcome_ask (outcome_of code s.core) s
 
 -- after its end a thread leaves what it holds, the greatest object first
-abbrev pub give_back : Option (ℕ × Access) → Ask
-give_back None = ask.Done
-give_back (Some top) = ask.Leave top.0 top.1
+abbrev pub release_ask : Option (ℕ × Access) → Ask
+release_ask None = ask.Done
+release_ask (Some top) = ask.Leave top.0 top.1
 
 -- what is asked by whether the thread has ended
 abbrev pub ask_by : List ℕ → Option End → State → Ask
-ask_by code (Some e) s = give_back (highest s.held)
+ask_by code (Some e) s = release_ask (highest s.held)
 ask_by code None s = running_ask code s
 
 -- what a thread asks
@@ -232,7 +232,7 @@ core_after number (Goes core) old = core
 core_after number Calls old = past_call old (Some number)
 core_after number (Ends fault) old = old
 
--- a machine after leaving: while a thread gives back, pc stays
+-- a machine after leaving: while a thread releases what it holds, pc stays
 abbrev pub core_left : Option End → Core → Core
 core_left None core = past_call core None
 core_left (Some e) core = core

@@ -48,6 +48,6 @@ thread_machine code = record {
   size = λ s. held_count s.held;
 }
 
--- whatever the code, a thread enters in order, uses what it holds, and gives back after its end
+-- whatever the code, a thread enters in order, uses what it holds, and releases it after its end
 abbrev pub ThreadsClose : Type 0
 ThreadsClose = (code : List ℕ) → IsLawful (thread_machine code) × IsClosing (thread_machine code)

@@ -9,7 +9,7 @@ ghost use Rattle.ir_thread.specs.Frames.{frame_of, thread_of};
 ghost use Rattle.ir_thread.specs.Instance.{ThreadsClose};
 ghost use Rattle.ir_thread.specs.State.{State};
 
-/// A thread enters objects in rising order, uses only what it holds, gives back all that it holds
+/// A thread enters objects in rising order, uses only what it holds, releases all that it holds
 /// after its end, and is done when it holds nothing.
 pub fn closes()
     ensures { ThreadsClose }

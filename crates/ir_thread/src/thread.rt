@@ -55,7 +55,7 @@ impl Thread {
     /// The thread of this number at its start, with room for all that it may print. The budget is in steps.
     ///
     /// # Errors
-    /// Want of memory.
+    /// Out of memory.
     pub fn new(
         alloc: Global,
         image: &Image,
@@ -86,7 +86,7 @@ impl Thread {
     /// An equal thread with memory of its own.
     ///
     /// # Errors
-    /// Want of memory.
+    /// Out of memory.
     pub fn copy(&self) -> Result<Thread, AllocError>
         ensures { IfOk result (λ t. t ≡ self.now) }
     {

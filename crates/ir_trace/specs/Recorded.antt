@@ -13,7 +13,7 @@ use Rattle.ir_log.specs.declared.event.Event.TheVariants.{Answer, Read, Write}
 
 -- what was recorded of one thread
 pub record RecordedThread : Type 0 where
-  -- how many steps it took, its end and what it gave back among them
+  -- how many steps it took, its end and what it released among them
   pub steps : ℕ
   pub end : End
   -- what it logged, the first event first

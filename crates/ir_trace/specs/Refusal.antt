@@ -3,7 +3,7 @@ use Rattle.std.specs.Prelude.{ℕ, Option, Some, None}
 use Rattle.ir_trace.specs.declared.trace_err.TraceErr.{TraceErr}
 use Rattle.ir_trace.specs.declared.trace_err.TraceErr.TheVariants.{Short, Magic, Count, Tag, Reserved, Range, Trailing, NoMem}
 
--- the number that a fault of the bytes goes by; want of memory is no fault of theirs
+-- the number that a fault of the bytes goes by; running out of memory is no fault of theirs
 abbrev pub number_of : TraceErr → Option ℕ
 number_of Short = Some 1
 number_of Magic = Some 2

@@ -104,7 +104,7 @@ fn event(objects: u8, bytes: &[u8]) -> Result<(Event, &[u8]), TraceErr>
 /// events than the bytes may hold.
 ///
 /// # Errors
-/// The first fault from the left, or want of memory.
+/// The first fault from the left, or out of memory.
 pub fn events(
     alloc: Global,
     objects: u8,

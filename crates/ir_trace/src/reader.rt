@@ -93,7 +93,7 @@ fn trace(alloc: Global, bytes: &[u8]) -> Result<Trace, TraceErr>
 /// The trace that the bytes encode, all of the bytes. Numbers are little-endian, and room is taken only for events whose bytes are there.
 ///
 /// # Errors
-/// The first fault from the left, each field being read whole and then tested; or want of memory.
+/// The first fault from the left, each field being read whole and then tested; or out of memory.
 pub fn read_trace(alloc: Global, bytes: &[u8]) -> Result<Trace, TraceErr>
     // What is read was recorded within the limits, and is encoded so.
     ensures found { IfOk result (λ trace. IsRecorded trace × (bytes.now ≡ encoding trace)) }

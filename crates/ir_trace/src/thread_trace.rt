@@ -30,7 +30,7 @@ impl ThreadTrace {
         ThreadTrace { steps, end, log }
     }
 
-    /// How many steps the thread took, its end and what it gave back among them.
+    /// How many steps the thread took, its end and what it released among them.
     pub fn steps(&self) -> u64
         ensures { result ≡ self.now.steps }
     {
@@ -54,7 +54,7 @@ impl ThreadTrace {
     /// An equal record with memory of its own.
     ///
     /// # Errors
-    /// Want of memory.
+    /// Out of memory.
     pub fn copy(&self) -> Result<ThreadTrace, AllocError>
         ensures { IfOk result (λ t. t ≡ self.now) }
     {

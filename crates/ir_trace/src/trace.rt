@@ -84,7 +84,7 @@ impl Trace {
     /// An equal trace with memory of its own.
     ///
     /// # Errors
-    /// Want of memory.
+    /// Out of memory.
     pub fn copy(&self) -> Result<Trace, AllocError>
         ensures { IfOk result (λ t. t ≡ self.now) }
     {

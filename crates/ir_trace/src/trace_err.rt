@@ -7,7 +7,7 @@ ghost use Rattle.ir_trace.specs.Refusal.{number_of};
 use std::alloc::{AllocError, AllocFailed};
 use thiserror::Error;
 
-/// The first fault from the left, or want of memory.
+/// The first fault from the left, or out of memory.
 ///
 /// Fields are read from the left, each whole and then tested.
 #[derive(Debug, Drop, Error)]
@@ -31,7 +31,7 @@ pub enum TraceErr {
 }
 
 impl TraceErr {
-    /// The number of the fault, 1 to 7 in the order above, or `None` for want of memory.
+    /// The number of the fault, 1 to 7 in the order above, or `None` for out of memory.
     pub fn number(&self) -> Option<u8>
         ensures { result ≡ number_of self.now }
     {

@@ -150,7 +150,7 @@ fn written_length(threads: &[ThreadTrace]) -> usize
 /// The one encoding of the trace.
 ///
 /// # Errors
-/// Want of memory.
+/// Out of memory.
 pub fn write_trace(alloc: Global, trace: &Trace) -> Result<Vec<u8>, AllocError>
     ensures { IfOk result (λ v. v.items ≡ encoding trace.now) }
 {

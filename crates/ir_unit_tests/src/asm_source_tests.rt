@@ -45,7 +45,7 @@ const ORDER: [(&str, usize, u8); 11] = [
     ("beq a0, a1, far\n.object 0, 1", 1, 7),
 ];
 
-// The line and the cause of the first fault; none, and 0 for want of memory, where there is none.
+// The line and the cause of the first fault; none, and 0 for out of memory, where there is none.
 pub fn fault_of(alloc: Global, source: &str) -> (usize, u8) {
     match assemble(alloc, source) {
         Ok(_) => (0, 0),

@@ -129,7 +129,7 @@ const PUT_AND_BREAK: [u32; 8] = [
 ];
 
 #[test]
-fn a_write_entry_given_back_keeps_its_puts(rt: HostRuntime) -> Result<(), Fail> {
+fn a_released_write_entry_keeps_its_puts(rt: HostRuntime) -> Result<(), Fail> {
     let seen = seen_alone(rt.alloc(), 1, &PUT_AND_BREAK, 1000, 9)?;
     assert_eq!(rt; seen, (Some((2, 9, 1)), Some(0x1_0000_0000), Some(7)));
     Ok(())
@@ -359,7 +359,7 @@ const TURNS: [(usize, u32, bool, (bool, bool)); 6] = [
     // Thread 0 is inside for writing, and thread 1 wants to enter.
     (1, 2, true, (true, false)),
     (1, 1, false, (true, false)),
-    // Thread 0 has ended and given back what it held.
+    // Thread 0 has ended and released what it held.
     (0, 6, true, (false, true)),
     (1, 1, true, (false, true)),
 ];

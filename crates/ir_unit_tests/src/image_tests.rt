@@ -143,7 +143,7 @@ fn a_count_without_its_bytes_is_short(rt: HostRuntime) {
 }
 
 #[test]
-fn want_of_memory_has_no_number(rt: HostRuntime) {
+fn out_of_memory_has_no_number(rt: HostRuntime) {
     assert_eq!(rt; ImageErr::NoMem.number(), None);
 }
 

@@ -39,7 +39,7 @@ const CODE: [u32; 21] = [
     0x73,
 ];
 
-// Where each thread starts in the code, in bytes, and how many steps it takes: the other gives back what it holds.
+// Where each thread starts in the code, in bytes, and how many steps it takes: the other releases what it holds.
 #[derive(Clone, Copy)]
 struct Sides {
     starts: [u8; 2],

@@ -56,7 +56,7 @@ const HELD: [(u32, Ask, Option<End>, Option<Access>); 3] = [
 ];
 
 #[test]
-fn what_is_held_is_given_back(rt: HostRuntime) -> Result<(), Fail> {
+fn what_is_held_is_released(rt: HostRuntime) -> Result<(), Fail> {
     let image = read_image(rt.alloc(), &PROGRAM)?;
     let mut thread = Thread::new(rt.alloc(), &image, 0, 1000)?;
     for &(steps, asked, end, held) in &HELD {

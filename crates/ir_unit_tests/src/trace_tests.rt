@@ -280,7 +280,7 @@ fn the_first_fault_is_named(rt: HostRuntime) -> Result<(), Fail> {
 }
 
 #[test]
-fn want_of_memory_has_no_number(rt: HostRuntime) {
+fn out_of_memory_has_no_number(rt: HostRuntime) {
     assert_eq!(rt; TraceErr::NoMem.number(), None);
 }
 
@@ -340,7 +340,7 @@ fn no_byte_follows_the_largest(rt: HostRuntime) -> Result<(), Fail> {
 
 // Holds whichever allocation is refused.
 #[test]
-fn a_refused_allocation_is_want_of_memory(rt: HostRuntime) {
+fn a_refused_allocation_is_out_of_memory(rt: HostRuntime) {
     match read_trace(rt.alloc(), &TWO_WRITERS) {
         Ok(trace) => assert_eq!(rt; trace.threads().len(), 2),
         Err(error) => assert!(rt; matches!(error, TraceErr::NoMem)),

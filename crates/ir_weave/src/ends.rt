@@ -62,7 +62,7 @@ impl Weave {
     /// A table of the state's objects, and a seat for each thread.
     ///
     /// # Errors
-    /// Want of memory.
+    /// Out of memory.
     pub fn open(
         alloc: Global,
         fitted: &Fitted,

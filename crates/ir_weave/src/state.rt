@@ -31,7 +31,7 @@ impl State {
     /// The guest before its first step.
     ///
     /// # Errors
-    /// Want of memory.
+    /// Out of memory.
     pub fn start(alloc: Global, fitted: &Fitted) -> Result<State, AllocError>
         ensures start { IfOk result (StandsAt fitted.now (λ t. 0)) }
         // The same by its own positions, which are below all others.

@@ -73,7 +73,7 @@ verdict_text (Header cause) = header_text cause ++ codes "\n"
 verdict_text (Incoherent thread event cause) = incoherent_text thread event cause ++ codes "\n"
 verdict_text (Threads vs) = threads_text 0 vs.items
 
--- the number of a fault of the bytes; there is none for want of memory
+-- the number of a fault of the bytes; there is none for running out of memory
 abbrev pub number_or_zero : Option ℕ → ℕ
 number_or_zero (Some n) = n
 number_or_zero None = 0

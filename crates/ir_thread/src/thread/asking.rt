@@ -22,7 +22,7 @@ const A2: u8 = 12;
 const A7: u8 = 17;
 
 impl Thread {
-    ghost use Rattle.ir_thread.specs.Calls.{a0, a1, call_at, number_text, print_ask, logged_ask, is_object, has_word, enter_ask, leave_ask, get_ask, put_ask, call_ask, running_ask, ask_of, give_back, Permits};
+    ghost use Rattle.ir_thread.specs.Calls.{a0, a1, call_at, number_text, print_ask, logged_ask, is_object, has_word, enter_ask, leave_ask, get_ask, put_ask, call_ask, running_ask, ask_of, release_ask, Permits};
     ghost use Rattle.ir_thread.specs.Held.{held_at, highest};
 
     // The call that the thread makes where it stands at one.
@@ -170,8 +170,8 @@ impl Thread {
     }
 
     // After its end the thread leaves what it holds, the greatest object first.
-    fn giving_back(&self) -> Ask
-        ensures { result ≡ give_back (highest self.now.held) }
+    fn releasing(&self) -> Ask
+        ensures { result ≡ release_ask (highest self.now.held) }
     {
         match highest(self.held.as_slice()) {
             Some((object, access)) => Ask::Leave(object, access),
@@ -184,7 +184,7 @@ impl Thread {
         ensures { result ≡ ask_of code.now self.now }
     {
         match self.ended {
-            Some(_) => self.giving_back(),
+            Some(_) => self.releasing(),
             None => self.running(code),
         }
     }

@@ -64,7 +64,7 @@ impl Thread {
         self.held[object as usize] = Some(access);
     }
 
-    // Out of an object: past the call, but while the thread gives back its pc stays.
+    // Out of an object: past the call, but while the thread releases what it holds its pc stays.
     #[tactic(auto, using(crate::proofs::Highest::one_fewer))]
     fn leave(&mut self, object: u8)
         requires steps { self.old.ended ≡ None → self.old.steps < self.old.budget }

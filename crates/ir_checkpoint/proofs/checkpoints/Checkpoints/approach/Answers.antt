@@ -2,7 +2,7 @@ use Rattle.ir_cut.specs.Positions.{cut_of}
 use Rattle.ir_weave.specs.Standing.{flat_in}
 use Rattle.ir_weave.specs.States.{positions}
 use Rattle.ir_checkpoint.proofs.Brought.{stands_own}
-use Rattle.ir_checkpoint.proofs.Ways.{below_target, between_target}
+use Rattle.ir_checkpoint.proofs.Ways.{below_target}
 use Rattle.ir_checkpoint.proofs.checkpoints.Checkpoints.approach.Goals as goal
 
 pub note-requires-clause-stands : goal.note-requires-clause-stands

@@ -10,8 +10,8 @@ take_private_steps-requires g c = record {
       c.loop.self c.requires.seated c.loop.invariant.stays;
 }
 
-pub give_back-requires-clause-worker : goal.give_back-requires-clause-worker
-give_back-requires-clause-worker g c =
+pub release_all-requires-clause-worker : goal.release_all-requires-clause-worker
+release_all-requires-clause-worker g c =
     let guest = c.args.crew.now.table.shared.key in
     let first = seated_on g.W.World.answers guest c.args.crew.now.table.shared.table_id c.args.code.now c.args.self.now c.loop.self
     c.requires.seated c.loop.invariant.stays in

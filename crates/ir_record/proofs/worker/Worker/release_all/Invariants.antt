@@ -1,7 +1,7 @@
 use Rattle.std.proofs.Common.{◌≡◌, ◌<◌, ◌≤◌, ℕ, length}
 use Rattle.ir_thread.specs.Held.{held_at}
 use Rattle.ir_crew.specs.Plays.{IsAlone, history, inside_by}
-use Rattle.ir_record.proofs.worker.Worker.give_back.Given as goal
+use Rattle.ir_record.proofs.worker.Worker.release_all.Given as goal
 
 abbrev pub invariant-loop-below : goal.invariant-loop-below
 invariant-loop-below g l = record {

@@ -1,7 +1,7 @@
 use Rattle.std.proofs.Common.{◌-◌, ℕ, ◌∙◌, arith}
 use Rattle.ir_crew.specs.declared.deed.Deed.TheVariants.{Leave}
 use Rattle.ir_record.proofs.WorkerSteps.{did_alone, did_elsewhere}
-use Rattle.ir_record.proofs.worker.Worker.give_back.Goals as goal
+use Rattle.ir_record.proofs.worker.Worker.release_all.Goals as goal
 
 pub loop-below-preserved-in-Some : goal.loop-below-preserved-in-Some
 loop-below-preserved-in-Some g c =
