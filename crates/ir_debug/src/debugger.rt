@@ -248,7 +248,7 @@ impl Debugger {
     }
 
     // The hit that a thread finds from its position in this direction.
-    fn find_hit<R: Threads + Clock + Sync, G: Gate + Sync>(
+    fn search<R: Threads + Clock + Sync, G: Gate + Sync>(
         &mut self,
         rt: &R,
         alloc: Global,
@@ -288,6 +288,28 @@ impl Debugger {
                 )
             }
         }
+    }
+
+    // The same. Where memory runs out, the states that moves have passed are given up, and it is searched once more.
+    fn find_hit<R: Threads + Clock + Sync, G: Gate + Sync>(
+        &mut self,
+        rt: &R,
+        alloc: Global,
+        thread: u32,
+        direction: Direction,
+        gate: &G,
+    ) -> Result<Option<Hit>, AllocError>
+        requires { thread < threads_of self.old.desk.fitted }
+        ensures desk { self.new.desk ≡ spoken self.old.desk }
+        ensures finds { IfOk result (λ hit. EachRun self.old.desk.fitted (λ run. Finds run self.old.desk thread direction hit)) }
+    {
+        if let Ok(hit) = self.search(rt, alloc, thread, direction, gate) {
+            return Ok(hit);
+        }
+        if !self.checkpoints.give_up_all(&self.fitted) {
+            return Err(AllocError);
+        }
+        self.search(rt, alloc, thread, direction, gate)
     }
 
     // Takes a thread to the hit that it finds in this direction, or to the end of its steps there.
