@@ -4,7 +4,7 @@ use Rattle.std.proofs.Common.{ap, ◌∙◌, sym, subst, arith, inl, inr}
 use Rattle.std.proofs.lemmas.Bool.{cases_lt, lt-ltb}
 use Rattle.std.proofs.lemmas.List.{take_all, length-take}
 use Rattle.ir_cut.specs.Positions.{EachRun}
-use Rattle.ir_stream.specs.Lines.{most_line}
+use Rattle.ir_stream.specs.Lines.{most_kept_bytes}
 use Rattle.ir_command.specs.Limits.{most_line}
 use Rattle.ir_command.specs.Commands.{command_of}
 use Rattle.ir_command.specs.declared.command.Command.{Command}
@@ -24,12 +24,12 @@ long_at k line h =
       | inr le ↦ ap (λ l. command_of l) (take_all k line le)
     ]
 
-pub long_replies : (d : Desk) (line text : List ℕ) (next : Desk) → Replies d (take most_line line) text next → Replies d line text next
+pub long_replies : (d : Desk) (line text : List ℕ) (next : Desk) → Replies d (take most_kept_bytes line) text next → Replies d line text next
 unfolding Replies
 long_replies d line text next is =
     let P : Result (Option Command) Refusal → Type 0 = λ a. EachRun d.fitted (λ run. RepliesBy a run d text next) in
-    subst P (long_at most_line line (omega arith)) is
+    subst P (long_at most_kept_bytes line (omega arith)) is
 
-pub long_quits : (line : List ℕ) → quits (take most_line line) ≡ quits line
+pub long_quits : (line : List ℕ) → quits (take most_kept_bytes line) ≡ quits line
 unfolding quits
-long_quits line = ap quits_by (long_at most_line line (omega arith))
+long_quits line = ap quits_by (long_at most_kept_bytes line (omega arith))

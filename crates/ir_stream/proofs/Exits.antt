@@ -8,7 +8,7 @@ use Rattle.ir_stream.specs.declared.serving.Served.{Served}
 use Rattle.ir_stream.specs.declared.serving.Served.TheVariants.{Quit}
 use Rattle.ir_stream.specs.declared.serving.Fault.{Fault}
 use Rattle.ir_stream.specs.declared.serving.Fault.TheVariants.{Read, Write, TooLong}
-use Rattle.ir_stream.specs.Lines.{most_line, Cut, cut, last_line, lines_of}
+use Rattle.ir_stream.specs.Lines.{most_kept_bytes, Cut, cut, last_line, lines_of}
 use Rattle.ir_stream.specs.Answers.{Replying, Answered, Wrote, WrotePrefix, Replied, RepliedPrefix, through, some_quits}
 use Rattle.ir_stream.specs.Devices.{Reads}
 use Rattle.ir_stream.specs.Endings.{served_after, IfEnded, LeadsTo}
@@ -25,7 +25,7 @@ pub record At {S : Type 0} (R : Replying S) (quits : List ℕ → Bool) (s0 : S)
   pub text : List ℕ
   pub answered : Answered R s0 (cut bytes).whole text s
   pub grown : Appends w0 written text
-  pub begun : line ≡ take most_line (cut bytes).rest
+  pub begun : line ≡ take most_kept_bytes (cut bytes).rest
   pub quiet : some_quits quits (cut bytes).whole ≡ false
 
 -- the line and the count under other names
@@ -46,8 +46,8 @@ at_other R quits s0 input w0 left written s line line' n n' at e f =
     }
 
 module _ {S : Type 0} (R : Replying S) (quits : List ℕ → Bool)
-    (long_replies : (s : S) (line text : List ℕ) (next : S) → R s (take most_line line) text next → R s line text next)
-    (long_quits : (line : List ℕ) → quits (take most_line line) ≡ quits line) (s0 : S) (input w0 : Option (List ℕ)) where
+    (long_replies : (s : S) (line text : List ℕ) (next : S) → R s (take most_kept_bytes line) text next → R s line text next)
+    (long_quits : (line : List ℕ) → quits (take most_kept_bytes line) ≡ quits line) (s0 : S) (input w0 : Option (List ℕ)) where
   pub at_start : At R quits s0 input w0 input w0 s0 [] 0
   unfolding cut
   at_start = record {
@@ -64,7 +64,7 @@ module _ {S : Type 0} (R : Replying S) (quits : List ℕ → Bool)
 
   module _ (left left' written : Option (List ℕ)) (s : S) (line : List ℕ) (n : ℕ) (at : At R quits s0 input w0 left written s line n) where
     -- a byte that is no line feed
-    pub at_byte : (line' : List ℕ) (b : ℕ) → Consumes left left' (b ∷ []) → eqb b 10 ≡ false → line' ≡ take most_line (line ++ b ∷ [])
+    pub at_byte : (line' : List ℕ) (b : ℕ) → Consumes left left' (b ∷ []) → eqb b 10 ≡ false → line' ≡ take most_kept_bytes (line ++ b ∷ [])
         → At R quits s0 input w0 left' written s line' (n + 1)
     at_byte line' b took ne kept =
         let k = cut-other at.bytes b ne in
@@ -76,8 +76,8 @@ module _ {S : Type 0} (R : Replying S) (quits : List ℕ → Bool)
           text = at.text;
           answered = subst P (sym k) at.answered;
           grown = at.grown;
-          begun = kept ∙ ap (λ (r : List ℕ). take most_line (r ++ b ∷ [])) at.begun ∙ take-again most_line (cut at.bytes).rest (b ∷ [])
-              ∙ ap (λ (c : Cut). take most_line c.rest) (sym k);
+          begun = kept ∙ ap (λ (r : List ℕ). take most_kept_bytes (r ++ b ∷ [])) at.begun ∙ take-again most_kept_bytes (cut at.bytes).rest (b ∷ [])
+              ∙ ap (λ (c : Cut). take most_kept_bytes c.rest) (sym k);
           quiet = ap (λ (c : Cut). some_quits quits c.whole) k ∙ at.quiet;
         }
 
@@ -129,7 +129,7 @@ module _ {S : Type 0} (R : Replying S) (quits : List ℕ → Bool)
           text = at.text ++ p.text;
           answered = subst P (sym k) (fed p.text s' p.is);
           grown = Appends-trans w0 written written' at.text p.text at.grown p.grown;
-          begun = ap (λ (c : Cut). take most_line c.rest) (sym k);
+          begun = ap (λ (c : Cut). take most_kept_bytes c.rest) (sym k);
           quiet = ap (λ (c : Cut). some_quits quits c.whole) k
               ∙ some_quits-append quits (cut at.bytes).whole ((cut at.bytes).rest ∷ []) at.quiet ∙ some_quits-one quits (cut at.bytes).rest
               ∙ sym same_quits ∙ q;

@@ -4,7 +4,7 @@ use Rattle.std.specs.Prelude.{Option}
 use Rattle.std.proofs.lemmas.List.{append-nil}
 use Rattle.std.proofs.KnownBytes.{Appends-nil, Appends-trans}
 use Rattle.std.specs.Io.KnownBytes.{Appends}
-use Rattle.ir_stream.specs.Lines.{most_line, last_line}
+use Rattle.ir_stream.specs.Lines.{most_kept_bytes, last_line}
 use Rattle.ir_stream.specs.Devices.{AppendsPrefix}
 use Rattle.ir_stream.specs.Answers.{Replying, Answered, Wrote, WrotePrefix, Replied, RepliedPrefix, through, some_quits}
 
@@ -82,9 +82,9 @@ prefix_some R s (b ∷ r) old new some p = record {
   grown = p.grown;
 }
 
-one_prefix : {S : Type 0} (R : Replying S) (long : (s : S) (line text : List ℕ) (next : S) → R s (take most_line line) text next
+one_prefix : {S : Type 0} (R : Replying S) (long : (s : S) (line text : List ℕ) (next : S) → R s (take most_kept_bytes line) text next
     → R s line text next)
-    → (s : S) (l k text : List ℕ) (last : S) → l ≡ take most_line k → Answered R s (l ∷ []) text last → Answered R s (k ∷ []) text last
+    → (s : S) (l k text : List ℕ) (last : S) → l ≡ take most_kept_bytes k → Answered R s (l ∷ []) text last → Answered R s (k ∷ []) text last
 unfolding Answered
 one_prefix {S} R long s l k text last e (first, next, rest, is, done, f) =
     let P : List ℕ → Type 0 = λ x. R s x first next in
@@ -92,10 +92,10 @@ one_prefix {S} R long s l k text last e (first, next, rest, is, done, f) =
 
 -- of the last line, too, only a prefix matters
 pub answered_prefix : {S : Type 0} (R : Replying S)
-    (long : (s : S) (line text : List ℕ) (next : S) → R s (take most_line line) text next → R s line text next)
-    → (s : S) (r text : List ℕ) (last : S) → Answered R s (last_line (take most_line r)) text last → Answered R s (last_line r) text last
+    (long : (s : S) (line text : List ℕ) (next : S) → R s (take most_kept_bytes line) text next → R s line text next)
+    → (s : S) (r text : List ℕ) (last : S) → Answered R s (last_line (take most_kept_bytes r)) text last → Answered R s (last_line r) text last
 answered_prefix R long s [] text last p = p
-answered_prefix R long s (b ∷ r) text last p = one_prefix R long s (take most_line (b ∷ r)) (b ∷ r) text last refl p
+answered_prefix R long s (b ∷ r) text last p = one_prefix R long s (take most_kept_bytes (b ∷ r)) (b ∷ r) text last refl p
 
 some_by : (b x y z : Bool) → cond b true x ≡ false → (x ≡ false → y ≡ z) → cond b true y ≡ z
 some_by true x y z h k = absurd cc

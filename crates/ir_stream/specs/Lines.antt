@@ -2,8 +2,8 @@
 use Rattle.std.specs.Prelude.{◌==◌, ℕ, List, [], ◌∷◌, ◌++◌, if◌then◌else◌, nat_lt, length, take}
 
 -- how many bytes of a line are kept: one more than the longest line that is answered as one
-abbrev pub most_line : ℕ
-most_line = 1025
+abbrev pub most_kept_bytes : ℕ
+most_kept_bytes = 1025
 
 -- whole lines, without their line feeds, and the bytes after the last line feed
 pub record Cut : Type 0 where

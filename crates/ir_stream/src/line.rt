@@ -1,7 +1,7 @@
 //! A line as it comes in, of which no more than its first `KEPT` bytes are kept.
 
 ghost use Rattle.std.specs.Prelude.{◌≡◌, ◌++◌, [], ◌∷◌, take};
-ghost use Rattle.ir_stream.specs.Lines.{most_line};
+ghost use Rattle.ir_stream.specs.Lines.{most_kept_bytes};
 
 use arrayvec::ArrayVec;
 
@@ -10,7 +10,7 @@ pub const KEPT: usize = 1025;
 
 /// Puts a byte at the end of the line, or drops it where the line has `KEPT`.
 pub fn keep(line: &mut ArrayVec<u8, KEPT>, byte: u8)
-    ensures { line.new.items ≡ take most_line (line.old.items ++ byte ∷ []) }
+    ensures { line.new.items ≡ take most_kept_bytes (line.old.items ++ byte ∷ []) }
 {
     if !line.is_full() {
         line.push(byte);

@@ -1,7 +1,7 @@
 use Rattle.std.proofs.Common.{◌≡◌, ◌≤◌, ◌<◌, ◌++◌, ◌∷◌, [], length, take, List, ℕ, true, false, eqb, arith, sym, ◌∙◌, length-append}
 use Rattle.std.proofs.lemmas.Bool.{eqb-true, eqb-false}
 use Rattle.std.proofs.lemmas.List.{take-append-le, take_all}
-use Rattle.ir_stream.specs.Lines.{most_line}
+use Rattle.ir_stream.specs.Lines.{most_kept_bytes}
 use Rattle.ir_stream.proofs.line.keep.Goals as goal
 
 put : (n : ℕ) (xs : List ℕ) (b : ℕ) → length xs ≤ n → eqb (length xs) n ≡ false → xs ++ b ∷ [] ≡ take n (xs ++ b ∷ [])
@@ -17,7 +17,7 @@ full n xs b none =
 
 pub returns-then-not-is_full : goal.returns-then-not-is_full
 returns-then-not-is_full c = c.push.ensures.items
-    ∙ put most_line c.args.line.now.items c.args.byte c.is_full.ensures.fits (sym c.is_full.ensures.value ∙ c.if-not-is_full.true)
+    ∙ put most_kept_bytes c.args.line.now.items c.args.byte c.is_full.ensures.fits (sym c.is_full.ensures.value ∙ c.if-not-is_full.true)
 
 pub returns-else-not-is_full : goal.returns-else-not-is_full
-returns-else-not-is_full c = full most_line c.args.line.now.items c.args.byte (sym c.is_full.ensures.value ∙ c.if-not-is_full.false)
+returns-else-not-is_full c = full most_kept_bytes c.args.line.now.items c.args.byte (sym c.is_full.ensures.value ∙ c.if-not-is_full.false)
