@@ -4,7 +4,7 @@ ghost use Rattle.std.specs.Prelude.{◌≤◌};
 ghost use Rattle.ir_thread.specs.Calls.{most_budget};
 
 use clap::error::ErrorKind;
-use clap::{Arg, ArgMatches, Command, Error};
+use clap::{Arg, ArgAction, ArgMatches, Command, Error};
 use ir_record_run::number_within;
 use ir_thread::MOST_BUDGET;
 use std::alloc::{AllocError, Global};
@@ -28,6 +28,8 @@ const ASM: &str = "asm";
 const SOURCE: &str = "SOURCE";
 
 const IMAGE: &str = "IMAGE";
+
+const EXPLAIN: &str = "explain";
 
 const ASM_ABOUT: &str = "Assembles a guest's source into an image";
 
@@ -174,6 +176,17 @@ A line is `thread T end E code C steps S events N`; the ends E are
 Exit status: 0 recorded, 1 a file that can't be read or written or is too long, 2 bad arguments, 3 a refused image or LIST.
 ";
 
+/// What is assembled, and where to.
+#[derive(Drop)]
+pub struct AssemblyArguments {
+    /// The file of the source.
+    pub source: String,
+    /// The file that the image is written to.
+    pub image: String,
+    /// Whether a fault is explained wherever it is told.
+    pub explain: bool,
+}
+
 /// What is recorded, how, and where to.
 #[derive(Drop)]
 pub struct RecordArguments {
@@ -199,8 +212,8 @@ pub struct RecordArguments {
 pub enum Asked {
     /// A session over standard input and output.
     Session,
-    /// The image of the source in the first file, into the second file.
-    Assembling(String, String),
+    /// The image of a source.
+    Assembling(AssemblyArguments),
     /// A recording.
     Recording(RecordArguments),
     /// The lines of the trace in this file.
@@ -222,11 +235,16 @@ fn asm_command<'a>(alloc: Global) -> Result<Command<'a>, AllocError> {
     let image = Arg::new(alloc, IMAGE)
         .required(true)
         .help("The file that the image is written to");
+    let explain = Arg::new(alloc, EXPLAIN)
+        .long(EXPLAIN)
+        .action(ArgAction::SetTrue)
+        .help("Explains a fault in a second line, as is done at a terminal");
     Command::new(alloc, ASM)
         .about(ASM_ABOUT)
         .after_help(ASM_AFTER)
         .arg(source)?
-        .arg(image)
+        .arg(image)?
+        .arg(explain)
 }
 
 fn record_command<'a>(alloc: Global) -> Result<Command<'a>, AllocError> {
@@ -363,10 +381,11 @@ fn given_text(
 }
 
 fn assembling(alloc: Global, matches: &ArgMatches<'_>) -> Result<Asked, AllocError> {
-    Ok(Asked::Assembling(
-        text_of(alloc, matches, SOURCE)?,
-        text_of(alloc, matches, IMAGE)?,
-    ))
+    Ok(Asked::Assembling(AssemblyArguments {
+        source: text_of(alloc, matches, SOURCE)?,
+        image: text_of(alloc, matches, IMAGE)?,
+        explain: matches.get_flag(EXPLAIN),
+    }))
 }
 
 fn debugging(alloc: Global, matches: &ArgMatches<'_>) -> Result<Asked, AllocError> {

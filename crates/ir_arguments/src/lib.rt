@@ -3,4 +3,4 @@
 
 mod arguments;
 
-pub use arguments::{ASM_AFTER, Asked, RecordArguments, collected, parsed};
+pub use arguments::{ASM_AFTER, Asked, AssemblyArguments, RecordArguments, collected, parsed};

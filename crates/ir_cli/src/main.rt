@@ -5,7 +5,7 @@ mod progress;
 mod standard;
 
 use ir_arguments::collected;
-use ir_program::{BAD_ARGUMENTS, FAULT, program};
+use ir_program::{BAD_ARGUMENTS, FAULT, Terminals, program};
 use ir_stream::FromStd;
 use progress::Progress;
 use standard::stand_ins;
@@ -40,7 +40,11 @@ fn run<R: Threads + Wait + Sync + Clock + Eprint>(rt: &HostRuntime, threads: &R)
     };
     let mut out = FromStd::new(io::writer(rt));
     let mut faults = FromStd::new(rt.stderr());
-    let progress = Progress::new(threads, rt.stderr().is_terminal());
+    let terminals = Terminals {
+        input: rt.stdin().is_terminal(),
+        faults: rt.stderr().is_terminal(),
+    };
+    let progress = Progress::new(threads, terminals.faults);
     program(
         threads,
         rt.alloc(),
@@ -48,7 +52,7 @@ fn run<R: Threads + Wait + Sync + Clock + Eprint>(rt: &HostRuntime, threads: &R)
         rt,
         &progress,
         FromStd::new(input),
-        rt.stdin().is_terminal(),
+        terminals,
         &mut out,
         &mut faults,
     )

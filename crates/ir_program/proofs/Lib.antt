@@ -1,2 +1,3 @@
 mod Listed
+mod ShownLines
 mod TakenLines

@@ -1,18 +1,19 @@
 //! A source in, its image or its first fault out.
 
 ghost use Rattle.std.specs.Prelude.{◌≡◌, ◌⊎◌, ◌<◌, ℕ, List, false, map, IfOk, Ok, Err};
+ghost use Rattle.std.specs.Option.{option_map};
 ghost use Rattle.std.specs.String.{string_bytes};
 ghost use Rattle.std.specs.Io.KnownBytes.{Appends};
 ghost use Rattle.ir_asm.specs.Answered.{Answers};
 ghost use Rattle.ir_asm.specs.Source.{Fault};
 ghost use Rattle.ir_asm.specs.Passes.{assembled};
-ghost use Rattle.ir_program.specs.Assembling.{masked, image_bytes, fault_line, Stops};
+ghost use Rattle.ir_program.specs.Assembling.{masked, spelled, image_bytes, report, Stops};
 ghost use Rattle.ir_files.specs.Writers.{writer_of, Failed};
 
+use crate::reporting::report;
 use ir_asm::{AsmErr, Cause, assemble};
-use ir_debug::{DeviceErr, Sink};
 use ir_image::write_image;
-use ir_stream::write_all;
+use ir_stream::{DeviceErr, Sink, write_all};
 use std::alloc::{AllocError, Global};
 
 const DONE: u8 = 0;
@@ -39,32 +40,31 @@ fn text_of(alloc: Global, source: &[u8]) -> Result<String, AllocError>
     Ok(text)
 }
 
-// The bytes of the image of a source.
-fn image_of(alloc: Global, source: &[u8]) -> Result<Vec<u8>, AsmErr>
-    ensures { Answers (λ v. v.items) result (image_bytes source.now) }
+// The bytes of the image of a text.
+fn image_of(alloc: Global, text: &str) -> Result<Vec<u8>, AsmErr>
+    ensures { Answers (λ v. v.items) result (spelled (assembled text.now)) }
 {
-    let text = text_of(alloc, source)?;
-    let image = assemble(alloc, &text)?;
+    let image = assemble(alloc, text)?;
     Ok(write_image(alloc, &image)?)
 }
 
-fn fault_line(alloc: Global, line: usize, cause: Cause) -> Result<String, AllocError>
-    ensures { IfOk result (λ s. string_bytes s ≡ fault_line (record { line = line; cause = cause })) }
-{
-    let number = cause.number();
-    format!(in alloc; "line {line} error {number}\n")
-}
-
-// Tells a fault by its line and cause; the status.
-fn tell_place<E: Sink>(alloc: Global, faults: &mut E, line: usize, cause: Cause) -> u8
+// Tells a fault by its report; the status.
+fn tell_place<E: Sink>(
+    alloc: Global,
+    explained: Option<&str>,
+    text: &str,
+    line: usize,
+    cause: Cause,
+    faults: &mut E,
+) -> u8
     requires { E.broken faults.old ≡ false }
     ensures status { (result ≡ 1) ⊎ (result ≡ 3) }
-    ensures reported { result ≡ 3 → Appends (E.written faults.old) (E.written faults.new) (fault_line (record { line = line; cause = cause })) }
+    ensures reported { result ≡ 3 → Appends (E.written faults.old) (E.written faults.new) (report (option_map (λ s. s.now) explained.entry) text.now (record { line = line; cause = cause })) }
     ensures failed { result ≡ 1 → (faults.new ≡ faults.old)
-        ⊎ Failed (writer_of (E.written faults.old) (E.written faults.new) (E.broken faults.new)) (fault_line (record { line = line; cause = cause })) }
+        ⊎ Failed (writer_of (E.written faults.old) (E.written faults.new) (E.broken faults.new)) (report (option_map (λ s. s.now) explained.entry) text.now (record { line = line; cause = cause })) }
 {
-    match fault_line(alloc, line, cause) {
-        Ok(text) => match write_all(faults, text.as_bytes()) {
+    match report(alloc, explained, text, line, cause) {
+        Ok(report) => match write_all(faults, report.as_bytes()) {
             Ok(()) => REFUSED,
             Err(DeviceErr) => FAULT,
         },
@@ -84,27 +84,41 @@ fn put<W: Sink>(image: &mut W, bytes: &[u8]) -> u8
     }
 }
 
-/// Assembles a source: writes its image, or tells its first fault as a line `line L error C`. The answer is the exit
-/// status: 0 where all of the image was written, 3 where the source has a fault, which was told and nothing written; 1
-/// where memory ran out, with nothing written, or a writer failed. A byte of the source above 0x7E counts as the byte 1.
-pub fn asm_run<W: Sink, E: Sink>(alloc: Global, source: &[u8], image: &mut W, faults: &mut E) -> u8
+/// Assembles a source: writes its image, or tells its first fault as a line `line L error C`; where the source's file is
+/// named, that fault is to be explained, and a second line says by that name, the line's number, the cause in words and
+/// the line's text what is wrong. The answer is the exit status: 0 where all of the image was written, 3 where the source
+/// has a fault, which was told and nothing written; 1 where memory ran out, with nothing written, or a writer failed. A
+/// byte of the source above 0x7E counts as the byte 1.
+pub fn asm_run<W: Sink, E: Sink>(
+    alloc: Global,
+    source: &[u8],
+    explained: Option<&str>,
+    image: &mut W,
+    faults: &mut E,
+) -> u8
     requires writes { W.broken image.old ≡ false }
     requires reports { E.broken faults.old ≡ false }
     ensures status { (result ≡ 0) ⊎ (result ≡ 1) ⊎ (result ≡ 3) }
     // The image was written, and no fault told.
     ensures done { result ≡ 0 → (bytes : List ℕ) × (image_bytes source.now ≡ Ok bytes) × Appends (W.written image.old) (W.written image.new) bytes × (faults.new ≡ faults.old) }
     // The first fault was told.
-    ensures refused { result ≡ 3 → (fault : Fault) × (image_bytes source.now ≡ Err fault) × Appends (E.written faults.old) (E.written faults.new) (fault_line fault) }
+    ensures refused { result ≡ 3 → (fault : Fault) × (image_bytes source.now ≡ Err fault)
+        × Appends (E.written faults.old) (E.written faults.new) (report (option_map (λ s. s.now) explained.entry) (map masked source.now) fault) }
     // Of a source with a fault nothing is written.
     ensures unwritten { (fault : Fault) → image_bytes source.now ≡ Err fault → image.new ≡ image.old }
     // Memory ran out and nothing was written or told, or a writer failed in what it was to take.
-    ensures stopped { result ≡ 1 → Stops source.now
+    ensures stopped { result ≡ 1 → Stops (option_map (λ s. s.now) explained.entry) source.now
         (writer_of (W.written image.old) (W.written image.new) (W.broken image.new)) (image.new ≡ image.old)
         (writer_of (E.written faults.old) (E.written faults.new) (E.broken faults.new)) (faults.new ≡ faults.old) }
 {
-    match image_of(alloc, source) {
+    let Ok(text) = text_of(alloc, source) else {
+        return FAULT;
+    };
+    match image_of(alloc, text.as_str()) {
         Ok(bytes) => put(image, bytes.as_slice()),
-        Err(AsmErr::At { line, cause }) => tell_place(alloc, faults, line, cause),
+        Err(AsmErr::At { line, cause }) => {
+            tell_place(alloc, explained, text.as_str(), line, cause, faults)
+        }
         Err(AsmErr::NoMem) => FAULT,
     }
 }

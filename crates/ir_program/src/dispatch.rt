@@ -7,7 +7,7 @@ use crate::bundles::bundle;
 use crate::debugging::debug_run;
 use crate::prompting::Prompting;
 use crate::tracing::trace_run;
-use ir_arguments::{Asked, RecordArguments, parsed};
+use ir_arguments::{Asked, AssemblyArguments, RecordArguments, parsed};
 use ir_debug::{Sink, Source};
 use ir_files::{
     Folder, MOST_BYTES, MOST_INPUT, OutputFiles, WholeFile, WholeSink, loses, output_paths,
@@ -30,6 +30,15 @@ pub const FAULT: u8 = 1;
 
 /// The words ask for nothing that there is.
 pub const BAD_ARGUMENTS: u8 = 2;
+
+/// Which streams are terminals.
+#[derive(Clone, Copy, Debug, PartialEq, Eq)]
+pub struct Terminals {
+    /// What is read. In a session of files somebody is asked for each line there.
+    pub input: bool,
+    /// Where faults are told. One of a source is explained there.
+    pub faults: bool,
+}
 
 // Tells what failed, or is wrong, and why, in one line; where faults can't be told any more, nobody is told.
 fn say<E: Sink>(faults: &mut E, name: &str, what: &str, why: &str) {
@@ -168,12 +177,14 @@ fn loses_source<D: Folder, E: Sink>(
 fn assemble_file<D: Folder, E: Sink>(
     alloc: Global,
     folder: &D,
-    source: &str,
-    image: &str,
+    arguments: &AssemblyArguments,
+    explains: bool,
     faults: &mut E,
 ) -> u8
     requires reports { E.broken faults.old ≡ false }
 {
+    let source = arguments.source.as_str();
+    let image = arguments.image.as_str();
     let Ok(beside) = format!(in alloc; "{image}.part") else {
         say(faults, "memory ran out", "", "");
         return FAULT;
@@ -185,7 +196,8 @@ fn assemble_file<D: Folder, E: Sink>(
     let Some(bytes) = bytes_of(alloc, folder, faults, source, MOST_BYTES) else {
         return FAULT;
     };
-    let status = asm_run(alloc, bytes.as_slice(), &mut file, faults);
+    let explained = (explains || arguments.explain).then_some(source);
+    let status = asm_run(alloc, bytes.as_slice(), explained, &mut file, faults);
     if status == DONE {
         let _ = file.finish();
     }
@@ -425,8 +437,7 @@ fn help<O: Sink, E: Sink>(text: &str, out: &mut O, faults: &mut E) -> u8 {
 }
 
 /// Does what the words ask for, of which the first is the program's name, and gives the exit status. Threads that record
-/// or replay are those of the handle, and the gate is told of what they do while they record. In a session of files
-/// somebody is asked for each line, if so said.
+/// or replay are those of the handle, and the gate is told of what they do while they record.
 pub fn program<R, D, G, I, O, E>(
     rt: &R,
     alloc: Global,
@@ -434,7 +445,7 @@ pub fn program<R, D, G, I, O, E>(
     folder: &D,
     gate: &G,
     input: I,
-    asks: bool,
+    terminals: Terminals,
     out: &mut O,
     faults: &mut E,
 ) -> u8
@@ -460,14 +471,14 @@ where
             folder,
             image.as_str(),
             trace.as_str(),
-            asks,
+            terminals.input,
             input,
             out,
             faults,
         ),
         Asked::Listing(trace) => list_file(alloc, folder, trace.as_str(), out, faults),
-        Asked::Assembling(source, image) => {
-            assemble_file(alloc, folder, source.as_str(), image.as_str(), faults)
+        Asked::Assembling(arguments) => {
+            assemble_file(alloc, folder, &arguments, terminals.faults, faults)
         }
         Asked::Recording(arguments) => {
             record_file(rt, alloc, folder, gate, &arguments, out, faults)

@@ -10,10 +10,11 @@ mod line;
 mod list_err;
 mod listing;
 mod prompting;
+mod reporting;
 mod tracing;
 
 pub use assembling::asm_run;
 pub use bundles::{bundle, bundled};
-pub use dispatch::{BAD_ARGUMENTS, DONE, FAULT, program};
+pub use dispatch::{BAD_ARGUMENTS, DONE, FAULT, Terminals, program};
 pub use fault::BundleErr;
 pub use tracing::trace_run;

@@ -14,7 +14,7 @@ fn asked(rt: &HostRuntime, line: &str) -> Result<Asked, Fail> {
     Ok(parsed(rt.alloc(), arguments.as_slice()))
 }
 
-const WRONG: [(&str, &str); 7] = [
+const WRONG: [(&str, &str); 8] = [
     (
         "ir asm",
         "the following required arguments were not provided: <SOURCE> <IMAGE>",
@@ -38,6 +38,10 @@ const WRONG: [(&str, &str); 7] = [
     (
         "ir record a.img a.trc --fast",
         "unexpected argument '--fast' found",
+    ),
+    (
+        "ir asm --explain=1 a.s a.img",
+        "unexpected value '1' for '--explain' found; no more were expected",
     ),
     ("ir play", "unrecognized subcommand 'play'"),
 ];
@@ -101,7 +105,8 @@ fn is_taken(rt: &HostRuntime, name: &str, operands: &str) -> Result<bool, Fail> 
     let source = format!(in rt.alloc(); "{name} {operands}\nnop\nnop\n")?;
     let mut image = empty_page(rt, 1000, ENDLESS);
     let mut faults = empty_page(rt, 1000, ENDLESS);
-    Ok(asm_run(rt.alloc(), source.as_bytes(), &mut image, &mut faults) == 0)
+    let status = asm_run(rt.alloc(), source.as_bytes(), None, &mut image, &mut faults);
+    Ok(status == 0)
 }
 
 // Each of the 50 instructions stands in the help by its form.

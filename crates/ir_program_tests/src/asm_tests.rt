@@ -1,7 +1,10 @@
-//! Assembling over fakes: images, faults, each writer that fails.
+//! Assembling over fakes: images, faults, their explanations, each writer that fails.
 
 use crate::device_tests::{ENDLESS, Page, empty_page};
+use ir_arguments::ASM_AFTER;
 use ir_program::asm_run;
+use std::alloc::{AllocError, Global};
+use std::test::Fail;
 
 const SOURCE: &[u8] =
     b"addi a0, zero, 72\naddi a7, zero, 2\necall\nadd a0, a0, a0\naddi a7, zero, 1\necall\n";
@@ -33,7 +36,7 @@ fn assembled(
 ) -> (u8, Page, Page) {
     let mut image = empty_page(rt, most, image_calls);
     let mut faults = empty_page(rt, most, fault_calls);
-    let status = asm_run(rt.alloc(), source, &mut image, &mut faults);
+    let status = asm_run(rt.alloc(), source, None, &mut image, &mut faults);
     (status, image, faults)
 }
 
@@ -71,4 +74,171 @@ fn a_writer_fails(rt: HostRuntime) {
         assert_eq!(rt; status, if calls < 8 { 1 } else { 3 });
         assert!(rt; image.bytes.is_empty());
     }
+}
+
+const WORDS_2: &str = "an unknown instruction or directive";
+
+const WORDS_10: &str = "too much code or data, or no code";
+
+// A source with a fault, its line and cause, the cause in words, and what of the line follows these.
+const EXPLAINED: [(&str, u32, u32, &str, &str); 14] = [
+    (
+        "nop\n\tnop # \x01\u{e9}\x7f~\n",
+        2,
+        1,
+        "a byte that a source may not hold",
+        ":  nop # ????~",
+    ),
+    ("nop\r", 1, 1, "a byte that a source may not hold", ": nop?"),
+    ("nop\nx\nnop\n", 2, 2, WORDS_2, ": x"),
+    (
+        "add a0, a1\r\nnop\r\n",
+        1,
+        3,
+        "a wrong number or form of operands",
+        ": add a0, a1",
+    ),
+    (
+        "addi a0, zer, 1",
+        1,
+        4,
+        "an unknown register",
+        ": addi a0, zer, 1",
+    ),
+    (
+        "\n\nlw\ta0, 2048(a1)\n",
+        3,
+        5,
+        "a malformed number or one out of range",
+        ": lw a0, 2048(a1)",
+    ),
+    ("a: nop\na: nop", 2, 6, "a label defined twice", ": a: nop"),
+    (
+        "nop\nbeq a0, a1, far # there\n",
+        2,
+        7,
+        "an undefined label",
+        ": beq a0, a1, far # there",
+    ),
+    (
+        "nop\n.space 1",
+        2,
+        9,
+        "a statement or label of the wrong section",
+        ": .space 1",
+    ),
+    ("", 2, 10, WORDS_10, ""),
+    ("# no code\n\n", 4, 10, WORDS_10, ""),
+    (
+        ".data\n.space 65536\n.byte 1\n.text\nnop",
+        3,
+        10,
+        WORDS_10,
+        ": .byte 1",
+    ),
+    (
+        "nop\n.object 0, 1",
+        2,
+        11,
+        "too many threads, or no such object",
+        ": .object 0, 1",
+    ),
+    ("9a: nop", 1, 12, "a malformed label", ": 9a: nop"),
+];
+
+// The status and what was told of a source whose faults are explained, by a writer that fails after so many calls of
+// seven bytes at most.
+fn explained(rt: &HostRuntime, source: &[u8], fault_calls: u64) -> (u8, Page) {
+    let mut image = empty_page(rt, 1, 0);
+    let mut faults = empty_page(rt, 7, fault_calls);
+    let status = asm_run(rt.alloc(), source, Some("bad.s"), &mut image, &mut faults);
+    (status, faults)
+}
+
+// A report by its parts.
+fn report_of(
+    alloc: Global,
+    line: u32,
+    cause: u32,
+    words: &str,
+    text: &str,
+) -> Result<String, AllocError> {
+    format!(in alloc; "line {line} error {cause}\nbad.s:{line}: {words}{text}\n")
+}
+
+#[test]
+fn a_fault_is_explained(rt: HostRuntime) -> Result<(), Fail> {
+    for &(source, line, cause, words, text) in &EXPLAINED {
+        let report = report_of(rt.alloc(), line, cause, words, text)?;
+        let (status, faults) = explained(&rt, source.as_bytes(), ENDLESS);
+        assert_eq!(rt; status, 3);
+        assert_eq!(rt; faults.bytes.as_slice(), report.as_bytes());
+    }
+    Ok(())
+}
+
+// The words are those of the help.
+#[test]
+fn the_help_has_the_words_of_each_cause(rt: HostRuntime) -> Result<(), Fail> {
+    for &(_, _, cause, words, _) in &EXPLAINED {
+        let row = format!(in rt.alloc(); " {cause} {words}")?;
+        assert!(rt; ASM_AFTER.contains(row.as_str()), "{row}");
+    }
+    assert!(rt; ASM_AFTER.contains(" 8 a label that is too far away"));
+    Ok(())
+}
+
+// This text so many times.
+fn repeated(alloc: Global, text: &str, count: usize) -> Result<String, AllocError> {
+    let mut all = String::new(alloc);
+    for _ in 0..count {
+        all.push_str(text)?;
+    }
+    Ok(all)
+}
+
+#[test]
+fn a_label_too_far_away_is_explained(rt: HostRuntime) -> Result<(), Fail> {
+    let mut source = repeated(rt.alloc(), "nop\n", 1024)?;
+    source.push_str("beq a0, a1, near\n")?;
+    let (_, faults) = explained(&rt, source.as_bytes(), ENDLESS);
+    assert!(rt; faults.bytes.as_slice().starts_with(b"line 1025 error 7\n"));
+    let source = format!(in rt.alloc(); "near: {source}")?;
+    let (_, faults) = explained(&rt, source.as_bytes(), ENDLESS);
+    let report = report_of(
+        rt.alloc(),
+        1025,
+        8,
+        "a label that is too far away",
+        ": beq a0, a1, near",
+    )?;
+    assert_eq!(rt; faults.bytes.as_slice(), report.as_bytes());
+    Ok(())
+}
+
+// The first 200 bytes of a line are shown.
+#[test]
+fn a_long_line_is_cut(rt: HostRuntime) -> Result<(), Fail> {
+    for &(count, shown) in &[(199, 199), (200, 200), (201, 200), (300, 200)] {
+        let source = repeated(rt.alloc(), "x", count)?;
+        let text = repeated(rt.alloc(), "x", shown)?;
+        let (_, faults) = explained(&rt, source.as_bytes(), ENDLESS);
+        let wanted = format!(in rt.alloc(); "line 1 error 2\nbad.s:1: {WORDS_2}: {text}\n")?;
+        assert_eq!(rt; faults.bytes.as_slice(), wanted.as_bytes());
+    }
+    Ok(())
+}
+
+// The report takes ten calls of seven bytes.
+#[test]
+fn a_writer_of_explanations_fails(rt: HostRuntime) -> Result<(), Fail> {
+    let report = report_of(rt.alloc(), 1, 2, WORDS_2, ": y")?;
+    for calls in 0..10 {
+        let (status, faults) = explained(&rt, b"y", calls);
+        let told = faults.bytes.as_slice();
+        assert_eq!(rt; status, if told.len() < report.len() { 1 } else { 3 });
+        assert!(rt; report.as_bytes().starts_with(told));
+        assert!(rt; told.len() as u64 == (calls * 7).min(report.len() as u64));
+    }
+    Ok(())
 }

@@ -4,7 +4,7 @@
 use crate::device_tests::{Bytes, ENDLESS, Page, empty_page};
 use crate::shelf::Shelf;
 use ir_object::OpenGate;
-use ir_program::program;
+use ir_program::{Terminals, program};
 use std::alloc::{AllocError, AllocGlobal, Global};
 use std::sync::Wait;
 use std::test::Fail;
@@ -27,13 +27,15 @@ fn words_of(alloc: Global, line: &str) -> Result<Vec<String>, AllocError> {
     Ok(words)
 }
 
-// A run of the program by these words, which reads this: its status, and what it wrote and told.
-fn ran<R: Threads + Wait + Sync + Clock + Eprint + AllocGlobal>(
+// A run of the program by these words, which reads this, where faults are told at a terminal or aren't: its status, and
+// what it wrote and told.
+fn ran_at<R: Threads + Wait + Sync + Clock + Eprint + AllocGlobal>(
     rt: &R,
     shelf: &Shelf,
     line: &str,
     input: &[u8],
     out_calls: u64,
+    at_terminal: bool,
 ) -> Result<(u8, Page, Page), Fail> {
     let words = words_of(rt.alloc(), line)?;
     let input = Bytes {
@@ -50,11 +52,25 @@ fn ran<R: Threads + Wait + Sync + Clock + Eprint + AllocGlobal>(
         &shelf,
         &OpenGate,
         input,
-        false,
+        Terminals {
+            input: false,
+            faults: at_terminal,
+        },
         &mut out,
         &mut faults,
     );
     Ok((status, out, faults))
+}
+
+// The same, without a terminal.
+fn ran<R: Threads + Wait + Sync + Clock + Eprint + AllocGlobal>(
+    rt: &R,
+    shelf: &Shelf,
+    line: &str,
+    input: &[u8],
+    out_calls: u64,
+) -> Result<(u8, Page, Page), Fail> {
+    ran_at(rt, shelf, line, input, out_calls, false)
 }
 
 // Whether a run of the program by these words, which reads this, ends with the status, writes this and tells this.
@@ -106,8 +122,11 @@ fn prepared<R: Threads + Wait + Sync + Clock + Eprint + AllocGlobal>(
     Ok(shelf)
 }
 
+// A fault that is explained.
+const EXPLAINED: &str = "line 2 error 2\nbad.s:2: an unknown instruction or directive: x\n";
+
 // The words, the exit status, and what is told.
-const ROWS: [(&str, u8, &str); 44] = [
+const ROWS: [(&str, u8, &str); 47] = [
     (
         "ir asm",
         2,
@@ -290,6 +309,13 @@ const ROWS: [(&str, u8, &str); 44] = [
         "ir: none.trc can't be read: no such file or folder\n",
     ),
     ("ir asm bad.s d2.img", 3, "line 2 error 2\n"),
+    ("ir asm --explain bad.s d2.img", 3, EXPLAINED),
+    ("ir asm bad.s d2.img --explain", 3, EXPLAINED),
+    (
+        "ir asm --explain=1 bad.s d2.img",
+        2,
+        "ir: unexpected value '1' for '--explain' found; no more were expected\n",
+    ),
     (
         "ir record d.s d.trc",
         3,
@@ -339,6 +365,19 @@ fn what_stops_it_is_told(rt: HostRuntime) -> Result<(), Fail> {
         assert!(rt; leaves_nothing(&shelf), "{line}");
     }
     assert!(rt; holds(&shelf, "d.s", DOUBLE));
+    Ok(())
+}
+
+// At a terminal a fault is explained, asked for or not.
+#[test]
+fn a_fault_is_explained_at_a_terminal(rt: HostRuntime) -> Result<(), Fail> {
+    let shelf = prepared(&rt)?;
+    for line in ["ir asm bad.s d2.img", "ir asm --explain bad.s d2.img"] {
+        let (status, out, faults) = ran_at(&rt, &shelf, line, b"", ENDLESS, true)?;
+        assert_eq!(rt; status, 3);
+        assert_eq!(rt; faults.bytes.as_slice(), EXPLAINED.as_bytes());
+        assert!(rt; out.bytes.is_empty() && leaves_nothing(&shelf));
+    }
     Ok(())
 }
 
