@@ -47,6 +47,10 @@ DOUBLE_LINE = b"thread 0 end 1 code 144 steps 6 events 0\n"
 TWO_LINES = b"thread 0 end 2 code 0 steps 4 events 0\nthread 1 end 2 code 0 steps 1 events 0\n"
 FULL = b"ir: standard output can't be written\n"
 
+# The fault of bad.s, and what explains it.
+BAD_LINE = "line 2 error 2\n"
+EXPLAINED = BAD_LINE + "bad.s:2: an unknown instruction or directive: x\n"
+
 # Each row: the arguments, the exit status, and what standard error says.
 ARGUMENTS = [
     ("asm", 2, "ir: the following required arguments were not provided: <SOURCE> <IMAGE>\n"),
@@ -64,7 +68,10 @@ ARGUMENTS = [
     ("asm d.s none/d.img", 1, "ir: none/d.img can't be written: no such file or folder\n"),
     ("asm d.s d.s/d.img", 1, "ir: d.s/d.img can't be written: its path goes through what is no folder\n"),
     ("asm long d2.img", 1, "ir: long is over 100000000 bytes\n"),
-    ("asm bad.s d2.img", 3, "line 2 error 2\n"),
+    ("asm bad.s d2.img", 3, BAD_LINE),
+    ("asm --explain bad.s d2.img", 3, EXPLAINED),
+    ("asm bad.s d2.img --explain", 3, EXPLAINED),
+    ("asm --explain=1 bad.s d2.img", 2, "ir: unexpected value '1' for '--explain' found; no more were expected\n"),
     ("record none.img d.trc", 1, "ir: none.img can't be read: no such file or folder\n"),
     ("record d.img d.trc --input none", 1, "ir: none can't be read: no such file or folder\n"),
     ("record d.img d.trc --input longer", 1, "ir: longer is over 1048576 bytes\n"),
@@ -169,6 +176,30 @@ def test_arguments(folder):
         wants(arguments, (ended.returncode, ended.stdout, ended.stderr.decode()), (status, b"", message))
         for name in ("d2.img", "d2.img.part", "d.trc", "d.trc.part"):
             wants(f"{arguments}: {name}", (folder / name).exists(), False)
+
+
+def at_terminal(arguments, folder):
+    """A run whose standard error is a terminal: the status, and what stands there."""
+    control, terminal = os.openpty()
+    ended = run(arguments, folder, stderr=terminal)
+    os.close(terminal)
+    told = b""
+    with open(control, "rb", buffering=0) as screen:
+        try:
+            while part := screen.read(4096):
+                told += part
+        except OSError:
+            # The other end is closed, and all was read.
+            pass
+    return ended.returncode, told.decode().replace("\r\n", "\n")
+
+
+def test_explaining(folder):
+    """At a terminal a fault is explained, asked for or not; elsewhere only where it is asked for (see above)."""
+    for arguments in ("asm bad.s d2.img", "asm --explain bad.s d2.img"):
+        wants(arguments, at_terminal(arguments, folder), (3, EXPLAINED))
+        wants(f"{arguments}: d2.img", (folder / "d2.img").exists(), False)
+    wants("no fault", at_terminal("asm --explain d.s d2.img", folder), (0, ""))
 
 
 def test_own_files(folder):

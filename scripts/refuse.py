@@ -143,6 +143,7 @@ RUNS = (
     ("ir asm", "asm lost_update.s new.img", ("new.img",)),
     ("ir record of two writers", "record two_counters.img new.trc --order 1x18 --budget 1000", ("new.trc",)),
     ("ir asm of a fault", "asm bad.s new.img", ("new.img",)),
+    ("ir asm that explains a fault", "asm --explain bad.s new.img", ("new.img",)),
     ("ir record with an order", "record lost_update.img new.trc --order 0x10,1x25 --output new", ("new.trc", "new.0", "new.1")),
     ("ir record by threads", "record hello.img new.trc --output new", ("new.trc", "new.0")),
     ("ir record of eight threads", "record eight_counters.img new.trc", None),

@@ -77,6 +77,8 @@ A fault is emitted on standard error as `line L error C`, C being
    4 an unknown register                     10 too much code or data, or no code
    5 a malformed number or one out of range  11 too many threads, or no such object
    6 a label defined twice                   12 a malformed label
+With --explain, and at a terminal without it, a line `SOURCE:L: CAUSE: TEXT` follows: the file, the line's number, the cause
+in words as above, and the line's first 200 bytes, a tab as a space and what isn't printable as `?`.
 Exit status: 0 assembled, 1 a file that can't be read or written, 2 bad arguments, 3 a fault of the source.
 ";
 

@@ -3,7 +3,7 @@
 ghost use Rattle.std.specs.Prelude.{◌≡◌, ◌<◌, map, take, IfOk};
 ghost use Rattle.std.specs.Option.{option_map};
 ghost use Rattle.std.specs.String.{string_bytes};
-ghost use Rattle.ir_program.specs.Assembling.{cause_words, most_shown, shown, line_at, shown_line, fault_line, explaining_line, report};
+ghost use Rattle.ir_program.specs.Assembling.{cause_words, most_shown, shown, line_at, fault_line, explaining_line, report};
 
 use ir_asm::Cause;
 use std::alloc::{AllocError, Global};

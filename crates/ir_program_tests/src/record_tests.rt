@@ -143,7 +143,7 @@ const PRINTED: [&[u8]; 3] = [b"0\nA", b"", b"2\nA"];
 fn image(rt: &HostRuntime, source: &str) -> Vec<u8> {
     let mut image = empty_page(rt, 1000, ENDLESS);
     let mut faults = empty_page(rt, 1000, ENDLESS);
-    let _ = asm_run(rt.alloc(), source.as_bytes(), &mut image, &mut faults);
+    let _ = asm_run(rt.alloc(), source.as_bytes(), None, &mut image, &mut faults);
     image.bytes
 }
 
