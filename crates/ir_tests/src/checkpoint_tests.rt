@@ -1,6 +1,6 @@
 //! A guest of two threads that is brought back and forth, and what is kept of it.
 
-ghost use Rattle.std.specs.Prelude.{◌<◌, length};
+ghost use Rattle.std.specs.Prelude.{◌<◌, length, IfOk};
 ghost use Rattle.ir_checkpoint.specs.Checkpoints.{AreCheckpoints, Stands};
 
 use crate::guests::COUNTDOWN;
@@ -60,39 +60,56 @@ fn brought<R: Threads + Clock + Sync>(
 // What is seen after a move: where both threads stand, and how many states moves have passed so far.
 type Seen = (Option<Pair>, u32);
 
+// What is seen after a move to these positions.
+fn seen_at<R: Threads + Clock + Sync>(
+    rt: &R,
+    alloc: Global,
+    fitted: &Fitted,
+    checkpoints: &mut Checkpoints,
+    state: &mut State,
+    at: Pair,
+) -> Result<Seen, Fail>
+    requires checkpoints { AreCheckpoints fitted.now checkpoints.old }
+    requires stands { Stands fitted.now state.old }
+    ensures checkpoints { AreCheckpoints fitted.now checkpoints.new }
+    ensures stands { Stands fitted.now state.new }
+{
+    let there = brought(rt, alloc, fitted, checkpoints, state, at)?;
+    Ok((there, checkpoints.passed().last()))
+}
+
 // What is seen after moves to the end, a step before it, and far back.
-fn walk<R: Threads + Clock + Sync>(rt: &R, alloc: Global) -> Result<[Seen; 3], Fail> {
+fn walk<R: Threads + Clock + Sync>(
+    rt: &R,
+    alloc: Global,
+    fitted: &Fitted,
+    checkpoints: &mut Checkpoints,
+    state: &mut State,
+) -> Result<[Seen; 3], Fail>
+    requires checkpoints { AreCheckpoints fitted.now checkpoints.old }
+    requires stands { Stands fitted.now state.old }
+{
+    Ok([
+        seen_at(rt, alloc, fitted, checkpoints, state, (LAST, LAST))?,
+        seen_at(rt, alloc, fitted, checkpoints, state, (LAST - 1, LAST))?,
+        seen_at(rt, alloc, fitted, checkpoints, state, (3, LAST))?,
+    ])
+}
+
+// The same from the start.
+fn walk_from_start<R: Threads + Clock + Sync>(rt: &R, alloc: Global) -> Result<[Seen; 3], Fail> {
     let fitted = fitted(alloc, COUNTDOWN, COUNTED_DOWN)?;
     let mut checkpoints = Checkpoints::new(alloc, &fitted)?;
     let mut state = State::start(alloc, &fitted)?;
-    let end = brought(
-        rt,
-        alloc,
-        &fitted,
-        &mut checkpoints,
-        &mut state,
-        (LAST, LAST),
-    )?;
-    let at_end = (end, checkpoints.passed().last());
-    let before = brought(
-        rt,
-        alloc,
-        &fitted,
-        &mut checkpoints,
-        &mut state,
-        (LAST - 1, LAST),
-    )?;
-    let before_end = (before, checkpoints.passed().last());
-    let back = brought(rt, alloc, &fitted, &mut checkpoints, &mut state, (3, LAST))?;
-    Ok([at_end, before_end, (back, checkpoints.passed().last())])
+    walk(rt, alloc, &fitted, &mut checkpoints, &mut state)
 }
 
 #[test]
 fn threads_are_brought_back_and_forth(rt: HostRuntime) -> Result<(), Fail> {
-    let [at_end, before_end, far_back] = walk(&rt, rt.alloc())?;
-    // At a half, three quarters and so on, as long as more than 2^16 steps are left.
-    assert_eq!(rt; at_end, (Some((LAST, LAST)), 5));
-    assert_eq!(rt; before_end, (Some((LAST - 1, LAST)), 5));
+    let [at_end, before_end, far_back] = walk_from_start(&rt, rt.alloc())?;
+    // At a half, three quarters and so on, as long as more than 2^14 steps are left.
+    assert_eq!(rt; at_end, (Some((LAST, LAST)), 7));
+    assert_eq!(rt; before_end, (Some((LAST - 1, LAST)), 7));
     assert_eq!(rt; far_back.0, Some((3, LAST)));
     Ok(())
 }
@@ -112,35 +129,71 @@ fn before(
     Ok(positions(&state))
 }
 
-// Those before the start, a state that was asked for, the position behind it, and the end.
-fn restored<R: Threads + Clock + Sync>(rt: &R, alloc: Global) -> Result<[Option<Pair>; 4], Fail> {
+// Those before the start, before a state that was asked for, behind it, and before the end.
+fn restored(
+    alloc: Global,
+    fitted: &Fitted,
+    checkpoints: &mut Checkpoints,
+) -> Result<[Option<Pair>; 4], Fail>
+    requires checkpoints { AreCheckpoints fitted.now checkpoints.old }
+    requires thread { 0 < length fitted.now.guest.entries }
+{
+    Ok([
+        before(alloc, fitted, checkpoints, 0)?,
+        before(alloc, fitted, checkpoints, 9)?,
+        before(alloc, fitted, checkpoints, 10)?,
+        before(alloc, fitted, checkpoints, LAST)?,
+    ])
+}
+
+// Asks for a state on the way to the end.
+fn keep_one<R: Threads + Clock + Sync>(
+    rt: &R,
+    alloc: Global,
+    fitted: &Fitted,
+    checkpoints: &mut Checkpoints,
+    state: &mut State,
+) -> Result<(), Fail>
+    requires checkpoints { AreCheckpoints fitted.now checkpoints.old }
+    requires stands { Stands fitted.now state.old }
+    ensures checkpoints { AreCheckpoints fitted.now checkpoints.new }
+{
+    brought(rt, alloc, fitted, checkpoints, state, (9, 3))?;
+    checkpoints.keep(fitted, state)?;
+    brought(rt, alloc, fitted, checkpoints, state, (LAST, LAST))?;
+    Ok(())
+}
+
+// What is kept then.
+fn one_kept<R: Threads + Clock + Sync>(
+    rt: &R,
+    alloc: Global,
+    fitted: &Fitted,
+) -> Result<Checkpoints, Fail>
+    ensures { IfOk result (λ c. AreCheckpoints fitted.now c) }
+{
+    let mut checkpoints = Checkpoints::new(alloc, fitted)?;
+    let mut state = State::start(alloc, fitted)?;
+    keep_one(rt, alloc, fitted, &mut checkpoints, &mut state)?;
+    Ok(checkpoints)
+}
+
+// What is restored of that; nothing of a guest without threads.
+fn restored_at_end<R: Threads + Clock + Sync>(
+    rt: &R,
+    alloc: Global,
+) -> Result<[Option<Pair>; 4], Fail> {
     let fitted = fitted(alloc, COUNTDOWN, COUNTED_DOWN)?;
     if fitted.image().entries().is_empty() {
         return Ok([None; 4]);
     }
-    let mut checkpoints = Checkpoints::new(alloc, &fitted)?;
-    let mut state = State::start(alloc, &fitted)?;
-    brought(rt, alloc, &fitted, &mut checkpoints, &mut state, (9, 3))?;
-    checkpoints.keep(&fitted, &state)?;
-    brought(
-        rt,
-        alloc,
-        &fitted,
-        &mut checkpoints,
-        &mut state,
-        (LAST, LAST),
-    )?;
-    Ok([
-        before(alloc, &fitted, &mut checkpoints, 0)?,
-        before(alloc, &fitted, &mut checkpoints, 9)?,
-        before(alloc, &fitted, &mut checkpoints, 10)?,
-        before(alloc, &fitted, &mut checkpoints, LAST)?,
-    ])
+    let mut checkpoints = one_kept(rt, alloc, &fitted)?;
+    restored(alloc, &fitted, &mut checkpoints)
 }
 
 #[test]
 fn the_last_state_before_a_position_is_restored(rt: HostRuntime) -> Result<(), Fail> {
-    let [start, at, behind, end] = restored(&rt, rt.alloc())?;
+    let [start, at, behind, end] = restored_at_end(&rt, rt.alloc())?;
     assert_eq!(rt; (start, at), (Some((0, 0)), Some((0, 0))));
     assert_eq!(rt; behind, Some((9, 3)));
     assert!(rt; matches!(end, Some((first, _)) if first > LAST / 2 && first < LAST));
@@ -152,16 +205,32 @@ fn is_kept(checkpoints: &Checkpoints, number: u32) -> bool {
     checkpoints.asked().cut(number).is_some()
 }
 
-// Which of three states are kept when the second is dropped, the start too, and one that there isn't.
+// Keeps the start twice more.
+fn keep_two(alloc: Global, fitted: &Fitted, checkpoints: &mut Checkpoints) -> Result<(), Fail>
+    requires { AreCheckpoints fitted.now checkpoints.old }
+    ensures { AreCheckpoints fitted.now checkpoints.new }
+{
+    let state = State::start(alloc, fitted)?;
+    checkpoints.keep(fitted, &state)?;
+    checkpoints.keep(fitted, &state)?;
+    Ok(())
+}
+
+// Drops the start, which stays, the state kept as 1, and one that there isn't.
+fn drop_three(fitted: &Fitted, checkpoints: &mut Checkpoints)
+    requires { AreCheckpoints fitted.now checkpoints.old }
+{
+    checkpoints.drop_kept(fitted, 0);
+    checkpoints.drop_kept(fitted, 1);
+    checkpoints.drop_kept(fitted, 3);
+}
+
+// Which of three states are kept then.
 fn kept_and_dropped(alloc: Global) -> Result<[bool; 3], Fail> {
     let fitted = fitted(alloc, COUNTDOWN, COUNTED_DOWN)?;
     let mut checkpoints = Checkpoints::new(alloc, &fitted)?;
-    let state = State::start(alloc, &fitted)?;
-    checkpoints.keep(&fitted, &state)?;
-    checkpoints.keep(&fitted, &state)?;
-    checkpoints.drop_kept(&fitted, 0);
-    checkpoints.drop_kept(&fitted, 1);
-    checkpoints.drop_kept(&fitted, 3);
+    keep_two(alloc, &fitted, &mut checkpoints)?;
+    drop_three(&fitted, &mut checkpoints);
     Ok([
         is_kept(&checkpoints, 0),
         is_kept(&checkpoints, 1),
