@@ -116,7 +116,8 @@ def copied():
 
 
 def main():
-    names = sys.argv[1:] or sorted(path.parent.name for path in TOP.glob("crates/*/must-fail"))
+    folders = [*TOP.glob("crates/*/must-fail"), *TOP.glob("crates/*/edits")]
+    names = sys.argv[1:] or sorted({folder.parent.name for folder in folders})
     copied()
     proved = 0
     try:
