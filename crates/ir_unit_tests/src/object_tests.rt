@@ -62,7 +62,7 @@ impl Slow {
 // The object after the step, where the step is one that its word allows.
 fn fast(object: &mut Object, step: u64, writes: bool) {
     let fields = object.fields();
-    if fields.inside > 100 || fields.left > 100 || fields.version > 100 {
+    if fields.inside > 50 || fields.left > 100 || fields.version > 100 {
         return;
     }
     match step {
@@ -110,7 +110,7 @@ fn the_word_goes_with_the_list(rt: HostRuntime) -> Result<(), Fail> {
 #[test]
 fn words_say_what_was_packed(rt: HostRuntime) {
     let word = Word {
-        bits: 0x0000_0007_0000_0903,
+        bits: 0x0000_0007_0000_0483,
     };
     let fields = word.fields();
     assert_eq!(rt;
@@ -118,6 +118,19 @@ fn words_say_what_was_packed(rt: HostRuntime) {
         (7, 9, 1, true)
     );
     assert_eq!(rt; Word::pack(fields), word);
+}
+
+// As a reader leaves, 126 is added: it is no longer inside, and has left.
+#[test]
+fn a_reader_leaves_by_126(rt: HostRuntime) {
+    let mut object = Object::new([0; OBJECT_WORDS]);
+    object.enter(Access::Reading);
+    let inside = object.word().bits;
+    object.leave(Access::Reading);
+    assert_eq!(rt; (inside, object.word().bits), (2, 128));
+    assert_eq!(rt; Word::READER_LEAVES, 126);
+    object.enter(Access::Writing);
+    assert_eq!(rt; object.word().bits, 129);
 }
 
 #[test]
