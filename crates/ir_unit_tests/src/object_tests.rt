@@ -53,7 +53,7 @@ impl Slow {
         let writer = u64::from(self.writer.is_some());
         self.version
             .saturating_mul(0x1_0000_0000)
-            .saturating_add(self.left.saturating_mul(256))
+            .saturating_add(self.left.saturating_mul(128))
             .saturating_add(readers.saturating_mul(2))
             .saturating_add(writer)
     }
