@@ -13,11 +13,15 @@ pub most_words : (form : ImageForm) → (limits_of form).words ≤ most_object_w
 most_words Small = omega arith
 most_words Large = omega arith
 
-threads_of : (form : ImageForm) → (limits_of form).threads ≤ most_threads
+pub some_threads : (form : ImageForm) → 0 < (limits_of form).threads
+some_threads Small = omega arith
+some_threads Large = omega arith
+
+pub threads_of : (form : ImageForm) → (limits_of form).threads ≤ most_threads
 threads_of Small = omega arith
 threads_of Large = omega arith
 
-objects_of : (form : ImageForm) → (limits_of form).objects ≤ most_objects
+pub objects_of : (form : ImageForm) → (limits_of form).objects ≤ most_objects
 objects_of Small = omega arith
 objects_of Large = omega arith
 

@@ -1,6 +1,6 @@
 //! The forms of images.
 
-ghost use Rattle.std.specs.Prelude.{◌≡◌, ◌*◌, ◌≤◌};
+ghost use Rattle.std.specs.Prelude.{◌≡◌, ◌*◌, ◌<◌, ◌≤◌};
 ghost use Rattle.ir_image.specs.Forms.{limits_of, magic_number, form_of, most_object_words};
 
 /// The form of an image, which says how many threads and objects it may have, and how many words each object has.
@@ -47,7 +47,9 @@ pub const MOST_OBJECT_WORDS: usize = LARGE.words;
 impl ImageForm {
     /// Its limits.
     pub fn limits(self) -> Limits
-        ensures { result ≡ limits_of self }
+        ensures exact { result ≡ limits_of self }
+        ensures some { 0 < result.words }
+        ensures few { result.words ≤ most_object_words }
     {
         match self {
             ImageForm::Small => SMALL,
@@ -56,7 +58,7 @@ impl ImageForm {
     }
 
     /// How many words so many objects have.
-    pub fn words_of(self, objects: u8) -> usize
+    pub fn words_of(self, objects: u32) -> usize
         ensures exact { result ≡ (limits_of self).words * objects }
         ensures few { result ≤ most_object_words * objects }
     {

@@ -89,7 +89,6 @@ impl Image {
     }
 
     /// How many words each object has.
-    #[tactic(auto, using(crate::proofs::Forms::some_words, crate::proofs::Forms::most_words))]
     pub fn object_words(&self) -> usize
         ensures value { result ≡ object_words self.now }
         ensures some { 0 < result }

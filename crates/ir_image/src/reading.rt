@@ -123,7 +123,7 @@ fn body(alloc: Global, counts: Counts, bytes: &[u8]) -> Result<Parts, ImageErr>
     let (entries, rest) = entries(alloc, counts.threads, counts.words, bytes)?;
     let (code, rest) = words(alloc, counts.words as usize, rest)?;
     let (bytes, rest) = data_bytes(alloc, counts.bytes as usize, rest)?;
-    let (words, rest) = words(alloc, counts.form.words_of(counts.objects), rest)?;
+    let (words, rest) = words(alloc, counts.form.words_of(counts.objects as u32), rest)?;
     if !rest.is_empty() {
         return Err(ImageErr::Trailing);
     }
