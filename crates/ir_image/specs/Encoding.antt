@@ -12,7 +12,7 @@ counts_of g = record { form = g.form; threads = length g.entries; objects = obje
 
 -- the magic of the form, the number of threads, of objects, of words of code, of bytes of data
 abbrev pub counts_encoding : Counts → List ℕ
-counts_encoding c = magic c.form ++ c.threads ∷ c.objects ∷ [] ++ little_bytes 4 c.words ++ little_bytes 4 c.bytes
+counts_encoding c = magic c.form ++ (c.threads ∷ c.objects ∷ [] ++ little_bytes 4 c.words ++ little_bytes 4 c.bytes)
 
 -- words, one after the other
 abbrev pub words_encoding : List ℕ → List ℕ
