@@ -37,13 +37,14 @@ const ASM_ABOUT: &str = "Assembles a guest's source into an image";
 pub const ASM_AFTER: &str =
     "A source is lines: labels `name:`, then an instruction of RV32IM or a directive, then a comment from `#` on.
 Directives:
+  .large             before every other statement: up to 16 threads and 64 objects of 16 words; else 8, 16 and 8
   .text, .data       the section from here on; a source begins in text
   .word V, ..        words, in text or data
   .byte V, ..        bytes, in data
   .space N           N zero bytes, in data
   .thread LABEL      the next thread's entry; without any there is one thread, at the start of the text
-  .objects N         the number of shared objects, at most 16
-  .object O, V, ..   the first words of object O, at most 8
+  .objects N         the number of shared objects, at most 16, or 64
+  .object O, V, ..   the first words of object O, at most 8, or 16
 Instructions, a form a line; TARGET is a label, `.+N` or `.-N`, and V a number, decimal or `0x` and hexadecimal digits:
   add rd, rs1, rs2       so sub, sll, slt, sltu, xor, srl, sra, or, and, mul, mulh, mulhsu, mulhu, div, divu, rem, remu
   addi rd, rs1, V        so slti, sltiu, xori, ori, andi; V from -2048 to 2047

@@ -8,6 +8,7 @@ use Rattle.ir_image.specs.Forms.{limits_of}
 use Rattle.ir_image.specs.Guest.{code_start, memory_size, most_code_words}
 use Rattle.ir_asm.specs.declared.cause.Cause.{Cause}
 use Rattle.ir_asm.specs.declared.cause.Cause.TheVariants.{BadByte, UnknownStatement, LabelTwice, WrongSection, BadSize, BadCount, BadLabel}
+use Rattle.ir_asm.specs.declared.form.Form.{Form}
 use Rattle.ir_asm.specs.declared.form.Section.{Section}
 use Rattle.ir_asm.specs.declared.form.Section.TheVariants.{Text, Data}
 use Rattle.ir_asm.specs.declared.item.Item.{Item}

@@ -1,6 +1,6 @@
 //! The word beside a list of readers and a writer.
 
-use ir_image::OBJECT_WORDS;
+use ir_image::MOST_OBJECT_WORDS;
 use ir_object::{Object, Word};
 use ir_runs::Access;
 use std::alloc::Global;
@@ -83,7 +83,7 @@ fn go_together(alloc: Global, number: u64) -> Result<bool, Fail> {
         readers: Vec::new(alloc),
         writer: None,
     };
-    let mut object = Object::new([0; OBJECT_WORDS]);
+    let mut object = Object::new([0; MOST_OBJECT_WORDS]);
     let mut rest = number;
     for _ in 0..5 {
         let (thread, step) = (rest % 3, rest / 3 % 3);
