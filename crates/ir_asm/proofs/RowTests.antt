@@ -137,11 +137,11 @@ large_with_operand = refl
 late_with_operand : assembled (codes "nop\n.large 1") ≡ Err (record { line = 2; cause = WrongSection })
 late_with_operand = refl
 
-nine_words : assembled (codes ".object 0, 1, 2, 3, 4, 5, 6, 7, 8, x") ≡ Err (record { line = 1; cause = BadNumber })
-nine_words = refl
+eight_words : assembled (codes ".object 0, 1, 2, 3, 4, 5, 6, 7, x") ≡ Err (record { line = 1; cause = BadNumber })
+eight_words = refl
 
-ten_operands : assembled (codes ".object 0, 1, 2, 3, 4, 5, 6, 7, 8, 9, x") ≡ Err (record { line = 1; cause = WrongOperands })
-ten_operands = refl
+nine_words : assembled (codes ".object 0, 1, 2, 3, 4, 5, 6, 7, 8, x") ≡ Err (record { line = 1; cause = WrongOperands })
+nine_words = refl
 
 seventeen_words : assembled (codes ".large\n.object 0, 1, 2, 3, 4, 5, 6, 7, 8, 9, 10, 11, 12, 13, 14, 15, 16, 17\nnop") ≡ Err
     (record { line = 2; cause = WrongOperands })

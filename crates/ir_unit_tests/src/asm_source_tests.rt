@@ -1,7 +1,7 @@
 //! Sources and what they give, worked out by hand from the tables of statements and causes.
 
 use ir_asm::{AsmErr, Cause, assemble};
-use ir_image::{Image, read_image, write_image};
+use ir_image::{Image, ImageForm, read_image, write_image};
 use std::alloc::Global;
 use std::test::Fail;
 
@@ -26,7 +26,7 @@ const CAUSES: [(&str, usize, u8); 20] = [
     (".objects 2\n.object 1, 7\n.objects 1\nnop", 2, 11),
     ("nop\n9a: nop", 2, 12),
     ("a b: nop", 1, 12),
-    (".large\nnop", 1, 2),
+    (".larger\nnop", 1, 2),
 ];
 
 // Lines with two faults or more, and the one that is named.

@@ -110,7 +110,7 @@ fn the_word_goes_with_the_list(rt: HostRuntime) -> Result<(), Fail> {
 #[test]
 fn words_say_what_was_packed(rt: HostRuntime) {
     let word = Word {
-        bits: 0x0000_0007_0000_0903,
+        bits: 0x0000_0007_0000_0483,
     };
     let fields = word.fields();
     assert_eq!(rt;
@@ -120,11 +120,25 @@ fn words_say_what_was_packed(rt: HostRuntime) {
     assert_eq!(rt; Word::pack(fields), word);
 }
 
+// As a reader leaves, 126 is added: it is no longer inside, and has left.
+#[test]
+fn a_reader_leaves_by_126(rt: HostRuntime) {
+    let mut object = Object::new([0; MOST_OBJECT_WORDS]);
+    object.enter(Access::Reading);
+    let inside = object.word().bits;
+    object.leave(Access::Reading);
+    assert_eq!(rt; (inside, object.word().bits), (2, 128));
+    assert_eq!(rt; Word::READER_LEAVES, 126);
+    object.enter(Access::Writing);
+    assert_eq!(rt; object.word().bits, 129);
+}
+
 #[test]
 fn what_is_put_is_held(rt: HostRuntime) {
-    let mut object = Object::new([5; OBJECT_WORDS]);
+    let mut object = Object::new([5; MOST_OBJECT_WORDS]);
     object.put(3, 8);
     assert_eq!(rt; (object.get(3), object.get(7)), (8, 5));
     let copy = object.copy();
-    assert_eq!(rt; copy.contents(), [5, 5, 5, 8, 5, 5, 5, 5].as_slice());
+    assert_eq!(rt; &copy.contents()[..5], [5, 5, 5, 8, 5].as_slice());
+    assert_eq!(rt; copy.contents().len(), 16);
 }
