@@ -82,12 +82,12 @@ address_fits s label a fits e =
     by_section Data n f p = absurd (cc f)
 
 -- so many words of zeros, cut
-take_zeros : (k n : ℕ) → k ≤ n → take k (replicate n 0) ≡ replicate k 0
+take_zeros : (k n : ℕ) → k ≤ n → take k (replicate {A = ℕ} n 0) ≡ replicate {A = ℕ} k 0
 take_zeros zero n l = refl
 take_zeros (suc k) zero l = absurd (omega (arith, l))
 take_zeros (suc k) (suc n) l = ap (λ (xs : List ℕ). 0 ∷ xs) (take_zeros k n (omega (arith, l)))
 
-zeros_cut : (words : List ℕ) (k n : ℕ) → k ≤ n → take (length words + k) (words ++ replicate n 0) ≡ words ++ replicate k 0
+zeros_cut : (words : List ℕ) (k n : ℕ) → k ≤ n → take (length words + k) (words ++ replicate {A = ℕ} n 0) ≡ words ++ replicate {A = ℕ} k 0
 zeros_cut [] k n l = let e : 0 + k ≡ k = omega arith in rw e (take_zeros k n l)
 zeros_cut (w ∷ ws) k n l =
     let e : length (w ∷ ws) + k ≡ suc (length ws + k) = omega arith in

@@ -14,11 +14,11 @@ use Rattle.ir_asm.specs.declared.form.Section.TheVariants.{Text, Data}
 use Rattle.ir_asm.specs.declared.form.Form.{Form}
 use Rattle.ir_asm.specs.declared.form.Form.TheVariants.{Objects, Object}
 use Rattle.ir_asm.specs.declared.item.Operand.{Operand}
-use Rattle.ir_asm.specs.declared.item.Operand.TheVariants.{Index, Integer, Offset, Symbol}
+use Rattle.ir_asm.specs.declared.item.Operand.TheVariants.{Integer}
 use Rattle.ir_asm.specs.declared.item.Item.{Item}
 use Rattle.ir_asm.specs.declared.item.Item.TheVariants.{Code, Entry, Nothing}
 use Rattle.ir_asm.specs.declared.item.Place.{Place}
-use Rattle.ir_asm.specs.Faults.{◌>>=◌, or_cause, unless}
+use Rattle.ir_asm.specs.Faults.{◌>>=◌, or_cause}
 use Rattle.ir_asm.specs.Forms.{form_named, stated, in_image, may_come, stands_in}
 use Rattle.ir_asm.specs.Operands.{operands_of}
 use Rattle.ir_asm.specs.Items.{item_of}
@@ -80,7 +80,7 @@ record IsLike (item other : Item) : Type 0 where
   section : (s : Section) → section_after other s ≡ section_after item s
 
 -- an item that takes no bytes and stays in its section
-IsLight : Item → Type 0
+abbrev IsLight : Item → Type 0
 IsLight item = IsLike Nothing item
 
 both_light : (item other : Item) → IsLight item → IsLight other → IsLike item other

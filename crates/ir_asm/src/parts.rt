@@ -1,6 +1,6 @@
 //! A guest that is put together.
 
-ghost use Rattle.std.specs.Prelude.{◌≡◌, ◌+◌, ◌*◌, ◌≤◌, ◌++◌, [], ◌∷◌, length, replicate, IfOk, OnOk};
+ghost use Rattle.std.specs.Prelude.{◌≡◌, ◌+◌, ◌*◌, ◌≤◌, ◌++◌, [], ◌∷◌, length, take, drop, replicate, IfOk, OnOk};
 ghost use Rattle.ir_image.specs.Forms.{limits_of, most_object_words};
 ghost use Rattle.ir_image.specs.Guest.{object_words};
 ghost use Rattle.ir_asm.specs.Passes.{with_code, first_words, with_object, with_entry};
@@ -35,6 +35,18 @@ fn first_words(words: &[u32]) -> [u32; MOST_OBJECT_WORDS]
     let mut all = [0; MOST_OBJECT_WORDS];
     all[..words.len()].copy_from_slice(words);
     all
+}
+
+// So many words at a place: these and then zeros.
+#[tactic(auto, using(crate::proofs::Kept::shorter_words))]
+fn put_first(all: &mut [u32], start: usize, count: usize, words: &[u32])
+    requires few { length words.now ≤ count }
+    requires most { count ≤ most_object_words }
+    requires there { start + count ≤ length all.old }
+    ensures { all.new ≡ take start all.old ++ (first_words count words.now ++ drop (start + count) all.old) }
+{
+    let firsts = first_words(words);
+    all[start..start + count].copy_from_slice(&firsts[..count]);
 }
 
 impl Parts {
@@ -74,7 +86,6 @@ impl Parts {
     }
 
     /// The first words of an object.
-    #[tactic(auto, using(crate::proofs::Kept::shorter_words))]
     pub fn set_object(&mut self, object: u32, words: &[u32])
         requires few { length words.now ≤ object_words self.old }
         requires there { object_words self.old * object + object_words self.old ≤ length self.old.words }
@@ -82,8 +93,7 @@ impl Parts {
     {
         let start = self.form.words_of(object);
         let count = self.form.limits().words;
-        let all = first_words(words);
-        self.words[start..start + count].copy_from_slice(&all[..count]);
+        put_first(self.words.as_mut_slice(), start, count, words);
     }
 
     /// One thread at the start of the code, where there is none yet.
