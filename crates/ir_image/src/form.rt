@@ -13,7 +13,7 @@ pub enum ImageForm {
 }
 
 /// What a form allows.
-#[derive(Clone, Copy, Debug, PartialEq, Eq)]
+#[derive(Clone, Copy)]
 pub struct Limits {
     /// The most threads.
     pub threads: u8,
@@ -78,7 +78,7 @@ impl ImageForm {
         }
     }
 
-    /// The form that begins with this number, if one does.
+    /// The form whose number this is; of a number that is none's it says nothing.
     pub fn of_magic(magic: u32) -> ImageForm
         ensures { result ≡ form_of magic }
     {
