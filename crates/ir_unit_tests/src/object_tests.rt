@@ -62,7 +62,7 @@ impl Slow {
 // The object after the step, where the step is one that its word allows.
 fn fast(object: &mut Object, step: u64, writes: bool) {
     let fields = object.fields();
-    if fields.inside > 100 || fields.left > 100 || fields.version > 100 {
+    if fields.inside > 50 || fields.left > 100 || fields.version > 100 {
         return;
     }
     match step {
