@@ -38,7 +38,6 @@ fn first_words(words: &[u32]) -> [u32; MOST_OBJECT_WORDS]
 }
 
 // So many words at a place: these and then zeros.
-#[tactic(auto, using(crate::proofs::Kept::shorter_words))]
 fn put_first(all: &mut [u32], start: usize, count: usize, words: &[u32])
     requires few { length words.now ≤ count }
     requires most { count ≤ most_object_words }
