@@ -125,6 +125,10 @@ large_row : assembled (codes "a: # large\nb: .large\n.objects 1\n.object 0, 1, 2
     })
 large_row = refl
 
+pub large : assembled (codes ".large\nnop") ≡ Ok
+    (record { form = Large; entries = 0x00010000 ∷ []; code = 0x13 ∷ []; bytes = []; words = [] })
+large = refl
+
 pub late : assembled (codes "nop\n.large\n") ≡ Err (record { line = 2; cause = WrongSection })
 late = refl
 

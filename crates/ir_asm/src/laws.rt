@@ -2,7 +2,7 @@
 
 ghost use Rattle.std.specs.Prelude.{◌≡◌, ℕ, List, [], ◌∷◌, ◌++◌, ◌<◌, ◌+◌, ◌↔◌, ◌^◌, codes, length, Ok, Err, Some, true, bytes_eq};
 ghost use Rattle.std.specs.List.{list_any};
-ghost use Rattle.ir_image.specs.declared.form.ImageForm.TheVariants.{Small};
+ghost use Rattle.ir_image.specs.declared.form.ImageForm.TheVariants.{Small, Large};
 ghost use Rattle.ir_asm.specs.Names.{named};
 ghost use Rattle.ir_asm.specs.Standing.{place_after};
 ghost use Rattle.ir_asm.specs.declared.form.Section.TheVariants.{Text};
@@ -61,6 +61,7 @@ pub fn examples()
     ensures missing { assembled (codes "beq a0, a1, far\n") ≡ Err (record { line = 1; cause = LabelMissing }) }
     ensures section { assembled (codes "nop\n.space 1\n") ≡ Err (record { line = 2; cause = WrongSection }) }
     ensures end { assembled (codes "nop\nend: .thread end\n") ≡ Err (record { line = 2; cause = WrongSection }) }
+    ensures large { assembled (codes ".large\nnop") ≡ Ok (record { form = Large; entries = 0x00010000 ∷ []; code = 0x13 ∷ []; bytes = []; words = [] }) }
     ensures late { assembled (codes "nop\n.large\n") ≡ Err (record { line = 2; cause = WrongSection }) }
     ensures carried { assembled (codes "li a0, 0x12345FFF") ≡ Ok (record { form = Small; entries = 0x00010000 ∷ []; code = 0x12346537 ∷ 0xFFF50513 ∷ []; bytes = []; words = [] }) }
 {}

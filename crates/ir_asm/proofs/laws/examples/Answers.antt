@@ -25,6 +25,9 @@ returns-clause-section c = RowTests.section
 pub returns-clause-end : goal.returns-clause-end
 returns-clause-end c = RowTests.end
 
+pub returns-clause-large : goal.returns-clause-large
+returns-clause-large c = RowTests.large
+
 pub returns-clause-late : goal.returns-clause-late
 returns-clause-late c = RowTests.late
 
