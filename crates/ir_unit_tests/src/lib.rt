@@ -51,4 +51,6 @@ mod thread_tests;
 #[cfg(test)]
 mod trace_tests;
 #[cfg(test)]
+mod try_tests;
+#[cfg(test)]
 mod visits_tests;
