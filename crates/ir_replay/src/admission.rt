@@ -81,11 +81,7 @@ fn try_result(fitted: &Fitted, flat: &Flat<'_>, t: usize, object: u8) -> Option<
         Ok(Event::Try { .. }) => Some(0),
         Ok(entry) => {
             let found = &flat.objects()[object as usize];
-            if is_open(found, entry) {
-                Some(1)
-            } else {
-                None
-            }
+            if is_open(found, entry) { Some(1) } else { None }
         }
     }
 }

@@ -23,9 +23,9 @@ use Rattle.ir_thread.specs.declared.profile.Profile.{Profile}
 use Rattle.ir_thread.specs.declared.profile.Profile.TheVariants.{One, Two}
 
 -- call 13, which the second profile alone has
-abbrev pub try_of : Profile → Option Call
-try_of One = None
-try_of Two = Some call.TryWrite
+abbrev pub try_call : Profile → Option Call
+try_call One = None
+try_call Two = Some call.TryWrite
 
 -- the system calls of a profile by their numbers
 abbrev pub call_of : Profile → ℕ → Option Call
@@ -42,7 +42,7 @@ call_of profile number =
     if number == 10 then Some call.Get else
     if number == 11 then Some call.Put else
     if number == 12 then Some call.OwnNumber else
-    if number == 13 then try_of profile else None
+    if number == 13 then try_call profile else None
 
 -- the register that holds a call's number
 abbrev pub a7 : State → ℕ
