@@ -1,4 +1,5 @@
 mod Left
+mod Profiles
 mod Steps
 mod Logs
 mod Answering

@@ -202,12 +202,13 @@ pub record IsRunning (s : State) : Type 0 where
 abbrev pub CanLog : State → Type 0
 CanLog s = s.events < most_events
 
--- where a thread asks so: what it holds and has room for
+-- where a thread asks so: what it holds and has room for, and that its profile has the call
 abbrev pub Permits : State → Ask → Type 0
 Permits s ask.Private = IsRunning s
 Permits s (ask.Env kind) = IsRunning s × CanLog s
 Permits s (ask.Enter object access) = IsRunning s × CanLog s × (object < length s.held) × (is_above (highest s.held) object ≡ true)
 Permits s (ask.Try object) = IsRunning s × CanLog s × (object < length s.held) × (is_above (highest s.held) object ≡ true)
+    × (s.profile ≡ Two)
 Permits s (ask.Leave object access) = (s.ended ≡ None → s.steps < s.budget) × (object < length s.held)
     × (held_at s.held object ≡ Some access)
 Permits s (ask.Get object index) = IsRunning s × (object < length s.held) × (index < object_words) × (held_at s.held object ≢ None)

@@ -22,7 +22,7 @@ returns-clause-stays g c =
     let fits : c.enter_read-version.result < 2 ^ 32 = search rules in
     record {
       seat = c.enter_read-version.ensures.seat.0;
-      still = λ budget t before i. read_step c.args.crew.now.table.shared.key budget t before (work_of g.W.World.answers c.args.self.now) _
+      still = λ budget profile t before i. read_step c.args.crew.now.table.shared.key budget profile t before (work_of g.W.World.answers c.args.self.now) _
           c.args.object c.enter_read-version.result
           (below_enter c.args.crew.now.table.shared.key (work_of g.W.World.answers c.args.self.now) c.args.object Reading
           c.requires.worker.worker (subst (λ z. ask_of z c.args.self.now.thread ≡ ask.Enter c.args.object Reading)
