@@ -4,6 +4,7 @@ mod Steps
 mod Logs
 mod Answering
 mod Entering
+mod Trying
 mod Asking
 mod Ready
 mod Tally
