@@ -13,7 +13,7 @@ use ir_image::{Image, read_image};
 use ir_object::OpenGate;
 use ir_record::{record, record_in_order};
 use ir_replay::{State, advance, advance_in_order};
-use ir_thread::{Ask, Reply, Thread};
+use ir_thread::{Ask, Profile, Reply, Thread};
 use ir_trace::{Trace, read_trace};
 use std::alloc::Global;
 use std::io::{BufRead, BufReader, Lines};
@@ -39,7 +39,7 @@ fn finish(thread: &mut Thread, image: &Image, one_by_one: bool) {
 // How many steps the guest's first thread takes by itself.
 fn alone(alloc: Global, image: &Image, one_by_one: bool) -> Result<u64> {
     ensure!(!image.entries().is_empty(), "a thread");
-    let mut thread = Thread::new(alloc, image, 0, BUDGET)?;
+    let mut thread = Thread::new(alloc, image, 0, BUDGET, Profile::One)?;
     finish(&mut thread, image, one_by_one);
     Ok(thread.steps())
 }
@@ -53,9 +53,9 @@ fn recorded<R: Threads + Wait + Sync>(
 ) -> Result<u64> {
     let worlds = quiet::worlds(alloc, image.entries().len())?;
     let recording = if by_threads {
-        record(rt, alloc, image, worlds, &OpenGate, BUDGET)
+        record(rt, alloc, image, worlds, &OpenGate, BUDGET, Profile::One)
     } else {
-        record_in_order(alloc, image, &[], worlds, BUDGET)
+        record_in_order(alloc, image, &[], worlds, BUDGET, Profile::One)
     };
     let (trace, _) = recording.ok().context("a recording")?;
     Ok(all_steps(&trace))

@@ -23,6 +23,7 @@ use ir_tests::recordings::{BUDGET, by_threads};
 use ir_tests::replays::is_cut;
 use ir_tests::sources::joined;
 use ir_tests::traces::{ENDED_BY_144, SECOND_FIRST, TraceRow, trace_bytes};
+use ir_thread::Profile;
 use ir_trace::{Trace, TraceErr, read_trace};
 use std::alloc::{AllocError, Global};
 use std::sync::Wait;
@@ -156,7 +157,7 @@ fn asked<R: Threads + Wait + Sync>(
 ) -> Result<usize, Short> {
     let image = guest(alloc, TWO_ASKING)?;
     let worlds = counting_worlds(alloc, image.entries().len(), count)?;
-    match record(rt, alloc, &image, worlds, &OpenGate, BUDGET) {
+    match record(rt, alloc, &image, worlds, &OpenGate, BUDGET, Profile::One) {
         Ok((trace, _outputs)) => Ok(trace.threads().len()),
         Err(RecordErr::NoMem) => Err(Short::Memory),
         Err(_) => Err(Short::Wrong),

@@ -32,6 +32,8 @@ pub mod sources;
 pub mod states;
 pub mod traces;
 #[cfg(test)]
+mod tries_tests;
+#[cfg(test)]
 mod waiting_tests;
 pub mod worlds;
 

@@ -9,6 +9,7 @@ use crate::worlds::{FAILS, worlds};
 use ir_log::Event;
 use ir_record::{RecordErr, Turns, record_in_turns};
 use ir_runs::EnvKind;
+use ir_thread::Profile;
 use ir_trace::Trace;
 use std::alloc::Global;
 use std::test::Fail;
@@ -55,7 +56,7 @@ fn is_turned(alloc: Global, thread: u8, wanted: TraceRow) -> Result<bool, Fail> 
     let image = image_of(alloc, TWO_COUNTERS)?;
     let worlds = worlds(alloc, image.entries().len(), &[], FAILS)?;
     let order = [most_turns(thread), most_turns(thread)];
-    let (trace, _outputs) = record_in_turns(alloc, &image, &order, worlds, 1000)?;
+    let (trace, _outputs) = record_in_turns(alloc, &image, &order, worlds, 1000, Profile::One)?;
     is_trace(alloc, &trace, wanted)
 }
 

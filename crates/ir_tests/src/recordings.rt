@@ -9,6 +9,7 @@ use ir_fit::{Fitted, fit};
 use ir_image::Image;
 use ir_object::{Gate, OpenGate};
 use ir_record::{Outputs, RecordErr, record, record_in_order};
+use ir_thread::Profile;
 use ir_trace::Trace;
 use std::alloc::Global;
 use std::sync::Wait;
@@ -32,7 +33,7 @@ pub fn in_order(
     requires { budget ≤ most_budget }
 {
     let worlds = worlds(alloc, image.entries().len(), answers, FAILS)?;
-    record_in_order(alloc, image, order, worlds, budget)
+    record_in_order(alloc, image, order, worlds, budget, Profile::One)
 }
 
 /// The same on real threads.
@@ -44,7 +45,7 @@ pub fn by_threads<R: Threads + Wait + Sync, G: Gate + Sync>(
     answers: &[u32],
 ) -> Recorded {
     let worlds = worlds(alloc, image.entries().len(), answers, FAILS)?;
-    record(rt, alloc, image, worlds, gate, BUDGET)
+    record(rt, alloc, image, worlds, gate, BUDGET, Profile::One)
 }
 
 /// The source's guest recorded on real threads, whose trace fits, and what its threads printed.
@@ -55,7 +56,7 @@ pub fn fitted_by_threads<R: Threads + Wait + Sync>(
 ) -> Result<(Fitted, Outputs<Script>), Fail> {
     let image = image_of(alloc, source)?;
     let worlds = worlds(alloc, image.entries().len(), &[], COUNTS)?;
-    let (trace, outputs) = record(rt, alloc, &image, worlds, &OpenGate, BUDGET)?;
+    let (trace, outputs) = record(rt, alloc, &image, worlds, &OpenGate, BUDGET, Profile::One)?;
     Ok((fit(alloc, image, trace)?, outputs))
 }
 
@@ -70,6 +71,6 @@ pub fn fitted_in_order(
 {
     let image = image_of(alloc, source)?;
     let worlds = worlds(alloc, image.entries().len(), &[], COUNTS)?;
-    let (trace, _outputs) = record_in_order(alloc, &image, order, worlds, budget)?;
+    let (trace, _outputs) = record_in_order(alloc, &image, order, worlds, budget, Profile::One)?;
     Ok(fit(alloc, image, trace)?)
 }

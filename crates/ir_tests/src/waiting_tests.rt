@@ -8,7 +8,7 @@ use ir_flat::Flat;
 use ir_image::Image;
 use ir_log::Event;
 use ir_runs::Access;
-use ir_thread::Ask;
+use ir_thread::{Ask, Profile};
 use ir_trace::{ThreadTrace, Trace};
 use std::alloc::Global;
 use std::test::Fail;
@@ -29,7 +29,7 @@ impl<'a> Plain<'a> {
             entries.push(Vec::new(alloc))?;
         }
         Ok(Plain {
-            flat: Flat::start(alloc, image, BUDGET)?,
+            flat: Flat::start(alloc, image, BUDGET, Profile::One)?,
             entries,
         })
     }
