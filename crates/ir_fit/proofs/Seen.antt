@@ -434,6 +434,14 @@ try_agrees r f t o e is steps next suits = agrees_by r f t (Try o) is (record {
   ends = tt;
 })
 
+-- who awaits an entry isn't done
+pub awaits_some : (q : Ask) (es : List Label) → verdicts.Awaits (shared_ask q) es → q ≢ Done
+awaits_some q es awaits done = no_wait es (subst (λ z. verdicts.Awaits (shared_ask z) es) done awaits)
+  where
+    no_wait : (es : List Label) → verdicts.Awaits machine.Done es → ⊥
+    no_wait [] h = h
+    no_wait (e ∷ es) h = h
+
 -- ---- disagreements
 
 pub asks_try : (q : Ask) (o : ℕ) → q ≡ Try o → q ≢ Done

@@ -141,22 +141,24 @@ impl Follower<'_> {
         let asked = Ask::Try(object);
         match self.next_event(t, asked) {
             Err(_) => Look::Disagrees,
-            Ok(Event::Try { .. }) => Look::Goes(Move {
-                thread: t,
-                asked,
-                result: 0,
-            }),
-            Ok(entry) => {
-                if is_open(self.object(object), entry) {
-                    Look::Goes(Move {
-                        thread: t,
-                        asked,
-                        result: 1,
-                    })
-                } else {
-                    Look::Waits(entry)
+            Ok(logged) => match logged {
+                Event::Try { .. } => Look::Goes(Move {
+                    thread: t,
+                    asked,
+                    result: 0,
+                }),
+                _ => {
+                    if is_open(self.object(object), logged) {
+                        Look::Goes(Move {
+                            thread: t,
+                            asked,
+                            result: 1,
+                        })
+                    } else {
+                        Look::Waits(logged)
+                    }
                 }
-            }
+            },
         }
     }
 
