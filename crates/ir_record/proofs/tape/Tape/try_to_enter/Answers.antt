@@ -38,3 +38,61 @@ entered c = record {
       c.index_mut.ensures.value);
   logs_are = refl;
 }
+
+pub returns-in-Ok-clause-took : goal.returns-in-Ok-clause-took
+returns-in-Ok-clause-took c = event_took c.args.self.now.flat c.take.new.self c.args.self.now.logs.items
+    (set c.args.self.now.logs.items c.args.t c.push.new.self) c.args.t 1 (entry_label c.args.self.now.flat c.args.object)
+    c.entry-event.result
+    (tried_in c.args.self.now.flat c.take.new.self c.args.self.now.logs.items (set c.args.self.now.logs.items c.args.t c.push.new.self)
+    c.args.t c.args.object c.entry-event.result (entered c) c.entry-event.ensures.emitted c.entry-event.ensures.fits)
+
+pub returns-in-Ok-clause-tape : goal.returns-in-Ok-clause-tape
+returns-in-Ok-clause-tape c = event_tape c.args.self.now.flat c.take.new.self c.args.self.now.logs.items
+    (set c.args.self.now.logs.items c.args.t c.push.new.self) c.args.t 1 (entry_label c.args.self.now.flat c.args.object)
+    c.entry-event.result
+    (tried_in c.args.self.now.flat c.take.new.self c.args.self.now.logs.items (set c.args.self.now.logs.items c.args.t c.push.new.self)
+    c.args.t c.args.object c.entry-event.result (entered c) c.entry-event.ensures.emitted c.entry-event.ensures.fits)
+
+pub push-requires-in-Err : goal.push-requires-in-Err
+push-requires-in-Err c = has_room c.args.self.now.flat c.args.self.now.logs.items c.args.t c.index_mut-in-Err.result.now c.requires.tape
+    c.requires.thread
+    (log_found c.args.self.now.flat c.args.self.now.logs.items c.args.t c.index_mut-in-Err.result.now c.requires.tape c.requires.thread
+    c.index_mut-in-Err.ensures.value) (tries_room c.args.self.now.flat c.args.t c.args.object c.requires.asked)
+
+left_out : (c : goal.After-self-in-Err-1) → Trying c.args.self.now.flat c.take-in-Err.new.self c.args.self.now.logs.items
+    (set c.args.self.now.logs.items c.args.t c.push-in-Err.new.self) c.args.t c.args.object 0 (event.Try c.args.object)
+left_out c =
+    let same = c.in-Err.ensures.unchanged in
+    let f = c.take.new.self in
+    let asked : ask_of f.code (thread_of f c.args.t) ≡ Try c.args.object =
+    subst (λ z. ask_of z.code (thread_of z c.args.t) ≡ Try c.args.object) (sym same) c.requires.asked in
+    record {
+      tape = c.requires.tape;
+      flat = c.requires.flat;
+      below = c.requires.thread;
+      asked = c.requires.asked;
+      can = refused_can c.args.self.now.flat c.args.t c.args.object c.requires.asked;
+      taken = subst (λ z. tables c.take-in-Err.new.self ≡ after (machine z) (tables z) (c.args.t, 0)) same
+          (stepped c.take-in-Err.result (Can (machine f) (tables f) (c.args.t, 0)) _ (refused_can f c.args.t c.args.object asked)
+          c.take-in-Err.ensures.refused c.take-in-Err.ensures.taken);
+      code = c.take-in-Err.ensures.code ∙ c.take.ensures.code;
+      threads = c.take-in-Err.ensures.threads ∙ c.take.ensures.threads;
+      objects = c.take-in-Err.ensures.objects ∙ c.take.ensures.objects;
+      new = c.push-in-Err.new.self;
+      pushed = c.push-in-Err.ensures ∙ ap {A = Logged} {B = Logged} (λ l. record l { events = l.events ++ event.Try c.args.object ∷ [] })
+          (log_found c.args.self.now.flat c.args.self.now.logs.items c.args.t c.index_mut-in-Err.result.now c.requires.tape
+          c.requires.thread c.index_mut-in-Err.ensures.value);
+      logs_are = refl;
+    }
+
+pub returns-in-Err-clause-took : goal.returns-in-Err-clause-took
+returns-in-Err-clause-took c = event_took c.args.self.now.flat c.take-in-Err.new.self c.args.self.now.logs.items
+    (set c.args.self.now.logs.items c.args.t c.push-in-Err.new.self) c.args.t 0 (Refused c.args.object) (event.Try c.args.object)
+    (tried_out c.args.self.now.flat c.take-in-Err.new.self c.args.self.now.logs.items
+    (set c.args.self.now.logs.items c.args.t c.push-in-Err.new.self) c.args.t c.args.object (left_out c) c.in-Err.ensures.refused)
+
+pub returns-in-Err-clause-tape : goal.returns-in-Err-clause-tape
+returns-in-Err-clause-tape c = event_tape c.args.self.now.flat c.take-in-Err.new.self c.args.self.now.logs.items
+    (set c.args.self.now.logs.items c.args.t c.push-in-Err.new.self) c.args.t 0 (Refused c.args.object) (event.Try c.args.object)
+    (tried_out c.args.self.now.flat c.take-in-Err.new.self c.args.self.now.logs.items
+    (set c.args.self.now.logs.items c.args.t c.push-in-Err.new.self) c.args.t c.args.object (left_out c) c.in-Err.ensures.refused)
