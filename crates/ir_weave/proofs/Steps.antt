@@ -1,5 +1,5 @@
 -- A seat and its thread after a step.
-use Rattle.std.proofs.Common.{◌≡◌, ℕ, suc, zero, ◌+◌, ◌<◌, ◌≤◌, false, List, [], ◌∷◌, length, Some, refl, sym, ap, ◌∙◌, subst, arith, inl, inr, ◌⊎◌}
+use Rattle.std.proofs.Common.{◌≡◌, ◌≢◌, ℕ, suc, zero, ◌+◌, ◌<◌, ◌≤◌, false, List, [], ◌∷◌, length, Some, refl, sym, ap, ◌∙◌, subst, arith, inl, inr, ◌⊎◌}
 use Rattle.std.specs.Prelude.{slice_get}
 use Rattle.ir_thread.specs.Calls.{ask_of, after_ask, after_reply, step_of, run_of}
 use Rattle.ir_thread.specs.Instance.{shared_ask}
@@ -299,6 +299,16 @@ pub try_entered : (k : Plan) (f : FittedTrace) (code : List ℕ) (me me' : M) (x
 try_entered k f code me me' x y o e for same seated asking event one is moved =
     stepped_object k f code me me' x y (Try o) (Value 1) for same seated tt
     (subst (λ n. Takes (trace_in k) x.number x (Try o) (Value n)) one (try_takes k f me.0 x o e for seated asking event)) is moved
+
+-- what suits a try and isn't refused got in
+pub got_in : (o : ℕ) (e : Event) → Suits (Try o) e → ((p : ℕ) → e ≢ Refused p) → (try_result e ≡ 1) × (event_ask e ≡ Enter o Writing)
+got_in o (Answered j v) (inl is) other = absurd (cc is)
+got_in o (Answered j v) (inr is) other = absurd (cc is)
+got_in o (Read p v) (inl is) other = absurd (cc is)
+got_in o (Read p v) (inr is) other = absurd (cc is)
+got_in o (Write p v l) (inl is) other = absurd (cc is)
+got_in o (Write p v l) (inr is) other = let same : ◌≡◌ {A = ℕ} p o = cc is in (refl, ap (λ z. Enter z Writing) same)
+got_in o (Refused p) suits other = absurd (other p refl)
 
 -- a refused try touches no object
 pub try_refused : (k : Plan) (f : FittedTrace) (code : List ℕ) (me : M) (x y : thread.State) (o p : ℕ) → IsFor k f

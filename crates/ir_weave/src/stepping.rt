@@ -104,17 +104,19 @@ impl Weave {
         let number = thread.number() as usize;
         match fitted.trace().next_event(number, thread.events(), asked) {
             Err(_) => unreachable!(),
-            Ok(Event::Try { .. }) => {
-                thread.take_asked(fitted.image().code(), asked, Reply::Value(0));
-                true
-            }
-            Ok(event) => {
-                if !self.enter(seat, thread, object, Access::Writing, event) {
-                    return false;
+            Ok(event) => match event {
+                Event::Try { .. } => {
+                    thread.take_asked(fitted.image().code(), asked, Reply::Value(0));
+                    true
                 }
-                thread.take_asked(fitted.image().code(), asked, Reply::Value(1));
-                true
-            }
+                _ => {
+                    if !self.enter(seat, thread, object, Access::Writing, event) {
+                        return false;
+                    }
+                    thread.take_asked(fitted.image().code(), asked, Reply::Value(1));
+                    true
+                }
+            },
         }
     }
 
