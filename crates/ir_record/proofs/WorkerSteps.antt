@@ -422,6 +422,20 @@ below_enter g w o a i asked = subst (λ n. o < n) i.4.places (permits g w (ask.E
 pub below_try : (g : Guest) (w : Work) (o : ℕ) → IsWorker g w → ask_of g.code w.thread ≡ ask.Try o → o < object_count g
 below_try g w o i asked = subst (λ n. o < n) i.4.places (permits g w (ask.Try o) asked).2
 
+pub enter_room : (g : Guest) (w : Work) (o : ℕ) (a : Access) → IsWorker g w → ask_of g.code w.thread ≡ ask.Enter o a
+    → length w.log.events < w.log.room
+enter_room g w o a i asked = let can = (permits g w (ask.Enter o a) asked).1 in let n = i.4.count in let r = i.4.room in
+    omega (arith, can, n, r)
+
+pub enter_entries : (g : Guest) (w : Work) (o : ℕ) (a : Access) → IsWorker g w → ask_of g.code w.thread ≡ ask.Enter o a
+    → entries (map shared_of (history w.me.0)) < most_events
+enter_entries g w o a i asked =
+    let same : entries (map shared_of (history w.me.0)) ≡ entries (map shared_of i.4.track) =
+    ap (λ (z : M). entries (map shared_of (history z.0))) i.4.view in
+    let can = (permits g w (ask.Enter o a) asked).1 in
+    let few = i.4.few in
+    omega (arith, same, can, few)
+
 pub try_in_two : (g : Guest) (w : Work) (o : ℕ) → ask_of g.code w.thread ≡ ask.Try o → w.thread.profile ≡ Two
 try_in_two g w o asked = (permits g w (ask.Try o) asked).4
 

@@ -31,7 +31,7 @@ push-requires c = has_room c.args.self.now.flat c.args.self.now.logs.items c.arg
     c.index_mut.ensures.value)
     (enter_room c.args.self.now.flat c.args.t c.args.object c.args.access c.requires.asked)
 
-told : (c : goal.After-self-1) → Label
+abbrev told : (c : goal.After-self-1) → Label
 told c = emitted (machine.Entry c.args.object c.args.access 0) ((tables c.args.self.now.flat).objects c.args.object)
 
 entering : (c : goal.After-self-1) → OneEvent c.args.self.now.flat c.take.new.self c.args.self.now.logs.items
