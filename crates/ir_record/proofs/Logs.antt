@@ -85,12 +85,12 @@ tape_pushed f g logs t r e new tape below taken threads objects one fits is =
       ];
       events_fit = λ u l. fits_on (thread_of f u).profile (thread_of g u).profile (length f.objects) (length g.objects)
           (log_at (set logs t new) u).events (same_profile f g t r u taken) objects (elim (cases_eq u t) [
-        | inl same ↦ subst (λ z. AllByRecursion (IsEvent (thread_of f z).profile (length f.objects)) (log_at (set logs t new) z).events)
-            (sym same) (subst (λ z. AllByRecursion (IsEvent (thread_of f t).profile (length f.objects)) z.events) (sym (here ∙ is))
-            (all_append (IsEvent (thread_of f t).profile (length f.objects)) (log_at logs t).events e (tape.events_fit t below) fits))
-        | inr ne ↦ subst (λ z. AllByRecursion (IsEvent (thread_of f u).profile (length f.objects)) z.events) (sym (there u ne))
-            (tape.events_fit u (omega (arith, l, threads)))
-      ]);
+            | inl same ↦ subst (λ z. AllByRecursion (IsEvent (thread_of f z).profile (length f.objects)) (log_at (set logs t new) z).events)
+                (sym same) (subst (λ z. AllByRecursion (IsEvent (thread_of f t).profile (length f.objects)) z.events) (sym (here ∙ is))
+                (all_append (IsEvent (thread_of f t).profile (length f.objects)) (log_at logs t).events e (tape.events_fit t below) fits))
+            | inr ne ↦ subst (λ z. AllByRecursion (IsEvent (thread_of f u).profile (length f.objects)) z.events) (sym (there u ne))
+                (tape.events_fit u (omega (arith, l, threads)))
+          ]);
     }
 
 pub map_append : {A B : Type 0} (f : A → B) (xs : List A) (x : A) → map f (xs ++ x ∷ []) ≡ map f xs ++ f x ∷ []

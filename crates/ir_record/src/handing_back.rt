@@ -98,7 +98,11 @@ pub fn gathered<W: Drop>(
         traces.push_reserved(thread_trace(&thread, log));
         each.push_reserved(Output { bytes, world });
     }
-    (seats, Trace::new(objects, budget, traces, profile), Outputs { each })
+    (
+        seats,
+        Trace::new(objects, budget, traces, profile),
+        Outputs { each },
+    )
 }
 
 // One seat of all.
