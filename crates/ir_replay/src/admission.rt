@@ -78,11 +78,13 @@ fn try_result(fitted: &Fitted, flat: &Flat<'_>, t: usize, object: u8) -> Option<
     let before = events_of(flat, t);
     match fitted.trace().next_event(t, before, Ask::Try(object)) {
         Err(_) => None,
-        Ok(Event::Try { .. }) => Some(0),
-        Ok(entry) => {
-            let found = &flat.objects()[object as usize];
-            if is_open(found, entry) { Some(1) } else { None }
-        }
+        Ok(event) => match event {
+            Event::Try { .. } => Some(0),
+            _ => {
+                let found = &flat.objects()[object as usize];
+                if is_open(found, event) { Some(1) } else { None }
+            }
+        },
     }
 }
 
