@@ -4,6 +4,7 @@ use crate::examples::{CALLS, COUNTER, HELLO, LOST_UPDATE, OVERWRITTEN, SUM, TWO_
 use crate::recordings::{BUDGET, fitted_in_order};
 use crate::replays::{in_order, last};
 use crate::sources::image_bytes;
+use ir_fit::Fitted;
 use ir_replay::State;
 use ir_thread::End;
 use std::alloc::Global;
@@ -33,20 +34,28 @@ fn has_words(state: &State, words: &[u32]) -> bool {
     state.objects().len() == words.len()
 }
 
-// Whether a recording in rounds ends, prints and leaves this.
-fn does(alloc: Global, example: Example) -> Result<bool, Fail> {
-    let (source, _length, end, printed, words) = example;
-    let fitted = fitted_in_order(alloc, &[source], &[], BUDGET)?;
-    let Some(state) = in_order(alloc, &fitted, &last(alloc, &fitted)?)? else {
-        return Ok(false);
-    };
+// Whether the first thread ended and printed so, and the objects were left so.
+fn is_left(state: &State, example: Example) -> bool {
+    let (_source, _length, end, printed, words) = example;
     let Some(first) = state.threads().first() else {
-        return Ok(false);
+        return false;
     };
-    if first.ended() != Some(end) || first.output() != printed.as_bytes() {
-        return Ok(false);
+    first.ended() == Some(end) && first.output() == printed.as_bytes() && has_words(state, words)
+}
+
+// Whether that is so at the end of the trace.
+fn is_left_at_end(alloc: Global, fitted: &Fitted, example: Example) -> Result<bool, Fail> {
+    match in_order(alloc, fitted, &last(alloc, fitted)?)? {
+        Some(state) => Ok(is_left(&state, example)),
+        None => Ok(false),
     }
-    Ok(has_words(&state, words))
+}
+
+// Whether it is so at the end of a recording in rounds.
+fn does(alloc: Global, example: Example) -> Result<bool, Fail> {
+    let (source, _length, _end, _printed, _words) = example;
+    let fitted = fitted_in_order(alloc, &[source], &[], BUDGET)?;
+    is_left_at_end(alloc, &fitted, example)
 }
 
 #[test]

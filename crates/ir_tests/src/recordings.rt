@@ -35,6 +35,20 @@ pub fn in_order(
     record_in_order(alloc, image, order, worlds, budget)
 }
 
+/// The same of the source's guest.
+pub fn source_in_order(
+    alloc: Global,
+    source: &[&str],
+    order: &[u8],
+    answers: &[u32],
+    budget: u64,
+) -> Result<(Trace, Outputs<Script>), Fail>
+    requires { budget ≤ most_budget }
+{
+    let image = image_of(alloc, source)?;
+    Ok(in_order(alloc, &image, order, answers, budget)?)
+}
+
 /// The same on real threads.
 pub fn by_threads<R: Threads + Wait + Sync, G: Gate + Sync>(
     rt: &R,
@@ -47,6 +61,20 @@ pub fn by_threads<R: Threads + Wait + Sync, G: Gate + Sync>(
     record(rt, alloc, image, worlds, gate, BUDGET)
 }
 
+// The guest recorded on real threads, whose worlds count.
+fn counting_by_threads<R: Threads + Wait + Sync>(rt: &R, alloc: Global, image: &Image) -> Recorded {
+    let worlds = worlds(alloc, image.entries().len(), &[], COUNTS)?;
+    record(rt, alloc, image, worlds, &OpenGate, BUDGET)
+}
+
+// The same in an order.
+fn counting_in_order(alloc: Global, image: &Image, order: &[u8], budget: u64) -> Recorded
+    requires { budget ≤ most_budget }
+{
+    let worlds = worlds(alloc, image.entries().len(), &[], COUNTS)?;
+    record_in_order(alloc, image, order, worlds, budget)
+}
+
 /// The source's guest recorded on real threads, whose trace fits, and what its threads printed.
 pub fn fitted_by_threads<R: Threads + Wait + Sync>(
     rt: &R,
@@ -54,8 +82,7 @@ pub fn fitted_by_threads<R: Threads + Wait + Sync>(
     source: &[&str],
 ) -> Result<(Fitted, Outputs<Script>), Fail> {
     let image = image_of(alloc, source)?;
-    let worlds = worlds(alloc, image.entries().len(), &[], COUNTS)?;
-    let (trace, outputs) = record(rt, alloc, &image, worlds, &OpenGate, BUDGET)?;
+    let (trace, outputs) = counting_by_threads(rt, alloc, &image)?;
     Ok((fit(alloc, image, trace)?, outputs))
 }
 
@@ -69,7 +96,6 @@ pub fn fitted_in_order(
     requires { budget ≤ most_budget }
 {
     let image = image_of(alloc, source)?;
-    let worlds = worlds(alloc, image.entries().len(), &[], COUNTS)?;
-    let (trace, _outputs) = record_in_order(alloc, &image, order, worlds, budget)?;
+    let (trace, _outputs) = counting_in_order(alloc, &image, order, budget)?;
     Ok(fit(alloc, image, trace)?)
 }

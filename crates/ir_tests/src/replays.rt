@@ -17,8 +17,8 @@ use std::time::Clock;
 
 // The guest with its trace, which fits.
 pub fn fitted(alloc: Global, source: &[&str], trace: TraceRow) -> Result<Fitted, Fail> {
-    let image = image_of(alloc, source)?;
-    Ok(fit(alloc, image, trace_of(alloc, trace)?)?)
+    let trace = trace_of(alloc, trace)?;
+    Ok(fit(alloc, image_of(alloc, source)?, trace)?)
 }
 
 // Whether the cut has a position for each thread, and is consistent.
