@@ -85,8 +85,8 @@ def image(code, threads=1, objects=0):
     return b"IRI1" + bytes([threads, objects]) + struct.pack("<II", len(code), 0) + b"".join(struct.pack("<I", w) for w in words)
 
 
-def header(threads, objects, budget):
-    return b"IRT1" + bytes([threads, objects, 0, 0]) + struct.pack("<Q", budget)
+def header(threads, objects, budget, magic=b"IRT1"):
+    return magic + bytes([threads, objects, 0, 0]) + struct.pack("<Q", budget)
 
 
 def trace(steps, budget):
@@ -373,6 +373,43 @@ def coherence():
     print(f"coherence of {8 * count} write entries: {took:.2f} seconds")
 
 
+def called(last):
+    """A loop of 1,044,480 turns, each with this instruction behind a0 = 0 and a7 = 13 or, where it is ECALL of SELF, 12."""
+    number, word = last
+    return counted([addi(A0, 0, 0), addi(A7, 0, number), word], CALLS >> 12)
+
+
+def beside_a_writer(code, steps):
+    """The code run by thread 1 while thread 0 is inside object 0, and the steps of both."""
+    stay, many = counted([], 700)
+    enter = [addi(A0, 0, 0), addi(A7, 0, 8), ECALL]
+    fork = [addi(A7, 0, 12), ECALL, branch(1, A0, 0, 4 * (1 + len(enter) + len(stay)))]
+    return fork + enter + stay + code, 2 * len(fork) + len(enter) + many + 1 + steps
+
+
+CALLS = 255 << 12
+LAST = {"a refused try": (13, ECALL), "SELF": (12, ECALL), "neither": (12, addi(A0, A0, 0))}
+
+
+def tries():
+    """Refused tries beside SELF, a private call: the nanoseconds that each takes beyond an ADDI in its place, in replay in order from
+    the start to the end, and recorded in order by rounds while another thread is inside."""
+    replays, records = {}, {}
+    for name, last in LAST.items():
+        code, steps = called(last)
+        events = CALLS if last == LAST["a refused try"] else 0
+        told = header(1, 1, 1000000000, b"IRT2") + struct.pack("<QBII", steps, 1, 0, events) + b"\x06\x00" * events
+        replays[name] = best_replay(b"replay", b"\n" + image(code, 1, 1).hex().encode() + b"\n" + told.hex().encode() + b"\n", steps)
+        code, steps = beside_a_writer(code, steps)
+        good = b"%d steps\n" % steps
+        records[name] = best_of_five([BENCH], b"record\n" + image(code, 2, 1).hex().encode() + b"\n", lambda out: out == good)
+    print(f"{CALLS} refused tries beside as many calls of SELF: nanoseconds of each beyond an ADDI")
+    print(f"{'':24}{'try':>10}{'SELF':>10}{'ratio':>8}")
+    for name, times in (("replay in order", replays), ("recording by rounds", records)):
+        a, b = ((times[call] - times["neither"]) / CALLS * 1e9 for call in ("a refused try", "SELF"))
+        print(f"{name:24}{a:>10.1f}{b:>10.1f}{a / b:>8.2f}")
+
+
 def assembling():
     print("the assembler: a label on each fourth statement, which a branch goes back to")
     print(f"{'statements':24}{'labels':>12}{'seconds':>10}{'lines/s':>12}")
@@ -386,6 +423,6 @@ def assembling():
             print(f"{count:<24}{count // 4:>12}{took:>10.3f}{count / took:>12.0f}")
 
 
-PARTS = {part.__name__: part for part in (speeds, traces, by_threads, sessions, continuing, coherence, assembling)}
+PARTS = {part.__name__: part for part in (speeds, traces, by_threads, sessions, continuing, coherence, tries, assembling)}
 for part in sys.argv[3:] or PARTS:
     PARTS[part]()

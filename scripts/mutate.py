@@ -121,6 +121,27 @@ writer: addi a0, zero, 0
         ecall
 """
 
+# One thread tries to enter an object while the other is inside, and once more when it has left.
+TRYING = """
+        .objects 1
+        .thread writer
+        .thread other
+writer: addi a0, zero, 0
+        addi a7, zero, 8
+        ecall
+        addi a7, zero, 9
+        ecall
+        ebreak
+other:  addi a0, zero, 0
+        addi a7, zero, 13               # TRY_WRITE
+        ecall
+        addi s0, a0, 0
+        addi a0, zero, 0
+        ecall
+        addi a7, zero, 1
+        ecall
+"""
+
 # Guests beside the examples: a name, the source, the order of the recording, the budget. Example `counter` has the loop of two counters.
 GUESTS = (
     ("doubled", DOUBLE, "0", 1000),
@@ -132,6 +153,7 @@ GUESTS = (
     ("falling", FALLING, "0", 1000),
     ("readers", READERS, "0,1", 1000),
     ("readers_and_writer", READERS_AND_WRITER, "0x7,1x7", 1000),
+    ("trying", TRYING, "0x3,1x3,0x3,1", 1000),
 )
 
 # The orders in which the three are recorded.
@@ -202,9 +224,15 @@ def assembled(folder, name, source):
     return (folder / f"{name}.img").read_bytes()
 
 
+def profile_of(source):
+    """The profile of system calls in which a guest is recorded."""
+    return 2 if "TRY_WRITE" in source else 1
+
+
 def recorded(folder, name, order, budget=1_000_000):
     """The trace of an image's guest by an order."""
-    words = shlex.split(f"record {name}.img {name}.trc --order {order} --budget {budget} --input input")
+    profile = profile_of((folder / f"{name}.s").read_text())
+    words = shlex.split(f"record {name}.img {name}.trc --order {order} --budget {budget} --input input --profile {profile}")
     subprocess.run([PROGRAM, *words], cwd=folder, check=True, stdout=subprocess.DEVNULL)
     return (folder / f"{name}.trc").read_bytes()
 

@@ -72,6 +72,8 @@ ARGUMENTS = [
     ("asm --explain bad.s d2.img", 3, EXPLAINED),
     ("asm bad.s d2.img --explain", 3, EXPLAINED),
     ("asm --explain=1 bad.s d2.img", 2, "ir: unexpected value '1' for '--explain' found; no more were expected\n"),
+    ("record d.img d.trc --profile 3", 2, "ir: --profile: '3' is neither 1 nor 2\n"),
+    ("record d.img d.trc --profile", 2, "ir: a value is required for '--profile <P>' but none was supplied\n"),
     ("record none.img d.trc", 1, "ir: none.img can't be read: no such file or folder\n"),
     ("record d.img d.trc --input none", 1, "ir: none can't be read: no such file or folder\n"),
     ("record d.img d.trc --input longer", 1, "ir: longer is over 1048576 bytes\n"),
@@ -107,6 +109,16 @@ OWN_FILES = [
     ("record d.img d.trc --input d.trc", "ir: d.trc: TRACE would be written over FILE\n"),
     ("record d.trc.part d.trc", "ir: d.trc.part: TRACE.part would be written over IMAGE\n"),
 ]
+
+# Tries to enter object 0, and ends with the answer; what is printed where the first of two that do is inside.
+TRY = """
+main:   addi a0, zero, 0
+        addi a7, zero, 13
+        ecall
+        addi a7, zero, 1
+        ecall
+"""
+TRY_LINES = b"thread 0 end 1 code 1 steps 6 events 1\nthread 1 end 1 code 0 steps 5 events 1\n"
 
 # Each row: the arguments of a recording of two threads whose outputs would be written over another of its files, and the
 # message.
@@ -268,6 +280,26 @@ def test_failed_outputs(folder):
             wants(f"{arguments}: {name}", (folder / name).read_bytes(), printed)
         (folder / arguments.split()[1]).unlink()
     wants("full.1", (folder / "full.1").exists(), False)
+
+
+def test_profiles(folder):
+    """A guest that tries: in the second profile it enters, beside a writer it is refused, and in the first there is no such call."""
+    for threads in (1, 2):
+        (folder / f"try{threads}.s").write_text(".objects 1\n" + threads * ".thread main\n" + TRY)
+        wants("assembling", run(f"asm try{threads}.s try{threads}.img", folder).returncode, 0)
+    for arguments, magic, lines in (
+        ("try1.img try.trc --profile 2", b"IRT2", b"thread 0 end 1 code 1 steps 6 events 1\n"),
+        ("try1.img try.trc --profile 2 --order 0", b"IRT2", b"thread 0 end 1 code 1 steps 6 events 1\n"),
+        ("try1.img try.trc --profile 1", b"IRT1", b"thread 0 end 8 code 0 steps 3 events 0\n"),
+        ("try1.img try.trc", b"IRT1", b"thread 0 end 8 code 0 steps 3 events 0\n"),
+        ("try2.img try.trc --profile 2 --order 0x3,1x5", b"IRT2", TRY_LINES),
+    ):
+        ended = run(f"record {arguments}", folder)
+        wants(arguments, (ended.returncode, ended.stdout, ended.stderr), (0, lines, b""))
+        wants(f"{arguments}: the magic", (folder / "try.trc").read_bytes()[:4], magic)
+    wants("lines", run("trace try.trc", folder).stdout.splitlines()[-1], b"0 try 0")
+    ended = subprocess.run([PROGRAM, "debug", "try2.img", "try.trc"], cwd=folder, input=b"end\nlog 1\nquit\n", capture_output=True)
+    wants("a session", ended.stdout, b"ready\nat 6 5\nlog 1 of 1\n0 try 0\nbye\n")
 
 
 def test_trace(folder):

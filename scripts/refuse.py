@@ -131,6 +131,7 @@ SESSIONS = (
     ("points of each kind", "two_counters", "1x18",
      ("break 0 0x1001c", "watch 1 0x100000", "owatch 0", "cont 0", "mem 0 0x10000 8", "clear 2", "cont 1", "rcont 0", "break 1 0x10000", "keep",
       "clear 1", "cont 0", "quit")),
+    ("tries", "spinning", "0x5,1x5", ("goto 1 5", "log 1", "obj 0", "end", "log 1", "back 1 1", "next 1", "start", "owatch 0", "cont 1", "quit")),
     ("eight threads", "eight_counters", None,
      ("end", "obj 0", "back 3 1", "keep", "start", "step 7 5", "load 1", "kept", "owatch 0", "rcont 0", "cont 3", "quit")),
     ("checkpoints on the way", "long", "0", ("end", "back 0 1", "back 0 1", "goto 0 1500000", "back 0 1", "keep", "end", "load 1", "quit")),
@@ -146,6 +147,7 @@ RUNS = (
     ("ir asm that explains a fault", "asm --explain bad.s new.img", ("new.img",)),
     ("ir record with an order", "record lost_update.img new.trc --order 0x10,1x25 --output new", ("new.trc", "new.0", "new.1")),
     ("ir record by threads", "record hello.img new.trc --output new", ("new.trc", "new.0")),
+    ("ir record of tries", "record spinning.img new.trc --order 0x5,1x5 --profile 2", ("new.trc",)),
     ("ir record of eight threads", "record eight_counters.img new.trc", None),
     ("ir trace", "trace lost_update.trc", ()),
 )
@@ -409,7 +411,8 @@ def prepare(folder):
         (folder / f"{name}.s").write_text(source)
         subprocess.run([PROGRAM, "asm", f"{name}.s", f"{name}.img"], cwd=folder, check=True)
     for _, name, order, _ in SESSIONS:
-        words = [PROGRAM, "record", f"{name}.img", f"{name}.trc", "--budget", "100000000", *(["--order", order] if order else [])]
+        profile = "2" if "TRY_WRITE" in sources[name] else "1"
+        words = [PROGRAM, "record", f"{name}.img", f"{name}.trc", "--budget", "100000000", "--profile", profile, *(["--order", order] if order else [])]
         subprocess.run(words, cwd=folder, check=True, stdout=subprocess.DEVNULL)
     (folder / "bad.s").write_text("nop\nx\n")
 

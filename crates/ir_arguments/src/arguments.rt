@@ -6,7 +6,7 @@ ghost use Rattle.ir_thread.specs.Calls.{most_budget};
 use clap::error::ErrorKind;
 use clap::{Arg, ArgAction, ArgMatches, Command, Error};
 use ir_record_run::number_within;
-use ir_thread::MOST_BUDGET;
+use ir_thread::{MOST_BUDGET, Profile};
 use std::alloc::{AllocError, Global};
 use std::{env, io};
 
@@ -57,7 +57,7 @@ Instructions, a form a line; TARGET is a label, `.+N` or `.-N`, and V a number, 
   fence rd, rs1, V       or `fence` alone; V from 0 to 4095
   ecall                  so ebreak, nop
 Registers are x0 to x31, or zero, ra, sp, gp, tp, t0 to t6, s0 (fp) to s11, a0 to a7.
-Calls, made by `ecall` with the number in a7; one without an answer keeps all registers:
+Calls, made by `ecall` with the number in a7, 13 under `--profile 2` alone; one without an answer keeps all registers:
    1  END          a0 code                        the thread ends
    2  PUTC         a0                             its low byte is put out
    3  PUTN         a0                             put out in decimal, with its sign, and a line feed
@@ -70,6 +70,7 @@ Calls, made by `ecall` with the number in a7; one without an answer keeps all re
   10  GET          a0 object, a1 index            answers the object's word in a0
   11  PUT          a0 object, a1 index, a2 word   writes the object's word
   12  SELF                                        answers the thread's number in a0
+  13  TRY_WRITE    a0 object                      never waits: answers 1 in a0, and is inside for writing, or 0
 A fault is emitted on standard error as `line L error C`, C being
    1 a byte that a source may not hold        7 an undefined label
    2 an unknown instruction or directive      8 a label that is too far away
@@ -134,6 +135,7 @@ line for each, with its number from 0 on:
   I input V                          INPUT answered V
   I read O version V                 entered object O for reading, at its version V
   I write O version V readers R      entered object O for writing, at its version V, after R readers of it
+  I try O                            tried to enter object O for writing, and was refused
 A TRACE that is none is refused by one line `trace refused N`, as `ir debug` refuses it.
 Exit status: 0 printed, 1 a file that can't be read or standard output that can't be written, 2 bad arguments,
 3 a refused trace.
@@ -148,6 +150,8 @@ const ORDER: &str = "order";
 const BUDGET: &str = "budget";
 
 const RANDOM: &str = "random";
+
+const PROFILE: &str = "profile";
 
 const INPUT: &str = "input";
 
@@ -168,6 +172,8 @@ list, rounds over the threads from 0 on take one step of each that has one, unti
 CLOCK gives milliseconds since the start, modulo 2^32; with LIST it counts its own calls from 0, in each thread.
 RANDOM gives PCG32's words, started by S plus the thread's number; each thread reads its own copy of FILE, of at most
 1048576 bytes, or nothing. TRACE is written as TRACE.part, which is renamed once it is whole.
+With P 2 guests may call TRY_WRITE too, call 13, and TRACE is of the second form, IRT2; with 1 it is an unknown call, and
+TRACE is IRT1. A try is answered 0 where another thread is inside, and may be where none is; with LIST it isn't then.
 With PREFIX what thread T printed is then written to PREFIX.T, which is empty where it printed nothing, before the lines.
 A line is `thread T end E code C steps S events N`; the ends E are
    1 END                   6 a bad load              11 an object that isn't held
@@ -202,6 +208,8 @@ pub struct RecordArguments {
     pub budget: u64,
     /// Where random words start.
     pub random: u64,
+    /// Which system calls guests may make.
+    pub profile: Profile,
     /// The file that guests read.
     pub input: Option<String>,
     /// What the paths of the files of what threads print begin with, if they are asked for.
@@ -269,6 +277,7 @@ fn record_command<'a>(alloc: Global) -> Result<Command<'a>, AllocError> {
         .arg(order)?
         .arg(budget_arg(alloc))?
         .arg(random_arg(alloc))?
+        .arg(profile_arg(alloc))?
         .arg(input_arg(alloc))?
         .arg(output_arg(alloc))
 }
@@ -313,6 +322,15 @@ fn random_arg<'a>(alloc: Global) -> Arg<'a> {
         .default_value("0")
         .allow_negative_numbers(true)
         .help("Where random words start, at most 18446744073709551615")
+}
+
+fn profile_arg<'a>(alloc: Global) -> Arg<'a> {
+    Arg::new(alloc, PROFILE)
+        .long(PROFILE)
+        .value_name("P")
+        .default_value("1")
+        .allow_negative_numbers(true)
+        .help("Which system calls there are: 1, calls 1 to 12, or 2, TRY_WRITE too")
 }
 
 fn input_arg<'a>(alloc: Global) -> Arg<'a> {
@@ -402,6 +420,20 @@ fn no_number(alloc: Global, option: &str, value: &str, most: u64) -> Result<Stri
     format!(in alloc; "--{option}: '{value}' is no number up to {most}")
 }
 
+// The profile that the value of the option names.
+fn profile_of(value: &str) -> Option<Profile> {
+    match value {
+        "1" => Some(Profile::One),
+        "2" => Some(Profile::Two),
+        _ => None,
+    }
+}
+
+// That the value of the option names no profile.
+fn no_profile(alloc: Global, option: &str, value: &str) -> Result<String, AllocError> {
+    format!(in alloc; "--{option}: '{value}' is neither 1 nor 2")
+}
+
 fn recording(alloc: Global, matches: &ArgMatches<'_>) -> Result<Asked, AllocError> {
     let budget = matches.get_str(BUDGET).unwrap_or_default();
     let Some(most) = number_within(0, MOST_BUDGET, budget) else {
@@ -411,12 +443,17 @@ fn recording(alloc: Global, matches: &ArgMatches<'_>) -> Result<Asked, AllocErro
     let Some(start) = number_within(0, u64::MAX, random) else {
         return Ok(Asked::Nothing(no_number(alloc, RANDOM, random, u64::MAX)?));
     };
+    let profile = matches.get_str(PROFILE).unwrap_or_default();
+    let Some(calls) = profile_of(profile) else {
+        return Ok(Asked::Nothing(no_profile(alloc, PROFILE, profile)?));
+    };
     Ok(Asked::Recording(RecordArguments {
         image: text_of(alloc, matches, IMAGE)?,
         trace: text_of(alloc, matches, TRACE)?,
         order: given_text(alloc, matches, ORDER)?,
         budget: most,
         random: start,
+        profile: calls,
         input: given_text(alloc, matches, INPUT)?,
         output: given_text(alloc, matches, OUTPUT)?,
     }))

@@ -13,8 +13,8 @@ use ir_image::{Image, read_image};
 use ir_object::OpenGate;
 use ir_record::{record, record_in_order};
 use ir_replay::{State, advance, advance_in_order};
-use ir_thread::{Ask, Reply, Thread};
-use ir_trace::{Trace, read_trace};
+use ir_thread::{Ask, Profile, Reply, Thread};
+use ir_trace::{ThreadTrace, Trace, read_trace};
 use std::alloc::Global;
 use std::io::{BufRead, BufReader, Lines};
 use std::sync::Wait;
@@ -22,6 +22,9 @@ use std::thread::Threads;
 use std::time::{Clock, Instant};
 
 const BUDGET: u64 = 1_000_000_000;
+
+// The second one has all system calls.
+const PROFILE: Profile = Profile::Two;
 
 // Takes all steps, private ones many at a time or each one by itself.
 fn finish(thread: &mut Thread, image: &Image, one_by_one: bool) {
@@ -39,7 +42,7 @@ fn finish(thread: &mut Thread, image: &Image, one_by_one: bool) {
 // How many steps the guest's first thread takes by itself.
 fn alone(alloc: Global, image: &Image, one_by_one: bool) -> Result<u64> {
     ensure!(!image.entries().is_empty(), "a thread");
-    let mut thread = Thread::new(alloc, image, 0, BUDGET)?;
+    let mut thread = Thread::new(alloc, image, 0, BUDGET, PROFILE)?;
     finish(&mut thread, image, one_by_one);
     Ok(thread.steps())
 }
@@ -53,9 +56,9 @@ fn recorded<R: Threads + Wait + Sync>(
 ) -> Result<u64> {
     let worlds = quiet::worlds(alloc, image.entries().len())?;
     let recording = if by_threads {
-        record(rt, alloc, image, worlds, &OpenGate, BUDGET)
+        record(rt, alloc, image, worlds, &OpenGate, BUDGET, PROFILE)
     } else {
-        record_in_order(alloc, image, &[], worlds, BUDGET)
+        record_in_order(alloc, image, &[], worlds, BUDGET, PROFILE)
     };
     let (trace, _) = recording.ok().context("a recording")?;
     Ok(all_steps(&trace))
@@ -91,12 +94,18 @@ struct Replay {
     target: Cut,
 }
 
-fn to_the_end(alloc: Global, image: Image, trace: Trace) -> Result<Replay> {
-    let fitted = fit(alloc, image, trace).ok().context("a trace that fits")?;
+// The positions after the threads' last steps.
+fn ends(alloc: Global, threads: &[ThreadTrace]) -> Result<Vec<u64>> {
     let mut last = Vec::new(alloc);
-    for thread in fitted.trace().threads() {
+    for thread in threads {
         last.push(thread.steps())?;
     }
+    Ok(last)
+}
+
+fn to_the_end(alloc: Global, image: Image, trace: Trace) -> Result<Replay> {
+    let fitted = fit(alloc, image, trace).ok().context("a trace that fits")?;
+    let last = ends(alloc, fitted.trace().threads())?;
     Ok(Replay {
         fitted,
         target: Cut::new(last),

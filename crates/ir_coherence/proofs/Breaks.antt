@@ -5,14 +5,15 @@ use Rattle.std.specs.List.{AllByRecursion}
 use Rattle.std.proofs.lemmas.Option.{same_Some}
 use Rattle.std.proofs.lemmas.List.{length-map}
 use Rattle.ir_thread.specs.Calls.{most_events}
+use Rattle.ir_thread.specs.declared.profile.Profile.{Profile}
 use Rattle.ir_runs.specs.Labels.{Label, In, Trace}
 use Rattle.ir_runs.specs.declared.access.Access.TheVariants.{Writing}
 use Rattle.ir_log.specs.Logging.{label_of}
 use Rattle.ir_log.specs.declared.event.Event.{Event}
-use Rattle.ir_trace.specs.Recorded.{Recorded, RecordedThread, IsRecorded, IsRecordedThread}
+use Rattle.ir_trace.specs.Recorded.{Recorded, RecordedThread, IsRecorded, IsEvent, IsRecordedThread}
 use Rattle.ir_trace.specs.TraceOf.{absent, recorded_thread, trace_of}
 use Rattle.ir_runs.specs.Coherent.{reads, IsCoherent}
-use Rattle.ir_coherence.specs.Counting.{writes, reads_in, writes_in, reads_of, writes_of, cause_by, CountsMore, CountsAll, HasRoom, FirstCause, NoCause}
+use Rattle.ir_coherence.specs.Counting.{MayStand, writes, reads_in, writes_in, reads_of, writes_of, cause_by, CountsMore, CountsAll, HasRoom, FirstCause, NoCause}
 use Rattle.ir_runs.specs.Cuts.{At}
 use Rattle.ir_coherence.specs.Breaking.{HasCause, IsBefore, IsFirstBreak}
 use Rattle.ir_coherence.specs.declared.cause.Cause.{Cause}
@@ -38,8 +39,19 @@ past [] i d l = refl
 past (x ∷ xs) zero d l = absurd (omega arith)
 past (x ∷ xs) (suc i) d l = past xs i d (omega arith)
 
-pub thread_fits : (r : Recorded) → IsRecorded r → (i : ℕ) → i < length r.threads → IsRecordedThread r.objects (recorded_thread r i)
-thread_fits r fits i l = each (IsRecordedThread r.objects) r.threads i absent fits.threads_fit l
+pub thread_fits : (r : Recorded) → IsRecorded r → (i : ℕ) → i < length r.threads → IsRecordedThread r.profile r.objects (recorded_thread r i)
+thread_fits r fits i l = each (IsRecordedThread r.profile r.objects) r.threads i absent fits.threads_fit l
+
+may_stand : (profile : Profile) (objects : ℕ) (es : List Event) → AllByRecursion (IsEvent profile objects) es
+    → AllByRecursion (MayStand objects) es
+may_stand profile objects [] all = tt
+may_stand profile objects (e ∷ es) all = ((profile, all.0), may_stand profile objects es all.1)
+
+-- the events of a thread may stand in a trace of so many objects
+pub thread_stands : (r : Recorded) → IsRecorded r → (i : ℕ) (c : EntryCounts) → i < length r.threads → CountsFirst r i c
+    → AllByRecursion (MayStand (vec_len c.objects)) (recorded_thread r i).events
+thread_stands r fits i c l first = subst (λ n. AllByRecursion (MayStand n) (recorded_thread r i).events) (sym first.objects)
+    (may_stand r.profile r.objects (recorded_thread r i).events (thread_fits r fits i l).events_fit)
 
 is_of : (r : Recorded) → IsOf (length r.threads) (trace_of r)
 is_of r t l = ap (λ (x : RecordedThread). map label_of x.events) (past r.threads t absent l)

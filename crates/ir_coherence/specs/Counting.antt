@@ -7,12 +7,18 @@ use Rattle.ir_runs.specs.Labels.{Label, Quiet, Answer, In, Refused, Out, Trace}
 use Rattle.ir_runs.specs.declared.access.Access.TheVariants.{Reading, Writing}
 use Rattle.ir_log.specs.Logging.{label_of}
 use Rattle.ir_log.specs.declared.event.Event.{Event}
+use Rattle.ir_thread.specs.declared.profile.Profile.{Profile}
+use Rattle.ir_trace.specs.Recorded.{IsEvent}
 use Rattle.ir_runs.specs.Coherent.{reads, sum_below}
 use Rattle.ir_coherence.specs.declared.cause.Cause.{Cause}
 use Rattle.ir_coherence.specs.declared.cause.Cause.TheVariants.{Unmade, Twice, Readers}
 use Rattle.ir_coherence.specs.declared.version_counts.VersionCounts.{VersionCounts}
 use Rattle.ir_coherence.specs.declared.entry_counts.ObjectCounts.{ObjectCounts}
 use Rattle.ir_coherence.specs.declared.entry_counts.EntryCounts.{EntryCounts}
+
+-- an event that may stand in a trace of so many objects, of whichever profile
+abbrev pub MayStand : ℕ → Event → Type 0
+MayStand objects event = (profile : Profile) × IsEvent profile objects event
 
 -- 1 for a write entry of object o at version v, else 0
 abbrev pub writes_one : ℕ → ℕ → Label → ℕ

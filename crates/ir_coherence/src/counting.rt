@@ -3,9 +3,8 @@
 ghost use Rattle.std.specs.Prelude.{◌≡◌, ◌<◌, ◌≤◌, length, map, OnOk, IfOk, vec_len};
 ghost use Rattle.std.specs.List.{AllByRecursion};
 ghost use Rattle.ir_log.specs.Logging.{label_of};
-ghost use Rattle.ir_trace.specs.Recorded.{IsEvent};
 ghost use Rattle.ir_trace.specs.TraceOf.{trace_of};
-ghost use Rattle.ir_coherence.specs.Counting.{CountsMore, CountsAll, HasRoom, AreSettled};
+ghost use Rattle.ir_coherence.specs.Counting.{MayStand, CountsMore, CountsAll, HasRoom, AreSettled};
 
 use crate::entry_counts::EntryCounts;
 use ir_log::Event;
@@ -38,7 +37,7 @@ fn add_writes(limits: &mut [usize], events: &[Event])
 
 // Counts the events of one log.
 fn add_log(counts: &mut EntryCounts, events: &[Event]) -> Result<(), AllocError>
-    requires objects { AllByRecursion (IsEvent (vec_len counts.old.objects)) events.now }
+    requires objects { AllByRecursion (MayStand (vec_len counts.old.objects)) events.now }
     requires room { HasRoom counts.old (length events.now) }
     ensures { OnOk result (CountsMore counts.old counts.new (map label_of events.now)) }
 {

@@ -2,8 +2,7 @@
 
 ghost use Rattle.std.specs.Prelude.{◌≡◌, ℕ, [], ◌∷◌, length, vec_len, OnOk, IfOk};
 ghost use Rattle.ir_log.specs.Logging.{label_of};
-ghost use Rattle.ir_trace.specs.Recorded.{IsEvent};
-ghost use Rattle.ir_coherence.specs.Counting.{count, reads_of, writes_of, CountsNone, CountsMore, HasRoom, IsSettled, AreSettled, SameCounts, nobody_made, cause_by};
+ghost use Rattle.ir_coherence.specs.Counting.{MayStand, count, reads_of, writes_of, CountsNone, CountsMore, HasRoom, IsSettled, AreSettled, SameCounts, nobody_made, cause_by};
 
 use crate::cause::Cause;
 use crate::version_counts::VersionCounts;
@@ -80,12 +79,12 @@ impl EntryCounts {
     /// # Errors
     /// Out of memory.
     pub fn add(&mut self, event: Event) -> Result<(), AllocError>
-        requires object { IsEvent (vec_len self.old.objects) event }
+        requires object { MayStand (vec_len self.old.objects) event }
         requires room { HasRoom self.old 1 }
         ensures { OnOk result (CountsMore self.old self.new (label_of event ∷ [])) }
     {
         match event {
-            Event::Answer(..) => Ok(()),
+            Event::Answer(..) | Event::Try { .. } => Ok(()),
             Event::Read { object, version } => self.objects[object as usize].reads.add(version),
             Event::Write {
                 object,
@@ -141,7 +140,7 @@ impl EntryCounts {
         ensures { result ≡ cause_by (reads_of self.now) (writes_of self.now) (label_of event) }
     {
         match event {
-            Event::Answer(..) => None,
+            Event::Answer(..) | Event::Try { .. } => None,
             Event::Read { object, version } => {
                 self.is_unmade(object, version).then_some(Cause::Unmade)
             }

@@ -21,10 +21,10 @@ use Rattle.ir_object.specs.Order.{Shared, of_thread, objects_after, order_labels
 use Rattle.ir_object.specs.Word.{version_unit, left_limit, reader_leaves, fields_of}
 use Rattle.ir_object.proofs.CallerLemmas.{of_own, of_other, after_more, labels_more, legal_more, entry_counts, leave_counts, can_leave, admits_reader, admits_writer, read_entry_word, write_entry_word, read_leave_word, version_word}
 use Rattle.ir_runs.proofs.CallerLemmas.{upd_same, upd_other, upd_id}
-use Rattle.ir_crew.specs.Plays.{IsAlone, history, did, inside_by, entered_at, M, object_of, index_of, IsSight, looked, tried, read_entry, write_entry, entered_read, entered_write, left_reading, left_writing, got, wrote}
+use Rattle.ir_crew.specs.Plays.{IsAlone, history, did, inside_by, entered_at, M, object_of, index_of, IsSight, looked, tried, read_entry, write_entry, try_entry, entered_read, entered_write, entered_by_try, left_reading, left_writing, got, wrote}
 use Rattle.ir_crew.specs.Rule.{View, shared_by, label_by, shared_of, label_of, one_if_entry, entries, start_objects, Represents, IsTable, IsTrack, Fits, Kept}
 use Rattle.ir_crew.specs.declared.deed.Deed.{Deed}
-use Rattle.ir_crew.specs.declared.deed.Deed.TheVariants.{Enter, Leave, Get, Put}
+use Rattle.ir_crew.specs.declared.deed.Deed.TheVariants.{Enter, Try, Leave, Get, Put}
 use Rattle.ir_crew.specs.declared.deed.ObjectStep.{ObjectStep}
 use Rattle.ir_crew.specs.declared.deed.Track.{Track}
 use Rattle.ir_crew.proofs.Counting.{entries_more}
@@ -42,6 +42,7 @@ map_more f (y ∷ xs) x = ap (λ z. f y ∷ z) (map_more f xs x)
 
 pub target_by : (o : ℕ) (d : Deed) → target (shared_by o d).0 ≡ o
 target_by o (Enter a v l) = refl
+target_by o (Try v l) = refl
 target_by o (Leave a v) = refl
 target_by o (Get i w) = refl
 target_by o (Put i w) = refl
@@ -304,6 +305,30 @@ enters_write g slots id o old me alone lt room free =
         represents = λ i. Rattle.ir_runs.specs.Labels.In o Writing (sym a.represents.version i) (sym a.represents.left i);
       };
       represents = subst (λ f. Represents n f (acted (Entry o Writing 0) t b)) (sym (write_entry_word old free))
+          (record {
+            version = a.represents.version;
+            left = a.represents.left;
+            inside =
+                entry_counts n (fields_of old) b.inside t Writing a.thread (nobody t) a.represents.inside;
+          });
+      words = refl;
+    })
+
+pub enters_by_try : (g : Guest) (slots id o old : ℕ) (me : M) → IsAlone me.0 → o < object_count g
+    → entries (map shared_of (history me.0)) < most_events → Admitted Writing (fields_of old)
+    → Allows (Kept g) slots id me (word_place o) (λ n. either (eqb n old) (old + 1) n)
+    (entered_by_try (step slots (word_place o) old (old + 1) none) me)
+enters_by_try g slots id o old me alone lt room free =
+    tries g slots id o old (old + 1) try_entry me alone lt (omega (arith, room)) (λ t b a.
+    let n : ℕ = length g.entries in
+    let nobody : (u : ℕ) → b.inside u ≡ None = admits_writer n (fields_of old) b.inside a.represents.inside free in record {
+      may = record {
+        uses = nobody t;
+        admits = nobody;
+        answers = refl;
+        represents = λ i. Rattle.ir_runs.specs.Labels.In o Writing (sym a.represents.version i) (sym a.represents.left i);
+      };
+      represents = subst (λ f. Represents n f (acted (Entry o Writing 1) t b)) (sym (write_entry_word old free))
           (record {
             version = a.represents.version;
             left = a.represents.left;

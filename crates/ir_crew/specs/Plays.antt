@@ -9,7 +9,7 @@ use Rattle.ir_object.specs.Order.{inside_after}
 use Rattle.ir_object.specs.Word.{fields_of}
 use Rattle.ir_crew.specs.Rule.{View, shared_of, label_of}
 use Rattle.ir_crew.specs.declared.deed.Deed.{Deed}
-use Rattle.ir_crew.specs.declared.deed.Deed.TheVariants.{Enter, Leave, Get, Put}
+use Rattle.ir_crew.specs.declared.deed.Deed.TheVariants.{Enter, Try, Leave, Get, Put}
 use Rattle.ir_crew.specs.declared.deed.ObjectStep.{ObjectStep}
 
 -- a seat of one thread
@@ -78,11 +78,17 @@ read_entry n = Enter Reading (fields_of n).version 0
 abbrev pub write_entry : ℕ → Deed
 write_entry n = Enter Writing (fields_of n).version (fields_of n).left
 
+abbrev pub try_entry : ℕ → Deed
+try_entry n = Try (fields_of n).version (fields_of n).left
+
 abbrev pub entered_read : Step (Unit {0}) → M → ℕ → M → Type 0
 entered_read = tried read_entry
 
 abbrev pub entered_write : Step (Unit {0}) → M → ℕ → M → Type 0
 entered_write = tried write_entry
+
+abbrev pub entered_by_try : Step (Unit {0}) → M → ℕ → M → Type 0
+entered_by_try = tried try_entry
 
 abbrev pub left_by : Access → Step (Unit {0}) → M → ℕ → M → Type 0
 left_by a s me n w = (v : ℕ) × (w ≡ (did me.0 (object_of s.word) (Leave a v), me.1))

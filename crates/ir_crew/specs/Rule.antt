@@ -8,6 +8,7 @@ use Rattle.ir_thread.specs.Calls.{most_events}
 use Rattle.ir_thread.specs.Instance.{thread_machine}
 use Rattle.ir_runs.specs.Machine.{Act, Silent, Result, Entry, Refusal, Exit, Load, Store, Never}
 use Rattle.ir_runs.specs.Labels.{Label, Quiet, In, Out}
+use Rattle.ir_runs.specs.declared.access.Access.TheVariants.{Writing}
 use Rattle.ir_object.specs.Cell.{Counts}
 use Rattle.ir_object.specs.Layout.{word_place, content_place, table_length}
 use Rattle.ir_runs.specs.Object.{Object}
@@ -15,7 +16,7 @@ use Rattle.ir_object.specs.Order.{Shared, of_thread, objects_after, order_labels
 use Rattle.ir_object.specs.Word.{fields_of}
 use Rattle.ir_object.specs.declared.fields.Fields.{Fields}
 use Rattle.ir_crew.specs.declared.deed.Deed.{Deed}
-use Rattle.ir_crew.specs.declared.deed.Deed.TheVariants.{Enter, Leave, Get, Put}
+use Rattle.ir_crew.specs.declared.deed.Deed.TheVariants.{Enter, Try, Leave, Get, Put}
 use Rattle.ir_crew.specs.declared.deed.ObjectStep.{ObjectStep}
 use Rattle.ir_crew.specs.declared.deed.Track.{Track}
 
@@ -23,9 +24,10 @@ use Rattle.ir_crew.specs.declared.deed.Track.{Track}
 abbrev pub View : Type 0
 View = List Track
 
--- what the deed does to object o, and its answer
+-- what the deed does to object o, and its answer; a try that entered is answered 1
 abbrev pub shared_by : ℕ → Deed → Shared
 shared_by o (Enter a v l) = (Entry o a 0, 0)
+shared_by o (Try v l) = (Entry o Writing 1, 1)
 shared_by o (Leave a v) = (Exit o a, 0)
 shared_by o (Get i w) = (Load o i, w)
 shared_by o (Put i w) = (Store o i w, 0)
@@ -33,6 +35,7 @@ shared_by o (Put i w) = (Store o i w, 0)
 -- what it emits
 abbrev pub label_by : ℕ → Deed → Label
 label_by o (Enter a v l) = In o a v l
+label_by o (Try v l) = In o Writing v l
 label_by o (Leave a v) = Out o a v
 label_by o (Get i w) = Quiet
 label_by o (Put i w) = Quiet

@@ -9,6 +9,8 @@ use std::collections::LinkedList;
 pub enum Deed {
     /// An entry: the access, the version, and the readers that left it.
     Enter(Access, u32, u32),
+    /// A try that entered for writing: the version, and the readers that left it.
+    Try(u32, u32),
     /// A leave: the access, and the version.
     Leave(Access, u32),
     /// A read: the index, and the word.

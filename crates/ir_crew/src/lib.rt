@@ -6,6 +6,7 @@ mod entries;
 mod opening;
 mod plays;
 mod table;
+mod tries;
 
 pub use deed::{Deed, ObjectStep, Track};
 pub use plays::Law;

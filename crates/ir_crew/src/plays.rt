@@ -44,6 +44,15 @@ impl Play<(), LinkedList<Track>> for EnterWrite {
     ghost then = { entered_write };
 }
 
+/// A try to enter for writing, which enters if the word is the one expected.
+pub struct TryWrite;
+
+impl Play<(), LinkedList<Track>> for TryWrite {
+    ghost use Rattle.ir_crew.specs.Plays.{entered_by_try};
+
+    ghost then = { entered_by_try };
+}
+
 /// A reader's leave.
 pub struct LeaveRead;
 

@@ -65,7 +65,7 @@ least_at f fit ps qs t k con there steps least lo =
     let run = fit.run.run in
     let is = fit.run.whole in
     least_exact (machine_of f) (lawful f.guest.code) (start_of f)
-    (start_good (machine_of f) (start_of f) (starts f.guest f.recorded.budget)) run is.1.runs (cut_of ps) (cut_of qs) t k (con run is).0
+    (start_good (machine_of f) (start_of f) (starts f.guest f.recorded.budget f.recorded.profile)) run is.1.runs (cut_of ps) (cut_of qs) t k (con run is).0
     (con run is).1 lo
     (let a = is.1.steps t there in omega (arith, a, steps)) (least.1 run is)
 
@@ -75,5 +75,5 @@ greatest_at f fit ps qs t k con greatest hi =
     let run = fit.run.run in
     let is = fit.run.whole in
     greatest_exact (machine_of f) (lawful f.guest.code) (start_of f)
-    (start_good (machine_of f) (start_of f) (starts f.guest f.recorded.budget)) run is.1.runs (cut_of ps) (cut_of qs) t k (con run is).0
+    (start_good (machine_of f) (start_of f) (starts f.guest f.recorded.budget f.recorded.profile)) run is.1.runs (cut_of ps) (cut_of qs) t k (con run is).0
     (con run is).1 hi (greatest.1 run is)

@@ -11,11 +11,11 @@ use Rattle.ir_runs.specs.Extremes.{IsLeast, IsGreatest}
 
 -- what the guest's threads do
 abbrev pub machine_of : FittedTrace → Machine thread.State
-machine_of f = machine (start_flat f.guest f.recorded.budget)
+machine_of f = machine (start_flat f.guest f.recorded.budget f.recorded.profile)
 
 -- where its runs start
 abbrev pub start_of : FittedTrace → State thread.State
-start_of f = tables (start_flat f.guest f.recorded.budget)
+start_of f = tables (start_flat f.guest f.recorded.budget f.recorded.profile)
 
 -- a fact of each complete run of the guest that has the trace
 abbrev pub EachRun : FittedTrace → (List Step → Type 0) → Type 0

@@ -35,7 +35,7 @@ pub fn are_met(fitted: &Fitted, positions: &[u64], event: Event) -> bool
     ensures { IsTrue result ↔ EachRun fitted.now (λ run. AreInside fitted.now run (NeededBy (label_of event)) (cut_of positions.now)) }
 {
     match event {
-        Event::Answer(..) => true,
+        Event::Answer(..) | Event::Try { .. } => true,
         Event::Read { object, version } => is_made(fitted, positions, object, version),
         Event::Write {
             object,
@@ -68,7 +68,7 @@ pub fn raise_for(fitted: &Fitted, positions: &mut Vec<u64>, event: Event)
     ensures size { length positions.new.items ≡ length positions.old.items }
 {
     match event {
-        Event::Answer(..) => {}
+        Event::Answer(..) | Event::Try { .. } => {}
         Event::Read { object, version } => raise_to_maker(fitted, positions, object, version),
         Event::Write {
             object,

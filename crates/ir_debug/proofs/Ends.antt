@@ -72,7 +72,7 @@ last_steps : (f : FittedTrace) (run : List Step) → IsRunOf f.guest f.recorded 
 last_steps f run whole t = elim (cases_lt t (threads_of f)) [
   | inl l ↦ last_number f 0 (threads_of f) t l ∙ ap (last_of f) (let e : 0 + t ≡ t = omega arith in e) ∙ sym (whole.1.steps t l)
   | inr past ↦ get_or_past (last_cut f) t 0 (let n = last_length f 0 (threads_of f) in omega (arith, n, past)) ∙
-      sym (ap length (idle_trail (machine_of f) (start_of f) (threads_of f) (start_idle f.guest f.recorded.budget) run whole.1.runs t past))
+      sym (ap length (idle_trail (machine_of f) (start_of f) (threads_of f) (start_idle f.guest f.recorded.budget f.recorded.profile) run whole.1.runs t past))
 ]
 
 pub last_consistent : (f : FittedTrace) → IsConsistentCut f (last_cut f)

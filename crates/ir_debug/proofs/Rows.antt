@@ -4,7 +4,7 @@ use Rattle.std.specs.Prelude.{codes, Result}
 use Rattle.std.specs.Fmt.{digits}
 use Rattle.hex.specs.Hex.{encode_with}
 use Rattle.ir_image.specs.Guest.{Guest}
-use Rattle.ir_runs.specs.Labels.{In, Answer}
+use Rattle.ir_runs.specs.Labels.{In, Answer, Refused}
 use Rattle.ir_runs.specs.Object as objects
 use Rattle.ir_runs.specs.declared.access.Access.TheVariants.{Reading, Writing}
 use Rattle.ir_runs.specs.declared.env_kind.EnvKind.TheVariants.{Clock}
@@ -13,6 +13,7 @@ use Rattle.ir_coherence.specs.declared.cause.Cause.TheVariants.{Twice}
 use Rattle.ir_fit.specs.declared.header_cause.HeaderCause.TheVariants as header
 use Rattle.ir_fit.specs.declared.verdict.Verdict.TheVariants.{Header, Incoherent}
 use Rattle.ir_thread.specs.declared.end.End.TheVariants.{Breakpoint}
+use Rattle.ir_thread.specs.declared.profile.Profile.TheVariants.{One}
 use Rattle.ir_command.specs.Words.{words_of}
 use Rattle.ir_command.specs.Numbers.{number_of, numeral}
 use Rattle.ir_command.specs.Commands.{command_of, command_named}
@@ -97,7 +98,7 @@ abbrev guest_p : Guest
 guest_p = record { entries = 0x10000 ∷ 0x10000 ∷ []; code = replicate 18 0x13; bytes = []; words = replicate 8 0 }
 
 abbrev desk_p : Desk
-desk_p = desk_of (record { guest = guest_p; recorded = record { objects = 1; budget = 1000; threads = [] }; placed = [] })
+desk_p = desk_of (record { guest = guest_p; recorded = record { objects = 1; budget = 1000; profile = One; threads = [] }; placed = [] })
 
 refused_0 : refusal_of desk_p (Move (Step 2 1)) ≡ Some NoSuchThread
 unfolding refusal_of
@@ -191,6 +192,10 @@ log_two : log_text (In 3 Reading 5 0 ∷ Answer Clock 4294967295 ∷ []) 9 ≡ c
 unfolding event_lines digits encode_with
 log_two = refl
 
+log_try : log_text (Refused 2 ∷ []) 1 ≡ codes "log 1 of 1\n0 try 2\n"
+unfolding event_lines digits encode_with
+log_try = refl
+
 -- ---- answers
 
 -- one thread of nine steps, the last of which is its end
@@ -198,7 +203,7 @@ abbrev fitted_9 : FittedTrace
 fitted_9 = record {
   guest = record guest_p { entries = 0x10000 ∷ [] };
   recorded =
-      record { objects = 1; budget = 1000; threads = record { steps = 9; end = Breakpoint; events = [] } ∷ [] };
+      record { objects = 1; budget = 1000; profile = One; threads = record { steps = 9; end = Breakpoint; events = [] } ∷ [] };
   placed = [];
 }
 

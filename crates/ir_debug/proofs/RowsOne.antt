@@ -7,6 +7,8 @@ use Rattle.ir_isa.specs.Decoded as decoded
 use Rattle.ir_runs.specs.Machine.{upd}
 use Rattle.ir_thread.specs.Calls.{after_reply}
 use Rattle.ir_thread.specs.declared.end.End.TheVariants.{Exit}
+use Rattle.ir_thread.specs.declared.profile.Profile.{Profile}
+use Rattle.ir_thread.specs.declared.profile.Profile.TheVariants.{One, Two}
 use Rattle.ir_runs.specs.Run.{Step, after}
 use Rattle.ir_fit.specs.Fit.{FittedTrace}
 use Rattle.ir_debug.specs.Answers.{registers_text}
@@ -15,10 +17,11 @@ use Rattle.ir_debug.specs.Machine.Desk.{Desk, desk_of}
 use Rattle.ir_debug.specs.Machine.Texts.{inside_for, event_lines, memory_lines, output_lines}
 use Rattle.ir_debug.specs.Machine.Shown.{shown, bytes_from}
 
-abbrev fitted_by : List ℕ → ℕ → ℕ → FittedTrace
-fitted_by code objects steps = record {
+abbrev fitted_by : Profile → List ℕ → ℕ → ℕ → FittedTrace
+fitted_by profile code objects steps = record {
   guest = record { entries = 0x10000 ∷ []; code = code; bytes = []; words = replicate objects 0 };
-  recorded = record { objects = objects; budget = 1000; threads = record { steps = steps; end = Exit 0; events = [] } ∷ [] };
+  recorded =
+      record { objects = objects; budget = 1000; profile = profile; threads = record { steps = steps; end = Exit 0; events = [] } ∷ [] };
   placed = [];
 }
 
@@ -29,15 +32,15 @@ abbrev at_only : FittedTrace → ℕ → Desk
 at_only f k = record (desk_of f) { at = k ∷ [] }
 
 abbrev f_q : FittedTrace
-f_q = fitted_by (0x04800513 ∷ 0x00200893 ∷ 0x73 ∷ 0x00a50533 ∷ 0x00100893 ∷ 0x73 ∷ []) 0 6
+f_q = fitted_by One (0x04800513 ∷ 0x00200893 ∷ 0x73 ∷ 0x00a50533 ∷ 0x00100893 ∷ 0x73 ∷ []) 0 6
 
 -- it enters object 0 for reading and leaves it, and then for writing
 abbrev f_r : FittedTrace
-f_r = fitted_by (0x513 ∷ 0x00700893 ∷ 0x73 ∷ 0x00900893 ∷ 0x73 ∷ 0x00800893 ∷ 0x73 ∷ 0x00900893 ∷ 0x73 ∷ 0x00100893 ∷ 0x73 ∷ []) 8 11
+f_r = fitted_by One (0x513 ∷ 0x00700893 ∷ 0x73 ∷ 0x00900893 ∷ 0x73 ∷ 0x00800893 ∷ 0x73 ∷ 0x00900893 ∷ 0x73 ∷ 0x00100893 ∷ 0x73 ∷ []) 8 11
 
 -- it ends while it is inside for writing
 abbrev f_e : FittedTrace
-f_e = fitted_by (0x513 ∷ 0x00800893 ∷ 0x73 ∷ 0x593 ∷ 0x00700613 ∷ 0x00b00893 ∷ 0x73 ∷ 0x00100073 ∷ []) 8 9
+f_e = fitted_by One (0x513 ∷ 0x00800893 ∷ 0x73 ∷ 0x593 ∷ 0x00700613 ∷ 0x00b00893 ∷ 0x73 ∷ 0x00100073 ∷ []) 8 9
 
 registers_q : shown (alone 6) (at_only f_q 3) (Registers 0) ≡ codes
     "pc 0001000c\nzero=00000000 ra=00000000 sp=00110000 gp=00000000\ntp=00000000 t0=00000000 t1=00000000 t2=00000000\ns0=00000000 s1=00000000 a0=00000048 a1=00000000\na2=00000000 a3=00000000 a4=00000000 a5=00000000\na6=00000000 a7=00000002 s2=00000000 s3=00000000\ns4=00000000 s5=00000000 s6=00000000 s7=00000000\ns8=00000000 s9=00000000 s10=00000000 s11=00000000\nt3=00000000 t4=00000000 t5=00000000 t6=00000000\n"
@@ -82,3 +85,49 @@ object_e : shown (alone 9) (at_only f_e 9) (Object 0) ≡ codes
 unfolding shown upd after_reply after inside_for event_lines memory_lines output_lines bytes_from digits encode_with registers_text
     decoded.instruction_of
 object_e = refl
+
+-- it tries to enter object 0 for writing, and ends with the answer
+abbrev code_t : List ℕ
+code_t = 0x513 ∷ 0x00d00893 ∷ 0x73 ∷ 0x00100893 ∷ 0x73 ∷ []
+
+abbrev f_t : FittedTrace
+f_t = fitted_by Two code_t 8 5
+
+next_t : shown (alone 5) (at_only f_t 2) (Next 0) ≡ codes "next 00010008 ecall\n"
+unfolding shown upd after_reply after inside_for event_lines memory_lines output_lines bytes_from digits encode_with registers_text
+    decoded.instruction_of
+next_t = refl
+
+log_t : shown (alone 5) (at_only f_t 5) (Log 0) ≡ codes "log 1 of 1\n0 try 0\n"
+unfolding shown upd after_reply after inside_for event_lines memory_lines output_lines bytes_from digits encode_with registers_text
+    decoded.instruction_of
+log_t = refl
+
+object_t : shown (alone 5) (at_only f_t 3) (Object 0) ≡ codes
+    "version 0 left 0 readers - writer -\nwords 00000000 00000000 00000000 00000000 00000000 00000000 00000000 00000000\n"
+unfolding shown upd after_reply after inside_for event_lines memory_lines output_lines bytes_from digits encode_with registers_text
+    decoded.instruction_of
+object_t = refl
+
+-- the same where the try gets in, which is logged as an entry; the thread releases the object after its end
+abbrev f_w : FittedTrace
+f_w = fitted_by Two code_t 8 6
+
+abbrev run_w : List Step
+run_w = (0, 0) ∷ (0, 0) ∷ (0, 1) ∷ (0, 0) ∷ (0, 0) ∷ (0, 0) ∷ []
+
+log_w : shown run_w (at_only f_w 6) (Log 0) ≡ codes "log 1 of 1\n0 write 0 version 0 readers 0\n"
+unfolding shown upd after_reply after inside_for event_lines memory_lines output_lines bytes_from digits encode_with registers_text
+    decoded.instruction_of
+log_w = refl
+
+object_w : shown run_w (at_only f_w 3) (Object 0) ≡ codes
+    "version 0 left 0 readers - writer 0\nwords 00000000 00000000 00000000 00000000 00000000 00000000 00000000 00000000\n"
+unfolding shown upd after_reply after inside_for event_lines memory_lines output_lines bytes_from digits encode_with registers_text
+    decoded.instruction_of
+object_w = refl
+
+next_w : shown run_w (at_only f_w 5) (Next 0) ≡ codes "next give back 0\n"
+unfolding shown upd after_reply after inside_for event_lines memory_lines output_lines bytes_from digits encode_with registers_text
+    decoded.instruction_of
+next_w = refl

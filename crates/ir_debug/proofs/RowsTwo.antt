@@ -7,6 +7,7 @@ use Rattle.ir_isa.specs.Decoded as decoded
 use Rattle.ir_runs.specs.Machine.{upd}
 use Rattle.ir_thread.specs.Calls.{after_reply}
 use Rattle.ir_thread.specs.declared.end.End.TheVariants.{Exit}
+use Rattle.ir_thread.specs.declared.profile.Profile.TheVariants.{One}
 use Rattle.ir_log.specs.declared.event.Event.TheVariants.{Write}
 use Rattle.ir_runs.specs.Run.{Step, after}
 use Rattle.ir_fit.specs.Fit.{FittedTrace}
@@ -26,6 +27,7 @@ fitted_p = record {
   recorded = record {
     objects = 1;
     budget = 1000;
+    profile = One;
     threads = record { steps = 18; end = Exit 0; events = Write 0 1 0 ∷ [] }
         ∷ record { steps = 18; end = Exit 0; events = Write 0 0 0 ∷ [] } ∷ [];
   };

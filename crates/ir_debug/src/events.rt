@@ -47,6 +47,7 @@ fn put_what(text: &mut Text, event: Event)
             put_number(text, b" version ", version as u64);
             put_number(text, b" readers ", readers as u64);
         }
+        Event::Try { object } => put_number(text, b"try ", object as u64),
     }
 }
 

@@ -10,7 +10,7 @@ use Rattle.ir_runs.specs.declared.access.Access.TheVariants.{Reading, Writing}
 use Rattle.ir_runs.specs.Run.{join_if}
 use Rattle.ir_runs.proofs.CallerLemmas.{join_append}
 use Rattle.ir_log.specs.declared.event.Event.{Event}
-use Rattle.ir_log.specs.declared.event.Event.TheVariants.{Answer, Read, Write}
+use Rattle.ir_log.specs.declared.event.Event.TheVariants.{Answer, Read, Write, Try}
 use Rattle.ir_fit.specs.Visits.{Visit, left_by, of_threads, enter_if, entered_by, same_access, picked, Listing, HasLists, listed, added, AddsAll, AreSorted, IsInOrder, none_listed, IsListing}
 use Rattle.ir_fit.specs.declared.leave.Leave.{Leave}
 use Rattle.ir_fit.specs.declared.place.Place.{Place}
@@ -206,6 +206,7 @@ adds_more x y z vs ws h k o l a =
 
 enter_prefix : (t : ℕ) (e : Event) (k : ℕ) (vs ws : List Visit) → enter_if t e k (vs ++ ws) ≡ enter_if t e k vs ++ ws
 enter_prefix t (Answer kind value) k vs ws = refl
+enter_prefix t (Try o) k vs ws = refl
 enter_prefix t (Read o v) k vs ws = refl
 enter_prefix t (Write o v r) k vs ws = refl
 

@@ -10,7 +10,7 @@ use Rattle.ir_runs.specs.declared.access.Access.TheVariants.{Reading, Writing}
 use Rattle.ir_runs.specs.Run.{join_if}
 use Rattle.ir_log.specs.Logging.{label_of}
 use Rattle.ir_log.specs.declared.event.Event.{Event}
-use Rattle.ir_log.specs.declared.event.Event.TheVariants.{Answer, Read, Write}
+use Rattle.ir_log.specs.declared.event.Event.TheVariants.{Answer, Read, Write, Try}
 use Rattle.ir_trace.specs.TraceOf.{recorded_thread}
 use Rattle.ir_fit.proofs.Listed.{at_get, get_at, emits_below, entries_long, entry_emits, entry_of, leave_emits, leave_of}
 use Rattle.ir_runs.specs.Cuts.{At}
@@ -131,6 +131,7 @@ of_entered : (t : ℕ) (es : List Event) (ks : List ℕ) (j : ℕ) (v : Visit) �
 of_entered t [] ks j v h = absurd h
 of_entered t (e ∷ es) [] j v h = absurd h
 of_entered t (Answer kind value ∷ es) (k ∷ ks) j v h = behind_entered (Answer kind value) es k ks t v (of_entered t es ks j v h)
+of_entered t (Try o ∷ es) (k ∷ ks) j v h = behind_entered (Try o) es k ks t v (of_entered t es ks j v h)
 of_entered t (Read o w ∷ es) (k ∷ ks) zero v h = prefix_entered (Read o w) es k ks t o Reading w 0 v refl h
 of_entered t (Read o w ∷ es) (k ∷ ks) (suc j) v h = behind_entered (Read o w) es k ks t v (of_entered t es ks j v h)
 of_entered t (Write o w l ∷ es) (k ∷ ks) zero v h = prefix_entered (Write o w l) es k ks t o Writing w l v refl h
@@ -146,11 +147,13 @@ to_entered : (t : ℕ) (es : List Event) (ks : List ℕ) (i : ℕ) (e : Event) (
 to_entered t [] ks i e k o a w l at place is = absurd at
 to_entered t (d ∷ es) [] i e k o a w l at place is = absurd place
 to_entered t (Answer kind value ∷ es) (q ∷ ks) zero e k o a w l at place is = absurd (cc (ap label_of at ∙ is))
+to_entered t (Try p ∷ es) (q ∷ ks) zero e k o a w l at place is = absurd (cc (ap label_of at ∙ is))
 to_entered t (Read p x ∷ es) (q ∷ ks) zero e k o a w l at place is =
     (0, omega arith, ap (emitted_visit t q) (ap label_of at ∙ is) ∙ ap (λ z. (o, a, record { position = z; version = w; thread = t })) place)
 to_entered t (Write p x r ∷ es) (q ∷ ks) zero e k o a w l at place is =
     (0, omega arith, ap (emitted_visit t q) (ap label_of at ∙ is) ∙ ap (λ z. (o, a, record { position = z; version = w; thread = t })) place)
 to_entered t (Answer kind value ∷ es) (q ∷ ks) (suc i) e k o a w l at place is = to_entered t es ks i e k o a w l at place is
+to_entered t (Try p ∷ es) (q ∷ ks) (suc i) e k o a w l at place is = to_entered t es ks i e k o a w l at place is
 to_entered t (Read p x ∷ es) (q ∷ ks) (suc i) e k o a w l at place is =
     Contains-append_right ((p, Reading, record { position = q; version = x; thread = t }) ∷ []) (entered_by t es ks) _
     (to_entered t es ks i e k o a w l at place is)

@@ -17,7 +17,8 @@ use Rattle.ir_runs.proofs.CallerLemmas.{start_good, one_maximal, Over, over, all
 use Rattle.ir_flat.proofs.CallerLemmas.{start_idle}
 use Rattle.ir_log.specs.Logging.{label_of}
 use Rattle.ir_log.specs.declared.event.Event.{Event}
-use Rattle.ir_log.specs.declared.event.Event.TheVariants.{Answer, Read, Write}
+use Rattle.ir_log.specs.declared.event.Event.TheVariants.{Answer, Read, Write, Try}
+use Rattle.ir_thread.specs.declared.profile.Profile.{Profile}
 use Rattle.ir_trace.specs.Recorded.{Recorded, RecordedThread, IsRecorded, IsRecordedThread, IsEvent, IsResult}
 use Rattle.ir_trace.specs.TraceOf.{absent, trace_of}
 use Rattle.ir_coherence.proofs.CallerLemmas.{coherent_unbroken}
@@ -47,25 +48,26 @@ result_fits Random value h = grind (arith, nat_tests, h)
 result_fits Input value (inl h) = grind (arith, nat_tests, h)
 result_fits Input value (inr h) = grind (arith, nat_tests, h)
 
-event_fits : (code : List ℕ) (objects : ℕ) (e : Event) → IsEvent objects e → verdicts.IsEvent (thread_machine code) (label_of e)
-event_fits code objects (Answer kind value) h = result_fits kind value h
-event_fits code objects (Read object version) h = refl
-event_fits code objects (Write object version readers) h = tt
+event_fits : (code : List ℕ) (profile : Profile) (objects : ℕ) (e : Event) → IsEvent profile objects e → verdicts.IsEvent (thread_machine code) (label_of e)
+event_fits code profile objects (Answer kind value) h = result_fits kind value h
+event_fits code profile objects (Read object version) h = refl
+event_fits code profile objects (Write object version readers) h = tt
+event_fits code profile objects (Try object) h = tt
 
-events_fit : (code : List ℕ) (objects : ℕ) (es : List Event) → AllByRecursion (IsEvent objects) es → (i : ℕ) (k : Label)
+events_fit : (code : List ℕ) (profile : Profile) (objects : ℕ) (es : List Event) → AllByRecursion (IsEvent profile objects) es → (i : ℕ) (k : Label)
     → At (map label_of es) i k → verdicts.IsEvent (thread_machine code) k
-events_fit code objects [] all i k h = absurd h
-events_fit code objects (e ∷ es) all zero k h = subst (verdicts.IsEvent (thread_machine code)) h (event_fits code objects e all.0)
-events_fit code objects (e ∷ es) all (suc i) k h = events_fit code objects es all.1 i k h
+events_fit code profile objects [] all i k h = absurd h
+events_fit code profile objects (e ∷ es) all zero k h = subst (verdicts.IsEvent (thread_machine code)) h (event_fits code profile objects e all.0)
+events_fit code profile objects (e ∷ es) all (suc i) k h = events_fit code profile objects es all.1 i k h
 
-threads_fit : (code : List ℕ) (objects : ℕ) (ts : List RecordedThread) → AllByRecursion (IsRecordedThread objects) ts
+threads_fit : (code : List ℕ) (profile : Profile) (objects : ℕ) (ts : List RecordedThread) → AllByRecursion (IsRecordedThread profile objects) ts
     → (t i : ℕ) (k : Label) → At (map label_of (get_or ts t absent).events) i k → verdicts.IsEvent (thread_machine code) k
-threads_fit code objects [] all t i k h = absurd h
-threads_fit code objects (x ∷ xs) all zero i k h = events_fit code objects x.events all.0.events_fit i k h
-threads_fit code objects (x ∷ xs) all (suc t) i k h = threads_fit code objects xs all.1 t i k h
+threads_fit code profile objects [] all t i k h = absurd h
+threads_fit code profile objects (x ∷ xs) all zero i k h = events_fit code profile objects x.events all.0.events_fit i k h
+threads_fit code profile objects (x ∷ xs) all (suc t) i k h = threads_fit code profile objects xs all.1 t i k h
 
 holds_events : (code : List ℕ) (r : Recorded) → IsRecorded r → HoldsEvents (thread_machine code) (trace_of r)
-holds_events code r is t i k h = threads_fit code r.objects r.threads is.threads_fit t i k h
+holds_events code r is t i k h = threads_fit code r.profile r.objects r.threads is.threads_fit t i k h
 
 -- ---- a run that goes furthest
 
@@ -76,54 +78,54 @@ there (v ∷ vs) (suc t) l = there vs t (omega (arith, l))
 
 -- the run goes furthest, and what is said of the threads is how they stand at its end
 pub verdicts_of : (g : Guest) (r : Recorded) → IsRecorded r → HasHeader g r → IsCoherent (length g.entries) (trace_of r) → (run : List Step)
-    → following.Follows (following.closing (thread_machine g.code) (trace_of r)) (thread_machine g.code) (tables (start_flat g r.budget))
+    → following.Follows (following.closing (thread_machine g.code) (trace_of r)) (thread_machine g.code) (tables (start_flat g r.budget r.profile))
     (trace_of r) run → (vs : List ThreadVerdict) → length vs ≡ length g.entries
     → ((t : ℕ) (v : ThreadVerdict) → slice_get vs t ≡ Some v
-    → StandsAs (thread_machine g.code) (tables (start_flat g r.budget)) (trace_of r) run t v) → GoesFurthest g r run × AreVerdicts g r vs
+    → StandsAs (thread_machine g.code) (tables (start_flat g r.budget r.profile)) (trace_of r) run t v) → GoesFurthest g r run × AreVerdicts g r vs
 verdicts_of g r is header co run f vs each stands =
     let m = thread_machine g.code in
-    let s = tables (start_flat g r.budget) in
+    let s = tables (start_flat g r.budget r.profile) in
     let tr = trace_of r in
     let n : ℕ = length g.entries in
-    let good = start_good m s (starts g r.budget) in
+    let good = start_good m s (starts g r.budget r.profile) in
     let top : following.IsMaximal (following.closing m tr) m s tr run =
-    settled n m s (start_idle g r.budget) tr run f
+    settled n m s (start_idle g r.budget r.profile) tr run f
     (λ t l. let v = there vs t (subst (λ z. t < z) (sym each) l) in (v.0, stands t v.0 v.1)) in (
       (f, top),
       (
         each,
         λ run' furthest t v at. same_verdict m s tr run run'
-            (one_maximal (following.closing m tr) n m (lawful g.code) tr co s good (starts g r.budget) (start_idle g r.budget) run run' f
+            (one_maximal (following.closing m tr) n m (lawful g.code) tr co s good (starts g r.budget r.profile) (start_idle g r.budget r.profile) run run' f
             top furthest.0 furthest.1) t v
-            (verdict_at n m (lawful g.code) tr co (holds_events g.code r is) s good (starts g r.budget) (start_idle g r.budget) run f top t
+            (verdict_at n m (lawful g.code) tr co (holds_events g.code r is) s good (starts g r.budget r.profile) (start_idle g r.budget r.profile) run f top t
             v (stands t v at)),
       ),
     )
 
 -- where each thread is the same, the run is complete and has the trace
 pub whole_of : (g : Guest) (r : Recorded) → HasHeader g r → (run : List Step)
-    → following.Follows (following.closing (thread_machine g.code) (trace_of r)) (thread_machine g.code) (tables (start_flat g r.budget))
+    → following.Follows (following.closing (thread_machine g.code) (trace_of r)) (thread_machine g.code) (tables (start_flat g r.budget r.profile))
     (trace_of r) run
-    → ((t : ℕ) → t < length g.entries → StandsAs (thread_machine g.code) (tables (start_flat g r.budget)) (trace_of r) run t Same)
+    → ((t : ℕ) → t < length g.entries → StandsAs (thread_machine g.code) (tables (start_flat g r.budget r.profile)) (trace_of r) run t Same)
     → IsRunOf g r run
 whole_of g r header run f same =
     let m = thread_machine g.code in
-    let s = tables (start_flat g r.budget) in (
+    let s = tables (start_flat g r.budget r.profile) in (
       header,
-      all_same (length g.entries) m (closing g.code) (trace_of r) s (lives g r.budget) run f
-          (all_done (length g.entries) m s (start_idle g r.budget) (trace_of r) run f same),
+      all_same (length g.entries) m (closing g.code) (trace_of r) s (lives g r.budget r.profile) run f
+          (all_done (length g.entries) m s (start_idle g r.budget r.profile) (trace_of r) run f same),
     )
 
 -- where one isn't, there is no run with the trace
 pub none_of : (g : Guest) (r : Recorded) → IsCoherent (length g.entries) (trace_of r) → (run : List Step) → GoesFurthest g r run
-    → (t : ℕ) (v : ThreadVerdict) → StandsAs (thread_machine g.code) (tables (start_flat g r.budget)) (trace_of r) run t v → v ≢ Same
+    → (t : ℕ) (v : ThreadVerdict) → StandsAs (thread_machine g.code) (tables (start_flat g r.budget r.profile)) (trace_of r) run t v → v ≢ Same
     → (whole : List Step) → IsRunOf g r whole → ⊥
 none_of g r co run furthest t v stands ne whole is =
     let m = thread_machine g.code in
-    let s = tables (start_flat g r.budget) in
+    let s = tables (start_flat g r.budget r.profile) in
     goes_on m s (trace_of r) run t v stands ne
-    (whole_same (length g.entries) m (lawful g.code) (closing g.code) (trace_of r) co s (start_good m s (starts g r.budget))
-    (starts g r.budget) (start_idle g r.budget) run furthest.0 furthest.1 whole is.1 t)
+    (whole_same (length g.entries) m (lawful g.code) (closing g.code) (trace_of r) co s (start_good m s (starts g r.budget r.profile))
+    (starts g r.budget r.profile) (start_idle g r.budget r.profile) run furthest.0 furthest.1 whole is.1 t)
 
 -- ---- the trace of a run is coherent
 
@@ -134,13 +136,13 @@ no_events (x ∷ xs) (suc t) l = no_events xs t (omega (arith, l))
 
 -- each thread's log in the run is the trace's
 logs_are : (g : Guest) (r : Recorded) (run : List Step) → IsRunOf g r run → (t : ℕ)
-    → log (thread_machine g.code) (tables (start_flat g r.budget)) run t ≡ (trace_of r).logs t
+    → log (thread_machine g.code) (tables (start_flat g r.budget r.profile)) run t ≡ (trace_of r).logs t
 logs_are g r run is t = elim (cases_lt t (length g.entries)) [
   | inl l ↦ is.1.logs t l
   | inr le ↦
       let m = thread_machine g.code in
-      let s = tables (start_flat g r.budget) in
-      let d = (closing g.code).done (s.now t) (start_idle g r.budget t le) in
+      let s = tables (start_flat g r.budget r.profile) in
+      let d = (closing g.code).done (s.now t) (start_idle g r.budget r.profile t le) in
       let k : Over m s run t d.0 = over m (closing g.code) s run is.1.runs is.1.done t d.0 d.1 in
       k.silent ∙ sym (no_events r.threads t (subst (λ z. z ≤ t) (sym is.0.threads) le))
 ]
@@ -148,9 +150,9 @@ logs_are g r run is t = elim (cases_lt t (length g.entries)) [
 pub run_coherent : (g : Guest) (r : Recorded) (run : List Step) → IsRunOf g r run → IsCoherent (length g.entries) (trace_of r)
 run_coherent g r run is =
     let m = thread_machine g.code in
-    let s = tables (start_flat g r.budget) in
+    let s = tables (start_flat g r.budget r.profile) in
     let own : IsCoherent (length g.entries) (trace m s run) =
-    own_coherent (length g.entries) m (lawful g.code) s (start_good m s (starts g r.budget)) (starts g r.budget) (start_idle g r.budget)
+    own_coherent (length g.entries) m (lawful g.code) s (start_good m s (starts g r.budget r.profile)) (starts g r.budget r.profile) (start_idle g r.budget r.profile)
     run is.1.runs in
     let same : log m s run ≡ (trace_of r).logs = λ i t. logs_are g r run is t i in
     subst (λ logs. IsCoherent (length g.entries) (record (trace_of r) { logs = logs })) same
@@ -201,7 +203,7 @@ threads_accept g r header f ps followed placed vs each stand same =
       run = k.run;
       whole = whole_of g r header k.run k.follows (λ t l.
           let v = there vs t (omega (arith, l, each, k.threads)) in
-          subst (StandsAs (thread_machine g.code) (tables (start_flat g r.budget)) (trace_of r) k.run t) (same t v.0 v.1)
+          subst (StandsAs (thread_machine g.code) (tables (start_flat g r.budget r.profile)) (trace_of r) k.run t) (same t v.0 v.1)
           (stand g k t v.0 v.1));
       each = length-map ps grown ∙ placed ∙ k.threads;
       entries = λ t l. ap (λ z. z.entries) (grown_at ps t) ∙ k.placed t l;

@@ -8,19 +8,20 @@ use Rattle.ir_flat.specs.Flat.{idle, tables, start_threads, start_flat}
 use Rattle.ir_runs.specs.Run.{IsStart}
 use Rattle.ir_flat.proofs.CallerLemmas.{fresh, fields_at}
 use Rattle.ir_runs.specs.Verdicts.{IsLive}
+use Rattle.ir_thread.specs.declared.profile.Profile.{Profile}
 
-pub starts : (g : Guest) (budget : ℕ) → IsStart (thread_machine g.code) (tables (start_flat g budget))
-starts g budget = record {
+pub starts : (g : Guest) (budget : ℕ) (profile : Profile) → IsStart (thread_machine g.code) (tables (start_flat g budget profile))
+starts g budget profile = record {
   version = λ o. ap (λ x. x.version) (fields_at g.words (object_count g) o);
   left = λ o. ap (λ x. x.left) (fields_at g.words (object_count g) o);
-  inside = λ o t. (fresh g budget 0 (length g.entries) t).none o;
-  held = λ t o. (fresh g budget 0 (length g.entries) t).none o;
+  inside = λ o t. (fresh g budget profile 0 (length g.entries) t).none o;
+  held = λ t o. (fresh g budget profile 0 (length g.entries) t).none o;
 }
 
-not_ended : (g : Guest) (budget from n t : ℕ) → t < n → (get_or (start_threads g budget from n) t idle).ended ≡ None
-not_ended g budget from zero t l = absurd (omega arith)
-not_ended g budget from (suc n) zero l = refl
-not_ended g budget from (suc n) (suc t) l = not_ended g budget (suc from) n t (omega arith)
+not_ended : (g : Guest) (budget : ℕ) (profile : Profile) (from n t : ℕ) → t < n → (get_or (start_threads g budget profile from n) t idle).ended ≡ None
+not_ended g budget profile from zero t l = absurd (omega arith)
+not_ended g budget profile from (suc n) zero l = refl
+not_ended g budget profile from (suc n) (suc t) l = not_ended g budget profile (suc from) n t (omega arith)
 
-pub lives : (g : Guest) (budget : ℕ) → IsLive (thread_machine g.code) (tables (start_flat g budget)) (length g.entries)
-lives g budget t l = ap (option_map (λ e. (end_number e, end_code e))) (not_ended g budget 0 (length g.entries) t l)
+pub lives : (g : Guest) (budget : ℕ) (profile : Profile) → IsLive (thread_machine g.code) (tables (start_flat g budget profile)) (length g.entries)
+lives g budget profile t l = ap (option_map (λ e. (end_number e, end_code e))) (not_ended g budget profile 0 (length g.entries) t l)

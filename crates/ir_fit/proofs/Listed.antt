@@ -223,7 +223,7 @@ get_at (y ∷ ys) (suc i) x h = let g = get_at ys i x h in (omega (arith, g.0), 
 
 -- the steps of thread t in the run that is kept
 abbrev trail_in : (f : FittedTrace) → HasRun f → ℕ → List (thread.State × Label)
-trail_in f h t = trail (machine (start_flat f.guest f.recorded.budget)) (tables (start_flat f.guest f.recorded.budget)) h.run t
+trail_in f h t = trail (machine (start_flat f.guest f.recorded.budget f.recorded.profile)) (tables (start_flat f.guest f.recorded.budget f.recorded.profile)) h.run t
 
 pub idle_trail : {T : Type 0} (m : Machine T) (s : State T) (n : ℕ) → IsIdle m s n → (run : List Step) → IsRun m s run → (t : ℕ) → n ≤ t
     → trail m s run t ≡ []
@@ -237,14 +237,14 @@ pub emits_below : (f : FittedTrace) (h : HasRun f) (t k : ℕ) (e : Label) → E
 emits_below f h t k e emitted = elim (cases_lt t (length f.guest.entries)) [
   | inl l ↦ l
   | inr past ↦
-      let none : trail_in f h t ≡ [] = idle_trail (thread_machine f.guest.code) (tables (start_flat f.guest f.recorded.budget))
-      (length f.guest.entries) (start_idle f.guest f.recorded.budget) h.run h.whole.1.runs t past in
+      let none : trail_in f h t ≡ [] = idle_trail (thread_machine f.guest.code) (tables (start_flat f.guest f.recorded.budget f.recorded.profile))
+      (length f.guest.entries) (start_idle f.guest f.recorded.budget f.recorded.profile) h.run h.whole.1.runs t past in
       absurd (subst (λ xs. At xs k (emitted.0, e)) none emitted.1)
 ]
 
 -- a thread takes as many steps in the run as were recorded
 pub steps_in : (f : FittedTrace) (h : HasRun f) (t : ℕ) → t < length f.guest.entries
-    → count (machine (start_flat f.guest f.recorded.budget)) (tables (start_flat f.guest f.recorded.budget)) h.run t ≡
+    → count (machine (start_flat f.guest f.recorded.budget f.recorded.profile)) (tables (start_flat f.guest f.recorded.budget f.recorded.profile)) h.run t ≡
     (recorded_thread f.recorded t).steps
 steps_in f h t l = h.whole.1.steps t l
 

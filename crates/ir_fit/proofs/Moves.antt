@@ -38,6 +38,7 @@ use Rattle.ir_runs.specs.declared.thread_verdict.ThreadVerdict.TheVariants.{Same
 use Rattle.ir_fit.specs.declared.follower.look.Move.{Move}
 use Rattle.ir_fit.proofs.Placed.{AllQuiet, quiet_join, quiet_places, quiet_leaves, places_append, leaves_append, placed_entries, placed_leaves, placed_room, placed_count, placed_fewer}
 use Rattle.ir_fit.proofs.Seen.{end_asked, ends_asked, emits, events_within}
+use Rattle.ir_thread.specs.declared.profile.Profile.{Profile}
 
 -- ---- what is left
 
@@ -53,11 +54,11 @@ log_over_is E n es xs h = sym (drop-append_seam (events xs) (left_log xs es)) �
 
 -- the machine of a guest
 abbrev pub guest_machine : Guest → Recorded → Machine thread.State
-guest_machine guest r = machine_of (start_flat guest r.budget)
+guest_machine guest r = machine_of (start_flat guest r.budget r.profile)
 
 -- its threads and objects at the start
 abbrev pub guest_start : Guest → Recorded → State thread.State
-guest_start guest r = tables (start_flat guest r.budget)
+guest_start guest r = tables (start_flat guest r.budget r.profile)
 
 -- a run of the guest that follows the trace
 abbrev pub GuestFollows : Guest → Recorded → List Step → Type 0
@@ -79,11 +80,11 @@ made guest r f ps run h ends code threads objects placed left = record {
   threads = threads;
   objects = objects;
   steps = λ t. ap (λ s. (s.now t).steps) ends ∙ (tally guest.code (guest_start guest r) run h.0 t).steps
-      ∙ from_zero (thread_of (start_flat guest r.budget) t).steps (count (guest_machine guest r) (guest_start guest r) run t)
-      (no_steps guest r.budget 0 (length guest.entries) t);
+      ∙ from_zero (thread_of (start_flat guest r.budget r.profile) t).steps (count (guest_machine guest r) (guest_start guest r) run t)
+      (no_steps guest r.budget r.profile 0 (length guest.entries) t);
   events = λ t. ap (λ s. (s.now t).events) ends ∙ (tally guest.code (guest_start guest r) run h.0 t).events
-      ∙ from_zero (thread_of (start_flat guest r.budget) t).events (length (log (guest_machine guest r) (guest_start guest r) run t))
-      (fresh guest r.budget 0 (length guest.entries) t).events;
+      ∙ from_zero (thread_of (start_flat guest r.budget r.profile) t).events (length (log (guest_machine guest r) (guest_start guest r) run t))
+      (fresh guest r.budget r.profile 0 (length guest.entries) t).events;
   placed = placed;
   left = left;
 }
@@ -92,9 +93,9 @@ made guest r f ps run h ends code threads objects placed left = record {
     from_zero a b e = omega (arith, e)
 
 pub started : (guest : Guest) (r : Recorded) (ps : List Growing)
-    → ((t : ℕ) → ((growing_at ps t).entries ≡ []) × ((growing_at ps t).leaves ≡ [])) → IsFollower guest r (start_flat guest r.budget) ps
-started guest r ps none = made guest r (start_flat guest r.budget) ps [] (tt, λ t. tt)
-    refl refl (threads_length guest r.budget 0 (length guest.entries)) (cells_length guest.words (object_count guest)) (λ t l. (none t).0)
+    → ((t : ℕ) → ((growing_at ps t).entries ≡ []) × ((growing_at ps t).leaves ≡ [])) → IsFollower guest r (start_flat guest r.budget r.profile) ps
+started guest r ps none = made guest r (start_flat guest r.budget r.profile) ps [] (tt, λ t. tt)
+    refl refl (threads_length guest r.budget r.profile 0 (length guest.entries)) (cells_length guest.words (object_count guest)) (λ t l. (none t).0)
     (λ t l. (none t).1)
 
 pub steps_are : (guest : Guest) (r : Recorded) (f : Flat) (ps : List Growing) → (k : IsFollower guest r f ps) → (t : ℕ)
@@ -170,6 +171,10 @@ module _ (guest : Guest) (r : Recorded) (f : Flat) (ps qs : List Growing) (n : M
       (trail_other (guest_machine guest r) (end (guest_machine guest r) (guest_start guest r) k.run) (n.thread, n.result) [] u ne)
       ∙ append-nil _
 
+  may : Admits (machine_of f) (act_of (shared_ask n.asked) n.result) ((tables f).objects (target (act_of (shared_ask n.asked) n.result)))
+  may = subst (λ q. Admits (machine_of f) (act_of (shared_ask q) n.result) ((tables f).objects (target (act_of (shared_ask q) n.result))))
+      (sym move.asked) move.follows.0
+
   emits_there : emits f n.asked n.result ≡ label (guest_machine guest r) (end (guest_machine guest r) (guest_start guest r) k.run)
       (n.thread, n.result)
   emits_there = ap (λ q. emits f q n.result) move.asked ∙ ap (λ c. label (thread_machine c) (tables f) (n.thread, n.result)) k.code
@@ -184,7 +189,7 @@ module _ (guest : Guest) (r : Recorded) (f : Flat) (ps qs : List Growing) (n : M
   more_placed t l = elim (cases_eq t n.thread) [
     | inl e ↦ subst (λ u. (growing_at qs u).entries ≡ places_of
         (trail (guest_machine guest r) (guest_start guest r) (k.run ++ (n.thread, n.result) ∷ []) u)) (sym e)
-        (ap (λ z. z.entries) kept_own ∙ placed_entries f n.thread n.result (growing_at ps n.thread) n.asked
+        (ap (λ z. z.entries) kept_own ∙ placed_entries f n.thread n.result (growing_at ps n.thread) n.asked may
         ∙ ap (λ z. z ++ place_if (emits f n.asked n.result) (thread_of f n.thread).steps [])
         (k.placed n.thread (subst (λ u. u < length guest.entries) e l))
         ∙ ap (λ z. places_of (trail (guest_machine guest r) (guest_start guest r) k.run n.thread) ++ z)
@@ -444,25 +449,25 @@ went_placed r f g ps t n kept w =
 abbrev pub room_for : RecordedThread → Growing
 room_for t = record { entries = []; leaves = []; room = length t.events }
 
-none_held : (guest : Guest) (budget from n t : ℕ) → held_count (get_or (start_threads guest budget from n) t idle).held ≡ 0
-none_held guest budget from zero t = refl
-none_held guest budget from (suc n) zero = sum_by-replicate one_if_held (object_count guest) None
+none_held : (guest : Guest) (budget : ℕ) (profile : Profile) (from n t : ℕ) → held_count (get_or (start_threads guest budget profile from n) t idle).held ≡ 0
+none_held guest budget profile from zero t = refl
+none_held guest budget profile from (suc n) zero = sum_by-replicate one_if_held (object_count guest) None
     ∙ (let e : object_count guest * 0 ≡ 0 = omega arith in e)
-none_held guest budget from (suc n) (suc t) = none_held guest budget (suc from) n t
+none_held guest budget profile from (suc n) (suc t) = none_held guest budget profile (suc from) n t
 
 room_at : (rs : List RecordedThread) (t : ℕ) → growing_at (map room_for rs) t ≡ room_for (get_or rs t absent)
 room_at [] t = refl
 room_at (x ∷ rs) zero = refl
 room_at (x ∷ rs) (suc t) = room_at rs t
 
-pub start_placed : (guest : Guest) (r : Recorded) (f : Flat) (ps : List Growing) → f ≡ start_flat guest r.budget
+pub start_placed : (guest : Guest) (r : Recorded) (f : Flat) (ps : List Growing) → f ≡ start_flat guest r.budget r.profile
     → ps ≡ map room_for r.threads → length r.threads ≡ length f.threads → IsPlaced r f ps
 start_placed guest r f ps start rooms count =
     let at : (t : ℕ) → growing_at ps t ≡ room_for (recorded_thread r t) = λ t. ap (λ z. growing_at z t) rooms ∙ room_at r.threads t in
     let no_events : (t : ℕ) → (thread_of f t).events ≡ 0 = λ t. ap (λ z. (thread_of z t).events) start
-    ∙ (fresh guest r.budget 0 (length guest.entries) t).events in
+    ∙ (fresh guest r.budget r.profile 0 (length guest.entries) t).events in
     let no_held : (t : ℕ) → held_count (thread_of f t).held ≡ 0 = λ t. ap (λ z. held_count (thread_of z t).held) start
-    ∙ none_held guest r.budget 0 (length guest.entries) t in
+    ∙ none_held guest r.budget r.profile 0 (length guest.entries) t in
     record {
       each = ap (λ z. length z) rooms ∙ length-map r.threads room_for ∙ count;
       rooms = λ t l. ap (λ z. z.room) (at t);
@@ -639,7 +644,7 @@ stands_some guest r f ps k t stopped =
     ]
 
 -- the guest at the end
-pub followed_there : (guest : Guest) (r : Recorded) (f g : Flat) (ps qs : List Growing) → f ≡ start_flat guest r.budget
+pub followed_there : (guest : Guest) (r : Recorded) (f g : Flat) (ps qs : List Growing) → f ≡ start_flat guest r.budget r.profile
     → ((t : ℕ) → ((growing_at ps t).entries ≡ []) × ((growing_at ps t).leaves ≡ [])) → GoesOn r f ps g qs
     → ((t : ℕ) → t < length g.threads → IsStopped r g t) → IsFollowed guest r g qs
 followed_there guest r f g ps qs start none goes stopped =

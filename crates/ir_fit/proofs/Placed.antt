@@ -1,5 +1,5 @@
 -- Positions of events and leaves along the steps of a thread.
-use Rattle.std.proofs.Common.{◌≡◌, ℕ, suc, ◌+◌, ◌<◌, ◌≤◌, Bool, true, false, List, [], ◌∷◌, ◌++◌, length, length-append, set, Option, Some, None, refl, sym, ap, ◌∙◌, arith, append-nil}
+use Rattle.std.proofs.Common.{◌≡◌, ℕ, zero, suc, ◌+◌, ◌<◌, ◌≤◌, Bool, true, false, List, [], ◌∷◌, ◌++◌, length, length-append, set, Option, Some, None, refl, sym, ap, ◌∙◌, arith, append-nil}
 use Rattle.std.proofs.lemmas.List.Sums.{sum_by-set}
 use Rattle.ir_thread.specs.Calls.{after_ask, Permits}
 use Rattle.ir_thread.specs.Held.{held_at, held_count, one_if_held}
@@ -7,10 +7,14 @@ use Rattle.ir_thread.specs.State as thread
 use Rattle.ir_runs.specs.declared.access.Access.{Access}
 use Rattle.ir_runs.specs.declared.access.Access.TheVariants.{Reading, Writing}
 use Rattle.ir_thread.specs.declared.ask.Ask.{Ask}
-use Rattle.ir_thread.specs.declared.ask.Ask.TheVariants.{Private, Env, Enter, Leave as Leaves, Get, Put, Print, End, Done}
+use Rattle.ir_thread.specs.declared.ask.Ask.TheVariants.{Private, Env, Enter, Try, Leave as Leaves, Get, Put, Print, End, Done}
 use Rattle.ir_thread.specs.declared.ask.Reply.{Reply}
-use Rattle.ir_thread.proofs.CallerLemmas.{one_fewer}
-use Rattle.ir_flat.specs.Flat.{Flat, thread_of}
+use Rattle.ir_thread.specs.declared.ask.Reply.TheVariants.{Go, Value}
+use Rattle.ir_thread.specs.Instance.{shared_ask}
+use Rattle.ir_runs.specs.Machine.{act_of}
+use Rattle.ir_runs.specs.Object.{target, Admits}
+use Rattle.ir_thread.proofs.CallerLemmas.{one_fewer, not_entered}
+use Rattle.ir_flat.specs.Flat.{Flat, thread_of, tables, machine}
 use Rattle.ir_fit.proofs.Seen.{emits}
 use Rattle.ir_runs.specs.Labels.{Label, Quiet, Answer, In, Refused, Out}
 use Rattle.ir_runs.specs.Run.{join_if}
@@ -68,17 +72,21 @@ quiet_join false x xs h rest = rest
 -- ---- what a step adds
 
 pub placed_entries : (f : Flat) (t v : ℕ) (p : Growing) (q : Ask)
+    → Admits (machine f) (act_of (shared_ask q) v) ((tables f).objects (target (act_of (shared_ask q) v)))
     → (placed_by f t p q).entries ≡ p.entries ++ place_if (emits f q v) (thread_of f t).steps []
-placed_entries f t v p Private = sym (append-nil p.entries)
-placed_entries f t v p (Env kind) = refl
-placed_entries f t v p (Enter o Reading) = refl
-placed_entries f t v p (Enter o Writing) = refl
-placed_entries f t v p (Leaves o a) = sym (append-nil p.entries)
-placed_entries f t v p (Get o i) = sym (append-nil p.entries)
-placed_entries f t v p (Put o i w) = sym (append-nil p.entries)
-placed_entries f t v p Print = sym (append-nil p.entries)
-placed_entries f t v p (End e) = sym (append-nil p.entries)
-placed_entries f t v p Done = sym (append-nil p.entries)
+placed_entries f t v p Private can = sym (append-nil p.entries)
+placed_entries f t v p (Env kind) can = refl
+placed_entries f t v p (Enter o Reading) can = refl
+placed_entries f t v p (Enter o Writing) can = refl
+placed_entries f t zero p (Try o) can = refl
+placed_entries f t (suc zero) p (Try o) can = refl
+placed_entries f t (suc (suc v)) p (Try o) can = absurd can
+placed_entries f t v p (Leaves o a) can = sym (append-nil p.entries)
+placed_entries f t v p (Get o i) can = sym (append-nil p.entries)
+placed_entries f t v p (Put o i w) can = sym (append-nil p.entries)
+placed_entries f t v p Print can = sym (append-nil p.entries)
+placed_entries f t v p (End e) can = sym (append-nil p.entries)
+placed_entries f t v p Done can = sym (append-nil p.entries)
 
 pub placed_leaves : (f : Flat) (t v : ℕ) (p : Growing) (q : Ask)
     → (placed_by f t p q).leaves ≡ p.leaves ++ leave_if (emits f q v) (thread_of f t).steps []
@@ -86,6 +94,9 @@ placed_leaves f t v p Private = sym (append-nil p.leaves)
 placed_leaves f t v p (Env kind) = sym (append-nil p.leaves)
 placed_leaves f t v p (Enter o Reading) = sym (append-nil p.leaves)
 placed_leaves f t v p (Enter o Writing) = sym (append-nil p.leaves)
+placed_leaves f t zero p (Try o) = sym (append-nil p.leaves)
+placed_leaves f t (suc zero) p (Try o) = sym (append-nil p.leaves)
+placed_leaves f t (suc (suc v)) p (Try o) = sym (append-nil p.leaves)
 placed_leaves f t v p (Leaves o a) = refl
 placed_leaves f t v p (Get o i) = sym (append-nil p.leaves)
 placed_leaves f t v p (Put o i w) = sym (append-nil p.leaves)
@@ -97,6 +108,7 @@ pub placed_room : (f : Flat) (t : ℕ) (p : Growing) (q : Ask) → (placed_by f 
 placed_room f t p Private = refl
 placed_room f t p (Env kind) = refl
 placed_room f t p (Enter o a) = refl
+placed_room f t p (Try o) = refl
 placed_room f t p (Leaves o a) = refl
 placed_room f t p (Get o i) = refl
 placed_room f t p (Put o i w) = refl
@@ -114,6 +126,7 @@ pub placed_count : (code : List ℕ) (f : Flat) (t : ℕ) (p : Growing) (x : thr
 placed_count code f t p x Private r h = h
 placed_count code f t p x (Env kind) r h = let n = one_longer p.entries (thread_of f t).steps in omega (arith, n, h)
 placed_count code f t p x (Enter o a) r h = let n = one_longer p.entries (thread_of f t).steps in omega (arith, n, h)
+placed_count code f t p x (Try o) r h = let n = one_longer p.entries (thread_of f t).steps in omega (arith, n, h)
 placed_count code f t p x (Leaves o a) r h = h
 placed_count code f t p x (Get o i) r h = h
 placed_count code f t p x (Put o i w) r h = h
@@ -133,6 +146,10 @@ pub placed_fewer : (code : List ℕ) (f : Flat) (t : ℕ) (p : Growing) (x : thr
 placed_fewer code f t p x Private r k h = h
 placed_fewer code f t p x (Env kind) r k h = omega (arith, h)
 placed_fewer code f t p x (Enter o a) r k h = let more = held_more x.held o a k.2 in omega (arith, h, more)
+placed_fewer code f t p x (Try o) Go k h = omega (arith, h)
+placed_fewer code f t p x (Try o) (Value zero) k h = omega (arith, h)
+placed_fewer code f t p x (Try o) (Value (suc zero)) k h = let more = held_more x.held o Writing k.2 in omega (arith, h, more)
+placed_fewer code f t p x (Try o) (Value (suc (suc v))) k h = let same = ap held_count (not_entered x.held o v) in omega (arith, h, same)
 placed_fewer code f t p x (Leaves o a) r k h =
     let less = one_fewer x.held o k.1 (is_some (held_at x.held o) a k.2) in
     let n : length (placed_by f t p (Leaves o a)).leaves ≡ length p.leaves + 1 = one_longer p.leaves _ in

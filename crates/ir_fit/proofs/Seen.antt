@@ -15,7 +15,7 @@ use Rattle.ir_thread.specs.State as thread
 use Rattle.ir_runs.specs.declared.access.Access.{Access}
 use Rattle.ir_runs.specs.declared.access.Access.TheVariants.{Reading, Writing}
 use Rattle.ir_thread.specs.declared.ask.Ask.{Ask}
-use Rattle.ir_thread.specs.declared.ask.Ask.TheVariants.{Private, Env, Enter, Leave, Get, Put, Print, End, Done}
+use Rattle.ir_thread.specs.declared.ask.Ask.TheVariants.{Private, Env, Enter, Try, Leave, Get, Put, Print, End, Done}
 use Rattle.ir_runs.specs.declared.env_kind.EnvKind.{EnvKind}
 use Rattle.ir_runs.specs.declared.env_kind.EnvKind.TheVariants.{Clock, Random, Input}
 use Rattle.ir_thread.specs.declared.ask.Reply.{Reply}
@@ -26,9 +26,10 @@ use Rattle.ir_runs.specs.Object.{target, Admits, emitted}
 use Rattle.ir_flat.specs.Flat.{Flat, thread_of, cell_of, tables, machine, IsFlat}
 use Rattle.ir_flat.proofs.CallerLemmas.{may_admits, added}
 use Rattle.std.proofs.lemmas.Option.{slice_get_within}
-use Rattle.ir_log.specs.Logging.{label_of, Suits}
+use Rattle.ir_log.specs.Logging.{label_of, ask_of as event_ask, Suits}
+use Rattle.ir_log.proofs.CallerLemmas.{call_suits as call_asked, entry_suits as entry_asked, try_suits as try_asked}
 use Rattle.ir_log.specs.declared.event.Event.{Event}
-use Rattle.ir_log.specs.declared.event.Event.TheVariants.{Answer, Read, Write}
+use Rattle.ir_log.specs.declared.event.Event.TheVariants.{Answer, Read, Write, Try as Refused}
 use Rattle.ir_trace.specs.Recorded.{Recorded, IsResult, IsEvent, IsRecordedThread}
 use Rattle.ir_trace.specs.TraceOf.{recorded_thread, trace_of}
 use Rattle.ir_fit.specs.Ahead.{steps_ahead, log_ahead, CanFollow, IsStopped, AgreesAhead, IsOpen, IsOwn, EndsSo, IsSeen}
@@ -54,6 +55,7 @@ ends_by : (code : List ℕ) (s : thread.State) (reply : Reply) (q : Ask) → Per
 ends_by code s reply Private p = same_ends (over s.ended)
 ends_by code s reply (Env kind) p = same_ends (over s.ended)
 ends_by code s reply (Enter object access) p = same_ends (over s.ended)
+ends_by code s reply (Try object) p = same_ends (over s.ended)
 ends_by code s reply (Leave object access) p = same_ends (over s.ended)
 ends_by code s reply (Get object index) p = same_ends (over s.ended)
 ends_by code s reply (Put object index value) p = same_ends (over s.ended)
@@ -142,26 +144,43 @@ event_fits P (x ∷ xs) (suc i) e all h = event_fits P xs i e all.1 h
 
 -- a log whose next event suits what is asked
 call_suits : (x : Event) (es : List Label) (kind : EnvKind) → verdicts.Suits (machine.Env kind) (label_of x ∷ es) → Suits (Env kind) x
-call_suits (Answer j v) es kind h = ap Env h
+call_suits (Answer j v) es kind h = inl (ap Env h)
 call_suits (Read o v) es kind h = absurd h
 call_suits (Write o v l) es kind h = absurd h
+call_suits (Refused o) es kind h = absurd h
 
 entry_suits : (x : Event) (es : List Label) (o : ℕ) (a : Access) → verdicts.Suits (machine.Enter o a) (label_of x ∷ es)
     → Suits (Enter o a) x
 entry_suits (Answer j v) es o a h = absurd h
-entry_suits (Read p v) es o a h = λ i. Enter (h.0 i) (h.1 i)
-entry_suits (Write p v l) es o a h = λ i. Enter (h.0 i) (h.1 i)
+entry_suits (Read p v) es o a h = inl (λ i. Enter (h.0 i) (h.1 i))
+entry_suits (Write p v l) es o a h = inl (λ i. Enter (h.0 i) (h.1 i))
+entry_suits (Refused p) es o a h = absurd h
 
-pub suits_call : (x : Event) (es : List Label) (kind : EnvKind) → Suits (Env kind) x → verdicts.Suits (machine.Env kind) (label_of x ∷ es)
-suits_call (Answer j v) es kind h = cc h
-suits_call (Read o v) es kind h = absurd (cc h)
-suits_call (Write o v l) es kind h = absurd (cc h)
+try_suits : (x : Event) (es : List Label) (o : ℕ) → verdicts.Suits (machine.Try o) (label_of x ∷ es) → Suits (Try o) x
+try_suits (Answer j v) es o h = absurd h
+try_suits (Read p v) es o h = absurd (let is : ◌≡◌ {A = Access} Reading Writing = h.1 in cc is)
+try_suits (Write p v l) es o h = inr (λ i. Some (Try (h.0 i)))
+try_suits (Refused p) es o h = inl (ap Try h)
+
+entry_by : (x : Event) (es : List Label) (o : ℕ) (a : Access) → event_ask x ≡ Enter o a → verdicts.Suits (machine.Enter o a) (label_of x ∷ es)
+entry_by (Answer j v) es o a h = absurd (cc h)
+entry_by (Read p v) es o a h = ((let e : ◌≡◌ {A = ℕ} p o = cc h in e), (let e : ◌≡◌ {A = Access} Reading a = cc h in e))
+entry_by (Write p v l) es o a h = ((let e : ◌≡◌ {A = ℕ} p o = cc h in e), (let e : ◌≡◌ {A = Access} Writing a = cc h in e))
+entry_by (Refused p) es o a h = absurd (cc h)
 
 pub suits_entry : (x : Event) (es : List Label) (o : ℕ) (a : Access) → Suits (Enter o a) x
     → verdicts.Suits (machine.Enter o a) (label_of x ∷ es)
-suits_entry (Answer j v) es o a h = absurd (cc h)
-suits_entry (Read p v) es o a h = ((let e : ◌≡◌ {A = ℕ} p o = cc h in e), (let e : ◌≡◌ {A = Access} Reading a = cc h in e))
-suits_entry (Write p v l) es o a h = ((let e : ◌≡◌ {A = ℕ} p o = cc h in e), (let e : ◌≡◌ {A = Access} Writing a = cc h in e))
+suits_entry x es o a h = entry_by x es o a (entry_asked o a x h)
+
+pub suits_try : (x : Event) (es : List Label) (o : ℕ) → Suits (Try o) x → verdicts.Suits (machine.Try o) (label_of x ∷ es)
+suits_try (Answer j v) es o (inl h) = absurd (cc h)
+suits_try (Answer j v) es o (inr h) = absurd (cc h)
+suits_try (Read p v) es o (inl h) = absurd (cc h)
+suits_try (Read p v) es o (inr h) = absurd (cc h)
+suits_try (Write p v l) es o (inl h) = absurd (cc h)
+suits_try (Write p v l) es o (inr h) = ((let e : ◌≡◌ {A = ℕ} p o = cc h in e), refl)
+suits_try (Refused p) es o (inl h) = let e : ◌≡◌ {A = ℕ} p o = cc h in e
+suits_try (Refused p) es o (inr h) = absurd (cc h)
 
 pub call_there : (xs : List Event) (i : ℕ) (kind : EnvKind) → verdicts.Suits (machine.Env kind) (drop i (map label_of xs)) → (e : Event)
     × (slice_get xs i ≡ Some e) × Suits (Env kind) e
@@ -177,6 +196,13 @@ entry_there [] (suc i) o a h = absurd h
 entry_there (x ∷ xs) zero o a h = (x, refl, entry_suits x (map label_of xs) o a h)
 entry_there (x ∷ xs) (suc i) o a h = entry_there xs i o a h
 
+pub try_there : (xs : List Event) (i o : ℕ) → verdicts.Suits (machine.Try o) (drop i (map label_of xs)) → (e : Event)
+    × (slice_get xs i ≡ Some e) × Suits (Try o) e
+try_there [] zero o h = absurd h
+try_there [] (suc i) o h = absurd h
+try_there (x ∷ xs) zero o h = (x, refl, try_suits x (map label_of xs) o h)
+try_there (x ∷ xs) (suc i) o h = try_there xs i o h
+
 -- ---- calls of the environment
 
 pub fits_result : (kind : EnvKind) (value : ℕ) → IsResult kind value → is_result kind value ≡ true
@@ -190,17 +216,18 @@ fits_result Input value (inr h) = either (nat_lt value (2 ^ 8)) (value == 0xFFFF
     either true b h = refl
     either false b h = h
 
-pub call_follows : (r : Recorded) (f : Flat) (t v : ℕ) (kind j : EnvKind) → IsRecordedThread r.objects (recorded_thread r t)
+pub call_follows : (r : Recorded) (f : Flat) (t v : ℕ) (kind j : EnvKind) → IsRecordedThread r.profile r.objects (recorded_thread r t)
     → ask_of f.code (thread_of f t) ≡ Env kind → 0 < steps_ahead r f t
     → slice_get (recorded_thread r t).events (thread_of f t).events ≡ Some (Answer j v) → Suits (Env kind) (Answer j v) → CanFollow r f t v
 call_follows r f t v kind j fits is steps next suits =
-    let same : j ≡ kind = cc suits in
+    let asked = call_asked kind (Answer j v) suits in
+    let same : j ≡ kind = cc asked in
     let here : Answer j v ≡ Answer kind v = ap (λ z. Answer z v) same in
     let es : log_ahead r f t ≡ labels.Answer kind v ∷ drop (suc (thread_of f t).events) (map label_of (recorded_thread r t).events) =
     ahead_at (recorded_thread r t).events (thread_of f t).events (Answer kind v)
     (subst (λ z. slice_get (recorded_thread r t).events (thread_of f t).events ≡ Some z) here next) in
     let result : IsResult kind v = subst (λ z. IsResult z v) same
-    (event_fits (IsEvent r.objects) (recorded_thread r t).events (thread_of f t).events (Answer j v) fits.events_fit next) in
+    (event_fits (IsEvent r.profile r.objects) (recorded_thread r t).events (thread_of f t).events (Answer j v) fits.events_fit next) in
     follows_by r f t v (Env kind) is (record {
       can = fits_result kind v result;
       steps = steps;
@@ -214,17 +241,20 @@ open_entry : (f : Flat) (t v o : ℕ) (a : Access) (e : Event) (es rest : List L
     → IsOpen (cell_of f o) e → (Admitted a (cell_of f o).fields)
     × (logged (emits f (Enter o a) v) (unlogged (emits f (Enter o a) v) es) ≡ es)
 open_entry f t v o a (Answer k w) es rest is suits h = absurd h
+open_entry f t v o a (Refused p) es rest is suits h = absurd h
 open_entry f t v o a (Read p w) es rest is suits h =
-    let object : ◌≡◌ {A = ℕ} o p = sym (let e : ◌≡◌ {A = ℕ} p o = cc suits in e) in
-    let access : ◌≡◌ {A = Access} Reading a = cc suits in
+    let asked = entry_asked o a (Read p w) suits in
+    let object : ◌≡◌ {A = ℕ} o p = sym (let e : ◌≡◌ {A = ℕ} p o = cc asked in e) in
+    let access : ◌≡◌ {A = Access} Reading a = cc asked in
     subst (λ z. (Admitted z (cell_of f o).fields) × (logged (emits f (Enter o z) v) (unlogged (emits f (Enter o z) v) es) ≡ es)) access (
       h.1,
       ap (λ z. labels.In o Reading (cell_of f o).fields.version 0 ∷ unlogged (labels.In o Reading (cell_of f o).fields.version 0) z) is
           ∙ (λ i. labels.In (object i) Reading (h.0 i) 0 ∷ rest) ∙ sym is,
     )
 open_entry f t v o a (Write p w l) es rest is suits h =
-    let object : ◌≡◌ {A = ℕ} o p = sym (let e : ◌≡◌ {A = ℕ} p o = cc suits in e) in
-    let access : ◌≡◌ {A = Access} Writing a = cc suits in
+    let asked = entry_asked o a (Write p w l) suits in
+    let object : ◌≡◌ {A = ℕ} o p = sym (let e : ◌≡◌ {A = ℕ} p o = cc asked in e) in
+    let access : ◌≡◌ {A = Access} Writing a = cc asked in
     subst (λ z. (Admitted z (cell_of f o).fields) × (logged (emits f (Enter o z) v) (unlogged (emits f (Enter o z) v) es) ≡ es)) access (
       h.2,
       ap (λ z. labels.In o Writing (cell_of f o).fields.version (cell_of f o).fields.left
@@ -234,16 +264,19 @@ open_entry f t v o a (Write p w l) es rest is suits h =
 
 entry_open : (f : Flat) (t v o : ℕ) (a : Access) (e : Event) (es rest : List Label) → es ≡ label_of e ∷ rest → Suits (Enter o a) e
     → Admitted a (cell_of f o).fields → logged (emits f (Enter o a) v) (unlogged (emits f (Enter o a) v) es) ≡ es → IsOpen (cell_of f o) e
-entry_open f t v o a (Answer k w) es rest is suits can h = absurd (cc suits)
+entry_open f t v o a (Answer k w) es rest is suits can h = let asked = entry_asked o a (Answer k w) suits in absurd (cc asked)
+entry_open f t v o a (Refused p) es rest is suits can h = let asked = entry_asked o a (Refused p) suits in absurd (cc asked)
 entry_open f t v o a (Read p w) es rest is suits can h =
-    let access : ◌≡◌ {A = Access} a Reading = sym (let e : ◌≡◌ {A = Access} Reading a = cc suits in e) in
+    let asked = entry_asked o a (Read p w) suits in
+    let access : ◌≡◌ {A = Access} a Reading = sym (let e : ◌≡◌ {A = Access} Reading a = cc asked in e) in
     let emits_read : labels.In o Reading (cell_of f o).fields.version 0
     ∷ unlogged (labels.In o Reading (cell_of f o).fields.version 0) es ≡ es =
     subst (λ z. logged (emits f (Enter o z) v) (unlogged (emits f (Enter o z) v) es) ≡ es) access h in
     let both = emits_read ∙ is in
     ((let e : ◌≡◌ {A = ℕ} (cell_of f o).fields.version w = cc both in e), subst (λ z. Admitted z (cell_of f o).fields) access can)
 entry_open f t v o a (Write p w l) es rest is suits can h =
-    let access : ◌≡◌ {A = Access} a Writing = sym (let e : ◌≡◌ {A = Access} Writing a = cc suits in e) in
+    let asked = entry_asked o a (Write p w l) suits in
+    let access : ◌≡◌ {A = Access} a Writing = sym (let e : ◌≡◌ {A = Access} Writing a = cc asked in e) in
     let emits_write : labels.In o Writing (cell_of f o).fields.version (cell_of f o).fields.left
     ∷ unlogged (labels.In o Writing (cell_of f o).fields.version (cell_of f o).fields.left) es ≡ es =
     subst (λ z. logged (emits f (Enter o z) v) (unlogged (emits f (Enter o z) v) es) ≡ es) access h in
@@ -299,7 +332,120 @@ entry_agrees r f t o a e is steps next suits = agrees_by r f t (Enter o a) is (r
   ends = tt;
 })
 
+-- ---- tries
+
+-- an entry for writing, for a try
+entry_of_try : (o p w l : ℕ) → Suits (Try o) (Write p w l) → Suits (Enter o Writing) (Write p w l)
+entry_of_try o p w l (inl h) = absurd (cc h)
+entry_of_try o p w l (inr h) = let same : ◌≡◌ {A = ℕ} p o = cc h in inl (λ i. Enter (same i) Writing)
+
+pub refused_follows : (r : Recorded) (f : Flat) (t o p : ℕ) → ask_of f.code (thread_of f t) ≡ Try o → 0 < steps_ahead r f t
+    → slice_get (recorded_thread r t).events (thread_of f t).events ≡ Some (Refused p) → Suits (Try o) (Refused p) → CanFollow r f t 0
+refused_follows r f t o p is steps next suits =
+    let rest = drop (suc (thread_of f t).events) (map label_of (recorded_thread r t).events) in
+    let same : ◌≡◌ {A = ℕ} p o = suits_try (Refused p) rest o suits in
+    let es : log_ahead r f t ≡ labels.Refused o ∷ rest =
+    ahead_at (recorded_thread r t).events (thread_of f t).events (Refused p) next ∙ ap (λ z. labels.Refused z ∷ rest) same in
+    follows_by r f t 0 (Try o) is (record {
+      can = tt;
+      steps = steps;
+      logs = ap (λ z. labels.Refused o ∷ unlogged (labels.Refused o) z) es ∙ sym es;
+      ends = tt;
+    })
+
+pub try_enters : (r : Recorded) (f : Flat) (t o : ℕ) (e : Event) → IsFlat f → t < length f.threads
+    → ask_of f.code (thread_of f t) ≡ Try o → 0 < steps_ahead r f t
+    → slice_get (recorded_thread r t).events (thread_of f t).events ≡ Some e → Suits (Try o) e → IsOpen (cell_of f o) e → CanFollow r f t 1
+try_enters r f t o (Answer j v) flat l is steps next suits opens = absurd opens
+try_enters r f t o (Read p w) flat l is steps next suits opens = absurd (suits_read suits)
+  where
+    suits_read : Suits (Try o) (Read p w) → ⊥
+    suits_read (inl h) = cc h
+    suits_read (inr h) = cc h
+try_enters r f t o (Refused p) flat l is steps next suits opens = absurd opens
+try_enters r f t o (Write p w n) flat l is steps next suits opens =
+    let es = ahead_at (recorded_thread r t).events (thread_of f t).events (Write p w n) next in
+    let both = open_entry f t 0 o Writing (Write p w n) (log_ahead r f t)
+    (drop (suc (thread_of f t).events) (map label_of (recorded_thread r t).events)) es (entry_of_try o p w n suits) opens in
+    follows_by r f t 1 (Try o) is (record {
+      can = (may_admits f t 1 (Try o) flat l (subst (Permits (thread_of f t)) is (ask_permits f.code (thread_of f t)))).0 both.0;
+      steps = steps;
+      logs = both.1;
+      ends = tt;
+    })
+
+-- where a try that the log says got in can't get in now, no other result follows either
+try_follows_no : (r : Recorded) (f : Flat) (t o p w n v : ℕ) → IsFlat f → t < length f.threads → ask_of f.code (thread_of f t) ≡ Try o
+    → slice_get (recorded_thread r t).events (thread_of f t).events ≡ Some (Write p w n) → Suits (Try o) (Write p w n)
+    → (IsOpen (cell_of f o) (Write p w n) → ⊥) → FollowsAs r f t v (steps_ahead r f t) (log_ahead r f t) (Try o) → ⊥
+try_follows_no r f t o p w n zero flat l is next suits shut k =
+    let both = k.logs ∙ ahead_at (recorded_thread r t).events (thread_of f t).events (Write p w n) next in cc both
+try_follows_no r f t o p w n (suc zero) flat l is next suits shut k =
+    shut (entry_open f t 0 o Writing (Write p w n) (log_ahead r f t)
+    (drop (suc (thread_of f t).events) (map label_of (recorded_thread r t).events))
+    (ahead_at (recorded_thread r t).events (thread_of f t).events (Write p w n) next) (entry_of_try o p w n suits)
+    ((may_admits f t 1 (Try o) flat l (subst (Permits (thread_of f t)) is (ask_permits f.code (thread_of f t)))).1 k.can) k.logs)
+try_follows_no r f t o p w n (suc (suc v)) flat l is next suits shut k = k.can
+
+-- a try that the log says got in
+abbrev pub GotIn : Event → Type 0
+GotIn (Answer kind value) = ⊥
+GotIn (Read object version) = ⊥
+GotIn (Write object version readers) = Unit {0}
+GotIn (Refused object) = ⊥
+
+-- what suits a try and isn't refused got in
+pub got_in : (o : ℕ) (e : Event) → Suits (Try o) e → ((p : ℕ) → e ≢ Refused p) → GotIn e
+got_in o (Answer j v) suits other = absurd (suits_try (Answer j v) [] o suits)
+got_in o (Read p w) suits other = absurd (let is : ◌≡◌ {A = Access} Reading Writing = (suits_try (Read p w) [] o suits).1 in cc is)
+got_in o (Write p w n) suits other = tt
+got_in o (Refused p) suits other = absurd (other p refl)
+
+pub try_waits : (r : Recorded) (f : Flat) (t o : ℕ) (e : Event) → IsFlat f → t < length f.threads
+    → ask_of f.code (thread_of f t) ≡ Try o
+    → slice_get (recorded_thread r t).events (thread_of f t).events ≡ Some e → Suits (Try o) e → GotIn e → (IsOpen (cell_of f o) e → ⊥)
+    → IsStopped r f t
+try_waits r f t o (Answer j v) flat l is next suits in_ shut u h = in_
+try_waits r f t o (Read p w) flat l is next suits in_ shut u h = in_
+try_waits r f t o (Refused p) flat l is next suits in_ shut u h = in_
+try_waits r f t o (Write p w n) flat l is next suits in_ shut u h = try_follows_no r f t o p w n u flat l is next suits shut
+    (follows_as r f t u (Try o) is h)
+
+pub try_awaits : (r : Recorded) (f : Flat) (t o : ℕ) (e : Event) → ask_of f.code (thread_of f t) ≡ Try o
+    → slice_get (recorded_thread r t).events (thread_of f t).events ≡ Some e → GotIn e
+    → verdicts.Awaits (shared_ask (ask_of f.code (thread_of f t))) (log_ahead r f t)
+try_awaits r f t o (Answer j v) is next in_ = absurd in_
+try_awaits r f t o (Read p w) is next in_ = absurd in_
+try_awaits r f t o (Refused p) is next in_ = absurd in_
+try_awaits r f t o (Write p w n) is next in_ =
+    subst (λ q. verdicts.Awaits (shared_ask q) (log_ahead r f t)) (sym is)
+    (subst (verdicts.Awaits (machine.Try o)) (sym (ahead_at (recorded_thread r t).events (thread_of f t).events (Write p w n) next)) tt)
+
+pub entry_awaits : (r : Recorded) (f : Flat) (t o : ℕ) (a : Access) → ask_of f.code (thread_of f t) ≡ Enter o a
+    → verdicts.Awaits (shared_ask (ask_of f.code (thread_of f t))) (log_ahead r f t)
+entry_awaits r f t o a is = subst (λ q. verdicts.Awaits (shared_ask q) (log_ahead r f t)) (sym is) tt
+
+pub try_agrees : (r : Recorded) (f : Flat) (t o : ℕ) (e : Event) → ask_of f.code (thread_of f t) ≡ Try o → 0 < steps_ahead r f t
+    → slice_get (recorded_thread r t).events (thread_of f t).events ≡ Some e → Suits (Try o) e → AgreesAhead r f t
+try_agrees r f t o e is steps next suits = agrees_by r f t (Try o) is (record {
+  steps = steps;
+  suits = subst (verdicts.Suits (machine.Try o)) (sym (ahead_at (recorded_thread r t).events (thread_of f t).events e next))
+      (suits_try e _ o suits);
+  ends = tt;
+})
+
+-- who awaits an entry isn't done
+pub awaits_some : (q : Ask) (es : List Label) → verdicts.Awaits (shared_ask q) es → q ≢ Done
+awaits_some q es awaits done = no_wait es (subst (λ z. verdicts.Awaits (shared_ask z) es) done awaits)
+  where
+    no_wait : (es : List Label) → verdicts.Awaits machine.Done es → ⊥
+    no_wait [] h = h
+    no_wait (e ∷ es) h = h
+
 -- ---- disagreements
+
+pub asks_try : (q : Ask) (o : ℕ) → q ≡ Try o → q ≢ Done
+asks_try q o is done = cc (is, done)
 
 pub asks_env : (q : Ask) (kind : EnvKind) → q ≡ Env kind → q ≢ Done
 asks_env q kind is done = cc (is, done)
@@ -324,6 +470,13 @@ pub entry_disagrees : (r : Recorded) (f : Flat) (t o : ℕ) (a : Access) → ask
 entry_disagrees r f t o a is none h =
     let k : AgreesAs r f t (steps_ahead r f t) (log_ahead r f t) (Enter o a) = agrees_as r f t (Enter o a) is h in
     let e = entry_there (recorded_thread r t).events (thread_of f t).events o a k.suits in
+    none e.0 e.1 e.2
+
+pub try_disagrees : (r : Recorded) (f : Flat) (t o : ℕ) → ask_of f.code (thread_of f t) ≡ Try o
+    → ((e : Event) → slice_get (recorded_thread r t).events (thread_of f t).events ≡ Some e → Suits (Try o) e → ⊥) → AgreesAhead r f t → ⊥
+try_disagrees r f t o is none h =
+    let k : AgreesAs r f t (steps_ahead r f t) (log_ahead r f t) (Try o) = agrees_as r f t (Try o) is h in
+    let e = try_there (recorded_thread r t).events (thread_of f t).events o k.suits in
     none e.0 e.1 e.2
 
 pub spent_disagrees : (r : Recorded) (f : Flat) (t : ℕ) → steps_ahead r f t ≡ 0 → AgreesAhead r f t → ⊥
@@ -372,6 +525,7 @@ own_by : (r : Recorded) (f : Flat) (t n : ℕ) (es : List Label) (q : Ask) → I
 own_by r f t n es Private k steps = record { can = tt; steps = steps; logs = refl; ends = tt }
 own_by r f t n es (Env kind) k steps = absurd k
 own_by r f t n es (Enter o a) k steps = absurd k
+own_by r f t n es (Try o) k steps = absurd k
 own_by r f t n es (Leave o a) k steps = record { can = tt; steps = steps; logs = refl; ends = tt }
 own_by r f t n es (Get o i) k steps = record { can = tt; steps = steps; logs = refl; ends = tt }
 own_by r f t n es (Put o i w) k steps = record { can = tt; steps = steps; logs = refl; ends = tt }
@@ -393,22 +547,26 @@ seen_other r f t l seen stopped (inr g) =
     let goes = subst (IsSeen r f t) g.1 seen in
     absurd (stopped g.0.result (subst (λ u. CanFollow r f u g.0.result) goes.0 goes.1.follows))
 
-suits_logged : (f : Flat) (v : ℕ) (es : List Label) (q : Ask) → logged (emits f q v) (unlogged (emits f q v) es) ≡ es
-    → verdicts.Suits (shared_ask q) es
-suits_logged f v es Private h = tt
-suits_logged f v es (Env kind) h = subst (verdicts.Suits (machine.Env kind)) h refl
-suits_logged f v es (Enter o Reading) h = subst (verdicts.Suits (machine.Enter o Reading)) h (refl, refl)
-suits_logged f v es (Enter o Writing) h = subst (verdicts.Suits (machine.Enter o Writing)) h (refl, refl)
-suits_logged f v es (Leave o a) h = tt
-suits_logged f v es (Get o i) h = tt
-suits_logged f v es (Put o i w) h = tt
-suits_logged f v es Print h = tt
-suits_logged f v es (End e) h = tt
-suits_logged f v es Done h = tt
+suits_logged : (f : Flat) (v : ℕ) (es : List Label) (q : Ask)
+    → Admits (machine f) (act_of (shared_ask q) v) ((tables f).objects (target (act_of (shared_ask q) v)))
+    → logged (emits f q v) (unlogged (emits f q v) es) ≡ es → verdicts.Suits (shared_ask q) es
+suits_logged f v es Private can h = tt
+suits_logged f v es (Env kind) can h = subst (verdicts.Suits (machine.Env kind)) h refl
+suits_logged f v es (Enter o Reading) can h = subst (verdicts.Suits (machine.Enter o Reading)) h (refl, refl)
+suits_logged f v es (Enter o Writing) can h = subst (verdicts.Suits (machine.Enter o Writing)) h (refl, refl)
+suits_logged f zero es (Try o) can h = subst (verdicts.Suits (machine.Try o)) h refl
+suits_logged f (suc zero) es (Try o) can h = subst (verdicts.Suits (machine.Try o)) h (refl, refl)
+suits_logged f (suc (suc v)) es (Try o) can h = absurd can
+suits_logged f v es (Leave o a) can h = tt
+suits_logged f v es (Get o i) can h = tt
+suits_logged f v es (Put o i w) can h = tt
+suits_logged f v es Print can h = tt
+suits_logged f v es (End e) can h = tt
+suits_logged f v es Done can h = tt
 
 -- what follows agrees
 follows_agrees : (r : Recorded) (f : Flat) (t v : ℕ) → CanFollow r f t v → AgreesAhead r f t
-follows_agrees r f t v h = (h.1, suits_logged f v (log_ahead r f t) (ask_of f.code (thread_of f t)) h.2, h.3)
+follows_agrees r f t v h = (h.1, suits_logged f v (log_ahead r f t) (ask_of f.code (thread_of f t)) h.0 h.2, h.3)
 
 pub done_stops : (r : Recorded) (f : Flat) (t : ℕ) → ask_of f.code (thread_of f t) ≡ Done → IsStopped r f t
 done_stops r f t is v h = (follows_as r f t v Done is h).can
@@ -430,6 +588,9 @@ event_left r f t (Env kind) is h one = let e =
 event_left r f t (Enter o a) is h one = let e =
     entry_there (recorded_thread r t).events (thread_of f t).events o a (agrees_as r f t (Enter o a) is h).suits in
     slice_get_within (recorded_thread r t).events (thread_of f t).events e.0 e.1
+event_left r f t (Try o) is h one = let e =
+    try_there (recorded_thread r t).events (thread_of f t).events o (agrees_as r f t (Try o) is h).suits in
+    slice_get_within (recorded_thread r t).events (thread_of f t).events e.0 e.1
 event_left r f t Private is h one = absurd (cc one)
 event_left r f t (Leave o a) is h one = absurd (cc one)
 event_left r f t (Get o i) is h one = absurd (cc one)
@@ -443,6 +604,7 @@ within_by : (code : List ℕ) (x : thread.State) (q : Ask) (reply : Reply) (n : 
 within_by code x Private reply n less le = le
 within_by code x (Env kind) reply n less le = let l = less refl in omega (arith, l)
 within_by code x (Enter o a) reply n less le = let l = less refl in omega (arith, l)
+within_by code x (Try o) reply n less le = let l = less refl in omega (arith, l)
 within_by code x (Leave o a) reply n less le = le
 within_by code x (Get o i) reply n less le = le
 within_by code x (Put o i w) reply n less le = le

@@ -3,6 +3,7 @@ use Rattle.std.specs.Prelude.{◌≡◌, ◌≢◌, ℕ, suc, ◌-◌, ◌<◌, 
 use Rattle.ir_thread.specs.Calls.{ask_of}
 use Rattle.ir_thread.specs.Ends.{end_number, end_code}
 use Rattle.ir_thread.specs.Held.{held_count}
+use Rattle.ir_thread.specs.Instance.{shared_ask}
 use Rattle.ir_runs.specs.Machine.{Machine}
 use Rattle.ir_runs.specs.Labels.{Label, logged, Trace}
 use Rattle.ir_runs.specs.declared.access.Access.{Access}
@@ -15,11 +16,11 @@ use Rattle.ir_flat.specs.Flat.{Flat, thread_of, tables, machine}
 use Rattle.ir_runs.specs.Run.{State, Can, label}
 use Rattle.ir_log.specs.Logging.{label_of}
 use Rattle.ir_log.specs.declared.event.Event.{Event}
-use Rattle.ir_log.specs.declared.event.Event.TheVariants.{Answer, Read, Write}
+use Rattle.ir_log.specs.declared.event.Event.TheVariants.{Answer, Read, Write, Try}
 use Rattle.ir_trace.specs.Recorded.{Recorded}
 use Rattle.ir_trace.specs.TraceOf.{recorded_thread, trace_of}
 use Rattle.ir_runs.specs.Following.{unlogged, closing}
-use Rattle.ir_runs.specs.Verdicts.{Agrees}
+use Rattle.ir_runs.specs.Verdicts.{Agrees, Awaits}
 use Rattle.ir_fit.specs.declared.follower.look.Look.{Look}
 use Rattle.ir_fit.specs.declared.follower.look.Look.TheVariants.{Done, Disagrees, Waits, Goes}
 use Rattle.ir_fit.specs.declared.follower.look.Move.{Move}
@@ -54,6 +55,7 @@ AgreesAhead r f t = Agrees (machine f) ((trace_of r).ends t) (thread_of f t) (st
 abbrev pub IsOpen : Cell → Event → Type 0
 IsOpen c (Answer kind value) = ⊥
 IsOpen c (Read object version) = (c.fields.version ≡ version) × Admitted Reading c.fields
+IsOpen c (Try object) = ⊥
 IsOpen c (Write object version readers) = (c.fields.version ≡ version) × (c.fields.left ≡ readers) × Admitted Writing c.fields
 
 -- where thread t is at this end, that is the trace's, no event is left to it, and the steps that are left are this one and a leave of each
@@ -68,6 +70,7 @@ pub record EndsSo (r : Recorded) (f : Flat) (t : ℕ) (e : End) : Type 0 where
 abbrev pub IsOwn : ask.Ask → Type 0
 IsOwn (asks.Env kind) = ⊥
 IsOwn (asks.Enter object access) = ⊥
+IsOwn (asks.Try object) = ⊥
 IsOwn (asks.End e) = ⊥
 IsOwn asks.Done = ⊥
 IsOwn _ = ⊤
@@ -78,15 +81,13 @@ pub record IsMove (r : Recorded) (f : Flat) (m : Move) : Type 0 where
   pub asked : m.asked ≡ ask_of f.code (thread_of f m.thread)
   pub follows : CanFollow r f m.thread m.result
 
--- the next step of thread t is an entry, and the next event that the trace emits of it is this one
+-- the next step of thread t is an entry, or a try that the trace says got in, and the next event that the trace emits of it is this one
 pub record IsEntryAhead (r : Recorded) (f : Flat) (t : ℕ) (e : Event) : Type 0 where
-  pub object : ℕ
-  pub access : Access
-  pub asked : ask_of f.code (thread_of f t) ≡ asks.Enter object access
+  pub awaits : Awaits (shared_ask (ask_of f.code (thread_of f t))) (log_ahead r f t)
   pub next : slice_get (recorded_thread r t).events (thread_of f t).events ≡ Some e
 
--- what is seen of thread t: it is done; its next step isn't the trace's; it is, and it is an entry, logged as this event, that can't be
--- taken now as the log says; or the step follows
+-- what is seen of thread t: it is done; its next step isn't the trace's; it is, and it is an entry or a try that got in, logged as this
+-- event, that can't be taken now as the log says; or the step follows
 abbrev pub IsSeen : Recorded → Flat → ℕ → Look → Type 0
 IsSeen r f t Done = ask_of f.code (thread_of f t) ≡ asks.Done
 IsSeen r f t Disagrees = (ask_of f.code (thread_of f t) ≢ asks.Done) × (AgreesAhead r f t → ⊥)

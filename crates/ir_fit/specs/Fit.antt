@@ -26,12 +26,12 @@ pub record HasHeader (guest : Guest) (r : Recorded) : Type 0 where
 
 -- a complete run of the guest, under the trace's budget, whose trace this is
 abbrev pub IsRunOf : Guest → Recorded → List Step → Type 0
-IsRunOf guest r run = let f = start_flat guest r.budget in HasHeader guest r
+IsRunOf guest r run = let f = start_flat guest r.budget r.profile in HasHeader guest r
     × IsWhole (machine f) (tables f) (length guest.entries) (trace_of r) run
 
 -- a run of the guest that follows the trace as far as any can
 abbrev pub GoesFurthest : Guest → Recorded → List Step → Type 0
-GoesFurthest guest r run = let f = start_flat guest r.budget in
+GoesFurthest guest r run = let f = start_flat guest r.budget r.profile in
     Follows (closing (machine f) (trace_of r)) (machine f) (tables f) (trace_of r) run
     × IsMaximal (closing (machine f) (trace_of r)) (machine f) (tables f) (trace_of r) run
 
@@ -48,7 +48,7 @@ BreaksBy r (Refused v) = NamesBreak r v
 
 -- a verdict for each thread, read off any such run
 abbrev pub AreVerdicts : Guest → Recorded → List ThreadVerdict → Type 0
-AreVerdicts guest r vs = let f = start_flat guest r.budget in (length vs ≡ length guest.entries)
+AreVerdicts guest r vs = let f = start_flat guest r.budget r.profile in (length vs ≡ length guest.entries)
     × ((run : List Step) → GoesFurthest guest r run → (t : ℕ) (v : ThreadVerdict) → slice_get vs t ≡ Some v
     → IsVerdict (machine f) (tables f) (trace_of r) run t v)
 
@@ -65,10 +65,10 @@ pub record HasRun (f : FittedTrace) : Type 0 where
   pub each : length f.placed ≡ length f.guest.entries
   pub entries : (t : ℕ) → t < length f.guest.entries
       → (placed_at f.placed t).entries ≡ places_of
-      (trail (machine (start_flat f.guest f.recorded.budget)) (tables (start_flat f.guest f.recorded.budget)) run t)
+      (trail (machine (start_flat f.guest f.recorded.budget f.recorded.profile)) (tables (start_flat f.guest f.recorded.budget f.recorded.profile)) run t)
   pub leaves : (t : ℕ) → t < length f.guest.entries
       → (placed_at f.placed t).leaves ≡ leaves_of
-      (trail (machine (start_flat f.guest f.recorded.budget)) (tables (start_flat f.guest f.recorded.budget)) run t)
+      (trail (machine (start_flat f.guest f.recorded.budget f.recorded.profile)) (tables (start_flat f.guest f.recorded.budget f.recorded.profile)) run t)
 
 -- there is a run with the trace, and the trace is within its limits
 pub record IsFitted (f : FittedTrace) : Type 0 where

@@ -18,19 +18,19 @@ use Rattle.ir_runs.specs.declared.thread_verdict.ThreadVerdict.{ThreadVerdict}
 -- the guest's threads and objects after a run that follows the trace
 pub record IsFollower (guest : Guest) (r : Recorded) (f : Flat) (ps : List Growing) : Type 0 where
   pub run : List Step
-  pub follows : Follows (closing (machine (start_flat guest r.budget)) (trace_of r)) (machine (start_flat guest r.budget))
-      (tables (start_flat guest r.budget)) (trace_of r) run
-  pub ends : tables f ≡ end (machine (start_flat guest r.budget)) (tables (start_flat guest r.budget)) run
+  pub follows : Follows (closing (machine (start_flat guest r.budget r.profile)) (trace_of r)) (machine (start_flat guest r.budget r.profile))
+      (tables (start_flat guest r.budget r.profile)) (trace_of r) run
+  pub ends : tables f ≡ end (machine (start_flat guest r.budget r.profile)) (tables (start_flat guest r.budget r.profile)) run
   pub code : f.code ≡ guest.code
   pub threads : length f.threads ≡ length guest.entries
   pub objects : length f.objects ≡ object_count guest
-  pub steps : (t : ℕ) → (thread_of f t).steps ≡ count (machine (start_flat guest r.budget)) (tables (start_flat guest r.budget)) run t
+  pub steps : (t : ℕ) → (thread_of f t).steps ≡ count (machine (start_flat guest r.budget r.profile)) (tables (start_flat guest r.budget r.profile)) run t
   pub events : (t : ℕ) → (thread_of f t).events ≡ length
-      (log (machine (start_flat guest r.budget)) (tables (start_flat guest r.budget)) run t)
+      (log (machine (start_flat guest r.budget r.profile)) (tables (start_flat guest r.budget r.profile)) run t)
   pub placed : (t : ℕ) → t < length guest.entries
-      → (growing_at ps t).entries ≡ places_of (trail (machine (start_flat guest r.budget)) (tables (start_flat guest r.budget)) run t)
+      → (growing_at ps t).entries ≡ places_of (trail (machine (start_flat guest r.budget r.profile)) (tables (start_flat guest r.budget r.profile)) run t)
   pub left : (t : ℕ) → t < length guest.entries
-      → (growing_at ps t).leaves ≡ leaves_of (trail (machine (start_flat guest r.budget)) (tables (start_flat guest r.budget)) run t)
+      → (growing_at ps t).leaves ≡ leaves_of (trail (machine (start_flat guest r.budget r.profile)) (tables (start_flat guest r.budget r.profile)) run t)
 
 -- how many steps the trace leaves to all threads
 abbrev pub all_ahead : Recorded → Flat → ℕ
@@ -63,9 +63,9 @@ pub record IsFollowed (guest : Guest) (r : Recorded) (f : Flat) (ps : List Growi
   pub follower : IsFollower guest r f ps
   pub stopped : (t : ℕ) → t < length guest.entries → IsStopped r f t
   pub stands : (t : ℕ) → t < length guest.entries → (v : ThreadVerdict)
-      × StandsAs (machine (start_flat guest r.budget)) (tables (start_flat guest r.budget)) (trace_of r) follower.run t v
+      × StandsAs (machine (start_flat guest r.budget r.profile)) (tables (start_flat guest r.budget r.profile)) (trace_of r) follower.run t v
 
 -- these are the verdicts on the threads, in the order of their numbers
 abbrev pub AreStanding : Recorded → Flat → List Growing → List ThreadVerdict → Type 0
 AreStanding r f ps vs = (guest : Guest) (k : IsFollower guest r f ps) (t : ℕ) (v : ThreadVerdict) → slice_get vs t ≡ Some v
-    → StandsAs (machine (start_flat guest r.budget)) (tables (start_flat guest r.budget)) (trace_of r) k.run t v
+    → StandsAs (machine (start_flat guest r.budget r.profile)) (tables (start_flat guest r.budget r.profile)) (trace_of r) k.run t v

@@ -2,7 +2,7 @@
 use Rattle.std.specs.Prelude.{ℕ, List, [], ◌∷◌, ◌++◌, slice_set}
 use Rattle.std.specs.List.{slice_index_or}
 use Rattle.ir_thread.specs.declared.ask.Ask.{Ask}
-use Rattle.ir_thread.specs.declared.ask.Ask.TheVariants.{Env, Enter, Leave as Leaves}
+use Rattle.ir_thread.specs.declared.ask.Ask.TheVariants.{Env, Enter, Try, Leave as Leaves}
 use Rattle.ir_flat.specs.Flat.{Flat, thread_of, cell_of}
 use Rattle.ir_fit.specs.Places.{Placed}
 use Rattle.ir_fit.specs.declared.leave.Leave.{Leave}
@@ -29,6 +29,7 @@ growing_at ps t = slice_index_or ps t none_growing
 abbrev pub placed_by : Flat → ℕ → Growing → Ask → Growing
 placed_by f t p (Env kind) = record p { entries = p.entries ++ (thread_of f t).steps ∷ [] }
 placed_by f t p (Enter o a) = record p { entries = p.entries ++ (thread_of f t).steps ∷ [] }
+placed_by f t p (Try o) = record p { entries = p.entries ++ (thread_of f t).steps ∷ [] }
 placed_by f t p (Leaves o a) = record p {
   leaves =
       p.leaves ++ record { position = (thread_of f t).steps; object = o; access = a; version = (cell_of f o).fields.version } ∷ [];

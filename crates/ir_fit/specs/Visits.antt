@@ -8,7 +8,7 @@ use Rattle.ir_runs.specs.declared.access.Access.TheVariants.{Reading, Writing}
 use Rattle.ir_flat.specs.Flat.{start_flat, tables, machine}
 use Rattle.ir_runs.specs.Run.{join_if}
 use Rattle.ir_log.specs.declared.event.Event.{Event}
-use Rattle.ir_log.specs.declared.event.Event.TheVariants.{Answer, Read, Write}
+use Rattle.ir_log.specs.declared.event.Event.TheVariants.{Answer, Read, Write, Try}
 use Rattle.ir_trace.specs.Recorded.{Recorded}
 use Rattle.ir_trace.specs.TraceOf.{recorded_thread}
 use Rattle.ir_runs.specs.Cuts.{Emits}
@@ -21,7 +21,7 @@ use Rattle.ir_fit.specs.declared.place.Place.{Place}
 
 -- step k of thread t emits this in the run that is kept
 abbrev pub EmitsIn : (f : FittedTrace) → HasRun f → ℕ → ℕ → Label → Type 0
-EmitsIn f h t k emitted = Emits (machine (start_flat f.guest f.recorded.budget)) (tables (start_flat f.guest f.recorded.budget)) h.run t k emitted
+EmitsIn f h t k emitted = Emits (machine (start_flat f.guest f.recorded.budget f.recorded.profile)) (tables (start_flat f.guest f.recorded.budget f.recorded.profile)) h.run t k emitted
 
 -- each of these is a step by which object o was left after such access at version v
 abbrev pub OnlyLeaves : FittedTrace → ℕ → Access → ℕ → List Place → Type 0
@@ -55,6 +55,7 @@ left_by t ls = map (λ l. (l.object, l.access, record { position = l.position; v
 -- an event of thread t that is logged at position k, and the entries behind it
 abbrev pub enter_if : ℕ → Event → ℕ → List Visit → List Visit
 enter_if t (Answer kind value) k vs = vs
+enter_if t (Try object) k vs = vs
 enter_if t (Read object version) k vs = (object, Reading, record { position = k; version = version; thread = t }) ∷ vs
 enter_if t (Write object version readers) k vs = (object, Writing, record { position = k; version = version; thread = t }) ∷ vs
 

@@ -49,7 +49,7 @@ impl Follower<'_> {
     pub fn emitted(&self, t: usize) -> &ThreadTrace
         requires { t < length self.now.trace.threads }
         ensures emitted { result.now ≡ recorded_thread self.now.trace t }
-        ensures within { IsRecordedThread self.now.trace.objects (recorded_thread self.now.trace t) }
+        ensures within { IsRecordedThread self.now.trace.profile self.now.trace.objects (recorded_thread self.now.trace t) }
     {
         &self.trace.threads()[t]
     }

@@ -19,7 +19,7 @@ use std::alloc::{AllocError, Global};
 fn count_entries(rooms: &mut Rooms, events: &[Event]) {
     for event in events {
         match *event {
-            Event::Answer(..) => (),
+            Event::Answer(..) | Event::Try { .. } => (),
             Event::Read { object, .. } => rooms.add(object, Access::Reading),
             Event::Write { object, .. } => rooms.add(object, Access::Writing),
         }
@@ -31,7 +31,7 @@ fn add_entry(visits: &mut Visits, thread: u8, event: Event, position: u64) -> Re
     ensures { OnOk result (AddsAll visits.old visits.new (enter_if thread event position [])) }
 {
     let (object, access, version) = match event {
-        Event::Answer(..) => return Ok(()),
+        Event::Answer(..) | Event::Try { .. } => return Ok(()),
         Event::Read { object, version } => (object, Access::Reading, version),
         Event::Write {
             object,

@@ -1,5 +1,5 @@
 -- What threads count along a run.
-use Rattle.std.proofs.Common.{◌≡◌, ◌≢◌, ℕ, suc, ◌+◌, List, [], ◌∷◌, length, refl, sym, ap, ◌∙◌, subst, arith, inl, inr, eq-eqb, ne_eqb}
+use Rattle.std.proofs.Common.{◌≡◌, ◌≢◌, ℕ, zero, suc, ◌+◌, List, [], ◌∷◌, length, refl, sym, ap, ◌∙◌, subst, arith, inl, inr, eq-eqb, ne_eqb}
 use Rattle.std.proofs.lemmas.Bool.{cases_eq}
 use Rattle.ir_thread.specs.Calls.{ask_of, after_ask, after_reply}
 use Rattle.ir_thread.specs.Instance.{shared_ask, reply_of, thread_machine}
@@ -9,7 +9,7 @@ use Rattle.ir_runs.specs.Labels.{Label, Quiet, Answer, In, Refused, Out, logged}
 use Rattle.ir_thread.specs.State as thread
 use Rattle.ir_runs.specs.declared.access.Access.TheVariants.{Reading, Writing}
 use Rattle.ir_thread.specs.declared.ask.Ask.{Ask}
-use Rattle.ir_thread.specs.declared.ask.Ask.TheVariants.{Private, Env, Enter, Leave, Get, Put, Print, End, Done}
+use Rattle.ir_thread.specs.declared.ask.Ask.TheVariants.{Private, Env, Enter, Try, Leave, Get, Put, Print, End, Done}
 use Rattle.ir_thread.specs.declared.ask.Reply.{Reply}
 use Rattle.ir_runs.specs.Object.{Object, target, reply, emitted, Admits}
 use Rattle.ir_runs.proofs.CallerLemmas.{upd_same, upd_other}
@@ -35,6 +35,7 @@ pub really_done : (q : Ask) → shared_ask q ≡ machine.Done → q ≡ Done
 really_done Private e = absurd (cc e)
 really_done (Env k) e = absurd (cc e)
 really_done (Enter o a) e = absurd (cc e)
+really_done (Try o) e = absurd (cc e)
 really_done (Leave o a) e = absurd (cc e)
 really_done (Get o i) e = absurd (cc e)
 really_done (Put o i w) e = absurd (cc e)
@@ -42,17 +43,21 @@ really_done Print e = absurd (cc e)
 really_done (End k) e = absurd (cc e)
 really_done Done e = refl
 
-label_added : (q : Ask) (r : ℕ) (b : Object) → length (logged (emitted (act_of (shared_ask q) r) b) []) ≡ added q
-label_added Private r b = refl
-label_added (Env kind) r b = refl
-label_added (Enter o Reading) r b = refl
-label_added (Enter o Writing) r b = refl
-label_added (Leave o a) r b = refl
-label_added (Get o i) r b = refl
-label_added (Put o i w) r b = refl
-label_added Print r b = refl
-label_added (End e) r b = refl
-label_added Done r b = refl
+label_added : (code : List ℕ) (q : Ask) (r : ℕ) (b : Object) → Admits (thread_machine code) (act_of (shared_ask q) r) b
+    → length (logged (emitted (act_of (shared_ask q) r) b) []) ≡ added q
+label_added code Private r b can = refl
+label_added code (Env kind) r b can = refl
+label_added code (Enter o Reading) r b can = refl
+label_added code (Enter o Writing) r b can = refl
+label_added code (Try o) zero b can = refl
+label_added code (Try o) (suc zero) b can = refl
+label_added code (Try o) (suc (suc r)) b can = absurd can
+label_added code (Leave o a) r b can = refl
+label_added code (Get o i) r b can = refl
+label_added code (Put o i w) r b can = refl
+label_added code Print r b can = refl
+label_added code (End e) r b can = refl
+label_added code Done r b can = refl
 
 longer : (k : Label) (xs : List Label) → length (logged k xs) ≡ length (logged k []) + length xs
 longer Quiet xs = omega arith
@@ -65,6 +70,7 @@ steps_added : (code : List ℕ) (x : thread.State) (q : Ask) (r : Reply) → q �
 steps_added code x Private r ne = refl
 steps_added code x (Env kind) r ne = refl
 steps_added code x (Enter o a) r ne = refl
+steps_added code x (Try o) r ne = refl
 steps_added code x (Leave o a) r ne = refl
 steps_added code x (Get o i) r ne = refl
 steps_added code x (Put o i w) r ne = refl
@@ -91,7 +97,7 @@ tally_own code s e run can k =
     ∙ steps_added code (s.now e.0) (ask_of code (s.now e.0)) _ (never_done code s e can) in
     let size : length (log m s (e ∷ run) e.0) ≡ added (ask_of code (s.now e.0)) + length (log m (after m s e) run e.0) =
     ap (λ z. length (events z)) trail_is ∙ longer (label m s e) (events (trail m (after m s e) run e.0))
-    ∙ ap (λ z. z + length (log m (after m s e) run e.0)) (label_added (ask_of code (s.now e.0)) e.1 (s.objects (target (act m s e)))) in
+    ∙ ap (λ z. z + length (log m (after m s e) run e.0)) (label_added code (ask_of code (s.now e.0)) e.1 (s.objects (target (act m s e))) can) in
     let steps : count m s (e ∷ run) e.0 ≡ suc (count m (after m s e) run e.0) = ap length trail_is in
     record { events = let was = k.events in omega (arith, was, more, size); steps = let was = k.steps in omega (arith, was, one, steps) }
 

@@ -4,6 +4,7 @@ use Rattle.std.proofs.lemmas.List.{get_or-replicate, get_or_past, drop-drop, len
 use Rattle.std.proofs.lemmas.Bool.{cases_lt}
 use Rattle.ir_image.specs.Guest.{Guest, IsGuest, object_count, object_words}
 use Rattle.ir_thread.specs.Held.{held_at}
+use Rattle.ir_thread.specs.declared.profile.Profile.{Profile}
 use Rattle.ir_thread.specs.State as thread
 use Rattle.ir_runs.specs.declared.access.Access.{Access}
 use Rattle.ir_object.specs.Cell.{Cell, Counts, readers, has_writer}
@@ -13,20 +14,20 @@ use Rattle.ir_object.proofs.CallerLemmas.{none_read, none_write}
 use Rattle.ir_flat.specs.Flat.{Flat, idle, empty, cell_of, inside_of, tables, start_threads, start_cell, start_cells, start_flat, IsFlat}
 use Rattle.ir_flat.specs.Kept.{IsKept}
 
-pub threads_length : (g : Guest) (budget from n : ℕ) → length (start_threads g budget from n) ≡ n
-threads_length g budget from zero = refl
-threads_length g budget from (suc n) = ap suc (threads_length g budget (suc from) n)
+pub threads_length : (g : Guest) (budget : ℕ) (profile : Profile) (from n : ℕ) → length (start_threads g budget profile from n) ≡ n
+threads_length g budget profile from zero = refl
+threads_length g budget profile from (suc n) = ap suc (threads_length g budget profile (suc from) n)
 
 pub cells_length : (words : List ℕ) (n : ℕ) → length (start_cells words n) ≡ n
 cells_length words zero = refl
 cells_length words (suc n) = ap suc (cells_length (drop object_words words) n)
 
 -- one thread more
-pub threads_more : (g : Guest) (budget from n : ℕ)
-    → start_threads g budget from (suc n) ≡ start_threads g budget from n ++ thread.start_state g (from + n) budget ∷ []
-threads_more g budget from zero = ap (λ k. thread.start_state g k budget ∷ []) (let e : from ≡ from + 0 = omega arith in e)
-threads_more g budget from (suc n) = ap (λ xs. thread.start_state g from budget ∷ xs)
-    (threads_more g budget (suc from) n ∙ ap (λ k. start_threads g budget (suc from) n ++ thread.start_state g k budget ∷ [])
+pub threads_more : (g : Guest) (budget : ℕ) (profile : Profile) (from n : ℕ)
+    → start_threads g budget profile from (suc n) ≡ start_threads g budget profile from n ++ thread.start_state g (from + n) budget profile ∷ []
+threads_more g budget profile from zero = ap (λ k. thread.start_state g k budget profile ∷ []) (let e : from ≡ from + 0 = omega arith in e)
+threads_more g budget profile from (suc n) = ap (λ xs. thread.start_state g from budget profile ∷ xs)
+    (threads_more g budget profile (suc from) n ∙ ap (λ k. start_threads g budget profile (suc from) n ++ thread.start_state g k budget profile ∷ [])
     (let e : suc from + n ≡ from + suc n = omega arith in e))
 
 -- one object more
@@ -50,22 +51,22 @@ nothing_held n o = elim (cases_lt o n) [
       (subst (λ k. k ≤ o) (sym (length-replicate n None)) g)
 ]
 
-pub fresh : (g : Guest) (budget from n t : ℕ) → IsFresh (object_count g) (get_or (start_threads g budget from n) t idle)
-fresh g budget from zero t = record { none = λ o. refl; events = refl }
-fresh g budget from (suc n) zero = record { none = nothing_held (object_count g); events = refl }
-fresh g budget from (suc n) (suc t) = fresh g budget (suc from) n t
+pub fresh : (g : Guest) (budget : ℕ) (profile : Profile) (from n t : ℕ) → IsFresh (object_count g) (get_or (start_threads g budget profile from n) t idle)
+fresh g budget profile from zero t = record { none = λ o. refl; events = refl }
+fresh g budget profile from (suc n) zero = record { none = nothing_held (object_count g); events = refl }
+fresh g budget profile from (suc n) (suc t) = fresh g budget profile (suc from) n t
 
 -- a thread at the start has taken no step
-pub no_steps : (guest : Guest) (budget from n t : ℕ) → (get_or (start_threads guest budget from n) t idle).steps ≡ 0
-no_steps guest budget from zero t = refl
-no_steps guest budget from (suc n) zero = refl
-no_steps guest budget from (suc n) (suc t) = no_steps guest budget (suc from) n t
+pub no_steps : (guest : Guest) (budget : ℕ) (profile : Profile) (from n t : ℕ) → (get_or (start_threads guest budget profile from n) t idle).steps ≡ 0
+no_steps guest budget profile from zero t = refl
+no_steps guest budget profile from (suc n) zero = refl
+no_steps guest budget profile from (suc n) (suc t) = no_steps guest budget profile (suc from) n t
 
 -- a place for each object
-pub places_at : (g : Guest) (budget from n t : ℕ) → t < n → length (get_or (start_threads g budget from n) t idle).held ≡ object_count g
-places_at g budget from zero t l = absurd (omega arith)
-places_at g budget from (suc n) zero l = length-replicate (object_count g) None
-places_at g budget from (suc n) (suc t) l = places_at g budget (suc from) n t (omega arith)
+pub places_at : (g : Guest) (budget : ℕ) (profile : Profile) (from n t : ℕ) → t < n → length (get_or (start_threads g budget profile from n) t idle).held ≡ object_count g
+places_at g budget profile from zero t l = absurd (omega arith)
+places_at g budget profile from (suc n) zero l = length-replicate (object_count g) None
+places_at g budget profile from (suc n) (suc t) l = places_at g budget profile (suc from) n t (omega arith)
 
 abbrev no_fields : Fields
 no_fields = record { version = 0; left = 0; inside = 0; writer = false }
@@ -84,8 +85,8 @@ words_at words (suc n) (suc o) h l = words_at (drop object_words words) n o
     (omega arith)
 
 -- nobody is inside
-pub start_none : (g : Guest) (budget o t : ℕ) → inside_of (start_flat g budget) o t ≡ None
-start_none g budget o t = (fresh g budget 0 (length g.entries) t).none o
+pub start_none : (g : Guest) (budget : ℕ) (profile : Profile) (o t : ℕ) → inside_of (start_flat g budget profile) o t ≡ None
+start_none g budget profile o t = (fresh g budget profile 0 (length g.entries) t).none o
 
 counts_none : (n : ℕ) (inside : ℕ → Option Access) (f : Fields) → f ≡ no_fields → ((t : ℕ) → inside t ≡ None) → Counts n f inside
 counts_none n inside f e none = record {
@@ -94,46 +95,46 @@ counts_none n inside f e none = record {
   others = λ t l. none t;
 }
 
-pub start_kept : (g : Guest) (budget : ℕ) → IsKept (length g.entries) (tables (start_flat g budget))
-start_kept g budget = record {
+pub start_kept : (g : Guest) (budget : ℕ) (profile : Profile) → IsKept (length g.entries) (tables (start_flat g budget profile))
+start_kept g budget profile = record {
   linked = λ t o. refl;
-  exclusive = λ o t u ne w. start_none g budget o u;
-  others = λ t o l. start_none g budget o t;
+  exclusive = λ o t u ne w. start_none g budget profile o u;
+  others = λ t o l. start_none g budget profile o t;
   logged = λ o.
-      let f : Fields = (cell_of (start_flat g budget) o).fields in
+      let f : Fields = (cell_of (start_flat g budget profile) o).fields in
       let zero_fields : f ≡ no_fields = fields_at g.words (object_count g) o in
-      let c = counts_none (length g.entries) (inside_of (start_flat g budget) o) no_fields refl (start_none g budget o) in
+      let c = counts_none (length g.entries) (inside_of (start_flat g budget profile) o) no_fields refl (start_none g budget profile o) in
       let version : f.version ≡ 0 = ap (λ z. z.version) zero_fields in
       let left : f.left ≡ 0 = ap (λ z. z.left) zero_fields in
-      let inside : 0 ≡ readers (length g.entries) (inside_of (start_flat g budget) o) = c.readers in
-      let writer : 0 ≡ bit_of (has_writer (length g.entries) (inside_of (start_flat g budget) o)) = ap bit_of c.writer in
+      let inside : 0 ≡ readers (length g.entries) (inside_of (start_flat g budget profile) o) = c.readers in
+      let writer : 0 ≡ bit_of (has_writer (length g.entries) (inside_of (start_flat g budget profile) o)) = ap bit_of c.writer in
       omega (arith, version, left, inside, writer);
-  events = λ t l. let e = (fresh g budget 0 (length g.entries) t).events in omega (arith, e);
+  events = λ t l. let e = (fresh g budget profile 0 (length g.entries) t).events in omega (arith, e);
 }
 
-pub start_is_flat : (g : Guest) (budget : ℕ) → IsGuest g → IsFlat (start_flat g budget)
-start_is_flat g budget ok =
-    let n : length (start_threads g budget 0 (length g.entries)) ≡ length g.entries = threads_length g budget 0 (length g.entries) in
+pub start_is_flat : (g : Guest) (budget : ℕ) (profile : Profile) → IsGuest g → IsFlat (start_flat g budget profile)
+start_is_flat g budget profile ok =
+    let n : length (start_threads g budget profile 0 (length g.entries)) ≡ length g.entries = threads_length g budget profile 0 (length g.entries) in
     let m : length (start_cells g.words (object_count g)) ≡ object_count g = cells_length g.words (object_count g) in
     record {
       few_threads = omega (arith, n, ok.few_threads);
       few_objects = omega (arith, m, ok.few_objects);
-      places = λ t l. places_at g budget 0 (length g.entries) t (omega (arith, n, l)) ∙ sym m;
+      places = λ t l. places_at g budget profile 0 (length g.entries) t (omega (arith, n, l)) ∙ sym m;
       objects = λ o l. record {
-        counts = counts_none (length (start_threads g budget 0 (length g.entries))) (inside_of (start_flat g budget) o)
-            (cell_of (start_flat g budget) o).fields (fields_at g.words (object_count g) o) (start_none g budget o);
+        counts = counts_none (length (start_threads g budget profile 0 (length g.entries))) (inside_of (start_flat g budget profile) o)
+            (cell_of (start_flat g budget profile) o).fields (fields_at g.words (object_count g) o) (start_none g budget profile o);
         words = words_at g.words (object_count g) o (omega arith) (omega (arith, m, l));
       };
-      kept = subst (λ k. IsKept k (tables (start_flat g budget))) (sym n) (start_kept g budget);
+      kept = subst (λ k. IsKept k (tables (start_flat g budget profile))) (sym n) (start_kept g budget profile);
     }
 
 -- the loop that makes the threads
-pub thread_made : (g : Guest) (budget n : ℕ) (before after : List thread.State) (x : thread.State) → before ≡ start_threads g budget 0 n
-    → x ≡ thread.start_state g n budget → after ≡ before ++ x ∷ [] → after ≡ start_threads g budget 0 (n + 1)
-thread_made g budget n before after x is new made =
-    made ∙ ap (λ xs. xs ++ x ∷ []) is ∙ ap (λ y. start_threads g budget 0 n ++ y ∷ []) new
-    ∙ ap (λ k. start_threads g budget 0 n ++ thread.start_state g k budget ∷ []) (let e : n ≡ 0 + n = omega arith in e)
-    ∙ sym (threads_more g budget 0 n) ∙ ap (start_threads g budget 0) (let e : suc n ≡ n + 1 = omega arith in e)
+pub thread_made : (g : Guest) (budget : ℕ) (profile : Profile) (n : ℕ) (before after : List thread.State) (x : thread.State) → before ≡ start_threads g budget profile 0 n
+    → x ≡ thread.start_state g n budget profile → after ≡ before ++ x ∷ [] → after ≡ start_threads g budget profile 0 (n + 1)
+thread_made g budget profile n before after x is new made =
+    made ∙ ap (λ xs. xs ++ x ∷ []) is ∙ ap (λ y. start_threads g budget profile 0 n ++ y ∷ []) new
+    ∙ ap (λ k. start_threads g budget profile 0 n ++ thread.start_state g k budget profile ∷ []) (let e : n ≡ 0 + n = omega arith in e)
+    ∙ sym (threads_more g budget profile 0 n) ∙ ap (start_threads g budget profile 0) (let e : suc n ≡ n + 1 = omega arith in e)
 
 -- the loop that makes the objects
 pub object_made : (words : List ℕ) (n : ℕ) (before after : List Cell) (x : Cell) → before ≡ start_cells words n
@@ -142,7 +143,7 @@ object_made words n before after x is new made =
     made ∙ ap (λ xs. xs ++ x ∷ []) is ∙ ap (λ y. start_cells words n ++ y ∷ []) new ∙ sym (cells_more words n)
     ∙ ap (start_cells words) (let e : suc n ≡ n + 1 = omega arith in e)
 
-pub made_flat : (g : Guest) (budget : ℕ) (f : Flat) → f.code ≡ g.code → f.threads ≡ start_threads g budget 0 (length g.entries)
+pub made_flat : (g : Guest) (budget : ℕ) (profile : Profile) (f : Flat) → f.code ≡ g.code → f.threads ≡ start_threads g budget profile 0 (length g.entries)
     → f.objects ≡ start_cells g.words (object_count g) → IsGuest g → IsFlat f
-made_flat g budget f p q r ok = subst IsFlat (λ i. record { code = sym p i; threads = sym q i; objects = sym r i })
-    (start_is_flat g budget ok)
+made_flat g budget profile f p q r ok = subst IsFlat (λ i. record { code = sym p i; threads = sym q i; objects = sym r i })
+    (start_is_flat g budget profile ok)

@@ -10,7 +10,7 @@ use Rattle.ir_thread.specs.State as thread
 use Rattle.ir_runs.specs.declared.access.Access.{Access}
 use Rattle.ir_runs.specs.declared.access.Access.TheVariants.{Reading, Writing}
 use Rattle.ir_thread.specs.declared.ask.Ask.{Ask}
-use Rattle.ir_thread.specs.declared.ask.Ask.TheVariants.{Private, Env, Enter, Leave, Get, Put, Print, End, Done}
+use Rattle.ir_thread.specs.declared.ask.Ask.TheVariants.{Private, Env, Enter, Try, Leave, Get, Put, Print, End, Done}
 use Rattle.ir_thread.specs.declared.ask.Reply.TheVariants.{Go, Value}
 use Rattle.ir_thread.proofs.CallerLemmas.{ask_permits, above_held}
 use Rattle.ir_object.specs.Cell.{Cell, CanLeave, Counts, readers, one_if_reading}
@@ -20,7 +20,7 @@ use Rattle.ir_object.proofs.CallerLemmas.{admits_reader, reader_admitted, admits
 use Rattle.ir_runs.proofs.CallerLemmas.{upd_elim, upd_id}
 use Rattle.ir_flat.specs.Flat.{Flat, idle, empty, thread_of, cell_of, inside_of, tables, machine, IsShared, IsFlat}
 use Rattle.ir_flat.specs.Kept.{IsKept}
-use Rattle.ir_flat.specs.Next.{with_thread, with_object, next, MayStep}
+use Rattle.ir_flat.specs.Next.{with_thread, with_object, answered, next, next_try, MayStep, MayTry}
 use Rattle.ir_runs.specs.Run.{Can, after}
 use Rattle.ir_flat.proofs.Kept.{held_length, stays_kept, events_most}
 use Rattle.ir_flat.proofs.Next.{table-set, inside-set, still, next_after}
@@ -42,6 +42,14 @@ may_admits f t r (Enter o Writing) flat l p =
       writer_admitted (length f.threads) (cell_of f o).fields
           (inside_of f o) c,
     )
+may_admits f t zero (Try o) flat l p = ((λ _. tt), λ _. tt)
+may_admits f t (suc zero) (Try o) flat l p =
+    let c = (flat.objects o (omega (arith, p.2, flat.places t l))).counts in (
+      admits_writer (length f.threads) (cell_of f o).fields (inside_of f o) c,
+      writer_admitted (length f.threads) (cell_of f o).fields
+          (inside_of f o) c,
+    )
+may_admits f t (suc (suc r)) (Try o) flat l p = ((λ h. h), λ h. h)
 may_admits f t r (Leave o a) flat l p = ((λ _. tt), λ _. tt)
 may_admits f t r (Get o i) flat l p = ((λ _. tt), λ _. tt)
 may_admits f t r (Put o i w) flat l p = ((λ _. tt), λ _. tt)
@@ -129,6 +137,16 @@ touched f t y o c l k same counts count i old =
           (upd_elim (cell_of f) o c i (λ z. length z.words ≡ object_words) (λ _. count) (λ _. old.words));
     }
 
+-- an object that thread t has entered
+entered_shared : (f : Flat) (t : ℕ) (y : thread.State) (o : ℕ) (a : Access) → IsFlat f → t < length f.threads → o < length f.objects
+    → inside_of f o t ≡ None → ((i : ℕ) → i ≢ o → held_at y.held i ≡ held_at (thread_of f t).held i) → held_at y.held o ≡ Some a → (i : ℕ)
+    → i < length f.objects → IsShared (with_object (with_thread f t y) o (record (cell_of f o) { fields = entered a (cell_of f o).fields })) i
+entered_shared f t y o a flat l k none same is i h =
+    touched f t y o _ l k same
+    (subst (λ x. Counts (length f.threads) (entered a (cell_of f o).fields) (upd (inside_of f o) t x)) (sym is)
+    (entry_counts (length f.threads) (cell_of f o).fields (inside_of f o) t a l none (flat.objects o k).counts)) (flat.objects o k).words i
+    (flat.objects i h)
+
 next_shared : (f : Flat) (t r : ℕ) (q : Ask) → IsFlat f → t < length f.threads → Permits (thread_of f t) q → MayStep f r q → (i : ℕ)
     → i < length f.objects → IsShared (next f t r q) i
 next_shared f t r Private flat l p may i h = quiet_shared f t _ l refl i (flat.objects i h)
@@ -138,13 +156,13 @@ next_shared f t r (End e) flat l p may i h = quiet_shared f t _ l refl i (flat.o
 next_shared f t r (Get o j) flat l p may i h = quiet_shared f t _ l refl i (flat.objects i h)
 next_shared f t r Done flat l p may i h = absurd may
 next_shared f t r (Enter o a) flat l p may i h =
-    let k : o < length f.objects = omega (arith, p.2, flat.places t l) in
-    let none : inside_of f o t ≡ None = above_held (thread_of f t).held o p.3 o (le_refl o) in
-    touched f t _ o _ l k (still (thread_of f t).held o (Some a))
-    (subst (λ x. Counts (length f.threads) (entered a (cell_of f o).fields) (upd (inside_of f o) t x))
-    (sym (get_or-set_same (thread_of f t).held o (Some a) None p.2))
-    (entry_counts (length f.threads) (cell_of f o).fields (inside_of f o) t a l none (flat.objects o k).counts)) (flat.objects o k).words i
-    (flat.objects i h)
+    entered_shared f t _ o a flat l (omega (arith, p.2, flat.places t l)) (above_held (thread_of f t).held o p.3 o (le_refl o))
+    (still (thread_of f t).held o (Some a)) (get_or-set_same (thread_of f t).held o (Some a) None p.2) i h
+next_shared f t zero (Try o) flat l p may i h = quiet_shared f t _ l refl i (flat.objects i h)
+next_shared f t (suc zero) (Try o) flat l p may i h =
+    entered_shared f t _ o Writing flat l (omega (arith, p.2, flat.places t l)) (above_held (thread_of f t).held o p.3 o (le_refl o))
+    (still (thread_of f t).held o (Some Writing)) (get_or-set_same (thread_of f t).held o (Some Writing) None p.2) i h
+next_shared f t (suc (suc r)) (Try o) flat l p may i h = absurd may
 next_shared f t r (Leave o a) flat l p may i h =
     let k : o < length f.objects = omega (arith, p.1, flat.places t l) in
     touched f t _ o _ l k (still (thread_of f t).held o None)
@@ -164,6 +182,9 @@ pub thread_count : (f : Flat) (t r : ℕ) (q : Ask) → length (next f t r q).th
 thread_count f t r Private = length-set f.threads t _
 thread_count f t r (Env kind) = length-set f.threads t _
 thread_count f t r (Enter o a) = length-set f.threads t _
+thread_count f t zero (Try o) = length-set f.threads t _
+thread_count f t (suc zero) (Try o) = length-set f.threads t _
+thread_count f t (suc (suc r)) (Try o) = length-set f.threads t _
 thread_count f t r (Leave o a) = length-set f.threads t _
 thread_count f t r (Get o i) = length-set f.threads t _
 thread_count f t r (Put o i w) = length-set f.threads t _
@@ -175,6 +196,9 @@ pub object_count : (f : Flat) (t r : ℕ) (q : Ask) → length (next f t r q).ob
 object_count f t r Private = refl
 object_count f t r (Env kind) = refl
 object_count f t r (Enter o a) = length-set f.objects o _
+object_count f t zero (Try o) = refl
+object_count f t (suc zero) (Try o) = length-set f.objects o _
+object_count f t (suc (suc r)) (Try o) = refl
 object_count f t r (Leave o a) = length-set f.objects o _
 object_count f t r (Get o i) = refl
 object_count f t r (Put o i w) = length-set f.objects o _
@@ -194,6 +218,9 @@ place_count : (f : Flat) (t r : ℕ) (q : Ask) → t < length f.threads → (u :
 place_count f t r Private l = place f t _ l (held_length f.code (thread_of f t) Private Go)
 place_count f t r (Env kind) l = place f t _ l (held_length f.code (thread_of f t) (Env kind) (Value r))
 place_count f t r (Enter o a) l = place f t _ l (held_length f.code (thread_of f t) (Enter o a) Go)
+place_count f t zero (Try o) l = place f t _ l (held_length f.code (thread_of f t) (Try o) (Value 0))
+place_count f t (suc zero) (Try o) l = place f t _ l (held_length f.code (thread_of f t) (Try o) (Value 1))
+place_count f t (suc (suc r)) (Try o) l = place f t _ l (held_length f.code (thread_of f t) (Try o) (Value (suc (suc r))))
 place_count f t r (Leave o a) l = place f t _ l (held_length f.code (thread_of f t) (Leave o a) Go)
 place_count f t r (Get o i) l = place f t _ l (held_length f.code (thread_of f t) (Get o i) (Value (slice_index (cell_of f o).words i)))
 place_count f t r (Put o i w) l = place f t _ l (held_length f.code (thread_of f t) (Put o i w) Go)
@@ -229,6 +256,21 @@ pub enters_fit : (f : Flat) (t : ℕ) (q : Ask) (o : ℕ) (a : Access) → IsFla
     → q ≡ Enter o a → IsFields (entered a (cell_of f o).fields)
 enters_fit f t q o a flat l permits is = let p = subst (Permits (thread_of f t)) is permits in
     enter_fits f o a flat (omega (arith, p.2, flat.places t l))
+
+-- so it is where thread t tries to enter
+pub try_object : (f : Flat) (t o : ℕ) → IsFlat f → t < length f.threads → ask_of f.code (thread_of f t) ≡ Try o → o < length f.objects
+try_object f t o flat l is = let p = subst (Permits (thread_of f t)) is (ask_permits f.code (thread_of f t)) in
+    omega (arith, p.2, flat.places t l)
+
+pub tries_fit : (f : Flat) (t o : ℕ) → IsFlat f → t < length f.threads → Permits (thread_of f t) (Try o)
+    → IsFields (entered Writing (cell_of f o).fields)
+tries_fit f t o flat l permits = enter_fits f o Writing flat (omega (arith, permits.2, flat.places t l))
+
+-- a try that isn't answered 1 is answered 0
+pub next_other : (f : Flat) (t o r : ℕ) → MayTry (cell_of f o).fields r → r ≢ 1 → answered f t (Try o) (Value 0) ≡ next_try f t o r
+next_other f t o zero may ne = refl
+next_other f t o (suc zero) may ne = absurd (ne refl)
+next_other f t o (suc (suc r)) may ne = absurd may
 
 pub leaves_fit : (f : Flat) (t : ℕ) (q : Ask) (o : ℕ) (a : Access) → IsFlat f → t < length f.threads → Permits (thread_of f t) q
     → q ≡ Leave o a → IsFields (left_by a (cell_of f o).fields)

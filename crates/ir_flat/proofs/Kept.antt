@@ -1,16 +1,18 @@
 -- Each step keeps what is kept.
-use Rattle.std.proofs.Common.{◌≡◌, ◌≢◌, ℕ, zero, suc, ◌+◌, ◌*◌, ◌<◌, ◌≤◌, List, length, length-set, Some, None, refl, sym, le_refl, ap, ◌∙◌, arith, inl, inr}
+use Rattle.std.proofs.Common.{◌≡◌, ◌≢◌, ℕ, zero, suc, ◌+◌, ◌*◌, ◌<◌, ◌≤◌, List, length, length-set, Option, Some, None, refl, sym, le_refl, ap, ◌∙◌, arith, inl, inr}
 use Rattle.std.proofs.lemmas.Bool.{cases_eq}
-use Rattle.ir_thread.specs.Calls.{ask_of, Permits, after_ask, after_reply, most_events}
+use Rattle.ir_thread.specs.Calls.{ask_of, Permits, held_after_try, after_ask, after_reply, most_events}
 use Rattle.ir_thread.specs.Held.{held_at}
 use Rattle.ir_thread.specs.Instance.{shared_ask, reply_of, thread_machine}
 use Rattle.ir_runs.specs.Machine.{act_of, upd}
 use Rattle.ir_thread.specs.State as thread
+use Rattle.ir_runs.specs.declared.access.Access.{Access}
 use Rattle.ir_runs.specs.declared.access.Access.TheVariants.{Reading, Writing}
 use Rattle.ir_thread.specs.declared.ask.Ask.{Ask}
-use Rattle.ir_thread.specs.declared.ask.Ask.TheVariants.{Private, Env, Enter, Leave, Get, Put, Print, End, Done}
+use Rattle.ir_thread.specs.declared.ask.Ask.TheVariants.{Private, Env, Enter, Try, Leave, Get, Put, Print, End, Done}
 use Rattle.ir_thread.specs.declared.ask.Reply.{Reply}
-use Rattle.ir_thread.proofs.CallerLemmas.{ask_permits, lawful, above_held}
+use Rattle.ir_thread.specs.declared.ask.Reply.TheVariants.{Go, Value}
+use Rattle.ir_thread.proofs.CallerLemmas.{ask_permits, lawful, above_held, not_entered}
 use Rattle.ir_object.specs.Cell.{has_writer, one_if_reading, is_writing}
 use Rattle.ir_runs.specs.Object.{Object, target, Admits, acted, reply}
 use Rattle.ir_object.specs.Word.{bit_of}
@@ -23,12 +25,14 @@ use Rattle.ir_runs.specs.Run.{State, Step, act, Can, after}
 abbrev pub added : Ask → ℕ
 added (Env kind) = 1
 added (Enter object access) = 1
+added (Try object) = 1
 added _ = 0
 
 pub events_added : (code : List ℕ) (x : thread.State) (q : Ask) (r : Reply) → (after_ask code x q r).events ≡ x.events + added q
 events_added code x Private r = omega arith
 events_added code x (Env kind) r = refl
 events_added code x (Enter object access) r = refl
+events_added code x (Try object) r = refl
 events_added code x (Leave object access) r = omega arith
 events_added code x (Get object index) r = omega arith
 events_added code x (Put object index value) r = omega arith
@@ -40,6 +44,7 @@ pub events_bound : (x : thread.State) (q : Ask) → Permits x q → x.events ≤
 events_bound x Private p h = omega arith
 events_bound x (Env kind) p h = omega (arith, p.1)
 events_bound x (Enter object access) p h = omega (arith, p.1)
+events_bound x (Try object) p h = omega (arith, p.1)
 events_bound x (Leave object access) p h = omega arith
 events_bound x (Get object index) p h = omega arith
 events_bound x (Put object index value) p h = omega arith
@@ -47,10 +52,17 @@ events_bound x Print p h = omega arith
 events_bound x (End e) p h = omega arith
 events_bound x Done p h = omega arith
 
+try_length : (held : List (Option Access)) (o v : ℕ) → length (held_after_try (Value v) o held) ≡ length held
+try_length held o zero = refl
+try_length held o (suc zero) = length-set held o (Some Writing)
+try_length held o (suc (suc v)) = ap (λ (h : List (Option Access)). length h) (not_entered held o v)
+
 pub held_length : (code : List ℕ) (x : thread.State) (q : Ask) (r : Reply) → length (after_ask code x q r).held ≡ length x.held
 held_length code x Private r = refl
 held_length code x (Env kind) r = refl
 held_length code x (Enter object access) r = length-set x.held object (Some access)
+held_length code x (Try object) Go = refl
+held_length code x (Try object) (Value v) = try_length x.held object v
 held_length code x (Leave object access) r = length-set x.held object None
 held_length code x (Get object index) r = refl
 held_length code x (Put object index value) r = refl
@@ -85,6 +97,16 @@ events_most zero now h = omega arith
 events_most (suc n) now h = let rest = events_most n now (λ t l. h t (omega arith)) in let here = h n (omega arith) in
     omega (arith, rest, here)
 
+-- a writer's entry is one more
+writer_seen : (n : ℕ) (b : Object) (t : ℕ) → t < n → b.inside t ≡ None
+    → entries_seen n (record b { inside = upd b.inside t (Some Writing) }) ≤ entries_seen n b + 1
+writer_seen n b t l none =
+    let sums = readers_upd n b.inside t (Some Writing) l in
+    let was : one_if_reading (b.inside t) ≡ 0 = ap one_if_reading none in
+    let now : bit_of (has_writer n (upd b.inside t (Some Writing))) ≡ 1 =
+    ap bit_of (one_writes n (upd b.inside t (Some Writing)) t l (upd_same b.inside t (Some Writing))) in
+    omega (arith, sums, was, now)
+
 -- the entries that an object has seen grow by those that are logged
 pub seen_grows : (code : List ℕ) (n : ℕ) (x : thread.State) (r : ℕ) (b : Object) (t : ℕ) (q : Ask) → t < n → Permits x q
     → b.inside t ≡ held_at x.held (target (act_of (shared_ask q) r))
@@ -106,12 +128,11 @@ seen_grows code n x r b t (Enter object Reading) l p link ex can =
     ap bit_of (writer_upd n b.inside t (Some Reading) (sym (ap is_writing none))) in
     omega (arith, sums, was, same)
 seen_grows code n x r b t (Enter object Writing) l p link ex can =
-    let none : b.inside t ≡ None = link ∙ above_held x.held object p.3 object (le_refl object) in
-    let sums = readers_upd n b.inside t (Some Writing) l in
-    let was : one_if_reading (b.inside t) ≡ 0 = ap one_if_reading none in
-    let now : bit_of (has_writer n (upd b.inside t (Some Writing))) ≡ 1 =
-    ap bit_of (one_writes n (upd b.inside t (Some Writing)) t l (upd_same b.inside t (Some Writing))) in
-    omega (arith, sums, was, now)
+    writer_seen n b t l (link ∙ above_held x.held object p.3 object (le_refl object))
+seen_grows code n x zero b t (Try object) l p link ex can = omega arith
+seen_grows code n x (suc zero) b t (Try object) l p link ex can =
+    writer_seen n b t l (link ∙ above_held x.held object p.3 object (le_refl object))
+seen_grows code n x (suc (suc r)) b t (Try object) l p link ex can = absurd can
 seen_grows code n x r b t (Leave object Reading) l p link ex can =
     let is : b.inside t ≡ Some Reading = link ∙ p.2 in
     let sums = readers_upd n b.inside t None l in

@@ -1,12 +1,12 @@
 -- A thread with its replies is the thread run alone.
-use Rattle.std.proofs.Common.{◌≡◌, ℕ, List, [], ◌∷◌, Some, refl, ap, ◌∙◌}
+use Rattle.std.proofs.Common.{◌≡◌, ℕ, zero, suc, List, [], ◌∷◌, Some, refl, inl, inr, ap, ◌∙◌}
 use Rattle.ir_thread.specs.Alone.{AllSuit, after_replies}
 use Rattle.ir_thread.specs.Calls.{ask_of, Suits}
 use Rattle.ir_thread.specs.Instance.{shared_ask, reply_of, thread_machine}
 use Rattle.ir_runs.specs.Machine.{act_of}
 use Rattle.ir_thread.specs.State as thread
 use Rattle.ir_thread.specs.declared.ask.Ask.{Ask}
-use Rattle.ir_thread.specs.declared.ask.Ask.TheVariants.{Private, Env, Enter, Leave, Get, Put, Print, End, Done}
+use Rattle.ir_thread.specs.declared.ask.Ask.TheVariants.{Private, Env, Enter, Try, Leave, Get, Put, Print, End, Done}
 use Rattle.ir_thread.proofs.CallerLemmas.{alone}
 use Rattle.ir_flat.specs.Splice.{MayReply, MayRun, alone_after, replies_to, AloneIsLone}
 
@@ -14,6 +14,9 @@ suits : (code : List ℕ) (q : Ask) (v : ℕ) → MayReply (thread_machine code)
 suits code Private v may = refl
 suits code (Env kind) v may = tt
 suits code (Enter object access) v may = refl
+suits code (Try object) zero may = inr refl
+suits code (Try object) (suc zero) may = inl refl
+suits code (Try object) (suc (suc v)) may = absurd may
 suits code (Leave object access) v may = refl
 suits code (Get object index) v may = tt
 suits code (Put object index value) v may = refl

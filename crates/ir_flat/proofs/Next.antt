@@ -1,5 +1,5 @@
 -- The threads and objects after a step, as lists.
-use Rattle.std.proofs.Common.{◌≡◌, ◌≢◌, ℕ, ◌<◌, List, length, set, get_or, Option, Some, None, refl, sym, ap, ◌∙◌, subst, arith, inl, inr, get_or-set_same, get_or-set_other}
+use Rattle.std.proofs.Common.{◌≡◌, ◌≢◌, ℕ, zero, suc, ◌<◌, List, length, set, get_or, Option, Some, None, refl, sym, ap, ◌∙◌, subst, arith, inl, inr, get_or-set_same, get_or-set_other}
 use Rattle.std.proofs.Math.Path.{fun_ext}
 use Rattle.std.specs.Prelude.{slice_set}
 use Rattle.std.proofs.lemmas.Bool.{cases_eq}
@@ -12,8 +12,8 @@ use Rattle.ir_thread.specs.State as thread
 use Rattle.ir_runs.specs.declared.access.Access.{Access}
 use Rattle.ir_runs.specs.declared.access.Access.TheVariants.{Reading, Writing}
 use Rattle.ir_thread.specs.declared.ask.Ask.{Ask}
-use Rattle.ir_thread.specs.declared.ask.Ask.TheVariants.{Private, Env, Enter, Leave, Get, Put, Print, End, Done}
-use Rattle.ir_thread.specs.declared.ask.Reply.TheVariants.{Go}
+use Rattle.ir_thread.specs.declared.ask.Ask.TheVariants.{Private, Env, Enter, Try, Leave, Get, Put, Print, End, Done}
+use Rattle.ir_thread.specs.declared.ask.Reply.TheVariants.{Go, Value}
 use Rattle.ir_object.specs.Cell.{Cell}
 use Rattle.ir_runs.specs.Object.{Object, target, acted, reply}
 use Rattle.ir_object.specs.Word.{entered, left_by}
@@ -102,6 +102,12 @@ still held o x i ne = get_or-set_other held o i x None ne
 word_count : (f : Flat) (o : ℕ) → IsFlat f → o < length f.objects → length (cell_of f o).words ≡ object_words
 word_count f o flat l = (flat.objects o l).words
 
+-- an object that thread t has entered
+entry_with : (a : Access) (c : Cell) (g : ℕ → Option Access) (t : ℕ) {h : Option Access} → h ≡ Some a
+    → object_with (record c { fields = entered a c.fields }) (upd g t h) ≡ record (object_with c g) { inside = upd g t (Some a) }
+entry_with Reading c g t e = ap (λ z. object_with c (upd g t z)) e
+entry_with Writing c g t e = ap (λ z. object_with c (upd g t z)) e
+
 -- the lists after a step are the tables after it
 pub next_moved : (f : Flat) (t r : ℕ) (q : Ask) → IsFlat f → t < length f.threads → Permits (thread_of f t) q → MayStep f r q
     → tables (next f t r q) ≡ moved_by f t r q
@@ -111,6 +117,8 @@ next_moved f t r Print flat l p may = quiet f t _ 0 l refl
 next_moved f t r (End e) flat l p may = quiet f t _ 0 l refl
 next_moved f t r Done flat l p may = absurd may
 next_moved f t r (Get o i) flat l p may = quiet f t _ o l refl
+next_moved f t zero (Try o) flat l p may = quiet f t _ 0 l refl
+next_moved f t (suc (suc r)) (Try o) flat l p may = absurd may
 next_moved f t r (Enter o a) flat l p may =
     let k : o < length f.objects = omega (arith, p.2, flat.places t l) in
     shared-set f t _ o _ l k (still (thread_of f t).held o (Some a))
@@ -120,11 +128,15 @@ next_moved f t r (Enter o a) flat l p may =
           upd (tables f).objects o z;
     })
     (entry_with a (cell_of f o) (inside_of f o) t (get_or-set_same (thread_of f t).held o (Some a) None p.2))
-  where
-    entry_with : (a : Access) (c : Cell) (g : ℕ → Option Access) (t : ℕ) {h : Option Access} → h ≡ Some a
-        → object_with (record c { fields = entered a c.fields }) (upd g t h) ≡ record (object_with c g) { inside = upd g t (Some a) }
-    entry_with Reading c g t e = ap (λ z. object_with c (upd g t z)) e
-    entry_with Writing c g t e = ap (λ z. object_with c (upd g t z)) e
+next_moved f t (suc zero) (Try o) flat l p may =
+    let k : o < length f.objects = omega (arith, p.2, flat.places t l) in
+    shared-set f t _ o _ l k (still (thread_of f t).held o (Some Writing))
+    ∙ ap (λ z. record {
+      now = upd (thread_of f) t (after_ask f.code (thread_of f t) (Try o) (Value 1));
+      objects =
+          upd (tables f).objects o z;
+    })
+    (entry_with Writing (cell_of f o) (inside_of f o) t (get_or-set_same (thread_of f t).held o (Some Writing) None p.2))
 next_moved f t r (Leave o a) flat l p may =
     let k : o < length f.objects = omega (arith, p.1, flat.places t l) in
     shared-set f t _ o _ l k (still (thread_of f t).held o None)

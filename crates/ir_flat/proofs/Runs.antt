@@ -7,10 +7,11 @@ use Rattle.ir_thread.specs.Calls.{ask_of, after_ask, after_reply, Permits}
 use Rattle.ir_thread.specs.Instance.{shared_ask, reply_of, is_result, thread_machine}
 use Rattle.ir_runs.specs.Machine as machine
 use Rattle.ir_runs.specs.Machine.{upd}
+use Rattle.ir_thread.specs.declared.profile.Profile.{Profile}
 use Rattle.ir_thread.specs.State as thread
 use Rattle.ir_runs.specs.declared.access.Access.{Access}
 use Rattle.ir_thread.specs.declared.ask.Ask.{Ask}
-use Rattle.ir_thread.specs.declared.ask.Ask.TheVariants.{Private, Env, Enter, Leave, Get, Put, Print, End, Done}
+use Rattle.ir_thread.specs.declared.ask.Ask.TheVariants.{Private, Env, Enter, Try, Leave, Get, Put, Print, End, Done}
 use Rattle.ir_runs.specs.declared.env_kind.EnvKind.{EnvKind}
 use Rattle.ir_runs.specs.declared.env_kind.EnvKind.TheVariants.{Clock, Random, Input}
 use Rattle.ir_thread.proofs.CallerLemmas.{ask_permits, lawful}
@@ -64,6 +65,7 @@ enters_below : (x : thread.State) (q : Ask) (o : ℕ) (a : Access) → Permits x
 enters_below x Private o a p h = absurd (cc h)
 enters_below x (Env kind) o a p h = absurd (cc h)
 enters_below x (Enter i b) o a p h = subst (λ z. z < length x.held) (let e : ◌≡◌ {A = ℕ} i o = cc h in e) p.2
+enters_below x (Try i) o a p h = absurd (cc h)
 enters_below x (Leave i b) o a p h = absurd (cc h)
 enters_below x (Get i j) o a p h = absurd (cc h)
 enters_below x (Put i j w) o a p h = absurd (cc h)
@@ -80,45 +82,45 @@ zero_suits Clock = refl
 zero_suits Random = refl
 zero_suits Input = refl
 
-pub start_idle : (g : Guest) (budget : ℕ) → IsIdle (thread_machine g.code) (tables (start_flat g budget)) (length g.entries)
-start_idle g budget t l =
-    ap (λ x. shared_ask (ask_of g.code x)) (get_or_past (start_threads g budget 0 (length g.entries)) t idle
-    (let n = threads_length g budget 0 (length g.entries) in omega (arith, n, l)))
+pub start_idle : (g : Guest) (budget : ℕ) (profile : Profile) → IsIdle (thread_machine g.code) (tables (start_flat g budget profile)) (length g.entries)
+start_idle g budget profile t l =
+    ap (λ x. shared_ask (ask_of g.code x)) (get_or_past (start_threads g budget profile 0 (length g.entries)) t idle
+    (let n = threads_length g budget profile 0 (length g.entries) in omega (arith, n, l)))
 
-start_placed : (g : Guest) (budget : ℕ) → HasPlaces (object_count g) (tables (start_flat g budget))
-start_placed g budget t = elim (cases_lt t (length g.entries)) [
-  | inl l ↦ let same = places_at g budget 0 (length g.entries) t l in omega (arith, same)
+start_placed : (g : Guest) (budget : ℕ) (profile : Profile) → HasPlaces (object_count g) (tables (start_flat g budget profile))
+start_placed g budget profile t = elim (cases_lt t (length g.entries)) [
+  | inl l ↦ let same = places_at g budget profile 0 (length g.entries) t l in omega (arith, same)
   | inr past ↦
-      let none : length (thread_of (start_flat g budget) t).held ≡ 0 =
-      ap (λ x. length x.held) (get_or_past (start_threads g budget 0 (length g.entries)) t idle
-      (let n = threads_length g budget 0 (length g.entries) in omega (arith, n, past))) in
+      let none : length (thread_of (start_flat g budget profile) t).held ≡ 0 =
+      ap (λ x. length x.held) (get_or_past (start_threads g budget profile 0 (length g.entries)) t idle
+      (let n = threads_length g budget profile 0 (length g.entries) in omega (arith, n, past))) in
       omega (arith, none)
 ]
 
-pub kept_at_end : (g : Guest) (budget : ℕ) (run : List Step) → IsRun (thread_machine g.code) (tables (start_flat g budget)) run
-    → IsKept (length g.entries) (end (thread_machine g.code) (tables (start_flat g budget)) run)
-kept_at_end g budget run ok = run_kept g.code (length g.entries) (tables (start_flat g budget)) run (start_idle g budget)
-    (start_kept g budget) ok
+pub kept_at_end : (g : Guest) (budget : ℕ) (profile : Profile) (run : List Step) → IsRun (thread_machine g.code) (tables (start_flat g budget profile)) run
+    → IsKept (length g.entries) (end (thread_machine g.code) (tables (start_flat g budget profile)) run)
+kept_at_end g budget profile run ok = run_kept g.code (length g.entries) (tables (start_flat g budget profile)) run (start_idle g budget profile)
+    (start_kept g budget profile) ok
 
 pub nothing_is_stuck : NothingStuck
-nothing_is_stuck g budget run ok t ne =
-    let s : State thread.State = end (thread_machine g.code) (tables (start_flat g budget)) run in
-    some_step (thread_machine g.code) (lawful g.code) s (as_good g.code (length g.entries) s (kept_at_end g budget run ok))
+nothing_is_stuck g budget profile run ok t ne =
+    let s : State thread.State = end (thread_machine g.code) (tables (start_flat g budget profile)) run in
+    some_step (thread_machine g.code) (lawful g.code) s (as_good g.code (length g.entries) s (kept_at_end g budget profile run ok))
     (length g.entries) (object_count g)
-    (run_idle (thread_machine g.code) (tables (start_flat g budget)) (length g.entries) (start_idle g budget) run ok)
-    (bounded g.code (object_count g) s (run_placed g.code (object_count g) (tables (start_flat g budget)) run (start_placed g budget)))
+    (run_idle (thread_machine g.code) (tables (start_flat g budget profile)) (length g.entries) (start_idle g budget profile) run ok)
+    (bounded g.code (object_count g) s (run_placed g.code (object_count g) (tables (start_flat g budget profile)) run (start_placed g budget profile)))
     zero_suits t ne
 
 pub writers_are_alone : WritersAlone
-writers_are_alone g budget run ok o t u ne h = (kept_at_end g budget run ok).exclusive o t u ne h
+writers_are_alone g budget profile run ok o t u ne h = (kept_at_end g budget profile run ok).exclusive o t u ne h
 
 pub held_is_inside : HeldInside
-held_is_inside g budget run ok o t = (kept_at_end g budget run ok).linked t o
+held_is_inside g budget profile run ok o t = (kept_at_end g budget profile run ok).linked t o
 
 pub counts_all_fit : CountsFit
-counts_all_fit g budget run few ok o =
-    let k = kept_at_end g budget run ok in
+counts_all_fit g budget profile run few ok o =
+    let k = kept_at_end g budget profile run ok in
     let seen = k.logged o in
-    let most = events_most (length g.entries) (end (thread_machine g.code) (tables (start_flat g budget)) run).now k.events in
-    let inside = readers_le (length g.entries) ((end (thread_machine g.code) (tables (start_flat g budget)) run).objects o).inside in
+    let most = events_most (length g.entries) (end (thread_machine g.code) (tables (start_flat g budget profile)) run).now k.events in
+    let inside = readers_le (length g.entries) ((end (thread_machine g.code) (tables (start_flat g budget profile)) run).objects o).inside in
     record { version = omega (arith, seen, most, few); left = omega (arith, seen, most, few); inside = omega (arith, inside, few) }

@@ -8,6 +8,8 @@ use Rattle.ir_runs.specs.Machine.{Machine}
 use Rattle.ir_thread.specs.State.{State, start_state}
 use Rattle.ir_runs.specs.declared.access.Access.{Access}
 use Rattle.ir_thread.specs.declared.end.End.TheVariants.{Breakpoint}
+use Rattle.ir_thread.specs.declared.profile.Profile.{Profile}
+use Rattle.ir_thread.specs.declared.profile.Profile.TheVariants.{One}
 use Rattle.ir_object.specs.Cell.{Cell, Counts}
 use Rattle.ir_runs.specs.Object.{Object}
 use Rattle.ir_flat.specs.Kept.{IsKept}
@@ -26,6 +28,7 @@ idle = record {
   number = 0;
   held = [];
   budget = 0;
+  profile = One;
   steps = 0;
   events = 0;
   output =
@@ -62,9 +65,9 @@ abbrev pub machine : Flat → Machine State
 machine f = thread_machine f.code
 
 -- the threads of a guest from a number on
-abbrev pub start_threads : Guest → ℕ → ℕ → ℕ → List State
-start_threads guest budget from zero = []
-start_threads guest budget from (suc n) = start_state guest from budget ∷ start_threads guest budget (suc from) n
+abbrev pub start_threads : Guest → ℕ → Profile → ℕ → ℕ → List State
+start_threads guest budget profile from zero = []
+start_threads guest budget profile from (suc n) = start_state guest from budget profile ∷ start_threads guest budget profile (suc from) n
 
 -- an object that nobody has entered
 abbrev pub start_cell : List ℕ → Cell
@@ -76,10 +79,10 @@ start_cells words zero = []
 start_cells words (suc n) = start_cell (take object_words words) ∷ start_cells (drop object_words words) n
 
 -- a guest's threads and objects before the first step
-abbrev pub start_flat : Guest → ℕ → Flat
-start_flat guest budget = record {
+abbrev pub start_flat : Guest → ℕ → Profile → Flat
+start_flat guest budget profile = record {
   code = guest.code;
-  threads = start_threads guest budget 0 (length guest.entries);
+  threads = start_threads guest budget profile 0 (length guest.entries);
   objects = start_cells guest.words (object_count guest);
 }
 

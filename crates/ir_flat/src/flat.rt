@@ -14,11 +14,12 @@ use crate::start;
 use ir_image::{Code, Image, OBJECT_WORDS};
 use ir_mach::MarkedCode;
 use ir_object::Object;
-use ir_thread::{Ask, Thread};
+use ir_thread::{Ask, Profile, Thread};
 use std::alloc::{AllocError, Global};
 use std::marker::Model;
 
-/// There is no such step now: the thread is done, it must wait, or the result is none of the call's.
+/// There is no such step now: the thread is done, it must wait, or the result is none of the call's; a try has result 1 only where
+/// nobody is inside.
 #[derive(Clone, Copy, Debug, PartialEq, Eq)]
 pub struct NotAdmitted;
 
@@ -38,16 +39,21 @@ impl<'a> Model for Flat<'a> {
 }
 
 impl<'a> Flat<'a> {
-    /// The guest before its first step. The budget is in steps, for each thread.
+    /// The guest before its first step. The budget is in steps, for each thread; the profile says which system calls there are.
     ///
     /// # Errors
     /// Out of memory.
-    pub fn start(alloc: Global, image: &'a Image, budget: u64) -> Result<Flat<'a>, AllocError>
+    pub fn start(
+        alloc: Global,
+        image: &'a Image,
+        budget: u64,
+        profile: Profile,
+    ) -> Result<Flat<'a>, AllocError>
         requires { budget ≤ most_budget }
-        ensures { IfOk result (λ f. f ≡ start_flat image.now budget) }
+        ensures { IfOk result (λ f. f ≡ start_flat image.now budget profile) }
     {
         let words = image.words();
-        let threads = start::threads(alloc, image, budget)?;
+        let threads = start::threads(alloc, image, budget, profile)?;
         let objects = start::objects(alloc, words, words.len() / OBJECT_WORDS)?;
         Ok(Flat {
             parts: Parts::new(image.code(), threads, objects),
@@ -153,8 +159,8 @@ impl<'a> Flat<'a> {
         self.parts.ask(t)
     }
 
-    /// Thread t takes its next step, for which it asks so. r is the result of a call of the
-    /// environment, and is looked at in no other step.
+    /// Thread t takes its next step, for which it asks so. r is the result of a call of the environment, or of a try: 1 where
+    /// the thread is inside then, 0 where it goes on without. It is looked at in no other step.
     ///
     /// # Errors
     /// There is no such step; nothing changes.
@@ -180,8 +186,8 @@ impl<'a> Flat<'a> {
         Ok(())
     }
 
-    /// Thread t takes its next step. r is the result of a call of the environment, and is looked at
-    /// in no other step.
+    /// Thread t takes its next step. r is the result of a call of the environment, or of a try: 1 where the thread is inside then,
+    /// 0 where it goes on without. It is looked at in no other step.
     ///
     /// # Errors
     /// There is no such step; nothing changes.

@@ -1,14 +1,14 @@
 //! The threads and objects of a guest, each for itself.
 
 ghost use Rattle.ir_flat.specs.Flat.{Flat, IsFlat, thread_of, cell_of};
-ghost use Rattle.ir_flat.specs.Next.{with_thread, with_object, answered, next, MayStep};
+ghost use Rattle.ir_flat.specs.Next.{with_thread, with_object, answered, next, next_try, MayStep, MayTry};
 ghost use Rattle.ir_image.specs.Guest.{object_words};
 ghost use Rattle.ir_object.specs.Cell.{Admitted, CanLeave};
 ghost use Rattle.ir_object.specs.Word.{IsFields, entered, left_by};
 ghost use Rattle.ir_thread.specs.Calls.{ask_of, run_of, after_reply, Permits, Suits};
 ghost use Rattle.ir_thread.specs.Instance.{is_result};
 ghost use Rattle.ir_thread.specs.Private.{NoInstruction, UnmarkedSteps, StopsUnmarked};
-ghost use Rattle.ir_thread.specs.declared.ask.Ask.TheVariants.{Private};
+ghost use Rattle.ir_thread.specs.declared.ask.Ask.TheVariants.{Private, Try};
 ghost use Rattle.std.specs.Prelude.{ℕ, ◌≡◌, ◌<◌, ◌≤◌, ◌≢◌, ◌↔◌, true, length, slice_index, slice_set, IsTrue, IfOk};
 
 use ir_image::Code;
@@ -164,6 +164,18 @@ impl<'a> Parts<'a> {
         self.objects[o as usize].put(index, value);
     }
 
+    // Whether a try may have this result: 1 where nobody is inside, 0 always.
+    fn may_try(&self, o: u8, r: u32) -> bool
+        requires { o < length self.now.objects }
+        ensures { IsTrue result ↔ MayTry (cell_of self.now o).fields r }
+    {
+        match r {
+            0 => true,
+            1 => self.object(o).can_write(),
+            _ => false,
+        }
+    }
+
     // Whether there is the step that thread t asks, with this result.
     pub fn may(&self, t: usize, r: u32, asked: Ask) -> bool
         requires flat { IsFlat self.now }
@@ -175,8 +187,26 @@ impl<'a> Parts<'a> {
             Ask::Env(kind) => suits(kind, r),
             Ask::Enter(o, Access::Reading) => self.object(o).can_read(),
             Ask::Enter(o, Access::Writing) => self.object(o).can_write(),
+            Ask::Try(o) => self.may_try(o, r),
             Ask::Done => false,
             _ => true,
+        }
+    }
+
+    // Thread t tries to enter, with this result.
+    fn try_to_enter(&mut self, t: usize, o: u8, r: u32)
+        requires flat { IsFlat self.old }
+        requires thread { t < length self.old.threads }
+        requires asked { ask_of self.old.code (thread_of self.old t) ≡ Try o }
+        requires permits { Permits (thread_of self.old t) (Try o) }
+        requires may { MayTry (cell_of self.old o).fields r }
+        ensures { self.new ≡ next_try self.old t o r }
+    {
+        if r == 1 {
+            self.enter(o, Access::Writing);
+            self.take(t, Ask::Try(o), Reply::Value(1));
+        } else {
+            self.take(t, Ask::Try(o), Reply::Value(0));
         }
     }
 
@@ -195,6 +225,7 @@ impl<'a> Parts<'a> {
                 self.enter(o, access);
                 self.take(t, asked, Reply::Go);
             }
+            Ask::Try(o) => self.try_to_enter(t, o, r),
             Ask::Leave(o, access) => {
                 self.leave(o, access);
                 self.take(t, asked, Reply::Go);

@@ -7,17 +7,22 @@ ghost use Rattle.std.specs.Prelude.{◌≡◌, ◌≤◌, ◌*◌, take, drop, l
 
 use ir_image::{Image, OBJECT_WORDS};
 use ir_object::Object;
-use ir_thread::Thread;
+use ir_thread::{Profile, Thread};
 use std::alloc::{AllocError, Global};
 
-pub fn threads(alloc: Global, image: &Image, budget: u64) -> Result<Vec<Thread>, AllocError>
+pub fn threads(
+    alloc: Global,
+    image: &Image,
+    budget: u64,
+    profile: Profile,
+) -> Result<Vec<Thread>, AllocError>
     requires { budget ≤ most_budget }
-    ensures { IfOk result (λ threads. threads.items ≡ start_threads image.now budget 0 (length image.now.entries)) }
+    ensures { IfOk result (λ threads. threads.items ≡ start_threads image.now budget profile 0 (length image.now.entries)) }
 {
     let count = image.entries().len();
     let mut threads = Vec::with_capacity(alloc, count)?;
     for number in 0..count {
-        threads.push(Thread::new(alloc, image, number, budget)?)?;
+        threads.push(Thread::new(alloc, image, number, budget, profile)?)?;
     }
     Ok(threads)
 }

@@ -25,7 +25,7 @@ last_steps : (f : FittedTrace) (last : List ℕ) → AreLast f last → (run : L
 last_steps f last are run whole t = elim (cases_lt t (length f.guest.entries)) [
   | inl l ↦ are.steps t l ∙ sym (whole.1.steps t l)
   | inr past ↦ get_or_past last t 0 (let n = are.size in omega (arith, n, past)) ∙
-      sym (ap length (idle_trail (machine_of f) (start_of f) (length f.guest.entries) (start_idle f.guest f.recorded.budget) run
+      sym (ap length (idle_trail (machine_of f) (start_of f) (length f.guest.entries) (start_idle f.guest f.recorded.budget f.recorded.profile) run
       whole.1.runs t past))
 ]
 

@@ -62,10 +62,11 @@ impl Cursor {
         self.place += 1;
     }
 
-    /// The event at this place, where it is what a thread logs that asks so. The place stays, and no memory is taken.
+    /// The event at this place, where a thread may log it that asks so. The place stays, and no memory is taken.
     ///
     /// # Errors
-    /// `Disagree` where no event is left, or where the next one is of another kind or another object. An ask that nothing is logged of suits no event.
+    /// `Disagree` where no event is left, or where the next one is of another kind or another object. A try suits an entry for writing and a
+    /// refused try; an ask that nothing is logged of suits no event.
     pub fn expect(&self, log: &Log, ask: &Ask) -> Result<Event, Disagree>
         ensures next { IfOk result (λ event. slice_get log.now.events self.now ≡ Some event) }
         ensures suits { IfOk result (λ event. Suits ask.now event) }
@@ -73,7 +74,7 @@ impl Cursor {
         ensures disagrees { OnErr result ((event : Event) → slice_get log.now.events self.now ≡ Some event → Suits ask.now event → ⊥) }
     {
         match log.events().get(self.place) {
-            Some(event) if event.ask() == *ask => Ok(*event),
+            Some(event) if event.suits(*ask) => Ok(*event),
             _ => Err(Disagree),
         }
     }

@@ -20,15 +20,19 @@ pub enum Event {
         version: u32,
         readers: u32,
     },
+    /// A try to enter an object for writing that was refused.
+    Try {
+        object: u8,
+    },
 }
 
 const _: () = prove!(size_of::<Event>() == 12);
 
 impl Event {
-    ghost use Rattle.ir_log.specs.Logging.{ask_of};
-    ghost use Rattle.std.specs.Prelude.{◌≡◌};
+    ghost use Rattle.ir_log.specs.Logging.{Suits, ask_of};
+    ghost use Rattle.std.specs.Prelude.{◌≡◌, ◌↔◌, IsTrue};
 
-    /// What a thread asks for at the step that this event is logged of.
+    /// What a thread asks for at the step that this event is logged of. An entry for writing may be logged of a try too.
     pub fn ask(self) -> Ask
         ensures { result ≡ ask_of self }
     {
@@ -36,6 +40,18 @@ impl Event {
             Event::Answer(kind, _) => Ask::Env(kind),
             Event::Read { object, .. } => Ask::Enter(object, Access::Reading),
             Event::Write { object, .. } => Ask::Enter(object, Access::Writing),
+            Event::Try { object } => Ask::Try(object),
+        }
+    }
+
+    /// Whether a step that asks so may log this event: the kinds agree, or the objects and what they are entered for. A try is
+    /// logged as an entry for writing where it got in, and else as refused.
+    pub fn suits(self, ask: Ask) -> bool
+        ensures { IsTrue result ↔ Suits ask self }
+    {
+        match self {
+            Event::Write { object, .. } if ask == Ask::Try(object) => true,
+            _ => self.ask() == ask,
         }
     }
 }

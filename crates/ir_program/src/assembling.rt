@@ -84,11 +84,11 @@ fn put<W: Sink>(image: &mut W, bytes: &[u8]) -> u8
     }
 }
 
-/// Assembles a source: writes its image, or tells its first fault as a line `line L error C`; where the source's file is
-/// named, that fault is to be explained, and a second line says by that name, the line's number, the cause in words and
-/// the line's text what is wrong. The answer is the exit status: 0 where all of the image was written, 3 where the source
-/// has a fault, which was told and nothing written; 1 where memory ran out, with nothing written, or a writer failed. A
-/// byte of the source above 0x7E counts as the byte 1.
+/// Assembles a source: writes its image, or tells its first fault as a line `line L error C`. Where the source's file is
+/// named, to have a fault explained, a second line has that name, the line's number, the cause in words and the line's
+/// text. The answer is the exit status: 0 where all of the image was written, 3 where the source has a fault, which was
+/// told and nothing written; 1 where memory ran out, with nothing written, or a writer failed. A byte of the source above
+/// 0x7E counts as the byte 1.
 pub fn asm_run<W: Sink, E: Sink>(
     alloc: Global,
     source: &[u8],

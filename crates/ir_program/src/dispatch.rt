@@ -422,6 +422,7 @@ where
         &mut outputs,
         out,
         faults,
+        arguments.profile,
     )
 }
 

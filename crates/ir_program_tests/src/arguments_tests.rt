@@ -3,7 +3,7 @@
 use crate::device_tests::{ENDLESS, empty_page};
 use ir_arguments::{ASM_AFTER, Asked, parsed};
 use ir_program::asm_run;
-use ir_thread::Call;
+use ir_thread::{Call, Profile};
 use std::test::Fail;
 
 fn asked(rt: &HostRuntime, line: &str) -> Result<Asked, Fail> {
@@ -14,7 +14,7 @@ fn asked(rt: &HostRuntime, line: &str) -> Result<Asked, Fail> {
     Ok(parsed(rt.alloc(), arguments.as_slice()))
 }
 
-const WRONG: [(&str, &str); 8] = [
+const WRONG: [(&str, &str); 11] = [
     (
         "ir asm",
         "the following required arguments were not provided: <SOURCE> <IMAGE>",
@@ -34,6 +34,18 @@ const WRONG: [(&str, &str); 8] = [
     (
         "ir record a.img a.trc --random 1x",
         "--random: '1x' is no number up to 18446744073709551615",
+    ),
+    (
+        "ir record a.img a.trc --profile 3",
+        "--profile: '3' is neither 1 nor 2",
+    ),
+    (
+        "ir record a.img a.trc --profile -1",
+        "--profile: '-1' is neither 1 nor 2",
+    ),
+    (
+        "ir record a.img a.trc --profile=01",
+        "--profile: '01' is neither 1 nor 2",
     ),
     (
         "ir record a.img a.trc --fast",
@@ -67,6 +79,21 @@ fn a_list_may_begin_with_a_hyphen(rt: HostRuntime) -> Result<(), Fail> {
             )
         }
         _ => assert!(rt; false),
+    }
+    Ok(())
+}
+
+#[test]
+fn the_first_profile_is_taken_where_none_is_given(rt: HostRuntime) -> Result<(), Fail> {
+    for &(line, wanted) in &[
+        ("ir record a.img a.trc", Profile::One),
+        ("ir record a.img a.trc --profile 1", Profile::One),
+        ("ir record a.img a.trc --profile 2", Profile::Two),
+    ] {
+        match asked(&rt, line)? {
+            Asked::Recording(arguments) => assert_eq!(rt; arguments.profile, wanted),
+            _ => assert!(rt; false),
+        }
     }
     Ok(())
 }
@@ -139,8 +166,8 @@ fn the_help_numbers_each_call(rt: HostRuntime) -> Result<(), Fail> {
         let next = last.wrapping_add(1);
         assert_eq!(rt; number.parse::<u32>().ok(), Some(next));
         last = next;
-        assert!(rt; Call::of_number(last).is_some());
+        assert!(rt; Call::of_number(Profile::Two, last).is_some());
     }
-    assert!(rt; last > 0 && Call::of_number(last.wrapping_add(1)).is_none());
+    assert!(rt; last > 0 && Call::of_number(Profile::Two, last.wrapping_add(1)).is_none());
     Ok(())
 }

@@ -126,7 +126,7 @@ fn prepared<R: Threads + Wait + Sync + Clock + Eprint + AllocGlobal>(
 const EXPLAINED: &str = "line 2 error 2\nbad.s:2: an unknown instruction or directive: x\n";
 
 // The words, the exit status, and what is told.
-const ROWS: [(&str, u8, &str); 47] = [
+const ROWS: [(&str, u8, &str); 48] = [
     (
         "ir asm",
         2,
@@ -162,6 +162,11 @@ const ROWS: [(&str, u8, &str); 47] = [
         "ir record d.img d.trc --random 1x",
         2,
         "ir: --random: '1x' is no number up to 18446744073709551615\n",
+    ),
+    (
+        "ir record d.img d.trc --profile 3",
+        2,
+        "ir: --profile: '3' is neither 1 nor 2\n",
     ),
     (
         "ir asm d.s d.s",

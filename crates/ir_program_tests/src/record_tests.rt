@@ -9,6 +9,7 @@ use ir_object::OpenGate;
 use ir_program::asm_run;
 use ir_record_run::record_run;
 use ir_runs::EnvKind;
+use ir_thread::Profile;
 use ir_trace::{Trace, read_trace};
 use std::alloc::AllocGlobal;
 use std::sync::Wait;
@@ -90,6 +91,28 @@ const OUT_OF_ORDER: &str = "
         ecall
 ";
 
+// Tries to enter, and ends with the answer.
+const TRY: &str = "
+        .objects 1
+        addi a0, zero, 0
+        addi a7, zero, 13
+        ecall
+        addi a7, zero, 1
+        ecall
+";
+
+// Two threads that do.
+const TWO_TRY: &str = "
+        .objects 1
+        .thread main
+        .thread main
+main:   addi a0, zero, 0
+        addi a7, zero, 13
+        ecall
+        addi a7, zero, 1
+        ecall
+";
+
 // Two threads that ask for the time twice.
 const TWICE_THE_TIME: &str = "
         .thread main
@@ -167,6 +190,7 @@ struct How<'a> {
     trace_calls: u64,
     output_calls: u64,
     out_calls: u64,
+    profile: Profile,
 }
 
 const HOW: How<'static> = How {
@@ -177,6 +201,7 @@ const HOW: How<'static> = How {
     trace_calls: ENDLESS,
     output_calls: ENDLESS,
     out_calls: ENDLESS,
+    profile: Profile::One,
 };
 
 fn recorded<R: Threads + Wait + Sync + Clock + AllocGlobal>(
@@ -201,6 +226,7 @@ fn recorded<R: Threads + Wait + Sync + Clock + AllocGlobal>(
         &mut outputs,
         &mut out,
         &mut faults,
+        how.profile,
     );
     Run {
         status,
@@ -265,6 +291,77 @@ fn a_reader_is_logged_and_then_a_writer(rt: HostRuntime) {
         5, 0, 0, 0, 0, 0, 1, 0, 0, 0, // write, after one reader
     ];
     assert_eq!(rt; run.trace.bytes.as_slice(), expected.as_slice());
+}
+
+const WITH_TRIES: How<'static> = How {
+    profile: Profile::Two,
+    ..HOW
+};
+
+#[test]
+fn a_try_enters_where_nobody_is_inside(rt: HostRuntime) {
+    let image = image(&rt, TRY);
+    let expected: [u8; 43] = [
+        0x49, 0x52, 0x54, 0x32, 1, 1, 0, 0, 0xe8, 3, 0, 0, 0, 0, 0, 0, // header of the second form
+        6, 0, 0, 0, 0, 0, 0, 0, 1, 1, 0, 0, 0, 1, 0, 0, 0, // the thread
+        5, 0, 0, 0, 0, 0, 0, 0, 0, 0, // its entry
+    ];
+    for order in [Some("0"), None] {
+        let run = recorded(
+            &rt,
+            image.as_slice(),
+            How {
+                order,
+                ..WITH_TRIES
+            },
+        );
+        assert_eq!(rt; run.status, 0);
+        assert_eq!(rt; run.trace.bytes.as_slice(), expected.as_slice());
+        assert_eq!(rt;
+            run.out.bytes.as_slice(),
+            b"thread 0 end 1 code 1 steps 6 events 1\n".as_slice()
+        );
+    }
+}
+
+#[test]
+fn a_try_beside_a_writer_is_refused(rt: HostRuntime) {
+    let image = image(&rt, TWO_TRY);
+    let order = Some("0x3,1x5");
+    let run = recorded(
+        &rt,
+        image.as_slice(),
+        How {
+            order,
+            ..WITH_TRIES
+        },
+    );
+    let expected: [u8; 62] = [
+        0x49, 0x52, 0x54, 0x32, 2, 1, 0, 0, 0xe8, 3, 0, 0, 0, 0, 0, 0, // header of the second form
+        6, 0, 0, 0, 0, 0, 0, 0, 1, 1, 0, 0, 0, 1, 0, 0, 0, // thread 0
+        5, 0, 0, 0, 0, 0, 0, 0, 0, 0, // its entry
+        5, 0, 0, 0, 0, 0, 0, 0, 1, 0, 0, 0, 0, 1, 0, 0, 0, // thread 1
+        6, 0, // its refused try
+    ];
+    assert_eq!(rt; run.trace.bytes.as_slice(), expected.as_slice());
+    assert_eq!(rt;
+        run.out.bytes.as_slice(),
+        b"thread 0 end 1 code 1 steps 6 events 1\nthread 1 end 1 code 0 steps 5 events 1\n".as_slice()
+    );
+}
+
+#[test]
+fn the_first_profile_has_no_tries(rt: HostRuntime) {
+    let image = image(&rt, TRY);
+    for order in [Some("0"), None] {
+        let run = recorded(&rt, image.as_slice(), How { order, ..HOW });
+        assert_eq!(rt; run.status, 0);
+        assert_eq!(rt;
+            run.out.bytes.as_slice(),
+            b"thread 0 end 8 code 0 steps 3 events 0\n".as_slice()
+        );
+        assert_eq!(rt; run.trace.bytes.get(..4), Some(b"IRT1".as_slice()));
+    }
 }
 
 #[test]

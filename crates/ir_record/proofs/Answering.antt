@@ -15,7 +15,7 @@ use Rattle.ir_log.specs.Logged.{Logged}
 use Rattle.ir_log.specs.declared.event.Event.TheVariants as event
 use Rattle.ir_record.specs.Progress.{TookIf, IsTape, log_at, answers_at, labels_at}
 use Rattle.ir_record.specs.Worlds.{Answered}
-use Rattle.ir_record.proofs.Steps.{took_one}
+use Rattle.ir_record.proofs.Steps.{took_one, no_try}
 use Rattle.ir_record.proofs.Running.{flat_few}
 use Rattle.ir_record.proofs.Logs.{tape_pushed, labels_pushed, labels_other, result_fits}
 
@@ -58,6 +58,7 @@ answer_took f g logs more t value kind a answers given l e =
       below = a.below;
       few = flat_few f a.flat;
       can = answer_can f t value kind a.asked a.fits;
+      enters = no_try f t value (Env kind) a.asked (λ o e. cc e);
       taken = a.taken;
       code = a.code;
       threads = a.threads;

@@ -1,4 +1,5 @@
 -- One run made of what the workers did.
+use Rattle.ir_thread.specs.declared.profile.Profile.{Profile}
 use Rattle.std.proofs.Common.{◌≡◌, ℕ, zero, suc, ◌+◌, ◌*◌, ◌<◌, ◌≤◌, false, List, [], ◌∷◌, ◌++◌, map, length, get_or, take, drop, refl, sym, ap, ◌∙◌, subst, arith, inl, inr}
 use Rattle.std.proofs.Math.Path.{fun_ext}
 use Rattle.std.proofs.lemmas.Bool.{cases_lt}
@@ -36,12 +37,12 @@ use Rattle.ir_record.proofs.Telling.{StandAtEnd, emitted_there, printed_there, a
 
 -- ---- the start
 
-thread_at : (g : Guest) (budget from n t : ℕ) → t < n
-    → get_or (start_threads g budget from n) t idle ≡ thread.start_state g (from + t) budget
-thread_at g budget from zero t l = absurd (omega arith)
-thread_at g budget from (suc n) zero l = ap (λ z. thread.start_state g z budget) (let e : from ≡ from + 0 = omega arith in e)
-thread_at g budget from (suc n) (suc t) l = thread_at g budget (suc from) n t (omega (arith, l))
-    ∙ ap (λ z. thread.start_state g z budget) (let e : suc from + t ≡ from + suc t = omega arith in e)
+thread_at : (g : Guest) (budget : ℕ) (profile : Profile) (from n t : ℕ) → t < n
+    → get_or (start_threads g budget profile from n) t idle ≡ thread.start_state g (from + t) budget profile
+thread_at g budget profile from zero t l = absurd (omega arith)
+thread_at g budget profile from (suc n) zero l = ap (λ z. thread.start_state g z budget profile) (let e : from ≡ from + 0 = omega arith in e)
+thread_at g budget profile from (suc n) (suc t) l = thread_at g budget profile (suc from) n t (omega (arith, l))
+    ∙ ap (λ z. thread.start_state g z budget profile) (let e : suc from + t ≡ from + suc t = omega arith in e)
 
 drop_nil : (k : ℕ) → drop {A = ℕ} k [] ≡ []
 drop_nil zero = refl
@@ -75,18 +76,18 @@ cells_count : (ws : List ℕ) (n : ℕ) → length (start_cells ws n) ≡ n
 cells_count ws zero = refl
 cells_count ws (suc n) = let e = cells_count (drop object_words ws) n in omega (arith, e)
 
-objects_same : (g : Guest) (budget : ℕ) → IsGuest g → (tables (start_flat g budget)).objects ≡ start_objects g
-objects_same g budget guest = fun_ext (λ o. let c = cell_of (start_flat g budget) o in λ i. record {
+objects_same : (g : Guest) (budget : ℕ) (profile : Profile) → IsGuest g → (tables (start_flat g budget profile)).objects ≡ start_objects g
+objects_same g budget profile guest = fun_ext (λ o. let c = cell_of (start_flat g budget profile) o in λ i. record {
   version = ap (λ f. f.version) (fields_none g.words (object_count g) o) i;
   left = ap (λ f. f.left) (fields_none g.words (object_count g) o) i;
-  inside = fun_ext (λ t. start_none g budget o t) i;
+  inside = fun_ext (λ t. start_none g budget profile o t) i;
   words = ap (λ ws. get_or-words ws) (contents o) i;
 })
   where
     get_or-words : List ℕ → ℕ → ℕ
     get_or-words ws j = get_or ws j 0
 
-    contents : (o : ℕ) → (cell_of (start_flat g budget) o).words ≡ take object_words (drop (object_words * o) g.words)
+    contents : (o : ℕ) → (cell_of (start_flat g budget profile) o).words ≡ take object_words (drop (object_words * o) g.words)
     contents o = elim (cases_lt o (object_count g)) [
       | inl l ↦ words_at g.words (object_count g) o l
       | inr past ↦ ap (λ c. c.words) (get_or_past (start_cells g.words (object_count g)) o empty
@@ -123,31 +124,31 @@ tracks_at g es (w ∷ ws) zero l h = tracks_left g es w.me.0 (tracks_of ws) h
 tracks_at g es (w ∷ ws) (suc t) l h = tracks_at g es ws t (omega (arith, l)) (tracks_right g es w.me.0 (tracks_of ws) h)
 
 -- what the workers of all threads have done
-pub record AllOver (g : Guest) (budget : ℕ) (before : List (List Answered)) (ws : List Work) : Type 0 where
+pub record AllOver (g : Guest) (budget : ℕ) (profile : Profile) (before : List (List Answered)) (ws : List Work) : Type 0 where
   pub guest : IsGuest g
   pub size : length ws ≡ length g.entries
-  pub working : (t : ℕ) → t < length g.entries → IsWorking g budget t (answers_at before t) (work_at ws t)
+  pub working : (t : ℕ) → t < length g.entries → IsWorking g budget profile t (answers_at before t) (work_at ws t)
   pub done : (t : ℕ) → t < length g.entries → ask_of g.code (work_at ws t).thread ≡ ask.Done
 
 -- the part of thread t in an order of all object steps
-record Part (g : Guest) (budget : ℕ) (ws : List Work) (es : List (ℕ × Shared)) (t : ℕ) : Type 0 where
+record Part (g : Guest) (budget : ℕ) (profile : Profile) (ws : List Work) (es : List (ℕ × Shared)) (t : ℕ) : Type 0 where
   replies : List ℕ
-  may : MayRun (thread_machine g.code) (thread_of (start_flat g budget) t) replies
-  steps_are : shared_steps (thread_machine g.code) (thread_of (start_flat g budget) t) replies ≡ of_thread t es
+  may : MayRun (thread_machine g.code) (thread_of (start_flat g budget profile) t) replies
+  steps_are : shared_steps (thread_machine g.code) (thread_of (start_flat g budget profile) t) replies ≡ of_thread t es
   none : length g.entries ≤ t → replies ≡ []
-  done : shared_ask (ask_of g.code (alone_after (thread_machine g.code) (thread_of (start_flat g budget) t) replies)) ≡ machine.Done
-  threads_are : t < length g.entries → alone_after (thread_machine g.code) (thread_of (start_flat g budget) t) replies ≡
+  done : shared_ask (ask_of g.code (alone_after (thread_machine g.code) (thread_of (start_flat g budget profile) t) replies)) ≡ machine.Done
+  threads_are : t < length g.entries → alone_after (thread_machine g.code) (thread_of (start_flat g budget profile) t) replies ≡
       (work_at ws t).thread
-  logged : t < length g.entries → events (alone_trail (thread_machine g.code) (thread_of (start_flat g budget) t) replies
+  logged : t < length g.entries → events (alone_trail (thread_machine g.code) (thread_of (start_flat g budget profile) t) replies
       (of_thread t (order_labels (start_objects g) es))) ≡ map logging.label_of (work_at ws t).log.events
 
-part : (g : Guest) (budget : ℕ) (before : List (List Answered)) (ws : List Work) (v : View) (objects : List Cell)
-    → AllOver g budget before ws → (e : IsEnd g v objects) → v ≡ tracks_of ws → (t : ℕ) → Part g budget ws e.steps t
-part g budget before ws v objects over e view t = elim (cases_lt t (length g.entries)) [
+part : (g : Guest) (budget : ℕ) (profile : Profile) (before : List (List Answered)) (ws : List Work) (v : View) (objects : List Cell)
+    → AllOver g budget profile before ws → (e : IsEnd g v objects) → v ≡ tracks_of ws → (t : ℕ) → Part g budget profile ws e.steps t
+part g budget profile before ws v objects over e view t = elim (cases_lt t (length g.entries)) [
   | inl l ↦
       let i = over.working t l in
-      let x0 : thread_of (start_flat g budget) t ≡ thread.start_state g t budget = thread_at g budget 0 (length g.entries) t l
-      ∙ ap (λ z. thread.start_state g z budget) (let z : 0 + t ≡ t = omega arith in z) in
+      let x0 : thread_of (start_flat g budget profile) t ≡ thread.start_state g t budget profile = thread_at g budget profile 0 (length g.entries) t l
+      ∙ ap (λ z. thread.start_state g z budget profile) (let z : 0 + t ≡ t = omega arith in z) in
       let track : IsTrack (length g.entries) (start_objects g) e.steps (record { thread = t; steps = i.track }) =
       (subst (AreTracks g e.steps) (ap (λ (z : M). z.0) i.view)
       (tracks_at g e.steps ws t (let n = over.size in omega (arith, n, l)) (subst (AreTracks g e.steps) view e.tracks))).0 in
@@ -162,14 +163,14 @@ part g budget before ws v objects over e view t = elim (cases_lt t (length g.ent
             ∙ ap shared_ask (over.done t l);
         threads_are = λ _. ap (λ x. alone_after m x w.replies) x0 ∙ w.now;
         logged = λ _. ap (λ x. events (alone_trail m x w.replies (of_thread t (order_labels (start_objects g) e.steps)))) x0
-            ∙ ap (λ z. events (alone_trail m (thread.start_state g t budget) w.replies z)) track.labels_are ∙ w.logged;
+            ∙ ap (λ z. events (alone_trail m (thread.start_state g t budget profile) w.replies z)) track.labels_are ∙ w.logged;
       }
   | inr past ↦ record {
     replies = [];
     may = tt;
     steps_are = sym (none_beyond (thread_machine g.code) (length g.entries) (object_count g) (start_objects g) e.steps e.legal t past);
     none = λ _. refl;
-    done = start_idle g budget t past;
+    done = start_idle g budget profile t past;
     threads_are = λ l. absurd (omega (arith, past, l));
     logged = λ l. absurd (omega (arith, past, l));
   }
@@ -177,19 +178,19 @@ part g budget before ws v objects over e view t = elim (cases_lt t (length g.ent
 
 -- ---- the run
 
-pub recorded_of : (g : Guest) (budget : ℕ) (before : List (List Answered)) (ws : List Work) (v : View) (objects : List Cell)
-    → AllOver g budget before ws → (e : IsEnd g v objects) → v ≡ tracks_of ws
-    → (trace : Recorded) → trace.objects ≡ object_count g → trace.budget ≡ budget → length trace.threads ≡ length g.entries
+pub recorded_of : (g : Guest) (budget : ℕ) (profile : Profile) (before : List (List Answered)) (ws : List Work) (v : View) (objects : List Cell)
+    → AllOver g budget profile before ws → (e : IsEnd g v objects) → v ≡ tracks_of ws
+    → (trace : Recorded) → trace.objects ≡ object_count g → trace.budget ≡ budget → trace.profile ≡ profile → length trace.threads ≡ length g.entries
     → ((t : ℕ) → t < length g.entries → IsThreadTrace (work_at ws t).thread (work_at ws t).log (get_or trace.threads t absent))
     → (outputs : List (List ℕ)) → outputs ≡ map (λ w. w.thread.output) ws → (answers : List (List Answered))
-    → answers ≡ map (λ w. w.answers) ws → IsRecordingOfSome g budget before trace outputs answers
-recorded_of g budget before ws v objects over e view trace counted limit all traces outputs printed answers given =
+    → answers ≡ map (λ w. w.answers) ws → IsRecordingOfSome g budget profile before trace outputs answers
+recorded_of g budget profile before ws v objects over e view trace counted limit same_profile all traces outputs printed answers given =
     let m : Machine thread.State = thread_machine g.code in
-    let f : Flat = start_flat g budget in
+    let f : Flat = start_flat g budget profile in
     let s : State thread.State = tables f in
-    let p : (t : ℕ) → Part g budget ws e.steps t = part g budget before ws v objects over e view in
+    let p : (t : ℕ) → Part g budget profile ws e.steps t = part g budget profile before ws v objects over e view in
     let rs : ℕ → List ℕ = λ t. (p t).replies in
-    let same : s.objects ≡ start_objects g = objects_same g budget over.guest in
+    let same : s.objects ≡ start_objects g = objects_same g budget profile over.guest in
     let run : List Step = splice m s.now rs (length g.entries) e.steps in
     let k = spliced m s.now s.objects rs (length g.entries) e.steps (λ t l. (p t).none l) (λ t. (p t).may) (λ t. (p t).steps_are)
     (subst (λ z. IsAllowed m z e.steps) (sym same) (allowed m (length g.entries) (object_count g) (start_objects g) e.steps e.legal)) in
@@ -199,7 +200,7 @@ recorded_of g budget before ws v objects over e view trace counted limit all tra
     let own_log : (t : ℕ) → t < length g.entries → map logging.label_of (logs t).events ≡ log m s run t = λ t l.
     sym (ap events (k.trails t) ∙ ap (λ z. events (alone_trail m (s.now t) (rs t) (of_thread t (order_labels z e.steps)))) same
     ∙ (p t).logged l) in
-    let stand : StandAtEnd g budget run before now logs emitted = record {
+    let stand : StandAtEnd g budget profile run before now logs emitted = record {
       runs = k.ok;
       threads = λ t l. sym (k.threads t ∙ (p t).threads_are l);
       logged = own_log;
@@ -209,13 +210,13 @@ recorded_of g budget before ws v objects over e view trace counted limit all tra
     record {
       run = run;
       of = record {
-        emitted = emitted_there g budget run before now logs emitted stand (λ t. ap (λ x. shared_ask (ask_of g.code x)) (k.threads t) ∙ (p t).done)
-            trace counted limit all traces;
-        printed = printed_there g budget run before now logs emitted stand outputs
+        emitted = emitted_there g budget profile run before now logs emitted stand (λ t. ap (λ x. shared_ask (ask_of g.code x)) (k.threads t) ∙ (p t).done)
+            trace counted limit same_profile all traces;
+        printed = printed_there g budget profile run before now logs emitted stand outputs
             (ap (λ z. length z) printed ∙ length-map ws (λ w. w.thread.output) ∙ size)
             (λ t l. ap (λ z. slice_get z t) printed ∙ slice_get-map (λ w. w.thread.output) ws t
             ∙ ap (option_map (λ w. w.thread.output)) (slice_get-get_or ws t no_work (omega (arith, l, size))));
-        answered = answered_there g budget run before now logs emitted stand answers
+        answered = answered_there g budget profile run before now logs emitted stand answers
             (ap (λ z. length z) given ∙ length-map ws (λ w. w.answers) ∙ size)
             (λ t l. ap (λ z. slice_get z t) given ∙ slice_get-map (λ w. w.answers) ws t
             ∙ ap (option_map (λ w. w.answers)) (slice_get-get_or ws t no_work (omega (arith, l, size))));

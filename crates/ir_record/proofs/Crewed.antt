@@ -1,4 +1,5 @@
 -- What the workers of all threads come to.
+use Rattle.ir_thread.specs.declared.profile.Profile.{Profile}
 use Rattle.std.proofs.Common.{◌≡◌, ℕ, zero, suc, ◌+◌, ◌<◌, Bool, false, List, [], ◌∷◌, ◌++◌, map, length, get_or, replicate, None, refl, sym, ap, ◌∙◌, subst, arith, append-nil}
 use Rattle.std.proofs.lemmas.List.{length-replicate, length-map}
 use Rattle.std.specs.List.{AllByRecursion}
@@ -25,20 +26,21 @@ use Rattle.ir_record.proofs.Working.{worked_starts}
 
 -- ---- before the first step
 
-new_working : {W : Type 0} (answers : W → List Answered) (g : Guest) (budget t : ℕ) (id : TableId) (w : Worker W) → IsNew g budget id t w
-    → IsWorking g budget t (answers w.world) (work_of answers w)
-new_working answers g budget t id w new = record {
+new_working : {W : Type 0} (answers : W → List Answered) (g : Guest) (budget : ℕ) (profile : Profile) (t : ℕ) (id : TableId) (w : Worker W) → IsNew g budget profile id t w
+    → IsWorking g budget profile t (answers w.world) (work_of answers w)
+new_working answers g budget profile t id w new = record {
   track = [];
   view = new.me;
   worked = subst (λ (z : thread.State × Logged). Rattle.ir_record.specs.Working.Worked (thread_machine g.code)
-      (thread.start_state g t budget) z.0 [] [] (map Rattle.ir_log.specs.Logging.label_of z.1.events))
-      (λ i. (sym new.thread i, sym new.log i)) (worked_starts (thread_machine g.code) (thread.start_state g t budget));
+      (thread.start_state g t budget profile) z.0 [] [] (map Rattle.ir_log.specs.Logging.label_of z.1.events))
+      (λ i. (sym new.thread i, sym new.log i)) (worked_starts (thread_machine g.code) (thread.start_state g t budget profile));
   held = λ o. sym (ap (λ x. held_at x.held o) new.thread ∙ none o);
   places = ap (λ x. length x.held) new.thread ∙ length-replicate (object_count g) None;
+  profile_is = ap (λ x. x.profile) new.thread;
   few = let e = ap (λ x. x.events) new.thread in omega arith;
   room = ap (λ l. l.room) new.log;
   count = ap (λ l. length l.events) new.log ∙ sym (ap (λ x. x.events) new.thread);
-  events_fit = subst (λ l. AllByRecursion (Rattle.ir_trace.specs.Recorded.IsEvent (object_count g)) l.events) (sym new.log) tt;
+  events_fit = subst (λ l. AllByRecursion (Rattle.ir_trace.specs.Recorded.IsEvent profile (object_count g)) l.events) (sym new.log) tt;
   answered = sym (ap (λ l. answers w.world ++ Rattle.ir_record.specs.Worlds.answers_in (map Rattle.ir_log.specs.Logging.label_of l.events))
       new.log ∙ append-nil (answers w.world));
 }
@@ -51,21 +53,21 @@ new_working answers g budget t id w new = record {
         go (suc n) zero = refl
         go (suc n) (suc o) = go n o
 
-pub ready : {W : Type 0} (answers : W → List Answered) (broken : W → Bool) (g : Guest) (budget t : ℕ) (id : TableId) (ws : List (Worker W))
-    (worlds : List W) → AreNew g budget id t ws → map (λ w. w.world) ws ≡ worlds → NoneFailed (map broken worlds)
+pub ready : {W : Type 0} (answers : W → List Answered) (broken : W → Bool) (g : Guest) (budget : ℕ) (profile : Profile) (t : ℕ) (id : TableId) (ws : List (Worker W))
+    (worlds : List W) → AreNew g budget profile id t ws → map (λ w. w.world) ws ≡ worlds → NoneFailed (map broken worlds)
     → (k : ℕ) (d : Worker W) → k < length ws → IsReadyWorker answers broken g id g.code (get_or ws k d)
-ready answers broken g budget t id [] worlds new e works k d l = absurd (omega arith)
-ready answers broken g budget t id (w ∷ ws) worlds new e works zero d l = record {
+ready answers broken g budget profile t id [] worlds new e works k d l = absurd (omega arith)
+ready answers broken g budget profile t id (w ∷ ws) worlds new e works zero d l = record {
   seated = record {
     seat = new.0.table;
     same_code = refl;
     worker =
-        (budget, t, answers w.world, new_working answers g budget t id w new.0);
+        (budget, profile, t, answers w.world, new_working answers g budget profile t id w new.0);
   };
   works = ap (λ z. get_or (map broken z) 0 false) e ∙ works 0;
 }
-ready answers broken g budget t id (w ∷ ws) worlds new e works (suc k) d l =
-    ready answers broken g budget (suc t) id ws (map (λ z. z.world) ws) new.1
+ready answers broken g budget profile t id (w ∷ ws) worlds new e works (suc k) d l =
+    ready answers broken g budget profile (suc t) id ws (map (λ z. z.world) ws) new.1
     refl (λ u. ap (λ z. get_or (map broken z) (suc u) false) e ∙ works (suc u)) k d (omega (arith, l))
 
 -- ---- after the last
@@ -80,50 +82,50 @@ ran_size P (x ∷ xs) (y ∷ ys) p = ap suc (ran_size P xs ys p.1)
 abbrev pub NoneBroken : {W : Type 0} → (W → Bool) → List (Worker W) → Type 0
 NoneBroken broken ws = (t : ℕ) → get_or (map (λ w. broken w.world) ws) t false ≡ false
 
-module _ {W O : Type 0} (answers : W → List Answered) (broken : W → Bool) (origin : W → O) (g : Guest) (budget : ℕ) (id : TableId) where
+module _ {W O : Type 0} (answers : W → List Answered) (broken : W → Bool) (origin : W → O) (g : Guest) (budget : ℕ) (profile : Profile) (id : TableId) where
   abbrev R : Worker W → Worker W → Type 0
   R = RanToEnd answers broken origin g
 
-  pub at_end : (t : ℕ) (vs ws : List (Worker W)) → AreNew g budget id t vs → Pairs R vs ws → NoneBroken broken ws → (k : ℕ) → k < length vs
-      → IsWorking g budget (t + k) (answers_at (map answers (map (λ w. w.world) vs)) k) (work_at (map (work_of answers) ws) k)
+  pub at_end : (t : ℕ) (vs ws : List (Worker W)) → AreNew g budget profile id t vs → Pairs R vs ws → NoneBroken broken ws → (k : ℕ) → k < length vs
+      → IsWorking g budget profile (t + k) (answers_at (map answers (map (λ w. w.world) vs)) k) (work_at (map (work_of answers) ws) k)
       × (ask_of g.code (work_at (map (work_of answers) ws) k).thread ≡ ask.Done)
   at_end t [] ws new p works k l = absurd (omega arith)
   at_end t (v ∷ vs) [] new p works k l = absurd p
   at_end t (v ∷ vs) (w ∷ ws) new p works zero l = (
-    subst (λ z. IsWorking g budget z (answers v.world) (work_of answers w)) (let e : t ≡ t + 0 = omega arith in e)
-        ((p.0.stays (works 0)).still budget t (answers v.world) (new_working answers g budget t id v new.0)),
+    subst (λ z. IsWorking g budget profile z (answers v.world) (work_of answers w)) (let e : t ≡ t + 0 = omega arith in e)
+        ((p.0.stays (works 0)).still budget profile t (answers v.world) (new_working answers g budget profile t id v new.0)),
     p.0.done (works 0),
   )
   at_end t (v ∷ vs) (w ∷ ws) new p works (suc k) l =
       let r = at_end (suc t) vs ws new.1 p.1 (λ u. works (suc u)) k (omega (arith, l)) in (
-        subst (λ z. IsWorking g budget z (answers_at (map answers (map (λ w. w.world) vs)) k) (work_at (map (work_of answers) ws) k))
+        subst (λ z. IsWorking g budget profile z (answers_at (map answers (map (λ w. w.world) vs)) k) (work_at (map (work_of answers) ws) k))
             (let e : suc t + k ≡ t + suc k = omega arith in e) r.0,
         r.1,
       )
 
   -- the seats, and what is gathered
-  pub seats_end : (t : ℕ) (vs ws : List (Worker W)) → AreNew g budget id t vs → Pairs R vs ws → NoneBroken broken ws
+  pub seats_end : (t : ℕ) (vs ws : List (Worker W)) → AreNew g budget profile id t vs → Pairs R vs ws → NoneBroken broken ws
       → AllByRecursion (IsSeatOf id) (map (λ w. w.seat) ws)
   seats_end t [] [] new p works = tt
   seats_end t [] (w ∷ ws) new p works = absurd p
   seats_end t (v ∷ vs) [] new p works = tt
   seats_end t (v ∷ vs) (w ∷ ws) new p works =
-      let i = (p.0.stays (works 0)).still budget t (answers v.world) (new_working answers g budget t id v new.0) in (
+      let i = (p.0.stays (works 0)).still budget profile t (answers v.world) (new_working answers g budget profile t id v new.0) in (
         record { table = (p.0.stays (works 0)).seat ∙ new.0.table; empty = ap (λ (z : M). z.1) i.view },
         seats_end (suc t) vs ws new.1 p.1
             (λ u. works (suc u)),
       )
 
-  pub over_end : (objects t : ℕ) (vs ws : List (Worker W)) → objects ≡ object_count g → AreNew g budget id t vs → Pairs R vs ws
-      → NoneBroken broken ws → AllByRecursion (IsOver objects) ws
+  pub over_end : (objects t : ℕ) (vs ws : List (Worker W)) → objects ≡ object_count g → AreNew g budget profile id t vs → Pairs R vs ws
+      → NoneBroken broken ws → AllByRecursion (IsOver profile objects) ws
   over_end objects t [] [] n new p works = tt
   over_end objects t [] (w ∷ ws) n new p works = absurd p
   over_end objects t (v ∷ vs) [] n new p works = tt
   over_end objects t (v ∷ vs) (w ∷ ws) n new p works =
-      let i = (p.0.stays (works 0)).still budget t (answers v.world) (new_working answers g budget t id v new.0) in (
+      let i = (p.0.stays (works 0)).still budget profile t (answers v.world) (new_working answers g budget profile t id v new.0) in (
         record {
           ended = (subst (Permits w.thread) (p.0.done (works 0)) (ask_permits g.code w.thread)).0;
-          events_fit = subst (λ z. AllByRecursion (Rattle.ir_trace.specs.Recorded.IsEvent z) w.log.events) (sym n) i.events_fit;
+          events_fit = subst (λ z. AllByRecursion (Rattle.ir_trace.specs.Recorded.IsEvent profile z) w.log.events) (sym n) i.events_fit;
         },
         over_end objects (suc t) vs ws n new.1 p.1 (λ u. works (suc u)),
       )
@@ -149,14 +151,14 @@ module _ {W O : Type 0} (answers : W → List Answered) (broken : W → Bool) (o
   origins_end (v ∷ vs) [] p = absurd p
   origins_end (v ∷ vs) (w ∷ ws) p = λ i. p.0.world.same_origin i ∷ origins_end vs ws p.1 i
 
-  pub all_over : (vs ws : List (Worker W)) (worlds : List W) → IsGuest g → AreNew g budget id 0 vs → Pairs R vs ws → NoneBroken broken ws
-      → map (λ w. w.world) vs ≡ worlds → length worlds ≡ length g.entries → AllOver g budget (map answers worlds) (map (work_of answers) ws)
+  pub all_over : (vs ws : List (Worker W)) (worlds : List W) → IsGuest g → AreNew g budget profile id 0 vs → Pairs R vs ws → NoneBroken broken ws
+      → map (λ w. w.world) vs ≡ worlds → length worlds ≡ length g.entries → AllOver g budget profile (map answers worlds) (map (work_of answers) ws)
   all_over vs ws worlds guest new p works e n =
       let long : length vs ≡ length g.entries = sym (length-map vs (λ w. w.world)) ∙ ap (λ z. length z) e ∙ n in record {
         guest = guest;
         size = length-map ws (work_of answers) ∙ ran_size R vs ws p ∙ long;
-        working = λ t l. subst (λ z. IsWorking g budget t (answers_at (map answers z) t) (work_at (map (work_of answers) ws) t)) e
-            (subst (λ k. IsWorking g budget k (answers_at (map answers (map (λ w. w.world) vs)) t) (work_at (map (work_of answers) ws) t))
+        working = λ t l. subst (λ z. IsWorking g budget profile t (answers_at (map answers z) t) (work_at (map (work_of answers) ws) t)) e
+            (subst (λ k. IsWorking g budget profile k (answers_at (map answers (map (λ w. w.world) vs)) t) (work_at (map (work_of answers) ws) t))
             (let z : 0 + t ≡ t = omega arith in z) (at_end 0 vs ws new p works t (omega (arith, l, long))).0);
         done = λ t l. (at_end 0 vs ws new p works t (omega (arith, l, long))).1;
       }

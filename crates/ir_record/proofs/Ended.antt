@@ -1,4 +1,5 @@
 -- What was recorded once nobody has a step.
+use Rattle.ir_thread.specs.declared.profile.Profile.{Profile}
 use Rattle.std.proofs.Common.{◌≡◌, ◌≢◌, ℕ, ◌<◌, Bool, List, [], ◌∷◌, ◌++◌, length, map, replicate, Some, None, refl, sym, ap, ◌∙◌, subst, arith, inl, inr, ◌⊎◌}
 use Rattle.std.proofs.lemmas.Bool.{cases_lt}
 use Rattle.std.proofs.lemmas.List.{get_or-replicate, length-replicate, length-map}
@@ -24,6 +25,7 @@ use Rattle.ir_runs.specs.InOrder.{HasNone, rounds}
 use Rattle.ir_record.specs.Progress.{Progress, Took, IsReady, log_at, answers_at, no_log}
 use Rattle.ir_record.specs.Recording.{IsRecording}
 use Rattle.ir_record.specs.Worlds.{Answered, NoneFailed}
+use Rattle.ir_record.proofs.Profiles.{run_profile, start_profile}
 use Rattle.ir_record.proofs.Telling.{StandAtEnd, emitted_there, printed_there, answered_there}
 
 -- ---- the start
@@ -33,23 +35,24 @@ abbrev pub new_log : Logged
 new_log = record { events = []; room = most_events }
 
 -- a recording before the first step
-abbrev pub start : Guest → ℕ → List (List Answered) → Progress
-start guest budget answers = record { flat = start_flat guest budget; logs = replicate (length guest.entries) new_log; answers = answers }
+abbrev pub start : Guest → ℕ → Profile → List (List Answered) → Progress
+start guest budget profile answers = record { flat = start_flat guest budget profile; logs = replicate (length guest.entries) new_log; answers = answers }
 
-pub start_ready : (guest : Guest) (budget : ℕ) (answers : List (List Answered)) (failed : List Bool) → length answers ≡ length guest.entries
-    → NoneFailed failed → IsReady (start guest budget answers) failed
-start_ready guest budget answers failed size works =
-    let n : length (start_threads guest budget 0 (length guest.entries)) ≡ length guest.entries =
-    threads_length guest budget 0 (length guest.entries) in
-    let own : (t : ℕ) → t < length (start_threads guest budget 0 (length guest.entries))
+pub start_ready : (guest : Guest) (budget : ℕ) (profile : Profile) (answers : List (List Answered)) (failed : List Bool) → length answers ≡ length guest.entries
+    → NoneFailed failed → IsReady (start guest budget profile answers) failed
+start_ready guest budget profile answers failed size works =
+    let n : length (start_threads guest budget profile 0 (length guest.entries)) ≡ length guest.entries =
+    threads_length guest budget profile 0 (length guest.entries) in
+    let own : (t : ℕ) → t < length (start_threads guest budget profile 0 (length guest.entries))
     → log_at (replicate (length guest.entries) new_log) t ≡ new_log =
     λ t l. get_or-replicate (length guest.entries) t new_log no_log (omega (arith, l, n)) in
     record {
       tape = record {
         one_each = length-replicate (length guest.entries) new_log ∙ sym n;
         rooms = λ t l. ap (λ z. z.room) (own t l);
-        counts = λ t l. ap (λ z. length z.events) (own t l) ∙ sym (fresh guest budget 0 (length guest.entries) t).events;
-        events_fit = λ t l. subst (λ z. AllByRecursion (IsEvent (length (start_flat guest budget).objects)) z.events) (sym (own t l)) tt;
+        counts = λ t l. ap (λ z. length z.events) (own t l) ∙ sym (fresh guest budget profile 0 (length guest.entries) t).events;
+        events_fit = λ t l. subst (λ z. AllByRecursion (IsEvent (thread_of (start_flat guest budget profile) t).profile
+            (length (start_flat guest budget profile).objects)) z.events) (sym (own t l)) tt;
       };
       worlds = size ∙ sym n;
       works = works;
@@ -68,23 +71,23 @@ done_or (machine.Put o i w) = inr (λ e. cc e)
 done_or machine.Done = inl refl
 
 -- where none of the guest's threads has a step, all threads are done
-all_done : (guest : Guest) (budget : ℕ) (run : List Step) → IsRun (thread_machine guest.code) (tables (start_flat guest budget)) run
+all_done : (guest : Guest) (budget : ℕ) (profile : Profile) (run : List Step) → IsRun (thread_machine guest.code) (tables (start_flat guest budget profile)) run
     → ((t : ℕ) → t < length guest.entries → HasNone (thread_machine guest.code)
-    (end (thread_machine guest.code) (tables (start_flat guest budget)) run) t)
-    → IsDone (thread_machine guest.code) (end (thread_machine guest.code) (tables (start_flat guest budget)) run)
-all_done guest budget run ok none t =
-    let s : State thread.State = end (thread_machine guest.code) (tables (start_flat guest budget)) run in
+    (end (thread_machine guest.code) (tables (start_flat guest budget profile)) run) t)
+    → IsDone (thread_machine guest.code) (end (thread_machine guest.code) (tables (start_flat guest budget profile)) run)
+all_done guest budget profile run ok none t =
+    let s : State thread.State = end (thread_machine guest.code) (tables (start_flat guest budget profile)) run in
     elim (done_or (asked (thread_machine guest.code) s t)) [
       | inl e ↦ e
-      | inr ne ↦ absurd (stuck (nothing_is_stuck guest budget run ok t ne))
+      | inr ne ↦ absurd (stuck (nothing_is_stuck guest budget profile run ok t ne))
     ]
   where
-    stuck : ((u : ℕ) × Can (thread_machine guest.code) (end (thread_machine guest.code) (tables (start_flat guest budget)) run) (u, 0)) → ⊥
+    stuck : ((u : ℕ) × Can (thread_machine guest.code) (end (thread_machine guest.code) (tables (start_flat guest budget profile)) run) (u, 0)) → ⊥
     stuck step = elim (cases_lt step.0 (length guest.entries)) [
       | inl l ↦ none step.0 l 0 step.1
       | inr past ↦ subst (λ q. Admits (thread_machine guest.code) (machine.act_of q 0)
-          ((end (thread_machine guest.code) (tables (start_flat guest budget)) run).objects (target (machine.act_of q 0))))
-          (run_idle (thread_machine guest.code) (tables (start_flat guest budget)) (length guest.entries) (start_idle guest budget) run ok
+          ((end (thread_machine guest.code) (tables (start_flat guest budget profile)) run).objects (target (machine.act_of q 0))))
+          (run_idle (thread_machine guest.code) (tables (start_flat guest budget profile)) (length guest.entries) (start_idle guest budget profile) run ok
           step.0 past) step.1
     ]
 
@@ -95,44 +98,51 @@ has_ended code x e = (subst (Permits x) (really_done (ask_of code x) e) (ask_per
 -- ---- the whole recording
 
 -- a recording at its end: turns by the order, and rounds, until nobody has a step
-pub record Over (guest : Guest) (budget : ℕ) (order : List ℕ) (before : List (List Answered)) (b : Progress) : Type 0 where
+pub record Over (guest : Guest) (budget : ℕ) (profile : Profile) (order : List ℕ) (before : List (List Answered)) (b : Progress) : Type 0 where
   pub count : ℕ
-  pub took : Took (order ++ rounds (length guest.entries) count) (start guest budget before) b
+  pub took : Took (order ++ rounds (length guest.entries) count) (start guest budget profile before) b
   pub none : (t : ℕ) → t < length b.flat.threads → HasNone (machine b.flat) (tables b.flat) t
 
-pub threads_there : (guest : Guest) (budget : ℕ) (order : List ℕ) (before : List (List Answered)) (b : Progress)
-    → Over guest budget order before b → length b.flat.threads ≡ length guest.entries
-threads_there guest budget order before b o = o.took.threads ∙ threads_length guest budget 0 (length guest.entries)
+pub threads_there : (guest : Guest) (budget : ℕ) (profile : Profile) (order : List ℕ) (before : List (List Answered)) (b : Progress)
+    → Over guest budget profile order before b → length b.flat.threads ≡ length guest.entries
+threads_there guest budget profile order before b o = o.took.threads ∙ threads_length guest budget profile 0 (length guest.entries)
 
-run_of_it : (guest : Guest) (budget : ℕ) (order : List ℕ) (before : List (List Answered)) (b : Progress)
-    → (o : Over guest budget order before b) → IsRun (thread_machine guest.code) (tables (start_flat guest budget)) o.took.run
-run_of_it guest budget order before b o = turns_run (thread_machine guest.code) (tables (start_flat guest budget))
+pub profiles_there : (guest : Guest) (budget : ℕ) (profile : Profile) (order : List ℕ) (before : List (List Answered)) (b : Progress)
+    → Over guest budget profile order before b → (t : ℕ) → t < length b.flat.threads → (thread_of b.flat t).profile ≡ profile
+profiles_there guest budget profile order before b o t l =
+    ap (λ s. (s.now t).profile) o.took.ends ∙ run_profile guest.code (tables (start_flat guest budget profile)) o.took.run t
+    ∙ start_profile guest budget profile 0 (length guest.entries) t
+    (let n = threads_there guest budget profile order before b o in omega (arith, l, n))
+
+run_of_it : (guest : Guest) (budget : ℕ) (profile : Profile) (order : List ℕ) (before : List (List Answered)) (b : Progress)
+    → (o : Over guest budget profile order before b) → IsRun (thread_machine guest.code) (tables (start_flat guest budget profile)) o.took.run
+run_of_it guest budget profile order before b o = turns_run (thread_machine guest.code) (tables (start_flat guest budget profile))
     (order ++ rounds (length guest.entries) o.count) o.took.run o.took.turns
 
-done_there : (guest : Guest) (budget : ℕ) (order : List ℕ) (before : List (List Answered)) (b : Progress)
-    → (o : Over guest budget order before b) → IsDone (thread_machine guest.code)
-    (end (thread_machine guest.code) (tables (start_flat guest budget)) o.took.run)
-done_there guest budget order before b o = all_done guest budget o.took.run (run_of_it guest budget order before b o)
+done_there : (guest : Guest) (budget : ℕ) (profile : Profile) (order : List ℕ) (before : List (List Answered)) (b : Progress)
+    → (o : Over guest budget profile order before b) → IsDone (thread_machine guest.code)
+    (end (thread_machine guest.code) (tables (start_flat guest budget profile)) o.took.run)
+done_there guest budget profile order before b o = all_done guest budget profile o.took.run (run_of_it guest budget profile order before b o)
     (λ t l. subst (λ s. HasNone (thread_machine guest.code) s t) o.took.ends
     (subst (λ c. HasNone (thread_machine c) (tables b.flat) t) o.took.code
-    (o.none t (let n = threads_there guest budget order before b o in omega (arith, l, n)))))
+    (o.none t (let n = threads_there guest budget profile order before b o in omega (arith, l, n)))))
 
-pub ended_there : (guest : Guest) (budget : ℕ) (order : List ℕ) (before : List (List Answered)) (b : Progress)
-    → Over guest budget order before b → (t : ℕ) → (thread_of b.flat t).ended ≢ None
-ended_there guest budget order before b o t =
+pub ended_there : (guest : Guest) (budget : ℕ) (profile : Profile) (order : List ℕ) (before : List (List Answered)) (b : Progress)
+    → Over guest budget profile order before b → (t : ℕ) → (thread_of b.flat t).ended ≢ None
+ended_there guest budget profile order before b o t =
     has_ended guest.code (thread_of b.flat t) (ap (λ s. shared_ask (ask_of guest.code (s.now t))) o.took.ends
-    ∙ done_there guest budget order before b o t)
+    ∙ done_there guest budget profile order before b o t)
 
 -- what is at hand at its end
-at_end : (guest : Guest) (budget : ℕ) (order : List ℕ) (before : List (List Answered)) (b : Progress)
-    → (o : Over guest budget order before b) → StandAtEnd guest budget o.took.run before (thread_of b.flat) (log_at b.logs)
+at_end : (guest : Guest) (budget : ℕ) (profile : Profile) (order : List ℕ) (before : List (List Answered)) (b : Progress)
+    → (o : Over guest budget profile order before b) → StandAtEnd guest budget profile o.took.run before (thread_of b.flat) (log_at b.logs)
     (answers_at b.answers)
-at_end guest budget order before b o =
-    let n : length (start_threads guest budget 0 (length guest.entries)) ≡ length guest.entries =
-    threads_length guest budget 0 (length guest.entries) in
-    let f0 : Flat = start_flat guest budget in
+at_end guest budget profile order before b o =
+    let n : length (start_threads guest budget profile 0 (length guest.entries)) ≡ length guest.entries =
+    threads_length guest budget profile 0 (length guest.entries) in
+    let f0 : Flat = start_flat guest budget profile in
     record {
-      runs = run_of_it guest budget order before b o;
+      runs = run_of_it guest budget profile order before b o;
       threads = λ t l. ap (λ s. s.now t) o.took.ends;
       logged = λ t l. o.took.logs t (omega (arith, l, n))
           ∙ ap (λ z. map label_of z.events ++ log (machine f0) (tables f0) o.took.run t)
@@ -140,50 +150,50 @@ at_end guest budget order before b o =
       answered = λ t l. o.took.answers t (omega (arith, l, n));
     }
 
-pub recorded_there : (guest : Guest) (budget : ℕ) (order : List ℕ) (before : List (List Answered)) (b : Progress)
-    → Over guest budget order before b → (failed : List Bool) → IsReady b failed
-    → (trace : Recorded) → trace.objects ≡ length b.flat.objects → trace.budget ≡ budget → AreThreadTraces b.flat b.logs trace.threads
+pub recorded_there : (guest : Guest) (budget : ℕ) (profile : Profile) (order : List ℕ) (before : List (List Answered)) (b : Progress)
+    → Over guest budget profile order before b → (failed : List Bool) → IsReady b failed
+    → (trace : Recorded) → trace.objects ≡ length b.flat.objects → trace.budget ≡ budget → trace.profile ≡ profile → AreThreadTraces b.flat b.logs trace.threads
     → (outputs : List (List ℕ)) → outputs ≡ map (λ x. x.output) b.flat.threads
-    → (answers : List (List Answered)) → answers ≡ b.answers → IsRecording guest budget order before trace outputs answers
-recorded_there guest budget order before b o failed ready trace objects limit traces outputs printed answers given =
-    let n : length b.flat.threads ≡ length guest.entries = threads_there guest budget order before b o in
+    → (answers : List (List Answered)) → answers ≡ b.answers → IsRecording guest budget profile order before trace outputs answers
+recorded_there guest budget profile order before b o failed ready trace objects limit same traces outputs printed answers given =
+    let n : length b.flat.threads ≡ length guest.entries = threads_there guest budget profile order before b o in
     let logs : length b.logs ≡ length guest.entries = ready.tape.one_each ∙ n in
     let size : length answers ≡ length guest.entries = ap (λ z. length z) given ∙ ready.worlds ∙ n in
-    let stand = at_end guest budget order before b o in
+    let stand = at_end guest budget profile order before b o in
     record {
       run = o.took.run;
-      by_order = record { count = o.count; turns = o.took.turns; done = done_there guest budget order before b o };
+      by_order = record { count = o.count; turns = o.took.turns; done = done_there guest budget profile order before b o };
       of = record {
-        emitted = emitted_there guest budget o.took.run before (thread_of b.flat) (log_at b.logs) (answers_at b.answers) stand
-            (done_there guest budget order before b o) trace
-            (objects ∙ o.took.objects ∙ cells_length guest.words (object_count guest)) limit (traces.count ∙ logs)
+        emitted = emitted_there guest budget profile o.took.run before (thread_of b.flat) (log_at b.logs) (answers_at b.answers) stand
+            (done_there guest budget profile order before b o) trace
+            (objects ∙ o.took.objects ∙ cells_length guest.words (object_count guest)) limit same (traces.count ∙ logs)
             (λ t l. traces.each t (omega (arith, l, logs)));
-        printed = printed_there guest budget o.took.run before (thread_of b.flat) (log_at b.logs) (answers_at b.answers) stand outputs
+        printed = printed_there guest budget profile o.took.run before (thread_of b.flat) (log_at b.logs) (answers_at b.answers) stand outputs
             (ap (λ z. length z) printed ∙ length-map b.flat.threads (λ x. x.output) ∙ n)
             (λ t l. ap (λ z. slice_get z t) printed ∙ slice_get-map (λ x. x.output) b.flat.threads t
             ∙ ap (option_map (λ x. x.output)) (slice_get-get_or b.flat.threads t idle (omega (arith, l, n))));
-        answered = answered_there guest budget o.took.run before (thread_of b.flat) (log_at b.logs) (answers_at b.answers) stand answers
+        answered = answered_there guest budget profile o.took.run before (thread_of b.flat) (log_at b.logs) (answers_at b.answers) stand answers
             size
             (λ t l. slice_get-get_or answers t [] (omega (arith, l, size)) ∙ ap (λ z. Some (answers_at z t)) given);
       };
     }
 
 -- the same, where it began with the recording that was made
-pub over_from : (guest : Guest) (budget : ℕ) (order : List ℕ) (before : List (List Answered)) (a b : Progress)
-    → a ≡ start guest budget before → ((count : ℕ) × Took (order ++ rounds (length a.flat.threads) count) a b)
-    → ((t : ℕ) → t < length b.flat.threads → HasNone (machine b.flat) (tables b.flat) t) → Over guest budget order before b
-over_from guest budget order before a b e k none = record {
+pub over_from : (guest : Guest) (budget : ℕ) (profile : Profile) (order : List ℕ) (before : List (List Answered)) (a b : Progress)
+    → a ≡ start guest budget profile before → ((count : ℕ) × Took (order ++ rounds (length a.flat.threads) count) a b)
+    → ((t : ℕ) → t < length b.flat.threads → HasNone (machine b.flat) (tables b.flat) t) → Over guest budget profile order before b
+over_from guest budget profile order before a b e k none = record {
   count = k.0;
-  took = subst (λ n. Took (order ++ rounds n k.0) (start guest budget before) b)
-      (ap (λ z. length z.flat.threads) e ∙ threads_length guest budget 0 (length guest.entries))
+  took = subst (λ n. Took (order ++ rounds n k.0) (start guest budget profile before) b)
+      (ap (λ z. length z.flat.threads) e ∙ threads_length guest budget profile 0 (length guest.entries))
       (subst (λ z. Took (order ++ rounds (length a.flat.threads) k.0) z b) e k.1);
   none = none;
 }
 
-pub started : (guest : Guest) (budget : ℕ) (answers : List (List Answered)) (f : Flat) (logs : List Logged) → f ≡ start_flat guest budget
+pub started : (guest : Guest) (budget : ℕ) (profile : Profile) (answers : List (List Answered)) (f : Flat) (logs : List Logged) → f ≡ start_flat guest budget profile
     → logs ≡ replicate (length guest.entries) new_log
-    → ◌≡◌ {A = Progress} (record { flat = f; logs = logs; answers = answers }) (start guest budget answers)
-started guest budget answers f logs p q = λ i. record { flat = p i; logs = q i; answers = answers }
+    → ◌≡◌ {A = Progress} (record { flat = f; logs = logs; answers = answers }) (start guest budget profile answers)
+started guest budget profile answers f logs p q = λ i. record { flat = p i; logs = q i; answers = answers }
 
 pub mapped_twice : {A B C : Type 0} (f : B → C) (h : A → B) (xs : List A) (ys : List B) → map h xs ≡ ys → map (λ x. f (h x)) xs ≡ map f ys
 mapped_twice {A} {B} {C} f h xs ys e = twice xs ∙ ap (map f) e

@@ -1,5 +1,5 @@
 -- Entries, and steps that nothing is logged of.
-use Rattle.std.proofs.Common.{◌≡◌, ℕ, ◌<◌, true, false, Bool, List, [], ◌∷◌, ◌++◌, length, set, Result, Ok, Err, OnOk, OnErr, is_ok, is_err, refl, sym, ap, ◌∙◌, subst, arith, append-nil}
+use Rattle.std.proofs.Common.{◌≡◌, ◌≢◌, ℕ, ◌<◌, true, false, Bool, List, [], ◌∷◌, ◌++◌, length, set, Result, Ok, Err, OnOk, OnErr, is_ok, is_err, refl, sym, ap, ◌∙◌, subst, arith, append-nil}
 use Rattle.ir_thread.specs.Calls.{ask_of, Permits, most_events}
 use Rattle.ir_thread.specs.Instance.{shared_ask}
 use Rattle.ir_runs.specs.Machine as machine
@@ -8,7 +8,7 @@ use Rattle.ir_runs.specs.Labels.{Label, logged}
 use Rattle.ir_runs.specs.declared.access.Access.{Access}
 use Rattle.ir_runs.specs.declared.access.Access.TheVariants.{Reading, Writing}
 use Rattle.ir_thread.specs.declared.ask.Ask.{Ask}
-use Rattle.ir_thread.specs.declared.ask.Ask.TheVariants.{Private, Env, Enter, Leave, Get, Put, Print, End, Done}
+use Rattle.ir_thread.specs.declared.ask.Ask.TheVariants.{Private, Env, Enter, Try, Leave, Get, Put, Print, End, Done}
 use Rattle.ir_thread.proofs.CallerLemmas.{ask_permits}
 use Rattle.ir_runs.specs.Object.{Object, target, emitted, Admits}
 use Rattle.ir_flat.specs.Flat.{Flat, thread_of, tables, machine, IsFlat}
@@ -18,10 +18,10 @@ use Rattle.ir_log.specs.Logged.{Logged}
 use Rattle.ir_log.specs.Logging.{label_of}
 use Rattle.ir_log.specs.declared.event.Event.{Event}
 use Rattle.ir_trace.specs.Recorded.{IsEvent}
-use Rattle.ir_runs.specs.InOrder.{HasNone}
+use Rattle.ir_runs.specs.InOrder.{HasNone, EntersIfFree}
 use Rattle.ir_record.specs.Progress.{TookIf, IsTape, IsQuiet, log_at, labels_at, answers_at}
 use Rattle.ir_record.specs.Worlds.{Answered, answers_in}
-use Rattle.ir_record.proofs.Steps.{took_one, took_none}
+use Rattle.ir_record.proofs.Steps.{took_one, took_none, no_try}
 use Rattle.ir_record.proofs.Logs.{tape_kept, tape_pushed, labels_pushed, labels_other}
 use Rattle.ir_record.proofs.Running.{flat_few}
 
@@ -38,6 +38,7 @@ quiet_ignores : (q : Ask) → IsQuiet q → IgnoresResult q
 quiet_ignores Private k f r h = tt
 quiet_ignores (Env kind) k f r h = absurd k
 quiet_ignores (Enter o a) k f r h = absurd k
+quiet_ignores (Try o) k f r h = absurd k
 quiet_ignores (Leave o a) k f r h = tt
 quiet_ignores (Get o i) k f r h = tt
 quiet_ignores (Put o i w) k f r h = tt
@@ -70,59 +71,67 @@ pub refused : {X E : Type 0} (result : Result X E) (b : Bool) (P : Type 0) → b
 refused (Ok x) b P e h p = absurd (cc (e, h))
 refused (Err x) b P e h p = p
 
--- an entry was taken, and logged
-pub record Entering (f g : Flat) (logs more : List Logged) (t o : ℕ) (a : Access) (e : Event) : Type 0 where
+-- a step was taken that emits k, and this event was logged of it, which is no answer
+pub record OneEvent (f g : Flat) (logs more : List Logged) (t r : ℕ) (k : Label) (e : Event) : Type 0 where
   pub tape : IsTape f logs
   pub flat : IsFlat f
   pub below : t < length f.threads
-  pub asked : ask_of f.code (thread_of f t) ≡ Enter o a
-  pub emits : label_of e ≡ emitted (machine.Entry o a 0) ((tables f).objects o)
-  pub fits : IsEvent (length f.objects) e
-  pub can : Can (machine f) (tables f) (t, 0)
-  pub taken : tables g ≡ after (machine f) (tables f) (t, 0)
+  pub one : added (ask_of f.code (thread_of f t)) ≡ 1
+  pub emits : label (machine f) (tables f) (t, r) ≡ k
+  pub event : label_of e ≡ k
+  pub once : logged k [] ≡ k ∷ []
+  pub unanswered : answers_in (logged k []) ≡ []
+  pub fits : IsEvent (thread_of f t).profile (length f.objects) e
+  pub can : Can (machine f) (tables f) (t, r)
+  pub enters : EntersIfFree (machine f) (tables f) (t, r)
+  pub taken : tables g ≡ after (machine f) (tables f) (t, r)
   pub code : g.code ≡ f.code
   pub threads : length g.threads ≡ length f.threads
   pub objects : length g.objects ≡ length f.objects
   pub new : Logged
   pub pushed : new ≡ record (log_at logs t) { events = (log_at logs t).events ++ e ∷ [] }
-  pub logged : more ≡ set logs t new
+  pub logs_are : more ≡ set logs t new
 
-pub enter_tape : (f g : Flat) (logs more : List Logged) (t o : ℕ) (a : Access) (e : Event) → Entering f g logs more t o a e → IsTape g more
-enter_tape f g logs more t o a e x =
-    subst (IsTape g) (sym x.logged) (tape_pushed f g logs t 0 e x.new x.tape x.below x.taken x.threads x.objects (ap added x.asked) x.fits
-    x.pushed)
+pub event_tape : (f g : Flat) (logs more : List Logged) (t r : ℕ) (k : Label) (e : Event) → OneEvent f g logs more t r k e → IsTape g more
+event_tape f g logs more t r k e x =
+    subst (IsTape g) (sym x.logs_are) (tape_pushed f g logs t r e x.new x.tape x.below x.taken x.threads x.objects x.one x.fits x.pushed)
 
--- what an entry tells is logged, and is no answer
-entry_logged : (o : ℕ) (a : Access) (b : Object) → logged (emitted (machine.Entry o a 0) b) [] ≡ emitted (machine.Entry o a 0) b ∷ []
-entry_logged o Reading b = refl
-entry_logged o Writing b = refl
-
-entry_unanswered : (o : ℕ) (a : Access) (b : Object) → answers_in (logged (emitted (machine.Entry o a 0) b) []) ≡ []
-entry_unanswered o Reading b = refl
-entry_unanswered o Writing b = refl
-
-pub enter_took : (f g : Flat) (logs more : List Logged) (t o : ℕ) (a : Access) (e : Event) → Entering f g logs more t o a e
+pub event_took : (f g : Flat) (logs more : List Logged) (t r : ℕ) (k : Label) (e : Event) → OneEvent f g logs more t r k e
     → (answers : List (List Answered))
     → TookIf true (t ∷ []) (record { flat = f; logs = logs; answers = answers }) (record { flat = g; logs = more; answers = answers })
-enter_took f g logs more t o a e x answers =
-    let k : Label = emitted (machine.Entry o a 0) ((tables f).objects o) in
-    took_one t 0 k (record { flat = f; logs = logs; answers = answers }) (record { flat = g; logs = more; answers = answers }) (record {
+event_took f g logs more t r k e x answers =
+    took_one t r k (record { flat = f; logs = logs; answers = answers }) (record { flat = g; logs = more; answers = answers }) (record {
       below = x.below;
       few = flat_few f x.flat;
       can = x.can;
+      enters = x.enters;
       taken = x.taken;
       code = x.code;
       threads = x.threads;
       objects = x.objects;
-      emits = ap (λ q. emitted (act_of (shared_ask q) 0) ((tables f).objects (target (act_of (shared_ask q) 0)))) x.asked;
-      own_log = subst (λ z. labels_at z t ≡ labels_at logs t ++ logged k []) (sym x.logged)
+      emits = x.emits;
+      own_log = subst (λ z. labels_at z t ≡ labels_at logs t ++ logged k []) (sym x.logs_are)
           (labels_pushed logs t e x.new (omega (arith, x.below, x.tape.one_each)) x.pushed
-          ∙ ap (λ z. labels_at logs t ++ z) (ap (λ z. z ∷ []) x.emits ∙ sym (entry_logged o a ((tables f).objects o))));
-      own_answers = sym (append-nil (answers_at answers t))
-          ∙ ap (λ z. answers_at answers t ++ z) (sym (entry_unanswered o a ((tables f).objects o)));
-      other_logs = λ u ne. subst (λ z. labels_at z u ≡ labels_at logs u) (sym x.logged) (labels_other logs t u x.new ne);
+          ∙ ap (λ z. labels_at logs t ++ z) (ap (λ z. z ∷ []) x.event ∙ sym x.once));
+      own_answers = sym (append-nil (answers_at answers t)) ∙ ap (λ z. answers_at answers t ++ z) (sym x.unanswered);
+      other_logs = λ u ne. subst (λ z. labels_at z u ≡ labels_at logs u) (sym x.logs_are) (labels_other logs t u x.new ne);
       other_answers = λ u ne. refl;
     })
+
+-- what a step emits, by what is asked
+pub emits_asked : (f : Flat) (t r : ℕ) (q : Ask) → ask_of f.code (thread_of f t) ≡ q
+    → label (machine f) (tables f) (t, r) ≡ emitted (act_of (shared_ask q) r) ((tables f).objects (target (act_of (shared_ask q) r)))
+emits_asked f t r q is = ap (λ z. emitted (act_of (shared_ask z) r) ((tables f).objects (target (act_of (shared_ask z) r)))) is
+
+-- what an entry emits is logged, and is no answer
+pub entry_logged : (o : ℕ) (a : Access) (v : ℕ) (b : Object) → logged (emitted (machine.Entry o a v) b) [] ≡ emitted (machine.Entry o a v) b
+    ∷ []
+entry_logged o Reading v b = refl
+entry_logged o Writing v b = refl
+
+pub entry_unanswered : (o : ℕ) (a : Access) (v : ℕ) (b : Object) → answers_in (logged (emitted (machine.Entry o a v) b) []) ≡ []
+entry_unanswered o Reading v b = refl
+entry_unanswered o Writing v b = refl
 
 -- a step was taken that nothing is logged of
 pub record Going (f g : Flat) (logs : List Logged) (t : ℕ) : Type 0 where
@@ -140,6 +149,7 @@ quiet_added : (q : Ask) → IsQuiet q → added q ≡ 0
 quiet_added Private k = refl
 quiet_added (Env kind) k = absurd k
 quiet_added (Enter o a) k = absurd k
+quiet_added (Try o) k = absurd k
 quiet_added (Leave o a) k = refl
 quiet_added (Get o i) k = refl
 quiet_added (Put o i w) k = refl
@@ -151,12 +161,25 @@ quiet_logged : (q : Ask) (b : Object) → IsQuiet q → logged (emitted (act_of 
 quiet_logged Private b k = refl
 quiet_logged (Env kind) b k = absurd k
 quiet_logged (Enter o a) b k = absurd k
+quiet_logged (Try o) b k = absurd k
 quiet_logged (Leave o a) b k = refl
 quiet_logged (Get o i) b k = refl
 quiet_logged (Put o i w) b k = refl
 quiet_logged Print b k = refl
 quiet_logged (End e) b k = refl
 quiet_logged Done b k = refl
+
+quiet_enters : (q : Ask) → IsQuiet q → (o : ℕ) → shared_ask q ≢ machine.Try o
+quiet_enters Private k o e = cc e
+quiet_enters (Env kind) k o e = k
+quiet_enters (Enter i a) k o e = k
+quiet_enters (Try i) k o e = k
+quiet_enters (Leave i a) k o e = cc e
+quiet_enters (Get i j) k o e = cc e
+quiet_enters (Put i j w) k o e = cc e
+quiet_enters Print k o e = cc e
+quiet_enters (End x) k o e = cc e
+quiet_enters Done k o e = cc e
 
 pub go_tape : (f g : Flat) (logs : List Logged) (t : ℕ) → Going f g logs t → IsTape g logs
 go_tape f g logs t x = tape_kept f g logs t 0 x.tape x.taken x.threads x.objects (quiet_added (ask_of f.code (thread_of f t)) x.quiet)
@@ -170,6 +193,7 @@ go_took f g logs t x answers =
       below = x.below;
       few = flat_few f x.flat;
       can = x.can;
+      enters = no_try f t 0 (ask_of f.code (thread_of f t)) refl (quiet_enters (ask_of f.code (thread_of f t)) x.quiet);
       taken = x.taken;
       code = x.code;
       threads = x.threads;

@@ -12,11 +12,11 @@ use Rattle.ir_flat.specs.Flat.{Flat, tables, machine, IsFlat}
 use Rattle.ir_runs.specs.Run.{State, Step, Can, after, label, end, join_if, events, log}
 use Rattle.ir_runs.proofs.CallerLemmas.{log_append, end_append, turns_append}
 use Rattle.ir_record.specs.Ahead.{lead, IsAhead, all_ahead, NoneAhead, Went, WentIf}
-use Rattle.ir_runs.specs.InOrder.{HasNone, InTurn, rounds}
+use Rattle.ir_runs.specs.InOrder.{HasNone, EntersIfFree, InTurn, rounds}
 use Rattle.ir_record.specs.Progress.{Progress, Took, TookIf, all_left, labels_at, answers_at}
 use Rattle.ir_record.specs.Worlds.{answers_in}
 use Rattle.ir_record.proofs.Joining.{range_more, rounds_more, some_run, some_after, none_in_turn}
-use Rattle.ir_record.proofs.Leading.{can_alone, quiet_alone, spent, can_there, none_there, label_there, stepped, gone_ahead, level, caught_up}
+use Rattle.ir_record.proofs.Leading.{can_alone, quiet_alone, spent, can_there, enters_there, alone_enters, none_there, label_there, stepped, gone_ahead, level, caught_up}
 use Rattle.ir_record.proofs.Running.{flat_few}
 use Rattle.ir_record.proofs.Steps.{answers_append}
 use Rattle.ir_record.proofs.Tally.{alone_less}
@@ -63,7 +63,7 @@ turn_spent s a c t k l is h =
     record {
       went = record {
         run = (t, 0) ∷ [];
-        turns = inr (0, [], refl, can_alone (machine a.flat) s t private, refl);
+        turns = inr (0, [], refl, can_alone (machine a.flat) s t private, alone_enters (machine a.flat) s t private, refl);
         ahead = spent (machine a.flat) c s (tables a.flat) t k l is h;
         code = refl;
         threads = refl;
@@ -124,9 +124,10 @@ pub turn_steps : (s : State thread.State) (a b : Progress) (g : Flat) (c : List 
     → WentAlone b.flat g t k → WentIf true (t ∷ []) s a c (record b { flat = g }) (set c t k)
 turn_steps s a b g c t k l below flat is h took w = by_turn took.took.turns
   where
-    here : (r : ℕ) (rest : List Step) → took.took.run ≡ (t, r) ∷ rest → Can (machine a.flat) (tables a.flat) (t, r) → rest ≡ []
+    here : (r : ℕ) (rest : List Step) → took.took.run ≡ (t, r) ∷ rest → Can (machine a.flat) (tables a.flat) (t, r)
+        → EntersIfFree (machine a.flat) (tables a.flat) (t, r) → rest ≡ []
         → WentIf true (t ∷ []) s a c (record b { flat = g }) (set c t k)
-    here r rest e can last =
+    here r rest e can enters last =
         let m = machine a.flat in
         let one : took.took.run ≡ (t, r) ∷ [] = e ∙ ap (λ z. (t, r) ∷ z) last in
         let is_after : tables b.flat ≡ after m (tables a.flat) (t, r) = took.took.ends ∙ ap (end m (tables a.flat)) one in
@@ -138,7 +139,14 @@ turn_steps s a b g c t k l below flat is h took w = by_turn took.took.turns
         record {
           went = record {
             run = (t, r) ∷ [];
-            turns = inr (r, [], refl, can_there m c s (tables a.flat) t r is h can, refl);
+            turns = inr (
+              r,
+              [],
+              refl,
+              can_there m c s (tables a.flat) t r is h can,
+              enters_there m c s (tables a.flat) t r is h enters,
+              refl,
+            );
             ahead = subst (IsAhead m (set c t k) (after m s (t, r)))
                 (sym (w.ends ∙ ap (λ n. end n (tables b.flat) (replicate k (t, 0))) same_machine))
                 (gone_ahead m c (after m s (t, r)) (tables b.flat) t k l is h'
@@ -167,7 +175,7 @@ turn_steps s a b g c t k l below flat is h took w = by_turn took.took.turns
         → WentIf true (t ∷ []) s a c (record b { flat = g }) (set c t k)
     by_turn (inl none) = absurd (let some = took.some refl in let size : length took.took.run ≡ 0 = ap length none.1 in
         omega (arith, some, size))
-    by_turn (inr some) = here some.0 some.1 some.2 some.3 some.4
+    by_turn (inr some) = here some.0 some.1 some.2 some.3 some.4 some.5
 
 -- so many numbers and the next one
 pub range_last : (t : ℕ) → range_with_len 0 t ++ t ∷ [] ≡ range_with_len 0 (t + 1)

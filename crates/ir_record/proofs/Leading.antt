@@ -2,13 +2,13 @@
 use Rattle.std.proofs.Common.{◌≡◌, ◌≢◌, ℕ, zero, suc, ◌<◌, List, length, set, replicate, refl, sym, ap, ◌∙◌, subst, arith, inl, inr, get_or-set_same, get_or-set_other}
 use Rattle.std.proofs.Math.Path.{fun_ext}
 use Rattle.std.proofs.lemmas.Bool.{cases_eq}
-use Rattle.ir_runs.specs.Machine.{Machine, Private, act_of, upd}
+use Rattle.ir_runs.specs.Machine.{Machine, Private, Try, act_of, upd}
 use Rattle.ir_runs.specs.Labels.{Quiet}
 use Rattle.ir_runs.specs.Object.{Object, target, Admits, acted, reply, emitted}
 use Rattle.ir_runs.proofs.CallerLemmas.{upd_same, upd_other, upd_id}
 use Rattle.ir_runs.specs.Run.{State, Can, after, label, end}
 use Rattle.ir_record.specs.Ahead.{alone, lead, IsAhead}
-use Rattle.ir_runs.specs.InOrder.{HasNone}
+use Rattle.ir_runs.specs.InOrder.{HasNone, EntersIfFree}
 
 -- ---- a private step
 
@@ -72,11 +72,24 @@ pub can_there : {T : Type 0} (m : Machine T) (ahead : List ℕ) (s later : State
 can_there m ahead s later t r is h can = subst (λ x. CanSo m x s.objects r) (now_there m ahead s later t is h)
     (subst (λ objects. CanSo m (later.now t) objects r) h.objects can)
 
+pub can_later : {T : Type 0} (m : Machine T) (ahead : List ℕ) (s later : State T) (t r : ℕ) → lead ahead t ≡ 0 → IsAhead m ahead s later
+    → Can m s (t, r) → Can m later (t, r)
+can_later m ahead s later t r is h can = subst (λ x. CanSo m x later.objects r) (sym (now_there m ahead s later t is h))
+    (subst (λ objects. CanSo m (s.now t) objects r) (sym h.objects) can)
+
+-- a try that enters where it can does so here too
+pub enters_there : {T : Type 0} (m : Machine T) (ahead : List ℕ) (s later : State T) (t r : ℕ) → lead ahead t ≡ 0 → IsAhead m ahead s later
+    → EntersIfFree m later (t, r) → EntersIfFree m s (t, r)
+enters_there m ahead s later t r is h enters o tries can =
+    enters o (ap m.ask (now_there m ahead s later t is h) ∙ tries) (can_later m ahead s later t 1 is h can)
+
+-- a private step enters nothing
+pub alone_enters : {T : Type 0} (m : Machine T) (s : State T) (t : ℕ) → m.ask (s.now t) ≡ Private → EntersIfFree m s (t, 0)
+alone_enters m s t is o tries can = absurd (cc (is, tries))
+
 pub none_there : {T : Type 0} (m : Machine T) (ahead : List ℕ) (s later : State T) (t : ℕ) → lead ahead t ≡ 0 → IsAhead m ahead s later
     → HasNone m later t → HasNone m s t
-none_there m ahead s later t is h none r can =
-    none r (subst (λ x. CanSo m x later.objects r) (sym (now_there m ahead s later t is h))
-    (subst (λ objects. CanSo m (s.now t) objects r) (sym h.objects) can))
+none_there m ahead s later t is h none r can = none r (can_later m ahead s later t r is h can)
 
 pub label_there : {T : Type 0} (m : Machine T) (ahead : List ℕ) (s later : State T) (t r : ℕ) → lead ahead t ≡ 0 → IsAhead m ahead s later
     → label m later (t, r) ≡ label m s (t, r)

@@ -7,7 +7,7 @@ use Rattle.ir_thread.specs.Held.{held_at, held_count}
 use Rattle.ir_runs.specs.Machine.{upd}
 use Rattle.ir_thread.specs.State as thread
 use Rattle.ir_thread.specs.declared.ask.Ask.{Ask}
-use Rattle.ir_thread.specs.declared.ask.Ask.TheVariants.{Private, Env, Enter, Leave, Get, Put, Print, End, Done}
+use Rattle.ir_thread.specs.declared.ask.Ask.TheVariants.{Private, Env, Enter, Try, Leave, Get, Put, Print, End, Done}
 use Rattle.ir_thread.specs.declared.ask.Reply.{Reply}
 use Rattle.ir_thread.specs.declared.end.End as end
 use Rattle.ir_thread.proofs.CallerLemmas.{one_fewer, count_le_length}
@@ -41,6 +41,7 @@ one_less code x Private r few p ne = goes x.ended x (after_ask code x Private r)
 one_less code x (Env kind) r few p ne = goes x.ended x (after_ask code x (Env kind) r) p.0.lives p.0.has_budget refl refl refl
 one_less code x (Enter object access) r few p ne =
     goes x.ended x (after_ask code x (Enter object access) r) p.0.lives p.0.has_budget refl refl refl
+one_less code x (Try object) r few p ne = goes x.ended x (after_ask code x (Try object) r) p.0.lives p.0.has_budget refl refl refl
 one_less code x (Leave object access) r few p ne =
     leaves x.ended x (after_ask code x (Leave object access) r) object refl p.0
     refl refl refl (one_fewer x.held object p.1 (some_access (held_at x.held object) access p.2))

@@ -1,8 +1,10 @@
 mod Left
+mod Profiles
 mod Steps
 mod Logs
 mod Answering
 mod Entering
+mod Trying
 mod Asking
 mod Ready
 mod Tally

@@ -18,6 +18,7 @@ use Rattle.ir_log.specs.Logging.{label_of}
 use Rattle.ir_log.specs.declared.event.Event.{Event}
 use Rattle.ir_trace.specs.Recorded.{IsEvent, IsResult}
 use Rattle.ir_record.specs.Progress.{IsTape, no_log, log_at, labels_at}
+use Rattle.ir_record.proofs.Profiles.{fits_on, same_profile}
 
 -- a step that there is, is taken
 pub stepped : {X E : Type 0} (result : Result X E) (P Q : Type 0) → P → OnErr result (P → ⊥) → OnOk result Q → Q
@@ -50,8 +51,8 @@ tape_kept f g logs t r tape taken threads objects none = record {
         (let own = own_events f g t r taken in omega (arith, own, none))
     | inr ne ↦ other_events f g t r u taken ne
   ]);
-  events_fit = λ u l. subst (λ n. AllByRecursion (IsEvent n) (log_at logs u).events) (sym objects)
-      (tape.events_fit u (omega (arith, l, threads)));
+  events_fit = λ u l. fits_on (thread_of f u).profile (thread_of g u).profile (length f.objects) (length g.objects) (log_at logs u).events
+      (same_profile f g t r u taken) objects (tape.events_fit u (omega (arith, l, threads)));
 }
 
 pub all_append : {X : Type 0} (P : X → Type 0) (xs : List X) (x : X) → AllByRecursion P xs → P x → AllByRecursion P (xs ++ x ∷ [])
@@ -61,7 +62,7 @@ all_append P (y ∷ xs) x h p = (h.0, all_append P xs x h.1 p)
 -- a step that logs an event
 pub tape_pushed : (f g : Flat) (logs : List Logged) (t r : ℕ) (e : Event) (new : Logged) → IsTape f logs → t < length f.threads
     → tables g ≡ after (machine f) (tables f) (t, r) → length g.threads ≡ length f.threads → length g.objects ≡ length f.objects
-    → added (ask_of f.code (thread_of f t)) ≡ 1 → IsEvent (length f.objects) e
+    → added (ask_of f.code (thread_of f t)) ≡ 1 → IsEvent (thread_of f t).profile (length f.objects) e
     → new ≡ record (log_at logs t) { events = (log_at logs t).events ++ e ∷ [] } → IsTape g (set logs t new)
 tape_pushed f g logs t r e new tape below taken threads objects one fits is =
     let here : log_at (set logs t new) t ≡ new = get_or-set_same logs t new no_log (omega (arith, below, tape.one_each)) in
@@ -82,13 +83,14 @@ tape_pushed f g logs t r e new tape below taken threads objects one fits is =
         | inr ne ↦ ap (λ z. length z.events) (there u ne) ∙ tape.counts u (omega (arith, l, threads))
             ∙ sym (other_events f g t r u taken ne)
       ];
-      events_fit = λ u l. subst (λ n. AllByRecursion (IsEvent n) (log_at (set logs t new) u).events) (sym objects) (elim (cases_eq u t) [
-        | inl same ↦ subst (λ z. AllByRecursion (IsEvent (length f.objects)) (log_at (set logs t new) z).events) (sym same)
-            (subst (λ z. AllByRecursion (IsEvent (length f.objects)) z.events) (sym (here ∙ is))
-            (all_append (IsEvent (length f.objects)) (log_at logs t).events e (tape.events_fit t below) fits))
-        | inr ne ↦ subst (λ z. AllByRecursion (IsEvent (length f.objects)) z.events) (sym (there u ne))
-            (tape.events_fit u (omega (arith, l, threads)))
-      ]);
+      events_fit = λ u l. fits_on (thread_of f u).profile (thread_of g u).profile (length f.objects) (length g.objects)
+          (log_at (set logs t new) u).events (same_profile f g t r u taken) objects (elim (cases_eq u t) [
+            | inl same ↦ subst (λ z. AllByRecursion (IsEvent (thread_of f z).profile (length f.objects)) (log_at (set logs t new) z).events)
+                (sym same) (subst (λ z. AllByRecursion (IsEvent (thread_of f t).profile (length f.objects)) z.events) (sym (here ∙ is))
+                (all_append (IsEvent (thread_of f t).profile (length f.objects)) (log_at logs t).events e (tape.events_fit t below) fits))
+            | inr ne ↦ subst (λ z. AllByRecursion (IsEvent (thread_of f u).profile (length f.objects)) z.events) (sym (there u ne))
+                (tape.events_fit u (omega (arith, l, threads)))
+          ]);
     }
 
 pub map_append : {A B : Type 0} (f : A → B) (xs : List A) (x : A) → map f (xs ++ x ∷ []) ≡ map f xs ++ f x ∷ []

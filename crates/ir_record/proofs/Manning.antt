@@ -1,4 +1,5 @@
 -- Workers that are made, gathered and joined, one by one.
+use Rattle.ir_thread.specs.declared.profile.Profile.{Profile}
 use Rattle.std.proofs.Common.{◌≡◌, ℕ, suc, ◌+◌, ◌<◌, ◌≤◌, Bool, false, List, [], ◌∷◌, ◌++◌, map, length, get_or, take, drop, refl, sym, ap, ◌∙◌, subst, arith, inl, inr, append-nil, append_assoc, length-append}
 use Rattle.std.proofs.lemmas.Bool.{cases_lt}
 use Rattle.std.proofs.lemmas.List.{length-map, get_or_past}
@@ -13,10 +14,10 @@ use Rattle.ir_record.specs.Gathered.{IsThreadTrace}
 use Rattle.ir_record.specs.Threads.{IsNew, AreNew, AreTraces, views_of, Pairs}
 use Rattle.ir_record.specs.declared.worker.Worker.{Worker}
 
-pub new_more : {W : Type 0} (g : Guest) (budget : ℕ) (id : TableId) (t n : ℕ) (ws : List (Worker W)) (w : Worker W)
-    → AreNew g budget id t ws → n ≡ t + length ws → IsNew g budget id n w → AreNew g budget id t (ws ++ w ∷ [])
-new_more g budget id t n [] w h e new = (subst (λ z. IsNew g budget id z w) (let q : n ≡ t = omega (arith, e) in q) new, tt)
-new_more g budget id t n (x ∷ ws) w h e new = (h.0, new_more g budget id (suc t) n ws w h.1 (omega (arith, e)) new)
+pub new_more : {W : Type 0} (g : Guest) (budget : ℕ) (profile : Profile) (id : TableId) (t n : ℕ) (ws : List (Worker W)) (w : Worker W)
+    → AreNew g budget profile id t ws → n ≡ t + length ws → IsNew g budget profile id n w → AreNew g budget profile id t (ws ++ w ∷ [])
+new_more g budget profile id t n [] w h e new = (subst (λ z. IsNew g budget profile id z w) (let q : n ≡ t = omega (arith, e) in q) new, tt)
+new_more g budget profile id t n (x ∷ ws) w h e new = (h.0, new_more g budget profile id (suc t) n ws w h.1 (omega (arith, e)) new)
 
 -- the first seat, and those left
 pub seats_first : (id : TableId) (t : ℕ) (ss rest : List (Seat (Unit {0}) View)) (s : Seat (Unit {0}) View) → 0 < length ss

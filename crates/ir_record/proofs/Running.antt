@@ -2,24 +2,31 @@
 use Rattle.std.proofs.Common.{◌≡◌, ℕ, zero, suc, ◌+◌, ◌<◌, List, ◌++◌, length, replicate, refl, sym, ap, ◌∙◌, subst, arith, inl, inr, append-nil}
 use Rattle.std.proofs.lemmas.Bool.{cases_lt}
 use Rattle.std.proofs.lemmas.List.{get_or_past, length-replicate}
-use Rattle.std.specs.List.{AllByRecursion}
-use Rattle.ir_runs.specs.Machine.{Machine}
+use Rattle.ir_thread.specs.Instance.{shared_ask}
+use Rattle.ir_runs.specs.Machine.{Machine, Private}
 use Rattle.ir_flat.specs.Alone.{WentAlone}
 use Rattle.ir_flat.specs.Flat.{Flat, thread_of, tables, machine, idle, IsFlat}
 use Rattle.ir_runs.specs.Run.{State, Step, after, IsRun, end}
 use Rattle.ir_log.specs.Logged.{Logged}
-use Rattle.ir_trace.specs.Recorded.{IsEvent}
 use Rattle.ir_runs.specs.InOrder.{InTurn}
 use Rattle.ir_record.specs.Progress.{Took, IsTape, log_at, labels_at, answers_at, all_left}
 use Rattle.ir_record.specs.Worlds.{Answered, answers_in}
 use Rattle.ir_flat.proofs.CallerLemmas.{tally}
+use Rattle.ir_record.proofs.Profiles.{fits_on, run_profile}
 use Rattle.ir_record.proofs.Tally.{Few, alone_less}
 
 -- steps of one thread are its turns
 alone_turns : {T : Type 0} (m : Machine T) (t k : ℕ) (s : State T) → IsRun m s (replicate k (t, 0))
-    → InTurn m s (replicate k t) (replicate k (t, 0))
-alone_turns m t zero s ok = refl
-alone_turns m t (suc k) s ok = inr (0, replicate k (t, 0), refl, ok.0, alone_turns m t k (after m s (t, 0)) ok.1)
+    → ((j : ℕ) → j < k → m.ask ((end m s (replicate j (t, 0))).now t) ≡ Private) → InTurn m s (replicate k t) (replicate k (t, 0))
+alone_turns m t zero s ok each = refl
+alone_turns m t (suc k) s ok each = inr (
+  0,
+  replicate k (t, 0),
+  refl,
+  ok.0,
+  λ o tries can. absurd (let private = each 0 (omega arith) in cc (private, tries)),
+  alone_turns m t k (after m s (t, 0)) ok.1 (λ j l. each (suc j) (omega (arith, l))),
+)
 
 pub flat_few : (f : Flat) → IsFlat f → Few (tables f)
 flat_few f flat t = elim (cases_lt t (length f.threads)) [
@@ -33,7 +40,7 @@ pub run_took : (f g : Flat) (logs : List Logged) (t k : ℕ) → IsFlat f → t 
     → Took (replicate k t) (record { flat = f; logs = logs; answers = answers }) (record { flat = g; logs = logs; answers = answers })
 run_took f g logs t k flat l w answers = record {
   run = replicate k (t, 0);
-  turns = alone_turns (machine f) t k (tables f) w.runs;
+  turns = alone_turns (machine f) t k (tables f) w.runs (λ j l. ap shared_ask (w.each j l));
   ends = w.ends;
   code = w.code;
   threads = w.threads;
@@ -57,6 +64,7 @@ run_tape f g logs t k w tape = record {
       ap (λ s. (s.now u).events) w.ends ∙ (tally f.code (tables f) (replicate k (t, 0)) w.runs u).events
       ∙ ap (λ z. (thread_of f u).events + length z) (w.quiet u)
       ∙ (let e : (thread_of f u).events + 0 ≡ (thread_of f u).events = omega arith in e));
-  events_fit = λ u l. subst (λ n. AllByRecursion (IsEvent n) (log_at logs u).events) (sym w.objects)
+  events_fit = λ u l. fits_on (thread_of f u).profile (thread_of g u).profile (length f.objects) (length g.objects) (log_at logs u).events
+      (ap (λ s. (s.now u).profile) w.ends ∙ run_profile f.code (tables f) (replicate k (t, 0)) u) w.objects
       (tape.events_fit u (omega (arith, l, w.threads)));
 }

@@ -1,12 +1,15 @@
 -- Steps that are recorded.
 use Rattle.std.proofs.Common.{◌≡◌, ◌≢◌, ℕ, zero, suc, ◌+◌, ◌<◌, ◌≤◌, true, false, List, [], ◌∷◌, ◌++◌, length, refl, sym, ap, ◌∙◌, subst, arith, inl, inr, eq-eqb, ne_eqb, append-nil, append_assoc, length-append}
 use Rattle.std.proofs.lemmas.Bool.{cases_eq}
-use Rattle.ir_thread.specs.Instance.{thread_machine}
+use Rattle.ir_thread.specs.Calls.{ask_of}
+use Rattle.ir_thread.specs.Instance.{shared_ask, thread_machine}
+use Rattle.ir_thread.specs.declared.ask.Ask.{Ask}
+use Rattle.ir_runs.specs.Machine as machine
 use Rattle.ir_runs.specs.Labels.{Label, Quiet, Answer, In, Out, Refused, logged}
 use Rattle.ir_flat.specs.Flat.{Flat, thread_of, tables, machine}
 use Rattle.ir_runs.specs.Run.{Step, Can, after, label, end, join_if, events, log}
 use Rattle.ir_runs.proofs.CallerLemmas.{log_append, end_append, turns_append}
-use Rattle.ir_runs.specs.InOrder.{HasNone, InTurn}
+use Rattle.ir_runs.specs.InOrder.{HasNone, EntersIfFree, InTurn}
 use Rattle.ir_record.specs.Progress.{Progress, Took, TookIf, all_left, labels_at, answers_at}
 use Rattle.ir_record.specs.Worlds.{answers_in}
 use Rattle.ir_record.proofs.Tally.{Few, step_less}
@@ -20,6 +23,11 @@ pub log_other : (f : Flat) (t r u : ℕ) → u ≢ t → log (machine f) (tables
 log_other f t r u ne = ap (λ b. events (join_if b (thread_of f u, label (machine f) (tables f) (t, r)) [])) (ne_eqb u t ne)
 
 -- ---- turns that were taken
+
+-- what is no try enters nothing
+pub no_try : (f : Flat) (t r : ℕ) (q : Ask) → ask_of f.code (thread_of f t) ≡ q → ((o : ℕ) → shared_ask q ≢ machine.Try o)
+    → EntersIfFree (machine f) (tables f) (t, r)
+no_try f t r q is never o tries can = absurd (never o (sym (ap shared_ask is) ∙ tries))
 
 -- nothing happens in the turn of a thread that has no step
 pub took_none : (t : ℕ) (a b : Progress) → HasNone (machine a.flat) (tables a.flat) t → b ≡ a → TookIf false (t ∷ []) a b
@@ -44,6 +52,7 @@ pub record OneStep (t r : ℕ) (k : Label) (a b : Progress) : Type 0 where
   pub below : t < length a.flat.threads
   pub few : Few (tables a.flat)
   pub can : Can (machine a.flat) (tables a.flat) (t, r)
+  pub enters : EntersIfFree (machine a.flat) (tables a.flat) (t, r)
   pub taken : tables b.flat ≡ after (machine a.flat) (tables a.flat) (t, r)
   pub code : b.flat.code ≡ a.flat.code
   pub threads : length b.flat.threads ≡ length a.flat.threads
@@ -57,7 +66,7 @@ pub record OneStep (t r : ℕ) (k : Label) (a b : Progress) : Type 0 where
 unfoldable pub took_step : (t r : ℕ) (k : Label) (a b : Progress) → OneStep t r k a b → Took (t ∷ []) a b
 took_step t r k a b s = record {
   run = (t, r) ∷ [];
-  turns = inr (r, [], refl, s.can, refl);
+  turns = inr (r, [], refl, s.can, s.enters, refl);
   ends = s.taken;
   code = s.code;
   threads = s.threads;

@@ -1,10 +1,11 @@
 -- A worker still works after each step of its thread.
+use Rattle.ir_thread.specs.declared.profile.Profile.{Profile}
 use Rattle.std.proofs.Common.{◌≡◌, ◌≢◌, ℕ, zero, suc, ◌+◌, ◌^◌, ◌<◌, ◌≤◌, Bool, true, false, eqb, List, [], ◌∷◌, ◌++◌, map, length, Option, Some, None, refl, sym, ap, ◌∙◌, subst, arith, append-nil, append_assoc, length-append, ne_eqb}
 use Rattle.std.proofs.lemmas.List.{length-map}
 use Rattle.std.specs.List.{AllByRecursion}
 use Rattle.atomic_table.specs.Seated.{TableId}
 use Rattle.ir_image.specs.Guest.{Guest, object_count, object_words}
-use Rattle.ir_thread.specs.Calls.{ask_of, after_ask, after_reply, run_of, step_of, Permits}
+use Rattle.ir_thread.specs.Calls.{ask_of, after_ask, after_reply, run_of, step_of, Permits, most_events}
 use Rattle.ir_thread.specs.Held.{held_at}
 use Rattle.ir_thread.specs.Instance.{shared_ask, reply_of, is_result, thread_machine}
 use Rattle.ir_runs.specs.Machine as machine
@@ -18,6 +19,7 @@ use Rattle.ir_thread.specs.declared.ask.Ask.{Ask}
 use Rattle.ir_thread.specs.declared.ask.Ask.TheVariants as ask
 use Rattle.ir_runs.specs.declared.env_kind.EnvKind.{EnvKind}
 use Rattle.ir_thread.specs.declared.ask.Reply.TheVariants.{Go, Value}
+use Rattle.ir_thread.specs.declared.profile.Profile.TheVariants.{Two}
 use Rattle.ir_thread.proofs.CallerLemmas.{ask_permits, lawful}
 use Rattle.ir_object.specs.Order.{is_shared, Shared, keep_if, inside_if, inside_after}
 use Rattle.ir_object.proofs.CallerLemmas.{inside_more}
@@ -31,13 +33,14 @@ use Rattle.ir_trace.specs.Recorded.{IsEvent}
 use Rattle.ir_crew.specs.Plays.{M, IsAlone, history, did, inside_by}
 use Rattle.ir_crew.specs.Rule.{shared_by, shared_of, label_of, one_if_entry, entries}
 use Rattle.ir_crew.specs.declared.deed.Deed.{Deed}
-use Rattle.ir_crew.specs.declared.deed.Deed.TheVariants.{Enter, Leave, Get, Put}
+use Rattle.ir_crew.specs.declared.deed.Deed.TheVariants.{Enter, Try, Leave, Get, Put}
 use Rattle.ir_crew.specs.declared.deed.ObjectStep.{ObjectStep}
 use Rattle.ir_crew.proofs.CallerLemmas.{entries_more, track, act, target_by}
 use Rattle.ir_record.specs.Worlds.{Answered, answers_in}
 use Rattle.ir_record.specs.declared.worker.Worker.{Worker}
 use Rattle.ir_record.specs.Working.{Work, IsWorking, work_of, IsWorker, StillWorks, IsOwn, IsInside, IsSeated, Stays, IsSameWorld}
 use Rattle.ir_record.proofs.Logs.{result_fits}
+use Rattle.ir_record.proofs.Profiles.{asks_profile}
 use Rattle.ir_record.proofs.Working.{worked_more, held_own, held_inside}
 
 map_join : {A B : Type 0} (f : A → B) (xs ys : List A) → map f (xs ++ ys) ≡ map f xs ++ map f ys
@@ -72,6 +75,9 @@ entry_added : (q : Ask) (v : ℕ) → one_if_entry (act_of (shared_ask q) v) ≤
 entry_added ask.Private v = omega arith
 entry_added (ask.Env kind) v = omega arith
 entry_added (ask.Enter object access) v = omega arith
+entry_added (ask.Try object) zero = omega arith
+entry_added (ask.Try object) (suc zero) = omega arith
+entry_added (ask.Try object) (suc (suc v)) = omega arith
 entry_added (ask.Leave object access) v = omega arith
 entry_added (ask.Get object index) v = omega arith
 entry_added (ask.Put object index value) v = omega arith
@@ -89,15 +95,15 @@ pub record IsStep (g : Guest) (t : ℕ) (w w' : Work) (q : Ask) (v : ℕ) (es : 
   pub shares : map shared_of es ≡ keep_if (is_shared (act_of (shared_ask q) v)) (act_of (shared_ask q) v, v) []
   pub logs : map logging.label_of evs ≡ logged (alone_label (act_of (shared_ask q) v) (map label_of es)) []
   pub events : length evs ≡ added q
-  pub fit : AllByRecursion (IsEvent (object_count g)) evs
+  pub fit : AllByRecursion (IsEvent w.thread.profile (object_count g)) evs
   pub log : w'.log ≡ record w.log { events = w.log.events ++ evs }
   pub answers : w'.answers ≡ w.answers ++ answers_in (map logging.label_of evs)
 
-pub works_on : (g : Guest) (budget t : ℕ) (before : List Answered) (w w' : Work) (q : Ask) (v : ℕ) (es : List ObjectStep) (evs : List Event)
-    → (i : IsWorking g budget t before w) → IsStep g t w w' q v es evs
-    → w'.me ≡ (track t (i.track ++ es) ∷ [], []) → IsWorking g budget t before w'
+pub works_on : (g : Guest) (budget : ℕ) (profile : Profile) (t : ℕ) (before : List Answered) (w w' : Work) (q : Ask) (v : ℕ) (es : List ObjectStep) (evs : List Event)
+    → (i : IsWorking g budget profile t before w) → IsStep g t w w' q v es evs
+    → w'.me ≡ (track t (i.track ++ es) ∷ [], []) → IsWorking g budget profile t before w'
 unfolding after_reply
-works_on g budget t before w w' q v es evs i s view =
+works_on g budget profile t before w w' q v es evs i s view =
     let m : Machine thread.State = thread_machine g.code in
     let a : Act = act_of (shared_ask q) v in
     let is : act_of (m.ask w.thread) v ≡ a = ap (λ z. act_of (shared_ask z) v) s.asked in
@@ -108,7 +114,7 @@ works_on g budget t before w w' q v es evs i s view =
     ∙ sym (length-map i.track shared_of) in
     let steps : map shared_of (i.track ++ es) ≡ map shared_of i.track ++ keep_if (is_shared a) (a, v) [] = map_join shared_of i.track es
     ∙ ap (λ z. map shared_of i.track ++ z) s.shares in
-    let more = worked_more m (thread.start_state g t budget) w.thread (map shared_of i.track) (map label_of i.track)
+    let more = worked_more m (thread.start_state g t budget profile) w.thread (map shared_of i.track) (map label_of i.track)
     (map logging.label_of w.log.events) v (map label_of es) i.worked even (subst (λ z. MayReply m z v) (sym is) s.may) in
     let events : w'.log.events ≡ w.log.events ++ evs = ap (λ z. z.events) s.log in
     let labels : map logging.label_of w'.log.events ≡ map logging.label_of w.log.events ++ map logging.label_of evs =
@@ -123,7 +129,7 @@ works_on g budget t before w w' q v es evs i s view =
         now = more.now ∙ next;
         steps_are = more.steps_are ∙ ap (λ z. map shared_of i.track ++ keep_if (is_shared z) (z, v) []) is ∙ sym steps;
         logged = ap (λ z. Rattle.ir_runs.specs.Run.events
-            (Rattle.ir_flat.specs.Splice.alone_trail m (thread.start_state g t budget) more.replies z)) (map_join label_of i.track es)
+            (Rattle.ir_flat.specs.Splice.alone_trail m (thread.start_state g t budget profile) more.replies z)) (map_join label_of i.track es)
             ∙ more.logged ∙ ap (λ z. map logging.label_of w.log.events ++ logged (alone_label z (map label_of es)) []) is
             ∙ ap (λ z. map logging.label_of w.log.events ++ z) (sym s.logs) ∙ sym labels;
       };
@@ -144,8 +150,10 @@ works_on g budget t before w w' q v es evs i s view =
           let was = i.count in
           let new = s.events in
           omega (arith, long, was, new, sum);
-      events_fit = subst (AllByRecursion (IsEvent (object_count g))) (sym events)
-          (all_join (IsEvent (object_count g)) w.log.events evs i.events_fit s.fit);
+      profile_is = ap (λ z. z.profile) after ∙ asks_profile g.code w.thread q (reply_of q v) ∙ i.profile_is;
+      events_fit = subst (AllByRecursion (IsEvent profile (object_count g))) (sym events)
+          (all_join (IsEvent profile (object_count g)) w.log.events evs i.events_fit
+          (subst (λ p. AllByRecursion (IsEvent p (object_count g)) evs) i.profile_is s.fit));
       answered = s.answers ∙ ap (λ z. z ++ answers_in (map logging.label_of evs)) i.answered
           ∙ append_assoc before (answers_in (map logging.label_of w.log.events)) (answers_in (map logging.label_of evs))
           ∙ ap (λ z. before ++ z) (sym (answers_join (map logging.label_of w.log.events) (map logging.label_of evs))
@@ -185,6 +193,7 @@ own_is_step g t w w' ask.Private own asked took log answers =
     }
 own_is_step g t w w' (ask.Env kind) own asked took log answers = absurd own
 own_is_step g t w w' (ask.Enter object access) own asked took log answers = absurd own
+own_is_step g t w w' (ask.Try object) own asked took log answers = absurd own
 own_is_step g t w w' (ask.Leave object access) own asked took log answers = absurd own
 own_is_step g t w w' (ask.Get object index) own asked took log answers = absurd own
 own_is_step g t w w' (ask.Put object index value) own asked took log answers = absurd own
@@ -216,20 +225,20 @@ own_is_step g t w w' (ask.End e) own asked took log answers =
     }
 own_is_step g t w w' ask.Done own asked took log answers = absurd own
 
-pub own_step : (g : Guest) (budget t : ℕ) (before : List Answered) (w w' : Work) (q : Ask) → IsOwn q → ask_of g.code w.thread ≡ q
+pub own_step : (g : Guest) (budget : ℕ) (profile : Profile) (t : ℕ) (before : List Answered) (w w' : Work) (q : Ask) → IsOwn q → ask_of g.code w.thread ≡ q
     → w'.me ≡ w.me → w'.thread ≡ after_reply g.code w.thread Go → w'.log ≡ w.log → w'.answers ≡ w.answers
-    → IsWorking g budget t before w → IsWorking g budget t before w'
-own_step g budget t before w w' q own asked me took log answers i =
-    works_on g budget t before w w' q 0 [] [] i (own_is_step g t w w' q own asked took log answers)
+    → IsWorking g budget profile t before w → IsWorking g budget profile t before w'
+own_step g budget profile t before w w' q own asked me took log answers i =
+    works_on g budget profile t before w w' q 0 [] [] i (own_is_step g t w w' q own asked took log answers)
     (same_view t i.track w.me w'.me me i.view)
 
-pub answer_step : (g : Guest) (budget t : ℕ) (before : List Answered) (w w' : Work) (kind : EnvKind) (value : ℕ)
+pub answer_step : (g : Guest) (budget : ℕ) (profile : Profile) (t : ℕ) (before : List Answered) (w w' : Work) (kind : EnvKind) (value : ℕ)
     → ask_of g.code w.thread ≡ ask.Env kind → is_result kind value ≡ true → w'.me ≡ w.me
     → w'.thread ≡ after_reply g.code w.thread (Value value)
     → w'.log ≡ record w.log { events = w.log.events ++ event.Answer kind value ∷ [] } → w'.answers ≡ w.answers ++ (kind, value) ∷ []
-    → IsWorking g budget t before w → IsWorking g budget t before w'
-answer_step g budget t before w w' kind value asked fits me took log answers i =
-    works_on g budget t before w w' (ask.Env kind) value [] (event.Answer kind value ∷ []) i
+    → IsWorking g budget profile t before w → IsWorking g budget profile t before w'
+answer_step g budget profile t before w w' kind value asked fits me took log answers i =
+    works_on g budget profile t before w w' (ask.Env kind) value [] (event.Answer kind value ∷ []) i
     (record {
       asked = asked;
       may = fits;
@@ -244,12 +253,12 @@ answer_step g budget t before w w' kind value asked fits me took log answers i =
     })
     (same_view t i.track w.me w'.me me i.view)
 
-pub read_step : (g : Guest) (budget t : ℕ) (before : List Answered) (w w' : Work) (o version : ℕ) → o < object_count g → version < 2 ^ 32
+pub read_step : (g : Guest) (budget : ℕ) (profile : Profile) (t : ℕ) (before : List Answered) (w w' : Work) (o version : ℕ) → o < object_count g → version < 2 ^ 32
     → ask_of g.code w.thread ≡ ask.Enter o Reading → w'.me ≡ (did w.me.0 o (Enter Reading version 0), w.me.1)
     → w'.thread ≡ after_reply g.code w.thread Go → w'.log ≡ record w.log { events = w.log.events ++ event.Read o version ∷ [] }
-    → w'.answers ≡ w.answers → IsWorking g budget t before w → IsWorking g budget t before w'
-read_step g budget t before w w' o version below fits asked me took log answers i =
-    works_on g budget t before w w' (ask.Enter o Reading) 0 (act o (Enter Reading version 0) ∷ []) (event.Read o version ∷ []) i
+    → w'.answers ≡ w.answers → IsWorking g budget profile t before w → IsWorking g budget profile t before w'
+read_step g budget profile t before w w' o version below fits asked me took log answers i =
+    works_on g budget profile t before w w' (ask.Enter o Reading) 0 (act o (Enter Reading version 0) ∷ []) (event.Read o version ∷ []) i
     (record {
       asked = asked;
       may = refl;
@@ -264,13 +273,13 @@ read_step g budget t before w w' o version below fits asked me took log answers 
     })
     (did_view t o (Enter Reading version 0) i.track w.me w'.me me i.view)
 
-pub write_step : (g : Guest) (budget t : ℕ) (before : List Answered) (w w' : Work) (o version left : ℕ) → o < object_count g
+pub write_step : (g : Guest) (budget : ℕ) (profile : Profile) (t : ℕ) (before : List Answered) (w w' : Work) (o version left : ℕ) → o < object_count g
     → version < 2 ^ 32 → left < 2 ^ 32 → ask_of g.code w.thread ≡ ask.Enter o Writing
     → w'.me ≡ (did w.me.0 o (Enter Writing version left), w.me.1)
     → w'.thread ≡ after_reply g.code w.thread Go → w'.log ≡ record w.log { events = w.log.events ++ event.Write o version left ∷ [] }
-    → w'.answers ≡ w.answers → IsWorking g budget t before w → IsWorking g budget t before w'
-write_step g budget t before w w' o version left below fits small asked me took log answers i =
-    works_on g budget t before w w' (ask.Enter o Writing) 0 (act o (Enter Writing version left) ∷ []) (event.Write o version left ∷ []) i
+    → w'.answers ≡ w.answers → IsWorking g budget profile t before w → IsWorking g budget profile t before w'
+write_step g budget profile t before w w' o version left below fits small asked me took log answers i =
+    works_on g budget profile t before w w' (ask.Enter o Writing) 0 (act o (Enter Writing version left) ∷ []) (event.Write o version left ∷ []) i
     (record {
       asked = asked;
       may = refl;
@@ -285,12 +294,55 @@ write_step g budget t before w w' o version left below fits small asked me took 
     })
     (did_view t o (Enter Writing version left) i.track w.me w'.me me i.view)
 
-pub leave_step : (g : Guest) (budget t : ℕ) (before : List Answered) (w w' : Work) (o version : ℕ) (a : Access)
+-- a try that entered is answered 1, and logged as an entry
+pub entered_step : (g : Guest) (budget : ℕ) (profile : Profile) (t : ℕ) (before : List Answered) (w w' : Work) (o version left : ℕ)
+    → o < object_count g → version < 2 ^ 32 → left < 2 ^ 32 → ask_of g.code w.thread ≡ ask.Try o
+    → w'.me ≡ (did w.me.0 o (Try version left), w.me.1)
+    → w'.thread ≡ after_reply g.code w.thread (Value 1) → w'.log ≡ record w.log { events = w.log.events ++ event.Write o version left ∷ [] }
+    → w'.answers ≡ w.answers → IsWorking g budget profile t before w → IsWorking g budget profile t before w'
+entered_step g budget profile t before w w' o version left below fits small asked me took log answers i =
+    works_on g budget profile t before w w' (ask.Try o) 1 (act o (Try version left) ∷ []) (event.Write o version left ∷ []) i
+    (record {
+      asked = asked;
+      may = refl;
+      took = took;
+      shares = refl;
+      logs = refl;
+      events = refl;
+      fit = ((below, fits, small), tt);
+      log =
+          log;
+      answers = nothing_more w.answers w'.answers answers;
+    })
+    (did_view t o (Try version left) i.track w.me w'.me me i.view)
+
+-- a refused try is answered 0, and is no object step
+pub refused_step : (g : Guest) (budget : ℕ) (profile : Profile) (t : ℕ) (before : List Answered) (w w' : Work) (o : ℕ)
+    → o < object_count g → w.thread.profile ≡ Two → ask_of g.code w.thread ≡ ask.Try o → w'.me ≡ w.me
+    → w'.thread ≡ after_reply g.code w.thread (Value 0) → w'.log ≡ record w.log { events = w.log.events ++ event.Try o ∷ [] }
+    → w'.answers ≡ w.answers → IsWorking g budget profile t before w → IsWorking g budget profile t before w'
+refused_step g budget profile t before w w' o below two asked me took log answers i =
+    works_on g budget profile t before w w' (ask.Try o) 0 [] (event.Try o ∷ []) i
+    (record {
+      asked = asked;
+      may = refl;
+      took = took;
+      shares = refl;
+      logs = refl;
+      events = refl;
+      fit = ((two, below), tt);
+      log =
+          log;
+      answers = nothing_more w.answers w'.answers answers;
+    })
+    (same_view t i.track w.me w'.me me i.view)
+
+pub leave_step : (g : Guest) (budget : ℕ) (profile : Profile) (t : ℕ) (before : List Answered) (w w' : Work) (o version : ℕ) (a : Access)
     → ask_of g.code w.thread ≡ ask.Leave o a → w'.me ≡ (did w.me.0 o (Leave a version), w.me.1)
-    → w'.thread ≡ after_reply g.code w.thread Go → w'.log ≡ w.log → w'.answers ≡ w.answers → IsWorking g budget t before w
-    → IsWorking g budget t before w'
-leave_step g budget t before w w' o version a asked me took log answers i =
-    works_on g budget t before w w' (ask.Leave o a) 0 (act o (Leave a version) ∷ []) [] i
+    → w'.thread ≡ after_reply g.code w.thread Go → w'.log ≡ w.log → w'.answers ≡ w.answers → IsWorking g budget profile t before w
+    → IsWorking g budget profile t before w'
+leave_step g budget profile t before w w' o version a asked me took log answers i =
+    works_on g budget profile t before w w' (ask.Leave o a) 0 (act o (Leave a version) ∷ []) [] i
     (record {
       asked = asked;
       may = refl;
@@ -305,12 +357,12 @@ leave_step g budget t before w w' o version a asked me took log answers i =
     })
     (did_view t o (Leave a version) i.track w.me w'.me me i.view)
 
-pub get_step : (g : Guest) (budget t : ℕ) (before : List Answered) (w w' : Work) (o index value : ℕ)
+pub get_step : (g : Guest) (budget : ℕ) (profile : Profile) (t : ℕ) (before : List Answered) (w w' : Work) (o index value : ℕ)
     → ask_of g.code w.thread ≡ ask.Get o index → w'.me ≡ (did w.me.0 o (Get index value), w.me.1)
-    → w'.thread ≡ after_reply g.code w.thread (Value value) → w'.log ≡ w.log → w'.answers ≡ w.answers → IsWorking g budget t before w
-    → IsWorking g budget t before w'
-get_step g budget t before w w' o index value asked me took log answers i =
-    works_on g budget t before w w' (ask.Get o index) value (act o (Get index value) ∷ []) [] i
+    → w'.thread ≡ after_reply g.code w.thread (Value value) → w'.log ≡ w.log → w'.answers ≡ w.answers → IsWorking g budget profile t before w
+    → IsWorking g budget profile t before w'
+get_step g budget profile t before w w' o index value asked me took log answers i =
+    works_on g budget profile t before w w' (ask.Get o index) value (act o (Get index value) ∷ []) [] i
     (record {
       asked = asked;
       may = tt;
@@ -325,12 +377,12 @@ get_step g budget t before w w' o index value asked me took log answers i =
     })
     (did_view t o (Get index value) i.track w.me w'.me me i.view)
 
-pub put_step : (g : Guest) (budget t : ℕ) (before : List Answered) (w w' : Work) (o index value : ℕ)
+pub put_step : (g : Guest) (budget : ℕ) (profile : Profile) (t : ℕ) (before : List Answered) (w w' : Work) (o index value : ℕ)
     → ask_of g.code w.thread ≡ ask.Put o index value → w'.me ≡ (did w.me.0 o (Put index value), w.me.1)
-    → w'.thread ≡ after_reply g.code w.thread Go → w'.log ≡ w.log → w'.answers ≡ w.answers → IsWorking g budget t before w
-    → IsWorking g budget t before w'
-put_step g budget t before w w' o index value asked me took log answers i =
-    works_on g budget t before w w' (ask.Put o index value) 0 (act o (Put index value) ∷ []) [] i
+    → w'.thread ≡ after_reply g.code w.thread Go → w'.log ≡ w.log → w'.answers ≡ w.answers → IsWorking g budget profile t before w
+    → IsWorking g budget profile t before w'
+put_step g budget profile t before w w' o index value asked me took log answers i =
+    works_on g budget profile t before w w' (ask.Put o index value) 0 (act o (Put index value) ∷ []) [] i
     (record {
       asked = asked;
       may = refl;
@@ -346,15 +398,15 @@ put_step g budget t before w w' o index value asked me took log answers i =
     (did_view t o (Put index value) i.track w.me w'.me me i.view)
 
 -- so many private steps
-pub run_steps : (g : Guest) (budget t : ℕ) (before : List Answered) (w w' : Work) (count : ℕ) → PrivateSteps g.code count w.thread w'.thread
-    → w'.me ≡ w.me → w'.log ≡ w.log → w'.answers ≡ w.answers → IsWorking g budget t before w → IsWorking g budget t before w'
+pub run_steps : (g : Guest) (budget : ℕ) (profile : Profile) (t : ℕ) (before : List Answered) (w w' : Work) (count : ℕ) → PrivateSteps g.code count w.thread w'.thread
+    → w'.me ≡ w.me → w'.log ≡ w.log → w'.answers ≡ w.answers → IsWorking g budget profile t before w → IsWorking g budget profile t before w'
 unfolding run_of step_of
-run_steps g budget t before w w' zero p me log answers i =
-    subst (IsWorking g budget t before) (λ j. record { me = sym me j; thread = sym p.steps j; log = sym log j; answers = sym answers j }) i
-run_steps g budget t before w w' (suc count) p me log answers i =
+run_steps g budget profile t before w w' zero p me log answers i =
+    subst (IsWorking g budget profile t before) (λ j. record { me = sym me j; thread = sym p.steps j; log = sym log j; answers = sym answers j }) i
+run_steps g budget profile t before w w' (suc count) p me log answers i =
     let mid : Work = record w { thread = run_of g.code count w.thread } in
-    own_step g budget t before mid w' ask.Private tt (p.each count (omega arith)) me p.steps log answers
-    (run_steps g budget t before w mid count (record { steps = refl; each = λ k l. p.each k (omega (arith, l)) }) refl refl refl i)
+    own_step g budget profile t before mid w' ask.Private tt (p.each count (omega arith)) me p.steps log answers
+    (run_steps g budget profile t before w mid count (record { steps = refl; each = λ k l. p.each k (omega (arith, l)) }) refl refl refl i)
 
 -- ---- what is known where a step is asked
 
@@ -362,21 +414,45 @@ permits : (g : Guest) (w : Work) (q : Ask) → ask_of g.code w.thread ≡ q → 
 permits g w q asked = subst (Permits w.thread) asked (ask_permits g.code w.thread)
 
 inside_view : (g : Guest) (w : Work) (o : ℕ) → IsWorker g w → inside_by o (history w.me.0) ≡ held_at w.thread.held o
-inside_view g w o i = ap (λ (z : M). inside_by o (history z.0)) i.3.view ∙ i.3.held o
+inside_view g w o i = ap (λ (z : M). inside_by o (history z.0)) i.4.view ∙ i.4.held o
 
 pub below_enter : (g : Guest) (w : Work) (o : ℕ) (a : Access) → IsWorker g w → ask_of g.code w.thread ≡ ask.Enter o a → o < object_count g
-below_enter g w o a i asked = subst (λ n. o < n) i.3.places (permits g w (ask.Enter o a) asked).2
+below_enter g w o a i asked = subst (λ n. o < n) i.4.places (permits g w (ask.Enter o a) asked).2
+
+pub below_try : (g : Guest) (w : Work) (o : ℕ) → IsWorker g w → ask_of g.code w.thread ≡ ask.Try o → o < object_count g
+below_try g w o i asked = subst (λ n. o < n) i.4.places (permits g w (ask.Try o) asked).2
+
+-- a thread that may enter has room in its log, and its entries are few
+pub entry_room : (g : Guest) (w : Work) → IsWorker g w → w.thread.events < most_events → length w.log.events < w.log.room
+entry_room g w i can = let n = i.4.count in let r = i.4.room in omega (arith, can, n, r)
+
+pub few_entries : (g : Guest) (w : Work) → IsWorker g w → w.thread.events < most_events
+    → entries (map shared_of (history w.me.0)) < most_events
+few_entries g w i can =
+    let same : entries (map shared_of (history w.me.0)) ≡ entries (map shared_of i.4.track) =
+    ap (λ (z : M). entries (map shared_of (history z.0))) i.4.view in
+    let few = i.4.few in
+    omega (arith, same, can, few)
+
+pub may_enter : (g : Guest) (w : Work) (o : ℕ) (a : Access) → ask_of g.code w.thread ≡ ask.Enter o a → w.thread.events < most_events
+may_enter g w o a asked = (permits g w (ask.Enter o a) asked).1
+
+pub may_try : (g : Guest) (w : Work) (o : ℕ) → ask_of g.code w.thread ≡ ask.Try o → w.thread.events < most_events
+may_try g w o asked = (permits g w (ask.Try o) asked).1
+
+pub try_in_two : (g : Guest) (w : Work) (o : ℕ) → ask_of g.code w.thread ≡ ask.Try o → w.thread.profile ≡ Two
+try_in_two g w o asked = (permits g w (ask.Try o) asked).4
 
 pub below_leave : (g : Guest) (w : Work) (o : ℕ) (a : Access) → IsWorker g w → ask_of g.code w.thread ≡ ask.Leave o a → o < object_count g
-below_leave g w o a i asked = subst (λ n. o < n) i.3.places (permits g w (ask.Leave o a) asked).1
+below_leave g w o a i asked = subst (λ n. o < n) i.4.places (permits g w (ask.Leave o a) asked).1
 
 pub below_get : (g : Guest) (w : Work) (o index : ℕ) → IsWorker g w → ask_of g.code w.thread ≡ ask.Get o index → (o < object_count g)
     × (index < object_words)
-below_get g w o index i asked = let p = permits g w (ask.Get o index) asked in (subst (λ n. o < n) i.3.places p.1, p.2)
+below_get g w o index i asked = let p = permits g w (ask.Get o index) asked in (subst (λ n. o < n) i.4.places p.1, p.2)
 
 pub below_put : (g : Guest) (w : Work) (o index value : ℕ) → IsWorker g w → ask_of g.code w.thread ≡ ask.Put o index value
     → (o < object_count g) × (index < object_words)
-below_put g w o index value i asked = let p = permits g w (ask.Put o index value) asked in (subst (λ n. o < n) i.3.places p.1, p.2)
+below_put g w o index value i asked = let p = permits g w (ask.Put o index value) asked in (subst (λ n. o < n) i.4.places p.1, p.2)
 
 pub outside : (g : Guest) (w : Work) (o : ℕ) (a : Access) → IsWorker g w → ask_of g.code w.thread ≡ ask.Enter o a
     → inside_by o (history w.me.0) ≡ None
@@ -397,7 +473,7 @@ inside_put g w o index value i asked = inside_view g w o i ∙ (permits g w (ask
 
 pub log_room : (g : Guest) (w : Work) (kind : EnvKind) → IsWorker g w → ask_of g.code w.thread ≡ ask.Env kind
     → length w.log.events < w.log.room
-log_room g w kind i asked = let can = (permits g w (ask.Env kind) asked).1 in let n = i.3.count in let r = i.3.room in
+log_room g w kind i asked = let can = (permits g w (ask.Env kind) asked).1 in let n = i.4.count in let r = i.4.room in
     omega (arith, can, n, r)
 
 -- ---- releasing
@@ -426,12 +502,12 @@ did_elsewhere me me' o p d e h ne = ap (λ (z : M). inside_by p (history z.0)) e
 -- ---- going on
 
 pub worker_on : (g : Guest) (v w : Work) → IsWorker g v → StillWorks g v w → IsWorker g w
-worker_on g v w i on = (i.0, i.1, i.2, on i.0 i.1 i.2 i.3)
+worker_on g v w i on = (i.0, i.1, i.2, i.3, on i.0 i.1 i.2 i.3 i.4)
 
 pub inside_worker : (g : Guest) (w : Work) (me : M) (x : thread.State) → IsWorker g w → me ≡ w.me → x ≡ w.thread → IsInside g me x
 inside_worker g w me x i e f = subst (λ (z : M × thread.State). IsInside g z.0 z.1) (λ j. (sym e j, sym f j)) (record {
-  alone = subst (λ (z : M). IsAlone z.0) (sym i.3.view) tt;
-  places = i.3.places;
+  alone = subst (λ (z : M). IsAlone z.0) (sym i.4.view) tt;
+  places = i.4.places;
   inside = λ o. inside_view g w o i;
 })
 
@@ -460,7 +536,7 @@ pub stays_on : {W : Type 0} (answers : W → List Answered) (g : Guest) (u v w :
 stays_on answers g u v w p q = record {
   seat = q.seat ∙ p.seat;
   still =
-      λ budget t before i. q.still budget t before (p.still budget t before i);
+      λ budget profile t before i. q.still budget profile t before (p.still budget profile t before i);
 }
 
 -- a worker that stays is at work

@@ -77,6 +77,7 @@ pub record TookIf (moved : Bool) (order : List ℕ) (a b : Progress) : Type 0 wh
 abbrev pub IsQuiet : ask.Ask → Type 0
 IsQuiet (asks.Env kind) = ⊥
 IsQuiet (asks.Enter object access) = ⊥
+IsQuiet (asks.Try object) = ⊥
 IsQuiet _ = ⊤
 
 -- each thread has a log with room for all that it may log, and its events are there
@@ -84,7 +85,8 @@ pub record IsTape (f : Flat) (logs : List Logged) : Type 0 where
   pub one_each : length logs ≡ length f.threads
   pub rooms : (t : ℕ) → t < length f.threads → (log_at logs t).room ≡ most_events
   pub counts : (t : ℕ) → t < length f.threads → length (log_at logs t).events ≡ (thread_of f t).events
-  pub events_fit : (t : ℕ) → t < length f.threads → AllByRecursion (IsEvent (length f.objects)) (log_at logs t).events
+  pub events_fit : (t : ℕ) → t < length f.threads
+      → AllByRecursion (IsEvent (thread_of f t).profile (length f.objects)) (log_at logs t).events
 
 -- what holds before each turn: each thread has its log and its world, and no world has failed
 pub record IsReady (p : Progress) (failed : List Bool) : Type 0 where

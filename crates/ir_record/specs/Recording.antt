@@ -1,4 +1,5 @@
 -- What a recording of a run holds.
+use Rattle.ir_thread.specs.declared.profile.Profile.{Profile}
 use Rattle.std.specs.Prelude.{◌≡◌, ℕ, ◌<◌, ◌++◌, List, length, map, slice_get, Some, Bool, ⊤}
 use Rattle.ir_image.specs.Guest.{Guest, object_count}
 use Rattle.ir_flat.specs.Flat.{start_flat, tables, machine}
@@ -14,44 +15,45 @@ use Rattle.ir_record.specs.declared.record_err.RecordErr.{RecordErr}
 use Rattle.ir_record.specs.declared.record_err.RecordErr.TheVariants.{NoMem, World}
 
 -- the trace of a complete run of the guest: its header, and of each thread its steps, its log, its end and its code
-pub record IsTraceOf (guest : Guest) (budget : ℕ) (run : List Step) (recorded : Recorded) : Type 0 where
+pub record IsTraceOf (guest : Guest) (budget : ℕ) (profile : Profile) (run : List Step) (recorded : Recorded) : Type 0 where
   pub objects : recorded.objects ≡ object_count guest
   pub limit : recorded.budget ≡ budget
+  pub profile_is : recorded.profile ≡ profile
   pub threads : length recorded.threads ≡ length guest.entries
-  pub whole : IsWhole (machine (start_flat guest budget)) (tables (start_flat guest budget)) (length guest.entries) (trace_of recorded) run
+  pub whole : IsWhole (machine (start_flat guest budget profile)) (tables (start_flat guest budget profile)) (length guest.entries) (trace_of recorded) run
 
 -- what each thread of the run printed
-pub record AreOutputs (guest : Guest) (budget : ℕ) (run : List Step) (outputs : List (List ℕ)) : Type 0 where
+pub record AreOutputs (guest : Guest) (budget : ℕ) (profile : Profile) (run : List Step) (outputs : List (List ℕ)) : Type 0 where
   pub threads : length outputs ≡ length guest.entries
   pub each : (t : ℕ) → t < length guest.entries
-      → slice_get outputs t ≡ Some ((end (machine (start_flat guest budget)) (tables (start_flat guest budget)) run).now t).output
+      → slice_get outputs t ≡ Some ((end (machine (start_flat guest budget profile)) (tables (start_flat guest budget profile)) run).now t).output
 
 -- what the world of each thread had answered, and then the answers that the run logged of it
-pub record AreAnswers (guest : Guest) (budget : ℕ) (run : List Step) (before answers : List (List Answered)) : Type 0 where
+pub record AreAnswers (guest : Guest) (budget : ℕ) (profile : Profile) (run : List Step) (before answers : List (List Answered)) : Type 0 where
   pub threads : length answers ≡ length guest.entries
   pub each : (t : ℕ) → t < length guest.entries
       → slice_get answers t ≡ Some (answers_at before t ++ answers_in
-      (log (machine (start_flat guest budget)) (tables (start_flat guest budget)) run t))
+      (log (machine (start_flat guest budget profile)) (tables (start_flat guest budget profile)) run t))
 
 -- the trace, the outputs and the worlds' answers of this run of the guest, which is complete
-pub record IsRecordingOf (guest : Guest) (budget : ℕ) (run : List Step) (before : List (List Answered)) (trace : Recorded)
+pub record IsRecordingOf (guest : Guest) (budget : ℕ) (profile : Profile) (run : List Step) (before : List (List Answered)) (trace : Recorded)
     (outputs : List (List ℕ)) (answers : List (List Answered)) : Type 0 where
-  pub emitted : IsTraceOf guest budget run trace
-  pub printed : AreOutputs guest budget run outputs
-  pub answered : AreAnswers guest budget run before answers
+  pub emitted : IsTraceOf guest budget profile run trace
+  pub printed : AreOutputs guest budget profile run outputs
+  pub answered : AreAnswers guest budget profile run before answers
 
 -- the same of some run of the guest
-pub record IsRecordingOfSome (guest : Guest) (budget : ℕ) (before : List (List Answered)) (trace : Recorded) (outputs : List (List ℕ))
+pub record IsRecordingOfSome (guest : Guest) (budget : ℕ) (profile : Profile) (before : List (List Answered)) (trace : Recorded) (outputs : List (List ℕ))
     (answers : List (List Answered)) : Type 0 where
   pub run : List Step
-  pub of : IsRecordingOf guest budget run before trace outputs answers
+  pub of : IsRecordingOf guest budget profile run before trace outputs answers
 
 -- the same of the run of the guest by the order
-pub record IsRecording (guest : Guest) (budget : ℕ) (order : List ℕ) (before : List (List Answered)) (trace : Recorded)
+pub record IsRecording (guest : Guest) (budget : ℕ) (profile : Profile) (order : List ℕ) (before : List (List Answered)) (trace : Recorded)
     (outputs : List (List ℕ)) (answers : List (List Answered)) : Type 0 where
   pub run : List Step
-  pub by_order : IsByOrder (machine (start_flat guest budget)) (tables (start_flat guest budget)) (length guest.entries) order run
-  pub of : IsRecordingOf guest budget run before trace outputs answers
+  pub by_order : IsByOrder (machine (start_flat guest budget profile)) (tables (start_flat guest budget profile)) (length guest.entries) order run
+  pub of : IsRecordingOf guest budget profile run before trace outputs answers
 
 -- ---- what a call that records hands back, of worlds by what they have answered, whether they have failed and what they were made with
 
@@ -64,13 +66,13 @@ abbrev pub printed_by : {W : Type 0} → Outputs W → List (List ℕ)
 printed_by outputs = map (λ o. o.bytes.items) outputs.each.items
 
 -- the run of the guest by the order, which is complete: its trace, what its threads printed, and what their worlds answered
-abbrev pub IsRecordedInOrder : {W : Type 0} → (W → List Answered) → Guest → ℕ → List ℕ → List W → Recorded × Outputs W → Type 0
-IsRecordedInOrder answers guest budget order before r =
-    IsRecording guest budget order (map answers before) r.0 (printed_by r.1) (each_world answers r.1)
+abbrev pub IsRecordedInOrder : {W : Type 0} → (W → List Answered) → Guest → ℕ → Profile → List ℕ → List W → Recorded × Outputs W → Type 0
+IsRecordedInOrder answers guest budget profile order before r =
+    IsRecording guest budget profile order (map answers before) r.0 (printed_by r.1) (each_world answers r.1)
 
 -- the same of one complete run of the guest
-abbrev pub IsRecorded : {W : Type 0} → (W → List Answered) → Guest → ℕ → List W → Recorded × Outputs W → Type 0
-IsRecorded answers guest budget before r = IsRecordingOfSome guest budget (map answers before) r.0 (printed_by r.1) (each_world answers r.1)
+abbrev pub IsRecorded : {W : Type 0} → (W → List Answered) → Guest → ℕ → Profile → List W → Recorded × Outputs W → Type 0
+IsRecorded answers guest budget profile before r = IsRecordingOfSome guest budget profile (map answers before) r.0 (printed_by r.1) (each_world answers r.1)
 
 -- no world that is handed back has failed
 abbrev pub AllWork : {W : Type 0} → (W → Bool) → Recorded × Outputs W → Type 0

@@ -1,4 +1,5 @@
 -- The workers of a recording by threads.
+use Rattle.ir_thread.specs.declared.profile.Profile.{Profile}
 use Rattle.std.specs.Prelude.{◌≡◌, ◌≢◌, ℕ, suc, ◌≤◌, List, [], ◌∷◌, ◌++◌, length, vec_capacity, None, ⊤}
 use Rattle.std.specs.Global.{Vec}
 use Rattle.std.specs.List.{AllByRecursion}
@@ -14,21 +15,21 @@ use Rattle.ir_record.specs.declared.room.Room.{Room}
 use Rattle.ir_record.specs.declared.worker.Worker.{Worker}
 
 -- the worker of thread t before its first step
-pub record IsNew {W : Type 0} (g : Guest) (budget : ℕ) (id : TableId) (t : ℕ) (w : Worker W) : Type 0 where
+pub record IsNew {W : Type 0} (g : Guest) (budget : ℕ) (profile : Profile) (id : TableId) (t : ℕ) (w : Worker W) : Type 0 where
   pub table : w.seat.table_id ≡ id
   pub me : w.seat.me ≡ (record { thread = t; steps = [] } ∷ [], [])
-  pub thread : w.thread ≡ thread.start_state g t budget
+  pub thread : w.thread ≡ thread.start_state g t budget profile
   pub log : w.log ≡ record { events = []; room = most_events }
 
 -- the workers of the threads from t on
-abbrev pub AreNew : {W : Type 0} → Guest → ℕ → TableId → ℕ → List (Worker W) → Type 0
-AreNew g budget id t [] = ⊤
-AreNew g budget id t (w ∷ ws) = IsNew g budget id t w × AreNew g budget id (suc t) ws
+abbrev pub AreNew : {W : Type 0} → Guest → ℕ → Profile → TableId → ℕ → List (Worker W) → Type 0
+AreNew g budget profile id t [] = ⊤
+AreNew g budget profile id t (w ∷ ws) = IsNew g budget profile id t w × AreNew g budget profile id (suc t) ws
 
 -- a worker whose thread is done, of a guest with so many objects
-pub record IsOver {W : Type 0} (objects : ℕ) (w : Worker W) : Type 0 where
+pub record IsOver {W : Type 0} (profile : Profile) (objects : ℕ) (w : Worker W) : Type 0 where
   pub ended : w.thread.ended ≢ None
-  pub events_fit : AllByRecursion (IsEvent objects) w.log.events
+  pub events_fit : AllByRecursion (IsEvent profile objects) w.log.events
 
 -- what was recorded of each worker's thread
 abbrev pub AreTraces : {W : Type 0} → List (Worker W) → List RecordedThread → Type 0

@@ -1,4 +1,5 @@
 -- A worker of a recording by threads: one thread of the guest, alone but for the table of the objects.
+use Rattle.ir_thread.specs.declared.profile.Profile.{Profile}
 use Rattle.std.specs.Prelude.{◌≡◌, ℕ, ◌≤◌, List, [], ◌∷◌, ◌++◌, length, map, All, Bool, true, false}
 use Rattle.std.specs.List.{AllByRecursion}
 use Rattle.atomic_table.specs.Seated.{TableId}
@@ -44,35 +45,37 @@ abbrev pub work_of : {W : Type 0} → (W → List Answered) → Worker W → Wor
 work_of answers w = record { me = w.seat.me; thread = w.thread; log = w.log; answers = answers w.world }
 
 -- the worker of thread t, whose world had answered so when it began
-pub record IsWorking (g : Guest) (budget t : ℕ) (before : List Answered) (w : Work) : Type 0 where
+pub record IsWorking (g : Guest) (budget : ℕ) (profile : Profile) (t : ℕ) (before : List Answered) (w : Work) : Type 0 where
   -- the object steps of the thread
   pub track : List ObjectStep
   pub view : w.me ≡ (record { thread = t; steps = track } ∷ [], [])
   -- its thread has taken its own steps from the start; these are its object steps, and its log
-  pub worked : Worked (thread_machine g.code) (thread.start_state g t budget) w.thread (map shared_of track) (map rule.label_of track)
+  pub worked : Worked (thread_machine g.code) (thread.start_state g t budget profile) w.thread (map shared_of track) (map rule.label_of track)
       (map label_of w.log.events)
   -- it is inside what it holds
   pub held : (o : ℕ) → inside_by o track ≡ held_at w.thread.held o
   pub places : length w.thread.held ≡ object_count g
+  pub profile_is : w.thread.profile ≡ profile
   pub few : entries (map shared_of track) ≤ w.thread.events
   pub room : w.log.room ≡ most_events
   pub count : length w.log.events ≡ w.thread.events
-  pub events_fit : AllByRecursion (IsEvent (object_count g)) w.log.events
+  pub events_fit : AllByRecursion (IsEvent profile (object_count g)) w.log.events
   pub answered : w.answers ≡ before ++ answers_in (map label_of w.log.events)
 
 -- the worker of some thread
 abbrev pub IsWorker : Guest → Work → Type 0
-IsWorker g w = (budget : ℕ) × (t : ℕ) × (before : List Answered) × IsWorking g budget t before w
+IsWorker g w = (budget : ℕ) × (profile : Profile) × (t : ℕ) × (before : List Answered) × IsWorking g budget profile t before w
 
 -- whichever thread's worker v is, w is that thread's
 abbrev pub StillWorks : Guest → Work → Work → Type 0
-StillWorks g v w = (budget t : ℕ) (before : List Answered) → IsWorking g budget t before v → IsWorking g budget t before w
+StillWorks g v w = (budget : ℕ) (profile : Profile) (t : ℕ) (before : List Answered) → IsWorking g budget profile t before v → IsWorking g budget profile t before w
 
 -- the step is nobody else's, and nothing is logged of it
 abbrev pub IsOwn : Ask → Type 0
 IsOwn ask.Private = Unit {0}
 IsOwn (ask.Env kind) = ⊥
 IsOwn (ask.Enter object access) = ⊥
+IsOwn (ask.Try object) = ⊥
 IsOwn (ask.Leave object access) = ⊥
 IsOwn (ask.Get object index) = ⊥
 IsOwn (ask.Put object index value) = ⊥

@@ -13,6 +13,7 @@ use crate::world::World;
 use ir_crew::Crew;
 use ir_image::{Image, OBJECT_WORDS};
 use ir_object::{Gate, Object};
+use ir_thread::Profile;
 use ir_trace::Trace;
 use std::alloc::{AllocError, Global};
 use std::sync::Wait;
@@ -30,8 +31,8 @@ fn blanks(alloc: Global, count: usize) -> Result<Vec<Object>, AllocError>
 }
 
 /// Records the guest on real threads. Each of its threads runs on one of its own; where none can be started, the caller
-/// runs it, and several such one after another. The budget is in steps, for each thread of the guest. Which of the guest's
-/// runs is recorded is open.
+/// runs it, and several such one after another. The budget is in steps, for each thread of the guest; the profile says
+/// which system calls there are. Which of the guest's runs is recorded is open, and any try may be refused.
 ///
 /// The gate is told of each entry just after it, of each leave just before it, what a thread releases at its end or after
 /// its world has failed among them, on the thread that enters or leaves, and of private steps. A gate that holds a thread up
@@ -52,19 +53,20 @@ pub fn record<R: Threads + Wait + Sync, W: World + Drop + Send, G: Gate + Sync>(
     worlds: Vec<W>,
     gate: &G,
     budget: u64,
+    profile: Profile,
 ) -> Result<(Trace, Outputs<W>), RecordErr<W>>
     requires budget { budget ≤ most_budget }
     requires each { vec_len worlds ≡ length image.now.entries }
     requires works { NoneFailed (map W.broken worlds.items) }
     // One complete run of the guest: its trace, what its threads printed, and what their worlds answered.
-    ensures recorded { IfOk result (IsRecorded W.answers image.now budget worlds.items) }
+    ensures recorded { IfOk result (IsRecorded W.answers image.now budget profile worlds.items) }
     ensures works { IfOk result (AllWork W.broken) }
     // The worlds are those that were handed in.
     ensures origins { IfOk result (AreHandedBack W.origin worlds.items) }
     ensures failed { IfErr result (IsFailure W.answers W.broken W.origin worlds.items) }
 {
     let (crew, seats) = Crew::open(alloc, image)?;
-    let mut workers = new_workers(alloc, image, seats, worlds, budget)?;
+    let mut workers = new_workers(alloc, image, seats, worlds, budget, profile)?;
     let room = room(alloc, workers.len())?;
     let mut objects = blanks(alloc, image.words().len() / OBJECT_WORDS)?;
     // From here on nothing takes memory.
@@ -75,7 +77,7 @@ pub fn record<R: Threads + Wait + Sync, W: World + Drop + Send, G: Gate + Sync>(
             worlds: worlds_of(room, workers),
         });
     }
-    let (seats, trace, outputs) = gathered(room, objects.len() as u8, budget, workers);
+    let (seats, trace, outputs) = gathered(room, objects.len() as u8, budget, profile, workers);
     let seat = joined(&crew, seats);
     crew.close(seat, objects.as_mut_slice());
     Ok((trace, outputs))

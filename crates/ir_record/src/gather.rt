@@ -7,11 +7,12 @@ ghost use Rattle.ir_thread.specs.Calls.{most_budget};
 ghost use Rattle.ir_trace.specs.Recorded.{IsEvent, IsRecordedThread};
 ghost use Rattle.ir_record.specs.Gathered.{IsThreadTrace, AreThreadTraces};
 ghost use Rattle.ir_record.specs.Progress.{IsTape};
+ghost use Rattle.ir_thread.specs.declared.profile.Profile.{Profile};
 
 use crate::outputs::{Output, Outputs};
 use crate::tape::Tape;
 use ir_log::Log;
-use ir_thread::Thread;
+use ir_thread::{Profile, Thread};
 use ir_trace::{ThreadTrace, Trace};
 use std::alloc::{AllocError, Global};
 
@@ -37,20 +38,27 @@ pub fn outputs<W: Drop>(
 pub fn thread_trace(thread: &Thread, log: Log) -> ThreadTrace
     requires { thread.now.ended ≢ None }
     ensures value { IsThreadTrace thread.now log result }
-    ensures fits { (objects : ℕ) → AllByRecursion (IsEvent objects) log.events → IsRecordedThread objects result }
+    ensures fits { (profile : Profile) (objects : ℕ) → AllByRecursion (IsEvent profile objects) log.events → IsRecordedThread profile objects result }
 {
     ThreadTrace::new(thread.steps(), thread.ended().unwrap(), log)
 }
 
 impl Tape<'_> {
     // The trace, once all threads have ended.
-    pub fn into_trace(self, alloc: Global, budget: u64) -> Result<Trace, AllocError>
+    pub fn into_trace(
+        self,
+        alloc: Global,
+        budget: u64,
+        profile: Profile,
+    ) -> Result<Trace, AllocError>
         requires tape { IsTape self.flat self.logs.items }
         requires some { 1 ≤ length self.flat.threads }
         requires budget { budget ≤ most_budget }
+        requires profile { (t : ℕ) → t < length self.flat.threads → (thread_of self.flat t).profile ≡ profile }
         requires ended { (t : ℕ) → t < length self.flat.threads → (thread_of self.flat t).ended ≢ None }
         ensures objects { IfOk result (λ r. r.objects ≡ length self.entry.flat.objects) }
         ensures limit { IfOk result (λ r. r.budget ≡ budget) }
+        ensures profile { IfOk result (λ r. r.profile ≡ profile) }
         ensures threads { IfOk result (λ r. AreThreadTraces self.entry.flat self.entry.logs.items r.threads) }
     {
         let Tape { flat, logs } = self;
@@ -59,6 +67,6 @@ impl Tape<'_> {
             let thread = &flat.threads()[threads.len()];
             threads.push(thread_trace(thread, log))?;
         }
-        Ok(Trace::new(flat.objects().len() as u8, budget, threads))
+        Ok(Trace::new(flat.objects().len() as u8, budget, threads, profile))
     }
 }

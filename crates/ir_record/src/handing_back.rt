@@ -11,7 +11,7 @@ use crate::outputs::{Output, Outputs};
 use crate::room::Room;
 use crate::worker::Worker;
 use ir_crew::{Crew, CrewSeat};
-use ir_thread::MOST_OUTPUT;
+use ir_thread::{MOST_OUTPUT, Profile};
 use ir_trace::Trace;
 use std::alloc::{AllocError, Global};
 
@@ -65,16 +65,17 @@ pub fn gathered<W: Drop>(
     room: Room<W>,
     objects: u8,
     budget: u64,
+    profile: Profile,
     workers: Vec<Worker<W>>,
 ) -> (Vec<CrewSeat>, Trace, Outputs<W>)
     requires room { HasRoom (vec_len workers) room }
-    requires over { AllByRecursion (IsOver objects) workers.items }
+    requires over { AllByRecursion (IsOver profile objects) workers.items }
     requires some { 1 ≤ vec_len workers }
     requires few { vec_len workers ≤ most_threads }
     requires objects { objects ≤ most_objects }
     requires budget { budget ≤ most_budget }
     ensures seats { result.0.items ≡ map (λ w. w.seat) workers.items }
-    ensures trace { (result.1.objects ≡ objects) × (result.1.budget ≡ budget) × AreTraces workers.items result.1.threads }
+    ensures trace { (result.1.objects ≡ objects) × (result.1.budget ≡ budget) × (result.1.profile ≡ profile) × AreTraces workers.items result.1.threads }
     ensures bytes { map (λ o. o.bytes.items) result.2.each.items ≡ map (λ w. w.thread.output) workers.items }
     ensures worlds { map (λ o. o.world) result.2.each.items ≡ map (λ w. w.world) workers.items }
 {
@@ -97,7 +98,11 @@ pub fn gathered<W: Drop>(
         traces.push_reserved(thread_trace(&thread, log));
         each.push_reserved(Output { bytes, world });
     }
-    (seats, Trace::new(objects, budget, traces), Outputs { each })
+    (
+        seats,
+        Trace::new(objects, budget, traces, profile),
+        Outputs { each },
+    )
 }
 
 // One seat of all.

@@ -19,6 +19,7 @@ use crate::turn::Failed;
 use crate::turns::{Turns, turns_of};
 use crate::world::World;
 use ir_image::Image;
+use ir_thread::Profile;
 use ir_trace::Trace;
 use std::alloc::Global;
 
@@ -51,19 +52,20 @@ pub fn record_in_turns<W: World + Drop>(
     order: &[Turns],
     worlds: Vec<W>,
     budget: u64,
+    profile: Profile,
 ) -> Result<(Trace, Outputs<W>), RecordErr<W>>
     requires budget { budget ≤ most_budget }
     requires each { vec_len worlds ≡ length image.now.entries }
     requires works { NoneFailed (map W.broken worlds.items) }
     // The run by the order, which is complete: its trace, what its threads printed, and what their worlds answered.
-    ensures recorded { IfOk result (IsRecordedInOrder W.answers image.now budget (order_of_turns order.now) worlds.items) }
+    ensures recorded { IfOk result (IsRecordedInOrder W.answers image.now budget profile (order_of_turns order.now) worlds.items) }
     ensures works { IfOk result (AllWork W.broken) }
     // The worlds are those that were handed in.
     ensures origins { IfOk result (AreHandedBack W.origin worlds.items) }
     ensures failed { IfErr result (IsFailure W.answers W.broken W.origin worlds.items) }
 {
     let mut recorder = Recorder {
-        tape: Tape::start(alloc, image, budget)?,
+        tape: Tape::start(alloc, image, budget, profile)?,
         worlds,
     };
     let mut ahead = vec![in alloc; 0; recorder.tape.flat.threads().len()]?;
@@ -75,13 +77,14 @@ pub fn record_in_turns<W: World + Drop>(
     }
     let Recorder { tape, worlds } = recorder;
     let outputs = outputs(alloc, tape.flat.threads(), worlds)?;
-    let trace = tape.into_trace(alloc, budget)?;
+    let trace = tape.into_trace(alloc, budget, profile)?;
     Ok((trace, outputs))
 }
 
 /// Records the guest on one thread. Each entry of the order takes one step of that thread, or none where it has none;
 /// an entry that is no thread has none. After the order, rounds over the threads from 0 upwards take one step of each
-/// that has one, until all are done. The budget is in steps, for each thread.
+/// that has one, until all are done. A try enters where nobody is inside. The budget is in steps, for each thread; the
+/// profile says which system calls there are.
 ///
 /// # Errors
 /// `RecordErr::NoMem` where memory is wanted, and the worlds are dropped; `RecordErr::World` where a world fails: the
@@ -92,17 +95,18 @@ pub fn record_in_order<W: World + Drop>(
     order: &[u8],
     worlds: Vec<W>,
     budget: u64,
+    profile: Profile,
 ) -> Result<(Trace, Outputs<W>), RecordErr<W>>
     requires budget { budget ≤ most_budget }
     requires each { vec_len worlds ≡ length image.now.entries }
     requires works { NoneFailed (map W.broken worlds.items) }
     // The run by the order, which is complete: its trace, what its threads printed, and what their worlds answered.
-    ensures recorded { IfOk result (IsRecordedInOrder W.answers image.now budget order.now worlds.items) }
+    ensures recorded { IfOk result (IsRecordedInOrder W.answers image.now budget profile order.now worlds.items) }
     ensures works { IfOk result (AllWork W.broken) }
     // The worlds are those that were handed in.
     ensures origins { IfOk result (AreHandedBack W.origin worlds.items) }
     ensures failed { IfErr result (IsFailure W.answers W.broken W.origin worlds.items) }
 {
     let turns = turns_of(alloc, order)?;
-    record_in_turns(alloc, image, turns.as_slice(), worlds, budget)
+    record_in_turns(alloc, image, turns.as_slice(), worlds, budget, profile)
 }

@@ -9,7 +9,7 @@ use crate::tape::Tape;
 use ir_flat::Flat;
 use ir_image::Image;
 use ir_log::Log;
-use ir_thread::MOST_EVENTS;
+use ir_thread::{MOST_EVENTS, Profile};
 use std::alloc::{AllocError, Global};
 
 // So many logs without events, each with room for all that a thread may log.
@@ -25,13 +25,18 @@ fn logs(alloc: Global, count: usize) -> Result<Vec<Log>, AllocError>
 
 impl<'a> Tape<'a> {
     // The guest of the image before its first step, with room for all that its threads may log.
-    pub fn start(alloc: Global, image: &'a Image, budget: u64) -> Result<Tape<'a>, AllocError>
+    pub fn start(
+        alloc: Global,
+        image: &'a Image,
+        budget: u64,
+        profile: Profile,
+    ) -> Result<Tape<'a>, AllocError>
         requires { budget ≤ most_budget }
         ensures guest { OnOk result (IsGuest image.now) }
-        ensures flat { IfOk result (λ tape. tape.flat ≡ start_flat image.now budget) }
+        ensures flat { IfOk result (λ tape. tape.flat ≡ start_flat image.now budget profile) }
         ensures logs { IfOk result (λ tape. tape.logs.items ≡ replicate (length image.now.entries) (record { events = []; room = most_events })) }
     {
-        let flat = Flat::start(alloc, image, budget)?;
+        let flat = Flat::start(alloc, image, budget, profile)?;
         let logs = logs(alloc, image.entries().len())?;
         Ok(Tape { flat, logs })
     }

@@ -5,7 +5,8 @@ ghost use Rattle.ir_flat.specs.Alone.{WentAlone};
 ghost use Rattle.ir_flat.specs.Flat.{thread_of, IsFlat};
 ghost use Rattle.ir_thread.specs.Calls.{ask_of, Permits};
 ghost use Rattle.ir_thread.specs.Instance.{is_result};
-ghost use Rattle.ir_thread.specs.declared.ask.Ask.TheVariants.{Env, Enter};
+ghost use Rattle.ir_thread.specs.declared.ask.Ask.TheVariants.{Env, Enter, Try};
+ghost use Rattle.ir_thread.specs.declared.profile.Profile.{Profile};
 ghost use Rattle.ir_flat.specs.Flat.{tables};
 ghost use Rattle.ir_log.specs.Logging.{label_of};
 ghost use Rattle.ir_runs.specs.Object.{emitted};
@@ -49,7 +50,7 @@ impl Tape<'_> {
     fn entry(&self, object: u8, access: Access) -> Event
         requires { object < length self.now.flat.objects }
         ensures emitted { label_of result ≡ emitted (act.Entry object access 0) ((tables self.now.flat).objects object) }
-        ensures fits { IsEvent (length self.now.flat.objects) result }
+        ensures fits { (profile : Profile) → IsEvent profile (length self.now.flat.objects) result }
     {
         let fields = self.flat.objects()[object as usize].fields();
         match access {
@@ -81,6 +82,25 @@ impl Tape<'_> {
         }
         self.logs[t].push(event);
         true
+    }
+
+    // Thread t tries to enter the object that it asks for: it enters where nobody is inside, and else goes on without.
+    pub fn try_to_enter(&mut self, t: usize, object: u8)
+        requires tape { IsTape self.old.flat self.old.logs.items }
+        requires flat { IsFlat self.old.flat }
+        requires thread { t < length self.old.flat.threads }
+        requires asked { ask_of self.old.flat.code (thread_of self.old.flat t) ≡ Try object }
+        ensures took { (answers : List (List Answered)) → TookIf true (t ∷ []) (progress self.old answers) (progress self.new answers) }
+        ensures tape { IsTape self.new.flat self.new.logs.items }
+    {
+        let event = self.entry(object, Access::Writing);
+        match self.flat.take(t, Ask::Try(object), 1) {
+            Ok(()) => self.logs[t].push(event),
+            Err(_) => {
+                let _ = self.flat.take(t, Ask::Try(object), 0);
+                self.logs[t].push(Event::Try { object });
+            }
+        }
     }
 
     // Thread t takes the step that it asks, which nothing is logged of; one that is done has none.

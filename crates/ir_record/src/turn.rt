@@ -52,6 +52,10 @@ impl<W: World> Recorder<'_, W> {
                 Ok(true)
             }
             Ask::Enter(object, access) => Ok(self.tape.enter(t, object, access)),
+            Ask::Try(object) => {
+                self.tape.try_to_enter(t, object);
+                Ok(true)
+            }
             _ => Ok(self.tape.go(t, asked)),
         }
     }

@@ -66,6 +66,29 @@ impl<W: World> Worker<W> {
             .take_asked(code, Ask::Enter(object, Access::Writing), Reply::Go);
     }
 
+    // Its thread tries to enter the object for writing.
+    fn try_write<G: Gate>(&mut self, crew: &Crew, code: &Code, gate: &G, object: u8)
+        requires worker { IsAtWork W.answers crew.now code.now self.old }
+        requires asked { ask_of code.now self.old.thread ≡ ask.Try object }
+        ensures stays { StaysAtWork W.answers crew.now self.old self.new }
+        ensures world { self.new.world ≡ self.old.world }
+    {
+        let Some((version, readers)) = crew.try_write(&mut self.seat, object) else {
+            self.log.push(Event::Try { object });
+            self.thread
+                .take_asked(code, Ask::Try(object), Reply::Value(0));
+            return;
+        };
+        gate.entered(self.thread.number(), object, Access::Writing);
+        self.log.push(Event::Write {
+            object,
+            version,
+            readers,
+        });
+        self.thread
+            .take_asked(code, Ask::Try(object), Reply::Value(1));
+    }
+
     // Its thread leaves the object.
     fn leave<G: Gate>(&mut self, crew: &Crew, code: &Code, gate: &G, object: u8, access: Access)
         requires worker { IsAtWork W.answers crew.now code.now self.old }
@@ -167,6 +190,7 @@ impl<W: World> Worker<W> {
             Ask::Env(kind) => return self.ask_world(crew, code, kind),
             Ask::Enter(object, Access::Reading) => self.enter_read(rt, crew, code, gate, object),
             Ask::Enter(object, Access::Writing) => self.enter_write(rt, crew, code, gate, object),
+            Ask::Try(object) => self.try_write(crew, code, gate, object),
             Ask::Leave(object, access) => self.leave(crew, code, gate, object, access),
             Ask::Get(object, index) => self.get(crew, code, object, index),
             Ask::Put(object, index, value) => self.put(crew, code, object, index, value),

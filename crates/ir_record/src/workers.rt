@@ -13,7 +13,7 @@ use ir_crew::{Crew, CrewSeat};
 use ir_image::{Code, Image};
 use ir_log::Log;
 use ir_object::Gate;
-use ir_thread::{MOST_EVENTS, Thread};
+use ir_thread::{MOST_EVENTS, Profile, Thread};
 use std::alloc::{AllocError, Global};
 use std::sync::Wait;
 use std::thread;
@@ -26,16 +26,17 @@ pub fn new_workers<W: Drop>(
     mut seats: Vec<CrewSeat>,
     worlds: Vec<W>,
     budget: u64,
+    profile: Profile,
 ) -> Result<Vec<Worker<W>>, AllocError>
     requires budget { budget ≤ most_budget }
     requires each { vec_len worlds ≡ length image.now.entries }
     requires seats { length seats.items ≡ length image.now.entries }
-    ensures new { IfOk result (λ v. (id : _) → AreSeats id 0 seats.items → AreNew image.now budget id 0 v.items) }
+    ensures new { IfOk result (λ v. (id : _) → AreSeats id 0 seats.items → AreNew image.now budget profile id 0 v.items) }
     ensures worlds { IfOk result (λ v. map (λ w. w.world) v.items ≡ worlds.items) }
 {
     let mut made = Vec::with_capacity(alloc, worlds.len())?;
     for world in worlds {
-        let thread = Thread::new(alloc, image, made.len(), budget)?;
+        let thread = Thread::new(alloc, image, made.len(), budget, profile)?;
         let log = Log::new(alloc, MOST_EVENTS as usize)?;
         let seat = seats.remove(0);
         made.push(Worker {

@@ -6,6 +6,7 @@ use Rattle.std.proofs.lemmas.List.{length-map}
 use Rattle.std.proofs.lemmas.List.FromFn.{map-range_with_len_more, length-map-range_with_len}
 use Rattle.ir_image.specs.Guest.{Guest}
 use Rattle.ir_image.specs.Reading.{guest_at}
+use Rattle.ir_thread.specs.declared.profile.Profile.{Profile}
 use Rattle.ir_trace.specs.Recorded.{Recorded}
 use Rattle.ir_record.specs.Recording.{IsRecording, IsRecordingOfSome}
 use Rattle.ir_record.specs.Worlds.{Answered}
@@ -75,13 +76,13 @@ answered_by made answers gave counted random file os n e t l =
     (answered_from made answers gave counted random file os 0 n e t l)
 
 -- what was recorded in an order, with fresh worlds
-pub recorded_from : (image list : List ℕ) (budget random : ℕ) (file : List ℕ) (guest : Guest) (entries order given : List ℕ)
+pub recorded_from : (image list : List ℕ) (budget : ℕ) (profile : Profile) (random : ℕ) (file : List ℕ) (guest : Guest) (entries order given : List ℕ)
     (before : List (List Answered)) (trace : Recorded) (outputs : List (List ℕ)) (answers : List (List Answered))
     → guest_at image ≡ Ok guest → entries ≡ guest.entries → order_of (length entries) list ≡ Some order → given ≡ order
-    → before ≡ replicate (length entries) [] → IsRecording guest budget given before trace outputs answers
+    → before ≡ replicate (length entries) [] → IsRecording guest budget profile given before trace outputs answers
     → ((t : ℕ) → t < length entries → IsAnswered (origin_of true random file t) (get_or answers t []))
-    → IsRecordedOf image (Some list) budget random file trace outputs
-recorded_from image list budget random file guest entries order given before trace outputs answers is same spelled e silent h answered =
+    → IsRecordedOf image (Some list) budget profile random file trace outputs
+recorded_from image list budget profile random file guest entries order given before trace outputs answers is same spelled e silent h answered =
     let long : length entries ≡ length guest.entries = ap (λ (z : List ℕ). length z) same in
     record {
       guest = guest;
@@ -90,27 +91,27 @@ recorded_from image list budget random file guest entries order given before tra
       recorded = (
         order,
         ap (λ (n : ℕ). order_of n list) (sym long) ∙ spelled,
-        subst (λ (z : List (List Answered)). IsRecording guest budget order z trace outputs answers)
+        subst (λ (z : List (List Answered)). IsRecording guest budget profile order z trace outputs answers)
             (silent ∙ ap (λ (n : ℕ). replicate n []) long)
-            (subst (λ (z : List ℕ). IsRecording guest budget z before trace outputs answers) e h),
+            (subst (λ (z : List ℕ). IsRecording guest budget profile z before trace outputs answers) e h),
       );
       answered = λ t l. answered t (omega (arith, l, long));
     }
 
 -- the same, by threads
-pub recorded_by : (image : List ℕ) (budget random : ℕ) (file : List ℕ) (guest : Guest) (entries : List ℕ) (before : List (List Answered))
+pub recorded_by : (image : List ℕ) (budget : ℕ) (profile : Profile) (random : ℕ) (file : List ℕ) (guest : Guest) (entries : List ℕ) (before : List (List Answered))
     (trace : Recorded) (outputs : List (List ℕ)) (answers : List (List Answered))
     → guest_at image ≡ Ok guest → entries ≡ guest.entries → before ≡ replicate (length entries) []
-    → IsRecordingOfSome guest budget before trace outputs answers
+    → IsRecordingOfSome guest budget profile before trace outputs answers
     → ((t : ℕ) → t < length entries → IsAnswered (origin_of false random file t) (get_or answers t []))
-    → IsRecordedOf image None budget random file trace outputs
-recorded_by image budget random file guest entries before trace outputs answers is same silent h answered =
+    → IsRecordedOf image None budget profile random file trace outputs
+recorded_by image budget profile random file guest entries before trace outputs answers is same silent h answered =
     let long : length entries ≡ length guest.entries = ap (λ (z : List ℕ). length z) same in
     record {
       guest = guest;
       is = is;
       answers = answers;
-      recorded = subst (λ (z : List (List Answered)). IsRecordingOfSome guest budget z trace outputs answers)
+      recorded = subst (λ (z : List (List Answered)). IsRecordingOfSome guest budget profile z trace outputs answers)
           (silent ∙ ap (λ (n : ℕ). replicate n []) long) h;
       answered = λ t l. answered t (omega (arith, l, long));
     }

@@ -5,6 +5,7 @@ use Rattle.std.specs.Option.{is_some}
 use Rattle.ir_image.specs.Guest.{Guest}
 use Rattle.ir_image.specs.Reading.{guest_at}
 use Rattle.ir_thread.specs.Ends.{end_number, end_code}
+use Rattle.ir_thread.specs.declared.profile.Profile.{Profile}
 use Rattle.ir_trace.specs.Recorded.{RecordedThread, Recorded}
 use Rattle.ir_record.specs.Recording.{IsRecording, IsRecordingOfSome}
 use Rattle.ir_record.specs.Worlds.{Answered}
@@ -29,20 +30,20 @@ unasked guest = replicate (length guest.entries) []
 
 -- the trace, the outputs and the worlds' answers of one complete run of the guest: the one by the order that the list
 -- spells, or without a list some run
-abbrev pub IsRecordedBy : Option (List ℕ) → Guest → ℕ → Recorded → List (List ℕ) → List (List Answered) → Type 0
-IsRecordedBy (Some list) guest budget trace outputs answers = (order : List ℕ) × (order_of (length guest.entries) list ≡ Some order)
-    × IsRecording guest budget order (unasked guest) trace outputs answers
-IsRecordedBy None guest budget trace outputs answers = IsRecordingOfSome guest budget (unasked guest) trace outputs answers
+abbrev pub IsRecordedBy : Option (List ℕ) → Guest → ℕ → Profile → Recorded → List (List ℕ) → List (List Answered) → Type 0
+IsRecordedBy (Some list) guest budget profile trace outputs answers = (order : List ℕ)
+    × (order_of (length guest.entries) list ≡ Some order) × IsRecording guest budget profile order (unasked guest) trace outputs answers
+IsRecordedBy None guest budget profile trace outputs answers = IsRecordingOfSome guest budget profile (unasked guest) trace outputs answers
 
 -- the trace and the outputs are of one such run of the image's guest, whose threads were answered by random words, the
 -- file's bytes and a count; without a list by a clock in the place of the count, of which nothing is said but that the
 -- answers are its own
-pub record IsRecordedOf (image : List ℕ) (list : Option (List ℕ)) (budget random : ℕ) (file : List ℕ) (trace : Recorded)
-    (outputs : List (List ℕ)) : Type 0 where
+pub record IsRecordedOf (image : List ℕ) (list : Option (List ℕ)) (budget : ℕ) (profile : Profile) (random : ℕ) (file : List ℕ)
+    (trace : Recorded) (outputs : List (List ℕ)) : Type 0 where
   pub guest : Guest
   pub is : guest_at image ≡ Ok guest
   pub answers : List (List Answered)
-  pub recorded : IsRecordedBy list guest budget trace outputs answers
+  pub recorded : IsRecordedBy list guest budget profile trace outputs answers
   -- each thread was answered by its own sources
   pub answered : (t : ℕ) → t < length guest.entries → IsAnswered (origin_of (is_some list) random file t) (slice_index_or answers t [])
 

@@ -25,6 +25,7 @@ use ir_image::read_image;
 use ir_object::Gate;
 use ir_record::{Outputs, RecordErr, record, record_in_turns};
 use ir_stream::{DeviceErr, Sink, write_all};
+use ir_thread::Profile;
 use ir_trace::{ThreadTrace, Trace, write_trace};
 use std::alloc::{AllocError, Global};
 use std::sync::Wait;
@@ -88,16 +89,17 @@ fn recorded_in_order<C: Clock>(
     budget: u64,
     random: u64,
     file: &[u8],
+    profile: Profile,
 ) -> Result<(Trace, Vec<Vec<u8>>), RecordFault>
     requires { budget ≤ most_budget }
-    ensures recorded { IfOk result (λ r. IsRecordedOf image.now (Some list.now) budget random file.now r.0 (map (λ b. b.items) r.1.items)) }
+    ensures recorded { IfOk result (λ r. IsRecordedOf image.now (Some list.now) budget profile random file.now r.0 (map (λ b. b.items) r.1.items)) }
     ensures refused { IfErr result (λ e. Refuses e image.now (Some list.now)) }
 {
     let image = read_image(alloc, image)?;
     let threads = image.entries().len();
     let order = read_order(alloc, list, threads)?;
     let worlds = worlds(alloc, clock, Time::Counted, threads, random, file)?;
-    match record_in_turns(alloc, &image, order.as_slice(), worlds, budget) {
+    match record_in_turns(alloc, &image, order.as_slice(), worlds, budget, profile) {
         Ok((trace, outputs)) => Ok((trace, printed(alloc, outputs)?)),
         // A world that counts its time fails only where it has no room for more answers.
         Err(_) => Err(RecordFault::NoMem),
@@ -113,9 +115,10 @@ fn recorded_by_threads<R: Threads + Wait + Sync + Clock, G: Gate + Sync>(
     budget: u64,
     random: u64,
     file: &[u8],
+    profile: Profile,
 ) -> Result<(Trace, Vec<Vec<u8>>), RecordFault>
     requires { budget ≤ most_budget }
-    ensures recorded { IfOk result (λ r. IsRecordedOf image.now None budget random file.now r.0 (map (λ b. b.items) r.1.items)) }
+    ensures recorded { IfOk result (λ r. IsRecordedOf image.now None budget profile random file.now r.0 (map (λ b. b.items) r.1.items)) }
     ensures refused { IfErr result (λ e. Refuses e image.now None) }
 {
     let image = read_image(alloc, image)?;
@@ -124,7 +127,7 @@ fn recorded_by_threads<R: Threads + Wait + Sync + Clock, G: Gate + Sync>(
         return Err(RecordFault::Clock);
     };
     let worlds = worlds(alloc, rt, Time::Since(start), threads, random, file)?;
-    match record(rt, alloc, &image, worlds, gate, budget) {
+    match record(rt, alloc, &image, worlds, gate, budget, profile) {
         Ok((trace, outputs)) => Ok((trace, printed(alloc, outputs)?)),
         Err(why) => Err(stopped_by(why)),
     }
@@ -140,14 +143,15 @@ fn recorded<R: Threads + Wait + Sync + Clock, G: Gate + Sync>(
     budget: u64,
     random: u64,
     file: &[u8],
+    profile: Profile,
 ) -> Result<(Trace, Vec<Vec<u8>>), RecordFault>
     requires { budget ≤ most_budget }
-    ensures recorded { IfOk result (λ r. IsRecordedOf image.now (option_map (λ s. s.now) order.entry) budget random file.now r.0 (map (λ b. b.items) r.1.items)) }
+    ensures recorded { IfOk result (λ r. IsRecordedOf image.now (option_map (λ s. s.now) order.entry) budget profile random file.now r.0 (map (λ b. b.items) r.1.items)) }
     ensures refused { IfErr result (λ e. Refuses e image.now (option_map (λ s. s.now) order.entry)) }
 {
     match order {
-        Some(list) => recorded_in_order(rt, alloc, image, list, budget, random, file),
-        None => recorded_by_threads(rt, alloc, gate, image, budget, random, file),
+        Some(list) => recorded_in_order(rt, alloc, image, list, budget, random, file, profile),
+        None => recorded_by_threads(rt, alloc, gate, image, budget, random, file, profile),
     }
 }
 
@@ -247,20 +251,23 @@ fn run<R: Threads + Wait + Sync + Clock, G: Gate + Sync, W: WholeSink, P: Output
     trace: &mut W,
     outputs: &mut P,
     out: &mut O,
+    profile: Profile,
 ) -> Result<(), RecordFault>
     requires { budget ≤ most_budget }
-    ensures done { OnOk result ((recorded : Recorded) × (printed : List (List ℕ)) × IsRecordedOf image.now (option_map (λ s. s.now) order.entry) budget random input.now recorded printed
+    ensures done { OnOk result ((recorded : Recorded) × (printed : List (List ℕ)) × IsRecordedOf image.now (option_map (λ s. s.now) order.entry) budget profile random input.now recorded printed
         × Appends (W.written trace.old) (W.written trace.new) (encoding recorded)
         × TookEach (output_writer_of (P.taken outputs.old) (P.taken outputs.new) (P.broken outputs.new)) printed
         × Appends (O.written out.old) (O.written out.new) (lines_of recorded)) }
     ensures whole { OnOk result (W.whole trace.new ≡ true) }
-    ensures stopped { IfErr result (λ e. Stops e image.now (option_map (λ s. s.now) order.entry) (IsRecordedOf image.now (option_map (λ s. s.now) order.entry) budget random input.now)
+    ensures stopped { IfErr result (λ e. Stops e image.now (option_map (λ s. s.now) order.entry) (IsRecordedOf image.now (option_map (λ s. s.now) order.entry) budget profile random input.now)
         (writer_of (W.written trace.old) (W.written trace.new) (W.broken trace.new))
         (output_writer_of (P.taken outputs.old) (P.taken outputs.new) (P.broken outputs.new))
         (writer_of (O.written out.old) (O.written out.new) (O.broken out.new))
         ((trace.new ≡ trace.old) × (outputs.new ≡ outputs.old) × (out.new ≡ out.old)) ((outputs.new ≡ outputs.old) × (out.new ≡ out.old)) (out.new ≡ out.old)) }
 {
-    let (recorded, printed) = recorded(rt, alloc, gate, image, order, budget, random, input)?;
+    let (recorded, printed) = recorded(
+        rt, alloc, gate, image, order, budget, random, input, profile,
+    )?;
     let bytes = write_trace(alloc, &recorded)?;
     let lines = lines(alloc, &recorded)?;
     written(
@@ -312,7 +319,8 @@ fn tell_fault<W: WholeSink, P: OutputSink, E: Sink>(
 /// each thread. The budget is in steps, for each thread. RANDOM gives the words of PCG32, started for thread T by the
 /// number `random` plus T, modulo 2^64; CLOCK counts its own calls from 0, in each thread, and without a list gives the
 /// milliseconds since the start, modulo 2^32; each thread's INPUT gives all bytes of the input. Without a list it may wait
-/// for threads, and that it ends isn't promised; the gate is told of what they do.
+/// for threads, and that it ends isn't promised; the gate is told of what they do. The profile says which system calls there
+/// are.
 /// The answer is the exit status: 0 where all were written and the trace stands in its place, 3 where the image is
 /// refused or the list spells no order of its threads, and 1 where memory ran out, the clock can't be read or a writer
 /// failed; then what was written before stays. A fault is told in one line.
@@ -336,6 +344,7 @@ pub fn record_run<
     outputs: &mut P,
     out: &mut O,
     faults: &mut E,
+    profile: Profile,
 ) -> u8
     requires budget { budget ≤ most_budget }
     requires writes { W.broken trace.old ≡ false }
@@ -344,21 +353,21 @@ pub fn record_run<
     requires reports { E.broken faults.old ≡ false }
     // Of the run by the order, or of some complete run, the trace was written, what each of its threads printed as that
     // thread's output, and its lines, and no fault told.
-    ensures done { result ≡ 0 → (recorded : Recorded) × (printed : List (List ℕ)) × IsRecordedOf image.now (option_map (λ s. s.now) order.entry) budget random input.now recorded printed
+    ensures done { result ≡ 0 → (recorded : Recorded) × (printed : List (List ℕ)) × IsRecordedOf image.now (option_map (λ s. s.now) order.entry) budget profile random input.now recorded printed
         × Appends (W.written trace.old) (W.written trace.new) (encoding recorded)
         × TookEach (output_writer_of (P.taken outputs.old) (P.taken outputs.new) (P.broken outputs.new)) printed
         × Appends (O.written out.old) (O.written out.new) (lines_of recorded) }
     ensures whole { result ≡ 0 → W.whole trace.new ≡ true }
     ensures quiet { result ≡ 0 → faults.new ≡ faults.old }
     // Else what stopped it, and what that left.
-    ensures stopped { result ≢ 0 → (e : RecordFault) × (result ≡ fault_status e) × Stops e image.now (option_map (λ s. s.now) order.entry) (IsRecordedOf image.now (option_map (λ s. s.now) order.entry) budget random input.now)
+    ensures stopped { result ≢ 0 → (e : RecordFault) × (result ≡ fault_status e) × Stops e image.now (option_map (λ s. s.now) order.entry) (IsRecordedOf image.now (option_map (λ s. s.now) order.entry) budget profile random input.now)
         (writer_of (W.written trace.old) (W.written trace.new) (W.broken trace.new))
         (output_writer_of (P.taken outputs.old) (P.taken outputs.new) (P.broken outputs.new))
         (writer_of (O.written out.old) (O.written out.new) (O.broken out.new))
         ((trace.new ≡ trace.old) × (outputs.new ≡ outputs.old) × (out.new ≡ out.old)) ((outputs.new ≡ outputs.old) × (out.new ≡ out.old)) (out.new ≡ out.old) }
 {
     match run(
-        rt, alloc, gate, image, order, budget, random, input, trace, outputs, out,
+        rt, alloc, gate, image, order, budget, random, input, trace, outputs, out, profile,
     ) {
         Ok(()) => DONE,
         Err(why) => {

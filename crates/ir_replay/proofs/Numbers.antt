@@ -6,6 +6,7 @@ use Rattle.ir_thread.specs.Calls.{ask_of, after_ask, after_reply}
 use Rattle.ir_thread.specs.Instance.{shared_ask, reply_of, thread_machine}
 use Rattle.ir_runs.specs.Machine.{act_of}
 use Rattle.ir_thread.specs.State as thread
+use Rattle.ir_thread.specs.declared.profile.Profile.{Profile}
 use Rattle.ir_flat.specs.Flat.{Flat, IsFlat, idle, thread_of, start_threads}
 use Rattle.ir_runs.specs.Object.{reply}
 use Rattle.ir_runs.specs.Run.{Step, count}
@@ -15,10 +16,12 @@ use Rattle.ir_weave.specs.Ahead.{IsAhead, thread_at, ask_at}
 use Rattle.ir_weave.specs.States.{IsStateAt, positions}
 use Rattle.ir_weave.proofs.CallerLemmas.{same_number, step_there, StepOf, step_at, first_thread}
 
-start_number : (g : Guest) (budget from n t : ℕ) → t < n → (slice_index_or (start_threads g budget from n) t idle).number ≡ from + t
-start_number g budget from zero t l = absurd (omega (arith, l))
-start_number g budget from (suc n) zero l = omega arith
-start_number g budget from (suc n) (suc t) l = let e = start_number g budget (suc from) n t (omega (arith, l)) in omega (arith, e)
+start_number : (g : Guest) (budget : ℕ) (profile : Profile) (from n t : ℕ) → t < n
+    → (slice_index_or (start_threads g budget profile from n) t idle).number ≡ from + t
+start_number g budget profile from zero t l = absurd (omega (arith, l))
+start_number g budget profile from (suc n) zero l = omega arith
+start_number g budget profile from (suc n) (suc t) l =
+    let e = start_number g budget profile (suc from) n t (omega (arith, l)) in omega (arith, e)
 
 taken : (code : List ℕ) (x : thread.State) (n : ℕ)
     → (thread_machine code).take x n ≡ after_ask code x (ask_of code x) (reply_of (ask_of code x) n)
@@ -28,7 +31,7 @@ taken code x n = refl
 numbered : (f : FittedTrace) (run : List Step) → IsRunOf f.guest f.recorded run → (t k : ℕ) → t < length f.guest.entries
     → k ≤ count (machine_of f) (start_of f) run t → (thread_at f run t k).number ≡ t
 numbered f run of t zero there l = ap (λ (z : thread.State). z.number) (first_thread (machine_of f) (start_of f) run t)
-    ∙ (let e = start_number f.guest f.recorded.budget 0 (length f.guest.entries) t there in omega (arith, e))
+    ∙ (let e = start_number f.guest f.recorded.budget f.recorded.profile 0 (length f.guest.entries) t there in omega (arith, e))
 numbered f run of t (suc k) there l =
     let at = step_there f run t k (omega (arith, l)) in
     let z : StepOf (machine_of f) (thread_at f run t k) (thread_at f run t (suc k)) at.0 =

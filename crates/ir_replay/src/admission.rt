@@ -67,6 +67,27 @@ fn entry_result(
     }
 }
 
+// The result of thread t's next step, a try: 0 where the log says that it was refused, and else 1; none where it got in, and can't now.
+fn try_result(fitted: &Fitted, flat: &Flat<'_>, t: usize, object: u8) -> Option<u32>
+    requires emitted { t < length fitted.now.guest.entries }
+    requires thread { t < length flat.now.threads }
+    requires asked { ask_of flat.now.code (thread_of flat.now t) ≡ ask.Try object }
+    requires steps { 0 < steps_ahead fitted.now.recorded flat.now t }
+    ensures { IsNext fitted.now.recorded flat.now t result }
+{
+    let before = events_of(flat, t);
+    match fitted.trace().next_event(t, before, Ask::Try(object)) {
+        Err(_) => None,
+        Ok(event) => match event {
+            Event::Try { .. } => Some(0),
+            _ => {
+                let found = &flat.objects()[object as usize];
+                if is_open(found, event) { Some(1) } else { None }
+            }
+        },
+    }
+}
+
 // The result with which thread t takes its next step as the log says; none where it can't now.
 pub fn next_result(fitted: &Fitted, flat: &Flat<'_>, t: usize, asked: Ask) -> Option<u32>
     requires emitted { t < length fitted.now.guest.entries }
@@ -78,6 +99,7 @@ pub fn next_result(fitted: &Fitted, flat: &Flat<'_>, t: usize, asked: Ask) -> Op
     match asked {
         Ask::Env(kind) => call_result(fitted, flat, t, kind),
         Ask::Enter(object, access) => entry_result(fitted, flat, t, object, access),
+        Ask::Try(object) => try_result(fitted, flat, t, object),
         Ask::Done => None,
         _ => Some(0),
     }

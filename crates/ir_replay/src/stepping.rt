@@ -46,7 +46,7 @@ pub fn step<G: Gate>(
             let number = flat.threads()[t].number();
             tell_leave(gate, number, asked);
             let taken = flat.take(t, asked, result).is_ok();
-            tell_entry(gate, number, asked);
+            tell_entry(gate, &flat.threads()[t], asked);
             taken
         }
     }

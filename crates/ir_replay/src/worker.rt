@@ -82,7 +82,7 @@ fn work<G: Gate>(
         let asked = worker.thread.ask(fitted.image().code());
         tell_leave(gate, number, asked);
         match try_again(clock, weave, worker, fitted, target, &mut patience) {
-            Tried::Stepped => tell_entry(gate, number, asked),
+            Tried::Stepped => tell_entry(gate, &worker.thread, asked),
             Tried::NotNow | Tried::AtTarget => return,
         }
     }

@@ -2,13 +2,13 @@
 use Rattle.std.proofs.Common.{ℕ, List, [], ◌∷◌, ◌++◌, refl, sym, ap, subst, inl, inr, append-nil}
 use Rattle.ir_runs.specs.Machine.{Machine}
 use Rattle.ir_runs.specs.Run.{State, Step, Can, after, IsRun, end}
-use Rattle.ir_runs.specs.InOrder.{HasNone, InTurn}
+use Rattle.ir_runs.specs.InOrder.{HasNone, EntersIfFree, InTurn}
 
 -- turns make a run
 pub turns_run : {T : Type 0} (m : Machine T) (s : State T) (order : List ℕ) (run : List Step) → InTurn m s order run → IsRun m s run
 turns_run m s [] run e = subst (IsRun m s) (sym e) tt
 turns_run m s (t ∷ order) run (inl none) = turns_run m s order run none.1
-turns_run m s (t ∷ order) run (inr some) = subst (IsRun m s) (sym some.2) (some.3, turns_run m (after m s (t, some.0)) order some.1 some.4)
+turns_run m s (t ∷ order) run (inr some) = subst (IsRun m s) (sym some.2) (some.3, turns_run m (after m s (t, some.0)) order some.1 some.5)
 
 -- turns, and then others
 pub turns_append : {T : Type 0} (m : Machine T) (s : State T) (order more : List ℕ) (run rest : List Step) → InTurn m s order run
@@ -20,13 +20,14 @@ turns_append m s (t ∷ order) more run rest (inr some) h = inr (
   some.1 ++ rest,
   ap (λ z. z ++ rest) some.2,
   some.3,
-  turns_append m (after m s (t, some.0)) order more some.1 rest some.4 (subst (λ z. InTurn m (end m s z) more rest) some.2 h),
+  some.4,
+  turns_append m (after m s (t, some.0)) order more some.1 rest some.5 (subst (λ z. InTurn m (end m s z) more rest) some.2 h),
 )
 
 -- an entry more: a step of its thread
 pub turn_taken : {T : Type 0} (m : Machine T) (s : State T) (order : List ℕ) (run : List Step) (t r : ℕ) → InTurn m s order run
-    → Can m (end m s run) (t, r) → InTurn m s (order ++ t ∷ []) (run ++ (t, r) ∷ [])
-turn_taken m s order run t r h can = turns_append m s order (t ∷ []) run ((t, r) ∷ []) h (inr (r, [], refl, can, refl))
+    → Can m (end m s run) (t, r) → EntersIfFree m (end m s run) (t, r) → InTurn m s (order ++ t ∷ []) (run ++ (t, r) ∷ [])
+turn_taken m s order run t r h can free = turns_append m s order (t ∷ []) run ((t, r) ∷ []) h (inr (r, [], refl, can, free, refl))
 
 -- an entry more, of a thread that has no step
 pub turn_skipped : {T : Type 0} (m : Machine T) (s : State T) (order : List ℕ) (run : List Step) (t : ℕ) → InTurn m s order run

@@ -50,19 +50,38 @@ fn positions(debugger: &Debugger) -> Option<Pair> {
 // What is seen after a command: the answer's kind, and the positions.
 type Sight = (Kind, Option<Pair>);
 
+fn sight_after<R: Threads + Clock + Sync>(
+    rt: &R,
+    alloc: Global,
+    debugger: &mut Debugger,
+    command: &Command,
+) -> Sight {
+    let answer = debugger.command(rt, alloc, command, &OpenGate);
+    (kind_of(&answer), positions(debugger))
+}
+
 // What is seen after each of eight commands.
+fn sights<R: Threads + Clock + Sync>(
+    rt: &R,
+    alloc: Global,
+    debugger: &mut Debugger,
+    commands: &[Command; 8],
+) -> [Sight; 8] {
+    let mut all = [(Kind::Bye, None); 8];
+    for i in 0..8 {
+        all[i] = sight_after(rt, alloc, debugger, &commands[i]);
+    }
+    all
+}
+
+// The same from the start.
 fn walk<R: Threads + Clock + Sync>(
     rt: &R,
     alloc: Global,
     commands: &[Command; 8],
 ) -> Result<[Sight; 8], Fail> {
     let mut debugger = Debugger::open(alloc, fitted(alloc, TWO_COUNTERS, SECOND_FIRST)?)?;
-    let mut all = [(Kind::Bye, None); 8];
-    for i in 0..8 {
-        let answer = debugger.command(rt, alloc, &commands[i], &OpenGate);
-        all[i] = (kind_of(&answer), positions(&debugger));
-    }
-    Ok(all)
+    Ok(sights(rt, alloc, &mut debugger, commands))
 }
 
 // Moves, and what is seen after each.

@@ -28,6 +28,8 @@ mod sessions;
 #[cfg(test)]
 mod streams;
 #[cfg(test)]
+mod tries_rows;
+#[cfg(test)]
 mod verdict_rows;
 #[cfg(test)]
 mod walk_tests;

@@ -19,10 +19,11 @@ use ir_runs::EnvKind;
 use ir_tests::guests::{DOUBLED, Source, TWO_COUNTERS, TWO_READERS};
 use ir_tests::meeting::Meeting;
 use ir_tests::recorded_guests::TWO_ASKING;
-use ir_tests::recordings::{BUDGET, by_threads};
+use ir_tests::recordings::{BUDGET, Recorded, by_threads};
 use ir_tests::replays::is_cut;
 use ir_tests::sources::joined;
 use ir_tests::traces::{ENDED_BY_144, SECOND_FIRST, TraceRow, trace_bytes};
+use ir_thread::Profile;
 use ir_trace::{Trace, TraceErr, read_trace};
 use std::alloc::{AllocError, Global};
 use std::sync::Wait;
@@ -66,7 +67,8 @@ fn trace(alloc: Global, row: TraceRow) -> Result<Trace, Short> {
 
 // The guest of the source with its trace.
 fn fitted(alloc: Global, source: Source, row: TraceRow) -> Result<Fitted, Short> {
-    match fit(alloc, guest(alloc, source)?, trace(alloc, row)?) {
+    let trace = trace(alloc, row)?;
+    match fit(alloc, guest(alloc, source)?, trace) {
         Ok(fitted) => Ok(fitted),
         Err(FitErr::NoMem) => Err(Short::Memory),
         Err(_) => Err(Short::Wrong),
@@ -74,17 +76,22 @@ fn fitted(alloc: Global, source: Source, row: TraceRow) -> Result<Fitted, Short>
 }
 
 // How many threads were recorded, and how many outputs there are.
+fn counts(recorded: Recorded) -> Result<(usize, usize), Short> {
+    match recorded {
+        Ok((trace, outputs)) => Ok((trace.threads().len(), outputs.each.len())),
+        Err(RecordErr::NoMem) => Err(Short::Memory),
+        Err(_) => Err(Short::Wrong),
+    }
+}
+
+// The same of two readers.
 fn recorded<R: Threads + Wait + Sync>(
     rt: &R,
     alloc: Global,
     gate: &Meeting,
 ) -> Result<(usize, usize), Short> {
     let image = guest(alloc, TWO_READERS)?;
-    match by_threads(rt, alloc, &image, gate, &[]) {
-        Ok((trace, outputs)) => Ok((trace.threads().len(), outputs.each.len())),
-        Err(RecordErr::NoMem) => Err(Short::Memory),
-        Err(_) => Err(Short::Wrong),
-    }
+    counts(by_threads(rt, alloc, &image, gate, &[]))
 }
 
 // A recording takes its memory before the first entry.
@@ -148,19 +155,29 @@ fn counting_worlds(
     Ok(worlds)
 }
 
-// How many threads were recorded.
+// How many threads of the guest were recorded.
+fn asked_in<R: Threads + Wait + Sync>(
+    rt: &R,
+    alloc: Global,
+    image: &Image,
+    count: &AtomicUsize,
+) -> Result<usize, Short> {
+    let worlds = counting_worlds(alloc, image.entries().len(), count)?;
+    match record(rt, alloc, image, worlds, &OpenGate, BUDGET, Profile::One) {
+        Ok((trace, _outputs)) => Ok(trace.threads().len()),
+        Err(RecordErr::NoMem) => Err(Short::Memory),
+        Err(_) => Err(Short::Wrong),
+    }
+}
+
+// The same of two threads that ask.
 fn asked<R: Threads + Wait + Sync>(
     rt: &R,
     alloc: Global,
     count: &AtomicUsize,
 ) -> Result<usize, Short> {
     let image = guest(alloc, TWO_ASKING)?;
-    let worlds = counting_worlds(alloc, image.entries().len(), count)?;
-    match record(rt, alloc, &image, worlds, &OpenGate, BUDGET) {
-        Ok((trace, _outputs)) => Ok(trace.threads().len()),
-        Err(RecordErr::NoMem) => Err(Short::Memory),
-        Err(_) => Err(Short::Wrong),
-    }
+    asked_in(rt, alloc, &image, count)
 }
 
 // A recording that runs out of memory has asked no world.
@@ -216,32 +233,43 @@ fn ends(alloc: Global, fitted: &Fitted) -> Result<Cut, AllocError> {
 }
 
 // Whether the end of the trace is reached from its start.
-fn is_end_reached<R: Threads + Clock + Sync>(rt: &R, alloc: Global) -> Result<bool, Short> {
-    let fitted = fitted(alloc, TWO_COUNTERS, SECOND_FIRST)?;
-    let target = ends(alloc, &fitted)?;
-    if !is_cut(&fitted, &target) {
+fn is_end_reached<R: Threads + Clock + Sync>(
+    rt: &R,
+    alloc: Global,
+    fitted: &Fitted,
+) -> Result<bool, Short> {
+    let target = ends(alloc, fitted)?;
+    if !is_cut(fitted, &target) {
         return Ok(false);
     }
-    let start = State::start(alloc, &fitted)?;
-    Ok(is_reached(rt, alloc, &fitted, start, &target))
+    let start = State::start(alloc, fitted)?;
+    Ok(is_reached(rt, alloc, fitted, start, &target))
+}
+
+// The same of two counters.
+fn is_replayed<R: Threads + Clock + Sync>(rt: &R, alloc: Global) -> Result<bool, Short> {
+    let fitted = fitted(alloc, TWO_COUNTERS, SECOND_FIRST)?;
+    is_end_reached(rt, alloc, &fitted)
 }
 
 #[test]
 fn a_replay_goes_on_from_where_memory_was_refused(rt: HostRuntime) -> Result<(), Fail> {
-    let reached = is_end_reached(&rt, rt.alloc());
+    let reached = is_replayed(&rt, rt.alloc());
     assert!(rt; matches!(reached, Ok(true) | Err(Short::Memory)));
     Ok(())
 }
 
 const AT_THE_START: &[u8] = b"ready\nat 0\n";
 
+fn doubled_files(alloc: Global) -> Result<Files, Short> {
+    let trace = trace_bytes(alloc, ENDED_BY_144)?;
+    let image = write_image(alloc, &guest(alloc, DOUBLED)?)?;
+    Ok(Files { image, trace })
+}
+
 // Whether a session that runs out of memory has written nothing, and one whose writer does so a prefix of the answers.
 fn is_unwritten<R: AllocGlobal + Threads + Clock + Sync>(rt: &R) -> Result<bool, Short> {
-    let image = guest(rt.alloc(), DOUBLED)?;
-    let files = Files {
-        image: write_image(rt.alloc(), &image)?,
-        trace: trace_bytes(rt.alloc(), ENDED_BY_144)?,
-    };
+    let files = doubled_files(rt.alloc())?;
     let (page, ended) = answer_of(rt, &files, b"pos\n");
     let written = page.bytes.as_slice();
     Ok(match ended {

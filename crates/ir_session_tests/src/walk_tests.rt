@@ -7,6 +7,7 @@ use ir_object::OpenGate;
 use ir_tests::guests::THREE_COUNTERS;
 use ir_tests::recordings::{BUDGET, fitted_in_order};
 use std::alloc::Global;
+use std::process::Abort;
 use std::test::Fail;
 use std::thread::Threads;
 use std::time::Clock;
@@ -97,20 +98,36 @@ fn is_seen_again<R: Threads + Clock + Sync>(
     positions(debugger) == stop.at && seen.as_slice() == stop.seen.as_slice() && !seen.is_empty()
 }
 
-#[test]
-fn the_same_is_shown_both_ways(rt: HostRuntime) -> Result<(), Fail> {
-    let alloc = rt.alloc();
-    let order = [2, 2, 2, 2, 0, 1, 0, 1, 1, 2, 0, 0];
-    let fitted = fitted_in_order(alloc, THREE_COUNTERS, &order, BUDGET)?;
-    let mut debugger = Debugger::open(alloc, fitted)?;
-    debugger.command(&rt, alloc, &Command::Move(Move::End), &OpenGate);
-    assert_eq!(rt; positions(&debugger), [18, 18, 18]);
-    let stops = back_to_start(&rt, alloc, &mut debugger)?;
-    assert_eq!(rt; positions(&debugger), [0, 0, 0]);
+// Goes to the stops again, the last one first.
+fn assert_seen_again<R: AllocGlobal + Threads + Clock + Sync + Abort>(
+    rt: &R,
+    debugger: &mut Debugger,
+    stops: &[Stop],
+) {
     for i in 0..stops.len() {
         let stop = &stops[stops.len() - 1 - i];
-        assert!(rt; is_seen_again(&rt, alloc, &mut debugger, stop), "{i}");
+        assert!(rt; is_seen_again(rt, rt.alloc(), debugger, stop), "{i}");
     }
-    assert_eq!(rt; positions(&debugger), [18, 18, 18]);
+}
+
+// From the end to the start and back.
+fn assert_same<R: AllocGlobal + Threads + Clock + Sync + Abort>(
+    rt: &R,
+    debugger: &mut Debugger,
+) -> Result<(), Fail> {
+    debugger.command(rt, rt.alloc(), &Command::Move(Move::End), &OpenGate);
+    assert_eq!(rt; positions(debugger), [18, 18, 18]);
+    let stops = back_to_start(rt, rt.alloc(), debugger)?;
+    assert_eq!(rt; positions(debugger), [0, 0, 0]);
+    assert_seen_again(rt, debugger, stops.as_slice());
+    assert_eq!(rt; positions(debugger), [18, 18, 18]);
     Ok(())
+}
+
+#[test]
+fn the_same_is_shown_both_ways(rt: HostRuntime) -> Result<(), Fail> {
+    let order = [2, 2, 2, 2, 0, 1, 0, 1, 1, 2, 0, 0];
+    let fitted = fitted_in_order(rt.alloc(), THREE_COUNTERS, &order, BUDGET)?;
+    let mut debugger = Debugger::open(rt.alloc(), fitted)?;
+    assert_same(&rt, &mut debugger)
 }

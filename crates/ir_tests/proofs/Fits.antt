@@ -1,6 +1,7 @@
 -- A recorded trace is a run's.
 use Rattle.std.proofs.Common.{◌≡◌, ℕ, List, length, sym, subst}
 use Rattle.ir_image.specs.Guest.{Guest}
+use Rattle.ir_thread.specs.declared.profile.Profile.{Profile}
 use Rattle.ir_flat.specs.Flat.{start_flat, tables, machine}
 use Rattle.ir_runs.specs.Run.{Step}
 use Rattle.ir_trace.specs.Recorded.{Recorded}
@@ -9,11 +10,11 @@ use Rattle.ir_record.specs.Recording.{IsTraceOf}
 use Rattle.ir_fit.specs.Fit.{IsRunOf}
 use Rattle.ir_runs.specs.Verdicts.{IsWhole}
 
--- what is recorded of a run is its trace, under the recorded budget
-pub emitted_whole : (guest : Guest) (budget : ℕ) (run : List Step) (trace : Recorded) → IsTraceOf guest budget run trace
-    → IsRunOf guest trace run
-emitted_whole guest budget run trace emitted = (
+-- what is recorded of a run is its trace, under the recorded budget and profile
+pub emitted_whole : (guest : Guest) (budget : ℕ) (profile : Profile) (run : List Step) (trace : Recorded)
+    → IsTraceOf guest budget profile run trace → IsRunOf guest trace run
+emitted_whole guest budget profile run trace emitted = (
   record { threads = emitted.threads; objects = emitted.objects },
-  subst (λ b. IsWhole (machine (start_flat guest b)) (tables (start_flat guest b)) (length guest.entries) (trace_of trace) run)
-      (sym emitted.limit) emitted.whole,
+  subst (λ (z : ℕ × Profile). IsWhole (machine (start_flat guest z.0 z.1)) (tables (start_flat guest z.0 z.1)) (length guest.entries)
+      (trace_of trace) run) (λ i. (sym emitted.limit i, sym emitted.profile_is i)) emitted.whole,
 )

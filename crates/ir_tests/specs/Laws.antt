@@ -1,6 +1,7 @@
 -- What holds of a recording and of what is said of its trace.
 use Rattle.std.specs.Prelude.{◌≡◌, ℕ, List}
 use Rattle.ir_image.specs.Guest.{Guest}
+use Rattle.ir_thread.specs.declared.profile.Profile.{Profile}
 use Rattle.ir_runs.specs.Run.{Step}
 use Rattle.ir_trace.specs.Recorded.{Recorded}
 use Rattle.ir_record.specs.Recording.{IsRecordingOfSome, IsRecording}
@@ -9,21 +10,21 @@ use Rattle.ir_fit.specs.Fit.{IsRunOf, IsRefused}
 use Rattle.ir_fit.specs.declared.fit_err.FitErr.{FitErr}
 use Rattle.ir_fit.specs.declared.fit_err.FitErr.TheVariants.{NoMem}
 
--- a complete run of the guest has the trace, under the budget that the trace names
+-- a complete run of the guest has the trace, under the budget and the profile that the trace names
 abbrev pub HasTrace : Guest → Recorded → Type 0
 HasTrace guest trace = (run : List Step) × IsRunOf guest trace run
 
 -- what is recorded of some run is a run's trace
 abbrev pub RecordingsFit : Type 0
-RecordingsFit = (guest : Guest) (budget : ℕ) (before : List (List Answered)) (trace : Recorded) (outputs : List (List ℕ))
+RecordingsFit = (guest : Guest) (budget : ℕ) (profile : Profile) (before : List (List Answered)) (trace : Recorded) (outputs : List (List ℕ))
     (answers : List (List Answered))
-    → IsRecordingOfSome guest budget before trace outputs answers → HasTrace guest trace
+    → IsRecordingOfSome guest budget profile before trace outputs answers → HasTrace guest trace
 
 -- so is what is recorded of the run by an order
 abbrev pub OrdersFit : Type 0
-OrdersFit = (guest : Guest) (budget : ℕ) (order : List ℕ) (before : List (List Answered)) (trace : Recorded) (outputs : List (List ℕ))
+OrdersFit = (guest : Guest) (budget : ℕ) (profile : Profile) (order : List ℕ) (before : List (List Answered)) (trace : Recorded) (outputs : List (List ℕ))
     (answers : List (List Answered))
-    → IsRecording guest budget order before trace outputs answers → HasTrace guest trace
+    → IsRecording guest budget profile order before trace outputs answers → HasTrace guest trace
 
 -- where a run has the trace, judging it gives up only where memory runs out
 abbrev pub NoRefusal : Type 0

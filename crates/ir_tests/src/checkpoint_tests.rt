@@ -97,16 +97,25 @@ fn walk<R: Threads + Clock + Sync>(
 }
 
 // The same from the start.
-fn walk_from_start<R: Threads + Clock + Sync>(rt: &R, alloc: Global) -> Result<[Seen; 3], Fail> {
+fn walk_from_start<R: Threads + Clock + Sync>(
+    rt: &R,
+    alloc: Global,
+    fitted: &Fitted,
+) -> Result<[Seen; 3], Fail> {
+    let mut checkpoints = Checkpoints::new(alloc, fitted)?;
+    let mut state = State::start(alloc, fitted)?;
+    walk(rt, alloc, fitted, &mut checkpoints, &mut state)
+}
+
+// The same of the guest.
+fn walked<R: Threads + Clock + Sync>(rt: &R, alloc: Global) -> Result<[Seen; 3], Fail> {
     let fitted = fitted(alloc, COUNTDOWN, COUNTED_DOWN)?;
-    let mut checkpoints = Checkpoints::new(alloc, &fitted)?;
-    let mut state = State::start(alloc, &fitted)?;
-    walk(rt, alloc, &fitted, &mut checkpoints, &mut state)
+    walk_from_start(rt, alloc, &fitted)
 }
 
 #[test]
 fn threads_are_brought_back_and_forth(rt: HostRuntime) -> Result<(), Fail> {
-    let [at_end, before_end, far_back] = walk_from_start(&rt, rt.alloc())?;
+    let [at_end, before_end, far_back] = walked(&rt, rt.alloc())?;
     // At a half, three quarters and so on, as long as more than 2^14 steps are left.
     assert_eq!(rt; at_end, (Some((LAST, LAST)), 7));
     assert_eq!(rt; before_end, (Some((LAST - 1, LAST)), 7));
@@ -178,22 +187,31 @@ fn one_kept<R: Threads + Clock + Sync>(
     Ok(checkpoints)
 }
 
-// What is restored of that; nothing of a guest without threads.
+// What is restored of that; nothing where there are no threads.
 fn restored_at_end<R: Threads + Clock + Sync>(
+    rt: &R,
+    alloc: Global,
+    fitted: &Fitted,
+) -> Result<[Option<Pair>; 4], Fail> {
+    if fitted.image().entries().is_empty() {
+        return Ok([None; 4]);
+    }
+    let mut checkpoints = one_kept(rt, alloc, fitted)?;
+    restored(alloc, fitted, &mut checkpoints)
+}
+
+// The same of the guest.
+fn restored_again<R: Threads + Clock + Sync>(
     rt: &R,
     alloc: Global,
 ) -> Result<[Option<Pair>; 4], Fail> {
     let fitted = fitted(alloc, COUNTDOWN, COUNTED_DOWN)?;
-    if fitted.image().entries().is_empty() {
-        return Ok([None; 4]);
-    }
-    let mut checkpoints = one_kept(rt, alloc, &fitted)?;
-    restored(alloc, &fitted, &mut checkpoints)
+    restored_at_end(rt, alloc, &fitted)
 }
 
 #[test]
 fn the_last_state_before_a_position_is_restored(rt: HostRuntime) -> Result<(), Fail> {
-    let [start, at, behind, end] = restored_at_end(&rt, rt.alloc())?;
+    let [start, at, behind, end] = restored_again(&rt, rt.alloc())?;
     assert_eq!(rt; (start, at), (Some((0, 0)), Some((0, 0))));
     assert_eq!(rt; behind, Some((9, 3)));
     assert!(rt; matches!(end, Some((first, _)) if first > LAST / 2 && first < LAST));
@@ -226,16 +244,21 @@ fn drop_three(fitted: &Fitted, checkpoints: &mut Checkpoints)
 }
 
 // Which of three states are kept then.
-fn kept_and_dropped(alloc: Global) -> Result<[bool; 3], Fail> {
-    let fitted = fitted(alloc, COUNTDOWN, COUNTED_DOWN)?;
-    let mut checkpoints = Checkpoints::new(alloc, &fitted)?;
-    keep_two(alloc, &fitted, &mut checkpoints)?;
-    drop_three(&fitted, &mut checkpoints);
+fn left(alloc: Global, fitted: &Fitted) -> Result<[bool; 3], Fail> {
+    let mut checkpoints = Checkpoints::new(alloc, fitted)?;
+    keep_two(alloc, fitted, &mut checkpoints)?;
+    drop_three(fitted, &mut checkpoints);
     Ok([
         is_kept(&checkpoints, 0),
         is_kept(&checkpoints, 1),
         is_kept(&checkpoints, 2),
     ])
+}
+
+// The same of the guest.
+fn kept_and_dropped(alloc: Global) -> Result<[bool; 3], Fail> {
+    let fitted = fitted(alloc, COUNTDOWN, COUNTED_DOWN)?;
+    left(alloc, &fitted)
 }
 
 #[test]

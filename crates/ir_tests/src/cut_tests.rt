@@ -6,6 +6,7 @@ use crate::traces::SECOND_FIRST;
 use ir_cut::Cut;
 use ir_fit::Fitted;
 use std::alloc::Global;
+use std::process::Abort;
 use std::test::Fail;
 
 type Pair = (u64, u64);
@@ -57,13 +58,17 @@ const CONSISTENT: [(Pair, bool); 4] = [
     ((19, 18), false), // past the end
 ];
 
+fn assert_consistent<R: AllocGlobal + Abort>(rt: &R, fitted: &Fitted) -> Result<(), Fail> {
+    for &(at, wanted) in &CONSISTENT {
+        assert_eq!(rt; is_consistent(rt.alloc(), fitted, at)?, wanted);
+    }
+    Ok(())
+}
+
 #[test]
 fn an_entry_needs_its_maker(rt: HostRuntime) -> Result<(), Fail> {
     let fitted = fitted(rt.alloc(), TWO_COUNTERS, SECOND_FIRST)?;
-    for &(at, wanted) in &CONSISTENT {
-        assert_eq!(rt; is_consistent(rt.alloc(), &fitted, at)?, wanted);
-    }
-    Ok(())
+    assert_consistent(&rt, &fitted)
 }
 
 // A cut, a thread, a position, and the cut that is found from there.
@@ -83,11 +88,22 @@ const GREATEST: [Search; 4] = [
     ((2, 9), 1, 12, (2, 9)),
 ];
 
+fn assert_least<R: AllocGlobal + Abort>(rt: &R, fitted: &Fitted) -> Result<(), Fail> {
+    for &(at, t, k, wanted) in &LEAST {
+        assert_eq!(rt; least_of(rt.alloc(), fitted, at, t, k)?, Some(wanted));
+    }
+    Ok(())
+}
+
 #[test]
 fn a_step_past_an_entry_brings_its_maker(rt: HostRuntime) -> Result<(), Fail> {
     let fitted = fitted(rt.alloc(), TWO_COUNTERS, SECOND_FIRST)?;
-    for &(at, t, k, wanted) in &LEAST {
-        assert_eq!(rt; least_of(rt.alloc(), &fitted, at, t, k)?, Some(wanted));
+    assert_least(&rt, &fitted)
+}
+
+fn assert_greatest<R: AllocGlobal + Abort>(rt: &R, fitted: &Fitted) -> Result<(), Fail> {
+    for &(at, t, k, wanted) in &GREATEST {
+        assert_eq!(rt; greatest_of(rt.alloc(), fitted, at, t, k)?, Some(wanted));
     }
     Ok(())
 }
@@ -95,10 +111,7 @@ fn a_step_past_an_entry_brings_its_maker(rt: HostRuntime) -> Result<(), Fail> {
 #[test]
 fn a_step_back_past_a_leave_takes_the_entry_along(rt: HostRuntime) -> Result<(), Fail> {
     let fitted = fitted(rt.alloc(), TWO_COUNTERS, SECOND_FIRST)?;
-    for &(at, t, k, wanted) in &GREATEST {
-        assert_eq!(rt; greatest_of(rt.alloc(), &fitted, at, t, k)?, Some(wanted));
-    }
-    Ok(())
+    assert_greatest(&rt, &fitted)
 }
 
 // Among the consistent cuts, from (0, 0) to (18, 18), that pass, the smaller of the positions, each by itself.
@@ -155,12 +168,19 @@ fn all_agree(alloc: Global, fitted: &Fitted, at: Pair, t: usize) -> Result<bool,
     Ok(true)
 }
 
+// Where searches begin.
+const BEGINNINGS: [Pair; 7] = [(0, 0), (2, 2), (2, 14), (3, 15), (18, 18), (0, 18), (9, 17)];
+
+fn assert_agreed<R: AllocGlobal + Abort>(rt: &R, fitted: &Fitted) -> Result<(), Fail> {
+    for &at in &BEGINNINGS {
+        assert!(rt; all_agree(rt.alloc(), fitted, at, 0)?);
+        assert!(rt; all_agree(rt.alloc(), fitted, at, 1)?);
+    }
+    Ok(())
+}
+
 #[test]
 fn searches_agree_with_all_cuts(rt: HostRuntime) -> Result<(), Fail> {
     let fitted = fitted(rt.alloc(), TWO_COUNTERS, SECOND_FIRST)?;
-    for at in [(0, 0), (2, 2), (2, 14), (3, 15), (18, 18), (0, 18), (9, 17)] {
-        assert!(rt; all_agree(rt.alloc(), &fitted, at, 0)?);
-        assert!(rt; all_agree(rt.alloc(), &fitted, at, 1)?);
-    }
-    Ok(())
+    assert_agreed(&rt, &fitted)
 }

@@ -9,6 +9,7 @@ use ir_fit::Fitted;
 use ir_keep::Keeper;
 use ir_replay::State;
 use std::alloc::Global;
+use std::process::Abort;
 use std::test::Fail;
 
 // Keeps a state of as many threads as the others, and tells how many pages are kept then; 0 where it isn't kept.
@@ -64,14 +65,18 @@ fn pages_dropped(keeper: &mut Keeper) -> [u32; 3] {
     ]
 }
 
-#[test]
-fn a_page_that_stays_the_same_is_kept_once(rt: HostRuntime) -> Result<(), Fail> {
-    let fitted = fitted(rt.alloc(), CHANGED_ONCE, TWICE_STORED)?;
-    let mut keeper = Keeper::new(rt.alloc(), &fitted)?;
-    let kept = pages_kept(rt.alloc(), &fitted, &mut keeper)?;
+fn assert_kept_once<R: AllocGlobal + Abort>(rt: &R, fitted: &Fitted) -> Result<(), Fail> {
+    let mut keeper = Keeper::new(rt.alloc(), fitted)?;
+    let kept = pages_kept(rt.alloc(), fitted, &mut keeper)?;
     assert_eq!(rt; kept, [16, 16, 17, 17]);
     assert_eq!(rt; pages_dropped(&mut keeper), [17, 16, 0]);
     Ok(())
+}
+
+#[test]
+fn a_page_that_stays_the_same_is_kept_once(rt: HostRuntime) -> Result<(), Fail> {
+    let fitted = fitted(rt.alloc(), CHANGED_ONCE, TWICE_STORED)?;
+    assert_kept_once(&rt, &fitted)
 }
 
 // Whether the state kept by this number is the guest at these positions.
@@ -110,13 +115,17 @@ fn restored(alloc: Global, fitted: &Fitted, keeper: &Keeper) -> Result<[bool; 3]
     ])
 }
 
+fn assert_32_pages<R: AllocGlobal + Abort>(rt: &R, fitted: &Fitted) -> Result<(), Fail> {
+    let mut keeper = Keeper::new(rt.alloc(), fitted)?;
+    let pages = pages_of_two(rt.alloc(), fitted, &mut keeper)?;
+    assert_eq!(rt; pages, [32, 32, 32]);
+    let restored = restored(rt.alloc(), fitted, &keeper)?;
+    assert_eq!(rt; restored, [true, true, false]);
+    Ok(())
+}
+
 #[test]
 fn two_threads_that_store_nothing_have_32_pages(rt: HostRuntime) -> Result<(), Fail> {
     let fitted = fitted(rt.alloc(), TWO_COUNTERS, SECOND_FIRST)?;
-    let mut keeper = Keeper::new(rt.alloc(), &fitted)?;
-    let pages = pages_of_two(rt.alloc(), &fitted, &mut keeper)?;
-    assert_eq!(rt; pages, [32, 32, 32]);
-    let restored = restored(rt.alloc(), &fitted, &keeper)?;
-    assert_eq!(rt; restored, [true, true, false]);
-    Ok(())
+    assert_32_pages(&rt, &fitted)
 }

@@ -32,6 +32,11 @@ pub mod sources;
 pub mod states;
 pub mod traces;
 #[cfg(test)]
+mod tried_threads_tests;
+#[cfg(test)]
+mod tries_tests;
+pub mod trying_guests;
+#[cfg(test)]
 mod waiting_tests;
 pub mod worlds;
 

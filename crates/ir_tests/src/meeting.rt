@@ -1,4 +1,4 @@
-//! Gates at which two threads wait for each other.
+//! Gates at which threads wait for each other, or let each other run.
 
 use ir_object::Gate;
 use ir_runs::Access;
@@ -96,6 +96,80 @@ impl Gate for Handing {
                 self.entries.fetch_add(1, Ordering::SeqCst);
             }
             _ => {}
+        }
+    }
+
+    fn leaving(&self, _thread: u8, _object: u8, _access: Access) {}
+}
+
+// Holds thread 1 before its first call until thread 0 is inside an object, and thread 0 there until thread 1 comes to its
+// second call.
+#[derive(Drop)]
+pub struct Refusing {
+    // How often thread 0 entered.
+    entries: AtomicUsize,
+    // How often thread 1 came to a call.
+    calls: AtomicUsize,
+    // Whether one waited in vain.
+    missed: AtomicBool,
+}
+
+impl Refusing {
+    pub fn new() -> Refusing {
+        Refusing {
+            entries: AtomicUsize::new(0),
+            calls: AtomicUsize::new(0),
+            missed: AtomicBool::new(false),
+        }
+    }
+
+    pub fn missed(&self) -> bool {
+        self.missed.load(Ordering::SeqCst)
+    }
+
+    fn wait(&self, count: &AtomicUsize, wanted: usize) {
+        if !is_reached(count, wanted) {
+            self.missed.store(true, Ordering::SeqCst);
+        }
+    }
+}
+
+impl Gate for Refusing {
+    fn entered(&self, thread: u8, _object: u8, _access: Access) {
+        if thread == 0 {
+            self.entries.fetch_add(1, Ordering::SeqCst);
+            self.wait(&self.calls, 2);
+        }
+    }
+
+    fn leaving(&self, _thread: u8, _object: u8, _access: Access) {}
+
+    fn stepped(&self, thread: u8, _steps: u64) {
+        if thread == 1 {
+            self.calls.fetch_add(1, Ordering::SeqCst);
+            self.wait(&self.entries, 1);
+        }
+    }
+}
+
+// Lets other threads run after each entry, for up to six turns, which differ from entry to entry.
+#[derive(Drop)]
+pub struct Yielding {
+    entries: AtomicUsize,
+}
+
+impl Yielding {
+    pub fn new() -> Yielding {
+        Yielding {
+            entries: AtomicUsize::new(0),
+        }
+    }
+}
+
+impl Gate for Yielding {
+    fn entered(&self, _thread: u8, _object: u8, _access: Access) {
+        for _ in 0..self.entries.fetch_add(1, Ordering::SeqCst) % 7 {
+            yield_now();
         }
     }
 

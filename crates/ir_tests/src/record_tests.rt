@@ -2,13 +2,15 @@
 
 use crate::guests::{BROKEN_INSIDE, DOUBLED, READ_THEN_WRITE, Source, TWO_COUNTERS};
 use crate::recorded_guests::{ASKING, FALLING, NEGATIVE, TWO_ASKING};
-use crate::recordings::in_order;
+use crate::recordings::{Recorded, in_order, source_in_order};
 use crate::sources::image_of;
 use crate::traces::{FIRST_FIRST, READ_AND_WRITTEN, SECOND_FIRST, TraceRow, is_trace};
 use crate::worlds::{FAILS, worlds};
+use ir_image::Image;
 use ir_log::Event;
 use ir_record::{RecordErr, Turns, record_in_turns};
 use ir_runs::EnvKind;
+use ir_thread::Profile;
 use ir_trace::Trace;
 use std::alloc::Global;
 use std::test::Fail;
@@ -29,8 +31,7 @@ const ORDERED: [Ordered; 4] = [
 
 fn is_ordered(alloc: Global, row: Ordered) -> Result<bool, Fail> {
     let (source, order, wanted) = row;
-    let image = image_of(alloc, source)?;
-    let (trace, _outputs) = in_order(alloc, &image, order, &[], 1000)?;
+    let (trace, _outputs) = source_in_order(alloc, source, order, &[], 1000)?;
     is_trace(alloc, &trace, wanted)
 }
 
@@ -50,29 +51,36 @@ fn most_turns(thread: u8) -> Turns {
     }
 }
 
-// Whether such turns of this thread lead to the trace.
-fn is_turned(alloc: Global, thread: u8, wanted: TraceRow) -> Result<bool, Fail> {
-    let image = image_of(alloc, TWO_COUNTERS)?;
+// The guest recorded in such turns of this thread.
+fn turned(alloc: Global, image: &Image, thread: u8) -> Recorded {
     let worlds = worlds(alloc, image.entries().len(), &[], FAILS)?;
     let order = [most_turns(thread), most_turns(thread)];
-    let (trace, _outputs) = record_in_turns(alloc, &image, &order, worlds, 1000)?;
+    record_in_turns(alloc, image, &order, worlds, 1000, Profile::One)
+}
+
+// Whether they lead to the trace.
+fn is_turned(alloc: Global, thread: u8, wanted: TraceRow) -> Result<bool, Fail> {
+    let image = image_of(alloc, TWO_COUNTERS)?;
+    let (trace, _outputs) = turned(alloc, &image, thread)?;
     is_trace(alloc, &trace, wanted)
 }
+
+const TURNED: [(u8, TraceRow); 3] = [(0, FIRST_FIRST), (1, SECOND_FIRST), (2, FIRST_FIRST)];
 
 // Turns that a thread hasn't take no time, however many they are.
 #[test]
 fn many_turns_are_no_many_steps(rt: HostRuntime) -> Result<(), Fail> {
-    for (thread, wanted) in [(0, FIRST_FIRST), (1, SECOND_FIRST), (2, FIRST_FIRST)] {
+    for &(thread, wanted) in &TURNED {
         assert!(rt; is_turned(rt.alloc(), thread, wanted)?);
     }
     Ok(())
 }
 
 // The number of a thread's end, its code, its steps and how many events it logs.
-type Run = (u8, u32, u64, usize);
+pub type Run = (u8, u32, u64, usize);
 
 // That of the first thread.
-fn first(trace: &Trace) -> Option<Run> {
+pub fn first(trace: &Trace) -> Option<Run> {
     let thread = trace.threads().first()?;
     Some((
         thread.end().number(),
@@ -98,8 +106,7 @@ const ALONE: [Alone; 4] = [
 
 fn is_alone(alloc: Global, row: Alone) -> Result<bool, Fail> {
     let (source, budget, run, printed) = row;
-    let image = image_of(alloc, source)?;
-    let (trace, outputs) = in_order(alloc, &image, &[], &[], budget.min(1000))?;
+    let (trace, outputs) = source_in_order(alloc, source, &[], &[], budget.min(1000))?;
     let Some(output) = outputs.each.as_slice().first() else {
         return Ok(false);
     };
@@ -122,8 +129,7 @@ const ANSWERS: [Event; 2] = [
 
 // The run of a thread that asks twice, whether it logs the answers, and how many of three are left.
 fn asked(alloc: Global) -> Result<(Option<Run>, bool, Option<usize>), Fail> {
-    let image = image_of(alloc, ASKING)?;
-    let (trace, outputs) = in_order(alloc, &image, &[], &[9, 4, 3], 1000)?;
+    let (trace, outputs) = source_in_order(alloc, ASKING, &[], &[9, 4, 3], 1000)?;
     let events = trace.threads().first().map(|t| t.log().events());
     let left = outputs.each.as_slice().first().map(|o| o.world.left());
     Ok((first(&trace), events == Some(ANSWERS.as_slice()), left))
@@ -136,13 +142,17 @@ fn answers_are_logged(rt: HostRuntime) -> Result<(), Fail> {
 }
 
 // The thread whose world failed, and how many worlds came back.
-fn failing(alloc: Global, order: &[u8]) -> Result<Option<(u8, usize)>, Fail> {
-    let image = image_of(alloc, TWO_ASKING)?;
-    match in_order(alloc, &image, order, &[3], 1000) {
+fn failed_of(recorded: Recorded) -> Result<Option<(u8, usize)>, Fail> {
+    match recorded {
         Err(RecordErr::World { thread, worlds }) => Ok(Some((thread, worlds.len()))),
         Ok(_) => Ok(None),
         Err(e) => Err(Fail::from(e)),
     }
+}
+
+fn failing(alloc: Global, order: &[u8]) -> Result<Option<(u8, usize)>, Fail> {
+    let image = image_of(alloc, TWO_ASKING)?;
+    failed_of(in_order(alloc, &image, order, &[3], 1000))
 }
 
 #[test]

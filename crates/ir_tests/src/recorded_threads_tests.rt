@@ -3,13 +3,13 @@
 use crate::guests::{Source, TWO_READERS};
 use crate::meeting::Meeting;
 use crate::recorded_guests::{ADDING, INPUTS, STAYING, WAITING};
-use crate::recordings::{BUDGET, by_threads};
+use crate::recordings::{BUDGET, Recorded, by_threads};
 use crate::sources::image_of;
 use crate::traces::{BOTH_READ, TraceRow, is_trace};
 use crate::worlds::Script;
 use ir_log::Event;
 use ir_object::{Gate, OpenGate};
-use ir_record::RecordErr;
+use ir_record::{Outputs, RecordErr};
 use ir_trace::{ThreadTrace, Trace};
 use std::alloc::Global;
 use std::sync::Wait;
@@ -56,9 +56,19 @@ fn greatest_code(trace: &Trace) -> Option<u32> {
 // Of a recording how many outputs there are, the entries for writing, and the greatest code.
 type Added = (usize, (u64, u64), Option<u32>);
 
+// Records a guest that asks for nothing.
+fn recorded<R: Threads + Wait + Sync, G: Gate + Sync>(
+    rt: &R,
+    alloc: Global,
+    source: Source,
+    gate: &G,
+) -> Result<(Trace, Outputs<Script>), Fail> {
+    let image = image_of(alloc, source)?;
+    Ok(by_threads(rt, alloc, &image, gate, &[])?)
+}
+
 fn added<R: Threads + Wait + Sync>(rt: &R, alloc: Global) -> Result<Added, Fail> {
-    let image = image_of(alloc, ADDING)?;
-    let (trace, outputs) = by_threads(rt, alloc, &image, &OpenGate, &[])?;
+    let (trace, outputs) = recorded(rt, alloc, ADDING, &OpenGate)?;
     Ok((outputs.each.len(), writes(&trace), greatest_code(&trace)))
 }
 
@@ -73,9 +83,8 @@ fn eight_threads_write_in_turn(rt: HostRuntime) -> Result<(), Fail> {
 // Both are inside at one time: the threads run side by side.
 #[test]
 fn two_readers_record(rt: HostRuntime) -> Result<(), Fail> {
-    let image = image_of(rt.alloc(), TWO_READERS)?;
     let gate = Meeting::new();
-    let (trace, _outputs) = by_threads(&rt, rt.alloc(), &image, &gate, &[])?;
+    let (trace, _outputs) = recorded(&rt, rt.alloc(), TWO_READERS, &gate)?;
     assert!(rt; !gate.missed());
     let wanted = TraceRow {
         budget: BUDGET,
@@ -103,6 +112,16 @@ fn all_answered(worlds: &[Script]) -> [Option<usize>; 4] {
     ]
 }
 
+fn failed_of(recorded: Recorded) -> Result<Option<Failed>, Fail> {
+    match recorded {
+        Err(RecordErr::World { thread, worlds }) => {
+            Ok(Some((thread, all_answered(worlds.as_slice()))))
+        }
+        Ok(_) => Ok(None),
+        Err(e) => Err(Fail::from(e)),
+    }
+}
+
 // Records a guest with a world that fails.
 fn failed<R: Threads + Wait + Sync, G: Gate + Sync>(
     rt: &R,
@@ -112,13 +131,7 @@ fn failed<R: Threads + Wait + Sync, G: Gate + Sync>(
     answers: &[u32],
 ) -> Result<Option<Failed>, Fail> {
     let image = image_of(alloc, source)?;
-    match by_threads(rt, alloc, &image, gate, answers) {
-        Err(RecordErr::World { thread, worlds }) => {
-            Ok(Some((thread, all_answered(worlds.as_slice()))))
-        }
-        Ok(_) => Ok(None),
-        Err(e) => Err(Fail::from(e)),
-    }
+    failed_of(by_threads(rt, alloc, &image, gate, answers))
 }
 
 // Thread 1 is in object 1 before thread 0 asks for it, and its world fails at its second answer. It leaves the object, and
@@ -152,8 +165,7 @@ fn are_ended(trace: &Trace) -> bool {
 // Each is ended by its budget and leaves the object, so that the next gets in.
 #[test]
 fn the_budget_ends_each_thread(rt: HostRuntime) -> Result<(), Fail> {
-    let image = image_of(rt.alloc(), STAYING)?;
-    let (trace, _outputs) = by_threads(&rt, rt.alloc(), &image, &OpenGate, &[])?;
+    let (trace, _outputs) = recorded(&rt, rt.alloc(), STAYING, &OpenGate)?;
     assert_eq!(rt; writes(&trace), (3, 3));
     assert!(rt; are_ended(&trace));
     Ok(())

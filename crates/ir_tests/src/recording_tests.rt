@@ -9,6 +9,7 @@ use ir_object::Fields;
 use ir_record::{Output, Outputs};
 use ir_thread::Thread;
 use std::alloc::Global;
+use std::process::Abort;
 use std::sync::Wait;
 use std::test::Fail;
 use std::thread::Threads;
@@ -47,15 +48,22 @@ const WRITTEN: Fields = Fields {
     writer: false,
 };
 
+fn assert_counted<R: AllocGlobal + Threads + Clock + Sync + Abort>(
+    rt: &R,
+    fitted: &Fitted,
+) -> Result<(), Fail> {
+    assert_eq!(rt; counted(rt.alloc(), fitted)?, Some((WRITTEN, 8)));
+    for position in 0..19 {
+        assert!(rt; replays_alike_at(rt, rt.alloc(), fitted, 0, position)?);
+    }
+    Ok(())
+}
+
 #[test]
 fn eight_threads_count_to_eight(rt: HostRuntime) -> Result<(), Fail> {
     let (fitted, outputs) = fitted_by_threads(&rt, rt.alloc(), COUNTER)?;
     assert_eq!(rt; outputs.each.len(), 8);
-    assert_eq!(rt; counted(rt.alloc(), &fitted)?, Some((WRITTEN, 8)));
-    for position in 0..19 {
-        assert!(rt; replays_alike_at(&rt, rt.alloc(), &fitted, 0, position)?);
-    }
-    Ok(())
+    assert_counted(&rt, &fitted)
 }
 
 // Whether a thread printed what was recorded, which is five lines.
@@ -92,13 +100,16 @@ fn on_its_way(fitted: &Fitted, t: usize, sixths: u64) -> Option<u64> {
     Some((thread.steps() / 6).saturating_mul(sixths))
 }
 
-// Whether both ways of replay lead to one state at five cuts, each the least with a thread some sixths on its way.
+// A thread, and how many sixths it is on its way.
+const ON_THEIR_WAYS: [(usize, u64); 5] = [(0, 1), (1, 2), (2, 3), (3, 4), (0, 5)];
+
+// Whether both ways of replay lead to one state at five cuts, each the least with a thread so far.
 fn replays_alike<R: Threads + Clock + Sync>(
     rt: &R,
     alloc: Global,
     fitted: &Fitted,
 ) -> Result<bool, Fail> {
-    for (t, sixths) in [(0, 1), (1, 2), (2, 3), (3, 4), (0, 5)] {
+    for &(t, sixths) in &ON_THEIR_WAYS {
         let Some(position) = on_its_way(fitted, t, sixths) else {
             return Ok(false);
         };
@@ -109,12 +120,27 @@ fn replays_alike<R: Threads + Clock + Sync>(
     Ok(true)
 }
 
+fn assert_replayed<R: AllocGlobal + Threads + Clock + Sync + Abort>(
+    rt: &R,
+    fitted: &Fitted,
+    outputs: &Outputs<Script>,
+) -> Result<(), Fail> {
+    assert!(rt; prints_the_same(rt.alloc(), fitted, outputs)?);
+    assert!(rt; replays_alike(rt, rt.alloc(), fitted)?);
+    Ok(())
+}
+
+fn record_and_replay<R: AllocGlobal + Threads + Clock + Wait + Sync + Abort>(
+    rt: &R,
+) -> Result<(), Fail> {
+    let (fitted, outputs) = fitted_by_threads(rt, rt.alloc(), SUMS)?;
+    assert_replayed(rt, &fitted, &outputs)
+}
+
 #[test]
 fn two_hundred_recordings_replay(rt: HostRuntime) -> Result<(), Fail> {
-    for number in 0..200 {
-        let (fitted, outputs) = fitted_by_threads(&rt, rt.alloc(), SUMS)?;
-        assert!(rt; prints_the_same(rt.alloc(), &fitted, &outputs)?);
-        assert!(rt; replays_alike(&rt, rt.alloc(), &fitted)?);
+    for _ in 0..200 {
+        record_and_replay(&rt)?;
     }
     Ok(())
 }
@@ -130,15 +156,25 @@ fn ends_alike<R: Threads + Clock + Sync>(
 
 const ORDERS: [&[u8]; 3] = [&[], &[0, 1, 0, 1], &[1, 1, 1, 0, 2, 7]];
 
-// Whether a guest's recordings in each order replay.
+// Whether a guest's recording in an order replays.
+fn replays_in_order<R: Threads + Clock + Sync>(
+    rt: &R,
+    alloc: Global,
+    guest: Guest,
+    order: &[u8],
+) -> Result<bool, Fail> {
+    let fitted = fitted_in_order(alloc, guest.source, order, BUDGET)?;
+    ends_alike(rt, alloc, &fitted)
+}
+
+// Whether its recordings in each order do.
 fn replays_in_each_order<R: Threads + Clock + Sync>(
     rt: &R,
     alloc: Global,
     guest: Guest,
 ) -> Result<bool, Fail> {
     for &order in &ORDERS {
-        let fitted = fitted_in_order(alloc, guest.source, order, BUDGET)?;
-        if !ends_alike(rt, alloc, &fitted)? {
+        if !replays_in_order(rt, alloc, guest, order)? {
             return Ok(false);
         }
     }

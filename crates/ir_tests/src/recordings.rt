@@ -9,6 +9,7 @@ use ir_fit::{Fitted, fit};
 use ir_image::Image;
 use ir_object::{Gate, OpenGate};
 use ir_record::{Outputs, RecordErr, record, record_in_order};
+use ir_thread::Profile;
 use ir_trace::Trace;
 use std::alloc::Global;
 use std::sync::Wait;
@@ -17,6 +18,9 @@ use std::thread::Threads;
 
 /// Of steps, for each thread.
 pub const BUDGET: u64 = 1_000_000;
+
+// The same where threads try again and again until they are inside.
+const TRYING_BUDGET: u64 = 1_000_000_000;
 
 /// What is recorded, or why nothing is.
 pub type Recorded = Result<(Trace, Outputs<Script>), RecordErr<Script>>;
@@ -32,7 +36,21 @@ pub fn in_order(
     requires { budget ≤ most_budget }
 {
     let worlds = worlds(alloc, image.entries().len(), answers, FAILS)?;
-    record_in_order(alloc, image, order, worlds, budget)
+    record_in_order(alloc, image, order, worlds, budget, Profile::One)
+}
+
+/// The same of the source's guest.
+pub fn source_in_order(
+    alloc: Global,
+    source: &[&str],
+    order: &[u8],
+    answers: &[u32],
+    budget: u64,
+) -> Result<(Trace, Outputs<Script>), Fail>
+    requires { budget ≤ most_budget }
+{
+    let image = image_of(alloc, source)?;
+    Ok(in_order(alloc, &image, order, answers, budget)?)
 }
 
 /// The same on real threads.
@@ -44,7 +62,36 @@ pub fn by_threads<R: Threads + Wait + Sync, G: Gate + Sync>(
     answers: &[u32],
 ) -> Recorded {
     let worlds = worlds(alloc, image.entries().len(), answers, FAILS)?;
-    record(rt, alloc, image, worlds, gate, BUDGET)
+    record(rt, alloc, image, worlds, gate, BUDGET, Profile::One)
+}
+
+// The guest recorded on real threads, whose worlds count.
+fn counting_by_threads<R: Threads + Wait + Sync, G: Gate + Sync>(
+    rt: &R,
+    alloc: Global,
+    image: &Image,
+    gate: &G,
+    budget: u64,
+    profile: Profile,
+) -> Recorded
+    requires { budget ≤ most_budget }
+{
+    let worlds = worlds(alloc, image.entries().len(), &[], COUNTS)?;
+    record(rt, alloc, image, worlds, gate, budget, profile)
+}
+
+// The same in an order.
+fn counting_in_order(
+    alloc: Global,
+    image: &Image,
+    order: &[u8],
+    budget: u64,
+    profile: Profile,
+) -> Recorded
+    requires { budget ≤ most_budget }
+{
+    let worlds = worlds(alloc, image.entries().len(), &[], COUNTS)?;
+    record_in_order(alloc, image, order, worlds, budget, profile)
 }
 
 /// The source's guest recorded on real threads, whose trace fits, and what its threads printed.
@@ -54,12 +101,25 @@ pub fn fitted_by_threads<R: Threads + Wait + Sync>(
     source: &[&str],
 ) -> Result<(Fitted, Outputs<Script>), Fail> {
     let image = image_of(alloc, source)?;
-    let worlds = worlds(alloc, image.entries().len(), &[], COUNTS)?;
-    let (trace, outputs) = record(rt, alloc, &image, worlds, &OpenGate, BUDGET)?;
+    let recorded = counting_by_threads(rt, alloc, &image, &OpenGate, BUDGET, Profile::One);
+    let (trace, outputs) = recorded?;
     Ok((fit(alloc, image, trace)?, outputs))
 }
 
-/// The same recorded in an order.
+/// The same in the second profile, with a gate.
+pub fn tried_by_threads<R: Threads + Wait + Sync, G: Gate + Sync>(
+    rt: &R,
+    alloc: Global,
+    source: &[&str],
+    gate: &G,
+) -> Result<(Fitted, Outputs<Script>), Fail> {
+    let image = image_of(alloc, source)?;
+    let recorded = counting_by_threads(rt, alloc, &image, gate, TRYING_BUDGET, Profile::Two);
+    let (trace, outputs) = recorded?;
+    Ok((fit(alloc, image, trace)?, outputs))
+}
+
+/// The source's guest recorded in an order, whose trace fits.
 pub fn fitted_in_order(
     alloc: Global,
     source: &[&str],
@@ -69,7 +129,20 @@ pub fn fitted_in_order(
     requires { budget ≤ most_budget }
 {
     let image = image_of(alloc, source)?;
-    let worlds = worlds(alloc, image.entries().len(), &[], COUNTS)?;
-    let (trace, _outputs) = record_in_order(alloc, &image, order, worlds, budget)?;
+    let (trace, _outputs) = counting_in_order(alloc, &image, order, budget, Profile::One)?;
+    Ok(fit(alloc, image, trace)?)
+}
+
+/// The same in the second profile.
+pub fn tried_in_order(
+    alloc: Global,
+    source: &[&str],
+    order: &[u8],
+    budget: u64,
+) -> Result<Fitted, Fail>
+    requires { budget ≤ most_budget }
+{
+    let image = image_of(alloc, source)?;
+    let (trace, _outputs) = counting_in_order(alloc, &image, order, budget, Profile::Two)?;
     Ok(fit(alloc, image, trace)?)
 }

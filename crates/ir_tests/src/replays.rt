@@ -10,6 +10,7 @@ use ir_cut::{Cut, consistent, greatest, least};
 use ir_fit::{Fitted, fit};
 use ir_object::{Gate, OpenGate};
 use ir_replay::{State, advance, advance_in_order};
+use ir_trace::ThreadTrace;
 use std::alloc::Global;
 use std::test::Fail;
 use std::thread::Threads;
@@ -17,8 +18,8 @@ use std::time::Clock;
 
 // The guest with its trace, which fits.
 pub fn fitted(alloc: Global, source: &[&str], trace: TraceRow) -> Result<Fitted, Fail> {
-    let image = image_of(alloc, source)?;
-    Ok(fit(alloc, image, trace_of(alloc, trace)?)?)
+    let trace = trace_of(alloc, trace)?;
+    Ok(fit(alloc, image_of(alloc, source)?, trace)?)
 }
 
 // Whether the cut has a position for each thread, and is consistent.
@@ -29,12 +30,18 @@ pub fn is_cut(fitted: &Fitted, cut: &Cut) -> bool
     cut.positions().len() == fitted.image().entries().len() && consistent(fitted, cut)
 }
 
+// The numbers of the threads' steps.
+fn steps_of(alloc: Global, threads: &[ThreadTrace]) -> Result<Vec<u64>, Fail> {
+    let mut steps = Vec::with_capacity(alloc, threads.len())?;
+    for thread in threads {
+        steps.push(thread.steps())?;
+    }
+    Ok(steps)
+}
+
 // The guest after each thread's last step.
 pub fn last(alloc: Global, fitted: &Fitted) -> Result<Cut, Fail> {
-    let mut positions = Vec::with_capacity(alloc, fitted.trace().threads().len())?;
-    for thread in fitted.trace().threads() {
-        positions.push(thread.steps())?;
-    }
+    let positions = steps_of(alloc, fitted.trace().threads())?;
     Ok(Cut::new(positions))
 }
 
@@ -77,6 +84,13 @@ pub fn greatest_from(
     }
 }
 
+// So many threads before their first steps.
+fn start_of(alloc: Global, threads: usize) -> Result<Cut, Fail> {
+    let mut zeros = Vec::new(alloc);
+    zeros.resize(threads, 0)?;
+    Ok(Cut::new(zeros))
+}
+
 // The least cut with thread t at the position; none where it has fewer steps.
 pub fn least_at(
     alloc: Global,
@@ -84,9 +98,8 @@ pub fn least_at(
     t: usize,
     position: u64,
 ) -> Result<Option<Cut>, Fail> {
-    let mut zeros = Vec::new(alloc);
-    zeros.resize(fitted.image().entries().len(), 0)?;
-    least_from(alloc, fitted, &Cut::new(zeros), t, position)
+    let start = start_of(alloc, fitted.image().entries().len())?;
+    least_from(alloc, fitted, &start, t, position)
 }
 
 // The guest at the cut, by way of the order; none where it isn't consistent.

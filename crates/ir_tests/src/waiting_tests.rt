@@ -8,7 +8,7 @@ use ir_flat::Flat;
 use ir_image::Image;
 use ir_log::Event;
 use ir_runs::Access;
-use ir_thread::Ask;
+use ir_thread::{Ask, Profile};
 use ir_trace::{ThreadTrace, Trace};
 use std::alloc::Global;
 use std::test::Fail;
@@ -29,7 +29,7 @@ impl<'a> Plain<'a> {
             entries.push(Vec::new(alloc))?;
         }
         Ok(Plain {
-            flat: Flat::start(alloc, image, BUDGET)?,
+            flat: Flat::start(alloc, image, BUDGET, Profile::One)?,
             entries,
         })
     }
@@ -90,6 +90,15 @@ impl<'a> Plain<'a> {
         Ok(())
     }
 
+    // How many entries all threads logged.
+    fn entry_count(&self) -> usize {
+        let mut count = 0usize;
+        for thread in self.entries.as_slice() {
+            count = count.saturating_add(thread.len());
+        }
+        count
+    }
+
     // Whether the trace of thread t says what the thread did.
     fn is_emitted(&self, t: usize, emitted: &ThreadTrace) -> bool {
         let (Some(thread), Some(entries)) = (self.flat.threads().get(t), self.entries.get(t)) else {
@@ -112,13 +121,24 @@ impl<'a> Plain<'a> {
     }
 }
 
+// The guest after the turns of the order.
+fn plain_run<'a>(alloc: Global, image: &'a Image, order: &[u8]) -> Result<Plain<'a>, Fail> {
+    let mut plain = Plain::start(alloc, image)?;
+    plain.run(order)?;
+    Ok(plain)
+}
+
 // Whether a recording by the order is what the plain turns make.
+fn is_alike(alloc: Global, image: &Image, order: &[u8]) -> Result<bool, Fail> {
+    let (trace, _outputs) = in_order(alloc, image, order, &[], BUDGET)?;
+    let plain = plain_run(alloc, image, order)?;
+    Ok(plain.are_emitted(&trace))
+}
+
+// The same of the source's guest.
 fn is_plain(alloc: Global, source: Source, order: &[u8]) -> Result<bool, Fail> {
     let image = image_of(alloc, source)?;
-    let mut plain = Plain::start(alloc, &image)?;
-    plain.run(order)?;
-    let (trace, _outputs) = in_order(alloc, &image, order, &[], BUDGET)?;
-    Ok(plain.are_emitted(&trace))
+    is_alike(alloc, &image, order)
 }
 
 // A guest, and an order that leaves no thread in the object, the first, another one, and some of eight.
@@ -157,13 +177,8 @@ fn readers_and_writers_wait_for_each_other(rt: HostRuntime) -> Result<(), Fail> 
 // How many entries there are in rounds.
 fn entries_in_rounds(alloc: Global, source: Source) -> Result<usize, Fail> {
     let image = image_of(alloc, source)?;
-    let mut plain = Plain::start(alloc, &image)?;
-    plain.run(&[])?;
-    let mut entries = 0usize;
-    for thread in plain.entries.as_slice() {
-        entries = entries.saturating_add(thread.len());
-    }
-    Ok(entries)
+    let plain = plain_run(alloc, &image, &[])?;
+    Ok(plain.entry_count())
 }
 
 #[test]

@@ -1,11 +1,11 @@
 -- Whoever answers a thread, it is the thread run alone.
-use Rattle.std.proofs.Common.{◌≡◌, ℕ, List, [], ◌∷◌, length, Option, Some, refl, ap, ◌∙◌}
+use Rattle.std.proofs.Common.{◌≡◌, ℕ, List, [], ◌∷◌, length, Option, Some, refl, inl, inr, ap, ◌∙◌}
 use Rattle.std.specs.Prelude.{option_and_then}
 use Rattle.ir_thread.specs.Alone.{lone_reply, lone_after, lone_run, AllSuit, after_replies, value_before, values_of}
 use Rattle.ir_thread.specs.Calls.{ask_of, after_reply, Suits}
 use Rattle.ir_thread.specs.State.{State}
 use Rattle.ir_thread.specs.declared.ask.Ask.{Ask}
-use Rattle.ir_thread.specs.declared.ask.Ask.TheVariants.{Private, Env, Enter, Leave, Get, Put, Print, End, Done}
+use Rattle.ir_thread.specs.declared.ask.Ask.TheVariants.{Private, Env, Enter, Try, Leave, Get, Put, Print, End, Done}
 use Rattle.ir_thread.specs.declared.ask.Reply.{Reply}
 use Rattle.ir_thread.specs.declared.ask.Reply.TheVariants.{Go, Value}
 
@@ -18,6 +18,8 @@ reply_alone Private r vs e = go_alone r vs e
 reply_alone (Env kind) Go vs e = absurd e
 reply_alone (Env kind) (Value v) vs e = refl
 reply_alone (Enter object access) r vs e = go_alone r vs e
+reply_alone (Try object) Go vs e = elim e [ inl one ↦ absurd (cc one) | inr none ↦ absurd (cc none) ]
+reply_alone (Try object) (Value v) vs e = refl
 reply_alone (Leave object access) r vs e = go_alone r vs e
 reply_alone (Get object index) Go vs e = absurd e
 reply_alone (Get object index) (Value v) vs e = refl

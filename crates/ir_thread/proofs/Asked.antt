@@ -2,11 +2,11 @@
 use Rattle.std.proofs.Common.{◌≡◌, ◌≢◌, ℕ, ◌+◌, ◌<◌, ◌≤◌, List, length, Bool, true, false, cond, Option, Some, None, refl, sym, ap, subst, arith, nat_lt}
 use Rattle.std.proofs.lemmas.Bool.{cond_both}
 use Rattle.std.proofs.lemmas.Bool.Decides.{nat_tests}
-use Rattle.std.specs.Prelude.{nat_le, ◌&&◌}
+use Rattle.std.specs.Prelude.{nat_le, ◌&&◌, ◌==◌}
 use Rattle.ir_image.specs.Guest.{object_words}
 use Rattle.ir_mach.specs.Core.{Outcome, Goes, Calls, Ends}
 use Rattle.ir_mach.specs.Execution.{outcome_of}
-use Rattle.ir_thread.specs.Calls.{a0, a1, a2, call_at, byte_text, number_text, printed, printed_by, print_ask, logged_ask, is_object, has_word, enter_ask, leave_ask, leave_held, get_ask, get_held, put_ask, put_held, call_ask, outcome_ask, release_ask, ask_by, ask_of, IsRunning, CanLog, Permits, most_output, most_events}
+use Rattle.ir_thread.specs.Calls.{a0, a1, a2, a7, call_of, call_at, byte_text, number_text, printed, printed_by, print_ask, logged_ask, is_object, has_word, entry_ask, leave_ask, leave_held, get_ask, get_held, put_ask, put_held, call_ask, outcome_ask, release_ask, ask_by, ask_of, IsRunning, CanLog, Permits, most_output, most_events}
 use Rattle.ir_thread.specs.Held.{held_at, highest, is_above}
 use Rattle.ir_thread.specs.State.{State}
 use Rattle.ir_runs.specs.declared.access.Access.{Access}
@@ -17,6 +17,8 @@ use Rattle.ir_thread.specs.declared.call.Call.{Call}
 use Rattle.ir_thread.specs.declared.call.Call.TheVariants as call
 use Rattle.ir_thread.specs.declared.end.End.{End}
 use Rattle.ir_thread.specs.declared.end.End.TheVariants as end
+use Rattle.ir_thread.specs.declared.profile.Profile.{Profile}
+use Rattle.ir_thread.specs.declared.profile.Profile.TheVariants.{One, Two}
 use Rattle.ir_thread.proofs.Highest.{top_held}
 
 -- where a test fails the thread ends, else it asks so
@@ -40,10 +42,11 @@ prints : (s : State) (count : ℕ) → IsRunning s → count ≡ length (printed
 prints s count runs same = tested s (nat_le (length s.output + count) most_output) ask.Print end.OutputFull runs.lives
     (λ e. (runs, subst (λ n. length s.output + n ≤ most_output) same (at_most _ _ e)))
 
-enters : (s : State) (access : Access) → IsRunning s → Permits s (enter_ask s access)
-enters s access runs = tested s (is_object s (a0 s)) _ end.NoSuchObject runs.lives
+enters : (s : State) (q : Ask) → IsRunning s
+    → (CanLog s → a0 s < length s.held → is_above (highest s.held) (a0 s) ≡ true → Permits s q) → Permits s (entry_ask s q)
+enters s q runs asks = tested s (is_object s (a0 s)) _ end.NoSuchObject runs.lives
     (λ here. tested s (is_above (highest s.held) (a0 s)) _ end.EntryOutOfOrder runs.lives
-    (λ above. logged s (ask.Enter (a0 s) access) runs (λ room. (runs, room, less _ _ here, above))))
+    (λ above. logged s q runs (λ room. asks room (less _ _ here) above)))
 
 leaves : (s : State) → IsRunning s → Permits s (leave_ask s)
 leaves s runs = tested s (is_object s (a0 s)) _ end.NoSuchObject runs.lives (λ here. by (less _ _ here) (held_at s.held (a0 s)) refl)
@@ -69,17 +72,43 @@ puts s runs = tested s (has_word s) _ end.NoSuchObject runs.lives (λ here. by (
     by p (Some Reading) e = runs.lives
     by p (Some Writing) e = (runs, less _ _ p.0, less _ _ p.1, e)
 
+other : (b : Bool) (x y : Option Call) → x ≢ Some call.TryWrite → y ≢ Some call.TryWrite → cond b x y ≢ Some call.TryWrite
+other true x y p q = p
+other false x y p q = q
+
+-- the first profile has no tries
+no_try : (n : ℕ) → call_of One n ≢ Some call.TryWrite
+no_try n = other (n == 1) _ _ (λ e. cc e) (
+    other (n == 2) _ _ (λ e. cc e) (
+    other (n == 3) _ _ (λ e. cc e) (
+    other (n == 4) _ _ (λ e. cc e) (
+    other (n == 5) _ _ (λ e. cc e) (
+    other (n == 6) _ _ (λ e. cc e) (
+    other (n == 7) _ _ (λ e. cc e) (
+    other (n == 8) _ _ (λ e. cc e) (
+    other (n == 9) _ _ (λ e. cc e) (
+    other (n == 10) _ _ (λ e. cc e) (
+    other (n == 11) _ _ (λ e. cc e) (
+    other (n == 12) _ _ (λ e. cc e) (
+    other (n == 13) _ _ (λ e. cc e) (λ e. cc e)))))))))))))
+
+try_in_two : (profile : Profile) (n : ℕ) → call_of profile n ≡ Some call.TryWrite → profile ≡ Two
+try_in_two One n e = absurd (no_try n e)
+try_in_two Two n e = refl
+
 calls : (s : State) (c : Option Call) → call_at s ≡ c → IsRunning s → Permits s (call_ask c s)
 calls s None e runs = runs.lives
 calls s (Some call.End) e runs = runs.lives
 calls s (Some call.PutByte) e runs = prints s (length (byte_text s)) runs (ap (λ c. length (printed_by c s)) (sym e))
 calls s (Some call.PutNumber) e runs = prints s (length (number_text s)) runs (ap (λ c. length (printed_by c s)) (sym e))
 calls s (Some (call.Env kind)) e runs = logged s (ask.Env kind) runs (λ room. (runs, room))
-calls s (Some (call.Enter access)) e runs = enters s access runs
+calls s (Some (call.Enter access)) e runs = enters s (ask.Enter (a0 s) access) runs (λ room below above. (runs, room, below, above))
 calls s (Some call.Leave) e runs = leaves s runs
 calls s (Some call.Get) e runs = gets s runs
 calls s (Some call.Put) e runs = puts s runs
 calls s (Some call.OwnNumber) e runs = runs
+calls s (Some call.TryWrite) e runs = enters s (ask.Try (a0 s)) runs
+    (λ room below above. (runs, room, below, above, try_in_two s.profile (a7 s) e))
 
 goes_on : (s : State) (o : Outcome) → IsRunning s → Permits s (outcome_ask o s)
 goes_on s (Goes core) runs = runs

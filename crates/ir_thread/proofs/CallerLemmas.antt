@@ -4,7 +4,7 @@ pub use Rattle.ir_thread.proofs.Highest.{above_held, one_fewer, count_le_length}
 -- what is known of a thread where it asks something
 pub use Rattle.ir_thread.proofs.Asked.{ask_permits}
 -- a thread enters in order, uses what it holds, and releases it after its end
-pub use Rattle.ir_thread.proofs.Lawful.{lawful, over, closing}
+pub use Rattle.ir_thread.proofs.Lawful.{lawful, over, closing, not_entered}
 -- whoever answers a thread, it is the thread run alone
 pub use Rattle.ir_thread.proofs.Alone.{alone}
 -- private steps, the first of them, and what they leave as it is

@@ -43,6 +43,7 @@ calls (Some call.Leave) s = ap (λ q. cond (is_object s (a0 s)) q (ask.End end.N
 calls (Some call.Get) s = ap (λ q. cond (has_word s) q (ask.End end.NoSuchObject)) (gets (a0 s) (a1 s) (held_at s.held (a0 s)))
 calls (Some call.Put) s = ap (λ q. cond (has_word s) q (ask.End end.NoSuchObject)) (puts (a0 s) (a1 s) (a2 s) (held_at s.held (a0 s)))
 calls (Some call.OwnNumber) s = refl
+calls (Some call.TryWrite) s = refl
 
 comes_to : (x : Outcome) (s : State) → outcome_ask x s ≡ first_end_or (outcome_conditions x s) (outcome_wants x s)
 comes_to (Goes core) s = refl

@@ -1,8 +1,8 @@
 -- A thread enters in order, uses what it holds, and releases it after its end.
-use Rattle.std.proofs.Common.{◌≡◌, ◌≢◌, ℕ, suc, ◌<◌, List, length, get_or, set, Option, Some, None, refl, sym, ap, ◌∙◌, subst, inl, inr, eqb, cond, eq-eqb, ne_eqb, get_or-set_same, get_or-set_other}
+use Rattle.std.proofs.Common.{◌≡◌, ◌≢◌, ℕ, zero, suc, ◌<◌, List, length, get_or, set, Option, Some, None, refl, sym, ap, ◌∙◌, subst, inl, inr, eqb, cond, eq-eqb, ne_eqb, get_or-set_same, get_or-set_other, arith}
 use Rattle.std.proofs.lemmas.Bool.{cases_eq}
 use Rattle.std.specs.Prelude.{option_map}
-use Rattle.ir_thread.specs.Calls.{ask_of, Permits, after_ask, after_reply}
+use Rattle.ir_thread.specs.Calls.{ask_of, Permits, held_after_try, after_ask, after_reply}
 use Rattle.ir_thread.specs.Ends.{end_number, end_code}
 use Rattle.ir_thread.specs.Held.{held_at, held_count}
 use Rattle.ir_thread.specs.Instance.{shared_ask, reply_of, thread_machine}
@@ -10,9 +10,11 @@ use Rattle.ir_runs.specs.Machine.{Machine, act_of, upd, held_after, Holds, IsLaw
 use Rattle.ir_runs.specs.Machine as machine
 use Rattle.ir_thread.specs.State.{State}
 use Rattle.ir_runs.specs.declared.access.Access.{Access}
+use Rattle.ir_runs.specs.declared.access.Access.TheVariants.{Writing}
 use Rattle.ir_thread.specs.declared.ask.Ask.{Ask}
-use Rattle.ir_thread.specs.declared.ask.Ask.TheVariants.{Private, Env, Enter, Leave, Get, Put, Print, End, Done}
+use Rattle.ir_thread.specs.declared.ask.Ask.TheVariants.{Private, Env, Enter, Try, Leave, Get, Put, Print, End, Done}
 use Rattle.ir_thread.specs.declared.ask.Reply.{Reply}
+use Rattle.ir_thread.specs.declared.ask.Reply.TheVariants.{Value}
 use Rattle.ir_thread.specs.declared.end.End as end
 use Rattle.ir_thread.proofs.Asked.{ask_permits}
 use Rattle.ir_thread.proofs.Highest.{none_held, none_counted, above_held, one_fewer}
@@ -31,6 +33,7 @@ asks_hold : (s : State) (q : Ask) → Permits s q → Holds (shared_ask q) (held
 asks_hold s Private p = tt
 asks_hold s (Env kind) p = tt
 asks_hold s (Enter object access) p = above_held s.held object p.3
+asks_hold s (Try object) p = above_held s.held object p.3
 asks_hold s (Leave object access) p = p.2
 asks_hold s (Get object index) p = p.3
 asks_hold s (Put object index value) p = p.3
@@ -38,23 +41,35 @@ asks_hold s Print p = tt
 asks_hold s (End e) p = tt
 asks_hold s Done p = none_held s.held p.1
 
-asks_take : (code : List ℕ) (s : State) (reply : Reply) (r i : ℕ) (q : Ask) → Permits s q
-    → held_at (after_ask code s q reply).held i ≡ held_after (act_of (shared_ask q) r) (held_at s.held) i
-asks_take code s reply r i Private p = refl
-asks_take code s reply r i (Env kind) p = refl
-asks_take code s reply r i (Enter object access) p = held_at-set s.held object (Some access) i p.2
-asks_take code s reply r i (Leave object access) p = held_at-set s.held object None i p.1
-asks_take code s reply r i (Get object index) p = refl
-asks_take code s reply r i (Put object index value) p = refl
-asks_take code s reply r i Print p = refl
-asks_take code s reply r i (End e) p = refl
-asks_take code s reply r i Done p = refl
+-- any other value than 1 leaves what is held
+pub not_entered : (held : List (Option Access)) (object value : ℕ) → held_after_try (Value (suc (suc value))) object held ≡ held
+not_entered held object value = ap (λ b. cond b (set held object (Some Writing)) held) (ne_eqb (suc (suc value)) 1 (λ e. omega (arith, e)))
+
+-- a try that is answered 1 enters, any other leaves what is held
+try_takes : (s : State) (object r i : ℕ) → object < length s.held
+    → held_at (held_after_try (Value r) object s.held) i ≡ held_after (act_of (machine.Try object) r) (held_at s.held) i
+try_takes s object zero i l = refl
+try_takes s object (suc zero) i l = held_at-set s.held object (Some Writing) i l
+try_takes s object (suc (suc r)) i l = ap (λ held. held_at held i) (not_entered s.held object r)
+
+asks_take : (code : List ℕ) (s : State) (r i : ℕ) (q : Ask) → Permits s q
+    → held_at (after_ask code s q (reply_of q r)).held i ≡ held_after (act_of (shared_ask q) r) (held_at s.held) i
+asks_take code s r i Private p = refl
+asks_take code s r i (Env kind) p = refl
+asks_take code s r i (Enter object access) p = held_at-set s.held object (Some access) i p.2
+asks_take code s r i (Try object) p = try_takes s object r i p.2
+asks_take code s r i (Leave object access) p = held_at-set s.held object None i p.1
+asks_take code s r i (Get object index) p = refl
+asks_take code s r i (Put object index value) p = refl
+asks_take code s r i Print p = refl
+asks_take code s r i (End e) p = refl
+asks_take code s r i Done p = refl
 
 pub lawful : (code : List ℕ) → IsLawful (thread_machine code)
 unfolding after_reply
 lawful code = record {
   holds = λ s. asks_hold s (ask_of code s) (ask_permits code s);
-  takes = λ s r i. asks_take code s (reply_of (ask_of code s) r) r i (ask_of code s) (ask_permits code s);
+  takes = λ s r i. asks_take code s r i (ask_of code s) (ask_permits code s);
 }
 
 -- the end's number and code, once there is one
@@ -78,6 +93,7 @@ ends_by : (code : List ℕ) (s : State) (reply : Reply) (q : Ask) (p : ℕ × �
 ends_by code s reply Private p h g = (refl, refl)
 ends_by code s reply (Env kind) p h g = absurd (clash s.ended p g (over_none s.ended h))
 ends_by code s reply (Enter object access) p h g = absurd (clash s.ended p g (over_none s.ended h))
+ends_by code s reply (Try object) p h g = absurd (clash s.ended p g (over_none s.ended h))
 ends_by code s reply (Leave object access) p h g = absurd (clash s.ended p g (over_none s.ended h))
 ends_by code s reply (Get object index) p h g = absurd (clash s.ended p g (over_none s.ended h))
 ends_by code s reply (Put object index value) p h g = absurd (clash s.ended p g (over_none s.ended h))
@@ -90,6 +106,7 @@ stays_by : (code : List ℕ) (s : State) (reply : Reply) (q : Ask) (p : ℕ × �
 stays_by code s reply Private p k h = h
 stays_by code s reply (Env kind) p k h = h
 stays_by code s reply (Enter object access) p k h = h
+stays_by code s reply (Try object) p k h = h
 stays_by code s reply (Leave object access) p k h = h
 stays_by code s reply (Get object index) p k h = h
 stays_by code s reply (Put object index value) p k h = h
@@ -103,6 +120,7 @@ leaves_by : (code : List ℕ) (s : State) (reply : Reply) (q : Ask) (p : ℕ × 
 leaves_by code s reply Private p k h ne = absurd (clash s.ended p h k.lives)
 leaves_by code s reply (Env kind) p k h ne = absurd (clash s.ended p h k.0.lives)
 leaves_by code s reply (Enter object access) p k h ne = absurd (clash s.ended p h k.0.lives)
+leaves_by code s reply (Try object) p k h ne = absurd (clash s.ended p h k.0.lives)
 leaves_by code s reply (Leave object access) p k h ne = (object, access, refl, one_fewer s.held object k.1 (λ none. cc (k.2, none)))
 leaves_by code s reply (Get object index) p k h ne = absurd (clash s.ended p h k.0.lives)
 leaves_by code s reply (Put object index value) p k h ne = absurd (clash s.ended p h k.0.lives)
@@ -115,6 +133,7 @@ done_by : (s : State) (q : Ask) → Permits s q → shared_ask q ≡ machine.Don
 done_by s Private k h = absurd (cc h)
 done_by s (Env kind) k h = absurd (cc h)
 done_by s (Enter object access) k h = absurd (cc h)
+done_by s (Try object) k h = absurd (cc h)
 done_by s (Leave object access) k h = absurd (cc h)
 done_by s (Get object index) k h = absurd (cc h)
 done_by s (Put object index value) k h = absurd (cc h)

@@ -29,6 +29,7 @@ advanced s core n = record {
   number = s.number;
   held = s.held;
   budget = s.budget;
+  profile = s.profile;
   steps = s.steps + n;
   events =
       s.events;
@@ -138,6 +139,7 @@ pub record IsKept (s t : State) : Type 0 where
   pub number : t.number ≡ s.number
   pub held : t.held ≡ s.held
   pub budget : t.budget ≡ s.budget
+  pub profile : t.profile ≡ s.profile
   pub events : t.events ≡ s.events
   pub output : t.output ≡ s.output
   pub ended : t.ended ≡ s.ended
@@ -148,6 +150,7 @@ one_kept code s is = record {
   number = ap (λ a. (after_ask code s a Go).number) is;
   held = ap (λ a. (after_ask code s a Go).held) is;
   budget = ap (λ a. (after_ask code s a Go).budget) is;
+  profile = ap (λ a. (after_ask code s a Go).profile) is;
   events = ap (λ a. (after_ask code s a Go).events) is;
   output = ap (λ a. (after_ask code s a Go).output) is;
   ended = ap (λ a. (after_ask code s a Go).ended) is;
@@ -158,6 +161,7 @@ kept_on s m t a b = record {
   number = b.number ∙ a.number;
   held = b.held ∙ a.held;
   budget = b.budget ∙ a.budget;
+  profile = b.profile ∙ a.profile;
   events = b.events ∙ a.events;
   output = b.output ∙ a.output;
   ended = b.ended ∙ a.ended;
@@ -166,7 +170,7 @@ kept_on s m t a b = record {
 run_keeps : (code : List ℕ) (n : ℕ) (s : State) → ((k : ℕ) → k < n → ask_of code (run_of code k s) ≡ ask.Private)
     → IsKept s (run_of code n s)
 unfolding run_of
-run_keeps code zero s each = record { number = refl; held = refl; budget = refl; events = refl; output = refl; ended = refl }
+run_keeps code zero s each = record { number = refl; held = refl; budget = refl; profile = refl; events = refl; output = refl; ended = refl }
 run_keeps code (suc n) s each =
     kept_on s (run_of code n s) (step_of code (run_of code n s)) (run_keeps code n s (λ k l. each k (omega (arith, l))))
     (one_kept code (run_of code n s) (each n (omega arith)))

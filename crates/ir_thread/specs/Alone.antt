@@ -7,7 +7,7 @@ use Rattle.ir_thread.specs.declared.ask.Ask.TheVariants as ask
 use Rattle.ir_thread.specs.declared.ask.Reply.{Reply}
 use Rattle.ir_thread.specs.declared.ask.Reply.TheVariants.{Go, Value}
 
--- a thread, and the values that its calls of the environment and its reads of objects are still to be answered
+-- a thread, and the values that its calls of the environment, its tries and its reads of objects are still to be answered
 pub record Lone : Type 0 where
   pub thread : State
   pub values : List ℕ
@@ -20,6 +20,7 @@ next_value (value ∷ values) = Some (Value value, values)
 -- the reply to what is asked, and the values after it; none where there is no step, or the values are used up
 abbrev pub lone_reply : Ask → List ℕ → Option (Reply × List ℕ)
 lone_reply (ask.Env kind) values = next_value values
+lone_reply (ask.Try object) values = next_value values
 lone_reply (ask.Get object index) values = next_value values
 lone_reply ask.Done values = None
 lone_reply _ values = Some (Go, values)

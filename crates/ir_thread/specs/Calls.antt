@@ -1,5 +1,5 @@
 -- What a thread asks, and what comes after it.
-use Rattle.std.specs.Prelude.{◌≡◌, ◌==◌, ◌&&◌, ℕ, zero, suc, ◌+◌, ◌≢◌, ◌<◌, ◌≤◌, ◌%◌, ◌^◌, Bool, true, List, [], ◌∷◌, ◌++◌, length, slice_set, nat_le, nat_lt, if◌then◌else◌, Option, Some, None, ⊤}
+use Rattle.std.specs.Prelude.{◌≡◌, ◌⊎◌, ◌==◌, ◌&&◌, ℕ, zero, suc, ◌+◌, ◌≢◌, ◌<◌, ◌≤◌, ◌%◌, ◌^◌, Bool, true, List, [], ◌∷◌, ◌++◌, length, slice_set, nat_le, nat_lt, if◌then◌else◌, Option, Some, None, ⊤}
 use Rattle.std.specs.Fmt.{signed_decimal}
 use Rattle.ir_image.specs.Guest.{most_objects, object_words}
 use Rattle.ir_mach.specs.Arithmetic.{signed}
@@ -19,10 +19,17 @@ use Rattle.ir_thread.specs.declared.call.Call.{Call}
 use Rattle.ir_thread.specs.declared.call.Call.TheVariants as call
 use Rattle.ir_thread.specs.declared.end.End.{End}
 use Rattle.ir_thread.specs.declared.end.End.TheVariants as end
+use Rattle.ir_thread.specs.declared.profile.Profile.{Profile}
+use Rattle.ir_thread.specs.declared.profile.Profile.TheVariants.{One, Two}
 
--- the system calls by their numbers
-abbrev pub call_of : ℕ → Option Call
-call_of number =
+-- call 13, which the second profile alone has
+abbrev pub try_call : Profile → Option Call
+try_call One = None
+try_call Two = Some call.TryWrite
+
+-- the system calls of a profile by their numbers
+abbrev pub call_of : Profile → ℕ → Option Call
+call_of profile number =
     if number == 1 then Some call.End else
     if number == 2 then Some call.PutByte else
     if number == 3 then Some call.PutNumber else
@@ -34,7 +41,8 @@ call_of number =
     if number == 9 then Some call.Leave else
     if number == 10 then Some call.Get else
     if number == 11 then Some call.Put else
-    if number == 12 then Some call.OwnNumber else None
+    if number == 12 then Some call.OwnNumber else
+    if number == 13 then try_call profile else None
 
 -- the register that holds a call's number
 abbrev pub a7 : State → ℕ
@@ -54,7 +62,7 @@ a2 s = register s.core 12
 
 -- the call that the thread makes where it stands at one
 abbrev pub call_at : State → Option Call
-call_at s = call_of (a7 s)
+call_at s = call_of s.profile (a7 s)
 
 -- the most bytes that a thread may print
 abbrev pub most_output : ℕ
@@ -108,11 +116,11 @@ logged_ask s q = if nat_lt s.events most_events then q else ask.End end.LogFull
 abbrev pub is_object : State → ℕ → Bool
 is_object s object = nat_lt object (length s.held)
 
--- an entry: an object above all that are held
-abbrev pub enter_ask : State → Access → Ask
-enter_ask s access =
+-- an entry to object a0, where it is above all that are held
+abbrev pub entry_ask : State → Ask → Ask
+entry_ask s q =
     if is_object s (a0 s)
-    then (if is_above (highest s.held) (a0 s) then logged_ask s (ask.Enter (a0 s) access) else ask.End end.EntryOutOfOrder)
+    then (if is_above (highest s.held) (a0 s) then logged_ask s q else ask.End end.EntryOutOfOrder)
     else ask.End end.NoSuchObject
 
 -- leaving, by how the object is held
@@ -154,11 +162,12 @@ call_ask (Some call.End) s = ask.End (end.Exit (a0 s))
 call_ask (Some call.PutByte) s = print_ask s (length (byte_text s))
 call_ask (Some call.PutNumber) s = print_ask s (length (number_text s))
 call_ask (Some (call.Env kind)) s = logged_ask s (ask.Env kind)
-call_ask (Some (call.Enter access)) s = enter_ask s access
+call_ask (Some (call.Enter access)) s = entry_ask s (ask.Enter (a0 s) access)
 call_ask (Some call.Leave) s = leave_ask s
 call_ask (Some call.Get) s = get_ask s
 call_ask (Some call.Put) s = put_ask s
 call_ask (Some call.OwnNumber) s = ask.Private
+call_ask (Some call.TryWrite) s = entry_ask s (ask.Try (a0 s))
 
 -- what is asked by what the next instruction comes to
 abbrev pub outcome_ask : Outcome → State → Ask
@@ -193,11 +202,13 @@ pub record IsRunning (s : State) : Type 0 where
 abbrev pub CanLog : State → Type 0
 CanLog s = s.events < most_events
 
--- where a thread asks so: what it holds and has room for
+-- where a thread asks so: what it holds and has room for, and that its profile has the call
 abbrev pub Permits : State → Ask → Type 0
 Permits s ask.Private = IsRunning s
 Permits s (ask.Env kind) = IsRunning s × CanLog s
 Permits s (ask.Enter object access) = IsRunning s × CanLog s × (object < length s.held) × (is_above (highest s.held) object ≡ true)
+Permits s (ask.Try object) = IsRunning s × CanLog s × (object < length s.held) × (is_above (highest s.held) object ≡ true)
+    × (s.profile ≡ Two)
 Permits s (ask.Leave object access) = (s.ended ≡ None → s.steps < s.budget) × (object < length s.held)
     × (held_at s.held object ≡ Some access)
 Permits s (ask.Get object index) = IsRunning s × (object < length s.held) × (index < object_words) × (held_at s.held object ≢ None)
@@ -214,9 +225,10 @@ abbrev pub IsValue : Reply → Type 0
 IsValue Go = ⊥
 IsValue (Value value) = ⊤
 
--- the reply fits what is asked: a value where one is wanted, leave to go elsewhere, and nothing where there is no step
+-- the reply fits what is asked: a value where one is wanted, 1 or 0 to a try, leave to go elsewhere, and nothing where there is no step
 abbrev pub Suits : Ask → Reply → Type 0
 Suits (ask.Env kind) reply = IsValue reply
+Suits (ask.Try object) reply = (reply ≡ Value 1) ⊎ (reply ≡ Value 0)
 Suits (ask.Get object index) reply = IsValue reply
 Suits ask.Done reply = ⊥
 Suits _ reply = reply ≡ Go
@@ -237,12 +249,19 @@ abbrev pub core_left : Option End → Core → Core
 core_left None core = past_call core None
 core_left (Some e) core = core
 
+-- what is held after a try that is answered so: with 1 the object too, for writing
+abbrev pub held_after_try : Reply → ℕ → List (Option Access) → List (Option Access)
+held_after_try Go object held = held
+held_after_try (Value value) object held = if value == 1 then slice_set held object (Some Writing) else held
+
 -- the thread after what it asked; an end changes no register, no memory and no pc
 abbrev pub after_ask : List ℕ → State → Ask → Reply → State
 after_ask code s ask.Private reply = record s { core = core_after s.number (outcome_of code s.core) s.core; steps = s.steps + 1 }
 after_ask code s (ask.Env kind) reply = record s { core = past_call s.core (answer_of reply); steps = s.steps + 1; events = s.events + 1 }
 after_ask code s (ask.Enter object access) reply =
     record s { core = past_call s.core None; steps = s.steps + 1; events = s.events + 1; held = slice_set s.held object (Some access) }
+after_ask code s (ask.Try object) reply =
+    record s { core = past_call s.core (answer_of reply); steps = s.steps + 1; events = s.events + 1; held = held_after_try reply object s.held }
 after_ask code s (ask.Leave object access) reply =
     record s { core = core_left s.ended s.core; steps = s.steps + 1; held = slice_set s.held object None }
 after_ask code s (ask.Get object index) reply = record s { core = past_call s.core (answer_of reply); steps = s.steps + 1 }

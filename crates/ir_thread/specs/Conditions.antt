@@ -79,6 +79,7 @@ call_conditions (Some call.Leave) s = object_exists s ∷ object_held s ∷ []
 call_conditions (Some call.Get) s = word_exists s ∷ object_held s ∷ []
 call_conditions (Some call.Put) s = word_exists s ∷ object_held_for_writing s ∷ []
 call_conditions (Some call.OwnNumber) s = []
+call_conditions (Some call.TryWrite) s = object_exists s ∷ entry_in_order s ∷ log_has_room s ∷ []
 
 -- for what an object is held; for reading where it isn't held
 abbrev pub access_or_reading : Option Access → Access
@@ -97,6 +98,7 @@ call_wants (Some call.Leave) s = ask.Leave (a0 s) (access_or_reading (held_at s.
 call_wants (Some call.Get) s = ask.Get (a0 s) (a1 s)
 call_wants (Some call.Put) s = ask.Put (a0 s) (a1 s) (a2 s)
 call_wants (Some call.OwnNumber) s = ask.Private
+call_wants (Some call.TryWrite) s = ask.Try (a0 s)
 
 -- the conditions by what the next instruction comes to
 abbrev pub outcome_conditions : Outcome → State → List Condition

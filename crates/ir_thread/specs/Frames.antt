@@ -3,6 +3,7 @@ use Rattle.std.specs.Prelude.{ℕ, List, Option}
 use Rattle.ir_mach.specs.Pages.{RegisterFile, register_file, core_of}
 use Rattle.ir_runs.specs.declared.access.Access.{Access}
 use Rattle.ir_thread.specs.declared.end.End.{End}
+use Rattle.ir_thread.specs.declared.profile.Profile.{Profile}
 use Rattle.ir_thread.specs.State.{State}
 
 -- a thread without its private memory
@@ -11,6 +12,7 @@ pub record ThreadFrame : Type 0 where
   pub number : ℕ
   pub held : List (Option Access)
   pub budget : ℕ
+  pub profile : Profile
   pub steps : ℕ
   pub events : ℕ
   pub output : List ℕ
@@ -22,6 +24,7 @@ frame_of s = record {
   number = s.number;
   held = s.held;
   budget = s.budget;
+  profile = s.profile;
   steps = s.steps;
   events = s.events;
   output = s.output;
@@ -35,6 +38,7 @@ thread_of frame pages = record {
   number = frame.number;
   held = frame.held;
   budget = frame.budget;
+  profile = frame.profile;
   steps = frame.steps;
   events = frame.events;
   output = frame.output;

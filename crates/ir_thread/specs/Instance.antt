@@ -18,6 +18,7 @@ abbrev pub shared_ask : Ask → machine.Ask
 shared_ask ask.Private = machine.Private
 shared_ask (ask.Env kind) = machine.Env kind
 shared_ask (ask.Enter object access) = machine.Enter object access
+shared_ask (ask.Try object) = machine.Try object
 shared_ask (ask.Leave object access) = machine.Leave object access
 shared_ask (ask.Get object index) = machine.Get object index
 shared_ask (ask.Put object index value) = machine.Put object index value
@@ -28,6 +29,7 @@ shared_ask ask.Done = machine.Done
 -- the reply that brings a value, where one is wanted
 abbrev pub reply_of : Ask → ℕ → Reply
 reply_of (ask.Env kind) value = Value value
+reply_of (ask.Try object) value = Value value
 reply_of (ask.Get object index) value = Value value
 reply_of _ value = Go
 

@@ -4,6 +4,7 @@ use Rattle.ir_image.specs.Guest.{Guest, object_count}
 use Rattle.ir_mach.specs.Core.{Core, start_core}
 use Rattle.ir_runs.specs.declared.access.Access.{Access}
 use Rattle.ir_thread.specs.declared.end.End.{End}
+use Rattle.ir_thread.specs.declared.profile.Profile.{Profile}
 
 -- a thread at one moment
 pub record State : Type 0 where
@@ -14,6 +15,8 @@ pub record State : Type 0 where
   pub held : List (Option Access)
   -- how many steps it may take before it ends
   pub budget : ℕ
+  -- which system calls there are
+  pub profile : Profile
   -- how many steps it has taken: its position
   pub steps : ℕ
   -- how many events it has logged
@@ -23,12 +26,13 @@ pub record State : Type 0 where
   pub ended : Option End
 
 -- a thread of the guest at its start
-abbrev pub start_state : Guest → ℕ → ℕ → State
-start_state guest thread budget = record {
+abbrev pub start_state : Guest → ℕ → ℕ → Profile → State
+start_state guest thread budget profile = record {
   core = start_core guest thread;
   number = thread;
   held = replicate (object_count guest) None;
   budget = budget;
+  profile = profile;
   steps = 0;
   events = 0;
   output = [];

@@ -12,6 +12,8 @@ pub enum Ask {
     Env(EnvKind),
     /// An entry to an object.
     Enter(u8, Access),
+    /// An entry to an object for writing if nobody is inside, which is answered by 1, or else by 0.
+    Try(u8),
     /// Leaving an object, by a call or, after the end, by giving it back; the access is that of the entry.
     Leave(u8, Access),
     /// Reading a word of an object, which is answered by the word: the object, and the index of the word.
@@ -31,6 +33,6 @@ pub enum Ask {
 pub enum Reply {
     /// The step may be taken.
     Go,
-    /// The result of a call of the environment, or the word that is read.
+    /// The result of a call of the environment, the word that is read, or whether a try entered.
     Value(u32),
 }

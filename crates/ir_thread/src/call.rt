@@ -3,6 +3,7 @@
 ghost use Rattle.ir_thread.specs.Calls.{call_of};
 ghost use Rattle.std.specs.Prelude.{◌≡◌};
 
+use crate::profile::Profile;
 use ir_runs::{Access, EnvKind};
 
 /// A system call, by its number in a7. Its arguments are in a0, a1 and a2, its answer in a0.
@@ -26,12 +27,14 @@ pub enum Call {
     Put,
     /// 12: answers the thread's number.
     OwnNumber,
+    /// 13, in the second profile: enters object a0 for writing if nobody is inside, and answers 1; else answers 0.
+    TryWrite,
 }
 
 impl Call {
-    /// The call of this number, if there is one.
-    pub fn of_number(number: u32) -> Option<Call>
-        ensures { result ≡ call_of number }
+    /// The call of this number, if the profile has one.
+    pub fn of_number(profile: Profile, number: u32) -> Option<Call>
+        ensures { result ≡ call_of profile number }
     {
         match number {
             1 => Some(Call::End),
@@ -46,6 +49,7 @@ impl Call {
             10 => Some(Call::Get),
             11 => Some(Call::Put),
             12 => Some(Call::OwnNumber),
+            13 if profile == Profile::Two => Some(Call::TryWrite),
             _ => None,
         }
     }

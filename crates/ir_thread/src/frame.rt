@@ -7,6 +7,7 @@ ghost use Rattle.ir_thread.specs.Frames.{ThreadFrame};
 ghost use Rattle.ir_thread.specs.Held.{held_count};
 
 use crate::end::End;
+use crate::profile::Profile;
 use ir_mach::Regs;
 use ir_runs::Access;
 use std::marker::Model;
@@ -18,6 +19,7 @@ pub struct Frame {
     pub(crate) number: u8,
     pub(crate) held: Vec<Option<Access>>,
     pub(crate) budget: u64,
+    pub(crate) profile: Profile,
     pub(crate) steps: u64,
     pub(crate) events: u32,
     pub(crate) output: Vec<u8>,
@@ -32,6 +34,7 @@ impl Model for Frame {
       number = f.number;
       held = f.held.items;
       budget = f.budget;
+      profile = f.profile;
       steps = f.steps;
       events = f.events;
       output = f.output.items;

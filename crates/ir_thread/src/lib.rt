@@ -8,6 +8,7 @@ mod frame;
 mod holding;
 mod laws;
 mod limits;
+mod profile;
 mod thread;
 
 pub use ask::{Ask, Reply};
@@ -16,4 +17,5 @@ pub use end::End;
 pub use frame::Frame;
 pub use laws::{built_again, closes, ends_by_the_first, runs_alone};
 pub use limits::{MOST_BUDGET, MOST_EVENTS, MOST_OUTPUT};
+pub use profile::Profile;
 pub use thread::Thread;

@@ -8,6 +8,7 @@ ghost use Rattle.ir_thread.specs.State.{State, start_state};
 
 use crate::end::End;
 use crate::limits::MOST_OUTPUT;
+use crate::profile::Profile;
 use ir_image::{Image, OBJECT_WORDS};
 use ir_mach::Mach;
 use ir_runs::Access;
@@ -26,6 +27,7 @@ pub struct Thread {
     number: u8,
     held: Vec<Option<Access>>,
     budget: u64,
+    profile: Profile,
     steps: u64,
     events: u32,
     output: Vec<u8>,
@@ -40,6 +42,7 @@ impl Model for Thread {
       number = t.number;
       held = t.held.items;
       budget = t.budget;
+      profile = t.profile;
       steps = t.steps;
       events = t.events;
       output = t.output.items;
@@ -52,7 +55,8 @@ impl Model for Thread {
 }
 
 impl Thread {
-    /// The thread of this number at its start, with room for all that it may print. The budget is in steps.
+    /// The thread of this number at its start, with room for all that it may print. The budget is in steps; the profile says which
+    /// system calls there are.
     ///
     /// # Errors
     /// Out of memory.
@@ -61,10 +65,11 @@ impl Thread {
         image: &Image,
         thread: usize,
         budget: u64,
+        profile: Profile,
     ) -> Result<Thread, AllocError>
         requires thread { thread < length image.now.entries }
         requires budget { budget ≤ most_budget }
-        ensures { IfOk result (λ t. t ≡ start_state image.now thread budget) }
+        ensures { IfOk result (λ t. t ≡ start_state image.now thread budget profile) }
     {
         let objects = image.words().len() / OBJECT_WORDS;
         let output = Vec::with_capacity(alloc, MOST_OUTPUT)?;
@@ -76,6 +81,7 @@ impl Thread {
             number: thread as u8,
             held,
             budget,
+            profile,
             steps: 0,
             events: 0,
             output,
@@ -97,6 +103,7 @@ impl Thread {
             number: self.number,
             held: self.held.clone()?,
             budget: self.budget,
+            profile: self.profile,
             steps: self.steps,
             events: self.events,
             output,
@@ -118,6 +125,13 @@ impl Thread {
         ensures bound { result ≤ most_budget }
     {
         self.budget
+    }
+
+    /// Which system calls there are.
+    pub fn profile(&self) -> Profile
+        ensures { result ≡ self.now.profile }
+    {
+        self.profile
     }
 
     /// How many events it has logged.

@@ -1,5 +1,6 @@
 mod Loop
 mod Joined
+mod Room
 mod Taken
 mod EventLaws
 mod Whole

@@ -1,26 +1,51 @@
--- The magic, what is reserved and the ends, read and written.
+-- The magics, what is reserved and the ends, read and written.
 use Rattle.std.proofs.Common.{◌≡◌, ℕ, true, false, cond, eqb, List, [], ◌∷◌, ◌++◌, Option, Some, None, Ok, refl, sym, ap, ◌∙◌, subst, lit<}
-use Rattle.std.specs.Prelude.{◌&&◌, find, Bool}
+use Rattle.std.specs.Prelude.{◌&&◌, ◌||◌, find, Bool}
 use Rattle.std.proofs.lemmas.Bool.{eqb-true, eq-eqb, and_parts}
 use Rattle.byteorder.specs.Endian.{little_bytes}
 use Rattle.ir_bytes.specs.Reading.{number_at, field_at}
-use Rattle.ir_bytes.proofs.CallerLemmas.{three_ok, ok_is, fixed_ok, fixed_again, IsBytes, Takes, Takes-then, number_takes, number_again, field_takes, field_again, byte_taken, byte_field_again}
+use Rattle.ir_bytes.proofs.CallerLemmas.{two_ok, three_ok, ok_is, passed, passes, fixed_ok, fixed_again, IsBytes, Takes, Takes-then, number_takes, number_again, field_takes, field_again, byte_taken, byte_field_again}
 use Rattle.ir_thread.specs.Ends.{end_number, end_code, end_of, ends_with}
 use Rattle.ir_thread.specs.declared.end.End.{End}
 use Rattle.ir_thread.specs.declared.end.End.TheVariants as end
+use Rattle.ir_thread.specs.declared.profile.Profile.{Profile}
+use Rattle.ir_thread.specs.declared.profile.Profile.TheVariants.{One, Two}
 use Rattle.ir_trace.specs.declared.trace_err.TraceErr.{TraceErr}
 use Rattle.ir_trace.specs.declared.trace_err.TraceErr.TheVariants.{Short, Magic, Reserved}
 use Rattle.ir_trace.specs.Recorded.{IsWord}
 use Rattle.ir_trace.specs.Encoding.{magic, end_encoding}
-use Rattle.ir_trace.specs.Reading.{magic_field, reserved_field, end_field, end_by, end_at}
+use Rattle.ir_trace.specs.Reading.{is_magic, magic_field, profile_of, profile_at, reserved_field, end_field, end_by, end_at}
 
-pub magic_takes : (bytes : List ℕ) (n : ℕ × List ℕ) → IsBytes bytes → field_at Short magic_field bytes ≡ Ok n → Takes bytes magic n.1
-magic_takes bytes n fits e =
-    let t = field_takes Short magic_field bytes n fits e in
-    subst (λ (k : ℕ). Takes bytes (little_bytes 4 k) n.1) (fixed_ok 0x31545249 n.0 Magic t.passes) t.takes
+magic_by : (n : ℕ) (one two : Bool) → eqb n 0x31545249 ≡ one → eqb n 0x32545249 ≡ two → (one || two) ≡ true
+    → little_bytes 4 n ≡ magic (cond one One Two)
+magic_by n true two p q h = ap (little_bytes 4) (eqb-true n 0x31545249 p)
+magic_by n false true p q h = ap (little_bytes 4) (eqb-true n 0x32545249 q)
+magic_by n false false p q h = absurd cc
 
-pub magic_again : (rest : List ℕ) → field_at Short magic_field (magic ++ rest) ≡ Ok (0x31545249, rest)
-magic_again rest = field_again Short magic_field 0x31545249 rest (lit< tt) (fixed_again 0x31545249 Magic)
+-- the bytes of a magic are those of its profile
+magic_is : (n : ℕ) → is_magic n ≡ true → little_bytes 4 n ≡ magic (profile_of n)
+magic_is n h = magic_by n (eqb n 0x31545249) (eqb n 0x32545249) refl refl h
+
+pub profile_takes : (bytes : List ℕ) (x : Profile × List ℕ) → IsBytes bytes → profile_at bytes ≡ Ok x → Takes bytes (magic x.0) x.1
+unfolding profile_at
+profile_takes bytes x fits e =
+    two_ok (field_at Short magic_field bytes) (λ n. Ok (profile_of n.0, n.1)) x e (λ n e0 e1.
+    let t = field_takes Short magic_field bytes n fits e0 in
+    let own : Takes bytes (magic (profile_of n.0)) n.1 = subst (λ (k : List ℕ). Takes bytes k n.1)
+    (magic_is n.0 (passed (is_magic n.0) Magic t.passes)) t.takes in
+    subst (λ (y : Profile × List ℕ). Takes bytes (magic y.0) y.1) (ok_is TraceErr (profile_of n.0, n.1) x e1) own)
+
+magic_again : (n : ℕ) (rest : List ℕ) → IsWord n → is_magic n ≡ true
+    → field_at Short magic_field (little_bytes 4 n ++ rest) ≡ Ok (n, rest)
+magic_again n rest fits is = field_again Short magic_field n rest fits (passes (is_magic n) Magic is)
+
+profile_by : (n : ℕ) (rest : List ℕ) → IsWord n → is_magic n ≡ true → profile_at (little_bytes 4 n ++ rest) ≡ Ok (profile_of n, rest)
+unfolding profile_at
+profile_by n rest fits is = rw (magic_again n rest fits is) refl
+
+pub profile_again : (profile : Profile) (rest : List ℕ) → profile_at (magic profile ++ rest) ≡ Ok (profile, rest)
+profile_again One rest = profile_by 0x31545249 rest (lit< tt) refl
+profile_again Two rest = profile_by 0x32545249 rest (lit< tt) refl
 
 pub reserved_takes : (bytes : List ℕ) (n : ℕ × List ℕ) → IsBytes bytes → field_at Short reserved_field bytes ≡ Ok n
     → Takes bytes (little_bytes 2 0) n.1

@@ -73,9 +73,9 @@ same_threads law (x ∷ xs) (y ∷ ys) n h =
     (record { steps = λ t. h.steps (suc t); logs = λ t. h.logs (suc t); ends = λ t. h.ends (suc t) }) in
     ap (λ (k : RecordedThread). k ∷ xs) first ∙ ap (λ (k : List RecordedThread). y ∷ k) others
 
-pub distinguished_by : OneLabelEach → (a b : Recorded) → a.objects ≡ b.objects → a.budget ≡ b.budget → length a.threads ≡ length b.threads
+pub distinguished_by : OneLabelEach → (a b : Recorded) → a.objects ≡ b.objects → a.budget ≡ b.budget → a.profile ≡ b.profile → length a.threads ≡ length b.threads
     → trace_of a ≡ trace_of b → a ≡ b
-distinguished_by law a b o n l e =
+distinguished_by law a b o n p l e =
     let threads = same_threads law a.threads b.threads l
     (record {
       steps = λ t. ap (λ (x : Trace). x.steps t) e;
@@ -83,4 +83,4 @@ distinguished_by law a b o n l e =
       ends =
           λ t. ap (λ (x : Trace). x.ends t) e;
     }) in
-    λ i. record { objects = o i; budget = n i; threads = threads i }
+    λ i. record { objects = o i; budget = n i; profile = p i; threads = threads i }

@@ -9,15 +9,16 @@ use Rattle.ir_bytes.proofs.CallerLemmas.{three_ok, five_ok, six_ok, pass_ok, ok_
 use Rattle.ir_image.specs.Guest.{most_threads, most_objects}
 use Rattle.ir_thread.specs.Calls.{most_budget, most_events}
 use Rattle.ir_thread.specs.declared.end.End.{End}
+use Rattle.ir_thread.specs.declared.profile.Profile.{Profile}
 use Rattle.ir_log.specs.declared.event.Event.{Event}
 use Rattle.ir_trace.specs.declared.header.Header.{Header}
 use Rattle.ir_trace.specs.declared.trace_err.TraceErr.{TraceErr}
 use Rattle.ir_trace.specs.declared.trace_err.TraceErr.TheVariants.{Short, Count, Trailing}
 use Rattle.ir_trace.specs.Recorded.{RecordedThread, Recorded, IsEvent, IsRecordedThread, IsRecorded}
 use Rattle.ir_trace.specs.Encoding.{magic, event_encoding, end_encoding, thread_encoding, header_of, header_encoding, encoding}
-use Rattle.ir_trace.specs.Reading.{magic_field, threads_field, objects_field, reserved_field, budget_field, events_field, header_at, end_at, event_at, thread_at, recorded_at}
+use Rattle.ir_trace.specs.Reading.{profile_at, threads_field, objects_field, reserved_field, budget_field, events_field, header_at, end_at, event_at, thread_at, recorded_at}
 use Rattle.ir_trace.proofs.EventLaws.{event_takes, event_again}
-use Rattle.ir_trace.proofs.Taken.{magic_takes, magic_again, reserved_takes, reserved_again, end_takes, end_again}
+use Rattle.ir_trace.proofs.Taken.{profile_takes, profile_again, reserved_takes, reserved_again, end_takes, end_again}
 
 -- ---- what stands before the threads
 
@@ -33,10 +34,10 @@ record TakesHeader (all : List ℕ) (x : Header × List ℕ) : Type 0 where
   takes : Takes all (header_encoding x.0) x.1
   within : IsWithin x.0
 
-header_taken : (all : List ℕ) (first threads objects reserved budget : ℕ × List ℕ) → Takes all magic first.1
+header_taken : (all : List ℕ) (first : Profile × List ℕ) (threads objects reserved budget : ℕ × List ℕ) → Takes all (magic first.0) first.1
     → TakesField threads_field first.1 threads → TakesField objects_field threads.1 objects
     → Takes objects.1 (little_bytes 2 0) reserved.1 → TakesField budget_field reserved.1 budget
-    → TakesHeader all (record { threads = threads.0; objects = objects.0; budget = budget.0 }, budget.1)
+    → TakesHeader all (record { profile = first.0; threads = threads.0; objects = objects.0; budget = budget.0 }, budget.1)
 unfolding header_encoding
 header_taken all first threads objects reserved budget t0 t1 t2 t3 t4 =
     let n = within_ok 1 most_threads threads.0 Count t1.passes in
@@ -44,10 +45,10 @@ header_taken all first threads objects reserved budget t0 t1 t2 t3 t4 =
     let b = within_ok 0 most_budget budget.0 Count t4.passes in
     let counts = Takes-then first.1 (threads.0 ∷ []) threads.1 (objects.0 ∷ []) objects.1 (byte_taken first.1 threads t1.takes t1.fits)
     (byte_taken threads.1 objects t2.takes t2.fits) in
-    let prefix = Takes-then all magic first.1 (threads.0 ∷ objects.0 ∷ []) objects.1 t0 counts in
-    let second = Takes-then all (magic ++ (threads.0 ∷ objects.0 ∷ [])) objects.1 (little_bytes 2 0) reserved.1 prefix t3 in
+    let prefix = Takes-then all (magic first.0) first.1 (threads.0 ∷ objects.0 ∷ []) objects.1 t0 counts in
+    let second = Takes-then all (magic first.0 ++ (threads.0 ∷ objects.0 ∷ [])) objects.1 (little_bytes 2 0) reserved.1 prefix t3 in
     record {
-      takes = Takes-then all (magic ++ (threads.0 ∷ objects.0 ∷ []) ++ little_bytes 2 0) reserved.1 (little_bytes 8 budget.0) budget.1
+      takes = Takes-then all (magic first.0 ++ (threads.0 ∷ objects.0 ∷ []) ++ little_bytes 2 0) reserved.1 (little_bytes 8 budget.0) budget.1
           second t4.takes;
       within = record { some_thread = n.0; few_threads = n.1; few_objects = m.1; budget_fits = b.1 };
     }
@@ -55,27 +56,30 @@ header_taken all first threads objects reserved budget t0 t1 t2 t3 t4 =
 header_take : (all : List ℕ) (x : Header × List ℕ) → IsBytes all → header_at all ≡ Ok x → TakesHeader all x
 unfolding header_at
 header_take all x fits e =
-    six_ok (field_at Short magic_field all) (λ first. field_at Short threads_field first.1)
+    six_ok (profile_at all) (λ first. field_at Short threads_field first.1)
     (λ first threads. field_at Short objects_field threads.1)
     (λ first threads objects. field_at Short reserved_field objects.1)
     (λ first threads objects reserved. field_at Short budget_field reserved.1)
-    (λ first threads objects reserved budget. Ok (record { threads = threads.0; objects = objects.0; budget = budget.0 }, budget.1)) x e
+    (λ first threads objects reserved budget. Ok (record { profile = first.0; threads = threads.0; objects = objects.0; budget = budget.0 }, budget.1)) x e
     (λ first threads objects reserved budget e0 e1 e2 e3 e4 e5.
-    let t0 = magic_takes all first fits e0 in
+    let t0 = profile_takes all first fits e0 in
     let t1 = field_takes Short threads_field first.1 threads t0.rest_fits e1 in
     let t2 = field_takes Short objects_field threads.1 objects t1.takes.rest_fits e2 in
     let t3 = reserved_takes objects.1 reserved t2.takes.rest_fits e3 in
     let t4 = field_takes Short budget_field reserved.1 budget t3.rest_fits e4 in
     subst (λ (y : Header × List ℕ). TakesHeader all y)
-    (ok_is TraceErr (record { threads = threads.0; objects = objects.0; budget = budget.0 }, budget.1) x e5)
+    (ok_is TraceErr (record { profile = first.0; threads = threads.0; objects = objects.0; budget = budget.0 }, budget.1) x e5)
     (header_taken all first threads objects reserved budget t0 t1 t2 t3 t4))
+
+four_parts : (a b c d rest : List ℕ) → (a ++ b ++ c ++ d) ++ rest ≡ a ++ (b ++ (c ++ (d ++ rest)))
+four_parts a b c d rest = simp append_assoc
 
 header_again : (h : Header) (rest : List ℕ) → IsWithin h → header_at (header_encoding h ++ rest) ≡ Ok (h, rest)
 unfolding header_at header_encoding
 header_again h rest within =
     let r2 = little_bytes 8 h.budget ++ rest in
     let r1 = little_bytes 2 0 ++ r2 in
-    let e0 = magic_again (h.threads ∷ h.objects ∷ r1) in
+    let e0 = profile_again h.profile (h.threads ∷ h.objects ∷ r1) in
     let e1 = byte_field_again Short threads_field h.threads (h.objects ∷ r1) refl
     (within_again 1 most_threads h.threads Count within.some_thread within.few_threads) in
     let e2 = byte_field_again Short objects_field h.objects r1 refl
@@ -84,26 +88,27 @@ header_again h rest within =
     let e3 = reserved_again r2 in
     let e4 = field_again Short budget_field h.budget rest (omega (arith, within.budget_fits))
     (within_again 0 most_budget h.budget Count (omega arith) within.budget_fits) in
-    rw (e0, e1, e2, e3, e4) refl
+    ap header_at (four_parts (magic h.profile) (h.threads ∷ h.objects ∷ []) (little_bytes 2 0) (little_bytes 8 h.budget) rest)
+    ∙ rw (e0, e1, e2, e3, e4) refl
 
 -- ---- a thread
 
 -- what reading a thread takes
-abbrev TakesThread : ℕ → List ℕ → RecordedThread × List ℕ → Type 0
-TakesThread objects bytes x = Takes bytes (thread_encoding x.0) x.1 × IsRecordedThread objects x.0
+abbrev TakesThread : Profile → ℕ → List ℕ → RecordedThread × List ℕ → Type 0
+TakesThread profile objects bytes x = Takes bytes (thread_encoding x.0) x.1 × IsRecordedThread profile objects x.0
 
-thread_taken : (objects : ℕ) (all : List ℕ) (steps : ℕ × List ℕ) (ended : End × List ℕ) (count : ℕ × List ℕ)
+thread_taken : (profile : Profile) (objects : ℕ) (all : List ℕ) (steps : ℕ × List ℕ) (ended : End × List ℕ) (count : ℕ × List ℕ)
     (events : List Event × List ℕ) → IsBytes all
     → number_at Short 8 all ≡ Ok steps → end_at steps.1 ≡ Ok ended → field_at Short events_field ended.1 ≡ Ok count
-    → fields_at (event_at objects) count.0 count.1 ≡ Ok events
-    → TakesThread objects all (record { steps = steps.0; end = ended.0; events = events.0 }, events.1)
+    → fields_at (event_at profile objects) count.0 count.1 ≡ Ok events
+    → TakesThread profile objects all (record { steps = steps.0; end = ended.0; events = events.0 }, events.1)
 unfolding thread_encoding
-thread_taken objects all steps ended count events fits e0 e1 e2 e3 =
+thread_taken profile objects all steps ended count events fits e0 e1 e2 e3 =
     let t0 = number_takes Short 8 all steps fits e0 in
     let t1 = end_takes steps.1 ended t0.0.rest_fits e1 in
     let t2 = field_takes Short events_field ended.1 count t1.0.rest_fits e2 in
     let n = within_ok 0 most_events count.0 Count t2.passes in
-    let t3 = fields_take (IsEvent objects) event_encoding (event_at objects) (event_takes objects) count.0 count.1 events
+    let t3 = fields_take (IsEvent profile objects) event_encoding (event_at profile objects) (event_takes profile objects) count.0 count.1 events
     t2.takes.rest_fits e3 in
     let counted : Takes ended.1 (little_bytes 4 (length events.0)) count.1 = subst (λ (k : ℕ). Takes ended.1 (little_bytes 4 k) count.1)
     (sym t3.count) t2.takes in
@@ -121,24 +126,21 @@ thread_taken objects all steps ended count events fits e0 e1 e2 e3 =
       },
     )
 
-thread_takes : (objects : ℕ) (bytes : List ℕ) (x : RecordedThread × List ℕ) → IsBytes bytes → thread_at objects bytes ≡ Ok x
-    → TakesThread objects bytes x
+thread_takes : (profile : Profile) (objects : ℕ) (bytes : List ℕ) (x : RecordedThread × List ℕ) → IsBytes bytes → thread_at profile objects bytes ≡ Ok x
+    → TakesThread profile objects bytes x
 unfolding thread_at
-thread_takes objects bytes x fits e =
+thread_takes profile objects bytes x fits e =
     five_ok (number_at Short 8 bytes) (λ steps. end_at steps.1) (λ steps ended. field_at Short events_field ended.1)
-    (λ steps ended count. fields_at (event_at objects) count.0 count.1)
+    (λ steps ended count. fields_at (event_at profile objects) count.0 count.1)
     (λ steps ended count events. Ok (record { steps = steps.0; end = ended.0; events = events.0 }, events.1)) x e
     (λ steps ended count events e0 e1 e2 e3 e4.
-    subst (TakesThread objects bytes) (ok_is TraceErr (record { steps = steps.0; end = ended.0; events = events.0 }, events.1) x e4)
-    (thread_taken objects bytes steps ended count events fits e0 e1 e2 e3))
+    subst (TakesThread profile objects bytes) (ok_is TraceErr (record { steps = steps.0; end = ended.0; events = events.0 }, events.1) x e4)
+    (thread_taken profile objects bytes steps ended count events fits e0 e1 e2 e3))
 
-four_parts : (a b c d rest : List ℕ) → (a ++ b ++ c ++ d) ++ rest ≡ a ++ (b ++ (c ++ (d ++ rest)))
-four_parts a b c d rest = simp append_assoc
-
-thread_again : (objects : ℕ) (t : RecordedThread) (rest : List ℕ) → IsRecordedThread objects t
-    → thread_at objects (thread_encoding t ++ rest) ≡ Ok (t, rest)
+thread_again : (profile : Profile) (objects : ℕ) (t : RecordedThread) (rest : List ℕ) → IsRecordedThread profile objects t
+    → thread_at profile objects (thread_encoding t ++ rest) ≡ Ok (t, rest)
 unfolding thread_at thread_encoding
-thread_again objects t rest fits =
+thread_again profile objects t rest fits =
     let r3 = flat_map event_encoding t.events ++ rest in
     let r2 = little_bytes 4 (length t.events) ++ r3 in
     let r1 = end_encoding t.end ++ r2 in
@@ -146,26 +148,26 @@ thread_again objects t rest fits =
     let e1 = end_again t.end r2 fits.code_fits in
     let e2 = field_again Short events_field (length t.events) r3 (omega (arith, fits.few_events))
     (within_again 0 most_events (length t.events) Count (omega arith) fits.few_events) in
-    let e3 = fields_again (IsEvent objects) event_encoding (event_at objects) (event_again objects) t.events rest fits.events_fit in
-    ap (thread_at objects) (four_parts (little_bytes 8 t.steps) (end_encoding t.end) (little_bytes 4 (length t.events))
+    let e3 = fields_again (IsEvent profile objects) event_encoding (event_at profile objects) (event_again profile objects) t.events rest fits.events_fit in
+    ap (thread_at profile objects) (four_parts (little_bytes 8 t.steps) (end_encoding t.end) (little_bytes 4 (length t.events))
     (flat_map event_encoding t.events) rest) ∙ rw (e0, e1, e2, e3) refl
 
 -- ---- the whole trace
 
 -- what reading the threads after a header takes
 abbrev TakesThreads : Header → List ℕ → List RecordedThread × List ℕ → Type 0
-TakesThreads h bytes x = TakesFields (IsRecordedThread h.objects) thread_encoding h.threads bytes x
+TakesThreads h bytes x = TakesFields (IsRecordedThread h.profile h.objects) thread_encoding h.threads bytes x
 
 threads_take : (h : Header) (bytes : List ℕ) (x : List RecordedThread × List ℕ) → IsBytes bytes
-    → fields_at (thread_at h.objects) h.threads bytes ≡ Ok x → TakesThreads h bytes x
-threads_take h bytes x fits e = fields_take (IsRecordedThread h.objects) thread_encoding (thread_at h.objects) (thread_takes h.objects)
+    → fields_at (thread_at h.profile h.objects) h.threads bytes ≡ Ok x → TakesThreads h bytes x
+threads_take h bytes x fits e = fields_take (IsRecordedThread h.profile h.objects) thread_encoding (thread_at h.profile h.objects) (thread_takes h.profile h.objects)
     h.threads bytes x fits e
 
 abbrev recorded_by : Header → List RecordedThread → Recorded
-recorded_by h threads = record { objects = h.objects; budget = h.budget; threads = threads }
+recorded_by h threads = record { objects = h.objects; budget = h.budget; profile = h.profile; threads = threads }
 
 same_header : (h : Header) (threads : List RecordedThread) → length threads ≡ h.threads → header_of (recorded_by h threads) ≡ h
-same_header h threads n = λ i. record { threads = n i; objects = h.objects; budget = h.budget }
+same_header h threads n = λ i. record { profile = h.profile; threads = n i; objects = h.objects; budget = h.budget }
 
 whole_taken : (all : List ℕ) (x : Header × List ℕ) (threads : List RecordedThread × List ℕ) → TakesHeader all x
     → TakesThreads x.0 x.1 threads → threads.1 ≡ []
@@ -187,7 +189,7 @@ whole_taken all x threads t u nothing =
 pub recorded_takes : (all : List ℕ) (r : Recorded) → IsBytes all → recorded_at all ≡ Ok r → IsRecorded r × (all ≡ encoding r)
 unfolding recorded_at
 recorded_takes all r fits e =
-    three_ok (header_at all) (λ h. fields_at (thread_at h.0.objects) h.0.threads h.1)
+    three_ok (header_at all) (λ h. fields_at (thread_at h.0.profile h.0.objects) h.0.threads h.1)
     (λ h threads. cond (eqb (length threads.1) 0) (Ok (recorded_by h.0 threads.0)) (Err Trailing)) r e (λ h threads e0 e1 e2.
     let t = header_take all h fits e0 in
     let g = pass_ok (eqb (length threads.1) 0) Trailing (recorded_by h.0 threads.0) r e2 in
@@ -198,7 +200,7 @@ recorded_takes all r fits e =
 -- what the parts of a trace say of it
 pub parts_take : (all : List ℕ) (h : Header) (rest : List ℕ) (threads : List RecordedThread) (after : List ℕ)
     → ((i : ℕ) → slice_index all i < 256) → header_at all ≡ Ok (h, rest)
-    → fields_at (thread_at h.objects) h.threads rest ≡ Ok (threads, after) → after ≡ []
+    → fields_at (thread_at h.profile h.objects) h.threads rest ≡ Ok (threads, after) → after ≡ []
     → IsRecorded (recorded_by h threads) × (all ≡ encoding (recorded_by h threads))
 parts_take all h rest threads after bytes e0 e1 nothing =
     let fits = bytes_fit all bytes in
@@ -212,7 +214,7 @@ recorded_again r fits =
     { some_thread = fits.some_thread; few_threads = fits.few_threads; few_objects = fits.few_objects; budget_fits = fits.budget_fits } in
     let own = flat_map thread_encoding r.threads in
     let e0 = header_again (header_of r) own within in
-    let e1 : fields_at (thread_at r.objects) (length r.threads) own ≡ Ok (r.threads, []) =
-    ap (fields_at (thread_at r.objects) (length r.threads)) (sym (append-nil own)) ∙ fields_again (IsRecordedThread r.objects)
-    thread_encoding (thread_at r.objects) (thread_again r.objects) r.threads [] fits.threads_fit in
+    let e1 : fields_at (thread_at r.profile r.objects) (length r.threads) own ≡ Ok (r.threads, []) =
+    ap (fields_at (thread_at r.profile r.objects) (length r.threads)) (sym (append-nil own)) ∙ fields_again (IsRecordedThread r.profile r.objects)
+    thread_encoding (thread_at r.profile r.objects) (thread_again r.profile r.objects) r.threads [] fits.threads_fit in
     rw (e0, e1) refl

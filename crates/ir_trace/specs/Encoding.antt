@@ -6,14 +6,17 @@ use Rattle.ir_thread.specs.Ends.{end_number, end_code}
 use Rattle.ir_runs.specs.declared.env_kind.EnvKind.{EnvKind}
 use Rattle.ir_runs.specs.declared.env_kind.EnvKind.TheVariants.{Clock, Random, Input}
 use Rattle.ir_thread.specs.declared.end.End.{End}
+use Rattle.ir_thread.specs.declared.profile.Profile.{Profile}
+use Rattle.ir_thread.specs.declared.profile.Profile.TheVariants.{One, Two}
 use Rattle.ir_log.specs.declared.event.Event.{Event}
-use Rattle.ir_log.specs.declared.event.Event.TheVariants.{Answer, Read, Write}
+use Rattle.ir_log.specs.declared.event.Event.TheVariants.{Answer, Read, Write, Try}
 use Rattle.ir_trace.specs.Recorded.{RecordedThread, Recorded}
 use Rattle.ir_trace.specs.declared.header.Header.{Header}
 
--- `IRT1`
-abbrev pub magic : List ℕ
-magic = 0x49 ∷ 0x52 ∷ 0x54 ∷ 0x31 ∷ []
+-- `IRT1`, and in the second profile `IRT2`
+abbrev pub magic : Profile → List ℕ
+magic One = 0x49 ∷ 0x52 ∷ 0x54 ∷ 0x31 ∷ []
+magic Two = 0x49 ∷ 0x52 ∷ 0x54 ∷ 0x32 ∷ []
 
 -- the byte that a call of the environment begins with
 abbrev pub kind_tag : EnvKind → ℕ
@@ -26,6 +29,7 @@ unfoldable pub event_encoding : Event → List ℕ
 event_encoding (Answer kind value) = kind_tag kind ∷ little_bytes 4 value
 event_encoding (Read object version) = 4 ∷ object ∷ little_bytes 4 version
 event_encoding (Write object version readers) = 5 ∷ object ∷ (little_bytes 4 version ++ little_bytes 4 readers)
+event_encoding (Try object) = 6 ∷ object ∷ []
 
 -- the number of an end, and its code
 unfoldable pub end_encoding : End → List ℕ
@@ -37,11 +41,11 @@ thread_encoding t = little_bytes 8 t.steps ++ end_encoding t.end ++ little_bytes
 
 -- what stands before the threads
 abbrev pub header_of : Recorded → Header
-header_of r = record { threads = length r.threads; objects = r.objects; budget = r.budget }
+header_of r = record { profile = r.profile; threads = length r.threads; objects = r.objects; budget = r.budget }
 
 -- the magic, the number of threads and of objects, two bytes that are reserved, the budget
 unfoldable pub header_encoding : Header → List ℕ
-header_encoding h = magic ++ h.threads ∷ h.objects ∷ [] ++ little_bytes 2 0 ++ little_bytes 8 h.budget
+header_encoding h = magic h.profile ++ h.threads ∷ h.objects ∷ [] ++ little_bytes 2 0 ++ little_bytes 8 h.budget
 
 -- the whole trace
 abbrev pub encoding : Recorded → List ℕ

@@ -2,32 +2,35 @@
 use Rattle.std.specs.Prelude.{ℕ, List, Option, ◌==◌, if◌then◌else◌}
 use Rattle.ir_bytes.specs.Reading.{plain}
 use Rattle.ir_bytes.specs.Format.{Format, finished, next, before, repeated, first_refused}
+use Rattle.ir_thread.specs.declared.profile.Profile.{Profile}
 use Rattle.ir_trace.specs.declared.trace_err.TraceErr.{TraceErr}
 use Rattle.ir_trace.specs.declared.trace_err.TraceErr.TheVariants.{Short, Trailing}
-use Rattle.ir_trace.specs.Reading.{magic_field, threads_field, objects_field, reserved_field, budget_field, end_field, code_field, events_field, tag_field, input_field, object_field}
+use Rattle.ir_trace.specs.Reading.{magic_field, profile_of, threads_field, objects_field, reserved_field, budget_field, end_field, code_field, events_field, tag_field, input_field, object_field}
 
--- after the tag: an input's value; an entry's object and version, and, if it is for writing, its readers; another answer's value
+-- after the tag: an input's value; an entry's object and version, and, if it is for writing, its readers; a refused try's object;
+-- another answer's value
 abbrev pub tagged_fields : ℕ → ℕ → Format TraceErr → Format TraceErr
 tagged_fields objects tag rest =
     if tag == 3 then before input_field rest else
     if tag == 4 then before (object_field objects) (before (plain 4) rest) else
-    if tag == 5 then before (object_field objects) (before (plain 4) (before (plain 4) rest)) else before (plain 4) rest
+    if tag == 5 then before (object_field objects) (before (plain 4) (before (plain 4) rest)) else
+    if tag == 6 then before (object_field objects) rest else before (plain 4) rest
 
 -- an event of a guest with so many objects
-abbrev pub event_fields : ℕ → Format TraceErr → Format TraceErr
-event_fields objects rest = next tag_field λ tag. tagged_fields objects tag rest
+abbrev pub event_fields : Profile → ℕ → Format TraceErr → Format TraceErr
+event_fields profile objects rest = next (tag_field profile) λ tag. tagged_fields objects tag rest
 
 -- a thread: its steps, its end and the code of that, how many events it has, and these
-abbrev pub thread_fields : ℕ → Format TraceErr → Format TraceErr
-thread_fields objects rest =
+abbrev pub thread_fields : Profile → ℕ → Format TraceErr → Format TraceErr
+thread_fields profile objects rest =
     before (plain 8) (next end_field λ end. before (code_field end)
-    (next events_field λ count. repeated count (event_fields objects) rest))
+    (next events_field λ count. repeated count (event_fields profile objects) rest))
 
--- the magic; how many threads and objects; what is reserved; the budget; the threads
+-- the magic, which says the profile; how many threads and objects; what is reserved; the budget; the threads
 abbrev pub trace_fields : Format TraceErr
 trace_fields =
-    before magic_field (next threads_field λ threads. next objects_field λ objects. before reserved_field (before budget_field (
-    repeated threads (thread_fields objects) finished)))
+    next magic_field λ magic. next threads_field λ threads. next objects_field λ objects.
+    before reserved_field (before budget_field (repeated threads (thread_fields (profile_of magic) objects) finished))
 
 -- the first fault of bytes that are no trace
 abbrev pub trace_fault : List ℕ → Option TraceErr

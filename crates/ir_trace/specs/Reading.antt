@@ -8,8 +8,10 @@ use Rattle.ir_thread.specs.Ends.{end_of}
 use Rattle.ir_runs.specs.declared.env_kind.EnvKind.{EnvKind}
 use Rattle.ir_runs.specs.declared.env_kind.EnvKind.TheVariants.{Clock, Random, Input}
 use Rattle.ir_thread.specs.declared.end.End.{End}
+use Rattle.ir_thread.specs.declared.profile.Profile.{Profile}
+use Rattle.ir_thread.specs.declared.profile.Profile.TheVariants.{One, Two}
 use Rattle.ir_log.specs.declared.event.Event.{Event}
-use Rattle.ir_log.specs.declared.event.Event.TheVariants.{Answer, Read, Write}
+use Rattle.ir_log.specs.declared.event.Event.TheVariants.{Answer, Read, Write, Try}
 use Rattle.ir_trace.specs.Recorded.{RecordedThread, Recorded, input_end}
 use Rattle.ir_trace.specs.Encoding.{magic}
 use Rattle.ir_trace.specs.declared.header.Header.{Header}
@@ -34,8 +36,16 @@ Gives view (Err e) read = Fails e read
 
 -- ---- the fields that are tested
 
+-- whether a number is the magic of a profile
+abbrev pub is_magic : ℕ → Bool
+is_magic n = n == little_number 4 (magic One) || n == little_number 4 (magic Two)
+
 abbrev pub magic_field : Field TraceErr
-magic_field = fixed 4 (little_number 4 magic) Magic
+magic_field = tested 4 is_magic Magic
+
+-- the profile of a magic
+abbrev pub profile_of : ℕ → Profile
+profile_of n = if n == little_number 4 (magic One) then One else Two
 
 abbrev pub threads_field : Field TraceErr
 threads_field = within 1 1 most_threads Count
@@ -62,9 +72,19 @@ code_field end = tested 4 (λ code. is_some (end_of end code)) Range
 abbrev pub events_field : Field TraceErr
 events_field = within 4 0 most_events Count
 
+-- the greatest number of a kind of events
+abbrev pub last_tag : Profile → ℕ
+last_tag One = 5
+last_tag Two = 6
+
+-- how many bytes the shortest event has
+abbrev pub shortest : Profile → ℕ
+shortest One = 5
+shortest Two = 2
+
 -- what kind an event is of
-abbrev pub tag_field : Field TraceErr
-tag_field = within 1 1 5 Tag
+abbrev pub tag_field : Profile → Field TraceErr
+tag_field profile = within 1 1 (last_tag profile) Tag
 
 -- a byte, or the end of the input
 abbrev pub is_input : ℕ → Bool
@@ -79,15 +99,19 @@ object_field objects = tested 1 (λ n. nat_lt n objects) Count
 
 -- ---- the parts
 
+-- the profile, by the magic
+unfoldable pub profile_at : Reader Profile TraceErr
+profile_at bytes = field_at Short magic_field bytes >>= λ n. Ok (profile_of n.0, n.1)
+
 -- what stands before the threads
 unfoldable pub header_at : Reader Header TraceErr
 header_at bytes = do
-  magic ← field_at Short magic_field bytes
-  threads ← field_at Short threads_field magic.1
+  profile ← profile_at bytes
+  threads ← field_at Short threads_field profile.1
   objects ← field_at Short objects_field threads.1
   reserved ← field_at Short reserved_field objects.1
   budget ← field_at Short budget_field reserved.1
-  Ok (record { threads = threads.0; objects = objects.0; budget = budget.0 }, budget.1)
+  Ok (record { profile = profile.0; threads = threads.0; objects = objects.0; budget = budget.0 }, budget.1)
 
 -- an end that was found by its number and its code
 abbrev pub end_by : Option End → Reader End TraceErr
@@ -124,32 +148,43 @@ write_at objects bytes = do
   readers ← number_at Short 4 version.1
   Ok (Write object.0 version.0 readers.0, readers.1)
 
+-- a refused try: the object
+unfoldable pub try_at : ℕ → Reader Event TraceErr
+try_at objects bytes = field_at Short (object_field objects) bytes >>= λ object. Ok (Try object.0, object.1)
+
+-- a refused try, in the second profile
+unfoldable pub try_by : Profile → ℕ → Reader Event TraceErr
+try_by One objects bytes = Err Tag
+try_by Two objects bytes = try_at objects bytes
+
 -- the fields of an event whose tag was read
-unfoldable pub event_by : ℕ → ℕ → Reader Event TraceErr
-event_by tag objects bytes =
+unfoldable pub event_by : Profile → ℕ → ℕ → Reader Event TraceErr
+event_by profile tag objects bytes =
     if tag == 1 then answer_at Clock bytes else
     if tag == 2 then answer_at Random bytes else
     if tag == 3 then input_at bytes else
     if tag == 4 then read_at objects bytes else
-    if tag == 5 then write_at objects bytes else Err Tag
+    if tag == 5 then write_at objects bytes else
+    if tag == 6 then try_by profile objects bytes else Err Tag
 
 -- an event of a guest with so many objects
-unfoldable pub event_at : ℕ → Reader Event TraceErr
-event_at objects bytes = number_at Short 1 bytes >>= λ n. event_by n.0 objects n.1
+unfoldable pub event_at : Profile → ℕ → Reader Event TraceErr
+event_at profile objects bytes = number_at Short 1 bytes >>= λ n. event_by profile n.0 objects n.1
 
 -- a thread of a guest with so many objects
-unfoldable pub thread_at : ℕ → Reader RecordedThread TraceErr
-thread_at objects bytes = do
+unfoldable pub thread_at : Profile → ℕ → Reader RecordedThread TraceErr
+thread_at profile objects bytes = do
   steps ← number_at Short 8 bytes
   end ← end_at steps.1
   count ← field_at Short events_field end.1
-  events ← fields_at (event_at objects) count.0 count.1
+  events ← fields_at (event_at profile objects) count.0 count.1
   Ok (record { steps = steps.0; end = end.0; events = events.0 }, events.1)
 
 -- the whole trace
 unfoldable pub recorded_at : List ℕ → Result Recorded TraceErr
 recorded_at bytes = do
   header ← header_at bytes
-  threads ← fields_at (thread_at header.0.objects) header.0.threads header.1
-  if length threads.1 == 0 then Ok (record { objects = header.0.objects; budget = header.0.budget; threads = threads.0 }) else Err
-      Trailing
+  threads ← fields_at (thread_at header.0.profile header.0.objects) header.0.threads header.1
+  if length threads.1 == 0
+      then Ok (record { objects = header.0.objects; budget = header.0.budget; profile = header.0.profile; threads = threads.0 })
+      else Err Trailing

@@ -8,8 +8,10 @@ use Rattle.ir_thread.specs.Ends.{end_code}
 use Rattle.ir_runs.specs.declared.env_kind.EnvKind.{EnvKind}
 use Rattle.ir_runs.specs.declared.env_kind.EnvKind.TheVariants.{Clock, Random, Input}
 use Rattle.ir_thread.specs.declared.end.End.{End}
+use Rattle.ir_thread.specs.declared.profile.Profile.{Profile}
+use Rattle.ir_thread.specs.declared.profile.Profile.TheVariants.{Two}
 use Rattle.ir_log.specs.declared.event.Event.{Event}
-use Rattle.ir_log.specs.declared.event.Event.TheVariants.{Answer, Read, Write}
+use Rattle.ir_log.specs.declared.event.Event.TheVariants.{Answer, Read, Write, Try}
 
 -- what was recorded of one thread
 pub record RecordedThread : Type 0 where
@@ -25,6 +27,8 @@ pub record Recorded : Type 0 where
   pub objects : ℕ
   -- how many steps each thread might take before it had to end
   pub budget : ℕ
+  -- which system calls there are
+  pub profile : Profile
   -- the threads by their numbers
   pub threads : List RecordedThread
 
@@ -38,18 +42,19 @@ IsResult Clock value = IsWord value
 IsResult Random value = IsWord value
 IsResult Input value = (value < 256) ⊎ (value ≡ input_end)
 
--- the limits of an event of a guest with so many objects
-abbrev pub IsEvent : ℕ → Event → Type 0
-IsEvent objects (Answer kind value) = IsResult kind value
-IsEvent objects (Read object version) = (object < objects) × IsWord version
-IsEvent objects (Write object version readers) = (object < objects) × IsWord version × IsWord readers
+-- the limits of an event of a guest with so many objects; a refused try stands in the second profile alone
+abbrev pub IsEvent : Profile → ℕ → Event → Type 0
+IsEvent profile objects (Answer kind value) = IsResult kind value
+IsEvent profile objects (Read object version) = (object < objects) × IsWord version
+IsEvent profile objects (Write object version readers) = (object < objects) × IsWord version × IsWord readers
+IsEvent profile objects (Try object) = (profile ≡ Two) × (object < objects)
 
 -- the limits of what is recorded of a thread of a guest with so many objects
-pub record IsRecordedThread (objects : ℕ) (t : RecordedThread) : Type 0 where
+pub record IsRecordedThread (profile : Profile) (objects : ℕ) (t : RecordedThread) : Type 0 where
   pub steps_fit : t.steps < 2 ^ 64
   pub code_fits : IsWord (end_code t.end)
   pub few_events : length t.events ≤ most_events
-  pub events_fit : AllByRecursion (IsEvent objects) t.events
+  pub events_fit : AllByRecursion (IsEvent profile objects) t.events
 
 -- the limits of what is recorded
 pub record IsRecorded (r : Recorded) : Type 0 where
@@ -57,4 +62,4 @@ pub record IsRecorded (r : Recorded) : Type 0 where
   pub few_threads : length r.threads ≤ most_threads
   pub few_objects : r.objects ≤ most_objects
   pub budget_fits : r.budget ≤ most_budget
-  pub threads_fit : AllByRecursion (IsRecordedThread r.objects) r.threads
+  pub threads_fit : AllByRecursion (IsRecordedThread r.profile r.objects) r.threads

@@ -3,14 +3,15 @@
 ghost use Rattle.std.specs.Prelude.{◌≡◌, ◌≤◌, ◌+◌, length, IfOk};
 ghost use Rattle.ir_bytes.specs.Reading.{field_at, fields_at};
 ghost use Rattle.ir_trace.specs.declared.trace_err.TraceErr.TheVariants.{Short};
-ghost use Rattle.ir_trace.specs.Reading.{Gives, object_field, answer_at, input_at, read_at, write_at, event_by, event_at};
+ghost use Rattle.ir_trace.specs.Reading.{Gives, object_field, answer_at, input_at, read_at, write_at, try_at, try_by, event_by, event_at, shortest};
 ghost use Rattle.ir_thread.specs.Calls.{most_events};
 
-use crate::layout::{INPUT_END, SHORTEST_EVENT};
+use crate::layout::{ANSWER_LENGTH, INPUT_END, TRY_LENGTH};
 use crate::trace_err::TraceErr;
 use ir_bytes::{byte, word};
 use ir_log::{Event, Log};
 use ir_runs::EnvKind;
+use ir_thread::Profile;
 use std::alloc::Global;
 
 #[tactic(auto, unfolding(crate::specs::Reading::answer_at))]
@@ -76,10 +77,24 @@ fn write_entry(objects: u8, bytes: &[u8]) -> Result<(Event, &[u8]), TraceErr>
     ))
 }
 
+#[tactic(auto, unfolding(crate::specs::Reading::try_at, crate::specs::Reading::try_by))]
+fn refused_try(profile: Profile, objects: u8, bytes: &[u8]) -> Result<(Event, &[u8]), TraceErr>
+    ensures exact { Gives (λ x. (x.0, x.1.now)) result (try_by profile objects bytes.now) }
+    ensures taken { IfOk result (λ x. length x.1.now + shortest profile ≤ length bytes.now + 1) }
+{
+    match profile {
+        Profile::One => Err(TraceErr::Tag),
+        Profile::Two => {
+            let (object, rest) = object(objects, bytes)?;
+            Ok((Event::Try { object }, rest))
+        }
+    }
+}
+
 #[tactic(auto, unfolding(crate::specs::Reading::event_by))]
-fn tagged(tag: u8, objects: u8, bytes: &[u8]) -> Result<(Event, &[u8]), TraceErr>
-    ensures exact { Gives (λ x. (x.0, x.1.now)) result (event_by tag objects bytes.now) }
-    ensures taken { IfOk result (λ x. length x.1.now + 4 ≤ length bytes.now) }
+fn tagged(profile: Profile, tag: u8, objects: u8, bytes: &[u8]) -> Result<(Event, &[u8]), TraceErr>
+    ensures exact { Gives (λ x. (x.0, x.1.now)) result (event_by profile tag objects bytes.now) }
+    ensures taken { IfOk result (λ x. length x.1.now + shortest profile ≤ length bytes.now + 1) }
 {
     match tag {
         1 => answer(EnvKind::Clock, bytes),
@@ -87,39 +102,52 @@ fn tagged(tag: u8, objects: u8, bytes: &[u8]) -> Result<(Event, &[u8]), TraceErr
         3 => input(bytes),
         4 => read_entry(objects, bytes),
         5 => write_entry(objects, bytes),
+        6 => refused_try(profile, objects, bytes),
         _ => Err(TraceErr::Tag),
     }
 }
 
 #[tactic(auto, unfolding(crate::specs::Reading::event_at))]
-fn event(objects: u8, bytes: &[u8]) -> Result<(Event, &[u8]), TraceErr>
-    ensures exact { Gives (λ x. (x.0, x.1.now)) result (event_at objects bytes.now) }
-    ensures taken { IfOk result (λ x. length x.1.now + 5 ≤ length bytes.now) }
+fn event(profile: Profile, objects: u8, bytes: &[u8]) -> Result<(Event, &[u8]), TraceErr>
+    ensures exact { Gives (λ x. (x.0, x.1.now)) result (event_at profile objects bytes.now) }
+    ensures taken { IfOk result (λ x. length x.1.now + shortest profile ≤ length bytes.now) }
 {
     let (tag, rest) = byte(bytes, TraceErr::Short)?;
-    tagged(tag, objects, rest)
+    tagged(profile, tag, objects, rest)
 }
 
-/// So many events, each about an object below the number of objects, and the bytes after them. Room is taken for no more
-/// events than the bytes may hold.
+// How many bytes the shortest event of a profile has.
+fn shortest_event(profile: Profile) -> usize
+    ensures value { result ≡ shortest profile }
+    ensures some { 2 ≤ result }
+{
+    match profile {
+        Profile::One => ANSWER_LENGTH,
+        Profile::Two => TRY_LENGTH,
+    }
+}
+
+/// So many events of a profile, each about an object below the number of objects, and the bytes after them. Room is taken for
+/// no more events than the bytes may hold.
 ///
 /// # Errors
 /// The first fault from the left, or out of memory.
 pub fn events(
     alloc: Global,
+    profile: Profile,
     objects: u8,
     count: u32,
     bytes: &[u8],
 ) -> Result<(Log, &[u8]), TraceErr>
     requires { count ≤ most_events }
-    ensures exact { Gives (λ x. (x.0.events, x.1.now)) result (fields_at (event_at objects) count bytes.now) }
+    ensures exact { Gives (λ x. (x.0.events, x.1.now)) result (fields_at (event_at profile objects) count bytes.now) }
     ensures room { IfOk result (λ x. x.0.room ≡ length x.0.events) }
 {
-    let room = (count as usize).min(bytes.len() / SHORTEST_EVENT);
+    let room = (count as usize).min(bytes.len() / shortest_event(profile));
     let mut log = Log::new(alloc, room)?;
     let mut rest = bytes;
     for _ in 0..count {
-        let (one, after) = event(objects, rest)?;
+        let (one, after) = event(profile, objects, rest)?;
         log.push(one);
         rest = after;
     }

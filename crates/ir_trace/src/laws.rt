@@ -34,9 +34,9 @@ pub fn bytes_are_their_number()
     ensures { (bytes : List ℕ) → AllByRecursion IsByte bytes → bytes ≡ little_bytes (length bytes) (little_number (length bytes) bytes) }
 {}
 
-/// Recordings of as many objects and threads and of one budget that tell the same of a run are the same.
+/// Recordings of as many objects and threads, of one budget and one profile that tell the same of a run are the same.
 pub fn distinguished()
-    ensures { (a b : Recorded) → a.objects ≡ b.objects → a.budget ≡ b.budget → length a.threads ≡ length b.threads → trace_of a ≡ trace_of b → a ≡ b }
+    ensures { (a b : Recorded) → a.objects ≡ b.objects → a.budget ≡ b.budget → a.profile ≡ b.profile → length a.threads ≡ length b.threads → trace_of a ≡ trace_of b → a ≡ b }
 {
     one_label_each();
 }

@@ -4,30 +4,42 @@ ghost use Rattle.std.specs.Prelude.{◌≡◌, List, ℕ, IfOk, Ok};
 ghost use Rattle.ir_trace.specs.Recorded.{Recorded, IsRecorded};
 ghost use Rattle.ir_trace.specs.Encoding.{encoding};
 ghost use Rattle.ir_bytes.specs.Reading.{fields_at};
-ghost use Rattle.ir_trace.specs.Reading.{Gives, header_at, end_at, thread_at, recorded_at};
+ghost use Rattle.ir_trace.specs.Reading.{Gives, profile_at, header_at, end_at, thread_at, recorded_at};
 
 use crate::event_reader::events;
 use crate::header::Header;
-use crate::layout::MAGIC;
+use crate::layout::{MAGIC_ONE, MAGIC_TWO};
 use crate::thread_trace::ThreadTrace;
 use crate::trace::Trace;
 use crate::trace_err::TraceErr;
-use ir_bytes::{byte_within, double, double_within, fixed_half, fixed_word, word, word_within};
+use ir_bytes::{byte_within, double, double_within, fixed_half, word, word_within};
 use ir_image::{MOST_OBJECTS, MOST_THREADS};
-use ir_thread::{End, MOST_BUDGET, MOST_EVENTS};
+use ir_thread::{End, MOST_BUDGET, MOST_EVENTS, Profile};
 use std::alloc::Global;
+
+#[tactic(auto, unfolding(crate::specs::Reading::profile_at, ir_bytes::specs::Reading::field_at))]
+fn profile(bytes: &[u8]) -> Result<(Profile, &[u8]), TraceErr>
+    ensures { Gives (λ x. (x.0, x.1.now)) result (profile_at bytes.now) }
+{
+    match word(bytes, TraceErr::Short)? {
+        (MAGIC_ONE, rest) => Ok((Profile::One, rest)),
+        (MAGIC_TWO, rest) => Ok((Profile::Two, rest)),
+        _ => Err(TraceErr::Magic),
+    }
+}
 
 #[tactic(auto, unfolding(crate::specs::Reading::header_at))]
 fn header(bytes: &[u8]) -> Result<(Header, &[u8]), TraceErr>
     ensures { Gives (λ x. (x.0, x.1.now)) result (header_at bytes.now) }
 {
-    let rest = fixed_word(MAGIC, bytes, TraceErr::Short, TraceErr::Magic)?;
+    let (profile, rest) = profile(bytes)?;
     let (threads, rest) = byte_within(1, MOST_THREADS, rest, TraceErr::Short, TraceErr::Count)?;
     let (objects, rest) = byte_within(0, MOST_OBJECTS, rest, TraceErr::Short, TraceErr::Count)?;
     let rest = fixed_half(0, rest, TraceErr::Short, TraceErr::Reserved)?;
     let (budget, rest) = double_within(MOST_BUDGET, rest, TraceErr::Short, TraceErr::Count)?;
     Ok((
         Header {
+            profile,
             threads,
             objects,
             budget,
@@ -49,28 +61,34 @@ fn end(bytes: &[u8]) -> Result<(End, &[u8]), TraceErr>
 }
 
 #[tactic(auto, unfolding(crate::specs::Reading::thread_at))]
-fn thread(alloc: Global, objects: u8, bytes: &[u8]) -> Result<(ThreadTrace, &[u8]), TraceErr>
-    ensures { Gives (λ x. (x.0, x.1.now)) result (thread_at objects bytes.now) }
+fn thread(
+    alloc: Global,
+    profile: Profile,
+    objects: u8,
+    bytes: &[u8],
+) -> Result<(ThreadTrace, &[u8]), TraceErr>
+    ensures { Gives (λ x. (x.0, x.1.now)) result (thread_at profile objects bytes.now) }
 {
     let (steps, rest) = double(bytes, TraceErr::Short)?;
     let (end, rest) = end(rest)?;
     let (count, rest) = word_within(MOST_EVENTS, rest, TraceErr::Short, TraceErr::Count)?;
-    let (log, rest) = events(alloc, objects, count, rest)?;
+    let (log, rest) = events(alloc, profile, objects, count, rest)?;
     Ok((ThreadTrace::new(steps, end, log), rest))
 }
 
 fn threads(
     alloc: Global,
+    profile: Profile,
     objects: u8,
     count: u8,
     bytes: &[u8],
 ) -> Result<(Vec<ThreadTrace>, &[u8]), TraceErr>
-    ensures { Gives (λ x. (x.0.items, x.1.now)) result (fields_at (thread_at objects) count bytes.now) }
+    ensures { Gives (λ x. (x.0.items, x.1.now)) result (fields_at (thread_at profile objects) count bytes.now) }
 {
     let mut threads = Vec::new(alloc);
     let mut rest = bytes;
     for _ in 0..count {
-        let (one, after) = thread(alloc, objects, rest)?;
+        let (one, after) = thread(alloc, profile, objects, rest)?;
         threads.push(one)?;
         rest = after;
     }
@@ -83,14 +101,14 @@ fn trace(alloc: Global, bytes: &[u8]) -> Result<Trace, TraceErr>
     ensures exact { Gives (λ trace. trace) result (recorded_at bytes.now) }
 {
     let (header, rest) = header(bytes)?;
-    let (threads, rest) = threads(alloc, header.objects, header.threads, rest)?;
+    let (threads, rest) = threads(alloc, header.profile, header.objects, header.threads, rest)?;
     if !rest.is_empty() {
         return Err(TraceErr::Trailing);
     }
-    Ok(Trace::new(header.objects, header.budget, threads))
+    Ok(Trace::new(header.objects, header.budget, threads, header.profile))
 }
 
-/// The trace that the bytes encode, all of the bytes. Numbers are little-endian, and room is taken only for events whose bytes are there.
+/// The trace that the bytes encode, all of the bytes; the first four, `IRT1` or `IRT2`, say its profile. Numbers are little-endian, and room is taken only for events whose bytes are there.
 ///
 /// # Errors
 /// The first fault from the left, each field being read whole and then tested; or out of memory.

@@ -9,7 +9,7 @@ ghost use Rattle.ir_trace.specs.TraceOf.{recorded_thread};
 
 use crate::thread_trace::ThreadTrace;
 use ir_log::{Cursor, Disagree, Event};
-use ir_thread::Ask;
+use ir_thread::{Ask, Profile};
 use std::alloc::AllocError;
 use std::marker::Model;
 
@@ -18,26 +18,29 @@ use std::marker::Model;
 pub struct Trace {
     objects: u8,
     budget: u64,
+    profile: Profile,
     threads: Vec<ThreadTrace>,
 }
 
 impl Model for Trace {
     ghost Value = { Recorded };
 
-    ghost view = { λ t. record { objects = t.objects; budget = t.budget; threads = t.threads.items } };
+    ghost view = { λ t. record { objects = t.objects; budget = t.budget; profile = t.profile; threads = t.threads.items } };
 
-    ghost invariant = { λ t. IsRecorded (record { objects = t.objects; budget = t.budget; threads = t.threads.items }) };
+    ghost invariant = { λ t. IsRecorded (record { objects = t.objects; budget = t.budget; profile = t.profile; threads = t.threads.items }) };
 }
 
 impl Trace {
-    /// The trace of these parts: how many objects the guest has, each thread's budget in steps, and the threads by their numbers. It takes no memory.
-    pub fn new(objects: u8, budget: u64, threads: Vec<ThreadTrace>) -> Trace
-        requires { IsRecorded (record { objects = objects; budget = budget; threads = threads.items }) }
-        ensures { result ≡ record { objects = objects; budget = budget; threads = threads.items } }
+    /// The trace of these parts: how many objects the guest has, each thread's budget in steps, the threads by their numbers, and which
+    /// system calls there are. It takes no memory.
+    pub fn new(objects: u8, budget: u64, threads: Vec<ThreadTrace>, profile: Profile) -> Trace
+        requires { IsRecorded (record { objects = objects; budget = budget; profile = profile; threads = threads.items }) }
+        ensures { result ≡ record { objects = objects; budget = budget; profile = profile; threads = threads.items } }
     {
         Trace {
             objects,
             budget,
+            profile,
             threads,
         }
     }
@@ -58,6 +61,13 @@ impl Trace {
         self.budget
     }
 
+    /// Which system calls there are.
+    pub fn profile(&self) -> Profile
+        ensures { result ≡ self.now.profile }
+    {
+        self.profile
+    }
+
     /// What was recorded of each thread, in the order of their numbers.
     pub fn threads(&self) -> &[ThreadTrace]
         ensures value { result.now ≡ self.now.threads }
@@ -66,16 +76,16 @@ impl Trace {
         self.threads.as_slice()
     }
 
-    /// The event of thread t that so many stand before, where it is one of what is asked.
+    /// The event of thread t that so many stand before, where a step that asks so may log it.
     ///
     /// # Errors
-    /// `Disagree` where the thread has no such event, or it is none of what is asked.
+    /// `Disagree` where the thread has no such event, or it is none that such a step logs.
     pub fn next_event(&self, t: usize, before: u32, asked: Ask) -> Result<Event, Disagree>
         requires thread { t < length self.now.threads }
         requires before { before ≤ most_events }
         ensures next { IfOk result (λ event. slice_get (recorded_thread self.now t).events before ≡ Some event) }
         ensures suits { IfOk result (λ event. Suits asked event) }
-        ensures within { IsRecordedThread self.now.objects (recorded_thread self.now t) }
+        ensures within { IsRecordedThread self.now.profile self.now.objects (recorded_thread self.now t) }
         ensures disagrees { OnErr result ((event : Event) → slice_get (recorded_thread self.now t).events before ≡ Some event → Suits asked event → ⊥) }
     {
         Cursor::at(before as usize).expect(self.threads[t].log(), &asked)
@@ -95,6 +105,7 @@ impl Trace {
         Ok(Trace {
             objects: self.objects,
             budget: self.budget,
+            profile: self.profile,
             threads,
         })
     }

@@ -5,16 +5,18 @@ ghost use Rattle.std.specs.List.{flat_map};
 ghost use Rattle.byteorder.specs.Endian.{little_bytes};
 ghost use Rattle.ir_image.specs.Guest.{most_threads};
 ghost use Rattle.ir_thread.specs.Calls.{most_events};
-ghost use Rattle.ir_trace.specs.Encoding.{header_encoding, kind_tag, event_encoding, end_encoding, thread_encoding, encoding};
+ghost use Rattle.ir_trace.specs.Encoding.{magic, header_encoding, kind_tag, event_encoding, end_encoding, thread_encoding, encoding};
 
 use crate::header::Header;
-use crate::layout::{HEADER_LENGTH, SHORTEST_EVENT, THREAD_LENGTH};
+use crate::layout::{
+    ANSWER_LENGTH, HEADER_LENGTH, READ_LENGTH, THREAD_LENGTH, TRY_LENGTH, WRITE_LENGTH,
+};
 use crate::thread_trace::ThreadTrace;
 use crate::trace::Trace;
 use byteorder::{ByteOrder, LittleEndian};
 use ir_log::Event;
 use ir_runs::EnvKind;
-use ir_thread::End;
+use ir_thread::{End, Profile};
 use std::alloc::{AllocError, Global};
 
 fn put_word(out: &mut Vec<u8>, word: u32) -> Result<(), AllocError>
@@ -33,11 +35,20 @@ fn put_double(out: &mut Vec<u8>, double: u64) -> Result<(), AllocError>
     out.extend_from_slice(&bytes)
 }
 
+fn magic_bytes(profile: Profile) -> [u8; 4]
+    ensures { result ≡ magic profile }
+{
+    match profile {
+        Profile::One => *b"IRT1",
+        Profile::Two => *b"IRT2",
+    }
+}
+
 #[tactic(auto, unfolding(crate::specs::Encoding::header_encoding))]
 fn put_header(out: &mut Vec<u8>, header: Header) -> Result<(), AllocError>
     ensures { OnOk result (out.new.items ≡ out.old.items ++ header_encoding header) }
 {
-    out.extend_from_slice(b"IRT1")?;
+    out.extend_from_slice(&magic_bytes(header.profile))?;
     out.extend_from_slice(&[header.threads, header.objects, 0, 0])?;
     put_double(out, header.budget)
 }
@@ -74,6 +85,7 @@ fn put_event(out: &mut Vec<u8>, event: Event) -> Result<(), AllocError>
             put_word(out, version)?;
             put_word(out, readers)
         }
+        Event::Try { object } => out.extend_from_slice(&[6, object]),
     }
 }
 
@@ -119,9 +131,10 @@ fn event_length(event: Event) -> usize
     ensures { result ≤ 10 }
 {
     match event {
-        Event::Answer(..) => SHORTEST_EVENT,
-        Event::Read { .. } => 6,
-        Event::Write { .. } => 10,
+        Event::Answer(..) => ANSWER_LENGTH,
+        Event::Read { .. } => READ_LENGTH,
+        Event::Write { .. } => WRITE_LENGTH,
+        Event::Try { .. } => TRY_LENGTH,
     }
 }
 
@@ -159,6 +172,7 @@ pub fn write_trace(alloc: Global, trace: &Trace) -> Result<Vec<u8>, AllocError>
     put_header(
         &mut out,
         Header {
+            profile: trace.profile(),
             threads: threads.len() as u8,
             objects: trace.objects(),
             budget: trace.budget(),

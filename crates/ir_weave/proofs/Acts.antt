@@ -1,5 +1,5 @@
 -- Each step of the table keeps its rule.
-use Rattle.std.proofs.Common.{◌≡◌, ◌≢◌, ℕ, suc, zero, ◌+◌, ◌*◌, ◌/◌, ◌%◌, ◌^◌, ◌<◌, ◌≤◌, ◌==◌, eq-eqb, ne_eqb, Bool, true, false, List, [], ◌∷◌, length, get_or, set, Some, refl, sym, ap, ◌∙◌, subst, arith, inl, inr, get_or-set_same}
+use Rattle.std.proofs.Common.{◌≡◌, ◌≢◌, ℕ, suc, zero, ◌+◌, ◌*◌, ◌/◌, ◌%◌, ◌^◌, ◌<◌, ◌≤◌, ◌==◌, eq-eqb, ne_eqb, Bool, true, false, List, [], ◌∷◌, length, get_or, set, Option, Some, refl, sym, ap, ◌∙◌, subst, arith, inl, inr, get_or-set_same}
 use Rattle.std.proofs.lemmas.List.{set-get_or}
 use Rattle.std.specs.Prelude.{slice_get, slice_index}
 use mathlib.Core.Option.{some, none}
@@ -16,7 +16,7 @@ use Rattle.ir_thread.specs.State as thread
 use Rattle.ir_runs.specs.declared.access.Access.{Access}
 use Rattle.ir_runs.specs.declared.access.Access.TheVariants.{Reading, Writing}
 use Rattle.ir_thread.specs.declared.ask.Ask.{Ask}
-use Rattle.ir_thread.specs.declared.ask.Ask.TheVariants.{Enter, Leave, Get, Put}
+use Rattle.ir_thread.specs.declared.ask.Ask.TheVariants.{Enter, Try, Leave, Get, Put}
 use Rattle.ir_thread.specs.declared.ask.Reply.TheVariants.{Value}
 use Rattle.ir_object.specs.Cell.{Cell, Admitted as Enters}
 use Rattle.ir_runs.specs.Object.{target, emitted}
@@ -26,22 +26,27 @@ use Rattle.ir_flat.specs.Flat.{Flat, IsFlat, idle, thread_of, cell_of, inside_of
 use Rattle.ir_flat.specs.Next.{next}
 use Rattle.ir_runs.specs.Run.{count, label, end, trail}
 use Rattle.ir_flat.proofs.CallerLemmas.{logged_fits, few_inside, enter_fits, leave_fits, leave_allowed, thread_count}
+use Rattle.ir_log.specs.Logging.{ask_of as event_ask, Suits}
+use Rattle.ir_log.proofs.CallerLemmas.{entering_by}
 use Rattle.ir_log.specs.declared.event.Event.{Event}
+use Rattle.ir_log.specs.declared.event.Event.TheVariants.{Answer as Answered, Read, Write, Try as Refused}
 use Rattle.ir_trace.specs.TraceOf.{recorded_thread}
 use Rattle.ir_runs.specs.Cuts.{At, Emits, part}
-use Rattle.ir_fit.specs.Fit.{FittedTrace}
+use Rattle.ir_fit.specs.Fit.{FittedTrace, HasRun}
 use Rattle.ir_cut.specs.Positions.{machine_of, start_of, EachRun}
 use Rattle.ir_runs.proofs.CallerLemmas.{persists}
-use Rattle.ir_weave.specs.Ahead.{IsAlone, HasStep, IsAhead, IsEntering, IsNextObject, thread_at, AreAlone}
+use Rattle.ir_weave.specs.Ahead.{IsRefused, IsAlone, GoesAlone, event_of, HasStep, IsAhead, IsEntering, IsNextObject, thread_at, AreAlone}
 use Rattle.ir_weave.specs.States.{IsStateAt, positions}
 use Rattle.ir_object.specs.Layout.{word_place, content_place}
 use Rattle.ir_weave.specs.Table.{IsTable, object_in}
 use Rattle.ir_weave.specs.Woven.{View, trace_in, progress, AdmittedAt, Woven, Answers, IsEventAt, looked, stepped_on, read_version}
 use Rattle.ir_weave.specs.declared.plan.Plan.{Plan}
 use Rattle.ir_weave.specs.declared.plan.Progress.{Progress}
-use Rattle.ir_weave.proofs.Behind.{cut_at, tables_at}
+use Rattle.ir_weave.specs.Stepping.{LogsNext}
+use Rattle.ir_weave.proofs.Behind.{cut_at, tables_at, admitted_next}
+use Rattle.ir_weave.proofs.Lone.{try_result}
 use Rattle.ir_weave.proofs.Entries.{open_admitted, shut_stopped, opens_or, opens_by}
-use Rattle.ir_weave.proofs.Forth.{Goes, CaughtUp, admitted_on, free_admitted, catch_up}
+use Rattle.ir_weave.proofs.Forth.{Goes, CaughtUp, IsFree, guest_thread, logs_on, admitted_on, tried_with, free_admitted, catch_up}
 use Rattle.ir_weave.proofs.Moves.{IsFurther, up, moves}
 use Rattle.ir_weave.proofs.Words.{head_changes, place_changes, same_words}
 
@@ -81,13 +86,28 @@ has_there : (f : FittedTrace) (s : Flat) (t : ℕ) (y : thread.State) → (cu : 
 has_there f s t y cu has run of = subst (λ (z : thread.State). z.steps < count (machine_of f) (start_of f) run t) (sym cu.own) (has run of)
 
 -- where it touches an object, that is its next such step
-pub touches_next : (f : FittedTrace) (t i : ℕ) (y : thread.State) (q : Ask) → IsAhead f t i y → ask_of f.guest.code y ≡ q → (IsAlone q → ⊥)
-    → IsNextObject f t i y.steps
+pub touches_next : (f : FittedTrace) (t i : ℕ) (y : thread.State) (q : Ask) → IsAhead f t i y → ask_of f.guest.code y ≡ q
+    → (IsAlone q (event_of f t y) → ⊥) → IsNextObject f t i y.steps
 touches_next f t i y q ahead is touches = record {
   past = ahead.past;
   alone = ahead.alone;
-  touches = λ run of h. touches (subst IsAlone (ap (ask_of f.guest.code) (sym (ahead.at run of).1) ∙ is) h);
+  touches = λ run of h. touches (subst (λ p. IsAlone p (event_of f t y)) is (subst (GoesAlone f t) (sym (ahead.at run of).1) h));
 }
+
+-- a try that is refused enters nothing
+refused_enters : (o : ℕ) (a : Access) (e : Event) → event_ask e ≡ Enter o a → IsRefused (Some e) → ⊥
+refused_enters o a (Answered kind value) enters h = h
+refused_enters o a (Read object version) enters h = h
+refused_enters o a (Write object version readers) enters h = h
+refused_enters o a (Refused object) enters h = cc enters
+
+-- what enters an object touches it
+pub entering_touches : (q : Ask) (o : ℕ) (a : Access) (e : Event) (x : Option Event) → x ≡ Some e → Suits q e → event_ask e ≡ Enter o a
+    → IsAlone q x → ⊥
+entering_touches q o a e x is suits enters h = elim (entering_by q o a e suits enters) [
+  | inl same ↦ subst (λ p. IsAlone p x) same h
+  | inr same ↦ refused_enters o a e enters (subst IsRefused is (subst (λ p. IsAlone p x) same.0 h))
+]
 
 -- ---- words
 
@@ -139,14 +159,15 @@ looks_at slots id o a e y q c ahead inside entering x h homes at small =
     let same : fields_of n ≡ (cell_of cu.state o).fields =
     found_fields n (cell_of h.state o).fields (cell_fits h.state o h.flat l) (h.table.heads o l)
     ∙ ap (λ cs. (object_in cs o).fields) (sym cu.objects) in
-    let ask : ask_of cu.state.code (thread_of cu.state t) ≡ Enter o a = asks_there f h.state t y (Enter o a) cu entering.asking.asks in
+    let ask : ask_of cu.state.code (thread_of cu.state t) ≡ entering.asked = asks_there f h.state t y entering.asked cu entering.asking.asks in
     let has : HasStep f t (positions cu.state t) =
     has_there f h.state t y cu (subst (λ z. HasStep f z y.steps) ahead.number entering.asking.has) in
     let own_event : slice_get (recorded_thread f.recorded t).events y.events ≡ Some e =
     subst (λ z. slice_get (recorded_thread f.recorded z).events y.events ≡ Some e) ahead.number entering.event in
     let event : slice_get (recorded_thread f.recorded t).events (thread_of cu.state t).events ≡ Some e =
     ap (λ (z : thread.State). slice_get (recorded_thread f.recorded t).events z.events) cu.own ∙ own_event in
-    let nexts : IsNextObject f t q.position y.steps = touches_next f t q.position y (Enter o a) ahead entering.asking.asks (λ b. b) in
+    let nexts : IsNextObject f t q.position y.steps = touches_next f t q.position y entering.asked ahead
+    entering.asking.asks (entering_touches entering.asked o a e (event_of f t y) own_event entering.suits entering.enters) in
     let emitted_event : IsEventAt f t y.steps e =
     λ run of. ap (λ (z : thread.State). slice_get (recorded_thread f.recorded t).events z.events) (sym (ahead.at run of).1)
     ∙ own_event in
@@ -159,7 +180,8 @@ looks_at slots id o a e y q c ahead inside entering x h homes at small =
         keeps,
         tt,
         moves k x h id q at cu.state (further_by k x h id q y at ahead cu) y.steps here true
-            (λ on. open_admitted f cu.state t o a e h.run cu.flat cu.at (there k x h id q y at cu) ask has event entering.suits
+            (λ on. open_admitted f cu.state t o a e entering.asked h.run cu.flat cu.at (there k x h id q y at cu) ask has event
+            entering.suits entering.enters
             (opens_by (record { fields = fields_of n; words = [] }) (cell_of cu.state o) e same yes'))
             (set x.words (word_place o) n) x.homes table,
         (y.steps, e, nexts, emitted_event, (λ b. refl), (λ no'. absurd (no' yes'))),
@@ -185,7 +207,8 @@ looks_at slots id o a e y q c ahead inside entering x h homes at small =
               above = λ u. (let p = h.above u in let r = up f h.state cu.state t (further_by k x h id q y at ahead cu) u in
                   omega (arith, p, r));
               here = here;
-              stopped = shut_stopped f cu.state t o a e h.run cu.flat cu.at (there k x h id q y at cu) ask has event entering.suits
+              stopped = shut_stopped f cu.state t o a e entering.asked h.run cu.flat cu.at (there k x h id q y at cu) ask has event
+                  entering.suits entering.enters
                   (λ yes'. no' (opens_by (cell_of cu.state o) (record { fields = fields_of n; words = [] }) e (sym same) yes'));
             },
           )),
@@ -219,7 +242,7 @@ answers f s t y q cu v n l g is found run of o i asks =
 -- the table after it
 steps_on : (slots id word first second : ℕ) (q : Progress) (c : List (ℕ × Unit {0})) (x : State (Unit {0}) View) (h : Woven q.plan x)
     → get_elem? x.views id ≡ some (q ∷ []) → (y : thread.State) → IsAhead (trace_in q.plan) q.thread q.position y
-    → (asked : Ask) → (IsAlone asked → ⊥) → ask_of (trace_in q.plan).guest.code y ≡ asked
+    → (asked : Ask) → (IsAlone asked (event_of (trace_in q.plan) q.thread y) → ⊥) → ask_of (trace_in q.plan).guest.code y ≡ asked
     → (cu : CaughtUp (trace_in q.plan) h.state q.thread y) → (v : ℕ) → Goes (trace_in q.plan) cu.state q.thread v asked
     → (n : ℕ) → ((o i : ℕ) → asked ≡ Get o i → (n < 2 ^ 32) × (n ≡ slice_index (cell_of cu.state o).words i)) → (ws : List ℕ)
     → IsTable (next cu.state q.thread v asked).objects ws
@@ -265,36 +288,76 @@ entered_word n Writing s o flat l is may =
     let e : word_of (entered Writing (cell_of s o).fields) ≡ word_of (cell_of s o).fields + 1 = omega (arith, none) in
     omega (arith, is, e, small)
 
-never_get : (o : ℕ) (a : Access) (n : ℕ) (s : Flat) (p i : ℕ) → Enter o a ≡ Get p i → (n < 2 ^ 32) × (n ≡ slice_index (cell_of s p).words i)
-never_get o a n s p i e = absurd (cc e)
+-- a try that is logged as an entry has the result 1
+writes_by : (e : Event) (o : ℕ) (a : Access) → Suits (Try o) e → event_ask e ≡ Enter o a → try_result e ≡ 1
+writes_by (Answered kind value) o a suits enters = absurd (cc enters)
+writes_by (Read object version) o a (inl is) enters = absurd (cc is)
+writes_by (Read object version) o a (inr is) enters = absurd (cc is)
+writes_by (Write object version readers) o a suits enters = refl
+writes_by (Refused object) o a suits enters = absurd (cc enters)
 
-pub enters_at : (slots id o : ℕ) (a : Access) (y : thread.State) (q : Progress) (c : List (ℕ × Unit {0}))
+-- what thread t is after it entered the object by what it asked
+record EnteredBy (f : FittedTrace) (s : Flat) (t o : ℕ) (a : Access) (q : Ask) : Type 0 where
+  result : ℕ
+  goes : Goes f s t result q
+  may : Enters a (cell_of s o).fields
+  objects : (next s t result q).objects ≡ set s.objects o (record (cell_of s o) { fields = entered a (cell_of s o).fields })
+
+entered_on : (f : FittedTrace) (s : Flat) (t o : ℕ) (a : Access) (e : Event) (q : Ask) → HasRun f → IsFlat s → IsStateAt f (positions s) s
+    → t < length s.threads → ask_of s.code (thread_of s t) ≡ q
+    → slice_get (recorded_thread f.recorded t).events (thread_of s t).events ≡ Some e → Suits q e → event_ask e ≡ Enter o a
+    → AdmittedAt f (positions s) t → EnteredBy f s t o a q
+entered_on f s t o a e q h flat at l is event suits enters ad = elim (entering_by q o a e suits enters) [
+  | inl same ↦
+      let goes = admitted_on f s t (Enter o a) h flat at l (sym (is ∙ same)) ad in
+      subst (EnteredBy f s t o a) (sym same) (record { result = goes.0; goes = goes.1; may = goes.1.may; objects = refl })
+  | inr same ↦
+      let some = admitted_next f s at h.run h.whole t (guest_thread f s t at l) (ad h.run h.whole) in
+      let one : some.0 ≡ 1 = tried_with f.recorded s t some.0 o e (is ∙ same.0) event some.1 ∙ writes_by e o a (subst (λ p. Suits p e) same.0 suits) enters in
+      let goes : Goes f s t 1 (Try o) = logs_on f s t 1 (Try o) flat at l (sym (is ∙ same.0)) (λ run of. (ad run of).0)
+      (subst (LogsNext f.recorded s t) one some.1) in
+      let writes : EnteredBy f s t o Writing (Try o) = record { result = 1; goes = goes; may = goes.may; objects = refl } in
+      subst (λ (z : Access × Ask). EnteredBy f s t o z.0 z.1) (λ i. (sym same.1 i, sym same.0 i)) writes
+]
+
+pub enters_at : (slots id o : ℕ) (a : Access) (e : Event) (y : thread.State) (q : Progress) (c : List (ℕ × Unit {0}))
     → IsAhead (trace_in q.plan) q.thread q.position y → o < object_count (trace_in q.plan).guest
-    → ask_of (trace_in q.plan).guest.code y ≡ Enter o a
+    → IsEntering (trace_in q.plan) y o a e
     → q.granted ≡ true → q.position ≡ y.steps → Allows (Woven q.plan) slots id (q ∷ [], c) (word_place o) (λ n. (n + added a) % 2 ^ 64)
     (stepped_on (step slots (word_place o) (added a) 0 none) (q ∷ [], c))
-enters_at slots id o a y q c ahead inside is granted here x h homes at small =
+enters_at slots id o a e y q c ahead inside entering granted here x h homes at small =
     let f : FittedTrace = trace_in q.plan in
     let t : ℕ = q.thread in
+    let asked : Ask = entering.asked in
+    let is = entering.asking.asks in
     let cu : CaughtUp f h.state t y = caught q.plan x h id q y at ahead in
     let own = (h.tracks id (q ∷ []) at).0 in
     let n : ℕ = get_or x.words (word_place o) 0 in
-    let l : o < length h.state.objects = (let e = h.at.objects in omega (arith, e, inside)) in
-    let m : o < length cu.state.objects = (let e = ap (λ (cs : List Cell). length cs) cu.objects in omega (arith, e, l)) in
+    let l : o < length h.state.objects = (let e' = h.at.objects in omega (arith, e', inside)) in
+    let m : o < length cu.state.objects = (let e' = ap (λ (cs : List Cell). length cs) cu.objects in omega (arith, e', l)) in
     let still : positions cu.state t ≡ positions h.state t = ap (λ (z : thread.State). z.steps) cu.own ∙ sym here ∙ sym own.position in
     let ad : AdmittedAt f (positions cu.state) t =
     λ run of. persists (machine_of f) (start_of f) run (positions h.state) (positions cu.state) t (own.granted granted run of)
     (cu.at.each run of).consistent (up f h.state cu.state t (further_by q.plan x h id q y at ahead cu)) still in
-    let goes = admitted_on f cu.state t (Enter o a) h.run cu.flat cu.at (there q.plan x h id q y at cu)
-    (sym (asks_there f h.state t y (Enter o a) cu is)) ad in
+    let own_event : event_of f t y ≡ Some e =
+    subst (λ z. slice_get (recorded_thread f.recorded z).events y.events ≡ Some e) ahead.number entering.event in
+    let made_by : EnteredBy f cu.state t o a asked = entered_on f cu.state t o a e asked h.run cu.flat cu.at (there q.plan x h id q y at cu)
+    (asks_there f h.state t y asked cu is)
+    (ap (λ (z : thread.State). slice_get (recorded_thread f.recorded t).events z.events) cu.own ∙ own_event) entering.suits entering.enters
+    ad in
     let found : n ≡ word_of (cell_of cu.state o).fields = h.table.heads o l ∙ ap (λ cs. word_of (object_in cs o).fields) (sym cu.objects) in
     let table : IsTable cu.state.objects x.words = subst (λ cs. IsTable cs x.words) (sym cu.objects) h.table in
     let ws : List ℕ = set x.words (word_place o) ((n + added a) % 2 ^ 64) in
-    let made = steps_on slots id (word_place o) (added a) 0 q c x h at y ahead (Enter o a) (λ b. b) is cu goes.0 goes.1 n
-    (never_get o a n cu.state) ws
+    let made = steps_on slots id (word_place o) (added a) 0 q c x h at y ahead asked
+    (entering_touches asked o a e (event_of f t y) own_event entering.suits entering.enters) is cu made_by.result made_by.goes n
+    (λ p i get. absurd (elim (entering_by asked o a e entering.suits entering.enters) [
+      | inl same ↦ (let z : Enter o a ≡ Get p i = sym same ∙ get in cc z)
+      | inr same ↦ (let z : Try o ≡ Get p i = sym same.0 ∙ get in cc z)
+    ])) ws
+    (subst (λ cs. IsTable cs ws) (sym made_by.objects)
     (head_changes cu.state.objects x.words o ((n + added a) % 2 ^ 64)
     (record (cell_of cu.state o) { fields = entered a (cell_of cu.state o).fields }) table m
-    (entered_word n a cu.state o cu.flat m found goes.1.may) refl) in
+    (entered_word n a cu.state o cu.flat m found made_by.may) refl)) in
     (made.0, keeps, tt, made.1, made.2)
 
 -- ---- leaves, and words of contents
@@ -302,13 +365,15 @@ enters_at slots id o a y q c ahead inside is granted here x h homes at small =
 -- what a step that is no entry may do
 free_goes : (k : Plan) (x : State (Unit {0}) View) (h : Woven k x) (id : ℕ) (q : Progress) (y : thread.State)
     → get_elem? x.views id ≡ some (q ∷ []) → (cu : CaughtUp (trace_in k) h.state q.thread y) → (asked : Ask)
-    → ((o : ℕ) (a : Access) → asked ≢ Enter o a)
+    → IsFree asked (event_of (trace_in k) q.thread (thread_of cu.state q.thread))
     → ask_of (trace_in k).guest.code y ≡ asked → HasStep (trace_in k) q.thread y.steps → (v : ℕ)
     × Goes (trace_in k) cu.state q.thread v asked
-free_goes k x h id q y at cu asked ne is has =
+free_goes k x h id q y at cu asked free is has =
     let ask = asks_there (trace_in k) h.state q.thread y asked cu is in
     admitted_on (trace_in k) cu.state q.thread asked h.run cu.flat cu.at (there k x h id q y at cu) (sym ask)
-    (free_admitted (trace_in k) cu.state q.thread cu.at (has_there (trace_in k) h.state q.thread y cu has) (λ o a e. ne o a (sym ask ∙ e)))
+    (free_admitted (trace_in k) cu.state q.thread cu.at (has_there (trace_in k) h.state q.thread y cu has)
+    (guest_thread (trace_in k) cu.state q.thread cu.at (there k x h id q y at cu))
+    (subst (λ p. IsFree p (event_of (trace_in k) q.thread (thread_of cu.state q.thread))) (sym ask) free))
 
 -- a thread that leaves is inside
 leaves_holding : (s : Flat) (t o : ℕ) (a : Access) → ask_of s.code (thread_of s t) ≡ Leave o a → inside_of s o t ≡ Some a
@@ -327,7 +392,7 @@ left_reading_at slots id o y q c ahead inside is has x h homes at small =
     let n : ℕ = get_or x.words (word_place o) 0 in
     let l : o < length h.state.objects = (let e = h.at.objects in omega (arith, e, inside)) in
     let m : o < length cu.state.objects = (let e = ap (λ (cs : List Cell). length cs) cu.objects in omega (arith, e, l)) in
-    let goes = free_goes q.plan x h id q y at cu (Leave o Reading) (λ p b e. cc e) is has in
+    let goes = free_goes q.plan x h id q y at cu (Leave o Reading) tt is has in
     let ask = asks_there f h.state t y (Leave o Reading) cu is in
     let found : n ≡ word_of (cell_of cu.state o).fields = h.table.heads o l ∙ ap (λ cs. word_of (object_in cs o).fields) (sym cu.objects) in
     let table : IsTable cu.state.objects x.words = subst (λ cs. IsTable cs x.words) (sym cu.objects) h.table in
@@ -378,7 +443,8 @@ versions_at slots id o y q c ahead inside is has x h homes at small =
     found_fields n (cell_of h.state o).fields (cell_fits h.state o h.flat l) (h.table.heads o l)
     ∙ ap (λ cs. (object_in cs o).fields) (sym cu.objects) in
     let emits = leave_emits f cu.state t o cu.at ask
-    (free_admitted f cu.state t cu.at (has_there f h.state t y cu has) (λ p a e. cc (sym ask ∙ e))) in
+    (free_admitted f cu.state t cu.at (has_there f h.state t y cu has) (guest_thread f cu.state t cu.at (there q.plan x h id q y at cu))
+    (subst (λ p. IsFree p (event_of f t (thread_of cu.state t))) (sym ask) tt)) in
     let kept : Woven q.plan (record { words = set x.words (word_place o) n; homes = x.homes; views = set x.views id (q ∷ []) }) =
     subst (λ (z : List ℕ × List View). Woven q.plan (record { words = z.0; homes = x.homes; views = z.1 }))
     (λ i. (sym (set-get_or x.words (word_place o) 0) i, sym (set_again x.views id (q ∷ []) at) i)) h in (
@@ -414,10 +480,11 @@ left_writing_at slots id o v y q c ahead inside is has emits x h homes at small 
     let w : ℕ = (v + 1) * version_unit in
     let l : o < length h.state.objects = (let e = h.at.objects in omega (arith, e, inside)) in
     let m : o < length cu.state.objects = (let e = ap (λ (cs : List Cell). length cs) cu.objects in omega (arith, e, l)) in
-    let goes = free_goes q.plan x h id q y at cu (Leave o Writing) (λ p b e. cc e) is has in
+    let goes = free_goes q.plan x h id q y at cu (Leave o Writing) tt is has in
     let ask = asks_there f h.state t y (Leave o Writing) cu is in
     let own = leave_emits f cu.state t o cu.at ask
-    (free_admitted f cu.state t cu.at (has_there f h.state t y cu has) (λ p a e. cc (sym ask ∙ e))) h.run.run h.run.whole in
+    (free_admitted f cu.state t cu.at (has_there f h.state t y cu has) (guest_thread f cu.state t cu.at (there q.plan x h id q y at cu))
+    (subst (λ p. IsFree p (event_of f t (thread_of cu.state t))) (sym ask) tt)) h.run.run h.run.whole in
     let mine : Emits (machine_of f) (start_of f) h.run.run t y.steps (Out o Writing (cell_of cu.state o).fields.version) =
     subst (λ z. Emits (machine_of f) (start_of f) h.run.run t z (Out o Writing (cell_of cu.state o).fields.version))
     (ap (λ (z : thread.State). z.steps) cu.own) own in
@@ -446,7 +513,7 @@ gets_at slots id o i y q c ahead inside few is has x h homes at small =
     let cu : CaughtUp f h.state t y = caught q.plan x h id q y at ahead in
     let n : ℕ = get_or x.words (content_place o i) 0 in
     let l : o < length h.state.objects = (let e = h.at.objects in omega (arith, e, inside)) in
-    let goes = free_goes q.plan x h id q y at cu (Get o i) (λ p b e. cc e) is has in
+    let goes = free_goes q.plan x h id q y at cu (Get o i) tt is has in
     let found : n ≡ slice_index (cell_of cu.state o).words i = h.table.places o i l few
     ∙ ap (λ cs. slice_index (object_in cs o).words i) (sym cu.objects) in
     let table : IsTable cu.state.objects (set x.words (content_place o i) n) =
@@ -480,7 +547,7 @@ puts_at slots id o i v y q c value ahead inside few is has x h homes at small =
     let cu : CaughtUp f h.state t y = caught q.plan x h id q y at ahead in
     let l : o < length h.state.objects = (let e = h.at.objects in omega (arith, e, inside)) in
     let m : o < length cu.state.objects = (let e = ap (λ (cs : List Cell). length cs) cu.objects in omega (arith, e, l)) in
-    let goes = free_goes q.plan x h id q y at cu (Put o i v) (λ p b e. cc e) is has in
+    let goes = free_goes q.plan x h id q y at cu (Put o i v) tt is has in
     let table : IsTable cu.state.objects x.words = subst (λ cs. IsTable cs x.words) (sym cu.objects) h.table in
     let made = steps_on slots id (content_place o i) v 0 q c x h at y ahead (Put o i v) (λ b. b) is cu goes.0 goes.1 v
     (λ p j e. absurd (cc e)) (set x.words (content_place o i) v)

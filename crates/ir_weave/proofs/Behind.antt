@@ -28,7 +28,7 @@ pub law : (f : FittedTrace) → IsLawful (machine_of f)
 law f = lawful f.guest.code
 
 pub good : (f : FittedTrace) → Good (machine_of f) (start_of f)
-good f = start_good (machine_of f) (start_of f) (starts f.guest f.recorded.budget)
+good f = start_good (machine_of f) (start_of f) (starts f.guest f.recorded.budget f.recorded.profile)
 
 -- the steps in a consistent cut
 pub sorted : (f : FittedTrace) (run : List Step) → IsRunOf f.guest f.recorded run → (p : Cut) → Consistent (machine_of f) (start_of f) run p
@@ -66,13 +66,13 @@ pub steps_counted : (f : FittedTrace) (run : List Step) → IsRun (machine_of f)
     → ((end (machine_of f) (start_of f) run).now t).steps ≡ count (machine_of f) (start_of f) run t
 steps_counted f run ok t = (tally f.guest.code (start_of f) run ok t).steps
     ∙ from_zero ((start_of f).now t).steps (count (machine_of f) (start_of f) run t)
-    (no_steps f.guest f.recorded.budget 0 (length f.guest.entries) t)
+    (no_steps f.guest f.recorded.budget f.recorded.profile 0 (length f.guest.entries) t)
 
 pub events_counted : (f : FittedTrace) (run : List Step) → IsRun (machine_of f) (start_of f) run → (t : ℕ)
     → ((end (machine_of f) (start_of f) run).now t).events ≡ length (log (machine_of f) (start_of f) run t)
 events_counted f run ok t = (tally f.guest.code (start_of f) run ok t).events
     ∙ from_zero ((start_of f).now t).events (length (log (machine_of f) (start_of f) run t))
-    (fresh f.guest f.recorded.budget 0 (length f.guest.entries) t).events
+    (fresh f.guest f.recorded.budget f.recorded.profile 0 (length f.guest.entries) t).events
 
 -- ---- the log behind a cut
 

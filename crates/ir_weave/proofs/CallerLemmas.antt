@@ -6,7 +6,7 @@ pub use Rattle.ir_weave.proofs.Before.{LogsBefore, log_before}
 -- a state that goes on along the trace is a state at a later cut
 pub use Rattle.ir_weave.proofs.Onward.{step_taken, alone_own, alone_others, alone_under}
 -- the result with which a thread takes its next step, by what it asks
-pub use Rattle.ir_weave.proofs.Results.{call_next, call_none, entry_next, entry_shut, entry_none, object_there, object_found}
+pub use Rattle.ir_weave.proofs.Results.{call_next, call_none, entry_next, entry_shut, entry_none, refused_next, try_next, try_shut, try_none, object_there, object_found}
 -- what a step of a thread in a run emits, and the thread after it, by the thread before it
 pub use Rattle.ir_weave.proofs.Trails.{StepOf, first_thread, step_at}
 -- a state goes on by a step of a thread that is admitted

@@ -1,29 +1,41 @@
 -- A state goes on by a step of a thread that is admitted.
-use Rattle.std.proofs.Common.{◌≡◌, ◌≢◌, ℕ, suc, zero, ◌+◌, ◌-◌, ◌<◌, ◌≤◌, List, [], ◌∷◌, length, refl, sym, ap, ◌∙◌, subst, arith, inl, inr, eq-eqb, ne_eqb, le_refl}
+use Rattle.std.proofs.Common.{◌≡◌, ◌≢◌, ℕ, suc, zero, ◌+◌, ◌-◌, ◌<◌, ◌≤◌, List, [], ◌∷◌, length, map, drop, Option, Some, None, ◌⊎◌, refl, sym, ap, ◌∙◌, subst, arith, inl, inr, eq-eqb, ne_eqb, le_refl}
 use Rattle.std.proofs.lemmas.Bool.{cases_eq, cases_lt}
+use Rattle.std.specs.Prelude.{slice_get, ⊤}
 use Rattle.ir_thread.specs.Calls.{ask_of}
 use Rattle.ir_thread.specs.Instance.{shared_ask}
 use Rattle.ir_runs.specs.Machine.{act_of}
 use Rattle.ir_runs.specs.Machine as machine
 use Rattle.ir_runs.specs.Labels.{Label, logged}
+use Rattle.ir_runs.specs.Labels as labels
 use Rattle.ir_thread.specs.State as thread
 use Rattle.ir_runs.specs.declared.access.Access.{Access}
+use Rattle.ir_runs.specs.declared.access.Access.TheVariants.{Reading, Writing}
 use Rattle.ir_thread.specs.declared.ask.Ask.{Ask}
-use Rattle.ir_thread.specs.declared.ask.Ask.TheVariants.{Private, Env, Enter, Leave, Get, Put, Print, End, Done}
+use Rattle.ir_thread.specs.declared.ask.Ask.TheVariants.{Private, Env, Enter, Try, Leave, Get, Put, Print, End, Done}
 use Rattle.ir_flat.specs.Flat.{Flat, IsFlat, thread_of, tables, machine as machine_in}
 use Rattle.ir_flat.specs.Next.{next, MayStep}
-use Rattle.ir_runs.specs.Run.{Step, after, label, count, th}
-use Rattle.ir_flat.proofs.CallerLemmas.{can_by_may, taken_by, next_flat, thread_count, object_count}
-use Rattle.ir_runs.specs.Cuts.{Emits, Needs, Cut, further}
+use Rattle.ir_runs.specs.Run.{Step, after, label, count, th, trail}
+use Rattle.ir_runs.specs.Object.{Object, target, Admits, emitted}
+use Rattle.ir_log.specs.Logging.{label_of}
+use Rattle.ir_log.specs.declared.event.Event.{Event}
+use Rattle.ir_log.specs.declared.event.Event.TheVariants.{Answer as Answered, Read, Write, Try as Refused}
+use Rattle.ir_trace.specs.Recorded.{Recorded}
+use Rattle.ir_trace.specs.TraceOf.{recorded_thread}
+use Rattle.ir_fit.specs.Ahead.{log_ahead}
+use Rattle.ir_flat.proofs.CallerLemmas.{added, can_by_may, taken_by, next_flat, thread_count, object_count}
+use Rattle.ir_runs.specs.Cuts.{At, Emits, Needs, Cut, further}
 use Rattle.ir_fit.specs.Fit.{FittedTrace, HasRun, IsRunOf}
 use Rattle.ir_runs.specs.Following.{unlogged}
 use Rattle.ir_cut.specs.Positions.{machine_of, start_of}
-use Rattle.ir_weave.specs.Ahead.{IsAlone, HasStep, ask_at, thread_at, IsThreadAt, AreAlone}
+use Rattle.ir_weave.specs.Ahead.{IsRefused, IsAlone, GoesAlone, HasStep, ask_at, event_of, thread_at, IsThreadAt, AreAlone}
 use Rattle.ir_weave.specs.States.{IsStateAt, positions}
 use Rattle.ir_weave.specs.Stepping.{LogsNext}
 use Rattle.ir_weave.specs.Woven.{AdmittedAt}
 use Rattle.ir_weave.proofs.Behind.{behind, log_behind, admitted_next}
 use Rattle.ir_weave.proofs.Onward.{leads_at, one_logs, own_step, other_steps}
+use Rattle.ir_fit.proofs.CallerLemmas.{ahead_at}
+use Rattle.ir_weave.proofs.Lone.{event_there, try_result, emitted_result}
 use Rattle.ir_weave.proofs.Trails.{StepOf, step_at, needs_none}
 
 -- after the step of thread t that asks so
@@ -38,6 +50,9 @@ next_code : (s : Flat) (t v : ℕ) (q : Ask) → (next s t v q).code ≡ s.code
 next_code s t v Private = refl
 next_code s t v (Env kind) = refl
 next_code s t v (Enter o a) = refl
+next_code s t zero (Try o) = refl
+next_code s t (suc zero) (Try o) = refl
+next_code s t (suc (suc v)) (Try o) = refl
 next_code s t v (Leave o a) = refl
 next_code s t v (Get o i) = refl
 next_code s t v (Put o i w) = refl
@@ -93,27 +108,70 @@ admitted_on f s t q h flat at l is ad =
 
 -- ---- what is no entry is admitted
 
-shared_enter : (q : Ask) → ((o : ℕ) (a : Access) → q ≢ Enter o a) → (o : ℕ) (a : Access) → shared_ask q ≢ machine.Enter o a
-shared_enter Private ne o a = λ e. cc e
-shared_enter (Env kind) ne o a = λ e. cc e
-shared_enter (Enter p b) ne o a = λ e. ne p b refl
-shared_enter (Leave p b) ne o a = λ e. cc e
-shared_enter (Get p i) ne o a = λ e. cc e
-shared_enter (Put p i w) ne o a = λ e. cc e
-shared_enter Print ne o a = λ e. cc e
-shared_enter (End x) ne o a = λ e. cc e
-shared_enter Done ne o a = λ e. cc e
+-- no entry, nor a try that the trace says got in
+abbrev pub IsFree : Ask → Option Event → Type 0
+IsFree (Enter o a) e = ⊥
+IsFree (Try o) e = IsRefused e
+IsFree _ e = ⊤
 
-shared_try : (q : Ask) (o : ℕ) → shared_ask q ≢ machine.Try o
-shared_try Private o = λ e. cc e
-shared_try (Env kind) o = λ e. cc e
-shared_try (Enter p b) o = λ e. cc e
-shared_try (Leave p b) o = λ e. cc e
-shared_try (Get p i) o = λ e. cc e
-shared_try (Put p i w) o = λ e. cc e
-shared_try Print o = λ e. cc e
-shared_try (End x) o = λ e. cc e
-shared_try Done o = λ e. cc e
+free_enter : (q : Ask) (e : Option Event) → IsFree q e → ((o : ℕ) → q ≢ Try o) → (o : ℕ) (a : Access) → shared_ask q ≢ machine.Enter o a
+free_enter Private e free ne o a = λ h. cc h
+free_enter (Env kind) e free ne o a = λ h. cc h
+free_enter (Enter p b) e free ne o a = absurd free
+free_enter (Try p) e free ne o a = absurd (ne p refl)
+free_enter (Leave p b) e free ne o a = λ h. cc h
+free_enter (Get p i) e free ne o a = λ h. cc h
+free_enter (Put p i w) e free ne o a = λ h. cc h
+free_enter Print e free ne o a = λ h. cc h
+free_enter (End x) e free ne o a = λ h. cc h
+free_enter Done e free ne o a = λ h. cc h
+
+free_try : (q : Ask) → ((o : ℕ) → q ≢ Try o) → (o : ℕ) → shared_ask q ≢ machine.Try o
+free_try Private ne o = λ h. cc h
+free_try (Env kind) ne o = λ h. cc h
+free_try (Enter p b) ne o = λ h. cc h
+free_try (Try p) ne o = absurd (ne p refl)
+free_try (Leave p b) ne o = λ h. cc h
+free_try (Get p i) ne o = λ h. cc h
+free_try (Put p i w) ne o = λ h. cc h
+free_try Print ne o = λ h. cc h
+free_try (End x) ne o = λ h. cc h
+free_try Done ne o = λ h. cc h
+
+-- what is asked is a try, or it isn't
+try_or : (q : Ask) → ((o : ℕ) × (q ≡ Try o)) ⊎ ((o : ℕ) → q ≢ Try o)
+try_or Private = inr (λ o h. cc h)
+try_or (Env kind) = inr (λ o h. cc h)
+try_or (Enter p b) = inr (λ o h. cc h)
+try_or (Try p) = inl (p, refl)
+try_or (Leave p b) = inr (λ o h. cc h)
+try_or (Get p i) = inr (λ o h. cc h)
+try_or (Put p i w) = inr (λ o h. cc h)
+try_or Print = inr (λ o h. cc h)
+try_or (End x) = inr (λ o h. cc h)
+try_or Done = inr (λ o h. cc h)
+
+-- a refused try needs nothing
+needs_refused : (b : Label) (o : ℕ) → Needs b (labels.Refused o) → ⊥
+needs_refused labels.Quiet o h = h
+needs_refused (labels.Answer k v) o h = h
+needs_refused (labels.In p a v l) o h = h
+needs_refused (labels.Refused p) o h = h
+needs_refused (labels.Out p Reading v) o h = h
+needs_refused (labels.Out p Writing v) o h = h
+
+-- the event of a refused try
+refused_event : (x : Option Event) → IsRefused x → (o : ℕ) × (x ≡ Some (Refused o))
+refused_event None h = absurd h
+refused_event (Some (Answered kind value)) h = absurd h
+refused_event (Some (Read object version)) h = absurd h
+refused_event (Some (Write object version readers)) h = absurd h
+refused_event (Some (Refused object)) h = (object, refl)
+
+one_label : {X : Type 0} (xs : List X) (k : ℕ) (a b : X) → At xs k a → At xs k b → a ≡ b
+one_label [] k a b h g = absurd h
+one_label (x ∷ xs) zero a b h g = sym h ∙ g
+one_label (x ∷ xs) (suc k) a b h g = one_label xs k a b h g
 
 pub further_here : (p : Cut) (t : ℕ) → further p t t ≡ suc (p t)
 further_here p t = rw (eq-eqb t t refl) refl
@@ -133,8 +191,8 @@ pub asks_so : (f : FittedTrace) (s : Flat) (t : ℕ) (run : List Step) → IsSta
 asks_so f s t run at of = λ i. ask_of (at.code i) ((at.each run of).threads t i)
 
 pub free_admitted : (f : FittedTrace) (s : Flat) (t : ℕ) → IsStateAt f (positions s) s → HasStep f t (positions s t)
-    → ((o : ℕ) (a : Access) → ask_of s.code (thread_of s t) ≢ Enter o a) → AdmittedAt f (positions s) t
-free_admitted f s t at has ne run of = (
+    → t < length f.guest.entries → IsFree (ask_of s.code (thread_of s t)) (event_of f t (thread_of s t)) → AdmittedAt f (positions s) t
+free_admitted f s t at has below free run of = (
   has run of,
   λ u k w j a b ha hb need less. elim (cases_lt k (positions s u)) [
     | inl before ↦ (let c = (at.each run of).consistent u k w j a b ha hb need before in let up = further_le (positions s) t w in
@@ -154,28 +212,98 @@ free_admitted f s t at has ne run of = (
     last run of u k w j a b same here ha need =
         let z : StepOf (machine_of f) (th (machine_of f) (start_of f) run u k) (th (machine_of f) (start_of f) run u (suc k)) a =
         step_at (machine_of f) (start_of f) run of.1.runs u k a ha in
-        let asks : ask_of f.guest.code (th (machine_of f) (start_of f) run u k) ≡ ask_of s.code (thread_of s t) =
+        let x : thread.State = thread_of s t in
+        let q : Ask = ask_of s.code x in
+        let asks : ask_of f.guest.code (th (machine_of f) (start_of f) run u k) ≡ q =
         ap (λ i. ask_at f run u i) here ∙ ap (λ i. ask_at f run i (positions s i)) same ∙ sym (asks_so f s t run at of) in
-        needs_none b (shared_ask (ask_of f.guest.code (th (machine_of f) (start_of f) run u k))) z.result z.object
-        (shared_enter (ask_of f.guest.code (th (machine_of f) (start_of f) run u k)) (λ o c e. ne o c (sym asks ∙ e)))
-        (shared_try (ask_of f.guest.code (th (machine_of f) (start_of f) run u k)))
-        (subst (Needs b) z.emits need)
+        elim (try_or q) [
+          | inl is ↦
+              let refused = refused_event (event_of f t x) (subst (λ p. IsFree p (event_of f t x)) is.1 free) in
+              let mine : Emits (machine_of f) (start_of f) run t (positions s t) a =
+              subst (λ (i : ℕ × ℕ). Emits (machine_of f) (start_of f) run i.0 i.1 a) (λ i. (same i, (here ∙ ap (positions s) same) i)) ha in
+              let found = event_there f run of t (positions s t) below (has run of)
+              (ap added (sym (asks_so f s t run at of) ∙ is.1)) in
+              let event : found.0 ≡ Refused refused.0 = cc (
+                found.1,
+                ap (λ (y : thread.State). slice_get (recorded_thread f.recorded t).events y.events) (sym ((at.each run of).threads t))
+                    ∙ refused.1,
+              ) in
+              let label : label_of found.0 ≡ a = ap (λ y. y.1) (one_label (trail (machine_of f) (start_of f) run t) (positions s t)
+              (found.2.0, label_of found.0) (mine.0, a) found.2.1 mine.1) in
+              needs_refused b refused.0 (subst (Needs b) (sym label ∙ ap label_of event) need)
+          | inr other ↦
+              let p : Ask = ask_of f.guest.code (th (machine_of f) (start_of f) run u k) in
+              let none : (o : ℕ) → p ≢ Try o = λ o e. other o (sym asks ∙ e) in
+              needs_none b (shared_ask p) z.result z.object
+              (free_enter p (event_of f t x) (subst (λ y. IsFree y (event_of f t x)) (sym asks) free) none) (free_try p none)
+              (subst (Needs b) z.emits need)
+        ]
 
 -- ---- steps that touch no object
 
-alone_objects : (s : Flat) (t v : ℕ) (q : Ask) → IsAlone q → (next s t v q).objects ≡ s.objects
-alone_objects s t v Private h = refl
-alone_objects s t v (Env kind) h = refl
-alone_objects s t v (Enter o a) h = absurd h
-alone_objects s t v (Leave o a) h = absurd h
-alone_objects s t v (Get o i) h = refl
-alone_objects s t v (Put o i w) h = absurd h
-alone_objects s t v Print h = refl
-alone_objects s t v (End e) h = refl
-alone_objects s t v Done h = refl
+alone_objects : (s : Flat) (t v : ℕ) (q : Ask) (e : Option Event) → ((o : ℕ) → q ≢ Try o) → IsAlone q e → (next s t v q).objects ≡ s.objects
+alone_objects s t v Private e ne h = refl
+alone_objects s t v (Env kind) e ne h = refl
+alone_objects s t v (Enter o a) e ne h = absurd h
+alone_objects s t v (Try o) e ne h = absurd (ne o refl)
+alone_objects s t v (Leave o a) e ne h = absurd h
+alone_objects s t v (Get o i) e ne h = refl
+alone_objects s t v (Put o i w) e ne h = absurd h
+alone_objects s t v Print e ne h = refl
+alone_objects s t v (End x) e ne h = refl
+alone_objects s t v Done e ne h = refl
 
-alone_enter : (q : Ask) → IsAlone q → (o : ℕ) (a : Access) → q ≢ Enter o a
-alone_enter q h o a e = subst IsAlone e h
+alone_free : (q : Ask) (e : Option Event) → IsAlone q e → IsFree q e
+alone_free Private e h = tt
+alone_free (Env kind) e h = tt
+alone_free (Enter o a) e h = h
+alone_free (Try o) e h = h
+alone_free (Leave o a) e h = tt
+alone_free (Get o i) e h = tt
+alone_free (Put o i w) e h = tt
+alone_free Print e h = tt
+alone_free (End x) e h = tt
+alone_free Done e h = tt
+
+-- a try logs its event with one result
+pub tried_with : (r : Recorded) (s : Flat) (t v o : ℕ) (e : Event) → ask_of s.code (thread_of s t) ≡ Try o
+    → slice_get (recorded_thread r t).events (thread_of s t).events ≡ Some e → LogsNext r s t v → v ≡ try_result e
+tried_with r s t v o e is event logs =
+    let obj = λ (q : Ask). (tables s).objects (target (act_of (shared_ask q) v)) in
+    let can : Admits (machine_in s) (act_of (machine.Try o) v) (obj (Try o)) =
+    subst (λ q. Admits (machine_in s) (act_of (shared_ask q) v) (obj q)) is logs.0 in
+    let es : List Label = log_ahead r s t in
+    let emits : logged (emitted (act_of (machine.Try o) v) (obj (Try o))) (unlogged (emitted (act_of (machine.Try o) v) (obj (Try o))) es) ≡ es =
+    subst (λ q. logged (emitted (act_of (shared_ask q) v) (obj q)) (unlogged (emitted (act_of (shared_ask q) v) (obj q)) es) ≡ es) is logs.1 in
+    by v (obj (Try o)) es can (emits ∙ ahead_at (recorded_thread r t).events (thread_of s t).events e event)
+  where
+    by : (v : ℕ) (b : Object) (es : List Label) → Admits (machine_in s) (act_of (machine.Try o) v) b
+        → logged (emitted (act_of (machine.Try o) v) b) (unlogged (emitted (act_of (machine.Try o) v) b) es) ≡ label_of e
+        ∷ drop (suc (thread_of s t).events) (map label_of (recorded_thread r t).events) → v ≡ try_result e
+    by zero b es can h = emitted_result s o zero b e can (cc h)
+    by (suc zero) b es can h = emitted_result s o (suc zero) b e can (cc h)
+    by (suc (suc v)) b es can h = absurd can
+
+-- a step that touches no object
+alone_on : (f : FittedTrace) (s : Flat) (t : ℕ) → HasRun f → IsFlat s → IsStateAt f (positions s) s → t < length s.threads
+    → HasStep f t (positions s t) → IsAlone (ask_of s.code (thread_of s t)) (event_of f t (thread_of s t))
+    → (v : ℕ) × Goes f s t v (ask_of s.code (thread_of s t)) × ((next s t v (ask_of s.code (thread_of s t))).objects ≡ s.objects)
+alone_on f s t h flat at l has alone =
+    let x : thread.State = thread_of s t in
+    let q : Ask = ask_of s.code x in
+    let below = guest_thread f s t at l in
+    let ad : AdmittedAt f (positions s) t = free_admitted f s t at has below (alone_free q (event_of f t x) alone) in
+    elim (try_or q) [
+      | inl is ↦
+          let refused = refused_event (event_of f t x) (subst (λ p. IsAlone p (event_of f t x)) is.1 alone) in
+          let some = admitted_next f s at h.run h.whole t below (ad h.run h.whole) in
+          let none : some.0 ≡ 0 = tried_with f.recorded s t some.0 is.0 (Refused refused.0) is.1 refused.1 some.1 in
+          let goes : Goes f s t 0 q = logs_on f s t 0 q flat at l refl has (subst (LogsNext f.recorded s t) none some.1) in
+          (0, goes, subst (λ p. (next s t 0 p).objects ≡ s.objects) (sym is.1) refl)
+      | inr other ↦
+          let goes = admitted_on f s t q h flat at l refl ad in
+          (goes.0, goes.1, alone_objects s t goes.0 q (event_of f t x) other alone)
+    ]
 
 -- the state when thread t has caught up with x
 pub record CaughtUp (f : FittedTrace) (s : Flat) (t : ℕ) (x : thread.State) : Type 0 where
@@ -202,10 +330,11 @@ climb zero f s t i x h flat at l there alone past sum =
     }
 climb (suc n) f s t i x h flat at l there alone past sum =
     let q : Ask = ask_of s.code (thread_of s t) in
-    let own : IsAlone q = subst IsAlone (sym (asks_so f s t h.run at h.whole))
-    (alone h.run h.whole (positions s t) past (omega (arith, sum))) in
+    let own : IsAlone q (event_of f t (thread_of s t)) = subst (λ c. IsAlone (ask_of c (thread_of s t)) (event_of f t (thread_of s t)))
+    (sym at.code) (subst (GoesAlone f t) (sym ((at.each h.run h.whole).threads t))
+    (alone h.run h.whole (positions s t) past (omega (arith, sum)))) in
     let has : HasStep f t (positions s t) = λ run of. (let within = (there run of).0 in omega (arith, within, sum)) in
-    let goes = admitted_on f s t q h flat at l refl (free_admitted f s t at has (alone_enter q own)) in
+    let goes = alone_on f s t h flat at l has own in
     let new : Flat = next s t goes.0 q in
     let g : Goes f s t goes.0 q = goes.1 in
     let more = g.own in
@@ -216,7 +345,7 @@ climb (suc n) f s t i x h flat at l there alone past sum =
       state = rest.state;
       flat = rest.flat;
       at = rest.at;
-      objects = rest.objects ∙ alone_objects s t goes.0 q own;
+      objects = rest.objects ∙ goes.2;
       size = rest.size ∙ size;
       own = rest.own;
       others = λ u ne. rest.others u ne ∙ g.others u ne;

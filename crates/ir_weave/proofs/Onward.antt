@@ -35,18 +35,18 @@ at_end f s run prefix is ok left logs ends within =
 
 -- ---- the start
 
-none_taken : (f : FittedTrace) (t : ℕ) → positions (start_flat f.guest f.recorded.budget) t ≡ 0
-none_taken f t = no_steps f.guest f.recorded.budget 0 (length f.guest.entries) t
+none_taken : (f : FittedTrace) (t : ℕ) → positions (start_flat f.guest f.recorded.budget f.recorded.profile) t ≡ 0
+none_taken f t = no_steps f.guest f.recorded.budget f.recorded.profile 0 (length f.guest.entries) t
 
-pub starts_at : (f : FittedTrace) (s : Flat) → s ≡ start_flat f.guest f.recorded.budget → IsStateAt f (λ t. 0) s
+pub starts_at : (f : FittedTrace) (s : Flat) → s ≡ start_flat f.guest f.recorded.budget f.recorded.profile → IsStateAt f (λ t. 0) s
 starts_at f s same = subst (IsStateAt f (λ t. 0)) (sym same) (record {
   code = refl;
-  threads = threads_length f.guest f.recorded.budget 0 (length f.guest.entries);
+  threads = threads_length f.guest f.recorded.budget f.recorded.profile 0 (length f.guest.entries);
   objects = cells_length f.guest.words (object_count f.guest);
   steps = none_taken f;
   each = λ run is.
-      subst (λ p. IsAt f p (start_flat f.guest f.recorded.budget) run) (λ i t. none_taken f t i)
-      (at_end f (start_flat f.guest f.recorded.budget) run [] is tt (log (machine_of f) (start_of f) run) (λ t. refl)
+      subst (λ p. IsAt f p (start_flat f.guest f.recorded.budget f.recorded.profile) run) (λ i t. none_taken f t i)
+      (at_end f (start_flat f.guest f.recorded.budget f.recorded.profile) run [] is tt (log (machine_of f) (start_of f) run) (λ t. refl)
       refl (λ t. let none = none_taken f t in omega (arith, none)));
 })
 

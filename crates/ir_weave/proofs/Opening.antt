@@ -404,10 +404,10 @@ pub closes : (k : Plan) (v : View) (ws : List ℕ) (e : IsEnd k v ws) (xs : List
 closes k v ws e xs n h all = subst (IsClosed k v) (sym (all_objects e.cells xs n h all)) e.closed
 
 -- the state before the first step
-pub stands_first : (f : FittedTrace) (first : Flat) (s : Standing) → first ≡ start_flat f.guest f.recorded.budget → IsFlat first
+pub stands_first : (f : FittedTrace) (first : Flat) (s : Standing) → first ≡ start_flat f.guest f.recorded.budget f.recorded.profile → IsFlat first
     → s.threads ≡ first.threads → s.objects ≡ first.objects → StandsAt f (λ t. 0) s
 stands_first f first s is flat threads objects =
-    let same : flat_in f s ≡ start_flat f.guest f.recorded.budget =
+    let same : flat_in f s ≡ start_flat f.guest f.recorded.budget f.recorded.profile =
     λ i. record {
       code = f.guest.code;
       threads = (threads ∙ ap (λ z. z.threads) is) i;

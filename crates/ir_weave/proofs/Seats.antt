@@ -11,21 +11,22 @@ use Rattle.ir_thread.specs.State as thread
 use Rattle.ir_runs.specs.declared.access.Access.{Access}
 use Rattle.ir_runs.specs.declared.access.Access.TheVariants.{Reading, Writing}
 use Rattle.ir_thread.specs.declared.ask.Ask.{Ask}
-use Rattle.ir_thread.specs.declared.ask.Ask.TheVariants.{Enter, Leave, Get, Put}
+use Rattle.ir_thread.specs.declared.ask.Ask.TheVariants.{Enter, Try, Leave, Get, Put}
 use Rattle.ir_thread.proofs.CallerLemmas.{ask_permits}
+use Rattle.ir_log.proofs.CallerLemmas.{entering_by}
 use Rattle.ir_log.specs.declared.event.Event.{Event}
 use Rattle.ir_trace.specs.TraceOf.{recorded_thread}
 use Rattle.ir_runs.specs.Cuts.{Emits}
 use Rattle.ir_fit.specs.Fit.{FittedTrace, HasRun}
 use Rattle.ir_cut.specs.Positions.{machine_of, start_of, EachRun}
-use Rattle.ir_weave.specs.Ahead.{IsAlone, HasStep, IsAhead, IsAsking, IsEntering, IsNextObject, ask_at, thread_at}
+use Rattle.ir_weave.specs.Ahead.{IsAlone, event_of, HasStep, IsAhead, IsAsking, IsEntering, IsNextObject, ask_at, thread_at}
 use Rattle.ir_object.specs.Layout.{word_place, content_place, table_length}
 use Rattle.ir_object.specs.Word.{version_unit, reader_leaves}
 use Rattle.ir_weave.specs.Woven.{View, M, trace_in, progress, Woven, Opens, Answers, WasStopped, looked, stepped_on, read_version, IsSeated, IsGranted}
 use Rattle.ir_weave.specs.declared.plan.Plan.{Plan}
 use Rattle.ir_weave.specs.declared.plan.Progress.{Progress}
 use Rattle.ir_weave.proofs.Lone.{ahead_here}
-use Rattle.ir_weave.proofs.Acts.{added, looks_at, enters_at, left_reading_at, left_writing_at, versions_at, gets_at, puts_at, touches_next}
+use Rattle.ir_weave.proofs.Acts.{added, looks_at, enters_at, left_reading_at, left_writing_at, versions_at, gets_at, puts_at, touches_next, entering_touches}
 
 -- ---- the first step on an object
 
@@ -46,6 +47,17 @@ permits f x q is = subst (Permits x) is (ask_permits f.guest.code x)
 pub entered_inside : (f : FittedTrace) (t i : ℕ) (x : thread.State) (o : ℕ) (a : Access) → IsAhead f t i x
     → ask_of f.guest.code x ≡ Enter o a → o < object_count f.guest
 entered_inside f t i x o a ahead is = let p = (permits f x (Enter o a) is).2 in let e = ahead.held in omega (arith, p, e)
+
+tried_inside : (f : FittedTrace) (t i : ℕ) (x : thread.State) (o : ℕ) → IsAhead f t i x → ask_of f.guest.code x ≡ Try o
+    → o < object_count f.guest
+tried_inside f t i x o ahead is = let p = (permits f x (Try o) is).2 in let e = ahead.held in omega (arith, p, e)
+
+pub entering_inside : (f : FittedTrace) (t i : ℕ) (x : thread.State) (o : ℕ) (a : Access) (e : Event) → IsAhead f t i x
+    → IsEntering f x o a e → o < object_count f.guest
+entering_inside f t i x o a e ahead entering = elim (entering_by entering.asked o a e entering.suits entering.enters) [
+  | inl same ↦ entered_inside f t i x o a ahead (entering.asking.asks ∙ same)
+  | inr same ↦ tried_inside f t i x o ahead (entering.asking.asks ∙ same.0)
+]
 
 pub left_inside : (f : FittedTrace) (t i : ℕ) (x : thread.State) (o : ℕ) (a : Access) → IsAhead f t i x → ask_of f.guest.code x ≡ Leave o a
     → o < object_count f.guest
@@ -83,18 +95,18 @@ look_allows k slots id o a e x (q ∷ [], c) seated entering =
     let ent : IsEntering (trace_in q.plan) x o a e = there k q (λ f. IsEntering f x o a e) seated.0 entering in
     keyed k q (λ z. Allows (Woven z) slots id (q ∷ [], c) (word_place o) (λ n. n) (looked (step slots (word_place o) 0 0 none) (q ∷ [], c)))
     seated.0
-    (looks_at slots id o a e x q c seated.1 (entered_inside (trace_in q.plan) q.thread q.position x o a seated.1 ent.asking.asks) ent)
+    (looks_at slots id o a e x q c seated.1 (entering_inside (trace_in q.plan) q.thread q.position x o a e seated.1 ent) ent)
 
-pub enter_allows : (k : Plan) (slots id o : ℕ) (a : Access) (x : thread.State) (me : M) → IsGranted k me.0 x
-    → IsAsking (trace_in k) x (Enter o a)
+pub enter_allows : (k : Plan) (slots id o : ℕ) (a : Access) (e : Event) (x : thread.State) (me : M) → IsGranted k me.0 x
+    → IsEntering (trace_in k) x o a e
     → Allows (Woven k) slots id me (word_place o) (λ n. (n + added a) % 2 ^ 64) (stepped_on (step slots (word_place o) (added a) 0 none) me)
-enter_allows k slots id o a x ([], c) g asking = absurd g.seated
-enter_allows k slots id o a x (q ∷ r ∷ qs, c) g asking = absurd g.seated
-enter_allows k slots id o a x (q ∷ [], c) g asking =
-    let ask : IsAsking (trace_in q.plan) x (Enter o a) = there k q (λ f. IsAsking f x (Enter o a)) g.seated.0 asking in
+enter_allows k slots id o a e x ([], c) g entering = absurd g.seated
+enter_allows k slots id o a e x (q ∷ r ∷ qs, c) g entering = absurd g.seated
+enter_allows k slots id o a e x (q ∷ [], c) g entering =
+    let ent : IsEntering (trace_in q.plan) x o a e = there k q (λ f. IsEntering f x o a e) g.seated.0 entering in
     keyed k q (λ z. Allows (Woven z) slots id (q ∷ [], c) (word_place o) (λ n. (n + added a) % 2 ^ 64)
     (stepped_on (step slots (word_place o) (added a) 0 none) (q ∷ [], c))) g.seated.0
-    (enters_at slots id o a x q c g.seated.1 (entered_inside (trace_in q.plan) q.thread q.position x o a g.seated.1 ask.asks) ask.asks
+    (enters_at slots id o a e x q c g.seated.1 (entering_inside (trace_in q.plan) q.thread q.position x o a e g.seated.1 ent) ent
     (ap first_granted g.view) (ap first_position g.view))
   where
     first_granted : View → Bool
@@ -192,17 +204,25 @@ pub record WasEmitted (k : Plan) (x : thread.State) (me w : M) (n : ℕ) : Type 
   pub answers : Answers (trace_in k) x.number x.steps n
 
 pub step_emitted : (k : Plan) (x : thread.State) (asked : Ask) (me w : M) (n : ℕ) → IsSeated k me.0 x
-    → ask_of (trace_in k).guest.code x ≡ asked → (IsAlone asked → ⊥) → stepped_on any_step me n w → WasEmitted k x me w n
+    → ask_of (trace_in k).guest.code x ≡ asked → (IsAlone asked (event_of (trace_in k) x.number x) → ⊥) → stepped_on any_step me n w → WasEmitted k x me w n
 step_emitted k x asked ([], c) w n seated is touches emitted = absurd seated
 step_emitted k x asked (q ∷ r ∷ qs, c) w n seated is touches emitted = absurd seated
 step_emitted k x asked (q ∷ [], c) w n seated is touches emitted =
     let f : FittedTrace = trace_in q.plan in
     let ask : ask_of f.guest.code x ≡ asked = there k q (λ f. ask_of f.guest.code x ≡ asked) seated.0 is in
     let here : emitted.0 ≡ x.steps = one_next f q.thread q.position emitted.0 x.steps seated.1.run emitted.1
-    (touches_next f q.thread q.position x asked seated.1 ask touches) in record {
+    (touches_next f q.thread q.position x asked seated.1 ask
+    (subst (λ (z : Plan × ℕ). IsAlone asked (event_of (trace_in z.0) z.1 x) → ⊥) (λ i. (sym seated.0 i, seated.1.number i)) touches)) in
+    record {
       view = emitted.2 ∙ (λ i. (same_view k q x (suc emitted.0) (suc x.steps) false seated.0 seated.1.number (ap suc here) i, c));
       answers = subst (λ (z : Plan × ℕ × ℕ). Answers (trace_in z.0) z.1 z.2 n) (λ i. (seated.0 i, sym seated.1.number i, here i)) emitted.3;
     }
+
+-- who enters an object touches it
+pub touches_by : (k : Plan) (x : thread.State) (o : ℕ) (a : Access) (e : Event) → (entering : IsEntering (trace_in k) x o a e)
+    → IsAlone entering.asked (event_of (trace_in k) x.number x) → ⊥
+touches_by k x o a e entering =
+    entering_touches entering.asked o a e (event_of (trace_in k) x.number x) entering.event entering.suits entering.enters
 
 -- of a load before an entry
 pub record WasShown (k : Plan) (x : thread.State) (e : Event) (me w : M) (n : ℕ) : Type 0 where
@@ -217,7 +237,9 @@ look_emitted k x o a e (q ∷ [], c) w n seated entering emitted =
     let f : FittedTrace = trace_in q.plan in
     let ent : IsEntering f x o a e = there k q (λ f. IsEntering f x o a e) seated.0 entering in
     let here : emitted.0 ≡ x.steps = one_next f q.thread q.position emitted.0 x.steps seated.1.run emitted.2
-    (touches_next f q.thread q.position x (Enter o a) seated.1 ent.asking.asks (λ b. b)) in
+    (touches_next f q.thread q.position x ent.asked seated.1 ent.asking.asks
+    (entering_touches ent.asked o a e (event_of f q.thread x)
+    (subst (λ t. slice_get (recorded_thread f.recorded t).events x.events ≡ Some e) seated.1.number ent.event) ent.suits ent.enters)) in
     let event : emitted.1 ≡ e =
     same_event (recorded_thread f.recorded q.thread).events (thread_at f seated.1.run.run q.thread emitted.0).events emitted.1 e
     (emitted.3 seated.1.run.run seated.1.run.whole)
@@ -277,13 +299,13 @@ word_read k x (q ∷ []) o i n seated asking answers =
     (ap (ask_of f.guest.code) (sym (seated.1.at run seated.1.run.whole).1) ∙ ask.asks))).0
 
 -- the words that there are
-pub head_there : (k : Plan) (x : thread.State) (v : View) (o words : ℕ) (a : Access) (q : Ask) → IsSeated k v x → IsAsking (trace_in k) x q
-    → (q ≡ Enter o a) → words ≡ table_length (object_count (trace_in k).guest) → word_place o < words
-head_there k x [] o words a q seated asking is size = absurd seated
-head_there k x (p ∷ r ∷ ps) o words a q seated asking is size = absurd seated
-head_there k x (p ∷ []) o words a q seated asking is size =
-    let inside = entered_inside (trace_in p.plan) p.thread p.position x o a seated.1
-    (there k p (λ f. ask_of f.guest.code x ≡ Enter o a) seated.0 (asking.asks ∙ is)) in
+pub head_there : (k : Plan) (x : thread.State) (v : View) (o words : ℕ) (a : Access) (e : Event) → IsSeated k v x
+    → IsEntering (trace_in k) x o a e → words ≡ table_length (object_count (trace_in k).guest) → word_place o < words
+head_there k x [] o words a e seated entering size = absurd seated
+head_there k x (p ∷ r ∷ ps) o words a e seated entering size = absurd seated
+head_there k x (p ∷ []) o words a e seated entering size =
+    let inside = entering_inside (trace_in p.plan) p.thread p.position x o a e seated.1
+    (there k p (λ f. IsEntering f x o a e) seated.0 entering) in
     let same : object_count (trace_in p.plan).guest ≡ object_count (trace_in k).guest =
     ap (λ z. object_count (trace_in z).guest) seated.0 in
     omega (arith, inside, same, size)

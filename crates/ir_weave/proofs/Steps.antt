@@ -1,5 +1,5 @@
 -- A seat and its thread after a step.
-use Rattle.std.proofs.Common.{◌≡◌, ℕ, suc, zero, ◌+◌, ◌<◌, ◌≤◌, false, List, [], ◌∷◌, length, Some, refl, sym, ap, ◌∙◌, subst, arith, inl, inr, ◌⊎◌}
+use Rattle.std.proofs.Common.{◌≡◌, ◌≢◌, ℕ, suc, zero, ◌+◌, ◌<◌, ◌≤◌, false, List, [], ◌∷◌, length, Some, refl, sym, ap, ◌∙◌, subst, arith, inl, inr, ◌⊎◌}
 use Rattle.std.specs.Prelude.{slice_get}
 use Rattle.ir_thread.specs.Calls.{ask_of, after_ask, after_reply, step_of, run_of}
 use Rattle.ir_thread.specs.Instance.{shared_ask}
@@ -10,23 +10,24 @@ use Rattle.ir_thread.specs.declared.end.End as end
 use Rattle.ir_runs.specs.declared.access.Access.{Access}
 use Rattle.ir_runs.specs.declared.access.Access.TheVariants.{Reading, Writing}
 use Rattle.ir_thread.specs.declared.ask.Ask.{Ask}
-use Rattle.ir_thread.specs.declared.ask.Ask.TheVariants.{Private, Env, Enter, Leave, Get, Put, Print, End, Done}
+use Rattle.ir_thread.specs.declared.ask.Ask.TheVariants.{Private, Env, Enter, Try, Leave, Get, Put, Print, End, Done}
 use Rattle.ir_runs.specs.declared.env_kind.EnvKind.{EnvKind}
 use Rattle.ir_thread.specs.declared.ask.Reply.{Reply}
 use Rattle.ir_thread.specs.declared.ask.Reply.TheVariants.{Go, Value}
-use Rattle.ir_runs.specs.Object.{Object, emitted}
+use Rattle.ir_runs.specs.Object.{Object, emitted, Admits}
 use Rattle.ir_runs.specs.Run.{Step, count}
 use Rattle.ir_flat.proofs.CallerLemmas.{added}
-use Rattle.ir_log.specs.Logging.{label_of, Suits}
+use Rattle.ir_log.specs.Logging.{label_of, ask_of as event_ask, Suits}
+use Rattle.ir_log.proofs.CallerLemmas.{call_suits}
 use Rattle.ir_log.specs.declared.event.Event.{Event}
-use Rattle.ir_log.specs.declared.event.Event.TheVariants.{Answer as Answered, Read, Write}
+use Rattle.ir_log.specs.declared.event.Event.TheVariants.{Answer as Answered, Read, Write, Try as Refused}
 use Rattle.ir_trace.specs.TraceOf.{recorded_thread}
 use Rattle.ir_fit.specs.Fit.{FittedTrace, IsRunOf}
 use Rattle.ir_cut.specs.Positions.{machine_of, start_of, cut_of, IsConsistentCut}
-use Rattle.ir_weave.specs.Ahead.{IsAlone, HasStep, IsAhead, IsAsking, IsEntering, thread_at, ask_at}
+use Rattle.ir_weave.specs.Ahead.{IsRefused, IsAlone, event_of, HasStep, IsAhead, IsAsking, IsEntering, thread_at, ask_at}
 use Rattle.ir_weave.specs.Woven.{View, M, trace_in, progress, Answers, IsFor, IsSeated, HasStepped, HasWaited, HasRunOn, WasStopped}
 use Rattle.ir_weave.specs.declared.plan.Plan.{Plan}
-use Rattle.ir_weave.proofs.Lone.{Takes, is_go, really, ahead_alone, ahead_none, ahead_here, takes_go, takes_answer, asks_in, event_there, more_steps, same_number, never_done}
+use Rattle.ir_weave.proofs.Lone.{Takes, is_go, really, ahead_alone, ahead_none, ahead_here, takes_go, takes_answer, takes_try, try_result, asks_in, event_there, more_steps, same_number, never_done}
 use Rattle.ir_weave.proofs.Trails.{StepOf, step_at}
 
 -- ---- the thread of a seat
@@ -61,7 +62,7 @@ replied code f x q r same is = (λ i. after_ask (same i) x (ask_of (same i) x) r
 
 -- a step that touches no object
 pub stepped_alone : (k : Plan) (f : FittedTrace) (code : List ℕ) (me : M) (x y : thread.State) (q : Ask) (r : Reply) → IsFor k f
-    → code ≡ f.guest.code → IsSeated k me.0 x → IsAlone q → really q → Takes (trace_in k) x.number x q r → y ≡ after_reply code x r
+    → code ≡ f.guest.code → IsSeated k me.0 x → IsAlone q (event_of (trace_in k) x.number x) → really q → Takes (trace_in k) x.number x q r → y ≡ after_reply code x r
     → HasStepped k me me x y
 stepped_alone k f code me x y q r for same seated alone step takes is =
     let y_is : y ≡ after_ask (trace_in k).guest.code x q r = is
@@ -117,23 +118,36 @@ get_takes k v x o i n seated asking answers = record {
 
 -- ---- the next event
 
-suits_by : (q : Ask) (e : Event) (r : ℕ) (b : Object) → label_of e ≡ emitted (act_of (shared_ask q) r) b → added q ≡ 1 → Suits q e
-suits_by (Env k) (Answered j v) r b h one = let same : j ≡ k = cc h in ap Env same
-suits_by (Env k) (Read o v) r b h one = absurd (cc h)
-suits_by (Env k) (Write o v l) r b h one = absurd (cc h)
-suits_by (Enter o Reading) (Answered j v) r b h one = absurd (cc h)
-suits_by (Enter o Reading) (Read p v) r b h one = let same : p ≡ o = cc h in ap (λ z. Enter z Reading) same
-suits_by (Enter o Reading) (Write p v l) r b h one = absurd (cc h)
-suits_by (Enter o Writing) (Answered j v) r b h one = absurd (cc h)
-suits_by (Enter o Writing) (Read p v) r b h one = absurd (cc h)
-suits_by (Enter o Writing) (Write p v l) r b h one = let same : p ≡ o = cc h in ap (λ z. Enter z Writing) same
-suits_by Private e r b h one = absurd (omega (arith, one))
-suits_by (Leave o a) e r b h one = absurd (omega (arith, one))
-suits_by (Get o i) e r b h one = absurd (omega (arith, one))
-suits_by (Put o i w) e r b h one = absurd (omega (arith, one))
-suits_by Print e r b h one = absurd (omega (arith, one))
-suits_by (End x) e r b h one = absurd (omega (arith, one))
-suits_by Done e r b h one = absurd (omega (arith, one))
+suits_by : (f : FittedTrace) (q : Ask) (e : Event) (r : ℕ) (b : Object) → Admits (machine_of f) (act_of (shared_ask q) r) b
+    → label_of e ≡ emitted (act_of (shared_ask q) r) b → added q ≡ 1 → Suits q e
+suits_by f (Env k) (Answered j v) r b can h one = let same : j ≡ k = cc h in inl (ap Env same)
+suits_by f (Env k) (Read o v) r b can h one = absurd (cc h)
+suits_by f (Env k) (Write o v l) r b can h one = absurd (cc h)
+suits_by f (Env k) (Refused o) r b can h one = absurd (cc h)
+suits_by f (Enter o Reading) (Answered j v) r b can h one = absurd (cc h)
+suits_by f (Enter o Reading) (Read p v) r b can h one = let same : p ≡ o = cc h in inl (ap (λ z. Enter z Reading) same)
+suits_by f (Enter o Reading) (Write p v l) r b can h one = absurd (cc h)
+suits_by f (Enter o Reading) (Refused p) r b can h one = absurd (cc h)
+suits_by f (Enter o Writing) (Answered j v) r b can h one = absurd (cc h)
+suits_by f (Enter o Writing) (Read p v) r b can h one = absurd (cc h)
+suits_by f (Enter o Writing) (Write p v l) r b can h one = let same : p ≡ o = cc h in inl (ap (λ z. Enter z Writing) same)
+suits_by f (Enter o Writing) (Refused p) r b can h one = absurd (cc h)
+suits_by f (Try o) (Answered j v) zero b can h one = absurd (cc h)
+suits_by f (Try o) (Read p v) zero b can h one = absurd (cc h)
+suits_by f (Try o) (Write p v l) zero b can h one = absurd (cc h)
+suits_by f (Try o) (Refused p) zero b can h one = let same : p ≡ o = cc h in inl (ap Try same)
+suits_by f (Try o) (Answered j v) (suc zero) b can h one = absurd (cc h)
+suits_by f (Try o) (Read p v) (suc zero) b can h one = absurd (cc h)
+suits_by f (Try o) (Write p v l) (suc zero) b can h one = let same : p ≡ o = cc h in inr (λ i. Some (Try (same i)))
+suits_by f (Try o) (Refused p) (suc zero) b can h one = absurd (cc h)
+suits_by f (Try o) e (suc (suc r)) b can h one = absurd can
+suits_by f Private e r b can h one = absurd (omega (arith, one))
+suits_by f (Leave o a) e r b can h one = absurd (omega (arith, one))
+suits_by f (Get o i) e r b can h one = absurd (omega (arith, one))
+suits_by f (Put o i w) e r b can h one = absurd (omega (arith, one))
+suits_by f Print e r b can h one = absurd (omega (arith, one))
+suits_by f (End x) e r b can h one = absurd (omega (arith, one))
+suits_by f Done e r b can h one = absurd (omega (arith, one))
 
 -- there is one, which suits what is asked
 pub event_suits : (k : Plan) (v : View) (x : thread.State) (q : Ask) → IsSeated k v x → IsAsking (trace_in k) x q → added q ≡ 1
@@ -149,7 +163,8 @@ event_suits k v x q seated asking one =
     step_at (machine_of f) (start_of f) run of.1.runs x.number x.steps (label_of found.0) found.2 in (
       found.0,
       ap (λ (y : thread.State). slice_get (recorded_thread f.recorded x.number).events y.events) (ahead.at run of).1 ∙ found.1,
-      suits_by q found.0 z.result z.object (z.emits ∙ ap (λ a. emitted (act_of (shared_ask a) z.result) z.object) asks) one,
+      suits_by f q found.0 z.result z.object
+          (subst (λ a. Admits (machine_of f) (act_of (shared_ask a) z.result) z.object) asks z.can) (z.emits ∙ ap (λ a. emitted (act_of (shared_ask a) z.result) z.object) asks) one,
     )
 
 -- so that it is never missing
@@ -230,7 +245,7 @@ own_stepped k f code me x y q for same seated asking own is = elim own [
   | inr rest ↦ elim rest [ inl a ↦ step Print a tt tt tt | inr a ↦ step (End a.0) a.1 tt tt tt ]
 ]
   where
-    step : (p : Ask) → q ≡ p → IsAlone p → is_go p → really p → HasStepped k me me x y
+    step : (p : Ask) → q ≡ p → IsAlone p (event_of (trace_in k) x.number x) → is_go p → really p → HasStepped k me me x y
     step p a alone go real =
         let ask : IsAsking (trace_in k) x p = subst (IsAsking (trace_in k) x) a (asking_for k f x q for asking) in
         stepped_alone k f code me x y p Go for same seated alone real (go_takes k me.0 x p seated ask go real) is
@@ -258,10 +273,52 @@ get_stepped k f code me me' x y o i n for same seated asking answers is moved =
     stepped_object k f code me me' x y (Get o i) (Value n) for same seated tt
     (get_takes k me.0 x o i n seated (asking_for k f x (Get o i) for asking) answers) is moved
 
-pub entering_for : (k : Plan) (f : FittedTrace) (x : thread.State) (o : ℕ) (a : Access) (e : Event) → IsFor k f → IsAsking f x (Enter o a)
-    → slice_get (recorded_thread f.recorded x.number).events x.events ≡ Some e → Suits (Enter o a) e → IsEntering (trace_in k) x o a e
-entering_for k f x o a e for asking event suits =
-    subst (λ z. IsEntering z x o a e) (sym for) (record { asking = asking; event = event; suits = suits })
+pub entering_for : (k : Plan) (f : FittedTrace) (x : thread.State) (q : Ask) (o : ℕ) (a : Access) (e : Event) → IsFor k f → IsAsking f x q
+    → slice_get (recorded_thread f.recorded x.number).events x.events ≡ Some e → Suits q e → event_ask e ≡ Enter o a
+    → IsEntering (trace_in k) x o a e
+entering_for k f x q o a e for asking event suits enters =
+    subst (λ z. IsEntering z x o a e) (sym for)
+    (record { asked = q; asking = asking; event = event; suits = suits; enters = enters })
+
+-- ---- tries
+
+-- the try that the trace says is answered so
+try_takes : (k : Plan) (f : FittedTrace) (v : View) (x : thread.State) (o : ℕ) (e : Event) → IsFor k f → IsSeated k v x
+    → IsAsking f x (Try o) → slice_get (recorded_thread f.recorded x.number).events x.events ≡ Some e
+    → Takes (trace_in k) x.number x (Try o) (Value (try_result e))
+try_takes k f v x o e for seated asking event =
+    let ask : IsAsking (trace_in k) x (Try o) = asking_for k f x (Try o) for asking in
+    takes_try (trace_in k) x.number (seated_at v) x o e (seated_ahead k v x seated) ask.asks ask.has
+    (subst (λ z. slice_get (recorded_thread z.recorded x.number).events x.events ≡ Some e) (sym for) event)
+
+-- a try that got in
+pub try_entered : (k : Plan) (f : FittedTrace) (code : List ℕ) (me me' : M) (x y : thread.State) (o : ℕ) (e : Event) → IsFor k f
+    → code ≡ f.guest.code → IsSeated k me.0 x → IsAsking f x (Try o)
+    → slice_get (recorded_thread f.recorded x.number).events x.events ≡ Some e → try_result e ≡ 1
+    → y ≡ after_reply code x (Value 1) → ◌≡◌ {A = M} me' (progress k x.number (suc x.steps) false ∷ [], me.1) → HasStepped k me me' x y
+try_entered k f code me me' x y o e for same seated asking event one is moved =
+    stepped_object k f code me me' x y (Try o) (Value 1) for same seated tt
+    (subst (λ n. Takes (trace_in k) x.number x (Try o) (Value n)) one (try_takes k f me.0 x o e for seated asking event)) is moved
+
+-- what suits a try and isn't refused got in
+pub entered_to_write : (o : ℕ) (e : Event) → Suits (Try o) e → ((p : ℕ) → e ≢ Refused p) → (try_result e ≡ 1) × (event_ask e ≡ Enter o Writing)
+entered_to_write o (Answered j v) (inl is) other = absurd (cc is)
+entered_to_write o (Answered j v) (inr is) other = absurd (cc is)
+entered_to_write o (Read p v) (inl is) other = absurd (cc is)
+entered_to_write o (Read p v) (inr is) other = absurd (cc is)
+entered_to_write o (Write p v l) (inl is) other = absurd (cc is)
+entered_to_write o (Write p v l) (inr is) other = let same : ◌≡◌ {A = ℕ} p o = cc is in (refl, ap (λ z. Enter z Writing) same)
+entered_to_write o (Refused p) suits other = absurd (other p refl)
+
+-- a refused try touches no object
+pub try_refused : (k : Plan) (f : FittedTrace) (code : List ℕ) (me : M) (x y : thread.State) (o p : ℕ) → IsFor k f
+    → code ≡ f.guest.code → IsSeated k me.0 x → IsAsking f x (Try o)
+    → slice_get (recorded_thread f.recorded x.number).events x.events ≡ Some (Refused p) → y ≡ after_reply code x (Value 0)
+    → HasStepped k me me x y
+try_refused k f code me x y o p for same seated asking event is =
+    stepped_alone k f code me x y (Try o) (Value 0) for same seated
+    (subst IsRefused (sym (subst (λ z. slice_get (recorded_thread z.recorded x.number).events x.events ≡ Some (Refused p)) (sym for) event))
+    tt) tt (try_takes k f me.0 x o (Refused p) for seated asking event) is
 
 -- a thread of the guest
 pub thread_there : (k : Plan) (f : FittedTrace) (v : View) (x : thread.State) → IsFor k f → IsSeated k v x
@@ -271,5 +328,6 @@ thread_there k f v x for seated = subst (λ z. x.number < length z.guest.entries
 -- another kind of event
 pub never_other : (q : Ask) (e : Event) → Suits q e → (j : EnvKind) → q ≡ Env j → ((i : EnvKind) (v : ℕ) → e ≡ Answered i v → ⊥) → ⊥
 never_other q (Answered i v) suits j is none = none i v refl
-never_other q (Read o v) suits j is none = cc (suits, is)
-never_other q (Write o v l) suits j is none = cc (suits, is)
+never_other q (Read o v) suits j is none = let z = call_suits j (Read o v) (subst (λ p. Suits p (Read o v)) is suits) in cc z
+never_other q (Write o v l) suits j is none = let z = call_suits j (Write o v l) (subst (λ p. Suits p (Write o v l)) is suits) in cc z
+never_other q (Refused o) suits j is none = let z = call_suits j (Refused o) (subst (λ p. Suits p (Refused o)) is suits) in cc z

@@ -1,5 +1,5 @@
 -- Threads that have gone ahead by steps that touch no object.
-use Rattle.std.specs.Prelude.{◌≡◌, ◌<◌, ◌≤◌, ℕ, List, length, slice_get, Some, ⊤}
+use Rattle.std.specs.Prelude.{◌≡◌, ◌<◌, ◌≤◌, ℕ, List, length, slice_get, Option, Some, ⊤}
 use Rattle.ir_image.specs.Guest.{object_count}
 use Rattle.ir_thread.specs.Calls.{ask_of}
 use Rattle.ir_thread.specs.State as thread
@@ -7,20 +7,30 @@ use Rattle.ir_thread.specs.declared.ask.Ask.{Ask}
 use Rattle.ir_thread.specs.declared.ask.Ask.TheVariants as ask
 use Rattle.ir_runs.specs.declared.access.Access.{Access}
 use Rattle.ir_runs.specs.Run.{Step, count, th}
-use Rattle.ir_log.specs.Logging.{Suits}
+use Rattle.ir_log.specs.Logging.{ask_of as event_ask, Suits}
 use Rattle.ir_log.specs.declared.event.Event.{Event}
+use Rattle.ir_log.specs.declared.event.Event.TheVariants as event
 use Rattle.ir_trace.specs.TraceOf.{recorded_thread}
 use Rattle.ir_fit.specs.Fit.{FittedTrace, HasRun}
 use Rattle.ir_cut.specs.Positions.{machine_of, start_of, EachRun}
 
--- a step that touches no object
-abbrev pub IsAlone : Ask → Type 0
-IsAlone (ask.Enter object access) = ⊥
-IsAlone (ask.Leave object access) = ⊥
-IsAlone (ask.Get object index) = ⊥
-IsAlone (ask.Put object index value) = ⊥
-IsAlone ask.Done = ⊥
-IsAlone _ = ⊤
+-- a try that is logged so was refused
+abbrev pub IsRefused : Option Event → Type 0
+IsRefused (Some (event.Try object)) = ⊤
+IsRefused _ = ⊥
+
+-- a step that asks so, of which the trace emits this event next, touches no object
+abbrev pub IsAlone : Ask → Option Event → Type 0
+IsAlone ask.Private e = ⊤
+IsAlone (ask.Env kind) e = ⊤
+IsAlone (ask.Enter object access) e = ⊥
+IsAlone (ask.Try object) e = IsRefused e
+IsAlone (ask.Leave object access) e = ⊥
+IsAlone (ask.Get object index) e = ⊥
+IsAlone (ask.Put object index value) e = ⊥
+IsAlone ask.Print e = ⊤
+IsAlone (ask.End x) e = ⊤
+IsAlone ask.Done e = ⊥
 
 -- thread t of the run after k of its steps
 abbrev pub thread_at : FittedTrace → List Step → ℕ → ℕ → thread.State
@@ -29,6 +39,14 @@ thread_at f run t k = th (machine_of f) (start_of f) run t k
 -- what it asks then
 abbrev pub ask_at : FittedTrace → List Step → ℕ → ℕ → Ask
 ask_at f run t k = ask_of f.guest.code (thread_at f run t k)
+
+-- the next event that the trace emits of thread x
+abbrev pub event_of : FittedTrace → ℕ → thread.State → Option Event
+event_of f t x = slice_get (recorded_thread f.recorded t).events x.events
+
+-- thread x's next step, as one of thread t's, touches no object
+abbrev pub GoesAlone : FittedTrace → ℕ → thread.State → Type 0
+GoesAlone f t x = IsAlone (ask_of f.guest.code x) (event_of f t x)
 
 -- thread t has more than k steps
 abbrev pub HasStep : FittedTrace → ℕ → ℕ → Type 0
@@ -40,13 +58,13 @@ IsThreadAt f t x = EachRun f (λ run. (x.steps ≤ count (machine_of f) (start_o
 
 -- the steps of thread t from i on, before step k, touch no object
 abbrev pub AreAlone : FittedTrace → ℕ → ℕ → ℕ → Type 0
-AreAlone f t i k = EachRun f (λ run. (j : ℕ) → i ≤ j → j < k → IsAlone (ask_at f run t j))
+AreAlone f t i k = EachRun f (λ run. (j : ℕ) → i ≤ j → j < k → GoesAlone f t (thread_at f run t j))
 
 -- step k is the first step of thread t from i on that touches an object
 pub record IsNextObject (f : FittedTrace) (t i k : ℕ) : Type 0 where
   pub past : i ≤ k
   pub alone : AreAlone f t i k
-  pub touches : EachRun f (λ run. IsAlone (ask_at f run t k) → ⊥)
+  pub touches : EachRun f (λ run. GoesAlone f t (thread_at f run t k) → ⊥)
 
 -- x is thread t, ahead of position i by steps that touch no object
 pub record IsAhead (f : FittedTrace) (t i : ℕ) (x : thread.State) : Type 0 where
@@ -63,8 +81,10 @@ pub record IsAsking (f : FittedTrace) (x : thread.State) (q : Ask) : Type 0 wher
   pub asks : ask_of f.guest.code x ≡ q
   pub has : HasStep f x.number x.steps
 
--- it is an entry, and this is the next event that the trace emits of the thread
+-- by its next step it enters the object, by an entry or a try that gets in, and this is the next event that the trace emits of the thread
 pub record IsEntering (f : FittedTrace) (x : thread.State) (o : ℕ) (a : Access) (e : Event) : Type 0 where
-  pub asking : IsAsking f x (ask.Enter o a)
+  pub asked : Ask
+  pub asking : IsAsking f x asked
   pub event : slice_get (recorded_thread f.recorded x.number).events x.events ≡ Some e
-  pub suits : Suits (ask.Enter o a) e
+  pub suits : Suits asked e
+  pub enters : event_ask e ≡ ask.Enter o a

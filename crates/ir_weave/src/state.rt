@@ -38,7 +38,8 @@ impl State {
         ensures own { IfOk result (λ s. StandsAt fitted.now (positions (flat_in fitted.now s)) s) }
         ensures below { IfOk result (λ s. (p : ℕ → ℕ) (t : ℕ) → positions (flat_in fitted.now s) t ≤ p t) }
     {
-        let flat = Flat::start(alloc, fitted.image(), fitted.trace().budget())?;
+        let trace = fitted.trace();
+        let flat = Flat::start(alloc, fitted.image(), trace.budget(), trace.profile())?;
         let (threads, objects) = flat.into_parts();
         Ok(State { threads, objects })
     }

@@ -90,6 +90,36 @@ impl Weave {
         }
     }
 
+    // A try, refused or an entry as the trace says; an entry if it is admitted. Whether it was taken.
+    fn try_in(&self, seat: &mut WeaveSeat, thread: &mut Thread, fitted: &Fitted, object: u8) -> bool
+        requires seat { seat.old.table_id ≡ self.now.table.shared.table_id }
+        requires table { IsFor self.now.table.shared.key fitted.now }
+        requires thread { IsSeated self.now.table.shared.key seat.old.me.0 thread.old }
+        requires asking { IsAsking fitted.now thread.old (ask.Try object) }
+        ensures seat { (seat.new.table_id ≡ seat.old.table_id) × (seat.new.id ≡ seat.old.id) }
+        ensures stepped { result ≡ true → HasStepped self.now.table.shared.key seat.old.me seat.new.me thread.old thread.new }
+        ensures stopped { result ≡ false → HasWaited self.now.table.shared.key seat.old.me seat.new.me thread.old thread.new }
+    {
+        let asked = Ask::Try(object);
+        let number = thread.number() as usize;
+        match fitted.trace().next_event(number, thread.events(), asked) {
+            Err(_) => unreachable!(),
+            Ok(event) => match event {
+                Event::Try { .. } => {
+                    thread.take_asked(fitted.image().code(), asked, Reply::Value(0));
+                    true
+                }
+                _ => {
+                    if !self.enter(seat, thread, object, Access::Writing, event) {
+                        return false;
+                    }
+                    thread.take_asked(fitted.image().code(), asked, Reply::Value(1));
+                    true
+                }
+            },
+        }
+    }
+
     // A leave.
     fn step_out(
         &self,
@@ -175,6 +205,7 @@ impl Weave {
             Ask::Enter(object, access) => {
                 return self.try_enter(seat, thread, fitted, object, access);
             }
+            Ask::Try(object) => return self.try_in(seat, thread, fitted, object),
             Ask::Leave(object, access) => self.step_out(seat, thread, fitted, object, access),
             Ask::Get(object, index) => self.read(seat, thread, fitted, object, index),
             Ask::Put(object, index, value) => {

@@ -4,6 +4,7 @@ ghost use Rattle.std.specs.Prelude.{◌≡◌, ◌≢◌, ◌+◌, ◌*◌, ◌^
 ghost use Rattle.ir_image.specs.Guest.{object_count};
 ghost use Rattle.ir_thread.specs.Calls.{ask_of};
 ghost use Rattle.ir_thread.specs.declared.ask.Ask.TheVariants as ask;
+ghost use Rattle.ir_log.specs.declared.event.Event.{Event};
 ghost use Rattle.ir_fit.specs.Ahead.{IsOpen};
 ghost use Rattle.ir_weave.specs.Ahead.{IsAsking, IsEntering};
 ghost use Rattle.ir_object.specs.Layout.{table_length};
@@ -40,7 +41,7 @@ fn opens(word: u64, event: Event) -> bool
 {
     let fields = Word { bits: word }.fields();
     match event {
-        Event::Answer(..) => false,
+        Event::Answer(..) | Event::Try { .. } => false,
         Event::Read { version, .. } => fields.version == version && !fields.writer,
         Event::Write {
             version,
@@ -81,7 +82,7 @@ impl Weave {
     fn step_in(&self, seat: &mut WeaveSeat, thread: &Thread, object: u8, access: Access)
         requires seat { seat.old.table_id ≡ self.now.table.shared.table_id }
         requires granted { IsGranted self.now.table.shared.key seat.old.me.0 thread.now }
-        requires asking { IsAsking (trace_in self.now.table.shared.key) thread.now (ask.Enter object access) }
+        requires entering { (event : Event) × IsEntering (trace_in self.now.table.shared.key) thread.now object access event }
         ensures seat { (seat.new.table_id ≡ seat.old.table_id) × (seat.new.id ≡ seat.old.id) }
         ensures entered { seat.new.me ≡ (progress self.now.table.shared.key thread.now.number (suc thread.now.steps) false ∷ [], seat.old.me.1) }
     {

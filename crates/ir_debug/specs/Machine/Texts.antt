@@ -117,7 +117,7 @@ event_text (In object Reading version left) = codes "read " ++ decimal object ++
 event_text (In object Writing version left) = codes "write " ++ decimal object ++ codes " version " ++ decimal version ++ codes " readers "
     ++ decimal left
 event_text Quiet = []
-event_text (labels.Refused object) = []
+event_text (labels.Refused object) = codes "try " ++ decimal object
 event_text (Out object access version) = []
 
 -- the events from a number on

@@ -40,7 +40,7 @@ pub fn followed<'a>(
     ensures trace { IfOk result (λ f. f.trace ≡ trace) }
     ensures sized { IfOk result (λ f. IsSized f) }
 {
-    let flat = Flat::start(alloc, image, trace.budget())?;
+    let flat = Flat::start(alloc, image, trace.budget(), trace.profile())?;
     let count = trace.threads().len();
     let mut ready = Vec::with_capacity(alloc, count)?;
     ready.resize(count, Readiness::Ready)?;
@@ -61,7 +61,7 @@ impl Follower<'_> {
         requires sized { IsSized self.now }
         requires thread { t < length self.now.flat.threads }
         requires stopped { IsStopped self.now.trace self.now.flat t }
-        ensures { (guest : Guest) (k : IsFollower guest self.now.trace self.now.flat self.now.places.items) → StandsAs (machine (start_flat guest self.now.trace.budget)) (tables (start_flat guest self.now.trace.budget)) (trace_of self.now.trace) k.run t result }
+        ensures { (guest : Guest) (k : IsFollower guest self.now.trace self.now.flat self.now.places.items) → StandsAs (machine (start_flat guest self.now.trace.budget self.now.trace.profile)) (tables (start_flat guest self.now.trace.budget self.now.trace.profile)) (trace_of self.now.trace) k.run t result }
     {
         let thread = self.thread(t);
         match self.look(t) {

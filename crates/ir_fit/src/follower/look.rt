@@ -33,7 +33,7 @@ pub enum Look {
     Done,
     // Its next step isn't the trace's.
     Disagrees,
-    // Its next step is the trace's, an entry that is logged as this event, and can't be taken now as the log says.
+    // Its next step is the trace's, an entry or a try that is logged as this event, and can't be taken now as the log says.
     Waits(Event),
     // Its next step follows the trace.
     Goes(Move),
@@ -61,7 +61,7 @@ pub fn is_open(object: &Object, event: Event) -> bool
 {
     let fields = object.fields();
     match event {
-        Event::Answer(..) => false,
+        Event::Answer(..) | Event::Try { .. } => false,
         Event::Read { version, .. } => fields.version == version && object.can_read(),
         Event::Write {
             version,
@@ -79,7 +79,7 @@ impl Follower<'_> {
         ensures next { IfOk result (λ event. slice_get (recorded_thread self.now.trace t).events (thread_of self.now.flat t).events ≡ Some event) }
         ensures suits { IfOk result (λ event. Suits asked event) }
         ensures flat { IsFlat self.now.flat }
-        ensures within { IsRecordedThread self.now.trace.objects (recorded_thread self.now.trace t) }
+        ensures within { IsRecordedThread self.now.trace.profile self.now.trace.objects (recorded_thread self.now.trace t) }
         ensures disagrees { OnErr result ((event : Event) → slice_get (recorded_thread self.now.trace t).events (thread_of self.now.flat t).events ≡ Some event → Suits asked event → ⊥) }
     {
         self.trace.next_event(t, self.thread(t).events(), asked)
@@ -127,6 +127,38 @@ impl Follower<'_> {
                     Look::Waits(event)
                 }
             }
+        }
+    }
+
+    // Thread t, whose next step is a try. Where the log says that it got in, it waits like an entry.
+    fn look_try(&self, t: usize, object: u8) -> Look
+        requires thread { t < length self.now.flat.threads }
+        requires emitted { t < length self.now.trace.threads }
+        requires asked { ask_of self.now.flat.code (thread_of self.now.flat t) ≡ ask.Try object }
+        requires steps { 0 < steps_ahead self.now.trace self.now.flat t }
+        ensures { IsSeen self.now.trace self.now.flat t result }
+    {
+        let asked = Ask::Try(object);
+        match self.next_event(t, asked) {
+            Err(_) => Look::Disagrees,
+            Ok(logged) => match logged {
+                Event::Try { .. } => Look::Goes(Move {
+                    thread: t,
+                    asked,
+                    result: 0,
+                }),
+                _ => {
+                    if is_open(self.object(object), logged) {
+                        Look::Goes(Move {
+                            thread: t,
+                            asked,
+                            result: 1,
+                        })
+                    } else {
+                        Look::Waits(logged)
+                    }
+                }
+            },
         }
     }
 
@@ -194,6 +226,7 @@ impl Follower<'_> {
         match asked {
             Ask::Env(kind) => self.look_call(t, kind),
             Ask::Enter(object, access) => self.look_entry(t, object, access),
+            Ask::Try(object) => self.look_try(t, object),
             Ask::End(end) => self.look_end(t, end),
             _ => self.look_own(t, asked),
         }

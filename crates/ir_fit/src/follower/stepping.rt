@@ -26,7 +26,7 @@ fn readiness(look: Look) -> Readiness {
 // Whether the event is an entry to the object of this number, which can be entered now as the event says.
 fn opens(number: u8, object: &Object, event: Event) -> bool {
     match event {
-        Event::Answer(..) => false,
+        Event::Answer(..) | Event::Try { .. } => false,
         Event::Read {
             object: entered,
             ..
@@ -76,7 +76,7 @@ impl Follower<'_> {
     {
         let position = self.thread(next.thread).steps();
         match next.asked {
-            Ask::Env(_) | Ask::Enter(..) => self.places[next.thread].enter(position),
+            Ask::Env(_) | Ask::Enter(..) | Ask::Try(_) => self.places[next.thread].enter(position),
             Ask::Leave(object, access) => {
                 let version = self.object(object).fields().version;
                 self.places[next.thread].leave(Leave {

@@ -1,6 +1,8 @@
 //! What a thread asks.
 
-ghost use Rattle.std.specs.Prelude.{◌≡◌, ◌+◌, ◌<◌, length, if◌then◌else◌, Some, None};
+ghost use Rattle.std.specs.Prelude.{◌≡◌, ◌+◌, ◌<◌, length, if◌then◌else◌, IfErr, IfOk, Some, None};
+ghost use Rattle.ir_thread.specs.declared.ask.Ask.{Ask};
+ghost use Rattle.ir_thread.specs.declared.ask.Ask.TheVariants as ask;
 
 use crate::ask::Ask;
 use crate::call::Call;
@@ -22,14 +24,14 @@ const A2: u8 = 12;
 const A7: u8 = 17;
 
 impl Thread {
-    ghost use Rattle.ir_thread.specs.Calls.{a0, a1, call_at, number_text, print_ask, logged_ask, is_object, has_word, enter_ask, leave_ask, get_ask, put_ask, call_ask, running_ask, ask_of, release_ask, Permits};
+    ghost use Rattle.ir_thread.specs.Calls.{a0, a1, call_at, number_text, print_ask, logged_ask, is_object, has_word, entry_ask, leave_ask, get_ask, put_ask, call_ask, running_ask, ask_of, release_ask, Permits};
     ghost use Rattle.ir_thread.specs.Held.{held_at, highest};
 
     // The call that the thread makes where it stands at one.
     pub(super) fn call(&self) -> Option<Call>
         ensures { result ≡ call_at self.now }
     {
-        Call::of_number(self.mach.reg(A7))
+        Call::of_number(self.profile, self.mach.reg(A7))
     }
 
     // Printing so many bytes, where there is room for them.
@@ -90,13 +92,33 @@ impl Thread {
         self.held[object as usize]
     }
 
-    fn entering(&self, access: Access) -> Ask
-        ensures { result ≡ enter_ask self.now access }
+    // Object a0, where it may be entered; else how the thread ends.
+    fn entry(&self) -> Result<u8, End>
+        ensures object { IfOk result (λ object. (object ≡ a0 self.now) × ((q : Ask) → entry_ask self.now q ≡ logged_ask self.now q)) }
+        ensures end { IfErr result (λ end. (q : Ask) → entry_ask self.now q ≡ ask.End end) }
     {
         match (self.object(), highest(self.held.as_slice())) {
-            (None, _) => Ask::End(End::NoSuchObject),
-            (Some(object), Some((top, _))) if object <= top => Ask::End(End::EntryOutOfOrder),
-            (Some(object), _) => self.logged(Ask::Enter(object, access)),
+            (None, _) => Err(End::NoSuchObject),
+            (Some(object), Some((top, _))) if object <= top => Err(End::EntryOutOfOrder),
+            (Some(object), _) => Ok(object),
+        }
+    }
+
+    fn entering(&self, access: Access) -> Ask
+        ensures { result ≡ entry_ask self.now (ask.Enter (a0 self.now) access) }
+    {
+        match self.entry() {
+            Ok(object) => self.logged(Ask::Enter(object, access)),
+            Err(end) => Ask::End(end),
+        }
+    }
+
+    fn trying(&self) -> Ask
+        ensures { result ≡ entry_ask self.now (ask.Try (a0 self.now)) }
+    {
+        match self.entry() {
+            Ok(object) => self.logged(Ask::Try(object)),
+            Err(end) => Ask::End(end),
         }
     }
 
@@ -153,6 +175,7 @@ impl Thread {
             Call::Get => self.getting(),
             Call::Put => self.putting(),
             Call::OwnNumber => Ask::Private,
+            Call::TryWrite => self.trying(),
         }
     }
 

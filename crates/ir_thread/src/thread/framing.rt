@@ -28,6 +28,7 @@ impl Thread {
             number: self.number,
             held: self.held.clone()?,
             budget: self.budget,
+            profile: self.profile,
             steps: self.steps,
             events: self.events,
             output: Vec::from_slice(alloc, self.output.as_slice())?,
@@ -59,6 +60,7 @@ impl Thread {
             number: frame.number,
             held: frame.held.clone()?,
             budget: frame.budget,
+            profile: frame.profile,
             steps: frame.steps,
             events: frame.events,
             output,
@@ -76,6 +78,7 @@ impl Thread {
         self.number = frame.number;
         self.held.copy_from_slice(frame.held.as_slice());
         self.budget = frame.budget;
+        self.profile = frame.profile;
         self.steps = frame.steps;
         self.events = frame.events;
         print_again(&mut self.output, frame.output.as_slice());

@@ -31,7 +31,7 @@ impl Reply {
 }
 
 impl Thread {
-    ghost use Rattle.ir_thread.specs.Calls.{printed, Suits, Permits, IsRunning, ask_of, core_after, core_left, after_ask, after_reply, most_output};
+    ghost use Rattle.ir_thread.specs.Calls.{printed, Suits, Permits, IsRunning, ask_of, core_after, core_left, held_after_try, after_ask, after_reply, most_output};
     ghost use Rattle.ir_thread.specs.Held.{held_at};
     ghost use Rattle.ir_mach.specs.Execution.{outcome_of, past_call};
 
@@ -62,6 +62,17 @@ impl Thread {
         ensures { self.new ≡ record self.old { held = slice_set self.old.held object (Some access) } }
     {
         self.held[object as usize] = Some(access);
+    }
+
+    // Into an object for writing, where that was answered.
+    fn enter_if(&mut self, object: u8, reply: Reply)
+        requires runs { IsRunning self.old }
+        requires object { object < length self.old.held }
+        ensures { self.new ≡ record self.old { held = held_after_try reply object self.old.held } }
+    {
+        if reply == Reply::Value(1) {
+            self.enter(object, Access::Writing);
+        }
     }
 
     // Out of an object: past the call, but while the thread releases what it holds its pc stays.
@@ -130,6 +141,11 @@ impl Thread {
                 self.enter(object, access);
                 self.pass(None);
             }
+            Ask::Try(object) => {
+                self.events += 1;
+                self.enter_if(object, reply);
+                self.pass(reply.answer());
+            }
             Ask::Leave(object, _) => self.leave(object),
             Ask::Get(_, _) => self.pass(reply.answer()),
             Ask::Put(_, _, _) => self.pass(None),
@@ -143,7 +159,7 @@ impl Thread {
     }
 
     /// Takes the step that the thread asks. The reply fits what is asked: the value that an
-    /// environment call or a read wants, and leave to go elsewhere.
+    /// environment call or a read wants, 1 or 0 to a try, and leave to go elsewhere.
     #[tactic(auto, unfolding(crate::specs::Calls::after_reply))]
     pub fn take(&mut self, code: &Code, reply: Reply)
         requires { Suits (ask_of code.now self.old) reply }

@@ -7,5 +7,5 @@ use Rattle.ir_runs.proofs.CallerLemmas as highest
 use Rattle.ir_cut.proofs.laws.greatest_exists.Goals as goal
 
 pub returns : goal.returns
-returns c = λ g budget run ok p t k cut. highest.greatest_exists (thread_machine g.code) (lawful g.code) (tables (start_flat g budget))
-    (start_good (thread_machine g.code) (tables (start_flat g budget)) (starts g budget)) run ok p t k cut
+returns c = λ g budget profile run ok p t k cut. highest.greatest_exists (thread_machine g.code) (lawful g.code) (tables (start_flat g budget profile))
+    (start_good (thread_machine g.code) (tables (start_flat g budget profile)) (starts g budget profile)) run ok p t k cut

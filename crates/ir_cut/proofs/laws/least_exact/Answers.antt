@@ -6,5 +6,5 @@ use Rattle.ir_fit.proofs.CallerLemmas.{starts}
 use Rattle.ir_cut.proofs.laws.least_exact.Goals as goal
 
 pub returns : goal.returns
-returns c = λ g budget run ok p q t k cut cp lo hi l. least_exact (thread_machine g.code) (lawful g.code) (tables (start_flat g budget))
-    (start_good (thread_machine g.code) (tables (start_flat g budget)) (starts g budget)) run ok p q t k cut cp lo hi l
+returns c = λ g budget profile run ok p q t k cut cp lo hi l. least_exact (thread_machine g.code) (lawful g.code) (tables (start_flat g budget profile))
+    (start_good (thread_machine g.code) (tables (start_flat g budget profile)) (starts g budget profile)) run ok p q t k cut cp lo hi l

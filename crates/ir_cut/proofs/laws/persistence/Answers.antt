@@ -4,4 +4,4 @@ use Rattle.ir_runs.proofs.CallerLemmas.{persists}
 use Rattle.ir_cut.proofs.laws.persistence.Goals as goal
 
 pub returns : goal.returns
-returns c = λ g budget run p q t. persists (thread_machine g.code) (tables (start_flat g budget)) run p q t
+returns c = λ g budget profile run p q t. persists (thread_machine g.code) (tables (start_flat g budget profile)) run p q t

@@ -7,7 +7,7 @@ use Rattle.ir_fit.proofs.CallerLemmas.{starts}
 use Rattle.ir_cut.proofs.laws.progresses.Goals as goal
 
 pub returns : goal.returns
-returns c = λ g budget run ok p q cp cq cut le t lt. let k : Progress (thread_machine g.code) (tables (start_flat g budget)) run p q =
-    progress (thread_machine g.code) (lawful g.code) (tables (start_flat g budget))
-    (start_good (thread_machine g.code) (tables (start_flat g budget)) (starts g budget)) run ok p q cp cq cut t lt in
+returns c = λ g budget profile run ok p q cp cq cut le t lt. let k : Progress (thread_machine g.code) (tables (start_flat g budget profile)) run p q =
+    progress (thread_machine g.code) (lawful g.code) (tables (start_flat g budget profile))
+    (start_good (thread_machine g.code) (tables (start_flat g budget profile)) (starts g budget profile)) run ok p q cp cq cut t lt in
     (k.thread, k.below, (omega (arith, k.below, cut k.thread), k.consistent))

@@ -6,5 +6,5 @@ use Rattle.ir_fit.proofs.Guests.{starts}
 use Rattle.ir_fit.proofs.laws.cuts_are_runs.Goals as goal
 
 pub returns : goal.returns
-returns c = λ g budget run ok p cut same. at_cut (thread_machine g.code) (lawful g.code) (tables (start_flat g budget))
-    (start_good (thread_machine g.code) (tables (start_flat g budget)) (starts g budget)) run ok p cut same
+returns c = λ g budget profile run ok p cut same. at_cut (thread_machine g.code) (lawful g.code) (tables (start_flat g budget profile))
+    (start_good (thread_machine g.code) (tables (start_flat g budget profile)) (starts g budget profile)) run ok p cut same

@@ -8,10 +8,10 @@ use Rattle.ir_fit.proofs.Guests.{starts, lives}
 use Rattle.ir_fit.proofs.laws.fits_exactly.Goals as goal
 
 pub returns : goal.returns
-returns c = λ g budget tr co run f top.
+returns c = λ g budget profile tr co run f top.
     let m = thread_machine g.code in
-    let s = tables (start_flat g budget) in (
-      λ h. (run, all_same (length g.entries) m (closing g.code) tr s (lives g budget) run f h),
-      λ w t. whole_same (length g.entries) m (lawful g.code) (closing g.code) tr co s (start_good m s (starts g budget)) (starts g budget)
-          (start_idle g budget) run f top w.0 w.1 t,
+    let s = tables (start_flat g budget profile) in (
+      λ h. (run, all_same (length g.entries) m (closing g.code) tr s (lives g budget profile) run f h),
+      λ w t. whole_same (length g.entries) m (lawful g.code) (closing g.code) tr co s (start_good m s (starts g budget profile)) (starts g budget profile)
+          (start_idle g budget profile) run f top w.0 w.1 t,
     )

@@ -11,11 +11,11 @@ use Rattle.ir_fit.proofs.Guests.{starts}
 use Rattle.ir_fit.proofs.laws.one_verdict.Goals as goal
 
 pub returns : goal.returns
-returns c = λ g budget tr co ev run f top.
+returns c = λ g budget profile tr co ev run f top.
     let m = thread_machine g.code in
-    let s = tables (start_flat g budget) in
-    let good = start_good m s (starts g budget) in (
-      λ t. let j = judged (length g.entries) m (lawful g.code) tr co ev s good (starts g budget) (start_idle g budget) run f top t in (
+    let s = tables (start_flat g budget profile) in
+    let good = start_good m s (starts g budget profile) in (
+      λ t. let j = judged (length g.entries) m (lawful g.code) tr co ev s good (starts g budget profile) (start_idle g budget profile) run f top t in (
         j.0,
         j.1,
         λ w h. one_verdict m (tr.ends t) (NoneTakes m s tr t (count m s run t)) ((end m s run).now t)
@@ -23,6 +23,6 @@ returns c = λ g budget tr co ev run f top.
             (count m s run t) j.0 w j.1 h,
       ),
       λ run' f' top' t v h. same_verdict m s tr run run'
-          (one_maximal (closing m tr) (length g.entries) m (lawful g.code) tr co s good (starts g budget) (start_idle g budget) run run' f
+          (one_maximal (closing m tr) (length g.entries) m (lawful g.code) tr co s good (starts g budget profile) (start_idle g budget profile) run run' f
           top f' top') t v h,
     )

@@ -8,5 +8,5 @@ use Rattle.ir_fit.proofs.Guests.{starts}
 use Rattle.ir_fit.proofs.laws.own_trace_coherent.Goals as goal
 
 pub returns : goal.returns
-returns c = λ g budget run ok. own_coherent (length g.entries) (thread_machine g.code) (lawful g.code) (tables (start_flat g budget))
-    (start_good (thread_machine g.code) (tables (start_flat g budget)) (starts g budget)) (starts g budget) (start_idle g budget) run ok
+returns c = λ g budget profile run ok. own_coherent (length g.entries) (thread_machine g.code) (lawful g.code) (tables (start_flat g budget profile))
+    (start_good (thread_machine g.code) (tables (start_flat g budget profile)) (starts g budget profile)) (starts g budget profile) (start_idle g budget profile) run ok

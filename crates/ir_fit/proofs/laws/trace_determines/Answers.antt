@@ -11,19 +11,19 @@ use Rattle.ir_fit.proofs.Listed.{idle_trail}
 use Rattle.ir_fit.proofs.laws.trace_determines.Goals as goal
 
 pub returns-clause-runs : goal.returns-clause-runs
-returns-clause-runs c = λ g budget run run' ok ok' same. determined (thread_machine g.code) (lawful g.code) (tables (start_flat g budget))
-    (start_good (thread_machine g.code) (tables (start_flat g budget)) (starts g budget)) run run' ok ok' same
+returns-clause-runs c = λ g budget profile run run' ok ok' same. determined (thread_machine g.code) (lawful g.code) (tables (start_flat g budget profile))
+    (start_good (thread_machine g.code) (tables (start_flat g budget profile)) (starts g budget profile)) run run' ok ok' same
 
 pub returns-clause-recorded : goal.returns-clause-recorded
 returns-clause-recorded c = λ g r run run' is is'.
     let m = thread_machine g.code in
-    let s = tables (start_flat g r.budget) in
+    let s = tables (start_flat g r.budget r.profile) in
     let n = length g.entries in
-    determined m (lawful g.code) s (start_good m s (starts g r.budget)) run run' is.1.runs is'.1.runs
+    determined m (lawful g.code) s (start_good m s (starts g r.budget r.profile)) run run' is.1.runs is'.1.runs
     (λ t. elim (cases_lt t n) [
       | inl l ↦ (is.1.logs t l ∙ sym (is'.1.logs t l), is.1.steps t l ∙ sym (is'.1.steps t l))
       | inr l ↦
-          let no = idle_trail m s n (start_idle g r.budget) run is.1.runs t l
-          ∙ sym (idle_trail m s n (start_idle g r.budget) run' is'.1.runs t l) in
+          let no = idle_trail m s n (start_idle g r.budget r.profile) run is.1.runs t l
+          ∙ sym (idle_trail m s n (start_idle g r.budget r.profile) run' is'.1.runs t l) in
           (ap events no, ap length no)
     ])

@@ -30,8 +30,8 @@ loop-worker-preserved g c =
     let parts : at.yielded ++ x ∷ rest ≡ c.args.workers.items = ap (λ z. at.yielded ++ z) (sym c.in-Some.ensures.steps.0)
     ∙ at.invariant.parts in
     let less : length old ≡ suc (length rest) = ap (λ z. length z) c.in-Some.ensures.steps.0 in
-    let over : IsOver c.args.objects x = all_mid (IsOver c.args.objects) at.yielded rest x
-    (subst (AllByRecursion (IsOver c.args.objects)) (sym parts) c.requires.over) in
+    let over : IsOver c.args.profile c.args.objects x = all_mid (IsOver c.args.profile c.args.objects) at.yielded rest x
+    (subst (AllByRecursion (IsOver c.args.profile c.args.objects)) (sym parts) c.requires.over) in
     let rooms : at.rooms.items ≡ c.pop.new.self.items ++ c.unwrap.result ∷ [] = c.pop.ensures.items
     ∙ ap (λ z. c.pop.new.self.items ++ option_to_list z) c.unwrap.ensures in
     let fewer = one_more c.pop.new.self.items at.rooms.items c.unwrap.result rooms in
@@ -43,9 +43,9 @@ loop-worker-preserved g c =
       seats = c.push_reserved.ensures.items ∙ mapped_last (λ w. w.seat) at.yielded x at.seats.items x.seat at.invariant.seats refl;
       traces = subst (AreTraces (at.yielded ++ x ∷ [])) (sym c.push_reserved-in-loop-worker.ensures.items)
           (traces_more at.yielded at.traces.items x c.thread_trace.result at.invariant.traces c.thread_trace.ensures.value);
-      fit = subst (AllByRecursion (IsRecordedThread c.args.objects)) (sym c.push_reserved-in-loop-worker.ensures.items)
-          (all_append (IsRecordedThread c.args.objects) at.traces.items c.thread_trace.result at.invariant.fit
-          (c.thread_trace.ensures.fits c.args.objects over.events_fit));
+      fit = subst (AllByRecursion (IsRecordedThread c.args.profile c.args.objects)) (sym c.push_reserved-in-loop-worker.ensures.items)
+          (all_append (IsRecordedThread c.args.profile c.args.objects) at.traces.items c.thread_trace.result at.invariant.fit
+          (c.thread_trace.ensures.fits c.args.profile c.args.objects over.events_fit));
       bytes = mapped_more (λ o. o.bytes.items) at.each.items c.push_reserved-in-loop-worker-2.new.self.items _
           (map (λ w. w.thread.output) at.yielded) c.push_reserved-in-loop-worker-2.ensures.items at.invariant.bytes
           ∙ mapped_last (λ w. w.thread.output) at.yielded x (map (λ w. w.thread.output) at.yielded) c.filled-bytes.result.items

@@ -12,7 +12,7 @@ invariant-loop-worker g l = record {
   size : into_iter_len l.worker-iterator ≡ length (into_iter_items l.worker-iterator);
   seats : l.seats.items ≡ map (λ w. w.seat) l.yielded;
   traces : AreTraces l.yielded l.traces.items;
-  fit : AllByRecursion (IsRecordedThread l.objects) l.traces.items;
+  fit : AllByRecursion (IsRecordedThread l.profile l.objects) l.traces.items;
   bytes : map (λ x. x.bytes.items) l.each.items ≡ map (λ w. w.thread.output) l.yielded;
   worlds : map (λ x. x.world) l.each.items ≡ map (λ w. w.world) l.yielded;
   seat_room : length l.seats.items + length (into_iter_items l.worker-iterator) ≤ vec_capacity l.seats;

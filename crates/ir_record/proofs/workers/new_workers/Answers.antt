@@ -40,11 +40,11 @@ loop-world-preserved g c =
           let q = seats_first id (length at.made.items) at.seats.items c.remove-seat.new.self.items c.remove-seat.result some
           c.remove-seat.ensures.value seats z.0 in (
             subst (λ n. AreSeats id n c.remove-seat.new.self.items) (sym long) q.1,
-            subst (AreNew c.args.image.now c.args.budget id 0) (sym c.in_ok-push.ensures.items)
-                (new_more c.args.image.now c.args.budget id 0 (length at.made.items) at.made.items _ z.1 (omega arith) (record {
+            subst (AreNew c.args.image.now c.args.budget c.args.profile id 0) (sym c.in_ok-push.ensures.items)
+                (new_more c.args.image.now c.args.budget c.args.profile id 0 (length at.made.items) at.made.items _ z.1 (omega arith) (record {
                   table = q.0.0;
                   me = q.0.1;
-                  thread = c.in_ok-thread.ensures ∙ ap (λ n. thread.start_state c.args.image.now n c.args.budget) place;
+                  thread = c.in_ok-thread.ensures ∙ ap (λ n. thread.start_state c.args.image.now n c.args.budget c.args.profile) place;
                   log = c.in_ok-log.ensures;
                 })),
           );

@@ -12,5 +12,5 @@ invariant-loop-world g l = record {
   worlds : map (λ w. w.world) l.made.items ≡ l.yielded;
   left : length l.seats.items + length l.made.items ≡ length l.image.entries;
   new : (id : TableId) → AreSeats id 0 l.fn.seats.items → AreSeats id (length l.made.items) l.seats.items
-      × AreNew l.image l.budget id 0 l.made.items;
+      × AreNew l.image l.budget l.profile id 0 l.made.items;
 }

@@ -14,9 +14,9 @@ record-requires-clause-each g c =
     omega (arith, count, same, c.in_ok-worlds.worlds.ok)
 
 pub returns-in-Ok-record-clause-recorded : goal.returns-in-Ok-record-clause-recorded
-returns-in-Ok-record-clause-recorded g c = subst (λ (z : List (List ℕ)). IsRecordedOf c.args.image.now None c.args.budget c.args.random
+returns-in-Ok-record-clause-recorded g c = subst (λ (z : List (List ℕ)). IsRecordedOf c.args.image.now None c.args.budget c.args.profile c.args.random
     c.args.file.now c.in-Ok-record.trace z) (sym c.in_ok-printed-in-Ok-record.ensures)
-    (recorded_by c.args.image.now c.args.budget c.args.random c.args.file.now c.in_ok-image.image
+    (recorded_by c.args.image.now c.args.budget c.args.profile c.args.random c.args.file.now c.in_ok-image.image
     c.entries-threads.result.now
     (map (λ w. w.answers.items) c.in_ok-worlds.worlds.items) c.in-Ok-record.trace
     (map (λ o. o.bytes.items) c.in-Ok-record.outputs.each.items) (map (λ o. o.world.answers.items) c.in-Ok-record.outputs.each.items)

@@ -15,9 +15,9 @@ record_in_turns-requires-clause-each g c =
     omega (arith, count, same, c.in_ok-worlds.worlds.ok)
 
 pub returns-in-Ok-clause-recorded : goal.returns-in-Ok-clause-recorded
-returns-in-Ok-clause-recorded g c = subst (λ (z : List (List ℕ)). IsRecordedOf c.args.image.now (Some c.args.list.now) c.args.budget
+returns-in-Ok-clause-recorded g c = subst (λ (z : List (List ℕ)). IsRecordedOf c.args.image.now (Some c.args.list.now) c.args.budget c.args.profile
     c.args.random c.args.file.now c.in-Ok.trace z) (sym c.in_ok-printed-in-Ok.ensures)
-    (recorded_from c.args.image.now c.args.list.now c.args.budget c.args.random c.args.file.now c.in_ok-image.image
+    (recorded_from c.args.image.now c.args.list.now c.args.budget c.args.profile c.args.random c.args.file.now c.in_ok-image.image
     c.entries-threads.result.now (order_of_turns c.in_ok-order.order.items) (order_of_turns c.as_slice.result.now)
     (map (λ w. w.answers.items) c.in_ok-worlds.worlds.items) c.in-Ok.trace
     (map (λ o. o.bytes.items) c.in-Ok.outputs.each.items) (map (λ o. o.world.answers.items) c.in-Ok.outputs.each.items)

@@ -14,7 +14,7 @@ returns-in-Ok-Answer c =
     let next = subst (λ (z : Recorded × ℕ × Event). slice_get (recorded_thread z.0 t).events z.1 ≡ Some z.2)
     (λ i. (c.trace.ensures.value i, c.events_of-before.ensures.value i, c.in-Ok-Answer.field-0-is i)) c.in-Ok-Answer.ensures.next in
     let suits = subst (λ e. Suits (Env c.args.kind) e) c.in-Ok-Answer.field-0-is c.in-Ok-Answer.ensures.suits in
-    let within = subst (λ (r : Recorded). IsRecordedThread r.objects (recorded_thread r t)) c.trace.ensures.value
+    let within = subst (λ (r : Recorded). IsRecordedThread r.profile r.objects (recorded_thread r t)) c.trace.ensures.value
     c.next_event.ensures.within in
     call_next c.args.fitted.now.recorded c.args.flat.now t c.in-Ok-Answer.result c.args.kind c.in-Ok-Answer.field-0-0 within
     c.requires.asked c.requires.steps next suits

@@ -6,11 +6,11 @@ use Rattle.ir_tests.proofs.Fits.{emitted_whole}
 use Rattle.ir_tests.proofs.laws.recordings_fit.Goals as goal
 
 pub returns-clause-by_threads : goal.returns-clause-by_threads
-returns-clause-by_threads c = λ guest budget before trace outputs answers r. (r.run, emitted_whole guest budget r.run trace r.of.emitted)
+returns-clause-by_threads c = λ guest budget profile before trace outputs answers r. (r.run, emitted_whole guest budget profile r.run trace r.of.emitted)
 
 pub returns-clause-in_order : goal.returns-clause-in_order
-returns-clause-in_order c = λ guest budget order before trace outputs answers r.
-    let s = of_some guest budget order before trace outputs answers r in (s.run, emitted_whole guest budget s.run trace s.of.emitted)
+returns-clause-in_order c = λ guest budget profile order before trace outputs answers r.
+    let s = of_some guest budget profile order before trace outputs answers r in (s.run, emitted_whole guest budget profile s.run trace s.of.emitted)
 
 pub returns-clause-accepted : goal.returns-clause-accepted
 returns-clause-accepted c = accepted

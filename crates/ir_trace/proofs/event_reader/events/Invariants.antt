@@ -1,14 +1,14 @@
 use Rattle.std.proofs.Common.{◌≡◌, ◌≤◌, ◌+◌, ◌*◌, ◌-◌, ◌/◌, length, min}
 use Rattle.ir_bytes.specs.Reading.{fields_at}
-use Rattle.ir_trace.specs.Reading.{event_at}
+use Rattle.ir_trace.specs.Reading.{event_at, shortest}
 use Rattle.ir_bytes.proofs.CallerLemmas.{with_prefix}
 use Rattle.ir_trace.proofs.event_reader.events.Given as goal
 
 abbrev pub invariant-loop : goal.invariant-loop
 invariant-loop l = record {
-  emitted : with_prefix l.log.events (fields_at (event_at l.objects) (l.count - l.counter) l.rest) ≡ fields_at (event_at l.objects) l.count
+  emitted : with_prefix l.log.events (fields_at (event_at l.profile l.objects) (l.count - l.counter) l.rest) ≡ fields_at (event_at l.profile l.objects) l.count
       l.bytes;
   pushed : length l.log.events ≡ l.counter;
-  room : l.log.room ≡ min l.count (length l.bytes / 5);
-  taken : 5 * l.counter + length l.rest ≤ length l.bytes;
+  room : l.log.room ≡ min l.count (length l.bytes / shortest l.profile);
+  taken : l.counter * shortest l.profile + length l.rest ≤ length l.bytes;
 }

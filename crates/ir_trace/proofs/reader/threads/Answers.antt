@@ -8,15 +8,15 @@ use Rattle.ir_trace.proofs.reader.threads.Goals as goal
 pub returns-in_err-one : goal.returns-in_err-one
 returns-in_err-one c =
     let p = err_from_is_err_and c.from_residual.result c.from_residual.ensures.1 in
-    rw (p.1, p.2) (ends c.in_err-one.field-0.0 (thread_at c.args.objects) c.loop.threads.items c.args.count c.loop.counter c.loop.rest.now
-    (fields_at (thread_at c.args.objects) c.args.count c.args.bytes.now) c.loop-test.true c.in_err-one.ensures c.loop.invariant)
+    rw (p.1, p.2) (ends c.in_err-one.field-0.0 (thread_at c.args.profile c.args.objects) c.loop.threads.items c.args.count c.loop.counter c.loop.rest.now
+    (fields_at (thread_at c.args.profile c.args.objects) c.args.count c.args.bytes.now) c.loop-test.true c.in_err-one.ensures c.loop.invariant)
 
 pub loop-preserved : goal.loop-preserved
 loop-preserved c =
-    rw c.in_ok-push.ensures.items (goes_on (thread_at c.args.objects) c.loop.threads.items c.args.count c.loop.counter c.loop.rest.now
-    c.in_ok-one.one c.in_ok-one.after.now (fields_at (thread_at c.args.objects) c.args.count c.args.bytes.now) c.loop-test.true
+    rw c.in_ok-push.ensures.items (goes_on (thread_at c.args.profile c.args.objects) c.loop.threads.items c.args.count c.loop.counter c.loop.rest.now
+    c.in_ok-one.one c.in_ok-one.after.now (fields_at (thread_at c.args.profile c.args.objects) c.args.count c.args.bytes.now) c.loop-test.true
     c.in_ok-one.ensures c.loop.invariant)
 
 pub returns : goal.returns
-returns c = is_done (thread_at c.args.objects) c.loop.threads.items c.args.count c.loop.counter c.loop.rest.now
-    (fields_at (thread_at c.args.objects) c.args.count c.args.bytes.now) c.loop-test.false c.loop.invariant
+returns c = is_done (thread_at c.args.profile c.args.objects) c.loop.threads.items c.args.count c.loop.counter c.loop.rest.now
+    (fields_at (thread_at c.args.profile c.args.objects) c.args.count c.args.bytes.now) c.loop-test.false c.loop.invariant

@@ -1,7 +1,7 @@
 use Rattle.std.proofs.Common.{refl, sym}
 use Rattle.ir_flat.specs.Flat.{cell_of}
 use Rattle.ir_flat.proofs.CallerLemmas.{enter_object}
-use Rattle.ir_fit.proofs.Seen.{entry_follows, entry_waits, entry_agrees, entry_disagrees, asks_entry, found_open, found_shut}
+use Rattle.ir_fit.proofs.Seen.{entry_follows, entry_waits, entry_agrees, entry_awaits, entry_disagrees, asks_entry, found_open, found_shut}
 use Rattle.ir_fit.proofs.follower.Follower.look_entry.Goals as goal
 
 pub object-requires : goal.object-requires
@@ -30,7 +30,10 @@ returns-then-is_open c = (
 
 pub returns-else-is_open : goal.returns-else-is_open
 returns-else-is_open c = (
-  record { object = c.args.object; access = c.args.access; asked = c.requires.asked; next = c.in-Ok.ensures.next },
+  record {
+    awaits = entry_awaits c.args.self.now.trace c.args.self.now.flat c.args.t c.args.object c.args.access c.requires.asked;
+    next = c.in-Ok.ensures.next;
+  },
   entry_agrees c.args.self.now.trace c.args.self.now.flat c.args.t c.args.object c.args.access c.in-Ok.event c.requires.asked
       c.requires.steps c.in-Ok.ensures.next c.in-Ok.ensures.suits,
   entry_waits c.args.self.now.trace c.args.self.now.flat c.args.t c.args.object c.args.access c.in-Ok.event c.next_event.ensures.flat

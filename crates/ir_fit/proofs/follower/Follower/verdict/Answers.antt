@@ -2,7 +2,7 @@ use Rattle.std.proofs.Common.{◌≡◌, sym, ap, subst, ◌∙◌}
 use Rattle.ir_flat.specs.Flat.{thread_of}
 use Rattle.ir_runs.specs.declared.thread_verdict.ThreadVerdict.TheVariants.{Disagrees, Starves}
 use Rattle.ir_fit.proofs.Moves.{Stands, stands_disagrees, stands_starves}
-use Rattle.ir_fit.proofs.Seen.{asks_entry, seen_other}
+use Rattle.ir_fit.proofs.Seen.{awaits_some, seen_other}
 use Rattle.ir_fit.proofs.follower.Follower.verdict.Goals as goal
 
 pub returns-in-Waits : goal.returns-in-Waits
@@ -13,8 +13,7 @@ returns-in-Waits c = λ guest k.
     ∙ ap (λ x. x.events) c.thread-thread.ensures.thread in
     subst (λ e. Stands guest r f c.args.self.now.places.items k c.args.t (Starves e)) (sym events)
     (stands_starves guest r f c.args.self.now.places.items k c.args.t
-    (asks_entry _ c.in-Waits.ensures.0.object c.in-Waits.ensures.0.access c.in-Waits.ensures.0.asked) c.in-Waits.ensures.1
-    c.in-Waits.ensures.2)
+    (awaits_some _ _ c.in-Waits.ensures.0.awaits) c.in-Waits.ensures.1 c.in-Waits.ensures.2)
 
 pub returns-in-Disagrees : goal.returns-in-Disagrees
 returns-in-Disagrees c = λ guest k.

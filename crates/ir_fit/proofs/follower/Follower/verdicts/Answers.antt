@@ -14,8 +14,8 @@ loop-t-preserved c = record {
       (subst (λ xs. slice_get xs t ≡ Some v) c.in_ok-push.ensures.items h)) [
         | inl g ↦ c.loop-t.invariant.stand guest k t v g
         | inr e ↦
-            let m = machine (start_flat guest c.args.self.now.trace.budget) in
-            let s = tables (start_flat guest c.args.self.now.trace.budget) in
+            let m = machine (start_flat guest c.args.self.now.trace.budget c.args.self.now.trace.profile) in
+            let s = tables (start_flat guest c.args.self.now.trace.budget c.args.self.now.trace.profile) in
             subst (StandsAs m s (trace_of c.args.self.now.trace) k.run t) e.1
             (subst (λ u. StandsAs m s (trace_of c.args.self.now.trace) k.run u c.verdict.result) (sym (e.0 ∙ c.loop-t.invariant.size))
             (c.verdict.ensures guest k))

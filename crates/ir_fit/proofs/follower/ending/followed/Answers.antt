@@ -7,9 +7,9 @@ use Rattle.ir_fit.proofs.follower.ending.followed.Goals as goal
 
 pub follow-requires : goal.follow-requires
 follow-requires c =
-    let start : c.in_ok-flat.flat ≡ start_flat c.args.image.now c.budget.result = c.in_ok-flat.ensures in
+    let start : c.in_ok-flat.flat ≡ start_flat c.args.image.now c.budget.result c.profile.result = c.in_ok-flat.ensures in
     let threads : length c.in_ok-flat.flat.threads ≡ length c.args.image.now.entries = ap (λ f. length f.threads) start
-    ∙ threads_length c.args.image.now c.budget.result 0 (length c.args.image.now.entries) in
+    ∙ threads_length c.args.image.now c.budget.result c.profile.result 0 (length c.args.image.now.entries) in
     let count : length c.threads-count.result.now ≡ length c.args.image.now.entries = ap (λ xs. length xs) c.threads-count.ensures.value
     ∙ c.requires in
     let rooms : c.in_ok-places.places.items ≡ map room_for c.args.trace.threads = c.in_ok-places.ensures
@@ -18,13 +18,13 @@ follow-requires c =
       emitted = c.requires ∙ sym threads;
       known = omega (arith, c.resize.new.self.ok, c.in_ok-resize.ensures.len, count, threads);
       placed = start_placed c.args.image.now c.args.trace c.in_ok-flat.flat c.in_ok-places.places.items
-          (start ∙ ap (start_flat c.args.image.now) c.budget.ensures.value) rooms (c.requires ∙ sym threads);
+          (start ∙ λ i. start_flat c.args.image.now (c.budget.ensures.value i) (c.profile.ensures i)) rooms (c.requires ∙ sym threads);
     }
 
 pub returns-clause-followed : goal.returns-clause-followed
 returns-clause-followed c =
-    let start : c.in_ok-flat.flat ≡ start_flat c.args.image.now c.args.trace.budget = c.in_ok-flat.ensures
-    ∙ ap (start_flat c.args.image.now) c.budget.ensures.value in
+    let start : c.in_ok-flat.flat ≡ start_flat c.args.image.now c.args.trace.budget c.args.trace.profile = c.in_ok-flat.ensures
+    ∙ (λ i. start_flat c.args.image.now (c.budget.ensures.value i) (c.profile.ensures i)) in
     let rooms : c.in_ok-places.places.items ≡ map room_for c.args.trace.threads = c.in_ok-places.ensures
     ∙ ap (map room_for) c.threads.ensures.value in
     followed_there c.args.image.now c.args.trace c.in_ok-flat.flat c.follow.new.self.flat c.in_ok-places.places.items

@@ -49,3 +49,11 @@ returns-in_default g c = record {
 
 pub returns-in-Enter-clause-kept : goal.returns-in-Enter-clause-kept
 returns-in-Enter-clause-kept g c = same_worlds g.W.World.answers g.W.World.origin c.args.self.now.worlds.items
+
+pub returns-in-Try-clause-ready : goal.returns-in-Try-clause-ready
+returns-in-Try-clause-ready g c = stays_ready c.args.t true
+    (progress_of g.W.World.answers c.args.self.now)
+    (progress c.try_to_enter.new.self (map g.W.World.answers c.args.self.now.worlds.items))
+    (map g.W.World.broken c.args.self.now.worlds.items) (map g.W.World.broken c.args.self.now.worlds.items)
+    c.requires.ready (c.try_to_enter.ensures.took (map g.W.World.answers c.args.self.now.worlds.items)) c.try_to_enter.ensures.tape
+    refl c.requires.ready.works

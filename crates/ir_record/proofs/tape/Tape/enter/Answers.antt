@@ -1,8 +1,14 @@
 use Rattle.std.proofs.Common.{ap, ◌∙◌, refl, [], ◌∷◌, ◌++◌, set}
-use Rattle.ir_flat.proofs.CallerLemmas.{enter_object}
+use Rattle.ir_thread.specs.declared.ask.Ask.TheVariants.{Enter}
+use Rattle.ir_runs.specs.Labels.{Label}
+use Rattle.ir_runs.specs.Machine as machine
+use Rattle.ir_runs.specs.Object.{emitted}
+use Rattle.ir_flat.specs.Flat.{thread_of, tables}
+use Rattle.ir_flat.proofs.CallerLemmas.{added, enter_object}
 use Rattle.ir_log.specs.Logged.{Logged}
 use Rattle.ir_record.proofs.Logs.{has_room, log_found}
-use Rattle.ir_record.proofs.Entering.{Entering, accepted, refused, enter_none, enter_took, enter_tape, enter_room, waits_took, waits_tape}
+use Rattle.ir_record.proofs.Entering.{OneEvent, accepted, refused, enter_none, event_took, event_tape, emits_asked, entry_logged, entry_unanswered, enter_room, waits_took, waits_tape}
+use Rattle.ir_record.proofs.Steps.{no_try}
 use Rattle.ir_record.proofs.tape.Tape.enter.Goals as goal
 
 pub entry-event-requires : goal.entry-event-requires
@@ -25,15 +31,22 @@ push-requires c = has_room c.args.self.now.flat c.args.self.now.logs.items c.arg
     c.index_mut.ensures.value)
     (enter_room c.args.self.now.flat c.args.t c.args.object c.args.access c.requires.asked)
 
-entering : (c : goal.After-self-1) → Entering c.args.self.now.flat c.take.new.self c.args.self.now.logs.items
-    (set c.args.self.now.logs.items c.args.t c.push.new.self) c.args.t c.args.object c.args.access c.entry-event.result
+abbrev told : (c : goal.After-self-1) → Label
+told c = emitted (machine.Entry c.args.object c.args.access 0) ((tables c.args.self.now.flat).objects c.args.object)
+
+entering : (c : goal.After-self-1) → OneEvent c.args.self.now.flat c.take.new.self c.args.self.now.logs.items
+    (set c.args.self.now.logs.items c.args.t c.push.new.self) c.args.t 0 (told c) c.entry-event.result
 entering c = record {
   tape = c.requires.tape;
   flat = c.requires.flat;
   below = c.requires.thread;
-  asked = c.requires.asked;
-  emits = c.entry-event.ensures.emitted;
-  fits = c.entry-event.ensures.fits;
+  one = ap added c.requires.asked;
+  emits = emits_asked c.args.self.now.flat c.args.t 0 (Enter c.args.object c.args.access) c.requires.asked;
+  event = c.entry-event.ensures.emitted;
+  once = entry_logged c.args.object c.args.access 0 ((tables c.args.self.now.flat).objects c.args.object);
+  unanswered = entry_unanswered c.args.object c.args.access 0 ((tables c.args.self.now.flat).objects c.args.object);
+  fits = c.entry-event.ensures.fits (thread_of c.args.self.now.flat c.args.t).profile;
+  enters = no_try c.args.self.now.flat c.args.t 0 (Enter c.args.object c.args.access) c.requires.asked (λ o e. cc e);
   can = accepted c.take.result c.is_err.result _ c.is_err.ensures.value c.if-is_err.false c.take.ensures.admitted;
   taken = accepted c.take.result c.is_err.result _ c.is_err.ensures.value c.if-is_err.false c.take.ensures.taken;
   code = c.take.ensures.code;
@@ -43,13 +56,13 @@ entering c = record {
   pushed = c.push.ensures ∙ ap {A = Logged} {B = Logged} (λ l. record l { events = l.events ++ c.entry-event.result ∷ [] })
       (log_found c.args.self.now.flat c.args.self.now.logs.items c.args.t c.index_mut.result.now c.requires.tape c.requires.thread
       c.index_mut.ensures.value);
-  logged = refl;
+  logs_are = refl;
 }
 
 pub returns-clause-took : goal.returns-clause-took
-returns-clause-took c = enter_took c.args.self.now.flat c.take.new.self c.args.self.now.logs.items
-    (set c.args.self.now.logs.items c.args.t c.push.new.self) c.args.t c.args.object c.args.access c.entry-event.result (entering c)
+returns-clause-took c = event_took c.args.self.now.flat c.take.new.self c.args.self.now.logs.items
+    (set c.args.self.now.logs.items c.args.t c.push.new.self) c.args.t 0 (told c) c.entry-event.result (entering c)
 
 pub returns-clause-tape : goal.returns-clause-tape
-returns-clause-tape c = enter_tape c.args.self.now.flat c.take.new.self c.args.self.now.logs.items
-    (set c.args.self.now.logs.items c.args.t c.push.new.self) c.args.t c.args.object c.args.access c.entry-event.result (entering c)
+returns-clause-tape c = event_tape c.args.self.now.flat c.take.new.self c.args.self.now.logs.items
+    (set c.args.self.now.logs.items c.args.t c.push.new.self) c.args.t 0 (told c) c.entry-event.result (entering c)

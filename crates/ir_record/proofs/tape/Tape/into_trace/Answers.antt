@@ -4,7 +4,7 @@ use Rattle.std.specs.Vec.Iter.{into_iter_items, into_iter_len}
 use Rattle.ir_flat.specs.Flat.{thread_of}
 use Rattle.ir_trace.specs.Recorded.{IsEvent, IsRecordedThread}
 use Rattle.ir_record.specs.Gathered.{IsThreadTrace, AreThreadTraces}
-use Rattle.ir_record.specs.Progress.{no_log}
+use Rattle.ir_record.specs.Progress.{no_log, log_at}
 use Rattle.ir_record.proofs.Logs.{all_append}
 use Rattle.ir_record.proofs.Gathering.{next_of, next_below, gathered_more, thread_found, moved_on, size_on}
 use Rattle.ir_record.proofs.tape.Tape.into_trace.Goals as goal
@@ -26,9 +26,10 @@ loop-log-preserved c =
     let emitted : IsThreadTrace (thread_of c.args.self.flat (length at.threads.items)) x c.thread_trace.result =
     subst (λ k. IsThreadTrace (thread_of c.args.self.flat k) x c.thread_trace.result) place
     (subst (λ z. IsThreadTrace z x c.thread_trace.result) found c.thread_trace.ensures.value) in
-    let fits : AllByRecursion (IsEvent objects) x.events =
-    subst (λ z. AllByRecursion (IsEvent objects) z.events) (next_of at.yielded rest c.args.self.logs.items x no_log parts)
-    (c.requires.tape.events_fit (length at.yielded) below) in
+    let fits : AllByRecursion (IsEvent c.args.profile objects) x.events =
+    subst (λ z. AllByRecursion (IsEvent c.args.profile objects) z.events) (next_of at.yielded rest c.args.self.logs.items x no_log parts)
+    (subst (λ p. AllByRecursion (IsEvent p objects) (log_at c.args.self.logs.items (length at.yielded)).events)
+    (c.requires.profile (length at.yielded) below) (c.requires.tape.events_fit (length at.yielded) below)) in
     record {
       parts = moved_on at.yielded (into_iter_items at.log-iterator) rest c.args.self.logs.items x at.invariant.parts
           c.in-Some.ensures.steps.0;
@@ -36,7 +37,7 @@ loop-log-preserved c =
           at.invariant.size c.in-Some.ensures.steps.0 c.in-Some.ensures.steps.1;
       traces = subst (λ z. AreThreadTraces c.args.self.flat (at.yielded ++ x ∷ []) z) (sym c.in_ok-push.ensures.items)
           (gathered_more c.args.self.flat at.yielded x at.threads.items c.thread_trace.result at.invariant.traces emitted);
-      fit = subst (λ z. AllByRecursion (IsRecordedThread objects) z) (sym c.in_ok-push.ensures.items)
-          (all_append (IsRecordedThread objects) at.threads.items c.thread_trace.result at.invariant.fit
-          (c.thread_trace.ensures.fits objects fits));
+      fit = subst (λ z. AllByRecursion (IsRecordedThread c.args.profile objects) z) (sym c.in_ok-push.ensures.items)
+          (all_append (IsRecordedThread c.args.profile objects) at.threads.items c.thread_trace.result at.invariant.fit
+          (c.thread_trace.ensures.fits c.args.profile objects fits));
     }

@@ -10,5 +10,5 @@ invariant-loop-log l = record {
   parts : l.yielded ++ into_iter_items l.log-iterator ≡ l.fn.self.logs.items;
   size : into_iter_len l.log-iterator ≡ length (into_iter_items l.log-iterator);
   traces : AreThreadTraces l.fn.self.flat l.yielded l.threads.items;
-  fit : AllByRecursion (IsRecordedThread (length l.fn.self.flat.objects)) l.threads.items;
+  fit : AllByRecursion (IsRecordedThread l.profile (length l.fn.self.flat.objects)) l.threads.items;
 }

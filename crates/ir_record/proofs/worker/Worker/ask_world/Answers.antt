@@ -14,7 +14,7 @@ push-requires g c = log_room c.args.crew.now.table.shared.key (work_of g.W.World
 pub returns-in-Ok-clause-stays : goal.returns-in-Ok-clause-stays
 returns-in-Ok-clause-stays g c = record {
   seat = refl;
-  still = λ budget t before i. answer_step c.args.crew.now.table.shared.key budget t before (work_of g.W.World.answers c.args.self.now) _
+  still = λ budget profile t before i. answer_step c.args.crew.now.table.shared.key budget profile t before (work_of g.W.World.answers c.args.self.now) _
       c.args.kind c.in-Ok.value (subst (λ z. ask_of z c.args.self.now.thread ≡ ask.Env c.args.kind) c.requires.worker.same_code
       c.requires.asked) c.in-Ok.ensures.fits refl
       (subst (λ z. c.take_asked.new.self ≡ after_reply z c.args.self.now.thread (Value c.in-Ok.value)) c.requires.worker.same_code

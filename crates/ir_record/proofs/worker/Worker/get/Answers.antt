@@ -19,7 +19,7 @@ get-value-requires-clause-inside g c = inside_get c.args.crew.now.table.shared.k
 pub returns-clause-stays : goal.returns-clause-stays
 returns-clause-stays g c = record {
   seat = c.get-value.ensures.seat.0;
-  still = λ budget t before i. get_step c.args.crew.now.table.shared.key budget t before (work_of g.W.World.answers c.args.self.now) _
+  still = λ budget profile t before i. get_step c.args.crew.now.table.shared.key budget profile t before (work_of g.W.World.answers c.args.self.now) _
       c.args.object c.args.index c.get-value.result
       (subst (λ z. ask_of z c.args.self.now.thread ≡ ask.Get c.args.object c.args.index) c.requires.worker.same_code c.requires.asked)
       c.get-value.ensures.got (subst (λ z. c.take_asked.new.self ≡ after_reply z c.args.self.now.thread (Value c.get-value.result))

@@ -19,7 +19,7 @@ leave-requires-clause-inside g c = inside_leave c.args.crew.now.table.shared.key
 pub returns-clause-stays : goal.returns-clause-stays
 returns-clause-stays g c = record {
   seat = c.leave.ensures.seat.0;
-  still = λ budget t before i. leave_step c.args.crew.now.table.shared.key budget t before (work_of g.W.World.answers c.args.self.now) _
+  still = λ budget profile t before i. leave_step c.args.crew.now.table.shared.key budget profile t before (work_of g.W.World.answers c.args.self.now) _
       c.args.object c.leave.ensures.left.0 c.args.access
       (subst (λ z. ask_of z c.args.self.now.thread ≡ ask.Leave c.args.object c.args.access) c.requires.worker.same_code c.requires.asked)
       c.leave.ensures.left.1 (subst (λ z. c.take_asked.new.self ≡ after_reply z c.args.self.now.thread Go) c.requires.worker.same_code

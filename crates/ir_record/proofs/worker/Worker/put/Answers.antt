@@ -21,7 +21,7 @@ put-requires-clause-inside g c = inside_put c.args.crew.now.table.shared.key (wo
 pub returns-clause-stays : goal.returns-clause-stays
 returns-clause-stays g c = record {
   seat = c.put.ensures.seat.0;
-  still = λ budget t before i. put_step c.args.crew.now.table.shared.key budget t before (work_of g.W.World.answers c.args.self.now) _
+  still = λ budget profile t before i. put_step c.args.crew.now.table.shared.key budget profile t before (work_of g.W.World.answers c.args.self.now) _
       c.args.object c.args.index c.args.value
       (subst (λ z. ask_of z c.args.self.now.thread ≡ ask.Put c.args.object c.args.index c.args.value) c.requires.worker.same_code
       c.requires.asked) c.put.ensures.put (subst (λ z. c.take_asked.new.self ≡ after_reply z c.args.self.now.thread Go)

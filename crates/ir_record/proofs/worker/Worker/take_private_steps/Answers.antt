@@ -8,7 +8,7 @@ pub returns-clause-stays : goal.returns-clause-stays
 returns-clause-stays g c = record {
   seat = refl;
   still =
-      λ budget t before i. run_steps c.args.crew.now.table.shared.key budget t before (work_of g.W.World.answers c.args.self.now) _
+      λ budget profile t before i. run_steps c.args.crew.now.table.shared.key budget profile t before (work_of g.W.World.answers c.args.self.now) _
       c.run-ran.result (subst (λ z. PrivateSteps z c.run-ran.result c.args.self.now.thread c.run-ran.new.self) c.requires.worker.same_code
       c.run-ran.ensures.steps) refl refl refl i;
 }

@@ -15,3 +15,6 @@ returns-in-Get-clause-world g c = same_world g.W.World.answers g.W.World.origin 
 
 pub returns-in-Put-clause-world : goal.returns-in-Put-clause-world
 returns-in-Put-clause-world g c = same_world g.W.World.answers g.W.World.origin _ _ c.put.ensures.world
+
+pub returns-in-Try-clause-world : goal.returns-in-Try-clause-world
+returns-in-Try-clause-world g c = same_world g.W.World.answers g.W.World.origin _ _ c.try_write.ensures.world

@@ -17,6 +17,7 @@ returns-clause-steps c =
       number = inside.number;
       held = inside.held.items;
       budget = inside.budget;
+      profile = inside.profile;
       steps =
           inside.steps;
       events = inside.events;

@@ -12,7 +12,8 @@ first : (c : After-into_parts-threads) → StandsAt c.args.fitted.now (λ t. 0) 
 first c =
     stands_first c.args.fitted.now c.in_ok-flat.flat (made c)
     (c.in_ok-flat.ensures ∙ (λ i. start_flat (c.image.ensures.value i)
-    ((c.budget.ensures.value ∙ ap (λ r. r.budget) c.trace.ensures.value) i)))
+    ((c.budget.ensures.value ∙ ap (λ r. r.budget) c.trace-trace.ensures.value) i)
+    ((c.profile.ensures ∙ ap (λ r. r.profile) c.trace-trace.ensures.value) i)))
     c.into_parts-threads.ensures.within c.into_parts-threads.ensures.threads c.into_parts-threads.ensures.objects
 
 pub returns-clause-start : goal.returns-clause-start

@@ -1,5 +1,3 @@
-use Rattle.std.proofs.Common.{refl}
-use Rattle.ir_thread.specs.declared.ask.Ask.TheVariants.{Enter}
 use Rattle.ir_weave.specs.Woven.{Opens}
 use Rattle.ir_weave.proofs.Seats.{WasShown, look_allows, look_emitted, head_there, granted_by, test_true, test_false}
 use Rattle.ir_weave.proofs.weave.Weave.look.Goals as goal
@@ -9,7 +7,7 @@ pub load-seen-requires : goal.load-seen-requires
 load-seen-requires c = (
   c.requires.seat,
   head_there c.args.self.now.table.shared.key c.args.thread.now c.args.seat.now.me.0 c.args.object _ c.args.access
-      (Enter c.args.object c.args.access) c.requires.thread c.requires.entering.asking refl c.args.self.now.words,
+      c.args.event c.requires.thread c.requires.entering c.args.self.now.words,
   look_allows c.args.self.now.table.shared.key _ _ c.args.object c.args.access c.args.event c.args.thread.now c.args.seat.now.me
       c.requires.thread c.requires.entering,
 )

@@ -1,11 +1,12 @@
 use Rattle.std.proofs.Common.{◌≡◌, ◌∙◌, ℕ, ap, refl, subst}
 use Rattle.std.specs.Prelude.{slice_get, Some}
 use Rattle.ir_log.specs.Logging.{Suits}
+use Rattle.ir_log.proofs.CallerLemmas.{entry_suits}
 use Rattle.ir_log.specs.declared.event.Event.{Event}
 use Rattle.ir_trace.specs.Recorded.{Recorded}
 use Rattle.ir_trace.specs.TraceOf.{recorded_thread}
 use Rattle.ir_thread.specs.declared.ask.Ask.TheVariants.{Enter}
-use Rattle.ir_weave.proofs.Steps.{object_stepped, never_disagrees, waited}
+use Rattle.ir_weave.proofs.Steps.{object_stepped, never_disagrees, waited, entering_for}
 use Rattle.ir_weave.proofs.weave.Weave.try_enter.Goals as goal
 
 pub unreachable-requires : goal.unreachable-requires
@@ -14,6 +15,13 @@ unreachable-requires c = never_disagrees c.args.self.now.table.shared.key c.args
     (subst (λ (z : Recorded × ℕ × ℕ). (e : Event) → slice_get (recorded_thread z.0 z.1).events z.2 ≡ Some e
     → Suits (Enter c.args.object c.args.access) e → ⊥)
     (λ i. (c.trace.ensures.value i, c.number-number.ensures i, c.events.ensures.value i)) c.in-Err.ensures.disagrees)
+
+pub enter-requires-clause-entering : goal.enter-requires-clause-entering
+enter-requires-clause-entering c = entering_for c.args.self.now.table.shared.key c.args.fitted.now c.args.thread.now
+    (Enter c.args.object c.args.access) c.args.object c.args.access c.in-Ok.event c.requires.table c.requires.asking
+    (subst (λ (z : Recorded × ℕ × ℕ). slice_get (recorded_thread z.0 z.1).events z.2 ≡ Some c.in-Ok.event)
+    (λ i. (c.trace.ensures.value i, c.number-number.ensures i, c.events.ensures.value i)) c.in-Ok.ensures.next) c.in-Ok.ensures.suits
+    (entry_suits c.args.object c.args.access c.in-Ok.event c.in-Ok.ensures.suits)
 
 pub returns-then-not-enter-clause-stopped : goal.returns-then-not-enter-clause-stopped
 returns-then-not-enter-clause-stopped c off = let z = c.enter.ensures.stopped c.if-not-enter.true in

@@ -2,7 +2,7 @@
 
 use ir_image::{Code, read_image};
 use ir_runs::{Access, EnvKind};
-use ir_thread::{Ask, End, Reply, Thread};
+use ir_thread::{Ask, End, Profile, Reply, Thread};
 use std::alloc::Global;
 use std::test::Fail;
 
@@ -24,6 +24,7 @@ fn run(thread: &mut Thread, code: &Code, steps: u32, value: u32) {
         match thread.ask(code) {
             Ask::Done => {}
             Ask::Env(_) | Ask::Get(_, _) => thread.take(code, Reply::Value(value)),
+            Ask::Try(_) => thread.take(code, Reply::Value(0)),
             _ => thread.take(code, Reply::Go),
         }
     }
@@ -33,7 +34,7 @@ fn run(thread: &mut Thread, code: &Code, steps: u32, value: u32) {
 fn a_thread_asks_and_is_answered(rt: HostRuntime) -> Result<(), Fail> {
     let image = read_image(rt.alloc(), &PROGRAM)?;
     let code = image.code();
-    let mut thread = Thread::new(rt.alloc(), &image, 0, 1000)?;
+    let mut thread = Thread::new(rt.alloc(), &image, 0, 1000, Profile::One)?;
     assert_eq!(rt; thread.budget(), 1000);
     run(&mut thread, code, 1, 0);
     assert_eq!(rt; thread.ask(code), Ask::Env(EnvKind::Clock));
@@ -58,7 +59,7 @@ const HELD: [(u32, Ask, Option<End>, Option<Access>); 3] = [
 #[test]
 fn what_is_held_is_released(rt: HostRuntime) -> Result<(), Fail> {
     let image = read_image(rt.alloc(), &PROGRAM)?;
-    let mut thread = Thread::new(rt.alloc(), &image, 0, 1000)?;
+    let mut thread = Thread::new(rt.alloc(), &image, 0, 1000, Profile::One)?;
     for &(steps, asked, end, held) in &HELD {
         run(&mut thread, image.code(), steps, 7);
         assert_eq!(rt; (thread.ask(image.code()), thread.ended()), (asked, end));
@@ -70,7 +71,7 @@ fn what_is_held_is_released(rt: HostRuntime) -> Result<(), Fail> {
 #[test]
 fn a_copy_goes_its_own_way(rt: HostRuntime) -> Result<(), Fail> {
     let image = read_image(rt.alloc(), &PROGRAM)?;
-    let mut thread = Thread::new(rt.alloc(), &image, 0, 1000)?;
+    let mut thread = Thread::new(rt.alloc(), &image, 0, 1000, Profile::One)?;
     run(&mut thread, image.code(), 11, 7);
     let mut copy = thread.copy()?;
     run(&mut copy, image.code(), 1, 7);
@@ -87,7 +88,7 @@ const RUNS: [(u32, u64, u64, u64); 4] = [(0, 9, 1, 1), (3, 1, 1, 5), (0, 9, 2, 7
 #[test]
 fn a_run_stops_where_a_step_is_not_private(rt: HostRuntime) -> Result<(), Fail> {
     let image = read_image(rt.alloc(), &PROGRAM)?;
-    let mut thread = Thread::new(rt.alloc(), &image, 0, 1000)?;
+    let mut thread = Thread::new(rt.alloc(), &image, 0, 1000, Profile::One)?;
     for &(steps, limit, gone, taken) in &RUNS {
         run(&mut thread, image.code(), steps, 7);
         assert_eq!(rt; thread.run(image.code(), limit), gone);

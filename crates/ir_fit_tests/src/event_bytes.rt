@@ -23,5 +23,6 @@ pub fn put(bytes: &mut Vec<u8>, event: Event) -> Result<(), AllocError> {
             bytes.extend_from_slice(&version.to_le_bytes())?;
             bytes.extend_from_slice(&readers.to_le_bytes())
         }
+        Event::Try { object } => bytes.extend_from_slice(&[6, object]),
     }
 }

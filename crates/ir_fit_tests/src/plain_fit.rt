@@ -57,7 +57,7 @@ fn is_read(event: Event, object: u8, version: u32) -> bool {
 // The object that the event enters, and at which version.
 fn entered(event: Event) -> Option<(u8, u32)> {
     match event {
-        Event::Answer(..) => None,
+        Event::Answer(..) | Event::Try { .. } => None,
         Event::Read { object, version } => Some((object, version)),
         Event::Write {
             object,

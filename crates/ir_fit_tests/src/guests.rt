@@ -33,6 +33,9 @@ pub const FIRST_OBJECT: u32 = 0x0000_0513;
 // addi a0, zero, 1.
 pub const SECOND_OBJECT: u32 = 0x0010_0513;
 
+// addi a7, zero, 13
+pub const TRY_WRITE: u32 = 0x00d0_0893;
+
 // The bytes of such a guest's image.
 fn bytes_of(
     alloc: Global,

@@ -8,6 +8,7 @@ use crate::guests::{
     PRINT_NUMBER, PUT, guest,
 };
 use ir_flat::{Flat, NotAdmitted};
+use ir_thread::Profile;
 use std::alloc::Global;
 use std::test::Fail;
 
@@ -61,7 +62,7 @@ fn seen_alone(
     requires { budget ≤ most_budget }
 {
     let image = guest(alloc, &[0], objects, code)?;
-    let mut flat = Flat::start(alloc, &image, budget)?;
+    let mut flat = Flat::start(alloc, &image, budget, Profile::One)?;
     let _ = run(&mut flat, 0, steps, 0);
     Ok(seen(&flat))
 }
@@ -110,7 +111,7 @@ fn other_word(flat: &mut Flat) -> Option<usize> {
 #[test]
 fn entries_and_leaves_change_the_word(rt: HostRuntime) -> Result<(), Fail> {
     let image = guest(rt.alloc(), &[0], 1, &ENTRIES_AND_LEAVES)?;
-    let mut flat = Flat::start(rt.alloc(), &image, 1000)?;
+    let mut flat = Flat::start(rt.alloc(), &image, 1000, Profile::One)?;
     assert_eq!(rt; other_word(&mut flat), None);
     assert_eq!(rt; end_of(&flat), Some((1, 11, 2)));
     Ok(())
@@ -138,7 +139,7 @@ fn a_released_write_entry_keeps_its_puts(rt: HostRuntime) -> Result<(), Fail> {
 #[test]
 fn no_step_follows_the_end(rt: HostRuntime) -> Result<(), Fail> {
     let image = guest(rt.alloc(), &[0], 1, &PUT_AND_BREAK)?;
-    let mut flat = Flat::start(rt.alloc(), &image, 1000)?;
+    let mut flat = Flat::start(rt.alloc(), &image, 1000, Profile::One)?;
     assert!(rt; goes(&mut flat, 9));
     assert!(rt; run(&mut flat, 0, 1, 0) == Err(NotAdmitted));
     Ok(())
@@ -195,7 +196,7 @@ fn printed_alone(
     requires { budget ≤ most_budget }
 {
     let image = guest(alloc, &[0], 0, code)?;
-    let mut flat = Flat::start(alloc, &image, budget)?;
+    let mut flat = Flat::start(alloc, &image, budget, Profile::One)?;
     let _ = run(&mut flat, 0, steps, 0);
     let same = flat
         .threads()
@@ -259,7 +260,7 @@ fn other_wait(flat: &mut Flat) -> Option<usize> {
 #[test]
 fn a_writer_waits_for_a_reader(rt: HostRuntime) -> Result<(), Fail> {
     let image = guest(rt.alloc(), &[0, 0], 1, &READER_AND_WRITERS)?;
-    let mut flat = Flat::start(rt.alloc(), &image, 1000)?;
+    let mut flat = Flat::start(rt.alloc(), &image, 1000, Profile::One)?;
     assert_eq!(rt; other_wait(&mut flat), None);
     Ok(())
 }
@@ -284,7 +285,7 @@ fn is_copied(flat: &mut Flat) -> Result<bool, Fail> {
 #[test]
 fn a_copy_goes_its_own_way(rt: HostRuntime) -> Result<(), Fail> {
     let image = guest(rt.alloc(), &[0], 1, &PUT_AND_BREAK)?;
-    let mut flat = Flat::start(rt.alloc(), &image, 1000)?;
+    let mut flat = Flat::start(rt.alloc(), &image, 1000, Profile::One)?;
     assert!(rt; is_copied(&mut flat)?);
     Ok(())
 }
@@ -311,7 +312,7 @@ fn other_input(flat: &mut Flat) -> Option<usize> {
 #[test]
 fn an_input_is_a_byte_or_the_end(rt: HostRuntime) -> Result<(), Fail> {
     let image = guest(rt.alloc(), &[0], 0, &[INPUT, ECALL, ECALL])?;
-    let mut flat = Flat::start(rt.alloc(), &image, 1000)?;
+    let mut flat = Flat::start(rt.alloc(), &image, 1000, Profile::One)?;
     assert!(rt; goes(&mut flat, 1));
     assert_eq!(rt; other_input(&mut flat), None);
     Ok(())
@@ -342,7 +343,7 @@ fn other_count(flat: &mut Flat) -> Option<usize> {
 #[test]
 fn private_steps_are_taken_together(rt: HostRuntime) -> Result<(), Fail> {
     let image = guest(rt.alloc(), &[0], 1, &PUT_AND_BREAK)?;
-    let mut flat = Flat::start(rt.alloc(), &image, 1000)?;
+    let mut flat = Flat::start(rt.alloc(), &image, 1000, Profile::One)?;
     assert_eq!(rt; other_count(&mut flat), None);
     assert_eq!(rt; end_of(&flat), Some((2, 9, 1)));
     Ok(())
@@ -378,7 +379,7 @@ fn other_turn(flat: &mut Flat) -> Option<usize> {
 #[test]
 fn who_waits_or_is_done_has_no_step(rt: HostRuntime) -> Result<(), Fail> {
     let image = guest(rt.alloc(), &[0, 0], 1, &PUT_AND_BREAK)?;
-    let mut flat = Flat::start(rt.alloc(), &image, 1000)?;
+    let mut flat = Flat::start(rt.alloc(), &image, 1000, Profile::One)?;
     assert_eq!(rt; other_turn(&mut flat), None);
     Ok(())
 }
@@ -386,7 +387,7 @@ fn who_waits_or_is_done_has_no_step(rt: HostRuntime) -> Result<(), Fail> {
 #[test]
 fn a_call_of_the_environment_is_a_step(rt: HostRuntime) -> Result<(), Fail> {
     let image = guest(rt.alloc(), &[0], 0, &[INPUT, ECALL, ECALL])?;
-    let mut flat = Flat::start(rt.alloc(), &image, 1000)?;
+    let mut flat = Flat::start(rt.alloc(), &image, 1000, Profile::One)?;
     assert!(rt; goes(&mut flat, 1) && can_step(&flat, 0));
     Ok(())
 }

@@ -7,6 +7,7 @@ use ir_fit::{Cause, FitErr, Verdict, fit};
 use ir_flat::Flat;
 use ir_log::Event;
 use ir_runs::{EnvKind, ThreadVerdict};
+use ir_thread::Profile;
 use ir_trace::{Trace, read_trace};
 use std::alloc::{AllocError, Global};
 use std::test::Fail;
@@ -282,7 +283,7 @@ fn tally_first(
 // Counts all traces.
 fn tally_all(alloc: Global, sides: Sides) -> Result<Tally, Fail> {
     let image = guest(alloc, &sides.starts, 1, &CODE)?;
-    let start = Flat::start(alloc, &image, BUDGET)?;
+    let start = Flat::start(alloc, &image, BUDGET, Profile::One)?;
     let mut tally = Tally {
         fits: 0,
         disagrees: 0,

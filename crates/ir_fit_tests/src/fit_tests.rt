@@ -12,7 +12,7 @@ use std::test::Fail;
 
 // What `fit` answers.
 #[derive(Clone, Copy, Debug, PartialEq)]
-enum Judged {
+pub enum Judged {
     Fits,
     Header(HeaderCause),
     Breaks(u8, u32, Cause),
@@ -35,7 +35,7 @@ fn said(verdict: &Verdict) -> Judged {
 }
 
 // What `fit` answers of the guest and the trace of these bytes.
-fn answer_of(alloc: Global, image: Image, bytes: &[u8]) -> Result<Judged, Fail> {
+pub fn answer_of(alloc: Global, image: Image, bytes: &[u8]) -> Result<Judged, Fail> {
     let trace = read_trace(alloc, bytes)?;
     let answer = fit(alloc, image, trace);
     Ok(match &answer {

@@ -1,0 +1,2 @@
+mod Suiting
+pub mod CallerLemmas
