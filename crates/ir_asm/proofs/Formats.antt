@@ -24,7 +24,8 @@ use Rattle.ir_asm.specs.declared.item.Operand.TheVariants.{Index, Integer}
 use Rattle.ir_asm.specs.declared.item.Item.TheVariants.{Code}
 use Rattle.ir_asm.specs.Text.{before, trim, trim_end, is_blank, is_nil}
 use Rattle.ir_disasm.specs.Names.{branch_name, immediate_name, operation_name}
-use Rattle.ir_asm.specs.Forms.{form_named, stands_in}
+use Rattle.ir_image.specs.declared.form.ImageForm.TheVariants.{Small}
+use Rattle.ir_asm.specs.Forms.{form_named, in_image, stands_in}
 use Rattle.ir_asm.specs.Operands.{operands_of, int_le}
 use Rattle.ir_asm.specs.Items.{instruction, item_of}
 use Rattle.ir_asm.specs.Source.{operand_texts, texts_of, is_source_byte, may_stand}
@@ -133,8 +134,8 @@ texts_three name a b c n p q r =
 
 pub three_says : (name a b raw c : List ℕ) (word : ℕ) (form : Form) (xs : List Operand) → IsPiece name → IsPiece a → IsPiece b → Ends raw c
     →
-    form_named name ≡ Some form → may_stand (stands_in form) Text ≡ true → operands_of form (a ∷ b ∷ c ∷ []) ≡ Ok xs
-    → item_of form xs ≡ Code (word ∷ []) →
+    form_named name ≡ Some form → may_stand (stands_in form) Text ≡ true → operands_of (in_image Small form) (a ∷ b ∷ c ∷ []) ≡ Ok xs
+    → item_of (in_image Small form) xs ≡ Code (word ∷ []) →
     Says (three name a b raw) (three name a b c) word
 three_says name a b raw c word form xs n p q r e s o m = record {
   form = form;
@@ -150,7 +151,7 @@ three_says name a b raw c word form xs n p q r e s o m = record {
   some = not_nil name (32 ∷ (a ++ 44 ∷ 32 ∷ (b ++ 44 ∷ 32 ∷ c))) refl;
   named = ap form_named (name_before name (a ++ 44 ∷ 32 ∷ (b ++ 44 ∷ 32 ∷ c)) n.all) ∙ e;
   stands = s;
-  read = ap (operands_of form) (texts_three name a b c n p q r.piece_is) ∙ o;
+  read = ap (operands_of (in_image Small form)) (texts_three name a b c n p q r.piece_is) ∙ o;
   means = m;
 }
 

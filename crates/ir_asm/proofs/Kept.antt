@@ -5,9 +5,12 @@ use Rattle.std.specs.List.{AllByRecursion}
 use Rattle.std.proofs.lemmas.Bool.{ltb-true}
 use Rattle.std.proofs.lemmas.Option.{same_Some}
 use Rattle.std.proofs.lemmas.List.{length-replicate, length-append, length-take-le, length-drop}
+use Rattle.ir_image.specs.declared.form.ImageForm.{ImageForm}
+use Rattle.ir_image.specs.declared.form.ImageForm.TheVariants.{Small, Large}
+use Rattle.ir_image.specs.Forms.{limits_of}
 use Rattle.ir_image.specs.Guest.{Guest, IsPlace, code_start, object_words}
 use Rattle.ir_asm.specs.declared.item.Item.{Item}
-use Rattle.ir_asm.specs.declared.item.Item.TheVariants.{Code, BranchTo, JumpTo, LoadAddress, Filled, Within, Entry, Count, First, Nothing}
+use Rattle.ir_asm.specs.declared.item.Item.TheVariants.{Code, BranchTo, JumpTo, LoadAddress, Filled, Enlarged, Within, Entry, Count, First, Nothing}
 use Rattle.ir_asm.specs.declared.item.Place.{Place}
 use Rattle.ir_asm.specs.declared.item.Placed.{Placed}
 use Rattle.ir_asm.specs.declared.form.Section.{Section}
@@ -78,26 +81,61 @@ address_fits s label a fits e =
     by_section Text n f p = p
     by_section Data n f p = absurd (cc f)
 
--- an object's words take the place of as many
-pub object_length : (g : Guest) (object : ℕ) (words : List ℕ) → length words ≤ object_words
-    → object_words * object + object_words ≤ length g.words → length (with_object g object words).words ≡ length g.words
-object_length g object words few there =
-    let prefix : List ℕ = take (object_words * object) g.words in
-    let back : List ℕ = drop (object_words * object + object_words) g.words in
+-- so many words of zeros, cut
+take_zeros : (k n : ℕ) → k ≤ n → take k (replicate {A = ℕ} n 0) ≡ replicate {A = ℕ} k 0
+take_zeros zero n l = refl
+take_zeros (suc k) zero l = absurd (omega (arith, l))
+take_zeros (suc k) (suc n) l = ap (λ (xs : List ℕ). 0 ∷ xs) (take_zeros k n (omega (arith, l)))
+
+zeros_cut : (words : List ℕ) (k n : ℕ) → k ≤ n → take (length words + k) (words ++ replicate {A = ℕ} n 0) ≡ words ++ replicate {A = ℕ} k 0
+zeros_cut [] k n l = let e : 0 + k ≡ k = omega arith in rw e (take_zeros k n l)
+zeros_cut (w ∷ ws) k n l =
+    let e : length (w ∷ ws) + k ≡ suc (length ws + k) = omega arith in
+    rw e (ap (λ (xs : List ℕ). w ∷ xs) (zeros_cut ws k n l))
+
+-- fewer words of an object
+pub shorter_words : (count most : ℕ) (words : List ℕ) → length words ≤ count → count ≤ most
+    → take count (first_words most words) ≡ first_words count words
+shorter_words count most words l m =
+    let e : length words + (count - length words) ≡ count = omega (arith, l) in
+    ap (λ (k : ℕ). take k (first_words most words)) (sym e)
+    ∙ zeros_cut words (count - length words) (most - length words) (omega (arith, m))
+
+-- an object has its place
+room_by : (form : ImageForm) (object objects : ℕ) → object < objects
+    → (limits_of form).words * object + (limits_of form).words ≤ (limits_of form).words * objects
+room_by Small object objects l = omega (arith, l)
+room_by Large object objects l = omega (arith, l)
+
+pub room_for : (g : Guest) (object objects : ℕ) → object < objects → length g.words ≡ object_words g * objects
+    → object_words g * object + object_words g ≤ length g.words
+room_for g object objects l there = let r = room_by g.form object objects l in omega (arith, r, there)
+
+-- words take the place of as many
+same_length : (all words : List ℕ) (start count : ℕ) → length words ≤ count → start + count ≤ length all
+    → length (take start all ++ (first_words count words ++ drop (start + count) all)) ≡ length all
+same_length all words start count few there =
+    let prefix : List ℕ = take start all in
+    let back : List ℕ = drop (start + count) all in
     omega (
       arith,
-      length-append prefix (first_words words ++ back),
-      length-append (first_words words) back,
-      length-append words (replicate (object_words - length words) 0),
-      length-replicate {A = ℕ} (object_words - length words) 0,
-      length-take-le (object_words * object) g.words (omega (arith, there)),
-      length-drop (object_words * object + object_words) g.words,
+      length-append prefix (first_words count words ++ back),
+      length-append (first_words count words) back,
+      length-append words (replicate (count - length words) 0),
+      length-replicate {A = ℕ} (count - length words) 0,
+      length-take-le start all (omega (arith, there)),
+      length-drop (start + count) all,
       few,
       there,
     )
 
+pub object_length : (g : Guest) (object : ℕ) (words : List ℕ) → length words ≤ object_words g
+    → object_words g * object + object_words g ≤ length g.words → length (with_object g object words).words ≡ length g.words
+object_length g object words few there = same_length g.words words (object_words g * object) (object_words g) few there
+
 -- what an item adds to a guest
 pub record Adds (s : Seen) (item : Item) (g h : Guest) : Type 0 where
+  pub form : h.form ≡ g.form
   pub code : 4 * length h.code ≡ 4 * length g.code + code_size item
   pub bytes : length h.bytes ≡ length g.bytes + data_size item
   pub entries : length h.entries ≡ length g.entries + entry_count item
@@ -107,6 +145,7 @@ pub record Adds (s : Seen) (item : Item) (g h : Guest) : Type 0 where
 more_code : (s : Seen) (item : Item) (g h : Guest) (words : List ℕ) → 4 * length words ≡ code_size item → data_size item ≡ 0
     → entry_count item ≡ 0 → with_code g words ≡ h → Adds s item g h
 more_code s item g h words c d n e = subst (Adds s item g) e (record {
+  form = refl;
   code = omega (arith, length-append g.code words, c);
   bytes = omega (arith, d);
   entries = omega (arith, n);
@@ -117,9 +156,9 @@ more_code s item g h words c d n e = subst (Adds s item g) e (record {
 same_guest : (s : Seen) (item : Item) (g h : Guest) → code_size item ≡ 0 → data_size item ≡ 0 → entry_count item ≡ 0 → g ≡ h
     → Adds s item g h
 same_guest s item g h c d n e = subst (Adds s item g) e
-    (record { code = omega (arith, c); bytes = omega (arith, d); entries = omega (arith, n); words = refl; fit = λ fits k m all. all })
+    (record { form = refl; code = omega (arith, c); bytes = omega (arith, d); entries = omega (arith, n); words = refl; fit = λ fits k m all. all })
 
-pub put_adds : (s : Seen) (a : ℕ) (item : Item) (g h : Guest) → HasFewWords item → length g.words ≡ object_words * s.objects
+pub put_adds : (s : Seen) (a : ℕ) (item : Item) (g h : Guest) → HasFewWords g.form item → length g.words ≡ object_words g * s.objects
     → put s a item g ≡ Ok h → Adds s item g h
 put_adds s a (Code words) g h few there e = more_code s (Code words) g h words refl refl refl (ok_is _ h e)
 put_adds s a (BranchTo op rs1 rs2 label) g h few there e =
@@ -132,6 +171,7 @@ put_adds s a (LoadAddress rd label) g h few there e =
     let b = bind_ok (value_of s label) _ h e in
     more_code s (LoadAddress rd label) g h _ refl refl refl (ok_is _ h b.2)
 put_adds s a (Filled bytes) g h few there e = subst (Adds s (Filled bytes) g) (ok_is _ h e) (record {
+  form = refl;
   code = omega arith;
   bytes = length-append g.bytes bytes;
   entries = omega arith;
@@ -143,6 +183,7 @@ put_adds s a (Entry label) g h few there e =
     let t = tested (nat_lt b.0 (code_start + s.code)) WrongSection _ h b.2 in
     let below : b.0 < code_start + s.code = ltb-true b.0 (code_start + s.code) t.0 in
     subst (Adds s (Entry label) g) t.1 (record {
+      form = refl;
       code = omega arith;
       bytes = omega arith;
       entries = length-append g.entries (b.0 ∷ []);
@@ -154,20 +195,28 @@ put_adds s a (First object words) g h few there e =
     let t = tested (nat_lt object s.objects) BadCount _ h e in
     let below : object < s.objects = ltb-true object s.objects t.0 in
     subst (Adds s (First object words) g) t.1 (record {
+      form = refl;
       code = omega arith;
       bytes = omega arith;
       entries = omega arith;
-      words = object_length g object words few (omega (arith, below, there));
+      words = object_length g object words few (room_for g object s.objects below there);
       fit = λ fits k m all. all;
     })
+put_adds s a Enlarged g h few there e = same_guest s Enlarged g h refl refl refl (ok_is _ h e)
 put_adds s a (Within section) g h few there e = same_guest s (Within section) g h refl refl refl (ok_is _ h e)
 put_adds s a (Count n) g h few there e = same_guest s (Count n) g h refl refl refl (ok_is _ h e)
 put_adds s a Nothing g h few there e = same_guest s Nothing g h refl refl refl (ok_is _ h e)
 
--- the number of words stays
-pub words_stay : (s : Seen) (a : ℕ) (item : Item) (g h : Guest) → HasFewWords item → length g.words ≡ object_words * s.objects
-    → put s a item g ≡ Ok h → length h.words ≡ object_words * s.objects
-words_stay s a item g h few there e = (put_adds s a item g h few there e).words ∙ there
+-- the form stays, and the number of words
+pub form_stays : (s : Seen) (a : ℕ) (item : Item) (g h : Guest) → HasFewWords g.form item → length g.words ≡ object_words g * s.objects
+    → put s a item g ≡ Ok h → h.form ≡ g.form
+form_stays s a item g h few there e = (put_adds s a item g h few there e).form
+
+pub words_stay : (s : Seen) (a : ℕ) (item : Item) (g h : Guest) → HasFewWords g.form item → length g.words ≡ object_words g * s.objects
+    → put s a item g ≡ Ok h → length h.words ≡ object_words h * s.objects
+words_stay s a item g h few there e =
+    let a = put_adds s a item g h few there e in
+    a.words ∙ there ∙ ap (λ (f : ImageForm). (limits_of f).words * s.objects) (sym a.form)
 
 -- what holds of all holds of one
 pub all_here : {X : Type 0} (P : X → Type 0) (xs : List X) (i : ℕ) (d : X) → i < length xs → AllByRecursion P xs → P (get_or xs i d)

@@ -1,19 +1,30 @@
 -- What a label's value is, by what each line does to the sizes.
-use Rattle.std.proofs.Common.{◌≡◌, ◌+◌, ◌*◌, ◌++◌, ℕ, Bool, true, false, cond, not, List, [], ◌∷◌, length, refl, sym, ap, subst, ◌∙◌, arith, Option, Some, None, Ok, is_some, ◌||◌}
+use Rattle.std.proofs.Common.{◌≡◌, ◌+◌, ◌*◌, ◌++◌, ℕ, Bool, true, false, cond, not, List, [], ◌∷◌, length, refl, sym, ap, subst, ◌∙◌, arith, Option, Some, None, Result, Ok, Err, is_some, ◌||◌}
 use Rattle.std.specs.Prelude.{nat_lt, nat_le, bytes_eq, if◌then◌else◌}
 use Rattle.std.specs.List.{list_any, list_all}
 use Rattle.std.proofs.lemmas.Slice.Eq.{bytes_eq-Decides}
-use Rattle.ir_image.specs.Guest.{memory_size, most_threads, most_code_words}
-use Rattle.ir_asm.specs.declared.cause.Cause.TheVariants.{BadByte, BadCount, BadLabel, BadSize, LabelTwice}
+use Rattle.ir_image.specs.declared.form.ImageForm.{ImageForm}
+use Rattle.ir_image.specs.declared.form.ImageForm.TheVariants.{Small}
+use Rattle.ir_image.specs.Forms.{limits_of}
+use Rattle.ir_image.specs.Guest.{memory_size, most_code_words}
+use Rattle.ir_asm.specs.declared.cause.Cause.{Cause}
+use Rattle.ir_asm.specs.declared.cause.Cause.TheVariants.{BadByte, BadCount, BadLabel, BadSize, LabelTwice, UnknownStatement, WrongSection}
 use Rattle.ir_asm.specs.declared.form.Section.{Section}
 use Rattle.ir_asm.specs.declared.form.Section.TheVariants.{Text, Data}
+use Rattle.ir_asm.specs.declared.form.Form.{Form}
+use Rattle.ir_asm.specs.declared.form.Form.TheVariants.{Objects, Object}
+use Rattle.ir_asm.specs.declared.item.Operand.{Operand}
+use Rattle.ir_asm.specs.declared.item.Operand.TheVariants.{Integer}
 use Rattle.ir_asm.specs.declared.item.Item.{Item}
 use Rattle.ir_asm.specs.declared.item.Item.TheVariants.{Code, Entry, Nothing}
 use Rattle.ir_asm.specs.declared.item.Place.{Place}
-use Rattle.ir_asm.specs.Faults.{◌>>=◌}
+use Rattle.ir_asm.specs.Faults.{◌>>=◌, or_cause}
+use Rattle.ir_asm.specs.Forms.{form_named, stated, in_image, may_come, stands_in}
+use Rattle.ir_asm.specs.Operands.{operands_of}
+use Rattle.ir_asm.specs.Items.{item_of}
 use Rattle.ir_asm.specs.Names.{named}
 use Rattle.ir_asm.specs.Text.{is_name, is_nil}
-use Rattle.ir_asm.specs.Source.{Seen, nothing_seen, start_of, size_in, same_section, size_of, here, is_source_byte, at_line, item_in, grown, laid, entered, with_labels, with_statement, with_line, line_of, first_pass}
+use Rattle.ir_asm.specs.Source.{Seen, nothing_seen, start_of, size_in, same_section, size_of, here, is_source_byte, at_line, name_of, operand_texts, may_stand, item_with, item_in, begun, grown, laid, entered, with_labels, with_statement, with_line, line_of, first_pass}
 use Rattle.ir_asm.specs.Standing.{item_or_nothing, placed_by, section_after, section_at_end, bytes_placed, place_after}
 use Rattle.ir_asm.proofs.Steps.{at_line_ok, ok_is, bind_ok, unless_ok, tested}
 
@@ -30,7 +41,7 @@ entered_is : (section : Section) (line a : ℕ) (item : Item) (u t : Seen) → e
 entered_is Data line a (Code words) u t e = subst (Enters (Code words) u) (ok_is _ t e)
     (record { section = refl; code = refl; filled = refl; labels = refl })
 entered_is section line a (Entry label) u t e =
-    let x = tested (nat_lt u.threads most_threads) BadCount _ t e in
+    let x = tested (nat_lt u.threads (limits_of (stated u.form)).threads) BadCount _ t e in
     subst (Enters (Entry label) u) x.1 (record { section = refl; code = refl; filled = refl; labels = refl })
 entered_is section line a item u t e = subst (Enters item u) (ok_is _ t e)
     (record { section = refl; code = refl; filled = refl; labels = refl })
@@ -61,6 +72,66 @@ same_size : (w : Section) (u t : Seen) → t.code ≡ u.code → t.filled ≡ u.
 same_size Text u t c f = c
 same_size Data u t c f = f
 
+-- ---- the form of the image
+
+-- two items are of one size, and after both stands the same section
+record IsLike (item other : Item) : Type 0 where
+  size : size_of other ≡ size_of item
+  section : (s : Section) → section_after other s ≡ section_after item s
+
+-- an item that takes no bytes and stays in its section
+abbrev IsLight : Item → Type 0
+IsLight item = IsLike Nothing item
+
+both_light : (item other : Item) → IsLight item → IsLight other → IsLike item other
+both_light item other l m = record { size = m.size ∙ sym l.size; section = λ s. m.section s ∙ sym (l.section s) }
+
+objects_light : (image : ImageForm) (xs : List Operand) → IsLight (item_of (Objects image) xs)
+objects_light image (Integer z ∷ []) = record { size = refl; section = λ s. refl }
+objects_light image xs = record { size = refl; section = λ s. refl }
+
+object_light : (image : ImageForm) (xs : List Operand) → IsLight (item_of (Object image) xs)
+object_light image (Integer z ∷ xs) = record { size = refl; section = λ s. refl }
+object_light image xs = record { size = refl; section = λ s. refl }
+
+-- what a form of light items gives is light, be it a fault or not
+or_light : (form : Form) (r : Result (List Operand) Cause) → ((xs : List Operand) → IsLight (item_of form xs))
+    → IsLight (item_or_nothing (r >>= λ xs. Ok (item_of form xs)))
+or_light form (Ok xs) each = each xs
+or_light form (Err cause) each = record { size = refl; section = λ s. refl }
+
+found_light : (form : Form) (texts : List (List ℕ)) (item : Item) → ((xs : List Operand) → IsLight (item_of form xs))
+    → item_with form texts ≡ Ok item → IsLight item
+found_light form texts item each e =
+    let o = bind_ok (operands_of form texts) _ item e in
+    subst IsLight (ok_is _ item o.2) (each o.0)
+
+found : (r : Result Item Cause) (item : Item) → r ≡ Ok item → IsLike item (item_or_nothing r)
+found (Ok x) item e =
+    let same : x ≡ item = ok_is x item e in
+    record { size = ap size_of same; section = λ s. ap (λ (y : Item). section_after y s) same }
+found (Err cause) item e = absurd (cc e)
+
+-- a form that has no fault in an image places the like of what it does in a small one
+like_by : (image : ImageForm) (form : Form) (texts : List (List ℕ)) (item : Item) → item_with (in_image image form) texts ≡ Ok item
+    → IsLike item (item_or_nothing (item_with (in_image Small form) texts))
+like_by image (Objects other) texts item e =
+    both_light item _ (found_light (Objects image) texts item (objects_light image) e)
+    (or_light (Objects Small) (operands_of (Objects Small) texts) (objects_light Small))
+like_by image (Object other) texts item e =
+    both_light item _ (found_light (Object image) texts item (object_light image) e)
+    (or_light (Object Small) (operands_of (Object Small) texts) (object_light Small))
+like_by image form texts item e = found _ item e
+
+-- so does a statement, wherever it stands
+like_first : (before : Option ImageForm) (section : Section) (statement : List ℕ) (item : Item)
+    → item_in before section statement ≡ Ok item → IsLike item (item_or_nothing (item_in None section statement))
+like_first before section statement item e =
+    let f = bind_ok (or_cause UnknownStatement (form_named (name_of statement))) _ item e in
+    let c = unless_ok (may_come before f.0) WrongSection _ item f.2 in
+    let u = unless_ok (may_stand (stands_in f.0) section) WrongSection _ item c.1 in
+    rw (f.1, u.0) (like_by (stated before) f.0 (operand_texts statement) item u.1)
+
 -- ---- a statement
 
 -- what a statement that places an item in a section leaves
@@ -86,12 +157,19 @@ no_more true n = omega arith
 no_more false n = omega arith
 
 statement_is : (line : ℕ) (statement : List ℕ) (s t : Seen) → with_statement line statement s ≡ Ok t
-    → Stands s.section (if is_nil statement then Nothing else item_or_nothing (item_in s.section statement)) s t
+    → Stands s.section (if is_nil statement then Nothing else item_or_nothing (item_in None s.section statement)) s t
 statement_is line [] s t e = subst (Stands s.section Nothing s) (ok_is s t e)
     (record { goes_on = refl; labels = refl; sizes = λ w. no_more (same_section w s.section) (size_in w s) })
 statement_is line (b ∷ bs) s t e =
-    let i = bind_ok (item_in s.section (b ∷ bs)) _ t e in
-    subst (λ r. Stands s.section (item_or_nothing r) s t) (sym i.1) (item_is s.section line _ i.0 s t i.2)
+    let i = bind_ok (item_in s.form s.section (b ∷ bs)) _ t e in
+    let l = like_first s.form s.section (b ∷ bs) i.0 i.1 in
+    let p = item_is s.section line _ i.0 (begun s) t i.2 in
+    record {
+      goes_on = p.goes_on ∙ sym (l.section s.section);
+      labels = p.labels;
+      sizes = λ w. p.sizes w ∙ ap (λ n. n + (if same_section w s.section then size_of i.0 else 0)) (same_size w s (begun s) refl refl)
+          ∙ ap (λ n. size_in w s + (if same_section w s.section then n else 0)) (sym l.size);
+    }
 
 -- ---- labels
 

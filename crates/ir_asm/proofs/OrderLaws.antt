@@ -2,16 +2,18 @@
 use Rattle.std.proofs.Common.{◌≡◌, ◌+◌, ◌*◌, ◌≤◌, ◌<◌, ℕ, List, [], ◌∷◌, ◌++◌, Ok, not, is_some, refl, ap, subst, arith}
 use Rattle.std.specs.Prelude.{nat_le, nat_lt}
 use Rattle.std.specs.List.{AllByRecursion, list_all}
-use Rattle.ir_image.specs.Guest.{memory_size, most_threads, most_code_words}
+use Rattle.ir_image.specs.Forms.{limits_of}
+use Rattle.ir_image.specs.Guest.{memory_size, most_code_words}
+use Rattle.ir_asm.specs.Forms.{stated}
 use Rattle.ir_asm.specs.declared.cause.Cause.TheVariants.{LabelTwice, BadByte, BadLabel, BadSize, BadCount}
 use Rattle.ir_asm.specs.declared.form.Section.{Section}
 use Rattle.ir_asm.specs.declared.form.Section.TheVariants.{Text, Data}
 use Rattle.ir_asm.specs.declared.item.Item.{Item}
-use Rattle.ir_asm.specs.declared.item.Item.TheVariants.{Code, BranchTo, JumpTo, LoadAddress, Filled, Within, Entry, Count, First, Nothing}
+use Rattle.ir_asm.specs.declared.item.Item.TheVariants.{Code, BranchTo, JumpTo, LoadAddress, Filled, Enlarged, Within, Entry, Count, First, Nothing}
 use Rattle.ir_asm.specs.declared.item.Placed.{Placed}
 use Rattle.ir_asm.specs.Names.{named}
 use Rattle.ir_asm.specs.Text.{is_name}
-use Rattle.ir_asm.specs.Source.{Seen, nothing_seen, size_of, here, is_source_byte, at_line, grown, laid, placed_at, entered, with_labels, with_statement, with_line, line_of, first_pass, item_in}
+use Rattle.ir_asm.specs.Source.{Seen, nothing_seen, size_of, here, is_source_byte, at_line, grown, laid, placed_at, entered, begun, with_labels, with_statement, with_line, line_of, first_pass, item_in}
 use Rattle.ir_asm.specs.Placing.{AreInOrder}
 use Rattle.ir_asm.proofs.Steps.{at_line_ok, ok_is, bind_ok, unless_ok, tested}
 use Rattle.ir_asm.proofs.Kept.{all_push}
@@ -41,10 +43,12 @@ one_more line a item s l o =
 
 by_item : (line a : ℕ) (item : Item) (s t : Seen) → 1 ≤ line → IsBefore line s.placed → entered line a item s ≡ Ok t
     → IsBefore (line + 1) t.placed
+by_item line a Enlarged s t l o e = subst (λ u. IsBefore (line + 1) u.placed) (ok_is _ t e) (passed line s.placed o)
 by_item line a (Within section) s t l o e = subst (λ u. IsBefore (line + 1) u.placed) (ok_is _ t e) (passed line s.placed o)
 by_item line a (Count objects) s t l o e = subst (λ u. IsBefore (line + 1) u.placed) (ok_is _ t e) (passed line s.placed o)
 by_item line a Nothing s t l o e = subst (λ u. IsBefore (line + 1) u.placed) (ok_is _ t e) (passed line s.placed o)
-by_item line a (Entry label) s t l o e = subst (λ u. IsBefore (line + 1) u.placed) (tested (nat_lt s.threads most_threads) BadCount _ t e).1
+by_item line a (Entry label) s t l o e = subst (λ u. IsBefore (line + 1) u.placed)
+    (tested (nat_lt s.threads (limits_of (stated s.form)).threads) BadCount _ t e).1
     (one_more line a (Entry label) s l o)
 by_item line a (Code words) s t l o e = subst (λ u. IsBefore (line + 1) u.placed) (ok_is _ t e) (one_more line a (Code words) s l o)
 by_item line a (BranchTo op rs1 rs2 label) s t l o e =
@@ -65,10 +69,10 @@ by_statement : (line : ℕ) (statement : List ℕ) (s t : Seen) → 1 ≤ line �
     → IsBefore (line + 1) t.placed
 by_statement line [] s t l o e = subst (λ u. IsBefore (line + 1) u.placed) (ok_is s t e) (passed line s.placed o)
 by_statement line (b ∷ bs) s t l o e =
-    let i = bind_ok (item_in s.section (b ∷ bs)) _ t e in
-    let g = bind_ok (grown s.section (size_of i.0) s) _ t i.2 in
-    by_item line (here s).address (laid s.section i.0) g.0 t l (subst (IsBefore line) (grown_places s.section (size_of i.0) s g.0 g.1) o)
-    g.2
+    let i = bind_ok (item_in s.form s.section (b ∷ bs)) _ t e in
+    let g = bind_ok (grown s.section (size_of i.0) (begun s)) _ t i.2 in
+    by_item line (here (begun s)).address (laid s.section i.0) g.0 t l
+    (subst (IsBefore line) (grown_places s.section (size_of i.0) (begun s) g.0 g.1) o) g.2
 
 labels_place : (labels : List (List ℕ)) (s t : Seen) → with_labels labels s ≡ Ok t → s.placed ≡ t.placed
 labels_place [] s t e = ap (λ (u : Seen). u.placed) (ok_is s t e)

@@ -15,7 +15,8 @@ use Rattle.ir_asm.specs.declared.item.Operand.{Operand}
 use Rattle.ir_asm.specs.declared.item.Operand.TheVariants.{Index, Integer}
 use Rattle.ir_asm.specs.declared.item.Item.TheVariants.{Code}
 use Rattle.ir_asm.specs.Text.{before, trim, trim_end}
-use Rattle.ir_asm.specs.Forms.{form_named, stands_in}
+use Rattle.ir_image.specs.declared.form.ImageForm.TheVariants.{Small}
+use Rattle.ir_asm.specs.Forms.{form_named, in_image, stands_in}
 use Rattle.ir_asm.specs.Operands.{operands_of, int_le, distance_in}
 use Rattle.ir_asm.specs.Items.{instruction, item_of}
 use Rattle.ir_asm.specs.Source.{operand_texts, texts_of, is_source_byte, may_stand}
@@ -64,8 +65,8 @@ texts_two_of name a c n p r =
     (rw (trim_clean a p.all, trim_clean c r.all) refl)
 
 pub two_says : (name a raw c : List ℕ) (word : ℕ) (form : Form) (xs : List Operand) → IsPiece name → IsPiece a → Ends raw c →
-    form_named name ≡ Some form → may_stand (stands_in form) Text ≡ true → operands_of form (a ∷ c ∷ []) ≡ Ok xs
-    → item_of form xs ≡ Code (word ∷ []) →
+    form_named name ≡ Some form → may_stand (stands_in form) Text ≡ true → operands_of (in_image Small form) (a ∷ c ∷ []) ≡ Ok xs
+    → item_of (in_image Small form) xs ≡ Code (word ∷ []) →
     Says (two name a raw) (two name a c) word
 two_says name a raw c word form xs n p r e s o m = record {
   form = form;
@@ -79,7 +80,7 @@ two_says name a raw c word form xs n p r e s o m = record {
   some = not_nil name (32 ∷ (a ++ 44 ∷ 32 ∷ c)) refl;
   named = ap form_named (name_before name (a ++ 44 ∷ 32 ∷ c) n.all) ∙ e;
   stands = s;
-  read = ap (operands_of form) (texts_two_of name a c n p r.piece_is) ∙ o;
+  read = ap (operands_of (in_image Small form)) (texts_two_of name a c n p r.piece_is) ∙ o;
   means = m;
 }
 

@@ -8,7 +8,7 @@ use Rattle.ir_image.specs.Guest.{Guest, code_start}
 use Rattle.ir_asm.specs.declared.cause.Cause.{Cause}
 use Rattle.ir_asm.specs.declared.cause.Cause.TheVariants.{WrongSection, BadCount}
 use Rattle.ir_asm.specs.declared.item.Item.{Item}
-use Rattle.ir_asm.specs.declared.item.Item.TheVariants.{Code, BranchTo, JumpTo, LoadAddress, Filled, Within, Entry, Count, First, Nothing}
+use Rattle.ir_asm.specs.declared.item.Item.TheVariants.{Code, BranchTo, JumpTo, LoadAddress, Filled, Enlarged, Within, Entry, Count, First, Nothing}
 use Rattle.ir_asm.specs.declared.item.Placed.{Placed}
 use Rattle.ir_asm.specs.Faults.{◌>>=◌, unless}
 use Rattle.ir_asm.specs.Source.{Seen, Fault, nothing_seen, at_line, first_pass}
@@ -40,6 +40,7 @@ put_fault s a (BranchTo op rs1 rs2 label) g = of_value (distance_to s (negsuc 40
 put_fault s a (JumpTo rd label) g = of_value (distance_to s (negsuc 1048575) (pos 1048574) a label) _
 put_fault s a (LoadAddress rd label) g = of_value (value_of s label) _
 put_fault s a (Filled bytes) g = refl
+put_fault s a Enlarged g = refl
 put_fault s a (Within section) g = refl
 put_fault s a (Entry label) g = of_tested (text_address s label) (λ n. nat_lt n (code_start + s.code)) WrongSection _
 put_fault s a (Count n) g = refl

@@ -1,31 +1,35 @@
 -- What the first pass keeps.
-use Rattle.std.proofs.Common.{is_some, not, ◌≡◌, ◌+◌, ◌*◌, ◌%◌, ◌^◌, ◌≤◌, ◌<◌, ℕ, zero, suc, ℤ, pos, negsuc, Bool, true, false, true≢false, cond, List, [], ◌∷◌, ◌++◌, length, refl, sym, ap, subst, ◌∙◌, arith, Ok, ◌&&◌}
+use Rattle.std.proofs.Common.{is_some, not, ◌≡◌, ◌+◌, ◌*◌, ◌%◌, ◌^◌, ◌≤◌, ◌<◌, ℕ, zero, suc, ℤ, pos, negsuc, Bool, true, false, true≢false, cond, List, [], ◌∷◌, ◌++◌, length, refl, sym, ap, subst, ◌∙◌, arith, Ok, ◌&&◌, Option, Some}
 use Rattle.std.specs.Prelude.{nat_le, nat_lt, slice_index, ◌==◌, flat_map}
 use Rattle.std.specs.List.{AllByRecursion, sum_by, list_all}
 use Rattle.std.proofs.lemmas.Bool.{ltb-true, leb-true, eqb-false}
 use Rattle.std.proofs.lemmas.List.{length-append, length-replicate}
 use Rattle.std.proofs.lemmas.List.Sums.{sum_by-append}
 use Rattle.byteorder.specs.Endian.{little_bytes}
-use Rattle.ir_image.specs.Guest.{Guest, IsGuest, IsPlace, IsWord, IsByte, code_start, memory_size, most_threads, most_objects, most_code_words, object_words}
+use Rattle.ir_image.specs.declared.form.ImageForm.{ImageForm}
+use Rattle.ir_image.specs.declared.form.ImageForm.TheVariants.{Large}
+use Rattle.ir_image.specs.Forms.{limits_of}
+use Rattle.ir_image.specs.Guest.{Guest, IsGuest, IsPlace, IsWord, IsByte, code_start, memory_size, most_code_words, object_words, object_count}
+use Rattle.ir_image.proofs.CallerLemmas.{most_words, some_threads, threads_of, objects_of, count_of, whole_of}
 use Rattle.ir_asm.specs.declared.cause.Cause.TheVariants.{UnknownStatement, WrongSection, WrongOperands, BadNumber, BadSize, BadCount, BadByte, BadLabel, LabelTwice}
 use Rattle.ir_asm.specs.declared.form.Section.{Section}
 use Rattle.ir_asm.specs.declared.form.Section.TheVariants.{Text, Data}
 use Rattle.ir_asm.specs.declared.form.Form.{Form}
-use Rattle.ir_asm.specs.declared.form.Form.TheVariants.{Registers, Immediates, Shifts, Loads, JumpsTo, Stores, Branches, Jumps, LoadsUpper, AddsUpper, Fences, Calls, Breaks, DoesNothing, LoadsValue, Sections, Bytes, Space, Thread, Objects, Object}
+use Rattle.ir_asm.specs.declared.form.Form.TheVariants.{Registers, Immediates, Shifts, Loads, JumpsTo, Stores, Branches, Jumps, LoadsUpper, AddsUpper, Fences, Calls, Breaks, DoesNothing, LoadsValue, Enlarges, Sections, Bytes, Space, Thread, Objects, Object}
 use Rattle.ir_asm.specs.declared.form.Kind.TheVariants.{Number}
 use Rattle.ir_asm.specs.declared.item.Operand.{Operand}
 use Rattle.ir_asm.specs.declared.item.Operand.TheVariants.{Index, Integer, Offset, Symbol}
 use Rattle.ir_asm.specs.declared.item.Item.{Item}
-use Rattle.ir_asm.specs.declared.item.Item.TheVariants.{Code, BranchTo, JumpTo, LoadAddress, Filled, Within, Entry, Count, First, Nothing}
+use Rattle.ir_asm.specs.declared.item.Item.TheVariants.{Code, BranchTo, JumpTo, LoadAddress, Filled, Enlarged, Within, Entry, Count, First, Nothing}
 use Rattle.ir_asm.specs.declared.item.Placed.{Placed}
 use Rattle.ir_isa.specs.Words.{low_bits}
 use Rattle.ir_asm.specs.Faults.{◌>>=◌, or_cause}
-use Rattle.ir_asm.specs.Forms.{form_named, stands_in, takes, kind_at}
+use Rattle.ir_asm.specs.Forms.{form_named, stated, in_image, may_come, stands_in, takes, kind_at}
 use Rattle.ir_asm.specs.Operands.{int_le, number_in, read, read_all, are_formed, operands_of}
 use Rattle.ir_asm.specs.Text.{number, is_name}
 use Rattle.ir_asm.specs.Names.{named}
 use Rattle.ir_asm.specs.Items.{values, item_of}
-use Rattle.ir_asm.specs.Source.{Seen, nothing_seen, size_of, here, start_of, size_in, is_source_byte, at_line, grown, laid, placed_at, entered, with_labels, with_statement, with_line, line_of, first_pass, may_stand, item_in, name_of, operand_texts}
+use Rattle.ir_asm.specs.Source.{Seen, nothing_seen, size_of, here, start_of, size_in, is_source_byte, at_line, grown, laid, placed_at, entered, with_labels, with_statement, with_line, line_of, first_pass, may_stand, item_in, begun, name_of, operand_texts}
 use Rattle.ir_asm.specs.Passes.{put, second_pass, started, with_entry, guest_of}
 use Rattle.ir_asm.specs.Bounds.{HasFewWords, HaveFewWords, HasLimits}
 use Rattle.ir_asm.proofs.Steps.{at_line_ok, ok_is, bind_ok, unless_ok, tested}
@@ -38,15 +42,15 @@ all_fit P (x ∷ xs) each = (each 0, all_fit P xs (λ i. each (suc i)))
 
 -- ---- what a statement of a section may be
 
--- an item that a section may have: text has code, data has bytes, and counts are within their limits
-abbrev pub MayStand : Section → Item → Type 0
-MayStand Text (Filled bytes) = ⊥
-MayStand Data (BranchTo op rs1 rs2 label) = ⊥
-MayStand Data (JumpTo rd label) = ⊥
-MayStand Data (LoadAddress rd label) = ⊥
-MayStand section (Count n) = n ≤ most_objects
-MayStand section (First object words) = length words ≤ object_words
-MayStand section item = Unit {0}
+-- an item that a section may have: text has code, data has bytes, and counts are within the limits of the image's form
+abbrev pub MayStand : ImageForm → Section → Item → Type 0
+MayStand image Text (Filled bytes) = ⊥
+MayStand image Data (BranchTo op rs1 rs2 label) = ⊥
+MayStand image Data (JumpTo rd label) = ⊥
+MayStand image Data (LoadAddress rd label) = ⊥
+MayStand image section (Count n) = n ≤ (limits_of image).objects
+MayStand image section (First object words) = length words ≤ (limits_of image).words
+MayStand image section item = Unit {0}
 
 -- as many operands as texts
 pub read_length : (form : Form) (place : ℕ) (texts : List (List ℕ)) (xs : List Operand) → read_all form place texts ≡ Ok xs
@@ -73,13 +77,14 @@ and_right true b e = e
 and_right false b e = absurd (true≢false (sym e))
 
 -- an object has no more first words than words
-few_first : (texts : List (List ℕ)) (z : ℤ) (xs : List Operand) → operands_of Object texts ≡ Ok (Integer z ∷ xs)
-    → length (values 32 xs) ≤ object_words
-few_first texts z xs e =
-    let u = unless_ok (takes Object (length texts) && are_formed Object 0 texts) WrongOperands (read_all Object 0 texts) _ e in
-    let most : length texts ≤ 1 + object_words = leb-true (length texts) (1 + object_words)
-    (and_right (nat_le 2 (length texts)) _ (and_left (takes Object (length texts)) _ u.0)) in
-    let count : suc (length xs) ≡ length texts = read_length Object 0 texts (Integer z ∷ xs) u.1 in
+few_first : (image : ImageForm) (texts : List (List ℕ)) (z : ℤ) (xs : List Operand) → operands_of (Object image) texts ≡ Ok (Integer z ∷ xs)
+    → length (values 32 xs) ≤ (limits_of image).words
+few_first image texts z xs e =
+    let u = unless_ok (takes (Object image) (length texts) && are_formed (Object image) 0 texts) WrongOperands
+    (read_all (Object image) 0 texts) _ e in
+    let most : length texts ≤ 1 + (limits_of image).words = leb-true (length texts) (1 + (limits_of image).words)
+    (and_right (nat_le 2 (length texts)) _ (and_left (takes (Object image) (length texts)) _ u.0)) in
+    let count : suc (length xs) ≡ length texts = read_length (Object image) 0 texts (Integer z ∷ xs) u.1 in
     omega (arith, most, count, values_length 32 xs)
 
 -- a number within limits
@@ -100,69 +105,77 @@ first_number (Integer z ∷ xs) = z
 first_number (x ∷ xs) = pos 0
 
 -- a number of objects is within its limit
-few_objects : (texts : List (List ℕ)) (z : ℤ) → operands_of Objects texts ≡ Ok (Integer z ∷ []) → low_bits 32 z ≤ most_objects
-few_objects [] z e = absurd (cc e)
-few_objects (t ∷ texts) z e =
-    let u = unless_ok (takes Objects (length (t ∷ texts)) && are_formed Objects 0 (t ∷ texts)) WrongOperands
-    (read_all Objects 0 (t ∷ texts)) _ e in
-    let b = bind_ok (read (Number (pos 0) (pos most_objects)) t) _ _ u.1 in
-    let d = bind_ok (read_all Objects 1 texts) _ _ b.2 in
-    let n = bind_ok (number_in (pos 0) (pos most_objects) t) _ _ b.1 in
+few_objects : (image : ImageForm) (texts : List (List ℕ)) (z : ℤ) → operands_of (Objects image) texts ≡ Ok (Integer z ∷ [])
+    → low_bits 32 z ≤ (limits_of image).objects
+few_objects image [] z e = absurd (cc e)
+few_objects image (t ∷ texts) z e =
+    let most : ℕ = (limits_of image).objects in
+    let u = unless_ok (takes (Objects image) (length (t ∷ texts)) && are_formed (Objects image) 0 (t ∷ texts)) WrongOperands
+    (read_all (Objects image) 0 (t ∷ texts)) _ e in
+    let b = bind_ok (read (Number (pos 0) (pos most)) t) _ _ u.1 in
+    let d = bind_ok (read_all (Objects image) 1 texts) _ _ b.2 in
+    let n = bind_ok (number_in (pos 0) (pos most) t) _ _ b.1 in
     let same : n.0 ≡ z = ap (λ x. first_number (x ∷ d.0)) (ok_is _ _ n.2) ∙ ap first_number (ok_is _ _ d.2) in
-    subst (λ y. low_bits 32 y ≤ most_objects) same (number_within most_objects t n.0 n.1 (omega arith))
+    let small : most < 2 ^ 32 = let all = objects_of image in omega (arith, all) in
+    subst (λ y. low_bits 32 y ≤ most) same (number_within most t n.0 n.1 small)
 
-form_stands : (section : Section) (form : Form) (texts : List (List ℕ)) (xs : List Operand) → may_stand (stands_in form) section ≡ true
-    → operands_of form texts ≡ Ok xs → MayStand section (item_of form xs)
-form_stands Text Bytes texts xs m e = absurd (cc m)
-form_stands Text Space texts xs m e = absurd (cc m)
-form_stands Data (Registers op) texts xs m e = absurd (cc m)
-form_stands Data (Immediates op) texts xs m e = absurd (cc m)
-form_stands Data (Shifts op) texts xs m e = absurd (cc m)
-form_stands Data (Loads op) texts xs m e = absurd (cc m)
-form_stands Data JumpsTo texts xs m e = absurd (cc m)
-form_stands Data (Stores op) texts xs m e = absurd (cc m)
-form_stands Data (Branches op) texts xs m e = absurd (cc m)
-form_stands Data Jumps texts xs m e = absurd (cc m)
-form_stands Data LoadsUpper texts xs m e = absurd (cc m)
-form_stands Data AddsUpper texts xs m e = absurd (cc m)
-form_stands Data Fences texts xs m e = absurd (cc m)
-form_stands Data Calls texts xs m e = absurd (cc m)
-form_stands Data Breaks texts xs m e = absurd (cc m)
-form_stands Data DoesNothing texts xs m e = absurd (cc m)
-form_stands Data LoadsValue texts xs m e = absurd (cc m)
-form_stands section Objects texts (Integer z ∷ []) m e = few_objects texts z e
-form_stands section Object texts (Integer z ∷ xs) m e = few_first texts z xs e
-form_stands Text (Registers op) texts (Index rd ∷ Index rs1 ∷ Index rs2 ∷ []) m e = tt
-form_stands Text (Immediates op) texts (Index rd ∷ Index rs1 ∷ Integer imm ∷ []) m e = tt
-form_stands Text (Shifts op) texts (Index rd ∷ Index rs1 ∷ Integer n ∷ []) m e = tt
-form_stands Text (Loads op) texts (Index rd ∷ Offset imm rs1 ∷ []) m e = tt
-form_stands Text JumpsTo texts (Index rd ∷ Offset imm rs1 ∷ []) m e = tt
-form_stands Text (Stores op) texts (Index rs2 ∷ Offset imm rs1 ∷ []) m e = tt
-form_stands Text (Branches op) texts (Index rs1 ∷ Index rs2 ∷ Integer z ∷ []) m e = tt
-form_stands Text (Branches op) texts (Index rs1 ∷ Index rs2 ∷ Symbol label ∷ []) m e = tt
-form_stands Text Jumps texts (Index rd ∷ Integer z ∷ []) m e = tt
-form_stands Text Jumps texts (Index rd ∷ Symbol label ∷ []) m e = tt
-form_stands Text LoadsUpper texts (Index rd ∷ Integer z ∷ []) m e = tt
-form_stands Text AddsUpper texts (Index rd ∷ Integer z ∷ []) m e = tt
-form_stands Text Fences texts [] m e = tt
-form_stands Text Fences texts (Index rd ∷ Index rs1 ∷ Integer z ∷ []) m e = tt
-form_stands Text Calls texts [] m e = tt
-form_stands Text Breaks texts [] m e = tt
-form_stands Text DoesNothing texts [] m e = tt
-form_stands Text LoadsValue texts (Index rd ∷ Integer z ∷ []) m e = tt
-form_stands Text LoadsValue texts (Index rd ∷ Symbol label ∷ []) m e = tt
-form_stands section (Sections other) texts [] m e = tt
-form_stands Data Space texts (Integer z ∷ []) m e = tt
-form_stands section Thread texts (Symbol label ∷ []) m e = tt
-form_stands section form texts xs m e = tt
+form_stands : (image : ImageForm) (section : Section) (form : Form) (texts : List (List ℕ)) (xs : List Operand)
+    → may_stand (stands_in form) section ≡ true → operands_of (in_image image form) texts ≡ Ok xs
+    → MayStand image section (item_of (in_image image form) xs)
+form_stands image Text Bytes texts xs m e = absurd (cc m)
+form_stands image Text Space texts xs m e = absurd (cc m)
+form_stands image Data (Registers op) texts xs m e = absurd (cc m)
+form_stands image Data (Immediates op) texts xs m e = absurd (cc m)
+form_stands image Data (Shifts op) texts xs m e = absurd (cc m)
+form_stands image Data (Loads op) texts xs m e = absurd (cc m)
+form_stands image Data JumpsTo texts xs m e = absurd (cc m)
+form_stands image Data (Stores op) texts xs m e = absurd (cc m)
+form_stands image Data (Branches op) texts xs m e = absurd (cc m)
+form_stands image Data Jumps texts xs m e = absurd (cc m)
+form_stands image Data LoadsUpper texts xs m e = absurd (cc m)
+form_stands image Data AddsUpper texts xs m e = absurd (cc m)
+form_stands image Data Fences texts xs m e = absurd (cc m)
+form_stands image Data Calls texts xs m e = absurd (cc m)
+form_stands image Data Breaks texts xs m e = absurd (cc m)
+form_stands image Data DoesNothing texts xs m e = absurd (cc m)
+form_stands image Data LoadsValue texts xs m e = absurd (cc m)
+form_stands image section (Objects other) texts (Integer z ∷ []) m e = few_objects image texts z e
+form_stands image section (Object other) texts (Integer z ∷ xs) m e = few_first image texts z xs e
+form_stands image Text (Registers op) texts (Index rd ∷ Index rs1 ∷ Index rs2 ∷ []) m e = tt
+form_stands image Text (Immediates op) texts (Index rd ∷ Index rs1 ∷ Integer imm ∷ []) m e = tt
+form_stands image Text (Shifts op) texts (Index rd ∷ Index rs1 ∷ Integer n ∷ []) m e = tt
+form_stands image Text (Loads op) texts (Index rd ∷ Offset imm rs1 ∷ []) m e = tt
+form_stands image Text JumpsTo texts (Index rd ∷ Offset imm rs1 ∷ []) m e = tt
+form_stands image Text (Stores op) texts (Index rs2 ∷ Offset imm rs1 ∷ []) m e = tt
+form_stands image Text (Branches op) texts (Index rs1 ∷ Index rs2 ∷ Integer z ∷ []) m e = tt
+form_stands image Text (Branches op) texts (Index rs1 ∷ Index rs2 ∷ Symbol label ∷ []) m e = tt
+form_stands image Text Jumps texts (Index rd ∷ Integer z ∷ []) m e = tt
+form_stands image Text Jumps texts (Index rd ∷ Symbol label ∷ []) m e = tt
+form_stands image Text LoadsUpper texts (Index rd ∷ Integer z ∷ []) m e = tt
+form_stands image Text AddsUpper texts (Index rd ∷ Integer z ∷ []) m e = tt
+form_stands image Text Fences texts [] m e = tt
+form_stands image Text Fences texts (Index rd ∷ Index rs1 ∷ Integer z ∷ []) m e = tt
+form_stands image Text Calls texts [] m e = tt
+form_stands image Text Breaks texts [] m e = tt
+form_stands image Text DoesNothing texts [] m e = tt
+form_stands image Text LoadsValue texts (Index rd ∷ Integer z ∷ []) m e = tt
+form_stands image Text LoadsValue texts (Index rd ∷ Symbol label ∷ []) m e = tt
+form_stands image section Enlarges texts [] m e = tt
+form_stands image section (Sections other) texts [] m e = tt
+form_stands image Data Space texts (Integer z ∷ []) m e = tt
+form_stands image section Thread texts (Symbol label ∷ []) m e = tt
+form_stands image section form texts xs m e = tt
 
--- what a statement of a section places may stand there
-pub item_stands : (section : Section) (statement : List ℕ) (item : Item) → item_in section statement ≡ Ok item → MayStand section item
-item_stands section statement item e =
+-- what a statement places may stand there
+pub item_stands : (before : Option ImageForm) (section : Section) (statement : List ℕ) (item : Item)
+    → item_in before section statement ≡ Ok item → MayStand (stated before) section item
+item_stands before section statement item e =
     let f = bind_ok (or_cause UnknownStatement (form_named (name_of statement))) _ item e in
-    let u = unless_ok (may_stand (stands_in f.0) section) WrongSection _ item f.2 in
-    let o = bind_ok (operands_of f.0 (operand_texts statement)) _ item u.1 in
-    subst (MayStand section) (ok_is _ item o.2) (form_stands section f.0 (operand_texts statement) o.0 u.0 o.1)
+    let c = unless_ok (may_come before f.0) WrongSection _ item f.2 in
+    let u = unless_ok (may_stand (stands_in f.0) section) WrongSection _ item c.1 in
+    let o = bind_ok (operands_of (in_image (stated before) f.0) (operand_texts statement)) _ item u.1 in
+    subst (MayStand (stated before) section) (ok_is _ item o.2)
+    (form_stands (stated before) section f.0 (operand_texts statement) o.0 u.0 o.1)
 
 -- ---- the whole guest
 
@@ -196,10 +209,10 @@ pub record IsSound (s : Seen) : Type 0 where
   pub aligned : s.code % 4 ≡ 0
   pub short_code : s.code ≤ 4 * most_code_words
   pub short_data : s.filled ≤ memory_size
-  pub few_threads : s.threads ≤ most_threads
-  pub few_objects : s.objects ≤ most_objects
+  pub few_threads : s.threads ≤ (limits_of (stated s.form)).threads
+  pub few_objects : s.objects ≤ (limits_of (stated s.form)).objects
   pub labels : LabelsFit s.labels
-  pub few : HaveFewWords s.placed
+  pub few : HaveFewWords (stated s.form) s.placed
 
 pub nothing_sound : IsSound nothing_seen
 nothing_sound = record {
@@ -220,9 +233,9 @@ total_push : (size : Item → ℕ) (placed : List Placed) (x : Placed) → total
 total_push size placed x = sum_by-append (λ y. size y.item) placed (x ∷ []) ∙ omega arith
 
 -- one item more
-item_sound : (s : Seen) (line a c d n : ℕ) (item : Item) → IsSound s → HasFewWords item → code_size item % 4 ≡ 0
+item_sound : (s : Seen) (line a c d n : ℕ) (item : Item) → IsSound s → HasFewWords (stated s.form) item → code_size item % 4 ≡ 0
     → c ≡ s.code + code_size item → d ≡ s.filled + data_size item → n ≡ s.threads + entry_count item → c ≤ 4 * most_code_words
-    → d ≤ memory_size → n ≤ most_threads
+    → d ≤ memory_size → n ≤ (limits_of (stated s.form)).threads
     → IsSound (placed_at line a item (record s { code = c; filled = d; threads = n }))
 item_sound s line a c d n item h few whole is_code is_data is_entry short_code short_data few_threads =
     let x : Placed = record { line = line; address = a; item = item } in
@@ -236,11 +249,11 @@ item_sound s line a c d n item h few whole is_code is_data is_entry short_code s
       few_threads = few_threads;
       few_objects = h.few_objects;
       labels = h.labels;
-      few = all_push (λ y. HasFewWords y.item) s.placed x h.few few;
+      few = all_push (λ y. HasFewWords (stated s.form) y.item) s.placed x h.few few;
     }
 
 -- nothing more
-other_sound : (s : Seen) (section : Section) (c d o : ℕ) → IsSound s → c ≡ s.code → d ≡ s.filled → o ≤ most_objects
+other_sound : (s : Seen) (section : Section) (c d o : ℕ) → IsSound s → c ≡ s.code → d ≡ s.filled → o ≤ (limits_of (stated s.form)).objects
     → IsSound (record s { section = section; code = c; filled = d; objects = o })
 other_sound s section c d o h is_code is_data few = record {
   code = h.code ∙ sym is_code;
@@ -255,8 +268,48 @@ other_sound s section c d o h is_code is_data few = record {
   few = h.few;
 }
 
+-- once there is a statement
+begun_sound : (s : Seen) → IsSound s → IsSound (begun s)
+begun_sound s h = record {
+  code = h.code;
+  bytes = h.bytes;
+  entries = h.entries;
+  aligned = h.aligned;
+  short_code = h.short_code;
+  short_data = h.short_data;
+  few_threads = h.few_threads;
+  few_objects = h.few_objects;
+  labels = h.labels;
+  few = h.few;
+}
+
+-- what is few in any form is few in a large one
+wider : (image : ImageForm) (item : Item) → HasFewWords image item → HasFewWords Large item
+wider image (First object words) h = let most = most_words image in omega (arith, most, h)
+wider image item h = tt
+
+all_wider : (image : ImageForm) (xs : List Placed) → HaveFewWords image xs → HaveFewWords Large xs
+all_wider image [] h = tt
+all_wider image (x ∷ xs) h = (wider image x.item h.0, all_wider image xs h.1)
+
+-- a large image
+large_sound : (s : Seen) (c d : ℕ) → IsSound s → c ≡ s.code → d ≡ s.filled
+    → IsSound (record s { form = Some Large; code = c; filled = d })
+large_sound s c d h is_code is_data = record {
+  code = h.code ∙ sym is_code;
+  bytes = h.bytes ∙ sym is_data;
+  entries = h.entries;
+  aligned = omega (arith, h.aligned, is_code);
+  short_code = omega (arith, h.short_code, is_code);
+  short_data = omega (arith, h.short_data, is_data);
+  few_threads = let most = threads_of (stated s.form) in let few = h.few_threads in omega (arith, most, few);
+  few_objects = let most = objects_of (stated s.form) in let few = h.few_objects in omega (arith, most, few);
+  labels = h.labels;
+  few = all_wider (stated s.form) s.placed h.few;
+}
+
 -- an item of text
-text_item : (s t : Seen) (line a : ℕ) (item : Item) → IsSound s → MayStand Text item → s.code + size_of item ≤ 4 * most_code_words
+text_item : (s t : Seen) (line a : ℕ) (item : Item) → IsSound s → MayStand (stated s.form) Text item → s.code + size_of item ≤ 4 * most_code_words
     → entered line a (laid Text item) (record s { code = s.code + size_of item }) ≡ Ok t → IsSound t
 text_item s t line a (Code words) h m l e = subst IsSound (ok_is _ t e)
     (item_sound s line a (s.code + 4 * length words) s.filled s.threads (Code words) h tt (omega arith) refl (omega arith) (omega arith) l
@@ -271,11 +324,12 @@ text_item s t line a (LoadAddress rd label) h m l e =
     subst IsSound (ok_is _ t e) (item_sound s line a (s.code + 8) s.filled s.threads (LoadAddress rd label) h tt refl refl (omega arith)
     (omega arith) l h.short_data h.few_threads)
 text_item s t line a (Filled bytes) h m l e = absurd m
+text_item s t line a Enlarged h m l e = subst IsSound (ok_is _ t e) (large_sound s (s.code + 0) s.filled h (omega arith) refl)
 text_item s t line a (Within section) h m l e =
     subst IsSound (ok_is _ t e) (other_sound s section (s.code + 0) s.filled s.objects h (omega arith) refl h.few_objects)
 text_item s t line a (Entry label) h m l e =
-    let u = tested (nat_lt s.threads most_threads) BadCount _ t e in
-    let below : s.threads < most_threads = ltb-true s.threads most_threads u.0 in
+    let u = tested (nat_lt s.threads (limits_of (stated s.form)).threads) BadCount _ t e in
+    let below : s.threads < (limits_of (stated s.form)).threads = ltb-true s.threads (limits_of (stated s.form)).threads u.0 in
     subst IsSound u.1 (item_sound s line a (s.code + 0) s.filled (s.threads + 1) (Entry label) h tt refl refl (omega arith) refl l
     h.short_data (omega (arith, below)))
 text_item s t line a (Count n) h m l e = subst IsSound (ok_is _ t e)
@@ -291,7 +345,7 @@ spelled_length [] = refl
 spelled_length (w ∷ words) = omega (arith, length-append (little_bytes 4 w) (flat_map (little_bytes 4) words), spelled_length words)
 
 -- an item of data
-data_item : (s t : Seen) (line a : ℕ) (item : Item) → IsSound s → MayStand Data item → s.filled + size_of item ≤ memory_size
+data_item : (s t : Seen) (line a : ℕ) (item : Item) → IsSound s → MayStand (stated s.form) Data item → s.filled + size_of item ≤ memory_size
     → entered line a (laid Data item) (record s { filled = s.filled + size_of item }) ≡ Ok t → IsSound t
 data_item s t line a (Code words) h m l e = subst IsSound (ok_is _ t e)
     (item_sound s line a s.code (s.filled + 4 * length words) s.threads (Filled (flat_map (little_bytes 4) words)) h tt refl (omega arith)
@@ -302,11 +356,12 @@ data_item s t line a (LoadAddress rd label) h m l e = absurd m
 data_item s t line a (Filled bytes) h m l e = subst IsSound (ok_is _ t e)
     (item_sound s line a s.code (s.filled + length bytes) s.threads (Filled bytes) h tt refl (omega arith) refl (omega arith) h.short_code l
     h.few_threads)
+data_item s t line a Enlarged h m l e = subst IsSound (ok_is _ t e) (large_sound s s.code (s.filled + 0) h refl (omega arith))
 data_item s t line a (Within section) h m l e =
     subst IsSound (ok_is _ t e) (other_sound s section s.code (s.filled + 0) s.objects h refl (omega arith) h.few_objects)
 data_item s t line a (Entry label) h m l e =
-    let u = tested (nat_lt s.threads most_threads) BadCount _ t e in
-    let below : s.threads < most_threads = ltb-true s.threads most_threads u.0 in
+    let u = tested (nat_lt s.threads (limits_of (stated s.form)).threads) BadCount _ t e in
+    let below : s.threads < (limits_of (stated s.form)).threads = ltb-true s.threads (limits_of (stated s.form)).threads u.0 in
     subst IsSound u.1 (item_sound s line a s.code (s.filled + 0) (s.threads + 1) (Entry label) h tt refl (omega arith)
     refl refl h.short_code l (omega (arith, below)))
 data_item s t line a (Count n) h m l e = subst IsSound (ok_is _ t e)
@@ -318,7 +373,7 @@ data_item s t line a Nothing h m l e = subst IsSound (ok_is _ t e)
     (other_sound s s.section s.code (s.filled + 0) s.objects h refl (omega arith) h.few_objects)
 
 -- an item of a section
-section_item : (section : Section) (s t : Seen) (line a : ℕ) (item : Item) → IsSound s → MayStand section item
+section_item : (section : Section) (s t : Seen) (line a : ℕ) (item : Item) → IsSound s → MayStand (stated s.form) section item
     → (grown section (size_of item) s >>= λ u. entered line a (laid section item) u) ≡ Ok t → IsSound t
 section_item Text s t line a item h m e =
     let b = bind_ok (grown Text (size_of item) s) _ t e in
@@ -334,8 +389,9 @@ section_item Data s t line a item h m e =
 statement_sound : (line : ℕ) (statement : List ℕ) (s t : Seen) → IsSound s → with_statement line statement s ≡ Ok t → IsSound t
 statement_sound line [] s t h e = subst IsSound (ok_is s t e) h
 statement_sound line (b ∷ bs) s t h e =
-    let i = bind_ok (item_in s.section (b ∷ bs)) _ t e in
-    section_item s.section s t line (here s).address i.0 h (item_stands s.section (b ∷ bs) i.0 i.1) i.2
+    let i = bind_ok (item_in s.form s.section (b ∷ bs)) _ t e in
+    section_item s.section (begun s) t line (here (begun s)).address i.0 (begun_sound s h) (item_stands s.form s.section (b ∷ bs) i.0 i.1)
+    i.2
 
 here_fits : (s : Seen) → IsSound s → IsTextPlace (here s).section (here s).address
 here_fits s h = by_section s.section
@@ -385,6 +441,7 @@ seen_sound lines s t e f = lines_sound 1 lines s t (subst IsSound (sym e) nothin
 
 -- what is placed, added to a guest
 record Puts (s : Seen) (xs : List Placed) (g h : Guest) : Type 0 where
+  form : h.form ≡ g.form
   code : 4 * length h.code ≡ 4 * length g.code + total code_size xs
   bytes : length h.bytes ≡ length g.bytes + total data_size xs
   entries : length h.entries ≡ length g.entries + total entry_count xs
@@ -394,21 +451,35 @@ record Puts (s : Seen) (xs : List Placed) (g h : Guest) : Type 0 where
 total_next : (size : Item → ℕ) (x : Placed) (xs : List Placed) → total size (x ∷ xs) ≡ size x.item + total size xs
 total_next size x xs = sum_by-append (λ y. size y.item) (x ∷ []) xs ∙ omega arith
 
-all_put : (s : Seen) (xs : List Placed) (g h : Guest) → LabelsFit s.labels → HaveFewWords xs → length g.words ≡ object_words * s.objects
-    → second_pass s xs g ≡ Ok h → Puts s xs g h
+all_put : (s : Seen) (xs : List Placed) (g h : Guest) → LabelsFit s.labels → HaveFewWords g.form xs
+    → length g.words ≡ object_words g * s.objects → second_pass s xs g ≡ Ok h → Puts s xs g h
 all_put s [] g h fits few there e = subst (Puts s [] g) (ok_is g h e)
-    (record { code = omega arith; bytes = omega arith; entries = omega arith; words = refl; fit = λ n m all. all })
+    (record { form = refl; code = omega arith; bytes = omega arith; entries = omega arith; words = refl; fit = λ n m all. all })
 all_put s (x ∷ xs) g h fits few there e =
     let b = bind_ok (at_line x.line (put s x.address x.item g)) _ h e in
     let a = put_adds s x.address x.item g b.0 few.0 there (at_line_ok x.line _ b.0 b.1) in
-    let p = all_put s xs b.0 h fits few.1 (a.words ∙ there) b.2 in
+    let count : length b.0.words ≡ object_words b.0 * s.objects = a.words ∙ there
+    ∙ ap (λ (f : ImageForm). (limits_of f).words * s.objects) (sym a.form) in
+    let p = all_put s xs b.0 h fits (subst (λ (f : ImageForm). HaveFewWords f xs) (sym a.form) few.1) count b.2 in
     record {
+      form = p.form ∙ a.form;
       code = omega (arith, a.code, p.code, total_next code_size x xs);
       bytes = omega (arith, a.bytes, p.bytes, total_next data_size x xs);
       entries = omega (arith, a.entries, p.entries, total_next entry_count x xs);
       words = p.words ∙ a.words;
       fit = λ n m all. p.fit n m (a.fit fits n m all);
     }
+
+-- the objects that were announced
+whole_words : (s : Seen) (g : Guest) → Puts s s.placed (started s) g → length g.words ≡ object_words g * s.objects
+whole_words s g p = p.words ∙ length-replicate {A = ℕ} ((limits_of (stated s.form)).words * s.objects) 0
+    ∙ ap (λ (f : ImageForm). (limits_of f).words * s.objects) (sym p.form)
+
+few_counted : (s : Seen) (g : Guest) → IsSound s → Puts s s.placed (started s) g → object_count g ≤ (limits_of g.form).objects
+few_counted s g h p =
+    let count = count_of g.form (length g.words) s.objects (whole_words s g p) in
+    let few = h.few_objects in
+    subst (λ (f : ImageForm). object_count g ≤ (limits_of f).objects) (sym p.form) (omega (arith, count, few))
 
 -- with an entry, a guest is within the limits
 entry_limits : (s : Seen) (g : Guest) → IsSound s → 1 ≤ s.code → Puts s s.placed (started s) g → HasLimits (with_entry g)
@@ -417,27 +488,28 @@ entry_limits s g h some p = by_test (length g.entries == 0) refl
     by_test : (b : Bool) → (length g.entries == 0) ≡ b → HasLimits (cond b (record g { entries = code_start ∷ [] }) g)
     by_test true e = record {
       some_thread = omega arith;
-      few_threads = omega arith;
+      few_threads = let one = some_threads g.form in omega (arith, one);
       short_code = omega (arith, p.code, h.code, h.short_code);
       short_data = omega (arith, p.bytes, h.bytes, h.short_data);
-      whole_objects = omega (arith, p.words, length-replicate {A = ℕ} (object_words * s.objects) 0);
-      few_objects = omega (arith, p.words, length-replicate {A = ℕ} (object_words * s.objects) 0, h.few_objects);
+      whole_objects = whole_of g.form (length g.words) s.objects (whole_words s g p);
+      few_objects = few_counted s g h p;
       entries_fit = (record { aligned = refl; low = omega arith; high = omega (arith, p.code, h.code, some) }, tt);
     }
     by_test false e = record {
       some_thread = omega (arith, eqb-false (length g.entries) 0 e);
-      few_threads = omega (arith, p.entries, h.entries, h.few_threads);
+      few_threads = subst (λ (f : ImageForm). length g.entries ≤ (limits_of f).threads) (sym p.form)
+          (omega (arith, p.entries, h.entries, h.few_threads));
       short_code = omega (arith, p.code, h.code, h.short_code);
       short_data = omega (arith, p.bytes, h.bytes, h.short_data);
-      whole_objects = omega (arith, p.words, length-replicate {A = ℕ} (object_words * s.objects) 0);
-      few_objects = omega (arith, p.words, length-replicate {A = ℕ} (object_words * s.objects) 0, h.few_objects);
+      whole_objects = whole_of g.form (length g.words) s.objects (whole_words s g p);
+      few_objects = few_counted s g h p;
       entries_fit = p.fit (length g.code) (omega (arith, p.code, h.code)) tt;
     }
 
 -- what the first pass saw and the second put is within the limits
 pub guest_limits : (s : Seen) (g : Guest) → IsSound s → not (s.code == 0) ≡ true → guest_of s ≡ Ok g → HasLimits g
 guest_limits s g h some e =
-    let there = length-replicate {A = ℕ} (object_words * s.objects) 0 in
+    let there = length-replicate {A = ℕ} ((limits_of (stated s.form)).words * s.objects) 0 in
     let b = bind_ok (second_pass s s.placed (started s)) _ g e in
     subst HasLimits (ok_is _ g b.2) (entry_limits s b.0 h (some_code s.code some)
     (all_put s s.placed (started s) b.0 h.labels h.few there b.1))

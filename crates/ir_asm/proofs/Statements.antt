@@ -6,10 +6,11 @@ use Rattle.ir_asm.specs.declared.form.Form.{Form}
 use Rattle.ir_asm.specs.declared.item.Operand.{Operand}
 use Rattle.ir_asm.specs.declared.item.Item.TheVariants.{Code}
 use Rattle.ir_asm.specs.Text.{before, trim, is_nil}
-use Rattle.ir_asm.specs.Forms.{form_named, stands_in}
+use Rattle.ir_image.specs.declared.form.ImageForm.TheVariants.{Small}
+use Rattle.ir_asm.specs.Forms.{form_named, in_image, stands_in}
 use Rattle.ir_asm.specs.Operands.{operands_of}
 use Rattle.ir_asm.specs.Items.{item_of}
-use Rattle.ir_asm.specs.Source.{line_of, name_of, operand_texts, is_source_byte, may_stand, nothing_seen, with_statement, with_item, with_line}
+use Rattle.ir_asm.specs.Source.{line_of, name_of, operand_texts, is_source_byte, may_stand, nothing_seen, begun, with_statement, with_item, with_line}
 use Rattle.ir_asm.specs.Passes.{assembled, IsWordGuest}
 use Rattle.ir_asm.proofs.Pieces.{lacks, split_one}
 
@@ -24,15 +25,15 @@ pub record Says (text st : List ℕ) (word : ℕ) : Type 0 where
   pub some : is_nil st ≡ false
   pub named : form_named (name_of st) ≡ Some form
   pub stands : may_stand (stands_in form) Text ≡ true
-  pub read : operands_of form (operand_texts st) ≡ Ok xs
-  pub means : item_of form xs ≡ Code (word ∷ [])
+  pub read : operands_of (in_image Small form) (operand_texts st) ≡ Ok xs
+  pub means : item_of (in_image Small form) xs ≡ Code (word ∷ [])
 
 statement_says : (text st : List ℕ) (word : ℕ) (s : Says text st word)
-    → with_statement 1 st nothing_seen ≡ with_item 1 (Code (word ∷ [])) nothing_seen
+    → with_statement 1 st nothing_seen ≡ with_item 1 (Code (word ∷ [])) (begun nothing_seen)
 statement_says text st word s = rw (s.some, s.named) (rw (s.stands, s.read) (rw (s.means) refl))
 
 line_says : (text st : List ℕ) (word : ℕ) (s : Says text st word)
-    → with_line 1 (line_of text) nothing_seen ≡ with_item 1 (Code (word ∷ [])) nothing_seen
+    → with_line 1 (line_of text) nothing_seen ≡ with_item 1 (Code (word ∷ [])) (begun nothing_seen)
 line_says text st word s = rw (s.source, split_one 58 (before 35 text) s.colon) (rw s.trimmed (statement_says text st word s))
 
 pub one_statement : (text st : List ℕ) (word : ℕ) (s : Says text st word) → IsWordGuest (assembled text) word

@@ -1,10 +1,13 @@
 -- The table of statements: their names, and how many operands of which kinds they take.
-use Rattle.std.specs.Prelude.{◌==◌, ◌&&◌, ◌||◌, ◌+◌, ℕ, nat_le, Bool, List, [], ◌∷◌, ◌++◌, codes, map, Option, Some, None, if◌then◌else◌, pos, negsuc}
-use Rattle.ir_image.specs.Guest.{memory_size, most_objects, object_words}
+use Rattle.std.specs.Prelude.{◌==◌, ◌&&◌, ◌||◌, ◌+◌, ℕ, nat_le, Bool, List, [], ◌∷◌, ◌++◌, true, false, codes, map, Option, Some, None, if◌then◌else◌, pos, negsuc}
+use Rattle.ir_image.specs.declared.form.ImageForm.{ImageForm}
+use Rattle.ir_image.specs.declared.form.ImageForm.TheVariants.{Small}
+use Rattle.ir_image.specs.Forms.{limits_of}
+use Rattle.ir_image.specs.Guest.{memory_size}
 use Rattle.ir_asm.specs.declared.form.Section.{Section}
 use Rattle.ir_asm.specs.declared.form.Section.TheVariants.{Text, Data}
 use Rattle.ir_asm.specs.declared.form.Form.{Form}
-use Rattle.ir_asm.specs.declared.form.Form.TheVariants.{Registers, Immediates, Shifts, Loads, JumpsTo, Stores, Branches, Jumps, LoadsUpper, AddsUpper, Fences, Calls, Breaks, DoesNothing, LoadsValue, Sections, Words, Bytes, Space, Thread, Objects, Object}
+use Rattle.ir_asm.specs.declared.form.Form.TheVariants.{Registers, Immediates, Shifts, Loads, JumpsTo, Stores, Branches, Jumps, LoadsUpper, AddsUpper, Fences, Calls, Breaks, DoesNothing, LoadsValue, Enlarges, Sections, Words, Bytes, Space, Thread, Objects, Object}
 use Rattle.ir_asm.specs.declared.form.Kind.{Kind}
 use Rattle.ir_asm.specs.declared.form.Kind.TheVariants.{Register, Number, Address, Target, Value, Label}
 use Rattle.ir_disasm.specs.Names.{branch_name, load_name, store_name, immediate_name, shift_name, operation_name}
@@ -43,17 +46,18 @@ single_rows =
     (codes "nop", DoesNothing) ∷
     (codes "li", LoadsValue) ∷ []
 
--- the directives
+-- the directives, those of objects as they are in a small image
 abbrev pub directive_rows : List (List ℕ × Form)
 directive_rows =
+    (codes ".large", Enlarges) ∷
     (codes ".text", Sections Text) ∷
     (codes ".data", Sections Data) ∷
     (codes ".word", Words) ∷
     (codes ".byte", Bytes) ∷
     (codes ".space", Space) ∷
     (codes ".thread", Thread) ∷
-    (codes ".objects", Objects) ∷
-    (codes ".object", Object) ∷ []
+    (codes ".objects", Objects Small) ∷
+    (codes ".object", Object Small) ∷ []
 
 -- each name and its form
 abbrev pub forms : List (List ℕ × Form)
@@ -63,13 +67,35 @@ forms = base_rows ++ (multiply_rows ++ (immediate_rows ++ (memory_rows ++ (branc
 abbrev pub form_named : List ℕ → Option Form
 form_named name = named forms name
 
+-- the form of an image, which the statements before say: a large one if `.large` stands there
+abbrev pub stated : Option ImageForm → ImageForm
+stated None = Small
+stated (Some image) = image
+
+-- a form in an image
+abbrev pub in_image : ImageForm → Form → Form
+in_image image (Objects other) = Objects image
+in_image image (Object other) = Object image
+in_image image form = form
+
+-- a form may stand after other statements
+abbrev pub may_follow : Form → Bool
+may_follow Enlarges = false
+may_follow form = true
+
+-- a form may stand after these statements, if there are any
+abbrev pub may_come : Option ImageForm → Form → Bool
+may_come None form = true
+may_come (Some image) form = may_follow form
+
 -- the section in which a form has to stand, if not in either
 abbrev pub stands_in : Form → Option Section
 stands_in (Sections section) = None
+stands_in Enlarges = None
 stands_in Words = None
 stands_in Thread = None
-stands_in Objects = None
-stands_in Object = None
+stands_in (Objects image) = None
+stands_in (Object image) = None
 stands_in Bytes = Some Data
 stands_in Space = Some Data
 stands_in form = Some Text
@@ -91,13 +117,14 @@ takes Calls n = n == 0
 takes Breaks n = n == 0
 takes DoesNothing n = n == 0
 takes LoadsValue n = n == 2
+takes Enlarges n = n == 0
 takes (Sections section) n = n == 0
 takes Words n = nat_le 1 n
 takes Bytes n = nat_le 1 n
 takes Space n = n == 1
 takes Thread n = n == 1
-takes Objects n = n == 1
-takes Object n = nat_le 2 n && nat_le n (1 + object_words)
+takes (Objects image) n = n == 1
+takes (Object image) n = nat_le 2 n && nat_le n (1 + (limits_of image).words)
 
 -- a number of 32 bits, with or without a sign
 abbrev pub word_number : Kind
@@ -125,6 +152,6 @@ kind_at Words place = word_number
 kind_at Bytes place = Number (pos 0) (pos 255)
 kind_at Space place = Number (pos 0) (pos memory_size)
 kind_at Thread place = Label
-kind_at Objects place = Number (pos 0) (pos most_objects)
-kind_at Object place = if place == 0 then Number (pos 0) (pos 4294967295) else word_number
+kind_at (Objects image) place = Number (pos 0) (pos (limits_of image).objects)
+kind_at (Object image) place = if place == 0 then Number (pos 0) (pos 4294967295) else word_number
 kind_at form place = Register

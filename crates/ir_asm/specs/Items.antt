@@ -7,11 +7,11 @@ use Rattle.ir_isa.specs.declared.inst.ImmediateOp.TheVariants.{Addi}
 use Rattle.ir_isa.specs.declared.inst.Register.{Register}
 use Rattle.ir_asm.specs.Fields.{register_of, immediate_of, branch_offset_of, jump_offset_of, upper_of, amount_of}
 use Rattle.ir_asm.specs.declared.form.Form.{Form}
-use Rattle.ir_asm.specs.declared.form.Form.TheVariants.{Registers, Immediates, Shifts, Loads, JumpsTo, Stores, Branches, Jumps, LoadsUpper, AddsUpper, Fences, Calls, Breaks, DoesNothing, LoadsValue, Sections, Words, Bytes, Space, Thread, Objects, Object}
+use Rattle.ir_asm.specs.declared.form.Form.TheVariants.{Registers, Immediates, Shifts, Loads, JumpsTo, Stores, Branches, Jumps, LoadsUpper, AddsUpper, Fences, Calls, Breaks, DoesNothing, LoadsValue, Enlarges, Sections, Words, Bytes, Space, Thread, Objects, Object}
 use Rattle.ir_asm.specs.declared.item.Operand.{Operand}
 use Rattle.ir_asm.specs.declared.item.Operand.TheVariants.{Index, Integer, Offset, Symbol}
 use Rattle.ir_asm.specs.declared.item.Item.{Item}
-use Rattle.ir_asm.specs.declared.item.Item.TheVariants.{Code, BranchTo, JumpTo, LoadAddress, Filled, Within, Entry, Count, First, Nothing}
+use Rattle.ir_asm.specs.declared.item.Item.TheVariants.{Code, BranchTo, JumpTo, LoadAddress, Filled, Enlarged, Within, Entry, Count, First, Nothing}
 
 -- the code of one instruction
 abbrev pub instruction : Inst → Item
@@ -49,11 +49,12 @@ item_of Breaks [] = instruction Ebreak
 item_of DoesNothing [] = instruction (OpImm Addi (register_of 0) (register_of 0) (immediate_of (pos 0)))
 item_of LoadsValue (Index rd ∷ Integer z ∷ []) = Code (li_words rd (low_bits 32 z))
 item_of LoadsValue (Index rd ∷ Symbol label ∷ []) = LoadAddress rd label
+item_of Enlarges [] = Enlarged
 item_of (Sections section) [] = Within section
 item_of Words xs = Code (values 32 xs)
 item_of Bytes xs = Filled (values 8 xs)
 item_of Space (Integer z ∷ []) = Filled (replicate (low_bits 32 z) 0)
 item_of Thread (Symbol label ∷ []) = Entry label
-item_of Objects (Integer z ∷ []) = Count (low_bits 32 z)
-item_of Object (Integer z ∷ xs) = First (low_bits 32 z) (values 32 xs)
+item_of (Objects image) (Integer z ∷ []) = Count (low_bits 32 z)
+item_of (Object image) (Integer z ∷ xs) = First (low_bits 32 z) (values 32 xs)
 item_of form xs = Nothing

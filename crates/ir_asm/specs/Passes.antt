@@ -2,6 +2,8 @@
 use Rattle.std.specs.Prelude.{◌≡◌, ◌==◌, ◌&&◌, ℕ, ◌+◌, ◌-◌, ◌*◌, nat_le, nat_lt, List, [], ◌∷◌, ◌++◌, length, take, drop, if◌then◌else◌, ℤ, pos, negsuc, neg_ℤ, Result, Ok, Err, replicate}
 use Rattle.ir_isa.specs.Words.{word_of}
 use Rattle.ir_isa.specs.declared.inst.Inst.TheVariants.{Jal, Branch}
+use Rattle.ir_image.specs.declared.form.ImageForm.TheVariants.{Small}
+use Rattle.ir_image.specs.Forms.{limits_of}
 use Rattle.ir_image.specs.Guest.{Guest, code_start, object_words}
 use Rattle.ir_asm.specs.declared.cause.Cause.{Cause}
 use Rattle.ir_asm.specs.declared.cause.Cause.TheVariants.{LabelMissing, TooFar, WrongSection, BadSize, BadCount}
@@ -12,6 +14,7 @@ use Rattle.ir_asm.specs.declared.item.Place.{Place}
 use Rattle.ir_asm.specs.declared.item.Placed.{Placed}
 use Rattle.ir_asm.specs.Faults.{◌>>=◌, or_cause, unless}
 use Rattle.ir_asm.specs.Names.{named}
+use Rattle.ir_asm.specs.Forms.{stated}
 use Rattle.ir_asm.specs.Operands.{int_le}
 use Rattle.ir_asm.specs.Fields.{branch_offset_of, jump_offset_of}
 use Rattle.ir_asm.specs.Items.{li_words}
@@ -41,15 +44,16 @@ distance_to s low high address label = text_address s label >>= λ target. reach
 abbrev pub with_code : Guest → List ℕ → Guest
 with_code g words = record g { code = g.code ++ words }
 
--- an object's words, of which these are the first and the others 0
-abbrev pub first_words : List ℕ → List ℕ
-first_words words = words ++ replicate (object_words - length words) 0
+-- so many words of an object, of which these are the first and the others 0
+abbrev pub first_words : ℕ → List ℕ → List ℕ
+first_words count words = words ++ replicate (count - length words) 0
 
 -- the guest with the first words of an object
 abbrev pub with_object : Guest → ℕ → List ℕ → Guest
 with_object g object words = record g {
   words =
-      take (object_words * object) g.words ++ (first_words words ++ drop (object_words * object + object_words) g.words);
+      take (object_words g * object) g.words
+      ++ (first_words (object_words g) words ++ drop (object_words g * object + object_words g) g.words);
 }
 
 -- after an item
@@ -73,7 +77,13 @@ second_pass s (x ∷ xs) g = at_line x.line (put s x.address x.item g) >>= λ h.
 
 -- before the first item: so many objects of zeros
 abbrev pub started : Seen → Guest
-started s = record { entries = []; code = []; bytes = []; words = replicate (object_words * s.objects) 0 }
+started s = record {
+  form = stated s.form;
+  entries = [];
+  code = [];
+  bytes = [];
+  words = replicate ((limits_of (stated s.form)).words * s.objects) 0;
+}
 
 -- without any entry there is one, at the start of the code
 abbrev pub with_entry : Guest → Guest
@@ -97,6 +107,6 @@ assembled_lines lines =
 abbrev pub assembled : List ℕ → Result Guest Fault
 assembled source = assembled_lines (lines_of source)
 
--- one thread, and that word alone
+-- a small image of one thread, and that word alone
 abbrev pub IsWordGuest : Result Guest Fault → ℕ → Type 0
-IsWordGuest r word = r ≡ Ok (record { entries = code_start ∷ []; code = word ∷ []; bytes = []; words = [] })
+IsWordGuest r word = r ≡ Ok (record { form = Small; entries = code_start ∷ []; code = word ∷ []; bytes = []; words = [] })

@@ -2,19 +2,23 @@
 use Rattle.std.specs.Prelude.{◌==◌, ◌&&◌, ◌||◌, ℕ, ◌+◌, ◌*◌, nat_le, nat_lt, not, Bool, true, false, List, [], ◌∷◌, ◌++◌, length, map, flat_map, Option, Some, None, if◌then◌else◌, is_some, Result, Ok, Err}
 use Rattle.std.specs.List.{list_all}
 use Rattle.byteorder.specs.Endian.{little_bytes}
-use Rattle.ir_image.specs.Guest.{code_start, memory_size, most_threads, most_code_words}
+use Rattle.ir_image.specs.declared.form.ImageForm.{ImageForm}
+use Rattle.ir_image.specs.declared.form.ImageForm.TheVariants.{Large}
+use Rattle.ir_image.specs.Forms.{limits_of}
+use Rattle.ir_image.specs.Guest.{code_start, memory_size, most_code_words}
 use Rattle.ir_asm.specs.declared.cause.Cause.{Cause}
 use Rattle.ir_asm.specs.declared.cause.Cause.TheVariants.{BadByte, UnknownStatement, LabelTwice, WrongSection, BadSize, BadCount, BadLabel}
+use Rattle.ir_asm.specs.declared.form.Form.{Form}
 use Rattle.ir_asm.specs.declared.form.Section.{Section}
 use Rattle.ir_asm.specs.declared.form.Section.TheVariants.{Text, Data}
 use Rattle.ir_asm.specs.declared.item.Item.{Item}
-use Rattle.ir_asm.specs.declared.item.Item.TheVariants.{Code, BranchTo, JumpTo, LoadAddress, Filled, Within, Entry, Count, Nothing}
+use Rattle.ir_asm.specs.declared.item.Item.TheVariants.{Code, BranchTo, JumpTo, LoadAddress, Filled, Enlarged, Within, Entry, Count, Nothing}
 use Rattle.ir_asm.specs.declared.item.Place.{Place}
 use Rattle.ir_asm.specs.declared.item.Placed.{Placed}
 use Rattle.ir_asm.specs.Faults.{◌>>=◌, or_cause, unless}
 use Rattle.ir_asm.specs.Text.{split, before, trim, is_name, is_nil, is_blank, until, from}
 use Rattle.ir_asm.specs.Names.{named}
-use Rattle.ir_asm.specs.Forms.{form_named, stands_in}
+use Rattle.ir_asm.specs.Forms.{form_named, stated, in_image, may_come, stands_in}
 use Rattle.ir_asm.specs.Operands.{operands_of}
 use Rattle.ir_asm.specs.Items.{item_of}
 
@@ -64,8 +68,9 @@ operand_texts statement = texts_of (trim (from is_blank statement))
 
 -- ---- the first pass
 
--- what the lines so far have: the section, the sizes of both, the numbers of threads and of objects, the labels, and what is placed
+-- what the lines so far have: the form of the image, once there is a statement, the section, the sizes of both, the numbers of threads and of objects, the labels, and what is placed
 pub record Seen : Type 0 where
+  pub form : Option ImageForm
   pub section : Section
   pub code : ℕ
   pub filled : ℕ
@@ -76,7 +81,7 @@ pub record Seen : Type 0 where
 
 -- before the first line
 abbrev pub nothing_seen : Seen
-nothing_seen = record { section = Text; code = 0; filled = 0; threads = 0; objects = 0; labels = []; placed = [] }
+nothing_seen = record { form = None; section = Text; code = 0; filled = 0; threads = 0; objects = 0; labels = []; placed = [] }
 
 -- where a section begins
 abbrev pub start_of : Section → ℕ
@@ -134,9 +139,10 @@ placed_at line address item s = record s { placed = s.placed ++ record { line = 
 
 -- after what an item says
 abbrev pub entered : ℕ → ℕ → Item → Seen → Result Seen Cause
+entered line address Enlarged s = Ok (record s { form = Some Large })
 entered line address (Within section) s = Ok (record s { section = section })
 entered line address (Count objects) s = Ok (record s { objects = objects })
-entered line address (Entry label) s = unless (nat_lt s.threads most_threads) BadCount
+entered line address (Entry label) s = unless (nat_lt s.threads (limits_of (stated s.form)).threads) BadCount
     (Ok (placed_at line address (Entry label) (record s { threads = s.threads + 1 })))
 entered line address Nothing s = Ok s
 entered line address item s = Ok (placed_at line address item s)
@@ -145,15 +151,24 @@ entered line address item s = Ok (placed_at line address item s)
 abbrev pub with_item : ℕ → Item → Seen → Result Seen Cause
 with_item line item s = grown s.section (size_of item) s >>= λ t. entered line (here s).address (laid s.section item) t
 
--- what a statement of a section places: first its name, then its section, then its operands
-abbrev pub item_in : Section → List ℕ → Result Item Cause
-item_in section statement =
+-- what the operands of a form say
+abbrev pub item_with : Form → List (List ℕ) → Result Item Cause
+item_with form texts = operands_of form texts >>= λ xs. Ok (item_of form xs)
+
+-- what a statement places, after statements that say a form, and in a section: first its name, then where it stands, then its operands
+abbrev pub item_in : Option ImageForm → Section → List ℕ → Result Item Cause
+item_in before section statement =
     or_cause UnknownStatement (form_named (name_of statement)) >>= λ form.
-    unless (may_stand (stands_in form) section) WrongSection (operands_of form (operand_texts statement) >>= λ xs. Ok (item_of form xs))
+    unless (may_come before form) WrongSection
+    (unless (may_stand (stands_in form) section) WrongSection (item_with (in_image (stated before) form) (operand_texts statement)))
+
+-- once there is a statement, the form of the image is said
+abbrev pub begun : Seen → Seen
+begun s = record s { form = Some (stated s.form) }
 
 -- after a statement, which may be empty
 abbrev pub with_statement : ℕ → List ℕ → Seen → Result Seen Cause
-with_statement line statement s = if is_nil statement then Ok s else (item_in s.section statement >>= λ item. with_item line item s)
+with_statement line statement s = if is_nil statement then Ok s else (item_in s.form s.section statement >>= λ item. with_item line item (begun s))
 
 -- after a line: its bytes, all its labels' forms, its labels, its statement
 abbrev pub with_line : ℕ → Line → Seen → Result Seen Cause

@@ -1,5 +1,5 @@
 -- What stands before a line: the section, and how many bytes of each.
-use Rattle.std.specs.Prelude.{ℕ, ◌+◌, List, [], ◌∷◌, Result, Ok, Err, if◌then◌else◌}
+use Rattle.std.specs.Prelude.{ℕ, ◌+◌, List, [], ◌∷◌, None, Result, Ok, Err, if◌then◌else◌}
 use Rattle.ir_asm.specs.declared.cause.Cause.{Cause}
 use Rattle.ir_asm.specs.declared.form.Section.{Section}
 use Rattle.ir_asm.specs.declared.item.Item.{Item}
@@ -13,9 +13,10 @@ abbrev pub item_or_nothing : Result Item Cause → Item
 item_or_nothing (Ok item) = item
 item_or_nothing (Err cause) = Nothing
 
--- what a line of a section places
+-- what a line of a section places; of the form of the image its size doesn't depend
 abbrev pub placed_by : Section → List ℕ → Item
-placed_by section line = if is_nil (line_of line).statement then Nothing else item_or_nothing (item_in section (line_of line).statement)
+placed_by section line = if is_nil (line_of line).statement then Nothing else item_or_nothing
+    (item_in None section (line_of line).statement)
 
 -- the section from an item on
 abbrev pub section_after : Item → Section → Section

@@ -3,6 +3,7 @@
 ghost use Rattle.std.specs.Prelude.{◌≡◌, IfOk};
 ghost use Rattle.std.specs.List.{AllByRecursion};
 ghost use Rattle.ir_image.specs.Guest.{IsByte, IsWord};
+ghost use Rattle.ir_asm.specs.Forms.{stated};
 ghost use Rattle.ir_asm.specs.Passes.{guest_of, assembled};
 ghost use Rattle.ir_asm.specs.Answered.{Answers};
 ghost use Rattle.ir_asm.specs.Bounds.{HaveFewWords, HasLimits};
@@ -32,6 +33,7 @@ fn image(alloc: Global, parts: Parts) -> Result<Image, AllocError>
     ensures { IfOk result (λ i. i ≡ parts) }
 {
     let Parts {
+        form,
         entries,
         code,
         bytes,
@@ -41,15 +43,15 @@ fn image(alloc: Global, parts: Parts) -> Result<Image, AllocError>
     are_bytes(bytes.as_slice());
     are_words(words.as_slice());
     let code = Code::new(alloc, code)?;
-    Ok(Image::new(entries, code, bytes, words))
+    Ok(Image::new(form, entries, code, bytes, words))
 }
 
 // What was placed, and an entry where there is none.
 fn parts_of(alloc: Global, scan: &Scan) -> Result<Parts, AsmErr>
-    requires { HaveFewWords scan.now.placed }
+    requires { HaveFewWords (stated scan.now.form) scan.now.placed }
     ensures { Answers (λ p. p) result (guest_of scan.now) }
 {
-    let mut parts = Parts::new(alloc, scan.objects)?;
+    let mut parts = Parts::new(alloc, scan.image_form(), scan.objects)?;
     second_pass(alloc, scan, scan.placed.as_slice(), &mut parts)?;
     parts.add_first_entry()?;
     Ok(parts)
@@ -58,7 +60,8 @@ fn parts_of(alloc: Global, scan: &Scan) -> Result<Parts, AsmErr>
 /// The image that a source describes.
 ///
 /// A source is lines of labels, a statement and a comment each. The code begins at address 0x00010000 and the data at
-/// 0x00100000; a source without `.thread` has one thread, at the start of its code.
+/// 0x00100000; a source without `.thread` has one thread, at the start of its code. With `.large` before every other
+/// statement the image is of the large form, else of the small one.
 ///
 /// # Errors
 /// The first fault: the line, counted from 1, and its cause. A first pass goes over the lines for what each line says

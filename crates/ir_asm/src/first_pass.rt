@@ -40,7 +40,8 @@ fn with_statement(
     if statement.is_empty() {
         return Ok(());
     }
-    let item = item_in(alloc, scan.section, statement)?;
+    let item = item_in(alloc, scan.form, scan.section, statement)?;
+    scan.begin();
     scan.with_item(alloc, line, item)
 }
 

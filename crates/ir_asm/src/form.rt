@@ -1,5 +1,6 @@
 //! The forms of statements, and the kinds of their operands.
 
+use ir_image::ImageForm;
 use ir_isa::{BranchOp, ImmediateOp, LoadOp, RegisterOp, ShiftOp, StoreOp};
 
 /// Where a statement puts its bytes.
@@ -9,7 +10,7 @@ pub enum Section {
     Data,
 }
 
-/// What a statement's name asks for.
+/// What a statement's name asks for, and of statements of objects the form of their image.
 #[derive(Clone, Copy, Debug, PartialEq, Eq)]
 pub enum Form {
     Registers(RegisterOp),
@@ -27,13 +28,14 @@ pub enum Form {
     Breaks,
     DoesNothing,
     LoadsValue,
+    Enlarges,
     Sections(Section),
     Words,
     Bytes,
     Space,
     Thread,
-    Objects,
-    Object,
+    Objects(ImageForm),
+    Object(ImageForm),
 }
 
 /// What may stand as an operand; numbers and distances with their least and greatest.

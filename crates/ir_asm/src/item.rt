@@ -51,7 +51,7 @@ pub enum Operand {
     Symbol(Name),
 }
 
-/// What a statement places or says: words that it alone tells, words that wait for a label, bytes, the section from here on, a thread's entry, the number of objects, an object's first words.
+/// What a statement places or says: words that it alone tells, words that wait for a label, bytes, that the image is large, the section from here on, a thread's entry, the number of objects, an object's first words.
 #[derive(Drop)]
 pub enum Item {
     Code(WordList),
@@ -59,6 +59,7 @@ pub enum Item {
     JumpTo(Register, Name),
     LoadAddress(Register, Name),
     Filled(ByteList),
+    Enlarged,
     Within(Section),
     Entry(Name),
     Count(u32),

@@ -2,8 +2,9 @@
 
 ghost use Rattle.std.specs.Prelude.{◌≡◌, ◌==◌, length, if◌then◌else◌, IfOk};
 ghost use Rattle.ir_isa.specs.Words.{low_bits};
+ghost use Rattle.ir_image.specs.declared.form.ImageForm.{ImageForm};
 ghost use Rattle.ir_asm.specs.Items.{instruction, li_words, values, item_of};
-ghost use Rattle.ir_asm.specs.declared.form.Form.TheVariants.{Registers, Immediates, Shifts, Loads, JumpsTo, Stores, Branches, Jumps, LoadsUpper, AddsUpper, Fences, DoesNothing, LoadsValue, Sections, Space, Thread, Objects, Object};
+ghost use Rattle.ir_asm.specs.declared.form.Form.TheVariants.{Registers, Immediates, Shifts, Loads, JumpsTo, Stores, Branches, Jumps, LoadsUpper, AddsUpper, Fences, DoesNothing, LoadsValue, Enlarges, Sections, Space, Thread, Objects, Object};
 ghost use Rattle.ir_asm.specs.declared.item.Item.TheVariants.{Nothing};
 
 use crate::fields::{amount, branch_offset, immediate, jump_offset, low_bits, register, upper};
@@ -289,7 +290,7 @@ fn thread_item(alloc: Global, operands: &[Operand]) -> Result<Item, AllocError>
 }
 
 fn objects_item(operands: &[Operand]) -> Item
-    ensures { result ≡ item_of Objects operands.now }
+    ensures { (image : ImageForm) → result ≡ item_of (Objects image) operands.now }
 {
     match operands {
         [Operand::Integer(count)] => Item::Count(low_bits(32, *count)),
@@ -298,7 +299,7 @@ fn objects_item(operands: &[Operand]) -> Item
 }
 
 fn object_item(alloc: Global, operands: &[Operand]) -> Result<Item, AllocError>
-    ensures { IfOk result (λ i. i ≡ item_of Object operands.now) }
+    ensures { IfOk result (λ i. (image : ImageForm) → i ≡ item_of (Object image) operands.now) }
 {
     match operands {
         [Operand::Integer(object), rest @ ..] => {
@@ -316,6 +317,15 @@ fn fixed_item(alloc: Global, inst: Inst, operands: &[Operand]) -> Result<Item, A
         instruction(alloc, inst)
     } else {
         Ok(Item::Nothing)
+    }
+}
+
+fn enlarges_item(operands: &[Operand]) -> Item
+    ensures { result ≡ item_of Enlarges operands.now }
+{
+    match operands {
+        [] => Item::Enlarged,
+        _ => Item::Nothing,
     }
 }
 
@@ -348,12 +358,13 @@ pub fn item_of(alloc: Global, form: Form, operands: &[Operand]) -> Result<Item, 
         Form::Breaks => fixed_item(alloc, Inst::Ebreak, operands),
         Form::DoesNothing => does_nothing_item(alloc, operands),
         Form::LoadsValue => loads_value_item(alloc, operands),
+        Form::Enlarges => Ok(enlarges_item(operands)),
         Form::Sections(section) => Ok(section_item(section, operands)),
         Form::Words => Ok(Item::Code(words_of(alloc, operands)?)),
         Form::Bytes => Ok(Item::Filled(bytes_of(alloc, operands)?)),
         Form::Space => space_item(alloc, operands),
         Form::Thread => thread_item(alloc, operands),
-        Form::Objects => Ok(objects_item(operands)),
-        Form::Object => object_item(alloc, operands),
+        Form::Objects(_) => Ok(objects_item(operands)),
+        Form::Object(_) => object_item(alloc, operands),
     }
 }

@@ -2,6 +2,7 @@
 
 ghost use Rattle.std.specs.Prelude.{◌≡◌, ℕ, List, [], ◌∷◌, ◌++◌, ◌<◌, ◌+◌, ◌↔◌, ◌^◌, codes, length, Ok, Err, Some, true, bytes_eq};
 ghost use Rattle.std.specs.List.{list_any};
+ghost use Rattle.ir_image.specs.declared.form.ImageForm.TheVariants.{Small, Large};
 ghost use Rattle.ir_asm.specs.Names.{named};
 ghost use Rattle.ir_asm.specs.Standing.{place_after};
 ghost use Rattle.ir_asm.specs.declared.form.Section.TheVariants.{Text};
@@ -12,7 +13,7 @@ ghost use Rattle.ir_asm.specs.Passes.{assembled, assembled_lines, IsWordGuest};
 ghost use Rattle.ir_asm.specs.declared.cause.Cause.{Cause};
 ghost use Rattle.ir_asm.specs.declared.cause.Cause.TheVariants.{UnknownStatement, UnknownRegister, BadNumber, LabelTwice, LabelMissing, WrongSection, BadSize};
 
-/// The text of a word is assembled to a guest of one thread, whose code is that word alone.
+/// The text of a word is assembled to a small guest of one thread, whose code is that word alone.
 pub fn word_law()
     ensures { (word pc : ℕ) → word < 2 ^ 32 → pc < 2 ^ 32 → IsWordGuest (assembled (text_of pc word)) word }
 {
@@ -60,5 +61,7 @@ pub fn examples()
     ensures missing { assembled (codes "beq a0, a1, far\n") ≡ Err (record { line = 1; cause = LabelMissing }) }
     ensures section { assembled (codes "nop\n.space 1\n") ≡ Err (record { line = 2; cause = WrongSection }) }
     ensures end { assembled (codes "nop\nend: .thread end\n") ≡ Err (record { line = 2; cause = WrongSection }) }
-    ensures carried { assembled (codes "li a0, 0x12345FFF") ≡ Ok (record { entries = 0x00010000 ∷ []; code = 0x12346537 ∷ 0xFFF50513 ∷ []; bytes = []; words = [] }) }
+    ensures large { assembled (codes ".large\nnop") ≡ Ok (record { form = Large; entries = 0x00010000 ∷ []; code = 0x13 ∷ []; bytes = []; words = [] }) }
+    ensures late { assembled (codes "nop\n.large\n") ≡ Err (record { line = 2; cause = WrongSection }) }
+    ensures carried { assembled (codes "li a0, 0x12345FFF") ≡ Ok (record { form = Small; entries = 0x00010000 ∷ []; code = 0x12346537 ∷ 0xFFF50513 ∷ []; bytes = []; words = [] }) }
 {}

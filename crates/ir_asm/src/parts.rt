@@ -1,16 +1,18 @@
 //! A guest that is put together.
 
-ghost use Rattle.std.specs.Prelude.{◌≡◌, ◌+◌, ◌*◌, ◌≤◌, ◌++◌, [], ◌∷◌, length, replicate, IfOk, OnOk};
+ghost use Rattle.std.specs.Prelude.{◌≡◌, ◌+◌, ◌*◌, ◌≤◌, ◌++◌, [], ◌∷◌, length, take, drop, replicate, IfOk, OnOk};
+ghost use Rattle.ir_image.specs.Forms.{limits_of, most_object_words};
 ghost use Rattle.ir_image.specs.Guest.{object_words};
 ghost use Rattle.ir_asm.specs.Passes.{with_code, first_words, with_object, with_entry};
 
-use ir_image::{CODE_START, OBJECT_WORDS};
+use ir_image::{CODE_START, ImageForm, MOST_OBJECT_WORDS};
 use std::alloc::{AllocError, Global};
 use std::marker::Model;
 
-/// Entries, code, data and the objects' first words; in clauses the guest of these.
+/// The form, entries, code, data and the objects' first words; in clauses the guest of these.
 #[derive(Drop)]
 pub struct Parts {
+    pub form: ImageForm,
     pub entries: Vec<u32>,
     pub code: Vec<u32>,
     pub bytes: Vec<u8>,
@@ -22,29 +24,41 @@ impl Model for Parts {
 
     ghost Value = { Guest };
 
-    ghost view = { λ p. record { entries = p.entries.items; code = p.code.items; bytes = p.bytes.items; words = p.words.items } };
+    ghost view = { λ p. record { form = p.form; entries = p.entries.items; code = p.code.items; bytes = p.bytes.items; words = p.words.items } };
 }
 
-// These words and then zeros.
-fn first_words(words: &[u32]) -> [u32; OBJECT_WORDS]
-    requires { length words.now ≤ object_words }
-    ensures { result ≡ first_words words.now }
+// These words and then zeros, as many as an object of any form has.
+fn first_words(words: &[u32]) -> [u32; MOST_OBJECT_WORDS]
+    requires { length words.now ≤ most_object_words }
+    ensures { result ≡ first_words most_object_words words.now }
 {
-    let mut all = [0; OBJECT_WORDS];
+    let mut all = [0; MOST_OBJECT_WORDS];
     all[..words.len()].copy_from_slice(words);
     all
 }
 
+// So many words at a place: these and then zeros.
+fn put_first(all: &mut [u32], start: usize, count: usize, words: &[u32])
+    requires few { length words.now ≤ count }
+    requires most { count ≤ most_object_words }
+    requires there { start + count ≤ length all.old }
+    ensures { all.new ≡ take start all.old ++ (first_words count words.now ++ drop (start + count) all.old) }
+{
+    let firsts = first_words(words);
+    all[start..start + count].copy_from_slice(&firsts[..count]);
+}
+
 impl Parts {
     /// So many objects of zeros, and nothing else.
-    pub fn new(alloc: Global, objects: u32) -> Result<Parts, AllocError>
-        ensures { IfOk result (λ p. p ≡ record { entries = []; code = []; bytes = []; words = replicate (object_words * objects) 0 }) }
+    pub fn new(alloc: Global, form: ImageForm, objects: u32) -> Result<Parts, AllocError>
+        ensures { IfOk result (λ p. p ≡ record { form = form; entries = []; code = []; bytes = []; words = replicate ((limits_of form).words * objects) 0 }) }
     {
         Ok(Parts {
+            form,
             entries: Vec::new(alloc),
             code: Vec::new(alloc),
             bytes: Vec::new(alloc),
-            words: vec![in alloc; 0; OBJECT_WORDS * objects as usize]?,
+            words: vec![in alloc; 0; form.words_of(objects)]?,
         })
     }
 
@@ -72,13 +86,13 @@ impl Parts {
 
     /// The first words of an object.
     pub fn set_object(&mut self, object: u32, words: &[u32])
-        requires few { length words.now ≤ object_words }
-        requires there { object_words * object + object_words ≤ length self.old.words }
+        requires few { length words.now ≤ object_words self.old }
+        requires there { object_words self.old * object + object_words self.old ≤ length self.old.words }
         ensures { self.new ≡ with_object self.old object words.now }
     {
-        let start = OBJECT_WORDS * object as usize;
-        let all = first_words(words);
-        self.words[start..start + OBJECT_WORDS].copy_from_slice(&all);
+        let start = self.form.words_of(object);
+        let count = self.form.limits().words;
+        put_first(self.words.as_mut_slice(), start, count, words);
     }
 
     /// One thread at the start of the code, where there is none yet.

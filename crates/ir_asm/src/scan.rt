@@ -3,7 +3,8 @@
 ghost use Rattle.std.specs.Prelude.{◌≡◌, ◌+◌, ◌++◌, [], ◌∷◌, nat_le, not, ◌==◌, flat_map, Ok, IfOk, OnOk};
 ghost use Rattle.byteorder.specs.Endian.{little_bytes};
 ghost use Rattle.ir_image.specs.Guest.{memory_size};
-ghost use Rattle.ir_asm.specs.Source.{nothing_seen, here, grown, size_of, laid, placed_at, entered, with_item, with_labels};
+ghost use Rattle.ir_asm.specs.Forms.{stated};
+ghost use Rattle.ir_asm.specs.Source.{nothing_seen, here, grown, size_of, laid, placed_at, entered, begun, with_item, with_labels};
 ghost use Rattle.ir_asm.specs.declared.item.Item.TheVariants.{Entry};
 ghost use Rattle.ir_asm.specs.Faults.{Makes, unless};
 ghost use Rattle.ir_asm.specs.declared.cause.Cause.TheVariants.{BadSize};
@@ -13,8 +14,9 @@ use crate::form::Section;
 use crate::item::{ByteList, Item, Name, Place, Placed};
 use crate::labels::Labels;
 use crate::refusal::Refusal;
+use crate::table::stated;
 use byteorder::{ByteOrder, LittleEndian};
-use ir_image::{CODE_START, MEMORY_SIZE, MEMORY_START, MOST_CODE_WORDS, MOST_THREADS};
+use ir_image::{CODE_START, ImageForm, MEMORY_SIZE, MEMORY_START, MOST_CODE_WORDS};
 use std::alloc::{AllocError, Global};
 use std::marker::Model;
 use std::mem::size_of_val;
@@ -57,9 +59,10 @@ impl Size {
     }
 }
 
-/// The section, the sizes of both, the numbers of threads and of objects, the labels, and what is placed.
+/// The form of the image, once there is a statement, the section, the sizes of both, the numbers of threads and of objects, the labels, and what is placed.
 #[derive(Drop)]
 pub struct Scan {
+    pub form: Option<ImageForm>,
     pub section: Section,
     pub code: Size,
     pub filled: Size,
@@ -74,7 +77,7 @@ impl Model for Scan {
 
     ghost Value = { Seen };
 
-    ghost view = { λ s. record { section = s.section; code = s.code; filled = s.filled; threads = s.threads; objects = s.objects; labels = s.labels; placed = s.placed.items } };
+    ghost view = { λ s. record { form = s.form; section = s.section; code = s.code; filled = s.filled; threads = s.threads; objects = s.objects; labels = s.labels; placed = s.placed.items } };
 }
 
 // How many bytes an item takes of its section.
@@ -127,6 +130,7 @@ impl Scan {
         ensures { result ≡ nothing_seen }
     {
         Scan {
+            form: None,
             section: Section::Text,
             code: Size { bytes: 0 },
             filled: Size { bytes: 0 },
@@ -142,6 +146,20 @@ impl Scan {
         ensures { result ≡ not (self.now.code == 0) }
     {
         self.code.bytes != 0
+    }
+
+    /// The form of the image, as the statements so far say.
+    pub fn image_form(&self) -> ImageForm
+        ensures { result ≡ stated self.now.form }
+    {
+        stated(self.form)
+    }
+
+    /// There is a statement, which says the form of the image.
+    pub fn begin(&mut self)
+        ensures { self.new ≡ begun self.old }
+    {
+        self.form = Some(self.image_form());
     }
 
     /// Where the next byte of the section lies.
@@ -185,7 +203,7 @@ impl Scan {
     fn place_entry(&mut self, line: usize, address: u32, label: Name) -> Result<(), Refusal>
         ensures { Makes self.new result (entered line address (Entry label) self.old) }
     {
-        if self.threads >= MOST_THREADS {
+        if self.threads >= self.image_form().limits().threads {
             return Err(Refusal::Faulty(Cause::BadCount));
         }
         self.threads += 1;
@@ -198,6 +216,7 @@ impl Scan {
         ensures { Makes self.new result (entered line address item self.old) }
     {
         match item {
+            Item::Enlarged => self.form = Some(ImageForm::Large),
             Item::Within(section) => self.section = section,
             Item::Count(objects) => self.objects = objects,
             Item::Entry(label) => return self.place_entry(line, address, label),

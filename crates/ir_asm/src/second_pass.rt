@@ -120,9 +120,10 @@ fn put_entry(scan: &Scan, parts: &mut Parts, label: &Name) -> Result<(), Refusal
 }
 
 // The first words of an object, which has to be one.
+#[tactic(auto, using(crate::proofs::Kept::room_for))]
 fn put_object(scan: &Scan, parts: &mut Parts, object: u32, words: &[u32]) -> Result<(), Refusal>
-    requires few { length words.now ≤ object_words }
-    requires there { length parts.old.words ≡ object_words * scan.now.objects }
+    requires few { length words.now ≤ object_words parts.old }
+    requires there { length parts.old.words ≡ object_words parts.old * scan.now.objects }
     ensures { Makes parts.new result (put scan.now 0 (First object words.now) parts.old) }
 {
     if object >= scan.objects {
@@ -140,8 +141,8 @@ fn put(
     address: u32,
     item: &Item,
 ) -> Result<(), Refusal>
-    requires few { HasFewWords item.now }
-    requires there { length parts.old.words ≡ object_words * scan.now.objects }
+    requires few { HasFewWords parts.old.form item.now }
+    requires there { length parts.old.words ≡ object_words parts.old * scan.now.objects }
     ensures { Makes parts.new result (put scan.now address item.now parts.old) }
 {
     match item {
@@ -154,7 +155,7 @@ fn put(
         Item::LoadAddress(rd, label) => put_address(alloc, scan, parts, *rd, label)?,
         Item::Entry(label) => put_entry(scan, parts, label)?,
         Item::First(object, list) => put_object(scan, parts, *object, list.words.as_slice())?,
-        Item::Within(_) | Item::Count(_) | Item::Nothing => {}
+        Item::Enlarged | Item::Within(_) | Item::Count(_) | Item::Nothing => {}
     }
     Ok(())
 }
@@ -169,8 +170,8 @@ pub fn second_pass(
     all: &[Placed],
     parts: &mut Parts,
 ) -> Result<(), AsmErr>
-    requires few { HaveFewWords all.now }
-    requires there { length parts.old.words ≡ object_words * scan.now.objects }
+    requires few { HaveFewWords parts.old.form all.now }
+    requires there { length parts.old.words ≡ object_words parts.old * scan.now.objects }
     ensures { Answers (λ _. parts.new) result (second_pass scan.now all.now parts.old) }
 {
     for placed in all {

@@ -2,10 +2,10 @@
 
 ghost use Rattle.std.specs.Prelude.{◌≡◌, ℕ, List, Option, Some, None, length, bytes_eq};
 ghost use Rattle.ir_asm.specs.Names.{named, first_of};
-ghost use Rattle.ir_asm.specs.Forms.{base_rows, multiply_rows, immediate_rows, memory_rows, branch_rows, single_rows, directive_rows, form_named, stands_in, takes, registers_then, word_number, kind_at};
+ghost use Rattle.ir_asm.specs.Forms.{base_rows, multiply_rows, immediate_rows, memory_rows, branch_rows, single_rows, directive_rows, form_named, stated, in_image, may_follow, may_come, stands_in, takes, registers_then, word_number, kind_at};
 
 use crate::form::{Form, Kind, Section};
-use ir_image::{MEMORY_SIZE, MOST_OBJECTS, OBJECT_WORDS};
+use ir_image::{ImageForm, MEMORY_SIZE};
 use ir_isa::{BranchOp, ImmediateOp, LoadOp, RegisterOp, ShiftOp, StoreOp};
 
 fn is(name: &[u8], text: &[u8]) -> bool
@@ -132,7 +132,9 @@ fn single_form(name: &[u8]) -> Option<Form>
 fn directive_form(name: &[u8]) -> Option<Form>
     ensures { result ≡ named directive_rows name.now }
 {
-    if is(name, b".text") {
+    if is(name, b".large") {
+        Some(Form::Enlarges)
+    } else if is(name, b".text") {
         Some(Form::Sections(Section::Text))
     } else if is(name, b".data") {
         Some(Form::Sections(Section::Data))
@@ -145,9 +147,9 @@ fn directive_form(name: &[u8]) -> Option<Form>
     } else if is(name, b".thread") {
         Some(Form::Thread)
     } else if is(name, b".objects") {
-        Some(Form::Objects)
+        Some(Form::Objects(ImageForm::Small))
     } else if is(name, b".object") {
-        Some(Form::Object)
+        Some(Form::Object(ImageForm::Small))
     } else {
         None
     }
@@ -175,12 +177,53 @@ pub fn form_named(name: &[u8]) -> Option<Form>
     either(base_form(name), multiply)
 }
 
+/// The form of an image, which the statements before say.
+pub fn stated(before: Option<ImageForm>) -> ImageForm
+    ensures { result ≡ stated before }
+{
+    match before {
+        Some(image) => image,
+        None => ImageForm::Small,
+    }
+}
+
+/// A form in an image.
+pub fn in_image(image: ImageForm, form: Form) -> Form
+    ensures { result ≡ in_image image form }
+{
+    match form {
+        Form::Objects(_) => Form::Objects(image),
+        Form::Object(_) => Form::Object(image),
+        _ => form,
+    }
+}
+
+fn may_follow(form: Form) -> bool
+    ensures { result ≡ may_follow form }
+{
+    match form {
+        Form::Enlarges => false,
+        _ => true,
+    }
+}
+
+/// Whether a form may stand after these statements, if there are any.
+pub fn may_come(before: Option<ImageForm>, form: Form) -> bool
+    ensures { result ≡ may_come before form }
+{
+    match before {
+        Some(_) => may_follow(form),
+        None => true,
+    }
+}
+
 /// The section in which a form has to stand, if not in either.
 pub fn stands_in(form: Form) -> Option<Section>
     ensures { result ≡ stands_in form }
 {
     match form {
-        Form::Sections(_) | Form::Words | Form::Thread | Form::Objects | Form::Object => None,
+        Form::Enlarges | Form::Sections(_) | Form::Words | Form::Thread => None,
+        Form::Objects(_) | Form::Object(_) => None,
         Form::Bytes | Form::Space => Some(Section::Data),
         _ => Some(Section::Text),
     }
@@ -196,10 +239,11 @@ pub fn takes(form: Form, count: usize) -> bool
         Form::Loads(_) | Form::JumpsTo | Form::Stores(_) | Form::Jumps => count == 2,
         Form::LoadsUpper | Form::AddsUpper | Form::LoadsValue => count == 2,
         Form::Fences => count == 0 || count == 3,
-        Form::Calls | Form::Breaks | Form::DoesNothing | Form::Sections(_) => count == 0,
+        Form::Calls | Form::Breaks | Form::DoesNothing => count == 0,
+        Form::Enlarges | Form::Sections(_) => count == 0,
         Form::Words | Form::Bytes => count >= 1,
-        Form::Space | Form::Thread | Form::Objects => count == 1,
-        Form::Object => count >= 2 && count <= 1 + OBJECT_WORDS,
+        Form::Space | Form::Thread | Form::Objects(_) => count == 1,
+        Form::Object(image) => count >= 2 && count <= 1 + image.limits().words,
     }
 }
 
@@ -230,9 +274,9 @@ pub fn kind_at(form: Form, place: usize) -> Kind
         Form::Bytes => Kind::Number(0, 255),
         Form::Space => Kind::Number(0, MEMORY_SIZE as i64),
         Form::Thread => Kind::Label,
-        Form::Objects => Kind::Number(0, MOST_OBJECTS as i64),
-        Form::Object if place == 0 => Kind::Number(0, 4_294_967_295),
-        Form::Object => WORD_NUMBER,
+        Form::Objects(image) => Kind::Number(0, image.limits().objects as i64),
+        Form::Object(_) if place == 0 => Kind::Number(0, 4_294_967_295),
+        Form::Object(_) => WORD_NUMBER,
         _ => Kind::Register,
     }
 }

@@ -1,23 +1,44 @@
 -- The magic and the entries, read and written.
-use Rattle.std.proofs.Common.{◌≡◌, ℕ, ◌+◌, ◌*◌, ◌%◌, ◌≤◌, ltb, leb, eqb, true, List, ◌++◌, Option, None, Ok, refl, subst, arith, lit<}
+use Rattle.std.proofs.Common.{◌≡◌, ℕ, ◌+◌, ◌*◌, ◌%◌, ◌≤◌, ltb, leb, eqb, true, List, ◌++◌, Option, None, Result, Ok, refl, ap, subst, ◌∙◌, arith, lit<}
 use Rattle.std.specs.Prelude.{◌&&◌}
 use Rattle.std.proofs.lemmas.Bool.{ltb-true, leb-true, le-leb, lt-ltb, eqb-true, eq-eqb, and_parts}
 use Rattle.byteorder.specs.Endian.{little_bytes}
-use Rattle.ir_bytes.specs.Reading.{field_at}
-use Rattle.ir_bytes.proofs.CallerLemmas.{IsBytes, Takes, number_takes, number_again, field_takes, field_again, passed, fixed_ok, fixed_again}
+use Rattle.ir_bytes.specs.Reading.{◌>>=◌, field_at}
+use Rattle.ir_bytes.proofs.CallerLemmas.{two_ok, ok_is, IsBytes, Takes, number_takes, number_again, field_takes, field_again, passed}
 use Rattle.ir_image.specs.declared.image_err.ImageErr.{ImageErr}
 use Rattle.ir_image.specs.declared.image_err.ImageErr.TheVariants.{Short, Magic, Entry}
 use Rattle.ir_image.specs.Guest.{IsPlace, IsWord, code_start, most_code_words}
-use Rattle.ir_image.specs.Encoding.{magic}
-use Rattle.ir_image.specs.Reading.{magic_field, is_place, entry_field, word_at, entry_at}
+use Rattle.ir_image.specs.declared.form.ImageForm.{ImageForm}
+use Rattle.ir_image.specs.declared.form.ImageForm.TheVariants.{Small, Large}
+use Rattle.ir_image.specs.Forms.{magic, magic_number, form_of}
+use Rattle.ir_image.specs.Reading.{magic_field, is_place, entry_field, word_at, entry_at, form_at}
 
-pub magic_takes : (bytes : List ℕ) (n : ℕ × List ℕ) → IsBytes bytes → field_at Short magic_field bytes ≡ Ok n → Takes bytes magic n.1
-magic_takes bytes n fits e =
-    let t = field_takes Short magic_field bytes n fits e in
-    subst (λ (k : ℕ). Takes bytes (little_bytes 4 k) n.1) (fixed_ok 0x31495249 n.0 Magic t.passes) t.takes
+-- the bytes of a form's number
+pub magic_bytes : (form : ImageForm) → little_bytes 4 (magic_number form) ≡ magic form
+magic_bytes Small = refl
+magic_bytes Large = refl
 
-pub magic_again : (rest : List ℕ) → field_at Short magic_field (magic ++ rest) ≡ Ok (0x31495249, rest)
-magic_again rest = field_again Short magic_field 0x31495249 rest (lit< tt) (fixed_again 0x31495249 Magic)
+pub form_takes : (bytes : List ℕ) (x : ImageForm × List ℕ) → IsBytes bytes → form_at bytes ≡ Ok x → Takes bytes (magic x.0) x.1
+unfolding form_at
+form_takes bytes x fits e =
+    two_ok (field_at Short magic_field bytes) (λ n. Ok (form_of n.0, n.1)) x e (λ n e0 e1.
+    let t = field_takes Short magic_field bytes n fits e0 in
+    let own = eqb-true n.0 (magic_number (form_of n.0)) (passed (eqb n.0 (magic_number (form_of n.0))) Magic t.passes) in
+    subst (λ (y : ImageForm × List ℕ). Takes bytes (magic y.0) y.1) (ok_is ImageErr (form_of n.0, n.1) x e1)
+    (subst (λ (k : List ℕ). Takes bytes k n.1) (ap (little_bytes 4) own ∙ magic_bytes (form_of n.0)) t.takes))
+
+magic_again : (form : ImageForm) (rest : List ℕ) → field_at Short magic_field (magic form ++ rest) ≡ Ok (magic_number form, rest)
+magic_again Small rest = field_again Short magic_field 0x31495249 rest (lit< tt) refl
+magic_again Large rest = field_again Short magic_field 0x32495249 rest (lit< tt) refl
+
+own_form : (form : ImageForm) → form_of (magic_number form) ≡ form
+own_form Small = refl
+own_form Large = refl
+
+pub form_again : (form : ImageForm) (rest : List ℕ) → form_at (magic form ++ rest) ≡ Ok (form, rest)
+unfolding form_at
+form_again form rest = ap (λ (r : Result (ℕ × List ℕ) ImageErr). r >>= λ n. Ok (form_of n.0, n.1)) (magic_again form rest)
+    ∙ ap (λ (f : ImageForm). Ok (f, rest)) (own_form form)
 
 pub word_takes : (bytes : List ℕ) (n : ℕ × List ℕ) → IsBytes bytes → word_at bytes ≡ Ok n
     → Takes bytes (little_bytes 4 n.0) n.1 × IsWord n.0

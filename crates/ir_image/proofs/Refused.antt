@@ -7,42 +7,55 @@ use Rattle.ir_bytes.proofs.CallerLemmas.{Follows, Begins, Refuses, field_follows
 use Rattle.ir_image.specs.declared.counts.Counts.{Counts}
 use Rattle.ir_image.specs.declared.image_err.ImageErr.{ImageErr}
 use Rattle.ir_image.specs.declared.image_err.ImageErr.TheVariants.{Short, Trailing}
-use Rattle.ir_image.specs.Guest.{Guest, object_words}
-use Rattle.ir_image.specs.Reading.{magic_field, threads_field, objects_field, words_field, bytes_field, entry_field, word_at, entry_at, counts_at, body_at, guest_at}
+use Rattle.ir_image.specs.declared.form.ImageForm.{ImageForm}
+use Rattle.ir_image.specs.Forms.{limits_of, form_of}
+use Rattle.ir_image.specs.Guest.{Guest}
+use Rattle.ir_image.specs.Reading.{magic_field, threads_field, objects_field, words_field, bytes_field, entry_field, word_at, entry_at, form_at, counts_at, body_at, guest_at}
 use Rattle.ir_image.specs.Fields.{image_fault}
 
-abbrev counted : ℕ → ℕ → ℕ → ℕ → Counts
-counted n m c d = record { threads = n; objects = m; words = c; bytes = d }
+abbrev counted : ImageForm → ℕ → ℕ → ℕ → ℕ → Counts
+counted f n m c d = record { form = f; threads = n; objects = m; words = c; bytes = d }
+
+-- the magic, and what follows it
+abbrev form_fields : (ImageForm → Format ImageErr) → Format ImageErr
+form_fields after = next magic_field λ f. after (form_of f)
+
+form_follows : Follows Short Trailing form_at form_fields
+unfolding form_at
+form_follows =
+    then_follows Short Trailing (field_at Short magic_field) (next magic_field) (λ f b. Ok (form_of f, b)) (λ f after. after (form_of f))
+    (field_follows Short Trailing magic_field) (λ f after b. refl)
 
 -- the fields of the counts, and what follows them
 abbrev counts_fields : (Counts → Format ImageErr) → Format ImageErr
-counts_fields after = before magic_field
-    (next threads_field λ n. next objects_field λ m. next words_field λ c. next bytes_field λ d. after (counted n m c d))
+counts_fields after = form_fields λ f. next (threads_field f) λ n. next (objects_field f) λ m. next words_field λ c. next bytes_field λ d.
+    after (counted f n m c d)
 
 counts_follow : Follows Short Trailing counts_at counts_fields
 unfolding counts_at
 counts_follow =
-    then_follows Short Trailing (field_at Short magic_field) (next magic_field)
-    (λ _ b0. field_at Short threads_field b0 >>= λ n. field_at Short objects_field n.1 >>= λ m. field_at Short words_field m.1 >>= λ c.
-    field_at Short bytes_field c.1 >>= λ d. Ok (counted n.0 m.0 c.0 d.0, d.1))
-    (λ _ after. next threads_field λ n. next objects_field λ m. next words_field λ c. next bytes_field λ d. after (counted n m c d))
-    (field_follows Short Trailing magic_field) (λ _.
-    then_follows Short Trailing (field_at Short threads_field) (next threads_field)
-    (λ n b1. field_at Short objects_field b1 >>= λ m. field_at Short words_field m.1 >>= λ c. field_at Short bytes_field c.1 >>= λ d. Ok
-    (counted n m.0 c.0 d.0, d.1))
-    (λ n after. next objects_field λ m. next words_field λ c. next bytes_field λ d. after (counted n m c d))
-    (field_follows Short Trailing threads_field) (λ n.
-    then_follows Short Trailing (field_at Short objects_field) (next objects_field)
-    (λ m b2. field_at Short words_field b2 >>= λ c. field_at Short bytes_field c.1 >>= λ d. Ok (counted n m c.0 d.0, d.1))
-    (λ m after. next words_field λ c. next bytes_field λ d. after (counted n m c d))
-    (field_follows Short Trailing objects_field) (λ m.
+    then_follows Short Trailing form_at form_fields
+    (λ f b0. field_at Short (threads_field f) b0 >>= λ n. field_at Short (objects_field f) n.1 >>= λ m. field_at Short words_field m.1 >>=
+    λ c. field_at Short bytes_field c.1 >>= λ d. Ok (counted f n.0 m.0 c.0 d.0, d.1))
+    (λ f after. next (threads_field f) λ n. next (objects_field f) λ m. next words_field λ c. next bytes_field λ d.
+    after (counted f n m c d))
+    form_follows (λ f.
+    then_follows Short Trailing (field_at Short (threads_field f)) (next (threads_field f))
+    (λ n b1. field_at Short (objects_field f) b1 >>= λ m. field_at Short words_field m.1 >>= λ c. field_at Short bytes_field c.1 >>= λ d. Ok
+    (counted f n m.0 c.0 d.0, d.1))
+    (λ n after. next (objects_field f) λ m. next words_field λ c. next bytes_field λ d. after (counted f n m c d))
+    (field_follows Short Trailing (threads_field f)) (λ n.
+    then_follows Short Trailing (field_at Short (objects_field f)) (next (objects_field f))
+    (λ m b2. field_at Short words_field b2 >>= λ c. field_at Short bytes_field c.1 >>= λ d. Ok (counted f n m c.0 d.0, d.1))
+    (λ m after. next words_field λ c. next bytes_field λ d. after (counted f n m c d))
+    (field_follows Short Trailing (objects_field f)) (λ m.
     then_follows Short Trailing (field_at Short words_field) (next words_field)
-    (λ c b3. field_at Short bytes_field b3 >>= λ d. Ok (counted n m c d.0, d.1))
-    (λ c after. next bytes_field λ d. after (counted n m c d))
+    (λ c b3. field_at Short bytes_field b3 >>= λ d. Ok (counted f n m c d.0, d.1))
+    (λ c after. next bytes_field λ d. after (counted f n m c d))
     (field_follows Short Trailing words_field) (λ c.
     then_follows Short Trailing (field_at Short bytes_field) (next bytes_field)
-    (λ d b4. Ok (counted n m c d, b4))
-    (λ d after. after (counted n m c d))
+    (λ d b4. Ok (counted f n m c d, b4))
+    (λ d after. after (counted f n m c d))
     (field_follows Short Trailing bytes_field) (λ d after b4. refl)))))
 
 -- ---- what stands after the counts
@@ -54,38 +67,38 @@ abbrev words_fields : ℕ → Format ImageErr → Format ImageErr
 words_fields n = repeated n (before (plain 4))
 
 abbrev body_fields : Counts → Format ImageErr
-body_fields c = entries_fields c (words_fields c.words (before (plain c.bytes) (words_fields (object_words * c.objects) finished)))
+body_fields c = entries_fields c (words_fields c.words (before (plain c.bytes) (words_fields ((limits_of c.form).words * c.objects) finished)))
 
 words_begin : (n : ℕ) → Begins Short Trailing (fields_at word_at n) (words_fields n)
 words_begin n = fields_begin Short Trailing word_at (before (plain 4)) n (number_begins Short Trailing 4)
 
-abbrev made : List ℕ → List ℕ → List ℕ → List ℕ → Guest
-made entries code initial words = record { entries = entries; code = code; bytes = initial; words = words }
+abbrev made : ImageForm → List ℕ → List ℕ → List ℕ → List ℕ → Guest
+made f entries code initial words = record { form = f; entries = entries; code = code; bytes = initial; words = words }
 
 body_refuses : (c : Counts) → Refuses Short Trailing (body_at c) (body_fields c)
 unfolding body_at
 body_refuses c =
     before_refuses Short Trailing (fields_at (entry_at c.words) c.threads) (entries_fields c)
     (λ entries b0. fields_at word_at c.words b0 >>= λ code. bytes_at Short c.bytes code.1 >>= λ initial. fields_at word_at
-    (object_words * c.objects) initial.1 >>= λ words.
-    if length words.1 == 0 then Ok (made entries code.0 initial.0 words.0) else Err Trailing)
-    (words_fields c.words (before (plain c.bytes) (words_fields (object_words * c.objects) finished)))
+    ((limits_of c.form).words * c.objects) initial.1 >>= λ words.
+    if length words.1 == 0 then Ok (made c.form entries code.0 initial.0 words.0) else Err Trailing)
+    (words_fields c.words (before (plain c.bytes) (words_fields ((limits_of c.form).words * c.objects) finished)))
     (fields_begin Short Trailing (entry_at c.words) (before (entry_field c.words)) c.threads
     (field_begins Short Trailing (entry_field c.words))) (λ entries.
     before_refuses Short Trailing (fields_at word_at c.words) (words_fields c.words)
-    (λ code b1. bytes_at Short c.bytes b1 >>= λ initial. fields_at word_at (object_words * c.objects) initial.1 >>= λ words.
-    if length words.1 == 0 then Ok (made entries code initial.0 words.0) else Err Trailing)
-    (before (plain c.bytes) (words_fields (object_words * c.objects) finished))
+    (λ code b1. bytes_at Short c.bytes b1 >>= λ initial. fields_at word_at ((limits_of c.form).words * c.objects) initial.1 >>= λ words.
+    if length words.1 == 0 then Ok (made c.form entries code initial.0 words.0) else Err Trailing)
+    (before (plain c.bytes) (words_fields ((limits_of c.form).words * c.objects) finished))
     (words_begin c.words) (λ code.
     before_refuses Short Trailing (bytes_at Short c.bytes) (before (plain c.bytes))
-    (λ initial b2. fields_at word_at (object_words * c.objects) b2 >>= λ words. if length words.1 == 0 then Ok
-    (made entries code initial words.0) else Err Trailing)
-    (words_fields (object_words * c.objects) finished)
+    (λ initial b2. fields_at word_at ((limits_of c.form).words * c.objects) b2 >>= λ words. if length words.1 == 0 then Ok
+    (made c.form entries code initial words.0) else Err Trailing)
+    (words_fields ((limits_of c.form).words * c.objects) finished)
     (bytes_begin Short Trailing c.bytes) (λ initial.
-    before_refuses Short Trailing (fields_at word_at (object_words * c.objects)) (words_fields (object_words * c.objects))
-    (λ words b3. if length b3 == 0 then Ok (made entries code initial words) else Err Trailing)
+    before_refuses Short Trailing (fields_at word_at ((limits_of c.form).words * c.objects)) (words_fields ((limits_of c.form).words * c.objects))
+    (λ words b3. if length b3 == 0 then Ok (made c.form entries code initial words) else Err Trailing)
     finished
-    (words_begin (object_words * c.objects)) (λ words b3. end_refuses Trailing (made entries code initial words) (eqb (length b3) 0)))))
+    (words_begin ((limits_of c.form).words * c.objects)) (λ words b3. end_refuses Trailing (made c.form entries code initial words) (eqb (length b3) 0)))))
 
 pub named : (bytes : List ℕ) → fault_of (guest_at bytes) ≡ image_fault bytes
 unfolding guest_at

@@ -1,5 +1,5 @@
 -- What is read is encoded so, and what is encoded so is read.
-use Rattle.std.proofs.Common.{◌≡◌, ℕ, ◌*◌, ◌/◌, ◌<◌, ◌≤◌, cond, eqb, List, [], ◌∷◌, ◌++◌, length, slice_index, Ok, Err, refl, sym, ap, subst, ◌∙◌, append_assoc, arith}
+use Rattle.std.proofs.Common.{◌≡◌, ℕ, ◌*◌, ◌<◌, ◌≤◌, cond, eqb, List, [], ◌∷◌, ◌++◌, length, slice_index, Ok, Err, refl, sym, ap, subst, ◌∙◌, append_assoc, arith}
 use Rattle.std.specs.List.{AllByRecursion}
 use Rattle.std.proofs.lemmas.Bool.{eqb-true}
 use Rattle.std.proofs.lemmas.List.{append-nil, nil_from_length}
@@ -9,18 +9,21 @@ use Rattle.ir_bytes.proofs.CallerLemmas.{two_ok, five_ok, six_ok, pass_ok, ok_is
 use Rattle.ir_image.specs.declared.counts.Counts.{Counts}
 use Rattle.ir_image.specs.declared.image_err.ImageErr.{ImageErr}
 use Rattle.ir_image.specs.declared.image_err.ImageErr.TheVariants.{Short, Count, Trailing}
-use Rattle.ir_image.specs.Guest.{Guest, IsGuest, IsPlace, IsWord, memory_size, most_threads, most_objects, most_code_words, object_words, object_count}
-use Rattle.ir_image.specs.Encoding.{magic, counts_of, counts_encoding, words_encoding, body_encoding, encoding}
-use Rattle.ir_image.specs.Reading.{magic_field, threads_field, objects_field, words_field, bytes_field, word_at, entry_at, counts_at, body_at, guest_at}
-use Rattle.ir_image.proofs.Fields.{magic_takes, magic_again, word_takes, word_again, entry_takes, entry_again}
+use Rattle.ir_image.specs.Guest.{Guest, IsGuest, IsPlace, IsWord, memory_size, most_code_words, object_count}
+use Rattle.ir_image.specs.declared.form.ImageForm.{ImageForm}
+use Rattle.ir_image.specs.Forms.{limits_of, magic}
+use Rattle.ir_image.specs.Encoding.{counts_of, counts_encoding, words_encoding, body_encoding, encoding}
+use Rattle.ir_image.specs.Reading.{threads_field, objects_field, words_field, bytes_field, word_at, entry_at, form_at, counts_at, body_at, guest_at}
+use Rattle.ir_image.proofs.Forms.{count_of, whole_of, words_again}
+use Rattle.ir_image.proofs.Fields.{form_takes, form_again, word_takes, word_again, entry_takes, entry_again}
 
 -- ---- the counts
 
 -- counts within their limits
 record IsWithin (c : Counts) : Type 0 where
   some_thread : 1 ≤ c.threads
-  few_threads : c.threads ≤ most_threads
-  few_objects : c.objects ≤ most_objects
+  few_threads : c.threads ≤ (limits_of c.form).threads
+  few_objects : c.objects ≤ (limits_of c.form).objects
   short_code : c.words ≤ most_code_words
   short_data : c.bytes ≤ memory_size
 
@@ -29,42 +32,43 @@ record TakesCounts (all : List ℕ) (x : Counts × List ℕ) : Type 0 where
   takes : Takes all (counts_encoding x.0) x.1
   within : IsWithin x.0
 
-counts_taken : (all : List ℕ) (first threads objects words bytes : ℕ × List ℕ) → Takes all magic first.1
-    → TakesField threads_field first.1 threads → TakesField objects_field threads.1 objects → TakesField words_field objects.1 words
-    → TakesField bytes_field words.1 bytes
-    → TakesCounts all (record { threads = threads.0; objects = objects.0; words = words.0; bytes = bytes.0 }, bytes.1)
+counts_taken : (all : List ℕ) (first : ImageForm × List ℕ) (threads objects words bytes : ℕ × List ℕ) → Takes all (magic first.0) first.1
+    → TakesField (threads_field first.0) first.1 threads → TakesField (objects_field first.0) threads.1 objects
+    → TakesField words_field objects.1 words → TakesField bytes_field words.1 bytes
+    → TakesCounts all (record { form = first.0; threads = threads.0; objects = objects.0; words = words.0; bytes = bytes.0 }, bytes.1)
 counts_taken all first threads objects words bytes t0 t1 t2 t3 t4 =
-    let n = within_ok 1 most_threads threads.0 Count t1.passes in
-    let m = within_ok 0 most_objects objects.0 Count t2.passes in
+    let n = within_ok 1 (limits_of first.0).threads threads.0 Count t1.passes in
+    let m = within_ok 0 (limits_of first.0).objects objects.0 Count t2.passes in
     let c = within_ok 0 most_code_words words.0 Count t3.passes in
     let d = within_ok 0 memory_size bytes.0 Count t4.passes in
-    let prefix = Takes-then all magic first.1 (threads.0 ∷ []) threads.1 t0 (byte_taken first.1 threads t1.takes t1.fits) in
     let second = Takes-then threads.1 (objects.0 ∷ []) objects.1 (little_bytes 4 words.0) words.1
     (byte_taken threads.1 objects t2.takes t2.fits) t3.takes in
     let third = Takes-then threads.1 (objects.0 ∷ [] ++ little_bytes 4 words.0) words.1 (little_bytes 4 bytes.0) bytes.1 second t4.takes
     in
+    let fourth = Takes-then first.1 (threads.0 ∷ []) threads.1 ((objects.0 ∷ [] ++ little_bytes 4 words.0) ++ little_bytes 4 bytes.0)
+    bytes.1 (byte_taken first.1 threads t1.takes t1.fits) third in
     record {
-      takes = Takes-then all (magic ++ threads.0 ∷ []) threads.1 ((objects.0 ∷ [] ++ little_bytes 4 words.0) ++ little_bytes 4 bytes.0)
-          bytes.1 prefix third;
+      takes = Takes-then all (magic first.0) first.1
+          (threads.0 ∷ [] ++ ((objects.0 ∷ [] ++ little_bytes 4 words.0) ++ little_bytes 4 bytes.0)) bytes.1 t0 fourth;
       within = record { some_thread = n.0; few_threads = n.1; few_objects = m.1; short_code = c.1; short_data = d.1 };
     }
 
 counts_take : (all : List ℕ) (x : Counts × List ℕ) → IsBytes all → counts_at all ≡ Ok x → TakesCounts all x
 unfolding counts_at
 counts_take all x fits e =
-    six_ok (field_at Short magic_field all) (λ first. field_at Short threads_field first.1)
-    (λ first threads. field_at Short objects_field threads.1)
+    six_ok (form_at all) (λ first. field_at Short (threads_field first.0) first.1)
+    (λ first threads. field_at Short (objects_field first.0) threads.1)
     (λ first threads objects. field_at Short words_field objects.1) (λ first threads objects words. field_at Short bytes_field words.1)
     (λ first threads objects words bytes. Ok
-    (record { threads = threads.0; objects = objects.0; words = words.0; bytes = bytes.0 }, bytes.1)) x e
+    (record { form = first.0; threads = threads.0; objects = objects.0; words = words.0; bytes = bytes.0 }, bytes.1)) x e
     (λ first threads objects words bytes e0 e1 e2 e3 e4 e5.
-    let t0 = magic_takes all first fits e0 in
-    let t1 = field_takes Short threads_field first.1 threads t0.rest_fits e1 in
-    let t2 = field_takes Short objects_field threads.1 objects t1.takes.rest_fits e2 in
+    let t0 = form_takes all first fits e0 in
+    let t1 = field_takes Short (threads_field first.0) first.1 threads t0.rest_fits e1 in
+    let t2 = field_takes Short (objects_field first.0) threads.1 objects t1.takes.rest_fits e2 in
     let t3 = field_takes Short words_field objects.1 words t2.takes.rest_fits e3 in
     let t4 = field_takes Short bytes_field words.1 bytes t3.takes.rest_fits e4 in
     subst (λ (y : Counts × List ℕ). TakesCounts all y)
-    (ok_is ImageErr (record { threads = threads.0; objects = objects.0; words = words.0; bytes = bytes.0 }, bytes.1) x e5)
+    (ok_is ImageErr (record { form = first.0; threads = threads.0; objects = objects.0; words = words.0; bytes = bytes.0 }, bytes.1) x e5)
     (counts_taken all first threads objects words bytes t0 t1 t2 t3 t4))
 
 counts_again : (c : Counts) (rest : List ℕ) → IsWithin c → counts_at (counts_encoding c ++ rest) ≡ Ok (c, rest)
@@ -72,18 +76,19 @@ unfolding counts_at
 counts_again c rest within =
     let r3 = little_bytes 4 c.bytes ++ rest in
     let r2 = little_bytes 4 c.words ++ r3 in
-    let e0 = magic_again (c.threads ∷ c.objects ∷ r2) in
-    let e1 = byte_field_again Short threads_field c.threads (c.objects ∷ r2) refl
-    (within_again 1 most_threads c.threads Count within.some_thread within.few_threads) in
-    let e2 = byte_field_again Short objects_field c.objects r2 refl
-    (within_again 0 most_objects c.objects Count (omega arith) within.few_objects)
+    let e0 = form_again c.form (c.threads ∷ c.objects ∷ r2) in
+    let e1 = byte_field_again Short (threads_field c.form) c.threads (c.objects ∷ r2) refl
+    (within_again 1 (limits_of c.form).threads c.threads Count within.some_thread within.few_threads) in
+    let e2 = byte_field_again Short (objects_field c.form) c.objects r2 refl
+    (within_again 0 (limits_of c.form).objects c.objects Count (omega arith) within.few_objects)
     in
     let e3 = field_again Short words_field c.words r3 (omega arith)
     (within_again 0 most_code_words c.words Count (omega arith) within.short_code)
     in
     let e4 = field_again Short bytes_field c.bytes rest (omega arith)
     (within_again 0 memory_size c.bytes Count (omega arith) within.short_data) in
-    rw (e0, e1, e2, e3, e4) refl
+    ap counts_at (append_assoc (magic c.form) (c.threads ∷ c.objects ∷ [] ++ little_bytes 4 c.words ++ little_bytes 4 c.bytes) rest)
+    ∙ rw (e0, e1, e2, e3, e4) refl
 
 -- ---- what stands after the counts
 
@@ -93,9 +98,9 @@ record TakesBody (c : Counts) (all : List ℕ) (g : Guest) : Type 0 where
   fits : IsGuest g
   parts : all ≡ body_encoding g
 
-same_counts : (g : Guest) (c : Counts) → length g.entries ≡ c.threads → object_count g ≡ c.objects → length g.code ≡ c.words
-    → length g.bytes ≡ c.bytes → counts_of g ≡ c
-same_counts g c n m w d = λ i. record { threads = n i; objects = m i; words = w i; bytes = d i }
+same_counts : (g : Guest) (c : Counts) → g.form ≡ c.form → length g.entries ≡ c.threads → object_count g ≡ c.objects
+    → length g.code ≡ c.words → length g.bytes ≡ c.bytes → counts_of g ≡ c
+same_counts g c f n m w d = λ i. record { form = f i; threads = n i; objects = m i; words = w i; bytes = d i }
 
 regroup : (a b c d : List ℕ) → a ++ (b ++ (c ++ d)) ≡ a ++ b ++ c ++ d
 regroup a b c d = simp append_assoc
@@ -109,20 +114,20 @@ joined all a r0 b r1 c r2 d r3 p0 p1 p2 p3 p4 =
 
 body_taken : (c : Counts) (all : List ℕ) (entries code initial words : List ℕ × List ℕ) → IsWithin c
     → TakesFields (IsPlace c.words) (little_bytes 4) c.threads all entries → TakesFields IsWord (little_bytes 4) c.words entries.1 code
-    → TakesBytes c.bytes code.1 initial → TakesFields IsWord (little_bytes 4) (object_words * c.objects) initial.1 words
-    → words.1 ≡ [] → TakesBody c all (record { entries = entries.0; code = code.0; bytes = initial.0; words = words.0 })
+    → TakesBytes c.bytes code.1 initial → TakesFields IsWord (little_bytes 4) ((limits_of c.form).words * c.objects) initial.1 words
+    → words.1 ≡ [] → TakesBody c all (record { form = c.form; entries = entries.0; code = code.0; bytes = initial.0; words = words.0 })
 body_taken c all entries code initial words within t0 t1 t2 t3 nothing =
-    let objects : length words.0 / object_words ≡ c.objects = omega (arith, t3.count) in
+    let objects = count_of c.form (length words.0) c.objects t3.count in
     record {
-      counts = same_counts (record { entries = entries.0; code = code.0; bytes = initial.0; words = words.0 }) c t0.count objects
-          t1.count t2.count;
+      counts = same_counts (record { form = c.form; entries = entries.0; code = code.0; bytes = initial.0; words = words.0 }) c refl t0.count
+          objects t1.count t2.count;
       fits = record {
         some_thread = omega (arith, t0.count);
-        few_threads = omega (arith, t0.count);
+        few_threads = let few = within.few_threads in omega (arith, few, t0.count);
         short_code = omega (arith, t1.count);
         short_data = omega (arith, t2.count);
-        whole_objects = omega (arith, t3.count);
-        few_objects = omega arith;
+        whole_objects = whole_of c.form (length words.0) c.objects t3.count;
+        few_objects = let few = within.few_objects in omega (arith, few, objects);
         entries_fit = subst (λ (k : ℕ). AllByRecursion (IsPlace k) entries.0) (sym t1.count) t0.fit;
         code_fits = t1.fit;
         bytes_fit = t2.fit;
@@ -136,15 +141,15 @@ body_take : (c : Counts) (all : List ℕ) (g : Guest) → IsBytes all → IsWith
 unfolding body_at
 body_take c all g fits within e =
     five_ok (fields_at (entry_at c.words) c.threads all) (λ entries. fields_at word_at c.words entries.1)
-    (λ entries code. bytes_at Short c.bytes code.1) (λ entries code initial. fields_at word_at (object_words * c.objects) initial.1)
+    (λ entries code. bytes_at Short c.bytes code.1) (λ entries code initial. fields_at word_at ((limits_of c.form).words * c.objects) initial.1)
     (λ entries code initial words. cond (eqb (length words.1) 0)
-    (Ok (record { entries = entries.0; code = code.0; bytes = initial.0; words = words.0 })) (Err Trailing)) g e
+    (Ok (record { form = c.form; entries = entries.0; code = code.0; bytes = initial.0; words = words.0 })) (Err Trailing)) g e
     (λ entries code initial words e0 e1 e2 e3 e4.
     let t0 = fields_take (IsPlace c.words) (little_bytes 4) (entry_at c.words) (entry_takes c.words) c.threads all entries fits e0 in
     let t1 = fields_take IsWord (little_bytes 4) word_at word_takes c.words entries.1 code t0.takes.rest_fits e1 in
     let t2 = bytes_take Short c.bytes code.1 initial t1.takes.rest_fits e2 in
-    let t3 = fields_take IsWord (little_bytes 4) word_at word_takes (object_words * c.objects) initial.1 words t2.takes.rest_fits e3 in
-    let p = pass_ok (eqb (length words.1) 0) Trailing (record { entries = entries.0; code = code.0; bytes = initial.0; words = words.0 })
+    let t3 = fields_take IsWord (little_bytes 4) word_at word_takes ((limits_of c.form).words * c.objects) initial.1 words t2.takes.rest_fits e3 in
+    let p = pass_ok (eqb (length words.1) 0) Trailing (record { form = c.form; entries = entries.0; code = code.0; bytes = initial.0; words = words.0 })
     g e4 in
     subst (λ (y : Guest). TakesBody c all y) p.1
     (body_taken c all entries code initial words within t0 t1 t2 t3 (nil_from_length words.1 (eqb-true (length words.1) 0 p.0))))
@@ -159,8 +164,8 @@ body_again g fits =
     (λ n rest place. entry_again (length g.code) n rest fits.short_code place) g.entries r0 fits.entries_fit in
     let e1 = fields_again IsWord (little_bytes 4) word_at word_again g.code r1 fits.code_fits in
     let e2 = bytes_again Short g.bytes r2 in
-    let count : object_words * object_count g ≡ length g.words = omega arith in
-    let e3 : fields_at word_at (object_words * object_count g) r2 ≡ Ok (g.words, []) =
+    let count = words_again g.form (length g.words) fits.whole_objects in
+    let e3 : fields_at word_at ((limits_of g.form).words * object_count g) r2 ≡ Ok (g.words, []) =
     ap (λ (k : ℕ). fields_at word_at k r2) count ∙ ap (fields_at word_at (length g.words)) (sym (append-nil r2)) ∙ fields_again IsWord
     (little_bytes 4) word_at word_again g.words [] fits.words_fit in
     ap (body_at (counts_of g)) (sym (regroup (words_encoding g.entries) (words_encoding g.code) g.bytes r2)) ∙ rw (e0, e1, e2, e3) refl

@@ -2,20 +2,17 @@
 use Rattle.std.specs.Prelude.{ℕ, List, [], ◌∷◌, ◌++◌, length}
 use Rattle.std.specs.List.{flat_map}
 use Rattle.byteorder.specs.Endian.{little_bytes}
+use Rattle.ir_image.specs.Forms.{magic}
 use Rattle.ir_image.specs.Guest.{Guest, object_count}
 use Rattle.ir_image.specs.declared.counts.Counts.{Counts}
 
--- `IRI1`
-abbrev pub magic : List ℕ
-magic = 0x49 ∷ 0x52 ∷ 0x49 ∷ 0x31 ∷ []
-
--- how many a guest has of each
+-- the form of a guest, and how many it has of each
 abbrev pub counts_of : Guest → Counts
-counts_of g = record { threads = length g.entries; objects = object_count g; words = length g.code; bytes = length g.bytes }
+counts_of g = record { form = g.form; threads = length g.entries; objects = object_count g; words = length g.code; bytes = length g.bytes }
 
--- the magic, the number of threads, of objects, of words of code, of bytes of data
+-- the magic of the form, the number of threads, of objects, of words of code, of bytes of data
 abbrev pub counts_encoding : Counts → List ℕ
-counts_encoding c = magic ++ c.threads ∷ c.objects ∷ [] ++ little_bytes 4 c.words ++ little_bytes 4 c.bytes
+counts_encoding c = magic c.form ++ (c.threads ∷ c.objects ∷ [] ++ little_bytes 4 c.words ++ little_bytes 4 c.bytes)
 
 -- words, one after the other
 abbrev pub words_encoding : List ℕ → List ℕ

@@ -4,15 +4,15 @@ use Rattle.ir_bytes.specs.Reading.{plain}
 use Rattle.ir_bytes.specs.Format.{Format, finished, next, before, repeated, first_refused}
 use Rattle.ir_image.specs.declared.image_err.ImageErr.{ImageErr}
 use Rattle.ir_image.specs.declared.image_err.ImageErr.TheVariants.{Short, Trailing}
-use Rattle.ir_image.specs.Guest.{object_words}
+use Rattle.ir_image.specs.Forms.{limits_of, form_of}
 use Rattle.ir_image.specs.Reading.{magic_field, threads_field, objects_field, words_field, bytes_field, entry_field}
 
--- the magic; how many threads, objects, words of code and bytes of data; the entries; the code; the data; the objects' first words
+-- the magic, which names the form; how many threads, objects, words of code and bytes of data; the entries; the code; the data; the objects' first words
 abbrev pub image_fields : Format ImageErr
 image_fields =
-    before magic_field (next threads_field λ n. next objects_field λ m. next words_field λ c. next bytes_field λ d.
+    next magic_field λ f. next (threads_field (form_of f)) λ n. next (objects_field (form_of f)) λ m. next words_field λ c. next bytes_field λ d.
     repeated n (before (entry_field c))
-    (repeated c (before (plain 4)) (before (plain d) (repeated (object_words * m) (before (plain 4)) finished))))
+    (repeated c (before (plain 4)) (before (plain d) (repeated ((limits_of (form_of f)).words * m) (before (plain 4)) finished)))
 
 -- the first fault of bytes that are no image
 abbrev pub image_fault : List ℕ → Option ImageErr

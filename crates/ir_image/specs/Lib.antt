@@ -1,3 +1,4 @@
+pub mod Forms
 pub mod Guest
 pub mod Fetch
 pub mod Lowering

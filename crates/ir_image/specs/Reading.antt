@@ -1,12 +1,12 @@
 -- Reading an image from the left: each field is read whole and then tested, and the first fault is named.
 use Rattle.std.specs.Prelude.{◌≡◌, ℕ, ◌+◌, ◌*◌, ◌%◌, Bool, List, length, Result, Ok, Err, nat_lt, nat_le, ◌==◌, ◌&&◌, if◌then◌else◌}
-use Rattle.byteorder.specs.Endian.{little_number}
-use Rattle.ir_bytes.specs.Reading.{◌>>=◌, Reader, Field, tested, within, fixed, number_at, field_at, bytes_at, fields_at}
+use Rattle.ir_bytes.specs.Reading.{◌>>=◌, Reader, Field, tested, within, number_at, field_at, bytes_at, fields_at}
 use Rattle.ir_image.specs.declared.counts.Counts.{Counts}
 use Rattle.ir_image.specs.declared.image_err.ImageErr.{ImageErr}
 use Rattle.ir_image.specs.declared.image_err.ImageErr.TheVariants.{Short, Magic, Count, Entry, Trailing, NoMem}
-use Rattle.ir_image.specs.Guest.{Guest, code_start, memory_size, most_threads, most_objects, most_code_words, object_words}
-use Rattle.ir_image.specs.Encoding.{magic}
+use Rattle.ir_image.specs.declared.form.ImageForm.{ImageForm}
+use Rattle.ir_image.specs.Forms.{limits_of, magic_number, form_of}
+use Rattle.ir_image.specs.Guest.{Guest, code_start, memory_size, most_code_words}
 
 -- reading meets this fault, or memory ran out
 abbrev pub Fails : {Y : Type 0} → ImageErr → Result Y ImageErr → Type 0
@@ -24,14 +24,15 @@ Gives view (Err e) read = Fails e read
 
 -- ---- the fields that are tested
 
+-- a form's magic
 abbrev pub magic_field : Field ImageErr
-magic_field = fixed 4 (little_number 4 magic) Magic
+magic_field = tested 4 (λ n. n == magic_number (form_of n)) Magic
 
-abbrev pub threads_field : Field ImageErr
-threads_field = within 1 1 most_threads Count
+abbrev pub threads_field : ImageForm → Field ImageErr
+threads_field form = within 1 1 (limits_of form).threads Count
 
-abbrev pub objects_field : Field ImageErr
-objects_field = within 1 0 most_objects Count
+abbrev pub objects_field : ImageForm → Field ImageErr
+objects_field form = within 1 0 (limits_of form).objects Count
 
 -- the number of words of code
 abbrev pub words_field : Field ImageErr
@@ -58,15 +59,19 @@ word_at = number_at Short 4
 abbrev pub entry_at : ℕ → Reader ℕ ImageErr
 entry_at words = field_at Short (entry_field words)
 
--- the magic, and how many there are of each
+-- the form that the magic names, and the bytes after it
+unfoldable pub form_at : Reader ImageForm ImageErr
+form_at bytes = field_at Short magic_field bytes >>= λ n. Ok (form_of n.0, n.1)
+
+-- the form, and how many there are of each
 unfoldable pub counts_at : Reader Counts ImageErr
 counts_at bytes = do
-  magic ← field_at Short magic_field bytes
-  threads ← field_at Short threads_field magic.1
-  objects ← field_at Short objects_field threads.1
+  form ← form_at bytes
+  threads ← field_at Short (threads_field form.0) form.1
+  objects ← field_at Short (objects_field form.0) threads.1
   words ← field_at Short words_field objects.1
   bytes ← field_at Short bytes_field words.1
-  Ok (record { threads = threads.0; objects = objects.0; words = words.0; bytes = bytes.0 }, bytes.1)
+  Ok (record { form = form.0; threads = threads.0; objects = objects.0; words = words.0; bytes = bytes.0 }, bytes.1)
 
 -- the entries, the code, the data, the objects' first words, and nothing after them
 unfoldable pub body_at : Counts → List ℕ → Result Guest ImageErr
@@ -74,8 +79,9 @@ body_at c bytes = do
   entries ← fields_at (entry_at c.words) c.threads bytes
   code ← fields_at word_at c.words entries.1
   initial ← bytes_at Short c.bytes code.1
-  words ← fields_at word_at (object_words * c.objects) initial.1
-  if length words.1 == 0 then Ok (record { entries = entries.0; code = code.0; bytes = initial.0; words = words.0 }) else Err Trailing
+  words ← fields_at word_at ((limits_of c.form).words * c.objects) initial.1
+  if length words.1 == 0 then Ok
+      (record { form = c.form; entries = entries.0; code = code.0; bytes = initial.0; words = words.0 }) else Err Trailing
 
 -- the whole image
 unfoldable pub guest_at : List ℕ → Result Guest ImageErr

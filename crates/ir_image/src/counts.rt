@@ -1,8 +1,11 @@
 //! How many parts an image announces.
 
-/// How many threads, objects, words of code and bytes of data an image has.
+use crate::form::ImageForm;
+
+/// Its form, and how many threads, objects, words of code and bytes of data an image has.
 #[derive(Clone, Copy)]
 pub struct Counts {
+    pub form: ImageForm,
     pub threads: u8,
     pub objects: u8,
     pub words: u32,

@@ -1,8 +1,5 @@
 //! The limits of guests, and the numbers of an image's layout.
 
-/// The bytes `IRI1`, the lowest first.
-pub const MAGIC: u32 = 0x3149_5249;
-
 /// The address of the first word of the code.
 pub const CODE_START: u32 = 0x0001_0000;
 
@@ -12,17 +9,8 @@ pub const MEMORY_START: u32 = 0x0010_0000;
 /// How many bytes a thread's private memory has: the most bytes of data.
 pub const MEMORY_SIZE: u32 = 0x0001_0000;
 
-/// How many words an object has.
-pub const OBJECT_WORDS: usize = 8;
-
 /// How many bytes stand before the entries.
 pub const COUNTS_LENGTH: usize = 14;
-
-/// The most threads of a guest.
-pub const MOST_THREADS: u8 = 8;
-
-/// The most objects of a guest.
-pub const MOST_OBJECTS: u8 = 16;
 
 /// The most words of code.
 pub const MOST_CODE_WORDS: u32 = 16_384;

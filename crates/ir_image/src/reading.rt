@@ -5,17 +5,16 @@ ghost use Rattle.ir_image.specs.Guest.{Guest, IsGuest, most_code_words};
 ghost use Rattle.ir_image.specs.Encoding.{encoding};
 ghost use Rattle.ir_bytes.specs.Reading.{bytes_at, fields_at};
 ghost use Rattle.ir_image.specs.declared.image_err.ImageErr.TheVariants.{Short};
-ghost use Rattle.ir_image.specs.Reading.{Gives, word_at, entry_at, counts_at, body_at, guest_at};
+ghost use Rattle.ir_image.specs.Reading.{Gives, word_at, entry_at, form_at, counts_at, body_at, guest_at};
 
 use crate::code::Code;
 use crate::counts::Counts;
+use crate::form::ImageForm;
 use crate::image::Image;
 use crate::image_err::ImageErr;
-use crate::layout::{
-    CODE_START, MAGIC, MEMORY_SIZE, MOST_CODE_WORDS, MOST_OBJECTS, MOST_THREADS, OBJECT_WORDS,
-};
+use crate::layout::{CODE_START, MEMORY_SIZE, MOST_CODE_WORDS};
 use byteorder::{ByteOrder, LittleEndian};
-use ir_bytes::{byte_within, fixed_word, word, word_within};
+use ir_bytes::{byte_within, word, word_within};
 use std::alloc::Global;
 
 // What stands after the counts of an image.
@@ -27,18 +26,34 @@ struct Parts {
     words: Vec<u32>,
 }
 
+// The form that the magic names.
+#[tactic(auto, unfolding(crate::specs::Reading::form_at, ir_bytes::specs::Reading::field_at))]
+fn form(bytes: &[u8]) -> Result<(ImageForm, &[u8]), ImageErr>
+    ensures { Gives (λ x. (x.0, x.1.now)) result (form_at bytes.now) }
+{
+    let (magic, rest) = word(bytes, ImageErr::Short)?;
+    let form = ImageForm::of_magic(magic);
+    if magic == form.magic() {
+        Ok((form, rest))
+    } else {
+        Err(ImageErr::Magic)
+    }
+}
+
 #[tactic(auto, unfolding(crate::specs::Reading::counts_at))]
 fn counts(bytes: &[u8]) -> Result<(Counts, &[u8]), ImageErr>
     ensures exact { Gives (λ x. (x.0, x.1.now)) result (counts_at bytes.now) }
     ensures short_code { IfOk result (λ x. x.0.words ≤ most_code_words) }
 {
-    let rest = fixed_word(MAGIC, bytes, ImageErr::Short, ImageErr::Magic)?;
-    let (threads, rest) = byte_within(1, MOST_THREADS, rest, ImageErr::Short, ImageErr::Count)?;
-    let (objects, rest) = byte_within(0, MOST_OBJECTS, rest, ImageErr::Short, ImageErr::Count)?;
+    let (form, rest) = form(bytes)?;
+    let limits = form.limits();
+    let (threads, rest) = byte_within(1, limits.threads, rest, ImageErr::Short, ImageErr::Count)?;
+    let (objects, rest) = byte_within(0, limits.objects, rest, ImageErr::Short, ImageErr::Count)?;
     let (words, rest) = word_within(MOST_CODE_WORDS, rest, ImageErr::Short, ImageErr::Count)?;
     let (bytes, rest) = word_within(MEMORY_SIZE, rest, ImageErr::Short, ImageErr::Count)?;
     Ok((
         Counts {
+            form,
             threads,
             objects,
             words,
@@ -103,12 +118,12 @@ fn data_bytes(alloc: Global, count: usize, bytes: &[u8]) -> Result<(Vec<u8>, &[u
 #[tactic(auto, unfolding(crate::specs::Reading::body_at))]
 fn body(alloc: Global, counts: Counts, bytes: &[u8]) -> Result<Parts, ImageErr>
     requires { counts.words ≤ most_code_words }
-    ensures { Gives (λ p. record { entries = p.entries.items; code = p.code.items; bytes = p.bytes.items; words = p.words.items }) result (body_at counts bytes.now) }
+    ensures { Gives (λ p. record { form = counts.form; entries = p.entries.items; code = p.code.items; bytes = p.bytes.items; words = p.words.items }) result (body_at counts bytes.now) }
 {
     let (entries, rest) = entries(alloc, counts.threads, counts.words, bytes)?;
     let (code, rest) = words(alloc, counts.words as usize, rest)?;
     let (bytes, rest) = data_bytes(alloc, counts.bytes as usize, rest)?;
-    let (words, rest) = words(alloc, OBJECT_WORDS * counts.objects as usize, rest)?;
+    let (words, rest) = words(alloc, counts.form.words_of(counts.objects as u32), rest)?;
     if !rest.is_empty() {
         return Err(ImageErr::Trailing);
     }
@@ -133,7 +148,7 @@ fn image(alloc: Global, bytes: &[u8]) -> Result<Image, ImageErr>
         words,
     } = body(alloc, counts, rest)?;
     let code = Code::new(alloc, code)?;
-    Ok(Image::new(entries, code, bytes, words))
+    Ok(Image::new(counts.form, entries, code, bytes, words))
 }
 
 /// The image that the bytes encode, all of the bytes. Numbers are little-endian, and memory is taken only for what the bytes hold.

@@ -5,7 +5,7 @@ ghost use Rattle.byteorder.specs.Endian.{little_bytes};
 ghost use Rattle.ir_image.specs.Encoding.{words_encoding, encoding};
 
 use crate::image::Image;
-use crate::layout::{COUNTS_LENGTH, OBJECT_WORDS};
+use crate::layout::COUNTS_LENGTH;
 use byteorder::{ByteOrder, LittleEndian};
 use std::alloc::{AllocError, Global};
 
@@ -26,10 +26,11 @@ fn put_words(out: &mut Vec<u8>, words: &[u32]) -> Result<(), AllocError>
     Ok(())
 }
 
-/// The one encoding of the image.
+/// The one encoding of the image, in its form.
 ///
 /// # Errors
 /// Out of memory.
+#[tactic(auto, using(crate::proofs::Fields::magic_bytes, crate::proofs::Forms::few_threads))]
 pub fn write_image(alloc: Global, image: &Image) -> Result<Vec<u8>, AllocError>
     ensures { IfOk result (λ v. v.items ≡ encoding image.now) }
 {
@@ -39,9 +40,9 @@ pub fn write_image(alloc: Global, image: &Image) -> Result<Vec<u8>, AllocError>
     let words = image.words();
     let length = COUNTS_LENGTH + 4 * (entries.len() + code.len() + words.len()) + bytes.len();
     let mut out = Vec::with_capacity(alloc, length)?;
-    out.extend_from_slice(b"IRI1")?;
+    put_word(&mut out, image.form().magic())?;
     out.push(entries.len() as u8)?;
-    out.push((words.len() / OBJECT_WORDS) as u8)?;
+    out.push(image.object_count() as u8)?;
     put_word(&mut out, code.len() as u32)?;
     put_word(&mut out, bytes.len() as u32)?;
     put_words(&mut out, entries)?;

@@ -2,7 +2,7 @@
 use Rattle.std.proofs.Common.{◌≡◌, ◌≢◌, ℕ, zero, suc, ◌+◌, ◌<◌, ◌≤◌, Bool, true, false, length, Option, Some, None, refl, sym, ap, ◌∙◌, subst, arith, inl, inr, get_or-set_same, get_or-set_other}
 use Rattle.std.specs.Prelude.{◌||◌, slice_index, slice_set}
 use Rattle.std.proofs.lemmas.Bool.{cases_eq, cases_lt}
-use Rattle.ir_image.specs.Guest.{object_words}
+use Rattle.ir_image.specs.Guest.{most_object_words}
 use Rattle.ir_runs.specs.Machine.{upd}
 use Rattle.ir_runs.specs.declared.access.Access.{Access}
 use Rattle.ir_runs.specs.declared.access.Access.TheVariants.{Reading, Writing}
@@ -235,7 +235,7 @@ stands = record {
       words = s.words;
     }
 
-    stores : (n : ℕ) (c : Cell) (b : Object) (t i v : ℕ) → length c.words ≡ object_words → i < object_words → StandsFor n c b
+    stores : (n : ℕ) (c : Cell) (b : Object) (t i v : ℕ) → length c.words ≡ most_object_words → i < most_object_words → StandsFor n c b
         → StandsFor n (record c { words = slice_set c.words i v }) (acted (Store 0 i v) t b)
     stores n c b t i v count l s = record {
       version = s.version;

@@ -1,6 +1,6 @@
 -- An object as the code keeps it, and the objects that it stands for.
 use Rattle.std.specs.Prelude.{◌≡◌, ◌≢◌, ◌↔◌, ◌+◌, ◌<◌, ◌≤◌, ℕ, zero, suc, Bool, true, false, ◌||◌, List, length, slice_index, slice_set, Option, Some, None}
-use Rattle.ir_image.specs.Guest.{object_words}
+use Rattle.ir_image.specs.Guest.{most_object_words}
 use Rattle.ir_runs.specs.declared.access.Access.{Access}
 use Rattle.ir_runs.specs.declared.access.Access.TheVariants.{Reading, Writing}
 use Rattle.ir_object.specs.declared.fields.Fields.{Fields}
@@ -57,7 +57,7 @@ pub record StandsFor (n : ℕ) (c : Cell) (b : Object) : Type 0 where
   pub version : c.fields.version ≡ b.version
   pub left : c.fields.left ≡ b.left
   pub inside : Counts n c.fields b.inside
-  pub words : (i : ℕ) → i < object_words → slice_index c.words i ≡ b.words i
+  pub words : (i : ℕ) → i < most_object_words → slice_index c.words i ≡ b.words i
 
 -- the word emits who may enter and leave, and the code's object goes on standing for the object after each step of a thread
 pub record WordsStand : Type 0 where
@@ -71,5 +71,5 @@ pub record WordsStand : Type 0 where
   pub exit : (n : ℕ) (c : Cell) (b : Object) (t : ℕ) (a : Access) → t < n → b.inside t ≡ Some a
       → (a ≡ Writing → (u : ℕ) → u ≢ t → b.inside u ≡ None) → StandsFor n c b
       → StandsFor n (record c { fields = left_by a c.fields }) (acted (Exit 0 a) t b)
-  pub store : (n : ℕ) (c : Cell) (b : Object) (t i v : ℕ) → length c.words ≡ object_words → i < object_words → StandsFor n c b
+  pub store : (n : ℕ) (c : Cell) (b : Object) (t i v : ℕ) → length c.words ≡ most_object_words → i < most_object_words → StandsFor n c b
       → StandsFor n (record c { words = slice_set c.words i v }) (acted (Store 0 i v) t b)

@@ -1,6 +1,6 @@
 -- Object steps of several threads in one order.
 use Rattle.std.specs.Prelude.{◌≡◌, ◌≢◌, ℕ, ◌^◌, ◌<◌, Bool, true, false, eqb, List, [], ◌∷◌, Option, Some, None}
-use Rattle.ir_image.specs.Guest.{object_words}
+use Rattle.ir_image.specs.Guest.{most_object_words}
 use Rattle.ir_runs.specs.Machine.{Act, Silent, Result, Entry, Refusal, Exit, Load, Store, Never, Machine, upd}
 use Rattle.ir_runs.specs.Labels.{Label}
 use Rattle.ir_runs.specs.declared.access.Access.{Access}
@@ -58,8 +58,8 @@ Uses (Result k v) i = ⊥
 Uses (Entry o a v) i = i ≡ None
 Uses (Refusal o) i = ⊥
 Uses (Exit o a) i = i ≡ Some a
-Uses (Load o j) i = (j < object_words) × (i ≢ None)
-Uses (Store o j w) i = (j < object_words) × (w < 2 ^ 32) × (i ≡ Some Writing)
+Uses (Load o j) i = (j < most_object_words) × (i ≢ None)
+Uses (Store o j w) i = (j < most_object_words) × (w < 2 ^ 32) × (i ≡ Some Writing)
 Uses Never i = ⊥
 
 -- the object step is one of n threads' and of so many objects', its thread is inside as it has to be, it is admitted, and this is its

@@ -9,7 +9,7 @@ abbrev pub reader_unit : ℕ
 reader_unit = 2
 
 abbrev pub left_unit : ℕ
-left_unit = 2 ^ 8
+left_unit = 2 ^ 7
 
 abbrev pub version_unit : ℕ
 version_unit = 2 ^ 32

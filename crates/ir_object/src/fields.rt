@@ -5,9 +5,9 @@
 pub struct Fields {
     /// How many times a writer has left the object; below 2^32.
     pub version: u32,
-    /// How many readers have left this version; the word has 24 bits for them.
+    /// How many readers have left this version; the word has 25 bits for them.
     pub left: u32,
-    /// How many readers are inside; the word has 7 bits for them.
+    /// How many readers are inside; the word has 6 bits for them.
     pub inside: u8,
     /// Whether a writer is inside.
     pub writer: bool,

@@ -1,6 +1,6 @@
 //! An object: its word and its contents.
 
-ghost use Rattle.ir_image.specs.Guest.{object_words};
+ghost use Rattle.ir_image.specs.Guest.{most_object_words};
 ghost use Rattle.ir_object.specs.Cell.{Cell, Admitted, CanLeave, StandsFor};
 ghost use Rattle.ir_runs.specs.Object.{Object, acted};
 ghost use Rattle.ir_object.specs.Word.{IsFields, fields_of, entered, left_by};
@@ -10,7 +10,7 @@ ghost use Rattle.std.specs.Prelude.{◌≡◌, ◌<◌, ◌≢◌, ◌↔◌, �
 
 use crate::fields::Fields;
 use crate::word::Word;
-use ir_image::OBJECT_WORDS;
+use ir_image::MOST_OBJECT_WORDS;
 use ir_runs::Access;
 use std::marker::Model;
 
@@ -18,7 +18,7 @@ use std::marker::Model;
 #[derive(Drop)]
 pub struct Object {
     word: Word,
-    contents: [u32; OBJECT_WORDS],
+    contents: [u32; MOST_OBJECT_WORDS],
 }
 
 impl Model for Object {
@@ -29,7 +29,7 @@ impl Model for Object {
 
 impl Object {
     /// The object with these contents, which nobody has entered.
-    pub fn new(contents: [u32; OBJECT_WORDS]) -> Object
+    pub fn new(contents: [u32; MOST_OBJECT_WORDS]) -> Object
         ensures { result ≡ record { fields = record { version = 0; left = 0; inside = 0; writer = false }; words = contents } }
     {
         Object {
@@ -39,7 +39,7 @@ impl Object {
     }
 
     /// The object of this word and these contents.
-    pub fn from_parts(word: Word, contents: [u32; OBJECT_WORDS]) -> Object
+    pub fn from_parts(word: Word, contents: [u32; MOST_OBJECT_WORDS]) -> Object
         ensures { result ≡ record { fields = fields_of word.bits; words = contents } }
     {
         Object { word, contents }
@@ -70,10 +70,10 @@ impl Object {
         self.word.fields()
     }
 
-    /// Its contents, `ir_image::OBJECT_WORDS` words.
+    /// Its contents, `ir_image::MOST_OBJECT_WORDS` words, of which a guest has the first.
     pub fn contents(&self) -> &[u32]
         ensures value { result.now ≡ self.now.words }
-        ensures count { length result.now ≡ object_words }
+        ensures count { length result.now ≡ most_object_words }
     {
         &self.contents
     }
@@ -133,17 +133,17 @@ impl Object {
         });
     }
 
-    /// The word of this index, below `ir_image::OBJECT_WORDS`.
+    /// The word of this index, below `ir_image::MOST_OBJECT_WORDS`.
     pub fn get(&self, index: u8) -> u32
-        requires { index < object_words }
+        requires { index < most_object_words }
         ensures { result ≡ slice_index self.now.words index }
     {
         self.contents()[index as usize]
     }
 
-    /// Writes the word of this index, below `ir_image::OBJECT_WORDS`.
+    /// Writes the word of this index, below `ir_image::MOST_OBJECT_WORDS`.
     pub fn put(&mut self, index: u8, value: u32)
-        requires { index < object_words }
+        requires { index < most_object_words }
         ensures { self.new ≡ record self.old { words = slice_set self.old.words index value } }
     {
         self.contents[index as usize] = value;

@@ -7,7 +7,7 @@ ghost use Rattle.std.specs.Prelude.{◌≡◌, ◌↔◌, ◌+◌, ◌<◌, ◌^
 
 use crate::fields::Fields;
 
-/// The word of an object: `version * 2^32 + left * 2^8 + inside * 2 + writer`.
+/// The word of an object: `version * 2^32 + left * 2^7 + inside * 2 + writer`.
 #[derive(Clone, Copy, Debug, PartialEq, Eq)]
 pub struct Word {
     /// The word as a number.
@@ -17,7 +17,7 @@ pub struct Word {
 // What one of each counts in the word: a reader that is inside, one that has left, and a version. A writer counts 1.
 const READER: u64 = 2;
 
-const LEFT: u64 = 0x100;
+const LEFT: u64 = 0x80;
 
 const VERSION: u64 = 0x1_0000_0000;
 

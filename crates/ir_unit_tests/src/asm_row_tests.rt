@@ -6,7 +6,7 @@ use std::alloc::Global;
 use std::test::Fail;
 
 // The cause of the first fault, its line, and the source.
-const FAULTS: [(u8, usize, &str); 128] = [
+const FAULTS: [(u8, usize, &str); 142] = [
     (1, 2, "nop\n\x01\n"),
     (1, 1, "nop \x7f\n"),
     (1, 1, "nop\r\r\n"),
@@ -44,6 +44,14 @@ const FAULTS: [(u8, usize, &str); 128] = [
     (3, 1, ".objects\n"),
     (3, 1, ".object 0\n"),
     (3, 2, ".objects 1\n.object 0, 1, 2, 3, 4, 5, 6, 7, 8, 9\n"),
+    (3, 1, ".large x\n"),
+    (3, 1, "a: .large 1\n"),
+    (
+        3,
+        2,
+        ".large\n.object 0, 1, 2, 3, 4, 5, 6, 7, 8, 9, 10, 11, 12, 13, 14, 15, 16, 17\n",
+    ),
+    (3, 1, ".object 0, 1, 2, 3, 4, 5, 6, 7, 8, x\n"),
     (3, 1, "fence t0\n"),
     (3, 1, "fence t0, t1\n"),
     (3, 1, "li a0\n"),
@@ -85,6 +93,8 @@ const FAULTS: [(u8, usize, &str); 128] = [
     (5, 2, ".data\n.byte -1\n"),
     (5, 2, ".data\n.space 65537\n"),
     (5, 1, ".objects 17\n"),
+    (5, 2, ".large\n.objects 65\n"),
+    (5, 1, ".object 0, 1, 2, 3, 4, 5, 6, 7, x\n"),
     (5, 1, ".objects -1\n"),
     (5, 1, ".object -1, 0\n"),
     (5, 1, ".object 4294967296, 0\n"),
@@ -111,6 +121,12 @@ const FAULTS: [(u8, usize, &str); 128] = [
     (7, 1, "beq a0, a1, far\n"),
     (7, 2, "nop\nli a0, far\nbeq a0, a1, x\n"),
     (7, 1, ".thread x\nnop"),
+    (9, 2, "nop\n.large\n"),
+    (9, 2, "nop\n.large x\n"),
+    (9, 2, ".text\n.large\n"),
+    (9, 2, ".objects 1\n.large\n"),
+    (9, 2, ".large\n.large\n"),
+    (9, 2, ".data\n.large\nnop\n"),
     (9, 2, "nop\n.space 1\n"),
     (9, 2, "nop\nend: .thread end\n"),
     (9, 2, ".data\nnop x\n"),
@@ -121,6 +137,7 @@ const FAULTS: [(u8, usize, &str); 128] = [
     (9, 1, ".thread d\nnop\n.data\nd: .byte 1\n"),
     (9, 1, "jal ra, far\n.data\nfar:\n"),
     (9, 1, ".thread e\nnop\ne:\n"),
+    (10, 2, ".large"),
     (10, 4, "\n\n"),
     (10, 3, ".data\n.space 65536\n.byte 1\n"),
     (10, 4, ".data\n.byte 1\n"),
@@ -131,6 +148,7 @@ const FAULTS: [(u8, usize, &str); 128] = [
         10,
         "nop\n.thread a\n.thread a\n.thread a\n.thread a\n.thread a\n.thread a\n.thread a\n.thread a\n.thread a\n",
     ),
+    (11, 2, ".large\n.object 64, 1\n.objects 64\nnop\n"),
     (11, 2, "nop\n.object 0, 1\n"),
     (11, 2, ".objects 2\n.object 1, 1\n.objects 1\nnop\n"),
     (11, 1, ".object 4294967295, 1\n.objects 16\nnop\n"),

@@ -1,7 +1,7 @@
 //! Sources and what they give, worked out by hand from the tables of statements and causes.
 
 use ir_asm::{AsmErr, Cause, assemble};
-use ir_image::{Image, read_image, write_image};
+use ir_image::{Image, ImageForm, read_image, write_image};
 use std::alloc::Global;
 use std::test::Fail;
 
@@ -26,7 +26,7 @@ const CAUSES: [(&str, usize, u8); 20] = [
     (".objects 2\n.object 1, 7\n.objects 1\nnop", 2, 11),
     ("nop\n9a: nop", 2, 12),
     ("a b: nop", 1, 12),
-    (".large\nnop", 1, 2),
+    (".larger\nnop", 1, 2),
 ];
 
 // Lines with two faults or more, and the one that is named.
@@ -100,10 +100,12 @@ const DISTANCES: [Repeated; 3] = [
     ("far: nop\n", 1024, "nop\n", "beq a0, a1, far", (1026, 8)),
 ];
 
-const SIZES: [Repeated; 3] = [
+const SIZES: [Repeated; 5] = [
     ("", 16_384, "nop\n", "", (0, 0)),
     ("", 16_383, "nop\n", "li a0, 1", (16_384, 10)),
     ("a: nop\n", 9, ".thread a\n", "", (10, 11)),
+    (".large\na: nop\n", 16, ".thread a\n", "", (0, 0)),
+    (".large\na: nop\n", 17, ".thread a\n", "", (19, 11)),
 ];
 
 const LABELS: [Repeated; 2] = [
@@ -240,6 +242,35 @@ fn eight_threads_and_sixteen_objects(rt: HostRuntime) -> Result<(), Fail> {
         &objects,
     )?;
     assert!(rt; same);
+    Ok(())
+}
+
+const LARGE: &str = "
+# a label may stand before it
+a:
+b: .large
+.objects 64
+.object 63, 1, 2, 3, 4, 5, 6, 7, 8, 9, 10, 11, 12, 13, 14, 15, 16
+.object 62, 5
+c: nop
+";
+
+#[test]
+fn a_large_image(rt: HostRuntime) -> Result<(), Fail> {
+    let mut objects = [0; 1024];
+    objects[992] = 5;
+    for (place, word) in objects[1008..].iter_mut().zip(1..17u32) {
+        *place = word;
+    }
+    let same = comes_again(rt.alloc(), LARGE, &[0x0001_0000], &[0x13], &[], &objects)?;
+    assert!(rt; same);
+    let image = again(rt.alloc(), LARGE)?;
+    assert_eq!(rt;
+        (image.form(), image.object_words()),
+        (ImageForm::Large, 16)
+    );
+    let image = again(rt.alloc(), "nop")?;
+    assert_eq!(rt; (image.form(), image.object_words()), (ImageForm::Small, 8));
     Ok(())
 }
 

@@ -1,6 +1,8 @@
 //! Images of a few words, and of as many as there can be, read and written.
 
-use ir_image::{Code, Fetched, Image, ImageErr, Kind, Operation, read_image, write_image};
+use ir_image::{
+    Code, Fetched, Image, ImageErr, ImageForm, Kind, Operation, read_image, write_image,
+};
 use ir_isa::Inst;
 use std::alloc::{AllocError, Global};
 use std::test::Fail;
@@ -258,6 +260,81 @@ fn no_byte_follows_the_largest(rt: HostRuntime) -> Result<(), Fail> {
     let mut bytes = largest(rt.alloc())?;
     bytes.push(0)?;
     assert_eq!(rt; refusal(rt.alloc(), &bytes), Some(5));
+    Ok(())
+}
+
+// An image of this form with so many threads and objects, one word of code and these words for the objects.
+fn announced(
+    alloc: Global,
+    form: u8,
+    threads: u8,
+    objects: u8,
+    words: u16,
+) -> Result<Vec<u8>, AllocError> {
+    let mut bytes = Vec::new(alloc);
+    bytes.extend_from_slice(&[
+        0x49, 0x52, 0x49, form, threads, objects, 1, 0, 0, 0, 0, 0, 0, 0,
+    ])?;
+    for _ in 0..threads {
+        bytes.extend_from_slice(&[0, 0, 1, 0])?;
+    }
+    bytes.extend_from_slice(&[0x73, 0, 0, 0])?;
+    for word in 0..words {
+        let low = word.to_le_bytes();
+        bytes.extend_from_slice(&[low[0], low[1], 0, 0])?;
+    }
+    Ok(bytes)
+}
+
+// Threads, objects and words of all objects, of either form, and the refusal.
+const ANNOUNCED: [(u8, u8, u8, u16, Option<u8>); 14] = [
+    (0x31, 8, 16, 128, None),
+    (0x31, 9, 0, 0, Some(3)),
+    (0x31, 1, 17, 136, Some(3)),
+    (0x31, 1, 1, 16, Some(5)), // sixteen words for one object
+    (0x31, 1, 1, 7, Some(1)),
+    (0x32, 16, 64, 1024, None),
+    (0x32, 1, 0, 0, None),
+    (0x32, 0, 0, 0, Some(3)),
+    (0x32, 17, 0, 0, Some(3)),
+    (0x32, 1, 65, 1040, Some(3)),
+    (0x32, 1, 1, 17, Some(5)), // a seventeenth word
+    (0x32, 1, 1, 8, Some(1)),
+    (0x33, 1, 0, 0, Some(2)),
+    (0x30, 1, 0, 0, Some(2)),
+];
+
+#[test]
+fn each_form_has_its_limits(rt: HostRuntime) -> Result<(), Fail> {
+    for &(form, threads, objects, words, want) in &ANNOUNCED {
+        let bytes = announced(rt.alloc(), form, threads, objects, words)?;
+        assert_eq!(rt;
+            refusal(rt.alloc(), &bytes),
+            want,
+            "{form} {threads} {objects} {words}"
+        );
+        if want.is_none() {
+            assert!(rt; is_written_again(rt.alloc(), &bytes)?);
+        }
+    }
+    Ok(())
+}
+
+#[test]
+fn a_large_image_has_sixteen_words_of_each_object(rt: HostRuntime) -> Result<(), Fail> {
+    let bytes = announced(rt.alloc(), 0x32, 16, 64, 1024)?;
+    let image = read_image(rt.alloc(), &bytes)?;
+    assert_eq!(rt; image.form(), ImageForm::Large);
+    assert_eq!(rt; (image.object_words(), image.object_count()), (16, 64));
+    assert_eq!(rt; image.words().get(16).copied(), Some(16));
+    Ok(())
+}
+
+#[test]
+fn a_small_image_has_eight_words_of_each_object(rt: HostRuntime) -> Result<(), Fail> {
+    let image = read_image(rt.alloc(), &small(rt.alloc())?)?;
+    assert_eq!(rt; image.form(), ImageForm::Small);
+    assert_eq!(rt; (image.object_words(), image.object_count()), (8, 16));
     Ok(())
 }
 

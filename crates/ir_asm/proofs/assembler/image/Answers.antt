@@ -8,7 +8,7 @@ use Rattle.ir_asm.proofs.assembler.image.Goals as goal
 pub new-requires-2 : goal.new-requires-2
 new-requires-2 c =
     let p = c.parts.inside in
-    subst (λ (code : List ℕ). IsGuest (record { entries = p.entries.items; code = code; bytes = p.bytes.items; words = p.words.items }))
+    subst (λ (code : List ℕ). IsGuest (record { form = p.form; entries = p.entries.items; code = code; bytes = p.bytes.items; words = p.words.items }))
     (sym c.in_ok-code.ensures)
     (guest_fits _ (subst HasLimits (sym c.parts.view_is) c.requires)
     (subst (AllByRecursion IsWord) c.as_slice.ensures.value c.are_words.ensures)

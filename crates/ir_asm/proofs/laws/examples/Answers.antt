@@ -25,5 +25,11 @@ returns-clause-section c = RowTests.section
 pub returns-clause-end : goal.returns-clause-end
 returns-clause-end c = RowTests.end
 
+pub returns-clause-large : goal.returns-clause-large
+returns-clause-large c = RowTests.large
+
+pub returns-clause-late : goal.returns-clause-late
+returns-clause-late c = RowTests.late
+
 pub returns-clause-carried : goal.returns-clause-carried
 returns-clause-carried c = RowTests.carried

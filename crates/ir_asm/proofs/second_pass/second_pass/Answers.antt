@@ -1,16 +1,19 @@
-use Rattle.std.proofs.Common.{sym, subst, rules, Err}
+use Rattle.std.proofs.Common.{sym, subst, ◌∙◌, rules, Err}
+use Rattle.ir_image.specs.declared.form.ImageForm.{ImageForm}
 use Rattle.ir_image.specs.Guest.{Guest}
 use Rattle.ir_asm.specs.Passes.{second_pass}
 use Rattle.ir_asm.specs.Answered.{Answers}
 use Rattle.ir_asm.specs.Bounds.{HasFewWords}
-use Rattle.ir_asm.proofs.Kept.{all_here, put_next, put_refused, words_stay}
+use Rattle.ir_asm.proofs.Kept.{all_here, put_next, put_refused, form_stays, words_stay}
 use Rattle.ir_asm.proofs.second_pass.second_pass.Goals as goal
 
 pub put-requires-clause-few : goal.put-requires-clause-few
 put-requires-clause-few c =
     let x = c.placed-item.result in
-    subst (λ y. HasFewWords y.item) (sym c.placed-item.is)
-    (all_here (λ y. HasFewWords y.item) c.args.all.now c.loop-placed.placed-index x c.loop-placed-test.true c.requires.few)
+    subst (λ (f : ImageForm). HasFewWords f x.item) (sym c.loop-placed.invariant.form)
+    (subst (λ y. HasFewWords c.args.parts.now.form y.item) (sym c.placed-item.is)
+    (all_here (λ y. HasFewWords c.args.parts.now.form y.item) c.args.all.now c.loop-placed.placed-index x c.loop-placed-test.true
+    c.requires.few))
 
 pub returns-in-Err : goal.returns-in-Err
 returns-in-Err c =
@@ -25,11 +28,16 @@ returns-in-Err c =
 pub loop-placed-preserved : goal.loop-placed-preserved
 loop-placed-preserved c =
     let x = c.placed-item.result in
-    let few : HasFewWords x.item = subst (λ y. HasFewWords y.item) (sym c.placed-item.is)
-    (all_here (λ y. HasFewWords y.item) c.args.all.now c.loop-placed.placed-index x c.loop-placed-test.true c.requires.few) in
+    let few : HasFewWords c.loop-placed.parts.form x.item =
+    subst (λ (f : ImageForm). HasFewWords f x.item) (sym c.loop-placed.invariant.form)
+    (subst (λ y. HasFewWords c.args.parts.now.form y.item) (sym c.placed-item.is)
+    (all_here (λ y. HasFewWords c.args.parts.now.form y.item) c.args.all.now c.loop-placed.placed-index x c.loop-placed-test.true
+    c.requires.few)) in
     record {
       whole_is = put_next c.args.scan.now c.args.all.now c.loop-placed.placed-index x c.loop-placed.parts c.put.new.parts _
           c.loop-placed-test.true c.placed-item.is c.in-Ok.ensures c.loop-placed.invariant.whole_is;
       there = words_stay c.args.scan.now x.address x.item c.loop-placed.parts c.put.new.parts few c.loop-placed.invariant.there
           c.in-Ok.ensures;
+      form = form_stays c.args.scan.now x.address x.item c.loop-placed.parts c.put.new.parts few c.loop-placed.invariant.there
+          c.in-Ok.ensures ∙ c.loop-placed.invariant.form;
     }

@@ -1,0 +1,56 @@
+-- What the limits of each form say.
+use Rattle.std.proofs.Common.{◌≡◌, ℕ, ◌*◌, ◌/◌, ◌%◌, ◌<◌, ◌≤◌, length, arith}
+use Rattle.ir_image.specs.declared.form.ImageForm.{ImageForm}
+use Rattle.ir_image.specs.declared.form.ImageForm.TheVariants.{Small, Large}
+use Rattle.ir_image.specs.Forms.{limits_of, most_threads, most_objects, most_object_words}
+use Rattle.ir_image.specs.Guest.{Guest, IsGuest, object_count}
+
+pub some_words : (form : ImageForm) → 0 < (limits_of form).words
+some_words Small = omega arith
+some_words Large = omega arith
+
+pub most_words : (form : ImageForm) → (limits_of form).words ≤ most_object_words
+most_words Small = omega arith
+most_words Large = omega arith
+
+pub some_threads : (form : ImageForm) → 0 < (limits_of form).threads
+some_threads Small = omega arith
+some_threads Large = omega arith
+
+pub threads_of : (form : ImageForm) → (limits_of form).threads ≤ most_threads
+threads_of Small = omega arith
+threads_of Large = omega arith
+
+pub objects_of : (form : ImageForm) → (limits_of form).objects ≤ most_objects
+objects_of Small = omega arith
+objects_of Large = omega arith
+
+-- a guest has no more than any form allows
+pub few_threads : (g : Guest) → IsGuest g → length g.entries ≤ most_threads
+few_threads g fits = let few = fits.few_threads in let most = threads_of g.form in omega (arith, few, most)
+
+pub few_objects : (g : Guest) → IsGuest g → object_count g ≤ most_objects
+few_objects g fits = let few = fits.few_objects in let most = objects_of g.form in omega (arith, few, most)
+
+-- ---- words of whole objects
+
+pub count_of : (form : ImageForm) (words objects : ℕ) → words ≡ (limits_of form).words * objects → words / (limits_of form).words ≡ objects
+count_of Small words objects e = omega (arith, e)
+count_of Large words objects e = omega (arith, e)
+
+pub whole_of : (form : ImageForm) (words objects : ℕ) → words ≡ (limits_of form).words * objects → words % (limits_of form).words ≡ 0
+whole_of Small words objects e = omega (arith, e)
+whole_of Large words objects e = omega (arith, e)
+
+pub words_again : (form : ImageForm) (words : ℕ) → words % (limits_of form).words ≡ 0
+    → (limits_of form).words * (words / (limits_of form).words) ≡ words
+words_again Small words whole = omega (arith, whole)
+words_again Large words whole = omega (arith, whole)
+
+words_within : (form : ImageForm) (words : ℕ) → words % (limits_of form).words ≡ 0
+    → words / (limits_of form).words ≤ (limits_of form).objects → words ≤ most_object_words * most_objects
+words_within Small words whole few = omega (arith, whole, few)
+words_within Large words whole few = omega (arith, whole, few)
+
+pub few_words : (g : Guest) → IsGuest g → length g.words ≤ most_object_words * most_objects
+few_words g fits = words_within g.form (length g.words) fits.whole_objects fits.few_objects
