@@ -5,7 +5,7 @@ use mathlib.Core.Option.{some}
 use lib.ListN.{get_elem?}
 use Rattle.atomic_table.specs.Seated.{TableId}
 use Rattle.atomic_table.specs.declared.shared.Seat.{Seat}
-use Rattle.ir_image.specs.Guest.{Guest, object_count, object_words}
+use Rattle.ir_image.specs.Guest.{Guest, object_count, most_object_words, first_words}
 use Rattle.ir_thread.specs.Calls.{most_events}
 use Rattle.ir_thread.specs.Instance.{thread_machine}
 use Rattle.ir_object.specs.Cell.{Cell, StandsFor}
@@ -39,15 +39,15 @@ pub record IsEnd (g : Guest) (v : View) (objects : List Cell) : Type 0 where
       (objects_after (start_objects g) steps o)
 
 -- what is laid out before the first step: the objects' words are 0, and their contents the first words of the guest
-pub record IsLaid (words laid : List ℕ) : Type 0 where
-  pub size : length laid ≡ table_length (length words / object_words)
-  pub free : (o : ℕ) → o < length words / object_words → slice_index laid (word_place o) ≡ 0
-  pub contents : (o i : ℕ) → i < object_words → object_words * o + i < length words
-      → slice_index laid (content_place o i) ≡ slice_index words (object_words * o + i)
+pub record IsLaid (g : Guest) (laid : List ℕ) : Type 0 where
+  pub size : length laid ≡ table_length (object_count g)
+  pub free : (o : ℕ) → o < object_count g → slice_index laid (word_place o) ≡ 0
+  pub contents : (o i : ℕ) → o < object_count g → i < most_object_words
+      → slice_index laid (content_place o i) ≡ slice_index (first_words g o) i
 
 -- the object of these words
 pub record IsObjectOf (words : List ℕ) (o : ℕ) (c : Cell) : Type 0 where
   pub word : ℕ
   pub head : get_elem? words (word_place o) ≡ some word
   pub fields : c.fields ≡ fields_of word
-  pub contents : (i : ℕ) → i < object_words → get_elem? words (content_place o i) ≡ some (slice_index c.words i)
+  pub contents : (i : ℕ) → i < most_object_words → get_elem? words (content_place o i) ≡ some (slice_index c.words i)

@@ -69,7 +69,7 @@ start_objects g o = record {
   left = 0;
   inside = λ t. None;
   words =
-      slice_index (take object_words (drop (object_words * o) g.words));
+      slice_index (first_words g o);
 }
 
 -- a word of n threads says this of the object
@@ -82,7 +82,7 @@ pub record Represents (n : ℕ) (f : Fields) (b : Object) : Type 0 where
 pub record IsTable (n count : ℕ) (objects : ℕ → Object) (ws : List ℕ) : Type 0 where
   pub size : length ws ≡ table_length count
   pub words : (o : ℕ) → o < count → Represents n (fields_of (slice_index ws (word_place o))) (objects o)
-  pub contents : (o i : ℕ) → o < count → i < object_words → slice_index ws (content_place o i) ≡ (objects o).words i
+  pub contents : (o i : ℕ) → o < count → i < most_object_words → slice_index ws (content_place o i) ≡ (objects o).words i
 
 -- the track has the object steps of its thread, one of n, in the order of all, with what they were answered
 pub record IsTrack (n : ℕ) (f : ℕ → Object) (steps : List (ℕ × Shared)) (k : Track) : Type 0 where

@@ -1,7 +1,8 @@
 -- The threads and objects of a guest.
-use Rattle.std.specs.Prelude.{◌≡◌, ◌<◌, ◌≤◌, ℕ, zero, suc, List, [], ◌∷◌, length, take, drop, slice_index, Option, Some, false}
+use Rattle.std.specs.Prelude.{◌≡◌, ◌<◌, ◌≤◌, ℕ, zero, suc, List, [], ◌∷◌, length, slice_index, Option, Some, false}
 use Rattle.std.specs.List.{slice_index_or}
-use Rattle.ir_image.specs.Guest.{Guest, most_threads, most_objects, object_count, object_words}
+use Rattle.ir_image.specs.Guest.{Guest, most_threads, most_objects, most_object_words, object_count, first_words}
+use Rattle.ir_image.specs.declared.form.ImageForm.TheVariants.{Small}
 use Rattle.ir_thread.specs.Held.{held_at}
 use Rattle.ir_thread.specs.Instance.{thread_machine}
 use Rattle.ir_runs.specs.Machine.{Machine}
@@ -29,6 +30,7 @@ idle = record {
   held = [];
   budget = 0;
   profile = One;
+  form = Small;
   steps = 0;
   events = 0;
   output =
@@ -73,23 +75,23 @@ start_threads guest budget profile from (suc n) = start_state guest from budget 
 abbrev pub start_cell : List ℕ → Cell
 start_cell words = record { fields = record { version = 0; left = 0; inside = 0; writer = false }; words = words }
 
--- so many objects, with their words
-abbrev pub start_cells : List ℕ → ℕ → List Cell
-start_cells words zero = []
-start_cells words (suc n) = start_cell (take object_words words) ∷ start_cells (drop object_words words) n
+-- so many objects of a guest from a number on, with their words
+abbrev pub start_cells : Guest → ℕ → ℕ → List Cell
+start_cells guest from zero = []
+start_cells guest from (suc n) = start_cell (first_words guest from) ∷ start_cells guest (suc from) n
 
 -- a guest's threads and objects before the first step
 abbrev pub start_flat : Guest → ℕ → Profile → Flat
 start_flat guest budget profile = record {
   code = guest.code;
   threads = start_threads guest budget profile 0 (length guest.entries);
-  objects = start_cells guest.words (object_count guest);
+  objects = start_cells guest 0 (object_count guest);
 }
 
 -- an object of a guest's: its word counts who holds it
 pub record IsShared (f : Flat) (o : ℕ) : Type 0 where
   pub counts : Counts (length f.threads) (cell_of f o).fields (inside_of f o)
-  pub words : length (cell_of f o).words ≡ object_words
+  pub words : length (cell_of f o).words ≡ most_object_words
 
 -- what the threads and objects of a guest always keep
 pub record IsFlat (f : Flat) : Type 0 where

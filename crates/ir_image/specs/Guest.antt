@@ -1,5 +1,5 @@
 -- A guest: what an image holds, apart from where it lies in memory.
-use Rattle.std.specs.Prelude.{◌≡◌, ℕ, ◌+◌, ◌*◌, ◌/◌, ◌%◌, ◌<◌, ◌≤◌, List, length}
+use Rattle.std.specs.Prelude.{◌≡◌, ℕ, ◌+◌, ◌-◌, ◌*◌, ◌/◌, ◌%◌, ◌<◌, ◌≤◌, List, length, ◌++◌, take, drop, replicate}
 use Rattle.std.specs.List.{AllByRecursion}
 pub use Rattle.ir_bytes.specs.Numbers.{IsWord, IsByte}
 use Rattle.ir_image.specs.declared.form.ImageForm.{ImageForm}
@@ -40,6 +40,14 @@ object_words g = (limits_of g.form).words
 -- the number of objects
 abbrev pub object_count : Guest → ℕ
 object_count g = length g.words / object_words g
+
+-- words, and 0 behind them up to the most words of an object of any form
+abbrev pub padded : List ℕ → List ℕ
+padded words = words ++ replicate (most_object_words - length words) 0
+
+-- what an object's words are at the start: its first words, and 0 behind them
+abbrev pub first_words : Guest → ℕ → List ℕ
+first_words g o = padded (take (object_words g) (drop (object_words g * o) g.words))
 
 -- an address of a word in code of so many words
 pub record IsPlace (words place : ℕ) : Type 0 where

@@ -3,7 +3,7 @@ use Rattle.std.proofs.Common.{◌≡◌, ◌≢◌, ℕ, ◌+◌, ◌<◌, ◌�
 use Rattle.std.proofs.lemmas.Bool.{cond_both}
 use Rattle.std.proofs.lemmas.Bool.Decides.{nat_tests}
 use Rattle.std.specs.Prelude.{nat_le, ◌&&◌, ◌==◌}
-use Rattle.ir_image.specs.Guest.{object_words}
+use Rattle.ir_image.specs.Forms.{limits_of}
 use Rattle.ir_mach.specs.Core.{Outcome, Goes, Calls, Ends}
 use Rattle.ir_mach.specs.Execution.{outcome_of}
 use Rattle.ir_thread.specs.Calls.{a0, a1, a2, a7, call_of, call_at, byte_text, number_text, printed, printed_by, print_ask, logged_ask, is_object, has_word, entry_ask, leave_ask, leave_held, get_ask, get_held, put_ask, put_held, call_ask, outcome_ask, release_ask, ask_by, ask_of, IsRunning, CanLog, Permits, most_output, most_events}
@@ -58,7 +58,7 @@ leaves s runs = tested s (is_object s (a0 s)) _ end.NoSuchObject runs.lives (λ 
 gets : (s : State) → IsRunning s → Permits s (get_ask s)
 gets s runs = tested s (has_word s) _ end.NoSuchObject runs.lives (λ here. by (both _ _ here) (held_at s.held (a0 s)) refl)
   where
-    by : (is_object s (a0 s) ≡ true) × (nat_lt (a1 s) object_words ≡ true) → (h : Option Access) → held_at s.held (a0 s) ≡ h
+    by : (is_object s (a0 s) ≡ true) × (nat_lt (a1 s) (limits_of s.form).words ≡ true) → (h : Option Access) → held_at s.held (a0 s) ≡ h
         → Permits s (get_held (a0 s) (a1 s) h)
     by p None e = runs.lives
     by p (Some access) e = (runs, less _ _ p.0, less _ _ p.1, λ none. cc (e, none))
@@ -66,7 +66,7 @@ gets s runs = tested s (has_word s) _ end.NoSuchObject runs.lives (λ here. by (
 puts : (s : State) → IsRunning s → Permits s (put_ask s)
 puts s runs = tested s (has_word s) _ end.NoSuchObject runs.lives (λ here. by (both _ _ here) (held_at s.held (a0 s)) refl)
   where
-    by : (is_object s (a0 s) ≡ true) × (nat_lt (a1 s) object_words ≡ true) → (h : Option Access) → held_at s.held (a0 s) ≡ h
+    by : (is_object s (a0 s) ≡ true) × (nat_lt (a1 s) (limits_of s.form).words ≡ true) → (h : Option Access) → held_at s.held (a0 s) ≡ h
         → Permits s (put_held (a0 s) (a1 s) (a2 s) h)
     by p None e = runs.lives
     by p (Some Reading) e = runs.lives

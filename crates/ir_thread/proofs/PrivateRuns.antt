@@ -30,6 +30,7 @@ advanced s core n = record {
   held = s.held;
   budget = s.budget;
   profile = s.profile;
+  form = s.form;
   steps = s.steps + n;
   events =
       s.events;
@@ -140,6 +141,7 @@ pub record IsKept (s t : State) : Type 0 where
   pub held : t.held ≡ s.held
   pub budget : t.budget ≡ s.budget
   pub profile : t.profile ≡ s.profile
+  pub form : t.form ≡ s.form
   pub events : t.events ≡ s.events
   pub output : t.output ≡ s.output
   pub ended : t.ended ≡ s.ended
@@ -151,6 +153,7 @@ one_kept code s is = record {
   held = ap (λ a. (after_ask code s a Go).held) is;
   budget = ap (λ a. (after_ask code s a Go).budget) is;
   profile = ap (λ a. (after_ask code s a Go).profile) is;
+  form = ap (λ a. (after_ask code s a Go).form) is;
   events = ap (λ a. (after_ask code s a Go).events) is;
   output = ap (λ a. (after_ask code s a Go).output) is;
   ended = ap (λ a. (after_ask code s a Go).ended) is;
@@ -162,6 +165,7 @@ kept_on s m t a b = record {
   held = b.held ∙ a.held;
   budget = b.budget ∙ a.budget;
   profile = b.profile ∙ a.profile;
+  form = b.form ∙ a.form;
   events = b.events ∙ a.events;
   output = b.output ∙ a.output;
   ended = b.ended ∙ a.ended;
@@ -170,7 +174,7 @@ kept_on s m t a b = record {
 run_keeps : (code : List ℕ) (n : ℕ) (s : State) → ((k : ℕ) → k < n → ask_of code (run_of code k s) ≡ ask.Private)
     → IsKept s (run_of code n s)
 unfolding run_of
-run_keeps code zero s each = record { number = refl; held = refl; budget = refl; profile = refl; events = refl; output = refl; ended = refl }
+run_keeps code zero s each = record { number = refl; held = refl; budget = refl; profile = refl; form = refl; events = refl; output = refl; ended = refl }
 run_keeps code (suc n) s each =
     kept_on s (run_of code n s) (step_of code (run_of code n s)) (run_keeps code n s (λ k l. each k (omega (arith, l))))
     (one_kept code (run_of code n s) (each n (omega arith)))

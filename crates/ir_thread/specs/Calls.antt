@@ -1,7 +1,7 @@
 -- What a thread asks, and what comes after it.
 use Rattle.std.specs.Prelude.{◌≡◌, ◌⊎◌, ◌==◌, ◌&&◌, ℕ, zero, suc, ◌+◌, ◌≢◌, ◌<◌, ◌≤◌, ◌%◌, ◌^◌, Bool, true, List, [], ◌∷◌, ◌++◌, length, slice_set, nat_le, nat_lt, if◌then◌else◌, Option, Some, None, ⊤}
 use Rattle.std.specs.Fmt.{signed_decimal}
-use Rattle.ir_image.specs.Guest.{most_objects, object_words}
+use Rattle.ir_image.specs.Forms.{limits_of, most_objects, most_object_words}
 use Rattle.ir_mach.specs.Arithmetic.{signed}
 use Rattle.ir_mach.specs.Core.{Core, Outcome, Goes, Calls, Ends, register}
 use Rattle.ir_mach.specs.Execution.{outcome_of, past_call}
@@ -134,7 +134,7 @@ leave_ask s = if is_object s (a0 s) then leave_held (a0 s) (held_at s.held (a0 s
 
 -- whether object a0 has a word a1
 abbrev pub has_word : State → Bool
-has_word s = is_object s (a0 s) && nat_lt (a1 s) object_words
+has_word s = is_object s (a0 s) && nat_lt (a1 s) (limits_of s.form).words
 
 -- reading, by how the object is held
 abbrev pub get_held : ℕ → ℕ → Option Access → Ask
@@ -211,8 +211,8 @@ Permits s (ask.Try object) = IsRunning s × CanLog s × (object < length s.held)
     × (s.profile ≡ Two)
 Permits s (ask.Leave object access) = (s.ended ≡ None → s.steps < s.budget) × (object < length s.held)
     × (held_at s.held object ≡ Some access)
-Permits s (ask.Get object index) = IsRunning s × (object < length s.held) × (index < object_words) × (held_at s.held object ≢ None)
-Permits s (ask.Put object index value) = IsRunning s × (object < length s.held) × (index < object_words)
+Permits s (ask.Get object index) = IsRunning s × (object < length s.held) × (index < most_object_words) × (held_at s.held object ≢ None)
+Permits s (ask.Put object index value) = IsRunning s × (object < length s.held) × (index < most_object_words)
     × (held_at s.held object ≡ Some Writing)
 Permits s ask.Print = IsRunning s × (length s.output + length (printed s) ≤ most_output)
 Permits s (ask.End e) = s.ended ≡ None

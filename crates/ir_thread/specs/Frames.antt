@@ -1,5 +1,6 @@
 -- A thread apart from its private memory.
 use Rattle.std.specs.Prelude.{ℕ, List, Option}
+use Rattle.ir_image.specs.declared.form.ImageForm.{ImageForm}
 use Rattle.ir_mach.specs.Pages.{RegisterFile, register_file, core_of}
 use Rattle.ir_runs.specs.declared.access.Access.{Access}
 use Rattle.ir_thread.specs.declared.end.End.{End}
@@ -13,6 +14,7 @@ pub record ThreadFrame : Type 0 where
   pub held : List (Option Access)
   pub budget : ℕ
   pub profile : Profile
+  pub form : ImageForm
   pub steps : ℕ
   pub events : ℕ
   pub output : List ℕ
@@ -25,6 +27,7 @@ frame_of s = record {
   held = s.held;
   budget = s.budget;
   profile = s.profile;
+  form = s.form;
   steps = s.steps;
   events = s.events;
   output = s.output;
@@ -39,6 +42,7 @@ thread_of frame pages = record {
   held = frame.held;
   budget = frame.budget;
   profile = frame.profile;
+  form = frame.form;
   steps = frame.steps;
   events = frame.events;
   output = frame.output;

@@ -4,6 +4,7 @@ pub mod State
 pub mod Frames
 pub mod Calls
 pub mod Instance
+pub mod Allowed
 pub mod Alone
 pub mod Private
 pub mod Conditions

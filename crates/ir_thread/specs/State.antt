@@ -1,6 +1,7 @@
 -- A thread apart from where it lies in memory.
 use Rattle.std.specs.Prelude.{ℕ, List, [], replicate, Option, None}
 use Rattle.ir_image.specs.Guest.{Guest, object_count}
+use Rattle.ir_image.specs.declared.form.ImageForm.{ImageForm}
 use Rattle.ir_mach.specs.Core.{Core, start_core}
 use Rattle.ir_runs.specs.declared.access.Access.{Access}
 use Rattle.ir_thread.specs.declared.end.End.{End}
@@ -17,6 +18,8 @@ pub record State : Type 0 where
   pub budget : ℕ
   -- which system calls there are
   pub profile : Profile
+  -- the form of the guest's image, which says how many words an object has
+  pub form : ImageForm
   -- how many steps it has taken: its position
   pub steps : ℕ
   -- how many events it has logged
@@ -33,6 +36,7 @@ start_state guest thread budget profile = record {
   held = replicate (object_count guest) None;
   budget = budget;
   profile = profile;
+  form = guest.form;
   steps = 0;
   events = 0;
   output = [];

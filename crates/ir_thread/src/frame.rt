@@ -8,6 +8,7 @@ ghost use Rattle.ir_thread.specs.Held.{held_count};
 
 use crate::end::End;
 use crate::profile::Profile;
+use ir_image::ImageForm;
 use ir_mach::Regs;
 use ir_runs::Access;
 use std::marker::Model;
@@ -20,6 +21,7 @@ pub struct Frame {
     pub(crate) held: Vec<Option<Access>>,
     pub(crate) budget: u64,
     pub(crate) profile: Profile,
+    pub(crate) form: ImageForm,
     pub(crate) steps: u64,
     pub(crate) events: u32,
     pub(crate) output: Vec<u8>,
@@ -35,6 +37,7 @@ impl Model for Frame {
       held = f.held.items;
       budget = f.budget;
       profile = f.profile;
+      form = f.form;
       steps = f.steps;
       events = f.events;
       output = f.output.items;

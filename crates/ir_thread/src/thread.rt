@@ -9,7 +9,7 @@ ghost use Rattle.ir_thread.specs.State.{State, start_state};
 use crate::end::End;
 use crate::limits::MOST_OUTPUT;
 use crate::profile::Profile;
-use ir_image::{Image, OBJECT_WORDS};
+use ir_image::{Image, ImageForm};
 use ir_mach::Mach;
 use ir_runs::Access;
 use std::alloc::{AllocError, Global};
@@ -28,6 +28,7 @@ pub struct Thread {
     held: Vec<Option<Access>>,
     budget: u64,
     profile: Profile,
+    form: ImageForm,
     steps: u64,
     events: u32,
     output: Vec<u8>,
@@ -43,6 +44,7 @@ impl Model for Thread {
       held = t.held.items;
       budget = t.budget;
       profile = t.profile;
+      form = t.form;
       steps = t.steps;
       events = t.events;
       output = t.output.items;
@@ -71,7 +73,7 @@ impl Thread {
         requires budget { budget ≤ most_budget }
         ensures { IfOk result (λ t. t ≡ start_state image.now thread budget profile) }
     {
-        let objects = image.words().len() / OBJECT_WORDS;
+        let objects = image.object_count();
         let output = Vec::with_capacity(alloc, MOST_OUTPUT)?;
         let mut held = Vec::with_capacity(alloc, objects)?;
         held.resize(objects, None)?;
@@ -82,6 +84,7 @@ impl Thread {
             held,
             budget,
             profile,
+            form: image.form(),
             steps: 0,
             events: 0,
             output,
@@ -104,6 +107,7 @@ impl Thread {
             held: self.held.clone()?,
             budget: self.budget,
             profile: self.profile,
+            form: self.form,
             steps: self.steps,
             events: self.events,
             output,

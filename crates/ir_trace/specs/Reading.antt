@@ -2,7 +2,8 @@
 use Rattle.std.specs.Prelude.{◌≡◌, ℕ, Bool, List, length, Option, Some, None, Result, Ok, Err, nat_lt, ◌==◌, ◌||◌, if◌then◌else◌, is_some}
 use Rattle.byteorder.specs.Endian.{little_number}
 use Rattle.ir_bytes.specs.Reading.{◌>>=◌, Reader, Field, tested, within, fixed, number_at, field_at, fields_at}
-use Rattle.ir_image.specs.Guest.{most_threads, most_objects}
+use Rattle.ir_image.specs.Forms.{limits_of}
+use Rattle.ir_thread.specs.Allowed.{largest}
 use Rattle.ir_thread.specs.Calls.{most_budget, most_events}
 use Rattle.ir_thread.specs.Ends.{end_of}
 use Rattle.ir_runs.specs.declared.env_kind.EnvKind.{EnvKind}
@@ -47,11 +48,11 @@ magic_field = tested 4 is_magic Magic
 abbrev pub profile_of : ℕ → Profile
 profile_of n = if n == little_number 4 (magic One) then One else Two
 
-abbrev pub threads_field : Field TraceErr
-threads_field = within 1 1 most_threads Count
+abbrev pub threads_field : Profile → Field TraceErr
+threads_field profile = within 1 1 (limits_of (largest profile)).threads Count
 
-abbrev pub objects_field : Field TraceErr
-objects_field = within 1 0 most_objects Count
+abbrev pub objects_field : Profile → Field TraceErr
+objects_field profile = within 1 0 (limits_of (largest profile)).objects Count
 
 -- the two bytes that are reserved
 abbrev pub reserved_field : Field TraceErr
@@ -107,8 +108,8 @@ profile_at bytes = field_at Short magic_field bytes >>= λ n. Ok (profile_of n.0
 unfoldable pub header_at : Reader Header TraceErr
 header_at bytes = do
   profile ← profile_at bytes
-  threads ← field_at Short threads_field profile.1
-  objects ← field_at Short objects_field threads.1
+  threads ← field_at Short (threads_field profile.0) profile.1
+  objects ← field_at Short (objects_field profile.0) threads.1
   reserved ← field_at Short reserved_field objects.1
   budget ← field_at Short budget_field reserved.1
   Ok (record { profile = profile.0; threads = threads.0; objects = objects.0; budget = budget.0 }, budget.1)

@@ -2,7 +2,8 @@
 use Rattle.std.specs.Prelude.{◌≡◌, ℕ, ◌^◌, ◌<◌, ◌≤◌, ◌⊎◌, List, length}
 use Rattle.std.specs.List.{AllByRecursion}
 pub use Rattle.ir_bytes.specs.Numbers.{IsWord}
-use Rattle.ir_image.specs.Guest.{most_threads, most_objects}
+use Rattle.ir_image.specs.Forms.{limits_of}
+use Rattle.ir_thread.specs.Allowed.{largest}
 use Rattle.ir_thread.specs.Calls.{most_budget, most_events}
 use Rattle.ir_thread.specs.Ends.{end_code}
 use Rattle.ir_runs.specs.declared.env_kind.EnvKind.{EnvKind}
@@ -56,10 +57,10 @@ pub record IsRecordedThread (profile : Profile) (objects : ℕ) (t : RecordedThr
   pub few_events : length t.events ≤ most_events
   pub events_fit : AllByRecursion (IsEvent profile objects) t.events
 
--- the limits of what is recorded
+-- the limits of what is recorded, the threads and objects by the profile
 pub record IsRecorded (r : Recorded) : Type 0 where
   pub some_thread : 1 ≤ length r.threads
-  pub few_threads : length r.threads ≤ most_threads
-  pub few_objects : r.objects ≤ most_objects
+  pub few_threads : length r.threads ≤ (limits_of (largest r.profile)).threads
+  pub few_objects : r.objects ≤ (limits_of (largest r.profile)).objects
   pub budget_fits : r.budget ≤ most_budget
   pub threads_fit : AllByRecursion (IsRecordedThread r.profile r.objects) r.threads

@@ -11,7 +11,7 @@ use Rattle.ir_thread.specs.State as thread
 use Rattle.ir_runs.specs.declared.access.Access.TheVariants.{Writing}
 use Rattle.ir_thread.specs.declared.ask.Ask.TheVariants as ask
 use Rattle.ir_thread.specs.declared.ask.Reply.TheVariants.{Value}
-use Rattle.ir_image.specs.Guest.{object_words}
+use Rattle.ir_image.specs.Guest.{most_object_words}
 use Rattle.ir_object.specs.Cell.{Cell}
 use Rattle.ir_object.specs.Word.{version_unit, fields_of, word_of}
 use Rattle.ir_flat.specs.Flat.{Flat, IsFlat}
@@ -204,11 +204,11 @@ pub record IsClosed (k : Plan) (v : View) (cells : List Cell) : Type 0 where
 pub record IsEnd (k : Plan) (v : View) (ws : List ℕ) : Type 0 where
   pub cells : List Cell
   pub table : IsTable cells ws
-  pub sizes : (o : ℕ) → o < length cells → length (object_in cells o).words ≡ object_words
+  pub sizes : (o : ℕ) → o < length cells → length (object_in cells o).words ≡ most_object_words
   pub fits : (o : ℕ) → o < length cells → fields_of (word_of (object_in cells o).fields) ≡ (object_in cells o).fields
   pub closed : IsClosed k v cells
 
 -- the first n of these are the words from a content_place on
 pub record AreRead (ws : List ℕ) (from : ℕ) (xs : List ℕ) (n : ℕ) : Type 0 where
-  pub size : length xs ≡ object_words
+  pub size : length xs ≡ most_object_words
   pub each : (i : ℕ) → i < n → slice_index xs i ≡ slice_index ws (from + i)

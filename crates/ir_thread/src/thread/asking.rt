@@ -10,7 +10,7 @@ use crate::end::End;
 use crate::holding::highest;
 use crate::limits::{MOST_EVENTS, MOST_OUTPUT};
 use crate::thread::Thread;
-use ir_image::{Code, OBJECT_WORDS};
+use ir_image::Code;
 use ir_mach::Ran;
 use ir_runs::Access;
 use itoa::Buffer;
@@ -80,7 +80,7 @@ impl Thread {
     {
         let index = self.mach.reg(A1);
         match self.object() {
-            Some(object) if index < OBJECT_WORDS as u32 => Some((object, index as u8)),
+            Some(object) if (index as usize) < self.form.limits().words => Some((object, index as u8)),
             _ => None,
         }
     }

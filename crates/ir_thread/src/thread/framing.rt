@@ -29,6 +29,7 @@ impl Thread {
             held: self.held.clone()?,
             budget: self.budget,
             profile: self.profile,
+            form: self.form,
             steps: self.steps,
             events: self.events,
             output: Vec::from_slice(alloc, self.output.as_slice())?,
@@ -61,6 +62,7 @@ impl Thread {
             held: frame.held.clone()?,
             budget: frame.budget,
             profile: frame.profile,
+            form: frame.form,
             steps: frame.steps,
             events: frame.events,
             output,
@@ -79,6 +81,7 @@ impl Thread {
         self.held.copy_from_slice(frame.held.as_slice());
         self.budget = frame.budget;
         self.profile = frame.profile;
+        self.form = frame.form;
         self.steps = frame.steps;
         self.events = frame.events;
         print_again(&mut self.output, frame.output.as_slice());

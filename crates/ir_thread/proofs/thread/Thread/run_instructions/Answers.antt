@@ -18,6 +18,7 @@ returns-clause-steps c =
       held = inside.held.items;
       budget = inside.budget;
       profile = inside.profile;
+      form = inside.form;
       steps =
           inside.steps;
       events = inside.events;
