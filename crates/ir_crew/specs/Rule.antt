@@ -1,9 +1,9 @@
 -- The rule of the recording table: its words are the objects after the object steps that its seats have taken.
-use Rattle.std.specs.Prelude.{◌≡◌, ℕ, zero, suc, ◌+◌, ◌*◌, ◌<◌, ◌≤◌, List, [], ◌∷◌, map, length, take, drop, slice_index, None}
+use Rattle.std.specs.Prelude.{◌≡◌, ℕ, zero, suc, ◌+◌, ◌*◌, ◌<◌, ◌≤◌, List, [], ◌∷◌, map, length, slice_index, None}
 use mathlib.Core.Option.{some}
 use lib.ListN.{get_elem?}
 use Rattle.atomic_table.specs.Table.{State}
-use Rattle.ir_image.specs.Guest.{Guest, IsGuest, object_count, object_words}
+use Rattle.ir_image.specs.Guest.{Guest, IsGuest, object_count, most_object_words, first_words}
 use Rattle.ir_thread.specs.Calls.{most_events}
 use Rattle.ir_thread.specs.Instance.{thread_machine}
 use Rattle.ir_runs.specs.Machine.{Act, Silent, Result, Entry, Refusal, Exit, Load, Store, Never}
@@ -68,8 +68,7 @@ start_objects g o = record {
   version = 0;
   left = 0;
   inside = λ t. None;
-  words =
-      slice_index (first_words g o);
+  words = slice_index (first_words g o);
 }
 
 -- a word of n threads says this of the object

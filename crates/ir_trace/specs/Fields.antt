@@ -29,7 +29,7 @@ thread_fields profile objects rest =
 -- the magic, which says the profile; how many threads and objects; what is reserved; the budget; the threads
 abbrev pub trace_fields : Format TraceErr
 trace_fields =
-    next magic_field λ magic. next threads_field λ threads. next objects_field λ objects.
+    next magic_field λ magic. next (threads_field (profile_of magic)) λ threads. next (objects_field (profile_of magic)) λ objects.
     before reserved_field (before budget_field (repeated threads (thread_fields (profile_of magic) objects) finished))
 
 -- the first fault of bytes that are no trace
