@@ -379,8 +379,8 @@ def unborne(folder):
         is_wanted = (ended.returncode, ended.stdout, ended.stderr) == (3, want, b"") and 0 < most <= least
         yield "" if is_wanted else f"{what}: {ended.returncode} {ended.stdout[:200]!r} {ended.stderr[:200]!r}, {most} bytes, not {least}"
     for what, long, want in (
-        ("100,000,000 bytes of zeros", bytes(100_000_000), b"trace refused 2\n"),
-        ("a trace, and zeros up to 100,000,000 bytes", trace + bytes(100_000_000 - len(trace)), b"trace refused 7\n"),
+        ("200,000,000 bytes of zeros", bytes(200_000_000), b"trace refused 2\n"),
+        ("a trace, and zeros up to 200,000,000 bytes", trace + bytes(200_000_000 - len(trace)), b"trace refused 7\n"),
     ):
         (folder / "long.trc").write_bytes(long)
         ended, most = measured(library, [PROGRAM, "debug", "hello.img", "long.trc"], COMMANDS, folder)

@@ -67,7 +67,7 @@ ARGUMENTS = [
     ("asm d.s folder", 1, "ir: folder can't be written: it is a folder\n"),
     ("asm d.s none/d.img", 1, "ir: none/d.img can't be written: no such file or folder\n"),
     ("asm d.s d.s/d.img", 1, "ir: d.s/d.img can't be written: its path goes through what is no folder\n"),
-    ("asm long d2.img", 1, "ir: long is over 100000000 bytes\n"),
+    ("asm long d2.img", 1, "ir: long is over 200000000 bytes\n"),
     ("asm bad.s d2.img", 3, BAD_LINE),
     ("asm --explain bad.s d2.img", 3, EXPLAINED),
     ("asm bad.s d2.img --explain", 3, EXPLAINED),
@@ -91,7 +91,7 @@ ARGUMENTS = [
     ("trace", 2, "ir: the following required arguments were not provided: <TRACE>\n"),
     ("trace none.trc", 1, "ir: none.trc can't be read: no such file or folder\n"),
     ("trace folder", 1, "ir: folder can't be read: it is a folder\n"),
-    ("trace long", 1, "ir: long is over 100000000 bytes\n"),
+    ("trace long", 1, "ir: long is over 200000000 bytes\n"),
 ]
 
 # The lines of its trace.
@@ -173,7 +173,7 @@ def prepare(folder):
     (folder / "two.s").write_text(TWO)
     (folder / "forever.s").write_text(FOREVER)
     (folder / "bad.s").write_text("nop\nx\n")
-    for name, size in (("long", 100_000_001), ("longer", 1_048_577)):
+    for name, size in (("long", 200_000_001), ("longer", 1_048_577)):
         with open(folder / name, "wb") as file:
             file.truncate(size)
     for name in ("d", "two", "forever"):

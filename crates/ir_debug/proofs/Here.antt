@@ -2,6 +2,7 @@
 use Rattle.std.proofs.Common.{◌≡◌, ◌<◌, ◌≤◌, ℕ, List, length, refl, sym, ap, subst, ◌∙◌, arith}
 use Rattle.std.specs.List.{slice_index_or}
 use Rattle.std.proofs.lemmas.List.{get_or_default}
+use Rattle.ir_image.specs.Guest.{object_words}
 use Rattle.ir_object.specs.Cell.{Cell}
 use Rattle.ir_flat.specs.Flat.{empty, object_with}
 use Rattle.ir_runs.specs.Labels.{Label}
@@ -44,7 +45,7 @@ shows_here d (show.Memory t address size) there below run is =
     ap (λ (s : thread.State). memory_text address (bytes_from d.desk.fitted.guest.code s.core.memory size address))
     (thread_is d run (there.at.each run is) t)
 shows_here d (show.Object o) there below run is =
-    ap (λ (b : Object). object_text (threads_of d.desk.fitted) b) (object_is d run (there.at.each run is) o)
+    ap (λ (b : Object). object_text (threads_of d.desk.fitted) (object_words d.desk.fitted.guest) b) (object_is d run (there.at.each run is) o)
 shows_here d (show.Output t) there below run is = ap (λ (s : thread.State). output_text s.output) (thread_is d run (there.at.each run is) t)
 shows_here d (show.Log t) there below run is =
     let l : LogsBefore d.desk.fitted (cut_of d.desk.at) (flat_in d.desk.fitted d.state) run t =
@@ -78,15 +79,16 @@ object_there d s objects o is last same =
     omega (arith, below, count, long)
 
 -- an object that is read in its place
-pub object_read : (d : Debugging) (s : Show) (objects : List Cell) (threads : List thread.State) (x : Cell) (o : ℕ) → s ≡ show.Object o
-    → IsLast d (Shown s) → objects ≡ d.state.objects → threads ≡ d.state.threads → x ≡ slice_index_or objects o x
-    → object_text (length threads) (object_with x (held_by threads o)) ≡ shown_here d s
-object_read d s objects threads x o is last same alike read =
-    ap (λ (c : Cell). object_text (length threads) (object_with c (held_by threads o)))
+pub object_read : (d : Debugging) (s : Show) (objects : List Cell) (threads : List thread.State) (x : Cell) (o words : ℕ) → s ≡ show.Object o
+    → IsLast d (Shown s) → objects ≡ d.state.objects → threads ≡ d.state.threads → words ≡ object_words d.desk.fitted.guest
+    → x ≡ slice_index_or objects o x → object_text (length threads) words (object_with x (held_by threads o)) ≡ shown_here d s
+object_read d s objects threads x o words is last same alike many read =
+    ap (λ (c : Cell). object_text (length threads) words (object_with c (held_by threads o)))
     (read ∙ get_or_default objects o x empty (object_there d s objects o is last same))
-    ∙ ap (λ (cs : List Cell). object_text (length threads) (object_with (slice_index_or cs o empty) (held_by threads o))) same
-    ∙ ap (λ (ts : List thread.State). object_text (length ts) (object_with (slice_index_or d.state.objects o empty) (held_by ts o))) alike
-    ∙ ap (λ (n : ℕ). object_text n (object_here d o)) (asked d s (show.Object o) is last).2.at.threads
+    ∙ ap (λ (cs : List Cell). object_text (length threads) words (object_with (slice_index_or cs o empty) (held_by threads o))) same
+    ∙ ap (λ (ts : List thread.State). object_text (length ts) words (object_with (slice_index_or d.state.objects o empty) (held_by ts o))) alike
+    ∙ ap (λ (n : ℕ). object_text n words (object_here d o)) (asked d s (show.Object o) is last).2.at.threads
+    ∙ ap (λ (n : ℕ). object_text (threads_of d.desk.fitted) n (object_here d o)) many
     ∙ ap (shown_here d) (sym is)
 
 -- ---- the texts of all answers

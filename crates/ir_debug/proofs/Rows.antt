@@ -4,6 +4,7 @@ use Rattle.std.specs.Prelude.{codes, Result}
 use Rattle.std.specs.Fmt.{digits}
 use Rattle.hex.specs.Hex.{encode_with}
 use Rattle.ir_image.specs.Guest.{Guest}
+use Rattle.ir_image.specs.declared.form.ImageForm.TheVariants.{Small}
 use Rattle.ir_runs.specs.Labels.{In, Answer, Refused}
 use Rattle.ir_runs.specs.Object as objects
 use Rattle.ir_runs.specs.declared.access.Access.TheVariants.{Reading, Writing}
@@ -95,7 +96,7 @@ long = refl
 -- ---- refusals: two threads at one entry, one object, 18 words of code
 
 abbrev guest_p : Guest
-guest_p = record { entries = 0x10000 ∷ 0x10000 ∷ []; code = replicate 18 0x13; bytes = []; words = replicate 8 0 }
+guest_p = record { form = Small; entries = 0x10000 ∷ 0x10000 ∷ []; code = replicate 18 0x13; bytes = []; words = replicate 8 0 }
 
 abbrev desk_p : Desk
 desk_p = desk_of (record { guest = guest_p; recorded = record { objects = 1; budget = 1000; profile = One; threads = [] }; placed = [] })
@@ -172,7 +173,7 @@ output_none = refl
 abbrev written : objects.Object
 written = record { version = 1; left = 0; inside = elim [ zero ↦ Some Writing | (suc t) ↦ None ]; words = elim [ zero ↦ 1 | (suc i) ↦ 0 ] }
 
-object_p : object_text 2 written ≡ codes "version 1 left 0 readers - writer 0\nwords 00000001 00000000 00000000 00000000 00000000 00000000 00000000 00000000\n"
+object_p : object_text 2 8 written ≡ codes "version 1 left 0 readers - writer 0\nwords 00000001 00000000 00000000 00000000 00000000 00000000 00000000 00000000\n"
 unfolding inside_for digits encode_with
 object_p = refl
 
@@ -180,7 +181,7 @@ object_p = refl
 abbrev read : objects.Object
 read = record { version = 7; left = 2; inside = λ t. Some Reading; words = λ i. 0xabcdef01 }
 
-object_read : object_text 3 read ≡ codes "version 7 left 2 readers 0,1,2 writer -\nwords abcdef01 abcdef01 abcdef01 abcdef01 abcdef01 abcdef01 abcdef01 abcdef01\n"
+object_read : object_text 3 8 read ≡ codes "version 7 left 2 readers 0,1,2 writer -\nwords abcdef01 abcdef01 abcdef01 abcdef01 abcdef01 abcdef01 abcdef01 abcdef01\n"
 unfolding inside_for digits encode_with
 object_read = refl
 

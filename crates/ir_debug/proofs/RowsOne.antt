@@ -3,6 +3,8 @@ use Rattle.std.proofs.Common.{◌≡◌, ℕ, List, [], ◌∷◌, refl, replica
 use Rattle.std.specs.Prelude.{codes}
 use Rattle.std.specs.Fmt.{digits}
 use Rattle.hex.specs.Hex.{encode_with}
+use Rattle.ir_image.specs.declared.form.ImageForm.{ImageForm}
+use Rattle.ir_image.specs.declared.form.ImageForm.TheVariants.{Small, Large}
 use Rattle.ir_isa.specs.Decoded as decoded
 use Rattle.ir_runs.specs.Machine.{upd}
 use Rattle.ir_thread.specs.Calls.{after_reply}
@@ -17,9 +19,9 @@ use Rattle.ir_debug.specs.Machine.Desk.{Desk, desk_of}
 use Rattle.ir_debug.specs.Machine.Texts.{inside_for, event_lines, memory_lines, output_lines}
 use Rattle.ir_debug.specs.Machine.Shown.{shown, bytes_from}
 
-abbrev fitted_by : Profile → List ℕ → ℕ → ℕ → FittedTrace
-fitted_by profile code objects steps = record {
-  guest = record { entries = 0x10000 ∷ []; code = code; bytes = []; words = replicate objects 0 };
+abbrev fitted_by : ImageForm → Profile → List ℕ → ℕ → ℕ → FittedTrace
+fitted_by form profile code objects steps = record {
+  guest = record { form = form; entries = 0x10000 ∷ []; code = code; bytes = []; words = replicate objects 0 };
   recorded =
       record { objects = objects; budget = 1000; profile = profile; threads = record { steps = steps; end = Exit 0; events = [] } ∷ [] };
   placed = [];
@@ -32,15 +34,19 @@ abbrev at_only : FittedTrace → ℕ → Desk
 at_only f k = record (desk_of f) { at = k ∷ [] }
 
 abbrev f_q : FittedTrace
-f_q = fitted_by One (0x04800513 ∷ 0x00200893 ∷ 0x73 ∷ 0x00a50533 ∷ 0x00100893 ∷ 0x73 ∷ []) 0 6
+f_q = fitted_by Small One (0x04800513 ∷ 0x00200893 ∷ 0x73 ∷ 0x00a50533 ∷ 0x00100893 ∷ 0x73 ∷ []) 0 6
 
 -- it enters object 0 for reading and leaves it, and then for writing
 abbrev f_r : FittedTrace
-f_r = fitted_by One (0x513 ∷ 0x00700893 ∷ 0x73 ∷ 0x00900893 ∷ 0x73 ∷ 0x00800893 ∷ 0x73 ∷ 0x00900893 ∷ 0x73 ∷ 0x00100893 ∷ 0x73 ∷ []) 8 11
+f_r = fitted_by Small One (0x513 ∷ 0x00700893 ∷ 0x73 ∷ 0x00900893 ∷ 0x73 ∷ 0x00800893 ∷ 0x73 ∷ 0x00900893 ∷ 0x73 ∷ 0x00100893 ∷ 0x73 ∷ []) 8 11
 
 -- it ends while it is inside for writing
 abbrev f_e : FittedTrace
-f_e = fitted_by One (0x513 ∷ 0x00800893 ∷ 0x73 ∷ 0x593 ∷ 0x00700613 ∷ 0x00b00893 ∷ 0x73 ∷ 0x00100073 ∷ []) 8 9
+f_e = fitted_by Small One (0x513 ∷ 0x00800893 ∷ 0x73 ∷ 0x593 ∷ 0x00700613 ∷ 0x00b00893 ∷ 0x73 ∷ 0x00100073 ∷ []) 8 9
+
+-- the same guest but that it writes the last of the words of an object of the large form
+abbrev f_v : FittedTrace
+f_v = fitted_by Large One (0x513 ∷ 0x00800893 ∷ 0x73 ∷ 0x00f00593 ∷ 0x00700613 ∷ 0x00b00893 ∷ 0x73 ∷ 0x00100073 ∷ []) 16 9
 
 registers_q : shown (alone 6) (at_only f_q 3) (Registers 0) ≡ codes
     "pc 0001000c\nzero=00000000 ra=00000000 sp=00110000 gp=00000000\ntp=00000000 t0=00000000 t1=00000000 t2=00000000\ns0=00000000 s1=00000000 a0=00000048 a1=00000000\na2=00000000 a3=00000000 a4=00000000 a5=00000000\na6=00000000 a7=00000002 s2=00000000 s3=00000000\ns4=00000000 s5=00000000 s6=00000000 s7=00000000\ns8=00000000 s9=00000000 s10=00000000 s11=00000000\nt3=00000000 t4=00000000 t5=00000000 t6=00000000\n"
@@ -86,12 +92,18 @@ unfolding shown upd after_reply after inside_for event_lines memory_lines output
     decoded.instruction_of
 object_e = refl
 
+object_v : shown (alone 9) (at_only f_v 9) (Object 0) ≡ codes
+    "version 1 left 0 readers - writer -\nwords 00000000 00000000 00000000 00000000 00000000 00000000 00000000 00000000 00000000 00000000 00000000 00000000 00000000 00000000 00000000 00000007\n"
+unfolding shown upd after_reply after inside_for event_lines memory_lines output_lines bytes_from digits encode_with registers_text
+    decoded.instruction_of
+object_v = refl
+
 -- it tries to enter object 0 for writing, and ends with the answer
 abbrev code_t : List ℕ
 code_t = 0x513 ∷ 0x00d00893 ∷ 0x73 ∷ 0x00100893 ∷ 0x73 ∷ []
 
 abbrev f_t : FittedTrace
-f_t = fitted_by Two code_t 8 5
+f_t = fitted_by Small Two code_t 8 5
 
 next_t : shown (alone 5) (at_only f_t 2) (Next 0) ≡ codes "next 00010008 ecall\n"
 unfolding shown upd after_reply after inside_for event_lines memory_lines output_lines bytes_from digits encode_with registers_text
@@ -111,7 +123,7 @@ object_t = refl
 
 -- the same where the try gets in, which is logged as an entry; the thread releases the object after its end
 abbrev f_w : FittedTrace
-f_w = fitted_by Two code_t 8 6
+f_w = fitted_by Small Two code_t 8 6
 
 abbrev run_w : List Step
 run_w = (0, 0) ∷ (0, 0) ∷ (0, 1) ∷ (0, 0) ∷ (0, 0) ∷ (0, 0) ∷ []

@@ -3,6 +3,7 @@ use Rattle.std.proofs.Common.{◌≡◌, ℕ, List, [], ◌∷◌, ◌++◌, ref
 use Rattle.std.specs.Prelude.{codes}
 use Rattle.std.specs.Fmt.{digits}
 use Rattle.hex.specs.Hex.{encode_with}
+use Rattle.ir_image.specs.declared.form.ImageForm.TheVariants.{Small}
 use Rattle.ir_isa.specs.Decoded as decoded
 use Rattle.ir_runs.specs.Machine.{upd}
 use Rattle.ir_thread.specs.Calls.{after_reply}
@@ -23,7 +24,7 @@ code_p =
 
 abbrev fitted_p : FittedTrace
 fitted_p = record {
-  guest = record { entries = 0x10000 ∷ 0x10000 ∷ []; code = code_p; bytes = []; words = replicate 8 0 };
+  guest = record { form = Small; entries = 0x10000 ∷ 0x10000 ∷ []; code = code_p; bytes = []; words = replicate 8 0 };
   recorded = record {
     objects = 1;
     budget = 1000;

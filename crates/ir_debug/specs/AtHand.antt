@@ -1,6 +1,7 @@
 -- What is shown of the threads and objects in hand.
 use Rattle.std.specs.Prelude.{◌≡◌, ◌<◌, ℕ, List, ◌++◌, take, map, length, codes, decimal, Option, Some}
 use Rattle.std.specs.List.{slice_index_or}
+use Rattle.ir_image.specs.Guest.{object_words}
 use Rattle.ir_thread.specs.Held.{held_at}
 use Rattle.ir_thread.specs.State as thread
 use Rattle.ir_runs.specs.declared.access.Access.{Access}
@@ -56,7 +57,7 @@ abbrev pub shown_here : Debugging → Show → List ℕ
 shown_here d (Registers t) = machine_text (thread_here d t).core
 shown_here d (Memory t address size) =
     memory_text address (bytes_from d.desk.fitted.guest.code (thread_here d t).core.memory size address)
-shown_here d (Object o) = object_text (threads_of d.desk.fitted) (object_here d o)
+shown_here d (Object o) = object_text (threads_of d.desk.fitted) (object_words d.desk.fitted.guest) (object_here d o)
 shown_here d (Output t) = output_text (thread_here d t).output
 shown_here d (Log t) = log_text (map label_of (events_here d t)) (length (events_of d t))
 shown_here d (Next t) = next_text d.desk.fitted.guest.code (thread_here d t)

@@ -30,7 +30,7 @@ use ir_stream::{DeviceErr, Sink, append, write_all};
 fn put_cut(text: &mut Text, debugger: &Debugger)
     requires { array_vec_len text.old ≡ 0 }
     ensures text { text.new.items ≡ text.old.items ++ positions_text debugger.now.desk.at }
-    ensures len { array_vec_len text.new ≤ 170 }
+    ensures len { array_vec_len text.new ≤ 340 }
 {
     debugger.fitted().image().entries();
     put_positions(text, debugger.at().positions());
@@ -74,7 +74,7 @@ fn write_moved<W: Sink>(debugger: &Debugger, asked: Move, writer: &mut W) -> Res
 
 // Puts at the end which point hit, if one did.
 fn put_hit(text: &mut Text, hit: Option<Hit>)
-    requires { array_vec_len text.old ≤ 170 }
+    requires { array_vec_len text.old ≤ 340 }
     ensures text { text.new.items ≡ text.old.items ++ hit_text hit }
     ensures len { array_vec_len text.new ≤ array_vec_len text.old + 25 }
 {

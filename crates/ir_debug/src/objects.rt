@@ -3,7 +3,7 @@
 ghost use Rattle.std.specs.Prelude.{◌≡◌, ◌≢◌, ◌≤◌, ◌<◌, ◌+◌, ◌++◌, OnOk, OnErr, length, slice_index, slice_index_or, flat_map, codes, decimal, true, false, Some};
 ghost use Rattle.std.specs.Io.KnownBytes.{Appends};
 ghost use Rattle.arrayvec.specs.ArrayVec.{array_vec_len};
-ghost use Rattle.ir_image.specs.Guest.{most_threads, object_words};
+ghost use Rattle.ir_image.specs.Guest.{most_threads, most_object_words};
 ghost use Rattle.ir_thread.specs.Held.{held_at};
 ghost use Rattle.ir_flat.specs.Flat.{idle, object_with};
 ghost use Rattle.ir_stream.specs.Devices.{AppendsPrefix};
@@ -12,7 +12,7 @@ ghost use Rattle.ir_debug.specs.Machine.Texts.{joined, inside_for, words_text, o
 
 use crate::text::{Text, put_number, put_word};
 use arrayvec::ArrayVec;
-use ir_image::{MOST_THREADS, OBJECT_WORDS};
+use ir_image::MOST_THREADS;
 use ir_object::Object;
 use ir_runs::Access;
 use ir_stream::{DeviceErr, Sink, append, write_all};
@@ -66,7 +66,7 @@ fn put_others(text: &mut Text, numbers: &[u8])
     requires few { length numbers.now ≤ most_threads }
     requires room { array_vec_len text.old ≤ 560 }
     ensures text { text.new.items ≡ text.old.items ++ flat_map (λ m. codes "," ++ decimal m) numbers.now }
-    ensures len { array_vec_len text.new ≤ array_vec_len text.old + 168 }
+    ensures len { array_vec_len text.new ≤ array_vec_len text.old + 336 }
 {
     for number in numbers {
         put_number(text, b",", *number as u64);
@@ -78,7 +78,7 @@ fn put_joined(text: &mut Text, numbers: &[u8])
     requires few { length numbers.now ≤ most_threads }
     requires room { array_vec_len text.old ≤ 512 }
     ensures text { text.new.items ≡ text.old.items ++ joined numbers.now }
-    ensures len { array_vec_len text.new ≤ array_vec_len text.old + 188 }
+    ensures len { array_vec_len text.new ≤ array_vec_len text.old + 356 }
 {
     match numbers {
         [] => append(text, b"-"),
@@ -89,12 +89,14 @@ fn put_joined(text: &mut Text, numbers: &[u8])
     }
 }
 
-fn put_words(text: &mut Text, object: &Object)
-    requires { array_vec_len text.old ≤ 900 }
-    ensures text { text.new.items ≡ text.old.items ++ words_text (slice_index object.now.words) object_words }
-    ensures len { array_vec_len text.new ≤ array_vec_len text.old + 72 }
+// Puts so many of the object's words at the end.
+fn put_words(text: &mut Text, object: &Object, count: usize)
+    requires few { count ≤ most_object_words }
+    requires room { array_vec_len text.old ≤ 880 }
+    ensures text { text.new.items ≡ text.old.items ++ words_text (slice_index object.now.words) count }
+    ensures len { array_vec_len text.new ≤ array_vec_len text.old + 144 }
 {
-    for index in 0..OBJECT_WORDS as u8 {
+    for index in 0..count as u8 {
         append(text, b" ");
         put_word(text, object.get(index));
     }
@@ -105,7 +107,7 @@ fn put_state(text: &mut Text, threads: &[Thread], number: usize, object: &Object
     requires empty { array_vec_len text.old ≡ 0 }
     requires few { length threads.now ≤ most_threads }
     ensures text { text.new.items ≡ text.old.items ++ state_line (length threads.now) (object_with object.now (held_by threads.now number)) }
-    ensures len { array_vec_len text.new ≤ 500 }
+    ensures len { array_vec_len text.new ≤ 790 }
 {
     let fields = object.fields();
     put_number(text, b"version ", fields.version as u64);
@@ -123,23 +125,25 @@ fn put_state(text: &mut Text, threads: &[Thread], number: usize, object: &Object
     append(text, b"\n");
 }
 
-/// Writes the lines of the object of this number among these threads. Takes no memory.
+/// Writes the lines of the object of this number among these threads, with so many of its words. Takes no memory.
 pub fn write_object<W: Sink>(
     threads: &[Thread],
     number: usize,
     object: &Object,
+    words: usize,
     writer: &mut W,
 ) -> Result<(), DeviceErr>
-    requires { length threads.now ≤ most_threads }
-    ensures ok { OnOk result (Appends (W.written writer.old) (W.written writer.new) (object_text (length threads.now) (object_with object.now (held_by threads.now number)))) }
+    requires threads { length threads.now ≤ most_threads }
+    requires words { words ≤ most_object_words }
+    ensures ok { OnOk result (Appends (W.written writer.old) (W.written writer.new) (object_text (length threads.now) words (object_with object.now (held_by threads.now number)))) }
     ensures stays { OnOk result (W.broken writer.new ≡ W.broken writer.old) }
-    ensures prefix { OnErr result (AppendsPrefix (W.written writer.old) (W.written writer.new) (object_text (length threads.now) (object_with object.now (held_by threads.now number)))) }
+    ensures prefix { OnErr result (AppendsPrefix (W.written writer.old) (W.written writer.new) (object_text (length threads.now) words (object_with object.now (held_by threads.now number)))) }
     ensures err { OnErr result (W.broken writer.new ≡ true) }
 {
     let mut text = Text::new();
     put_state(&mut text, threads, number, object);
     append(&mut text, b"words");
-    put_words(&mut text, object);
+    put_words(&mut text, object, words);
     append(&mut text, b"\n");
     write_all(writer, text.as_slice())
 }

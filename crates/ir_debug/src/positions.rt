@@ -5,12 +5,12 @@ ghost use Rattle.arrayvec.specs.ArrayVec.{array_vec_len};
 ghost use Rattle.ir_image.specs.Guest.{most_threads};
 ghost use Rattle.ir_debug.specs.Machine.Texts.{positions_text, stop_text};
 
-use crate::text::Text;
+use crate::text::{ROOM, Text};
 use ir_stream::append;
 use itoa::Buffer;
 
 fn put_position(text: &mut Text, position: u64)
-    requires { array_vec_len text.old + 21 ≤ 512 }
+    requires { array_vec_len text.old + 21 ≤ ROOM }
     ensures text { text.new.items ≡ text.old.items ++ (codes " " ++ decimal position) }
     ensures len { array_vec_len text.new ≤ array_vec_len text.old + 21 }
 {
@@ -24,7 +24,7 @@ pub fn put_positions(text: &mut Text, at: &[u64])
     requires room { array_vec_len text.old ≤ 256 }
     requires few { length at.now ≤ most_threads }
     ensures text { text.new.items ≡ text.old.items ++ positions_text at.now }
-    ensures len { array_vec_len text.new ≤ array_vec_len text.old + 170 }
+    ensures len { array_vec_len text.new ≤ array_vec_len text.old + 340 }
 {
     append(text, b"at");
     for position in at {

@@ -9,7 +9,7 @@ use crate::destinations::thread_count;
 use crate::kept::{MOST_KEPT, kept_cut};
 use crate::points::{MOST_POINTS, is_set};
 use ir_command::{Command, Keeping, Move, Point, Refusal, Show};
-use ir_image::{CODE_START, Image, MEMORY_SIZE, MEMORY_START, OBJECT_WORDS};
+use ir_image::{CODE_START, Image, MEMORY_SIZE, MEMORY_START};
 
 /// The thread that a move names.
 pub fn thread_moved(to: Move) -> Option<u32>
@@ -154,7 +154,7 @@ impl Debugger {
             }
         }
         if let Some(object) = object_named(command) {
-            if object as usize >= image.words().len() / OBJECT_WORDS {
+            if object as usize >= image.object_count() {
                 return Some(Refusal::NoSuchObject);
             }
         }

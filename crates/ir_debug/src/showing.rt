@@ -82,7 +82,13 @@ pub fn write_shown<W: Sink>(
         Show::Object { object } => {
             let state = debugger.state();
             let number = object as usize;
-            write_object(state.threads(), number, &state.objects()[number], writer)
+            write_object(
+                state.threads(),
+                number,
+                &state.objects()[number],
+                debugger.fitted().image().object_words(),
+                writer,
+            )
         }
         Show::Output { thread } => write_output(thread_here(debugger, thread).output(), writer),
         Show::Log { thread } => {

@@ -10,8 +10,8 @@ use std::alloc::{AllocError, Global};
 use std::io::{ErrorKind, Read, Write};
 use thiserror::Error;
 
-/// The most bytes of a source or an image.
-pub const MOST_BYTES: u32 = 100_000_000;
+/// The most bytes of a source, an image or a trace.
+pub const MOST_BYTES: u32 = 200_000_000;
 
 /// The most bytes of a file that guests read.
 pub const MOST_INPUT: u32 = 1_048_576;

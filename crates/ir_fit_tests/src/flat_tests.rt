@@ -92,8 +92,8 @@ const ENTRIES_AND_LEAVES: [u32; 11] = [
 const WORDS: [(u32, u64); 6] = [
     (0, 0),
     (3, 2),
-    (2, 256),
-    (2, 257),
+    (2, 128),
+    (2, 129),
     (2, 0x1_0000_0000),
     (2, 0x1_0000_0000),
 ];
@@ -241,8 +241,8 @@ const WAITING: [(usize, u32, bool, (Option<u64>, Option<u64>)); 5] = [
     (1, 5, true, (Some(2), Some(5))),
     (1, 1, false, (Some(2), Some(5))),
     // an unknown call ends the reader, which gives the object back
-    (0, 3, true, (Some(256), Some(5))),
-    (1, 1, true, (Some(257), Some(6))),
+    (0, 3, true, (Some(128), Some(5))),
+    (1, 1, true, (Some(129), Some(6))),
 ];
 
 // The first row that isn't so.

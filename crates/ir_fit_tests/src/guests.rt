@@ -1,6 +1,11 @@
 //! Guests of a few words of code.
 
+ghost use Rattle.std.specs.Prelude.{IfOk};
+ghost use Rattle.ir_thread.specs.Allowed.{IsAllowed};
+ghost use Rattle.ir_thread.specs.declared.profile.Profile.TheVariants.{One};
+
 use ir_image::{Image, read_image};
+use ir_thread::Profile;
 use std::alloc::{AllocError, Global};
 use std::test::Fail;
 
@@ -62,7 +67,34 @@ fn put_words(bytes: &mut Vec<u8>, words: &[u32]) -> Result<(), AllocError> {
     Ok(())
 }
 
+// The guest of the image's bytes, which the profile allows.
+pub fn allowed(alloc: Global, profile: Profile, bytes: &[u8]) -> Result<Image, Fail>
+    ensures { IfOk result (λ image. IsAllowed profile image) }
+{
+    let image = read_image(alloc, bytes)?;
+    if !profile.allows(&image) {
+        return Err(Fail::from("too many threads or objects"));
+    }
+    Ok(image)
+}
+
 // A guest whose threads start at these bytes of the code, and objects that begin with zeros.
-pub fn guest(alloc: Global, starts: &[u8], objects: u8, code: &[u32]) -> Result<Image, Fail> {
-    Ok(read_image(alloc, &bytes_of(alloc, starts, objects, code)?)?)
+pub fn guest_for(
+    alloc: Global,
+    profile: Profile,
+    starts: &[u8],
+    objects: u8,
+    code: &[u32],
+) -> Result<Image, Fail>
+    ensures { IfOk result (λ image. IsAllowed profile image) }
+{
+    let bytes = bytes_of(alloc, starts, objects, code)?;
+    allowed(alloc, profile, &bytes)
+}
+
+// The same for the first profile.
+pub fn guest(alloc: Global, starts: &[u8], objects: u8, code: &[u32]) -> Result<Image, Fail>
+    ensures { IfOk result (λ image. IsAllowed One image) }
+{
+    guest_for(alloc, Profile::One, starts, objects, code)
 }

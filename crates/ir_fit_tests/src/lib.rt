@@ -13,6 +13,8 @@ mod flat_tests;
 #[cfg(test)]
 mod guests;
 #[cfg(test)]
+mod large_tests;
+#[cfg(test)]
 mod log_tests;
 #[cfg(test)]
 mod object_tests;

@@ -1,7 +1,7 @@
 //! Tries to enter, in the two profiles, and their traces.
 
 use crate::fit_tests::{Judged, answer_of};
-use crate::guests::{ECALL, ENTER_WRITE, EXIT, FIRST_OBJECT, TRY_WRITE, guest};
+use crate::guests::{ECALL, ENTER_WRITE, EXIT, FIRST_OBJECT, TRY_WRITE, guest, guest_for};
 use ir_fit::Cause;
 use ir_flat::Flat;
 use ir_runs::ThreadVerdict;
@@ -32,7 +32,7 @@ const ALONE: [(Profile, u32, Ended); 4] = [
 
 // How the thread ends, where so many steps are tried.
 fn alone(alloc: Global, profile: Profile, answer: u32) -> Result<Ended, Fail> {
-    let image = guest(alloc, &[0], 1, &TRY)?;
+    let image = guest_for(alloc, profile, &[0], 1, &TRY)?;
     let mut flat = Flat::start(alloc, &image, 1000, profile)?;
     for _ in 0..5 {
         if !flat.threads().is_empty() {
@@ -63,7 +63,7 @@ fn a_try_enters_where_nobody_is_inside(rt: HostRuntime) -> Result<(), Fail> {
         TRY_WRITE,
         ECALL,
     ];
-    let image = guest(rt.alloc(), &[0, 12], 1, &code)?;
+    let image = guest_for(rt.alloc(), Profile::Two, &[0, 12], 1, &code)?;
     let mut flat = Flat::start(rt.alloc(), &image, 1000, Profile::Two)?;
     for thread in [0, 0, 0, 1, 1] {
         if thread < flat.threads().len() {

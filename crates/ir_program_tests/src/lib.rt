@@ -10,6 +10,8 @@ mod device_tests;
 #[cfg(test)]
 mod kept_outputs;
 #[cfg(test)]
+mod large_tests;
+#[cfg(test)]
 mod places_tests;
 #[cfg(test)]
 mod program_tests;

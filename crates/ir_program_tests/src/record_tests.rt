@@ -163,7 +163,7 @@ silent: addi a0, zero, 0
 
 const PRINTED: [&[u8]; 3] = [b"0\nA", b"", b"2\nA"];
 
-fn image(rt: &HostRuntime, source: &str) -> Vec<u8> {
+pub fn image(rt: &HostRuntime, source: &str) -> Vec<u8> {
     let mut image = empty_page(rt, 1000, ENDLESS);
     let mut faults = empty_page(rt, 1000, ENDLESS);
     let _ = asm_run(rt.alloc(), source.as_bytes(), None, &mut image, &mut faults);
@@ -172,28 +172,28 @@ fn image(rt: &HostRuntime, source: &str) -> Vec<u8> {
 
 // What a recording of an image took and gave.
 #[derive(Drop)]
-struct Run {
-    status: u8,
-    trace: Page,
-    outputs: KeptOutputs,
-    out: Page,
-    faults: Page,
+pub struct Run {
+    pub status: u8,
+    pub trace: Page,
+    pub outputs: KeptOutputs,
+    pub out: Page,
+    pub faults: Page,
 }
 
 // How a guest is recorded.
 #[derive(Clone, Copy)]
-struct How<'a> {
-    order: Option<&'a str>,
-    budget: u32,
-    random: u64,
-    input: &'a [u8],
-    trace_calls: u64,
-    output_calls: u64,
-    out_calls: u64,
-    profile: Profile,
+pub struct How<'a> {
+    pub order: Option<&'a str>,
+    pub budget: u32,
+    pub random: u64,
+    pub input: &'a [u8],
+    pub trace_calls: u64,
+    pub output_calls: u64,
+    pub out_calls: u64,
+    pub profile: Profile,
 }
 
-const HOW: How<'static> = How {
+pub const HOW: How<'static> = How {
     order: Some("0"),
     budget: 1000,
     random: 0,
@@ -204,7 +204,7 @@ const HOW: How<'static> = How {
     profile: Profile::One,
 };
 
-fn recorded<R: Threads + Wait + Sync + Clock + AllocGlobal>(
+pub fn recorded<R: Threads + Wait + Sync + Clock + AllocGlobal>(
     rt: &R,
     image: &[u8],
     how: How<'_>,
@@ -293,7 +293,7 @@ fn a_reader_is_logged_and_then_a_writer(rt: HostRuntime) {
     assert_eq!(rt; run.trace.bytes.as_slice(), expected.as_slice());
 }
 
-const WITH_TRIES: How<'static> = How {
+pub const WITH_TRIES: How<'static> = How {
     profile: Profile::Two,
     ..HOW
 };

@@ -10,6 +10,8 @@ mod hit_rows;
 #[cfg(test)]
 mod kept_rows;
 #[cfg(test)]
+mod large_rows;
+#[cfg(test)]
 mod limit_tests;
 #[cfg(test)]
 mod line_tests;

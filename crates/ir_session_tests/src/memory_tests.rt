@@ -5,6 +5,8 @@ ghost use Rattle.ir_cut.specs.Positions.{IsConsistentCut, cut_of};
 ghost use Rattle.ir_weave.specs.Standing.{StandsAt, flat_in};
 ghost use Rattle.ir_weave.specs.States.{positions};
 ghost use Rattle.ir_record.specs.Worlds.{NoneFailed};
+ghost use Rattle.ir_thread.specs.Allowed.{IsAllowed};
+ghost use Rattle.ir_thread.specs.declared.profile.Profile.TheVariants.{One};
 
 use crate::sessions::{Files, answer_of};
 use ir_asm::{AsmErr, assemble};
@@ -46,12 +48,19 @@ impl From<AllocError> for Short {
 }
 
 // The guest of the source.
-fn guest(alloc: Global, source: Source) -> Result<Image, Short> {
+fn guest(alloc: Global, source: Source) -> Result<Image, Short>
+    ensures { IfOk result (λ image. IsAllowed One image) }
+{
     let text = joined(alloc, source)?;
-    match assemble(alloc, text.as_str()) {
-        Ok(image) => Ok(image),
-        Err(AsmErr::NoMem) => Err(Short::Memory),
-        Err(_) => Err(Short::Wrong),
+    let image = match assemble(alloc, text.as_str()) {
+        Ok(image) => image,
+        Err(AsmErr::NoMem) => return Err(Short::Memory),
+        Err(_) => return Err(Short::Wrong),
+    };
+    if Profile::One.allows(&image) {
+        Ok(image)
+    } else {
+        Err(Short::Wrong)
     }
 }
 
@@ -161,7 +170,9 @@ fn asked_in<R: Threads + Wait + Sync>(
     alloc: Global,
     image: &Image,
     count: &AtomicUsize,
-) -> Result<usize, Short> {
+) -> Result<usize, Short>
+    requires { IsAllowed One image.now }
+{
     let worlds = counting_worlds(alloc, image.entries().len(), count)?;
     match record(rt, alloc, image, worlds, &OpenGate, BUDGET, Profile::One) {
         Ok((trace, _outputs)) => Ok(trace.threads().len()),

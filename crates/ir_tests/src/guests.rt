@@ -46,6 +46,8 @@ pub const GUESTS: [Guest; 8] = [
     },
 ];
 
+const LARGE: &str = "        .large\n";
+
 pub const ONE_OBJECT: &str = "        .objects 1\n";
 
 pub const AT_MAIN: &str = "        .thread main\n";
@@ -112,6 +114,12 @@ pub const COUNTER: Source = &[
     ONE_OBJECT, AT_MAIN, AT_MAIN, AT_MAIN, AT_MAIN, AT_MAIN, AT_MAIN, AT_MAIN, AT_MAIN, COUNT,
 ];
 
+/// Sixteen threads do, of a guest of the large form.
+pub const SIXTEEN_COUNTERS: Source = &[
+    LARGE, ONE_OBJECT, AT_MAIN, AT_MAIN, AT_MAIN, AT_MAIN, AT_MAIN, AT_MAIN, AT_MAIN, AT_MAIN,
+    AT_MAIN, AT_MAIN, AT_MAIN, AT_MAIN, AT_MAIN, AT_MAIN, AT_MAIN, AT_MAIN, COUNT,
+];
+
 const COUNT: &str = "
 main:   addi    a0, zero, 0
         addi    a7, zero, 8             # ENTER_WRITE
@@ -139,6 +147,13 @@ pub const READ_THEN_WRITE: Source = &[ONE_OBJECT, ENTER_READ, LEAVE, WRITE_AND_L
 /// Two threads enter object 0 for reading, leave it and end.
 pub const TWO_READERS: Source = &[
     ONE_OBJECT, AT_MAIN, AT_MAIN, "main:\n", ENTER_READ, LEAVE, END,
+];
+
+/// Sixteen threads, of a guest of the large form, enter object 0 for reading (step 2), leave it (4) and end (6).
+pub const SIXTEEN_READERS: Source = &[
+    LARGE, ONE_OBJECT, AT_MAIN, AT_MAIN, AT_MAIN, AT_MAIN, AT_MAIN, AT_MAIN, AT_MAIN, AT_MAIN,
+    AT_MAIN, AT_MAIN, AT_MAIN, AT_MAIN, AT_MAIN, AT_MAIN, AT_MAIN, AT_MAIN, "main:\n", ENTER_READ,
+    LEAVE, END,
 ];
 
 /// Each of two threads asks the clock (step 1), enters object 0 for reading (4) and leaves it (6), enters it for writing

@@ -14,6 +14,8 @@ mod examples;
 pub mod guests;
 #[cfg(test)]
 mod keeper_tests;
+#[cfg(test)]
+mod large_tests;
 mod laws;
 pub mod meeting;
 pub mod patches;

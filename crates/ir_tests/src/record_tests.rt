@@ -1,5 +1,8 @@
 //! Guests of a few instructions, recorded in an order, with worlds that answer from a list.
 
+ghost use Rattle.ir_thread.specs.Allowed.{IsAllowed};
+ghost use Rattle.ir_thread.specs.declared.profile.Profile.TheVariants.{One};
+
 use crate::guests::{BROKEN_INSIDE, DOUBLED, READ_THEN_WRITE, Source, TWO_COUNTERS};
 use crate::recorded_guests::{ASKING, FALLING, NEGATIVE, TWO_ASKING};
 use crate::recordings::{Recorded, in_order, source_in_order};
@@ -52,7 +55,9 @@ fn most_turns(thread: u8) -> Turns {
 }
 
 // The guest recorded in such turns of this thread.
-fn turned(alloc: Global, image: &Image, thread: u8) -> Recorded {
+fn turned(alloc: Global, image: &Image, thread: u8) -> Recorded
+    requires { IsAllowed One image.now }
+{
     let worlds = worlds(alloc, image.entries().len(), &[], FAILS)?;
     let order = [most_turns(thread), most_turns(thread)];
     record_in_turns(alloc, image, &order, worlds, 1000, Profile::One)

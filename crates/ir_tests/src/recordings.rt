@@ -1,9 +1,11 @@
 //! Guests recorded in an order or on real threads, and their traces fitted.
 
 ghost use Rattle.std.specs.Prelude.{◌≤◌};
+ghost use Rattle.ir_thread.specs.Allowed.{IsAllowed};
 ghost use Rattle.ir_thread.specs.Calls.{most_budget};
+ghost use Rattle.ir_thread.specs.declared.profile.Profile.TheVariants.{One};
 
-use crate::sources::image_of;
+use crate::sources::{image_for, image_of};
 use crate::worlds::{COUNTS, FAILS, Script, worlds};
 use ir_fit::{Fitted, fit};
 use ir_image::Image;
@@ -33,7 +35,8 @@ pub fn in_order(
     answers: &[u32],
     budget: u64,
 ) -> Recorded
-    requires { budget ≤ most_budget }
+    requires budget { budget ≤ most_budget }
+    requires allowed { IsAllowed One image.now }
 {
     let worlds = worlds(alloc, image.entries().len(), answers, FAILS)?;
     record_in_order(alloc, image, order, worlds, budget, Profile::One)
@@ -60,7 +63,9 @@ pub fn by_threads<R: Threads + Wait + Sync, G: Gate + Sync>(
     image: &Image,
     gate: &G,
     answers: &[u32],
-) -> Recorded {
+) -> Recorded
+    requires { IsAllowed One image.now }
+{
     let worlds = worlds(alloc, image.entries().len(), answers, FAILS)?;
     record(rt, alloc, image, worlds, gate, BUDGET, Profile::One)
 }
@@ -74,7 +79,8 @@ fn counting_by_threads<R: Threads + Wait + Sync, G: Gate + Sync>(
     budget: u64,
     profile: Profile,
 ) -> Recorded
-    requires { budget ≤ most_budget }
+    requires budget { budget ≤ most_budget }
+    requires allowed { IsAllowed profile image.now }
 {
     let worlds = worlds(alloc, image.entries().len(), &[], COUNTS)?;
     record(rt, alloc, image, worlds, gate, budget, profile)
@@ -88,7 +94,8 @@ fn counting_in_order(
     budget: u64,
     profile: Profile,
 ) -> Recorded
-    requires { budget ≤ most_budget }
+    requires budget { budget ≤ most_budget }
+    requires allowed { IsAllowed profile image.now }
 {
     let worlds = worlds(alloc, image.entries().len(), &[], COUNTS)?;
     record_in_order(alloc, image, order, worlds, budget, profile)
@@ -113,7 +120,7 @@ pub fn tried_by_threads<R: Threads + Wait + Sync, G: Gate + Sync>(
     source: &[&str],
     gate: &G,
 ) -> Result<(Fitted, Outputs<Script>), Fail> {
-    let image = image_of(alloc, source)?;
+    let image = image_for(alloc, Profile::Two, source)?;
     let recorded = counting_by_threads(rt, alloc, &image, gate, TRYING_BUDGET, Profile::Two);
     let (trace, outputs) = recorded?;
     Ok((fit(alloc, image, trace)?, outputs))
@@ -142,7 +149,7 @@ pub fn tried_in_order(
 ) -> Result<Fitted, Fail>
     requires { budget ≤ most_budget }
 {
-    let image = image_of(alloc, source)?;
+    let image = image_for(alloc, Profile::Two, source)?;
     let (trace, _outputs) = counting_in_order(alloc, &image, order, budget, Profile::Two)?;
     Ok(fit(alloc, image, trace)?)
 }

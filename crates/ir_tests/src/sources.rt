@@ -1,7 +1,12 @@
 //! Sources in parts.
 
+ghost use Rattle.std.specs.Prelude.{IfOk};
+ghost use Rattle.ir_thread.specs.Allowed.{IsAllowed};
+ghost use Rattle.ir_thread.specs.declared.profile.Profile.TheVariants.{One};
+
 use ir_asm::assemble;
 use ir_image::{Image, write_image};
+use ir_thread::Profile;
 use std::alloc::{AllocError, Global};
 use std::test::Fail;
 
@@ -15,12 +20,26 @@ pub fn joined(alloc: Global, parts: &[&str]) -> Result<String, AllocError> {
     Ok(source)
 }
 
-/// The guest of the parts.
-pub fn image_of(alloc: Global, parts: &[&str]) -> Result<Image, Fail> {
-    Ok(assemble(alloc, joined(alloc, parts)?.as_str())?)
+/// The guest of the parts, which the profile allows.
+pub fn image_for(alloc: Global, profile: Profile, parts: &[&str]) -> Result<Image, Fail>
+    ensures { IfOk result (λ image. IsAllowed profile image) }
+{
+    let image = assemble(alloc, joined(alloc, parts)?.as_str())?;
+    if !profile.allows(&image) {
+        return Err(Fail::from("too many threads or objects"));
+    }
+    Ok(image)
 }
 
-/// The bytes of that image.
+/// The same for the first profile.
+pub fn image_of(alloc: Global, parts: &[&str]) -> Result<Image, Fail>
+    ensures { IfOk result (λ image. IsAllowed One image) }
+{
+    image_for(alloc, Profile::One, parts)
+}
+
+/// The bytes of the image of the parts.
 pub fn image_bytes(alloc: Global, parts: &[&str]) -> Result<Vec<u8>, Fail> {
-    Ok(write_image(alloc, &image_of(alloc, parts)?)?)
+    let image = assemble(alloc, joined(alloc, parts)?.as_str())?;
+    Ok(write_image(alloc, &image)?)
 }

@@ -1,5 +1,6 @@
 //! States beside each other.
 
+use ir_image::MOST_OBJECT_WORDS;
 use ir_object::Object;
 use ir_replay::State;
 use ir_thread::Thread;
@@ -20,7 +21,7 @@ fn same_thread(a: &Thread, b: &Thread) -> bool {
 
 // Whether two objects have the same fields and words.
 fn same_object(a: &Object, b: &Object) -> bool {
-    for n in 0..8u8 {
+    for n in 0..MOST_OBJECT_WORDS as u8 {
         if a.get(n) != b.get(n) {
             return false;
         }

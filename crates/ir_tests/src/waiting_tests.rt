@@ -1,5 +1,8 @@
 //! Guests whose threads wait for one object, recorded as a plain round robin takes their steps one by one.
 
+ghost use Rattle.ir_thread.specs.Allowed.{IsAllowed};
+ghost use Rattle.ir_thread.specs.declared.profile.Profile.TheVariants.{One};
+
 use crate::guests::Source;
 use crate::recorded_guests::{EIGHT_OF_BOTH, EIGHT_WRITERS, THREE_OF_BOTH, THREE_WRITERS};
 use crate::recordings::in_order;
@@ -23,7 +26,9 @@ struct Plain<'a> {
 }
 
 impl<'a> Plain<'a> {
-    fn start(alloc: Global, image: &'a Image) -> Result<Plain<'a>, Fail> {
+    fn start(alloc: Global, image: &'a Image) -> Result<Plain<'a>, Fail>
+        requires { IsAllowed One image.now }
+    {
         let mut entries = Vec::new(alloc);
         for _ in image.entries() {
             entries.push(Vec::new(alloc))?;
@@ -122,14 +127,18 @@ impl<'a> Plain<'a> {
 }
 
 // The guest after the turns of the order.
-fn plain_run<'a>(alloc: Global, image: &'a Image, order: &[u8]) -> Result<Plain<'a>, Fail> {
+fn plain_run<'a>(alloc: Global, image: &'a Image, order: &[u8]) -> Result<Plain<'a>, Fail>
+    requires { IsAllowed One image.now }
+{
     let mut plain = Plain::start(alloc, image)?;
     plain.run(order)?;
     Ok(plain)
 }
 
 // Whether a recording by the order is what the plain turns make.
-fn is_alike(alloc: Global, image: &Image, order: &[u8]) -> Result<bool, Fail> {
+fn is_alike(alloc: Global, image: &Image, order: &[u8]) -> Result<bool, Fail>
+    requires { IsAllowed One image.now }
+{
     let (trace, _outputs) = in_order(alloc, image, order, &[], BUDGET)?;
     let plain = plain_run(alloc, image, order)?;
     Ok(plain.are_emitted(&trace))

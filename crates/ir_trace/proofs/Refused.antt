@@ -37,25 +37,25 @@ profile_follow =
 
 abbrev header_fields : (Header → Format TraceErr) → Format TraceErr
 header_fields after = profile_fields λ p.
-    next threads_field λ n. next objects_field λ m. before reserved_field (next budget_field λ b. after (headed p n m b))
+    next (threads_field p) λ n. next (objects_field p) λ m. before reserved_field (next budget_field λ b. after (headed p n m b))
 
 header_follow : Follows Short Trailing header_at header_fields
 unfolding header_at
 header_follow =
     then_follows Short Trailing profile_at profile_fields
-    (λ p b0. field_at Short threads_field b0 >>= λ n. field_at Short objects_field n.1 >>= λ m. field_at Short reserved_field m.1 >>=
+    (λ p b0. field_at Short (threads_field p) b0 >>= λ n. field_at Short (objects_field p) n.1 >>= λ m. field_at Short reserved_field m.1 >>=
     λ r. field_at Short budget_field r.1 >>= λ b. Ok (headed p n.0 m.0 b.0, b.1))
-    (λ p after. next threads_field λ n. next objects_field λ m. before reserved_field (next budget_field λ b. after (headed p n m b)))
+    (λ p after. next (threads_field p) λ n. next (objects_field p) λ m. before reserved_field (next budget_field λ b. after (headed p n m b)))
     profile_follow (λ p.
-    then_follows Short Trailing (field_at Short threads_field) (next threads_field)
-    (λ n b1. field_at Short objects_field b1 >>= λ m. field_at Short reserved_field m.1 >>= λ r. field_at Short budget_field r.1 >>= λ b.
+    then_follows Short Trailing (field_at Short (threads_field p)) (next (threads_field p))
+    (λ n b1. field_at Short (objects_field p) b1 >>= λ m. field_at Short reserved_field m.1 >>= λ r. field_at Short budget_field r.1 >>= λ b.
     Ok (headed p n m.0 b.0, b.1))
-    (λ n after. next objects_field λ m. before reserved_field (next budget_field λ b. after (headed p n m b)))
-    (field_follows Short Trailing threads_field) (λ n.
-    then_follows Short Trailing (field_at Short objects_field) (next objects_field)
+    (λ n after. next (objects_field p) λ m. before reserved_field (next budget_field λ b. after (headed p n m b)))
+    (field_follows Short Trailing (threads_field p)) (λ n.
+    then_follows Short Trailing (field_at Short (objects_field p)) (next (objects_field p))
     (λ m b2. field_at Short reserved_field b2 >>= λ r. field_at Short budget_field r.1 >>= λ b. Ok (headed p n m b.0, b.1))
     (λ m after. before reserved_field (next budget_field λ b. after (headed p n m b)))
-    (field_follows Short Trailing objects_field) (λ m.
+    (field_follows Short Trailing (objects_field p)) (λ m.
     then_follows Short Trailing (field_at Short reserved_field) (next reserved_field)
     (λ _ b3. field_at Short budget_field b3 >>= λ b. Ok (headed p n m b.0, b.1))
     (λ _ after. next budget_field λ b. after (headed p n m b))

@@ -6,7 +6,8 @@ use Rattle.std.proofs.lemmas.List.{append-nil, nil_from_length}
 use Rattle.byteorder.specs.Endian.{little_bytes}
 use Rattle.ir_bytes.specs.Reading.{number_at, field_at, fields_at}
 use Rattle.ir_bytes.proofs.CallerLemmas.{three_ok, five_ok, six_ok, pass_ok, ok_is, within_ok, within_again, IsBytes, bytes_fit, Takes, Takes-then, number_takes, number_again, TakesField, field_takes, field_again, byte_taken, byte_field_again, TakesFields, fields_take, fields_again}
-use Rattle.ir_image.specs.Guest.{most_threads, most_objects}
+use Rattle.ir_image.specs.Forms.{limits_of}
+use Rattle.ir_thread.specs.Allowed.{largest}
 use Rattle.ir_thread.specs.Calls.{most_budget, most_events}
 use Rattle.ir_thread.specs.declared.end.End.{End}
 use Rattle.ir_thread.specs.declared.profile.Profile.{Profile}
@@ -25,8 +26,8 @@ use Rattle.ir_trace.proofs.Taken.{profile_takes, profile_again, reserved_takes, 
 -- a header within its limits
 record IsWithin (h : Header) : Type 0 where
   some_thread : 1 ≤ h.threads
-  few_threads : h.threads ≤ most_threads
-  few_objects : h.objects ≤ most_objects
+  few_threads : h.threads ≤ (limits_of (largest h.profile)).threads
+  few_objects : h.objects ≤ (limits_of (largest h.profile)).objects
   budget_fits : h.budget ≤ most_budget
 
 -- what reading the header takes
@@ -35,13 +36,13 @@ record TakesHeader (all : List ℕ) (x : Header × List ℕ) : Type 0 where
   within : IsWithin x.0
 
 header_taken : (all : List ℕ) (first : Profile × List ℕ) (threads objects reserved budget : ℕ × List ℕ) → Takes all (magic first.0) first.1
-    → TakesField threads_field first.1 threads → TakesField objects_field threads.1 objects
+    → TakesField (threads_field first.0) first.1 threads → TakesField (objects_field first.0) threads.1 objects
     → Takes objects.1 (little_bytes 2 0) reserved.1 → TakesField budget_field reserved.1 budget
     → TakesHeader all (record { profile = first.0; threads = threads.0; objects = objects.0; budget = budget.0 }, budget.1)
 unfolding header_encoding
 header_taken all first threads objects reserved budget t0 t1 t2 t3 t4 =
-    let n = within_ok 1 most_threads threads.0 Count t1.passes in
-    let m = within_ok 0 most_objects objects.0 Count t2.passes in
+    let n = within_ok 1 (limits_of (largest first.0)).threads threads.0 Count t1.passes in
+    let m = within_ok 0 (limits_of (largest first.0)).objects objects.0 Count t2.passes in
     let b = within_ok 0 most_budget budget.0 Count t4.passes in
     let counts = Takes-then first.1 (threads.0 ∷ []) threads.1 (objects.0 ∷ []) objects.1 (byte_taken first.1 threads t1.takes t1.fits)
     (byte_taken threads.1 objects t2.takes t2.fits) in
@@ -56,15 +57,15 @@ header_taken all first threads objects reserved budget t0 t1 t2 t3 t4 =
 header_take : (all : List ℕ) (x : Header × List ℕ) → IsBytes all → header_at all ≡ Ok x → TakesHeader all x
 unfolding header_at
 header_take all x fits e =
-    six_ok (profile_at all) (λ first. field_at Short threads_field first.1)
-    (λ first threads. field_at Short objects_field threads.1)
+    six_ok (profile_at all) (λ first. field_at Short (threads_field first.0) first.1)
+    (λ first threads. field_at Short (objects_field first.0) threads.1)
     (λ first threads objects. field_at Short reserved_field objects.1)
     (λ first threads objects reserved. field_at Short budget_field reserved.1)
     (λ first threads objects reserved budget. Ok (record { profile = first.0; threads = threads.0; objects = objects.0; budget = budget.0 }, budget.1)) x e
     (λ first threads objects reserved budget e0 e1 e2 e3 e4 e5.
     let t0 = profile_takes all first fits e0 in
-    let t1 = field_takes Short threads_field first.1 threads t0.rest_fits e1 in
-    let t2 = field_takes Short objects_field threads.1 objects t1.takes.rest_fits e2 in
+    let t1 = field_takes Short (threads_field first.0) first.1 threads t0.rest_fits e1 in
+    let t2 = field_takes Short (objects_field first.0) threads.1 objects t1.takes.rest_fits e2 in
     let t3 = reserved_takes objects.1 reserved t2.takes.rest_fits e3 in
     let t4 = field_takes Short budget_field reserved.1 budget t3.rest_fits e4 in
     subst (λ (y : Header × List ℕ). TakesHeader all y)
@@ -80,10 +81,10 @@ header_again h rest within =
     let r2 = little_bytes 8 h.budget ++ rest in
     let r1 = little_bytes 2 0 ++ r2 in
     let e0 = profile_again h.profile (h.threads ∷ h.objects ∷ r1) in
-    let e1 = byte_field_again Short threads_field h.threads (h.objects ∷ r1) refl
-    (within_again 1 most_threads h.threads Count within.some_thread within.few_threads) in
-    let e2 = byte_field_again Short objects_field h.objects r1 refl
-    (within_again 0 most_objects h.objects Count (omega arith) within.few_objects)
+    let e1 = byte_field_again Short (threads_field h.profile) h.threads (h.objects ∷ r1) refl
+    (within_again 1 (limits_of (largest h.profile)).threads h.threads Count within.some_thread within.few_threads) in
+    let e2 = byte_field_again Short (objects_field h.profile) h.objects r1 refl
+    (within_again 0 (limits_of (largest h.profile)).objects h.objects Count (omega arith) within.few_objects)
     in
     let e3 = reserved_again r2 in
     let e4 = field_again Short budget_field h.budget rest (omega (arith, within.budget_fits))

@@ -13,7 +13,6 @@ use crate::thread_trace::ThreadTrace;
 use crate::trace::Trace;
 use crate::trace_err::TraceErr;
 use ir_bytes::{byte_within, double, double_within, fixed_half, word, word_within};
-use ir_image::{MOST_OBJECTS, MOST_THREADS};
 use ir_thread::{End, MOST_BUDGET, MOST_EVENTS, Profile};
 use std::alloc::Global;
 
@@ -33,8 +32,9 @@ fn header(bytes: &[u8]) -> Result<(Header, &[u8]), TraceErr>
     ensures { Gives (λ x. (x.0, x.1.now)) result (header_at bytes.now) }
 {
     let (profile, rest) = profile(bytes)?;
-    let (threads, rest) = byte_within(1, MOST_THREADS, rest, TraceErr::Short, TraceErr::Count)?;
-    let (objects, rest) = byte_within(0, MOST_OBJECTS, rest, TraceErr::Short, TraceErr::Count)?;
+    let most = profile.largest().limits();
+    let (threads, rest) = byte_within(1, most.threads, rest, TraceErr::Short, TraceErr::Count)?;
+    let (objects, rest) = byte_within(0, most.objects, rest, TraceErr::Short, TraceErr::Count)?;
     let rest = fixed_half(0, rest, TraceErr::Short, TraceErr::Reserved)?;
     let (budget, rest) = double_within(MOST_BUDGET, rest, TraceErr::Short, TraceErr::Count)?;
     Ok((

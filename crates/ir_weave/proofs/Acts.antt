@@ -6,7 +6,7 @@ use mathlib.Core.Option.{some, none}
 use lib.ListN.{get_elem?}
 use Rattle.atomic_table.specs.Table.{State, step, keeps, Allows}
 use Rattle.atomic_table.proofs.Lists.{set_again}
-use Rattle.ir_image.specs.Guest.{object_count, object_words}
+use Rattle.ir_image.specs.Guest.{object_count, most_object_words}
 use Rattle.ir_thread.specs.Calls.{ask_of, after_ask, Permits}
 use Rattle.ir_thread.proofs.CallerLemmas.{ask_permits}
 use Rattle.ir_thread.specs.Instance.{shared_ask}
@@ -502,7 +502,7 @@ left_writing_at slots id o v y q c ahead inside is has emits x h homes at small 
     (made.0, keeps, tt, made.1, made.2)
 
 pub gets_at : (slots id o i : ℕ) (y : thread.State) (q : Progress) (c : List (ℕ × Unit {0}))
-    → IsAhead (trace_in q.plan) q.thread q.position y → o < object_count (trace_in q.plan).guest → i < object_words
+    → IsAhead (trace_in q.plan) q.thread q.position y → o < object_count (trace_in q.plan).guest → i < most_object_words
     → ask_of (trace_in q.plan).guest.code y ≡ Get o i
     → HasStep (trace_in q.plan) q.thread y.steps
     → Allows (Woven q.plan) slots id (q ∷ [], c) (content_place o i) (λ n. n)
@@ -536,7 +536,7 @@ gets_at slots id o i y q c ahead inside few is has x h homes at small =
     get_index _ = 0
 
 pub puts_at : (slots id o i v : ℕ) (y : thread.State) (q : Progress) (c : List (ℕ × Unit {0})) → v < 2 ^ 32
-    → IsAhead (trace_in q.plan) q.thread q.position y → o < object_count (trace_in q.plan).guest → i < object_words
+    → IsAhead (trace_in q.plan) q.thread q.position y → o < object_count (trace_in q.plan).guest → i < most_object_words
     → ask_of (trace_in q.plan).guest.code y ≡ Put o i v
     → HasStep (trace_in q.plan) q.thread y.steps
     → Allows (Woven q.plan) slots id (q ∷ [], c) (content_place o i) (λ _. v)

@@ -42,7 +42,7 @@ pub starts_at : (f : FittedTrace) (s : Flat) → s ≡ start_flat f.guest f.reco
 starts_at f s same = subst (IsStateAt f (λ t. 0)) (sym same) (record {
   code = refl;
   threads = threads_length f.guest f.recorded.budget f.recorded.profile 0 (length f.guest.entries);
-  objects = cells_length f.guest.words (object_count f.guest);
+  objects = cells_length f.guest 0 (object_count f.guest);
   steps = none_taken f;
   each = λ run is.
       subst (λ p. IsAt f p (start_flat f.guest f.recorded.budget f.recorded.profile) run) (λ i t. none_taken f t i)

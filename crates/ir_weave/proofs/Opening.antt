@@ -9,14 +9,16 @@ use Rattle.atomic_table.specs.Seated.{TableId}
 use Rattle.atomic_table.specs.Table.{Final, Seen, opening, Splits, Joins}
 use Rattle.atomic_table.specs.declared.shared.Seat.{Seat}
 use Rattle.atomic_table.proofs.Lists.{at_set}
-use Rattle.ir_image.specs.Guest.{Guest, IsGuest, object_count, object_words}
+use Rattle.ir_image.specs.Guest.{Guest, IsGuest, object_count, most_object_words}
+use Rattle.ir_thread.specs.Allowed.{IsAllowed}
 use Rattle.ir_thread.specs.State as thread
+use Rattle.ir_thread.specs.declared.profile.Profile.{Profile}
 use Rattle.ir_object.specs.Cell.{Cell}
 use Rattle.ir_object.specs.Word.{word_of, fields_of}
 use Rattle.ir_flat.specs.Flat.{Flat, IsFlat, empty, start_flat}
 use Rattle.ir_weave.proofs.Onward.{starts_at}
 use Rattle.ir_runs.specs.Cuts.{Cut}
-use Rattle.ir_fit.specs.Fit.{FittedTrace, HasRun}
+use Rattle.ir_fit.specs.Fit.{FittedTrace, HasRun, IsFitted}
 use Rattle.ir_weave.specs.Standing.{Standing, StandsAt, flat_in}
 use Rattle.ir_weave.specs.States.{IsStateAt, positions}
 use Rattle.ir_object.specs.Layout.{line_words, apart, table_length, word_place, content_place}
@@ -278,26 +280,26 @@ laid_at cells o r l =
     (le-ltb (word_place o + r) line_words (omega arith))
     ∙ (λ i. word_in (object_in cells (quot o r l i)) (rem o r l i))
 
-content_at : (c : Cell) (i : ℕ) → i < object_words → word_in c (line_words + i) ≡ get_or c.words i 0
+content_at : (c : Cell) (i : ℕ) → i < most_object_words → word_in c (line_words + i) ≡ get_or c.words i 0
 content_at c i l =
     ap (λ (b : Bool). cond b (word_of c.fields) (cond (ltb (line_words + i) line_words) 0
-    (cond (ltb (line_words + i) (line_words + object_words)) (get_or c.words (line_words + i - line_words) 0) 0)))
+    (cond (ltb (line_words + i) (line_words + most_object_words)) (get_or c.words (line_words + i - line_words) 0) 0)))
     (ne_eqb (line_words + i) 0 (λ e. omega (arith, e)))
-    ∙ ap (λ (b : Bool). cond b 0 (cond (ltb (line_words + i) (line_words + object_words)) (get_or c.words (line_words + i - line_words) 0)
+    ∙ ap (λ (b : Bool). cond b 0 (cond (ltb (line_words + i) (line_words + most_object_words)) (get_or c.words (line_words + i - line_words) 0)
     0)) (le-ltb (line_words + i) line_words (omega arith))
     ∙ ap (λ (b : Bool). cond b (get_or c.words (line_words + i - line_words) 0) 0)
-    (lt-ltb (line_words + i) (line_words + object_words) (omega (arith, l)))
+    (lt-ltb (line_words + i) (line_words + most_object_words) (omega (arith, l)))
     ∙ ap (λ n. get_or c.words n 0) (let e : line_words + i - line_words ≡ i = omega arith in e)
 
 pub table_of : (cells : List Cell) (ws : List ℕ) → IsLaid cells ws (table_length (length cells))
-    → ((o : ℕ) → o < length cells → length (object_in cells o).words ≡ object_words) → IsTable cells ws
+    → ((o : ℕ) → o < length cells → length (object_in cells o).words ≡ most_object_words) → IsTable cells ws
 table_of cells ws h sizes = record {
   size = h.count;
   heads = λ o l. ap (λ z. get_or ws z 0) (let e : word_place o ≡ word_place o + 0 = omega arith in e)
       ∙ h.each (word_place o + 0) (omega (arith, l)) ∙ laid_at cells o 0 (omega arith);
   places = placed;
   small = λ o i. elim (cases_lt o (length cells)) [
-    | inl l ↦ elim (cases_lt i object_words) [
+    | inl l ↦ elim (cases_lt i most_object_words) [
       | inl few ↦ subst (λ n. n < 2 ^ 32) (placed o i l few) (h.small o i (omega (arith, l, few)) few)
       | inr past ↦ subst (λ n. n < 2 ^ 32) (sym (get_or_past (object_in cells o).words i 0 (let e = sizes o l in omega (arith, e, past))))
           (omega arith)
@@ -306,14 +308,14 @@ table_of cells ws h sizes = record {
   ];
 }
   where
-    placed : (o i : ℕ) → o < length cells → i < object_words → get_or ws (content_place o i) 0 ≡ get_or (object_in cells o).words i 0
+    placed : (o i : ℕ) → o < length cells → i < most_object_words → get_or ws (content_place o i) 0 ≡ get_or (object_in cells o).words i 0
     placed o i l few = ap (λ z. get_or ws z 0) (let e : content_place o i ≡ word_place o + (line_words + i) = omega arith in e)
         ∙ h.each (word_place o + (line_words + i)) (omega (arith, l, few)) ∙ laid_at cells o (line_words + i) (omega (arith, few))
         ∙ content_at (object_in cells o) i few
 
 -- one word more
 pub laid_more : (cells : List Cell) (ws ws' : List ℕ) (k w : ℕ) → IsLaid cells ws k → w ≡ laid cells k
-    → ((o i : ℕ) → i < object_words → k ≡ content_place o i → w < 2 ^ 32) → ws' ≡ ws ++ w ∷ [] → IsLaid cells ws' (k + 1)
+    → ((o i : ℕ) → i < most_object_words → k ≡ content_place o i → w < 2 ^ 32) → ws' ≡ ws ++ w ∷ [] → IsLaid cells ws' (k + 1)
 laid_more cells ws ws' k w h is small same = subst (λ z. IsLaid cells z (k + 1)) (sym same) (record {
   count = length-append ws (w ∷ []) ∙ (let c = h.count in omega (arith, c));
   each = λ j l. elim (cases_lt j k) [
@@ -350,7 +352,7 @@ some_threads f s ts g guest is same size = let some = guest.some_thread in let a
 
 -- ---- the objects at the end
 
-pub read_more : (ws : List ℕ) (from : ℕ) (xs : List ℕ) (n w : ℕ) → AreRead ws from xs n → n < object_words → w ≡ get_or ws (from + n) 0
+pub read_more : (ws : List ℕ) (from : ℕ) (xs : List ℕ) (n w : ℕ) → AreRead ws from xs n → n < most_object_words → w ≡ get_or ws (from + n) 0
     → AreRead ws from (set xs n w) (n + 1)
 read_more ws from xs n w h inside is = record {
   size = length-set xs n w ∙ h.size;
@@ -363,11 +365,11 @@ read_more ws from xs n w h inside is = record {
 
 -- an object that is read from the words is the table's
 pub object_read : (cells : List Cell) (ws : List ℕ) (o w : ℕ) (xs : List ℕ) (c : Cell) → IsTable cells ws → o < length cells
-    → length (object_in cells o).words ≡ object_words → fields_of (word_of (object_in cells o).fields) ≡ (object_in cells o).fields
-    → w ≡ get_or ws (word_place o) 0 → AreRead ws (2 * line_words + apart * o) xs object_words
+    → length (object_in cells o).words ≡ most_object_words → fields_of (word_of (object_in cells o).fields) ≡ (object_in cells o).fields
+    → w ≡ get_or ws (word_place o) 0 → AreRead ws (2 * line_words + apart * o) xs most_object_words
     → c ≡ record { fields = fields_of w; words = xs } → c ≡ object_in cells o
 object_read cells ws o w xs c t l sizes fits word read is =
-    let long : length xs ≡ object_words = read.size in
+    let long : length xs ≡ most_object_words = read.size in
     let fields : fields_of w ≡ (object_in cells o).fields = ap fields_of (word ∙ t.heads o l) ∙ fits in
     let words : xs ≡ (object_in cells o).words =
     ext_get_or 0 xs (object_in cells o).words (long ∙ sym sizes)
@@ -402,6 +404,14 @@ none_read k v ws e xs room = record { size = room ∙ sym (end_count k v ws e); 
 pub closes : (k : Plan) (v : View) (ws : List ℕ) (e : IsEnd k v ws) (xs : List Cell) (n : ℕ) → AreObjects e.cells xs n → length xs ≤ n
     → IsClosed k v xs
 closes k v ws e xs n h all = subst (IsClosed k v) (sym (all_objects e.cells xs n h all)) e.closed
+
+-- a guest with a trace has no more threads and objects than the trace's profile allows
+pub allowed : (f : FittedTrace) (p : Profile) (g : Guest) → IsFitted f → p ≡ f.recorded.profile → g ≡ f.guest → IsAllowed p g
+allowed f p g fitted profile guest =
+    let header = fitted.run.whole.0 in let threads = header.threads in let objects = header.objects in
+    let few = fitted.within.few_threads in let less = fitted.within.few_objects in
+    let both : IsAllowed f.recorded.profile f.guest = (omega (arith, threads, few), omega (arith, objects, less)) in
+    subst (λ (z : Profile × Guest). IsAllowed z.0 z.1) (λ i. (sym profile i, sym guest i)) both
 
 -- the state before the first step
 pub stands_first : (f : FittedTrace) (first : Flat) (s : Standing) → first ≡ start_flat f.guest f.recorded.budget f.recorded.profile → IsFlat first

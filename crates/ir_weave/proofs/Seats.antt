@@ -4,7 +4,7 @@ use Rattle.std.proofs.lemmas.Bool.{cases_eq, cases_lt}
 use Rattle.std.specs.Prelude.{slice_get, IsTrue, ◌↔◌}
 use mathlib.Core.Option.{none}
 use Rattle.atomic_table.specs.Table.{Step as TableStep, step, Allows}
-use Rattle.ir_image.specs.Guest.{object_count, object_words}
+use Rattle.ir_image.specs.Guest.{object_count, most_object_words}
 use Rattle.ir_thread.specs.Calls.{ask_of, Permits}
 use Rattle.ir_runs.specs.Labels.{Out}
 use Rattle.ir_thread.specs.State as thread
@@ -64,11 +64,11 @@ pub left_inside : (f : FittedTrace) (t i : ℕ) (x : thread.State) (o : ℕ) (a 
 left_inside f t i x o a ahead is = let p = (permits f x (Leave o a) is).1 in let e = ahead.held in omega (arith, p, e)
 
 pub read_inside : (f : FittedTrace) (t i : ℕ) (x : thread.State) (o j : ℕ) → IsAhead f t i x → ask_of f.guest.code x ≡ Get o j
-    → (o < object_count f.guest) × (j < object_words)
+    → (o < object_count f.guest) × (j < most_object_words)
 read_inside f t i x o j ahead is = let p = permits f x (Get o j) is in let e = ahead.held in (omega (arith, p.1, e), p.2)
 
 pub put_inside : (f : FittedTrace) (t i : ℕ) (x : thread.State) (o j v : ℕ) → IsAhead f t i x → ask_of f.guest.code x ≡ Put o j v
-    → (o < object_count f.guest) × (j < object_words)
+    → (o < object_count f.guest) × (j < most_object_words)
 put_inside f t i x o j v ahead is = let p = permits f x (Put o j v) is in let e = ahead.held in (omega (arith, p.1, e), p.2)
 
 -- ---- seats of one thread

@@ -2,7 +2,7 @@
 use Rattle.std.proofs.Common.{◌≡◌, ℕ, ◌^◌, ◌<◌, List, length, get_or, set, sym, ap, ◌∙◌, subst, arith, inl, inr, length-set, get_or-set_same, get_or-set_other}
 use Rattle.std.proofs.lemmas.Bool.{cases_eq}
 use Rattle.std.proofs.lemmas.List.{set-get_or}
-use Rattle.ir_image.specs.Guest.{object_words}
+use Rattle.ir_image.specs.Guest.{most_object_words}
 use Rattle.ir_object.specs.Cell.{Cell}
 use Rattle.ir_object.specs.Word.{word_of}
 use Rattle.ir_flat.specs.Flat.{empty}
@@ -40,8 +40,8 @@ head_changes cells words o w c t l is same = record {
 }
 
 -- a word of its contents
-pub place_changes : (cells : List Cell) (words : List ℕ) (o i v : ℕ) (c : Cell) → IsTable cells words → o < length cells → i < object_words
-    → v < 2 ^ 32 → length (object_in cells o).words ≡ object_words → c.fields ≡ (object_in cells o).fields
+pub place_changes : (cells : List Cell) (words : List ℕ) (o i v : ℕ) (c : Cell) → IsTable cells words → o < length cells → i < most_object_words
+    → v < 2 ^ 32 → length (object_in cells o).words ≡ most_object_words → c.fields ≡ (object_in cells o).fields
     → c.words ≡ set (object_in cells o).words i v
     → IsTable (set cells o c) (set words (content_place o i) v)
 place_changes cells words o i v c t l few value sizes same is = record {
@@ -74,7 +74,7 @@ place_changes cells words o i v c t l few value sizes same is = record {
       | inr ne ↦ subst (λ z. z < 2 ^ 32) (sym (get_or-set_other (object_in cells o).words i j v 0 ne)) (t.small o j)
     ]
 
-    own : (j : ℕ) → j < object_words → get_or (set words (content_place o i) v) (content_place o j) 0 ≡ get_or c.words j 0
+    own : (j : ℕ) → j < most_object_words → get_or (set words (content_place o i) v) (content_place o j) 0 ≡ get_or c.words j 0
     own j less = elim (cases_eq j i) [
       | inl here ↦ subst (λ z. get_or (set words (content_place o i) v) (content_place o z) 0 ≡ get_or c.words z 0) (sym here)
           (get_or-set_same words (content_place o i) v 0 (let e = t.size in omega (arith, e, l, few))

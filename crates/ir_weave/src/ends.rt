@@ -4,7 +4,7 @@ ghost use Rattle.std.specs.Prelude.{◌≡◌, ◌≢◌, ◌+◌, ◌*◌, ◌^
 ghost use Rattle.std.specs.Slots.{slots_items, slots_len, IsFull};
 ghost use Rattle.ir_weave.specs.declared.plan.Plan.{Plan};
 ghost use Rattle.ir_weave.specs.declared.plan.Progress.{Progress};
-ghost use Rattle.ir_image.specs.Guest.{most_objects, object_count, object_words};
+ghost use Rattle.ir_image.specs.Guest.{most_objects, object_count, most_object_words};
 ghost use Rattle.ir_object.specs.Cell.{Cell};
 ghost use Rattle.ir_weave.specs.Standing.{StandsAt, flat_in};
 ghost use Rattle.ir_weave.specs.States.{positions};
@@ -18,7 +18,7 @@ use crate::state::State;
 use crate::weave::{Weave, WeaveSeat};
 use atomic_table::{Closed, Table};
 use ir_fit::Fitted;
-use ir_image::OBJECT_WORDS;
+use ir_image::MOST_OBJECT_WORDS;
 use ir_object::{APART, CONTENT_PLACE, Object, WORD_PLACE, Word};
 use std::alloc::{AllocError, Global};
 use std::snapshot::Snapshot;
@@ -30,7 +30,7 @@ const CONTENTS: usize = CONTENT_PLACE - WORD_PLACE;
 fn word_at(objects: &[Object], k: usize) -> u64
     requires { k < table_length (length objects.now) }
     ensures value { result ≡ laid objects.now k }
-    ensures small { (o i : ℕ) → i < object_words → k ≡ content_place o i → result < 2 ^ 32 }
+    ensures small { (o i : ℕ) → i < most_object_words → k ≡ content_place o i → result < 2 ^ 32 }
 {
     if k < WORD_PLACE {
         return 0;
@@ -40,7 +40,7 @@ fn word_at(objects: &[Object], k: usize) -> u64
     if r == 0 {
         return Word::pack(object.fields()).bits;
     }
-    if r < CONTENTS || r >= CONTENTS + OBJECT_WORDS {
+    if r < CONTENTS || r >= CONTENTS + MOST_OBJECT_WORDS {
         return 0;
     }
     u64::from(object.contents()[r - CONTENTS])
@@ -130,13 +130,13 @@ impl Weave {
 }
 
 // The contents of an object.
-fn contents_at(closed: &Closed<(), Global>, from: usize) -> [u32; OBJECT_WORDS]
-    requires room { from + object_words ≤ slots_len closed.now.words }
+fn contents_at(closed: &Closed<(), Global>, from: usize) -> [u32; MOST_OBJECT_WORDS]
+    requires room { from + most_object_words ≤ slots_len closed.now.words }
     requires full { IsFull closed.now.words }
-    requires small { (i : ℕ) → i < object_words → slice_index (slots_items closed.now.words) (from + i) < 2 ^ 32 }
-    ensures { AreRead (slots_items closed.now.words) from result object_words }
+    requires small { (i : ℕ) → i < most_object_words → slice_index (slots_items closed.now.words) (from + i) < 2 ^ 32 }
+    ensures { AreRead (slots_items closed.now.words) from result most_object_words }
 {
-    let mut contents = [0; OBJECT_WORDS];
+    let mut contents = [0; MOST_OBJECT_WORDS];
     for (i, word) in contents.iter_mut().enumerate() {
         *word = closed.word(from + i) as u32;
     }

@@ -38,6 +38,7 @@ impl State {
         ensures own { IfOk result (λ s. StandsAt fitted.now (positions (flat_in fitted.now s)) s) }
         ensures below { IfOk result (λ s. (p : ℕ → ℕ) (t : ℕ) → positions (flat_in fitted.now s) t ≤ p t) }
     {
+        fitted.known();
         let trace = fitted.trace();
         let flat = Flat::start(alloc, fitted.image(), trace.budget(), trace.profile())?;
         let (threads, objects) = flat.into_parts();

@@ -1,5 +1,6 @@
 -- What is shown of the guest at the cut.
 use Rattle.std.specs.Prelude.{ℕ, zero, suc, ◌+◌, List, [], ◌∷◌, length, take, Option, Some, None}
+use Rattle.ir_image.specs.Guest.{object_words}
 use Rattle.ir_mach.specs.Memory.{byte_at}
 use Rattle.ir_runs.specs.Labels.{Label}
 use Rattle.ir_thread.specs.State as thread
@@ -34,7 +35,8 @@ bytes_from code memory (suc n) address = byte_or_zero (byte_at code memory addre
 unfoldable pub shown : List run.Step → Desk → Show → List ℕ
 shown steps d (Registers t) = machine_text (current steps d t).core
 shown steps d (Memory t address size) = memory_text address (bytes_from d.fitted.guest.code (current steps d t).core.memory size address)
-shown steps d (Object o) = object_text (threads_of d.fitted) (object_at (machine_of d.fitted) (start_of d.fitted) steps (cut_of d.at) o)
+shown steps d (Object o) = object_text (threads_of d.fitted) (object_words d.fitted.guest)
+    (object_at (machine_of d.fitted) (start_of d.fitted) steps (cut_of d.at) o)
 shown steps d (Output t) = output_text (current steps d t).output
 shown steps d (Log t) = log_text (logged_so_far steps d t) (length (run.log (machine_of d.fitted) (start_of d.fitted) steps t))
 shown steps d (Next t) = next_text d.fitted.guest.code (current steps d t)

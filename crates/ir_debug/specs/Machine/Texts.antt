@@ -2,7 +2,6 @@
 use Rattle.std.specs.Prelude.{◌==◌, ℕ, zero, suc, ◌+◌, ◌/◌, List, [], ◌∷◌, ◌++◌, take, drop, length, flat_map, codes, decimal, Option, Some, None, if◌then◌else◌}
 use Rattle.hex.specs.Hex.{encode_lower}
 use Rattle.ir_image.specs.Fetch.{word_at}
-use Rattle.ir_image.specs.Guest.{object_words}
 use Rattle.ir_thread.specs.Held.{highest}
 use Rattle.ir_runs.specs.Labels.{Label, Quiet, Answer, In, Out}
 use Rattle.ir_runs.specs.Labels as labels
@@ -95,13 +94,13 @@ abbrev pub words_text : (ℕ → ℕ) → ℕ → List ℕ
 words_text words zero = []
 words_text words (suc n) = words_text words n ++ codes " " ++ hex_word (words n)
 
--- an object among so many threads
-abbrev pub object_text : ℕ → Object → List ℕ
-object_text threads o =
+-- an object of so many words among so many threads
+abbrev pub object_text : ℕ → ℕ → Object → List ℕ
+object_text threads words o =
     codes "version " ++ decimal o.version ++ codes " left " ++ decimal o.left
     ++ codes " readers " ++ joined (inside_for Reading o.inside threads) ++ codes " writer " ++ joined (inside_for Writing o.inside threads)
     ++ codes "\n"
-    ++ codes "words" ++ words_text o.words object_words ++ codes "\n"
+    ++ codes "words" ++ words_text o.words words ++ codes "\n"
 
 -- ---- events
 

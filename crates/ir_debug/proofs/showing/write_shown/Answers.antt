@@ -2,6 +2,7 @@ use Rattle.std.proofs.Common.{◌≤◌, ◌∙◌, OnOk, OnErr, length, ap, sub
 use Rattle.std.specs.Io.KnownBytes.{Appends}
 use Rattle.ir_stream.specs.Devices.{AppendsPrefix}
 use Rattle.std.proofs.lemmas.List.{length-take}
+use Rattle.ir_image.specs.Guest.{object_words}
 use Rattle.ir_debug.specs.Debugging.{Debugging}
 use Rattle.ir_debug.proofs.Here.{asked, within, object_there, object_read}
 use Rattle.ir_debug.proofs.Passed.{thread_below, passes, address_low}
@@ -60,8 +61,9 @@ returns-in-Object-clause-ok g c =
     let new = g.W.Sink.written c.write_object.new.writer in
     subst (λ text. OnOk c.write_object.result (Appends old new text))
     (object_read c.args.debugger.now c.args.show c.objects.result.now c.threads.result.now c.index-objects-number.result c.in-Object.object
-    c.in-Object.is c.requires (c.objects.ensures ∙ ap (λ s. s.objects) c.state-state.ensures)
-    (c.threads.ensures ∙ ap (λ s. s.threads) c.state-state.ensures) c.index-objects-number.is) c.write_object.ensures.ok
+    c.object_words.result c.in-Object.is c.requires (c.objects.ensures ∙ ap (λ s. s.objects) c.state-state.ensures)
+    (c.threads.ensures ∙ ap (λ s. s.threads) c.state-state.ensures)
+    (c.object_words.ensures.value ∙ ap object_words (c.image.ensures.value ∙ ap (λ f. f.guest) c.fitted.ensures.value)) c.index-objects-number.is) c.write_object.ensures.ok
 
 pub returns-in-Object-clause-prefix : goal.returns-in-Object-clause-prefix
 returns-in-Object-clause-prefix g c =
@@ -69,5 +71,6 @@ returns-in-Object-clause-prefix g c =
     let new = g.W.Sink.written c.write_object.new.writer in
     subst (λ text. OnErr c.write_object.result (AppendsPrefix old new text))
     (object_read c.args.debugger.now c.args.show c.objects.result.now c.threads.result.now c.index-objects-number.result c.in-Object.object
-    c.in-Object.is c.requires (c.objects.ensures ∙ ap (λ s. s.objects) c.state-state.ensures)
-    (c.threads.ensures ∙ ap (λ s. s.threads) c.state-state.ensures) c.index-objects-number.is) c.write_object.ensures.prefix
+    c.object_words.result c.in-Object.is c.requires (c.objects.ensures ∙ ap (λ s. s.objects) c.state-state.ensures)
+    (c.threads.ensures ∙ ap (λ s. s.threads) c.state-state.ensures)
+    (c.object_words.ensures.value ∙ ap object_words (c.image.ensures.value ∙ ap (λ f. f.guest) c.fitted.ensures.value)) c.index-objects-number.is) c.write_object.ensures.prefix

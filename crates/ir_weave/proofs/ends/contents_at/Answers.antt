@@ -1,6 +1,6 @@
 use Rattle.std.proofs.Common.{◌+◌, ◌<◌, ◌≤◌, ◌^◌, ℕ, List, Fits, w32, refl, sym, subst, arith}
 use Rattle.std.specs.Slots.{slots_items}
-use Rattle.ir_image.specs.Guest.{object_words}
+use Rattle.ir_image.specs.Guest.{most_object_words}
 use Rattle.ir_weave.specs.Woven.{AreRead}
 use Rattle.ir_weave.proofs.Opening.{read_more, found_word}
 use Rattle.ir_weave.proofs.ends.contents_at.Goals as goal
@@ -21,7 +21,7 @@ loop-i-preserved c = read_more (slots_items c.args.closed.now.words) c.args.from
     c.loop-i.invariant c.loop-i-test.true (sym (found_word (slots_items c.args.closed.now.words) (c.args.from + c.loop-i.i) c.word.result
     c.word.ensures))
 
-all_read : (ws : List ℕ) (from : ℕ) (xs : List ℕ) (n : ℕ) → AreRead ws from xs n → object_words ≤ n → AreRead ws from xs object_words
+all_read : (ws : List ℕ) (from : ℕ) (xs : List ℕ) (n : ℕ) → AreRead ws from xs n → most_object_words ≤ n → AreRead ws from xs most_object_words
 all_read ws from xs n h l = record { size = h.size; each = λ i k. h.each i (omega (arith, k, l)) }
 
 pub returns : goal.returns

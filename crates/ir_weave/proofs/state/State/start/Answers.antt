@@ -1,9 +1,13 @@
 use Rattle.std.proofs.Common.{◌∙◌, ap}
 use Rattle.ir_flat.specs.Flat.{start_flat}
 use Rattle.ir_weave.specs.Standing.{Standing, StandsAt}
-use Rattle.ir_weave.proofs.Opening.{stands_first, stands_own, first_below}
+use Rattle.ir_weave.proofs.Opening.{allowed, stands_first, stands_own, first_below}
 use Rattle.ir_weave.proofs.state.State.start.Goals as goal
 use Rattle.ir_weave.proofs.state.State.start.Goals.{After-into_parts-threads}
+
+pub start-requires-clause-allowed : goal.start-requires-clause-allowed
+start-requires-clause-allowed c = allowed c.args.fitted.now c.profile.result c.image.result.now c.known.ensures
+    (c.profile.ensures ∙ ap (λ r. r.profile) c.trace-trace.ensures.value) c.image.ensures.value
 
 abbrev made : After-into_parts-threads → Standing
 made c = record { threads = c.into_parts-threads.result.0.items; objects = c.into_parts-threads.result.1.items }
