@@ -80,9 +80,14 @@ def guests():
     yield ("calls", *counted(calls, 4000, 4))
 
 
+def is_large(threads, objects=0):
+    return threads > 8 or objects > 16
+
+
 def image(code, threads=1, objects=0):
-    words = [CODE] * threads + code + [0] * (8 * objects)
-    return b"IRI1" + bytes([threads, objects]) + struct.pack("<II", len(code), 0) + b"".join(struct.pack("<I", w) for w in words)
+    large = is_large(threads, objects)
+    words = [CODE] * threads + code + [0] * ((16 if large else 8) * objects)
+    return (b"IRI2" if large else b"IRI1") + bytes([threads, objects]) + struct.pack("<II", len(code), 0) + b"".join(struct.pack("<I", w) for w in words)
 
 
 def header(threads, objects, budget, magic=b"IRT1"):
@@ -204,6 +209,7 @@ def parallel():
     seldom, longer = entering(496, 4)
     often, visits = entering(4)
     yield "4 threads, private work only", private, 4, 0, 4 * few
+    yield "16 threads, private work only", private, 16, 0, 16 * few
     yield "4 threads, an object each, an entry each 100 steps", apart, 4, 4, 4 * alone
     yield "8 threads, one object, an entry each 999 steps", seldom, 8, 1, 8 * longer
     yield "4 threads, one object, an entry each 15 steps", often, 4, 1, 4 * visits
@@ -222,7 +228,8 @@ def by_threads():
             guest = image(code, threads, objects)
             with open(source, "wb") as f:
                 f.write(guest)
-            best_of_five([IR, "record", source, made, "--budget", "1000000000"], b"", lambda out: out.count(b" end 1 ") == threads)
+            words = [IR, "record", source, made, "--budget", "1000000000", "--profile", "2" if is_large(threads) else "1"]
+            best_of_five(words, b"", lambda out: out.count(b" end 1 ") == threads)
             data = b"\n" + guest.hex().encode() + b"\n"
             with open(made, "rb") as f:
                 told = data + f.read().hex().encode() + b"\n"

@@ -23,8 +23,8 @@ import sys
 import tempfile
 from pathlib import Path
 
-from program_test import DOUBLE
-from refuse import REENTERED, STORES, counters
+from program_test import DOUBLE, counters
+from refuse import REENTERED, STORES
 
 ROOT = Path(__file__).resolve().parent.parent
 PROGRAM = ""
@@ -154,6 +154,7 @@ GUESTS = (
     ("readers", READERS, "0,1", 1000),
     ("readers_and_writer", READERS_AND_WRITER, "0x7,1x7", 1000),
     ("trying", TRYING, "0x3,1x3,0x3,1", 1000),
+    ("sixteen_counters", ".large\n" + counters((ROOT / "examples" / "counter.s").read_text(), 16), "15x18,3x2", 1000),
 )
 
 # The orders in which the three are recorded.
@@ -161,7 +162,7 @@ ORDERS = ("0", "2,1,0", "1x8,0x9,2x30", "0x6,1x12,2x12,0x20,1x30", "1,2,0,1,2,0,
 
 REFUSED = re.compile(rb"(image|trace) refused \d+\n")
 VERDICTS = re.compile(rb"header differs \d+\n|incoherent thread \d+ event \d+ cause \d+\n"
-                      rb"|(thread \d (same|disagrees event \d+ step \d+|starves event \d+)\n)+")
+                      rb"|(thread \d+ (same|disagrees event \d+ step \d+|starves event \d+)\n)+")
 
 
 def limited(words, typed, **how):
@@ -226,7 +227,7 @@ def assembled(folder, name, source):
 
 def profile_of(source):
     """The profile of system calls in which a guest is recorded."""
-    return 2 if "TRY_WRITE" in source else 1
+    return 2 if "TRY_WRITE" in source or ".large" in source else 1
 
 
 def recorded(folder, name, order, budget=1_000_000):

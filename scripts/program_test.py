@@ -110,6 +110,15 @@ OWN_FILES = [
     ("record d.trc.part d.trc", "ir: d.trc.part: TRACE.part would be written over IMAGE\n"),
 ]
 
+# One of the threads of `examples/counter.s`, each of which adds one to the first word of an object, in 18 steps.
+COUNTING = "        .thread main\n"
+
+
+def counters(example, threads):
+    """That example with so many threads."""
+    return COUNTING * threads + example.replace(COUNTING, "")
+
+
 # Tries to enter object 0, and ends with the answer; what is printed where the first of two that do is inside.
 TRY = """
 main:   addi a0, zero, 0
@@ -300,6 +309,27 @@ def test_profiles(folder):
     wants("lines", run("trace try.trc", folder).stdout.splitlines()[-1], b"0 try 0")
     ended = subprocess.run([PROGRAM, "debug", "try2.img", "try.trc"], cwd=folder, input=b"end\nlog 1\nquit\n", capture_output=True)
     wants("a session", ended.stdout, b"ready\nat 6 5\nlog 1 of 1\n0 try 0\nbye\n")
+
+
+def test_sixteen_threads(folder):
+    """A guest of sixteen threads at an object of sixteen words, recorded by threads with the second profile, and refused with the first."""
+    example = (ROOT / "examples" / "counter.s").read_text()
+    (folder / "sixteen.s").write_text(".large\n" + counters(example, 16))
+    wants("assembling", run("asm sixteen.s sixteen.img", folder).returncode, 0)
+    wants("the form", (folder / "sixteen.img").read_bytes()[:6], b"IRI2\x10\x01")
+    lines = "".join(f"thread {thread} end 1 code 0 steps 18 events 1\n" for thread in range(16)).encode()
+    for order in ("", " --order 15x18,3x2"):
+        ended = run(f"record sixteen.img sixteen.trc --profile 2{order}", folder)
+        wants("recording", (ended.returncode, ended.stdout, ended.stderr), (0, lines, b""))
+        ended = subprocess.run([PROGRAM, "debug", "sixteen.img", "sixteen.trc"], cwd=folder, input=b"end\nobj 0\nquit\n", capture_output=True)
+        words = b"words 00000010" + 15 * b" 00000000" + b"\n"
+        wants("a session", ended.stdout, b"ready\nat" + 16 * b" 18" + b"\nversion 16 left 0 readers - writer -\n" + words + b"bye\n")
+    before = (folder / "sixteen.trc").read_bytes()
+    for order in ("", " --order 0", " --profile 1"):
+        ended = run(f"record sixteen.img sixteen.trc{order}", folder)
+        told = b"ir: the first profile takes at most 8 threads and 16 objects\n"
+        wants("the first profile", (ended.returncode, ended.stdout, ended.stderr), (3, b"", told))
+    wants("the trace", (folder / "sixteen.trc").read_bytes(), before)
 
 
 def test_trace(folder):

@@ -23,7 +23,7 @@ import sys
 import tempfile
 from pathlib import Path
 
-from program_test import DOUBLE
+from program_test import DOUBLE, counters
 
 ROOT = Path(__file__).resolve().parent.parent
 PROGRAM = LIBRARY = ""
@@ -96,15 +96,6 @@ again:  sub t3, t1, t2
 
 # An entry for reading, and then one for writing.
 REENTERED = "        .objects 1\n        addi a0, zero, 0\n" + "".join(f"        addi a7, zero, {call}\n        ecall\n" for call in (7, 9, 8, 9, 1))
-
-# One of the threads of `examples/counter.s`, each of which adds one to the first word of an object, in 18 steps.
-COUNTING = "        .thread main\n"
-
-
-def counters(example, threads):
-    """That example with so many threads."""
-    return COUNTING * threads + example.replace(COUNTING, "")
-
 
 # Moves of each kind, some of them looked at at once: then what is shown takes no memory.
 MOVES = ("step 0 3", "keep", "watch 0 0x100000", "break 0 0x10008", "end", "out 0", "rcont 0", "regs 0", "back 0 1", "regs 0", "kept", "load 1", "mem 0 0x10000 8",

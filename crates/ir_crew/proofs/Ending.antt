@@ -1,12 +1,16 @@
 -- How the table is laid out, dealt and ended.
-use Rattle.std.proofs.Common.{◌≡◌, ℕ, zero, suc, ◌+◌, ◌*◌, ◌/◌, ◌%◌, ◌^◌, ◌<◌, List, [], ◌∷◌, ◌++◌, length, get_or, set, drop, sym, ap, ◌∙◌, subst, arith, inl, inr, length-set, get_or-set_same, get_or-set_other, get_or-take, get_or-drop}
-use Rattle.std.proofs.lemmas.Bool.{cases_eq}
+use Rattle.std.proofs.Common.{◌≡◌, ◌≢◌, ℕ, zero, suc, ◌+◌, ◌*◌, ◌/◌, ◌%◌, ◌^◌, ◌<◌, ◌≤◌, List, [], ◌∷◌, ◌++◌, length, get_or, set, take, drop, sym, ap, ◌∙◌, subst, arith, inl, inr, length-set, get_or-set_same, get_or-set_other, get_or-take, get_or-drop}
+use Rattle.std.proofs.lemmas.Bool.{cases_eq, cases_lt}
+use Rattle.std.proofs.lemmas.List.{get_or_past, length-take-le}
 use mathlib.Core.Option.{some, some-injective, some-ne-none}
 use lib.ListN.{get_elem?}
 use Rattle.atomic_table.specs.Seated.{TableId}
 use Rattle.atomic_table.specs.Table.{Final, Seen}
 use Rattle.atomic_table.specs.declared.shared.Seat.{Seat}
-use Rattle.ir_image.specs.Guest.{Guest, IsGuest, object_count, object_words}
+use Rattle.ir_image.specs.Forms.{limits_of}
+use Rattle.ir_image.specs.Guest.{Guest, IsGuest, most_object_words, object_count, object_words}
+use Rattle.ir_image.specs.declared.form.ImageForm.{ImageForm}
+use Rattle.ir_image.specs.declared.form.ImageForm.TheVariants.{Small, Large}
 use Rattle.ir_object.specs.Cell.{Cell, StandsFor}
 use Rattle.ir_runs.specs.Object.{Object}
 use Rattle.ir_object.specs.Layout.{word_place, content_place, table_length}
@@ -15,26 +19,105 @@ use Rattle.ir_object.specs.Word.{fields_of}
 use Rattle.ir_crew.specs.Ends.{empty, AreSeats, AreTracks, IsEnd, IsLaid, IsObjectOf}
 use Rattle.ir_crew.specs.Plays.{M, all_but_first, first_alone}
 use Rattle.ir_crew.specs.Rule.{View, start_objects, Represents, IsTable, Fits, Kept, tracks_from}
-use Rattle.ir_crew.proofs.Known.{nothing_represents, small_now}
+use Rattle.ir_crew.proofs.Known.{nothing_represents, padded_at, small_now}
 use Rattle.ir_crew.proofs.Steps.{track}
 
 -- ---- the words before the first step
 
-pub starts : (g : Guest) (ws : List ℕ) → IsGuest g → IsLaid g.words ws → IsTable (length g.entries) (object_count g) (start_objects g) ws
-starts g ws guest laid = record {
+pub starts : (g : Guest) (ws : List ℕ) → IsLaid g ws → IsTable (length g.entries) (object_count g) (start_objects g) ws
+starts g ws laid = record {
   size = laid.size;
   words = λ o lt. subst (λ z. Represents (length g.entries) (fields_of z) (start_objects g o)) (sym (laid.free o lt))
       (nothing_represents (length g.entries) (start_objects g o).words);
-  contents = λ o i lt small. laid.contents o i small (let whole = guest.whole_objects in omega (arith, lt, small, whole))
-      ∙ sym (get_or-take object_words (drop (object_words * o) g.words) i 0 small ∙ get_or-drop (object_words * o) g.words i 0);
+  contents = laid.contents;
 }
 
--- one word more is laid
-pub record IsLaying (words laid : List ℕ) (at : ℕ) : Type 0 where
-  pub size : length laid ≡ table_length (length words / object_words)
-  pub free : (o : ℕ) → o < length words / object_words → get_or laid (word_place o) 0 ≡ 0
-  pub contents : (o i : ℕ) → i < object_words → object_words * o + i < at
-      → get_or laid (content_place o i) 0 ≡ get_or words (object_words * o + i) 0
+-- the place of word `at` of the guest
+abbrev pub place_of : ImageForm → ℕ → ℕ
+place_of form at = content_place (at / (limits_of form).words) (at % (limits_of form).words)
+
+place_is : (form : ImageForm) (o i at : ℕ) → i < (limits_of form).words → (limits_of form).words * o + i ≡ at
+    → content_place o i ≡ place_of form at
+place_is Small o i at small e = omega (arith, small, e)
+place_is Large o i at small e = omega (arith, small, e)
+
+place_of_another : (form : ImageForm) (o i at : ℕ) → i < (limits_of form).words → (limits_of form).words * o + i ≢ at
+    → content_place o i ≢ place_of form at
+place_of_another Small o i at small ne e = ne (omega (arith, small, e))
+place_of_another Large o i at small ne e = ne (omega (arith, small, e))
+
+place_of_none : (form : ImageForm) (o i at : ℕ) → (limits_of form).words ≤ i → i < most_object_words → content_place o i ≢ place_of form at
+place_of_none Small o i at large small e = omega (arith, large, small, e)
+place_of_none Large o i at large small e = omega (arith, large, small, e)
+
+place_of_contents : (form : ImageForm) (o at : ℕ) → word_place o ≢ place_of form at
+place_of_contents Small o at e = omega (arith, e)
+place_of_contents Large o at e = omega (arith, e)
+
+pub place_within : (form : ImageForm) (words at : ℕ) → words % (limits_of form).words ≡ 0 → at < words
+    → place_of form at < table_length (words / (limits_of form).words)
+place_within Small words at whole lt = omega (arith, whole, lt)
+place_within Large words at whole lt = omega (arith, whole, lt)
+
+is_below : (form : ImageForm) (words o i : ℕ) → words % (limits_of form).words ≡ 0 → o < words / (limits_of form).words
+    → i < (limits_of form).words → (limits_of form).words * o + i < words
+is_below Small words o i whole lt small = omega (arith, whole, lt, small)
+is_below Large words o i whole lt small = omega (arith, whole, lt, small)
+
+-- the guest's words below this one are laid, and nothing else
+pub record IsLaying (g : Guest) (laid : List ℕ) (at : ℕ) : Type 0 where
+  pub size : length laid ≡ table_length (object_count g)
+  pub free : (o : ℕ) → get_or laid (word_place o) 0 ≡ 0
+  pub contents : (o i : ℕ) → i < object_words g → object_words g * o + i < at
+      → get_or laid (content_place o i) 0 ≡ get_or g.words (object_words g * o + i) 0
+  pub others : (o i : ℕ) → object_words g ≤ i → i < most_object_words → get_or laid (content_place o i) 0 ≡ 0
+
+pub laying_starts : (g : Guest) (laid : List ℕ) (count : ℕ) → count ≡ object_count g → length laid ≡ table_length count
+    → ((k : ℕ) → get_or laid k 0 ≡ 0) → IsLaying g laid 0
+laying_starts g laid count is size none = record {
+  size = omega (arith, is, size);
+  free = λ o. none (word_place o);
+  contents = λ o i small l. absurd (omega (arith, l));
+  others = λ o i large small. none (content_place o i);
+}
+
+pub laying_more : (g : Guest) (laid more : List ℕ) (at word : ℕ) → IsGuest g → at < length g.words → IsLaying g laid at
+    → word ≡ get_or g.words at 0 → more ≡ set laid (place_of g.form at) word → IsLaying g more (at + 1)
+laying_more g laid more at word guest lt h is new = subst (λ z. IsLaying g z (at + 1)) (sym new) (record {
+  size = length-set laid place word ∙ h.size;
+  free = λ o. get_or-set_other laid place (word_place o) word 0 (place_of_contents g.form o at) ∙ h.free o;
+  contents = λ o i small l. elim (cases_eq (object_words g * o + i) at) [
+    | inl e ↦ ap (λ z. get_or (set laid place word) z 0) (place_is g.form o i at small e)
+        ∙ get_or-set_same laid place word 0 within ∙ is ∙ ap (λ z. get_or g.words z 0) (sym e)
+    | inr ne ↦ get_or-set_other laid place (content_place o i) word 0 (place_of_another g.form o i at small ne)
+        ∙ h.contents o i small (omega (arith, l, ne))
+  ];
+  others = λ o i large small. get_or-set_other laid place (content_place o i) word 0 (place_of_none g.form o i at large small)
+      ∙ h.others o i large small;
+})
+  where
+    place : ℕ
+    place = place_of g.form at
+
+    within : place < length laid
+    within = subst (λ z. place < z) (sym h.size) (place_within g.form (length g.words) at guest.whole_objects lt)
+
+-- an object's words at the start are the guest's, and 0 behind them
+pub laying_ends : (g : Guest) (laid : List ℕ) → IsGuest g → IsLaying g laid (length g.words) → IsLaid g laid
+laying_ends g laid guest h = record {
+  size = h.size;
+  free = λ o lt. h.free o;
+  contents = λ o i lt small. elim (cases_lt i (object_words g)) [
+    | inl l ↦ h.contents o i l (is_below g.form (length g.words) o i guest.whole_objects lt l)
+        ∙ sym (padded_at (own o) i ∙ get_or-take (object_words g) (drop (object_words g * o) g.words) i 0 l
+        ∙ get_or-drop (object_words g * o) g.words i 0)
+    | inr large ↦ h.others o i large small ∙ sym (padded_at (own o) i ∙ get_or_past (own o) i 0
+        (let short = length-take-le (object_words g) (drop (object_words g * o) g.words) in omega (arith, short, large)))
+  ];
+}
+  where
+    own : ℕ → List ℕ
+    own o = take (object_words g) (drop (object_words g * o) g.words)
 
 -- ---- seats
 
@@ -52,35 +135,6 @@ dealt_first l m me w is emitted = emitted ∙ (λ i. (first_alone (is i).0, []))
 
 pub all_but : (l m k : ℕ) (me : M) → me ≡ (tracks_from l m, []) → m ≡ suc k → me ≡ (tracks_from l (suc k), [])
 all_but l m k me is e = is ∙ (λ i. (tracks_from l (e i), []))
-
-pub laying_starts : (words laid : List ℕ) (count : ℕ) → count ≡ length words / object_words → length laid ≡ table_length count
-    → ((k : ℕ) → get_or laid k 0 ≡ 0) → IsLaying words laid 0
-laying_starts words laid count is size none = record {
-  size = omega (arith, is, size);
-  free = λ o lt. none (word_place o);
-  contents =
-      λ o i lt l. absurd (omega (arith, l));
-}
-
-pub laying_more : (words laid more : List ℕ) (at word : ℕ) → length words % object_words ≡ 0 → at < length words → IsLaying words laid at
-    → word ≡ get_or words at 0 → more ≡ set laid (content_place (at / object_words) (at % object_words)) word → IsLaying words more (at + 1)
-laying_more words laid more at word whole lt h is new = subst (λ z. IsLaying words z (at + 1)) (sym new) (record {
-  size = length-set laid place word ∙ h.size;
-  free = λ o l. get_or-set_other laid place (word_place o) word 0 (λ e. omega (arith, e)) ∙ h.free o l;
-  contents = λ o i small l. elim (cases_eq (object_words * o + i) at) [
-    | inl e ↦
-        let p : o ≡ at / object_words = omega (arith, e, small) in
-        let r : i ≡ at % object_words = omega (arith, e, small) in
-        let here : content_place o i ≡ place = omega (arith, p, r) in
-        ap (λ z. get_or (set laid place word) z 0) here ∙ get_or-set_same laid place word 0 (let s = h.size in omega (arith, s, lt, whole))
-        ∙ is ∙ ap (λ z. get_or words z 0) (sym e)
-    | inr ne ↦ get_or-set_other laid place (content_place o i) word 0 (λ e. ne (omega (arith, e, small)))
-        ∙ h.contents o i small (omega (arith, l, ne))
-  ];
-})
-  where
-    place : ℕ
-    place = content_place (at / object_words) (at % object_words)
 
 -- ---- the end
 
@@ -120,7 +174,7 @@ ends g id v ws xs objects f are =
     }
 
 pub cell_small : (g : Guest) (id : ℕ) (v : View) (ws : List ℕ) (xs : List (Unit {0})) → Final (Seen (Kept g) id v) ws xs → (o i word : ℕ)
-    → o < object_count g → i < object_words → get_elem? ws (content_place o i) ≡ some word → word < 2 ^ 32
+    → o < object_count g → i < most_object_words → get_elem? ws (content_place o i) ≡ some word → word < 2 ^ 32
 cell_small g id v ws xs f o i word lt small e =
     let k = f.1.0 in
     subst (λ z. z < 2 ^ 32) (sym (k.table.contents o i lt small) ∙ ap (λ z. get_or z (content_place o i) 0) f.2

@@ -1,11 +1,12 @@
 -- What is known of an object at a moment, from the object steps in their order.
-use Rattle.std.proofs.Common.{◌≡◌, ◌≢◌, ℕ, zero, suc, ◌+◌, ◌*◌, ◌^◌, ◌<◌, ◌≤◌, Bool, true, false, List, [], ◌∷◌, map, length, get_or, take, drop, Option, Some, None, refl, sym, ap, ◌∙◌, subst, arith, inl, inr, eq-eqb, ne_eqb}
+use Rattle.std.proofs.Common.{◌≡◌, ◌≢◌, ℕ, zero, suc, ◌+◌, ◌-◌, ◌*◌, ◌^◌, ◌<◌, ◌≤◌, Bool, true, false, List, [], ◌∷◌, map, length, get_or, take, drop, replicate, Option, Some, None, refl, sym, ap, ◌∙◌, subst, arith, inl, inr, eq-eqb, ne_eqb}
 use Rattle.std.specs.List.{AllByRecursion}
-use Rattle.std.proofs.lemmas.Bool.{cases_eq}
+use Rattle.std.proofs.lemmas.Bool.{cases_eq, cases_lt}
+use Rattle.std.proofs.lemmas.List.{get_or_append_left, get_or-append_right, get_or-replicate, get_or_past, length-replicate}
 use mathlib.Core.Option.{some}
 use lib.ListN.{get_elem?}
 use Rattle.atomic_table.specs.Table as table
-use Rattle.ir_image.specs.Guest.{Guest, IsGuest, IsWord, most_threads, object_count, object_words}
+use Rattle.ir_image.specs.Guest.{Guest, IsGuest, IsWord, most_threads, most_object_words, object_count, object_words, padded}
 use Rattle.ir_thread.specs.Calls.{most_events}
 use Rattle.ir_thread.specs.Instance.{thread_machine}
 use Rattle.ir_runs.specs.Machine.{Act, Silent, Result, Entry, Refusal, Exit, Load, Store, Never, Machine}
@@ -307,6 +308,23 @@ all_drop zero xs h = h
 all_drop (suc k) [] h = tt
 all_drop (suc k) (x ∷ xs) h = all_drop k xs h.1
 
+-- ---- words, and 0 behind them
+
+zeros_at : (n i : ℕ) → get_or (replicate n 0) i 0 ≡ 0
+zeros_at n i = elim (cases_lt i n) [
+  | inl l ↦ get_or-replicate n i 0 0 l
+  | inr g ↦ get_or_past (replicate n 0) i 0 (subst (λ k. k ≤ i) (sym (length-replicate n 0)) g)
+]
+
+pub padded_at : (xs : List ℕ) (i : ℕ) → get_or (padded xs) i 0 ≡ get_or xs i 0
+padded_at xs i =
+    let zeros : List ℕ = replicate (most_object_words - length xs) 0 in
+    elim (cases_lt i (length xs)) [
+      | inl l ↦ get_or_append_left xs zeros 0 i l
+      | inr g ↦ get_or-append_right xs zeros (length xs) i 0 refl g ∙ zeros_at (most_object_words - length xs) (i - length xs)
+          ∙ sym (get_or_past xs i 0 g)
+    ]
+
 abbrev pub now_of : Guest → List (ℕ × Shared) → ℕ → Object
 now_of g steps = objects_after (start_objects g) steps
 
@@ -314,8 +332,9 @@ now_of g steps = objects_after (start_objects g) steps
 pub small_now : (g : Guest) (steps : List (ℕ × Shared)) → IsGuest g
     → IsLegal (thread_machine g.code) (length g.entries) (object_count g) (start_objects g) steps → (o : ℕ) → IsSmall (now_of g steps o)
 small_now g steps guest legal = small_run (thread_machine g.code) (length g.entries) (object_count g) (start_objects g) steps legal
-    (λ p i. small_list (take object_words (drop (object_words * p) g.words)) i
-    (all_take object_words (drop (object_words * p) g.words) (all_drop (object_words * p) g.words guest.words_fit)))
+    (λ p i. let words : List ℕ = take (object_words g) (drop (object_words g * p) g.words) in
+    subst (λ z. z < 2 ^ 32) (sym (padded_at words i)) (small_list words i
+    (all_take (object_words g) (drop (object_words g * p) g.words) (all_drop (object_words g * p) g.words guest.words_fit))))
 
 start_alone : (g : Guest) (p : ℕ) → Alone (start_objects g p).inside
 start_alone g p t u ne is = refl

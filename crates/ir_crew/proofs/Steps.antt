@@ -8,7 +8,7 @@ use prog.Atomic.{either}
 use Rattle.atomic_table.specs.Table as table
 use Rattle.atomic_table.specs.Table.{Step, step, stepped, keeps, Allows}
 use Rattle.atomic_table.proofs.Lists.{at_set, set_again}
-use Rattle.ir_image.specs.Guest.{Guest, most_threads, object_count, object_words}
+use Rattle.ir_image.specs.Guest.{Guest, most_threads, object_count, most_object_words}
 use Rattle.ir_thread.specs.Calls.{most_events}
 use Rattle.ir_thread.specs.Instance.{thread_machine}
 use Rattle.ir_runs.specs.Machine.{Entry, Exit, Store, upd}
@@ -154,7 +154,7 @@ head_changes n count f ws o w y r lt represents same = record {
 }
 
 -- a word of contents is written
-cell_changes : (n count : ℕ) (f : ℕ → Object) (ws : List ℕ) (o i v : ℕ) (y : Object) → IsTable n count f ws → o < count → i < object_words
+cell_changes : (n count : ℕ) (f : ℕ → Object) (ws : List ℕ) (o i v : ℕ) (y : Object) → IsTable n count f ws → o < count → i < most_object_words
     → Represents n (fields_of (get_or ws (word_place o) 0)) y → y.words ≡ upd (f o).words i v
     → IsTable n count (upd f o y) (set ws (content_place o i) v)
 cell_changes n count f ws o i v y r lt small represents is = record {
@@ -165,19 +165,19 @@ cell_changes n count f ws o i v y r lt small represents is = record {
             (subst (Represents n (fields_of (get_or ws (word_place o) 0))) (sym (upd_same f o y)) represents)
         | inr ne ↦ subst (Represents n (fields_of (get_or ws (word_place p) 0))) (sym (upd_other f o p y ne)) (r.words p fits)
       ]);
-  contents = λ p j fits lt8. elim (cases_eq p o) [
+  contents = λ p j fits low. elim (cases_eq p o) [
     | inl e ↦ subst (λ z. get_or (set ws (content_place o i) v) (content_place z j) 0 ≡ (upd f o y z).words j) (sym e)
-        (written_at j lt8 ∙ sym (ap (λ z. z.words j) (upd_same f o y) ∙ ap (λ z. z j) is))
-    | inr ne ↦ get_or-set_other ws (content_place o i) (content_place p j) v 0 (λ e. ne (omega (arith, e, small, lt8)))
-        ∙ r.contents p j fits lt8 ∙ sym (ap (λ z. z.words j) (upd_other f o p y ne))
+        (written_at j low ∙ sym (ap (λ z. z.words j) (upd_same f o y) ∙ ap (λ z. z j) is))
+    | inr ne ↦ get_or-set_other ws (content_place o i) (content_place p j) v 0 (λ e. ne (omega (arith, e, small, low)))
+        ∙ r.contents p j fits low ∙ sym (ap (λ z. z.words j) (upd_other f o p y ne))
   ];
 }
   where
-    written_at : (j : ℕ) → j < object_words → get_or (set ws (content_place o i) v) (content_place o j) 0 ≡ upd (f o).words i v j
-    written_at j lt8 = elim (cases_eq j i) [
+    written_at : (j : ℕ) → j < most_object_words → get_or (set ws (content_place o i) v) (content_place o j) 0 ≡ upd (f o).words i v j
+    written_at j low = elim (cases_eq j i) [
       | inl e ↦ subst (λ z. get_or (set ws (content_place o i) v) (content_place o z) 0 ≡ upd (f o).words i v z) (sym e)
           (get_or-set_same ws (content_place o i) v 0 (let s = r.size in omega (arith, s, lt, small)) ∙ sym (upd_same (f o).words i v))
-      | inr ne ↦ get_or-set_other ws (content_place o i) (content_place o j) v 0 (λ e. ne (omega (arith, e))) ∙ r.contents o j lt lt8
+      | inr ne ↦ get_or-set_other ws (content_place o i) (content_place o j) v 0 (λ e. ne (omega (arith, e))) ∙ r.contents o j lt low
           ∙ sym (upd_other (f o).words i j v ne)
     ]
 
@@ -186,10 +186,10 @@ cell_changes n count f ws o i v y r lt small represents is = record {
 pub object_is : (o : ℕ) → object_of (word_place o) ≡ o
 object_is o = omega arith
 
-pub object_is_cell : (o i : ℕ) → i < object_words → object_of (content_place o i) ≡ o
+pub object_is_cell : (o i : ℕ) → i < most_object_words → object_of (content_place o i) ≡ o
 object_is_cell o i lt = omega (arith, lt)
 
-pub index_is_cell : (o i : ℕ) → i < object_words → index_of (content_place o i) ≡ i
+pub index_is_cell : (o i : ℕ) → i < most_object_words → index_of (content_place o i) ≡ i
 index_is_cell o i lt = omega (arith, lt)
 
 left_small : (w : ℕ) → weight (fields_of w) ≤ most_threads * most_events → (fields_of w).left + 1 < left_limit
@@ -414,7 +414,7 @@ leaves_write_by g slots id o v w me alone lt inside version is =
 
 -- ---- contents
 
-pub gets : (g : Guest) (slots id o i : ℕ) (me : M) → IsAlone me.0 → o < object_count g → i < object_words
+pub gets : (g : Guest) (slots id o i : ℕ) (me : M) → IsAlone me.0 → o < object_count g → i < most_object_words
     → inside_by o (history me.0) ≢ None
     → Allows (Kept g) slots id me (content_place o i) (λ n. n) (got (step slots (content_place o i) 0 0 none) me)
 gets g slots id o i ([], c) alone lt small inside x k homes at fits = absurd alone
@@ -443,7 +443,7 @@ gets g slots id o i (q ∷ [], c) alone lt small inside x k homes at fits =
       ),
     )
 
-pub puts : (g : Guest) (slots id o i v : ℕ) (me : M) → IsAlone me.0 → o < object_count g → i < object_words → v < 2 ^ 32
+pub puts : (g : Guest) (slots id o i v : ℕ) (me : M) → IsAlone me.0 → o < object_count g → i < most_object_words → v < 2 ^ 32
     → inside_by o (history me.0) ≡ Some Writing
     → Allows (Kept g) slots id me (content_place o i) (λ _. v) (λ _. wrote (step slots (content_place o i) v 0 none) me v)
 puts g slots id o i v ([], c) alone lt small fit inside x k homes at fits = absurd alone

@@ -1,10 +1,10 @@
 //! How the table is opened and closed.
 
-ghost use Rattle.std.specs.Prelude.{◌≡◌, ◌<◌, ◌≤◌, ◌+◌, ◌*◌, ◌%◌, ◌^◌, ℕ, [], length, IfOk};
+ghost use Rattle.std.specs.Prelude.{◌≡◌, ◌<◌, ◌≤◌, ◌+◌, ◌^◌, ℕ, [], length, slice_index, IfOk};
 ghost use Rattle.std.specs.Slots.{slots_items, slots_len, IsFull};
 ghost use mathlib.Core.Option.{some};
 ghost use lib.ListN.{get_elem?};
-ghost use Rattle.ir_image.specs.Guest.{most_objects, object_count, object_words};
+ghost use Rattle.ir_image.specs.Guest.{object_count, most_object_words};
 ghost use Rattle.ir_object.specs.Layout.{word_place, content_place};
 ghost use Rattle.ir_crew.specs.Rule.{tracks_from};
 ghost use Rattle.ir_crew.specs.Ends.{AreSeats, IsEnd, IsLaid, IsObjectOf};
@@ -12,21 +12,19 @@ ghost use Rattle.ir_crew.specs.Ends.{AreSeats, IsEnd, IsLaid, IsObjectOf};
 use crate::plays::{Law, OffFirst};
 use crate::table::{Crew, CrewSeat};
 use atomic_table::{Closed, Table};
-use ir_image::{Image, OBJECT_WORDS};
+use ir_image::{Image, MOST_OBJECT_WORDS};
 use ir_object::{APART, CONTENT_PLACE, Object, WORD_PLACE, Word};
 use std::alloc::{AllocError, Global};
 
 // The words of the table before the first step: of each object its word, and its contents.
-fn lay(alloc: Global, words: &[u32]) -> Result<Vec<u64>, AllocError>
-    requires few { length words.now ≤ most_objects * object_words }
-    requires whole { length words.now % object_words ≡ 0 }
-    ensures { IfOk result (λ v. IsLaid words.now v.items) }
+fn lay(alloc: Global, image: &Image) -> Result<Vec<u64>, AllocError>
+    ensures { IfOk result (λ v. IsLaid image.now v.items) }
 {
-    let mut laid = vec![in alloc; 0; WORD_PLACE + APART * (words.len() / OBJECT_WORDS)]?;
+    let words = image.words();
+    let each = image.object_words();
+    let mut laid = vec![in alloc; 0; WORD_PLACE + APART * image.object_count()]?;
     for at in 0..words.len() {
-        laid[CONTENT_PLACE + APART * (at / OBJECT_WORDS) + at % OBJECT_WORDS] = u64::from(
-            words[at],
-        );
+        laid[CONTENT_PLACE + APART * (at / each) + at % each] = u64::from(words[at]);
     }
     Ok(laid)
 }
@@ -40,10 +38,11 @@ impl Crew {
         ensures key { IfOk result (λ r. r.0.table.shared.key ≡ image.now) }
         ensures seats { IfOk result (λ r. AreSeats r.0.table.shared.table_id 0 r.1.items × (length r.1.items ≡ length image.now.entries)) }
     {
-        let words = lay(alloc, image.words())?;
+        let threads = image.entries().len() as u8;
+        let words = lay(alloc, image)?;
         let (table, seat) = Table::of_words(alloc, words.as_slice(), image)?;
         let crew = Crew { table };
-        let seats = crew.deal(alloc, image.entries().len() as u8, seat)?;
+        let seats = crew.deal(alloc, threads, seat)?;
         Ok((crew, seats))
     }
 
@@ -77,28 +76,31 @@ fn content(closed: &Closed<(), Global>, o: usize, i: usize) -> u32
     closed.word(CONTENT_PLACE + APART * o + i) as u32
 }
 
+// The contents of object o, once all steps are taken.
+fn contents(closed: &Closed<(), Global>, o: usize) -> [u32; MOST_OBJECT_WORDS]
+    requires there { word_place (o + 1) ≤ slots_len closed.now.words }
+    requires full { IsFull closed.now.words }
+    requires small { (i word : ℕ) → i < most_object_words → get_elem? (slots_items closed.now.words) (content_place o i) ≡ some word → word < 2 ^ 32 }
+    ensures { (i : ℕ) → i < most_object_words → get_elem? (slots_items closed.now.words) (content_place o i) ≡ some (slice_index result i) }
+{
+    let mut contents = [0; MOST_OBJECT_WORDS];
+    for i in 0..MOST_OBJECT_WORDS {
+        contents[i] = content(closed, o, i);
+    }
+    contents
+}
+
 // Object o, once all steps are taken.
 fn object(closed: &Closed<(), Global>, o: usize) -> Object
     requires there { word_place (o + 1) ≤ slots_len closed.now.words }
     requires full { IsFull closed.now.words }
-    requires small { (i word : ℕ) → i < object_words → get_elem? (slots_items closed.now.words) (content_place o i) ≡ some word → word < 2 ^ 32 }
+    requires small { (i word : ℕ) → i < most_object_words → get_elem? (slots_items closed.now.words) (content_place o i) ≡ some word → word < 2 ^ 32 }
     ensures { IsObjectOf (slots_items closed.now.words) o result }
 {
-    Object::from_parts(
-        Word {
-            bits: closed.word(WORD_PLACE + APART * o),
-        },
-        [
-            content(closed, o, 0),
-            content(closed, o, 1),
-            content(closed, o, 2),
-            content(closed, o, 3),
-            content(closed, o, 4),
-            content(closed, o, 5),
-            content(closed, o, 6),
-            content(closed, o, 7),
-        ],
-    )
+    let word = Word {
+        bits: closed.word(WORD_PLACE + APART * o),
+    };
+    Object::from_parts(word, contents(closed, o))
 }
 
 impl Crew {

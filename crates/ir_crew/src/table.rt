@@ -1,7 +1,7 @@
 //! The table, and the steps on it that wait for nobody.
 
 ghost use Rattle.std.specs.Prelude.{◌≡◌, ◌≢◌, ◌+◌, ◌*◌, ◌<◌, ℕ, [], ◌++◌, Some, None};
-ghost use Rattle.ir_image.specs.Guest.{object_count, object_words};
+ghost use Rattle.ir_image.specs.Guest.{object_count, most_object_words};
 ghost use Rattle.ir_runs.specs.declared.access.Access.TheVariants.{Writing};
 ghost use Rattle.ir_object.specs.Layout.{table_length};
 ghost use Rattle.ir_crew.specs.Plays.{IsAlone, history, did, inside_by};
@@ -54,7 +54,7 @@ impl Crew {
     /// The word of an object that the seat's thread is inside.
     pub fn get(&self, seat: &mut CrewSeat, object: u8, index: u8) -> u32
         requires seat { (seat.old.table_id ≡ self.now.table.shared.table_id) × IsAlone seat.old.me.0 }
-        requires object { (object < object_count self.now.table.shared.key) × (index < object_words) }
+        requires object { (object < object_count self.now.table.shared.key) × (index < most_object_words) }
         requires inside { inside_by object (history seat.old.me.0) ≢ None }
         ensures seat { (seat.new.table_id ≡ seat.old.table_id) × (seat.new.id ≡ seat.old.id) }
         ensures got { seat.new.me ≡ (did seat.old.me.0 object (Got index result), seat.old.me.1) }
@@ -66,7 +66,7 @@ impl Crew {
     /// Writes a word of an object that the seat's thread is inside for writing.
     pub fn put(&self, seat: &mut CrewSeat, object: u8, index: u8, value: u32)
         requires seat { (seat.old.table_id ≡ self.now.table.shared.table_id) × IsAlone seat.old.me.0 }
-        requires object { (object < object_count self.now.table.shared.key) × (index < object_words) }
+        requires object { (object < object_count self.now.table.shared.key) × (index < most_object_words) }
         requires inside { inside_by object (history seat.old.me.0) ≡ Some Writing }
         ensures seat { (seat.new.table_id ≡ seat.old.table_id) × (seat.new.id ≡ seat.old.id) }
         ensures put { seat.new.me ≡ (did seat.old.me.0 object (Wrote index value), seat.old.me.1) }

@@ -3,7 +3,8 @@ use Rattle.std.proofs.Common.{◌≡◌, ◌≢◌, ℕ, ◌+◌, ◌<◌, ◌�
 use Rattle.std.proofs.lemmas.Bool.{cond_both}
 use Rattle.std.proofs.lemmas.Bool.Decides.{nat_tests}
 use Rattle.std.specs.Prelude.{nat_le, ◌&&◌, ◌==◌}
-use Rattle.ir_image.specs.Forms.{limits_of}
+use Rattle.ir_image.specs.Forms.{limits_of, most_object_words}
+use Rattle.ir_image.proofs.CallerLemmas.{most_words}
 use Rattle.ir_mach.specs.Core.{Outcome, Goes, Calls, Ends}
 use Rattle.ir_mach.specs.Execution.{outcome_of}
 use Rattle.ir_thread.specs.Calls.{a0, a1, a2, a7, call_of, call_at, byte_text, number_text, printed, printed_by, print_ask, logged_ask, is_object, has_word, entry_ask, leave_ask, leave_held, get_ask, get_held, put_ask, put_held, call_ask, outcome_ask, release_ask, ask_by, ask_of, IsRunning, CanLog, Permits, most_output, most_events}
@@ -55,13 +56,17 @@ leaves s runs = tested s (is_object s (a0 s)) _ end.NoSuchObject runs.lives (λ 
     by l None e = runs.lives
     by l (Some access) e = ((λ _. runs.has_budget), l, e)
 
+-- a word that objects have in the thread's form is one of the most that they have in any
+within : (s : State) → nat_lt (a1 s) (limits_of s.form).words ≡ true → a1 s < most_object_words
+within s is = let small = less _ _ is in let most = most_words s.form in omega (arith, small, most)
+
 gets : (s : State) → IsRunning s → Permits s (get_ask s)
 gets s runs = tested s (has_word s) _ end.NoSuchObject runs.lives (λ here. by (both _ _ here) (held_at s.held (a0 s)) refl)
   where
     by : (is_object s (a0 s) ≡ true) × (nat_lt (a1 s) (limits_of s.form).words ≡ true) → (h : Option Access) → held_at s.held (a0 s) ≡ h
         → Permits s (get_held (a0 s) (a1 s) h)
     by p None e = runs.lives
-    by p (Some access) e = (runs, less _ _ p.0, less _ _ p.1, λ none. cc (e, none))
+    by p (Some access) e = (runs, less _ _ p.0, within s p.1, λ none. cc (e, none))
 
 puts : (s : State) → IsRunning s → Permits s (put_ask s)
 puts s runs = tested s (has_word s) _ end.NoSuchObject runs.lives (λ here. by (both _ _ here) (held_at s.held (a0 s)) refl)
@@ -70,7 +75,7 @@ puts s runs = tested s (has_word s) _ end.NoSuchObject runs.lives (λ here. by (
         → Permits s (put_held (a0 s) (a1 s) (a2 s) h)
     by p None e = runs.lives
     by p (Some Reading) e = runs.lives
-    by p (Some Writing) e = (runs, less _ _ p.0, less _ _ p.1, e)
+    by p (Some Writing) e = (runs, less _ _ p.0, within s p.1, e)
 
 other : (b : Bool) (x y : Option Call) → x ≢ Some call.TryWrite → y ≢ Some call.TryWrite → cond b x y ≢ Some call.TryWrite
 other true x y p q = p
