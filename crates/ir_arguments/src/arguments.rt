@@ -37,13 +37,14 @@ const ASM_ABOUT: &str = "Assembles a guest's source into an image";
 pub const ASM_AFTER: &str =
     "A source is lines: labels `name:`, then an instruction of RV32IM or a directive, then a comment from `#` on.
 Directives:
+  .large             stands before every other statement: more threads, objects and words of objects, and an image IRI2
   .text, .data       the section from here on; a source begins in text
   .word V, ..        words, in text or data
   .byte V, ..        bytes, in data
   .space N           N zero bytes, in data
-  .thread LABEL      the next thread's entry; without any there is one thread, at the start of the text
-  .objects N         the number of shared objects, at most 16
-  .object O, V, ..   the first words of object O, at most 8
+  .thread LABEL      the next thread's entry, at most 8, or 16 with .large; without any one thread starts where the text does
+  .objects N         the number of shared objects, at most 16, or 64 with .large
+  .object O, V, ..   the first words of object O, at most 8, or 16 with .large
 Instructions, a form a line; TARGET is a label, `.+N` or `.-N`, and V a number, decimal or `0x` and hexadecimal digits:
   add rd, rs1, rs2       so sub, sll, slt, sltu, xor, srl, sra, or, and, mul, mulh, mulhsu, mulhu, div, divu, rem, remu
   addi rd, rs1, V        so slti, sltiu, xori, ori, andi; V from -2048 to 2047
@@ -172,8 +173,9 @@ list, rounds over the threads from 0 on take one step of each that has one, unti
 CLOCK gives milliseconds since the start, modulo 2^32; with LIST it counts its own calls from 0, in each thread.
 RANDOM gives PCG32's words, started by S plus the thread's number; each thread reads its own copy of FILE, of at most
 1048576 bytes, or nothing. TRACE is written as TRACE.part, which is renamed once it is whole.
-With P 2 guests may call TRY_WRITE too, call 13, and TRACE is of the second form, IRT2; with 1 it is an unknown call, and
-TRACE is IRT1. A try is answered 0 where another thread is inside, and may be where none is; with LIST it isn't then.
+With P 2 guests may call TRY_WRITE too, call 13, and TRACE is of the second form, IRT2; with 1 it is an unknown call, TRACE
+is IRT1, and a guest has at most 8 threads and 16 objects. A try is answered 0 where another thread is inside, and may be
+where none is; with LIST it isn't then.
 With PREFIX what thread T printed is then written to PREFIX.T, which is empty where it printed nothing, before the lines.
 A line is `thread T end E code C steps S events N`; the ends E are
    1 END                   6 a bad load              11 an object that isn't held
@@ -181,7 +183,8 @@ A line is `thread T end E code C steps S events N`; the ends E are
    3 no instruction        8 an unknown call         13 the budget is spent
    4 a misaligned jump     9 no such object          14 too many events
    5 outside the code     10 an entry out of order
-Exit status: 0 recorded, 1 a file that can't be read or written or is too long, 2 bad arguments, 3 a refused image or LIST.
+Exit status: 0 recorded, 1 a file that can't be read or written or is too long, 2 bad arguments, 3 a refused image or LIST,
+or a guest with more threads or objects than P allows.
 ";
 
 /// What is assembled, and where to.

@@ -54,6 +54,7 @@ fn recorded<R: Threads + Wait + Sync>(
     image: &Image,
     by_threads: bool,
 ) -> Result<u64> {
+    ensure!(PROFILE.allows(image), "a guest that the profile allows");
     let worlds = quiet::worlds(alloc, image.entries().len())?;
     let recording = if by_threads {
         record(rt, alloc, image, worlds, &OpenGate, BUDGET, PROFILE)

@@ -12,6 +12,7 @@ use Rattle.ir_log.specs.Logging.{label_of}
 use Rattle.ir_log.specs.declared.event.Event.{Event}
 use Rattle.ir_trace.specs.Recorded.{Recorded, RecordedThread, IsRecorded, IsEvent, IsRecordedThread}
 use Rattle.ir_trace.specs.TraceOf.{absent, recorded_thread, trace_of}
+use Rattle.ir_trace.proofs.CallerLemmas.{most_recorded_threads}
 use Rattle.ir_runs.specs.Coherent.{reads, IsCoherent}
 use Rattle.ir_coherence.specs.Counting.{MayStand, writes, reads_in, writes_in, reads_of, writes_of, cause_by, CountsMore, CountsAll, HasRoom, FirstCause, NoCause}
 use Rattle.ir_runs.specs.Cuts.{At}
@@ -65,7 +66,7 @@ thread_room r fits i c l first = record {
     sum_bound i (λ u. reads o v ((trace_of r).logs u))
         (λ u less. omega (arith, reads_le o v ((trace_of r).logs u), of_thread u (omega arith))),
     (thread_fits r fits i l).few_events,
-    fits.few_threads,
+    most_recorded_threads r fits,
   );
   writes = λ o v. omega (
     arith,
@@ -73,7 +74,7 @@ thread_room r fits i c l first = record {
     sum_bound i (λ u. writes o v ((trace_of r).logs u))
         (λ u less. omega (arith, writes_le o v ((trace_of r).logs u), of_thread u (omega arith))),
     (thread_fits r fits i l).few_events,
-    fits.few_threads,
+    most_recorded_threads r fits,
   );
 }
   where

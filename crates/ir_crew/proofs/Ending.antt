@@ -1,7 +1,7 @@
 -- How the table is laid out, dealt and ended.
 use Rattle.std.proofs.Common.{◌≡◌, ◌≢◌, ℕ, zero, suc, ◌+◌, ◌*◌, ◌/◌, ◌%◌, ◌^◌, ◌<◌, ◌≤◌, List, [], ◌∷◌, ◌++◌, length, get_or, set, take, drop, sym, ap, ◌∙◌, subst, arith, inl, inr, length-set, get_or-set_same, get_or-set_other, get_or-take, get_or-drop}
 use Rattle.std.proofs.lemmas.Bool.{cases_eq, cases_lt}
-use Rattle.std.proofs.lemmas.List.{get_or_past, length-take-le}
+use Rattle.std.proofs.lemmas.List.{get_or_past, length-take}
 use mathlib.Core.Option.{some, some-injective, some-ne-none}
 use lib.ListN.{get_elem?}
 use Rattle.atomic_table.specs.Seated.{TableId}
@@ -112,7 +112,7 @@ laying_ends g laid guest h = record {
         ∙ sym (padded_at (own o) i ∙ get_or-take (object_words g) (drop (object_words g * o) g.words) i 0 l
         ∙ get_or-drop (object_words g * o) g.words i 0)
     | inr large ↦ h.others o i large small ∙ sym (padded_at (own o) i ∙ get_or_past (own o) i 0
-        (let short = length-take-le (object_words g) (drop (object_words g * o) g.words) in omega (arith, short, large)))
+        (let short = length-take (object_words g) (drop (object_words g * o) g.words) in omega (arith, short, large)))
   ];
 }
   where
@@ -179,6 +179,17 @@ cell_small g id v ws xs f o i word lt small e =
     let k = f.1.0 in
     subst (λ z. z < 2 ^ 32) (sym (k.table.contents o i lt small) ∙ ap (λ z. get_or z (content_place o i) 0) f.2
     ∙ elem_or ws (content_place o i) word e) (small_now g k.steps k.guest k.legal o i)
+
+-- one word of an object's contents more
+pub one_word_more : (ws old : List ℕ) (o i word : ℕ)
+    → ((k : ℕ) → k < i → get_elem? ws (content_place o k) ≡ some (get_or old k 0)) → i < length old
+    → get_elem? ws (content_place o i) ≡ some word
+    → (k : ℕ) → k < i + 1 → get_elem? ws (content_place o k) ≡ some (get_or (set old i word) k 0)
+one_word_more ws old o i word h lt is k l = elim (cases_eq k i) [
+  | inl e ↦ subst (λ z. get_elem? ws (content_place o z) ≡ some (get_or (set old i word) z 0)) (sym e)
+      (is ∙ ap some (sym (get_or-set_same old i word 0 lt)))
+  | inr ne ↦ h k (omega (arith, l, ne)) ∙ ap some (sym (get_or-set_other old i k word 0 ne))
+]
 
 -- one object more
 pub one_more : (ws : List ℕ) (old more : List Cell) (o : ℕ) (c : Cell) → ((k : ℕ) → k < o → IsObjectOf ws k (get_or old k empty))

@@ -7,6 +7,7 @@ use mathlib.Core.Option.{some}
 use lib.ListN.{get_elem?}
 use Rattle.atomic_table.specs.Table as table
 use Rattle.ir_image.specs.Guest.{Guest, IsGuest, IsWord, most_threads, most_object_words, object_count, object_words, padded}
+use Rattle.ir_image.proofs.CallerLemmas.{few_threads}
 use Rattle.ir_thread.specs.Calls.{most_events}
 use Rattle.ir_thread.specs.Instance.{thread_machine}
 use Rattle.ir_runs.specs.Machine.{Act, Silent, Result, Entry, Refusal, Exit, Load, Store, Never, Machine}
@@ -310,7 +311,7 @@ all_drop (suc k) (x ∷ xs) h = all_drop k xs h.1
 
 -- ---- words, and 0 behind them
 
-zeros_at : (n i : ℕ) → get_or (replicate n 0) i 0 ≡ 0
+zeros_at : (n i : ℕ) → get_or {A = ℕ} (replicate n 0) i 0 ≡ 0
 zeros_at n i = elim (cases_lt i n) [
   | inl l ↦ get_or-replicate n i 0 0 l
   | inr g ↦ get_or_past (replicate n 0) i 0 (subst (λ k. k ≤ i) (sym (length-replicate n 0)) g)
@@ -352,7 +353,7 @@ at_now g x k id o q at lt =
     let same = same_weight n (fields_of (get_or x.words (word_place o) 0)) l.0 (now_of g k.steps o) represents l.1.represents in
     let light = l.1.light in
     let sum = entries_total m n (object_count g) (start_objects g) k.steps k.legal in
-    let few = k.guest.few_threads in
+    let few = few_threads g k.guest in
     let most = total_le n most_events (λ t. entries (of_thread t k.steps)) k.few few in
     let in_all = readers_le n (now_of g k.steps o).inside in
     let counted = represents.inside.readers in

@@ -27,6 +27,7 @@ use ir_hits::Hit;
 use ir_stream::{DeviceErr, Sink, append, write_all};
 
 // Puts at the end where all threads are.
+#[tactic(auto, using(ir_image::proofs::CallerLemmas::few_threads))]
 fn put_cut(text: &mut Text, debugger: &Debugger)
     requires { array_vec_len text.old ≡ 0 }
     ensures text { text.new.items ≡ text.old.items ++ positions_text debugger.now.desk.at }
@@ -176,6 +177,7 @@ fn write_kept<W: Sink>(kept: &[KeptCut], writer: &mut W) -> Result<(), DeviceErr
     Ok(())
 }
 
+#[tactic(auto, using(ir_image::proofs::CallerLemmas::few_threads))]
 fn write_cuts<W: Sink>(debugger: &Debugger, writer: &mut W) -> Result<(), DeviceErr>
     ensures ok { OnOk result (Appends (W.written writer.old) (W.written writer.new) (kept_text debugger.now.desk.kept)) }
     ensures stays { OnOk result (W.broken writer.new ≡ W.broken writer.old) }

@@ -2,18 +2,21 @@
 use Rattle.std.proofs.Common.{◌≡◌, ℕ, zero, suc, ◌<◌, length, None, refl, ap, arith, get_or}
 use Rattle.std.specs.Prelude.{option_map}
 use Rattle.ir_image.specs.Guest.{Guest, object_count}
+use Rattle.ir_thread.specs.Allowed.{IsAllowed}
 use Rattle.ir_thread.specs.Ends.{end_number, end_code}
 use Rattle.ir_thread.specs.Instance.{thread_machine}
 use Rattle.ir_flat.specs.Flat.{idle, tables, start_threads, start_flat}
 use Rattle.ir_runs.specs.Run.{IsStart}
 use Rattle.ir_flat.proofs.CallerLemmas.{fresh, fields_at}
 use Rattle.ir_runs.specs.Verdicts.{IsLive}
+use Rattle.ir_trace.specs.Recorded.{Recorded, IsRecorded}
+use Rattle.ir_fit.specs.Fit.{HasHeader}
 use Rattle.ir_thread.specs.declared.profile.Profile.{Profile}
 
 pub starts : (g : Guest) (budget : ℕ) (profile : Profile) → IsStart (thread_machine g.code) (tables (start_flat g budget profile))
 starts g budget profile = record {
-  version = λ o. ap (λ x. x.version) (fields_at g.words (object_count g) o);
-  left = λ o. ap (λ x. x.left) (fields_at g.words (object_count g) o);
+  version = λ o. ap (λ x. x.version) (fields_at g 0 (object_count g) o);
+  left = λ o. ap (λ x. x.left) (fields_at g 0 (object_count g) o);
   inside = λ o t. (fresh g budget profile 0 (length g.entries) t).none o;
   held = λ t o. (fresh g budget profile 0 (length g.entries) t).none o;
 }
@@ -25,3 +28,10 @@ not_ended g budget profile from (suc n) (suc t) l = not_ended g budget profile (
 
 pub lives : (g : Guest) (budget : ℕ) (profile : Profile) → IsLive (thread_machine g.code) (tables (start_flat g budget profile)) (length g.entries)
 lives g budget profile t l = ap (option_map (λ e. (end_number e, end_code e))) (not_ended g budget profile 0 (length g.entries) t l)
+
+-- a guest whose header a trace has is allowed by the trace's profile
+pub allowed : (g : Guest) (r : Recorded) → IsRecorded r → HasHeader g r → IsAllowed r.profile g
+allowed g r fits header =
+    let threads = header.threads in let objects = header.objects in
+    let few = fits.few_threads in let less = fits.few_objects in
+    (omega (arith, threads, few), omega (arith, objects, less))

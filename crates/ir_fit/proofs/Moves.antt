@@ -95,7 +95,7 @@ made guest r f ps run h ends code threads objects placed left = record {
 pub started : (guest : Guest) (r : Recorded) (ps : List Growing)
     → ((t : ℕ) → ((growing_at ps t).entries ≡ []) × ((growing_at ps t).leaves ≡ [])) → IsFollower guest r (start_flat guest r.budget r.profile) ps
 started guest r ps none = made guest r (start_flat guest r.budget r.profile) ps [] (tt, λ t. tt)
-    refl refl (threads_length guest r.budget r.profile 0 (length guest.entries)) (cells_length guest.words (object_count guest)) (λ t l. (none t).0)
+    refl refl (threads_length guest r.budget r.profile 0 (length guest.entries)) (cells_length guest 0 (object_count guest)) (λ t l. (none t).0)
     (λ t l. (none t).1)
 
 pub steps_are : (guest : Guest) (r : Recorded) (f : Flat) (ps : List Growing) → (k : IsFollower guest r f ps) → (t : ℕ)

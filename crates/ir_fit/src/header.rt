@@ -4,7 +4,7 @@ ghost use Rattle.std.specs.Prelude.{◌≡◌, ◌≢◌, length, OnOk, IfErr};
 ghost use Rattle.ir_fit.specs.Fit.{HasHeader, IsOther};
 
 use crate::header_cause::HeaderCause;
-use ir_image::{Image, OBJECT_WORDS};
+use ir_image::Image;
 use ir_trace::Trace;
 
 /// Whether the trace is of as many threads and objects as the guest has.
@@ -18,7 +18,7 @@ pub fn same_header(image: &Image, trace: &Trace) -> Result<(), HeaderCause>
     if trace.threads().len() != image.entries().len() {
         return Err(HeaderCause::Threads);
     }
-    if trace.objects() as usize != image.words().len() / OBJECT_WORDS {
+    if trace.objects() as usize != image.object_count() {
         return Err(HeaderCause::Objects);
     }
     Ok(())

@@ -1,8 +1,9 @@
 -- At the start nobody is inside an object.
 use Rattle.std.proofs.Common.{◌≡◌, ℕ, zero, suc, ◌+◌, ◌-◌, ◌*◌, ◌<◌, ◌≤◌, List, [], ◌∷◌, ◌++◌, length, take, drop, replicate, get_or, Option, None, refl, sym, ap, ◌∙◌, subst, arith, inl, inr, false}
-use Rattle.std.proofs.lemmas.List.{get_or-replicate, get_or_past, drop-drop, length-replicate, length-take-le, length-drop}
+use Rattle.std.proofs.lemmas.List.{get_or-replicate, get_or_past, length-replicate, length-append, length-take}
 use Rattle.std.proofs.lemmas.Bool.{cases_lt}
-use Rattle.ir_image.specs.Guest.{Guest, IsGuest, object_count, object_words}
+use Rattle.ir_image.specs.Guest.{Guest, IsGuest, object_count, object_words, most_object_words, first_words}
+use Rattle.ir_image.proofs.CallerLemmas.{most_words, few_threads, few_objects}
 use Rattle.ir_thread.specs.Held.{held_at}
 use Rattle.ir_thread.specs.declared.profile.Profile.{Profile}
 use Rattle.ir_thread.specs.State as thread
@@ -18,9 +19,9 @@ pub threads_length : (g : Guest) (budget : ℕ) (profile : Profile) (from n : �
 threads_length g budget profile from zero = refl
 threads_length g budget profile from (suc n) = ap suc (threads_length g budget profile (suc from) n)
 
-pub cells_length : (words : List ℕ) (n : ℕ) → length (start_cells words n) ≡ n
-cells_length words zero = refl
-cells_length words (suc n) = ap suc (cells_length (drop object_words words) n)
+pub cells_length : (g : Guest) (from n : ℕ) → length (start_cells g from n) ≡ n
+cells_length g from zero = refl
+cells_length g from (suc n) = ap suc (cells_length g (suc from) n)
 
 -- one thread more
 pub threads_more : (g : Guest) (budget : ℕ) (profile : Profile) (from n : ℕ)
@@ -31,13 +32,11 @@ threads_more g budget profile from (suc n) = ap (λ xs. thread.start_state g fro
     (let e : suc from + n ≡ from + suc n = omega arith in e))
 
 -- one object more
-pub cells_more : (words : List ℕ) (n : ℕ) → start_cells words (suc n) ≡ start_cells words n ++ start_cell
-    (take object_words (drop (object_words * n) words)) ∷ []
-cells_more words zero = refl
-cells_more words (suc n) = ap (λ xs. start_cell (take object_words words) ∷ xs)
-    (cells_more (drop object_words words) n ∙ ap (λ ys. start_cells (drop object_words words) n ++ start_cell (take object_words ys) ∷ [])
-    (drop-drop (object_words * n) object_words words ∙ ap (λ k. drop k words)
-    (let e : object_words + object_words * n ≡ object_words * suc n = omega arith in e)))
+pub cells_more : (g : Guest) (from n : ℕ) → start_cells g from (suc n) ≡ start_cells g from n ++ start_cell (first_words g (from + n)) ∷ []
+cells_more g from zero = ap (λ k. start_cell (first_words g k) ∷ []) (let e : from ≡ from + 0 = omega arith in e)
+cells_more g from (suc n) = ap (λ xs. start_cell (first_words g from) ∷ xs)
+    (cells_more g (suc from) n ∙ ap (λ k. start_cells g (suc from) n ++ start_cell (first_words g k) ∷ [])
+    (let e : suc from + n ≡ from + suc n = omega arith in e))
 
 -- a thread at the start holds nothing and has logged nothing
 pub record IsFresh (places : ℕ) (x : thread.State) : Type 0 where
@@ -71,18 +70,26 @@ places_at g budget profile from (suc n) (suc t) l = places_at g budget profile (
 abbrev no_fields : Fields
 no_fields = record { version = 0; left = 0; inside = 0; writer = false }
 
-pub fields_at : (words : List ℕ) (n o : ℕ) → (get_or (start_cells words n) o empty).fields ≡ no_fields
-fields_at words zero o = refl
-fields_at words (suc n) zero = refl
-fields_at words (suc n) (suc o) = fields_at (drop object_words words) n o
+pub fields_at : (g : Guest) (from n o : ℕ) → (get_or (start_cells g from n) o empty).fields ≡ no_fields
+fields_at g from zero o = refl
+fields_at g from (suc n) zero = refl
+fields_at g from (suc n) (suc o) = fields_at g (suc from) n o
 
-words_at : (words : List ℕ) (n o : ℕ) → object_words * n ≤ length words → o < n
-    → length (get_or (start_cells words n) o empty).words ≡ object_words
-words_at words zero o h l = absurd (omega arith)
-words_at words (suc n) zero h l = length-take-le object_words words (omega arith)
-words_at words (suc n) (suc o) h l = words_at (drop object_words words) n o
-    (let d : length (drop object_words words) ≡ length words - object_words = length-drop object_words words in omega (arith, d, h))
-    (omega arith)
+-- an object has its first words
+pub words_at : (g : Guest) (from n o : ℕ) → o < n → (get_or (start_cells g from n) o empty).words ≡ first_words g (from + o)
+words_at g from zero o l = absurd (omega arith)
+words_at g from (suc n) zero l = ap (first_words g) (let e : from ≡ from + 0 = omega arith in e)
+words_at g from (suc n) (suc o) l = words_at g (suc from) n o (omega arith) ∙ ap (first_words g) (let e : suc from + o ≡ from + suc o = omega arith in e)
+
+-- there are so many, whatever the form
+pub words_count : (g : Guest) (o : ℕ) → length (first_words g o) ≡ most_object_words
+words_count g o =
+    let own = take (object_words g) (drop (object_words g * o) g.words) in
+    let few = length-take (object_words g) (drop (object_words g * o) g.words) in
+    let most = most_words g.form in
+    let parts = length-append own (replicate (most_object_words - length own) 0) in
+    let rest = length-replicate {A = ℕ} (most_object_words - length own) 0 in
+    omega (arith, few, most, parts, rest)
 
 -- nobody is inside
 pub start_none : (g : Guest) (budget : ℕ) (profile : Profile) (o t : ℕ) → inside_of (start_flat g budget profile) o t ≡ None
@@ -102,7 +109,7 @@ start_kept g budget profile = record {
   others = λ t o l. start_none g budget profile o t;
   logged = λ o.
       let f : Fields = (cell_of (start_flat g budget profile) o).fields in
-      let zero_fields : f ≡ no_fields = fields_at g.words (object_count g) o in
+      let zero_fields : f ≡ no_fields = fields_at g 0 (object_count g) o in
       let c = counts_none (length g.entries) (inside_of (start_flat g budget profile) o) no_fields refl (start_none g budget profile o) in
       let version : f.version ≡ 0 = ap (λ z. z.version) zero_fields in
       let left : f.left ≡ 0 = ap (λ z. z.left) zero_fields in
@@ -115,15 +122,15 @@ start_kept g budget profile = record {
 pub start_is_flat : (g : Guest) (budget : ℕ) (profile : Profile) → IsGuest g → IsFlat (start_flat g budget profile)
 start_is_flat g budget profile ok =
     let n : length (start_threads g budget profile 0 (length g.entries)) ≡ length g.entries = threads_length g budget profile 0 (length g.entries) in
-    let m : length (start_cells g.words (object_count g)) ≡ object_count g = cells_length g.words (object_count g) in
+    let m : length (start_cells g 0 (object_count g)) ≡ object_count g = cells_length g 0 (object_count g) in
     record {
-      few_threads = omega (arith, n, ok.few_threads);
-      few_objects = omega (arith, m, ok.few_objects);
+      few_threads = omega (arith, n, few_threads g ok);
+      few_objects = omega (arith, m, few_objects g ok);
       places = λ t l. places_at g budget profile 0 (length g.entries) t (omega (arith, n, l)) ∙ sym m;
       objects = λ o l. record {
         counts = counts_none (length (start_threads g budget profile 0 (length g.entries))) (inside_of (start_flat g budget profile) o)
-            (cell_of (start_flat g budget profile) o).fields (fields_at g.words (object_count g) o) (start_none g budget profile o);
-        words = words_at g.words (object_count g) o (omega arith) (omega (arith, m, l));
+            (cell_of (start_flat g budget profile) o).fields (fields_at g 0 (object_count g) o) (start_none g budget profile o);
+        words = ap length (words_at g 0 (object_count g) o (omega (arith, m, l))) ∙ words_count g (0 + o);
       };
       kept = subst (λ k. IsKept k (tables (start_flat g budget profile))) (sym n) (start_kept g budget profile);
     }
@@ -137,13 +144,14 @@ thread_made g budget profile n before after x is new made =
     ∙ sym (threads_more g budget profile 0 n) ∙ ap (start_threads g budget profile 0) (let e : suc n ≡ n + 1 = omega arith in e)
 
 -- the loop that makes the objects
-pub object_made : (words : List ℕ) (n : ℕ) (before after : List Cell) (x : Cell) → before ≡ start_cells words n
-    → x ≡ start_cell (take object_words (drop (object_words * n) words)) → after ≡ before ++ x ∷ [] → after ≡ start_cells words (n + 1)
-object_made words n before after x is new made =
-    made ∙ ap (λ xs. xs ++ x ∷ []) is ∙ ap (λ y. start_cells words n ++ y ∷ []) new ∙ sym (cells_more words n)
-    ∙ ap (start_cells words) (let e : suc n ≡ n + 1 = omega arith in e)
+pub object_made : (g : Guest) (n : ℕ) (before after : List Cell) (x : Cell) → before ≡ start_cells g 0 n → x ≡ start_cell (first_words g n)
+    → after ≡ before ++ x ∷ [] → after ≡ start_cells g 0 (n + 1)
+object_made g n before after x is new made =
+    made ∙ ap (λ xs. xs ++ x ∷ []) is ∙ ap (λ y. start_cells g 0 n ++ y ∷ []) new
+    ∙ ap (λ k. start_cells g 0 n ++ start_cell (first_words g k) ∷ []) (let e : n ≡ 0 + n = omega arith in e)
+    ∙ sym (cells_more g 0 n) ∙ ap (start_cells g 0) (let e : suc n ≡ n + 1 = omega arith in e)
 
 pub made_flat : (g : Guest) (budget : ℕ) (profile : Profile) (f : Flat) → f.code ≡ g.code → f.threads ≡ start_threads g budget profile 0 (length g.entries)
-    → f.objects ≡ start_cells g.words (object_count g) → IsGuest g → IsFlat f
+    → f.objects ≡ start_cells g 0 (object_count g) → IsGuest g → IsFlat f
 made_flat g budget profile f p q r ok = subst IsFlat (λ i. record { code = sym p i; threads = sym q i; objects = sym r i })
     (start_is_flat g budget profile ok)

@@ -1,7 +1,7 @@
 -- A step keeps what the lists of threads and objects always keep.
 use Rattle.std.proofs.Common.{◌≡◌, ◌≢◌, ◌↔◌, ℕ, zero, suc, ◌+◌, ◌*◌, ◌<◌, ◌≤◌, true, Bool, false, length, length-set, Option, Some, None, refl, sym, le_refl, ap, ◌∙◌, subst, arith, get_or-set_same}
 use Rattle.std.specs.Prelude.{slice_index, IsTrue}
-use Rattle.ir_image.specs.Guest.{most_threads, object_words}
+use Rattle.ir_image.specs.Guest.{most_threads, most_object_words}
 use Rattle.ir_thread.specs.Calls.{ask_of, Permits, most_events}
 use Rattle.ir_thread.specs.Held.{held_at}
 use Rattle.ir_thread.specs.Instance.{shared_ask}
@@ -119,7 +119,7 @@ quiet_shared f t y l same o old = record {
 -- what touches one object leaves the others
 touched : (f : Flat) (t : ℕ) (y : thread.State) (o : ℕ) (c : Cell) → t < length f.threads → o < length f.objects
     → ((i : ℕ) → i ≢ o → held_at y.held i ≡ held_at (thread_of f t).held i)
-    → Counts (length f.threads) c.fields (upd (inside_of f o) t (held_at y.held o)) → length c.words ≡ object_words → (i : ℕ) → IsShared f i
+    → Counts (length f.threads) c.fields (upd (inside_of f o) t (held_at y.held o)) → length c.words ≡ most_object_words → (i : ℕ) → IsShared f i
     → IsShared (with_object (with_thread f t y) o c) i
 touched f t y o c l k same counts count i old =
     let cell : cell_of (with_object (with_thread f t y) o c) i ≡ upd (cell_of f) o c i =
@@ -133,8 +133,8 @@ touched f t y o c l k same counts count i old =
           (λ e. subst (λ j. Counts (length f.threads) c.fields (upd (inside_of f j) t (held_at y.held j))) (sym e) counts)
           (λ ne. subst (Counts (length f.threads) (cell_of f i).fields)
           (sym (upd_id (inside_of f i) t (held_at y.held i) (sym (same i ne)))) old.counts))));
-      words = subst (λ z. length z.words ≡ object_words) (sym cell)
-          (upd_elim (cell_of f) o c i (λ z. length z.words ≡ object_words) (λ _. count) (λ _. old.words));
+      words = subst (λ z. length z.words ≡ most_object_words) (sym cell)
+          (upd_elim (cell_of f) o c i (λ z. length z.words ≡ most_object_words) (λ _. count) (λ _. old.words));
     }
 
 -- an object that thread t has entered

@@ -3,7 +3,7 @@ use Rattle.std.proofs.Common.{◌≡◌, ◌≢◌, ℕ, zero, suc, ◌<◌, Lis
 use Rattle.std.proofs.Math.Path.{fun_ext}
 use Rattle.std.specs.Prelude.{slice_set}
 use Rattle.std.proofs.lemmas.Bool.{cases_eq}
-use Rattle.ir_image.specs.Guest.{object_words}
+use Rattle.ir_image.specs.Guest.{most_object_words}
 use Rattle.ir_thread.specs.Calls.{ask_of, Permits, after_ask, after_reply}
 use Rattle.ir_thread.specs.Held.{held_at}
 use Rattle.ir_thread.specs.Instance.{shared_ask, reply_of}
@@ -99,7 +99,7 @@ quiet f t y o l same = quiet-set f t y l same ∙ ap (λ z. record { now = upd (
 pub still : (held : List (Option Access)) (o : ℕ) (x : Option Access) (i : ℕ) → i ≢ o → held_at (set held o x) i ≡ held_at held i
 still held o x i ne = get_or-set_other held o i x None ne
 
-word_count : (f : Flat) (o : ℕ) → IsFlat f → o < length f.objects → length (cell_of f o).words ≡ object_words
+word_count : (f : Flat) (o : ℕ) → IsFlat f → o < length f.objects → length (cell_of f o).words ≡ most_object_words
 word_count f o flat l = (flat.objects o l).words
 
 -- an object that thread t has entered

@@ -4,14 +4,14 @@ ghost use Rattle.ir_flat.specs.Alone.{WentAlone};
 ghost use Rattle.ir_flat.specs.Flat.{Flat, IsFlat, start_flat, thread_of, cell_of, tables, machine};
 ghost use Rattle.ir_runs.specs.Run.{Can, after};
 ghost use Rattle.ir_flat.specs.Next.{next, MayStep};
-ghost use Rattle.ir_image.specs.Guest.{object_count};
+ghost use Rattle.ir_thread.specs.Allowed.{IsAllowed};
 ghost use Rattle.ir_thread.specs.Calls.{most_budget, ask_of, Permits};
 ghost use Rattle.ir_thread.specs.Private.{NoInstruction, UnmarkedSteps, StopsUnmarked};
 ghost use Rattle.std.specs.Prelude.{◌≡◌, ◌<◌, ◌≤◌, ◌↔◌, length, IfOk, OnOk, OnErr, IsTrue};
 
 use crate::parts::Parts;
 use crate::start;
-use ir_image::{Code, Image, OBJECT_WORDS};
+use ir_image::{Code, Image};
 use ir_mach::MarkedCode;
 use ir_object::Object;
 use ir_thread::{Ask, Profile, Thread};
@@ -39,7 +39,8 @@ impl<'a> Model for Flat<'a> {
 }
 
 impl<'a> Flat<'a> {
-    /// The guest before its first step. The budget is in steps, for each thread; the profile says which system calls there are.
+    /// The guest before its first step. The budget is in steps, for each thread; the profile says which system calls there are, and
+    /// allows the guest's threads and objects (`Profile::allows`).
     ///
     /// # Errors
     /// Out of memory.
@@ -49,12 +50,12 @@ impl<'a> Flat<'a> {
         budget: u64,
         profile: Profile,
     ) -> Result<Flat<'a>, AllocError>
-        requires { budget ≤ most_budget }
+        requires budget { budget ≤ most_budget }
+        requires allowed { IsAllowed profile image.now }
         ensures { IfOk result (λ f. f ≡ start_flat image.now budget profile) }
     {
-        let words = image.words();
         let threads = start::threads(alloc, image, budget, profile)?;
-        let objects = start::objects(alloc, words, words.len() / OBJECT_WORDS)?;
+        let objects = start::objects(alloc, image)?;
         Ok(Flat {
             parts: Parts::new(image.code(), threads, objects),
         })

@@ -2,7 +2,7 @@
 
 ghost use Rattle.ir_flat.specs.Flat.{Flat, IsFlat, thread_of, cell_of};
 ghost use Rattle.ir_flat.specs.Next.{with_thread, with_object, answered, next, next_try, MayStep, MayTry};
-ghost use Rattle.ir_image.specs.Guest.{object_words};
+ghost use Rattle.ir_image.specs.Guest.{most_object_words};
 ghost use Rattle.ir_object.specs.Cell.{Admitted, CanLeave};
 ghost use Rattle.ir_object.specs.Word.{IsFields, entered, left_by};
 ghost use Rattle.ir_thread.specs.Calls.{ask_of, run_of, after_reply, Permits, Suits};
@@ -158,7 +158,7 @@ impl<'a> Parts<'a> {
 
     fn put(&mut self, o: u8, index: u8, value: u32)
         requires object { o < length self.old.objects }
-        requires index { index < object_words }
+        requires index { index < most_object_words }
         ensures { self.new ≡ with_object self.old o (record (cell_of self.old o) { words = slice_set (cell_of self.old o).words index value }) }
     {
         self.objects[o as usize].put(index, value);

@@ -1,11 +1,11 @@
 //! The threads and objects of a guest at its start.
 
-ghost use Rattle.ir_image.specs.Guest.{object_words};
+ghost use Rattle.ir_image.specs.Guest.{most_object_words, object_count, padded, first_words};
 ghost use Rattle.ir_thread.specs.Calls.{most_budget};
 ghost use Rattle.ir_flat.specs.Flat.{start_threads, start_cells};
-ghost use Rattle.std.specs.Prelude.{◌≡◌, ◌≤◌, ◌*◌, take, drop, length, IfOk};
+ghost use Rattle.std.specs.Prelude.{◌≡◌, ◌<◌, ◌≤◌, length, IfOk};
 
-use ir_image::{Image, OBJECT_WORDS};
+use ir_image::{Image, MOST_OBJECT_WORDS};
 use ir_object::Object;
 use ir_thread::{Profile, Thread};
 use std::alloc::{AllocError, Global};
@@ -27,22 +27,33 @@ pub fn threads(
     Ok(threads)
 }
 
-fn first_words(words: &[u32]) -> [u32; OBJECT_WORDS]
-    requires { object_words ≤ length words.now }
-    ensures { result ≡ take object_words words.now }
+// These words, and 0 behind them.
+fn padded(words: &[u32]) -> [u32; MOST_OBJECT_WORDS]
+    requires { length words.now ≤ most_object_words }
+    ensures { result ≡ padded words.now }
 {
-    let mut contents = [0; OBJECT_WORDS];
-    contents.copy_from_slice(&words[..OBJECT_WORDS]);
+    let mut contents = [0; MOST_OBJECT_WORDS];
+    contents[..words.len()].copy_from_slice(words);
     contents
 }
 
-pub fn objects(alloc: Global, words: &[u32], count: usize) -> Result<Vec<Object>, AllocError>
-    requires { object_words * count ≤ length words.now }
-    ensures { IfOk result (λ objects. objects.items ≡ start_cells words.now count) }
+// What the object's words are at the start.
+fn first_words(image: &Image, object: usize) -> [u32; MOST_OBJECT_WORDS]
+    requires { object < object_count image.now }
+    ensures { result ≡ first_words image.now object }
 {
+    let count = image.object_words();
+    let words = &image.words()[count * object..];
+    padded(&words[..count])
+}
+
+pub fn objects(alloc: Global, image: &Image) -> Result<Vec<Object>, AllocError>
+    ensures { IfOk result (λ objects. objects.items ≡ start_cells image.now 0 (object_count image.now)) }
+{
+    let count = image.object_count();
     let mut objects = Vec::with_capacity(alloc, count)?;
     for number in 0..count {
-        objects.push(Object::new(first_words(&words[OBJECT_WORDS * number..])))?;
+        objects.push(Object::new(first_words(image, number)))?;
     }
     Ok(objects)
 }

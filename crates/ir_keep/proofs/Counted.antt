@@ -174,7 +174,7 @@ own_few [] = omega arith
 own_few (None ∷ own) = omega (arith, own_few own)
 own_few (Some page ∷ own) = omega (arith, own_few own)
 
-pub stored_few : (m : ℕ) (entries : List Entry) → AreEntries m entries → m ≤ most_threads → stored entries ≤ 128 * length entries
+pub stored_few : (m : ℕ) (entries : List Entry) → AreEntries m entries → m ≤ most_threads → stored entries ≤ 16 * most_threads * length entries
 stored_few m [] are few = omega arith
 stored_few m (e ∷ entries) are few =
     let sum : stored (e ∷ entries) ≡ owned e.pages + stored entries = sum_by-cons (λ (x : Entry). owned x.pages) e entries in

@@ -1,13 +1,16 @@
 -- One run made of what the workers did.
 use Rattle.ir_thread.specs.declared.profile.Profile.{Profile}
-use Rattle.std.proofs.Common.{◌≡◌, ℕ, zero, suc, ◌+◌, ◌*◌, ◌<◌, ◌≤◌, false, List, [], ◌∷◌, ◌++◌, map, length, get_or, take, drop, refl, sym, ap, ◌∙◌, subst, arith, inl, inr}
+use Rattle.std.proofs.Common.{◌≡◌, ℕ, zero, suc, ◌+◌, ◌*◌, ◌/◌, ◌%◌, ◌<◌, ◌≤◌, List, [], ◌∷◌, ◌++◌, map, length, get_or, take, drop, refl, sym, ap, ◌∙◌, subst, arith, inl, inr}
 use Rattle.std.proofs.Math.Path.{fun_ext}
 use Rattle.std.proofs.lemmas.Bool.{cases_lt}
 use Rattle.std.proofs.lemmas.List.{length-map, get_or_past}
 use Rattle.std.proofs.lemmas.Option.{slice_get-get_or, slice_get-map}
 use Rattle.std.specs.List.{slice_get}
 use Rattle.std.specs.Prelude.{option_map}
-use Rattle.ir_image.specs.Guest.{Guest, IsGuest, object_count, object_words}
+use Rattle.ir_image.specs.Forms.{limits_of}
+use Rattle.ir_image.specs.Guest.{Guest, IsGuest, object_count, object_words, first_words}
+use Rattle.ir_image.specs.declared.form.ImageForm.{ImageForm}
+use Rattle.ir_image.specs.declared.form.ImageForm.TheVariants.{Small, Large}
 use Rattle.ir_thread.specs.Calls.{ask_of}
 use Rattle.ir_thread.specs.Instance.{shared_ask, thread_machine}
 use Rattle.ir_runs.specs.Machine as machine
@@ -17,13 +20,14 @@ use Rattle.ir_thread.specs.declared.ask.Ask.TheVariants as ask
 use Rattle.ir_object.specs.Cell.{Cell}
 use Rattle.ir_object.specs.Order.{Shared, of_thread, order_labels, IsAllowed}
 use Rattle.ir_object.proofs.CallerLemmas.{allowed, none_beyond}
+use Rattle.ir_crew.proofs.CallerLemmas.{padded_at}
 use Rattle.ir_crew.specs.Ends.{AreTracks, IsEnd}
 use Rattle.ir_crew.specs.Plays.{M}
 use Rattle.ir_crew.specs.Rule.{View, IsTrack, start_objects}
 use Rattle.ir_flat.specs.Flat.{Flat, thread_of, cell_of, tables, idle, empty, start_flat, start_threads, start_cells}
 use Rattle.ir_runs.specs.Run.{State, Step, events, log}
 use Rattle.ir_flat.specs.Splice.{MayRun, alone_after, shared_steps, alone_trail, splice}
-use Rattle.ir_flat.proofs.CallerLemmas.{start_none, start_idle, spliced}
+use Rattle.ir_flat.proofs.CallerLemmas.{cells_length, fields_at, words_at, start_none, start_idle, spliced}
 use Rattle.ir_log.specs.Logged.{Logged}
 use Rattle.ir_log.specs.Logging as logging
 use Rattle.ir_trace.specs.Recorded.{Recorded}
@@ -44,14 +48,11 @@ thread_at g budget profile from (suc n) zero l = ap (λ z. thread.start_state g 
 thread_at g budget profile from (suc n) (suc t) l = thread_at g budget profile (suc from) n t (omega (arith, l))
     ∙ ap (λ z. thread.start_state g z budget profile) (let e : suc from + t ≡ from + suc t = omega arith in e)
 
-drop_nil : (k : ℕ) → drop {A = ℕ} k [] ≡ []
-drop_nil zero = refl
-drop_nil (suc k) = refl
-
-drop_twice : (a b : ℕ) (ws : List ℕ) → drop b (drop a ws) ≡ drop (a + b) ws
-drop_twice zero b ws = ap (λ k. drop k ws) (let e : b ≡ 0 + b = omega arith in e)
-drop_twice (suc a) b [] = drop_nil b ∙ sym (drop_nil (suc a + b))
-drop_twice (suc a) b (w ∷ ws) = drop_twice a b ws ∙ ap (λ k. drop k (w ∷ ws)) (let e : suc (a + b) ≡ suc a + b = omega arith in e)
+-- an object that the guest doesn't have has no words
+past_words : (form : ImageForm) (words o : ℕ) → words % (limits_of form).words ≡ 0 → words / (limits_of form).words ≤ o
+    → words ≤ (limits_of form).words * o
+past_words Small words o whole past = omega (arith, whole, past)
+past_words Large words o whole past = omega (arith, whole, past)
 
 drop_all : (k : ℕ) (ws : List ℕ) → length ws ≤ k → drop k ws ≡ []
 drop_all zero [] l = refl
@@ -59,41 +60,30 @@ drop_all zero (w ∷ ws) l = absurd (omega (arith, l))
 drop_all (suc k) [] l = refl
 drop_all (suc k) (w ∷ ws) l = drop_all k ws (omega (arith, l))
 
-words_at : (ws : List ℕ) (n o : ℕ) → o < n → (get_or (start_cells ws n) o empty).words ≡ take object_words (drop (object_words * o) ws)
-words_at ws zero o l = absurd (omega arith)
-words_at ws (suc n) zero l = refl
-words_at ws (suc n) (suc o) l = words_at (drop object_words ws) n o (omega (arith, l))
-    ∙ ap (take object_words) (drop_twice object_words (object_words * o) ws
-    ∙ ap (λ k. drop k ws) (let e : object_words + object_words * o ≡ object_words * suc o = omega arith in e))
+take_nil : (k : ℕ) → take {A = ℕ} k [] ≡ []
+take_nil zero = refl
+take_nil (suc k) = refl
 
-fields_none : (ws : List ℕ) (n o : ℕ) → (get_or (start_cells ws n) o empty).fields ≡
-    record { version = 0; left = 0; inside = 0; writer = false }
-fields_none ws zero o = refl
-fields_none ws (suc n) zero = refl
-fields_none ws (suc n) (suc o) = fields_none (drop object_words ws) n o
-
-cells_count : (ws : List ℕ) (n : ℕ) → length (start_cells ws n) ≡ n
-cells_count ws zero = refl
-cells_count ws (suc n) = let e = cells_count (drop object_words ws) n in omega (arith, e)
+none_past : (g : Guest) (o j : ℕ) → IsGuest g → object_count g ≤ o → get_or (first_words g o) j 0 ≡ 0
+none_past g o j guest past = padded_at (take (object_words g) (drop (object_words g * o) g.words)) j
+    ∙ ap (λ ws. get_or (take (object_words g) ws) j 0)
+    (drop_all (object_words g * o) g.words (past_words g.form (length g.words) o guest.whole_objects past))
+    ∙ ap (λ ws. get_or ws j 0) (take_nil (object_words g))
 
 objects_same : (g : Guest) (budget : ℕ) (profile : Profile) → IsGuest g → (tables (start_flat g budget profile)).objects ≡ start_objects g
-objects_same g budget profile guest = fun_ext (λ o. let c = cell_of (start_flat g budget profile) o in λ i. record {
-  version = ap (λ f. f.version) (fields_none g.words (object_count g) o) i;
-  left = ap (λ f. f.left) (fields_none g.words (object_count g) o) i;
+objects_same g budget profile guest = fun_ext (λ o. λ i. record {
+  version = ap (λ f. f.version) (fields_at g 0 (object_count g) o) i;
+  left = ap (λ f. f.left) (fields_at g 0 (object_count g) o) i;
   inside = fun_ext (λ t. start_none g budget profile o t) i;
-  words = ap (λ ws. get_or-words ws) (contents o) i;
+  words = fun_ext (contents o) i;
 })
   where
-    get_or-words : List ℕ → ℕ → ℕ
-    get_or-words ws j = get_or ws j 0
-
-    contents : (o : ℕ) → (cell_of (start_flat g budget profile) o).words ≡ take object_words (drop (object_words * o) g.words)
-    contents o = elim (cases_lt o (object_count g)) [
-      | inl l ↦ words_at g.words (object_count g) o l
-      | inr past ↦ ap (λ c. c.words) (get_or_past (start_cells g.words (object_count g)) o empty
-          (let n = cells_count g.words (object_count g) in omega (arith, n, past)))
-          ∙ sym (ap (take object_words) (drop_all (object_words * o) g.words
-          (let whole = guest.whole_objects in omega (arith, whole, past))))
+    contents : (o j : ℕ) → get_or (cell_of (start_flat g budget profile) o).words j 0 ≡ get_or (first_words g o) j 0
+    contents o j = elim (cases_lt o (object_count g)) [
+      | inl l ↦ ap (λ ws. get_or ws j 0) (words_at g 0 (object_count g) o l ∙ ap (first_words g) (let e : 0 + o ≡ o = omega arith in e))
+      | inr past ↦ ap (λ c. get_or c.words j 0) (get_or_past (start_cells g 0 (object_count g)) o empty
+          (let n = cells_length g 0 (object_count g) in omega (arith, n, past)))
+          ∙ sym (none_past g o j guest past)
     ]
 
 -- ---- the workers at the end

@@ -107,6 +107,10 @@ pub threads_there : (guest : Guest) (budget : ℕ) (profile : Profile) (order : 
     → Over guest budget profile order before b → length b.flat.threads ≡ length guest.entries
 threads_there guest budget profile order before b o = o.took.threads ∙ threads_length guest budget profile 0 (length guest.entries)
 
+pub objects_there : (guest : Guest) (budget : ℕ) (profile : Profile) (order : List ℕ) (before : List (List Answered)) (b : Progress)
+    → Over guest budget profile order before b → length b.flat.objects ≡ object_count guest
+objects_there guest budget profile order before b o = o.took.objects ∙ cells_length guest 0 (object_count guest)
+
 pub profiles_there : (guest : Guest) (budget : ℕ) (profile : Profile) (order : List ℕ) (before : List (List Answered)) (b : Progress)
     → Over guest budget profile order before b → (t : ℕ) → t < length b.flat.threads → (thread_of b.flat t).profile ≡ profile
 profiles_there guest budget profile order before b o t l =
@@ -166,7 +170,7 @@ recorded_there guest budget profile order before b o failed ready trace objects 
       of = record {
         emitted = emitted_there guest budget profile o.took.run before (thread_of b.flat) (log_at b.logs) (answers_at b.answers) stand
             (done_there guest budget profile order before b o) trace
-            (objects ∙ o.took.objects ∙ cells_length guest.words (object_count guest)) limit same (traces.count ∙ logs)
+            (objects ∙ objects_there guest budget profile order before b o) limit same (traces.count ∙ logs)
             (λ t l. traces.each t (omega (arith, l, logs)));
         printed = printed_there guest budget profile o.took.run before (thread_of b.flat) (log_at b.logs) (answers_at b.answers) stand outputs
             (ap (λ z. length z) printed ∙ length-map b.flat.threads (λ x. x.output) ∙ n)

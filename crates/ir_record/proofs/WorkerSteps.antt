@@ -4,7 +4,7 @@ use Rattle.std.proofs.Common.{◌≡◌, ◌≢◌, ℕ, zero, suc, ◌+◌, ◌
 use Rattle.std.proofs.lemmas.List.{length-map}
 use Rattle.std.specs.List.{AllByRecursion}
 use Rattle.atomic_table.specs.Seated.{TableId}
-use Rattle.ir_image.specs.Guest.{Guest, object_count, object_words}
+use Rattle.ir_image.specs.Guest.{Guest, object_count, most_object_words}
 use Rattle.ir_thread.specs.Calls.{ask_of, after_ask, after_reply, run_of, step_of, Permits, most_events}
 use Rattle.ir_thread.specs.Held.{held_at}
 use Rattle.ir_thread.specs.Instance.{shared_ask, reply_of, is_result, thread_machine}
@@ -447,11 +447,11 @@ pub below_leave : (g : Guest) (w : Work) (o : ℕ) (a : Access) → IsWorker g w
 below_leave g w o a i asked = subst (λ n. o < n) i.4.places (permits g w (ask.Leave o a) asked).1
 
 pub below_get : (g : Guest) (w : Work) (o index : ℕ) → IsWorker g w → ask_of g.code w.thread ≡ ask.Get o index → (o < object_count g)
-    × (index < object_words)
+    × (index < most_object_words)
 below_get g w o index i asked = let p = permits g w (ask.Get o index) asked in (subst (λ n. o < n) i.4.places p.1, p.2)
 
 pub below_put : (g : Guest) (w : Work) (o index value : ℕ) → IsWorker g w → ask_of g.code w.thread ≡ ask.Put o index value
-    → (o < object_count g) × (index < object_words)
+    → (o < object_count g) × (index < most_object_words)
 below_put g w o index value i asked = let p = permits g w (ask.Put o index value) asked in (subst (λ n. o < n) i.4.places p.1, p.2)
 
 pub outside : (g : Guest) (w : Work) (o : ℕ) (a : Access) → IsWorker g w → ask_of g.code w.thread ≡ ask.Enter o a

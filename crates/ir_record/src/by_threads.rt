@@ -1,6 +1,7 @@
 //! Recording on real threads.
 
 ghost use Rattle.std.specs.Prelude.{◌≡◌, ◌≤◌, length, map, vec_len, IfOk, IfErr};
+ghost use Rattle.ir_thread.specs.Allowed.{IsAllowed};
 ghost use Rattle.ir_thread.specs.Calls.{most_budget};
 ghost use Rattle.ir_record.specs.Recording.{IsRecorded, AllWork, AreHandedBack, IsFailure};
 ghost use Rattle.ir_record.specs.Worlds.{NoneFailed};
@@ -11,7 +12,7 @@ use crate::record_err::RecordErr;
 use crate::workers::{first_failed, new_workers, run_workers};
 use crate::world::World;
 use ir_crew::Crew;
-use ir_image::{Image, OBJECT_WORDS};
+use ir_image::{Image, MOST_OBJECT_WORDS};
 use ir_object::{Gate, Object};
 use ir_thread::Profile;
 use ir_trace::Trace;
@@ -25,14 +26,15 @@ fn blanks(alloc: Global, count: usize) -> Result<Vec<Object>, AllocError>
 {
     let mut objects = Vec::with_capacity(alloc, count)?;
     for _o in 0..count {
-        objects.push(Object::new([0; OBJECT_WORDS]))?;
+        objects.push(Object::new([0; MOST_OBJECT_WORDS]))?;
     }
     Ok(objects)
 }
 
 /// Records the guest on real threads. Each of its threads runs on one of its own; where none can be started, the caller
 /// runs it, and several such one after another. The budget is in steps, for each thread of the guest; the profile says
-/// which system calls there are. Which of the guest's runs is recorded is open, and any try may be refused.
+/// which system calls there are, and has to allow the guest's threads and objects. Which of the guest's runs is recorded is
+/// open, and any try may be refused.
 ///
 /// The gate is told of each entry just after it, of each leave just before it, what a thread releases at its end or after
 /// its world has failed among them, on the thread that enters or leaves, and of private steps. A gate that holds a thread up
@@ -56,6 +58,7 @@ pub fn record<R: Threads + Wait + Sync, W: World + Drop + Send, G: Gate + Sync>(
     profile: Profile,
 ) -> Result<(Trace, Outputs<W>), RecordErr<W>>
     requires budget { budget ≤ most_budget }
+    requires allowed { IsAllowed profile image.now }
     requires each { vec_len worlds ≡ length image.now.entries }
     requires works { NoneFailed (map W.broken worlds.items) }
     // One complete run of the guest: its trace, what its threads printed, and what their worlds answered.
@@ -68,7 +71,7 @@ pub fn record<R: Threads + Wait + Sync, W: World + Drop + Send, G: Gate + Sync>(
     let (crew, seats) = Crew::open(alloc, image)?;
     let mut workers = new_workers(alloc, image, seats, worlds, budget, profile)?;
     let room = room(alloc, workers.len())?;
-    let mut objects = blanks(alloc, image.words().len() / OBJECT_WORDS)?;
+    let mut objects = blanks(alloc, image.object_count())?;
     // From here on nothing takes memory.
     run_workers(rt, &crew, image.code(), gate, &mut workers);
     if let Some(thread) = first_failed(workers.as_slice()) {

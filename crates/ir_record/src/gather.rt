@@ -3,6 +3,8 @@
 ghost use Rattle.std.specs.Prelude.{◌≡◌, ◌≢◌, ◌≤◌, ◌<◌, ℕ, None, length, map, vec_len, IfOk};
 ghost use Rattle.std.specs.List.{AllByRecursion};
 ghost use Rattle.ir_flat.specs.Flat.{thread_of};
+ghost use Rattle.ir_image.specs.Forms.{limits_of};
+ghost use Rattle.ir_thread.specs.Allowed.{largest};
 ghost use Rattle.ir_thread.specs.Calls.{most_budget};
 ghost use Rattle.ir_trace.specs.Recorded.{IsEvent, IsRecordedThread};
 ghost use Rattle.ir_record.specs.Gathered.{IsThreadTrace, AreThreadTraces};
@@ -53,6 +55,8 @@ impl Tape<'_> {
     ) -> Result<Trace, AllocError>
         requires tape { IsTape self.flat self.logs.items }
         requires some { 1 ≤ length self.flat.threads }
+        requires few_threads { length self.flat.threads ≤ (limits_of (largest profile)).threads }
+        requires few_objects { length self.flat.objects ≤ (limits_of (largest profile)).objects }
         requires budget { budget ≤ most_budget }
         requires profile { (t : ℕ) → t < length self.flat.threads → (thread_of self.flat t).profile ≡ profile }
         requires ended { (t : ℕ) → t < length self.flat.threads → (thread_of self.flat t).ended ≢ None }

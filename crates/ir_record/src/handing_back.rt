@@ -2,7 +2,8 @@
 
 ghost use Rattle.std.specs.Prelude.{◌≡◌, ◌≤◌, length, map, vec_len, IfOk};
 ghost use Rattle.std.specs.List.{AllByRecursion};
-ghost use Rattle.ir_image.specs.Guest.{most_threads, most_objects};
+ghost use Rattle.ir_image.specs.Forms.{limits_of};
+ghost use Rattle.ir_thread.specs.Allowed.{largest};
 ghost use Rattle.ir_thread.specs.Calls.{most_budget};
 ghost use Rattle.ir_record.specs.Threads.{IsEmptyFor, AreRooms, HasRoom, IsOver, AreTraces, IsSeatOf, views_of};
 
@@ -71,8 +72,8 @@ pub fn gathered<W: Drop>(
     requires room { HasRoom (vec_len workers) room }
     requires over { AllByRecursion (IsOver profile objects) workers.items }
     requires some { 1 ≤ vec_len workers }
-    requires few { vec_len workers ≤ most_threads }
-    requires objects { objects ≤ most_objects }
+    requires few { vec_len workers ≤ (limits_of (largest profile)).threads }
+    requires objects { objects ≤ (limits_of (largest profile)).objects }
     requires budget { budget ≤ most_budget }
     ensures seats { result.0.items ≡ map (λ w. w.seat) workers.items }
     ensures trace { (result.1.objects ≡ objects) × (result.1.budget ≡ budget) × (result.1.profile ≡ profile) × AreTraces workers.items result.1.threads }

@@ -1,6 +1,7 @@
 //! Recording on one thread, in a given order.
 
 ghost use Rattle.std.specs.Prelude.{◌≡◌, ◌<◌, ◌≤◌, ◌++◌, ℕ, length, map, replicate, vec_len, IfOk, OnOk, IfErr};
+ghost use Rattle.ir_thread.specs.Allowed.{IsAllowed};
 ghost use Rattle.ir_thread.specs.Calls.{most_budget};
 ghost use Rattle.ir_flat.specs.Flat.{tables, machine};
 ghost use Rattle.ir_runs.specs.InOrder.{HasNone, rounds};
@@ -55,6 +56,7 @@ pub fn record_in_turns<W: World + Drop>(
     profile: Profile,
 ) -> Result<(Trace, Outputs<W>), RecordErr<W>>
     requires budget { budget ≤ most_budget }
+    requires allowed { IsAllowed profile image.now }
     requires each { vec_len worlds ≡ length image.now.entries }
     requires works { NoneFailed (map W.broken worlds.items) }
     // The run by the order, which is complete: its trace, what its threads printed, and what their worlds answered.
@@ -84,7 +86,7 @@ pub fn record_in_turns<W: World + Drop>(
 /// Records the guest on one thread. Each entry of the order takes one step of that thread, or none where it has none;
 /// an entry that is no thread has none. After the order, rounds over the threads from 0 upwards take one step of each
 /// that has one, until all are done. A try enters where nobody is inside. The budget is in steps, for each thread; the
-/// profile says which system calls there are.
+/// profile says which system calls there are, and has to allow the guest's threads and objects.
 ///
 /// # Errors
 /// `RecordErr::NoMem` where memory is wanted, and the worlds are dropped; `RecordErr::World` where a world fails: the
@@ -98,6 +100,7 @@ pub fn record_in_order<W: World + Drop>(
     profile: Profile,
 ) -> Result<(Trace, Outputs<W>), RecordErr<W>>
     requires budget { budget ≤ most_budget }
+    requires allowed { IsAllowed profile image.now }
     requires each { vec_len worlds ≡ length image.now.entries }
     requires works { NoneFailed (map W.broken worlds.items) }
     // The run by the order, which is complete: its trace, what its threads printed, and what their worlds answered.

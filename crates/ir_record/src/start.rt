@@ -3,6 +3,7 @@
 ghost use Rattle.std.specs.Prelude.{◌≡◌, ◌≤◌, [], length, replicate, IfOk, OnOk};
 ghost use Rattle.ir_image.specs.Guest.{IsGuest};
 ghost use Rattle.ir_flat.specs.Flat.{start_flat};
+ghost use Rattle.ir_thread.specs.Allowed.{IsAllowed};
 ghost use Rattle.ir_thread.specs.Calls.{most_budget, most_events};
 
 use crate::tape::Tape;
@@ -31,7 +32,8 @@ impl<'a> Tape<'a> {
         budget: u64,
         profile: Profile,
     ) -> Result<Tape<'a>, AllocError>
-        requires { budget ≤ most_budget }
+        requires budget { budget ≤ most_budget }
+        requires allowed { IsAllowed profile image.now }
         ensures guest { OnOk result (IsGuest image.now) }
         ensures flat { IfOk result (λ tape. tape.flat ≡ start_flat image.now budget profile) }
         ensures logs { IfOk result (λ tape. tape.logs.items ≡ replicate (length image.now.entries) (record { events = []; room = most_events })) }

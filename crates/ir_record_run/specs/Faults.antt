@@ -1,9 +1,11 @@
 -- Why there is no recording, and what that leaves.
 use Rattle.std.specs.Prelude.{◌≡◌, ℕ, List, length, ⊤, ◌⊎◌, Option, None, option_and_then, Ok, Err}
-use Rattle.ir_image.specs.Guest.{Guest}
+use Rattle.ir_image.specs.Guest.{Guest, object_count}
 use Rattle.ir_image.specs.Reading.{guest_at}
 use Rattle.ir_image.specs.declared.image_err.ImageErr.{ImageErr}
 use Rattle.ir_image.specs.declared.image_err.ImageErr.TheVariants as image
+use Rattle.ir_thread.specs.Allowed.{IsAllowed}
+use Rattle.ir_thread.specs.declared.profile.Profile.{Profile}
 use Rattle.ir_trace.specs.Recorded.{Recorded}
 use Rattle.ir_trace.specs.Encoding.{encoding}
 use Rattle.ir_record_run.specs.Order.{order_of}
@@ -13,11 +15,16 @@ use Rattle.ir_files.specs.Writers.{Writer, Took, Failed}
 use Rattle.ir_record_run.specs.declared.order.OrderErr.{OrderErr}
 use Rattle.ir_record_run.specs.declared.order.OrderErr.TheVariants as order_err
 use Rattle.ir_record_run.specs.declared.record_fault.RecordFault.{RecordFault}
-use Rattle.ir_record_run.specs.declared.record_fault.RecordFault.TheVariants.{Clock, Image, Order, NoMem, Trace, Output, Lines}
+use Rattle.ir_record_run.specs.declared.record_fault.RecordFault.TheVariants.{Clock, Image, TooLarge, Order, NoMem, Trace, Output, Lines}
+
+-- the profile allows the threads and objects of the image's guest
+abbrev pub Allows : Profile → List ℕ → Type 0
+Allows profile image = (guest : Guest) → guest_at image ≡ Ok guest → IsAllowed profile guest
 
 -- the exit status of a fault
 abbrev pub fault_status : RecordFault → ℕ
 fault_status (Image e) = 3
+fault_status (TooLarge threads objects) = 3
 fault_status Order = 3
 fault_status NoMem = 1
 fault_status Clock = 1
@@ -39,16 +46,18 @@ abbrev pub of_order : OrderErr → RecordFault
 of_order order_err.Bad = Order
 of_order order_err.NoMem = NoMem
 
--- why nothing is recorded: the image's first fault, a list that spells no order, or without a list a clock that can't be
--- read; that memory ran out says nothing of them
-abbrev pub Refuses : RecordFault → List ℕ → Option (List ℕ) → Type 0
-Refuses (Image e) image list = guest_at image ≡ Err e
-Refuses Order image list = (guest : Guest) × (guest_at image ≡ Ok guest) × (option_and_then (order_of (length guest.entries)) list ≡ None)
-Refuses Clock image list = list ≡ None
-Refuses NoMem image list = ⊤
-Refuses Trace image list = ⊥
-Refuses Output image list = ⊥
-Refuses Lines image list = ⊥
+-- why nothing is recorded: the image's first fault, more threads or objects than the profile allows, a list that spells no order, or
+-- without a list a clock that can't be read; that memory ran out says nothing of them
+abbrev pub Refuses : RecordFault → Profile → List ℕ → Option (List ℕ) → Type 0
+Refuses (Image e) profile image list = guest_at image ≡ Err e
+Refuses (TooLarge threads objects) profile image list = (guest : Guest) × (guest_at image ≡ Ok guest) × (threads ≡ length guest.entries)
+    × (objects ≡ object_count guest) × (IsAllowed profile guest → ⊥)
+Refuses Order profile image list = (guest : Guest) × (guest_at image ≡ Ok guest) × (option_and_then (order_of (length guest.entries)) list ≡ None)
+Refuses Clock profile image list = list ≡ None
+Refuses NoMem profile image list = ⊤
+Refuses Trace profile image list = ⊥
+Refuses Output profile image list = ⊥
+Refuses Lines profile image list = ⊥
 
 -- which of the writers failed, of the trace, of the outputs and of the lines: the outputs come after the whole trace, and the
 -- lines after all outputs. The last two say that those of the outputs and of the lines are as before, and that of the lines
@@ -58,13 +67,14 @@ WriteFails Output bytes printed lines trace outputs out later last = Took trace 
 WriteFails Lines bytes printed lines trace outputs out later last = Took trace bytes × TookEach outputs printed × Failed out lines
 WriteFails Clock bytes printed lines trace outputs out later last = ⊥
 WriteFails (Image e) bytes printed lines trace outputs out later last = ⊥
+WriteFails (TooLarge threads objects) bytes printed lines trace outputs out later last = ⊥
 WriteFails Order bytes printed lines trace outputs out later last = ⊥
 WriteFails NoMem bytes printed lines trace outputs out later last = ⊥
 
 -- a fault: nothing was written (all writers are as before), or there is a recording, the trace and the outputs of one run, and
 -- a writer failed (those after it are as before)
-abbrev pub Stops : RecordFault → List ℕ → Option (List ℕ) → (Recorded → List (List ℕ) → Type 0) → Writer → OutputWriter → Writer
+abbrev pub Stops : RecordFault → Profile → List ℕ → Option (List ℕ) → (Recorded → List (List ℕ) → Type 0) → Writer → OutputWriter → Writer
     → Type 0 → Type 0 → Type 0 → Type 0
-Stops e image list IsIt trace outputs out all later last = (Refuses e image list × all)
+Stops e profile image list IsIt trace outputs out all later last = (Refuses e profile image list × all)
     ⊎ ((recorded : Recorded) × (printed : List (List ℕ)) × IsIt recorded printed
     × WriteFails e (encoding recorded) printed (lines_of recorded) trace outputs out later last)

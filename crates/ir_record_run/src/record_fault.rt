@@ -11,6 +11,13 @@ use std::alloc::AllocError;
 pub enum RecordFault {
     /// The image is refused.
     Image(ImageErr),
+    /// The image has so many threads and objects, and the profile allows fewer.
+    TooLarge {
+        /// How many threads it has.
+        threads: u8,
+        /// How many objects it has.
+        objects: u8,
+    },
     /// The list spells no order of the guest's threads.
     Order,
     /// Out of memory.
@@ -34,6 +41,7 @@ impl RecordFault {
     {
         match self {
             RecordFault::Image(_) | RecordFault::Order => 3,
+            RecordFault::TooLarge { .. } => 3,
             RecordFault::NoMem | RecordFault::Clock => 1,
             RecordFault::Trace | RecordFault::Output | RecordFault::Lines => 1,
         }
@@ -45,6 +53,9 @@ impl RecordFault {
     {
         match self {
             RecordFault::Image(why) => image_words(why),
+            RecordFault::TooLarge { .. } => {
+                "the image has more threads or objects than profile 1 allows"
+            }
             RecordFault::Order => "LIST is no order of this image's threads",
             RecordFault::NoMem => "memory ran out",
             RecordFault::Clock => "the clock can't be read",

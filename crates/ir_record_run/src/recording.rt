@@ -3,6 +3,8 @@
 ghost use Rattle.std.specs.Prelude.{◌≡◌, ◌≢◌, ◌<◌, ◌≤◌, ◌+◌, ℕ, List, Some, None, Ok, Err, true, false, IfOk, IfErr, OnOk, OnErr, ◌⊎◌, [], length, map, replicate, option_map};
 ghost use Rattle.std.specs.String.{string_bytes};
 ghost use Rattle.std.specs.Io.KnownBytes.{Appends};
+ghost use Rattle.ir_image.specs.Reading.{guest_at};
+ghost use Rattle.ir_thread.specs.Allowed.{IsAllowed};
 ghost use Rattle.ir_thread.specs.Calls.{most_budget};
 ghost use Rattle.ir_trace.specs.Recorded.{Recorded};
 ghost use Rattle.ir_trace.specs.Encoding.{encoding};
@@ -12,7 +14,7 @@ ghost use Rattle.ir_record_run.specs.Recording.{origins, IsRecordedOf, line_by, 
 ghost use Rattle.ir_record_run.specs.Sources.{made_with, is_counted};
 ghost use Rattle.ir_files.specs.Outputs.{output_writer_of, TookEach, FailedAtOne};
 ghost use Rattle.ir_files.specs.Writers.{writer_of};
-ghost use Rattle.ir_record_run.specs.Faults.{fault_status, Refuses, WriteFails, Stops};
+ghost use Rattle.ir_record_run.specs.Faults.{Allows, fault_status, Refuses, WriteFails, Stops};
 ghost use Rattle.ir_record_run.specs.declared.record_fault.RecordFault.{RecordFault};
 ghost use Rattle.ir_record_run.specs.declared.record_fault.RecordFault.TheVariants.{NoMem, Clock};
 
@@ -21,7 +23,7 @@ use crate::program_world::ProgramWorld;
 use crate::record_fault::RecordFault;
 use crate::time::Time;
 use ir_files::{OutputSink, WholeSink, tell, tell_of};
-use ir_image::read_image;
+use ir_image::{Image, read_image};
 use ir_object::Gate;
 use ir_record::{Outputs, RecordErr, record, record_in_turns};
 use ir_stream::{DeviceErr, Sink, write_all};
@@ -79,8 +81,28 @@ fn printed<W: Drop>(alloc: Global, outputs: Outputs<W>) -> Result<Vec<Vec<u8>>, 
     Ok(printed)
 }
 
+// The image, where the profile allows its threads and objects.
+#[tactic(auto, using(ir_image::proofs::CallerLemmas::few_threads))]
+fn allowed_image(alloc: Global, bytes: &[u8], profile: Profile) -> Result<Image, RecordFault>
+    ensures image { IfOk result (λ image. guest_at bytes.now ≡ Ok image) }
+    ensures allowed { IfOk result (IsAllowed profile) }
+    ensures allows { OnOk result (Allows profile bytes.now) }
+    ensures refused { IfErr result (λ e. (list : Option (List ℕ)) → Refuses e profile bytes.now list) }
+{
+    let image = read_image(alloc, bytes)?;
+    if profile.allows(&image) {
+        Ok(image)
+    } else {
+        Err(RecordFault::TooLarge {
+            threads: image.entries().len() as u8,
+            objects: image.object_count() as u8,
+        })
+    }
+}
+
 // The recording of the image's guest by the order that the list spells, on one thread: the trace, and what each thread
 // printed.
+#[tactic(auto, using(ir_image::proofs::CallerLemmas::few_threads))]
 fn recorded_in_order<C: Clock>(
     clock: &C,
     alloc: Global,
@@ -93,9 +115,10 @@ fn recorded_in_order<C: Clock>(
 ) -> Result<(Trace, Vec<Vec<u8>>), RecordFault>
     requires { budget ≤ most_budget }
     ensures recorded { IfOk result (λ r. IsRecordedOf image.now (Some list.now) budget profile random file.now r.0 (map (λ b. b.items) r.1.items)) }
-    ensures refused { IfErr result (λ e. Refuses e image.now (Some list.now)) }
+    ensures allowed { OnOk result (Allows profile image.now) }
+    ensures refused { IfErr result (λ e. Refuses e profile image.now (Some list.now)) }
 {
-    let image = read_image(alloc, image)?;
+    let image = allowed_image(alloc, image, profile)?;
     let threads = image.entries().len();
     let order = read_order(alloc, list, threads)?;
     let worlds = worlds(alloc, clock, Time::Counted, threads, random, file)?;
@@ -119,9 +142,10 @@ fn recorded_by_threads<R: Threads + Wait + Sync + Clock, G: Gate + Sync>(
 ) -> Result<(Trace, Vec<Vec<u8>>), RecordFault>
     requires { budget ≤ most_budget }
     ensures recorded { IfOk result (λ r. IsRecordedOf image.now None budget profile random file.now r.0 (map (λ b. b.items) r.1.items)) }
-    ensures refused { IfErr result (λ e. Refuses e image.now None) }
+    ensures allowed { OnOk result (Allows profile image.now) }
+    ensures refused { IfErr result (λ e. Refuses e profile image.now None) }
 {
-    let image = read_image(alloc, image)?;
+    let image = allowed_image(alloc, image, profile)?;
     let threads = image.entries().len();
     let Ok(start) = Instant::now(rt) else {
         return Err(RecordFault::Clock);
@@ -147,7 +171,8 @@ fn recorded<R: Threads + Wait + Sync + Clock, G: Gate + Sync>(
 ) -> Result<(Trace, Vec<Vec<u8>>), RecordFault>
     requires { budget ≤ most_budget }
     ensures recorded { IfOk result (λ r. IsRecordedOf image.now (option_map (λ s. s.now) order.entry) budget profile random file.now r.0 (map (λ b. b.items) r.1.items)) }
-    ensures refused { IfErr result (λ e. Refuses e image.now (option_map (λ s. s.now) order.entry)) }
+    ensures allowed { OnOk result (Allows profile image.now) }
+    ensures refused { IfErr result (λ e. Refuses e profile image.now (option_map (λ s. s.now) order.entry)) }
 {
     match order {
         Some(list) => recorded_in_order(rt, alloc, image, list, budget, random, file, profile),
@@ -259,7 +284,8 @@ fn run<R: Threads + Wait + Sync + Clock, G: Gate + Sync, W: WholeSink, P: Output
         × TookEach (output_writer_of (P.taken outputs.old) (P.taken outputs.new) (P.broken outputs.new)) printed
         × Appends (O.written out.old) (O.written out.new) (lines_of recorded)) }
     ensures whole { OnOk result (W.whole trace.new ≡ true) }
-    ensures stopped { IfErr result (λ e. Stops e image.now (option_map (λ s. s.now) order.entry) (IsRecordedOf image.now (option_map (λ s. s.now) order.entry) budget profile random input.now)
+    ensures allowed { OnOk result (Allows profile image.now) }
+    ensures stopped { IfErr result (λ e. Stops e profile image.now (option_map (λ s. s.now) order.entry) (IsRecordedOf image.now (option_map (λ s. s.now) order.entry) budget profile random input.now)
         (writer_of (W.written trace.old) (W.written trace.new) (W.broken trace.new))
         (output_writer_of (P.taken outputs.old) (P.taken outputs.new) (P.broken outputs.new))
         (writer_of (O.written out.old) (O.written out.new) (O.broken out.new))
@@ -281,6 +307,7 @@ fn run<R: Threads + Wait + Sync + Clock, G: Gate + Sync, W: WholeSink, P: Output
 }
 
 // Tells that a list spells no order of an image's threads: which item doesn't, and why.
+#[tactic(auto, using(ir_image::proofs::CallerLemmas::few_threads))]
 fn tell_order<E: Sink>(alloc: Global, faults: &mut E, image: &[u8], list: &str)
     requires { E.broken faults.old ≡ false }
 {
@@ -291,6 +318,21 @@ fn tell_order<E: Sink>(alloc: Global, faults: &mut E, image: &[u8], list: &str)
         }
     }
     tell(faults, RecordFault::Order.words());
+}
+
+// Tells that an image has so many threads and objects, and the first profile, which alone allows fewer than an image may have,
+// doesn't allow them.
+fn tell_size<E: Sink>(alloc: Global, faults: &mut E, why: &RecordFault, threads: u8, objects: u8)
+    requires { E.broken faults.old ≡ false }
+{
+    let most = Profile::One.largest().limits();
+    let (most_threads, most_objects) = (most.threads, most.objects);
+    match format!(in alloc;
+        "the image has {threads} threads and {objects} objects; profile 1 allows {most_threads} and {most_objects}"
+    ) {
+        Ok(words) => tell(faults, words.as_str()),
+        Err(_) => tell(faults, why.words()),
+    }
 }
 
 // Tells why nothing was recorded, or not all of it written.
@@ -308,6 +350,9 @@ fn tell_fault<W: WholeSink, P: OutputSink, E: Sink>(
     const UNWRITTEN: &str = " can't be written: ";
     match (why, order) {
         (RecordFault::Order, Some(list)) => tell_order(alloc, faults, image, list),
+        (RecordFault::TooLarge { threads, objects }, _) => {
+            tell_size(alloc, faults, why, *threads, *objects)
+        }
         (RecordFault::Trace, _) => tell_of(faults, "", trace.name(), UNWRITTEN, trace.why()),
         (RecordFault::Output, _) => tell_of(faults, "", outputs.name(), UNWRITTEN, outputs.why()),
         _ => tell(faults, why.words()),
@@ -322,8 +367,8 @@ fn tell_fault<W: WholeSink, P: OutputSink, E: Sink>(
 /// for threads, and that it ends isn't promised; the gate is told of what they do. The profile says which system calls there
 /// are.
 /// The answer is the exit status: 0 where all were written and the trace stands in its place, 3 where the image is
-/// refused or the list spells no order of its threads, and 1 where memory ran out, the clock can't be read or a writer
-/// failed; then what was written before stays. A fault is told in one line.
+/// refused, it has more threads or objects than the profile allows, or the list spells no order of its threads, and 1 where
+/// memory ran out, the clock can't be read or a writer failed; then what was written before stays. A fault is told in one line.
 pub fn record_run<
     R: Threads + Wait + Sync + Clock,
     G: Gate + Sync,
@@ -358,9 +403,11 @@ pub fn record_run<
         × TookEach (output_writer_of (P.taken outputs.old) (P.taken outputs.new) (P.broken outputs.new)) printed
         × Appends (O.written out.old) (O.written out.new) (lines_of recorded) }
     ensures whole { result ≡ 0 → W.whole trace.new ≡ true }
+    // The profile allows its threads and objects.
+    ensures allowed { result ≡ 0 → Allows profile image.now }
     ensures quiet { result ≡ 0 → faults.new ≡ faults.old }
     // Else what stopped it, and what that left.
-    ensures stopped { result ≢ 0 → (e : RecordFault) × (result ≡ fault_status e) × Stops e image.now (option_map (λ s. s.now) order.entry) (IsRecordedOf image.now (option_map (λ s. s.now) order.entry) budget profile random input.now)
+    ensures stopped { result ≢ 0 → (e : RecordFault) × (result ≡ fault_status e) × Stops e profile image.now (option_map (λ s. s.now) order.entry) (IsRecordedOf image.now (option_map (λ s. s.now) order.entry) budget profile random input.now)
         (writer_of (W.written trace.old) (W.written trace.new) (W.broken trace.new))
         (output_writer_of (P.taken outputs.old) (P.taken outputs.new) (P.broken outputs.new))
         (writer_of (O.written out.old) (O.written out.new) (O.broken out.new))

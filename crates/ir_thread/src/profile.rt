@@ -31,6 +31,7 @@ impl Profile {
         ensures { IsTrue result ↔ IsAllowed self image.now }
     {
         let limits = self.largest().limits();
-        image.entries().len() <= limits.threads as usize && image.object_count() <= limits.objects as usize
+        image.entries().len() <= limits.threads as usize
+            && image.object_count() <= limits.objects as usize
     }
 }

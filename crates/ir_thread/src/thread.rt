@@ -62,6 +62,7 @@ impl Thread {
     ///
     /// # Errors
     /// Out of memory.
+    #[tactic(auto, using(ir_image::proofs::CallerLemmas::few_threads))]
     pub fn new(
         alloc: Global,
         image: &Image,
@@ -73,6 +74,7 @@ impl Thread {
         requires budget { budget ≤ most_budget }
         ensures { IfOk result (λ t. t ≡ start_state image.now thread budget profile) }
     {
+        let form = image.form();
         let objects = image.object_count();
         let output = Vec::with_capacity(alloc, MOST_OUTPUT)?;
         let mut held = Vec::with_capacity(alloc, objects)?;
@@ -84,7 +86,7 @@ impl Thread {
             held,
             budget,
             profile,
-            form: image.form(),
+            form,
             steps: 0,
             events: 0,
             output,

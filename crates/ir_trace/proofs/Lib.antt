@@ -6,3 +6,5 @@ mod EventLaws
 mod Whole
 mod Refused
 mod Telling
+mod Limits
+pub mod CallerLemmas

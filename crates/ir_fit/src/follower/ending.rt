@@ -5,6 +5,7 @@ ghost use Rattle.ir_image.specs.Guest.{Guest};
 ghost use Rattle.ir_flat.specs.Flat.{start_flat, tables, machine};
 ghost use Rattle.ir_trace.specs.TraceOf.{trace_of};
 ghost use Rattle.ir_fit.specs.Ahead.{IsStopped};
+ghost use Rattle.ir_fit.specs.Fit.{HasHeader};
 ghost use Rattle.ir_fit.specs.Follower.{IsFollower, IsFollowed, IsSized};
 ghost use Rattle.ir_runs.specs.Standing.{StandsAs};
 
@@ -35,7 +36,7 @@ pub fn followed<'a>(
     image: &'a Image,
     trace: Trace,
 ) -> Result<Follower<'a>, AllocError>
-    requires { length trace.threads ≡ length image.now.entries }
+    requires { HasHeader image.now trace }
     ensures followed { IfOk result (λ f. IsFollowed image.now trace f.flat f.places.items) }
     ensures trace { IfOk result (λ f. f.trace ≡ trace) }
     ensures sized { IfOk result (λ f. IsSized f) }

@@ -80,7 +80,10 @@ impl Thread {
     {
         let index = self.mach.reg(A1);
         match self.object() {
-            Some(object) if (index as usize) < self.form.limits().words => Some((object, index as u8)),
+            Some(object) if (index as usize) < self.form.limits().words => Some((
+                object,
+                index as u8,
+            )),
             _ => None,
         }
     }

@@ -63,7 +63,8 @@ returns-in-Object-clause-ok g c =
     (object_read c.args.debugger.now c.args.show c.objects.result.now c.threads.result.now c.index-objects-number.result c.in-Object.object
     c.object_words.result c.in-Object.is c.requires (c.objects.ensures ∙ ap (λ s. s.objects) c.state-state.ensures)
     (c.threads.ensures ∙ ap (λ s. s.threads) c.state-state.ensures)
-    (c.object_words.ensures.value ∙ ap object_words (c.image.ensures.value ∙ ap (λ f. f.guest) c.fitted.ensures.value)) c.index-objects-number.is) c.write_object.ensures.ok
+    (c.object_words.ensures.value ∙ ap object_words (c.image-in-Object.ensures.value ∙ ap (λ f. f.guest) c.fitted-in-Object.ensures.value))
+    c.index-objects-number.is) c.write_object.ensures.ok
 
 pub returns-in-Object-clause-prefix : goal.returns-in-Object-clause-prefix
 returns-in-Object-clause-prefix g c =
@@ -73,4 +74,5 @@ returns-in-Object-clause-prefix g c =
     (object_read c.args.debugger.now c.args.show c.objects.result.now c.threads.result.now c.index-objects-number.result c.in-Object.object
     c.object_words.result c.in-Object.is c.requires (c.objects.ensures ∙ ap (λ s. s.objects) c.state-state.ensures)
     (c.threads.ensures ∙ ap (λ s. s.threads) c.state-state.ensures)
-    (c.object_words.ensures.value ∙ ap object_words (c.image.ensures.value ∙ ap (λ f. f.guest) c.fitted.ensures.value)) c.index-objects-number.is) c.write_object.ensures.prefix
+    (c.object_words.ensures.value ∙ ap object_words (c.image-in-Object.ensures.value ∙ ap (λ f. f.guest) c.fitted-in-Object.ensures.value))
+    c.index-objects-number.is) c.write_object.ensures.prefix

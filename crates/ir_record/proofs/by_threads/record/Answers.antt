@@ -1,8 +1,9 @@
-use Rattle.std.proofs.Common.{rules, ◌≡◌, ◌<◌, ◌≤◌, ◌/◌, ℕ, List, map, length, false, None, sym, ap, ◌∙◌, subst, arith}
+use Rattle.std.proofs.Common.{rules, ◌≡◌, ◌<◌, ◌≤◌, ℕ, List, map, length, false, None, sym, ap, ◌∙◌, subst, arith}
 use Rattle.std.proofs.lemmas.List.{length-map}
 use Rattle.std.specs.List.{AllByRecursion}
 use Rattle.std.specs.Prelude.{vec_len}
-use Rattle.ir_image.specs.Guest.{Guest, object_count, object_words}
+use Rattle.ir_image.specs.Guest.{Guest, object_count}
+use Rattle.ir_image.proofs.CallerLemmas.{few_threads}
 use Rattle.ir_crew.specs.Ends.{IsEnd}
 use Rattle.ir_record.specs.Threads.{AreNew, Pairs, HasRoom, IsSeatOf, views_of}
 use Rattle.ir_record.specs.Working.{work_of, IsReadyWorker, RanToEnd}
@@ -63,7 +64,7 @@ overflow_cast-result g c =
     let long : length end ≡ length c.args.image.now.entries =
     ran_size (RanToEnd g.W.World.answers g.W.World.broken g.W.World.origin c.args.image.now) old end pairs
     ∙ sym (length-map old (λ w. w.world)) ∙ ap (λ z. length z) c.in_ok-workers.ensures.worlds ∙ each in
-    let few = c.words.ensures.within.few_threads in
+    let few = few_threads c.args.image.now c.code.ensures.within in
     let below : c.in-Some.thread < length end = subst (λ z. c.in-Some.thread < length z) c.as_slice.ensures.value c.in-Some.ensures.below in
     omega (arith, below, long, few)
 
@@ -105,7 +106,7 @@ gathered-seats-requires-clause-over g c =
     subst (λ z. NoneFailed (map (λ w. g.W.World.broken w.world) z)) c.as_slice.ensures.value (c.first_failed.ensures.none fine) in
     let counted : c.len-2.result ≡ object_count c.args.image.now =
     (let a : c.len-2.result ≡ length c.in_ok-objects.objects.items = search rules in a) ∙ c.in_ok-objects.ensures
-    ∙ ap (λ z. length z / object_words) c.words.ensures.value in
+    ∙ c.object_count.ensures.value in
     over_end g.W.World.answers g.W.World.broken g.W.World.origin c.args.image.now c.args.budget c.args.profile id c.len-2.result 0 old end counted new
     pairs none
 
@@ -122,7 +123,7 @@ gathered-seats-requires-clause-some g c =
     let long : length end ≡ length c.args.image.now.entries =
     ran_size (RanToEnd g.W.World.answers g.W.World.broken g.W.World.origin c.args.image.now) old end pairs
     ∙ sym (length-map old (λ w. w.world)) ∙ ap (λ z. length z) c.in_ok-workers.ensures.worlds ∙ each in
-    let some = c.words.ensures.within.some_thread in
+    let some = c.code.ensures.within.some_thread in
     let same : vec_len c.run_workers.new.workers ≡ length end = search rules in
     omega (arith, long, some, same)
 
@@ -139,9 +140,17 @@ gathered-seats-requires-clause-few g c =
     let long : length end ≡ length c.args.image.now.entries =
     ran_size (RanToEnd g.W.World.answers g.W.World.broken g.W.World.origin c.args.image.now) old end pairs
     ∙ sym (length-map old (λ w. w.world)) ∙ ap (λ z. length z) c.in_ok-workers.ensures.worlds ∙ each in
-    let few = c.words.ensures.within.few_threads in
+    let few = c.requires.allowed.0 in
     let same : vec_len c.run_workers.new.workers ≡ length end = search rules in
     omega (arith, long, few, same)
+
+pub gathered-seats-requires-clause-objects : goal.gathered-seats-requires-clause-objects
+gathered-seats-requires-clause-objects g c =
+    let a : c.len-2.result ≡ length c.in_ok-objects.objects.items = search rules in
+    let made = c.in_ok-objects.ensures in
+    let counted = c.object_count.ensures.value in
+    let few = c.requires.allowed.1 in
+    omega (arith, a, made, counted, few)
 
 pub joined-seat-requires-clause-seats : goal.joined-seat-requires-clause-seats
 joined-seat-requires-clause-seats g c =
@@ -176,10 +185,10 @@ returns-clause-recorded g c =
     subst (λ z. NoneFailed (map (λ w. g.W.World.broken w.world) z)) c.as_slice.ensures.value (c.first_failed.ensures.none fine) in
     let counted : c.len-2.result ≡ object_count c.args.image.now =
     (let a : c.len-2.result ≡ length c.in_ok-objects.objects.items = search rules in a) ∙ c.in_ok-objects.ensures
-    ∙ ap (λ z. length z / object_words) c.words.ensures.value in
+    ∙ c.object_count.ensures.value in
     let over : AllOver c.args.image.now c.args.budget c.args.profile (map g.W.World.answers c.args.worlds.items) (map (work_of g.W.World.answers) end) =
     all_over g.W.World.answers g.W.World.broken g.W.World.origin c.args.image.now c.args.budget c.args.profile id old end c.args.worlds.items
-    c.words.ensures.within new pairs none c.in_ok-workers.ensures.worlds each in
+    c.code.ensures.within new pairs none c.in_ok-workers.ensures.worlds each in
     let emitted = c.gathered-seats.ensures.trace in
     let each_of = c.gathered-seats.result.2.each.items in
     recorded_of c.args.image.now c.args.budget c.args.profile (map g.W.World.answers c.args.worlds.items) (map (work_of g.W.World.answers) end)

@@ -4,7 +4,7 @@ use Rattle.ir_record.specs.Progress.{Progress, progress, IsReady}
 use Rattle.ir_record.specs.Recorders.{progress_of}
 use Rattle.ir_record.specs.Turns.{order_of_turns}
 use Rattle.ir_record.specs.Worlds.{NoneFailed}
-use Rattle.ir_record.proofs.Ended.{start_ready, Over, over_from, started, threads_there, profiles_there, ended_there, recorded_there, mapped_twice}
+use Rattle.ir_record.proofs.Ended.{start_ready, Over, over_from, started, threads_there, objects_there, profiles_there, ended_there, recorded_there, mapped_twice}
 use Rattle.ir_record.proofs.in_order.record_in_turns.Goals as goal
 
 pub record-requires-clause-ready : goal.record-requires-clause-ready
@@ -28,6 +28,34 @@ into_trace-requires-clause-some g c =
     c.in_default.ensures.over in
     let n = threads_there c.args.image.now c.args.budget c.args.profile (order_of_turns c.args.order.now) before last over in
     omega (arith, n, c.in_ok-start.ensures.guest.some_thread)
+
+pub into_trace-requires-clause-few_threads : goal.into_trace-requires-clause-few_threads
+into_trace-requires-clause-few_threads g c =
+    let before = map g.W.World.answers c.args.worlds.items in
+    let first : Progress = progress c.in_ok-start.field-0 before in
+    let last : Progress = progress_of g.W.World.answers c.record.new.self in
+    let same = started c.args.image.now c.args.budget c.args.profile before c.in_ok-start.field-0.flat c.in_ok-start.field-0.logs.items
+    c.in_ok-start.ensures.flat c.in_ok-start.ensures.logs in
+    let over : Over c.args.image.now c.args.budget c.args.profile (order_of_turns c.args.order.now) before last =
+    over_from c.args.image.now c.args.budget c.args.profile (order_of_turns c.args.order.now) before first last same c.in_default.ensures.took
+    c.in_default.ensures.over in
+    let n = threads_there c.args.image.now c.args.budget c.args.profile (order_of_turns c.args.order.now) before last over in
+    let few = c.requires.allowed.0 in
+    omega (arith, n, few)
+
+pub into_trace-requires-clause-few_objects : goal.into_trace-requires-clause-few_objects
+into_trace-requires-clause-few_objects g c =
+    let before = map g.W.World.answers c.args.worlds.items in
+    let first : Progress = progress c.in_ok-start.field-0 before in
+    let last : Progress = progress_of g.W.World.answers c.record.new.self in
+    let same = started c.args.image.now c.args.budget c.args.profile before c.in_ok-start.field-0.flat c.in_ok-start.field-0.logs.items
+    c.in_ok-start.ensures.flat c.in_ok-start.ensures.logs in
+    let over : Over c.args.image.now c.args.budget c.args.profile (order_of_turns c.args.order.now) before last =
+    over_from c.args.image.now c.args.budget c.args.profile (order_of_turns c.args.order.now) before first last same c.in_default.ensures.took
+    c.in_default.ensures.over in
+    let n = objects_there c.args.image.now c.args.budget c.args.profile (order_of_turns c.args.order.now) before last over in
+    let few = c.requires.allowed.1 in
+    omega (arith, n, few)
 
 pub into_trace-requires-clause-ended : goal.into_trace-requires-clause-ended
 into_trace-requires-clause-ended g c =

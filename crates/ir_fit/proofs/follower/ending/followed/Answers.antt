@@ -1,9 +1,16 @@
 use Rattle.std.proofs.Common.{◌≡◌, sym, ap, subst, ◌∙◌, length, map, arith}
+use Rattle.ir_thread.specs.Allowed.{IsAllowed}
+use Rattle.ir_thread.specs.declared.profile.Profile.{Profile}
 use Rattle.ir_flat.specs.Flat.{start_flat}
 use Rattle.ir_flat.proofs.CallerLemmas.{threads_length}
 use Rattle.ir_fit.specs.Ahead.{IsStopped}
+use Rattle.ir_fit.proofs.Guests.{allowed}
 use Rattle.ir_fit.proofs.Moves.{followed_there, start_placed, start_none, room_for}
 use Rattle.ir_fit.proofs.follower.ending.followed.Goals as goal
+
+pub start-requires-clause-allowed : goal.start-requires-clause-allowed
+start-requires-clause-allowed c = subst (λ (p : Profile). IsAllowed p c.args.image.now) (sym c.profile.ensures)
+    (allowed c.args.image.now c.args.trace c.budget.ensures.within c.requires)
 
 pub follow-requires : goal.follow-requires
 follow-requires c =
@@ -11,14 +18,14 @@ follow-requires c =
     let threads : length c.in_ok-flat.flat.threads ≡ length c.args.image.now.entries = ap (λ f. length f.threads) start
     ∙ threads_length c.args.image.now c.budget.result c.profile.result 0 (length c.args.image.now.entries) in
     let count : length c.threads-count.result.now ≡ length c.args.image.now.entries = ap (λ xs. length xs) c.threads-count.ensures.value
-    ∙ c.requires in
+    ∙ c.requires.threads in
     let rooms : c.in_ok-places.places.items ≡ map room_for c.args.trace.threads = c.in_ok-places.ensures
     ∙ ap (map room_for) c.threads.ensures.value in
     record {
-      emitted = c.requires ∙ sym threads;
+      emitted = c.requires.threads ∙ sym threads;
       known = omega (arith, c.resize.new.self.ok, c.in_ok-resize.ensures.len, count, threads);
       placed = start_placed c.args.image.now c.args.trace c.in_ok-flat.flat c.in_ok-places.places.items
-          (start ∙ λ i. start_flat c.args.image.now (c.budget.ensures.value i) (c.profile.ensures i)) rooms (c.requires ∙ sym threads);
+          (start ∙ λ i. start_flat c.args.image.now (c.budget.ensures.value i) (c.profile.ensures i)) rooms (c.requires.threads ∙ sym threads);
     }
 
 pub returns-clause-followed : goal.returns-clause-followed
