@@ -1,9 +1,10 @@
 //! The larger forms of guests and of traces: words of an object, threads and objects.
 
 use crate::guests::{ECALL, ENTER_WRITE, FIRST_OBJECT, PUT, allowed};
+use crate::trace_tests::refusal;
 use ir_flat::Flat;
 use ir_thread::Profile;
-use ir_trace::{TraceErr, read_trace, write_trace};
+use ir_trace::{read_trace, write_trace};
 use std::alloc::{AllocError, Global};
 use std::test::Fail;
 
@@ -81,37 +82,35 @@ fn trace(alloc: Global, form: u8, threads: u8, objects: u8) -> Result<Vec<u8>, A
     Ok(bytes)
 }
 
-// Whether the trace is read, and written as it was; or why it is refused.
-fn read(alloc: Global, bytes: &[u8]) -> Result<Result<bool, TraceErr>, AllocError> {
-    match read_trace(alloc, bytes) {
-        Ok(trace) => Ok(Ok(write_trace(alloc, &trace)?.as_slice() == bytes)),
-        Err(e) => Ok(Err(e)),
-    }
-}
-
-// A form, threads, objects, and whether there is such a trace.
-const COUNTS: [(u8, u8, u8, Result<bool, TraceErr>); 10] = [
-    (SMALL, 8, 16, Ok(true)),
-    (SMALL, 9, 16, Err(TraceErr::Count)),
-    (SMALL, 8, 17, Err(TraceErr::Count)),
-    (SMALL, 0, 16, Err(TraceErr::Count)),
-    (LARGE, 16, 64, Ok(true)),
-    (LARGE, 9, 17, Ok(true)),
-    (LARGE, 1, 0, Ok(true)),
-    (LARGE, 17, 64, Err(TraceErr::Count)),
-    (LARGE, 16, 65, Err(TraceErr::Count)),
-    (LARGE, 0, 64, Err(TraceErr::Count)),
+// A form, threads, objects, and the number of the refusal of such a trace, if it is refused.
+const COUNTS: [(u8, u8, u8, Option<u8>); 10] = [
+    (SMALL, 8, 16, None),
+    (SMALL, 9, 16, Some(3)),
+    (SMALL, 8, 17, Some(3)),
+    (SMALL, 0, 16, Some(3)),
+    (LARGE, 16, 64, None),
+    (LARGE, 9, 17, None),
+    (LARGE, 1, 0, None),
+    (LARGE, 17, 64, Some(3)),
+    (LARGE, 16, 65, Some(3)),
+    (LARGE, 0, 64, Some(3)),
 ];
 
 #[test]
 fn a_trace_has_the_threads_and_objects_of_its_form(rt: HostRuntime) -> Result<(), Fail> {
     for &(form, threads, objects, wanted) in &COUNTS {
         let bytes = trace(rt.alloc(), form, threads, objects)?;
-        assert_eq!(rt;
-            read(rt.alloc(), bytes.as_slice())?,
-            wanted,
-            "{threads} {objects}"
-        );
+        let refused = refusal(rt.alloc(), bytes.as_slice());
+        assert_eq!(rt; refused, wanted, "{threads} {objects}");
     }
+    Ok(())
+}
+
+#[test]
+fn the_largest_trace_is_written_as_it_was(rt: HostRuntime) -> Result<(), Fail> {
+    let bytes = trace(rt.alloc(), LARGE, 16, 64)?;
+    let trace = read_trace(rt.alloc(), bytes.as_slice())?;
+    let written = write_trace(rt.alloc(), &trace)?;
+    assert_eq!(rt; written.as_slice(), bytes.as_slice());
     Ok(())
 }

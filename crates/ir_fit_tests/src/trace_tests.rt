@@ -34,7 +34,7 @@ const ANSWERS: [u8; 53] = [
 ];
 
 // The number of the refusal, if the bytes are refused.
-fn refusal(alloc: Global, bytes: &[u8]) -> Option<u8> {
+pub fn refusal(alloc: Global, bytes: &[u8]) -> Option<u8> {
     match read_trace(alloc, bytes) {
         Ok(_) => None,
         Err(error) => error.number(),

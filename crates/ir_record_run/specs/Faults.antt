@@ -1,6 +1,6 @@
 -- Why there is no recording, and what that leaves.
 use Rattle.std.specs.Prelude.{◌≡◌, ℕ, List, length, ⊤, ◌⊎◌, Option, None, option_and_then, Ok, Err}
-use Rattle.ir_image.specs.Guest.{Guest, object_count}
+use Rattle.ir_image.specs.Guest.{Guest}
 use Rattle.ir_image.specs.Reading.{guest_at}
 use Rattle.ir_image.specs.declared.image_err.ImageErr.{ImageErr}
 use Rattle.ir_image.specs.declared.image_err.ImageErr.TheVariants as image
@@ -24,7 +24,7 @@ Allows profile image = (guest : Guest) → guest_at image ≡ Ok guest → IsAll
 -- the exit status of a fault
 abbrev pub fault_status : RecordFault → ℕ
 fault_status (Image e) = 3
-fault_status (TooLarge threads objects) = 3
+fault_status TooLarge = 3
 fault_status Order = 3
 fault_status NoMem = 1
 fault_status Clock = 1
@@ -50,8 +50,7 @@ of_order order_err.NoMem = NoMem
 -- without a list a clock that can't be read; that memory ran out says nothing of them
 abbrev pub Refuses : RecordFault → Profile → List ℕ → Option (List ℕ) → Type 0
 Refuses (Image e) profile image list = guest_at image ≡ Err e
-Refuses (TooLarge threads objects) profile image list = (guest : Guest) × (guest_at image ≡ Ok guest) × (threads ≡ length guest.entries)
-    × (objects ≡ object_count guest) × (IsAllowed profile guest → ⊥)
+Refuses TooLarge profile image list = (guest : Guest) × (guest_at image ≡ Ok guest) × (IsAllowed profile guest → ⊥)
 Refuses Order profile image list = (guest : Guest) × (guest_at image ≡ Ok guest) × (option_and_then (order_of (length guest.entries)) list ≡ None)
 Refuses Clock profile image list = list ≡ None
 Refuses NoMem profile image list = ⊤
@@ -67,7 +66,7 @@ WriteFails Output bytes printed lines trace outputs out later last = Took trace 
 WriteFails Lines bytes printed lines trace outputs out later last = Took trace bytes × TookEach outputs printed × Failed out lines
 WriteFails Clock bytes printed lines trace outputs out later last = ⊥
 WriteFails (Image e) bytes printed lines trace outputs out later last = ⊥
-WriteFails (TooLarge threads objects) bytes printed lines trace outputs out later last = ⊥
+WriteFails TooLarge bytes printed lines trace outputs out later last = ⊥
 WriteFails Order bytes printed lines trace outputs out later last = ⊥
 WriteFails NoMem bytes printed lines trace outputs out later last = ⊥
 

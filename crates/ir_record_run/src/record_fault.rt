@@ -11,13 +11,8 @@ use std::alloc::AllocError;
 pub enum RecordFault {
     /// The image is refused.
     Image(ImageErr),
-    /// The image has so many threads and objects, and the profile allows fewer.
-    TooLarge {
-        /// How many threads it has.
-        threads: u8,
-        /// How many objects it has.
-        objects: u8,
-    },
+    /// The guest has more threads or objects than the profile allows. Only the first allows fewer than an image may have.
+    TooLarge,
     /// The list spells no order of the guest's threads.
     Order,
     /// Out of memory.
@@ -40,8 +35,7 @@ impl RecordFault {
         ensures { result ≡ fault_status self.now }
     {
         match self {
-            RecordFault::Image(_) | RecordFault::Order => 3,
-            RecordFault::TooLarge { .. } => 3,
+            RecordFault::Image(_) | RecordFault::TooLarge | RecordFault::Order => 3,
             RecordFault::NoMem | RecordFault::Clock => 1,
             RecordFault::Trace | RecordFault::Output | RecordFault::Lines => 1,
         }
@@ -53,9 +47,7 @@ impl RecordFault {
     {
         match self {
             RecordFault::Image(why) => image_words(why),
-            RecordFault::TooLarge { .. } => {
-                "the image has more threads or objects than profile 1 allows"
-            }
+            RecordFault::TooLarge => "the first profile takes at most 8 threads and 16 objects",
             RecordFault::Order => "LIST is no order of this image's threads",
             RecordFault::NoMem => "memory ran out",
             RecordFault::Clock => "the clock can't be read",

@@ -82,7 +82,6 @@ fn printed<W: Drop>(alloc: Global, outputs: Outputs<W>) -> Result<Vec<Vec<u8>>, 
 }
 
 // The image, where the profile allows its threads and objects.
-#[tactic(auto, using(ir_image::proofs::CallerLemmas::few_threads))]
 fn allowed_image(alloc: Global, bytes: &[u8], profile: Profile) -> Result<Image, RecordFault>
     ensures image { IfOk result (λ image. guest_at bytes.now ≡ Ok image) }
     ensures allowed { IfOk result (IsAllowed profile) }
@@ -93,10 +92,7 @@ fn allowed_image(alloc: Global, bytes: &[u8], profile: Profile) -> Result<Image,
     if profile.allows(&image) {
         Ok(image)
     } else {
-        Err(RecordFault::TooLarge {
-            threads: image.entries().len() as u8,
-            objects: image.object_count() as u8,
-        })
+        Err(RecordFault::TooLarge)
     }
 }
 
@@ -320,21 +316,6 @@ fn tell_order<E: Sink>(alloc: Global, faults: &mut E, image: &[u8], list: &str)
     tell(faults, RecordFault::Order.words());
 }
 
-// Tells that an image has so many threads and objects, and the first profile, which alone allows fewer than an image may have,
-// doesn't allow them.
-fn tell_size<E: Sink>(alloc: Global, faults: &mut E, why: &RecordFault, threads: u8, objects: u8)
-    requires { E.broken faults.old ≡ false }
-{
-    let most = Profile::One.largest().limits();
-    let (most_threads, most_objects) = (most.threads, most.objects);
-    match format!(in alloc;
-        "the image has {threads} threads and {objects} objects; profile 1 allows {most_threads} and {most_objects}"
-    ) {
-        Ok(words) => tell(faults, words.as_str()),
-        Err(_) => tell(faults, why.words()),
-    }
-}
-
 // Tells why nothing was recorded, or not all of it written.
 fn tell_fault<W: WholeSink, P: OutputSink, E: Sink>(
     alloc: Global,
@@ -350,9 +331,6 @@ fn tell_fault<W: WholeSink, P: OutputSink, E: Sink>(
     const UNWRITTEN: &str = " can't be written: ";
     match (why, order) {
         (RecordFault::Order, Some(list)) => tell_order(alloc, faults, image, list),
-        (RecordFault::TooLarge { threads, objects }, _) => {
-            tell_size(alloc, faults, why, *threads, *objects)
-        }
         (RecordFault::Trace, _) => tell_of(faults, "", trace.name(), UNWRITTEN, trace.why()),
         (RecordFault::Output, _) => tell_of(faults, "", outputs.name(), UNWRITTEN, outputs.why()),
         _ => tell(faults, why.words()),
