@@ -1,6 +1,6 @@
 //! An image in, the trace of a run of its guest, what each thread printed and a line for each thread out.
 
-ghost use Rattle.std.specs.Prelude.{◌≡◌, ◌≢◌, ◌<◌, ◌≤◌, ◌+◌, ℕ, List, Some, None, Ok, Err, true, false, IfOk, IfErr, OnOk, OnErr, ◌⊎◌, [], length, map, replicate, option_map};
+ghost use Rattle.std.specs.Prelude.{◌≡◌, ◌≢◌, ◌<◌, ◌≤◌, ◌+◌, ℕ, List, Option, Some, None, Ok, Err, true, false, IfOk, IfErr, OnOk, OnErr, ◌⊎◌, [], length, map, replicate, option_map};
 ghost use Rattle.std.specs.String.{string_bytes};
 ghost use Rattle.std.specs.Io.KnownBytes.{Appends};
 ghost use Rattle.ir_image.specs.Reading.{guest_at};
@@ -83,7 +83,7 @@ fn printed<W: Drop>(alloc: Global, outputs: Outputs<W>) -> Result<Vec<Vec<u8>>, 
 
 // The image, where the profile allows its threads and objects.
 fn allowed_image(alloc: Global, bytes: &[u8], profile: Profile) -> Result<Image, RecordFault>
-    ensures image { IfOk result (λ image. guest_at bytes.now ≡ Ok image) }
+    ensures exact { IfOk result (λ image. guest_at bytes.now ≡ Ok image) }
     ensures allowed { IfOk result (IsAllowed profile) }
     ensures allows { OnOk result (Allows profile bytes.now) }
     ensures refused { IfErr result (λ e. (list : Option (List ℕ)) → Refuses e profile bytes.now list) }

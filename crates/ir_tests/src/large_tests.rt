@@ -5,20 +5,23 @@ use crate::meeting::Yielding;
 use crate::recordings::{BUDGET, tried_by_threads, tried_in_order};
 use crate::replays::{in_order, is_same, last};
 use ir_fit::Fitted;
-use ir_object::OpenGate;
+use ir_object::{Fields, OpenGate};
 use ir_replay::State;
 use std::alloc::Global;
 use std::test::Fail;
 
 // How many threads there are, the first word of the only object, its version, and who is inside.
-type Seen = (usize, u32, u32, u32);
+type Seen = (usize, u32, u32, u8);
 
 fn seen(state: &State) -> Option<Seen> {
     match state.objects() {
         [object] => {
-            let fields = object.fields();
-            let inside = fields.inside;
-            Some((state.threads().len(), object.get(0), fields.version, inside))
+            let Fields {
+                version,
+                inside,
+                ..
+            } = object.fields();
+            Some((state.threads().len(), object.get(0), version, inside))
         }
         _ => None,
     }
