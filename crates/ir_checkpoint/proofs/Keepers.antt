@@ -7,10 +7,18 @@ use Rattle.ir_thread.specs.State as thread
 use Rattle.ir_flat.specs.Flat.{idle}
 use Rattle.ir_fit.specs.Fit.{FittedTrace}
 use Rattle.ir_cut.specs.Positions.{cut_of}
-use Rattle.ir_weave.specs.Standing.{Standing, flat_in}
+use Rattle.ir_runs.specs.Cuts.{Cut}
+use Rattle.ir_weave.specs.Standing.{Standing, StandsAt, flat_in}
 use Rattle.ir_weave.specs.States.{positions}
-use Rattle.ir_keep.specs.Keeping.{Kept, Keeping, IsNearest, without, kept_as, is_below}
+use Rattle.ir_keep.specs.Keeping.{Kept, Keeping, IsNearest, IsNew, without, kept_as, is_below}
 use Rattle.ir_checkpoint.specs.Checkpoints.{Stands, AllStand}
+
+-- the start alone is the guest at its own positions
+pub start_stands : (f : FittedTrace) (k : Keeping) → IsNew f k → AllStand f k.kept
+start_stands f k new =
+    let at : StandsAt f (λ t. 0) new.0 = new.1 in
+    let own : Stands f new.0 = subst (λ (p : Cut). StandsAt f p new.0) (λ i t. sym (at.at.steps t) i) at in
+    subst (λ (z : Keeping). AllStand f z.kept) (sym new.2) (own, tt)
 
 -- each has as many threads as the guest
 pub as_many : (f : FittedTrace) (kept : List Kept) (n : ℕ) → AllStand f kept → n ≡ length f.guest.entries
