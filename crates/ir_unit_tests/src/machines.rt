@@ -5,7 +5,7 @@ ghost use Rattle.std.specs.List.{AllByRecursion};
 ghost use Rattle.ir_image.specs.Guest.{IsWord, most_code_words};
 
 use crate::registers::{A0, T0, T1};
-use ir_image::{Code, Image, MOST_CODE_WORDS};
+use ir_image::{Code, Image, ImageForm, MOST_CODE_WORDS};
 use ir_isa::{Immediate, ImmediateOp, Inst, LoadOp, Register, StoreOp, UpperImmediate, encode};
 use std::alloc::{AllocError, Global};
 use std::process::Abort;
@@ -25,7 +25,8 @@ pub fn image_of(alloc: Global, words: Vec<u32>) -> Result<Image, AllocError>
     let code = Code::new(alloc, words)?;
     let entries = vec![in alloc; 0x0001_0000]?;
     let bytes = vec![in alloc; 0xff, 0x80]?;
-    Ok(Image::new(entries, code, bytes, Vec::new(alloc)))
+    let form = ImageForm::Small;
+    Ok(Image::new(form, entries, code, bytes, Vec::new(alloc)))
 }
 
 // The image of a program.
