@@ -3,19 +3,20 @@
 use crate::examples::{
     CALLS, COUNTER, HELLO, HELPING, LOST_UPDATE, OVERWRITTEN, SPINNING, SUM, TWO_LOCKS,
 };
-use crate::meeting::Yielding;
 use crate::recordings::{BUDGET, fitted_in_order, tried_by_threads, tried_in_order};
 use crate::replays::{in_order, last};
 use crate::sources::image_bytes;
 use crate::worlds::Script;
 use ir_fit::Fitted;
+use ir_object::Gate;
 use ir_record::Output;
 use ir_replay::State;
+use ir_runs::Access;
 use ir_thread::{End, Profile};
 use std::alloc::Global;
 use std::sync::Wait;
 use std::test::Fail;
-use std::thread::Threads;
+use std::thread::{Threads, yield_now};
 
 // An example, the length of its image, how its first thread ends, what that prints, and the first word of each object
 // after a recording in rounds.
@@ -142,6 +143,22 @@ fn are_left_at_end(alloc: Global, fitted: &Fitted, words: &[u32]) -> Result<bool
     }
 }
 
+// Lets other threads run after each entry and before each call: one that spins doesn't then use up its turns while the one
+// inside waits for its own, and is refused seldom enough for its log, however busy the machine is.
+struct YieldingAtCalls;
+
+impl Gate for YieldingAtCalls {
+    fn entered(&self, _thread: u8, _object: u8, _access: Access) {
+        yield_now();
+    }
+
+    fn leaving(&self, _thread: u8, _object: u8, _access: Access) {}
+
+    fn stepped(&self, _thread: u8, _steps: u64) {
+        yield_now();
+    }
+}
+
 // The sum of what is printed by threads that run side by side, and whether they left the objects so.
 fn tried<R: Threads + Wait + Sync>(
     rt: &R,
@@ -149,7 +166,7 @@ fn tried<R: Threads + Wait + Sync>(
     example: Example,
 ) -> Result<(u64, bool), Fail> {
     let (source, _length, _end, _printed, words) = example;
-    let (fitted, outputs) = tried_by_threads(rt, alloc, &[source], &Yielding::new())?;
+    let (fitted, outputs) = tried_by_threads(rt, alloc, &[source], &YieldingAtCalls)?;
     let is_left = are_left_at_end(alloc, &fitted, words)?;
     Ok((sum_of_outputs(outputs.each.as_slice()), is_left))
 }
@@ -157,7 +174,7 @@ fn tried<R: Threads + Wait + Sync>(
 // What is printed is the same however the threads ran.
 #[test]
 fn the_examples_that_try_do_so_by_threads(rt: HostRuntime) -> Result<(), Fail> {
-    for _ in 0..20 {
+    for _ in 0..5 {
         assert_eq!(rt; tried(&rt, rt.alloc(), TRYING[0])?, (24, true));
         assert_eq!(rt; tried(&rt, rt.alloc(), TRYING[1])?, (20, true));
     }
