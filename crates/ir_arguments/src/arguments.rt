@@ -75,7 +75,7 @@ Calls, made by `ecall` with the number in a7, 13 under `--profile 2` alone; one 
 A fault is emitted on standard error as `line L error C`, C being
    1 a byte that a source may not hold        7 an undefined label
    2 an unknown instruction or directive      8 a label that is too far away
-   3 a wrong number or form of operands       9 a statement or label of the wrong section
+   3 a wrong number or form of operands       9 a statement or label of the wrong section, or `.large` after a statement
    4 an unknown register                     10 too much code or data, or no code
    5 a malformed number or one out of range  11 too many threads, or no such object
    6 a label defined twice                   12 a malformed label

@@ -8,7 +8,7 @@ use Rattle.std.proofs.lemmas.List.{length-replicate, length-append, length-take-
 use Rattle.ir_image.specs.declared.form.ImageForm.{ImageForm}
 use Rattle.ir_image.specs.declared.form.ImageForm.TheVariants.{Small, Large}
 use Rattle.ir_image.specs.Forms.{limits_of}
-use Rattle.ir_image.specs.Guest.{Guest, IsPlace, code_start, object_words}
+use Rattle.ir_image.specs.Guest.{Guest, IsPlace, code_start, object_words, padded_to}
 use Rattle.ir_asm.specs.declared.item.Item.{Item}
 use Rattle.ir_asm.specs.declared.item.Item.TheVariants.{Code, BranchTo, JumpTo, LoadAddress, Filled, Enlarged, Within, Entry, Count, First, Nothing}
 use Rattle.ir_asm.specs.declared.item.Place.{Place}
@@ -24,7 +24,7 @@ use Rattle.ir_asm.specs.declared.refusal.Refusal.TheVariants.{Faulty, NoMem}
 use Rattle.ir_asm.specs.Faults.{◌>>=◌, Makes}
 use Rattle.ir_asm.specs.Answered.{Answers, refused}
 use Rattle.ir_asm.specs.Source.{Seen, Fault, same_section, at_line}
-use Rattle.ir_asm.specs.Passes.{put, distance_to, value_of, text_address, with_code, with_object, first_words, second_pass}
+use Rattle.ir_asm.specs.Passes.{put, distance_to, value_of, text_address, with_code, with_object, second_pass}
 use Rattle.ir_asm.specs.Bounds.{HasFewWords}
 use Rattle.ir_asm.proofs.Steps.{ok_is, bind_ok, tested, or_ok}
 
@@ -95,10 +95,10 @@ zeros_cut (w ∷ ws) k n l =
 
 -- fewer words of an object
 pub shorter_words : (count most : ℕ) (words : List ℕ) → length words ≤ count → count ≤ most
-    → take count (first_words most words) ≡ first_words count words
+    → take count (padded_to most words) ≡ padded_to count words
 shorter_words count most words l m =
     let e : length words + (count - length words) ≡ count = omega (arith, l) in
-    ap (λ (k : ℕ). take k (first_words most words)) (sym e)
+    ap (λ (k : ℕ). take k (padded_to most words)) (sym e)
     ∙ zeros_cut words (count - length words) (most - length words) (omega (arith, m))
 
 -- an object has its place
@@ -113,14 +113,14 @@ room_for g object objects l there = let r = room_by g.form object objects l in o
 
 -- words take the place of as many
 same_length : (all words : List ℕ) (start count : ℕ) → length words ≤ count → start + count ≤ length all
-    → length (take start all ++ (first_words count words ++ drop (start + count) all)) ≡ length all
+    → length (take start all ++ (padded_to count words ++ drop (start + count) all)) ≡ length all
 same_length all words start count few there =
     let prefix : List ℕ = take start all in
     let back : List ℕ = drop (start + count) all in
     omega (
       arith,
-      length-append prefix (first_words count words ++ back),
-      length-append (first_words count words) back,
+      length-append prefix (padded_to count words ++ back),
+      length-append (padded_to count words) back,
       length-append words (replicate (count - length words) 0),
       length-replicate {A = ℕ} (count - length words) 0,
       length-take-le start all (omega (arith, there)),

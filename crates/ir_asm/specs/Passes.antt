@@ -4,7 +4,7 @@ use Rattle.ir_isa.specs.Words.{word_of}
 use Rattle.ir_isa.specs.declared.inst.Inst.TheVariants.{Jal, Branch}
 use Rattle.ir_image.specs.declared.form.ImageForm.TheVariants.{Small}
 use Rattle.ir_image.specs.Forms.{limits_of}
-use Rattle.ir_image.specs.Guest.{Guest, code_start, object_words}
+use Rattle.ir_image.specs.Guest.{Guest, code_start, object_words, padded_to}
 use Rattle.ir_asm.specs.declared.cause.Cause.{Cause}
 use Rattle.ir_asm.specs.declared.cause.Cause.TheVariants.{LabelMissing, TooFar, WrongSection, BadSize, BadCount}
 use Rattle.ir_asm.specs.declared.form.Section.TheVariants.{Text}
@@ -44,16 +44,12 @@ distance_to s low high address label = text_address s label >>= λ target. reach
 abbrev pub with_code : Guest → List ℕ → Guest
 with_code g words = record g { code = g.code ++ words }
 
--- so many words of an object, of which these are the first and the others 0
-abbrev pub first_words : ℕ → List ℕ → List ℕ
-first_words count words = words ++ replicate (count - length words) 0
-
 -- the guest with the first words of an object
 abbrev pub with_object : Guest → ℕ → List ℕ → Guest
 with_object g object words = record g {
   words =
       take (object_words g * object) g.words
-      ++ (first_words (object_words g) words ++ drop (object_words g * object + object_words g) g.words);
+      ++ (padded_to (object_words g) words ++ drop (object_words g * object + object_words g) g.words);
 }
 
 -- after an item

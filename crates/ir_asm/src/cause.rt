@@ -22,7 +22,7 @@ pub enum Cause {
     LabelMissing,
     /// A label too far away to be reached.
     TooFar,
-    /// A statement or a label in the wrong section.
+    /// A statement or a label in the wrong section, or `.large` after a statement.
     WrongSection,
     /// Code or data over 65,536 bytes, or no code at all.
     BadSize,

@@ -2,8 +2,8 @@
 
 ghost use Rattle.std.specs.Prelude.{◌≡◌, ◌+◌, ◌*◌, ◌≤◌, ◌++◌, [], ◌∷◌, length, take, drop, replicate, IfOk, OnOk};
 ghost use Rattle.ir_image.specs.Forms.{limits_of, most_object_words};
-ghost use Rattle.ir_image.specs.Guest.{object_words};
-ghost use Rattle.ir_asm.specs.Passes.{with_code, first_words, with_object, with_entry};
+ghost use Rattle.ir_image.specs.Guest.{object_words, padded, padded_to};
+ghost use Rattle.ir_asm.specs.Passes.{with_code, with_object, with_entry};
 
 use ir_image::{CODE_START, ImageForm, MOST_OBJECT_WORDS};
 use std::alloc::{AllocError, Global};
@@ -28,9 +28,9 @@ impl Model for Parts {
 }
 
 // These words and then zeros, as many as an object of any form has.
-fn first_words(words: &[u32]) -> [u32; MOST_OBJECT_WORDS]
+fn padded(words: &[u32]) -> [u32; MOST_OBJECT_WORDS]
     requires { length words.now ≤ most_object_words }
-    ensures { result ≡ first_words most_object_words words.now }
+    ensures { result ≡ padded words.now }
 {
     let mut all = [0; MOST_OBJECT_WORDS];
     all[..words.len()].copy_from_slice(words);
@@ -42,9 +42,9 @@ fn put_first(all: &mut [u32], start: usize, count: usize, words: &[u32])
     requires few { length words.now ≤ count }
     requires most { count ≤ most_object_words }
     requires there { start + count ≤ length all.old }
-    ensures { all.new ≡ take start all.old ++ (first_words count words.now ++ drop (start + count) all.old) }
+    ensures { all.new ≡ take start all.old ++ (padded_to count words.now ++ drop (start + count) all.old) }
 {
-    let firsts = first_words(words);
+    let firsts = padded(words);
     all[start..start + count].copy_from_slice(&firsts[..count]);
 }
 

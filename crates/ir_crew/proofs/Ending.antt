@@ -11,6 +11,7 @@ use Rattle.ir_image.specs.Forms.{limits_of}
 use Rattle.ir_image.specs.Guest.{Guest, IsGuest, most_object_words, object_count, object_words}
 use Rattle.ir_image.specs.declared.form.ImageForm.{ImageForm}
 use Rattle.ir_image.specs.declared.form.ImageForm.TheVariants.{Small, Large}
+use Rattle.ir_image.proofs.CallerLemmas.{padded_at}
 use Rattle.ir_object.specs.Cell.{Cell, StandsFor}
 use Rattle.ir_runs.specs.Object.{Object}
 use Rattle.ir_object.specs.Layout.{word_place, content_place, table_length}
@@ -19,7 +20,7 @@ use Rattle.ir_object.specs.Word.{fields_of}
 use Rattle.ir_crew.specs.Ends.{empty, AreSeats, AreTracks, IsEnd, IsLaid, IsObjectOf}
 use Rattle.ir_crew.specs.Plays.{M, all_but_first, first_alone}
 use Rattle.ir_crew.specs.Rule.{View, start_objects, Represents, IsTable, Fits, Kept, tracks_from}
-use Rattle.ir_crew.proofs.Known.{nothing_represents, padded_at, small_now}
+use Rattle.ir_crew.proofs.Known.{nothing_represents, small_now}
 use Rattle.ir_crew.proofs.Steps.{track}
 
 -- ---- the words before the first step

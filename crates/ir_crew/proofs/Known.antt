@@ -1,13 +1,12 @@
 -- What is known of an object at a moment, from the object steps in their order.
-use Rattle.std.proofs.Common.{◌≡◌, ◌≢◌, ℕ, zero, suc, ◌+◌, ◌-◌, ◌*◌, ◌^◌, ◌<◌, ◌≤◌, Bool, true, false, List, [], ◌∷◌, map, length, get_or, take, drop, replicate, Option, Some, None, refl, sym, ap, ◌∙◌, subst, arith, inl, inr, eq-eqb, ne_eqb}
+use Rattle.std.proofs.Common.{◌≡◌, ◌≢◌, ℕ, zero, suc, ◌+◌, ◌*◌, ◌^◌, ◌<◌, ◌≤◌, Bool, true, false, List, [], ◌∷◌, map, length, get_or, take, drop, Option, Some, None, refl, sym, ap, ◌∙◌, subst, arith, inl, inr, eq-eqb, ne_eqb}
 use Rattle.std.specs.List.{AllByRecursion}
-use Rattle.std.proofs.lemmas.Bool.{cases_eq, cases_lt}
-use Rattle.std.proofs.lemmas.List.{get_or_append_left, get_or-append_right, get_or-replicate, get_or_past, length-replicate}
+use Rattle.std.proofs.lemmas.Bool.{cases_eq}
 use mathlib.Core.Option.{some}
 use lib.ListN.{get_elem?}
 use Rattle.atomic_table.specs.Table as table
-use Rattle.ir_image.specs.Guest.{Guest, IsGuest, IsWord, most_threads, most_object_words, object_count, object_words, padded}
-use Rattle.ir_image.proofs.CallerLemmas.{few_threads}
+use Rattle.ir_image.specs.Guest.{Guest, IsGuest, IsWord, most_threads, object_count, object_words}
+use Rattle.ir_image.proofs.CallerLemmas.{few_threads, padded_at}
 use Rattle.ir_thread.specs.Calls.{most_events}
 use Rattle.ir_thread.specs.Instance.{thread_machine}
 use Rattle.ir_runs.specs.Machine.{Act, Silent, Result, Entry, Refusal, Exit, Load, Store, Never, Machine}
@@ -308,23 +307,6 @@ all_drop : (k : ℕ) (xs : List ℕ) → AllByRecursion IsWord xs → AllByRecur
 all_drop zero xs h = h
 all_drop (suc k) [] h = tt
 all_drop (suc k) (x ∷ xs) h = all_drop k xs h.1
-
--- ---- words, and 0 behind them
-
-zeros_at : (n i : ℕ) → get_or {A = ℕ} (replicate n 0) i 0 ≡ 0
-zeros_at n i = elim (cases_lt i n) [
-  | inl l ↦ get_or-replicate n i 0 0 l
-  | inr g ↦ get_or_past (replicate n 0) i 0 (subst (λ k. k ≤ i) (sym (length-replicate n 0)) g)
-]
-
-pub padded_at : (xs : List ℕ) (i : ℕ) → get_or (padded xs) i 0 ≡ get_or xs i 0
-padded_at xs i =
-    let zeros : List ℕ = replicate (most_object_words - length xs) 0 in
-    elim (cases_lt i (length xs)) [
-      | inl l ↦ get_or_append_left xs zeros 0 i l
-      | inr g ↦ get_or-append_right xs zeros (length xs) i 0 refl g ∙ zeros_at (most_object_words - length xs) (i - length xs)
-          ∙ sym (get_or_past xs i 0 g)
-    ]
 
 abbrev pub now_of : Guest → List (ℕ × Shared) → ℕ → Object
 now_of g steps = objects_after (start_objects g) steps

@@ -1,9 +1,9 @@
 -- Lists of steps by object and version.
-use Rattle.std.proofs.Common.{◌≡◌, ℕ, suc, zero, ◌+◌, ◌-◌, ◌<◌, ◌≤◌, ◌^◌, Bool, true, false, ◌&&◌, eqb, ltb, leb, leb-true, leb-false, ltb-true, ltb-false, eq-eqb, ne_eqb, inl, inr, List, [], ◌∷◌, ◌++◌, length, take, drop, get_or, slice_set, replicate, refl, sym, ap, ◌∙◌, subst, arith, add-one, append-nil, append_assoc}
+use Rattle.std.proofs.Common.{◌≡◌, ℕ, suc, zero, ◌+◌, ◌-◌, ◌<◌, ◌≤◌, true, false, ◌&&◌, eqb, ltb, leb, leb-true, leb-false, ltb-true, ltb-false, inl, inr, List, [], ◌∷◌, ◌++◌, length, take, drop, get_or, slice_set, refl, sym, ap, ◌∙◌, subst, arith, add-one, append-nil, append_assoc}
 use Rattle.std.specs.List.{Contains}
 use Rattle.std.specs.List.Sorted.{IsPermutation, IsNonDecreasingBy, IsPartitionPoint}
 use Rattle.std.proofs.lemmas.Bool.{cases_lt, cases_eq}
-use Rattle.std.proofs.lemmas.List.{length-drop, length-take-le, length-set, length-replicate, take_all, get_or-take, get_or-drop, get_or-set_same, get_or-set_other, get_or-replicate, get_or_past, get_or_default, get_or_read, map_more}
+use Rattle.std.proofs.lemmas.List.{length-drop, length-take-le, length-set, take_all, get_or-take, get_or-drop, get_or-set_same, get_or-set_other, get_or_past, get_or_default, get_or_read, map_more}
 use Rattle.std.proofs.lemmas.List.Sorted.{IsPermutation-refl}
 use Rattle.ir_runs.specs.declared.access.Access.{Access}
 use Rattle.ir_runs.specs.declared.access.Access.TheVariants.{Reading, Writing}
@@ -11,7 +11,7 @@ use Rattle.ir_runs.specs.Run.{join_if}
 use Rattle.ir_runs.proofs.CallerLemmas.{join_append}
 use Rattle.ir_log.specs.declared.event.Event.{Event}
 use Rattle.ir_log.specs.declared.event.Event.TheVariants.{Answer, Read, Write, Try}
-use Rattle.ir_fit.specs.Visits.{Visit, left_by, of_threads, enter_if, entered_by, same_access, picked, Listing, HasLists, listed, added, AddsAll, AreSorted, IsInOrder, none_listed, IsListing}
+use Rattle.ir_fit.specs.Visits.{Visit, left_by, of_threads, enter_if, entered_by, same_access, picked, Listing, listed, AddsAll, AreSorted, IsInOrder, none_listed, IsListing}
 use Rattle.ir_fit.specs.declared.leave.Leave.{Leave}
 use Rattle.ir_fit.specs.declared.place.Place.{Place}
 
@@ -159,36 +159,6 @@ all_sorted n old new h l o = elim (cases_lt o n) [
       )
 ]
 
--- ---- one more step
-
-set_adds : (xs : List (List Place)) (o q : ℕ) (p : Place) → q < length xs
-    → get_or (slice_set xs o (get_or xs o [] ++ p ∷ [])) q [] ≡ get_or xs q [] ++ join_if (eqb o q) p []
-set_adds xs o q p l = elim (cases_eq o q) [
-  | inl here ↦ subst (λ k. get_or (slice_set xs o (get_or xs o [] ++ p ∷ [])) k [] ≡ get_or xs k [] ++ join_if (eqb o k) p []) here
-      (get_or-set_same xs o (get_or xs o [] ++ p ∷ []) [] (omega (arith, l, here))
-      ∙ ap (λ b. get_or xs o [] ++ join_if b p []) (sym (eq-eqb o o refl)))
-  | inr ne ↦ get_or-set_other xs o q (get_or xs o [] ++ p ∷ []) [] (λ e. ne (sym e)) ∙ sym (append-nil (get_or xs q []))
-      ∙ ap (λ b. get_or xs q [] ++ join_if b p []) (sym (ne_eqb o q ne))
-]
-
-join_both : (b : Bool) (p : Place) → join_if (b && true) p [] ≡ join_if b p []
-join_both true p = refl
-join_both false p = refl
-
-join_none : (b : Bool) (p : Place) → join_if (b && false) p [] ≡ []
-join_none true p = refl
-join_none false p = refl
-
-pub adds_one : (x : Listing) → HasLists x → (o : ℕ) (a : Access) (p : Place) → AddsAll x (added x o a p) ((o, a, p) ∷ [])
-adds_one x h o Reading p q l Reading = set_adds x.reading o q p (omega (arith, l, h.reading))
-    ∙ ap (λ z. get_or x.reading q [] ++ z) (sym (join_both (eqb o q) p))
-adds_one x h o Reading p q l Writing = sym (append-nil (get_or x.writing q []))
-    ∙ ap (λ z. get_or x.writing q [] ++ z) (sym (join_none (eqb o q) p))
-adds_one x h o Writing p q l Reading = sym (append-nil (get_or x.reading q []))
-    ∙ ap (λ z. get_or x.reading q [] ++ z) (sym (join_none (eqb o q) p))
-adds_one x h o Writing p q l Writing = set_adds x.writing o q p (omega (arith, l, h.writing))
-    ∙ ap (λ z. get_or x.writing q [] ++ z) (sym (join_both (eqb o q) p))
-
 -- ---- more steps
 
 pub picked_append : (o : ℕ) (a : Access) (xs ys : List Visit) → picked o a (xs ++ ys) ≡ picked o a xs ++ picked o a ys
@@ -197,11 +167,11 @@ picked_append o a (x ∷ xs) ys = ap (join_if (eqb x.0 o && same_access x.1 a) x
     ∙ join_append (eqb x.0 o && same_access x.1 a) x.2 (picked o a xs) (picked o a ys)
 
 pub adds_none : (x : Listing) → AddsAll x x []
-adds_none x o l a = sym (append-nil (listed x o a))
+adds_none x o a = sym (append-nil (listed x o a))
 
 pub adds_more : (x y z : Listing) (vs ws : List Visit) → AddsAll x y vs → AddsAll y z ws → AddsAll x z (vs ++ ws)
-adds_more x y z vs ws h k o l a =
-    k o l a ∙ ap (λ xs. xs ++ picked o a ws) (h o l a) ∙ append_assoc (listed x o a) (picked o a vs) (picked o a ws)
+adds_more x y z vs ws h k o a =
+    k o a ∙ ap (λ xs. xs ++ picked o a ws) (h o a) ∙ append_assoc (listed x o a) (picked o a vs) (picked o a ws)
     ∙ ap (λ xs. listed x o a ++ xs) (sym (picked_append o a vs ws))
 
 enter_prefix : (t : ℕ) (e : Event) (k : ℕ) (vs ws : List Visit) → enter_if t e k (vs ++ ws) ≡ enter_if t e k vs ++ ws
@@ -228,18 +198,12 @@ adds_event x y z t es ks i d l m old new =
     subst (AddsAll x z) (sym next) (adds_more x y z (entered_by t (take i es) ks) (enter_if t (get_or es i d) (get_or ks i 0) []) old new)
 
 -- one more leave
-pub adds_leave : (x y z : Listing) (t : ℕ) (ls : List Leave) (i : ℕ) (d : Leave) → i < length ls → HasLists y
-    → AddsAll x y (left_by t (take i ls))
-    → z ≡ added y (get_or ls i d).object (get_or ls i d).access
-    (record { position = (get_or ls i d).position; version = (get_or ls i d).version; thread = t })
-    → AddsAll x z (left_by t (take (i + 1) ls))
-adds_leave x y z t ls i d l sized old new =
+pub adds_leave : (x y z : Listing) (t : ℕ) (ls : List Leave) (i : ℕ) (d : Leave) → i < length ls → AddsAll x y (left_by t (take i ls))
+    → AddsAll y z (left_by t (get_or ls i d ∷ [])) → AddsAll x z (left_by t (take (i + 1) ls))
+adds_leave x y z t ls i d l old new =
     let f : Leave → Visit = λ g. (g.object, g.access, record { position = g.position; version = g.version; thread = t }) in
-    let e : Leave = get_or ls i d in
-    let next : left_by t (take (i + 1) ls) ≡ left_by t (take i ls) ++ f e ∷ [] = map_more f ls i d l in
-    subst (AddsAll x z) (sym next) (adds_more x y z (left_by t (take i ls)) (f e ∷ []) old
-    (subst (λ w. AddsAll y w (f e ∷ [])) (sym new)
-    (adds_one y sized e.object e.access (record { position = e.position; version = e.version; thread = t }))))
+    let next : left_by t (take (i + 1) ls) ≡ left_by t (take i ls) ++ f (get_or ls i d) ∷ [] = map_more f ls i d l in
+    subst (AddsAll x z) (sym next) (adds_more x y z (left_by t (take i ls)) (f (get_or ls i d) ∷ []) old new)
 
 -- one more thread
 pub adds_thread : (x y z : Listing) (n : ℕ) (f : ℕ → List Visit) → AddsAll x y (of_threads n f) → AddsAll y z (f n)
@@ -248,18 +212,9 @@ adds_thread x y z n f old new = subst (λ k. AddsAll x z (of_threads k f)) (sym 
 
 -- ---- the whole
 
-abbrev no_places : List Place
-no_places = []
-
-no_lists : (n o : ℕ) → get_or (replicate n no_places) o [] ≡ []
-no_lists n o = elim (cases_lt o n) [
-  | inl l ↦ get_or-replicate n o [] [] l
-  | inr past ↦ get_or_past (replicate n []) o [] (omega (arith, past, length-replicate n no_places))
-]
-
 none_at : (o : ℕ) (a : Access) → listed none_listed o a ≡ []
-none_at o Reading = no_lists (2 ^ 8) o
-none_at o Writing = no_lists (2 ^ 8) o
+none_at o Reading = get_or_past [] o [] (omega arith)
+none_at o Writing = get_or_past [] o [] (omega arith)
 
 in_order : (x y : Listing) → IsInOrder x y → (o : ℕ) (a : Access) → IsPermutation (listed x o a) (listed y o a)
     × IsNonDecreasingBy (λ (p : Place). p.version) (listed y o a)
@@ -268,7 +223,7 @@ in_order x y h o Writing = h.1 o
 
 pub is_listing : (x y : Listing) (vs : List Visit) → AddsAll none_listed x vs → IsInOrder x y → IsListing vs y
 is_listing x y vs h sorted = record {
-  same = λ o l a. subst (λ z. IsPermutation z (listed y o a)) (h o l a ∙ ap (λ z. z ++ picked o a vs) (none_at o a))
+  same = λ o a. subst (λ z. IsPermutation z (listed y o a)) (h o a ∙ ap (λ z. z ++ picked o a vs) (none_at o a))
       (in_order x y sorted o a).0;
   sorted = λ o a. (in_order x y sorted o a).1;
 }

@@ -1,5 +1,5 @@
 -- The steps that are listed by object, access and version, against what the steps of the run tell.
-use Rattle.std.proofs.Common.{◌≡◌, ℕ, suc, zero, ◌<◌, ◌^◌, ◌⊎◌, Bool, true, false, ◌&&◌, eqb, inl, inr, List, [], ◌∷◌, length, get_or, refl, sym, ap, ◌∙◌, subst, arith, eq-eqb, eqb-true}
+use Rattle.std.proofs.Common.{◌≡◌, ℕ, suc, zero, ◌<◌, ◌⊎◌, Bool, true, false, ◌&&◌, eqb, inl, inr, List, [], ◌∷◌, length, get_or, refl, sym, ap, ◌∙◌, subst, arith, eq-eqb, eqb-true}
 use Rattle.std.specs.List.{Contains}
 use Rattle.std.proofs.lemmas.Bool.{cases_eq}
 use Rattle.std.proofs.lemmas.List.Elements.{Contains-append_left, Contains-append_right, Contains-append_cases}
@@ -163,28 +163,28 @@ to_entered t (Write p x r ∷ es) (q ∷ ks) (suc i) e k o a w l at place is =
 
 -- ---- what is listed
 
-listed_of : (vs : List Visit) (x : Listing) → IsListing vs x → (o : ℕ) → o < 2 ^ 8 → (a : Access) (p : Place) → Contains (listed x o a) p
+listed_of : (vs : List Visit) (x : Listing) → IsListing vs x → (o : ℕ) (a : Access) (p : Place) → Contains (listed x o a) p
     → Contains vs (o, a, p)
-listed_of vs x h o l a p c =
+listed_of vs x h o a p c =
     let at = contains_at (picked o a vs) p (Contains-permutation (listed x o a) (picked o a vs) p
-    (IsPermutation-sym (picked o a vs) (listed x o a) (h.same o l a)) c) in
+    (IsPermutation-sym (picked o a vs) (listed x o a) (h.same o a)) c) in
     let v = of_picked o a vs at.0 p at.1 in
     at_contains vs v.0 (o, a, p) v.1
 
-listed_all : (vs : List Visit) (x : Listing) → IsListing vs x → (o : ℕ) → o < 2 ^ 8 → (a : Access) (p : Place) → Contains vs (o, a, p)
+listed_all : (vs : List Visit) (x : Listing) → IsListing vs x → (o : ℕ) (a : Access) (p : Place) → Contains vs (o, a, p)
     → Contains (listed x o a) p
-listed_all vs x h o l a p c =
+listed_all vs x h o a p c =
     let at = contains_at vs (o, a, p) c in
     let v = to_picked o a vs at.0 p at.1 in
-    Contains-permutation (picked o a vs) (listed x o a) p (h.same o l a) (at_contains (picked o a vs) v.0 p v.1)
+    Contains-permutation (picked o a vs) (listed x o a) p (h.same o a) (at_contains (picked o a vs) v.0 p v.1)
 
-pub only_leaves : (f : FittedTrace) (x : Listing) → IsListing (all_left f.placed) x → (o : ℕ) → o < 2 ^ 8
-    → (a : Access) (v : ℕ) (ps : List Place) → ((p : Place) → Contains ps p → Contains (listed x o a) p × (p.version ≡ v))
+pub only_leaves : (f : FittedTrace) (x : Listing) → IsListing (all_left f.placed) x → (o : ℕ)
+    (a : Access) (v : ℕ) (ps : List Place) → ((p : Place) → Contains ps p → Contains (listed x o a) p × (p.version ≡ v))
     → OnlyLeaves f o a v ps
-only_leaves f x is o l a v ps found h p c =
+only_leaves f x is o a v ps found h p c =
     let q = found p c in
     let some = of_some (length f.placed) (λ t. left_by t (placed_at f.placed t).leaves) (o, a, p)
-    (listed_of (all_left f.placed) x is o l a p q.0) in
+    (listed_of (all_left f.placed) x is o a p q.0) in
     let t : ℕ = some.0 in
     let ls : List Leave = (placed_at f.placed t).leaves in
     let at = contains_at (left_by t ls) (o, a, p) some.2 in
@@ -197,10 +197,10 @@ only_leaves f x is o l a v ps found h p c =
           (subst (λ (z : Visit). EmitsIn f h z.2.thread z.2.position (Out z.0 z.1 z.2.version)) leave.2 emitted),
     )
 
-pub all_leaves : (f : FittedTrace) (x : Listing) → IsListing (all_left f.placed) x → (o : ℕ) → o < 2 ^ 8
-    → (a : Access) (v : ℕ) (ps : List Place) → ((p : Place) → Contains (listed x o a) p → p.version ≡ v → Contains ps p)
+pub all_leaves : (f : FittedTrace) (x : Listing) → IsListing (all_left f.placed) x → (o : ℕ)
+    (a : Access) (v : ℕ) (ps : List Place) → ((p : Place) → Contains (listed x o a) p → p.version ≡ v → Contains ps p)
     → AllLeaves f o a v ps
-all_leaves f x is o l a v ps found h t k emitted =
+all_leaves f x is o a v ps found h t k emitted =
     let p : Place = record { position = k; version = v; thread = t } in
     let below = emits_below f h t k (Out o a v) emitted in
     let ls : List Leave = (placed_at f.placed t).leaves in
@@ -208,17 +208,17 @@ all_leaves f x is o l a v ps found h t k emitted =
     let e : Leave = record { position = k; object = o; access = a; version = v } in
     let at : At (left_by t ls) leave.0 (o, a, p) =
     to_left t ls leave.0 e (subst (At ls leave.0) (leave.2 e) (at_get ls leave.0 e leave.1)) in
-    found p (listed_all (all_left f.placed) x is o l a p
+    found p (listed_all (all_left f.placed) x is o a p
     (of_each (length f.placed) (λ u. left_by u (placed_at f.placed u).leaves) (o, a, p) t (let n = h.each in omega (arith, below, n))
     (at_contains (left_by t ls) leave.0 (o, a, p) at))) refl
 
-pub only_entries : (f : FittedTrace) (x : Listing) → IsListing (all_entered f.recorded f.placed) x → (o : ℕ) → o < 2 ^ 8
-    → (a : Access) (v : ℕ) (ps : List Place) → ((p : Place) → Contains ps p → Contains (listed x o a) p × (p.version ≡ v))
+pub only_entries : (f : FittedTrace) (x : Listing) → IsListing (all_entered f.recorded f.placed) x → (o : ℕ)
+    (a : Access) (v : ℕ) (ps : List Place) → ((p : Place) → Contains ps p → Contains (listed x o a) p × (p.version ≡ v))
     → OnlyEntries f o a v ps
-only_entries f x is o l a v ps found h p c =
+only_entries f x is o a v ps found h p c =
     let q = found p c in
     let some = of_some (length f.placed) (λ t. entered_by t (recorded_thread f.recorded t).events (placed_at f.placed t).entries) (o, a, p)
-    (listed_of (all_entered f.recorded f.placed) x is o l a p q.0) in
+    (listed_of (all_entered f.recorded f.placed) x is o a p q.0) in
     let t : ℕ = some.0 in
     let es : List Event = (recorded_thread f.recorded t).events in
     let ks : List ℕ = (placed_at f.placed t).entries in
@@ -239,10 +239,10 @@ only_entries f x is o l a v ps found h p c =
       ),
     )
 
-pub all_entries : (f : FittedTrace) (x : Listing) → IsListing (all_entered f.recorded f.placed) x → (o : ℕ) → o < 2 ^ 8
-    → (a : Access) (v : ℕ) (ps : List Place) → ((p : Place) → Contains (listed x o a) p → p.version ≡ v → Contains ps p)
+pub all_entries : (f : FittedTrace) (x : Listing) → IsListing (all_entered f.recorded f.placed) x → (o : ℕ)
+    (a : Access) (v : ℕ) (ps : List Place) → ((p : Place) → Contains (listed x o a) p → p.version ≡ v → Contains ps p)
     → AllEntries f o a v ps
-all_entries f x is o l a v ps found h t k n emitted =
+all_entries f x is o a v ps found h t k n emitted =
     let p : Place = record { position = k; version = v; thread = t } in
     let below = emits_below f h t k (In o a v n) emitted in
     let es : List Event = (recorded_thread f.recorded t).events in
@@ -250,7 +250,7 @@ all_entries f x is o l a v ps found h t k n emitted =
     let (i, li, place, label) = entry_of f h t k o a v n emitted in
     let d : Event = Read 0 0 in
     let at : At ks i k = subst (At ks i) place (at_get ks i 0 (let m = entries_long f h t below in omega (arith, li, m))) in
-    found p (listed_all (all_entered f.recorded f.placed) x is o l a p
+    found p (listed_all (all_entered f.recorded f.placed) x is o a p
     (of_each (length f.placed) (λ u. entered_by u (recorded_thread f.recorded u).events (placed_at f.placed u).entries) (o, a, p) t
     (let m = h.each in omega (arith, below, m))
     (to_entered t es ks i (get_or es i d) k o a v n (at_get es i d li) at (label d)))) refl

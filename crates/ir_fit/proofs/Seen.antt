@@ -27,7 +27,7 @@ use Rattle.ir_flat.specs.Flat.{Flat, thread_of, cell_of, tables, machine, IsFlat
 use Rattle.ir_flat.proofs.CallerLemmas.{may_admits, added}
 use Rattle.std.proofs.lemmas.Option.{slice_get_within}
 use Rattle.ir_log.specs.Logging.{label_of, ask_of as event_ask, Suits}
-use Rattle.ir_log.proofs.CallerLemmas.{call_suits as call_asked, entry_suits as entry_asked, try_suits as try_asked}
+use Rattle.ir_log.proofs.CallerLemmas.{call_suits as call_asked, entry_suits as entry_asked}
 use Rattle.ir_log.specs.declared.event.Event.{Event}
 use Rattle.ir_log.specs.declared.event.Event.TheVariants.{Answer, Read, Write, Try as Refused}
 use Rattle.ir_trace.specs.Recorded.{Recorded, IsResult, IsEvent, IsRecordedThread}

@@ -1,5 +1,5 @@
 -- The steps by which objects are entered and left, by object, access and version.
-use Rattle.std.specs.Prelude.{◌≡◌, ℕ, zero, suc, ◌<◌, Bool, true, false, ◌&&◌, eqb, List, [], ◌∷◌, ◌++◌, map, slice_set, length, replicate, ◌^◌}
+use Rattle.std.specs.Prelude.{◌≡◌, ℕ, zero, suc, Bool, true, false, ◌&&◌, eqb, List, [], ◌∷◌, ◌++◌, map, length}
 use Rattle.std.specs.List.{Contains, slice_index_or}
 use Rattle.std.specs.List.Sorted.{IsPermutation, IsNonDecreasingBy}
 use Rattle.ir_runs.specs.Labels.{Label, In, Out}
@@ -90,25 +90,27 @@ abbrev pub picked : ℕ → Access → List Visit → List Place
 picked o a [] = []
 picked o a (x ∷ xs) = join_if (eqb x.0 o && same_access x.1 a) x.2 (picked o a xs)
 
--- lists of steps for each object, for reading and for writing
+-- lists of steps by object, for reading and for writing
 pub record Listing : Type 0 where
   pub reading : List (List Place)
   pub writing : List (List Place)
 
--- a list for each number that an object may have
-pub record HasLists (x : Listing) : Type 0 where
-  pub reading : length x.reading ≡ 2 ^ 8
-  pub writing : length x.writing ≡ 2 ^ 8
+-- the lists for such access, by object
+abbrev pub lists_for : Listing → Access → List (List Place)
+lists_for x Reading = x.reading
+lists_for x Writing = x.writing
 
--- the list for object o and access a
+-- the list for object o and access a; where there is none, no step is of them
 abbrev pub listed : Listing → ℕ → Access → List Place
-listed x o Reading = slice_index_or x.reading o []
-listed x o Writing = slice_index_or x.writing o []
+listed x o a = slice_index_or (lists_for x a) o []
 
--- one more step for object o and access a
-abbrev pub added : Listing → ℕ → Access → Place → Listing
-added x o Reading p = record x { reading = slice_set x.reading o (slice_index_or x.reading o [] ++ p ∷ []) }
-added x o Writing p = record x { writing = slice_set x.writing o (slice_index_or x.writing o [] ++ p ∷ []) }
+-- each object has the same steps
+abbrev pub AreSame : List (List Place) → List (List Place) → Type 0
+AreSame old new = (o : ℕ) → slice_index_or new o [] ≡ slice_index_or old o []
+
+-- object o has this step behind those that it had, and the others have the same
+abbrev pub IsOneMore : List (List Place) → List (List Place) → ℕ → Place → Type 0
+IsOneMore old new o p = (q : ℕ) → slice_index_or new q [] ≡ slice_index_or old q [] ++ join_if (eqb o q) p []
 
 -- the list for each object has the same steps, in the order of their versions
 abbrev pub AreSorted : List (List Place) → List (List Place) → Type 0
@@ -121,13 +123,13 @@ IsInOrder old new = AreSorted old.reading new.reading × AreSorted old.writing n
 
 -- no step of any object
 abbrev pub none_listed : Listing
-none_listed = record { reading = replicate (2 ^ 8) []; writing = replicate (2 ^ 8) [] }
+none_listed = record { reading = []; writing = [] }
 
 -- these visits are listed behind those that were
 abbrev pub AddsAll : Listing → Listing → List Visit → Type 0
-AddsAll old new vs = (o : ℕ) → o < 2 ^ 8 → (a : Access) → listed new o a ≡ listed old o a ++ picked o a vs
+AddsAll old new vs = (o : ℕ) (a : Access) → listed new o a ≡ listed old o a ++ picked o a vs
 
 -- they are listed, in the order of their versions
 pub record IsListing (vs : List Visit) (x : Listing) : Type 0 where
-  pub same : (o : ℕ) → o < 2 ^ 8 → (a : Access) → IsPermutation (picked o a vs) (listed x o a)
+  pub same : (o : ℕ) (a : Access) → IsPermutation (picked o a vs) (listed x o a)
   pub sorted : (o : ℕ) (a : Access) → IsNonDecreasingBy (λ (p : Place). p.version) (listed x o a)

@@ -27,7 +27,13 @@ fn count_entries(rooms: &mut Rooms, events: &[Event]) {
 }
 
 // One more event of the thread, logged at this position.
-fn add_entry(visits: &mut Visits, thread: u8, event: Event, position: u64) -> Result<(), AllocError>
+fn add_entry(
+    visits: &mut Visits,
+    rooms: &Rooms,
+    thread: u8,
+    event: Event,
+    position: u64,
+) -> Result<(), AllocError>
     ensures { OnOk result (AddsAll visits.old visits.new (enter_if thread event position [])) }
 {
     let (object, access, version) = match event {
@@ -40,6 +46,7 @@ fn add_entry(visits: &mut Visits, thread: u8, event: Event, position: u64) -> Re
         } => (object, Access::Writing, version),
     };
     visits.add(
+        rooms,
         object,
         access,
         Place {
@@ -53,6 +60,7 @@ fn add_entry(visits: &mut Visits, thread: u8, event: Event, position: u64) -> Re
 // The entries of a log, whose events stand at these positions.
 fn add_entries(
     visits: &mut Visits,
+    rooms: &Rooms,
     thread: u8,
     events: &[Event],
     positions: &[u64],
@@ -61,13 +69,18 @@ fn add_entries(
     ensures { OnOk result (AddsAll visits.old visits.new (entered_by thread events.now positions.now)) }
 {
     for place in 0..events.len() {
-        add_entry(visits, thread, events[place], positions[place])?;
+        add_entry(visits, rooms, thread, events[place], positions[place])?;
     }
     Ok(())
 }
 
 // The leaves of a thread.
-fn add_leaves(visits: &mut Visits, thread: u8, leaves: &[Leave]) -> Result<(), AllocError>
+fn add_leaves(
+    visits: &mut Visits,
+    rooms: &Rooms,
+    thread: u8,
+    leaves: &[Leave],
+) -> Result<(), AllocError>
     ensures { OnOk result (AddsAll visits.old visits.new (left_by thread leaves.now)) }
 {
     for leave in leaves {
@@ -76,7 +89,7 @@ fn add_leaves(visits: &mut Visits, thread: u8, leaves: &[Leave]) -> Result<(), A
             version: leave.version,
             thread,
         };
-        visits.add(leave.object, leave.access, place)?;
+        visits.add(rooms, leave.object, leave.access, place)?;
     }
     Ok(())
 }
@@ -105,11 +118,12 @@ pub fn entered(
     requires each { (t : ℕ) → t < length places.now → length (recorded_thread trace.now t).events ≤ length (placed_at places.now t).entries }
     ensures { IfOk result (IsListing (all_entered trace.now places.now)) }
 {
-    let mut visits = Visits::new(alloc, rooms)?;
+    let mut visits = Visits::new(alloc);
     let threads = trace.threads();
     for t in 0..places.len() {
         add_entries(
             &mut visits,
+            rooms,
             t as u8,
             threads[t].log().events(),
             places[t].entries(),
@@ -127,9 +141,9 @@ pub fn left(alloc: Global, rooms: &Rooms, places: &[Places]) -> Result<Visits, A
     requires { length places.now ≤ most_threads }
     ensures { IfOk result (IsListing (all_left places.now)) }
 {
-    let mut visits = Visits::new(alloc, rooms)?;
+    let mut visits = Visits::new(alloc);
     for t in 0..places.len() {
-        add_leaves(&mut visits, t as u8, places[t].leaves())?;
+        add_leaves(&mut visits, rooms, t as u8, places[t].leaves())?;
     }
     visits.sort()?;
     Ok(visits)

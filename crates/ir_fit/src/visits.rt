@@ -1,9 +1,9 @@
 //! The steps by which objects were entered, or left, looked up by object, access and version.
 
-ghost use Rattle.std.specs.Prelude.{◌≡◌, [], ◌^◌, length, replicate, IfOk, OnOk};
+ghost use Rattle.std.specs.Prelude.{◌≡◌, ◌<◌, [], ◌∷◌, length, OnOk};
 ghost use Rattle.std.specs.List.{Contains};
 ghost use Rattle.std.specs.List.Sorted.{IsNonDecreasingBy};
-ghost use Rattle.ir_fit.specs.Visits.{Listing, HasLists, listed, added, none_listed, AreSorted, IsInOrder};
+ghost use Rattle.ir_fit.specs.Visits.{Listing, lists_for, listed, AreSame, IsOneMore, AddsAll, none_listed, AreSorted, IsInOrder};
 ghost use Rattle.ir_fit.specs.declared.place.Place.{Place};
 
 use crate::object_places::ObjectPlaces;
@@ -13,13 +13,13 @@ use std::alloc::{AllocError, Global};
 use std::marker::Model;
 
 // As many as the numbers that an object may have, which are bytes.
-pub const OBJECTS: usize = 256;
+const OBJECTS: usize = 256;
 
 /// How many steps enter, or leave, each object for each access.
 #[derive(Drop)]
 pub struct Rooms {
-    pub reading: [usize; OBJECTS],
-    pub writing: [usize; OBJECTS],
+    reading: [usize; OBJECTS],
+    writing: [usize; OBJECTS],
 }
 
 impl Rooms {
@@ -41,9 +41,11 @@ impl Rooms {
     }
 }
 
-/// The steps by which objects were entered, or left, by object and access.
+/// The steps by which objects were entered, or left, by object and access: a list for each object up to the last that one
+/// of them is of.
 #[derive(Drop)]
 pub struct Visits {
+    alloc: Global,
     reading: Vec<ObjectPlaces>,
     writing: Vec<ObjectPlaces>,
 }
@@ -52,19 +54,36 @@ impl Model for Visits {
     ghost Value = { Listing };
 
     ghost view = { λ v. record { reading = v.reading.items; writing = v.writing.items } };
-
-    ghost invariant = { λ v. HasLists (record { reading = v.reading.items; writing = v.writing.items }) };
 }
 
-// An empty list for each object.
-fn lists(alloc: Global, rooms: &[usize; OBJECTS]) -> Result<Vec<ObjectPlaces>, AllocError>
-    ensures { IfOk result (λ l. l.items ≡ replicate (2 ^ 8) []) }
+// Makes lists up to that of the object, each with its room.
+fn reach(
+    alloc: Global,
+    lists: &mut Vec<ObjectPlaces>,
+    rooms: &[usize; OBJECTS],
+    object: u8,
+) -> Result<(), AllocError>
+    ensures reached { OnOk result (object < length lists.new.items) }
+    ensures same { OnOk result (AreSame lists.old.items lists.new.items) }
 {
-    let mut lists = Vec::with_capacity(alloc, OBJECTS)?;
-    for room in rooms {
-        lists.push(ObjectPlaces::new(alloc, *room)?)?;
+    for next in lists.len()..object as usize + 1 {
+        lists.push(ObjectPlaces::new(alloc, rooms[next])?)?;
     }
-    Ok(lists)
+    Ok(())
+}
+
+// One more of the object.
+fn add_to(
+    alloc: Global,
+    lists: &mut Vec<ObjectPlaces>,
+    rooms: &[usize; OBJECTS],
+    object: u8,
+    place: Place,
+) -> Result<(), AllocError>
+    ensures { OnOk result (IsOneMore lists.old.items lists.new.items object place) }
+{
+    reach(alloc, lists, rooms, object)?;
+    lists[object as usize].push(place)
 }
 
 // Brings each list into the order of its versions.
@@ -79,24 +98,30 @@ fn sort_each(lists: &mut [ObjectPlaces]) -> Result<(), AllocError>
 }
 
 impl Visits {
-    // None, with room for so many of each object.
-    pub fn new(alloc: Global, rooms: &Rooms) -> Result<Visits, AllocError>
-        ensures { IfOk result (λ v. v ≡ none_listed) }
+    // None.
+    pub fn new(alloc: Global) -> Visits
+        ensures { result ≡ none_listed }
     {
-        Ok(Visits {
-            reading: lists(alloc, &rooms.reading)?,
-            writing: lists(alloc, &rooms.writing)?,
-        })
+        Visits {
+            alloc,
+            reading: Vec::new(alloc),
+            writing: Vec::new(alloc),
+        }
     }
 
-    // One more.
-    pub fn add(&mut self, object: u8, access: Access, place: Place) -> Result<(), AllocError>
-        ensures added { OnOk result (self.new ≡ added self.old object access place) }
-        ensures lists { HasLists self.old }
+    // One more. The list of its object has the room that is said there.
+    pub fn add(
+        &mut self,
+        rooms: &Rooms,
+        object: u8,
+        access: Access,
+        place: Place,
+    ) -> Result<(), AllocError>
+        ensures { OnOk result (AddsAll self.old self.new ((object, access, place) ∷ [])) }
     {
         match access {
-            Access::Reading => self.reading[object as usize].push(place),
-            Access::Writing => self.writing[object as usize].push(place),
+            Access::Reading => add_to(self.alloc, &mut self.reading, &rooms.reading, object, place),
+            Access::Writing => add_to(self.alloc, &mut self.writing, &rooms.writing, object, place),
         }
     }
 
@@ -108,13 +133,13 @@ impl Visits {
         sort_each(&mut self.writing)
     }
 
-    // Those of the object for such access, in order.
-    fn list(&self, object: u8, access: Access) -> &ObjectPlaces
-        ensures { result.now ≡ listed self.now object access }
+    // The lists for such access, by object.
+    fn lists(&self, access: Access) -> &[ObjectPlaces]
+        ensures { result.now ≡ lists_for self.now access }
     {
         match access {
-            Access::Reading => &self.reading[object as usize],
-            Access::Writing => &self.writing[object as usize],
+            Access::Reading => self.reading.as_slice(),
+            Access::Writing => self.writing.as_slice(),
         }
     }
 
@@ -124,6 +149,10 @@ impl Visits {
         ensures emitted { (p : Place) → Contains result.now p → Contains (listed self.now object access) p × (p.version ≡ version) }
         ensures all { (p : Place) → Contains (listed self.now object access) p → p.version ≡ version → Contains result.now p }
     {
-        self.list(object, access).at(version)
+        let lists = self.lists(access);
+        if lists.len() <= object as usize {
+            return &[];
+        }
+        lists[object as usize].at(version)
     }
 }

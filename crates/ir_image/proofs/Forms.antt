@@ -1,9 +1,11 @@
--- What the limits of each form say.
-use Rattle.std.proofs.Common.{◌≡◌, ℕ, ◌*◌, ◌/◌, ◌%◌, ◌<◌, ◌≤◌, length, arith}
+-- What the limits of each form say, and words that are padded to the most of any.
+use Rattle.std.proofs.Common.{◌≡◌, ℕ, ◌-◌, ◌*◌, ◌/◌, ◌%◌, ◌<◌, ◌≤◌, List, length, get_or, replicate, refl, sym, ◌∙◌, subst, inl, inr, arith}
+use Rattle.std.proofs.lemmas.Bool.{cases_lt}
+use Rattle.std.proofs.lemmas.List.{get_or_append_left, get_or-append_right, get_or-replicate, get_or_past, length-replicate}
 use Rattle.ir_image.specs.declared.form.ImageForm.{ImageForm}
 use Rattle.ir_image.specs.declared.form.ImageForm.TheVariants.{Small, Large}
 use Rattle.ir_image.specs.Forms.{limits_of, most_threads, most_objects, most_object_words}
-use Rattle.ir_image.specs.Guest.{Guest, IsGuest, object_count}
+use Rattle.ir_image.specs.Guest.{Guest, IsGuest, object_count, padded}
 
 pub some_words : (form : ImageForm) → 0 < (limits_of form).words
 some_words Small = omega arith
@@ -54,3 +56,20 @@ words_within Large words whole few = omega (arith, whole, few)
 
 pub few_words : (g : Guest) → IsGuest g → length g.words ≤ most_object_words * most_objects
 few_words g fits = words_within g.form (length g.words) fits.whole_objects fits.few_objects
+
+-- ---- words, and 0 behind them
+
+zeros_at : (n i : ℕ) → get_or {A = ℕ} (replicate n 0) i 0 ≡ 0
+zeros_at n i = elim (cases_lt i n) [
+  | inl l ↦ get_or-replicate n i 0 0 l
+  | inr g ↦ get_or_past (replicate n 0) i 0 (subst (λ k. k ≤ i) (sym (length-replicate n 0)) g)
+]
+
+pub padded_at : (xs : List ℕ) (i : ℕ) → get_or (padded xs) i 0 ≡ get_or xs i 0
+padded_at xs i =
+    let zeros : List ℕ = replicate (most_object_words - length xs) 0 in
+    elim (cases_lt i (length xs)) [
+      | inl l ↦ get_or_append_left xs zeros 0 i l
+      | inr g ↦ get_or-append_right xs zeros (length xs) i 0 refl g ∙ zeros_at (most_object_words - length xs) (i - length xs)
+          ∙ sym (get_or_past xs i 0 g)
+    ]

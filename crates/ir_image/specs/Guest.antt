@@ -41,9 +41,13 @@ object_words g = (limits_of g.form).words
 abbrev pub object_count : Guest → ℕ
 object_count g = length g.words / object_words g
 
--- words, and 0 behind them up to the most words of an object of any form
+-- words, and 0 behind them up to so many
+abbrev pub padded_to : ℕ → List ℕ → List ℕ
+padded_to count words = words ++ replicate (count - length words) 0
+
+-- up to the most words of an object of any form
 abbrev pub padded : List ℕ → List ℕ
-padded words = words ++ replicate (most_object_words - length words) 0
+padded words = padded_to most_object_words words
 
 -- what an object's words are at the start: its first words, and 0 behind them
 abbrev pub first_words : Guest → ℕ → List ℕ

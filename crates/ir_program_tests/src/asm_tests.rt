@@ -78,10 +78,13 @@ fn a_writer_fails(rt: HostRuntime) {
 
 const WORDS_2: &str = "an unknown instruction or directive";
 
+const WORDS_9: &str =
+    "a statement or label of the wrong section, or `.large` after a statement";
+
 const WORDS_10: &str = "too much code or data, or no code";
 
 // A source with a fault, its line and cause, the cause in words, and what of the line follows these.
-const EXPLAINED: [(&str, u32, u32, &str, &str); 14] = [
+const EXPLAINED: [(&str, u32, u32, &str, &str); 15] = [
     (
         "nop\n\tnop # \x01\u{e9}\x7f~\n",
         2,
@@ -124,8 +127,15 @@ const EXPLAINED: [(&str, u32, u32, &str, &str); 14] = [
         "nop\n.space 1",
         2,
         9,
-        "a statement or label of the wrong section",
+        WORDS_9,
         ": .space 1",
+    ),
+    (
+        "nop\n.large",
+        2,
+        9,
+        WORDS_9,
+        ": .large",
     ),
     ("", 2, 10, WORDS_10, ""),
     ("# no code\n\n", 4, 10, WORDS_10, ""),

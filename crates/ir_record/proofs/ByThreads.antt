@@ -20,7 +20,7 @@ use Rattle.ir_thread.specs.declared.ask.Ask.TheVariants as ask
 use Rattle.ir_object.specs.Cell.{Cell}
 use Rattle.ir_object.specs.Order.{Shared, of_thread, order_labels, IsAllowed}
 use Rattle.ir_object.proofs.CallerLemmas.{allowed, none_beyond}
-use Rattle.ir_crew.proofs.CallerLemmas.{padded_at}
+use Rattle.ir_image.proofs.CallerLemmas.{padded_at}
 use Rattle.ir_crew.specs.Ends.{AreTracks, IsEnd}
 use Rattle.ir_crew.specs.Plays.{M}
 use Rattle.ir_crew.specs.Rule.{View, IsTrack, start_objects}

@@ -19,6 +19,7 @@ use Rattle.ir_flat.specs.Flat.{Flat, IsFlat, empty, start_flat}
 use Rattle.ir_weave.proofs.Onward.{starts_at}
 use Rattle.ir_runs.specs.Cuts.{Cut}
 use Rattle.ir_fit.specs.Fit.{FittedTrace, HasRun, IsFitted}
+use Rattle.ir_fit.proofs.CallerLemmas.{allowed as header_allowed}
 use Rattle.ir_weave.specs.Standing.{Standing, StandsAt, flat_in}
 use Rattle.ir_weave.specs.States.{IsStateAt, positions}
 use Rattle.ir_object.specs.Layout.{line_words, apart, table_length, word_place, content_place}
@@ -408,10 +409,8 @@ closes k v ws e xs n h all = subst (IsClosed k v) (sym (all_objects e.cells xs n
 -- a guest with a trace has no more threads and objects than the trace's profile allows
 pub allowed : (f : FittedTrace) (p : Profile) (g : Guest) → IsFitted f → p ≡ f.recorded.profile → g ≡ f.guest → IsAllowed p g
 allowed f p g fitted profile guest =
-    let header = fitted.run.whole.0 in let threads = header.threads in let objects = header.objects in
-    let few = fitted.within.few_threads in let less = fitted.within.few_objects in
-    let both : IsAllowed f.recorded.profile f.guest = (omega (arith, threads, few), omega (arith, objects, less)) in
-    subst (λ (z : Profile × Guest). IsAllowed z.0 z.1) (λ i. (sym profile i, sym guest i)) both
+    subst (λ (z : Profile × Guest). IsAllowed z.0 z.1) (λ i. (sym profile i, sym guest i))
+    (header_allowed f.guest f.recorded fitted.within fitted.run.whole.0)
 
 -- the state before the first step
 pub stands_first : (f : FittedTrace) (first : Flat) (s : Standing) → first ≡ start_flat f.guest f.recorded.budget f.recorded.profile → IsFlat first

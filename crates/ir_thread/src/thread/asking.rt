@@ -78,13 +78,12 @@ impl Thread {
     fn word(&self) -> Option<(u8, u8)>
         ensures { result ≡ (if has_word self.now then Some (a0 self.now, a1 self.now) else None) }
     {
+        let object = self.object()?;
         let index = self.mach.reg(A1);
-        match self.object() {
-            Some(object) if (index as usize) < self.form.limits().words => Some((
-                object,
-                index as u8,
-            )),
-            _ => None,
+        if (index as usize) < self.form.limits().words {
+            Some((object, index as u8))
+        } else {
+            None
         }
     }
 

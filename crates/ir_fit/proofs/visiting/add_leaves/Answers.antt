@@ -3,4 +3,4 @@ use Rattle.ir_fit.proofs.visiting.add_leaves.Goals as goal
 
 pub loop-leave-preserved : goal.loop-leave-preserved
 loop-leave-preserved c = adds_leave c.args.visits.now c.loop-leave.visits c.add.new.self c.args.thread c.args.leaves.now
-    c.loop-leave.leave-index _ c.loop-leave-test.true c.in_ok-add.ensures.lists c.loop-leave.invariant c.in_ok-add.ensures.added
+    c.loop-leave.leave-index _ c.loop-leave-test.true c.loop-leave.invariant c.in_ok-add.ensures

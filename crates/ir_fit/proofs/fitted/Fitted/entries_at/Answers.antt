@@ -9,7 +9,7 @@ returns-clause-only c =
     let inside = c.self.inside in
     let f : FittedTrace = record { guest = inside.image; recorded = inside.trace; placed = inside.places.items } in
     subst (λ g. OnlyEntries g c.args.object c.args.access c.args.version c.at.result.now) c.self.view_is
-    (only_entries f inside.entered c.self.invariant.1 c.args.object c.ranges.object.fits c.args.access c.args.version c.at.result.now
+    (only_entries f inside.entered c.self.invariant.1 c.args.object c.args.access c.args.version c.at.result.now
     c.at.ensures.emitted)
 
 pub returns-clause-all : goal.returns-clause-all
@@ -17,5 +17,5 @@ returns-clause-all c =
     let inside = c.self.inside in
     let f : FittedTrace = record { guest = inside.image; recorded = inside.trace; placed = inside.places.items } in
     subst (λ g. AllEntries g c.args.object c.args.access c.args.version c.at.result.now) c.self.view_is
-    (all_entries f inside.entered c.self.invariant.1 c.args.object c.ranges.object.fits c.args.access c.args.version c.at.result.now
+    (all_entries f inside.entered c.self.invariant.1 c.args.object c.args.access c.args.version c.at.result.now
     c.at.ensures.all)
