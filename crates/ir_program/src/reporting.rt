@@ -24,7 +24,8 @@ fn words_of(cause: Cause) -> &'static str
         Cause::LabelTwice => "a label defined twice",
         Cause::LabelMissing => "an undefined label",
         Cause::TooFar => "a label that is too far away",
-        Cause::WrongSection => "a statement or label of the wrong section, or `.large` after a statement",
+        Cause::WrongSection =>
+            "a statement or label of the wrong section, or `.large` after a statement",
         Cause::BadSize => "too much code or data, or no code",
         Cause::BadCount => "too many threads, or no such object",
         Cause::BadLabel => "a malformed label",

@@ -78,8 +78,7 @@ fn a_writer_fails(rt: HostRuntime) {
 
 const WORDS_2: &str = "an unknown instruction or directive";
 
-const WORDS_9: &str =
-    "a statement or label of the wrong section, or `.large` after a statement";
+const WORDS_9: &str = "a statement or label of the wrong section, or `.large` after a statement";
 
 const WORDS_10: &str = "too much code or data, or no code";
 
@@ -123,20 +122,8 @@ const EXPLAINED: [(&str, u32, u32, &str, &str); 15] = [
         "an undefined label",
         ": beq a0, a1, far # there",
     ),
-    (
-        "nop\n.space 1",
-        2,
-        9,
-        WORDS_9,
-        ": .space 1",
-    ),
-    (
-        "nop\n.large",
-        2,
-        9,
-        WORDS_9,
-        ": .large",
-    ),
+    ("nop\n.space 1", 2, 9, WORDS_9, ": .space 1"),
+    ("nop\n.large", 2, 9, WORDS_9, ": .large"),
     ("", 2, 10, WORDS_10, ""),
     ("# no code\n\n", 4, 10, WORDS_10, ""),
     (

@@ -46,13 +46,14 @@ abbrev pub of_order : OrderErr → RecordFault
 of_order order_err.Bad = Order
 of_order order_err.NoMem = NoMem
 
--- why nothing is recorded: the image's first fault, more threads or objects than the profile allows, a list that spells no order, or
--- without a list a clock that can't be read; that memory ran out says nothing of them
+-- why nothing is recorded: the image's first fault; more threads or objects than the profile allows; of a guest that it allows, a list
+-- that spells no order, or without a list a clock that can't be read; that memory ran out says nothing of them
 abbrev pub Refuses : RecordFault → Profile → List ℕ → Option (List ℕ) → Type 0
 Refuses (Image e) profile image list = guest_at image ≡ Err e
 Refuses TooLarge profile image list = (guest : Guest) × (guest_at image ≡ Ok guest) × (IsAllowed profile guest → ⊥)
-Refuses Order profile image list = (guest : Guest) × (guest_at image ≡ Ok guest) × (option_and_then (order_of (length guest.entries)) list ≡ None)
-Refuses Clock profile image list = list ≡ None
+Refuses Order profile image list = (guest : Guest) × (guest_at image ≡ Ok guest) × IsAllowed profile guest
+    × (option_and_then (order_of (length guest.entries)) list ≡ None)
+Refuses Clock profile image list = (guest : Guest) × (guest_at image ≡ Ok guest) × IsAllowed profile guest × (list ≡ None)
 Refuses NoMem profile image list = ⊤
 Refuses Trace profile image list = ⊥
 Refuses Output profile image list = ⊥
