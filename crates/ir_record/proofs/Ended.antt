@@ -157,14 +157,12 @@ module _ {guest : Guest} {budget : ℕ} {profile : Profile} {order : List ℕ} {
         run = o.took.run;
         by_order = record { count = o.count; turns = o.took.turns; done = done_there };
         of = record {
-          emitted = emitted_there guest budget profile o.took.run before (thread_of b.flat) (log_at b.logs) (answers_at b.answers) at_end
-              done_there trace (objects ∙ objects_there) limit same (traces.count ∙ logs) (λ t l. traces.each t (omega (arith, l, logs)));
-          printed = printed_there guest budget profile o.took.run before (thread_of b.flat) (log_at b.logs) (answers_at b.answers) at_end outputs
+          emitted = emitted_there at_end done_there trace (objects ∙ objects_there) limit same (traces.count ∙ logs) (λ t l. traces.each t (omega (arith, l, logs)));
+          printed = printed_there at_end outputs
               (ap (λ z. length z) printed ∙ length-map b.flat.threads (λ x. x.output) ∙ n)
               (λ t l. ap (λ z. slice_get z t) printed ∙ slice_get-map (λ x. x.output) b.flat.threads t
               ∙ ap (option_map (λ x. x.output)) (slice_get-get_or b.flat.threads t idle (omega (arith, l, n))));
-          answered = answered_there guest budget profile o.took.run before (thread_of b.flat) (log_at b.logs) (answers_at b.answers) at_end answers
-              size
+          answered = answered_there at_end answers size
               (λ t l. slice_get-get_or answers t [] (omega (arith, l, size)) ∙ ap (λ z. Some (answers_at z t)) given);
         };
       }
