@@ -9,7 +9,7 @@ use Rattle.ir_thread.specs.Calls.{ask_of, after_ask, after_reply, run_of, step_o
 use Rattle.ir_thread.specs.Held.{held_at}
 use Rattle.ir_thread.specs.Instance.{shared_ask, reply_of, thread_machine}
 use Rattle.ir_runs.specs.Machine as machine
-use Rattle.ir_runs.specs.Machine.{Act, act_of, Silent, Result, Entry, Refusal, Exit, Load, Store, Never, Machine, IsLawful, held_after}
+use Rattle.ir_runs.specs.Machine.{Act, act_of, Machine, held_after}
 use Rattle.ir_runs.specs.Labels.{Label, Quiet, Answer, In, Out, logged}
 use Rattle.ir_thread.specs.Private.{PrivateSteps}
 use Rattle.ir_thread.specs.State as thread
@@ -85,24 +85,24 @@ entry_added ask.Done v = omega arith
 
 -- ---- one step of the thread
 
--- the object steps and the events of what is asked, with this result
-pub record AreOf (g : Guest) (profile : Profile) (q : Ask) (v : ℕ) (es : List ObjectStep) (evs : List Event) : Type 0 where
-  pub may : MayReply (thread_machine g.code) (act_of (shared_ask q) v) v
-  pub shares : map shared_of es ≡ keep_if (is_shared (act_of (shared_ask q) v)) (act_of (shared_ask q) v, v) []
-  pub logs : map logging.label_of evs ≡ logged (alone_label (act_of (shared_ask q) v) (map label_of es)) []
-  pub events : length evs ≡ added q
-  pub fit : AllByRecursion (IsEvent profile (object_count g)) evs
+-- the object steps, and the labels and the number of the events, are those of what is asked, with this result
+abbrev pub AreOf : Ask → ℕ → List ObjectStep → List Event → Type 0
+AreOf q v es evs = ◌≡◌ {A = List Shared × List Label × ℕ} (map shared_of es, map logging.label_of evs, length evs)
+    (keep_if (is_shared (act_of (shared_ask q) v)) (act_of (shared_ask q) v, v) [],
+    logged (alone_label (act_of (shared_ask q) v) (map label_of es)) [], added q)
 
 -- it was taken
 record IsStep (g : Guest) (w w' : Work) (q : Ask) (v : ℕ) (es : List ObjectStep) (evs : List Event) : Type 0 where
   asked : ask_of g.code w.thread ≡ q
-  of : AreOf g w.thread.profile q v es evs
+  may : MayReply (thread_machine g.code) (act_of (shared_ask q) v) v
+  of : AreOf q v es evs
+  fit : AllByRecursion (IsEvent w.thread.profile (object_count g)) evs
   took : w'.thread ≡ after_reply g.code w.thread (reply_of q v)
   log : w'.log ≡ record w.log { events = w.log.events ++ evs }
   answers : w'.answers ≡ w.answers ++ answers_in (map logging.label_of evs)
 
-works_on : (g : Guest) (budget : ℕ) (profile : Profile) (t : ℕ) (before : List Answered) (w w' : Work) (q : Ask) (v : ℕ) (es : List ObjectStep) (evs : List Event)
-    → (i : IsWorking g budget profile t before w) → IsStep g w w' q v es evs
+works_on : (g : Guest) (budget : ℕ) (profile : Profile) (t : ℕ) (before : List Answered) (w w' : Work) (q : Ask) (v : ℕ)
+    (es : List ObjectStep) (evs : List Event) → (i : IsWorking g budget profile t before w) → IsStep g w w' q v es evs
     → w'.me ≡ (track t (i.track ++ es) ∷ [], []) → IsWorking g budget profile t before w'
 unfolding after_reply
 works_on g budget profile t before w w' q v es evs i s view =
@@ -115,9 +115,9 @@ works_on g budget profile t before w w' q v es evs i s view =
     let even : length (map label_of i.track) ≡ length (map shared_of i.track) = length-map i.track label_of
     ∙ sym (length-map i.track shared_of) in
     let steps : map shared_of (i.track ++ es) ≡ map shared_of i.track ++ keep_if (is_shared a) (a, v) [] = map_join shared_of i.track es
-    ∙ ap (λ z. map shared_of i.track ++ z) s.of.shares in
+    ∙ ap (λ (z : List Shared × List Label × ℕ). map shared_of i.track ++ z.0) s.of in
     let more = worked_more m (thread.start_state g t budget profile) w.thread (map shared_of i.track) (map label_of i.track)
-    (map logging.label_of w.log.events) v (map label_of es) i.worked even (subst (λ z. MayReply m z v) (sym is) s.of.may) in
+    (map logging.label_of w.log.events) v (map label_of es) i.worked even (subst (λ z. MayReply m z v) (sym is) s.may) in
     let events : w'.log.events ≡ w.log.events ++ evs = ap (λ z. z.events) s.log in
     let labels : map logging.label_of w'.log.events ≡ map logging.label_of w.log.events ++ map logging.label_of evs =
     ap (map logging.label_of) events ∙ map_join logging.label_of w.log.events evs in
@@ -131,9 +131,9 @@ works_on g budget profile t before w w' q v es evs i s view =
         now = more.now ∙ next;
         steps_are = more.steps_are ∙ ap (λ z. map shared_of i.track ++ keep_if (is_shared z) (z, v) []) is ∙ sym steps;
         logged = ap (λ z. Rattle.ir_runs.specs.Run.events
-            (Rattle.ir_flat.specs.Splice.alone_trail m (thread.start_state g t budget profile) more.replies z)) (map_join label_of i.track es)
-            ∙ more.logged ∙ ap (λ z. map logging.label_of w.log.events ++ logged (alone_label z (map label_of es)) []) is
-            ∙ ap (λ z. map logging.label_of w.log.events ++ z) (sym s.of.logs) ∙ sym labels;
+            (Rattle.ir_flat.specs.Splice.alone_trail m (thread.start_state g t budget profile) more.replies z))
+            (map_join label_of i.track es) ∙ more.logged ∙ ap (λ z. map logging.label_of w.log.events ++ logged (alone_label z (map label_of es)) []) is
+            ∙ ap (λ (z : List Shared × List Label × ℕ). map logging.label_of w.log.events ++ z.1) (sym s.of) ∙ sym labels;
       };
       held = λ o. ap (inside_after o None) steps
           ∙ inside_keep a v o (held_at w.thread.held) (map shared_of i.track) (is_shared a) refl (i.held o)
@@ -150,12 +150,12 @@ works_on g budget profile t before w w' q v es evs i s view =
       count =
           let long : length w'.log.events ≡ length w.log.events + length evs = ap (λ z. length z) events ∙ length-append w.log.events evs in
           let was = i.count in
-          let new = s.of.events in
+          let new : length evs ≡ added q = ap (λ (z : List Shared × List Label × ℕ). z.2) s.of in
           omega (arith, long, was, new, sum);
       profile_is = ap (λ z. z.profile) after ∙ asks_profile g.code w.thread q (reply_of q v) ∙ i.profile_is;
       events_fit = subst (AllByRecursion (IsEvent profile (object_count g))) (sym events)
           (all_join (IsEvent profile (object_count g)) w.log.events evs i.events_fit
-          (subst (λ p. AllByRecursion (IsEvent p (object_count g)) evs) i.profile_is s.of.fit));
+          (subst (λ p. AllByRecursion (IsEvent p (object_count g)) evs) i.profile_is s.fit));
       answered = s.answers ∙ ap (λ z. z ++ answers_in (map logging.label_of evs)) i.answered
           ∙ append_assoc before (answers_in (map logging.label_of w.log.events)) (answers_in (map logging.label_of evs))
           ∙ ap (λ z. before ++ z) (sym (answers_join (map logging.label_of w.log.events) (map logging.label_of evs))
@@ -164,6 +164,7 @@ works_on g budget profile t before w w' q v es evs i s view =
 
 -- ---- the kinds of steps
 
+-- none or one
 abbrev pub listed : {A : Type 0} → Option A → List A
 listed None = []
 listed (Some x) = x ∷ []
@@ -199,15 +200,18 @@ told_on (Some (event.Read o version)) answers = sym (append-nil answers)
 told_on (Some (event.Write o version left)) answers = sym (append-nil answers)
 told_on (Some (event.Try o)) answers = sym (append-nil answers)
 
--- a step of a thread with this code: what it asks, its result, its object step and its event
+-- a step of a thread with this code: what it asks, its result, its object step and its event, which fits
 pub step_on : {g : Guest} {w w' : Work} {code : List ℕ} → code ≡ g.code → (q : Ask) (v : ℕ) (step : Option ObjectStep) (e : Option Event)
-    → AreOf g w.thread.profile q v (listed step) (listed e) → ask_of code w.thread ≡ q → w'.me ≡ seen step w.me
+    → MayReply (thread_machine g.code) (act_of (shared_ask q) v) v → AreOf q v (listed step) (listed e)
+    → AllByRecursion (IsEvent w.thread.profile (object_count g)) (listed e) → ask_of code w.thread ≡ q → w'.me ≡ seen step w.me
     → w'.thread ≡ after_reply code w.thread (reply_of q v) → w'.log ≡ noted e w.log → w'.answers ≡ told e w.answers → StillWorks g w w'
-step_on {g} {w} {w'} same q v step e of asked me took log answers budget profile t before i =
+step_on {g} {w} {w'} same q v step e may of fit asked me took log answers budget profile t before i =
     works_on g budget profile t before w w' q v (listed step) (listed e) i
     (record {
       asked = subst (λ z. ask_of z w.thread ≡ q) same asked;
+      may = may;
       of = of;
+      fit = fit;
       took = subst (λ z. w'.thread ≡ after_reply z w.thread (reply_of q v)) same took;
       log = log ∙ noted_on e w.log;
       answers = answers ∙ told_on e w.answers;
@@ -215,45 +219,46 @@ step_on {g} {w} {w'} same q v step e of asked me took log answers budget profile
     (me ∙ seen_on t step i.track w.me i.view)
 
 -- a step that is nobody else's
-record IsOwnStep (g : Guest) (profile : Profile) (q : Ask) : Type 0 where
-  of : AreOf g profile q 0 [] []
+record IsOwnStep (code : List ℕ) (q : Ask) : Type 0 where
+  may : MayReply (thread_machine code) (act_of (shared_ask q) 0) 0
+  of : AreOf q 0 [] []
   reply : Go ≡ reply_of q 0
 
-own_is_step : (g : Guest) (profile : Profile) (q : Ask) → IsOwn q → IsOwnStep g profile q
-own_is_step g profile ask.Private own =
-    record { of = record { may = refl; shares = refl; logs = refl; events = refl; fit = tt }; reply = refl }
-own_is_step g profile (ask.Env kind) own = absurd own
-own_is_step g profile (ask.Enter object access) own = absurd own
-own_is_step g profile (ask.Try object) own = absurd own
-own_is_step g profile (ask.Leave object access) own = absurd own
-own_is_step g profile (ask.Get object index) own = absurd own
-own_is_step g profile (ask.Put object index value) own = absurd own
-own_is_step g profile ask.Print own =
-    record { of = record { may = refl; shares = refl; logs = refl; events = refl; fit = tt }; reply = refl }
-own_is_step g profile (ask.End e) own =
-    record { of = record { may = refl; shares = refl; logs = refl; events = refl; fit = tt }; reply = refl }
-own_is_step g profile ask.Done own = absurd own
+own_is_step : (code : List ℕ) (q : Ask) → IsOwn q → IsOwnStep code q
+own_is_step code ask.Private own = record { may = refl; of = refl; reply = refl }
+own_is_step code (ask.Env kind) own = absurd own
+own_is_step code (ask.Enter object access) own = absurd own
+own_is_step code (ask.Try object) own = absurd own
+own_is_step code (ask.Leave object access) own = absurd own
+own_is_step code (ask.Get object index) own = absurd own
+own_is_step code (ask.Put object index value) own = absurd own
+own_is_step code ask.Print own = record { may = refl; of = refl; reply = refl }
+own_is_step code (ask.End e) own = record { may = refl; of = refl; reply = refl }
+own_is_step code ask.Done own = absurd own
 
 pub own_step : {g : Guest} {w w' : Work} {code : List ℕ} → code ≡ g.code → (q : Ask) → IsOwn q → ask_of code w.thread ≡ q → w'.me ≡ w.me
     → w'.thread ≡ after_reply code w.thread Go → w'.log ≡ w.log → w'.answers ≡ w.answers → StillWorks g w w'
 own_step {g} {w} {w'} {code} same q own asked me took =
-    let k : IsOwnStep g w.thread.profile q = own_is_step g w.thread.profile q own in
-    step_on same q 0 None None k.of asked me (took ∙ ap (after_reply code w.thread) k.reply)
+    let k : IsOwnStep g.code q = own_is_step g.code q own in
+    step_on same q 0 None None k.may k.of tt asked me (took ∙ ap (after_reply code w.thread) k.reply)
 
 -- so many private steps
 pub run_steps : {g : Guest} {w w' : Work} {code : List ℕ} → code ≡ g.code → (count : ℕ) → PrivateSteps code count w.thread w'.thread
     → w'.me ≡ w.me → w'.log ≡ w.log → w'.answers ≡ w.answers → StillWorks g w w'
 unfolding run_of step_of
 run_steps {g} {w} {w'} same zero p me log answers budget profile t before i =
-    subst (IsWorking g budget profile t before) (λ j. record { me = sym me j; thread = sym p.steps j; log = sym log j; answers = sym answers j }) i
+    subst (IsWorking g budget profile t before)
+    (λ j. record { me = sym me j; thread = sym p.steps j; log = sym log j; answers = sym answers j }) i
 run_steps {g} {w} {w'} {code} same (suc count) p me log answers budget profile t before i =
     let mid : Work = record w { thread = run_of code count w.thread } in
     own_step {w = mid} same ask.Private tt (p.each count (omega arith)) me p.steps log answers budget profile t before
-    (run_steps {w' = mid} same count (record { steps = refl; each = λ k l. p.each k (omega (arith, l)) }) refl refl refl budget profile t before i)
+    (run_steps {w' = mid} same count (record { steps = refl; each = λ k l. p.each k (omega (arith, l)) }) refl refl refl
+    budget profile t before i)
 
 -- ---- what is known of a worker where its thread asks for a step
 
-module _ {W : Type 0} {answers : W → List Answered} {g : Guest} {id : TableId} {code : List ℕ} {w : Worker W} (s : IsSeated answers g id code w) where
+module _ {W : Type 0} {answers : W → List Answered} {g : Guest} {id : TableId} {code : List ℕ} {w : Worker W}
+    (s : IsSeated answers g id code w) where
   permits : {q : Ask} → ask_of code w.thread ≡ q → Permits w.thread q
   permits asked = subst (Permits w.thread) asked (ask_permits code w.thread)
 

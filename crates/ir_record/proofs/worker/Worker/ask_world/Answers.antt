@@ -12,10 +12,7 @@ pub returns-in-Ok-clause-stays : goal.returns-in-Ok-clause-stays
 returns-in-Ok-clause-stays g c = record {
   seat = refl;
   still = step_on c.requires.worker.same_code (ask.Env c.args.kind) c.in-Ok.value None (Some (event.Answer c.args.kind c.in-Ok.value))
-      (record {
-        may = c.in-Ok.ensures.fits; shares = refl; logs = refl; events = refl;
-        fit = (result_fits c.args.kind c.in-Ok.value c.in-Ok.ensures.fits, tt);
-      })
+      c.in-Ok.ensures.fits refl (result_fits c.args.kind c.in-Ok.value c.in-Ok.ensures.fits, tt)
       c.requires.asked refl c.take_asked.ensures c.push.ensures c.in-Ok.ensures.answered;
 }
 

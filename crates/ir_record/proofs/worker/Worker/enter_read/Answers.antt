@@ -26,6 +26,6 @@ returns-clause-stays g c =
       seat = c.enter_read-version.ensures.seat.0;
       still = step_on c.requires.worker.same_code (ask.Enter c.args.object Reading) 0 (Some (act c.args.object (Enter Reading version 0)))
           (Some (event.Read c.args.object version))
-          (record { may = refl; shares = refl; logs = refl; events = refl; fit = ((below_enter c.requires.worker c.requires.asked, search rules), tt) })
+          refl refl ((below_enter c.requires.worker c.requires.asked, search rules), tt)
           c.requires.asked c.enter_read-version.ensures.entered c.take_asked.ensures c.push.ensures refl;
     }

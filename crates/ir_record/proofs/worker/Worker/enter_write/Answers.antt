@@ -24,6 +24,6 @@ returns-clause-stays g c =
       seat = c.enter_write-version.ensures.seat.0;
       still = step_on c.requires.worker.same_code (ask.Enter c.args.object Writing) 0
           (Some (act c.args.object (Enter Writing version readers))) (Some (event.Write c.args.object version readers))
-          (record { may = refl; shares = refl; logs = refl; events = refl; fit = ((below_enter c.requires.worker c.requires.asked, search rules, search rules), tt) })
+          refl refl ((below_enter c.requires.worker c.requires.asked, search rules, search rules), tt)
           c.requires.asked c.enter_write-version.ensures.entered c.take_asked.ensures c.push.ensures refl;
     }

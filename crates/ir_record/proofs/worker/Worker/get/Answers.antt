@@ -15,6 +15,6 @@ pub returns-clause-stays : goal.returns-clause-stays
 returns-clause-stays g c = record {
   seat = c.get-value.ensures.seat.0;
   still = step_on c.requires.worker.same_code (ask.Get c.args.object c.args.index) c.get-value.result
-      (Some (act c.args.object (Get c.args.index c.get-value.result))) None (record { may = tt; shares = refl; logs = refl; events = refl; fit = tt })
+      (Some (act c.args.object (Get c.args.index c.get-value.result))) None tt refl tt
       c.requires.asked c.get-value.ensures.got c.take_asked.ensures refl refl;
 }

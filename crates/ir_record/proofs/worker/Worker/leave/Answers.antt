@@ -15,6 +15,6 @@ pub returns-clause-stays : goal.returns-clause-stays
 returns-clause-stays g c = record {
   seat = c.leave.ensures.seat.0;
   still = step_on c.requires.worker.same_code (ask.Leave c.args.object c.args.access) 0
-      (Some (act c.args.object (Leave c.args.access c.leave.ensures.left.0))) None (record { may = refl; shares = refl; logs = refl; events = refl; fit = tt })
+      (Some (act c.args.object (Leave c.args.access c.leave.ensures.left.0))) None refl refl tt
       c.requires.asked c.leave.ensures.left.1 c.take_asked.ensures refl refl;
 }

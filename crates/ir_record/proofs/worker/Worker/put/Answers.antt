@@ -15,6 +15,6 @@ pub returns-clause-stays : goal.returns-clause-stays
 returns-clause-stays g c = record {
   seat = c.put.ensures.seat.0;
   still = step_on c.requires.worker.same_code (ask.Put c.args.object c.args.index c.args.value) 0
-      (Some (act c.args.object (Put c.args.index c.args.value))) None (record { may = refl; shares = refl; logs = refl; events = refl; fit = tt })
+      (Some (act c.args.object (Put c.args.index c.args.value))) None refl refl tt
       c.requires.asked c.put.ensures.put c.take_asked.ensures refl refl;
 }

@@ -23,10 +23,7 @@ pub returns-in_default-clause-stays : goal.returns-in_default-clause-stays
 returns-in_default-clause-stays g c = record {
   seat = c.try_write.ensures.seat.0;
   still = step_on c.requires.worker.same_code (ask.Try c.args.object) 0 None (Some (event.Try c.args.object))
-      (record {
-        may = refl; shares = refl; logs = refl; events = refl;
-        fit = ((try_in_two c.requires.worker c.requires.asked, below_try c.requires.worker c.requires.asked), tt);
-      })
+      refl refl ((try_in_two c.requires.worker c.requires.asked, below_try c.requires.worker c.requires.asked), tt)
       c.requires.asked c.in_default.ensures.tried c.take_asked.ensures c.push.ensures refl;
 }
 
@@ -39,6 +36,6 @@ returns-clause-stays g c =
       seat = c.try_write.ensures.seat.0;
       still = step_on c.requires.worker.same_code (ask.Try c.args.object) 1 (Some (act c.args.object (Try version readers)))
           (Some (event.Write c.args.object version readers))
-          (record { may = refl; shares = refl; logs = refl; events = refl; fit = ((below_try c.requires.worker c.requires.asked, search rules, search rules), tt) })
+          refl refl ((below_try c.requires.worker c.requires.asked, search rules, search rules), tt)
           c.requires.asked c.in-Some.ensures.tried c.take_asked-2.ensures c.push-2.ensures refl;
     }
