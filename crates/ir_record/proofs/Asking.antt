@@ -48,12 +48,12 @@ extends_both a b c p q = record {
 }
 
 -- worlds that are not asked are those that they were
-pub same_worlds : {W O : Type 0} (answers : W → List Answered) (origin : W → O) (a : List W) → AreSameWorlds answers origin a a
-same_worlds answers origin a = record { answered = extends_same (map answers a); origins = refl }
+pub same_worlds : {W O : Type 0} {answers : W → List Answered} {origin : W → O} {a : List W} → AreSameWorlds answers origin a a
+same_worlds {answers = answers} {a = a} = record { answered = extends_same (map answers a); origins = refl }
 
-pub worlds_on : {W O : Type 0} (answers : W → List Answered) (origin : W → O) (a b c : List W) → AreSameWorlds answers origin a b
+pub worlds_on : {W O : Type 0} {answers : W → List Answered} {origin : W → O} {a b c : List W} → AreSameWorlds answers origin a b
     → AreSameWorlds answers origin b c → AreSameWorlds answers origin a c
-worlds_on answers origin a b c p q = record {
+worlds_on {answers = answers} {a = a} {b = b} {c = c} p q = record {
   answered = extends_both (map answers a) (map answers b) (map answers c) p.answered q.answered;
   origins = q.origins ∙ p.origins;
 }

@@ -132,83 +132,83 @@ record Part (g : Guest) (budget : ℕ) (profile : Profile) (ws : List Work) (es 
   logged : t < length g.entries → events (alone_trail (thread_machine g.code) (thread_of (start_flat g budget profile) t) replies
       (of_thread t (order_labels (start_objects g) es))) ≡ map logging.label_of (work_at ws t).log.events
 
-part : (g : Guest) (budget : ℕ) (profile : Profile) (before : List (List Answered)) (ws : List Work) (v : View) (objects : List Cell)
-    → AllOver g budget profile before ws → (e : IsEnd g v objects) → v ≡ tracks_of ws → (t : ℕ) → Part g budget profile ws e.steps t
-part g budget profile before ws v objects over e view t = elim (cases_lt t (length g.entries)) [
-  | inl l ↦
-      let i = over.working t l in
-      let x0 : thread_of (start_flat g budget profile) t ≡ thread.start_state g t budget profile = thread_at g budget profile 0 (length g.entries) t l
-      ∙ ap (λ z. thread.start_state g z budget profile) (let z : 0 + t ≡ t = omega arith in z) in
-      let track : IsTrack (length g.entries) (start_objects g) e.steps (record { thread = t; steps = i.track }) =
-      (subst (AreTracks g e.steps) (ap (λ (z : M). z.0) i.view)
-      (tracks_at g e.steps ws t (let n = over.size in omega (arith, n, l)) (subst (AreTracks g e.steps) view e.tracks))).0 in
-      let m = thread_machine g.code in
-      let w = i.worked in
-      record {
-        replies = w.replies;
-        may = subst (λ x. MayRun m x w.replies) (sym x0) w.may;
-        steps_are = ap (λ x. shared_steps m x w.replies) x0 ∙ w.steps_are ∙ sym track.steps_are;
-        none = λ past. absurd (omega (arith, past, l));
-        done = ap (λ x. shared_ask (ask_of g.code (alone_after m x w.replies))) x0 ∙ ap (λ x. shared_ask (ask_of g.code x)) w.now
-            ∙ ap shared_ask (over.done t l);
-        threads_are = λ _. ap (λ x. alone_after m x w.replies) x0 ∙ w.now;
-        logged = λ _. ap (λ x. events (alone_trail m x w.replies (of_thread t (order_labels (start_objects g) e.steps)))) x0
-            ∙ ap (λ z. events (alone_trail m (thread.start_state g t budget profile) w.replies z)) track.labels_are ∙ w.logged;
-      }
-  | inr past ↦ record {
-    replies = [];
-    may = tt;
-    steps_are = sym (none_beyond (thread_machine g.code) (length g.entries) (object_count g) (start_objects g) e.steps e.legal t past);
-    none = λ _. refl;
-    done = start_idle g budget profile t past;
-    threads_are = λ l. absurd (omega (arith, past, l));
-    logged = λ l. absurd (omega (arith, past, l));
-  }
-]
-
--- ---- the run
-
-pub recorded_of : (g : Guest) (budget : ℕ) (profile : Profile) (before : List (List Answered)) (ws : List Work) (v : View) (objects : List Cell)
-    → AllOver g budget profile before ws → (e : IsEnd g v objects) → v ≡ tracks_of ws
-    → (trace : Recorded) → trace.objects ≡ object_count g → trace.budget ≡ budget → trace.profile ≡ profile → length trace.threads ≡ length g.entries
-    → ((t : ℕ) → t < length g.entries → IsThreadTrace (work_at ws t).thread (work_at ws t).log (get_or trace.threads t absent))
-    → (outputs : List (List ℕ)) → outputs ≡ map (λ w. w.thread.output) ws → (answers : List (List Answered))
-    → answers ≡ map (λ w. w.answers) ws → IsRecordingOfSome g budget profile before trace outputs answers
-recorded_of g budget profile before ws v objects over e view trace counted limit same_profile all traces outputs printed answers given =
-    let m : Machine thread.State = thread_machine g.code in
-    let f : Flat = start_flat g budget profile in
-    let s : State thread.State = tables f in
-    let p : (t : ℕ) → Part g budget profile ws e.steps t = part g budget profile before ws v objects over e view in
-    let rs : ℕ → List ℕ = λ t. (p t).replies in
-    let same : s.objects ≡ start_objects g = objects_same g budget profile over.guest in
-    let run : List Step = splice m s.now rs (length g.entries) e.steps in
-    let k = spliced m s.now s.objects rs (length g.entries) e.steps (λ t l. (p t).none l) (λ t. (p t).may) (λ t. (p t).steps_are)
-    (subst (λ z. IsAllowed m z e.steps) (sym same) (allowed m (length g.entries) (object_count g) (start_objects g) e.steps e.legal)) in
-    let now : ℕ → thread.State = λ t. (work_at ws t).thread in
-    let logs : ℕ → Logged = λ t. (work_at ws t).log in
-    let emitted : ℕ → List Answered = λ t. (work_at ws t).answers in
-    let own_log : (t : ℕ) → t < length g.entries → map logging.label_of (logs t).events ≡ log m s run t = λ t l.
-    sym (ap events (k.trails t) ∙ ap (λ z. events (alone_trail m (s.now t) (rs t) (of_thread t (order_labels z e.steps)))) same
-    ∙ (p t).logged l) in
-    let stand : StandAtEnd g budget profile run before now logs emitted = record {
-      runs = k.ok;
-      threads = λ t l. sym (k.threads t ∙ (p t).threads_are l);
-      logged = own_log;
-      answered = λ t l. (over.working t l).answered ∙ ap (λ z. answers_at before t ++ answers_in z) (own_log t l);
-    } in
-    let size = over.size in
-    record {
-      run = run;
-      of = record {
-        emitted = emitted_there g budget profile run before now logs emitted stand (λ t. ap (λ x. shared_ask (ask_of g.code x)) (k.threads t) ∙ (p t).done)
-            trace counted limit same_profile all traces;
-        printed = printed_there g budget profile run before now logs emitted stand outputs
-            (ap (λ z. length z) printed ∙ length-map ws (λ w. w.thread.output) ∙ size)
-            (λ t l. ap (λ z. slice_get z t) printed ∙ slice_get-map (λ w. w.thread.output) ws t
-            ∙ ap (option_map (λ w. w.thread.output)) (slice_get-get_or ws t no_work (omega (arith, l, size))));
-        answered = answered_there g budget profile run before now logs emitted stand answers
-            (ap (λ z. length z) given ∙ length-map ws (λ w. w.answers) ∙ size)
-            (λ t l. ap (λ z. slice_get z t) given ∙ slice_get-map (λ w. w.answers) ws t
-            ∙ ap (option_map (λ w. w.answers)) (slice_get-get_or ws t no_work (omega (arith, l, size))));
-      };
+module _ {g : Guest} {budget : ℕ} {profile : Profile} {before : List (List Answered)} {ws : List Work} {v : View} {objects : List Cell}
+    (over : AllOver g budget profile before ws) (e : IsEnd g v objects) (view : v ≡ tracks_of ws) where
+  part : (t : ℕ) → Part g budget profile ws e.steps t
+  part t = elim (cases_lt t (length g.entries)) [
+    | inl l ↦
+        let i = over.working t l in
+        let x0 : thread_of (start_flat g budget profile) t ≡ thread.start_state g t budget profile =
+        thread_at g budget profile 0 (length g.entries) t l
+        ∙ ap (λ z. thread.start_state g z budget profile) (let z : 0 + t ≡ t = omega arith in z) in
+        let track : IsTrack (length g.entries) (start_objects g) e.steps (record { thread = t; steps = i.track }) =
+        (subst (AreTracks g e.steps) (ap (λ (z : M). z.0) i.view)
+        (tracks_at g e.steps ws t (let n = over.size in omega (arith, n, l)) (subst (AreTracks g e.steps) view e.tracks))).0 in
+        let m = thread_machine g.code in
+        let w = i.worked in
+        record {
+          replies = w.replies;
+          may = subst (λ x. MayRun m x w.replies) (sym x0) w.may;
+          steps_are = ap (λ x. shared_steps m x w.replies) x0 ∙ w.steps_are ∙ sym track.steps_are;
+          none = λ past. absurd (omega (arith, past, l));
+          done = ap (λ x. shared_ask (ask_of g.code (alone_after m x w.replies))) x0 ∙ ap (λ x. shared_ask (ask_of g.code x)) w.now
+              ∙ ap shared_ask (over.done t l);
+          threads_are = λ _. ap (λ x. alone_after m x w.replies) x0 ∙ w.now;
+          logged = λ _. ap (λ x. events (alone_trail m x w.replies (of_thread t (order_labels (start_objects g) e.steps)))) x0
+              ∙ ap (λ z. events (alone_trail m (thread.start_state g t budget profile) w.replies z)) track.labels_are ∙ w.logged;
+        }
+    | inr past ↦ record {
+      replies = [];
+      may = tt;
+      steps_are = sym (none_beyond (thread_machine g.code) (length g.entries) (object_count g) (start_objects g) e.steps e.legal t past);
+      none = λ _. refl;
+      done = start_idle g budget profile t past;
+      threads_are = λ l. absurd (omega (arith, past, l));
+      logged = λ l. absurd (omega (arith, past, l));
     }
+  ]
+
+  -- one run of them all
+  pub recorded_of : (trace : Recorded) → trace.objects ≡ object_count g → trace.budget ≡ budget → trace.profile ≡ profile
+      → length trace.threads ≡ length g.entries
+      → ((t : ℕ) → t < length g.entries → IsThreadTrace (work_at ws t).thread (work_at ws t).log (get_or trace.threads t absent))
+      → (outputs : List (List ℕ)) → outputs ≡ map (λ w. w.thread.output) ws → (answers : List (List Answered))
+      → answers ≡ map (λ w. w.answers) ws → IsRecordingOfSome g budget profile before trace outputs answers
+  recorded_of trace counted limit same_profile all traces outputs printed answers given =
+      let m : Machine thread.State = thread_machine g.code in
+      let f : Flat = start_flat g budget profile in
+      let s : State thread.State = tables f in
+      let rs : ℕ → List ℕ = λ t. (part t).replies in
+      let same : s.objects ≡ start_objects g = objects_same g budget profile over.guest in
+      let run : List Step = splice m s.now rs (length g.entries) e.steps in
+      let k = spliced m s.now s.objects rs (length g.entries) e.steps (λ t l. (part t).none l) (λ t. (part t).may)
+      (λ t. (part t).steps_are) (subst (λ z. IsAllowed m z e.steps) (sym same)
+      (allowed m (length g.entries) (object_count g) (start_objects g) e.steps e.legal)) in
+      let now : ℕ → thread.State = λ t. (work_at ws t).thread in
+      let logs : ℕ → Logged = λ t. (work_at ws t).log in
+      let emitted : ℕ → List Answered = λ t. (work_at ws t).answers in
+      let own_log : (t : ℕ) → t < length g.entries → map logging.label_of (logs t).events ≡ log m s run t = λ t l.
+      sym (ap events (k.trails t) ∙ ap (λ z. events (alone_trail m (s.now t) (rs t) (of_thread t (order_labels z e.steps)))) same
+      ∙ (part t).logged l) in
+      let stand : StandAtEnd g budget profile run before now logs emitted = record {
+        runs = k.ok;
+        threads = λ t l. sym (k.threads t ∙ (part t).threads_are l);
+        logged = own_log;
+        answered = λ t l. (over.working t l).answered ∙ ap (λ z. answers_at before t ++ answers_in z) (own_log t l);
+      } in
+      let size = over.size in
+      record {
+        run = run;
+        of = record {
+          emitted = emitted_there stand (λ t. ap (λ x. shared_ask (ask_of g.code x)) (k.threads t) ∙ (part t).done)
+              trace counted limit same_profile all traces;
+          printed = printed_there stand outputs
+              (ap (λ z. length z) printed ∙ length-map ws (λ w. w.thread.output) ∙ size)
+              (λ t l. ap (λ z. slice_get z t) printed ∙ slice_get-map (λ w. w.thread.output) ws t
+              ∙ ap (option_map (λ w. w.thread.output)) (slice_get-get_or ws t no_work (omega (arith, l, size))));
+          answered = answered_there stand answers
+              (ap (λ z. length z) given ∙ length-map ws (λ w. w.answers) ∙ size)
+              (λ t l. ap (λ z. slice_get z t) given ∙ slice_get-map (λ w. w.answers) ws t
+              ∙ ap (option_map (λ w. w.answers)) (slice_get-get_or ws t no_work (omega (arith, l, size))));
+        };
+      }

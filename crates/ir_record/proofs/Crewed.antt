@@ -17,9 +17,10 @@ use Rattle.ir_trace.specs.Recorded.{RecordedThread}
 use Rattle.ir_trace.specs.TraceOf.{absent}
 use Rattle.ir_record.specs.Gathered.{IsThreadTrace}
 use Rattle.ir_record.specs.Progress.{answers_at}
-use Rattle.ir_record.specs.Threads.{IsNew, AreNew, IsOver, AreTraces, IsSeatOf, views_of, Pairs}
+use Rattle.ir_record.specs.Threads.{IsNew, AreNew, IsOver, AreTraces, HasRoom, IsSeatOf, views_of, Pairs}
 use Rattle.ir_record.specs.Working.{work_of, IsWorking, IsReadyWorker, RanToEnd}
-use Rattle.ir_record.specs.Worlds.{Answered, NoneFailed, IsFirstFailed, Extends}
+use Rattle.ir_record.specs.Worlds.{Answered, NoneFailed, Extends, AreSameWorlds}
+use Rattle.ir_record.specs.declared.room.Room.{Room}
 use Rattle.ir_record.specs.declared.worker.Worker.{Worker}
 use Rattle.ir_record.proofs.ByThreads.{AllOver, work_at, tracks_of}
 use Rattle.ir_record.proofs.Working.{worked_starts}
@@ -72,7 +73,7 @@ ready answers broken g budget profile t id (w ∷ ws) worlds new e works (suc k)
 
 -- ---- after the last
 
-pub ran_size : {A : Type 0} (P : A → A → Type 0) (xs ys : List A) → Pairs P xs ys → length ys ≡ length xs
+ran_size : {A : Type 0} (P : A → A → Type 0) (xs ys : List A) → Pairs P xs ys → length ys ≡ length xs
 ran_size P [] [] p = refl
 ran_size P [] (y ∷ ys) p = absurd p
 ran_size P (x ∷ xs) [] p = absurd p
@@ -86,7 +87,7 @@ module _ {W O : Type 0} (answers : W → List Answered) (broken : W → Bool) (o
   abbrev R : Worker W → Worker W → Type 0
   R = RanToEnd answers broken origin g
 
-  pub at_end : (t : ℕ) (vs ws : List (Worker W)) → AreNew g budget profile id t vs → Pairs R vs ws → NoneBroken broken ws → (k : ℕ) → k < length vs
+  at_end : (t : ℕ) (vs ws : List (Worker W)) → AreNew g budget profile id t vs → Pairs R vs ws → NoneBroken broken ws → (k : ℕ) → k < length vs
       → IsWorking g budget profile (t + k) (answers_at (map answers (map (λ w. w.world) vs)) k) (work_at (map (work_of answers) ws) k)
       × (ask_of g.code (work_at (map (work_of answers) ws) k).thread ≡ ask.Done)
   at_end t [] ws new p works k l = absurd (omega arith)
@@ -104,7 +105,7 @@ module _ {W O : Type 0} (answers : W → List Answered) (broken : W → Bool) (o
       )
 
   -- the seats, and what is gathered
-  pub seats_end : (t : ℕ) (vs ws : List (Worker W)) → AreNew g budget profile id t vs → Pairs R vs ws → NoneBroken broken ws
+  seats_end : (t : ℕ) (vs ws : List (Worker W)) → AreNew g budget profile id t vs → Pairs R vs ws → NoneBroken broken ws
       → AllByRecursion (IsSeatOf id) (map (λ w. w.seat) ws)
   seats_end t [] [] new p works = tt
   seats_end t [] (w ∷ ws) new p works = absurd p
@@ -116,7 +117,7 @@ module _ {W O : Type 0} (answers : W → List Answered) (broken : W → Bool) (o
             (λ u. works (suc u)),
       )
 
-  pub over_end : (objects t : ℕ) (vs ws : List (Worker W)) → objects ≡ object_count g → AreNew g budget profile id t vs → Pairs R vs ws
+  over_end : (objects t : ℕ) (vs ws : List (Worker W)) → objects ≡ object_count g → AreNew g budget profile id t vs → Pairs R vs ws
       → NoneBroken broken ws → AllByRecursion (IsOver profile objects) ws
   over_end objects t [] [] n new p works = tt
   over_end objects t [] (w ∷ ws) n new p works = absurd p
@@ -130,7 +131,7 @@ module _ {W O : Type 0} (answers : W → List Answered) (broken : W → Bool) (o
         over_end objects (suc t) vs ws n new.1 p.1 (λ u. works (suc u)),
       )
 
-  pub kept_end : (vs ws : List (Worker W)) → Pairs R vs ws
+  kept_end : (vs ws : List (Worker W)) → Pairs R vs ws
       → Extends (map answers (map (λ w. w.world) vs)) (map answers (map (λ w. w.world) ws))
   kept_end [] [] p = record { worlds = refl; more = λ t. ([], refl) }
   kept_end [] (w ∷ ws) p = absurd p
@@ -145,22 +146,60 @@ module _ {W O : Type 0} (answers : W → List Answered) (broken : W → Bool) (o
       by zero h r = h
       by (suc t) h r = r t
 
-  pub origins_end : (vs ws : List (Worker W)) → Pairs R vs ws → map origin (map (λ w. w.world) ws) ≡ map origin (map (λ w. w.world) vs)
+  origins_end : (vs ws : List (Worker W)) → Pairs R vs ws → map origin (map (λ w. w.world) ws) ≡ map origin (map (λ w. w.world) vs)
   origins_end [] [] p = refl
   origins_end [] (w ∷ ws) p = absurd p
   origins_end (v ∷ vs) [] p = absurd p
   origins_end (v ∷ vs) (w ∷ ws) p = λ i. p.0.world.same_origin i ∷ origins_end vs ws p.1 i
 
-  pub all_over : (vs ws : List (Worker W)) (worlds : List W) → IsGuest g → AreNew g budget profile id 0 vs → Pairs R vs ws → NoneBroken broken ws
-      → map (λ w. w.world) vs ≡ worlds → length worlds ≡ length g.entries → AllOver g budget profile (map answers worlds) (map (work_of answers) ws)
-  all_over vs ws worlds guest new p works e n =
-      let long : length vs ≡ length g.entries = sym (length-map vs (λ w. w.world)) ∙ ap (λ z. length z) e ∙ n in record {
+-- the workers of a guest with these worlds, before their first step and after their last
+pub record HaveRun {W O : Type 0} (answers : W → List Answered) (broken : W → Bool) (origin : W → O) (g : Guest) (budget : ℕ)
+    (profile : Profile) (id : TableId) (worlds : List W) (vs ws : List (Worker W)) : Type 0 where
+  pub new : AreNew g budget profile id 0 vs
+  pub pairs : Pairs (RanToEnd answers broken origin g) vs ws
+  pub same : map (λ w. w.world) vs ≡ worlds
+  pub each : length worlds ≡ length g.entries
+
+module _ {W O : Type 0} {answers : W → List Answered} {broken : W → Bool} {origin : W → O} {g : Guest} {budget : ℕ}
+    {profile : Profile} {id : TableId} {worlds : List W} {vs ws : List (Worker W)}
+    (ran : HaveRun answers broken origin g budget profile id worlds vs ws) where
+  same_count : length ws ≡ length vs
+  same_count = ran_size (RanToEnd answers broken origin g) vs ws ran.pairs
+
+  pub threads_there : length ws ≡ length g.entries
+  threads_there = same_count ∙ sym (length-map vs (λ w. w.world)) ∙ ap (λ z. length z) ran.same ∙ ran.each
+
+  pub room_there : {room : Room W} {n m : ℕ} → HasRoom n room → n ≡ length vs → m ≡ length ws → HasRoom m room
+  room_there {room} {n} {m} h was now = subst (λ z. HasRoom z room) (was ∙ sym same_count ∙ sym now) h
+
+  pub worlds_there : AreSameWorlds answers origin worlds (map (λ w. w.world) ws)
+  worlds_there = record {
+    answered = subst (λ z. Extends (map answers z) (map answers (map (λ w. w.world) ws))) ran.same
+        (kept_end answers broken origin g budget profile id vs ws ran.pairs);
+    origins = origins_end answers broken origin g budget profile id vs ws ran.pairs ∙ ap (map origin) ran.same;
+  }
+
+  pub seats_there : NoneBroken broken ws → AllByRecursion (IsSeatOf id) (map (λ w. w.seat) ws)
+  seats_there = seats_end answers broken origin g budget profile id 0 vs ws ran.new ran.pairs
+
+  pub ended_there : (objects : ℕ) → objects ≡ object_count g → NoneBroken broken ws → AllByRecursion (IsOver profile objects) ws
+  ended_there objects n = over_end answers broken origin g budget profile id objects 0 vs ws n ran.new ran.pairs
+
+  pub all_over : IsGuest g → NoneBroken broken ws → AllOver g budget profile (map answers worlds) (map (work_of answers) ws)
+  all_over guest works =
+      let end : (t : ℕ) → t < length g.entries
+      → IsWorking g budget profile (0 + t) (answers_at (map answers (map (λ w. w.world) vs)) t) (work_at (map (work_of answers) ws) t)
+      × (ask_of g.code (work_at (map (work_of answers) ws) t).thread ≡ ask.Done) =
+      λ t l. at_end answers broken origin g budget profile id 0 vs ws ran.new ran.pairs works t
+      (let n = threads_there in let m = same_count in omega (arith, l, n, m)) in
+      record {
         guest = guest;
-        size = length-map ws (work_of answers) ∙ ran_size R vs ws p ∙ long;
-        working = λ t l. subst (λ z. IsWorking g budget profile t (answers_at (map answers z) t) (work_at (map (work_of answers) ws) t)) e
-            (subst (λ k. IsWorking g budget profile k (answers_at (map answers (map (λ w. w.world) vs)) t) (work_at (map (work_of answers) ws) t))
-            (let z : 0 + t ≡ t = omega arith in z) (at_end 0 vs ws new p works t (omega (arith, l, long))).0);
-        done = λ t l. (at_end 0 vs ws new p works t (omega (arith, l, long))).1;
+        size = length-map ws (work_of answers) ∙ threads_there;
+        working = λ t l.
+            subst (λ z. IsWorking g budget profile t (answers_at (map answers z) t) (work_at (map (work_of answers) ws) t)) ran.same
+            (subst (λ k. IsWorking g budget profile k (answers_at (map answers (map (λ w. w.world) vs)) t)
+            (work_at (map (work_of answers) ws) t)) (let z : 0 + t ≡ t = omega arith in z) (end t l).0);
+        done = λ t l. (end t l).1;
       }
 
 pub views_tracks : {W : Type 0} (answers : W → List Answered) (ws : List (Worker W))

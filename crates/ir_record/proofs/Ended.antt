@@ -103,101 +103,87 @@ pub record Over (guest : Guest) (budget : ℕ) (profile : Profile) (order : List
   pub took : Took (order ++ rounds (length guest.entries) count) (start guest budget profile before) b
   pub none : (t : ℕ) → t < length b.flat.threads → HasNone (machine b.flat) (tables b.flat) t
 
-pub threads_there : (guest : Guest) (budget : ℕ) (profile : Profile) (order : List ℕ) (before : List (List Answered)) (b : Progress)
-    → Over guest budget profile order before b → length b.flat.threads ≡ length guest.entries
-threads_there guest budget profile order before b o = o.took.threads ∙ threads_length guest budget profile 0 (length guest.entries)
+module _ {guest : Guest} {budget : ℕ} {profile : Profile} {order : List ℕ} {before : List (List Answered)} {b : Progress}
+    (o : Over guest budget profile order before b) where
+  pub threads_there : length b.flat.threads ≡ length guest.entries
+  threads_there = o.took.threads ∙ threads_length guest budget profile 0 (length guest.entries)
 
-pub objects_there : (guest : Guest) (budget : ℕ) (profile : Profile) (order : List ℕ) (before : List (List Answered)) (b : Progress)
-    → Over guest budget profile order before b → length b.flat.objects ≡ object_count guest
-objects_there guest budget profile order before b o = o.took.objects ∙ cells_length guest 0 (object_count guest)
+  pub objects_there : length b.flat.objects ≡ object_count guest
+  objects_there = o.took.objects ∙ cells_length guest 0 (object_count guest)
 
-pub profiles_there : (guest : Guest) (budget : ℕ) (profile : Profile) (order : List ℕ) (before : List (List Answered)) (b : Progress)
-    → Over guest budget profile order before b → (t : ℕ) → t < length b.flat.threads → (thread_of b.flat t).profile ≡ profile
-profiles_there guest budget profile order before b o t l =
-    ap (λ s. (s.now t).profile) o.took.ends ∙ run_profile guest.code (tables (start_flat guest budget profile)) o.took.run t
-    ∙ start_profile guest budget profile 0 (length guest.entries) t
-    (let n = threads_there guest budget profile order before b o in omega (arith, l, n))
+  pub profiles_there : (t : ℕ) → t < length b.flat.threads → (thread_of b.flat t).profile ≡ profile
+  profiles_there t l =
+      ap (λ s. (s.now t).profile) o.took.ends ∙ run_profile guest.code (tables (start_flat guest budget profile)) o.took.run t
+      ∙ start_profile guest budget profile 0 (length guest.entries) t (let n = threads_there in omega (arith, l, n))
 
-run_of_it : (guest : Guest) (budget : ℕ) (profile : Profile) (order : List ℕ) (before : List (List Answered)) (b : Progress)
-    → (o : Over guest budget profile order before b) → IsRun (thread_machine guest.code) (tables (start_flat guest budget profile)) o.took.run
-run_of_it guest budget profile order before b o = turns_run (thread_machine guest.code) (tables (start_flat guest budget profile))
-    (order ++ rounds (length guest.entries) o.count) o.took.run o.took.turns
+  run_of_it : IsRun (thread_machine guest.code) (tables (start_flat guest budget profile)) o.took.run
+  run_of_it = turns_run (thread_machine guest.code) (tables (start_flat guest budget profile))
+      (order ++ rounds (length guest.entries) o.count) o.took.run o.took.turns
 
-done_there : (guest : Guest) (budget : ℕ) (profile : Profile) (order : List ℕ) (before : List (List Answered)) (b : Progress)
-    → (o : Over guest budget profile order before b) → IsDone (thread_machine guest.code)
-    (end (thread_machine guest.code) (tables (start_flat guest budget profile)) o.took.run)
-done_there guest budget profile order before b o = all_done guest budget profile o.took.run (run_of_it guest budget profile order before b o)
-    (λ t l. subst (λ s. HasNone (thread_machine guest.code) s t) o.took.ends
-    (subst (λ c. HasNone (thread_machine c) (tables b.flat) t) o.took.code
-    (o.none t (let n = threads_there guest budget profile order before b o in omega (arith, l, n)))))
+  done_there : IsDone (thread_machine guest.code) (end (thread_machine guest.code) (tables (start_flat guest budget profile)) o.took.run)
+  done_there = all_done guest budget profile o.took.run run_of_it
+      (λ t l. subst (λ s. HasNone (thread_machine guest.code) s t) o.took.ends
+      (subst (λ c. HasNone (thread_machine c) (tables b.flat) t) o.took.code
+      (o.none t (let n = threads_there in omega (arith, l, n)))))
 
-pub ended_there : (guest : Guest) (budget : ℕ) (profile : Profile) (order : List ℕ) (before : List (List Answered)) (b : Progress)
-    → Over guest budget profile order before b → (t : ℕ) → (thread_of b.flat t).ended ≢ None
-ended_there guest budget profile order before b o t =
-    has_ended guest.code (thread_of b.flat t) (ap (λ s. shared_ask (ask_of guest.code (s.now t))) o.took.ends
-    ∙ done_there guest budget profile order before b o t)
+  pub ended_there : (t : ℕ) → (thread_of b.flat t).ended ≢ None
+  ended_there t = has_ended guest.code (thread_of b.flat t) (ap (λ s. shared_ask (ask_of guest.code (s.now t))) o.took.ends ∙ done_there t)
 
--- what is at hand at its end
-at_end : (guest : Guest) (budget : ℕ) (profile : Profile) (order : List ℕ) (before : List (List Answered)) (b : Progress)
-    → (o : Over guest budget profile order before b) → StandAtEnd guest budget profile o.took.run before (thread_of b.flat) (log_at b.logs)
-    (answers_at b.answers)
-at_end guest budget profile order before b o =
-    let n : length (start_threads guest budget profile 0 (length guest.entries)) ≡ length guest.entries =
-    threads_length guest budget profile 0 (length guest.entries) in
-    let f0 : Flat = start_flat guest budget profile in
-    record {
-      runs = run_of_it guest budget profile order before b o;
-      threads = λ t l. ap (λ s. s.now t) o.took.ends;
-      logged = λ t l. o.took.logs t (omega (arith, l, n))
-          ∙ ap (λ z. map label_of z.events ++ log (machine f0) (tables f0) o.took.run t)
-          (get_or-replicate (length guest.entries) t new_log no_log l);
-      answered = λ t l. o.took.answers t (omega (arith, l, n));
-    }
+  -- what is at hand at its end
+  at_end : StandAtEnd guest budget profile o.took.run before (thread_of b.flat) (log_at b.logs) (answers_at b.answers)
+  at_end =
+      let n : length (start_threads guest budget profile 0 (length guest.entries)) ≡ length guest.entries =
+      threads_length guest budget profile 0 (length guest.entries) in
+      let f0 : Flat = start_flat guest budget profile in
+      record {
+        runs = run_of_it;
+        threads = λ t l. ap (λ s. s.now t) o.took.ends;
+        logged = λ t l. o.took.logs t (omega (arith, l, n))
+            ∙ ap (λ z. map label_of z.events ++ log (machine f0) (tables f0) o.took.run t)
+            (get_or-replicate (length guest.entries) t new_log no_log l);
+        answered = λ t l. o.took.answers t (omega (arith, l, n));
+      }
 
-pub recorded_there : (guest : Guest) (budget : ℕ) (profile : Profile) (order : List ℕ) (before : List (List Answered)) (b : Progress)
-    → Over guest budget profile order before b → (failed : List Bool) → IsReady b failed
-    → (trace : Recorded) → trace.objects ≡ length b.flat.objects → trace.budget ≡ budget → trace.profile ≡ profile → AreThreadTraces b.flat b.logs trace.threads
-    → (outputs : List (List ℕ)) → outputs ≡ map (λ x. x.output) b.flat.threads
-    → (answers : List (List Answered)) → answers ≡ b.answers → IsRecording guest budget profile order before trace outputs answers
-recorded_there guest budget profile order before b o failed ready trace objects limit same traces outputs printed answers given =
-    let n : length b.flat.threads ≡ length guest.entries = threads_there guest budget profile order before b o in
-    let logs : length b.logs ≡ length guest.entries = ready.tape.one_each ∙ n in
-    let size : length answers ≡ length guest.entries = ap (λ z. length z) given ∙ ready.worlds ∙ n in
-    let stand = at_end guest budget profile order before b o in
-    record {
-      run = o.took.run;
-      by_order = record { count = o.count; turns = o.took.turns; done = done_there guest budget profile order before b o };
-      of = record {
-        emitted = emitted_there guest budget profile o.took.run before (thread_of b.flat) (log_at b.logs) (answers_at b.answers) stand
-            (done_there guest budget profile order before b o) trace
-            (objects ∙ objects_there guest budget profile order before b o) limit same (traces.count ∙ logs)
-            (λ t l. traces.each t (omega (arith, l, logs)));
-        printed = printed_there guest budget profile o.took.run before (thread_of b.flat) (log_at b.logs) (answers_at b.answers) stand outputs
-            (ap (λ z. length z) printed ∙ length-map b.flat.threads (λ x. x.output) ∙ n)
-            (λ t l. ap (λ z. slice_get z t) printed ∙ slice_get-map (λ x. x.output) b.flat.threads t
-            ∙ ap (option_map (λ x. x.output)) (slice_get-get_or b.flat.threads t idle (omega (arith, l, n))));
-        answered = answered_there guest budget profile o.took.run before (thread_of b.flat) (log_at b.logs) (answers_at b.answers) stand answers
-            size
-            (λ t l. slice_get-get_or answers t [] (omega (arith, l, size)) ∙ ap (λ z. Some (answers_at z t)) given);
-      };
-    }
+  pub recorded_there : (failed : List Bool) → IsReady b failed
+      → (trace : Recorded) → trace.objects ≡ length b.flat.objects → trace.budget ≡ budget → trace.profile ≡ profile
+      → AreThreadTraces b.flat b.logs trace.threads
+      → (outputs : List (List ℕ)) → outputs ≡ map (λ x. x.output) b.flat.threads
+      → (answers : List (List Answered)) → answers ≡ b.answers → IsRecording guest budget profile order before trace outputs answers
+  recorded_there failed ready trace objects limit same traces outputs printed answers given =
+      let n : length b.flat.threads ≡ length guest.entries = threads_there in
+      let logs : length b.logs ≡ length guest.entries = ready.tape.one_each ∙ n in
+      let size : length answers ≡ length guest.entries = ap (λ z. length z) given ∙ ready.worlds ∙ n in
+      record {
+        run = o.took.run;
+        by_order = record { count = o.count; turns = o.took.turns; done = done_there };
+        of = record {
+          emitted = emitted_there at_end done_there trace (objects ∙ objects_there) limit same (traces.count ∙ logs) (λ t l. traces.each t (omega (arith, l, logs)));
+          printed = printed_there at_end outputs
+              (ap (λ z. length z) printed ∙ length-map b.flat.threads (λ x. x.output) ∙ n)
+              (λ t l. ap (λ z. slice_get z t) printed ∙ slice_get-map (λ x. x.output) b.flat.threads t
+              ∙ ap (option_map (λ x. x.output)) (slice_get-get_or b.flat.threads t idle (omega (arith, l, n))));
+          answered = answered_there at_end answers size
+              (λ t l. slice_get-get_or answers t [] (omega (arith, l, size)) ∙ ap (λ z. Some (answers_at z t)) given);
+        };
+      }
 
--- the same, where it began with the recording that was made
-pub over_from : (guest : Guest) (budget : ℕ) (profile : Profile) (order : List ℕ) (before : List (List Answered)) (a b : Progress)
-    → a ≡ start guest budget profile before → ((count : ℕ) × Took (order ++ rounds (length a.flat.threads) count) a b)
+-- the recording that was made is one before the first step
+pub started : (guest : Guest) (budget : ℕ) (profile : Profile) (answers : List (List Answered)) {f : Flat} {logs : List Logged}
+    → f ≡ start_flat guest budget profile → logs ≡ replicate (length guest.entries) new_log
+    → ◌≡◌ {A = Progress} (record { flat = f; logs = logs; answers = answers }) (start guest budget profile answers)
+started guest budget profile answers p q = λ i. record { flat = p i; logs = q i; answers = answers }
+
+pub over_from : {guest : Guest} {budget : ℕ} {profile : Profile} {order : List ℕ} {before : List (List Answered)}
+    {f : Flat} {logs : List Logged} {b : Progress} → f ≡ start_flat guest budget profile → logs ≡ replicate (length guest.entries) new_log
+    → ((count : ℕ) × Took (order ++ rounds (length f.threads) count) (record { flat = f; logs = logs; answers = before }) b)
     → ((t : ℕ) → t < length b.flat.threads → HasNone (machine b.flat) (tables b.flat) t) → Over guest budget profile order before b
-over_from guest budget profile order before a b e k none = record {
+over_from {guest} {budget} {profile} {order} {before} {f} {logs} {b} p q k none = record {
   count = k.0;
   took = subst (λ n. Took (order ++ rounds n k.0) (start guest budget profile before) b)
-      (ap (λ z. length z.flat.threads) e ∙ threads_length guest budget profile 0 (length guest.entries))
-      (subst (λ z. Took (order ++ rounds (length a.flat.threads) k.0) z b) e k.1);
+      (ap (λ z. length z.threads) p ∙ threads_length guest budget profile 0 (length guest.entries))
+      (subst (λ z. Took (order ++ rounds (length f.threads) k.0) z b) (started guest budget profile before p q) k.1);
   none = none;
 }
-
-pub started : (guest : Guest) (budget : ℕ) (profile : Profile) (answers : List (List Answered)) (f : Flat) (logs : List Logged) → f ≡ start_flat guest budget profile
-    → logs ≡ replicate (length guest.entries) new_log
-    → ◌≡◌ {A = Progress} (record { flat = f; logs = logs; answers = answers }) (start guest budget profile answers)
-started guest budget profile answers f logs p q = λ i. record { flat = p i; logs = q i; answers = answers }
 
 pub mapped_twice : {A B C : Type 0} (f : B → C) (h : A → B) (xs : List A) (ys : List B) → map h xs ≡ ys → map (λ x. f (h x)) xs ≡ map f ys
 mapped_twice {A} {B} {C} f h xs ys e = twice xs ∙ ap (map f) e

@@ -309,15 +309,6 @@ nothing_ahead (suc n) = let rest = nothing_ahead n in omega (arith, rest)
 pub first_round : (n : ℕ) (a : Progress) → Rounding n a a (replicate n 0)
 first_round n a = (0, went_nothing (tables a.flat) a (replicate n 0) (level (machine a.flat) (replicate n 0) (tables a.flat) (no_lead n)))
 
--- a round more, from where the rounds before it lead
-pub round_more : (n : ℕ) (moved : Bool) (a b e : Progress) (d f : List ℕ) (p : Rounding n a b d)
-    → WentIf moved (range_with_len 0 n) (reached p.1) b d e f → Rounding n a e f
-round_more n moved a b e d f p q = (
-  suc p.0,
-  subst (λ order. Went order (tables a.flat) a (replicate n 0) e f) (rounds_more n p.0)
-      (went_both (rounds n p.0) (range_with_len 0 n) (tables a.flat) a b e (replicate n 0) d f p.1 q.went),
-)
-
 none_in : (from n : ℕ) (ahead : List ℕ) → NoneAhead (range_with_len from n) ahead → (t : ℕ) → from ≤ t → t < from + n → lead ahead t ≡ 0
 none_in from zero ahead h t low high = absurd (omega (arith, low, high))
 none_in from (suc n) ahead h t low high = elim (cases_eq t from) [
@@ -325,50 +316,76 @@ none_in from (suc n) ahead h t low high = elim (cases_eq t from) [
   | inr ne ↦ none_in (from + 1) n ahead h.1 t (omega (arith, low, ne)) (omega (arith, high))
 ]
 
--- nobody is ahead after a round in which nobody took a step
-pub none_ahead : (n : ℕ) (moved : Bool) (s : State thread.State) (b e : Progress) (d f : List ℕ) → moved ≡ false → length d ≡ n
-    → WentIf moved (range_with_len 0 n) s b d e f → (t : ℕ) → lead f t ≡ 0
-none_ahead n moved s b e d f is size q t =
-    let h = q.none is in
-    ap (λ z. lead z t) h.1 ∙ elim (cases_lt t n) [
-      | inl l ↦ none_in 0 n d h.2 t (omega arith) (omega (arith, l))
-      | inr past ↦ get_or_past d t 0 (omega (arith, size, past))
-    ]
+-- rounds, and one more, which takes a step if moved
+pub record Rounded (moved : Bool) (a b e : Progress) (d f : List ℕ) : Type 0 where
+  pub first : Rounding (length a.flat.threads) a b d
+  pub places : length d ≡ length b.flat.threads
+  pub next : WentIf moved (range_with_len 0 (length a.flat.threads)) (reached first.1) b d e f
 
--- then what was recorded is that of the rounds
-pub caught : (n : ℕ) (a b : Progress) (ahead : List ℕ) (p : Rounding n a b ahead) → ((t : ℕ) → lead ahead t ≡ 0) → Took (rounds n p.0) a b
-caught n a b ahead p none = record {
-  run = p.1.run;
-  turns = p.1.turns;
-  ends = caught_up (machine a.flat) ahead (reached p.1) (tables b.flat) none p.1.ahead;
-  code = p.1.code;
-  threads = p.1.threads;
-  objects = p.1.objects;
-  logs = p.1.logs;
-  answers = p.1.answers;
-  fewer = let less = p.1.fewer in let zeros = nothing_ahead n in omega (arith, less, zeros);
+-- the round that was taken leads on from where the rounds before it lead
+pub rounded : {moved : Bool} {a b e : Progress} {d f : List ℕ} → Rounding (length a.flat.threads) a b d → length d ≡ length b.flat.threads
+    → ((s : State thread.State) → IsAhead (machine b.flat) d s (tables b.flat)
+    → WentIf moved (range_with_len 0 (length b.flat.threads)) s b d e f) → Rounded moved a b e d f
+rounded {moved} {a} {b} {e} {d} {f} p places q = record {
+  first = p;
+  places = places;
+  next = subst (λ n. WentIf moved (range_with_len 0 n) (reached p.1) b d e f) p.1.threads (q (reached p.1)
+      (ahead_there (rounds (length a.flat.threads) p.0) (tables a.flat) a b (replicate (length a.flat.threads) 0) d p.1));
 }
 
--- and nobody has a step
-pub all_over : (n : ℕ) (moved : Bool) (a b e : Progress) (d f : List ℕ) (p : Rounding n a b d)
-    (q : WentIf moved (range_with_len 0 n) (reached p.1) b d e f) → moved ≡ false → ((t : ℕ) → lead f t ≡ 0) → (t : ℕ) → t < n
-    → HasNone (machine e.flat) (tables e.flat) t
-all_over n moved a b e d f p q is none t l =
-    let nothing = (q.none is).0 in
-    let nobody : InTurn (machine b.flat) (reached p.1) (range_with_len 0 n) [] =
-    subst (InTurn (machine b.flat) (reached p.1) (range_with_len 0 n)) nothing q.went.turns in
-    let there : HasNone (machine b.flat) (reached p.1) t =
-    none_in_turn (machine b.flat) (reached p.1) 0 n nobody t (omega arith) (omega (arith, l)) in
-    let same : tables e.flat ≡ reached p.1 = caught_up (machine b.flat) f (reached q.went) (tables e.flat) none q.went.ahead
-    ∙ ap (end (machine b.flat) (reached p.1)) nothing in
-    subst (λ s. HasNone (machine e.flat) s t) (sym same) (subst (λ c. HasNone (thread_machine c) (reached p.1) t) (sym q.went.code) there)
+module _ {moved : Bool} {a b e : Progress} {d f : List ℕ} (r : Rounded moved a b e d f) where
+  pub round_more : Rounding (length a.flat.threads) a e f
+  round_more = (
+    suc r.first.0,
+    subst (λ order. Went order (tables a.flat) a (replicate (length a.flat.threads) 0) e f) (rounds_more (length a.flat.threads) r.first.0)
+        (went_both (rounds (length a.flat.threads) r.first.0) (range_with_len 0 (length a.flat.threads)) (tables a.flat) a b e
+        (replicate (length a.flat.threads) 0) d f r.first.1 r.next.went),
+  )
 
--- a round that takes a step leaves fewer
-pub fewer_left : (n : ℕ) (moved : Bool) (s : State thread.State) (b e : Progress) (d f : List ℕ) → moved ≡ true → length b.flat.threads ≡ n
-    → WentIf moved (range_with_len 0 n) s b d e f
-    → all_left n (tables e.flat).now + all_ahead f < all_left n (tables b.flat).now + all_ahead d
-fewer_left n moved s b e d f is size q =
-    let some = q.some is in
-    let less = subst (λ k. all_left k (tables e.flat).now + all_ahead f + length q.went.run ≤ all_left k (tables b.flat).now + all_ahead d)
-    size q.went.fewer in
-    omega (arith, some, less)
+  -- nobody is ahead after a round in which nobody took a step
+  none_ahead : moved ≡ false → (t : ℕ) → lead f t ≡ 0
+  none_ahead is t =
+      let h = r.next.none is in
+      let size : length d ≡ length a.flat.threads = r.places ∙ r.first.1.threads in
+      ap (λ z. lead z t) h.1 ∙ elim (cases_lt t (length a.flat.threads)) [
+        | inl l ↦ none_in 0 (length a.flat.threads) d h.2 t (omega arith) (omega (arith, l))
+        | inr past ↦ get_or_past d t 0 (omega (arith, size, past))
+      ]
+
+  -- then what was recorded is that of the rounds
+  pub caught : moved ≡ false → (count : ℕ) × Took (rounds (length a.flat.threads) count) a e
+  caught is =
+      let p : Rounding (length a.flat.threads) a e f = round_more in (
+        p.0,
+        record {
+          run = p.1.run;
+          turns = p.1.turns;
+          ends = caught_up (machine a.flat) f (reached p.1) (tables e.flat) (none_ahead is) p.1.ahead;
+          code = p.1.code;
+          threads = p.1.threads;
+          objects = p.1.objects;
+          logs = p.1.logs;
+          answers = p.1.answers;
+          fewer = let less = p.1.fewer in let zeros = nothing_ahead (length a.flat.threads) in omega (arith, less, zeros);
+        },
+      )
+
+  -- and nobody has a step
+  pub all_over : moved ≡ false → (t : ℕ) → t < length e.flat.threads → HasNone (machine e.flat) (tables e.flat) t
+  all_over is t l =
+      let n : ℕ = length a.flat.threads in
+      let s : State thread.State = reached r.first.1 in
+      let w = r.next.went in
+      let nothing = (r.next.none is).0 in
+      let nobody : InTurn (machine b.flat) s (range_with_len 0 n) [] =
+      subst (InTurn (machine b.flat) s (range_with_len 0 n)) nothing w.turns in
+      let there : HasNone (machine b.flat) s t =
+      none_in_turn (machine b.flat) s 0 n nobody t (omega arith) (omega (arith, l, w.threads, r.first.1.threads)) in
+      let same : tables e.flat ≡ s = caught_up (machine b.flat) f (reached w) (tables e.flat) (none_ahead is) w.ahead
+      ∙ ap (end (machine b.flat) s) nothing in
+      subst (λ z. HasNone (machine e.flat) z t) (sym same) (subst (λ k. HasNone (thread_machine k) s t) (sym w.code) there)
+
+  -- a round that takes a step leaves fewer
+  pub fewer_left : moved ≡ true → all_left (length b.flat.threads) (tables e.flat).now + all_ahead f
+      < all_left (length b.flat.threads) (tables b.flat).now + all_ahead d
+  fewer_left is = let some = r.next.some is in let less = r.next.went.fewer in omega (arith, some, less)

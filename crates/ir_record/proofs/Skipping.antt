@@ -1,5 +1,5 @@
 -- Rounds in which each thread has its step behind it, or has none.
-use Rattle.std.proofs.Common.{◌≡◌, ℕ, zero, suc, pred, ◌+◌, ◌-◌, ◌<◌, ◌≤◌, ◌⊎◌, false, List, [], ◌∷◌, length, set, replicate, refl, sym, ap, ◌∙◌, subst, arith, inl, inr, get_or-set_same, get_or-set_other, length-set, ext_get_or}
+use Rattle.std.proofs.Common.{◌≡◌, ℕ, zero, suc, pred, ◌+◌, ◌-◌, ◌<◌, ◌≤◌, ◌⊎◌, Bool, true, false, List, [], ◌∷◌, length, set, replicate, refl, sym, ap, ◌∙◌, subst, arith, inl, inr, get_or-set_same, get_or-set_other, length-set, ext_get_or}
 use Rattle.std.proofs.lemmas.Bool.{cases_eq}
 use Rattle.std.proofs.lemmas.List.{set-get_or}
 use Rattle.std.specs.List.{range_with_len}
@@ -9,8 +9,8 @@ use Rattle.ir_runs.specs.Machine.{Machine}
 use Rattle.ir_runs.specs.Run.{State}
 use Rattle.ir_record.specs.Ahead.{lead, IsAhead, CanSkip, all_ahead, Went}
 use Rattle.ir_runs.specs.InOrder.{HasNone, rounds}
-use Rattle.ir_record.specs.Progress.{Progress}
-use Rattle.ir_record.proofs.Going.{range_last, went_nothing, went_both, turn_spent, turn_stays, ahead_there, reached, Rounding}
+use Rattle.ir_record.specs.Progress.{Progress, all_left}
+use Rattle.ir_record.proofs.Going.{range_last, went_nothing, went_both, turn_spent, turn_stays, ahead_there, reached, Rounding, Rounded, round_more, fewer_left}
 use Rattle.ir_record.proofs.Joining.{rounds_both}
 use Rattle.ir_record.proofs.Steps.{took_none}
 
@@ -78,13 +78,13 @@ next_skips m n k c d later enough lower t l = elim (enough t l)
     [ inl more ↦ inl (let one = lower t l in omega (arith, more, one)) | inr none ↦ inr none ]
 
 -- such rounds, and how far each thread is ahead behind them
-pub record Skipped (n k : ℕ) (s : State thread.State) (a : Progress) (c : List ℕ) : Type 0 where
+record Skipped (n k : ℕ) (s : State thread.State) (a : Progress) (c : List ℕ) : Type 0 where
   pub left : List ℕ
   pub size : length left ≡ length c
   pub each : (t : ℕ) → t < n → lead left t ≡ lead c t - k
   pub went : Went (rounds n k) s a c a left
 
-pub skipped : (n k : ℕ) (s : State thread.State) (a : Progress) (c : List ℕ) → length c ≡ n → CanSkip (machine a.flat) n k c (tables a.flat)
+skipped : (n k : ℕ) (s : State thread.State) (a : Progress) (c : List ℕ) → length c ≡ n → CanSkip (machine a.flat) n k c (tables a.flat)
     → IsAhead (machine a.flat) c s (tables a.flat) → Skipped n k s a c
 skipped n zero s a c size enough h = record { left = c; size = refl; each = λ t l. omega arith; went = went_nothing s a c h }
 skipped n (suc k) s a c size enough h =
@@ -103,7 +103,7 @@ skipped n (suc k) s a c size enough h =
     }
 
 -- the same, where the code says how far each thread is ahead
-pub skips : (n k : ℕ) (s : State thread.State) (a : Progress) (c d : List ℕ) → length c ≡ n → length d ≡ n
+skips : (n k : ℕ) (s : State thread.State) (a : Progress) (c d : List ℕ) → length c ≡ n → length d ≡ n
     → CanSkip (machine a.flat) n k c (tables a.flat) → ((t : ℕ) → t < n → lead d t ≡ lead c t - k)
     → IsAhead (machine a.flat) c s (tables a.flat) → Went (rounds n k) s a c a d
 skips n k s a c d size size' enough each h =
@@ -111,21 +111,31 @@ skips n k s a c d size size' enough each h =
     subst (Went (rounds n k) s a c a) (ext_get_or 0 q.left d (q.size ∙ size ∙ sym size')
     (λ t l. let less : t < n = omega (arith, l, q.size, size) in q.each t less ∙ sym (each t less))) q.went
 
--- after some rounds, and these
-pub skip_more : (n k : ℕ) (a b : Progress) (d f : List ℕ) → Rounding n a b d → length d ≡ n → length f ≡ n
-    → CanSkip (machine b.flat) n k d (tables b.flat) → ((t : ℕ) → t < n → lead f t ≡ lead d t - k) → Rounding n a b f
-skip_more n k a b d f p size size' enough each = (
-  p.0 + k,
-  subst (λ order. Went order (tables a.flat) a (replicate n 0) b f) (rounds_both n p.0 k)
-      (went_both (rounds n p.0) (rounds n k) (tables a.flat) a b b (replicate n 0) d f p.1
-      (skips n k (reached p.1) b d f size size' enough each (ahead_there (rounds n p.0) (tables a.flat) a b (replicate n 0) d p.1))),
-)
+-- a round that was taken after some, and so many more that were skipped
+pub record Skips (moved : Bool) (a b e : Progress) (d h : List ℕ) : Type 0 where
+  pub rounding : Rounding (length a.flat.threads) a e h
+  pub fewer : moved ≡ true → all_left (length e.flat.threads) (tables e.flat).now + all_ahead h
+      < all_left (length b.flat.threads) (tables b.flat).now + all_ahead d
 
--- nobody is further ahead then
-pub skip_least : (n k : ℕ) (a b : Progress) (d f : List ℕ) → Rounding n a b d → length d ≡ n → length f ≡ n
-    → CanSkip (machine b.flat) n k d (tables b.flat) → ((t : ℕ) → t < n → lead f t ≡ lead d t - k) → all_ahead f ≤ all_ahead d
-skip_least n k a b d f p size size' enough each =
-    let w : Went (rounds n k) (reached p.1) b d b f =
-    skips n k (reached p.1) b d f size size' enough each (ahead_there (rounds n p.0) (tables a.flat) a b (replicate n 0) d p.1) in
-    let less = w.fewer in
-    omega (arith, less)
+pub skip_more : {moved : Bool} {a b e : Progress} {d f h : List ℕ} (k : ℕ) → Rounded moved a b e d f → length f ≡ length e.flat.threads
+    → length h ≡ length f → CanSkip (machine e.flat) (length e.flat.threads) k f (tables e.flat)
+    → ((t : ℕ) → t < length f → lead h t ≡ lead f t - k) → Skips moved a b e d h
+skip_more {moved} {a} {b} {e} {d} {f} {h} k r places size enough each =
+    let n : ℕ = length a.flat.threads in
+    let p : Rounding n a e f = round_more r in
+    let count : length f ≡ n = places ∙ p.1.threads in
+    let w : Went (rounds n k) (reached p.1) e f e h = skips n k (reached p.1) e f h count (size ∙ count)
+    (subst (λ m. CanSkip (machine e.flat) m k f (tables e.flat)) p.1.threads enough) (λ t l. each t (omega (arith, l, count)))
+    (ahead_there (rounds n p.0) (tables a.flat) a e (replicate n 0) f p.1) in
+    record {
+      rounding = (
+        p.0 + k,
+        subst (λ order. Went order (tables a.flat) a (replicate n 0) e h) (rounds_both n p.0 k)
+            (went_both (rounds n p.0) (rounds n k) (tables a.flat) a e e (replicate n 0) f h p.1 w),
+      );
+      fewer = λ is.
+          let least = w.fewer in
+          let less = subst (λ m. all_left m (tables e.flat).now + all_ahead f
+          < all_left (length b.flat.threads) (tables b.flat).now + all_ahead d) (sym r.next.went.threads) (fewer_left r is) in
+          omega (arith, least, less);
+    }

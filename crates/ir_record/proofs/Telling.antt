@@ -35,14 +35,15 @@ ends_by : (r : RecordedThread) (x : Option end.End) → x ≡ Some r.end
     → ◌≡◌ {A = Option (ℕ × ℕ)} (Some (end_number r.end, end_code r.end)) (option_map (λ e. (end_number e, end_code e)) x)
 ends_by r x e = ap (option_map (λ k. (end_number k, end_code k))) (sym e)
 
-module _ (guest : Guest) (budget : ℕ) (profile : Profile) (run : List Step) (before : List (List Answered)) (now : ℕ → thread.State) (logs : ℕ → Logged)
-    (given : ℕ → List Answered) where
-  pub emitted_there : StandAtEnd guest budget profile run before now logs given
-      → IsDone (thread_machine guest.code) (end (thread_machine guest.code) (tables (start_flat guest budget profile)) run) → (trace : Recorded)
+module _ {guest : Guest} {budget : ℕ} {profile : Profile} {run : List Step} {before : List (List Answered)}
+    {now : ℕ → thread.State} {logs : ℕ → Logged} {given : ℕ → List Answered}
+    (s : StandAtEnd guest budget profile run before now logs given) where
+  pub emitted_there : IsDone (thread_machine guest.code) (end (thread_machine guest.code) (tables (start_flat guest budget profile)) run)
+      → (trace : Recorded)
       → trace.objects ≡ object_count guest → trace.budget ≡ budget → trace.profile ≡ profile → length trace.threads ≡ length guest.entries
       → ((t : ℕ) → t < length guest.entries → IsThreadTrace (now t) (logs t) (get_or trace.threads t absent))
       → IsTraceOf guest budget profile run trace
-  emitted_there s done trace objects limit same all each = record {
+  emitted_there done trace objects limit same all each = record {
     objects = objects;
     limit = limit;
     profile_is = same;
@@ -62,11 +63,10 @@ module _ (guest : Guest) (budget : ℕ) (profile : Profile) (run : List Step) (b
     };
   }
 
-  pub printed_there : StandAtEnd guest budget profile run before now logs given → (outputs : List (List ℕ)) → length outputs ≡ length guest.entries
+  pub printed_there : (outputs : List (List ℕ)) → length outputs ≡ length guest.entries
       → ((t : ℕ) → t < length guest.entries → slice_get outputs t ≡ Some (now t).output) → AreOutputs guest budget profile run outputs
-  printed_there s outputs all each = record { threads = all; each = λ t l. each t l ∙ ap (λ x. Some x.output) (s.threads t l) }
+  printed_there outputs all each = record { threads = all; each = λ t l. each t l ∙ ap (λ x. Some x.output) (s.threads t l) }
 
-  pub answered_there : StandAtEnd guest budget profile run before now logs given → (answers : List (List Answered))
-      → length answers ≡ length guest.entries → ((t : ℕ) → t < length guest.entries → slice_get answers t ≡ Some (given t))
-      → AreAnswers guest budget profile run before answers
-  answered_there s answers all each = record { threads = all; each = λ t l. each t l ∙ ap Some (s.answered t l) }
+  pub answered_there : (answers : List (List Answered)) → length answers ≡ length guest.entries
+      → ((t : ℕ) → t < length guest.entries → slice_get answers t ≡ Some (given t)) → AreAnswers guest budget profile run before answers
+  answered_there answers all each = record { threads = all; each = λ t l. each t l ∙ ap Some (s.answered t l) }

@@ -9,7 +9,7 @@ order-init g c = record {
   took = took_nothing (progress_of g.W.World.answers c.args.self.now);
   ready =
       c.requires;
-  kept = same_worlds g.W.World.answers g.W.World.origin c.args.self.now.worlds.items;
+  kept = same_worlds;
 }
 
 pub order-preserved : goal.order-preserved
@@ -20,8 +20,7 @@ order-preserved g c = record {
       (progress_of g.W.World.answers c.turns.new.self)
       c.order-test.true c.order.invariant.took c.in_ok-turns.ensures.took;
   ready = c.in_ok-turns.ensures.ready;
-  kept = worlds_on g.W.World.answers g.W.World.origin c.args.self.now.worlds.items c.order.self.worlds.items c.turns.new.self.worlds.items
-      c.order.invariant.kept c.turns.ensures.kept;
+  kept = worlds_on c.order.invariant.kept c.turns.ensures.kept;
 }
 
 pub returns-clause-took : goal.returns-clause-took
@@ -30,6 +29,4 @@ returns-clause-took g c = followed_end c.args.order.now c.order.item-index
     (progress_of g.W.World.answers c.order.self) c.order-test.false c.order.invariant.took
 
 pub returns-in_err-turns-clause-kept : goal.returns-in_err-turns-clause-kept
-returns-in_err-turns-clause-kept g c = worlds_on g.W.World.answers g.W.World.origin c.args.self.now.worlds.items c.order.self.worlds.items
-    c.turns.new.self.worlds.items c.order.invariant.kept
-    c.turns.ensures.kept
+returns-in_err-turns-clause-kept g c = worlds_on c.order.invariant.kept c.turns.ensures.kept

@@ -20,14 +20,10 @@ returns-clause-took g c =
     )
 
 pub returns-clause-kept : goal.returns-clause-kept
-returns-clause-kept g c = worlds_on g.W.World.answers g.W.World.origin c.args.self.now.worlds.items c.follow.new.self.worlds.items
-    c.rounds.new.self.worlds.items c.follow.ensures.kept
-    c.rounds.ensures.kept
+returns-clause-kept g c = worlds_on c.follow.ensures.kept c.rounds.ensures.kept
 
 pub returns-in_err-rounds-clause-kept : goal.returns-in_err-rounds-clause-kept
-returns-in_err-rounds-clause-kept g c = worlds_on g.W.World.answers g.W.World.origin c.args.self.now.worlds.items
-    c.follow.new.self.worlds.items c.rounds.new.self.worlds.items c.follow.ensures.kept
-    c.rounds.ensures.kept
+returns-in_err-rounds-clause-kept g c = worlds_on c.follow.ensures.kept c.rounds.ensures.kept
 
 pub rounds-requires-clause-level : goal.rounds-requires-clause-level
 rounds-requires-clause-level g c = c.requires.level ∙ ap (λ n. replicate n 0) (sym c.in_ok-follow.ensures.took.threads)

@@ -20,7 +20,7 @@ loop-t-init g c = record {
   each = c.requires.each;
   threads = refl;
   ready = c.requires.ready;
-  kept = same_worlds g.W.World.answers g.W.World.origin c.args.self.now.worlds.items;
+  kept = same_worlds;
 }
 
 pub loop-t-preserved : goal.loop-t-preserved
@@ -62,8 +62,7 @@ loop-t-preserved g c = record {
   each = c.in_ok-turned.ensures.each;
   threads = c.in_ok-turned.ensures.threads ∙ c.loop-t.invariant.threads;
   ready = c.in_ok-turned.ensures.ready;
-  kept = worlds_on g.W.World.answers g.W.World.origin c.args.self.now.worlds.items c.loop-t.self.worlds.items
-      c.turn_ahead.new.self.worlds.items c.loop-t.invariant.kept c.turn_ahead.ensures.kept;
+  kept = worlds_on c.loop-t.invariant.kept c.turn_ahead.ensures.kept;
 }
 
 pub returns-clause-went : goal.returns-clause-went
@@ -75,9 +74,7 @@ returns-clause-went g c = λ s h. subst (λ n. WentIf c.loop-t.pass.moved (range
     (c.loop-t.invariant.went s h)
 
 pub returns-in_err-turned-clause-kept : goal.returns-in_err-turned-clause-kept
-returns-in_err-turned-clause-kept g c = worlds_on g.W.World.answers g.W.World.origin c.args.self.now.worlds.items
-    c.loop-t.self.worlds.items c.turn_ahead.new.self.worlds.items c.loop-t.invariant.kept
-    c.turn_ahead.ensures.kept
+returns-in_err-turned-clause-kept g c = worlds_on c.loop-t.invariant.kept c.turn_ahead.ensures.kept
 
 pub returns-clause-free : goal.returns-clause-free
 returns-clause-free g c =

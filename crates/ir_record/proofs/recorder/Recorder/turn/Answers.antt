@@ -44,11 +44,11 @@ returns-in_default g c = record {
       c.requires.ready (c.go.ensures.took (map g.W.World.answers c.args.self.now.worlds.items)) c.go.ensures.tape
       refl c.requires.ready.works;
   failed = tt;
-  kept = same_worlds g.W.World.answers g.W.World.origin c.args.self.now.worlds.items;
+  kept = same_worlds;
 }
 
 pub returns-in-Enter-clause-kept : goal.returns-in-Enter-clause-kept
-returns-in-Enter-clause-kept g c = same_worlds g.W.World.answers g.W.World.origin c.args.self.now.worlds.items
+returns-in-Enter-clause-kept g c = same_worlds
 
 pub returns-in-Try-clause-ready : goal.returns-in-Try-clause-ready
 returns-in-Try-clause-ready g c = stays_ready c.args.t true

@@ -15,7 +15,7 @@ turns-init g c =
       took = subst (λ n. Took (replicate n c.args.t) entry entry) (let e : 0 ≡ c.args.count - c.args.count = omega arith in e)
           (took_nothing entry);
       ready = c.requires;
-      kept = same_worlds g.W.World.answers g.W.World.origin c.args.self.now.worlds.items;
+      kept = same_worlds;
     }
 
 pub returns-then-t-threads-clause-took : goal.returns-then-t-threads-clause-took
@@ -66,16 +66,11 @@ turns-preserved g c =
           (omega (arith, c.turns-test.true)) (omega (arith, within)) c.turns.invariant.took
           (c.run-ran.ensures.took (map g.W.World.answers c.turns.self.worlds.items)) c.in_ok-turn.ensures.took;
       ready = c.in_ok-turn.ensures.ready;
-      kept = worlds_on g.W.World.answers g.W.World.origin c.args.self.now.worlds.items c.turns.self.worlds.items
-          c.turn.new.self.worlds.items c.turns.invariant.kept c.turn.ensures.kept;
+      kept = worlds_on c.turns.invariant.kept c.turn.ensures.kept;
     }
 
 pub returns-then-not-branch-clause-kept : goal.returns-then-not-branch-clause-kept
-returns-then-not-branch-clause-kept g c = worlds_on g.W.World.answers g.W.World.origin c.args.self.now.worlds.items
-    c.turns.self.worlds.items c.turn.new.self.worlds.items c.turns.invariant.kept
-    c.turn.ensures.kept
+returns-then-not-branch-clause-kept g c = worlds_on c.turns.invariant.kept c.turn.ensures.kept
 
 pub returns-in_err-turn-clause-kept : goal.returns-in_err-turn-clause-kept
-returns-in_err-turn-clause-kept g c = worlds_on g.W.World.answers g.W.World.origin c.args.self.now.worlds.items c.turns.self.worlds.items
-    c.turn.new.self.worlds.items c.turns.invariant.kept
-    c.turn.ensures.kept
+returns-in_err-turn-clause-kept g c = worlds_on c.turns.invariant.kept c.turn.ensures.kept
