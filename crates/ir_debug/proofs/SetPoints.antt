@@ -8,7 +8,7 @@ use Rattle.ir_mach.specs.Memory.{memory_word}
 use Rattle.ir_thread.specs.State as thread
 use Rattle.ir_runs.specs.declared.access.Access.TheVariants.{Writing}
 use Rattle.ir_runs.specs.Labels.{Label, Out}
-use Rattle.ir_runs.specs.Run.{Step, State, trail, thread_in, end}
+use Rattle.ir_runs.specs.Run.{Step, trail, thread_in, end}
 use Rattle.ir_fit.specs.Fit.{FittedTrace, HasRun, IsRunOf}
 use Rattle.ir_fit.proofs.CallerLemmas.{get_at}
 use Rattle.ir_cut.specs.Positions.{machine_of, start_of, EachRun}

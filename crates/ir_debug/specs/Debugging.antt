@@ -1,7 +1,6 @@
 -- The debugger between two commands, and the texts of its answers.
 use Rattle.std.specs.Prelude.{◌≡◌, ◌<◌, ℕ, ⊤, true, List, ◌++◌, codes, Option, None, Result}
 use Rattle.ir_runs.specs.Run.{Step}
-use Rattle.ir_fit.specs.Fit.{FittedTrace}
 use Rattle.ir_cut.specs.Positions.{EachRun, cut_of}
 use Rattle.ir_weave.specs.Standing.{Standing, StandsAt}
 use Rattle.ir_checkpoint.specs.Checkpoints.{Checkpoints, AreCheckpoints, Stands}

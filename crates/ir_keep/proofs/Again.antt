@@ -1,23 +1,23 @@
 -- A state's entry keeps that state.
-use Rattle.std.proofs.Common.{◌≡◌, ◌==◌, ◌*◌, ◌+◌, ◌<◌, ◌≤◌, ℕ, zero, suc, Bool, true, false, if◌then◌else◌, List, [], ◌∷◌, ◌++◌, length, map, flat_map, take, drop, Option, Some, None, refl, sym, ap, ◌∙◌, subst, arith, get_or}
+use Rattle.std.proofs.Common.{◌≡◌, ◌*◌, ◌<◌, ◌≤◌, ℕ, suc, Bool, true, false, if◌then◌else◌, List, [], ◌∷◌, ◌++◌, length, map, flat_map, take, drop, Some, None, refl, sym, ap, ◌∙◌, subst, arith}
 use Rattle.std.proofs.lemmas.List.{length-map, take_at, drop_at, take-map, drop-map, map-append, take-append-drop, length-drop}
 use Rattle.std.proofs.lemmas.List.Elements.{All-head, All-tail, All-append}
 use Rattle.std.specs.List.{All, slice_index_or}
 use Rattle.ir_image.specs.Guest.{most_threads}
 use Rattle.ir_mach.specs.Core.{Core, memory_size}
-use Rattle.ir_mach.specs.Pages.{IsPage, ArePages, pages_of}
+use Rattle.ir_mach.specs.Pages.{IsPage, pages_of}
 use Rattle.ir_mach.proofs.CallerLemmas as mach
 use Rattle.ir_thread.specs.State as thread
 use Rattle.ir_thread.specs.Frames.{ThreadFrame, frame_of, thread_of}
 use Rattle.ir_flat.specs.Flat.{idle}
 use Rattle.ir_weave.specs.Standing.{Standing}
 use Rattle.ir_keep.specs.Pages.{all_pages, next_sources, same_bytes}
-use Rattle.ir_keep.specs.Keeping.{Kept, most_states, first_kept, with_next}
+use Rattle.ir_keep.specs.Keeping.{most_states, first_kept, with_next}
 use Rattle.ir_keep.specs.Gathered.{HasMemory}
-use Rattle.ir_keep.specs.Store.{Page, Entry, blank, newer, laid, in_force, threads_of, kept_of, all_kept, changed, entry_of, IsEntry, AreEntries, AreBelow, AreFalling, AreWhole, AreNewer, AreLaid, AreFull, AreZero, HasStart, IsStore, thread_count}
-use Rattle.ir_keep.proofs.Laid.{changed_all, changed_sources, length-laid}
+use Rattle.ir_keep.specs.Store.{Page, Entry, blank, newer, laid, in_force, threads_of, all_kept, changed, entry_of, IsEntry, AreEntries, AreBelow, AreWhole, AreFull, AreZero, HasStart, IsStore, thread_count}
+use Rattle.ir_keep.proofs.Laid.{changed_all, changed_sources}
 use Rattle.ir_keep.proofs.Places.{length-all}
-use Rattle.ir_keep.proofs.Whole.{length_force, whole_force, full_whole, full_drop, first_pages, newer_changed, newer_first}
+use Rattle.ir_keep.proofs.Whole.{length_force, whole_force, full_drop, first_pages, newer_changed, newer_first}
 
 abbrev with_core : thread.State → Core → thread.State
 with_core s core = record s { core = core }

@@ -1,5 +1,5 @@
 -- The calls of a keeper, over its entries.
-use Rattle.std.proofs.Common.{◌≡◌, ◌≢◌, ◌+◌, ◌-◌, ◌*◌, ◌<◌, ◌≤◌, ℕ, zero, suc, List, [], ◌∷◌, ◌++◌, length, map, take, drop, set, get_or, Option, Some, None, option_map, refl, sym, ap, ◌∙◌, subst, arith}
+use Rattle.std.proofs.Common.{◌≡◌, ◌+◌, ◌-◌, ◌*◌, ◌<◌, ◌≤◌, ℕ, zero, suc, List, [], ◌∷◌, ◌++◌, length, take, drop, set, get_or, Some, None, option_map, refl, sym, ap, ◌∙◌, subst, arith}
 use Rattle.std.proofs.lemmas.List.{take_all, length-drop}
 use Rattle.std.proofs.lemmas.List.Elements.{All-head, All-cons}
 use Rattle.std.proofs.lemmas.Option.{none-some, slice_get_past}
@@ -8,9 +8,8 @@ use Rattle.ir_image.specs.Guest.{most_threads}
 use Rattle.ir_fit.specs.Fit.{FittedTrace}
 use Rattle.ir_weave.specs.Standing.{Standing, StandsAt}
 use Rattle.ir_keep.specs.Gathered.{HasMemory}
-use Rattle.ir_keep.specs.Pages.{all_pages}
-use Rattle.ir_keep.specs.Keeping.{Kept, most_states, Keeping, IsNew, IsLike, IsCutFor, IsNearest, first_kept, after_keep, with_next, after_drop, kept_as, cut_in}
-use Rattle.ir_keep.specs.Store.{Page, Entry, in_force, threads_of, kept_of, all_kept, entry_of, taken_over, taken_away, place_of, AreEntries, AreFalling, AreLaid, AreFull, HasStart, IsStore, IsNearestPlace, thread_count, state_of}
+use Rattle.ir_keep.specs.Keeping.{Kept, most_states, Keeping, IsNew, IsLike, IsCutFor, IsNearest, after_keep, with_next, after_drop, kept_as, cut_in}
+use Rattle.ir_keep.specs.Store.{Entry, in_force, threads_of, kept_of, all_kept, entry_of, taken_over, taken_away, place_of, AreEntries, AreFalling, AreLaid, AreFull, IsStore, IsNearestPlace, thread_count, state_of}
 use Rattle.ir_keep.proofs.Laid.{entry_at}
 use Rattle.ir_keep.proofs.Whole.{full_whole, whole_force}
 use Rattle.ir_keep.proofs.Again.{kept_next, kept_first, store_next, store_first, store_counted, zero_cut, some_there}

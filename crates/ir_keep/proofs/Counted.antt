@@ -7,7 +7,7 @@ use Rattle.std.specs.List.{All}
 use Rattle.ir_image.specs.Guest.{most_threads}
 use Rattle.ir_keep.specs.Pages.{Origin, is_origin, has_origin, different, origins}
 use Rattle.ir_keep.specs.Keeping.{Kept}
-use Rattle.ir_keep.specs.Store.{Page, Entry, blank, newer, laid, in_force, all_kept, owned, stored, AreEntries, AreNewer, AreLaid}
+use Rattle.ir_keep.specs.Store.{Page, Entry, laid, in_force, all_kept, owned, stored, AreEntries, AreNewer, AreLaid}
 use Rattle.ir_keep.proofs.Laid.{entry_at}
 use Rattle.ir_keep.proofs.Whole.{length_force}
 

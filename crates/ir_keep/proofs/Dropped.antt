@@ -1,8 +1,8 @@
 -- An entry is taken away, and what the others keep stays.
-use Rattle.std.proofs.Common.{◌≡◌, ◌==◌, ◌*◌, ◌+◌, ◌<◌, ◌≤◌, ℕ, zero, suc, Bool, true, false, if◌then◌else◌, List, [], ◌∷◌, length, refl, sym, ap, ◌∙◌, subst, arith}
+use Rattle.std.proofs.Common.{◌≡◌, ◌==◌, ◌+◌, ◌<◌, ◌≤◌, ℕ, zero, suc, Bool, true, false, if◌then◌else◌, List, [], ◌∷◌, length, refl, sym, ap, ◌∙◌, subst, arith}
 use Rattle.std.proofs.lemmas.Bool.Decides.{nat_tests}
-use Rattle.ir_keep.specs.Keeping.{Kept, without}
-use Rattle.ir_keep.specs.Store.{Page, Entry, laid, in_force, kept_of, all_kept, handed, taken_over, taken_away, place_of, AreEntries, IsEntry, AreBelow, AreFalling, AreNewer, AreLaid, HasStart, IsStore}
+use Rattle.ir_keep.specs.Keeping.{without}
+use Rattle.ir_keep.specs.Store.{Entry, laid, in_force, kept_of, all_kept, taken_away, place_of, AreEntries, AreBelow, AreFalling, AreNewer, AreLaid, HasStart, IsStore}
 use Rattle.ir_keep.proofs.Laid.{laid_handed, length-handed}
 use Rattle.ir_keep.proofs.Whole.{newer_handed}
 use Rattle.ir_keep.proofs.Again.{start_behind}

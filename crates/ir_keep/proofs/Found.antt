@@ -1,12 +1,12 @@
 -- Entries and what they keep, by their numbers.
-use Rattle.std.proofs.Common.{◌≡◌, ◌≢◌, ◌==◌, ◌+◌, ◌<◌, ◌≤◌, ◌&&◌, ℕ, zero, suc, Bool, true, false, nat_le, if◌then◌else◌, List, [], ◌∷◌, length, map, drop, get_or, Option, Some, None, option_map, refl, sym, ap, ◌∙◌, subst, arith, inl, inr}
+use Rattle.std.proofs.Common.{◌≡◌, ◌==◌, ◌<◌, ◌≤◌, ◌&&◌, ℕ, zero, suc, Bool, true, false, nat_le, if◌then◌else◌, List, [], ◌∷◌, length, map, drop, get_or, Option, Some, None, refl, sym, ap, ◌∙◌, arith, inl, inr}
 use Rattle.std.proofs.lemmas.Bool.{cases_lt}
 use Rattle.std.proofs.lemmas.List.{length-map}
 use Rattle.std.proofs.lemmas.Bool.Decides.{nat_tests}
 use Rattle.std.proofs.lemmas.Option.{none-some}
 use Rattle.ir_thread.specs.Frames.{ThreadFrame}
 use Rattle.ir_thread.specs.State as thread
-use Rattle.ir_keep.specs.Keeping.{Kept, Keeping, kept_as, cut_in, is_below, total, IsNearest}
+use Rattle.ir_keep.specs.Keeping.{Kept, kept_as, cut_in, is_below, total, IsNearest}
 use Rattle.ir_keep.specs.Store.{Page, Entry, in_force, threads_of, kept_of, all_kept, place_of, AreEntries, AreBelow, AreFalling, AreZero, HasStart, IsNearestPlace}
 use Rattle.ir_keep.proofs.Laid.{entry_at}
 

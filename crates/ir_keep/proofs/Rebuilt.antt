@@ -1,12 +1,10 @@
 -- Threads rebuilt from frames and pages.
-use Rattle.std.proofs.Common.{◌≡◌, ◌*◌, ◌+◌, ◌<◌, ◌≤◌, ℕ, zero, suc, List, [], ◌∷◌, ◌++◌, length, map, take, drop, get_or, set, refl, sym, ap, ◌∙◌, subst, arith}
+use Rattle.std.proofs.Common.{◌≡◌, ◌*◌, ◌+◌, ◌<◌, ◌≤◌, ℕ, List, [], ◌∷◌, ◌++◌, length, map, take, drop, get_or, set, refl, sym, ap, ◌∙◌, subst, arith}
 use Rattle.std.proofs.lemmas.List.{take_all, take_more_set, map_push, map_more, get_or-drop, drop_more, drop-drop, append_assoc, length-drop}
-use Rattle.std.specs.List.{All}
 use Rattle.ir_mach.specs.Pages.{ArePages}
 use Rattle.ir_thread.specs.Frames.{ThreadFrame, thread_of}
 use Rattle.ir_thread.specs.State as thread
 use Rattle.ir_weave.specs.Standing.{Standing}
-use Rattle.ir_keep.specs.Keeping.{Kept}
 use Rattle.ir_keep.specs.Store.{Page, Entry, blank, in_force, threads_of, kept_of, state_of, AreEntries, AreFull, thread_count}
 use Rattle.ir_keep.proofs.Laid.{length-laid, entry_at}
 use Rattle.ir_keep.proofs.Whole.{full_drop, first_pages}

@@ -1,9 +1,9 @@
 -- Kept pages are whole, and none was kept after its entry.
-use Rattle.std.proofs.Common.{◌≡◌, ◌==◌, ◌*◌, ◌+◌, ◌<◌, ◌≤◌, ℕ, zero, suc, Bool, true, false, if◌then◌else◌, List, [], ◌∷◌, length, map, take, drop, Option, Some, None, refl, sym, ap, ◌∙◌, arith}
+use Rattle.std.proofs.Common.{◌≡◌, ◌*◌, ◌<◌, ◌≤◌, ℕ, zero, suc, Bool, true, false, if◌then◌else◌, List, [], ◌∷◌, length, map, take, drop, Option, Some, None, sym, ◌∙◌, arith}
 use Rattle.std.proofs.lemmas.List.{length-map, length-take-le}
 use Rattle.std.proofs.lemmas.List.Elements.{All-head, All-tail, All-cons}
 use Rattle.std.specs.List.{All}
-use Rattle.ir_mach.specs.Pages.{page_size, IsPage, ArePages}
+use Rattle.ir_mach.specs.Pages.{IsPage, ArePages}
 use Rattle.ir_keep.specs.Pages.{same_bytes}
 use Rattle.ir_keep.specs.Store.{Page, Entry, laid, in_force, changed, handed, AreEntries, AreFalling, IsWhole, AreWhole, AreNewer, AreLaid, AreFull}
 use Rattle.ir_keep.proofs.Laid.{length-laid}

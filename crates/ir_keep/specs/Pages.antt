@@ -1,5 +1,5 @@
 -- Where the pages of kept cuts come from, and how many there are.
-use Rattle.std.specs.Prelude.{◌≡◌, ◌==◌, ◌&&◌, ◌||◌, ℕ, zero, suc, Bool, true, false, List, [], ◌∷◌, flat_map, if◌then◌else◌}
+use Rattle.std.specs.Prelude.{◌==◌, ◌&&◌, ◌||◌, ℕ, suc, Bool, true, false, List, [], ◌∷◌, flat_map, if◌then◌else◌}
 use Rattle.ir_mach.specs.Pages.{pages_of}
 use Rattle.ir_thread.specs.State as thread
 

@@ -1,5 +1,5 @@
 -- Lines of a trace that are written thread by thread.
-use Rattle.std.proofs.Common.{◌≡◌, ◌≤◌, ◌<◌, ◌+◌, ℕ, Bool, true, false, List, [], ◌∷◌, ◌++◌, length, map, drop, get_or, Option, Result, Ok, Err, IfErr, refl, sym, ap, subst, ◌∙◌, append_assoc, append-nil}
+use Rattle.std.proofs.Common.{◌≡◌, ◌≤◌, ◌<◌, ◌+◌, ℕ, Bool, true, List, [], ◌++◌, length, map, drop, get_or, Option, Result, Ok, Err, IfErr, refl, sym, ap, subst, ◌∙◌, append_assoc, append-nil}
 use Rattle.std.proofs.lemmas.List.{at_drop_more, at_drop_all}
 use Rattle.std.specs.Io.KnownBytes.{Appends}
 use Rattle.std.proofs.KnownBytes.{Appends-nil, Appends-trans}
@@ -11,7 +11,7 @@ use Rattle.ir_trace.specs.Recorded.{RecordedThread}
 use Rattle.ir_debug.specs.Buffered.{Buffered}
 use Rattle.ir_debug.specs.Machine.Texts.{log_text}
 use Rattle.ir_program.specs.Listing.{header_line, thread_listing, threads_listing, Stops}
-use Rattle.ir_files.specs.Writers.{Writer, writer_of, Failed}
+use Rattle.ir_files.specs.Writers.{writer_of, Failed}
 use Rattle.ir_program.specs.declared.list_err.ListErr.{ListErr}
 use Rattle.ir_program.specs.declared.list_err.ListErr.TheVariants as err
 

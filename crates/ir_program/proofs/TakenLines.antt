@@ -1,5 +1,5 @@
 -- Lines that are taken byte by byte.
-use Rattle.std.proofs.Common.{◌≡◌, ◌≤◌, ◌<◌, ◌+◌, ◌-◌, ℕ, Bool, true, false, List, [], ◌∷◌, ◌++◌, length, Option, Some, None, Result, Ok, Err, leb, refl, sym, ap, subst, ◌∙◌, arith, inl, inr}
+use Rattle.std.proofs.Common.{◌≡◌, ◌≤◌, ◌<◌, ◌+◌, ◌-◌, ℕ, Bool, false, List, [], ◌∷◌, ◌++◌, length, Option, Some, None, Result, Ok, Err, leb, refl, sym, ap, subst, ◌∙◌, arith, inl, inr}
 use Rattle.std.specs.Prelude.{IfSome, IfErr}
 use Rattle.std.specs.Io.KnownBytes.{Consumes, IsAtEnd, Keeps}
 use Rattle.std.proofs.KnownBytes.{Consumes-kept}
@@ -11,7 +11,7 @@ use Rattle.ir_debug.specs.Session.{Session, IfServed, most_input}
 use Rattle.ir_debug.specs.declared.ended.Ended.{Ended}
 use Rattle.ir_debug.specs.declared.ended.SessionErr.{SessionErr}
 use Rattle.ir_debug.specs.declared.ended.SessionErr.TheVariants as err
-use Rattle.ir_program.specs.Taking.{IsPlain, Reader, reader_of, TakesLine, TakesBytes, IsInLine, GivesNone, LineFails}
+use Rattle.ir_program.specs.Taking.{IsPlain, reader_of, TakesLine, TakesBytes, IsInLine, GivesNone, LineFails}
 use Rattle.ir_files.specs.Writers.{Writer}
 use Rattle.ir_program.specs.Leaving.{Serves, Leaves}
 use Rattle.ir_program.specs.declared.fault.BundleErr.{BundleErr}

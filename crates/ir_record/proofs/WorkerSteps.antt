@@ -87,9 +87,11 @@ entry_added ask.Done v = omega arith
 
 -- the object steps, and the labels and the number of the events, are those of what is asked, with this result
 abbrev pub AreOf : Ask → ℕ → List ObjectStep → List Event → Type 0
-AreOf q v es evs = ◌≡◌ {A = List Shared × List Label × ℕ} (map shared_of es, map logging.label_of evs, length evs)
-    (keep_if (is_shared (act_of (shared_ask q) v)) (act_of (shared_ask q) v, v) [],
-    logged (alone_label (act_of (shared_ask q) v) (map label_of es)) [], added q)
+AreOf q v es evs = ◌≡◌ {A = List Shared × List Label × ℕ} (map shared_of es, map logging.label_of evs, length evs) (
+  keep_if (is_shared (act_of (shared_ask q) v)) (act_of (shared_ask q) v, v) [],
+  logged (alone_label (act_of (shared_ask q) v) (map label_of es)) [],
+  added q,
+)
 
 -- it was taken
 record IsStep (g : Guest) (w w' : Work) (q : Ask) (v : ℕ) (es : List ObjectStep) (evs : List Event) : Type 0 where

@@ -1,5 +1,5 @@
 -- Steps on the way to a cut.
-use Rattle.std.specs.Prelude.{◌≡◌, ◌≢◌, ℕ, ◌+◌, ◌-◌, ◌<◌, ◌≤◌, ◌⊎◌, List, length, Option, Some, None}
+use Rattle.std.specs.Prelude.{◌≡◌, ◌≢◌, ℕ, ◌+◌, ◌-◌, ◌≤◌, ◌⊎◌, List, length, Option, Some, None}
 use Rattle.ir_runs.specs.Labels.{logged}
 use Rattle.ir_flat.specs.Flat.{Flat, tables, machine}
 use Rattle.ir_runs.specs.Run.{Can, label}

@@ -1,5 +1,5 @@
 -- The words of a table.
-use Rattle.std.specs.Prelude.{◌≡◌, ℕ, ◌+◌, ◌*◌, ◌-◌, ◌/◌, ◌%◌, ◌^◌, ◌<◌, cond, eqb, ltb, List, length, slice_index}
+use Rattle.std.specs.Prelude.{◌≡◌, ℕ, ◌+◌, ◌-◌, ◌/◌, ◌%◌, ◌^◌, ◌<◌, cond, eqb, ltb, List, length, slice_index}
 use Rattle.std.specs.List.{slice_index_or}
 use Rattle.ir_image.specs.Guest.{most_object_words}
 use Rattle.ir_object.specs.Cell.{Cell}

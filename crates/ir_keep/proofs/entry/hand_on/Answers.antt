@@ -1,5 +1,5 @@
-use Rattle.std.proofs.Common.{rules, ◌≡◌, ◌+◌, ◌<◌, ◌++◌, suc, length, take, drop, get_or, set, None, Option, ap, sym, ◌∙◌, arith}
-use Rattle.ir_keep.specs.Store.{Page, first_of, handed}
+use Rattle.std.proofs.Common.{rules, get_or, ap, ◌∙◌, arith}
+use Rattle.ir_keep.specs.Store.{first_of}
 use Rattle.ir_keep.proofs.Laid.{handed_next}
 use Rattle.ir_keep.proofs.entry.hand_on.Goals as goal
 

@@ -1,7 +1,7 @@
-use Rattle.std.proofs.Common.{◌≡◌, ◌+◌, ◌<◌, List, [], ◌∷◌, ◌++◌, map, take, ap, sym, ◌∙◌, subst}
+use Rattle.std.proofs.Common.{◌≡◌, [], ◌∷◌, ◌++◌, ap, sym, ◌∙◌, subst}
 use Rattle.std.proofs.lemmas.List.{map_more}
 use Rattle.std.proofs.lemmas.List.Elements.{All-more}
-use Rattle.ir_thread.specs.Frames.{ThreadFrame, frame_of}
+use Rattle.ir_thread.specs.Frames.{frame_of}
 use Rattle.ir_keep.specs.Gathered.{HasMemory}
 use Rattle.ir_keep.proofs.gathering.frames.Goals as goal
 

@@ -1,4 +1,3 @@
-use Rattle.std.proofs.Common.{◌≡◌}
 use Rattle.ir_keep.proofs.Calls.{same_many, taken_there}
 use Rattle.ir_keep.proofs.keeper.take_away.Goals as goal
 

@@ -1,4 +1,4 @@
-use Rattle.std.proofs.Common.{◌≡◌, List, get_or, None, ap, sym, ◌∙◌}
+use Rattle.std.proofs.Common.{get_or, None, ap, sym, ◌∙◌}
 use Rattle.ir_keep.specs.Store.{Entry, Page}
 use Rattle.ir_keep.proofs.Laid.{found, passed}
 use Rattle.ir_keep.proofs.store.page_at.Goals as goal

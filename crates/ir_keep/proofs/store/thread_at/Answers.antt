@@ -1,4 +1,4 @@
-use Rattle.std.proofs.Common.{◌≡◌, ◌+◌, ◌*◌, ◌<◌, ◌≤◌, List, ℕ, map, length, ◌∙◌, arith, length-set, Bor}
+use Rattle.std.proofs.Common.{◌+◌, ◌*◌, List, ℕ, ◌∙◌, arith, length-set, Bor}
 use Rattle.ir_keep.specs.Store.{in_force}
 use Rattle.ir_keep.proofs.Rebuilt.{long_force, page_more, pages_there, are_there}
 use Rattle.ir_keep.proofs.store.thread_at.Goals as goal

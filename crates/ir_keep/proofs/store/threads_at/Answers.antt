@@ -1,4 +1,4 @@
-use Rattle.std.proofs.Common.{◌≡◌, ◌*◌, ◌<◌, take, drop, map, length, ap, ◌∙◌}
+use Rattle.std.proofs.Common.{◌*◌, take, drop, map, length, ap, ◌∙◌}
 use Rattle.ir_thread.specs.Frames.{ThreadFrame, thread_of}
 use Rattle.ir_keep.specs.Store.{Page, in_force}
 use Rattle.ir_keep.proofs.Rebuilt.{entries_long, thread_more}

@@ -1,4 +1,4 @@
-use Rattle.std.proofs.Common.{arith, refl}
+use Rattle.std.proofs.Common.{arith}
 use Rattle.std.proofs.lemmas.Result.{err_from_is_err_and}
 use Rattle.ir_files.proofs.CallerLemmas.{if_err}
 use Rattle.ir_program.proofs.Listed.{one_listed, one_stopped, all_listed}

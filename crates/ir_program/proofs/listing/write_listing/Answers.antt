@@ -1,4 +1,4 @@
-use Rattle.std.proofs.Common.{◌≡◌, ◌∙◌, ℕ, List, length}
+use Rattle.std.proofs.Common.{◌∙◌, length}
 use Rattle.std.proofs.lemmas.Result.{err_from_is_err_and}
 use Rattle.ir_program.specs.Listing.{header_line}
 use Rattle.ir_program.specs.declared.list_err.ListErr.TheVariants.{Write}

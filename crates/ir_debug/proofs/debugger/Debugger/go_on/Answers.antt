@@ -1,10 +1,9 @@
-use Rattle.std.proofs.Common.{◌≡◌, ◌<◌, Some, refl, sym, ap, subst, ◌∙◌}
-use Rattle.ir_cut.specs.Positions.{EachRun, IsConsistentCut}
+use Rattle.std.proofs.Common.{◌≡◌, ◌<◌, refl, sym, ap, subst, ◌∙◌}
+use Rattle.ir_cut.specs.Positions.{IsConsistentCut}
 use Rattle.ir_fit.specs.Fit.{FittedTrace}
 use Rattle.ir_command.specs.declared.command.Command.TheVariants as command
 use Rattle.ir_debug.specs.Debugging.{Debugging}
-use Rattle.ir_debug.specs.Machine.Desk.{Desk, threads_of, spoken}
-use Rattle.ir_debug.specs.Machine.Moves.{Finds}
+use Rattle.ir_debug.specs.Machine.Desk.{Desk, threads_of}
 use Rattle.ir_debug.proofs.Passed.{thread_below}
 use Rattle.ir_debug.proofs.SetPoints.{stop_within}
 use Rattle.ir_debug.proofs.debugger.Debugger.go_on.Goals as goal

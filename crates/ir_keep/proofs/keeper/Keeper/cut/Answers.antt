@@ -1,4 +1,4 @@
-use Rattle.std.proofs.Common.{◌≡◌, ◌<◌, ◌≤◌, length, ap, ◌∙◌, arith}
+use Rattle.std.proofs.Common.{◌<◌, ◌≤◌, length, ap, ◌∙◌, arith}
 use Rattle.ir_keep.specs.Store.{Entry, thread_count}
 use Rattle.ir_keep.proofs.Calls.{cut_kept, none_kept, is_none, not_none}
 use Rattle.ir_keep.proofs.keeper.Keeper.cut.Goals as goal

@@ -1,4 +1,4 @@
-use Rattle.std.proofs.Common.{◌≡◌, ◌<◌, length, ap, ◌∙◌}
+use Rattle.std.proofs.Common.{◌<◌, length, ap, ◌∙◌}
 use Rattle.ir_keep.specs.Keeping.{after_drop}
 use Rattle.ir_keep.specs.Store.{thread_count}
 use Rattle.ir_keep.proofs.Calls.{there, drop_store, drop_value}

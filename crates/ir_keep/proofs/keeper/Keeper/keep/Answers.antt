@@ -1,6 +1,6 @@
-use Rattle.std.proofs.Common.{◌≡◌, ◌+◌, ◌<◌, ℕ, List, ◌∷◌, length, ap, sym, ◌∙◌, subst, arith}
+use Rattle.std.proofs.Common.{◌≡◌, ◌+◌, ◌<◌, length, ap, sym, ◌∙◌, subst, arith}
 use Rattle.ir_keep.specs.Keeping.{Keeping, after_keep}
-use Rattle.ir_keep.specs.Store.{Entry, AreEntries, entry_of, thread_count}
+use Rattle.ir_keep.specs.Store.{AreEntries, thread_count}
 use Rattle.ir_keep.proofs.Calls.{like_count, keep_store, keep_value}
 use Rattle.ir_keep.proofs.keeper.Keeper.keep.Goals as goal
 

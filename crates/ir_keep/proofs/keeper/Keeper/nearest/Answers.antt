@@ -1,5 +1,4 @@
-use Rattle.std.proofs.Common.{◌≡◌, ◌≤◌, List, ℕ, length, ap, sym, ◌∙◌, subst, arith}
-use Rattle.ir_image.specs.Guest.{most_threads}
+use Rattle.std.proofs.Common.{◌≡◌, length, ap, sym, ◌∙◌, subst, arith}
 use Rattle.ir_keep.specs.Store.{Entry, AreEntries, thread_count}
 use Rattle.ir_keep.proofs.Calls.{cut_count, nearest_there}
 use Rattle.ir_keep.proofs.keeper.Keeper.nearest.Goals as goal

@@ -1,4 +1,3 @@
-use Rattle.std.proofs.Common.{◌≡◌}
 use Rattle.ir_keep.proofs.Calls.{new_store, new_value}
 use Rattle.ir_keep.proofs.keeper.Keeper.new.Goals as goal
 

@@ -1,4 +1,4 @@
-use Rattle.std.proofs.Common.{◌≡◌, ◌<◌, length}
+use Rattle.std.proofs.Common.{◌<◌, length}
 use Rattle.std.proofs.lemmas.Result.{IfOk-weaker}
 use Rattle.ir_keep.specs.Store.{thread_count}
 use Rattle.ir_keep.proofs.Calls.{there, behind_there, state_kept}

@@ -1,4 +1,4 @@
-use Rattle.std.proofs.Common.{◌≡◌, length, ap, ◌∙◌}
+use Rattle.std.proofs.Common.{length, ap, ◌∙◌}
 use Rattle.ir_keep.specs.Store.{Entry, thread_count}
 use Rattle.ir_keep.proofs.Calls.{counts_threads}
 use Rattle.ir_keep.proofs.keeper.Keeper.threads.Goals as goal
