@@ -1,6 +1,6 @@
 //! A machine taken apart into registers and pages of private memory, and built from them.
 
-ghost use Rattle.std.specs.Prelude.{◌≡◌, ◌<◌, ◌*◌, ◌+◌, ◌++◌, List, length, take, drop, flat_map, map, IfOk};
+ghost use Rattle.std.specs.Prelude.{◌≡◌, ◌<◌, length, flat_map, map, IfOk};
 ghost use Rattle.ir_mach.specs.Core.{memory_size};
 ghost use Rattle.ir_mach.specs.Pages.{ArePages, core_of, memory_pages, page_of, page_size, register_file};
 
@@ -38,28 +38,6 @@ fn joined(alloc: Global, pages: &[&[u8]]) -> Result<Vec<u8>, AllocError>
     Ok(memory)
 }
 
-fn write_page(memory: &mut [u8], i: usize, page: &[u8])
-    requires below { i < memory_pages }
-    requires size { length memory.old ≡ memory_size }
-    requires page { length page.now ≡ page_size }
-    ensures value { memory.new ≡ take (page_size * i) memory.old ++ page.now ++ drop (page_size * i + page_size) memory.old }
-    ensures size { length memory.new ≡ memory_size }
-{
-    let first = PAGE_SIZE * i;
-    memory[first..first + PAGE_SIZE].copy_from_slice(page);
-}
-
-// Writes these pages over all of private memory.
-fn fill(memory: &mut [u8], pages: &[&[u8]])
-    requires pages { ArePages (map (λ page. page.now) pages.now) }
-    requires size { length memory.old ≡ memory_size }
-    ensures { memory.new ≡ flat_map (λ page. page) (map (λ page. page.now) pages.now) }
-{
-    for i in 0..pages.len() {
-        write_page(memory, i, pages[i]);
-    }
-}
-
 impl Mach {
     /// The pc and the registers.
     pub fn regs_only(&self) -> Regs
@@ -95,15 +73,5 @@ impl Mach {
             registers: regs.registers,
             memory,
         })
-    }
-
-    /// Becomes the machine with these registers and these 16 pages of 4,096 bytes, in the memory that it has.
-    pub fn rebuild(&mut self, regs: &Regs, pages: &[&[u8]])
-        requires { ArePages (map (λ page. page.now) pages.now) }
-        ensures { self.new ≡ core_of regs.now (map (λ page. page.now) pages.now) }
-    {
-        self.pc = regs.pc;
-        self.registers = regs.registers;
-        fill(&mut self.memory, pages);
     }
 }

@@ -1,9 +1,8 @@
 //! A thread taken apart into a frame and pages, and built from them.
 
-ghost use Rattle.std.specs.Prelude.{◌≡◌, ◌<◌, ◌≤◌, length, map, vec_capacity, IfOk};
+ghost use Rattle.std.specs.Prelude.{◌≡◌, ◌<◌, length, map, IfOk};
 ghost use Rattle.ir_mach.specs.Core.{memory_size};
 ghost use Rattle.ir_mach.specs.Pages.{ArePages, memory_pages, page_of, page_size};
-ghost use Rattle.ir_thread.specs.Calls.{most_output};
 ghost use Rattle.ir_thread.specs.Frames.{frame_of, thread_of};
 
 use crate::frame::Frame;
@@ -69,33 +68,4 @@ impl Thread {
             ended: frame.ended,
         })
     }
-
-    /// Becomes the thread with this frame and these 16 pages of 4,096 bytes, in the memory that it has.
-    pub fn rebuild(&mut self, frame: &Frame, pages: &[&[u8]])
-        requires pages { ArePages (map (λ page. page.now) pages.now) }
-        requires held { length self.old.held ≡ length frame.now.held }
-        ensures { self.new ≡ thread_of frame.now (map (λ page. page.now) pages.now) }
-    {
-        self.mach.rebuild(&frame.regs, pages);
-        self.number = frame.number;
-        self.held.copy_from_slice(frame.held.as_slice());
-        self.budget = frame.budget;
-        self.profile = frame.profile;
-        self.form = frame.form;
-        self.steps = frame.steps;
-        self.events = frame.events;
-        print_again(&mut self.output, frame.output.as_slice());
-        self.ended = frame.ended;
-    }
-}
-
-// Becomes these bytes, in the room that it has.
-fn print_again(output: &mut Vec<u8>, bytes: &[u8])
-    requires room { most_output ≤ vec_capacity output.old }
-    requires fits { length bytes.now ≤ most_output }
-    ensures value { output.new.items ≡ bytes.now }
-    ensures room { most_output ≤ vec_capacity output.new }
-{
-    output.clear();
-    let _ = output.extend_from_slice(bytes);
 }
