@@ -239,6 +239,27 @@ def test_own_files(folder):
         wants(name, (folder / name).read_bytes(), before[name])
 
 
+def test_names(folder):
+    """What a user wrote is told in one line, without what leads a terminal; a name may be as long as the system has it."""
+    for words, status, error in (
+        (["debug", "a\nb", "d.trc"], 1, "ir: a?b can't be read: no such file or folder\n"),
+        (["asm", "d.s", "none/\x1b[2J"], 1, "ir: none/?[2J can't be written: no such file or folder\n"),
+        (["record", "d.img", "d.trc", "--order", "0\n1"], 3, "ir: LIST: the item '0?1' is neither T nor TxN\n"),
+        (["record", "d.img", "d.trc", "--random", "5\n"], 2, "ir: --random: '5?' is no number up to 18446744073709551615\n"),
+        (["debug", "d\u00e9", "d.trc"], 1, "ir: d\u00e9 can't be read: no such file or folder\n"),
+    ):
+        ended = subprocess.run([PROGRAM, *words], cwd=folder, capture_output=True, timeout=60, check=False)
+        wants(repr(words), (ended.returncode, ended.stdout, ended.stderr.decode()), (status, b"", error))
+    shutil.copy(folder / "bad.s", folder / "b\nd.s")
+    ended = subprocess.run([PROGRAM, "asm", "--explain", "b\nd.s", "x"], cwd=folder, capture_output=True, timeout=60, check=False)
+    wants("a source's name", ended.stderr.decode(), EXPLAINED.replace("bad.s", "SOURCE"))
+    for name in ("i" * 250, "i" * 251, "i" * 255, "\u00e9" * 127, "i" + "\u00e9" * 127):
+        ended = subprocess.run([PROGRAM, "asm", "d.s", name], cwd=folder, capture_output=True, timeout=60, check=False)
+        wants(name, (ended.returncode, ended.stderr), (0, b""))
+        wants(f"{name}: the image", (folder / name).read_bytes(), (folder / "d.img").read_bytes())
+        (folder / name).unlink()
+
+
 def test_outputs(folder):
     """What each thread prints stands in a file of its own, where that is asked for."""
     wants("no file", list(folder.glob("*.0")), [])

@@ -20,7 +20,7 @@ const AFTER: &str = "A session of a source of your own:
 Without a subcommand `ir` reads standard input: a line with an image in hexadecimal, a line with its trace in
 hexadecimal, and then the commands of `ir debug`, a line each. With xxd for the hexadecimal:
   { for file in guest.img guest.trc; do xxd -p $file | tr -d '\\n'; echo; done; echo end; echo regs 0; } | ir
-Exit status: 0 done, 1 a fault, 2 bad arguments, 3 a refused image or trace, 4 a trace that doesn't fit.
+Exit status: 0 done, 1 a fault, 2 bad arguments, 3 a refused source, LIST, image or trace, 4 a trace that doesn't fit.
 ";
 
 const ASM: &str = "asm";
@@ -35,13 +35,15 @@ const ASM_ABOUT: &str = "Assembles a guest's source into an image";
 
 /// What follows the help of `ir asm`.
 pub const ASM_AFTER: &str =
-    "A source is lines: labels `name:`, then an instruction of RV32IM or a directive, then a comment from `#` on.
+    "A source is lines: labels `name:` of at most 64 characters, then an instruction of RV32IM or a directive, then a comment from
+`#` on.
 Directives:
   .large             stands before every other statement: more threads, objects and words of objects, and an image IRI2
-  .text, .data       the section from here on; a source begins in text
-  .word V, ..        words, in text or data
-  .byte V, ..        bytes, in data
-  .space N           N zero bytes, in data
+  .text, .data       the section from here on; a source begins in text. Code stands at 0x00010000, data at 0x00100000, where
+                     each thread's own memory of 65,536 bytes begins with them; sp is 0x00110000 at its start
+  .word V, ..        words, in text or data; V from -2147483648 to 4294967295
+  .byte V, ..        bytes, in data; V from 0 to 255
+  .space N           N zero bytes, in data, at most 65536
   .thread LABEL      the next thread's entry, at most 8, or 16 with .large; without any one thread starts where the text does
   .objects N         the number of shared objects, at most 16, or 64 with .large
   .object O, V, ..   the first words of object O, at most 8, or 16 with .large
@@ -116,9 +118,21 @@ threads stand at a cut, a position for each, at which all that their steps need 
   drop N        keeps the cut N no longer
   kept          each number, and the positions of its cut
   quit          ends the session
-Numbers are decimal, or `0x` and hexadecimal digits. A move answers `at` and the positions, then `hit N` where point N stopped
-thread T, `end` where it is at its last position and `start` where it is at 0. A line that can't be carried out is answered `refused R` and why, and changes
-nothing. At a terminal standard error prompts for each line.
+Numbers are decimal, or `0x` and hexadecimal digits. A move answers `at` and the positions, one of thread T then `hit N` where
+point N stopped it, `end` where it is at its last position and `start` where it is at 0. A line that can't be carried out is
+answered `refused R` and why, and changes nothing. At a terminal standard error prompts for each line.
+What a session opens with instead of `ready`:
+  image refused N           1 cut short, 2 no image, 3 a number over its limit, 4 an entry outside the code, 5 bytes left over
+  trace refused N           1 cut short, 2 no trace, 3 a number over its limit, 4 an unknown event, 5 reserved bytes that aren't 0,
+                            6 an end, a code or an input out of its range, 7 bytes left over
+  header differs C          1 another number of threads than the image has, 2 of objects
+  incoherent thread T event E cause C
+                            event E of thread T is an entry at a version that 1 nobody made, 2 another write entry has too,
+                            3 had another number of readers
+  thread T disagrees event E step S
+                            step S of thread T isn't what the trace has, E being the next event of its log
+  thread T starves event E  event E of thread T is an entry whose version or readers never come
+  thread T same             thread T ends as the trace says, while another doesn't
 Exit status: 0 done, 1 a fault, 2 bad arguments, 3 a refused image or trace, 4 a trace that doesn't fit.
 ";
 

@@ -1,5 +1,5 @@
 -- What a writer took of a text, and the lines that tell faults.
-use Rattle.std.specs.Prelude.{◌≡◌, ℕ, Bool, true, false, List, [], ◌∷◌, ◌++◌, codes, ◌⊎◌, Option}
+use Rattle.std.specs.Prelude.{◌≡◌, ℕ, Bool, true, List, [], ◌∷◌, ◌++◌, codes, ◌⊎◌, Option}
 use Rattle.std.specs.Io.KnownBytes.{Appends}
 use Rattle.ir_stream.specs.Devices.{AppendsPrefix}
 

@@ -7,6 +7,17 @@ ghost use Rattle.ir_files.specs.Writers.{writer_of, Reports, fault_text};
 
 use ir_stream::{DeviceErr, Sink, write_all};
 
+// Writes what a user wrote, as a path. What would end the line, or lead a terminal, stands as a question mark.
+fn put_name<E: Sink>(faults: &mut E, name: &str) -> Result<(), DeviceErr> {
+    for (place, part) in name.split(|c: char| c.is_control()).enumerate() {
+        if place > 0 {
+            write_all(faults, b"?")?;
+        }
+        write_all(faults, part.as_bytes())?;
+    }
+    Ok(())
+}
+
 // Writes one line that says what failed, or is wrong, and why.
 fn reported<E: Sink>(
     faults: &mut E,
@@ -17,13 +28,14 @@ fn reported<E: Sink>(
 ) -> Result<(), DeviceErr> {
     write_all(faults, b"ir: ")?;
     write_all(faults, before.as_bytes())?;
-    write_all(faults, name.as_bytes())?;
+    put_name(faults, name)?;
     write_all(faults, what.as_bytes())?;
     write_all(faults, why.as_bytes())?;
     write_all(faults, b"\n")
 }
 
-/// Tells a fault of a named thing in one line, for which no memory is taken. Nobody is left to tell where that fails.
+/// Tells a fault of a named thing in one line, for which no memory is taken: a control character of the name, as a line feed,
+/// is told as a question mark. Nobody is left to tell where that fails.
 pub fn tell_of<E: Sink>(faults: &mut E, before: &str, name: &str, what: &str, why: &str)
     requires works { E.broken faults.old ≡ false }
 {

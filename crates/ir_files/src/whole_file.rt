@@ -6,6 +6,7 @@ use crate::files::NewFile;
 use crate::folder::Folder;
 use crate::reason::reason;
 use ir_stream::{DeviceErr, Sink};
+use std::alloc::{AllocError, Global};
 
 /// A sink whose bytes may stand elsewhere until they are whole.
 pub trait WholeSink: Sink {
@@ -27,6 +28,30 @@ pub trait WholeSink: Sink {
 
     /// Why it failed, if it did.
     fn why(&self) -> &str;
+}
+
+// What stands behind the name of a place whose file isn't whole.
+const PART: &str = ".part";
+
+// The most bytes of a file's name, as Linux has it.
+const MOST_NAME: usize = 255;
+
+/// The path beside a place at which its file is written until it is whole: `.part` behind its name, of which as much is left out
+/// at its end as would make that too long for a file's name.
+///
+/// # Errors
+/// Out of memory.
+pub fn path_beside(alloc: Global, place: &str) -> Result<String, AllocError> {
+    let name = place.split('/').last().unwrap_or(place);
+    let excess = name
+        .len()
+        .saturating_add(PART.len())
+        .saturating_sub(MOST_NAME);
+    let end = place.len().saturating_sub(excess);
+    // A character has at most four bytes.
+    let kept = (0..4).find_map(|less| place.get(..end.saturating_sub(less)));
+    let kept = kept.unwrap_or(place);
+    format!(in alloc; "{kept}{PART}")
 }
 
 /// A file that is written beside its place and then put there, over what stood there before. Where a write fails, or
@@ -69,6 +94,16 @@ impl<'a, D: Folder> WholeFile<'a, D> {
         self.beside.unwrap_or(self.place)
     }
 
+    // Before the first byte: what stands beside its place goes, so that nothing is written through a link there.
+    fn clear(&self) {
+        match self.beside {
+            Some(beside) if !self.file.is_made() => {
+                let _ = self.folder.remove(beside);
+            }
+            _ => {}
+        }
+    }
+
     // It failed, for this reason, and what was written beside its place goes.
     fn fail(&mut self, why: &'static str) -> DeviceErr
         ensures { self.new.failed ≡ true }
@@ -91,6 +126,7 @@ impl<D: Folder> Sink for WholeFile<'_, D> {
     ghost broken = { λ f. f.failed };
 
     fn write(&mut self, bytes: &[u8]) -> Result<usize, DeviceErr> {
+        self.clear();
         match self.file.write(bytes) {
             Ok(count) => Ok(count),
             Err(_) => {

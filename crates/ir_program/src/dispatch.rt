@@ -11,7 +11,7 @@ use ir_arguments::{Asked, AssemblyArguments, RecordArguments, parsed};
 use ir_debug::{Sink, Source};
 use ir_files::{
     Folder, MOST_BYTES, MOST_INPUT, OutputFiles, WholeFile, WholeSink, loses, output_paths,
-    read_file, tell_of,
+    path_beside, read_file, tell_of,
 };
 use ir_image::{ImageErr, read_image};
 use ir_object::Gate;
@@ -185,7 +185,7 @@ fn assemble_file<D: Folder, E: Sink>(
 {
     let source = arguments.source.as_str();
     let image = arguments.image.as_str();
-    let Ok(beside) = format!(in alloc; "{image}.part") else {
+    let Ok(beside) = path_beside(alloc, image) else {
         say(faults, "memory ran out", "", "");
         return FAULT;
     };
@@ -196,7 +196,13 @@ fn assemble_file<D: Folder, E: Sink>(
     let Some(bytes) = bytes_of(alloc, folder, faults, source, MOST_BYTES) else {
         return FAULT;
     };
-    let explained = (explains || arguments.explain).then_some(source);
+    // A name that would part the line, or lead a terminal, isn't shown.
+    let name = if source.chars().any(|c| c.is_control()) {
+        "SOURCE"
+    } else {
+        source
+    };
+    let explained = (explains || arguments.explain).then_some(name);
     let status = asm_run(alloc, bytes.as_slice(), explained, &mut file, faults);
     if status == DONE {
         let _ = file.finish();
@@ -389,7 +395,7 @@ where
     requires reports { E.broken faults.old ≡ false }
 {
     let place = arguments.trace.as_str();
-    let Ok(beside) = format!(in alloc; "{place}.part") else {
+    let Ok(beside) = path_beside(alloc, place) else {
         say(faults, "memory ran out", "", "");
         return FAULT;
     };

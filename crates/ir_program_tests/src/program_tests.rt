@@ -126,7 +126,7 @@ fn prepared<R: Threads + Wait + Sync + Clock + Eprint + AllocGlobal>(
 const EXPLAINED: &str = "line 2 error 2\nbad.s:2: an unknown instruction or directive: x\n";
 
 // The words, the exit status, and what is told.
-const ROWS: [(&str, u8, &str); 48] = [
+const ROWS: [(&str, u8, &str); 51] = [
     (
         "ir asm",
         2,
@@ -157,6 +157,11 @@ const ROWS: [(&str, u8, &str); 48] = [
         "ir record d.img d.trc --budget x",
         2,
         "ir: --budget: 'x' is no number up to 1000000000000\n",
+    ),
+    (
+        "ir record d.img d.trc --budget 5\n6",
+        2,
+        "ir: --budget: '5?6' is no number up to 1000000000000\n",
     ),
     (
         "ir record d.img d.trc --random 1x",
@@ -249,6 +254,11 @@ const ROWS: [(&str, u8, &str); 48] = [
         "ir: none.s can't be read: no such file or folder\n",
     ),
     (
+        "ir asm \x1b[2J\n.s d2.img",
+        1,
+        "ir: ?[2J?.s can't be read: no such file or folder\n",
+    ),
+    (
         "ir asm folder d2.img",
         1,
         "ir: folder can't be read: it is a folder\n",
@@ -335,6 +345,11 @@ const ROWS: [(&str, u8, &str); 48] = [
         "ir record d.img d.trc --order -1",
         3,
         "ir: LIST: the item '-1' is neither T nor TxN\n",
+    ),
+    (
+        "ir record d.img d.trc --order 0\n1",
+        3,
+        "ir: LIST: the item '0?1' is neither T nor TxN\n",
     ),
     (
         "ir record d.img d.trc --order 0x0",
