@@ -17,13 +17,14 @@ use Rattle.ir_trace.specs.Recorded.{RecordedThread}
 use Rattle.ir_trace.specs.TraceOf.{absent}
 use Rattle.ir_record.specs.Gathered.{IsThreadTrace}
 use Rattle.ir_record.specs.Progress.{answers_at}
+use Rattle.ir_record.specs.Recording.{OthersWentOn}
 use Rattle.ir_record.specs.Threads.{IsNew, AreNew, IsOver, AreTraces, HasRoom, IsSeatOf, views_of, Pairs}
 use Rattle.ir_record.specs.Working.{work_of, IsWorking, IsReadyWorker, RanToEnd}
-use Rattle.ir_record.specs.Worlds.{Answered, NoneFailed, Extends, AreSameWorlds}
+use Rattle.ir_record.specs.Worlds.{Answered, answers_in, NoneFailed, Extends, AreSameWorlds}
 use Rattle.ir_record.specs.declared.room.Room.{Room}
 use Rattle.ir_record.specs.declared.worker.Worker.{Worker}
 use Rattle.ir_record.proofs.ByThreads.{AllOver, work_at, tracks_of}
-use Rattle.ir_record.proofs.Working.{worked_starts}
+use Rattle.ir_record.proofs.Working.{worked_starts, answers_alone}
 
 -- ---- before the first step
 
@@ -42,7 +43,7 @@ new_working answers g budget profile t id w new = record {
   room = ap (λ l. l.room) new.log;
   count = ap (λ l. length l.events) new.log ∙ sym (ap (λ x. x.events) new.thread);
   events_fit = subst (λ l. AllByRecursion (Rattle.ir_trace.specs.Recorded.IsEvent profile (object_count g)) l.events) (sym new.log) tt;
-  answered = sym (ap (λ l. answers w.world ++ Rattle.ir_record.specs.Worlds.answers_in (map Rattle.ir_log.specs.Logging.label_of l.events))
+  answered = sym (ap (λ l. answers w.world ++ answers_in (map Rattle.ir_log.specs.Logging.label_of l.events))
       new.log ∙ append-nil (answers w.world));
 }
   where
@@ -73,6 +74,10 @@ ready answers broken g budget profile t id (w ∷ ws) worlds new e works (suc k)
 
 -- ---- after the last
 
+pub map_map : {A B C : Type 0} (f : B → C) (h : A → B) (xs : List A) → map f (map h xs) ≡ map (λ x. f (h x)) xs
+map_map f h [] = refl
+map_map f h (x ∷ xs) = ap (λ z. f (h x) ∷ z) (map_map f h xs)
+
 ran_size : {A : Type 0} (P : A → A → Type 0) (xs ys : List A) → Pairs P xs ys → length ys ≡ length xs
 ran_size P [] [] p = refl
 ran_size P [] (y ∷ ys) p = absurd p
@@ -87,18 +92,19 @@ module _ {W O : Type 0} (answers : W → List Answered) (broken : W → Bool) (o
   abbrev R : Worker W → Worker W → Type 0
   R = RanToEnd answers broken origin g
 
-  at_end : (t : ℕ) (vs ws : List (Worker W)) → AreNew g budget profile id t vs → Pairs R vs ws → NoneBroken broken ws → (k : ℕ) → k < length vs
+  at_end : (t : ℕ) (vs ws : List (Worker W)) → AreNew g budget profile id t vs → Pairs R vs ws → (k : ℕ) → k < length vs
+      → get_or (map (λ w. broken w.world) ws) k false ≡ false
       → IsWorking g budget profile (t + k) (answers_at (map answers (map (λ w. w.world) vs)) k) (work_at (map (work_of answers) ws) k)
       × (ask_of g.code (work_at (map (work_of answers) ws) k).thread ≡ ask.Done)
-  at_end t [] ws new p works k l = absurd (omega arith)
-  at_end t (v ∷ vs) [] new p works k l = absurd p
-  at_end t (v ∷ vs) (w ∷ ws) new p works zero l = (
+  at_end t [] ws new p k l works = absurd (omega arith)
+  at_end t (v ∷ vs) [] new p k l works = absurd p
+  at_end t (v ∷ vs) (w ∷ ws) new p zero l works = (
     subst (λ z. IsWorking g budget profile z (answers v.world) (work_of answers w)) (let e : t ≡ t + 0 = omega arith in e)
-        ((p.0.stays (works 0)).still budget profile t (answers v.world) (new_working answers g budget profile t id v new.0)),
-    p.0.done (works 0),
+        ((p.0.stays works).still budget profile t (answers v.world) (new_working answers g budget profile t id v new.0)),
+    p.0.done works,
   )
-  at_end t (v ∷ vs) (w ∷ ws) new p works (suc k) l =
-      let r = at_end (suc t) vs ws new.1 p.1 (λ u. works (suc u)) k (omega (arith, l)) in (
+  at_end t (v ∷ vs) (w ∷ ws) new p (suc k) l works =
+      let r = at_end (suc t) vs ws new.1 p.1 k (omega (arith, l)) works in (
         subst (λ z. IsWorking g budget profile z (answers_at (map answers (map (λ w. w.world) vs)) k) (work_at (map (work_of answers) ws) k))
             (let e : suc t + k ≡ t + suc k = omega arith in e) r.0,
         r.1,
@@ -152,6 +158,12 @@ module _ {W O : Type 0} (answers : W → List Answered) (broken : W → Bool) (o
   origins_end (v ∷ vs) [] p = absurd p
   origins_end (v ∷ vs) (w ∷ ws) p = λ i. p.0.world.same_origin i ∷ origins_end vs ws p.1 i
 
+answers_of : {W : Type 0} (answers : W → List Answered) (ws : List (Worker W)) (t : ℕ)
+    → answers_at (map answers (map (λ w. w.world) ws)) t ≡ (work_at (map (work_of answers) ws) t).answers
+answers_of answers [] t = refl
+answers_of answers (w ∷ ws) zero = refl
+answers_of answers (w ∷ ws) (suc t) = answers_of answers ws t
+
 -- the workers of a guest with these worlds, before their first step and after their last
 pub record HaveRun {W O : Type 0} (answers : W → List Answered) (broken : W → Bool) (origin : W → O) (g : Guest) (budget : ℕ)
     (profile : Profile) (id : TableId) (worlds : List W) (vs ws : List (Worker W)) : Type 0 where
@@ -185,21 +197,38 @@ module _ {W O : Type 0} {answers : W → List Answered} {broken : W → Bool} {o
   pub ended_there : (objects : ℕ) → objects ≡ object_count g → NoneBroken broken ws → AllByRecursion (IsOver profile objects) ws
   ended_there objects n = over_end answers broken origin g budget profile id objects 0 vs ws n ran.new ran.pairs
 
-  pub all_over : IsGuest g → NoneBroken broken ws → AllOver g budget profile (map answers worlds) (map (work_of answers) ws)
-  all_over guest works =
-      let end : (t : ℕ) → t < length g.entries
-      → IsWorking g budget profile (0 + t) (answers_at (map answers (map (λ w. w.world) vs)) t) (work_at (map (work_of answers) ws) t)
-      × (ask_of g.code (work_at (map (work_of answers) ws) t).thread ≡ ask.Done) =
-      λ t l. at_end answers broken origin g budget profile id 0 vs ws ran.new ran.pairs works t
-      (let n = threads_there in let m = same_count in omega (arith, l, n, m)) in
-      record {
-        guest = guest;
-        size = length-map ws (work_of answers) ∙ threads_there;
-        working = λ t l.
-            subst (λ z. IsWorking g budget profile t (answers_at (map answers z) t) (work_at (map (work_of answers) ws) t)) ran.same
+  -- a thread whose world has not failed is done
+  end_of : (t : ℕ) → t < length g.entries → get_or (map (λ w. broken w.world) ws) t false ≡ false
+      → IsWorking g budget profile t (answers_at (map answers worlds) t) (work_at (map (work_of answers) ws) t)
+      × (ask_of g.code (work_at (map (work_of answers) ws) t).thread ≡ ask.Done)
+  end_of t l works =
+      let r = at_end answers broken origin g budget profile id 0 vs ws ran.new ran.pairs t
+      (let n = threads_there in let m = same_count in omega (arith, l, n, m)) works in (
+        subst (λ z. IsWorking g budget profile t (answers_at (map answers z) t) (work_at (map (work_of answers) ws) t)) ran.same
             (subst (λ k. IsWorking g budget profile k (answers_at (map answers (map (λ w. w.world) vs)) t)
-            (work_at (map (work_of answers) ws) t)) (let z : 0 + t ≡ t = omega arith in z) (end t l).0);
-        done = λ t l. (end t l).1;
+            (work_at (map (work_of answers) ws) t)) (let z : 0 + t ≡ t = omega arith in z) r.0),
+        r.1,
+      )
+
+  pub all_over : IsGuest g → NoneBroken broken ws → AllOver g budget profile (map answers worlds) (map (work_of answers) ws)
+  all_over guest works = record {
+    guest = guest;
+    size = length-map ws (work_of answers) ∙ threads_there;
+    working = λ t l. (end_of t l (works t)).0;
+    done = λ t l. (end_of t l (works t)).1;
+  }
+
+  pub others_there : OthersWentOn answers broken g budget profile worlds (map (λ w. w.world) ws)
+  others_there t l works =
+      let r = end_of t l (ap (λ z. get_or z t false) (sym (map_map broken (λ w. w.world) ws)) ∙ works) in
+      let w = r.0.worked in
+      record {
+        replies = w.replies;
+        may = w.may;
+        done = ap (ask_of g.code) w.now ∙ r.1;
+        answered = answers_of answers ws t ∙ r.0.answered ∙ ap (λ z. answers_at (map answers worlds) t ++ z)
+            (ap answers_in (sym w.logged)
+            ∙ answers_alone (thread_machine g.code) (thread.start_state g t budget profile) w.replies r.0.track);
       }
 
 pub views_tracks : {W : Type 0} (answers : W → List Answered) (ws : List (Worker W))
@@ -214,7 +243,3 @@ traces_at answers [] rs h t l = absurd (omega arith)
 traces_at answers (w ∷ ws) [] h t l = absurd h
 traces_at answers (w ∷ ws) (r ∷ rs) h zero l = h.0
 traces_at answers (w ∷ ws) (r ∷ rs) h (suc t) l = traces_at answers ws rs h.1 t (omega (arith, l))
-
-pub map_map : {A B C : Type 0} (f : B → C) (h : A → B) (xs : List A) → map f (map h xs) ≡ map (λ x. f (h x)) xs
-map_map f h [] = refl
-map_map f h (x ∷ xs) = ap (λ z. f (h x) ∷ z) (map_map f h xs)

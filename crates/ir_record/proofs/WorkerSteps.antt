@@ -1,6 +1,6 @@
 -- A worker still works after each step of its thread.
 use Rattle.ir_thread.specs.declared.profile.Profile.{Profile}
-use Rattle.std.proofs.Common.{◌≡◌, ◌≢◌, ℕ, zero, suc, ◌+◌, ◌<◌, ◌≤◌, Bool, true, false, eqb, List, [], ◌∷◌, ◌++◌, map, length, Option, Some, None, refl, sym, ap, ◌∙◌, subst, arith, append-nil, append_assoc, length-append, ne_eqb}
+use Rattle.std.proofs.Common.{◌≡◌, ◌≢◌, ℕ, zero, suc, ◌+◌, ◌<◌, ◌≤◌, Bool, true, false, eqb, List, [], ◌∷◌, ◌++◌, map, length, Option, Some, None, refl, sym, ap, ◌∙◌, subst, arith, append-nil, append_assoc, length-append, eq-eqb, ne_eqb}
 use Rattle.std.proofs.lemmas.List.{length-map}
 use Rattle.std.specs.List.{AllByRecursion}
 use Rattle.atomic_table.specs.Seated.{TableId}
@@ -33,6 +33,7 @@ use Rattle.ir_trace.specs.Recorded.{IsEvent}
 use Rattle.ir_crew.specs.Plays.{M, IsAlone, history, did, inside_by}
 use Rattle.ir_crew.specs.Rule.{shared_by, shared_of, label_of, one_if_entry, entries}
 use Rattle.ir_crew.specs.declared.deed.Deed.{Deed}
+use Rattle.ir_crew.specs.declared.deed.Deed.TheVariants.{Leave}
 use Rattle.ir_crew.specs.declared.deed.ObjectStep.{ObjectStep}
 use Rattle.ir_crew.proofs.CallerLemmas.{entries_more, track, act, target_by}
 use Rattle.ir_record.specs.Worlds.{Answered, answers_in}
@@ -352,18 +353,29 @@ did_alone me me' o d e h = subst (λ (z : M). IsAlone z.0) (sym e) (go me.0 h)
     go (k ∷ []) h = tt
     go (k ∷ l ∷ ks) h = h
 
--- a step on another object
-pub did_elsewhere : (me me' : M) (o p : ℕ) (d : Deed) → me' ≡ (did me.0 o d, me.1) → IsAlone me.0 → p ≢ o
-    → inside_by p (history me'.0) ≡ inside_by p (history me.0)
-did_elsewhere me me' o p d e h ne = ap (λ (z : M). inside_by p (history z.0)) e ∙ go me.0 h
+-- how the seat's one thread is inside an object after a step
+did_inside : (me me' : M) (o p : ℕ) (d : Deed) → me' ≡ (did me.0 o d, me.1) → IsAlone me.0
+    → inside_by p (history me'.0) ≡ inside_if (eqb p o) (shared_by o d).0 (inside_by p (history me.0))
+did_inside me me' o p d e h = ap (λ (z : M). inside_by p (history z.0)) e ∙ go me.0 h
   where
-    go : (v : _) → IsAlone v → inside_by p (history (did v o d)) ≡ inside_by p (history v)
+    go : (v : _) → IsAlone v → inside_by p (history (did v o d)) ≡ inside_if (eqb p o) (shared_by o d).0 (inside_by p (history v))
     go [] h = absurd h
     go (k ∷ []) h = ap (inside_after p None) (map_join shared_of k.steps (act o d ∷ []))
         ∙ inside_more p None (map shared_of k.steps) (shared_by o d)
         ∙ ap (λ z. inside_if (eqb p z) (shared_by o d).0 (inside_after p None (map shared_of k.steps))) (target_by o d)
-        ∙ ap (λ b. inside_if b (shared_by o d).0 (inside_after p None (map shared_of k.steps))) (ne_eqb p o ne)
     go (k ∷ l ∷ ks) h = absurd h
+
+-- a step on another object
+pub did_elsewhere : (me me' : M) (o p : ℕ) (d : Deed) → me' ≡ (did me.0 o d, me.1) → IsAlone me.0 → p ≢ o
+    → inside_by p (history me'.0) ≡ inside_by p (history me.0)
+did_elsewhere me me' o p d e h ne = did_inside me me' o p d e h
+    ∙ ap (λ b. inside_if b (shared_by o d).0 (inside_by p (history me.0))) (ne_eqb p o ne)
+
+-- a leave
+pub did_leave : (me me' : M) (o p : ℕ) (a : Access) (v : ℕ) → me' ≡ (did me.0 o (Leave a v), me.1) → IsAlone me.0 → p ≡ o
+    → inside_by p (history me'.0) ≡ None
+did_leave me me' o p a v e h same = did_inside me me' o p (Leave a v) e h
+    ∙ ap (λ b. inside_if b (shared_by o (Leave a v)).0 (inside_by p (history me.0))) (eq-eqb p o same)
 
 -- ---- a world that was not asked
 

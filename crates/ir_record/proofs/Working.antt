@@ -1,5 +1,5 @@
 -- A thread alone, with one step more.
-use Rattle.std.proofs.Common.{◌≡◌, ℕ, Bool, true, false, cond, eqb, List, [], ◌∷◌, ◌++◌, length, Option, Some, None, refl, sym, ap, ◌∙◌, subst, arith}
+use Rattle.std.proofs.Common.{◌≡◌, ℕ, Bool, true, false, cond, eqb, List, [], ◌∷◌, ◌++◌, map, length, Option, Some, None, refl, sym, ap, ◌∙◌, subst, arith}
 use Rattle.ir_runs.specs.Machine.{Act, act_of, Silent, Result, Entry, Refusal, Exit, Load, Store, Never, Machine, upd, held_after}
 use Rattle.ir_runs.specs.Labels.{Label, logged}
 use Rattle.ir_runs.specs.declared.access.Access.{Access}
@@ -8,7 +8,12 @@ use Rattle.ir_object.specs.Order.{is_shared, Shared, keep_if, inside_then, insid
 use Rattle.ir_runs.specs.Run.{events}
 use Rattle.ir_flat.specs.Splice.{MayReply, MayRun, alone_after, shared_steps, alone_label, labels_left, alone_trail}
 use Rattle.ir_runs.proofs.CallerLemmas.{events_append}
+use Rattle.ir_crew.specs.Rule.{label_by, label_of}
+use Rattle.ir_crew.specs.declared.deed.Deed.{Deed}
+use Rattle.ir_crew.specs.declared.deed.Deed.TheVariants.{Enter, Try, Leave, Get, Put}
+use Rattle.ir_crew.specs.declared.deed.ObjectStep.{ObjectStep}
 use Rattle.ir_record.specs.Working.{Worked}
+use Rattle.ir_record.specs.Worlds.{answers_in}
 
 may_more : {T : Type 0} (m : Machine T) (x : T) (vs : List ℕ) (v : ℕ) → MayRun m x vs → MayReply m (act_of (m.ask (alone_after m x vs)) v) v
     → MayRun m x (vs ++ v ∷ [])
@@ -133,3 +138,36 @@ held_inside (Exit i a) h o e = either (eqb o i) (Exit i a) None (h o) refl
 held_inside (Load i j) h o e = same_either (eqb o i) (Load i j) (h o) refl
 held_inside (Store i j w) h o e = same_either (eqb o i) (Store i j w) (h o) refl
 held_inside Never h o e = absurd (cc e)
+
+-- ---- what is logged of object steps is no answer of the environment
+
+deed_silent : (o : ℕ) (d : Deed) (es : List Label) → answers_in (logged (label_by o d) es) ≡ answers_in es
+deed_silent o (Enter a v l) es = refl
+deed_silent o (Try v l) es = refl
+deed_silent o (Leave a v) es = refl
+deed_silent o (Get i w) es = refl
+deed_silent o (Put i w) es = refl
+
+-- f is what is logged of the steps behind this one, where object steps tell this
+answers_step : (q : Act) (f : List Label → List Label) (track : List ObjectStep)
+    → ((later : List ObjectStep) → answers_in (f (map label_of later)) ≡ answers_in (f []))
+    → answers_in (logged (alone_label q (map label_of track)) (f (labels_left (is_shared q) (map label_of track))))
+    ≡ answers_in (logged (alone_label q []) (f (labels_left (is_shared q) [])))
+answers_step Silent f track rest = rest track
+answers_step (Result k v) f track rest = ap (λ z. (k, v) ∷ z) (rest track)
+answers_step (Refusal o) f track rest = rest track
+answers_step Never f track rest = rest track
+answers_step (Entry o a v) f [] rest = refl
+answers_step (Entry o a v) f (e ∷ track) rest = deed_silent e.object e.deed (f (map label_of track)) ∙ rest track
+answers_step (Exit o a) f [] rest = refl
+answers_step (Exit o a) f (e ∷ track) rest = deed_silent e.object e.deed (f (map label_of track)) ∙ rest track
+answers_step (Load o i) f [] rest = refl
+answers_step (Load o i) f (e ∷ track) rest = deed_silent e.object e.deed (f (map label_of track)) ∙ rest track
+answers_step (Store o i w) f [] rest = refl
+answers_step (Store o i w) f (e ∷ track) rest = deed_silent e.object e.deed (f (map label_of track)) ∙ rest track
+
+pub answers_alone : {T : Type 0} (m : Machine T) (x : T) (vs : List ℕ) (track : List ObjectStep)
+    → answers_in (events (alone_trail m x vs (map label_of track))) ≡ answers_in (events (alone_trail m x vs []))
+answers_alone m x [] track = refl
+answers_alone m x (v ∷ vs) track = answers_step (act_of (m.ask x) v) (λ ks. events (alone_trail m (m.take x v) vs ks)) track
+    (answers_alone m (m.take x v) vs)

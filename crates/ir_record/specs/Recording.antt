@@ -1,9 +1,14 @@
 -- What a recording of a run holds.
 use Rattle.ir_thread.specs.declared.profile.Profile.{Profile}
-use Rattle.std.specs.Prelude.{◌≡◌, ℕ, ◌<◌, ◌++◌, List, length, map, slice_get, Some, Bool, ⊤}
+use Rattle.std.specs.Prelude.{◌≡◌, ℕ, ◌<◌, ◌++◌, List, [], length, map, slice_get, slice_index_or, Some, Bool, false, ⊤}
 use Rattle.ir_image.specs.Guest.{Guest, object_count}
+use Rattle.ir_thread.specs.Calls.{ask_of}
+use Rattle.ir_thread.specs.Instance.{thread_machine}
+use Rattle.ir_thread.specs.State.{start_state}
+use Rattle.ir_thread.specs.declared.ask.Ask.TheVariants.{Done}
 use Rattle.ir_flat.specs.Flat.{start_flat, tables, machine}
-use Rattle.ir_runs.specs.Run.{Step, log, end}
+use Rattle.ir_flat.specs.Splice.{MayRun, alone_after, alone_trail}
+use Rattle.ir_runs.specs.Run.{Step, events, log, end}
 use Rattle.ir_runs.specs.Verdicts.{IsWhole}
 use Rattle.ir_trace.specs.Recorded.{Recorded}
 use Rattle.ir_trace.specs.TraceOf.{trace_of}
@@ -84,7 +89,28 @@ AreHandedBack origin before r = each_world origin r.1 ≡ map origin before
 
 -- out of memory; or a world has failed, those of lower threads have not, and all worlds that were handed in are handed back, each gone
 -- on by the answers that it gave
-abbrev pub IsFailure : {W O : Type 0} → (W → List Answered) → (W → Bool) → (W → O) → List W → RecordErr W → Type 0
-IsFailure answers broken origin before NoMem = ⊤
-IsFailure answers broken origin before (World thread worlds) = IsFirstFailed (map broken worlds.items) thread
+abbrev pub IsFailureInOrder : {W O : Type 0} → (W → List Answered) → (W → Bool) → (W → O) → List W → RecordErr W → Type 0
+IsFailureInOrder answers broken origin before NoMem = ⊤
+IsFailureInOrder answers broken origin before (World thread worlds) = IsFirstFailed (map broken worlds.items) thread
     × AreSameWorlds answers origin before worlds.items
+
+-- thread t of the guest, alone, is done after these replies, and its world answered what it had answered, and then those of them that
+-- are answers of the environment
+pub record WentToItsEnd (guest : Guest) (budget : ℕ) (profile : Profile) (t : ℕ) (before after : List Answered) : Type 0 where
+  pub replies : List ℕ
+  pub may : MayRun (thread_machine guest.code) (start_state guest t budget profile) replies
+  pub done : ask_of guest.code (alone_after (thread_machine guest.code) (start_state guest t budget profile) replies) ≡ Done
+  pub answered : after ≡ before ++ answers_in
+      (events (alone_trail (thread_machine guest.code) (start_state guest t budget profile) replies []))
+
+-- each thread whose world has not failed went on to its end
+abbrev pub OthersWentOn : {W : Type 0} → (W → List Answered) → (W → Bool) → Guest → ℕ → Profile → List W → List W → Type 0
+OthersWentOn answers broken guest budget profile before after = (t : ℕ) → t < length guest.entries
+    → slice_index_or (map broken after) t false ≡ false
+    → WentToItsEnd guest budget profile t (answers_at (map answers before) t) (answers_at (map answers after) t)
+
+-- the same of a recording by threads, in which the others go on where a world has failed
+abbrev pub IsFailure : {W O : Type 0} → (W → List Answered) → (W → Bool) → (W → O) → Guest → ℕ → Profile → List W → RecordErr W → Type 0
+IsFailure answers broken origin guest budget profile before NoMem = ⊤
+IsFailure answers broken origin guest budget profile before (World thread worlds) = IsFirstFailed (map broken worlds.items) thread
+    × AreSameWorlds answers origin before worlds.items × OthersWentOn answers broken guest budget profile before worlds.items

@@ -1,8 +1,9 @@
 -- A worker of a recording by threads: one thread of the guest, alone but for the table of the objects.
 use Rattle.ir_thread.specs.declared.profile.Profile.{Profile}
-use Rattle.std.specs.Prelude.{◌≡◌, ℕ, ◌≤◌, List, [], ◌∷◌, ◌++◌, length, map, All, Bool, true, false}
+use Rattle.std.specs.Prelude.{◌≡◌, ℕ, ◌≤◌, List, [], ◌∷◌, ◌++◌, length, map, All, Bool, true, false, None}
 use Rattle.std.specs.List.{AllByRecursion}
 use Rattle.atomic_table.specs.Seated.{TableId}
+use Rattle.atomic_table.specs.declared.shared.Seat.{Seat}
 use Rattle.ir_image.specs.Guest.{Guest, object_count}
 use Rattle.ir_thread.specs.Calls.{ask_of, most_events}
 use Rattle.ir_thread.specs.Held.{held_at}
@@ -15,7 +16,7 @@ use Rattle.ir_thread.specs.declared.ask.Ask.TheVariants as ask
 use Rattle.ir_object.specs.Order.{Shared}
 use Rattle.ir_crew.specs.Plays.{M, IsAlone, history, inside_by}
 use Rattle.ir_crew.specs.Rule as rule
-use Rattle.ir_crew.specs.Rule.{shared_of, entries}
+use Rattle.ir_crew.specs.Rule.{View, shared_of, entries}
 use Rattle.ir_crew.specs.declared.deed.ObjectStep.{ObjectStep}
 use Rattle.ir_crew.specs.declared.table.Crew.{Crew}
 use Rattle.ir_runs.specs.Run.{events}
@@ -89,6 +90,12 @@ pub record IsInside (g : Guest) (me : M) (x : thread.State) : Type 0 where
   pub places : length x.held ≡ object_count g
   pub inside : (o : ℕ) → inside_by o (history me.0) ≡ held_at x.held o
 
+-- a seat at this table, whose one thread is inside nothing
+pub record IsOutside (id : TableId) (s : Seat (Unit {0}) View) : Type 0 where
+  pub table : s.table_id ≡ id
+  pub alone : IsAlone s.me.0
+  pub outside : (o : ℕ) → inside_by o (history s.me.0) ≡ None
+
 -- the worker of a thread of this guest, whose code this is, with a seat at this table
 pub record IsSeated {W : Type 0} (answers : W → List Answered) (g : Guest) (id : TableId) (code : List ℕ) (w : Worker W) : Type 0 where
   pub seat : w.seat.table_id ≡ id
@@ -129,9 +136,10 @@ pub record IsReadyWorker {W : Type 0} (answers : W → List Answered) (broken : 
 abbrev pub AreReady : {W : Type 0} → (W → List Answered) → (W → Bool) → Crew → List ℕ → List (Worker W) → Type 0
 AreReady answers broken crew code ws = All (IsReadyWorker answers broken crew.table.shared.key crew.table.shared.table_id code) ws
 
--- a worker that ran until its thread was done, unless its world has failed
+-- a worker that ran until its thread was done, or until its world failed, and then left all that its thread held
 pub record RanToEnd {W O : Type 0} (answers : W → List Answered) (broken : W → Bool) (origin : W → O) (g : Guest) (v w : Worker W) : Type
     0 where
   pub stays : broken w.world ≡ false → Stays answers g v w
   pub done : broken w.world ≡ false → ask_of g.code w.thread ≡ ask.Done
+  pub released : broken w.world ≡ true → IsOutside v.seat.table_id w.seat
   pub world : IsSameWorld answers origin v.world w.world

@@ -66,7 +66,7 @@ pub fn record<R: Threads + Wait + Sync, W: World + Drop + Send, G: Gate + Sync>(
     ensures works { IfOk result (AllWork W.broken) }
     // The worlds are those that were handed in.
     ensures origins { IfOk result (AreHandedBack W.origin worlds.items) }
-    ensures failed { IfErr result (IsFailure W.answers W.broken W.origin worlds.items) }
+    ensures failed { IfErr result (IsFailure W.answers W.broken W.origin image.now budget profile worlds.items) }
 {
     let (crew, seats) = Crew::open(alloc, image)?;
     let mut workers = new_workers(alloc, image, seats, worlds, budget, profile)?;

@@ -7,7 +7,7 @@ ghost use Rattle.ir_flat.specs.Flat.{tables, machine};
 ghost use Rattle.ir_runs.specs.InOrder.{HasNone, rounds};
 ghost use Rattle.ir_record.specs.Progress.{Took};
 ghost use Rattle.ir_record.specs.Recorders.{progress_of, CanGoOn, NamesFirst};
-ghost use Rattle.ir_record.specs.Recording.{IsRecordedInOrder, AllWork, AreHandedBack, IsFailure};
+ghost use Rattle.ir_record.specs.Recording.{IsRecordedInOrder, AllWork, AreHandedBack, IsFailureInOrder};
 ghost use Rattle.ir_record.specs.Turns.{order_of_turns};
 ghost use Rattle.ir_record.specs.Worlds.{NoneFailed, AreSameWorlds};
 
@@ -64,7 +64,7 @@ pub fn record_in_turns<W: World + Drop>(
     ensures works { IfOk result (AllWork W.broken) }
     // The worlds are those that were handed in.
     ensures origins { IfOk result (AreHandedBack W.origin worlds.items) }
-    ensures failed { IfErr result (IsFailure W.answers W.broken W.origin worlds.items) }
+    ensures failed { IfErr result (IsFailureInOrder W.answers W.broken W.origin worlds.items) }
 {
     let mut recorder = Recorder {
         tape: Tape::start(alloc, image, budget, profile)?,
@@ -108,7 +108,7 @@ pub fn record_in_order<W: World + Drop>(
     ensures works { IfOk result (AllWork W.broken) }
     // The worlds are those that were handed in.
     ensures origins { IfOk result (AreHandedBack W.origin worlds.items) }
-    ensures failed { IfErr result (IsFailure W.answers W.broken W.origin worlds.items) }
+    ensures failed { IfErr result (IsFailureInOrder W.answers W.broken W.origin worlds.items) }
 {
     let turns = turns_of(alloc, order)?;
     record_in_turns(alloc, image, turns.as_slice(), worlds, budget, profile)

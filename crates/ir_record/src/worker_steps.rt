@@ -4,7 +4,7 @@ ghost use Rattle.std.specs.Prelude.{◌≡◌, ◌≢◌, ◌++◌, false, OnOk,
 ghost use Rattle.ir_thread.specs.Calls.{ask_of};
 ghost use Rattle.ir_runs.specs.declared.access.Access.TheVariants.{Reading, Writing};
 ghost use Rattle.ir_thread.specs.declared.ask.Ask.TheVariants as ask;
-ghost use Rattle.ir_record.specs.Working.{IsAtWork, StaysAtWork, IsSameWorld, IsStopped, IsReadyWorker, RanToEnd, IsOwn, IsInside};
+ghost use Rattle.ir_record.specs.Working.{IsAtWork, StaysAtWork, IsSameWorld, IsStopped, IsReadyWorker, RanToEnd, IsOwn, IsInside, IsOutside};
 
 use crate::worker::Worker;
 use crate::world::{World, WorldErr};
@@ -203,7 +203,8 @@ impl<W: World> Worker<W> {
     fn release_all<G: Gate>(&mut self, crew: &Crew, gate: &G)
         requires seat { self.old.seat.table_id ≡ crew.now.table.shared.table_id }
         requires worker { IsInside crew.now.table.shared.key self.old.seat.me self.old.thread }
-        ensures { self.new.world ≡ self.old.world }
+        ensures world { self.new.world ≡ self.old.world }
+        ensures released { IsOutside self.old.seat.table_id self.new.seat }
     {
         let mut below = self.thread.held().len();
         while below > 0 {

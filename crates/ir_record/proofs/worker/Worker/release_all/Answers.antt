@@ -1,6 +1,7 @@
-use Rattle.std.proofs.Common.{◌-◌, ℕ, ◌∙◌, arith}
+use Rattle.std.proofs.Common.{◌-◌, ℕ, ◌∙◌, arith, inl, inr}
+use Rattle.std.proofs.lemmas.Bool.{cases_lt}
 use Rattle.ir_crew.specs.declared.deed.Deed.TheVariants.{Leave}
-use Rattle.ir_record.proofs.WorkerSteps.{did_alone, did_elsewhere}
+use Rattle.ir_record.proofs.WorkerSteps.{did_alone, did_elsewhere, did_leave}
 use Rattle.ir_record.proofs.worker.Worker.release_all.Goals as goal
 
 pub loop-below-preserved-in-Some : goal.loop-below-preserved-in-Some
@@ -18,4 +19,10 @@ loop-below-preserved-in-Some g c =
       low = omega (arith, t, l);
       inside = λ p k. did_elsewhere c.loop-below.self.seat.me c.leave.new.seat.me o p (Leave c.in-Some.access e.0) e.1 i.alone
           (λ q. omega (arith, q, k, t)) ∙ i.inside p (omega (arith, k, t));
+      outside = λ p k. elim (cases_lt o p) [
+        | inl later ↦ did_elsewhere c.loop-below.self.seat.me c.leave.new.seat.me o p (Leave c.in-Some.access e.0) e.1 i.alone
+            (λ q. omega (arith, q, later)) ∙ i.outside p (omega (arith, later, t))
+        | inr same ↦ did_leave c.loop-below.self.seat.me c.leave.new.seat.me o p c.in-Some.access e.0 e.1 i.alone
+            (omega (arith, k, same))
+      ];
     }

@@ -1,4 +1,4 @@
-use Rattle.std.proofs.Common.{◌≡◌, ◌<◌, ◌≤◌, ℕ, length}
+use Rattle.std.proofs.Common.{◌≡◌, ◌<◌, ◌≤◌, ℕ, length, None}
 use Rattle.ir_thread.specs.Held.{held_at}
 use Rattle.ir_crew.specs.Plays.{IsAlone, history, inside_by}
 use Rattle.ir_record.proofs.worker.Worker.release_all.Given as goal
@@ -11,6 +11,7 @@ invariant-loop-below g l = record {
   alone : IsAlone l.self.seat.me.0;
   low : l.below ≤ length l.fn.self.thread.held;
   inside : (o : ℕ) → o < l.below → inside_by o (history l.self.seat.me.0) ≡ held_at l.fn.self.thread.held o;
+  outside : (o : ℕ) → l.below ≤ o → inside_by o (history l.self.seat.me.0) ≡ None;
 }
 
 abbrev pub decreases-loop-below : goal.decreases-loop-below
