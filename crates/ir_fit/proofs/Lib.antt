@@ -6,4 +6,5 @@ mod Moves
 mod ByVersion
 mod Listed
 mod Found
+mod Recordable
 pub mod CallerLemmas

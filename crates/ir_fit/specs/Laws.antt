@@ -1,6 +1,6 @@
 -- What holds of all runs of a guest, and of traces and the runs that follow them.
-use Rattle.std.specs.Prelude.{◌≡◌, ◌↔◌, ℕ, List, [], ◌∷◌, ◌++◌, length}
-use Rattle.ir_image.specs.Guest.{Guest}
+use Rattle.std.specs.Prelude.{◌≡◌, ◌↔◌, ◌≤◌, ℕ, List, [], ◌∷◌, ◌++◌, length}
+use Rattle.ir_image.specs.Guest.{Guest, IsGuest}
 use Rattle.ir_runs.specs.Labels.{Trace}
 use Rattle.ir_flat.specs.Flat.{start_flat, tables, machine}
 use Rattle.ir_runs.specs.Run.{Step, IsRun, IsComplete, trace, asked, end, trail}
@@ -11,7 +11,9 @@ use Rattle.ir_runs.specs.Following.{Follows, IsMaximal, closing, left_log}
 use Rattle.ir_runs.specs.declared.thread_verdict.ThreadVerdict.{ThreadVerdict}
 use Rattle.ir_runs.specs.declared.thread_verdict.ThreadVerdict.TheVariants.{Same}
 use Rattle.ir_runs.specs.Verdicts.{IsVerdict, HoldsEvents, IsWhole, result_of}
-use Rattle.ir_trace.specs.Recorded.{Recorded}
+use Rattle.ir_thread.specs.Allowed.{IsAllowed}
+use Rattle.ir_thread.specs.Calls.{most_budget}
+use Rattle.ir_trace.specs.Recorded.{Recorded, IsRecorded}
 use Rattle.ir_fit.specs.Fit.{IsRunOf}
 use Rattle.ir_thread.specs.declared.profile.Profile.{Profile}
 
@@ -44,6 +46,14 @@ CompleteFits = (guest : Guest) (budget : ℕ) (profile : Profile) (run : List St
     → Follows (closing (machine f) tr) (machine f) (tables f) tr run × IsMaximal (closing (machine f) tr) (machine f) (tables f) tr run
     × ((follower : List Step) → Follows (closing (machine f) tr) (machine f) (tables f) tr follower
     → IsMaximal (closing (machine f) tr) (machine f) (tables f) tr follower → Reaches (machine f) (tables f) follower run)
+
+-- the trace of each complete run can be recorded: of a guest that the profile allows, under a budget that a trace may name, there is a
+-- recorded trace within all limits that has this run
+abbrev pub EachRunIsRecorded : Type 0
+EachRunIsRecorded = (guest : Guest) (budget : ℕ) (profile : Profile) (run : List Step) → IsGuest guest → IsAllowed profile guest
+    → budget ≤ most_budget
+    → let f = start_flat guest budget profile in IsComplete (machine f) (tables f) run
+    → (recorded : Recorded) × IsRecorded recorded × (recorded.budget ≡ budget) × (recorded.profile ≡ profile) × IsRunOf guest recorded run
 
 -- each trace has a run that follows it as far as any can
 abbrev pub MaximalExists : Type 0

@@ -1,6 +1,6 @@
 //! What holds of all runs of a guest and of all traces. The functions do nothing: their contracts are the laws.
 
-ghost use Rattle.ir_fit.specs.Laws.{TraceDetermines, RecordedDetermines, CutsAreRuns, OwnTraceCoherent, CompleteFits, MaximalExists, OneVerdict, FitsExactly, OneStepEach};
+ghost use Rattle.ir_fit.specs.Laws.{TraceDetermines, RecordedDetermines, CutsAreRuns, OwnTraceCoherent, CompleteFits, EachRunIsRecorded, MaximalExists, OneVerdict, FitsExactly, OneStepEach};
 
 /// Runs with one trace have the same threads at each position, the same consistent cuts and at these the same objects;
 /// so have any two complete runs of a guest with one recorded trace.
@@ -22,6 +22,12 @@ pub fn own_trace_coherent()
 /// The trace of each complete run fits: whatever follows it as far as any run can is that run, up to the order of steps.
 pub fn complete_fits()
     ensures { CompleteFits }
+{}
+
+/// The trace of each complete run can be recorded, where the profile allows the guest; `fit`, which refuses only what no
+/// run has, never refuses it.
+pub fn each_run_is_recorded()
+    ensures { EachRunIsRecorded }
 {}
 
 /// Each trace has a run that follows it as far as any can.

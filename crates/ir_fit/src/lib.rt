@@ -26,8 +26,8 @@ pub use follower::look::is_open;
 pub use header_cause::HeaderCause;
 pub use ir_coherence::Cause;
 pub use laws::{
-    complete_fits, cuts_are_runs, fits_exactly, maximal_exists, one_step_each, one_verdict,
-    own_trace_coherent, trace_determines,
+    complete_fits, cuts_are_runs, each_run_is_recorded, fits_exactly, maximal_exists,
+    one_step_each, one_verdict, own_trace_coherent, trace_determines,
 };
 pub use leave::Leave;
 pub use place::Place;

@@ -7,4 +7,5 @@ mod Alone
 mod Counted
 mod Splice
 mod Lone
+mod Bounded
 pub mod CallerLemmas

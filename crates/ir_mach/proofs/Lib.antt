@@ -5,4 +5,5 @@ mod Keeping
 mod Operations
 mod Meaning
 mod Pages
+mod Words
 pub mod CallerLemmas

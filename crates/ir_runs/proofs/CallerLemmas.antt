@@ -25,8 +25,8 @@ pub use Rattle.ir_runs.proofs.Own.{below_idle, own_coherent}
 pub use Rattle.ir_runs.proofs.Ending.{trail_same, trail_other, Over, over, run_last, own_closing}
 -- verdicts
 pub use Rattle.ir_runs.proofs.Judge.{is_done, agrees, goes_further, judged, one_verdict, same_verdict, all_same, whole_same}
--- the one step of a thread that can follow
-pub use Rattle.ir_runs.proofs.OneResult.{fits_last, one_step_each}
+-- the first steps of a run, and the one step of a thread that can follow
+pub use Rattle.ir_runs.proofs.OneResult.{run_prefix, fits_last, one_step_each}
 -- there is a run that follows as far as any can
 pub use Rattle.ir_runs.proofs.Onward.{Built, build}
 -- from where the threads stand to their verdicts

@@ -11,3 +11,5 @@ pub use Rattle.ir_thread.proofs.Alone.{alone}
 pub use Rattle.ir_thread.proofs.PrivateRuns.{IsKept, private_first, private_keep, private_held}
 -- those at instructions that aren't marked
 pub use Rattle.ir_thread.proofs.Unmarked.{none_unmarked, unmarked_first, unmarked_pc, unmarked_memory}
+-- a thread's registers hold words and its private memory bytes, whatever it asks, and so do its end and what it puts
+pub use Rattle.ir_thread.proofs.Words.{AsksWords, asks_words, after_words}

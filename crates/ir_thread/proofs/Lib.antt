@@ -6,4 +6,5 @@ mod PrivateRuns
 mod Unmarked
 mod Conditions
 mod Framed
+mod Words
 pub mod CallerLemmas
