@@ -1,6 +1,7 @@
 //! Many steps of a thread in one call.
 
-ghost use Rattle.std.specs.Prelude.{◌≢◌, ◌<◌, ◌≤◌};
+ghost use Rattle.std.specs.Prelude.{◌≡◌, ◌≢◌, ◌<◌, ◌≤◌, None};
+ghost use Rattle.ir_mach.specs.Execution.{outcome_of, ran_of};
 ghost use Rattle.ir_thread.specs.Calls.{ask_of};
 ghost use Rattle.ir_thread.specs.Private.{PrivateSteps, NoInstruction, UnmarkedSteps, StopsUnmarked};
 ghost use Rattle.ir_thread.specs.declared.ask.Ask.TheVariants as ask;
@@ -8,7 +9,7 @@ ghost use Rattle.ir_thread.specs.declared.ask.Ask.TheVariants as ask;
 use crate::ask::{Ask, Reply};
 use crate::thread::Thread;
 use ir_image::Code;
-use ir_mach::MarkedCode;
+use ir_mach::{MarkedCode, Ran};
 
 impl Thread {
     /// Takes instructions, at most `limit`, and says how many they were: private steps, but no call. It stops below the limit
@@ -25,6 +26,31 @@ impl Thread {
         let taken = self.mach.run(code, limit.min(self.budget - self.steps));
         self.steps += taken;
         taken
+    }
+
+    // Takes instructions, at most `limit`, and says how many they were, and what its machine's next step comes to.
+    #[inline(always)]
+    fn run_seen(&mut self, code: &Code, limit: u64) -> (u64, Ran)
+        ensures within { result.0 ≤ limit }
+        ensures steps { PrivateSteps code.now result.0 self.old self.new }
+        ensures next { self.new.ended ≡ None → result.1 ≡ ran_of (outcome_of code.now self.new.core) }
+    {
+        if self.ended.is_some() {
+            return (0, Ran::Ran);
+        }
+        let (taken, ran) = self.mach.run_on(code, limit.min(self.budget - self.steps));
+        self.steps += taken;
+        (taken, ran)
+    }
+
+    /// Takes instructions, at most `limit`: how many they were, and what the thread asks then.
+    pub fn run_to_ask(&mut self, code: &Code, limit: u64) -> (u64, Ask)
+        ensures within { result.0 ≤ limit }
+        ensures steps { PrivateSteps code.now result.0 self.old self.new }
+        ensures asked { result.1 ≡ ask_of code.now self.new }
+    {
+        let (taken, ran) = self.run_seen(code, limit);
+        (taken, self.asked_by(code, ran))
     }
 
     /// Takes instructions none of which is marked, at most `limit`, and says how many they were. It stops below the limit only
