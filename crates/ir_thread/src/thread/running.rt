@@ -71,28 +71,30 @@ impl Thread {
         taken
     }
 
-    /// Takes private steps, at most `limit`, and says how many they were; it stops below the limit only where the next
-    /// step isn't private.
+    /// Takes private steps, at most `limit`: how many they were, and what the thread asks then, which below the limit is no
+    /// private step.
     #[tactic(auto, using(crate::proofs::PrivateRuns::none_taken))]
-    pub fn run(&mut self, code: &Code, limit: u64) -> u64
-        ensures within { result ≤ limit }
+    pub fn run(&mut self, code: &Code, limit: u64) -> (u64, Ask)
+        ensures within { result.0 ≤ limit }
         // The thread is as after so many of its own steps, each of them private.
-        ensures steps { PrivateSteps code.now result self.old self.new }
+        ensures steps { PrivateSteps code.now result.0 self.old self.new }
+        ensures asked { result.1 ≡ ask_of code.now self.new }
         // Why it stopped.
-        ensures stops { result < limit → ask_of code.now self.new ≢ ask.Private }
+        ensures stops { result.0 < limit → result.1 ≢ ask.Private }
     {
         let mut taken = 0;
         while taken < limit {
-            taken += self.run_instructions(code, limit - taken);
+            let (more, asked) = self.run_to_ask(code, limit - taken);
+            taken += more;
             if taken == limit {
-                return limit;
+                return (limit, asked);
             }
-            match self.ask(code) {
-                Ask::Private => self.take(code, Reply::Go),
-                _ => return taken,
+            match asked {
+                Ask::Private => self.take_asked(code, Ask::Private, Reply::Go),
+                _ => return (taken, asked),
             }
             taken += 1;
         }
-        taken
+        (taken, self.ask(code))
     }
 }
