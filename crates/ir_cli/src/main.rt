@@ -5,7 +5,7 @@ mod progress;
 mod standard;
 
 use ir_arguments::collected;
-use ir_program::{BAD_ARGUMENTS, FAULT, Terminals, program};
+use ir_program::{BAD_ARGUMENTS, FAULT, Invocation, Terminals, program};
 use ir_stream::FromStd;
 use progress::Progress;
 use standard::stand_ins;
@@ -48,11 +48,13 @@ fn run<R: Threads + Wait + Sync + Clock + Eprint>(rt: &HostRuntime, threads: &R)
     program(
         threads,
         rt.alloc(),
-        words.as_slice(),
+        &Invocation {
+            arguments: words.as_slice(),
+            terminals,
+        },
         rt,
         &progress,
         FromStd::new(input),
-        terminals,
         &mut out,
         &mut faults,
     )
