@@ -141,6 +141,7 @@ impl<'a> Flat<'a> {
         requires { t < length self.old.threads }
         ensures within { result.0 ≤ limit }
         ensures flat { IsFlat self.old }
+        ensures still_flat { IsFlat self.new }
         ensures went { WentAlone self.old self.new t result.0 }
         ensures asked { result.1 ≡ ask_of self.new.code (thread_of self.new t) }
     {

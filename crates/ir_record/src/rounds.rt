@@ -57,7 +57,8 @@ impl<W: World> Recorder<'_, W> {
         if !self.turn(t)? {
             return Ok(Turned::Waited);
         }
-        ahead[t] = self.tape.run(t, u64::MAX);
+        let (ran, _) = self.tape.run(t, u64::MAX);
+        ahead[t] = ran;
         Ok(Turned::Stepped)
     }
 

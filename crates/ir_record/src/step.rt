@@ -117,17 +117,19 @@ impl Tape<'_> {
         self.flat.take(t, asked, 0).is_ok()
     }
 
-    // Thread t takes instructions, at most so many, and how many they are. What it asks behind them is left to its next turn.
-    pub fn run(&mut self, t: usize, limit: u64) -> u64
+    // Thread t takes instructions, at most so many: how many they are, and what it asks then.
+    pub fn run(&mut self, t: usize, limit: u64) -> (u64, Ask)
         requires tape { IsTape self.old.flat self.old.logs.items }
         requires thread { t < length self.old.flat.threads }
-        ensures within { result ≤ limit }
+        ensures within { result.0 ≤ limit }
+        ensures asked { result.1 ≡ ask_of self.new.flat.code (thread_of self.new.flat t) }
         ensures flat { IsFlat self.old.flat }
-        ensures alone { WentAlone self.old.flat self.new.flat t result }
+        ensures still_flat { IsFlat self.new.flat }
+        ensures alone { WentAlone self.old.flat self.new.flat t result.0 }
         ensures logs { self.new.logs ≡ self.old.logs }
-        ensures took { (answers : List (List Answered)) → Took (replicate result t) (progress self.old answers) (progress self.new answers) }
+        ensures took { (answers : List (List Answered)) → Took (replicate result.0 t) (progress self.old answers) (progress self.new answers) }
         ensures tape { IsTape self.new.flat self.new.logs.items }
     {
-        self.flat.run_instructions(t, limit)
+        self.flat.run_to_ask(t, limit)
     }
 }
