@@ -33,10 +33,10 @@ returns-clause-went g c = λ s h.
     let here : lead ahead c.args.t ≡ c.index-lead.result.now = at_lead ahead c.args.t c.index-lead.result.now l c.index-lead.ensures in
     let took : TookIf true (c.args.t ∷ []) a b =
     subst (λ z. TookIf z (c.args.t ∷ []) a b) c.if-not-branch.false c.in_ok-turn.ensures.took in
-    subst (λ ls. WentIf true (c.args.t ∷ []) s a ahead (record b { flat = c.run.new.self.flat; logs = ls.items })
-    (set ahead c.args.t c.run.result)) (sym c.run.ensures.logs)
-    (turn_steps s a b c.run.new.self.flat ahead c.args.t c.run.result l c.requires.thread c.run.ensures.flat
-    (omega (arith, here, c.if-lead-gt0.false)) h took c.run.ensures.alone)
+    subst (λ ls. WentIf true (c.args.t ∷ []) s a ahead (record b { flat = c.run-ran.new.self.flat; logs = ls.items })
+    (set ahead c.args.t c.run-ran.result.0)) (sym c.run-ran.ensures.logs)
+    (turn_steps s a b c.run-ran.new.self.flat ahead c.args.t c.run-ran.result.0 l c.requires.thread c.run-ran.ensures.flat
+    (omega (arith, here, c.if-lead-gt0.false)) h took c.run-ran.ensures.alone)
 
 pub returns-then-lead-gt0-clause-each : goal.returns-then-lead-gt0-clause-each
 returns-then-lead-gt0-clause-each g c = length-set c.args.ahead.now.items c.args.t _ ∙ c.requires.each
@@ -49,10 +49,10 @@ returns-then-not-branch-clause-threads g c = c.in_ok-turn.ensures.took.took.thre
 
 pub returns-clause-each : goal.returns-clause-each
 returns-clause-each g c = length-set c.args.ahead.now.items c.args.t _ ∙ c.requires.each
-    ∙ sym (c.run.ensures.alone.threads ∙ c.in_ok-turn.ensures.took.took.threads)
+    ∙ sym (c.run-ran.ensures.alone.threads ∙ c.in_ok-turn.ensures.took.took.threads)
 
 pub returns-clause-threads : goal.returns-clause-threads
-returns-clause-threads g c = c.run.ensures.alone.threads ∙ c.in_ok-turn.ensures.took.took.threads
+returns-clause-threads g c = c.run-ran.ensures.alone.threads ∙ c.in_ok-turn.ensures.took.took.threads
 
 pub returns-then-not-branch-clause-waits : goal.returns-then-not-branch-clause-waits
 returns-then-not-branch-clause-waits g c = λ is.

@@ -1,10 +1,10 @@
 use Rattle.std.proofs.Common.{true, [], ◌∷◌, refl, ap, ◌∙◌, arith, length, map, length-set}
 use Rattle.ir_record.specs.Progress.{progress, TookIf}
 use Rattle.ir_record.specs.Recorders.{progress_of}
-use Rattle.ir_record.proofs.recorder.Recorder.turn.Given.{Over}
+use Rattle.ir_record.proofs.recorder.Recorder.turn_asked.Given.{Over}
 use Rattle.ir_record.proofs.Asking.{same_worlds}
 use Rattle.ir_record.proofs.Ready.{stays_ready}
-use Rattle.ir_record.proofs.recorder.Recorder.turn.Goals as goal
+use Rattle.ir_record.proofs.recorder.Recorder.turn_asked.Goals as goal
 
 took : (g : Over) (c : goal.After-answer g) → TookIf true (c.args.t ∷ [])
     (progress_of g.W.World.answers c.args.self.now)
