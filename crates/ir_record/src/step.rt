@@ -1,6 +1,6 @@
 //! A step of one thread, and what is logged of it.
 
-ghost use Rattle.std.specs.Prelude.{◌≡◌, ◌≢◌, ◌<◌, [], ◌∷◌, ◌++◌, ◌≤◌, true, List, length, slice_set, replicate};
+ghost use Rattle.std.specs.Prelude.{◌≡◌, ◌≢◌, ◌<◌, [], ◌∷◌, ◌++◌, ◌≤◌, true, false, List, length, slice_set, replicate};
 ghost use Rattle.ir_flat.specs.Alone.{WentAlone};
 ghost use Rattle.ir_flat.specs.Flat.{thread_of, IsFlat};
 ghost use Rattle.ir_thread.specs.Calls.{ask_of, Permits};
@@ -74,6 +74,7 @@ impl Tape<'_> {
         requires asked { ask_of self.old.flat.code (thread_of self.old.flat t) ≡ Enter object access }
         ensures took { (answers : List (List Answered))
             → TookIf result (t ∷ []) (progress self.old answers) (progress self.new answers) }
+        ensures waits { result ≡ false → self.new.flat ≡ self.old.flat }
         ensures tape { IsTape self.new.flat self.new.logs.items }
     {
         let event = self.entry(object, access);
@@ -112,6 +113,7 @@ impl Tape<'_> {
         requires quiet { IsQuiet asked }
         ensures took { (answers : List (List Answered))
             → TookIf result (t ∷ []) (progress self.old answers) (progress self.new answers) }
+        ensures none { result ≡ false → self.new.flat ≡ self.old.flat }
         ensures tape { IsTape self.new.flat self.new.logs.items }
     {
         self.flat.take(t, asked, 0).is_ok()

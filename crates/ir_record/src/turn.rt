@@ -1,6 +1,6 @@
 //! A turn of one thread.
 
-ghost use Rattle.std.specs.Prelude.{◌≡◌, ◌<◌, [], ◌∷◌, ◌++◌, true, length, map, slice_set, IfOk, OnOk, IfErr};
+ghost use Rattle.std.specs.Prelude.{◌≡◌, ◌<◌, [], ◌∷◌, ◌++◌, true, false, length, map, slice_set, IfOk, OnOk, IfErr};
 ghost use Rattle.ir_flat.specs.Flat.{IsFlat, thread_of};
 ghost use Rattle.ir_thread.specs.Calls.{ask_of};
 ghost use Rattle.ir_thread.specs.Instance.{is_result};
@@ -44,6 +44,7 @@ impl<W: World> Recorder<'_, W> {
         requires thread { t < length self.old.tape.flat.threads }
         requires asked { asked ≡ ask_of self.old.tape.flat.code (thread_of self.old.tape.flat t) }
         ensures took { IfOk result (λ moved. TookIf moved (t ∷ []) (progress_of W.answers self.old) (progress_of W.answers self.new)) }
+        ensures none { IfOk result (λ moved. moved ≡ false → self.new.tape.flat ≡ self.old.tape.flat) }
         ensures ready { OnOk result (CanGoOn W.answers W.broken self.new) }
         ensures failed { IfErr result (NamesFirst W.broken self.new.worlds.items) }
         ensures kept { AreSameWorlds W.answers W.origin self.old.worlds.items self.new.worlds.items }
@@ -61,18 +62,5 @@ impl<W: World> Recorder<'_, W> {
             }
             _ => Ok(self.tape.go(t, asked)),
         }
-    }
-
-    // Thread t takes its next step, if it has one; and whether it had.
-    pub fn turn(&mut self, t: usize) -> Result<bool, Failed>
-        requires ready { CanGoOn W.answers W.broken self.old }
-        requires thread { t < length self.old.tape.flat.threads }
-        ensures took { IfOk result (λ moved. TookIf moved (t ∷ []) (progress_of W.answers self.old) (progress_of W.answers self.new)) }
-        ensures ready { OnOk result (CanGoOn W.answers W.broken self.new) }
-        ensures failed { IfErr result (NamesFirst W.broken self.new.worlds.items) }
-        ensures kept { AreSameWorlds W.answers W.origin self.old.worlds.items self.new.worlds.items }
-    {
-        let asked = self.tape.ask(t);
-        self.turn_asked(t, asked)
     }
 }
