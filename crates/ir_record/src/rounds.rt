@@ -45,6 +45,7 @@ impl<W: World> Recorder<'_, W> {
 
     // A turn of thread t: one of the private steps that it is ahead; or its next step, if it has one, and then as many
     // private steps as there are.
+    #[inline(always)]
     fn turn_ahead(
         &mut self,
         t: usize,

@@ -105,6 +105,7 @@ impl Tape<'_> {
     }
 
     // Thread t takes the step that it asks, which nothing is logged of; one that is done has none.
+    #[inline(always)]
     pub fn go(&mut self, t: usize, asked: Ask) -> bool
         requires tape { IsTape self.old.flat self.old.logs.items }
         requires flat { IsFlat self.old.flat }
@@ -120,6 +121,7 @@ impl Tape<'_> {
     }
 
     // Thread t takes instructions, at most so many: how many they are, and what it asks then.
+    #[inline(always)]
     pub fn run(&mut self, t: usize, limit: u64) -> (u64, Ask)
         requires tape { IsTape self.old.flat self.old.logs.items }
         requires thread { t < length self.old.flat.threads }

@@ -38,6 +38,7 @@ fn answer_to<W: World>(worlds: &mut Vec<W>, t: usize, kind: EnvKind) -> Result<u
 
 impl<W: World> Recorder<'_, W> {
     // Thread t, which asks so, takes its next step, if it has one; and whether it had.
+    #[inline(always)]
     pub fn turn_asked(&mut self, t: usize, asked: Ask) -> Result<bool, Failed>
         requires ready { CanGoOn W.answers W.broken self.old }
         requires flat { IsFlat self.old.tape.flat }

@@ -43,6 +43,7 @@ returns-in_default g c = record {
       (map g.W.World.broken c.args.self.now.worlds.items)
       c.requires.ready (c.go.ensures.took (map g.W.World.answers c.args.self.now.worlds.items)) c.go.ensures.tape
       refl c.requires.ready.works;
+  none = c.go.ensures.none;
   failed = tt;
   kept = same_worlds;
 }
