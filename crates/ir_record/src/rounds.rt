@@ -38,8 +38,8 @@ impl<W: World> Recorder<'_, W> {
         requires { length asks.old.items ≡ length self.now.tape.flat.threads }
         ensures { AreAsks asks.new.items self.now.tape.flat }
     {
-        for t in 0..self.tape.flat.threads().len() {
-            asks[t] = self.tape.ask(t);
+        for number in 0..self.tape.flat.threads().len() {
+            asks[number] = self.tape.ask(number);
         }
     }
 

@@ -2,25 +2,25 @@ use Rattle.std.proofs.Common.{◌≡◌, ◌<◌, length, ap, ◌∙◌, arith, 
 use Rattle.ir_record.proofs.Kept.{one_asked}
 use Rattle.ir_record.proofs.recorder.Recorder.ask_all.Goals as goal
 
-pub loop-t-init : goal.loop-t-init
-loop-t-init g c = record { places = c.requires; asked = λ u l. absurd (omega (arith, l)) }
+pub loop-number-init : goal.loop-number-init
+loop-number-init g c = record { places = c.requires; asked = λ u l. absurd (omega (arith, l)) }
 
-pub loop-t-preserved : goal.loop-t-preserved
-loop-t-preserved g c =
-    let e : length c.threads-t-end.result.now ≡ length c.args.self.now.tape.flat.threads = ap (λ xs. length xs) c.threads-t-end.ensures.value in
-    let below : c.loop-t.t < length c.loop-t.asks.items = omega (arith, e, c.loop-t-test.true, c.loop-t.auto.t-end, c.loop-t.invariant.places) in
+pub loop-number-preserved : goal.loop-number-preserved
+loop-number-preserved g c =
+    let e : length c.threads-number-end.result.now ≡ length c.args.self.now.tape.flat.threads = ap (λ xs. length xs) c.threads-number-end.ensures.value in
+    let below : c.loop-number.number < length c.loop-number.asks.items = omega (arith, e, c.loop-number-test.true, c.loop-number.auto.number-end, c.loop-number.invariant.places) in
     record {
-      places = length-set c.loop-t.asks.items c.loop-t.t _ ∙ c.loop-t.invariant.places;
-      asked = one_asked c.loop-t.asks.items c.args.self.now.tape.flat c.loop-t.t c.ask.result below c.ask.ensures.value
-          c.loop-t.invariant.asked;
+      places = length-set c.loop-number.asks.items c.loop-number.number _ ∙ c.loop-number.invariant.places;
+      asked = one_asked c.loop-number.asks.items c.args.self.now.tape.flat c.loop-number.number c.ask.result below c.ask.ensures.value
+          c.loop-number.invariant.asked;
     }
 
 pub returns : goal.returns
 returns g c = record {
-  flat = c.threads-t-end.ensures.within;
-  places = c.loop-t.invariant.places;
+  flat = c.threads-number-end.ensures.within;
+  places = c.loop-number.invariant.places;
   asked = λ u l.
-      let e : length c.threads-t-end.result.now ≡ length c.args.self.now.tape.flat.threads =
-      ap (λ xs. length xs) c.threads-t-end.ensures.value in
-      c.loop-t.invariant.asked u (omega (arith, e, l, c.loop-t-test.false, c.loop-t.auto.t-end));
+      let e : length c.threads-number-end.result.now ≡ length c.args.self.now.tape.flat.threads =
+      ap (λ xs. length xs) c.threads-number-end.ensures.value in
+      c.loop-number.invariant.asked u (omega (arith, e, l, c.loop-number-test.false, c.loop-number.auto.number-end));
 }

@@ -58,3 +58,6 @@ returns-in-Try-clause-ready g c = stays_ready c.args.t true
     (map g.W.World.broken c.args.self.now.worlds.items) (map g.W.World.broken c.args.self.now.worlds.items)
     c.requires.ready (c.try_to_enter.ensures.took (map g.W.World.answers c.args.self.now.worlds.items)) c.try_to_enter.ensures.tape
     refl c.requires.ready.works
+
+pub returns-in-Try-clause-took : goal.returns-in-Try-clause-took
+returns-in-Try-clause-took g c = c.try_to_enter.ensures.took (map g.W.World.answers c.args.self.now.worlds.items)
