@@ -1,10 +1,10 @@
 use Rattle.std.proofs.Common.{true, [], ◌∷◌, refl, ap, ◌∙◌, arith, length, map, length-set}
 use Rattle.ir_record.specs.Progress.{progress, TookIf}
 use Rattle.ir_record.specs.Recorders.{progress_of}
-use Rattle.ir_record.proofs.recorder.Recorder.turn.Given.{Over}
+use Rattle.ir_record.proofs.recorder.Recorder.turn_asked.Given.{Over}
 use Rattle.ir_record.proofs.Asking.{same_worlds}
 use Rattle.ir_record.proofs.Ready.{stays_ready}
-use Rattle.ir_record.proofs.recorder.Recorder.turn.Goals as goal
+use Rattle.ir_record.proofs.recorder.Recorder.turn_asked.Goals as goal
 
 took : (g : Over) (c : goal.After-answer g) → TookIf true (c.args.t ∷ [])
     (progress_of g.W.World.answers c.args.self.now)
@@ -43,6 +43,7 @@ returns-in_default g c = record {
       (map g.W.World.broken c.args.self.now.worlds.items)
       c.requires.ready (c.go.ensures.took (map g.W.World.answers c.args.self.now.worlds.items)) c.go.ensures.tape
       refl c.requires.ready.works;
+  none = c.go.ensures.none;
   failed = tt;
   kept = same_worlds;
 }
@@ -57,3 +58,6 @@ returns-in-Try-clause-ready g c = stays_ready c.args.t true
     (map g.W.World.broken c.args.self.now.worlds.items) (map g.W.World.broken c.args.self.now.worlds.items)
     c.requires.ready (c.try_to_enter.ensures.took (map g.W.World.answers c.args.self.now.worlds.items)) c.try_to_enter.ensures.tape
     refl c.requires.ready.works
+
+pub returns-in-Try-clause-took : goal.returns-in-Try-clause-took
+returns-in-Try-clause-took g c = c.try_to_enter.ensures.took (map g.W.World.answers c.args.self.now.worlds.items)
