@@ -23,9 +23,9 @@ returns-in_default c = record {
 pub loop-taken-preserved : goal.loop-taken-preserved
 loop-taken-preserved c = record {
   within = omega (arith, c.run_to_ask-more.ensures.within, c.loop-taken.invariant.within, c.if-taken-limit.false);
-  steps = then_one c.args.code.now _ c.args.self.now c.run_to_ask-more.new.self c.take.new.self
+  steps = then_one c.args.code.now _ c.args.self.now c.run_to_ask-more.new.self c.take_asked.new.self
       (then_others c.args.code.now c.loop-taken.taken c.run_to_ask-more.result.0 c.args.self.now c.loop-taken.self
       c.run_to_ask-more.new.self c.loop-taken.invariant.steps
       c.run_to_ask-more.ensures.steps)
-      (sym c.in-Private.ensures.value) c.take.ensures;
+      (sym c.run_to_ask-more.ensures.asked ∙ c.in-Private.is) c.take_asked.ensures;
 }
