@@ -1,4 +1,5 @@
-use Rattle.std.proofs.Common.{◌≡◌, ◌+◌, ◌<◌, ◌≤◌, ◌∙◌, ap, arith, sym, subst}
+use Rattle.std.proofs.Common.{◌≡◌, ◌+◌, ◌<◌, ◌≤◌, ◌∙◌, ℕ, List, ap, arith, sym, subst}
+use Rattle.ir_thread.specs.Calls.{ask_of}
 use Rattle.ir_cut.specs.Positions.{cut_of}
 use Rattle.ir_weave.specs.Woven.{HasRunOn}
 use Rattle.ir_weave.proofs.Steps.{runs_on}
@@ -21,6 +22,10 @@ returns-clause-ran c = ran c
 pub returns-clause-below : goal.returns-clause-below
 returns-clause-below c = let r = ran c in let b = room c in let steps = r.steps in
     subst (λ t. c.run.new.self.steps ≤ cut_of c.args.target.now t) (sym r.number) (omega (arith, steps, b))
+
+pub returns-clause-asked : goal.returns-clause-asked
+returns-clause-asked c = c.run.ensures.asked
+    ∙ ap (λ (k : List ℕ). ask_of k c.run.new.self) (c.code.ensures.value ∙ ap (λ g. g.code) c.image.ensures.value)
 
 pub returns-clause-stops : goal.returns-clause-stops
 returns-clause-stops c = λ below.
