@@ -3,7 +3,7 @@ use Rattle.ir_cut.specs.Positions.{cut_of}
 use Rattle.ir_weave.specs.States.{positions}
 use Rattle.ir_weave.proofs.CallerLemmas.{step_taken}
 use Rattle.ir_replay.proofs.Reached.{steps_there, rests_there}
-use Rattle.ir_replay.proofs.stepping.step.Goals as goal
+use Rattle.ir_replay.proofs.stepping.step_asked.Goals as goal
 
 pub next_result-requires-clause-steps : goal.next_result-requires-clause-steps
 next_result-requires-clause-steps g c = steps_there c.args.fitted.now c.args.target.now c.args.flat.now c.args.t c.left.result
