@@ -22,7 +22,10 @@ fn complain(rt: &impl Eprint, why: &str) {
 
 // Does what the arguments ask for, over standard streams and the files of the system; the exit status. Threads that record
 // or replay are those of the second handle.
-fn run<R: Threads + Wait + Sync + Clock + Eprint>(rt: &HostRuntime, threads: &R) -> u8 {
+fn run<R: Threads + Wait + Sync + Clock + Eprint + AllocGlobal>(
+    rt: &HostRuntime,
+    threads: &R,
+) -> u8 {
     let words = match collected(rt) {
         Ok(words) => words,
         Err(error) if error.kind() == ErrorKind::InvalidData => {

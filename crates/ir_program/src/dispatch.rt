@@ -70,7 +70,7 @@ pub fn program<R, D, G, I, O, E>(
     faults: &mut E,
 ) -> u8
 where
-    R: Threads + Wait + Sync + Clock + Eprint,
+    R: Threads + Wait + Sync + Clock + Eprint + AllocGlobal,
     D: Folder,
     G: Gate + Sync,
     I: Source + Drop,
@@ -100,9 +100,7 @@ where
         Asked::Assembling(arguments) => {
             assemble_file(alloc, folder, &arguments, terminals.faults, faults)
         }
-        Asked::Recording(arguments) => {
-            record_file(rt, alloc, folder, gate, &arguments, out, faults)
-        }
+        Asked::Recording(arguments) => { record_file(rt, folder, gate, &arguments, out, faults) }
         Asked::Help(text) => help(text.as_str(), out, faults),
         Asked::Nothing(why) => {
             say(faults, why.as_str(), "", "");

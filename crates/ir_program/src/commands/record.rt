@@ -178,7 +178,6 @@ fn output_places<D: Folder, E: Sink>(
 // Records a guest into a file, and what its threads print into others where they are asked for.
 pub fn record_file<R, D, G, O, E>(
     rt: &R,
-    alloc: Global,
     folder: &D,
     gate: &G,
     arguments: &RecordArguments,
@@ -186,7 +185,7 @@ pub fn record_file<R, D, G, O, E>(
     faults: &mut E,
 ) -> u8
 where
-    R: Threads + Wait + Sync + Clock,
+    R: Threads + Wait + Sync + Clock + AllocGlobal,
     D: Folder,
     G: Gate + Sync,
     O: Sink,
@@ -194,6 +193,7 @@ where
     requires writes { O.broken out.old ≡ false }
     requires reports { E.broken faults.old ≡ false }
 {
+    let alloc = rt.alloc();
     let place = arguments.trace.as_str();
     let Ok(beside) = path_beside(alloc, place) else {
         say(faults, "memory ran out", "", "");
@@ -217,17 +217,12 @@ where
     let mut outputs = OutputFiles::new(folder, paths, place);
     record_run(
         rt,
-        alloc,
         gate,
         image.as_slice(),
-        arguments.order.as_ref().map(|list| list.as_str()),
-        arguments.budget,
-        arguments.random,
-        input.as_slice(),
+        &arguments.plan(input.as_slice()),
         &mut trace,
         &mut outputs,
         out,
         faults,
-        arguments.profile,
     )
 }
