@@ -45,8 +45,9 @@ refuse: ir $(TESTS)
 mutate: ir
 	python3 scripts/mutate.py ./ir
 
-# Millions of instructions per second, and the assembler's lines.
+# Host instructions of each operation of a guest, where valgrind is installed; millions of instructions per second, and the assembler's lines.
 bench: ir
+	python3 scripts/instructions.py ./ir
 	python3 scripts/prove.py ir_bench
 	cd crates/ir_bench && rt run < stdin > out.txt && rm out.txt
 	python3 scripts/bench.py ./ir crates/ir_bench/out/ir_bench

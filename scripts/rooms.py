@@ -5,8 +5,8 @@ python3 scripts/rooms.py
 
 Of another crate's proofs a file may cite what its `proofs/CallerLemmas.antt` offers, and nothing else; no other module
 of `proofs/` is public; a crate stands in crates.txt on each crate that its files name; the texts of ir_tests'
-`examples.rt` are those of the files of `examples`, since a test can read no file; and each edit of `edits/`, which the
-gate doesn't try, applies.
+`examples.rt` are those of the files of `examples`, since a test can read no file; and each edit of `must-fail/` and `edits/`
+applies, has no line that isn't read, and writes no name that its file doesn't have.
 """
 import re
 import sys
@@ -19,6 +19,13 @@ CITED = re.compile(r"\bRattle\.(ir_\w+)\.proofs\.(\w+)")
 NAMED = re.compile(r"\bRattle\.(ir_\w+)\.|\b(ir_\w+)::")
 PUBLIC = re.compile(r"^pub mod (\w+)", re.MULTILINE)
 OFFERED = "CallerLemmas"
+READ = ("file: ", "old: ", "new: ")
+# What no code of a file is: comments, texts, and the lines of clauses and of what they cite.
+NO_CODE = re.compile(r'//.*|"(?:[^"\\]|\\.)*"|^ *(?:ghost|requires|ensures)\b.*', re.MULTILINE)
+# A name that has to be known where it stands: a type, a constant or a path's first part, and a function that is called.
+NEEDED = re.compile(r"(?<![\w.:'])(?:([A-Z]\w*)|([a-z_]\w*)(?=::|\())")
+WORD = re.compile(r"(?<![\w.:'])[A-Za-z_]\w*")
+ALWAYS = set("Self Some None Ok Err Vec String Option Result Drop Copy Clone crate self super std if while match return".split())
 EXAMPLES = TOP / "crates" / "ir_tests" / "src" / "examples.rt"
 TEXT = re.compile(r'^pub const (\w+): &str =\s+"([^"]*)";', re.MULTILINE)
 
@@ -69,20 +76,43 @@ def examples():
             yield f"examples/{name}.s: isn't the text of {name.upper()} in {EXAMPLES.relative_to(TOP)}"
 
 
-def stale_edits():
-    """Each edit that doesn't apply, as a line."""
-    for edit in sorted((TOP / "crates").glob("*/edits/*")):
-        try:
-            path, pairs = pairs_of(edit)
-            applied((edit.parent.parent / path).read_text(encoding="utf-8"), pairs)
-            if not pairs:
-                yield f"{edit.relative_to(TOP)}: changes nothing"
-        except (BadEdit, OSError) as error:
-            yield f"{edit.relative_to(TOP)}: {error}"
+def unknown_names(text, pairs, crates):
+    """The names that the new texts need and a file's code doesn't have."""
+    for old, _ in pairs:
+        text = text.replace(old, "")
+    known = {*WORD.findall(NO_CODE.sub("", text)), *crates, *ALWAYS}
+    needed = [NEEDED.findall(NO_CODE.sub("", new)) for _, new in pairs]
+    return sorted({a or b for found in needed for a, b in found} - known - set(WORD.findall(" ".join(old for old, _ in pairs))))
+
+
+def edit_faults(edit, crates):
+    """What is wrong with an edit, as texts."""
+    lines = edit.read_text(encoding="utf-8").splitlines()
+    yield from (f"a line that isn't read: {line[:40]}" for line in lines if line.strip() and not line.startswith(READ))
+    try:
+        path, pairs = pairs_of(edit)
+        text = (edit.parent.parent / path).read_text(encoding="utf-8")
+        applied(text, pairs)
+    except (BadEdit, OSError) as error:
+        yield str(error)
+        return
+    if not pairs:
+        yield "changes nothing"
+    if path.endswith(".rt"):
+        yield from (f"names {name}, which {path} doesn't have" for name in unknown_names(text, pairs, crates))
+
+
+def bad_edits():
+    """Each edit that the prover couldn't judge, as a line."""
+    stands = listed()
+    for edit in sorted([*(TOP / "crates").glob("*/edits/*"), *(TOP / "crates").glob("*/must-fail/*")]):
+        crates = stands.get(edit.parent.parent.name, set())
+        for fault in edit_faults(edit, crates):
+            yield f"{edit.relative_to(TOP)}: {fault}"
 
 
 def main():
-    found = [*faults(), *examples(), *stale_edits()]
+    found = [*faults(), *examples(), *bad_edits()]
     print("\n".join(found) or "rooms: each crate cites what the others offer; the examples are as ir_tests has them; the edits apply")
     return 1 if found else 0
 

@@ -1,11 +1,12 @@
 //! The command-line arguments.
 
-ghost use Rattle.std.specs.Prelude.{◌≤◌};
+ghost use Rattle.std.specs.Prelude.{◌≡◌, ◌≤◌, option_map};
+ghost use Rattle.std.specs.String.{string_bytes};
 ghost use Rattle.ir_thread.specs.Calls.{most_budget};
 
 use clap::error::ErrorKind;
 use clap::{Arg, ArgAction, ArgMatches, Command, Error};
-use ir_record_run::number_within;
+use ir_record_run::{RecordPlan, number_within};
 use ir_thread::{MOST_BUDGET, Profile};
 use std::alloc::{AllocError, Global};
 use std::{env, io};
@@ -232,6 +233,21 @@ pub struct RecordArguments {
     /// What the paths of the files of what threads print begin with, if they are asked for.
     pub output: Option<String>,
     ghost within: { budget ≤ most_budget },
+}
+
+impl RecordArguments {
+    /// The plan of the recording, of a guest that reads these bytes.
+    pub fn plan<'a>(&'a self, input: &'a [u8]) -> RecordPlan<'a>
+        ensures { result ≡ record { order = option_map string_bytes self.now.order; budget = self.now.budget; random = self.now.random; input = input.now; profile = self.now.profile } }
+    {
+        RecordPlan {
+            order: self.order.as_ref().map(|list| list.as_str()),
+            budget: self.budget,
+            random: self.random,
+            input,
+            profile: self.profile,
+        }
+    }
 }
 
 /// What the arguments ask for.

@@ -5,7 +5,7 @@ mod progress;
 mod standard;
 
 use ir_arguments::collected;
-use ir_program::{BAD_ARGUMENTS, FAULT, Terminals, program};
+use ir_program::{BAD_ARGUMENTS, FAULT, Invocation, Terminals, program};
 use ir_stream::FromStd;
 use progress::Progress;
 use standard::stand_ins;
@@ -22,7 +22,10 @@ fn complain(rt: &impl Eprint, why: &str) {
 
 // Does what the arguments ask for, over standard streams and the files of the system; the exit status. Threads that record
 // or replay are those of the second handle.
-fn run<R: Threads + Wait + Sync + Clock + Eprint>(rt: &HostRuntime, threads: &R) -> u8 {
+fn run<R: Threads + Wait + Sync + Clock + Eprint + AllocGlobal>(
+    rt: &HostRuntime,
+    threads: &R,
+) -> u8 {
     let words = match collected(rt) {
         Ok(words) => words,
         Err(error) if error.kind() == ErrorKind::InvalidData => {
@@ -48,11 +51,13 @@ fn run<R: Threads + Wait + Sync + Clock + Eprint>(rt: &HostRuntime, threads: &R)
     program(
         threads,
         rt.alloc(),
-        words.as_slice(),
+        &Invocation {
+            arguments: words.as_slice(),
+            terminals,
+        },
         rt,
         &progress,
         FromStd::new(input),
-        terminals,
         &mut out,
         &mut faults,
     )

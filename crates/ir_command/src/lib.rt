@@ -3,12 +3,14 @@
 
 mod arguments;
 mod command;
+mod hit;
 mod number;
 mod parse;
 mod refusal;
 mod words;
 
 pub use command::{ByteCount, Command, Direction, Keeping, Move, Point, Show};
+pub use hit::Hit;
 pub use parse::{MOST_LINE, parse_line};
 pub use refusal::Refusal;
 pub use words::{next_word, without_return};

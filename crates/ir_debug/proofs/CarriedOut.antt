@@ -22,12 +22,12 @@ use Rattle.ir_command.specs.declared.command.Keeping.TheVariants.{Keep, Load, Dr
 use Rattle.ir_debug.specs.Machine.Desk.{Desk, threads_of, moved, spoken, with_point, without_point, kept_cut, with_kept, without_kept}
 use Rattle.ir_command.specs.declared.command.Direction.{Direction}
 use Rattle.ir_command.specs.declared.command.Point.{Point}
-use Rattle.ir_hits.specs.declared.hit.Hit.{Hit}
+use Rattle.ir_command.specs.declared.hit.Hit.{Hit}
 use Rattle.ir_debug.specs.Machine.Moves.{Continues}
 use Rattle.ir_debug.specs.Machine.Refusals.{if_some, thread_moved, refusal_of, is_at_hand}
 use Rattle.ir_debug.specs.Machine.Shown.{shown}
-use Rattle.ir_debug.specs.Machine.Texts.{number_line, positions_text, kept_text, next_text}
-use Rattle.ir_debug.specs.Machine.Answers.{Answers, AnswersBy, continued_text}
+use Rattle.ir_text.specs.Texts.{number_line, positions_text, next_text}
+use Rattle.ir_debug.specs.Machine.Answers.{kept_text, Answers, AnswersBy, continued_text}
 use Rattle.ir_debug.specs.Debugging.{Debugging, IsThere, answer_text}
 
 -- the machine at d may give this answer and be at next then, and the command isn't refused otherwise

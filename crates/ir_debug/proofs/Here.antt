@@ -16,17 +16,17 @@ use Rattle.ir_weave.specs.States.{IsAt}
 use Rattle.ir_weave.proofs.CallerLemmas.{LogsBefore, log_before}
 use Rattle.ir_command.specs.declared.command.Show.{Show}
 use Rattle.ir_command.specs.declared.command.Show.TheVariants as show
-use Rattle.ir_debug.specs.Answers.{machine_text}
+use Rattle.ir_text.specs.Answers.{machine_text}
 use Rattle.ir_command.specs.declared.command.Command.TheVariants as command
 use Rattle.ir_debug.specs.declared.answer.Answer.{Answer}
 use Rattle.ir_debug.specs.declared.answer.Answer.TheVariants.{Shown}
 use Rattle.ir_debug.specs.declared.answer.Answer.TheVariants as answer
 use Rattle.ir_debug.specs.Debugging.{Debugging, IsThere, IsLast, IsText, answer_text}
 use Rattle.ir_debug.proofs.Passed.{thread_below, object_below}
-use Rattle.ir_debug.specs.AtHand.{held_by, thread_here, object_here, events_of, shown_here, text_here, ShowsHere}
+use Rattle.ir_text.specs.Texts.{held_by, bytes_from, memory_text, output_text, object_text, log_text, next_text}
+use Rattle.ir_debug.specs.AtHand.{thread_here, object_here, events_of, shown_here, text_here, ShowsHere}
 use Rattle.ir_debug.specs.Machine.Desk.{IsDesk, threads_of}
-use Rattle.ir_debug.specs.Machine.Shown.{shown, current, logged_so_far, bytes_from}
-use Rattle.ir_debug.specs.Machine.Texts.{memory_text, output_text, object_text, log_text, next_text}
+use Rattle.ir_debug.specs.Machine.Shown.{shown, current, logged_so_far}
 
 -- a thread in hand is the run's at its position
 thread_is : (d : Debugging) (run : List Step) → IsAt d.desk.fitted (cut_of d.desk.at) (flat_in d.desk.fitted d.state) run → (t : ℕ)

@@ -6,7 +6,7 @@ use Rattle.std.proofs.lemmas.List.{at_drop_more, at_drop_all}
 use Rattle.std.proofs.lemmas.Bool.Decides.{nat_tests}
 use Rattle.ir_fit.specs.Fit.{FittedTrace}
 use Rattle.ir_debug.specs.Machine.Desk.{Kept, kept_cut, without, Cuts, AllKept, threads_of}
-use Rattle.ir_debug.specs.Machine.Texts.{kept_line, kept_text}
+use Rattle.ir_debug.specs.Machine.Answers.{kept_line, kept_text}
 
 -- ---- the kept cut of a number, from a place on
 

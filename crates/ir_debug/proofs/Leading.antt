@@ -7,7 +7,7 @@ use Rattle.ir_cut.specs.Positions.{machine_of, start_of, cut_of, EachRun, IsLeas
 use Rattle.ir_command.specs.declared.command.Direction.{Direction}
 use Rattle.ir_command.specs.declared.command.Direction.TheVariants.{Forwards, Backwards}
 use Rattle.ir_command.specs.declared.command.Move.{Move}
-use Rattle.ir_hits.specs.declared.hit.Hit.{Hit}
+use Rattle.ir_command.specs.declared.hit.Hit.{Hit}
 use Rattle.ir_command.specs.declared.command.Move.TheVariants.{Step, Back}
 use Rattle.ir_debug.specs.Machine.Desk.{last_of}
 use Rattle.ir_debug.specs.Machine.Moves.{Leads, ToLeast, ToGreatest, ToEither, ToPosition, StopsAt, stop_of}

@@ -1,7 +1,4 @@
-mod RegisterNames
-mod Lines
 mod Opened
-mod ThreadLines
 mod Replying
 mod Machine
 mod Ends
@@ -12,10 +9,6 @@ mod CarriedOut
 mod Rows
 mod RowsOne
 mod RowsTwo
-mod Releases
-mod BytesFrom
-mod Buffers
-mod Insides
 mod Here
 mod Passed
 mod Searches

@@ -1,18 +1,9 @@
 -- Lines, refusals and texts of the small machine, computed.
-use Rattle.std.proofs.Common.{◌≡◌, ℕ, zero, suc, [], ◌∷◌, refl, Option, Some, None, Ok, Err, true, false, replicate}
+use Rattle.std.proofs.Common.{◌≡◌, ℕ, [], ◌∷◌, refl, Option, Some, None, Ok, Err, true, false, replicate}
 use Rattle.std.specs.Prelude.{codes, Result}
 use Rattle.std.specs.Fmt.{digits}
-use Rattle.hex.specs.Hex.{encode_with}
 use Rattle.ir_image.specs.Guest.{Guest}
 use Rattle.ir_image.specs.declared.form.ImageForm.TheVariants.{Small}
-use Rattle.ir_runs.specs.Labels.{In, Answer, Refused}
-use Rattle.ir_runs.specs.Object as objects
-use Rattle.ir_runs.specs.declared.access.Access.TheVariants.{Reading, Writing}
-use Rattle.ir_runs.specs.declared.env_kind.EnvKind.TheVariants.{Clock}
-use Rattle.ir_runs.specs.declared.thread_verdict.ThreadVerdict.TheVariants.{Same, Disagrees, Starves}
-use Rattle.ir_coherence.specs.declared.cause.Cause.TheVariants.{Twice}
-use Rattle.ir_fit.specs.declared.header_cause.HeaderCause.TheVariants as header
-use Rattle.ir_fit.specs.declared.verdict.Verdict.TheVariants.{Header, Incoherent}
 use Rattle.ir_thread.specs.declared.end.End.TheVariants.{Breakpoint}
 use Rattle.ir_thread.specs.declared.profile.Profile.TheVariants.{One}
 use Rattle.ir_command.specs.Words.{words_of}
@@ -29,8 +20,6 @@ use Rattle.ir_fit.specs.Fit.{FittedTrace}
 use Rattle.ir_debug.specs.Machine.Desk.{Desk, desk_of, last_cut, last_positions}
 use Rattle.ir_debug.specs.Machine.Answers.{moved_text}
 use Rattle.ir_debug.specs.Machine.Refusals.{refusal_of, may_lack}
-use Rattle.ir_debug.specs.Machine.Texts.{positions_text, memory_text, memory_lines, output_text, output_lines, object_text, inside_for, log_text, event_lines}
-use Rattle.ir_debug.specs.Machine.Opening.{verdict_text, threads_text}
 
 abbrev Asked : Type 0
 Asked = Result (Option Command) Refusal
@@ -147,56 +136,6 @@ lacks = refl
 lacks_next : may_lack desk_p (Show (Next 0)) ≡ true
 lacks_next = refl
 
--- ---- texts
-
-at_two : positions_text (3 ∷ 15 ∷ []) ≡ codes "at 3 15"
-unfolding digits
-at_two = refl
-
-memory_q : memory_text 0x10000 (0x13 ∷ 5 ∷ 0x80 ∷ 4 ∷ []) ≡ codes "00010000: 13058004\n"
-unfolding memory_lines digits encode_with
-memory_q = refl
-
-memory_17 : memory_text 0x100004 (replicate 17 1) ≡ codes "00100004: 01010101010101010101010101010101\n00100014: 01\n"
-unfolding memory_lines digits encode_with
-memory_17 = refl
-
-output_q : output_text (0x48 ∷ []) ≡ codes "out 1\n48\n"
-unfolding output_lines digits encode_with
-output_q = refl
-
-output_none : output_text [] ≡ codes "out 0\n"
-unfolding output_lines digits encode_with
-output_none = refl
-
--- thread 0 is inside for writing
-abbrev written : objects.Object
-written = record { version = 1; left = 0; inside = elim [ zero ↦ Some Writing | (suc t) ↦ None ]; words = elim [ zero ↦ 1 | (suc i) ↦ 0 ] }
-
-object_p : object_text 2 8 written ≡ codes "version 1 left 0 readers - writer 0\nwords 00000001 00000000 00000000 00000000 00000000 00000000 00000000 00000000\n"
-unfolding inside_for digits encode_with
-object_p = refl
-
--- threads 0, 1 and 2 are inside for reading
-abbrev read : objects.Object
-read = record { version = 7; left = 2; inside = λ t. Some Reading; words = λ i. 0xabcdef01 }
-
-object_read : object_text 3 8 read ≡ codes "version 7 left 2 readers 0,1,2 writer -\nwords abcdef01 abcdef01 abcdef01 abcdef01 abcdef01 abcdef01 abcdef01 abcdef01\n"
-unfolding inside_for digits encode_with
-object_read = refl
-
-log_p : log_text (In 0 Writing 1 0 ∷ []) 1 ≡ codes "log 1 of 1\n0 write 0 version 1 readers 0\n"
-unfolding event_lines digits encode_with
-log_p = refl
-
-log_two : log_text (In 3 Reading 5 0 ∷ Answer Clock 4294967295 ∷ []) 9 ≡ codes "log 2 of 9\n0 read 3 version 5\n1 clock 4294967295\n"
-unfolding event_lines digits encode_with
-log_two = refl
-
-log_try : log_text (Refused 2 ∷ []) 1 ≡ codes "log 1 of 1\n0 try 2\n"
-unfolding event_lines digits encode_with
-log_try = refl
-
 -- ---- answers
 
 -- one thread of nine steps, the last of which is its end
@@ -227,18 +166,3 @@ start_all = refl
 last : last_cut fitted_9 ≡ 9 ∷ []
 unfolding last_positions
 last = refl
-
--- ---- verdicts
-
-differs : verdict_text (Header header.Objects) ≡ codes "header differs 2\n"
-unfolding digits
-differs = refl
-
-incoherent : verdict_text (Incoherent 0 0 Twice) ≡ codes "incoherent thread 0 event 0 cause 2\n"
-unfolding digits
-incoherent = refl
-
-each_thread : threads_text 0 (Same ∷ Disagrees 0 5 ∷ Starves 1 ∷ []) ≡ codes
-    "thread 0 same\nthread 1 disagrees event 0 step 5\nthread 2 starves event 1\n"
-unfolding threads_text digits
-each_thread = refl

@@ -9,7 +9,7 @@ use Rattle.ir_weave.specs.States.{positions}
 use Rattle.ir_checkpoint.specs.Below.{IsBefore}
 use Rattle.ir_hits.specs.Hits.{Numbered, NoneWithin, IsFirstHit, IsLastHit}
 use Rattle.ir_hits.specs.Searching.{IsNextHit, IsLastFrom, reached, window_start}
-use Rattle.ir_hits.specs.declared.hit.Hit.{Hit}
+use Rattle.ir_command.specs.declared.hit.Hit.{Hit}
 use Rattle.ir_hits.proofs.CallerLemmas.{none_both, begins_above, last_joined, last_found, next_joined, first_found, first_of_all}
 use Rattle.ir_debug.specs.Machine.Desk.{last_of, threads_of}
 

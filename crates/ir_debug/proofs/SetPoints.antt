@@ -17,7 +17,7 @@ use Rattle.ir_command.specs.declared.command.Direction.TheVariants.{Forwards, Ba
 use Rattle.ir_command.specs.declared.command.Point.{Point}
 use Rattle.ir_command.specs.declared.command.Point.TheVariants.{Break, Watch, WatchObject}
 use Rattle.ir_hits.specs.Hits.{Numbered, AreWatchable, IsWatchable, HitBy, thread_at, steps_of}
-use Rattle.ir_hits.specs.declared.hit.Hit.{Hit}
+use Rattle.ir_command.specs.declared.hit.Hit.{Hit}
 use Rattle.ir_debug.specs.Machine.Desk.{Desk, is_set, points_without, threads_of, last_of}
 use Rattle.ir_debug.specs.Machine.Moves.{Finds, stop_of}
 

@@ -1,13 +1,9 @@
 -- What is shown of the threads and objects in hand.
-use Rattle.std.specs.Prelude.{◌≡◌, ◌<◌, ℕ, List, ◌++◌, take, map, length, codes, decimal, Option, Some}
-use Rattle.std.specs.List.{slice_index_or}
+use Rattle.std.specs.Prelude.{◌≡◌, ◌<◌, ℕ, List, ◌++◌, take, map, length, codes, Some}
 use Rattle.ir_image.specs.Guest.{object_words}
-use Rattle.ir_thread.specs.Held.{held_at}
 use Rattle.ir_thread.specs.State as thread
-use Rattle.ir_runs.specs.declared.access.Access.{Access}
-use Rattle.ir_runs.specs.declared.access.Access.TheVariants.{Reading, Writing}
 use Rattle.ir_runs.specs.Object as object
-use Rattle.ir_flat.specs.Flat.{idle, thread_of, cell_of, object_with}
+use Rattle.ir_flat.specs.Flat.{thread_of, cell_of, object_with}
 use Rattle.ir_log.specs.Logging.{label_of}
 use Rattle.ir_log.specs.declared.event.Event.{Event}
 use Rattle.ir_trace.specs.TraceOf.{recorded_thread}
@@ -17,24 +13,13 @@ use Rattle.ir_command.specs.declared.command.Show.{Show}
 use Rattle.ir_command.specs.declared.command.Show.TheVariants.{Registers, Memory, Object, Output, Log, Next}
 use Rattle.ir_debug.specs.declared.answer.Answer.{Answer}
 use Rattle.ir_debug.specs.declared.answer.Answer.TheVariants as answer
-use Rattle.ir_debug.specs.Answers.{machine_text, refusal_text}
+use Rattle.ir_text.specs.Answers.{machine_text, refusal_text}
 use Rattle.ir_debug.specs.Debugging.{Debugging, IsThere}
-use Rattle.ir_debug.specs.Machine.Answers.{moved_text, continued_text}
+use Rattle.ir_debug.specs.Machine.Answers.{moved_text, continued_text, kept_text}
 use Rattle.ir_debug.specs.Machine.Desk.{threads_of}
 use Rattle.ir_debug.specs.Machine.Refusals.{thread_shown}
-use Rattle.ir_debug.specs.Machine.Shown.{shown, bytes_from}
-use Rattle.ir_debug.specs.Machine.Texts.{number_line, positions_text, kept_text, inside_for, joined, memory_text, output_text, object_text, log_text, next_text}
-
--- what a thread is inside an object for, if it is inside
-abbrev pub held_by : List thread.State → ℕ → ℕ → Option Access
-held_by threads o t = held_at (slice_index_or threads t idle).held o
-
--- the first line of an object among so many threads
-abbrev pub state_line : ℕ → object.Object → List ℕ
-state_line threads o =
-    codes "version " ++ decimal o.version ++ codes " left " ++ decimal o.left
-    ++ codes " readers " ++ joined (inside_for Reading o.inside threads) ++ codes " writer " ++ joined (inside_for Writing o.inside threads)
-    ++ codes "\n"
+use Rattle.ir_debug.specs.Machine.Shown.{shown}
+use Rattle.ir_text.specs.Texts.{bytes_from, number_line, positions_text, memory_text, output_text, object_text, log_text, next_text, held_by}
 
 -- a thread in hand
 abbrev pub thread_here : Debugging → ℕ → thread.State

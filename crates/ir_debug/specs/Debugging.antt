@@ -9,12 +9,12 @@ use Rattle.ir_command.specs.declared.command.Command.TheVariants as command
 use Rattle.ir_command.specs.declared.refusal.Refusal.{Refusal}
 use Rattle.ir_debug.specs.declared.answer.Answer.{Answer}
 use Rattle.ir_debug.specs.declared.answer.Answer.TheVariants.{Moved, Continued, Position, Shown, Next, Set, Cleared, Kept, Dropped, KeptCuts, Refused, Bye}
-use Rattle.ir_debug.specs.Answers.{refusal_text}
+use Rattle.ir_text.specs.Answers.{refusal_text}
 use Rattle.ir_debug.specs.Machine.Desk.{Desk, IsDesk, threads_of}
 use Rattle.ir_debug.specs.Machine.Refusals.{refusal_of, is_at_hand}
 use Rattle.ir_debug.specs.Machine.Shown.{shown}
-use Rattle.ir_debug.specs.Machine.Texts.{number_line, positions_text, kept_text}
-use Rattle.ir_debug.specs.Machine.Answers.{moved_text, continued_text, RepliesBy}
+use Rattle.ir_text.specs.Texts.{number_line, positions_text}
+use Rattle.ir_debug.specs.Machine.Answers.{kept_text, moved_text, continued_text, RepliesBy}
 
 -- the small machine, and beside it the guest's threads and objects at some consistent cut, and at others that are kept
 pub record Debugging : Type 0 where

@@ -1,8 +1,6 @@
-pub mod Answers
 pub mod Machine
 pub mod Debugging
 pub mod Opened
 pub mod Session
 pub mod LongLines
 pub mod AtHand
-pub mod Buffered

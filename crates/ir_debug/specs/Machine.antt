@@ -2,7 +2,6 @@
 pub mod Desk
 pub mod Refusals
 pub mod Moves
-pub mod Texts
 pub mod Shown
 pub mod Answers
 pub mod Opening

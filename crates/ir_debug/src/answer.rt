@@ -1,7 +1,6 @@
 //! What a debugger answers.
 
-use ir_command::{Move, Refusal, Show};
-use ir_hits::Hit;
+use ir_command::{Hit, Move, Refusal, Show};
 
 /// An answer to a command. It tells of the debugger that gave it, as it is until its next command.
 #[derive(Drop)]

@@ -7,24 +7,21 @@ ghost use Rattle.std.specs.Io.KnownBytes.{Appends};
 ghost use Rattle.arrayvec.specs.ArrayVec.{array_vec_len};
 ghost use Rattle.ir_stream.specs.Devices.{AppendsPrefix};
 ghost use Rattle.ir_command.specs.declared.command.Command.TheVariants as command;
-ghost use Rattle.ir_debug.specs.Answers.{refusal_text};
 ghost use Rattle.ir_debug.specs.AtHand.{text_here};
 ghost use Rattle.ir_debug.specs.Debugging.{IsLast, IsText};
-ghost use Rattle.ir_debug.specs.Machine.Answers.{moved_text, continued_text};
+ghost use Rattle.ir_debug.specs.Machine.Answers.{moved_text, continued_text, kept_line, kept_text};
 ghost use Rattle.ir_debug.specs.Machine.Desk.{threads_of, last_of, position_of};
 ghost use Rattle.ir_debug.specs.Machine.Refusals.{refusal_of};
-ghost use Rattle.ir_debug.specs.Machine.Texts.{number_line, positions_text, hit_text, stop_text, kept_line, kept_text};
+ghost use Rattle.ir_text.specs.Texts.{positions_text, stop_text};
 
 use crate::answer::Answer;
 use crate::debugger::Debugger;
 use crate::kept::KeptCut;
-use crate::positions::{put_positions, put_stop};
 use crate::refusals::thread_moved;
 use crate::showing::write_shown;
-use crate::text::{Text, put_number, put_refusal};
-use ir_command::{Move, Refusal};
-use ir_hits::Hit;
+use ir_command::{Hit, Move};
 use ir_stream::{DeviceErr, Sink, append, write_all};
+use ir_text::{Text, put_hit, put_number, put_positions, put_stop, write_number, write_refusal};
 
 // Puts at the end where all threads are.
 #[tactic(auto, using(ir_image::proofs::CallerLemmas::few_threads))]
@@ -73,17 +70,6 @@ fn write_moved<W: Sink>(debugger: &Debugger, asked: Move, writer: &mut W) -> Res
     write_all(writer, text.as_slice())
 }
 
-// Puts at the end which point hit, if one did.
-fn put_hit(text: &mut Text, hit: Option<Hit>)
-    requires { array_vec_len text.old ≤ 340 }
-    ensures text { text.new.items ≡ text.old.items ++ hit_text hit }
-    ensures len { array_vec_len text.new ≤ array_vec_len text.old + 25 }
-{
-    if let Some(hit) = hit {
-        put_number(text, b" hit ", hit.number as u64);
-    }
-}
-
 fn put_continued(text: &mut Text, debugger: &Debugger, thread: u32, hit: Option<Hit>)
     requires empty { array_vec_len text.old ≡ 0 }
     requires thread { thread < threads_of debugger.now.desk.fitted }
@@ -120,31 +106,6 @@ fn write_position<W: Sink>(debugger: &Debugger, writer: &mut W) -> Result<(), De
 {
     let mut text = Text::new();
     put_cut(&mut text, debugger);
-    append(&mut text, b"\n");
-    write_all(writer, text.as_slice())
-}
-
-fn write_refusal<W: Sink>(refusal: Refusal, writer: &mut W) -> Result<(), DeviceErr>
-    ensures ok { OnOk result (Appends (W.written writer.old) (W.written writer.new) (refusal_text refusal)) }
-    ensures stays { OnOk result (W.broken writer.new ≡ W.broken writer.old) }
-    ensures prefix { OnErr result (AppendsPrefix (W.written writer.old) (W.written writer.new) (refusal_text refusal)) }
-    ensures err { OnErr result (W.broken writer.new ≡ true) }
-{
-    let mut text = Text::new();
-    put_refusal(&mut text, refusal);
-    write_all(writer, text.as_slice())
-}
-
-// Writes words and a number in a line.
-fn write_number<W: Sink>(words: &[u8], number: u32, writer: &mut W) -> Result<(), DeviceErr>
-    requires { length words.now ≤ 256 }
-    ensures ok { OnOk result (Appends (W.written writer.old) (W.written writer.new) (number_line words.now number)) }
-    ensures stays { OnOk result (W.broken writer.new ≡ W.broken writer.old) }
-    ensures prefix { OnErr result (AppendsPrefix (W.written writer.old) (W.written writer.new) (number_line words.now number)) }
-    ensures err { OnErr result (W.broken writer.new ≡ true) }
-{
-    let mut text = Text::new();
-    put_number(&mut text, words, number as u64);
     append(&mut text, b"\n");
     write_all(writer, text.as_slice())
 }

@@ -6,10 +6,9 @@ ghost use Rattle.ir_debug.specs.Machine.Desk.{threads_of, last_of, first_cut, la
 ghost use Rattle.ir_debug.specs.Machine.Refusals.{if_some, thread_moved};
 ghost use Rattle.ir_debug.specs.Machine.Moves.{Leads, StopsAt, stop_of, ToPosition};
 
-use ir_command::{Direction, Move};
+use ir_command::{Direction, Hit, Move};
 use ir_cut::{Cut, greatest, least};
 use ir_fit::Fitted;
-use ir_hits::Hit;
 use std::alloc::{AllocError, Global};
 
 /// How many threads the guest has.

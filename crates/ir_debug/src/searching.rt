@@ -12,8 +12,9 @@ ghost use Rattle.ir_debug.specs.Machine.Desk.{last_of, threads_of};
 
 use crate::destinations::last_position;
 use ir_checkpoint::Checkpoints;
+use ir_command::Hit;
 use ir_fit::Fitted;
-use ir_hits::{Hit, NumberedPoint, first_hit, last_hit, may_hit};
+use ir_hits::{NumberedPoint, first_hit, last_hit, may_hit};
 use ir_object::Gate;
 use ir_replay::State;
 use std::alloc::{AllocError, Global};

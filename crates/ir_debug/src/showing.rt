@@ -1,23 +1,18 @@
 //! What is shown of the guest at the cut.
 
-ghost use Rattle.std.specs.Prelude.{◌≡◌, ◌≤◌, ◌<◌, OnOk, OnErr, length, true};
+ghost use Rattle.std.specs.Prelude.{◌≡◌, ◌<◌, OnOk, OnErr, true};
 ghost use Rattle.std.specs.Io.KnownBytes.{Appends};
 ghost use Rattle.ir_stream.specs.Devices.{AppendsPrefix};
-ghost use Rattle.ir_debug.specs.Answers.{machine_text};
 ghost use Rattle.ir_debug.specs.AtHand.{thread_here, events_of, shown_here};
 ghost use Rattle.ir_debug.specs.Debugging.{IsThere, IsLast};
 ghost use Rattle.ir_debug.specs.Machine.Desk.{IsDesk, threads_of};
 ghost use Rattle.ir_debug.specs.declared.answer.Answer.TheVariants.{Shown};
 
-use crate::bytes::{write_memory, write_output};
 use crate::debugger::Debugger;
-use crate::events::write_log;
-use crate::objects::write_object;
-use crate::text::{Text, put_machine};
 use ir_command::Show;
 use ir_log::Event;
-use ir_mach::Mach;
-use ir_stream::{DeviceErr, Sink, write_all};
+use ir_stream::{DeviceErr, Sink};
+use ir_text::{write_log, write_machine, write_memory, write_object, write_output};
 use ir_thread::Thread;
 
 // A thread in hand.
@@ -38,17 +33,6 @@ fn events_of(debugger: &Debugger, number: u32) -> &[Event]
     debugger.fitted().trace().threads()[number as usize]
         .log()
         .events()
-}
-
-fn write_machine<W: Sink>(mach: &Mach, writer: &mut W) -> Result<(), DeviceErr>
-    ensures ok { OnOk result (Appends (W.written writer.old) (W.written writer.new) (machine_text mach.now)) }
-    ensures stays { OnOk result (W.broken writer.new ≡ W.broken writer.old) }
-    ensures prefix { OnErr result (AppendsPrefix (W.written writer.old) (W.written writer.new) (machine_text mach.now)) }
-    ensures err { OnErr result (W.broken writer.new ≡ true) }
-{
-    let mut text = Text::new();
-    put_machine(&mut text, mach);
-    write_all(writer, text.as_slice())
 }
 
 /// Writes the text of a show that isn't refused, where the threads and objects stand at the cut. Takes no memory.

@@ -91,7 +91,9 @@ fn a_run_stops_where_a_step_is_not_private(rt: HostRuntime) -> Result<(), Fail> 
     let mut thread = Thread::new(rt.alloc(), &image, 0, 1000, Profile::One)?;
     for &(steps, limit, gone, taken) in &RUNS {
         run(&mut thread, image.code(), steps, 7);
-        assert_eq!(rt; thread.run(image.code(), limit), gone);
+        let (ran, asked) = thread.run(image.code(), limit);
+        assert_eq!(rt; ran, gone);
+        assert_eq!(rt; thread.ask(image.code()), asked);
         assert_eq!(rt; thread.steps(), taken);
     }
     assert_eq!(rt; thread.ask(image.code()), Ask::Print);

@@ -136,6 +136,18 @@ impl<'a> Flat<'a> {
         self.parts.run_instructions(t, limit)
     }
 
+    /// Thread t takes instructions, at most `limit`: how many they are, and what it asks then.
+    pub fn run_to_ask(&mut self, t: usize, limit: u64) -> (u64, Ask)
+        requires { t < length self.old.threads }
+        ensures within { result.0 ≤ limit }
+        ensures flat { IsFlat self.old }
+        ensures still_flat { IsFlat self.new }
+        ensures went { WentAlone self.old self.new t result.0 }
+        ensures asked { result.1 ≡ ask_of self.new.code (thread_of self.new t) }
+    {
+        self.parts.run_to_ask(t, limit)
+    }
+
     /// Thread t takes instructions none of which is marked, at most `limit`, and how many they are. The marked code is the guest's.
     /// It stops below the limit only where the next step is marked or no instruction.
     pub fn run_unmarked(&mut self, t: usize, code: &MarkedCode<'_>, limit: u64) -> u64

@@ -6,7 +6,7 @@ use Rattle.ir_trace.specs.TraceOf.{recorded_thread}
 use Rattle.ir_fit.specs.Fit.{FittedTrace, IsRunOf}
 use Rattle.ir_hits.specs.Hits.{Numbered, HitByNumber, NoneWithin, IsFirstHit, IsLastHit, steps_of}
 use Rattle.ir_hits.specs.Searching.{IsNextHit, IsLastFrom, window_start}
-use Rattle.ir_hits.specs.declared.hit.Hit.{Hit}
+use Rattle.ir_command.specs.declared.hit.Hit.{Hit}
 use Rattle.ir_hits.proofs.Hitting.{hit_within}
 
 -- none hits in either of two

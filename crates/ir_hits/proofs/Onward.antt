@@ -15,7 +15,7 @@ use Rattle.ir_hits.specs.Searching.{AreLast, IsLastFrom, IsNextHit, IsStartHit, 
 use Rattle.ir_hits.specs.Passing.{AreCovered, HasPassed}
 use Rattle.ir_hits.specs.Seeing.{AllNoted, IsLowestOf}
 use Rattle.ir_hits.specs.declared.before.Before.{Before}
-use Rattle.ir_hits.specs.declared.hit.Hit.{Hit}
+use Rattle.ir_command.specs.declared.hit.Hit.{Hit}
 use Rattle.ir_hits.proofs.Hitting.{IsSeen, AllNothing, seen_after, seen_first, lowest_hit, none_hits}
 use Rattle.ir_hits.proofs.Standing.{thread_here, end_steps}
 use Rattle.ir_hits.proofs.Passing.{IsStretch, stretch_noted, stretch_none}

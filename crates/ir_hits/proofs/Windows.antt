@@ -5,7 +5,7 @@ use Rattle.ir_runs.specs.Run.{Step}
 use Rattle.ir_fit.specs.Fit.{FittedTrace}
 use Rattle.ir_hits.specs.Hits.{Numbered, HitByNumber, NoneWithin, IsLowest, IsLastHit}
 use Rattle.ir_hits.specs.Searching.{IsNextHit, IsLastFrom, reached, window_start}
-use Rattle.ir_hits.specs.declared.hit.Hit.{Hit}
+use Rattle.ir_command.specs.declared.hit.Hit.{Hit}
 use Rattle.ir_hits.proofs.CallerLemmas.{last_joined}
 
 -- an empty window

@@ -11,7 +11,7 @@ use Rattle.ir_fit.specs.Fit.{FittedTrace}
 use Rattle.ir_cut.specs.Positions.{machine_of, start_of}
 use Rattle.ir_command.specs.declared.command.Point.{Point}
 use Rattle.ir_command.specs.declared.command.Point.TheVariants.{Break, Watch, WatchObject}
-use Rattle.ir_hits.specs.declared.hit.Hit.{Hit}
+use Rattle.ir_command.specs.declared.hit.Hit.{Hit}
 
 -- a point, and the number that it goes by
 pub record Numbered : Type 0 where

@@ -8,7 +8,7 @@ use Rattle.ir_thread.specs.State.{State}
 use Rattle.ir_hits.specs.declared.before.Before.{Before}
 use Rattle.ir_hits.specs.Seeing.{IsLowestOf}
 use Rattle.ir_hits.specs.Hits.{Numbered, HitByNumber, NoneWithin, IsLowest}
-use Rattle.ir_hits.specs.declared.hit.Hit.{Hit}
+use Rattle.ir_command.specs.declared.hit.Hit.{Hit}
 
 -- the last positions of the guest's threads
 pub record AreLast (f : FittedTrace) (last : List ℕ) : Type 0 where

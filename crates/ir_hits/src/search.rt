@@ -12,11 +12,11 @@ ghost use Rattle.ir_hits.specs.Passing.{AreCovered};
 ghost use Rattle.ir_hits.specs.Searching.{AreLast, IsLastFrom, IsNextHit, IsStartHit, NeverHits, reached, window_start};
 
 use crate::before::Before;
-use crate::hit::Hit;
 use crate::marking::marked_code;
 use crate::point::NumberedPoint;
 use crate::seeing::{lowest, note_all, some_concerns};
 use crate::stepping::{last_cut, take_steps, thread_of};
+use ir_command::Hit;
 use ir_cut::Cut;
 use ir_fit::Fitted;
 use ir_mach::MarkedCode;

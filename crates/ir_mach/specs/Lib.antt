@@ -7,3 +7,4 @@ pub mod Effects
 pub mod Marks
 pub mod Run
 pub mod Performing
+pub mod Deeds

@@ -1,9 +1,9 @@
 //! What each instruction does.
 
-ghost use Rattle.std.specs.Prelude.{◌≡◌, ◌+◌, ◌%◌, ◌^◌, pos, ◌+ℤ◌, IsTrue};
+ghost use Rattle.std.specs.Prelude.{◌≡◌, true, ◌+◌, ◌%◌, ◌^◌, pos, ◌+ℤ◌, IsTrue};
 ghost use Rattle.ir_isa.specs.declared.inst.Inst.{Inst};
 ghost use Rattle.ir_mach.specs.Arithmetic.{low_32, is_taken};
-ghost use Rattle.ir_mach.specs.Core.{register, next_pc, Goes};
+ghost use Rattle.ir_mach.specs.Core.{register, next_pc, Goes, Calls};
 ghost use Rattle.ir_mach.specs.Effects.{applied, IsPossible};
 ghost use Rattle.ir_mach.specs.Execution.{sum_of, writes, jumps, branches, loads, stores, execute, outcome_of};
 ghost use Rattle.ir_mach.specs.Memory.{loaded, stored};
@@ -17,6 +17,16 @@ use ir_image::{Code, Fetched};
 use ir_isa::{BranchOffset, Immediate, Inst, JumpOffset, LoadOp, Register, StoreOp};
 
 impl Mach {
+    // Whether a system call comes next, without the effect of any other instruction.
+    pub(crate) fn is_at_call(&self, code: &Code) -> bool
+        ensures { result ≡ true → outcome_of code.now self.now ≡ Calls }
+    {
+        match code.fetch(self.pc()) {
+            Fetched::Found(Inst::Ecall) => true,
+            _ => false,
+        }
+    }
+
     // What the next instruction does.
     pub(crate) fn effect(&self, code: &Code) -> Effect
         ensures exact { applied result self.now ≡ outcome_of code.now self.now }

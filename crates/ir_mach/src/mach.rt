@@ -166,6 +166,9 @@ impl Mach {
     pub fn next(&self, code: &Code) -> Ran
         ensures { result ≡ ran_of (outcome_of code.now self.now) }
     {
+        if self.is_at_call(code) {
+            return Ran::Call;
+        }
         match self.effect(code) {
             Effect::Write { .. } | Effect::Store { .. } => Ran::Ran,
             Effect::Call => Ran::Call,
@@ -178,6 +181,9 @@ impl Mach {
     pub fn step(&mut self, code: &Code) -> Ran
         ensures { IsStep (outcome_of code.now self.old) self.old result self.new }
     {
+        if self.is_at_call(code) {
+            return Ran::Call;
+        }
         let effect = self.effect(code);
         self.apply(effect)
     }

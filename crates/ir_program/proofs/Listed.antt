@@ -8,8 +8,8 @@ use Rattle.ir_stream.proofs.CallerLemmas.{prefix_after, prefix_longer}
 use Rattle.ir_log.specs.Logging.{label_of}
 use Rattle.ir_log.specs.declared.event.Event.{Event}
 use Rattle.ir_trace.specs.Recorded.{RecordedThread}
-use Rattle.ir_debug.specs.Buffered.{Buffered}
-use Rattle.ir_debug.specs.Machine.Texts.{log_text}
+use Rattle.ir_text.specs.Buffered.{Buffered}
+use Rattle.ir_text.specs.Texts.{log_text}
 use Rattle.ir_program.specs.Listing.{header_line, thread_listing, threads_listing, Stops}
 use Rattle.ir_files.specs.Writers.{writer_of, Failed}
 use Rattle.ir_program.specs.declared.list_err.ListErr.{ListErr}

@@ -3,6 +3,7 @@
 
 mod assembling;
 mod bundles;
+mod commands;
 mod debugging;
 mod dispatch;
 mod fault;
@@ -15,6 +16,6 @@ mod tracing;
 
 pub use assembling::asm_run;
 pub use bundles::{bundle, bundled};
-pub use dispatch::{BAD_ARGUMENTS, DONE, FAULT, Terminals, program};
+pub use dispatch::{BAD_ARGUMENTS, DONE, FAULT, Invocation, Terminals, program};
 pub use fault::BundleErr;
 pub use tracing::trace_run;

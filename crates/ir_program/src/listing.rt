@@ -8,9 +8,10 @@ ghost use Rattle.ir_program.specs.Listing.{header_line, thread_listing, threads_
 ghost use Rattle.ir_files.specs.Writers.{writer_of};
 
 use crate::list_err::ListErr;
-use ir_debug::{Sink, write_log};
+use ir_debug::Sink;
 use ir_record_run::thread_line;
 use ir_stream::write_all;
+use ir_text::write_log;
 use ir_trace::{ThreadTrace, Trace, TraceErr};
 use std::alloc::{AllocError, Global};
 

@@ -4,7 +4,7 @@
 use crate::device_tests::{Bytes, ENDLESS, Page, empty_page};
 use crate::shelf::Shelf;
 use ir_object::OpenGate;
-use ir_program::{Terminals, program};
+use ir_program::{Invocation, Terminals, program};
 use std::alloc::{AllocError, AllocGlobal, Global};
 use std::sync::Wait;
 use std::test::Fail;
@@ -48,14 +48,16 @@ fn ran_at<R: Threads + Wait + Sync + Clock + Eprint + AllocGlobal>(
     let status = program(
         rt,
         rt.alloc(),
-        words.as_slice(),
+        &Invocation {
+            arguments: words.as_slice(),
+            terminals: Terminals {
+                input: false,
+                faults: at_terminal,
+            },
+        },
         &shelf,
         &OpenGate,
         input,
-        Terminals {
-            input: false,
-            faults: at_terminal,
-        },
         &mut out,
         &mut faults,
     );

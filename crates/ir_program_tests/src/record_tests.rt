@@ -7,7 +7,7 @@ use crate::kept_outputs::{KeptOutputs, no_outputs};
 use ir_log::Event;
 use ir_object::OpenGate;
 use ir_program::asm_run;
-use ir_record_run::record_run;
+use ir_record_run::{RecordPlan, record_run};
 use ir_runs::EnvKind;
 use ir_thread::Profile;
 use ir_trace::{Trace, read_trace};
@@ -215,18 +215,19 @@ pub fn recorded<R: Threads + Wait + Sync + Clock + AllocGlobal>(
     let mut faults = empty_page(rt, 7, ENDLESS);
     let status = record_run(
         rt,
-        rt.alloc(),
         &OpenGate,
         image,
-        how.order,
-        how.budget as u64,
-        how.random,
-        how.input,
+        &RecordPlan {
+            order: how.order,
+            budget: how.budget as u64,
+            random: how.random,
+            input: how.input,
+            profile: how.profile,
+        },
         &mut trace,
         &mut outputs,
         &mut out,
         &mut faults,
-        how.profile,
     );
     Run {
         status,

@@ -71,6 +71,10 @@ pub refused : {X E : Type 0} (result : Result X E) (b : Bool) (P : Type 0) → b
 refused (Ok x) b P e h p = absurd (cc (e, h))
 refused (Err x) b P e h p = p
 
+pub not_ok : {X E : Type 0} (result : Result X E) (b : Bool) (P : Type 0) → b ≡ is_ok result → b ≡ false → OnErr result P → P
+not_ok (Ok x) b P e h p = absurd (cc (e, h))
+not_ok (Err x) b P e h p = p
+
 -- a step was taken that emits k, and this event was logged of it, which is no answer
 pub record OneEvent (f g : Flat) (logs more : List Logged) (t r : ℕ) (k : Label) (e : Event) : Type 0 where
   pub tape : IsTape f logs

@@ -138,7 +138,7 @@ own_end m t zero s each = refl
 own_end m t (suc k) s each = own_end m t k (after m s (t, 0)) (λ j l. each (suc j) (omega (arith, l)))
     ∙ ap (alone m k) (own_alone m s t (each 0 (omega arith)))
 
-other_end : {T : Type 0} (m : Machine T) (t k u : ℕ) → u ≢ t → (s : State T) → (end m s (replicate k (t, 0))).now u ≡ s.now u
+pub other_end : {T : Type 0} (m : Machine T) (t k u : ℕ) → u ≢ t → (s : State T) → (end m s (replicate k (t, 0))).now u ≡ s.now u
 other_end m t zero u ne s = refl
 other_end m t (suc k) u ne s = other_end m t k u ne (after m s (t, 0)) ∙ other_thread m s t 0 u ne
 

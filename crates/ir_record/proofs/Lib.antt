@@ -13,6 +13,7 @@ mod Joining
 mod Following
 mod Gathering
 mod Leading
+mod Kept
 mod Going
 mod Skipping
 mod Passing

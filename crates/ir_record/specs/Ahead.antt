@@ -3,7 +3,10 @@ use Rattle.std.specs.Prelude.{◌≡◌, ◌<◌, ◌≤◌, ◌+◌, ℕ, zero,
 use Rattle.std.specs.List.{slice_index_or}
 use Rattle.ir_runs.specs.Machine.{Machine, Private}
 use Rattle.ir_thread.specs.State as thread
-use Rattle.ir_flat.specs.Flat.{tables, machine}
+use Rattle.ir_thread.specs.Calls.{ask_of}
+use Rattle.ir_thread.specs.declared.ask.Ask as ask
+use Rattle.ir_thread.specs.declared.ask.Ask.TheVariants.{Done}
+use Rattle.ir_flat.specs.Flat.{Flat, IsFlat, thread_of, tables, machine}
 use Rattle.ir_runs.specs.Run.{State, Step, end, log}
 use Rattle.ir_runs.specs.InOrder.{HasNone, InTurn}
 use Rattle.ir_record.specs.Progress.{Progress, all_left, labels_at, answers_at}
@@ -33,6 +36,12 @@ CanSkip m n count ahead later = (t : ℕ) → t < n → (count ≤ lead ahead t)
 abbrev pub all_ahead : List ℕ → ℕ
 all_ahead [] = 0
 all_ahead (k ∷ ks) = k + all_ahead ks
+
+-- each thread of the guest has a place, and what is kept there is what it asks
+pub record AreAsks (asks : List ask.Ask) (f : Flat) : Type 0 where
+  pub flat : IsFlat f
+  pub places : length asks ≡ length f.threads
+  pub asked : (t : ℕ) → t < length f.threads → slice_index_or asks t Done ≡ ask_of f.code (thread_of f t)
 
 -- none of these threads is ahead
 abbrev pub NoneAhead : List ℕ → List ℕ → Type 0

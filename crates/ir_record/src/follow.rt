@@ -25,8 +25,8 @@ impl<W: World> Recorder<'_, W> {
             if t >= self.tape.flat.threads().len() {
                 return Ok(());
             }
-            let ran = self.tape.run(t, left - 1);
-            if !self.turn(t)? {
+            let (ran, asked) = self.tape.run(t, left - 1);
+            if !self.turn_asked(t, asked)? {
                 return Ok(());
             }
             left -= ran + 1;

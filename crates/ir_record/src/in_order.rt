@@ -20,16 +20,22 @@ use crate::turn::Failed;
 use crate::turns::{Turns, turns_of};
 use crate::world::World;
 use ir_image::Image;
-use ir_thread::Profile;
+use ir_thread::{Ask, Profile};
 use ir_trace::Trace;
 use std::alloc::Global;
 
 impl<W: World> Recorder<'_, W> {
     // The turns of the order, and then rounds until no thread has a step.
-    // `ahead` has a place for each thread, of which none is ahead.
-    fn record(&mut self, order: &[Turns], ahead: &mut Vec<u64>) -> Result<(), Failed>
+    // `ahead` has a place for each thread, of which none is ahead, and so has `asks`.
+    fn record(
+        &mut self,
+        order: &[Turns],
+        ahead: &mut Vec<u64>,
+        asks: &mut Vec<Ask>,
+    ) -> Result<(), Failed>
         requires ready { CanGoOn W.answers W.broken self.old }
         requires level { ahead.old.items ≡ replicate (length self.old.tape.flat.threads) 0 }
+        requires asks { length asks.old.items ≡ length self.old.tape.flat.threads }
         ensures took { OnOk result ((count : ℕ) × Took (order_of_turns order.now ++ rounds (length self.old.tape.flat.threads) count) (progress_of W.answers self.old) (progress_of W.answers self.new)) }
         ensures over { OnOk result ((t : ℕ) → t < length self.new.tape.flat.threads → HasNone (machine self.new.tape.flat) (tables self.new.tape.flat) t) }
         ensures ready { OnOk result (CanGoOn W.answers W.broken self.new) }
@@ -37,7 +43,7 @@ impl<W: World> Recorder<'_, W> {
         ensures kept { AreSameWorlds W.answers W.origin self.old.worlds.items self.new.worlds.items }
     {
         self.follow(order)?;
-        self.rounds(ahead)?;
+        self.rounds(ahead, asks)?;
         Ok(())
     }
 }
@@ -71,7 +77,8 @@ pub fn record_in_turns<W: World + Drop>(
         worlds,
     };
     let mut ahead = vec![in alloc; 0; recorder.tape.flat.threads().len()]?;
-    if let Err(Failed { thread }) = recorder.record(order, &mut ahead) {
+    let mut asks = vec![in alloc; Ask::Done; recorder.tape.flat.threads().len()]?;
+    if let Err(Failed { thread }) = recorder.record(order, &mut ahead, &mut asks) {
         return Err(RecordErr::World {
             thread,
             worlds: recorder.worlds,

@@ -5,7 +5,7 @@ ghost use Rattle.std.specs.List.{range_with_len};
 ghost use Rattle.ir_thread.specs.State as thread;
 ghost use Rattle.ir_flat.specs.Flat.{tables, machine};
 ghost use Rattle.ir_runs.specs.Run.{State};
-ghost use Rattle.ir_record.specs.Ahead.{lead, IsAhead, CanSkip, WentIf};
+ghost use Rattle.ir_record.specs.Ahead.{lead, IsAhead, CanSkip, AreAsks, WentIf};
 ghost use Rattle.ir_runs.specs.InOrder.{HasNone, rounds};
 ghost use Rattle.ir_record.specs.Noting.{has_moved};
 ghost use Rattle.ir_record.specs.Progress.{Took};
@@ -17,6 +17,7 @@ use crate::pass::{Pass, Turned};
 use crate::recorder::Recorder;
 use crate::turn::Failed;
 use crate::world::World;
+use ir_thread::Ask;
 
 // Every thread has so many more of its steps behind it, or all that it was ahead.
 fn lower(ahead: &mut Vec<u64>, by: u64)
@@ -32,11 +33,28 @@ fn lower(ahead: &mut Vec<u64>, by: u64)
 }
 
 impl<W: World> Recorder<'_, W> {
+    // What each thread asks.
+    fn ask_all(&self, asks: &mut Vec<Ask>)
+        requires { length asks.old.items ≡ length self.now.tape.flat.threads }
+        ensures { AreAsks asks.new.items self.now.tape.flat }
+    {
+        for number in 0..self.tape.flat.threads().len() {
+            asks[number] = self.tape.ask(number);
+        }
+    }
+
     // A turn of thread t: one of the private steps that it is ahead; or its next step, if it has one, and then as many
     // private steps as there are.
-    fn turn_ahead(&mut self, t: usize, ahead: &mut Vec<u64>) -> Result<Turned, Failed>
+    #[inline(always)]
+    fn turn_ahead(
+        &mut self,
+        t: usize,
+        ahead: &mut Vec<u64>,
+        asks: &mut Vec<Ask>,
+    ) -> Result<Turned, Failed>
         requires ready { CanGoOn W.answers W.broken self.old }
         requires each { length ahead.old.items ≡ length self.old.tape.flat.threads }
+        requires asks { AreAsks asks.old.items self.old.tape.flat }
         requires thread { t < length self.old.tape.flat.threads }
         ensures went { IfOk result (λ turned. (s : State thread.State) → IsAhead (machine self.old.tape.flat) ahead.old.items s (tables self.old.tape.flat) → WentIf (has_moved turned) (t ∷ []) s (progress_of W.answers self.old) ahead.old.items (progress_of W.answers self.new) ahead.new.items) }
         ensures waits { IfOk result (λ turned. turned ≡ Waited → HasNone (machine self.new.tape.flat) (tables self.new.tape.flat) t) }
@@ -44,6 +62,7 @@ impl<W: World> Recorder<'_, W> {
         ensures code { OnOk result (self.new.tape.flat.code ≡ self.old.tape.flat.code) }
         ensures others { OnOk result ((u : ℕ) → u ≢ t → lead ahead.new.items u ≡ lead ahead.old.items u) }
         ensures each { OnOk result (length ahead.new.items ≡ length self.new.tape.flat.threads) }
+        ensures asks { OnOk result (AreAsks asks.new.items self.new.tape.flat) }
         ensures threads { OnOk result (length self.new.tape.flat.threads ≡ length self.old.tape.flat.threads) }
         ensures ready { OnOk result (CanGoOn W.answers W.broken self.new) }
         ensures failed { IfErr result (NamesFirst W.broken self.new.worlds.items) }
@@ -54,20 +73,24 @@ impl<W: World> Recorder<'_, W> {
             ahead[t] = lead - 1;
             return Ok(Turned::Spent);
         }
-        if !self.turn(t)? {
+        if !self.turn_asked(t, asks[t])? {
             return Ok(Turned::Waited);
         }
-        ahead[t] = self.tape.run(t, u64::MAX);
+        let (ran, asked) = self.tape.run(t, u64::MAX);
+        ahead[t] = ran;
+        asks[t] = asked;
         Ok(Turned::Stepped)
     }
 
     // A turn of each thread, from 0 upwards, and what it comes to.
-    fn round(&mut self, ahead: &mut Vec<u64>) -> Result<Pass, Failed>
+    fn round(&mut self, ahead: &mut Vec<u64>, asks: &mut Vec<Ask>) -> Result<Pass, Failed>
         requires ready { CanGoOn W.answers W.broken self.old }
         requires each { length ahead.old.items ≡ length self.old.tape.flat.threads }
+        requires asks { AreAsks asks.old.items self.old.tape.flat }
         ensures went { IfOk result (λ pass. (s : State thread.State) → IsAhead (machine self.old.tape.flat) ahead.old.items s (tables self.old.tape.flat) → WentIf pass.moved (range_with_len 0 (length self.old.tape.flat.threads)) s (progress_of W.answers self.old) ahead.old.items (progress_of W.answers self.new) ahead.new.items) }
         ensures free { IfOk result (λ pass. CanSkip (machine self.new.tape.flat) (length self.new.tape.flat.threads) pass.free ahead.new.items (tables self.new.tape.flat)) }
         ensures each { OnOk result (length ahead.new.items ≡ length self.new.tape.flat.threads) }
+        ensures asks { OnOk result (AreAsks asks.new.items self.new.tape.flat) }
         ensures threads { OnOk result (length self.new.tape.flat.threads ≡ length self.old.tape.flat.threads) }
         ensures ready { OnOk result (CanGoOn W.answers W.broken self.new) }
         ensures failed { IfErr result (NamesFirst W.broken self.new.worlds.items) }
@@ -75,24 +98,26 @@ impl<W: World> Recorder<'_, W> {
     {
         let mut pass = Pass::new();
         for t in 0..self.tape.flat.threads().len() {
-            let turned = self.turn_ahead(t, ahead)?;
+            let turned = self.turn_ahead(t, ahead, asks)?;
             pass.note(turned, ahead[t]);
         }
         Ok(pass)
     }
 
-    // Rounds until no thread has a step. `ahead` has a place for each thread, of which none is ahead.
-    pub fn rounds(&mut self, ahead: &mut Vec<u64>) -> Result<(), Failed>
+    // Rounds until no thread has a step. `ahead` has a place for each thread, of which none is ahead, and so has `asks`.
+    pub fn rounds(&mut self, ahead: &mut Vec<u64>, asks: &mut Vec<Ask>) -> Result<(), Failed>
         requires ready { CanGoOn W.answers W.broken self.old }
         requires level { ahead.old.items ≡ replicate (length self.old.tape.flat.threads) 0 }
+        requires asks { length asks.old.items ≡ length self.old.tape.flat.threads }
         ensures took { OnOk result ((count : ℕ) × Took (rounds (length self.old.tape.flat.threads) count) (progress_of W.answers self.old) (progress_of W.answers self.new)) }
         ensures over { OnOk result ((t : ℕ) → t < length self.new.tape.flat.threads → HasNone (machine self.new.tape.flat) (tables self.new.tape.flat) t) }
         ensures ready { OnOk result (CanGoOn W.answers W.broken self.new) }
         ensures failed { IfErr result (NamesFirst W.broken self.new.worlds.items) }
         ensures kept { AreSameWorlds W.answers W.origin self.old.worlds.items self.new.worlds.items }
     {
+        self.ask_all(asks);
         'rounds: loop {
-            let pass = self.round(ahead)?;
+            let pass = self.round(ahead, asks)?;
             if !pass.moved {
                 return Ok(());
             }

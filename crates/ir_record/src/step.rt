@@ -1,6 +1,6 @@
 //! A step of one thread, and what is logged of it.
 
-ghost use Rattle.std.specs.Prelude.{◌≡◌, ◌≢◌, ◌<◌, [], ◌∷◌, ◌++◌, ◌≤◌, true, List, length, slice_set, replicate};
+ghost use Rattle.std.specs.Prelude.{◌≡◌, ◌≢◌, ◌<◌, [], ◌∷◌, ◌++◌, ◌≤◌, true, false, List, length, slice_set, replicate};
 ghost use Rattle.ir_flat.specs.Alone.{WentAlone};
 ghost use Rattle.ir_flat.specs.Flat.{thread_of, IsFlat};
 ghost use Rattle.ir_thread.specs.Calls.{ask_of, Permits};
@@ -74,6 +74,7 @@ impl Tape<'_> {
         requires asked { ask_of self.old.flat.code (thread_of self.old.flat t) ≡ Enter object access }
         ensures took { (answers : List (List Answered))
             → TookIf result (t ∷ []) (progress self.old answers) (progress self.new answers) }
+        ensures waits { result ≡ false → self.new.flat ≡ self.old.flat }
         ensures tape { IsTape self.new.flat self.new.logs.items }
     {
         let event = self.entry(object, access);
@@ -104,6 +105,7 @@ impl Tape<'_> {
     }
 
     // Thread t takes the step that it asks, which nothing is logged of; one that is done has none.
+    #[inline(always)]
     pub fn go(&mut self, t: usize, asked: Ask) -> bool
         requires tape { IsTape self.old.flat self.old.logs.items }
         requires flat { IsFlat self.old.flat }
@@ -112,22 +114,26 @@ impl Tape<'_> {
         requires quiet { IsQuiet asked }
         ensures took { (answers : List (List Answered))
             → TookIf result (t ∷ []) (progress self.old answers) (progress self.new answers) }
+        ensures none { result ≡ false → self.new.flat ≡ self.old.flat }
         ensures tape { IsTape self.new.flat self.new.logs.items }
     {
         self.flat.take(t, asked, 0).is_ok()
     }
 
-    // Thread t takes instructions, at most so many, and how many they are. What it asks behind them is left to its next turn.
-    pub fn run(&mut self, t: usize, limit: u64) -> u64
+    // Thread t takes instructions, at most so many: how many they are, and what it asks then.
+    #[inline(always)]
+    pub fn run(&mut self, t: usize, limit: u64) -> (u64, Ask)
         requires tape { IsTape self.old.flat self.old.logs.items }
         requires thread { t < length self.old.flat.threads }
-        ensures within { result ≤ limit }
+        ensures within { result.0 ≤ limit }
+        ensures asked { result.1 ≡ ask_of self.new.flat.code (thread_of self.new.flat t) }
         ensures flat { IsFlat self.old.flat }
-        ensures alone { WentAlone self.old.flat self.new.flat t result }
+        ensures still_flat { IsFlat self.new.flat }
+        ensures alone { WentAlone self.old.flat self.new.flat t result.0 }
         ensures logs { self.new.logs ≡ self.old.logs }
-        ensures took { (answers : List (List Answered)) → Took (replicate result t) (progress self.old answers) (progress self.new answers) }
+        ensures took { (answers : List (List Answered)) → Took (replicate result.0 t) (progress self.old answers) (progress self.new answers) }
         ensures tape { IsTape self.new.flat self.new.logs.items }
     {
-        self.flat.run_instructions(t, limit)
+        self.flat.run_to_ask(t, limit)
     }
 }

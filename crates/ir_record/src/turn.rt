@@ -1,6 +1,8 @@
 //! A turn of one thread.
 
-ghost use Rattle.std.specs.Prelude.{◌≡◌, ◌<◌, [], ◌∷◌, ◌++◌, true, length, map, slice_set, IfOk, OnOk, IfErr};
+ghost use Rattle.std.specs.Prelude.{◌≡◌, ◌<◌, [], ◌∷◌, ◌++◌, true, false, length, map, slice_set, IfOk, OnOk, IfErr};
+ghost use Rattle.ir_flat.specs.Flat.{IsFlat, thread_of};
+ghost use Rattle.ir_thread.specs.Calls.{ask_of};
 ghost use Rattle.ir_thread.specs.Instance.{is_result};
 ghost use Rattle.ir_record.specs.Progress.{TookIf, answers_at};
 ghost use Rattle.ir_record.specs.Recorders.{progress_of, CanGoOn, NamesFirst};
@@ -35,16 +37,19 @@ fn answer_to<W: World>(worlds: &mut Vec<W>, t: usize, kind: EnvKind) -> Result<u
 }
 
 impl<W: World> Recorder<'_, W> {
-    // Thread t takes its next step, if it has one; and whether it had.
-    pub fn turn(&mut self, t: usize) -> Result<bool, Failed>
+    // Thread t, which asks so, takes its next step, if it has one; and whether it had.
+    #[inline(always)]
+    pub fn turn_asked(&mut self, t: usize, asked: Ask) -> Result<bool, Failed>
         requires ready { CanGoOn W.answers W.broken self.old }
+        requires flat { IsFlat self.old.tape.flat }
         requires thread { t < length self.old.tape.flat.threads }
+        requires asked { asked ≡ ask_of self.old.tape.flat.code (thread_of self.old.tape.flat t) }
         ensures took { IfOk result (λ moved. TookIf moved (t ∷ []) (progress_of W.answers self.old) (progress_of W.answers self.new)) }
+        ensures none { IfOk result (λ moved. moved ≡ false → self.new.tape.flat ≡ self.old.tape.flat) }
         ensures ready { OnOk result (CanGoOn W.answers W.broken self.new) }
         ensures failed { IfErr result (NamesFirst W.broken self.new.worlds.items) }
         ensures kept { AreSameWorlds W.answers W.origin self.old.worlds.items self.new.worlds.items }
     {
-        let asked = self.tape.ask(t);
         match asked {
             Ask::Env(kind) => {
                 let value = answer_to(&mut self.worlds, t, kind)?;

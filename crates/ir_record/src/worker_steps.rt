@@ -137,14 +137,17 @@ impl<W: World> Worker<W> {
         self.thread.take_asked(code, asked, Reply::Go);
     }
 
-    // Its thread takes private steps that come next, all of them if they are few. The gate is told how many.
-    fn take_private_steps<G: Gate>(&mut self, crew: &Crew, code: &Code, gate: &G)
+    // Its thread takes private steps that come next, all of them if they are few; and what it asks then. The gate is told how
+    // many they are.
+    fn take_private_steps<G: Gate>(&mut self, crew: &Crew, code: &Code, gate: &G) -> Ask
         requires worker { IsAtWork W.answers crew.now code.now self.old }
+        ensures asked { result ≡ ask_of code.now self.new.thread }
         ensures stays { StaysAtWork W.answers crew.now self.old self.new }
         ensures world { self.new.world ≡ self.old.world }
     {
-        let ran = self.thread.run(code, STRETCH);
+        let (ran, asked) = self.thread.run(code, STRETCH);
         gate.stepped(self.thread.number(), ran);
+        asked
     }
 
     // Its world answers what its thread asks of the environment.
@@ -222,8 +225,7 @@ impl<W: World> Worker<W> {
         ensures { RanToEnd W.answers W.broken W.origin crew.now.table.shared.key self.old self.new }
     {
         for _ in rt.forever() {
-            self.take_private_steps(crew, code, gate);
-            let asked = self.thread.ask(code);
+            let asked = self.take_private_steps(crew, code, gate);
             if asked == Ask::Done {
                 return;
             }

@@ -1,17 +1,18 @@
 -- Worlds before the first step and after the last.
 use Rattle.std.proofs.Common.{Bool, true, false, ◌≡◌, ◌<◌, ℕ, ◌+◌, zero, suc, List, [], ◌∷◌, ◌++◌, length, map, get_or, refl, sym, ap, ◌∙◌, subst, arith, add-one}
-use Rattle.std.specs.Prelude.{Some, None, Ok, replicate}
+use Rattle.std.specs.Prelude.{Option, Some, None, Ok, replicate}
 use Rattle.std.specs.List.{range_with_len}
+use Rattle.std.specs.Option.{is_some}
 use Rattle.std.proofs.lemmas.List.{length-map}
 use Rattle.std.proofs.lemmas.List.FromFn.{map-range_with_len_more, length-map-range_with_len}
 use Rattle.ir_image.specs.Guest.{Guest}
 use Rattle.ir_image.specs.Reading.{guest_at}
-use Rattle.ir_thread.specs.declared.profile.Profile.{Profile}
 use Rattle.ir_trace.specs.Recorded.{Recorded}
 use Rattle.ir_record.specs.Recording.{IsRecording, IsRecordingOfSome}
 use Rattle.ir_record.specs.Worlds.{Answered}
 use Rattle.ir_record_run.specs.Order.{order_of}
-use Rattle.ir_record_run.specs.Recording.{seed_of, origin_of, origins, IsRecordedOf}
+use Rattle.ir_record_run.specs.Plan.{Plan}
+use Rattle.ir_record_run.specs.Recording.{seed_of, origin_of, origins, IsRecordedBy, IsRecordedOf}
 use Rattle.ir_record_run.specs.Sources.{MadeWith, made_with, is_counted, IsAnswered}
 use Rattle.ir_record_run.specs.declared.time.Time.{Time}
 
@@ -76,42 +77,47 @@ answered_by made answers gave counted random file os n e t l =
     (answered_from made answers gave counted random file os 0 n e t l)
 
 -- what was recorded in an order, with fresh worlds
-pub recorded_from : (image list : List ℕ) (budget : ℕ) (profile : Profile) (random : ℕ) (file : List ℕ) (guest : Guest) (entries order given : List ℕ)
+pub recorded_from : (image list : List ℕ) (plan : Plan) (guest : Guest) (entries order given : List ℕ)
     (before : List (List Answered)) (trace : Recorded) (outputs : List (List ℕ)) (answers : List (List Answered))
+    → plan.order ≡ Some list
     → guest_at image ≡ Ok guest → entries ≡ guest.entries → order_of (length entries) list ≡ Some order → given ≡ order
-    → before ≡ replicate (length entries) [] → IsRecording guest budget profile given before trace outputs answers
-    → ((t : ℕ) → t < length entries → IsAnswered (origin_of true random file t) (get_or answers t []))
-    → IsRecordedOf image (Some list) budget profile random file trace outputs
-recorded_from image list budget profile random file guest entries order given before trace outputs answers is same spelled e silent h answered =
+    → before ≡ replicate (length entries) [] → IsRecording guest plan.budget plan.profile given before trace outputs answers
+    → ((t : ℕ) → t < length entries → IsAnswered (origin_of true plan.random plan.input t) (get_or answers t []))
+    → IsRecordedOf image plan trace outputs
+recorded_from image list plan guest entries order given before trace outputs answers listed is same spelled e silent h answered =
     let long : length entries ≡ length guest.entries = ap (λ (z : List ℕ). length z) same in
     record {
       guest = guest;
       is = is;
       answers = answers;
-      recorded = (
+      recorded = subst (λ (o : Option (List ℕ)). IsRecordedBy o guest plan.budget plan.profile trace outputs answers) (sym listed) (
         order,
         ap (λ (n : ℕ). order_of n list) (sym long) ∙ spelled,
-        subst (λ (z : List (List Answered)). IsRecording guest budget profile order z trace outputs answers)
+        subst (λ (z : List (List Answered)). IsRecording guest plan.budget plan.profile order z trace outputs answers)
             (silent ∙ ap (λ (n : ℕ). replicate n []) long)
-            (subst (λ (z : List ℕ). IsRecording guest budget profile z before trace outputs answers) e h),
+            (subst (λ (z : List ℕ). IsRecording guest plan.budget plan.profile z before trace outputs answers) e h),
       );
-      answered = λ t l. answered t (omega (arith, l, long));
+      answered = λ t l. subst (λ (o : Option (List ℕ)). IsAnswered (origin_of (is_some o) plan.random plan.input t) (get_or answers t []))
+          (sym listed) (answered t (omega (arith, l, long)));
     }
 
 -- the same, by threads
-pub recorded_by : (image : List ℕ) (budget : ℕ) (profile : Profile) (random : ℕ) (file : List ℕ) (guest : Guest) (entries : List ℕ) (before : List (List Answered))
+pub recorded_by : (image : List ℕ) (plan : Plan) (guest : Guest) (entries : List ℕ) (before : List (List Answered))
     (trace : Recorded) (outputs : List (List ℕ)) (answers : List (List Answered))
+    → plan.order ≡ None
     → guest_at image ≡ Ok guest → entries ≡ guest.entries → before ≡ replicate (length entries) []
-    → IsRecordingOfSome guest budget profile before trace outputs answers
-    → ((t : ℕ) → t < length entries → IsAnswered (origin_of false random file t) (get_or answers t []))
-    → IsRecordedOf image None budget profile random file trace outputs
-recorded_by image budget profile random file guest entries before trace outputs answers is same silent h answered =
+    → IsRecordingOfSome guest plan.budget plan.profile before trace outputs answers
+    → ((t : ℕ) → t < length entries → IsAnswered (origin_of false plan.random plan.input t) (get_or answers t []))
+    → IsRecordedOf image plan trace outputs
+recorded_by image plan guest entries before trace outputs answers unlisted is same silent h answered =
     let long : length entries ≡ length guest.entries = ap (λ (z : List ℕ). length z) same in
     record {
       guest = guest;
       is = is;
       answers = answers;
-      recorded = subst (λ (z : List (List Answered)). IsRecordingOfSome guest budget profile z trace outputs answers)
-          (silent ∙ ap (λ (n : ℕ). replicate n []) long) h;
-      answered = λ t l. answered t (omega (arith, l, long));
+      recorded = subst (λ (o : Option (List ℕ)). IsRecordedBy o guest plan.budget plan.profile trace outputs answers) (sym unlisted)
+          (subst (λ (z : List (List Answered)). IsRecordingOfSome guest plan.budget plan.profile z trace outputs answers)
+          (silent ∙ ap (λ (n : ℕ). replicate n []) long) h);
+      answered = λ t l. subst (λ (o : Option (List ℕ)). IsAnswered (origin_of (is_some o) plan.random plan.input t) (get_or answers t []))
+          (sym unlisted) (answered t (omega (arith, l, long)));
     }

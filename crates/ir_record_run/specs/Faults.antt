@@ -1,15 +1,15 @@
 -- Why there is no recording, and what that leaves.
-use Rattle.std.specs.Prelude.{◌≡◌, ℕ, List, length, ⊤, ◌⊎◌, Option, None, option_and_then, Ok, Err}
+use Rattle.std.specs.Prelude.{◌≡◌, ℕ, List, length, ⊤, ◌⊎◌, None, option_and_then, Ok, Err}
 use Rattle.ir_image.specs.Guest.{Guest}
 use Rattle.ir_image.specs.Reading.{guest_at}
 use Rattle.ir_image.specs.declared.image_err.ImageErr.{ImageErr}
 use Rattle.ir_image.specs.declared.image_err.ImageErr.TheVariants as image
 use Rattle.ir_thread.specs.Allowed.{IsAllowed}
-use Rattle.ir_thread.specs.declared.profile.Profile.{Profile}
 use Rattle.ir_trace.specs.Recorded.{Recorded}
 use Rattle.ir_trace.specs.Encoding.{encoding}
 use Rattle.ir_record_run.specs.Order.{order_of}
-use Rattle.ir_record_run.specs.Recording.{lines_of}
+use Rattle.ir_record_run.specs.Plan.{Plan}
+use Rattle.ir_record_run.specs.Recording.{IsRecordedOf, lines_of}
 use Rattle.ir_files.specs.Outputs.{OutputWriter, TookEach, FailedAtOne}
 use Rattle.ir_files.specs.Writers.{Writer, Took, Failed}
 use Rattle.ir_record_run.specs.declared.order.OrderErr.{OrderErr}
@@ -18,8 +18,8 @@ use Rattle.ir_record_run.specs.declared.record_fault.RecordFault.{RecordFault}
 use Rattle.ir_record_run.specs.declared.record_fault.RecordFault.TheVariants.{Clock, Image, TooLarge, Order, NoMem, Trace, Output, Lines}
 
 -- the profile allows the threads and objects of the image's guest
-abbrev pub Allows : Profile → List ℕ → Type 0
-Allows profile image = (guest : Guest) → guest_at image ≡ Ok guest → IsAllowed profile guest
+abbrev pub Allows : List ℕ → Plan → Type 0
+Allows image plan = (guest : Guest) → guest_at image ≡ Ok guest → IsAllowed plan.profile guest
 
 -- the exit status of a fault
 abbrev pub fault_status : RecordFault → ℕ
@@ -48,16 +48,16 @@ of_order order_err.NoMem = NoMem
 
 -- why nothing is recorded: the image's first fault; more threads or objects than the profile allows; of a guest that it allows, a list
 -- that spells no order, or without a list a clock that can't be read; that memory ran out says nothing of them
-abbrev pub Refuses : RecordFault → Profile → List ℕ → Option (List ℕ) → Type 0
-Refuses (Image e) profile image list = guest_at image ≡ Err e
-Refuses TooLarge profile image list = (guest : Guest) × (guest_at image ≡ Ok guest) × (IsAllowed profile guest → ⊥)
-Refuses Order profile image list = (guest : Guest) × (guest_at image ≡ Ok guest) × IsAllowed profile guest
-    × (option_and_then (order_of (length guest.entries)) list ≡ None)
-Refuses Clock profile image list = (guest : Guest) × (guest_at image ≡ Ok guest) × IsAllowed profile guest × (list ≡ None)
-Refuses NoMem profile image list = ⊤
-Refuses Trace profile image list = ⊥
-Refuses Output profile image list = ⊥
-Refuses Lines profile image list = ⊥
+abbrev pub Refuses : RecordFault → List ℕ → Plan → Type 0
+Refuses (Image e) image plan = guest_at image ≡ Err e
+Refuses TooLarge image plan = (guest : Guest) × (guest_at image ≡ Ok guest) × (IsAllowed plan.profile guest → ⊥)
+Refuses Order image plan = (guest : Guest) × (guest_at image ≡ Ok guest) × IsAllowed plan.profile guest
+    × (option_and_then (order_of (length guest.entries)) plan.order ≡ None)
+Refuses Clock image plan = (guest : Guest) × (guest_at image ≡ Ok guest) × IsAllowed plan.profile guest × (plan.order ≡ None)
+Refuses NoMem image plan = ⊤
+Refuses Trace image plan = ⊥
+Refuses Output image plan = ⊥
+Refuses Lines image plan = ⊥
 
 -- which of the writers failed, of the trace, of the outputs and of the lines: the outputs come after the whole trace, and the
 -- lines after all outputs. The last two say that those of the outputs and of the lines are as before, and that of the lines
@@ -73,8 +73,7 @@ WriteFails NoMem bytes printed lines trace outputs out later last = ⊥
 
 -- a fault: nothing was written (all writers are as before), or there is a recording, the trace and the outputs of one run, and
 -- a writer failed (those after it are as before)
-abbrev pub Stops : RecordFault → Profile → List ℕ → Option (List ℕ) → (Recorded → List (List ℕ) → Type 0) → Writer → OutputWriter → Writer
-    → Type 0 → Type 0 → Type 0 → Type 0
-Stops e profile image list IsIt trace outputs out all later last = (Refuses e profile image list × all)
-    ⊎ ((recorded : Recorded) × (printed : List (List ℕ)) × IsIt recorded printed
+abbrev pub Stops : RecordFault → List ℕ → Plan → Writer → OutputWriter → Writer → Type 0 → Type 0 → Type 0 → Type 0
+Stops e image plan trace outputs out all later last = (Refuses e image plan × all)
+    ⊎ ((recorded : Recorded) × (printed : List (List ℕ)) × IsRecordedOf image plan recorded printed
     × WriteFails e (encoding recorded) printed (lines_of recorded) trace outputs out later last)

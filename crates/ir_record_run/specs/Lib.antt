@@ -1,5 +1,6 @@
 pub mod Faults
 pub mod Numerals
 pub mod Order
+pub mod Plan
 pub mod Recording
 pub mod Sources

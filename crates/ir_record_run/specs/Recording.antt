@@ -10,6 +10,7 @@ use Rattle.ir_trace.specs.Recorded.{RecordedThread, Recorded}
 use Rattle.ir_record.specs.Recording.{IsRecording, IsRecordingOfSome}
 use Rattle.ir_record.specs.Worlds.{Answered}
 use Rattle.ir_record_run.specs.Order.{order_of}
+use Rattle.ir_record_run.specs.Plan.{Plan}
 use Rattle.ir_record_run.specs.Sources.{MadeWith, IsAnswered}
 
 -- the seed of the random words of thread t
@@ -38,14 +39,13 @@ IsRecordedBy None guest budget profile trace outputs answers = IsRecordingOfSome
 -- the trace and the outputs are of one such run of the image's guest, whose threads were answered by random words, the
 -- file's bytes and a count; without a list by a clock in the place of the count, of which nothing is said but that the
 -- answers are its own
-pub record IsRecordedOf (image : List ℕ) (list : Option (List ℕ)) (budget : ℕ) (profile : Profile) (random : ℕ) (file : List ℕ)
-    (trace : Recorded) (outputs : List (List ℕ)) : Type 0 where
+pub record IsRecordedOf (image : List ℕ) (plan : Plan) (trace : Recorded) (outputs : List (List ℕ)) : Type 0 where
   pub guest : Guest
   pub is : guest_at image ≡ Ok guest
   pub answers : List (List Answered)
-  pub recorded : IsRecordedBy list guest budget profile trace outputs answers
+  pub recorded : IsRecordedBy plan.order guest plan.budget plan.profile trace outputs answers
   -- each thread was answered by its own sources
-  pub answered : (t : ℕ) → t < length guest.entries → IsAnswered (origin_of (is_some list) random file t) (slice_index_or answers t [])
+  pub answered : (t : ℕ) → t < length guest.entries → IsAnswered (origin_of (is_some plan.order) plan.random plan.input t) (slice_index_or answers t [])
 
 -- a thread's line: its number, the number and the code of its end, its steps, how many events it logged
 abbrev pub line_by : ℕ → ℕ → ℕ → ℕ → ℕ → List ℕ

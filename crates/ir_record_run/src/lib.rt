@@ -3,6 +3,7 @@
 
 mod numeral;
 mod order;
+mod plan;
 mod program_world;
 mod record_fault;
 mod recording;
@@ -11,6 +12,7 @@ mod time;
 
 pub use numeral::number_within;
 pub use order::{OrderErr, bad_item, read_order};
+pub use plan::RecordPlan;
 pub use program_world::{MOST_ANSWERS, ProgramWorld};
 pub use record_fault::RecordFault;
 pub use recording::{record_run, thread_line};

@@ -1,11 +1,10 @@
 //! An image in, the trace of a run of its guest, what each thread printed and a line for each thread out.
 
-ghost use Rattle.std.specs.Prelude.{◌≡◌, ◌≢◌, ◌<◌, ◌≤◌, ◌+◌, ℕ, List, Option, Some, None, Ok, Err, true, false, IfOk, IfErr, OnOk, OnErr, ◌⊎◌, [], length, map, replicate, option_map};
+ghost use Rattle.std.specs.Prelude.{◌≡◌, ◌≢◌, ◌<◌, ◌+◌, ℕ, List, Some, None, Ok, Err, true, false, IfOk, IfErr, OnOk, OnErr, ◌⊎◌, [], length, map, replicate};
 ghost use Rattle.std.specs.String.{string_bytes};
 ghost use Rattle.std.specs.Io.KnownBytes.{Appends};
 ghost use Rattle.ir_image.specs.Reading.{guest_at};
 ghost use Rattle.ir_thread.specs.Allowed.{IsAllowed};
-ghost use Rattle.ir_thread.specs.Calls.{most_budget};
 ghost use Rattle.ir_trace.specs.Recorded.{Recorded};
 ghost use Rattle.ir_trace.specs.Encoding.{encoding};
 ghost use Rattle.ir_record.specs.Recording.{printed_by};
@@ -19,6 +18,7 @@ ghost use Rattle.ir_record_run.specs.declared.record_fault.RecordFault.{RecordFa
 ghost use Rattle.ir_record_run.specs.declared.record_fault.RecordFault.TheVariants.{NoMem, Clock};
 
 use crate::order::{bad_item, read_order};
+use crate::plan::RecordPlan;
 use crate::program_world::ProgramWorld;
 use crate::record_fault::RecordFault;
 use crate::time::Time;
@@ -27,7 +27,6 @@ use ir_image::{Image, read_image};
 use ir_object::Gate;
 use ir_record::{Outputs, RecordErr, record, record_in_turns};
 use ir_stream::{DeviceErr, Sink, write_all};
-use ir_thread::Profile;
 use ir_trace::{ThreadTrace, Trace, write_trace};
 use std::alloc::{AllocError, Global};
 use std::sync::Wait;
@@ -82,14 +81,14 @@ fn printed<W: Drop>(alloc: Global, outputs: Outputs<W>) -> Result<Vec<Vec<u8>>, 
 }
 
 // The image, where the profile allows its threads and objects.
-fn allowed_image(alloc: Global, bytes: &[u8], profile: Profile) -> Result<Image, RecordFault>
+fn allowed_image(alloc: Global, bytes: &[u8], plan: &RecordPlan<'_>) -> Result<Image, RecordFault>
     ensures exact { IfOk result (λ image. guest_at bytes.now ≡ Ok image) }
-    ensures allowed { IfOk result (IsAllowed profile) }
-    ensures allows { OnOk result (Allows profile bytes.now) }
-    ensures refused { IfErr result (λ e. (list : Option (List ℕ)) → Refuses e profile bytes.now list) }
+    ensures allowed { IfOk result (IsAllowed plan.now.profile) }
+    ensures allows { OnOk result (Allows bytes.now plan.now) }
+    ensures refused { IfErr result (λ e. Refuses e bytes.now plan.now) }
 {
     let image = read_image(alloc, bytes)?;
-    if profile.allows(&image) {
+    if plan.profile.allows(&image) {
         Ok(image)
     } else {
         Err(RecordFault::TooLarge)
@@ -104,21 +103,32 @@ fn recorded_in_order<C: Clock>(
     alloc: Global,
     image: &[u8],
     list: &str,
-    budget: u64,
-    random: u64,
-    file: &[u8],
-    profile: Profile,
+    plan: &RecordPlan<'_>,
 ) -> Result<(Trace, Vec<Vec<u8>>), RecordFault>
-    requires { budget ≤ most_budget }
-    ensures recorded { IfOk result (λ r. IsRecordedOf image.now (Some list.now) budget profile random file.now r.0 (map (λ b. b.items) r.1.items)) }
-    ensures allowed { OnOk result (Allows profile image.now) }
-    ensures refused { IfErr result (λ e. Refuses e profile image.now (Some list.now)) }
+    requires { plan.now.order ≡ Some list.now }
+    ensures recorded { IfOk result (λ r. IsRecordedOf image.now plan.now r.0 (map (λ b. b.items) r.1.items)) }
+    ensures allowed { OnOk result (Allows image.now plan.now) }
+    ensures refused { IfErr result (λ e. Refuses e image.now plan.now) }
 {
-    let image = allowed_image(alloc, image, profile)?;
+    let image = allowed_image(alloc, image, plan)?;
     let threads = image.entries().len();
     let order = read_order(alloc, list, threads)?;
-    let worlds = worlds(alloc, clock, Time::Counted, threads, random, file)?;
-    match record_in_turns(alloc, &image, order.as_slice(), worlds, budget, profile) {
+    let worlds = worlds(
+        alloc,
+        clock,
+        Time::Counted,
+        threads,
+        plan.random,
+        plan.input,
+    )?;
+    match record_in_turns(
+        alloc,
+        &image,
+        order.as_slice(),
+        worlds,
+        plan.budget,
+        plan.profile,
+    ) {
         Ok((trace, outputs)) => Ok((trace, printed(alloc, outputs)?)),
         // A world that counts its time fails only where it has no room for more answers.
         Err(_) => Err(RecordFault::NoMem),
@@ -131,23 +141,27 @@ fn recorded_by_threads<R: Threads + Wait + Sync + Clock, G: Gate + Sync>(
     alloc: Global,
     gate: &G,
     image: &[u8],
-    budget: u64,
-    random: u64,
-    file: &[u8],
-    profile: Profile,
+    plan: &RecordPlan<'_>,
 ) -> Result<(Trace, Vec<Vec<u8>>), RecordFault>
-    requires { budget ≤ most_budget }
-    ensures recorded { IfOk result (λ r. IsRecordedOf image.now None budget profile random file.now r.0 (map (λ b. b.items) r.1.items)) }
-    ensures allowed { OnOk result (Allows profile image.now) }
-    ensures refused { IfErr result (λ e. Refuses e profile image.now None) }
+    requires { plan.now.order ≡ None }
+    ensures recorded { IfOk result (λ r. IsRecordedOf image.now plan.now r.0 (map (λ b. b.items) r.1.items)) }
+    ensures allowed { OnOk result (Allows image.now plan.now) }
+    ensures refused { IfErr result (λ e. Refuses e image.now plan.now) }
 {
-    let image = allowed_image(alloc, image, profile)?;
+    let image = allowed_image(alloc, image, plan)?;
     let threads = image.entries().len();
     let Ok(start) = Instant::now(rt) else {
         return Err(RecordFault::Clock);
     };
-    let worlds = worlds(alloc, rt, Time::Since(start), threads, random, file)?;
-    match record(rt, alloc, &image, worlds, gate, budget, profile) {
+    let worlds = worlds(
+        alloc,
+        rt,
+        Time::Since(start),
+        threads,
+        plan.random,
+        plan.input,
+    )?;
+    match record(rt, alloc, &image, worlds, gate, plan.budget, plan.profile) {
         Ok((trace, outputs)) => Ok((trace, printed(alloc, outputs)?)),
         Err(why) => Err(stopped_by(why)),
     }
@@ -159,20 +173,15 @@ fn recorded<R: Threads + Wait + Sync + Clock, G: Gate + Sync>(
     alloc: Global,
     gate: &G,
     image: &[u8],
-    order: Option<&str>,
-    budget: u64,
-    random: u64,
-    file: &[u8],
-    profile: Profile,
+    plan: &RecordPlan<'_>,
 ) -> Result<(Trace, Vec<Vec<u8>>), RecordFault>
-    requires { budget ≤ most_budget }
-    ensures recorded { IfOk result (λ r. IsRecordedOf image.now (option_map (λ s. s.now) order.entry) budget profile random file.now r.0 (map (λ b. b.items) r.1.items)) }
-    ensures allowed { OnOk result (Allows profile image.now) }
-    ensures refused { IfErr result (λ e. Refuses e profile image.now (option_map (λ s. s.now) order.entry)) }
+    ensures recorded { IfOk result (λ r. IsRecordedOf image.now plan.now r.0 (map (λ b. b.items) r.1.items)) }
+    ensures allowed { OnOk result (Allows image.now plan.now) }
+    ensures refused { IfErr result (λ e. Refuses e image.now plan.now) }
 {
-    match order {
-        Some(list) => recorded_in_order(rt, alloc, image, list, budget, random, file, profile),
-        None => recorded_by_threads(rt, alloc, gate, image, budget, random, file, profile),
+    match plan.order {
+        Some(list) => recorded_in_order(rt, alloc, image, list, plan),
+        None => recorded_by_threads(rt, alloc, gate, image, plan),
     }
 }
 
@@ -265,31 +274,24 @@ fn run<R: Threads + Wait + Sync + Clock, G: Gate + Sync, W: WholeSink, P: Output
     alloc: Global,
     gate: &G,
     image: &[u8],
-    order: Option<&str>,
-    budget: u64,
-    random: u64,
-    input: &[u8],
+    plan: &RecordPlan<'_>,
     trace: &mut W,
     outputs: &mut P,
     out: &mut O,
-    profile: Profile,
 ) -> Result<(), RecordFault>
-    requires { budget ≤ most_budget }
-    ensures done { OnOk result ((recorded : Recorded) × (printed : List (List ℕ)) × IsRecordedOf image.now (option_map (λ s. s.now) order.entry) budget profile random input.now recorded printed
+    ensures done { OnOk result ((recorded : Recorded) × (printed : List (List ℕ)) × IsRecordedOf image.now plan.now recorded printed
         × Appends (W.written trace.old) (W.written trace.new) (encoding recorded)
         × TookEach (output_writer_of (P.taken outputs.old) (P.taken outputs.new) (P.broken outputs.new)) printed
         × Appends (O.written out.old) (O.written out.new) (lines_of recorded)) }
     ensures whole { OnOk result (W.whole trace.new ≡ true) }
-    ensures allowed { OnOk result (Allows profile image.now) }
-    ensures stopped { IfErr result (λ e. Stops e profile image.now (option_map (λ s. s.now) order.entry) (IsRecordedOf image.now (option_map (λ s. s.now) order.entry) budget profile random input.now)
+    ensures allowed { OnOk result (Allows image.now plan.now) }
+    ensures stopped { IfErr result (λ e. Stops e image.now plan.now
         (writer_of (W.written trace.old) (W.written trace.new) (W.broken trace.new))
         (output_writer_of (P.taken outputs.old) (P.taken outputs.new) (P.broken outputs.new))
         (writer_of (O.written out.old) (O.written out.new) (O.broken out.new))
         ((trace.new ≡ trace.old) × (outputs.new ≡ outputs.old) × (out.new ≡ out.old)) ((outputs.new ≡ outputs.old) × (out.new ≡ out.old)) (out.new ≡ out.old)) }
 {
-    let (recorded, printed) = recorded(
-        rt, alloc, gate, image, order, budget, random, input, profile,
-    )?;
+    let (recorded, printed) = recorded(rt, alloc, gate, image, plan)?;
     let bytes = write_trace(alloc, &recorded)?;
     let lines = lines(alloc, &recorded)?;
     written(
@@ -337,18 +339,18 @@ fn tell_fault<W: WholeSink, P: OutputSink, E: Sink>(
     }
 }
 
-/// Records the guest of an image in the order that a list spells, on one thread; without a list on real threads. Writes
-/// the trace, then what each thread printed, an output each, and then a line `thread T end E code C steps S events N` for
-/// each thread. The budget is in steps, for each thread. RANDOM gives the words of PCG32, started for thread T by the
-/// number `random` plus T, modulo 2^64; CLOCK counts its own calls from 0, in each thread, and without a list gives the
-/// milliseconds since the start, modulo 2^32; each thread's INPUT gives all bytes of the input. Without a list it may wait
-/// for threads, and that it ends isn't promised; the gate is told of what they do. The profile says which system calls there
-/// are.
+/// Records the guest of an image by a plan: in the order that its list spells, on one thread; without a list on real
+/// threads. Writes the trace, then what each thread printed, an output each, and then a line `thread T end E code C steps S
+/// events N` for each thread. The budget is in steps, for each thread. RANDOM gives the words of PCG32, started for thread T
+/// by the number `random` plus T, modulo 2^64; CLOCK counts its own calls from 0, in each thread, and without a list gives
+/// the milliseconds since the start, modulo 2^32; each thread's INPUT gives all bytes of the input. Without a list it may
+/// wait for threads, and that it ends isn't promised; the gate is told of what they do. The profile says which system calls
+/// there are.
 /// The answer is the exit status: 0 where all were written and the trace stands in its place, 3 where the image is
 /// refused, it has more threads or objects than the profile allows, or the list spells no order of its threads, and 1 where
 /// memory ran out, the clock can't be read or a writer failed; then what was written before stays. A fault is told in one line.
 pub fn record_run<
-    R: Threads + Wait + Sync + Clock,
+    R: Threads + Wait + Sync + Clock + AllocGlobal,
     G: Gate + Sync,
     W: WholeSink,
     P: OutputSink,
@@ -356,47 +358,40 @@ pub fn record_run<
     E: Sink,
 >(
     rt: &R,
-    alloc: Global,
     gate: &G,
     image: &[u8],
-    order: Option<&str>,
-    budget: u64,
-    random: u64,
-    input: &[u8],
+    plan: &RecordPlan<'_>,
     trace: &mut W,
     outputs: &mut P,
     out: &mut O,
     faults: &mut E,
-    profile: Profile,
 ) -> u8
-    requires budget { budget ≤ most_budget }
     requires writes { W.broken trace.old ≡ false }
     requires puts { P.broken outputs.old ≡ false }
     requires prints { O.broken out.old ≡ false }
     requires reports { E.broken faults.old ≡ false }
     // Of the run by the order, or of some complete run, the trace was written, what each of its threads printed as that
     // thread's output, and its lines, and no fault told.
-    ensures done { result ≡ 0 → (recorded : Recorded) × (printed : List (List ℕ)) × IsRecordedOf image.now (option_map (λ s. s.now) order.entry) budget profile random input.now recorded printed
+    ensures done { result ≡ 0 → (recorded : Recorded) × (printed : List (List ℕ)) × IsRecordedOf image.now plan.now recorded printed
         × Appends (W.written trace.old) (W.written trace.new) (encoding recorded)
         × TookEach (output_writer_of (P.taken outputs.old) (P.taken outputs.new) (P.broken outputs.new)) printed
         × Appends (O.written out.old) (O.written out.new) (lines_of recorded) }
     ensures whole { result ≡ 0 → W.whole trace.new ≡ true }
     // The profile allows its threads and objects.
-    ensures allowed { result ≡ 0 → Allows profile image.now }
+    ensures allowed { result ≡ 0 → Allows image.now plan.now }
     ensures quiet { result ≡ 0 → faults.new ≡ faults.old }
     // Else what stopped it, and what that left.
-    ensures stopped { result ≢ 0 → (e : RecordFault) × (result ≡ fault_status e) × Stops e profile image.now (option_map (λ s. s.now) order.entry) (IsRecordedOf image.now (option_map (λ s. s.now) order.entry) budget profile random input.now)
+    ensures stopped { result ≢ 0 → (e : RecordFault) × (result ≡ fault_status e) × Stops e image.now plan.now
         (writer_of (W.written trace.old) (W.written trace.new) (W.broken trace.new))
         (output_writer_of (P.taken outputs.old) (P.taken outputs.new) (P.broken outputs.new))
         (writer_of (O.written out.old) (O.written out.new) (O.broken out.new))
         ((trace.new ≡ trace.old) × (outputs.new ≡ outputs.old) × (out.new ≡ out.old)) ((outputs.new ≡ outputs.old) × (out.new ≡ out.old)) (out.new ≡ out.old) }
 {
-    match run(
-        rt, alloc, gate, image, order, budget, random, input, trace, outputs, out, profile,
-    ) {
+    let alloc = rt.alloc();
+    match run(rt, alloc, gate, image, plan, trace, outputs, out) {
         Ok(()) => DONE,
         Err(why) => {
-            tell_fault(alloc, faults, &why, image, order, trace, outputs);
+            tell_fault(alloc, faults, &why, image, plan.order, trace, outputs);
             why.status()
         }
     }

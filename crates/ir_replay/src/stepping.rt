@@ -1,6 +1,8 @@
 //! Steps of one thread towards its target.
 
 ghost use Rattle.std.specs.Prelude.{◌≡◌, ◌<◌, ◌≤◌, ◌-◌, true, false, length};
+ghost use Rattle.ir_thread.specs.Calls.{ask_of};
+ghost use Rattle.ir_flat.specs.Flat.{thread_of};
 ghost use Rattle.ir_cut.specs.Positions.{cut_of};
 ghost use Rattle.ir_weave.specs.States.{positions};
 ghost use Rattle.ir_weave.specs.Stepping.{IsTarget, IsUnder, HasGone, IsSame, Rests};
@@ -10,6 +12,7 @@ use crate::telling::{tell_entry, tell_leave};
 use ir_fit::Fitted;
 use ir_flat::Flat;
 use ir_object::Gate;
+use ir_thread::Ask;
 
 // How many steps thread t has to its target.
 pub fn left(target: &[u64], flat: &Flat<'_>, t: usize) -> u64
@@ -18,6 +21,40 @@ pub fn left(target: &[u64], flat: &Flat<'_>, t: usize) -> u64
     ensures { result ≡ cut_of target.now t - positions flat.now t }
 {
     target[t].saturating_sub(flat.threads()[t].steps())
+}
+
+// Thread t takes its next step, for which it asks so, where it is below its target and the step is admitted. Whether it
+// took one.
+fn step_asked<G: Gate>(
+    fitted: &Fitted,
+    target: &[u64],
+    flat: &mut Flat<'_>,
+    t: usize,
+    asked: Ask,
+    gate: &G,
+) -> bool
+    requires target { IsTarget fitted.now target.now }
+    requires under { IsUnder fitted.now target.now flat.old }
+    requires thread { t < length target.now }
+    requires asked { asked ≡ ask_of flat.old.code (thread_of flat.old t) }
+    ensures under { IsUnder fitted.now target.now flat.new }
+    ensures gone { result ≡ true → HasGone flat.old flat.new t 1 }
+    ensures same { result ≡ false → IsSame flat.old flat.new }
+    ensures rests { result ≡ false → Rests fitted.now target.now flat.new t }
+{
+    if left(target, flat, t) == 0 {
+        return false;
+    }
+    match next_result(fitted, flat, t, asked) {
+        None => false,
+        Some(result) => {
+            let number = flat.threads()[t].number();
+            tell_leave(gate, number, asked);
+            let taken = flat.take(t, asked, result).is_ok();
+            tell_entry(gate, &flat.threads()[t], asked);
+            taken
+        }
+    }
 }
 
 // Thread t takes its next step, where it is below its target and the step is admitted. Whether it took one.
@@ -36,20 +73,8 @@ pub fn step<G: Gate>(
     ensures same { result ≡ false → IsSame flat.old flat.new }
     ensures rests { result ≡ false → Rests fitted.now target.now flat.new t }
 {
-    if left(target, flat, t) == 0 {
-        return false;
-    }
     let asked = flat.ask(t);
-    match next_result(fitted, flat, t, asked) {
-        None => false,
-        Some(result) => {
-            let number = flat.threads()[t].number();
-            tell_leave(gate, number, asked);
-            let taken = flat.take(t, asked, result).is_ok();
-            tell_entry(gate, &flat.threads()[t], asked);
-            taken
-        }
-    }
+    step_asked(fitted, target, flat, t, asked, gate)
 }
 
 // Thread t goes on until it has taken so many steps, is at its target, or its next step isn't admitted. How many it took.
@@ -72,11 +97,12 @@ pub fn go<G: Gate>(
     let mut taken = 0;
     'steps: while taken < most {
         let limit = left(target, flat, t).min(most - taken);
-        taken += flat.run_instructions(t, limit);
+        let (more, asked) = flat.run_to_ask(t, limit);
+        taken += more;
         if taken == most {
             return taken;
         }
-        if !step(fitted, target, flat, t, gate) {
+        if !step_asked(fitted, target, flat, t, asked, gate) {
             return taken;
         }
         taken += 1;

@@ -1,6 +1,7 @@
 //! What one thread does in a round.
 
 ghost use Rattle.std.specs.Prelude.{◌≡◌, ℕ, ◌<◌, length, All, slice_index_or};
+ghost use Rattle.ir_thread.specs.Calls.{ask_of};
 ghost use Rattle.ir_cut.specs.Positions.{IsConsistentCut, cut_of};
 ghost use Rattle.ir_weave.specs.Woven.{IsFor, WasStopped};
 ghost use Rattle.ir_weave.specs.declared.stepping.Tried.TheVariants.{Stepped, NotNow, AtTarget};
@@ -12,7 +13,7 @@ use crossbeam_utils::{Backoff, CachePadded};
 use ir_cut::Cut;
 use ir_fit::Fitted;
 use ir_object::Gate;
-use ir_thread::Thread;
+use ir_thread::{Ask, Thread};
 use ir_weave::{Tried, Weave, WeaveSeat};
 use std::sync::atomic::AtomicBool;
 use std::thread;
@@ -28,18 +29,20 @@ pub struct Worker {
     pub apart: CachePadded<()>,
 }
 
-// The thread takes its next step, if it is admitted now or while the worker waits.
+// The thread takes its next step, for which it asks so, if it is admitted now or while the worker waits.
 fn try_again(
     clock: &impl Clock,
     weave: &Weave,
     worker: &mut Worker,
     fitted: &Fitted,
     target: &Cut,
+    asked: Ask,
     patience: &mut Patience<'_>,
 ) -> Tried
     requires table { IsFor weave.now.table.shared.key fitted.now }
     requires target { (length target.now ≡ length fitted.now.guest.entries) × IsConsistentCut fitted.now target.now }
     requires ready { IsReady weave.now.table.shared.table_id weave.now.table.shared.key target.now worker.old }
+    requires asked { asked ≡ ask_of fitted.now.guest.code worker.old.thread }
     ensures on_way { IsOnWay weave.now.table.shared.table_id weave.now.table.shared.key target.now worker.old worker.new }
     ensures stepped { result ≡ Stepped → worker.old.thread.steps < worker.new.thread.steps }
     ensures stopped { result ≡ NotNow → WasStopped weave.now.table.shared.key worker.new.thread.number worker.new.thread.steps }
@@ -48,7 +51,7 @@ fn try_again(
     let backoff = Backoff::new();
     let mut looked = 0u64;
     'looks: loop {
-        let tried = weave.try_step(&mut worker.seat, &mut worker.thread, fitted, target);
+        let tried = weave.try_asked(&mut worker.seat, &mut worker.thread, fitted, target, asked);
         if tried != Tried::NotNow || !patience.wait(clock, &backoff, looked) {
             return tried;
         }
@@ -73,15 +76,14 @@ fn work<G: Gate>(
 {
     let mut patience = Patience::new(ended);
     'steps: loop {
-        let ran = weave.run(&worker.seat, &mut worker.thread, fitted, target);
+        let (ran, asked) = weave.run(&worker.seat, &mut worker.thread, fitted, target);
         patience.grow(ran);
         let number = worker.thread.number();
         if worker.thread.steps() >= target.position(number as usize) {
             return;
         }
-        let asked = worker.thread.ask(fitted.image().code());
         tell_leave(gate, number, asked);
-        match try_again(clock, weave, worker, fitted, target, &mut patience) {
+        match try_again(clock, weave, worker, fitted, target, asked, &mut patience) {
             Tried::Stepped => tell_entry(gate, &worker.thread, asked),
             Tried::NotNow | Tried::AtTarget => return,
         }

@@ -2,12 +2,13 @@
 
 use crate::sessions::{Said, are_answered};
 use crate::streams::{ENDLESS, Page};
-use ir_debug::{DeviceErr, Sink, write_log};
+use ir_debug::{DeviceErr, Sink};
 use ir_log::Event;
 use ir_runs::EnvKind;
 use ir_tests::guests::{HELD_OUTSIDE, PRINT};
 use ir_tests::traces::EventRow::Write;
 use ir_tests::traces::{Ran, TraceRow};
+use ir_text::write_log;
 use std::alloc::{AllocError, Global};
 use std::test::Fail;
 

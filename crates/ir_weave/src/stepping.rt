@@ -216,6 +216,42 @@ impl Weave {
         true
     }
 
+    /// Takes the thread's next step, for which it asks so, if it is below its target and the step is admitted. Takes no
+    /// memory, and waits for nobody.
+    pub fn try_asked(
+        &self,
+        seat: &mut WeaveSeat,
+        thread: &mut Thread,
+        fitted: &Fitted,
+        target: &Cut,
+        asked: Ask,
+    ) -> Tried
+        requires seat { seat.old.table_id ≡ self.now.table.shared.table_id }
+        requires table { IsFor self.now.table.shared.key fitted.now }
+        requires thread { IsSeated self.now.table.shared.key seat.old.me.0 thread.old }
+        requires target { (length target.now ≡ length fitted.now.guest.entries) × IsConsistentCut fitted.now target.now }
+        requires below { thread.old.steps ≤ cut_of target.now thread.old.number }
+        requires asked { asked ≡ ask_of fitted.now.guest.code thread.old }
+
+        ensures seat { (seat.new.table_id ≡ seat.old.table_id) × (seat.new.id ≡ seat.old.id) }
+        // The thread has taken its next step of each run with the trace, and nothing but private steps part it from its
+        // seat's view.
+        ensures stepped { result ≡ Stepped → HasStepped self.now.table.shared.key seat.old.me seat.new.me thread.old thread.new }
+        // At some consistent cut, at or above the one at which the table was opened, the thread wasn't admitted.
+        ensures stopped { result ≡ NotNow → HasWaited self.now.table.shared.key seat.old.me seat.new.me thread.old thread.new }
+        ensures reached { result ≡ AtTarget → (thread.new ≡ thread.old) × (seat.new.me ≡ seat.old.me) }
+        ensures target { (result ≡ AtTarget) ↔ (thread.old.steps ≡ cut_of target.now thread.old.number) }
+    {
+        if thread.steps() >= target.position(thread.number() as usize) {
+            return Tried::AtTarget;
+        }
+        if self.take(seat, thread, fitted, asked) {
+            Tried::Stepped
+        } else {
+            Tried::NotNow
+        }
+    }
+
     /// Takes the thread's next step, if it is below its target and the step is admitted. Takes no memory, and waits for
     /// nobody.
     pub fn try_step(
@@ -240,28 +276,28 @@ impl Weave {
         ensures reached { result ≡ AtTarget → (thread.new ≡ thread.old) × (seat.new.me ≡ seat.old.me) }
         ensures target { (result ≡ AtTarget) ↔ (thread.old.steps ≡ cut_of target.now thread.old.number) }
     {
-        if thread.steps() >= target.position(thread.number() as usize) {
-            return Tried::AtTarget;
-        }
         let asked = thread.ask(fitted.image().code());
-        if self.take(seat, thread, fitted, asked) {
-            Tried::Stepped
-        } else {
-            Tried::NotNow
-        }
+        self.try_asked(seat, thread, fitted, target, asked)
     }
 
-    /// Takes private steps, up to the thread's target, until its next step is another, and how many they are. They touch
-    /// no word of the table.
-    pub fn run(&self, seat: &WeaveSeat, thread: &mut Thread, fitted: &Fitted, target: &Cut) -> u64
+    /// Takes private steps, up to the thread's target, until its next step is another: how many they are, and what the
+    /// thread asks then. They touch no word of the table.
+    pub fn run(
+        &self,
+        seat: &WeaveSeat,
+        thread: &mut Thread,
+        fitted: &Fitted,
+        target: &Cut,
+    ) -> (u64, Ask)
         requires table { IsFor self.now.table.shared.key fitted.now }
         requires thread { IsSeated self.now.table.shared.key seat.now.me.0 thread.old }
         requires target { (length target.now ≡ length fitted.now.guest.entries) × IsConsistentCut fitted.now target.now }
         requires below { thread.old.steps ≤ cut_of target.now thread.old.number }
-        ensures ran { HasRunOn self.now.table.shared.key seat.now.me.0 thread.old thread.new result }
+        ensures ran { HasRunOn self.now.table.shared.key seat.now.me.0 thread.old thread.new result.0 }
         ensures below { thread.new.steps ≤ cut_of target.now thread.new.number }
+        ensures asked { result.1 ≡ ask_of fitted.now.guest.code thread.new }
         // Why it stopped below the target.
-        ensures stops { thread.new.steps < cut_of target.now thread.new.number → ask_of fitted.now.guest.code thread.new ≢ ask.Private }
+        ensures stops { thread.new.steps < cut_of target.now thread.new.number → result.1 ≢ ask.Private }
     {
         let limit = target.position(thread.number() as usize) - thread.steps();
         thread.run(fitted.image().code(), limit)

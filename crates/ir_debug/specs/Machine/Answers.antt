@@ -1,5 +1,5 @@
 -- What the small machine answers, and what it holds after the answer.
-use Rattle.std.specs.Prelude.{◌≡◌, ◌⊎◌, ◌+◌, ℕ, Bool, true, false, List, [], ◌++◌, codes, Option, Some, None, Result, Ok, Err}
+use Rattle.std.specs.Prelude.{◌≡◌, ◌⊎◌, ◌+◌, ℕ, Bool, true, false, List, [], ◌∷◌, ◌++◌, codes, decimal, Option, Some, None, Result, Ok, Err}
 use Rattle.ir_runs.specs.Run.{Step}
 use Rattle.ir_fit.specs.Fit.{FittedTrace}
 use Rattle.ir_cut.specs.Positions.{EachRun, cut_of}
@@ -11,13 +11,14 @@ use Rattle.ir_command.specs.declared.command.Keeping as keeping
 use Rattle.ir_command.specs.declared.command.Keeping.TheVariants.{Keep, Load, Drop, Kept}
 use Rattle.ir_command.specs.declared.refusal.Refusal.{Refusal}
 use Rattle.ir_command.specs.declared.refusal.Refusal.TheVariants.{NoMemory}
-use Rattle.ir_hits.specs.declared.hit.Hit.{Hit}
-use Rattle.ir_debug.specs.Answers.{refusal_text}
+use Rattle.ir_command.specs.declared.hit.Hit.{Hit}
+use Rattle.ir_text.specs.Answers.{refusal_text}
+use Rattle.ir_debug.specs.Machine.Desk as desk
 use Rattle.ir_debug.specs.Machine.Desk.{Desk, last_of, spoken, moved, with_point, without_point, kept_cut, with_kept, without_kept}
 use Rattle.ir_debug.specs.Machine.Refusals.{thread_moved, refusal_of, may_lack}
 use Rattle.ir_debug.specs.Machine.Moves.{Leads, Continues}
 use Rattle.ir_debug.specs.Machine.Shown.{shown}
-use Rattle.ir_debug.specs.Machine.Texts.{number_line, positions_text, hit_text, stop_text, kept_text}
+use Rattle.ir_text.specs.Texts.{number_line, positions_text, hit_text, stop_text}
 
 -- where the thread that a move names has stopped
 abbrev pub stopped_text : FittedTrace → Option ℕ → List ℕ → List ℕ
@@ -31,6 +32,15 @@ moved_text f move to = positions_text to ++ stopped_text f (thread_moved move) t
 -- the answer to a thread that was continued, and came to this cut
 abbrev pub continued_text : FittedTrace → ℕ → Option Hit → List ℕ → List ℕ
 continued_text f t hit to = positions_text to ++ hit_text hit ++ stop_text (last_of f t) (cut_of to t) ++ codes "\n"
+
+-- a kept cut: its number, and the positions
+abbrev pub kept_line : desk.Kept → List ℕ
+kept_line k = decimal k.number ++ codes " " ++ positions_text k.cut ++ codes "\n"
+
+-- a line for each
+unfoldable pub kept_text : List desk.Kept → List ℕ
+kept_text [] = []
+kept_text (k ∷ ks) = kept_line k ++ kept_text ks
 
 -- this is answered, and the machine is then so
 abbrev pub Gives : List ℕ → Desk → List ℕ → Desk → Type 0

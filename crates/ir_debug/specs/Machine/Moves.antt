@@ -9,7 +9,7 @@ use Rattle.ir_command.specs.declared.command.Move.{Move}
 use Rattle.ir_command.specs.declared.command.Move.TheVariants.{Step, Back, Goto, Start, End}
 use Rattle.ir_fit.specs.Fit.{FittedTrace}
 use Rattle.ir_hits.specs.Hits.{IsFirstHit, IsLastHit}
-use Rattle.ir_hits.specs.declared.hit.Hit.{Hit}
+use Rattle.ir_command.specs.declared.hit.Hit.{Hit}
 use Rattle.ir_debug.specs.Machine.Desk.{Desk, threads_of, last_of, first_cut, last_cut}
 
 -- the least cut at or above this one with thread t at k or more

@@ -1,5 +1,5 @@
 -- What the bytes of an image and of a trace open, and the lines that a session begins with.
-use Rattle.std.specs.Prelude.{◌≡◌, ◌≢◌, ℕ, ◌+◌, List, [], ◌∷◌, ◌++◌, codes, decimal, Option, Some, None, Result, Ok, Err}
+use Rattle.std.specs.Prelude.{◌≡◌, ◌≢◌, ℕ, ◌+◌, List, ◌++◌, codes, decimal, Result, Ok, Err}
 use Rattle.ir_image.specs.Guest.{Guest}
 use Rattle.ir_image.specs.Reading.{guest_at}
 use Rattle.ir_image.specs.Refusal as image
@@ -10,17 +10,11 @@ use Rattle.ir_trace.specs.Reading.{recorded_at}
 use Rattle.ir_trace.specs.Refusal as trace
 use Rattle.ir_trace.specs.declared.trace_err.TraceErr.{TraceErr}
 use Rattle.ir_trace.specs.declared.trace_err.TraceErr.TheVariants as trace_err
-use Rattle.ir_coherence.specs.Numbers.{cause_number}
-use Rattle.ir_coherence.specs.declared.cause.Cause.{Cause}
 use Rattle.ir_fit.specs.Fit.{FittedTrace, HasRun, IsRefused}
-use Rattle.ir_fit.specs.Numbers.{header_cause_number}
-use Rattle.ir_fit.specs.declared.header_cause.HeaderCause.{HeaderCause}
-use Rattle.ir_runs.specs.declared.thread_verdict.ThreadVerdict.{ThreadVerdict}
-use Rattle.ir_runs.specs.declared.thread_verdict.ThreadVerdict.TheVariants.{Same, Disagrees, Starves}
 use Rattle.ir_fit.specs.declared.fit_err.FitErr.TheVariants.{Refused}
 use Rattle.ir_fit.specs.declared.verdict.Verdict.{Verdict}
-use Rattle.ir_fit.specs.declared.verdict.Verdict.TheVariants.{Header, Incoherent, Threads}
 use Rattle.ir_debug.specs.Machine.Desk.{Desk, desk_of}
+use Rattle.ir_text.specs.Verdicts.{verdict_text, number_or_zero}
 
 pub data Opening : Type 0 where
   ImageRefused : (error : ImageErr) → Opening
@@ -46,37 +40,6 @@ OpensImage (Err e) r opening = (e ≢ image_err.NoMem) × (opening ≡ ImageRefu
 -- the image is judged first, then the trace, then the fit
 unfoldable pub Opens : List ℕ → List ℕ → Opening → Type 0
 Opens image_bytes trace_bytes opening = OpensImage (guest_at image_bytes) (recorded_at trace_bytes) opening
-
-abbrev pub thread_verdict_text : ThreadVerdict → List ℕ
-thread_verdict_text Same = codes " same"
-thread_verdict_text (Disagrees event step) = codes " disagrees event " ++ decimal event ++ codes " step " ++ decimal step
-thread_verdict_text (Starves event) = codes " starves event " ++ decimal event
-
-abbrev pub thread_line : ℕ → ThreadVerdict → List ℕ
-thread_line t v = codes "thread " ++ decimal t ++ thread_verdict_text v ++ codes "\n"
-
--- a line for each thread, from this one on
-unfoldable pub threads_text : ℕ → List ThreadVerdict → List ℕ
-threads_text t [] = []
-threads_text t (v ∷ vs) = thread_line t v ++ threads_text (t + 1) vs
-
-abbrev pub header_text : HeaderCause → List ℕ
-header_text cause = codes "header differs " ++ decimal (header_cause_number cause)
-
-abbrev pub incoherent_text : ℕ → ℕ → Cause → List ℕ
-incoherent_text thread event cause = codes "incoherent thread " ++ decimal thread ++ codes " event " ++ decimal event ++ codes " cause " ++
-    decimal (cause_number cause)
-
--- the lines of a verdict
-abbrev pub verdict_text : Verdict → List ℕ
-verdict_text (Header cause) = header_text cause ++ codes "\n"
-verdict_text (Incoherent thread event cause) = incoherent_text thread event cause ++ codes "\n"
-verdict_text (Threads vs) = threads_text 0 vs.items
-
--- the number of a fault of the bytes; there is none for running out of memory
-abbrev pub number_or_zero : Option ℕ → ℕ
-number_or_zero (Some n) = n
-number_or_zero None = 0
 
 -- the lines that a session begins with
 abbrev pub opening_text : Opening → List ℕ

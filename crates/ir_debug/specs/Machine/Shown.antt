@@ -1,7 +1,6 @@
 -- What is shown of the guest at the cut.
-use Rattle.std.specs.Prelude.{ℕ, zero, suc, ◌+◌, List, [], ◌∷◌, length, take, Option, Some, None}
+use Rattle.std.specs.Prelude.{ℕ, List, length, take}
 use Rattle.ir_image.specs.Guest.{object_words}
-use Rattle.ir_mach.specs.Memory.{byte_at}
 use Rattle.ir_runs.specs.Labels.{Label}
 use Rattle.ir_thread.specs.State as thread
 use Rattle.ir_runs.specs.Run as run
@@ -9,9 +8,9 @@ use Rattle.ir_runs.specs.Cuts.{object_at}
 use Rattle.ir_cut.specs.Positions.{machine_of, start_of, cut_of}
 use Rattle.ir_command.specs.declared.command.Show.{Show}
 use Rattle.ir_command.specs.declared.command.Show.TheVariants.{Registers, Memory, Object, Output, Log, Next}
-use Rattle.ir_debug.specs.Answers.{machine_text}
+use Rattle.ir_text.specs.Answers.{machine_text}
 use Rattle.ir_debug.specs.Machine.Desk.{Desk, threads_of, position_of, thread_at}
-use Rattle.ir_debug.specs.Machine.Texts.{memory_text, output_text, object_text, log_text, next_text}
+use Rattle.ir_text.specs.Texts.{memory_text, output_text, object_text, log_text, next_text, bytes_from}
 
 -- thread t at its position
 abbrev pub current : List run.Step → Desk → ℕ → thread.State
@@ -20,16 +19,6 @@ current steps d t = thread_at d.fitted steps t (position_of d t)
 -- what thread t logged so far: of its first steps, as many as its position says
 abbrev pub logged_so_far : List run.Step → Desk → ℕ → List Label
 logged_so_far steps d t = run.events (take (position_of d t) (run.trail (machine_of d.fitted) (start_of d.fitted) steps t))
-
--- a byte that is looked at
-abbrev pub byte_or_zero : Option ℕ → ℕ
-byte_or_zero (Some b) = b
-byte_or_zero None = 0
-
--- so many bytes from an address on, of code or private memory
-unfoldable pub bytes_from : List ℕ → List ℕ → ℕ → ℕ → List ℕ
-bytes_from code memory zero address = []
-bytes_from code memory (suc n) address = byte_or_zero (byte_at code memory address) ∷ bytes_from code memory n (address + 1)
 
 -- the answer to a show that isn't refused
 unfoldable pub shown : List run.Step → Desk → Show → List ℕ

@@ -210,13 +210,13 @@ impl Follower<'_> {
         })
     }
 
-    // The next step of thread t beside the trace.
-    pub fn look(&self, t: usize) -> Look
+    // The next step of thread t, which asks for it so, beside the trace.
+    pub fn look_at(&self, t: usize, asked: Ask) -> Look
         requires thread { t < length self.now.flat.threads }
         requires emitted { t < length self.now.trace.threads }
+        requires asked { asked ≡ ask_of self.now.flat.code (thread_of self.now.flat t) }
         ensures { IsSeen self.now.trace self.now.flat t result }
     {
-        let asked = self.thread(t).ask(self.flat.code());
         if asked == Ask::Done {
             return Look::Done;
         }
@@ -230,5 +230,14 @@ impl Follower<'_> {
             Ask::End(end) => self.look_end(t, end),
             _ => self.look_own(t, asked),
         }
+    }
+
+    // The next step of thread t beside the trace.
+    pub fn look(&self, t: usize) -> Look
+        requires thread { t < length self.now.flat.threads }
+        requires emitted { t < length self.now.trace.threads }
+        ensures { IsSeen self.now.trace self.now.flat t result }
+    {
+        self.look_at(t, self.thread(t).ask(self.flat.code()))
     }
 }

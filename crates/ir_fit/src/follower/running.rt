@@ -19,8 +19,8 @@ impl Follower<'_> {
     {
         'steps: loop {
             let left = self.steps_left(t);
-            self.flat.run_instructions(t, left);
-            let look = self.look(t);
+            let (_, asked) = self.flat.run_to_ask(t, left);
+            let look = self.look_at(t, asked);
             let Look::Goes(next) = look else {
                 self.note(t, look);
                 return;

@@ -26,6 +26,7 @@ const A7: u8 = 17;
 impl Thread {
     ghost use Rattle.ir_thread.specs.Calls.{a0, a1, call_at, number_text, print_ask, logged_ask, is_object, has_word, entry_ask, leave_ask, get_ask, put_ask, call_ask, running_ask, ask_of, release_ask, Permits};
     ghost use Rattle.ir_thread.specs.Held.{held_at, highest};
+    ghost use Rattle.ir_mach.specs.Execution.{outcome_of, ran_of};
 
     // The call that the thread makes where it stands at one.
     pub(super) fn call(&self) -> Option<Call>
@@ -184,13 +185,32 @@ impl Thread {
     fn running(&self, code: &Code) -> Ask
         ensures { result ≡ running_ask code.now self.now }
     {
+        self.running_by(code, self.mach.next(code))
+    }
+
+    // The same, where it is known what its machine's next step comes to.
+    fn running_by(&self, code: &Code, ran: Ran) -> Ask
+        requires { ran ≡ ran_of (outcome_of code.now self.now.core) }
+        ensures { result ≡ running_ask code.now self.now }
+    {
         if self.steps >= self.budget {
             return Ask::End(End::BudgetSpent);
         }
-        match self.mach.next(code) {
+        match ran {
             Ran::Ran => Ask::Private,
             Ran::Call => self.calling(),
             Ran::Fault(fault) => Ask::End(End::from(fault)),
+        }
+    }
+
+    // What the thread asks, where it is known what its machine's next step comes to.
+    pub(super) fn asked_by(&self, code: &Code, ran: Ran) -> Ask
+        requires { self.now.ended ≡ None → ran ≡ ran_of (outcome_of code.now self.now.core) }
+        ensures { result ≡ ask_of code.now self.now }
+    {
+        match self.ended {
+            Some(_) => self.releasing(),
+            None => self.running_by(code, ran),
         }
     }
 

@@ -1,5 +1,5 @@
 use Rattle.std.proofs.Common.{arith, ◌∙◌}
-use Rattle.ir_debug.proofs.Buffers.{line_written, line_failed, none_left}
+use Rattle.ir_text.proofs.CallerLemmas.{line_written, line_failed, none_left}
 use Rattle.ir_debug.proofs.KeptCuts.{lines_next, lines_none}
 use Rattle.ir_debug.proofs.answering.write_kept.Goals as goal
 

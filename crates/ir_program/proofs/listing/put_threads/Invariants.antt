@@ -1,5 +1,5 @@
 use Rattle.std.proofs.Common.{◌≡◌, false, drop}
-use Rattle.ir_debug.specs.Buffered.{Buffered}
+use Rattle.ir_text.specs.Buffered.{Buffered}
 use Rattle.ir_program.specs.Listing.{threads_listing}
 use Rattle.ir_program.proofs.listing.put_threads.Given as goal
 

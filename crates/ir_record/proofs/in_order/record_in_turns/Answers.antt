@@ -39,10 +39,10 @@ into_trace-requires-clause-profile g c = profiles_there (over g c)
 
 pub returns-clause-recorded : goal.returns-clause-recorded
 returns-clause-recorded g c =
-    recorded_there (over g c.before.before.before.before) (map g.W.World.broken c.record.new.self.worlds.items)
+    recorded_there (over g c.before.before.before.before.before) (map g.W.World.broken c.record.new.self.worlds.items)
     c.in_default.ensures.ready c.in_ok-trace.trace c.in_ok-trace.ensures.objects c.in_ok-trace.ensures.limit
     c.in_ok-trace.ensures.profile c.in_ok-trace.ensures.threads
-    _ (c.in_ok-outputs.ensures.bytes ∙ ap (map (λ x. x.output)) c.threads-2.ensures.value)
+    _ (c.in_ok-outputs.ensures.bytes ∙ ap (map (λ x. x.output)) c.threads-3.ensures.value)
     _ (mapped_twice g.W.World.answers (λ o. o.world) c.in_ok-outputs.outputs.each.items c.record.new.self.worlds.items
     c.in_ok-outputs.ensures.worlds)
 

@@ -1,5 +1,6 @@
-use Rattle.std.proofs.Common.{◌≡◌, ℕ, List, length, map, true, Some, sym, ap, ◌∙◌, subst, arith}
+use Rattle.std.proofs.Common.{◌≡◌, ℕ, List, length, map, true, sym, ap, ◌∙◌, subst, arith}
 use Rattle.ir_record.specs.Turns.{order_of_turns}
+use Rattle.ir_record_run.specs.Plan.{Plan}
 use Rattle.ir_record_run.specs.Recording.{IsRecordedOf}
 use Rattle.ir_record_run.specs.Sources.{made_with}
 use Rattle.ir_record_run.proofs.Fresh.{many, answered_by, recorded_from}
@@ -8,21 +9,22 @@ use Rattle.ir_record_run.proofs.recording.recorded_in_order.Goals as goal
 pub record_in_turns-requires-clause-each : goal.record_in_turns-requires-clause-each
 record_in_turns-requires-clause-each g c =
     let count : length c.in_ok-worlds.worlds.items ≡ length c.entries-threads.result.now =
-    many (λ w. made_with w.time w.seed w.file.now) c.in_ok-worlds.worlds.items true c.args.random c.args.file.now
+    many (λ w. made_with w.time w.seed w.file.now) c.in_ok-worlds.worlds.items true c.plan.inside.random c.plan.inside.input.now
     (length c.entries-threads.result.now) c.in_ok-worlds.ensures.origins in
     let same : length c.entries-threads.result.now ≡ length c.in_ok-image.image.entries =
     ap (λ (z : List ℕ). length z) c.entries-threads.ensures.value in
     omega (arith, count, same, c.in_ok-worlds.worlds.ok)
 
 pub returns-in-Ok-clause-recorded : goal.returns-in-Ok-clause-recorded
-returns-in-Ok-clause-recorded g c = subst (λ (z : List (List ℕ)). IsRecordedOf c.args.image.now (Some c.args.list.now) c.args.budget c.args.profile
-    c.args.random c.args.file.now c.in-Ok.trace z) (sym c.in_ok-printed-in-Ok.ensures)
-    (recorded_from c.args.image.now c.args.list.now c.args.budget c.args.profile c.args.random c.args.file.now c.in_ok-image.image
+returns-in-Ok-clause-recorded g c = subst (λ (z : List (List ℕ)). IsRecordedOf c.args.image.now c.args.plan.now
+    c.in-Ok.trace z) (sym c.in_ok-printed-in-Ok.ensures)
+    (subst (λ (p : Plan). IsRecordedOf c.args.image.now p c.in-Ok.trace (map (λ o. o.bytes.items) c.in-Ok.outputs.each.items)) c.plan.view_is
+    (recorded_from c.args.image.now c.args.list.now _ c.in_ok-image.image
     c.entries-threads.result.now (order_of_turns c.in_ok-order.order.items) (order_of_turns c.as_slice.result.now)
     (map (λ w. w.answers.items) c.in_ok-worlds.worlds.items) c.in-Ok.trace
     (map (λ o. o.bytes.items) c.in-Ok.outputs.each.items) (map (λ o. o.world.answers.items) c.in-Ok.outputs.each.items)
-    c.in_ok-image.ensures.exact c.entries-threads.ensures.value c.in_ok-order.ensures.spelled (ap order_of_turns c.as_slice.ensures.value)
+    (ap (λ (p : Plan). p.order) c.plan.view_is ∙ c.requires) c.in_ok-image.ensures.exact c.entries-threads.ensures.value c.in_ok-order.ensures.spelled (ap order_of_turns c.as_slice.ensures.value)
     c.in_ok-worlds.ensures.fresh c.in-Ok.ensures.recorded
     (answered_by (λ o. made_with o.world.time o.world.seed o.world.file.now) (λ o. o.world.answers.items) (λ o. (o.world.sources, o.world.gave))
-    true c.args.random c.args.file.now c.in-Ok.outputs.each.items (length c.entries-threads.result.now)
-    (c.in-Ok.ensures.origins ∙ c.in_ok-worlds.ensures.origins)))
+    true c.plan.inside.random c.plan.inside.input.now c.in-Ok.outputs.each.items (length c.entries-threads.result.now)
+    (c.in-Ok.ensures.origins ∙ c.in_ok-worlds.ensures.origins))))

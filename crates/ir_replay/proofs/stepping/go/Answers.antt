@@ -5,38 +5,38 @@ use Rattle.ir_replay.proofs.stepping.go.Goals as goal
 
 pub returns-then-taken-most-clause-under : goal.returns-then-taken-most-clause-under
 returns-then-taken-most-clause-under g c =
-    alone_under c.args.fitted.now c.args.target.now c.steps.flat c.run_instructions-taken.new.self c.args.t c.run_instructions-taken.result
+    alone_under c.args.fitted.now c.args.target.now c.steps.flat c.run_to_ask-more.new.self c.args.t c.run_to_ask-more.result.0
     c.requires.target c.steps.invariant.under
-    (let a = c.run_instructions-taken.ensures.within in let b = c.left.ensures in let m = c.min-limit.ensures in omega (arith, a, b, m))
-    c.run_instructions-taken.ensures.went
+    (let a = c.run_to_ask-more.ensures.within in let b = c.left.ensures in let m = c.min-limit.ensures in omega (arith, a, b, m))
+    c.run_to_ask-more.ensures.went
 
 pub returns-then-taken-most-clause-gone : goal.returns-then-taken-most-clause-gone
-returns-then-taken-most-clause-gone g c = alone_on c.args.flat.now c.steps.flat c.run_instructions-taken.new.self c.args.t c.steps.taken
-    c.run_instructions-taken.result c.steps.invariant.gone c.run_instructions-taken.ensures.went
+returns-then-taken-most-clause-gone g c = alone_on c.args.flat.now c.steps.flat c.run_to_ask-more.new.self c.args.t c.steps.taken
+    c.run_to_ask-more.result.0 c.steps.invariant.gone c.run_to_ask-more.ensures.went
 
-pub step-requires-clause-under : goal.step-requires-clause-under
-step-requires-clause-under g c =
-    alone_under c.args.fitted.now c.args.target.now c.steps.flat c.run_instructions-taken.new.self c.args.t c.run_instructions-taken.result
+pub step_asked-requires-clause-under : goal.step_asked-requires-clause-under
+step_asked-requires-clause-under g c =
+    alone_under c.args.fitted.now c.args.target.now c.steps.flat c.run_to_ask-more.new.self c.args.t c.run_to_ask-more.result.0
     c.requires.target c.steps.invariant.under
-    (let a = c.run_instructions-taken.ensures.within in let b = c.left.ensures in let m = c.min-limit.ensures in omega (arith, a, b, m))
-    c.run_instructions-taken.ensures.went
+    (let a = c.run_to_ask-more.ensures.within in let b = c.left.ensures in let m = c.min-limit.ensures in omega (arith, a, b, m))
+    c.run_to_ask-more.ensures.went
 
-pub returns-then-not-step-clause-gone : goal.returns-then-not-step-clause-gone
-returns-then-not-step-clause-gone g c =
-    none_on c.args.flat.now c.run_instructions-taken.new.self c.step.new.flat c.args.t _
-    (alone_on c.args.flat.now c.steps.flat c.run_instructions-taken.new.self c.args.t c.steps.taken c.run_instructions-taken.result
-    c.steps.invariant.gone c.run_instructions-taken.ensures.went) (c.step.ensures.same c.if-not-step.true)
+pub returns-then-not-step_asked-clause-gone : goal.returns-then-not-step_asked-clause-gone
+returns-then-not-step_asked-clause-gone g c =
+    none_on c.args.flat.now c.run_to_ask-more.new.self c.step_asked.new.flat c.args.t _
+    (alone_on c.args.flat.now c.steps.flat c.run_to_ask-more.new.self c.args.t c.steps.taken c.run_to_ask-more.result.0
+    c.steps.invariant.gone c.run_to_ask-more.ensures.went) (c.step_asked.ensures.same c.if-not-step_asked.true)
 
 pub steps-preserved : goal.steps-preserved
 steps-preserved g c =
-    let went = c.run_instructions-taken.ensures.within in
+    let went = c.run_to_ask-more.ensures.within in
     let m = c.min-limit.ensures in
     let less = c.if-taken-most.false in
     let i = c.steps.invariant.within in
     record {
-      under = c.step.ensures.under;
-      gone = step_on c.args.flat.now c.run_instructions-taken.new.self c.step.new.flat c.args.t _
-          (alone_on c.args.flat.now c.steps.flat c.run_instructions-taken.new.self c.args.t c.steps.taken c.run_instructions-taken.result
-          c.steps.invariant.gone c.run_instructions-taken.ensures.went) (c.step.ensures.gone c.if-not-step.false);
+      under = c.step_asked.ensures.under;
+      gone = step_on c.args.flat.now c.run_to_ask-more.new.self c.step_asked.new.flat c.args.t _
+          (alone_on c.args.flat.now c.steps.flat c.run_to_ask-more.new.self c.args.t c.steps.taken c.run_to_ask-more.result.0
+          c.steps.invariant.gone c.run_to_ask-more.ensures.went) (c.step_asked.ensures.gone c.if-not-step_asked.false);
       within = omega (arith, went, m, less, i);
     }

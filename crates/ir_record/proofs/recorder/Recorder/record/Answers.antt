@@ -27,3 +27,6 @@ returns-in_err-rounds-clause-kept g c = worlds_on c.follow.ensures.kept c.rounds
 
 pub rounds-requires-clause-level : goal.rounds-requires-clause-level
 rounds-requires-clause-level g c = c.requires.level ∙ ap (λ n. replicate n 0) (sym c.in_ok-follow.ensures.took.threads)
+
+pub rounds-requires-clause-asks : goal.rounds-requires-clause-asks
+rounds-requires-clause-asks g c = c.requires.asks ∙ sym c.in_ok-follow.ensures.took.threads

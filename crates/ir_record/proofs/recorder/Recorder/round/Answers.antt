@@ -19,6 +19,7 @@ loop-t-init g c = record {
   passing = none_passed c.new-pass.result c.args.ahead.now.items c.args.self.now.tape.flat;
   each = c.requires.each;
   threads = refl;
+  asks = c.requires.asks;
   ready = c.requires.ready;
   kept = same_worlds;
 }
@@ -61,6 +62,7 @@ loop-t-preserved g c = record {
       (subst (λ k. Noted c.in_ok-turned.turned k c.loop-t.pass c.note.new.self) (sym here) c.note.ensures);
   each = c.in_ok-turned.ensures.each;
   threads = c.in_ok-turned.ensures.threads ∙ c.loop-t.invariant.threads;
+  asks = c.in_ok-turned.ensures.asks;
   ready = c.in_ok-turned.ensures.ready;
   kept = worlds_on c.loop-t.invariant.kept c.turn_ahead.ensures.kept;
 }

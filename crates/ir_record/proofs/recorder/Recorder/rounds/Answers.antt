@@ -16,6 +16,7 @@ rounds-init g c =
     record {
       went = subst (Rounding n a a) (sym c.requires.level) (first_round n a);
       each = ap (λ xs. length xs) c.requires.level ∙ length-replicate {A = ℕ} n 0;
+      asks = c.ask_all.ensures;
       ready = c.requires.ready;
       kept = same_worlds;
     }
@@ -31,6 +32,7 @@ pub rounds-preserved : goal.rounds-preserved
 rounds-preserved g c = record {
   went = (skipped g c).rounding;
   each = c.lower.ensures.size ∙ c.in_ok-pass.ensures.each;
+  asks = c.in_ok-pass.ensures.asks;
   ready = c.in_ok-pass.ensures.ready;
   kept = worlds_on c.rounds.invariant.kept c.round.ensures.kept;
 }

@@ -1,8 +1,9 @@
 use Rattle.std.proofs.Common.{◌≡◌, ◌<◌, ◌-◌, ℕ, suc, List, [], ◌∷◌, length, set, sym, ◌∙◌, subst, arith, length-set, true}
-use Rattle.ir_record.specs.Ahead.{lead, WentIf}
+use Rattle.ir_record.specs.Ahead.{lead, AreAsks, WentIf}
 use Rattle.ir_record.specs.Progress.{Progress, TookIf}
 use Rattle.ir_record.specs.Recorders.{progress_of}
 use Rattle.ir_record.proofs.Going.{at_lead, has_none, turn_spent, turn_stays, turn_steps}
+use Rattle.ir_record.proofs.Kept.{at_ask, asks_on}
 use Rattle.ir_record.proofs.recorder.Recorder.turn_ahead.Goals as goal
 
 pub returns-then-lead-gt0-clause-went : goal.returns-then-lead-gt0-clause-went
@@ -20,42 +21,57 @@ returns-then-not-branch-clause-went g c = λ s h.
     let here : lead c.args.ahead.now.items c.args.t ≡ c.index-lead.result.now =
     at_lead c.args.ahead.now.items c.args.t c.index-lead.result.now l c.index-lead.ensures in
     turn_stays s (progress_of g.W.World.answers c.args.self.now)
-    (progress_of g.W.World.answers c.turn.new.self) c.args.ahead.now.items c.args.t
-    c.in_ok-turn.field-0 c.if-not-branch.true
-    (omega (arith, here, c.if-lead-gt0.false)) h c.in_ok-turn.ensures.took
+    (progress_of g.W.World.answers c.turn_asked.new.self) c.args.ahead.now.items c.args.t
+    c.in_ok-turn_asked.field-0 c.if-not-branch.true
+    (omega (arith, here, c.if-lead-gt0.false)) h c.in_ok-turn_asked.ensures.took
 
 pub returns-clause-went : goal.returns-clause-went
 returns-clause-went g c = λ s h.
     let a : Progress = progress_of g.W.World.answers c.args.self.now in
-    let b : Progress = progress_of g.W.World.answers c.turn.new.self in
+    let b : Progress = progress_of g.W.World.answers c.turn_asked.new.self in
     let ahead : List ℕ = c.args.ahead.now.items in
     let l : c.args.t < length ahead = omega (arith, c.requires.each, c.requires.thread) in
     let here : lead ahead c.args.t ≡ c.index-lead.result.now = at_lead ahead c.args.t c.index-lead.result.now l c.index-lead.ensures in
     let took : TookIf true (c.args.t ∷ []) a b =
-    subst (λ z. TookIf z (c.args.t ∷ []) a b) c.if-not-branch.false c.in_ok-turn.ensures.took in
-    subst (λ ls. WentIf true (c.args.t ∷ []) s a ahead (record b { flat = c.run.new.self.flat; logs = ls.items })
-    (set ahead c.args.t c.run.result)) (sym c.run.ensures.logs)
-    (turn_steps s a b c.run.new.self.flat ahead c.args.t c.run.result l c.requires.thread c.run.ensures.flat
-    (omega (arith, here, c.if-lead-gt0.false)) h took c.run.ensures.alone)
+    subst (λ z. TookIf z (c.args.t ∷ []) a b) c.if-not-branch.false c.in_ok-turn_asked.ensures.took in
+    subst (λ ls. WentIf true (c.args.t ∷ []) s a ahead (record b { flat = c.run-ran.new.self.flat; logs = ls.items })
+    (set ahead c.args.t c.run-ran.result.0)) (sym c.run-ran.ensures.logs)
+    (turn_steps s a b c.run-ran.new.self.flat ahead c.args.t c.run-ran.result.0 l c.requires.thread c.run-ran.ensures.flat
+    (omega (arith, here, c.if-lead-gt0.false)) h took c.run-ran.ensures.alone)
 
 pub returns-then-lead-gt0-clause-each : goal.returns-then-lead-gt0-clause-each
 returns-then-lead-gt0-clause-each g c = length-set c.args.ahead.now.items c.args.t _ ∙ c.requires.each
 
 pub returns-then-not-branch-clause-each : goal.returns-then-not-branch-clause-each
-returns-then-not-branch-clause-each g c = c.requires.each ∙ sym c.in_ok-turn.ensures.took.took.threads
+returns-then-not-branch-clause-each g c = c.requires.each ∙ sym c.in_ok-turn_asked.ensures.took.took.threads
 
 pub returns-then-not-branch-clause-threads : goal.returns-then-not-branch-clause-threads
-returns-then-not-branch-clause-threads g c = c.in_ok-turn.ensures.took.took.threads
+returns-then-not-branch-clause-threads g c = c.in_ok-turn_asked.ensures.took.took.threads
 
 pub returns-clause-each : goal.returns-clause-each
 returns-clause-each g c = length-set c.args.ahead.now.items c.args.t _ ∙ c.requires.each
-    ∙ sym (c.run.ensures.alone.threads ∙ c.in_ok-turn.ensures.took.took.threads)
+    ∙ sym (c.run-ran.ensures.alone.threads ∙ c.in_ok-turn_asked.ensures.took.took.threads)
 
 pub returns-clause-threads : goal.returns-clause-threads
-returns-clause-threads g c = c.run.ensures.alone.threads ∙ c.in_ok-turn.ensures.took.took.threads
+returns-clause-threads g c = c.run-ran.ensures.alone.threads ∙ c.in_ok-turn_asked.ensures.took.took.threads
 
 pub returns-then-not-branch-clause-waits : goal.returns-then-not-branch-clause-waits
 returns-then-not-branch-clause-waits g c = λ is.
     let a : Progress = progress_of g.W.World.answers c.args.self.now in
-    let b : Progress = progress_of g.W.World.answers c.turn.new.self in
-    has_none a b c.args.t c.in_ok-turn.field-0 c.if-not-branch.true c.in_ok-turn.ensures.took
+    let b : Progress = progress_of g.W.World.answers c.turn_asked.new.self in
+    has_none a b c.args.t c.in_ok-turn_asked.field-0 c.if-not-branch.true c.in_ok-turn_asked.ensures.took
+
+pub turn_asked-requires-clause-asked : goal.turn_asked-requires-clause-asked
+turn_asked-requires-clause-asked g c =
+    let l : c.args.t < length c.args.asks.now.items = omega (arith, c.requires.asks.places, c.requires.thread) in
+    sym (at_ask c.args.asks.now.items c.args.t c.index.result.now l c.index.ensures) ∙ c.requires.asks.asked c.args.t c.requires.thread
+
+pub returns-then-not-branch-clause-asks : goal.returns-then-not-branch-clause-asks
+returns-then-not-branch-clause-asks g c =
+    subst (AreAsks c.args.asks.now.items) (sym (c.in_ok-turn_asked.ensures.none c.if-not-branch.true)) c.requires.asks
+
+pub returns-clause-asks : goal.returns-clause-asks
+returns-clause-asks g c = asks_on c.args.asks.now.items (progress_of g.W.World.answers c.args.self.now)
+    (progress_of g.W.World.answers c.turn_asked.new.self) c.run-ran.new.self.flat c.args.t c.run-ran.result.0 c.run-ran.result.1
+    c.in_ok-turn_asked.field-0 c.requires.thread c.requires.asks c.run-ran.ensures.still_flat c.in_ok-turn_asked.ensures.took
+    c.run-ran.ensures.alone c.run-ran.ensures.asked

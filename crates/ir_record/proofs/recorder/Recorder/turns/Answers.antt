@@ -26,14 +26,14 @@ returns-then-t-threads-clause-took g c =
     (let e : length c.threads.result.now ≡ length c.turns.self.tape.flat.threads = ap (λ xs. length xs) c.threads.ensures.value in
     omega (arith, e, c.if-t-threads.true)))
 
-pub turn-requires-clause-ready : goal.turn-requires-clause-ready
-turn-requires-clause-ready g c =
-    ready_after (replicate c.run-ran.result c.args.t) (progress_of g.W.World.answers c.turns.self)
+pub turn_asked-requires-clause-ready : goal.turn_asked-requires-clause-ready
+turn_asked-requires-clause-ready g c =
+    ready_after (replicate c.run-ran.result.0 c.args.t) (progress_of g.W.World.answers c.turns.self)
     (progress c.run-ran.new.self (map g.W.World.answers c.turns.self.worlds.items)) (map g.W.World.broken c.turns.self.worlds.items)
     c.turns.invariant.ready (c.run-ran.ensures.took (map g.W.World.answers c.turns.self.worlds.items)) c.run-ran.ensures.tape refl
 
-pub turn-requires-clause-thread : goal.turn-requires-clause-thread
-turn-requires-clause-thread g c =
+pub turn_asked-requires-clause-thread : goal.turn_asked-requires-clause-thread
+turn_asked-requires-clause-thread g c =
     let e : length c.threads.result.now ≡ length c.turns.self.tape.flat.threads = ap (λ xs. length xs) c.threads.ensures.value in
     let ran = c.run-ran.ensures.took (map g.W.World.answers c.turns.self.worlds.items) in
     omega (arith, e, ran.threads, c.if-t-threads.false)
@@ -43,34 +43,34 @@ returns-then-not-branch-clause-took g c =
     let entry : Progress = progress_of g.W.World.answers c.args.self.now in
     let before : Progress = progress_of g.W.World.answers c.turns.self in
     let ran : Progress = progress c.run-ran.new.self (map g.W.World.answers c.turns.self.worlds.items) in
-    let new : Progress = progress_of g.W.World.answers c.turn.new.self in
+    let new : Progress = progress_of g.W.World.answers c.turn_asked.new.self in
     let few = c.turns.invariant.few in
     let within = c.run-ran.ensures.within in
-    turns_rest c.args.t c.args.count (c.turns.left - (c.run-ran.result + 1)) entry new (omega (arith, few))
-    (turns_more c.args.t c.args.count c.turns.left c.run-ran.result entry before ran new c.in_ok-turn.field-0 few
+    turns_rest c.args.t c.args.count (c.turns.left - (c.run-ran.result.0 + 1)) entry new (omega (arith, few))
+    (turns_more c.args.t c.args.count c.turns.left c.run-ran.result.0 entry before ran new c.in_ok-turn_asked.field-0 few
     (omega (arith, c.turns-test.true)) (omega (arith, within)) c.turns.invariant.took
-    (c.run-ran.ensures.took (map g.W.World.answers c.turns.self.worlds.items)) c.in_ok-turn.ensures.took)
-    (none_after c.args.t ran new c.in_ok-turn.field-0 c.if-not-branch.true c.in_ok-turn.ensures.took)
+    (c.run-ran.ensures.took (map g.W.World.answers c.turns.self.worlds.items)) c.in_ok-turn_asked.ensures.took)
+    (none_after c.args.t ran new c.in_ok-turn_asked.field-0 c.if-not-branch.true c.in_ok-turn_asked.ensures.took)
 
 pub turns-preserved : goal.turns-preserved
 turns-preserved g c =
     let entry : Progress = progress_of g.W.World.answers c.args.self.now in
     let before : Progress = progress_of g.W.World.answers c.turns.self in
     let ran : Progress = progress c.run-ran.new.self (map g.W.World.answers c.turns.self.worlds.items) in
-    let new : Progress = progress_of g.W.World.answers c.turn.new.self in
+    let new : Progress = progress_of g.W.World.answers c.turn_asked.new.self in
     let few = c.turns.invariant.few in
     let within = c.run-ran.ensures.within in
     record {
       few = omega (arith, few);
-      took = turns_more c.args.t c.args.count c.turns.left c.run-ran.result entry before ran new c.in_ok-turn.field-0 few
+      took = turns_more c.args.t c.args.count c.turns.left c.run-ran.result.0 entry before ran new c.in_ok-turn_asked.field-0 few
           (omega (arith, c.turns-test.true)) (omega (arith, within)) c.turns.invariant.took
-          (c.run-ran.ensures.took (map g.W.World.answers c.turns.self.worlds.items)) c.in_ok-turn.ensures.took;
-      ready = c.in_ok-turn.ensures.ready;
-      kept = worlds_on c.turns.invariant.kept c.turn.ensures.kept;
+          (c.run-ran.ensures.took (map g.W.World.answers c.turns.self.worlds.items)) c.in_ok-turn_asked.ensures.took;
+      ready = c.in_ok-turn_asked.ensures.ready;
+      kept = worlds_on c.turns.invariant.kept c.turn_asked.ensures.kept;
     }
 
 pub returns-then-not-branch-clause-kept : goal.returns-then-not-branch-clause-kept
-returns-then-not-branch-clause-kept g c = worlds_on c.turns.invariant.kept c.turn.ensures.kept
+returns-then-not-branch-clause-kept g c = worlds_on c.turns.invariant.kept c.turn_asked.ensures.kept
 
-pub returns-in_err-turn-clause-kept : goal.returns-in_err-turn-clause-kept
-returns-in_err-turn-clause-kept g c = worlds_on c.turns.invariant.kept c.turn.ensures.kept
+pub returns-in_err-turn_asked-clause-kept : goal.returns-in_err-turn_asked-clause-kept
+returns-in_err-turn_asked-clause-kept g c = worlds_on c.turns.invariant.kept c.turn_asked.ensures.kept

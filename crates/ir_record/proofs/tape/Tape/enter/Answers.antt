@@ -25,6 +25,10 @@ pub returns-then-is_err-clause-tape : goal.returns-then-is_err-clause-tape
 returns-then-is_err-clause-tape c = waits_tape c.args.self.now.flat c.take.new.self c.args.self.now.logs.items c.requires.tape
     (refused c.take.result c.is_err.result _ c.is_err.ensures.value c.if-is_err.true c.take.ensures.unchanged)
 
+pub returns-then-is_err-clause-waits : goal.returns-then-is_err-clause-waits
+returns-then-is_err-clause-waits c = λ none.
+    refused c.take.result c.is_err.result _ c.is_err.ensures.value c.if-is_err.true c.take.ensures.unchanged
+
 pub push-requires : goal.push-requires
 push-requires c = has_room c.args.self.now.flat c.args.self.now.logs.items c.args.t c.index_mut.result.now c.requires.tape c.requires.thread
     (log_found c.args.self.now.flat c.args.self.now.logs.items c.args.t c.index_mut.result.now c.requires.tape c.requires.thread

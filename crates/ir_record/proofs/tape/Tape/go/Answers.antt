@@ -1,6 +1,6 @@
 use Rattle.std.proofs.Common.{sym, subst}
 use Rattle.ir_record.specs.Progress.{IsQuiet}
-use Rattle.ir_record.proofs.Entering.{Gone, gone}
+use Rattle.ir_record.proofs.Entering.{Gone, gone, not_ok}
 use Rattle.ir_record.proofs.tape.Tape.go.Goals as goal
 
 all : (c : goal.After-is_ok) → Gone c.args.self.now.flat c.take.new.self c.args.self.now.logs.items c.args.t c.is_ok.result
@@ -14,3 +14,6 @@ returns-clause-took c = (all c).took
 
 pub returns-clause-tape : goal.returns-clause-tape
 returns-clause-tape c = (all c).tape
+
+pub returns-clause-none : goal.returns-clause-none
+returns-clause-none c = λ none. not_ok c.take.result c.is_ok.result _ c.is_ok.ensures.value none c.take.ensures.unchanged

@@ -1,0 +1,80 @@
+//! `ir asm`: a source in a file is assembled into another.
+
+ghost use Rattle.std.specs.Prelude.{◌≡◌, false};
+
+use crate::assembling::asm_run;
+use crate::commands::{bytes_of, is_lost, say};
+use crate::dispatch::{BAD_ARGUMENTS, DONE, FAULT};
+use ir_arguments::AssemblyArguments;
+use ir_files::{Folder, MOST_BYTES, WholeFile, WholeSink, path_beside};
+use ir_stream::Sink;
+use std::alloc::Global;
+
+// Whether an image, or what it is written to first, would be written over its source.
+fn loses_source<D: Folder, E: Sink>(
+    folder: &D,
+    faults: &mut E,
+    source: &str,
+    image: &str,
+    first: &str,
+) -> bool
+    ensures kept { result ≡ false → faults.new ≡ faults.old }
+{
+    is_lost(
+        folder,
+        faults,
+        "IMAGE would be written over SOURCE",
+        source,
+        image,
+    ) || is_lost(
+        folder,
+        faults,
+        "IMAGE.part would be written over SOURCE",
+        source,
+        first,
+    )
+}
+
+// Assembles a file into another, which stands in its place only once it is whole.
+pub fn assemble_file<D: Folder, E: Sink>(
+    alloc: Global,
+    folder: &D,
+    arguments: &AssemblyArguments,
+    explains: bool,
+    faults: &mut E,
+) -> u8
+    requires reports { E.broken faults.old ≡ false }
+{
+    let source = arguments.source.as_str();
+    let image = arguments.image.as_str();
+    let Ok(beside) = path_beside(alloc, image) else {
+        say(faults, "memory ran out", "", "");
+        return FAULT;
+    };
+    let mut file = WholeFile::new(folder, image, beside.as_str());
+    if loses_source(folder, faults, source, image, file.first_place()) {
+        return BAD_ARGUMENTS;
+    }
+    let Some(bytes) = bytes_of(alloc, folder, faults, source, MOST_BYTES) else {
+        return FAULT;
+    };
+    // A name that would part the line, or lead a terminal, isn't shown.
+    let name = if source.chars().any(|c| c.is_control()) {
+        "SOURCE"
+    } else {
+        source
+    };
+    let explained = (explains || arguments.explain).then_some(name);
+    let status = asm_run(alloc, bytes.as_slice(), explained, &mut file, faults);
+    if status == DONE {
+        let _ = file.finish();
+    }
+    if file.failed() {
+        say(faults, image, " can't be written: ", file.why());
+        return FAULT;
+    }
+    if status == FAULT {
+        say(faults, source, ": ", "memory ran out");
+    }
+    status
+}

@@ -1,0 +1,50 @@
+//! `ir debug`: a session over an image and a trace in files.
+
+ghost use Rattle.std.specs.Prelude.{◌≡◌, false};
+
+use crate::commands::bytes_of;
+use crate::debugging::debug_run;
+use crate::dispatch::FAULT;
+use ir_debug::{Sink, Source};
+use ir_files::{Folder, MOST_BYTES};
+use std::alloc::Global;
+use std::thread::Threads;
+use std::time::Clock;
+
+// The session of an image and a trace in files.
+pub fn debug_files<R, D, I, O, E>(
+    rt: &R,
+    alloc: Global,
+    folder: &D,
+    image: &str,
+    trace: &str,
+    reader: &mut I,
+    out: &mut O,
+    faults: &mut E,
+) -> u8
+where
+    R: Threads + Clock + Sync,
+    D: Folder,
+    I: Source,
+    O: Sink,
+    E: Sink,
+    requires reads { I.broken reader.old ≡ false }
+    requires writes { O.broken out.old ≡ false }
+    requires reports { E.broken faults.old ≡ false }
+{
+    let Some(image) = bytes_of(alloc, folder, faults, image, MOST_BYTES) else {
+        return FAULT;
+    };
+    let Some(trace) = bytes_of(alloc, folder, faults, trace, MOST_BYTES) else {
+        return FAULT;
+    };
+    debug_run(
+        rt,
+        alloc,
+        image.as_slice(),
+        trace.as_slice(),
+        reader,
+        out,
+        faults,
+    )
+}

@@ -1,0 +1,228 @@
+//! `ir record`: a guest in a file is recorded, its trace and what its threads print go into others.
+
+ghost use Rattle.std.specs.Prelude.{◌≡◌, OnSome, OnOk, false};
+
+use crate::commands::{bytes_of, is_lost, say};
+use crate::dispatch::{BAD_ARGUMENTS, FAULT};
+use ir_arguments::RecordArguments;
+use ir_files::{
+    Folder, MOST_BYTES, MOST_INPUT, OutputFiles, WholeFile, WholeSink, output_paths, path_beside,
+};
+use ir_image::{ImageErr, read_image};
+use ir_object::Gate;
+use ir_record_run::record_run;
+use ir_stream::Sink;
+use std::alloc::{AllocError, Global};
+use std::sync::Wait;
+use std::thread::Threads;
+use std::time::Clock;
+
+// The bytes that guests read, none without a file.
+fn input_of<D: Folder, E: Sink>(
+    alloc: Global,
+    folder: &D,
+    faults: &mut E,
+    arguments: &RecordArguments,
+) -> Option<Vec<u8>>
+    ensures kept { OnSome result (faults.new ≡ faults.old) }
+{
+    match &arguments.input {
+        Some(path) => bytes_of(alloc, folder, faults, path.as_str(), MOST_INPUT),
+        None => Some(Vec::new(alloc)),
+    }
+}
+
+// Whether a recording's trace, or what it is written to first, would be written over one of the files that it reads.
+fn loses_input<D: Folder, E: Sink>(
+    folder: &D,
+    faults: &mut E,
+    arguments: &RecordArguments,
+    first: &str,
+) -> bool
+    ensures kept { result ≡ false → faults.new ≡ faults.old }
+{
+    let trace = arguments.trace.as_str();
+    let image = arguments.image.as_str();
+    if is_lost(
+        folder,
+        faults,
+        "TRACE would be written over IMAGE",
+        image,
+        trace,
+    ) || is_lost(
+        folder,
+        faults,
+        "TRACE.part would be written over IMAGE",
+        image,
+        first,
+    ) {
+        return true;
+    }
+    match &arguments.input {
+        Some(file) => {
+            let file = file.as_str();
+            is_lost(
+                folder,
+                faults,
+                "TRACE would be written over FILE",
+                file,
+                trace,
+            ) || is_lost(
+                folder,
+                faults,
+                "TRACE.part would be written over FILE",
+                file,
+                first,
+            )
+        }
+        None => false,
+    }
+}
+
+// The paths of what the threads of an image print, if they are asked for. Bytes that are no image have no threads.
+fn paths_of(
+    alloc: Global,
+    arguments: &RecordArguments,
+    image: &[u8],
+) -> Result<Option<Vec<String>>, AllocError> {
+    let Some(prefix) = &arguments.output else {
+        return Ok(None);
+    };
+    let threads = match read_image(alloc, image) {
+        Ok(image) => image.entries().len(),
+        Err(ImageErr::NoMem) => return Err(AllocError),
+        Err(_) => 0,
+    };
+    Ok(Some(output_paths(alloc, prefix.as_str(), threads)?))
+}
+
+// Whether what a thread prints would be written over another file of its recording.
+fn loses_other<D: Folder, E: Sink>(
+    folder: &D,
+    faults: &mut E,
+    arguments: &RecordArguments,
+    path: &str,
+) -> bool
+    ensures kept { result ≡ false → faults.new ≡ faults.old }
+{
+    let image = arguments.image.as_str();
+    let trace = arguments.trace.as_str();
+    if is_lost(
+        folder,
+        faults,
+        "PREFIX.T would be written over IMAGE",
+        image,
+        path,
+    ) || is_lost(
+        folder,
+        faults,
+        "PREFIX.T would be written over TRACE",
+        trace,
+        path,
+    ) {
+        return true;
+    }
+    match &arguments.input {
+        Some(file) => is_lost(
+            folder,
+            faults,
+            "PREFIX.T would be written over FILE",
+            file.as_str(),
+            path,
+        ),
+        None => false,
+    }
+}
+
+// The same of any of these threads.
+fn any_loses<D: Folder, E: Sink>(
+    folder: &D,
+    faults: &mut E,
+    arguments: &RecordArguments,
+    paths: &[String],
+) -> bool
+    ensures kept { result ≡ false → faults.new ≡ faults.old }
+{
+    for path in paths {
+        if loses_other(folder, faults, arguments, path.as_str()) {
+            return true;
+        }
+    }
+    false
+}
+
+// The paths of what the threads of an image print, if they are asked for. Where memory runs out, or one would be written
+// over another file of the recording, that is told, and the exit status is answered.
+fn output_places<D: Folder, E: Sink>(
+    alloc: Global,
+    folder: &D,
+    faults: &mut E,
+    arguments: &RecordArguments,
+    image: &[u8],
+) -> Result<Option<Vec<String>>, u8>
+    ensures kept { OnOk result (faults.new ≡ faults.old) }
+{
+    let Ok(paths) = paths_of(alloc, arguments, image) else {
+        say(faults, "memory ran out", "", "");
+        return Err(FAULT);
+    };
+    match &paths {
+        Some(each) if any_loses(folder, faults, arguments, each.as_slice()) => {
+            return Err(BAD_ARGUMENTS);
+        }
+        _ => {}
+    }
+    Ok(paths)
+}
+
+// Records a guest into a file, and what its threads print into others where they are asked for.
+pub fn record_file<R, D, G, O, E>(
+    rt: &R,
+    folder: &D,
+    gate: &G,
+    arguments: &RecordArguments,
+    out: &mut O,
+    faults: &mut E,
+) -> u8
+where
+    R: Threads + Wait + Sync + Clock + AllocGlobal,
+    D: Folder,
+    G: Gate + Sync,
+    O: Sink,
+    E: Sink,
+    requires writes { O.broken out.old ≡ false }
+    requires reports { E.broken faults.old ≡ false }
+{
+    let alloc = rt.alloc();
+    let place = arguments.trace.as_str();
+    let Ok(beside) = path_beside(alloc, place) else {
+        say(faults, "memory ran out", "", "");
+        return FAULT;
+    };
+    let mut trace = WholeFile::new(folder, place, beside.as_str());
+    if loses_input(folder, faults, arguments, trace.first_place()) {
+        return BAD_ARGUMENTS;
+    }
+    let Some(image) = bytes_of(alloc, folder, faults, arguments.image.as_str(), MOST_BYTES) else {
+        return FAULT;
+    };
+    let paths = match output_places(alloc, folder, faults, arguments, image.as_slice()) {
+        Ok(paths) => paths,
+        Err(status) => return status,
+    };
+    let Some(input) = input_of(alloc, folder, faults, arguments) else {
+        return FAULT;
+    };
+    let paths = paths.as_ref().map(|paths| paths.as_slice());
+    let mut outputs = OutputFiles::new(folder, paths, place);
+    record_run(
+        rt,
+        gate,
+        image.as_slice(),
+        &arguments.plan(input.as_slice()),
+        &mut trace,
+        &mut outputs,
+        out,
+        faults,
+    )
+}

@@ -1,0 +1,63 @@
+use Rattle.std.proofs.Common.{true, [], ◌∷◌, refl, ap, ◌∙◌, arith, length, map, length-set}
+use Rattle.ir_record.specs.Progress.{progress, TookIf}
+use Rattle.ir_record.specs.Recorders.{progress_of}
+use Rattle.ir_record.proofs.recorder.Recorder.turn_asked.Given.{Over}
+use Rattle.ir_record.proofs.Asking.{same_worlds}
+use Rattle.ir_record.proofs.Ready.{stays_ready}
+use Rattle.ir_record.proofs.recorder.Recorder.turn_asked.Goals as goal
+
+took : (g : Over) (c : goal.After-answer g) → TookIf true (c.args.t ∷ [])
+    (progress_of g.W.World.answers c.args.self.now)
+    (progress c.answer.new.self (map g.W.World.answers c.answer_to.new.worlds.items))
+took g c = c.answer.ensures.took (map g.W.World.answers c.args.self.now.worlds.items) (map g.W.World.answers c.answer_to.new.worlds.items)
+    (let n = c.requires.ready.worlds in omega (arith, n, c.requires.thread)) c.in_ok-value-in-Env.ensures.gained
+
+pub returns-in_ok-value-in-Env-clause-took : goal.returns-in_ok-value-in-Env-clause-took
+returns-in_ok-value-in-Env-clause-took g c = took g c
+
+pub returns-in_ok-value-in-Env-clause-ready : goal.returns-in_ok-value-in-Env-clause-ready
+returns-in_ok-value-in-Env-clause-ready g c = stays_ready c.args.t true
+    (progress_of g.W.World.answers c.args.self.now)
+    (progress c.answer.new.self (map g.W.World.answers c.answer_to.new.worlds.items))
+    (map g.W.World.broken c.args.self.now.worlds.items) (map g.W.World.broken c.answer_to.new.worlds.items)
+    c.requires.ready (took g c) c.answer.ensures.tape
+    (ap (λ xs. length xs) c.in_ok-value-in-Env.ensures.gained
+    ∙ length-set (map g.W.World.answers c.args.self.now.worlds.items) c.args.t _) c.in_ok-value-in-Env.ensures.works
+
+pub returns-in-Enter-clause-took : goal.returns-in-Enter-clause-took
+returns-in-Enter-clause-took g c = c.enter.ensures.took (map g.W.World.answers c.args.self.now.worlds.items)
+
+pub returns-in-Enter-clause-ready : goal.returns-in-Enter-clause-ready
+returns-in-Enter-clause-ready g c = stays_ready c.args.t c.enter.result
+    (progress_of g.W.World.answers c.args.self.now)
+    (progress c.enter.new.self (map g.W.World.answers c.args.self.now.worlds.items)) (map g.W.World.broken c.args.self.now.worlds.items)
+    (map g.W.World.broken c.args.self.now.worlds.items)
+    c.requires.ready (c.enter.ensures.took (map g.W.World.answers c.args.self.now.worlds.items)) c.enter.ensures.tape
+    refl c.requires.ready.works
+
+pub returns-in_default : goal.returns-in_default
+returns-in_default g c = record {
+  took = c.go.ensures.took (map g.W.World.answers c.args.self.now.worlds.items);
+  ready = stays_ready c.args.t c.go.result (progress_of g.W.World.answers c.args.self.now)
+      (progress c.go.new.self (map g.W.World.answers c.args.self.now.worlds.items)) (map g.W.World.broken c.args.self.now.worlds.items)
+      (map g.W.World.broken c.args.self.now.worlds.items)
+      c.requires.ready (c.go.ensures.took (map g.W.World.answers c.args.self.now.worlds.items)) c.go.ensures.tape
+      refl c.requires.ready.works;
+  none = c.go.ensures.none;
+  failed = tt;
+  kept = same_worlds;
+}
+
+pub returns-in-Enter-clause-kept : goal.returns-in-Enter-clause-kept
+returns-in-Enter-clause-kept g c = same_worlds
+
+pub returns-in-Try-clause-ready : goal.returns-in-Try-clause-ready
+returns-in-Try-clause-ready g c = stays_ready c.args.t true
+    (progress_of g.W.World.answers c.args.self.now)
+    (progress c.try_to_enter.new.self (map g.W.World.answers c.args.self.now.worlds.items))
+    (map g.W.World.broken c.args.self.now.worlds.items) (map g.W.World.broken c.args.self.now.worlds.items)
+    c.requires.ready (c.try_to_enter.ensures.took (map g.W.World.answers c.args.self.now.worlds.items)) c.try_to_enter.ensures.tape
+    refl c.requires.ready.works
+
+pub returns-in-Try-clause-took : goal.returns-in-Try-clause-took
+returns-in-Try-clause-took g c = c.try_to_enter.ensures.took (map g.W.World.answers c.args.self.now.worlds.items)

@@ -1,0 +1,4 @@
+pub mod Answers
+pub mod Texts
+pub mod Verdicts
+pub mod Buffered

@@ -1,0 +1,161 @@
+-- The texts of answers, by what stands at the cut.
+use Rattle.std.specs.Prelude.{◌==◌, ℕ, zero, suc, ◌+◌, ◌/◌, List, [], ◌∷◌, ◌++◌, take, drop, length, flat_map, codes, decimal, Option, Some, None, if◌then◌else◌}
+use Rattle.std.specs.List.{slice_index_or}
+use Rattle.hex.specs.Hex.{encode_lower}
+use Rattle.ir_image.specs.Fetch.{word_at}
+use Rattle.ir_mach.specs.Memory.{byte_at}
+use Rattle.ir_flat.specs.Flat.{idle}
+use Rattle.ir_thread.specs.Held.{held_at, highest}
+use Rattle.ir_runs.specs.Labels.{Label, Quiet, Answer, In, Out}
+use Rattle.ir_runs.specs.Labels as labels
+use Rattle.ir_thread.specs.State as thread
+use Rattle.ir_runs.specs.declared.access.Access.{Access}
+use Rattle.ir_runs.specs.declared.access.Access.TheVariants.{Reading, Writing}
+use Rattle.ir_runs.specs.declared.env_kind.EnvKind.{EnvKind}
+use Rattle.ir_runs.specs.declared.env_kind.EnvKind.TheVariants.{Clock, Random, Input}
+use Rattle.ir_thread.specs.declared.end.End.{End}
+use Rattle.ir_runs.specs.Object.{Object}
+use Rattle.ir_disasm.specs.Printed.{text_of}
+use Rattle.ir_command.specs.declared.hit.Hit.{Hit}
+use Rattle.ir_text.specs.Answers.{hex_word}
+
+-- words and a number in a line
+abbrev pub number_line : List ℕ → ℕ → List ℕ
+number_line words n = words ++ decimal n ++ codes "\n"
+
+-- ---- positions
+
+-- the position of each thread
+abbrev pub positions_text : List ℕ → List ℕ
+positions_text at = codes "at" ++ flat_map (λ p. codes " " ++ decimal p) at
+
+-- the point that hit, if one did
+abbrev pub hit_text : Option Hit → List ℕ
+hit_text (Some hit) = codes " hit " ++ decimal hit.number
+hit_text None = []
+
+-- whether a thread is at its last position, which is given, or at 0
+abbrev pub stop_text : ℕ → ℕ → List ℕ
+stop_text last at = if at == last then codes " end" else if at == 0 then codes " start" else []
+
+-- ---- bytes
+
+-- how many lines of so many bytes
+abbrev pub lines_for : ℕ → ℕ → ℕ
+lines_for zero count = 0
+lines_for (suc width) count = (count + width) / suc width
+
+-- so many lines of 16 bytes, each with the address of its first
+unfoldable pub memory_lines : ℕ → ℕ → List ℕ → List ℕ
+memory_lines zero address bytes = []
+memory_lines (suc n) address bytes = hex_word address ++ codes ": " ++ encode_lower (take 16 bytes) ++ codes "\n" ++ memory_lines n
+    (address + 16) (drop 16 bytes)
+
+-- the bytes from an address on
+abbrev pub memory_text : ℕ → List ℕ → List ℕ
+memory_text address bytes = memory_lines (lines_for 16 (length bytes)) address bytes
+
+-- so many lines of 32 bytes
+unfoldable pub output_lines : ℕ → List ℕ → List ℕ
+output_lines zero bytes = []
+output_lines (suc n) bytes = encode_lower (take 32 bytes) ++ codes "\n" ++ output_lines n (drop 32 bytes)
+
+-- what was printed
+abbrev pub output_text : List ℕ → List ℕ
+output_text bytes = number_line (codes "out ") (length bytes) ++ output_lines (lines_for 32 (length bytes)) bytes
+
+-- a byte that is looked at
+abbrev pub byte_or_zero : Option ℕ → ℕ
+byte_or_zero (Some b) = b
+byte_or_zero None = 0
+
+-- so many bytes from an address on, of code or private memory
+unfoldable pub bytes_from : List ℕ → List ℕ → ℕ → ℕ → List ℕ
+bytes_from code memory zero address = []
+bytes_from code memory (suc n) address = byte_or_zero (byte_at code memory address) ∷ bytes_from code memory n (address + 1)
+
+-- ---- objects
+
+-- the number, for a thread that is inside so
+abbrev pub if_inside : Access → Option Access → ℕ → List ℕ
+if_inside Reading (Some Reading) n = n ∷ []
+if_inside Writing (Some Writing) n = n ∷ []
+if_inside access inside n = []
+
+-- the numbers of those of the first n threads that are inside so, rising
+unfoldable pub inside_for : Access → (ℕ → Option Access) → ℕ → List ℕ
+inside_for access inside zero = []
+inside_for access inside (suc n) = inside_for access inside n ++ if_inside access (inside n) n
+
+-- numbers joined by commas, or `-` for none
+abbrev pub joined : List ℕ → List ℕ
+joined [] = codes "-"
+joined (n ∷ ns) = decimal n ++ flat_map (λ m. codes "," ++ decimal m) ns
+
+-- the first so many of its words
+abbrev pub words_text : (ℕ → ℕ) → ℕ → List ℕ
+words_text words zero = []
+words_text words (suc n) = words_text words n ++ codes " " ++ hex_word (words n)
+
+-- an object of so many words among so many threads
+abbrev pub object_text : ℕ → ℕ → Object → List ℕ
+object_text threads words o =
+    codes "version " ++ decimal o.version ++ codes " left " ++ decimal o.left
+    ++ codes " readers " ++ joined (inside_for Reading o.inside threads) ++ codes " writer " ++ joined (inside_for Writing o.inside threads)
+    ++ codes "\n"
+    ++ codes "words" ++ words_text o.words words ++ codes "\n"
+
+-- what a thread is inside an object for, if it is inside
+abbrev pub held_by : List thread.State → ℕ → ℕ → Option Access
+held_by threads o t = held_at (slice_index_or threads t idle).held o
+
+-- the first line of an object among so many threads
+abbrev pub state_line : ℕ → Object → List ℕ
+state_line threads o =
+    codes "version " ++ decimal o.version ++ codes " left " ++ decimal o.left
+    ++ codes " readers " ++ joined (inside_for Reading o.inside threads) ++ codes " writer " ++ joined (inside_for Writing o.inside threads)
+    ++ codes "\n"
+
+-- ---- events
+
+abbrev pub kind_text : EnvKind → List ℕ
+kind_text Clock = codes "clock"
+kind_text Random = codes "random"
+kind_text Input = codes "input"
+
+-- what is logged of a step; nothing of one that logs nothing
+abbrev pub event_text : Label → List ℕ
+event_text (Answer kind value) = kind_text kind ++ codes " " ++ decimal value
+event_text (In object Reading version left) = codes "read " ++ decimal object ++ codes " version " ++ decimal version
+event_text (In object Writing version left) = codes "write " ++ decimal object ++ codes " version " ++ decimal version ++ codes " readers "
+    ++ decimal left
+event_text Quiet = []
+event_text (labels.Refused object) = codes "try " ++ decimal object
+event_text (Out object access version) = []
+
+-- the events from a number on
+unfoldable pub event_lines : ℕ → List Label → List ℕ
+event_lines i [] = []
+event_lines i (e ∷ es) = decimal i ++ codes " " ++ event_text e ++ codes "\n" ++ event_lines (i + 1) es
+
+-- those so far, of so many
+abbrev pub log_text : List Label → ℕ → List ℕ
+log_text so_far all = codes "log " ++ decimal (length so_far) ++ codes " of " ++ decimal all ++ codes "\n" ++ event_lines 0 so_far
+
+-- ---- what comes next
+
+abbrev pub disassembled : ℕ → Option ℕ → List ℕ
+disassembled pc (Some word) = text_of pc word
+disassembled pc None = codes "none"
+
+abbrev pub released : Option (ℕ × Access) → List ℕ
+released (Some top) = number_line (codes "next give back ") top.0
+released None = codes "next done\n"
+
+abbrev pub next_by : Option End → List ℕ → thread.State → List ℕ
+next_by None code s = codes "next " ++ hex_word s.core.pc ++ codes " " ++ disassembled s.core.pc (word_at code s.core.pc) ++ codes "\n"
+next_by (Some e) code s = released (highest s.held)
+
+-- the next step of a thread: at its pc, or what it releases after its end
+abbrev pub next_text : List ℕ → thread.State → List ℕ
+next_text code s = next_by s.ended code s

@@ -1,0 +1,108 @@
+#!/usr/bin/env python3
+"""Counts the host instructions that each operation of a guest costs, by valgrind's callgrind.
+
+python3 scripts/instructions.py IR [--jobs N]
+
+A guest is one thread with a loop around the operation. It is run with so many turns and with twice as many, and the
+difference, without that of an empty loop, is the operation's cost, so that the figures repeat to the last digit for
+the same program. What sets a call's arguments counts with the call, at the cost of plain instructions. Prints a
+table: a row for each operation; a column for recording in order, recording by threads, fitting, and moving to the end.
+Says so where valgrind isn't installed, and then ends with status 0.
+"""
+import argparse
+import os
+import re
+import shutil
+import subprocess
+import sys
+import tempfile
+from concurrent.futures import ThreadPoolExecutor
+from itertools import product
+from pathlib import Path
+
+# Turns of the shorter guest, in units of 4,096.
+UNITS = 4
+COLLECTED = re.compile(r"Collected : (\d+)")
+RECORD = ["--budget", "1000000000"]
+ENTER, LEAVE, GET, PUT, SELF = 8, 9, 10, 11, 12
+
+
+def call(number, *arguments):
+    """A call with its arguments set before it."""
+    set_them = [f"addi a{at}, zero, {value}" for at, value in enumerate(arguments)]
+    return [*set_them, f"addi a7, zero, {number}", "ecall"]
+
+
+# Each operation: its name, the statements of a turn, how many operations they are, and what comes before the loop.
+INSIDE = call(ENTER, 0)
+OPERATIONS = [
+    ("nothing", [], 1, []),
+    ("add", ["add t1, t1, t2"] * 16, 16, []),
+    ("mul", ["mul t1, t1, t2"] * 16, 16, []),
+    ("lw", ["lw t1, 0(s0)"] * 16, 16, ["lui s0, 0x100"]),
+    ("sw", ["sw t1, 0(s0)"] * 16, 16, ["lui s0, 0x100"]),
+    ("SELF", call(SELF), 1, []),
+    ("GET", call(GET, 0, 0), 1, INSIDE),
+    ("PUT", call(PUT, 0, 0, 1), 1, INSIDE),
+    ("ENTER_WRITE with LEAVE", call(ENTER, 0) + call(LEAVE, 0), 1, []),
+]
+MODES = ("in order", "by threads", "fitting", "to the end")
+
+
+def source(statements, before, units):
+    """A guest of one thread that takes the statements 4,096 times the units."""
+    lines = [".objects 1", *before, f"lui t0, {units}", "turn:", *statements, "addi t0, t0, -1", "bne t0, zero, turn"]
+    return "\n".join([*lines, *call(1, 0)]) + "\n"
+
+
+def counted(words, lines=""):
+    """The host instructions of a command."""
+    run = subprocess.run(["valgrind", "--tool=callgrind", f"--callgrind-out-file={os.devnull}", *words], input=lines,
+                         text=True, capture_output=True, check=False)
+    found = COLLECTED.search(run.stderr)
+    if run.returncode != 0 or not found:
+        sys.exit(f"{words}: status {run.returncode}\n{run.stdout}{run.stderr}")
+    return int(found[1])
+
+
+def cost(program, folder, operation, units):
+    """What recording, fitting and moving cost for a guest: a count for each mode."""
+    name, statements, _, before = operation
+    place = Path(folder) / f"{OPERATIONS.index(operation)}-{units}"
+    text, image, trace = (place.with_suffix(suffix) for suffix in (".s", ".img", ".trc"))
+    text.write_text(source(statements, before, units), encoding="ascii")
+    subprocess.run([program, "asm", text, image], check=True)
+    in_order = counted([program, "record", image, trace, "--order", "0", *RECORD])
+    by_threads = counted([program, "record", image, trace, *RECORD])
+    fitting = counted([program, "debug", image, trace])
+    return in_order, by_threads, fitting, counted([program, "debug", image, trace], "end\n") - fitting
+
+
+def table(program, jobs):
+    """The cost of each operation beyond an empty turn, a row for each; the first is the empty turn itself."""
+    with tempfile.TemporaryDirectory() as folder, ThreadPoolExecutor(jobs) as pool:
+        sizes = list(product(OPERATIONS, (UNITS, 2 * UNITS)))
+        counts = list(pool.map(lambda size: cost(program, folder, *size), sizes))
+    turns = UNITS << 12
+    each = [[(more - few) / turns for few, more in zip(*pair)] for pair in zip(counts[::2], counts[1::2])]
+    yield OPERATIONS[0][0], each[0]
+    for (name, _, count, _), costs in zip(OPERATIONS[1:], each[1:]):
+        yield name, [(with_it - without) / count for with_it, without in zip(costs, each[0])]
+
+
+def main():
+    parser = argparse.ArgumentParser(description=__doc__.splitlines()[0])
+    parser.add_argument("program", metavar="IR", type=Path, help="the built program")
+    parser.add_argument("--jobs", type=int, default=len(os.sched_getaffinity(0)), help="commands at once")
+    arguments = parser.parse_args()
+    if not shutil.which("valgrind"):
+        print("host instructions aren't counted: valgrind isn't installed")
+        return
+    print("host instructions of each operation")
+    print(f"{'operation':24}" + "".join(f"{mode:>12}" for mode in MODES))
+    for name, costs in table(str(arguments.program.resolve()), arguments.jobs):
+        print(f"{name:24}" + "".join(f"{count:>12.1f}" for count in costs), flush=True)
+
+
+if __name__ == "__main__":
+    main()
