@@ -5,7 +5,7 @@ python3 scripts/edits.py [CRATE ...]
 
 Wants the crates proved (scripts/prove.py). Works on a copy in the folder .edits: edits of different functions of a crate are
 checked together, and each counts as refused where its own function is, for another reason than a call of one that is not proved. What
-isn't refused so is tried alone, where any function may be. A line an edit; fails where one is proved, or doesn't apply.
+isn't refused so is tried alone, where any function of its crate may be. A line an edit; fails where one is proved, or doesn't apply.
 """
 import re
 import shutil
@@ -70,21 +70,30 @@ def batches(crate, edits):
     return lists
 
 
-def refused(crate, edits):
-    """Checks a copy of the crate with these edits; the functions that are refused for themselves, and whether the crate is."""
+def laid(crate):
+    """Lays the crate's own files into the copy, and answers where."""
     room = COPY / "crates" / crate.name
     for part in ("src", "specs", "proofs"):
         shutil.rmtree(room / part, ignore_errors=True)
         if (crate / part).is_dir():
             shutil.copytree(crate / part, room / part)
+    return room
+
+
+def refused(crate, edits):
+    """Checks a copy of the crate with these edits; the functions that are refused for themselves, and whether any of the crate's own is.
+    Then the copy has the crate's own files again, since crates above it are checked over it."""
+    room = laid(crate)
     for edit in edits:
         path, pairs = pairs_of(edit)
         file = room / path
         file.write_text(applied(file.read_text(encoding="utf-8"), pairs), encoding="utf-8")
     ran = subprocess.run(["rt", "check", "--jobs", "1"], cwd=room, text=True, errors="replace",
                          stdout=subprocess.PIPE, stderr=subprocess.STDOUT, check=False)
-    is_refused = ran.returncode == 1 and "\nlogic=not-proved" in ran.stdout
-    return {name for name, why in FAILED.findall(ran.stdout) if not CALLS.match(why)}, is_refused
+    laid(crate)
+    failed = FAILED.findall(ran.stdout)
+    is_refused = ran.returncode == 1 and any(name.startswith(f"{crate.name}::") for name, _ in failed)
+    return {name for name, why in failed if not CALLS.match(why)}, is_refused
 
 
 def is_named(place, names):
