@@ -323,7 +323,7 @@ fn together(flat: &mut Flat, limit: u64) -> u64 {
     if flat.threads().is_empty() {
         0
     } else {
-        flat.run_instructions(0, limit)
+        flat.run_to_ask(0, limit).0
     }
 }
 

@@ -124,18 +124,6 @@ impl<'a> Flat<'a> {
         self.parts.may(t, 0, asked)
     }
 
-    /// Thread t takes instructions, at most `limit`, and how many they are: private steps, which log nothing, but no call.
-    /// It stops below the limit only where the next step is no instruction.
-    pub fn run_instructions(&mut self, t: usize, limit: u64) -> u64
-        requires { t < length self.old.threads }
-        ensures within { result ≤ limit }
-        ensures flat { IsFlat self.old }
-        ensures went { WentAlone self.old self.new t result }
-        ensures stops { result < limit → NoInstruction self.new.code (thread_of self.new t) }
-    {
-        self.parts.run_instructions(t, limit)
-    }
-
     /// Thread t takes instructions, at most `limit`: how many they are, and what it asks then.
     pub fn run_to_ask(&mut self, t: usize, limit: u64) -> (u64, Ask)
         requires { t < length self.old.threads }
@@ -144,6 +132,7 @@ impl<'a> Flat<'a> {
         ensures still_flat { IsFlat self.new }
         ensures went { WentAlone self.old self.new t result.0 }
         ensures asked { result.1 ≡ ask_of self.new.code (thread_of self.new t) }
+        ensures stops { result.0 < limit → NoInstruction self.new.code (thread_of self.new t) }
     {
         self.parts.run_to_ask(t, limit)
     }

@@ -114,17 +114,6 @@ impl<'a> Parts<'a> {
         self.threads[t].take_asked(self.code, asked, reply);
     }
 
-    // Thread t takes instructions, at most so many, and how many they are: private steps, but no call.
-    pub fn run_instructions(&mut self, t: usize, limit: u64) -> u64
-        requires { t < length self.old.threads }
-        ensures within { result ≤ limit }
-        ensures each { (k : ℕ) → k < result → ask_of self.old.code (run_of self.old.code k (thread_of self.old t)) ≡ Private }
-        ensures moved { self.new ≡ with_thread self.old t (run_of self.old.code result (thread_of self.old t)) }
-        ensures stops { result < limit → NoInstruction self.new.code (thread_of self.new t) }
-    {
-        self.threads[t].run_instructions(self.code, limit)
-    }
-
     // Thread t takes instructions, at most so many: how many they are, and what it asks then.
     pub fn run_to_ask(&mut self, t: usize, limit: u64) -> (u64, Ask)
         requires { t < length self.old.threads }
@@ -132,6 +121,7 @@ impl<'a> Parts<'a> {
         ensures each { (k : ℕ) → k < result.0 → ask_of self.old.code (run_of self.old.code k (thread_of self.old t)) ≡ Private }
         ensures moved { self.new ≡ with_thread self.old t (run_of self.old.code result.0 (thread_of self.old t)) }
         ensures asked { result.1 ≡ ask_of self.new.code (thread_of self.new t) }
+        ensures stops { result.0 < limit → NoInstruction self.new.code (thread_of self.new t) }
     {
         self.threads[t].run_to_ask(self.code, limit)
     }

@@ -18,6 +18,7 @@ use ir_isa::{BranchOffset, Immediate, Inst, JumpOffset, LoadOp, Register, StoreO
 
 impl Mach {
     // Whether a system call comes next, without the effect of any other instruction.
+    #[inline(always)]
     pub(crate) fn is_at_call(&self, code: &Code) -> bool
         ensures { result ≡ true → outcome_of code.now self.now ≡ Calls }
     {

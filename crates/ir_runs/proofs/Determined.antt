@@ -192,6 +192,7 @@ pub determined : {T : Type 0} (m : Machine T) → IsLawful m → (s : State T) �
 determined m law s good run run' ok ok' same =
     let a : Alike m s run run' = alike m law s good run run' ok ok' (λ t. (same t).0) (λ t. (same t).1) in
     record {
+      counts = λ t. (same t).1;
       threads = λ t k. ap (λ z. thread_in z k ((end m s run).now t)) (a.same_trail t)
           ∙ ap (λ z. thread_in (trail m s run' t) k (z.now t)) a.same_end;
       cuts = λ p. (trails_cut m s run run' a.same_trail p, trails_cut m s run' run (λ u. sym (a.same_trail u)) p);

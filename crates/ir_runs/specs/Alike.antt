@@ -8,8 +8,9 @@ use Rattle.ir_runs.specs.Cuts.{Cut, Consistent, object_at}
 abbrev pub SameTrace : {T : Type 0} → Machine T → State T → List Step → List Step → Type 0
 SameTrace m s run run' = (t : ℕ) → (log m s run t ≡ log m s run' t) × (count m s run t ≡ count m s run' t)
 
--- the same threads at each position, the same consistent cuts, and at these the same objects
+-- as many steps of each thread, the same threads at each position, the same consistent cuts, and at these the same objects
 pub record SameRun {T : Type 0} (m : Machine T) (s : State T) (run run' : List Step) : Type 0 where
+  pub counts : (t : ℕ) → count m s run t ≡ count m s run' t
   pub threads : (t k : ℕ) → th m s run t k ≡ th m s run' t k
   pub cuts : (p : Cut) → Consistent m s run p ↔ Consistent m s run' p
   pub objects : (p : Cut) → Consistent m s run p → (o : ℕ) → object_at m s run p o ≡ object_at m s run' p o

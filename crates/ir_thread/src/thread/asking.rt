@@ -189,6 +189,7 @@ impl Thread {
     }
 
     // The same, where it is known what its machine's next step comes to.
+    #[inline(always)]
     fn running_by(&self, code: &Code, ran: Ran) -> Ask
         requires { ran ≡ ran_of (outcome_of code.now self.now.core) }
         ensures { result ≡ running_ask code.now self.now }
@@ -204,6 +205,7 @@ impl Thread {
     }
 
     // What the thread asks, where it is known what its machine's next step comes to.
+    #[inline(always)]
     pub(super) fn asked_by(&self, code: &Code, ran: Ran) -> Ask
         requires { self.now.ended ≡ None → ran ≡ ran_of (outcome_of code.now self.now.core) }
         ensures { result ≡ ask_of code.now self.now }

@@ -12,28 +12,13 @@ use ir_image::Code;
 use ir_mach::{MarkedCode, Ran};
 
 impl Thread {
-    /// Takes instructions, at most `limit`, and says how many they were: private steps, but no call. It stops below the limit
-    /// only where the next step is no instruction.
-    pub fn run_instructions(&mut self, code: &Code, limit: u64) -> u64
-        ensures within { result ≤ limit }
-        ensures steps { PrivateSteps code.now result self.old self.new }
-        // Why it stopped.
-        ensures stops { result < limit → NoInstruction code.now self.new }
-    {
-        if self.ended.is_some() {
-            return 0;
-        }
-        let taken = self.mach.run(code, limit.min(self.budget - self.steps));
-        self.steps += taken;
-        taken
-    }
-
     // Takes instructions, at most `limit`, and says how many they were, and what its machine's next step comes to.
     #[inline(always)]
     fn run_seen(&mut self, code: &Code, limit: u64) -> (u64, Ran)
         ensures within { result.0 ≤ limit }
         ensures steps { PrivateSteps code.now result.0 self.old self.new }
         ensures next { self.new.ended ≡ None → result.1 ≡ ran_of (outcome_of code.now self.new.core) }
+        ensures stops { result.0 < limit → NoInstruction code.now self.new }
     {
         if self.ended.is_some() {
             return (0, Ran::Ran);
@@ -43,11 +28,14 @@ impl Thread {
         (taken, ran)
     }
 
-    /// Takes instructions, at most `limit`: how many they were, and what the thread asks then.
+    /// Takes instructions, at most `limit`: how many they were, and what the thread asks then. It stops below the limit only
+    /// where the next step is no instruction.
     pub fn run_to_ask(&mut self, code: &Code, limit: u64) -> (u64, Ask)
         ensures within { result.0 ≤ limit }
         ensures steps { PrivateSteps code.now result.0 self.old self.new }
         ensures asked { result.1 ≡ ask_of code.now self.new }
+        // Why it stopped.
+        ensures stops { result.0 < limit → NoInstruction code.now self.new }
     {
         let (taken, ran) = self.run_seen(code, limit);
         (taken, self.asked_by(code, ran))
