@@ -174,7 +174,7 @@ fn by_run(alloc: Global, image: &Image) -> Result<Option<(u32, u32)>, AllocError
     requires { 0 < length image.now.entries }
 {
     let mut mach = Mach::new(alloc, image, 0)?;
-    if mach.run(image.code(), 4) != 4 {
+    if mach.run_on(image.code(), 4).0 != 4 {
         return Ok(None);
     }
     Ok(Some((mach.reg(10), mach.pc())))

@@ -314,15 +314,14 @@ fn runs(rt: HostRuntime) -> Result<(), Fail> {
     let lengths = (mach.run_on(image.code(), 2).0, mach.run_on(image.code(), 2).0);
     assert_eq!(rt; (lengths, mach.reg(10)), ((2, 1), 3));
     mach.assign(&kept);
-    assert_eq!(rt; mach.run(image.code(), 9), 3);
-    assert!(rt; mach.next(image.code()) == Ran::Call);
+    assert_eq!(rt; mach.run_on(image.code(), 9), (3, Ran::Call));
     Ok(())
 }
 
 // How far a run goes, a0 and x0 after it, and what stops it.
 fn ran(mach: &mut Mach, code: &Code) -> (u64, u32, u32, Ran) {
-    let steps = mach.run(code, 9);
-    (steps, mach.reg(10), mach.reg(0), mach.next(code))
+    let (steps, ran) = mach.run_on(code, 9);
+    (steps, mach.reg(10), mach.reg(0), ran)
 }
 
 // A run goes past a load of code, and stops at the word behind the code.
@@ -363,7 +362,7 @@ fn leaves(alloc: Global, image: &Image, steps: u64, left: &Mach) -> Result<bool,
     requires { 0 < length image.now.entries }
 {
     let mut mach = Mach::new(alloc, image, 0)?;
-    let whole = mach.run(image.code(), steps) == steps;
+    let whole = mach.run_on(image.code(), steps).0 == steps;
     let same = mach.pc() == left.pc() && mach.reg(6) == left.reg(6);
     Ok(whole && same && mach.memory() == left.memory())
 }
