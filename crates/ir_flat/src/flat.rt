@@ -125,6 +125,7 @@ impl<'a> Flat<'a> {
     }
 
     /// Thread t takes instructions, at most `limit`: how many they are, and what it asks then.
+    #[inline(always)]
     pub fn run_to_ask(&mut self, t: usize, limit: u64) -> (u64, Ask)
         requires { t < length self.old.threads }
         ensures within { result.0 ≤ limit }
@@ -166,6 +167,7 @@ impl<'a> Flat<'a> {
     ///
     /// # Errors
     /// There is no such step; nothing changes.
+    #[inline(always)]
     pub fn take(&mut self, t: usize, asked: Ask, r: u32) -> Result<(), NotAdmitted>
         requires thread { t < length self.old.threads }
         requires asked { asked ≡ ask_of self.old.code (thread_of self.old t) }

@@ -105,6 +105,7 @@ impl<'a> Parts<'a> {
 
     // Thread t takes the step that it asked.
     #[tactic(auto, unfolding(ir_thread::specs::Calls::after_reply))]
+    #[inline(always)]
     fn take(&mut self, t: usize, asked: Ask, reply: Reply)
         requires thread { t < length self.old.threads }
         requires asked { asked ≡ ask_of self.old.code (thread_of self.old t) }
@@ -115,6 +116,7 @@ impl<'a> Parts<'a> {
     }
 
     // Thread t takes instructions, at most so many: how many they are, and what it asks then.
+    #[inline(always)]
     pub fn run_to_ask(&mut self, t: usize, limit: u64) -> (u64, Ask)
         requires { t < length self.old.threads }
         ensures within { result.0 ≤ limit }
@@ -178,6 +180,7 @@ impl<'a> Parts<'a> {
     }
 
     // Whether there is the step that thread t asks, with this result.
+    #[inline(always)]
     pub fn may(&self, t: usize, r: u32, asked: Ask) -> bool
         requires flat { IsFlat self.now }
         requires thread { t < length self.now.threads }
@@ -212,6 +215,7 @@ impl<'a> Parts<'a> {
     }
 
     // Thread t takes the step that it asked.
+    #[inline(always)]
     pub fn step(&mut self, t: usize, r: u32, asked: Ask)
         requires flat { IsFlat self.old }
         requires thread { t < length self.old.threads }

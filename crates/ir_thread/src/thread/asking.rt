@@ -162,6 +162,7 @@ impl Thread {
     }
 
     // What the thread asks where it stands at a call.
+    #[inline(always)]
     fn calling(&self) -> Ask
         ensures { result ≡ call_ask (call_at self.now) self.now }
     {

@@ -30,6 +30,7 @@ impl Thread {
 
     /// Takes instructions, at most `limit`: how many they were, and what the thread asks then. It stops below the limit only
     /// where the next step is no instruction.
+    #[inline(always)]
     pub fn run_to_ask(&mut self, code: &Code, limit: u64) -> (u64, Ask)
         ensures within { result.0 ≤ limit }
         ensures steps { PrivateSteps code.now result.0 self.old self.new }

@@ -125,6 +125,7 @@ impl Thread {
         self.steps += 1;
     }
 
+    #[inline(always)]
     fn step(&mut self, code: &Code, asked: Ask, reply: Reply)
         requires permits { Permits self.old asked }
         requires suits { Suits asked reply }
@@ -171,6 +172,7 @@ impl Thread {
 
     /// The same, where it is known what the thread asks.
     #[tactic(auto, using(crate::proofs::Asked::ask_permits), unfolding(crate::specs::Calls::after_reply))]
+    #[inline(always)]
     pub fn take_asked(&mut self, code: &Code, asked: Ask, reply: Reply)
         requires asked { asked ≡ ask_of code.now self.old }
         requires suits { Suits asked reply }
