@@ -67,6 +67,7 @@ impl Cursor {
     /// # Errors
     /// `Disagree` where no event is left, or where the next one is of another kind or another object. A try suits an entry for writing and a
     /// refused try; an ask that nothing is logged of suits no event.
+    #[inline(always)]
     pub fn expect(&self, log: &Log, ask: &Ask) -> Result<Event, Disagree>
         ensures next { IfOk result (λ event. slice_get log.now.events self.now ≡ Some event) }
         ensures suits { IfOk result (λ event. Suits ask.now event) }

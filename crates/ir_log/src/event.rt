@@ -46,6 +46,7 @@ impl Event {
 
     /// Whether a step that asks so may log this event: the kinds agree, or the objects and what they are entered for. A try is
     /// logged as an entry for writing where it got in, and else as refused.
+    #[inline(always)]
     pub fn suits(self, ask: Ask) -> bool
         ensures { IsTrue result ↔ Suits ask self }
     {

@@ -80,6 +80,7 @@ impl Trace {
     ///
     /// # Errors
     /// `Disagree` where the thread has no such event, or it is none that such a step logs.
+    #[inline(always)]
     pub fn next_event(&self, t: usize, before: u32, asked: Ask) -> Result<Event, Disagree>
         requires thread { t < length self.now.threads }
         requires before { before ≤ most_events }

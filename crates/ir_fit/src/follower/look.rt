@@ -56,6 +56,7 @@ fn held_count(held: &[Option<Access>]) -> u64
 
 /// Whether the object can be entered now as the event says: it stands at the event's version, for an entry for writing
 /// as many have left it as the event counts, and nobody inside is in the way.
+#[inline(always)]
 pub fn is_open(object: &Object, event: Event) -> bool
     ensures { IsTrue result ↔ IsOpen object.now event }
 {
@@ -73,6 +74,7 @@ pub fn is_open(object: &Object, event: Event) -> bool
 
 impl Follower<'_> {
     // The next event that the trace tells of thread t, where it is one of what the thread asks.
+    #[inline(always)]
     fn next_event(&self, t: usize, asked: Ask) -> Result<Event, Disagree>
         requires thread { t < length self.now.flat.threads }
         requires emitted { t < length self.now.trace.threads }
@@ -106,6 +108,7 @@ impl Follower<'_> {
     }
 
     // Thread t, whose next step is an entry.
+    #[inline(always)]
     fn look_entry(&self, t: usize, object: u8, access: Access) -> Look
         requires thread { t < length self.now.flat.threads }
         requires emitted { t < length self.now.trace.threads }
@@ -196,6 +199,7 @@ impl Follower<'_> {
     }
 
     // Thread t, of whose next step the trace tells nothing.
+    #[inline(always)]
     fn look_own(&self, t: usize, asked: Ask) -> Look
         requires thread { t < length self.now.flat.threads }
         requires asked { asked ≡ ask_of self.now.flat.code (thread_of self.now.flat t) }
@@ -211,6 +215,7 @@ impl Follower<'_> {
     }
 
     // The next step of thread t, which asks for it so, beside the trace.
+    #[inline(always)]
     pub fn look_at(&self, t: usize, asked: Ask) -> Look
         requires thread { t < length self.now.flat.threads }
         requires emitted { t < length self.now.trace.threads }

@@ -65,6 +65,7 @@ impl Follower<'_> {
     }
 
     // Keeps what the step tells: the position of an event, or a leave.
+    #[inline(always)]
     fn place(&mut self, next: Move)
         requires sized { IsSized self.old }
         requires follows { IsMove self.old.trace self.old.flat next }
@@ -91,6 +92,7 @@ impl Follower<'_> {
     }
 
     // Takes a step that follows the trace. Who leaves an object wakes those that can enter it now.
+    #[inline(always)]
     pub fn take(&mut self, next: Move)
         requires sized { IsSized self.old }
         requires follows { IsMove self.old.trace self.old.flat next }
