@@ -11,22 +11,13 @@ use crate::commands::say;
 use crate::prompting::Prompting;
 use ir_arguments::{Asked, parsed};
 use ir_debug::{Sink, Source};
-use ir_files::Folder;
+use ir_files::{ExitStatus, Folder};
 use ir_object::Gate;
 use ir_stream::write_all;
 use std::alloc::Global;
 use std::sync::Wait;
 use std::thread::Threads;
 use std::time::Clock;
-
-/// All was done.
-pub const DONE: u8 = 0;
-
-/// Something failed.
-pub const FAULT: u8 = 1;
-
-/// The words ask for nothing that there is.
-pub const BAD_ARGUMENTS: u8 = 2;
 
 /// Which streams are terminals.
 #[derive(Clone, Copy, Debug, PartialEq, Eq)]
@@ -47,12 +38,12 @@ pub struct Invocation<'a> {
 }
 
 // Writes a text about the program.
-fn help<O: Sink, E: Sink>(text: &str, out: &mut O, faults: &mut E) -> u8 {
+fn help<O: Sink, E: Sink>(text: &str, out: &mut O, faults: &mut E) -> ExitStatus {
     match write_all(out, text.as_bytes()) {
-        Ok(()) => DONE,
+        Ok(()) => ExitStatus::Done,
         Err(_) => {
             say(faults, "standard output can't be written", "", "");
-            FAULT
+            ExitStatus::Failed
         }
     }
 }
@@ -68,7 +59,7 @@ pub fn program<R, D, G, I, O, E>(
     input: I,
     out: &mut O,
     faults: &mut E,
-) -> u8
+) -> ExitStatus
 where
     R: Threads + Wait + Sync + Clock + Eprint + AllocGlobal,
     D: Folder,
@@ -104,11 +95,11 @@ where
         Asked::Help(text) => help(text.as_str(), out, faults),
         Asked::Nothing(why) => {
             say(faults, why.as_str(), "", "");
-            BAD_ARGUMENTS
+            ExitStatus::BadArguments
         }
         Asked::NoMem => {
             say(faults, "memory ran out", "", "");
-            FAULT
+            ExitStatus::Failed
         }
     }
 }

@@ -2,6 +2,7 @@
 
 use crate::device_tests::{ENDLESS, empty_page};
 use ir_arguments::{ASM_AFTER, Asked, parsed};
+use ir_files::ExitStatus;
 use ir_program::asm_run;
 use ir_thread::{Call, Profile};
 use std::test::Fail;
@@ -133,7 +134,7 @@ fn is_taken(rt: &HostRuntime, name: &str, operands: &str) -> Result<bool, Fail> 
     let mut image = empty_page(rt, 1000, ENDLESS);
     let mut faults = empty_page(rt, 1000, ENDLESS);
     let status = asm_run(rt.alloc(), source.as_bytes(), None, &mut image, &mut faults);
-    Ok(status == 0)
+    Ok(status == ExitStatus::Done)
 }
 
 // Each of the 50 instructions stands in the help by its form.

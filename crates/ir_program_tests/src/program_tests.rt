@@ -61,7 +61,7 @@ fn ran_at<R: Threads + Wait + Sync + Clock + Eprint + AllocGlobal>(
         &mut out,
         &mut faults,
     );
-    Ok((status, out, faults))
+    Ok((status.number(), out, faults))
 }
 
 // The same, without a terminal.

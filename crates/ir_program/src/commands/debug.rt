@@ -4,9 +4,8 @@ ghost use Rattle.std.specs.Prelude.{◌≡◌, false};
 
 use crate::commands::bytes_of;
 use crate::debugging::debug_run;
-use crate::dispatch::FAULT;
 use ir_debug::{Sink, Source};
-use ir_files::{Folder, MOST_BYTES};
+use ir_files::{ExitStatus, Folder, MOST_BYTES};
 use std::alloc::Global;
 use std::thread::Threads;
 use std::time::Clock;
@@ -21,7 +20,7 @@ pub fn debug_files<R, D, I, O, E>(
     reader: &mut I,
     out: &mut O,
     faults: &mut E,
-) -> u8
+) -> ExitStatus
 where
     R: Threads + Clock + Sync,
     D: Folder,
@@ -33,10 +32,10 @@ where
     requires reports { E.broken faults.old ≡ false }
 {
     let Some(image) = bytes_of(alloc, folder, faults, image, MOST_BYTES) else {
-        return FAULT;
+        return ExitStatus::Failed;
     };
     let Some(trace) = bytes_of(alloc, folder, faults, trace, MOST_BYTES) else {
-        return FAULT;
+        return ExitStatus::Failed;
     };
     debug_run(
         rt,

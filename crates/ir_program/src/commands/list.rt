@@ -3,9 +3,8 @@
 ghost use Rattle.std.specs.Prelude.{◌≡◌, false};
 
 use crate::commands::bytes_of;
-use crate::dispatch::FAULT;
 use crate::tracing::trace_run;
-use ir_files::{Folder, MOST_BYTES};
+use ir_files::{ExitStatus, Folder, MOST_BYTES};
 use ir_stream::Sink;
 use std::alloc::Global;
 
@@ -16,12 +15,12 @@ pub fn list_file<D: Folder, O: Sink, E: Sink>(
     trace: &str,
     out: &mut O,
     faults: &mut E,
-) -> u8
+) -> ExitStatus
     requires writes { O.broken out.old ≡ false }
     requires reports { E.broken faults.old ≡ false }
 {
     match bytes_of(alloc, folder, faults, trace, MOST_BYTES) {
         Some(bytes) => trace_run(alloc, bytes.as_slice(), out, faults),
-        None => FAULT,
+        None => ExitStatus::Failed,
     }
 }
