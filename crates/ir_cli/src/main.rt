@@ -6,7 +6,7 @@ mod standard;
 
 use ir_arguments::collected;
 use ir_files::ExitStatus;
-use ir_program::{Invocation, Terminals, program};
+use ir_program::{Invocation, Surroundings, Terminals, program};
 use ir_stream::FromStd;
 use progress::Progress;
 use standard::stand_ins;
@@ -50,14 +50,15 @@ fn run<R: Threads + Wait + Sync + Clock + Eprint + AllocGlobal>(
     };
     let progress = Progress::new(threads, terminals.faults);
     program(
-        threads,
-        rt.alloc(),
+        Surroundings {
+            rt: threads,
+            folder: rt,
+            gate: &progress,
+        },
         &Invocation {
             arguments: words.as_slice(),
             terminals,
         },
-        rt,
-        &progress,
         FromStd::new(input),
         &mut out,
         &mut faults,

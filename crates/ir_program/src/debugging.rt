@@ -14,7 +14,6 @@ use crate::fault::BundleErr;
 use ir_debug::{SessionErr, Sink, Source, session};
 use ir_files::{ExitStatus, tell};
 use ir_object::OpenGate;
-use std::alloc::Global;
 use std::thread::Threads;
 use std::time::Clock;
 
@@ -31,9 +30,8 @@ fn fault_of(error: SessionErr) -> BundleErr
 
 /// Runs the session of an image and a trace over the lines of the reader, and gives the exit status: that of the session
 /// where it ended, and `Failed` for a fault, which is told in one line.
-pub fn debug_run<T: Threads + Clock + Sync, R: Source, W: Sink, E: Sink>(
+pub fn debug_run<T: Threads + Clock + Sync + AllocGlobal, R: Source, W: Sink, E: Sink>(
     rt: &T,
-    alloc: Global,
     image: &[u8],
     trace: &[u8],
     reader: &mut R,
@@ -53,7 +51,7 @@ pub fn debug_run<T: Threads + Clock + Sync, R: Source, W: Sink, E: Sink>(
         (writer_of (W.written writer.old) (W.written writer.new) (W.broken writer.new)) ((reader.new ≡ reader.old) × (writer.new ≡ writer.old))
         × Reports (writer_of (E.written faults.old) (E.written faults.new) (E.broken faults.new)) (fault_text (fault_words (fault_of e))) }
 {
-    match session(rt, alloc, image, trace, reader, writer, &OpenGate) {
+    match session(rt, rt.alloc(), image, trace, reader, writer, &OpenGate) {
         Ok(ended) => status(ended),
         Err(error) => {
             tell(faults, fault_of(error).words());

@@ -73,7 +73,7 @@ fn wrong_arguments_are_named(rt: HostRuntime) -> Result<(), Fail> {
 #[test]
 fn a_list_may_begin_with_a_hyphen(rt: HostRuntime) -> Result<(), Fail> {
     match asked(&rt, "ir record a.img a.trc --order -1")? {
-        Asked::Recording(arguments) => {
+        Asked::Record(arguments) => {
             assert_eq!(rt;
                 arguments.order.as_ref().map(|list| list.as_str()),
                 Some("-1")
@@ -92,7 +92,7 @@ fn the_first_profile_is_taken_where_none_is_given(rt: HostRuntime) -> Result<(),
         ("ir record a.img a.trc --profile 2", Profile::Two),
     ] {
         match asked(&rt, line)? {
-            Asked::Recording(arguments) => assert_eq!(rt; arguments.profile, wanted),
+            Asked::Record(arguments) => assert_eq!(rt; arguments.profile, wanted),
             _ => assert!(rt; false),
         }
     }

@@ -4,7 +4,7 @@ ghost use Rattle.std.specs.Prelude.{◌≡◌, false};
 
 use crate::assembling::asm_run;
 use crate::commands::{bytes_of, is_lost, say};
-use ir_arguments::AssemblyArguments;
+use ir_arguments::AssembleArguments;
 use ir_files::{ExitStatus, Folder, MOST_BYTES, WholeFile, WholeSink, path_beside};
 use ir_stream::Sink;
 use std::alloc::Global;
@@ -38,7 +38,7 @@ fn loses_source<D: Folder, E: Sink>(
 pub fn assemble_file<D: Folder, E: Sink>(
     alloc: Global,
     folder: &D,
-    arguments: &AssemblyArguments,
+    arguments: &AssembleArguments,
     explains: bool,
     faults: &mut E,
 ) -> ExitStatus
