@@ -353,6 +353,16 @@ def test_sixteen_threads(folder):
     wants("the trace", (folder / "sixteen.trc").read_bytes(), before)
 
 
+def test_progress(folder):
+    """At a terminal a recording of seconds shows its steps, those of the last of sixteen threads too."""
+    labels = [f"thread{number}" for number in range(16)]
+    source = [".large", *(f".thread {label}" for label in labels), *(f"{label}:" for label in labels[:15]), "ebreak"]
+    (folder / "last.s").write_text("\n".join([*source, "thread15:", FOREVER]))
+    wants("assembling", run("asm last.s last.img", folder).returncode, 0)
+    status, told = at_terminal("record last.img last.trc --profile 2 --budget 4000000000", folder)
+    wants("the last thread's steps", (status, " million steps\r" in told), (0, True))
+
+
 def test_trace(folder):
     """A trace in lines, and how it is refused."""
     for arguments, status, lines in (
