@@ -76,7 +76,7 @@ fn ran<R: Threads + Wait + Sync + Clock + Eprint + AllocGlobal>(
 }
 
 // Whether a run of the program by these words, which reads this, ends with the status, writes this and tells this.
-fn says<R: Threads + Wait + Sync + Clock + Eprint + AllocGlobal>(
+pub fn says<R: Threads + Wait + Sync + Clock + Eprint + AllocGlobal>(
     rt: &R,
     shelf: &Shelf,
     line: &str,
@@ -101,7 +101,7 @@ fn holds(shelf: &Shelf, path: &str, wanted: &[u8]) -> bool {
 
 // Two sources and their images, one of them at a second path, a source with a fault, a file that is too long to be read by
 // guests, and folders.
-fn prepared<R: Threads + Wait + Sync + Clock + Eprint + AllocGlobal>(
+pub fn prepared<R: Threads + Wait + Sync + Clock + Eprint + AllocGlobal>(
     rt: &R,
 ) -> Result<Shelf, Fail> {
     let shelf = Shelf::new(rt.alloc());

@@ -11,6 +11,8 @@ mod ends;
 mod example_tests;
 #[cfg(test)]
 mod examples;
+#[cfg(test)]
+mod gates_tests;
 pub mod guests;
 #[cfg(test)]
 mod keeper_tests;
