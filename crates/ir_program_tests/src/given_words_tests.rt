@@ -25,10 +25,10 @@ log 2 of 2
 1 random 2442223337
 ";
 
-const TRIED: &str = "thread 0 end 1 code 1 steps 5 events 1\n";
+const TRIED: &str = "thread 0 end 1 code 1 steps 6 events 1\n";
 
 const TRIED_TRACE: &str = "threads 1 objects 1 budget 1000000
-thread 0 end 1 code 1 steps 5 events 1
+thread 0 end 1 code 1 steps 6 events 1
 log 1 of 1
 0 write 0 version 0 readers 0
 ";
