@@ -4,5 +4,4 @@ mod Unmarked
 mod Gathered
 mod Dealt
 mod Down
-mod Numbers
 mod AfterRound
