@@ -4,4 +4,5 @@ mod Unmarked
 mod Gathered
 mod Dealt
 mod Down
+mod Below
 mod AfterRound
