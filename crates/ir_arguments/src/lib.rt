@@ -2,5 +2,17 @@
 #![tactic(auto)]
 
 mod arguments;
+mod asked;
+mod assemble;
+mod debug;
+mod record;
+mod subcommands;
+mod trace;
+mod values;
 
-pub use arguments::{ASM_AFTER, Asked, AssemblyArguments, RecordArguments, collected, parsed};
+pub use arguments::{collected, parsed};
+pub use asked::Asked;
+pub use assemble::{ASM_AFTER, AssembleArguments};
+pub use debug::DebugArguments;
+pub use record::RecordArguments;
+pub use trace::TraceArguments;

@@ -5,7 +5,8 @@ mod progress;
 mod standard;
 
 use ir_arguments::collected;
-use ir_program::{BAD_ARGUMENTS, FAULT, Invocation, Terminals, program};
+use ir_files::ExitStatus;
+use ir_program::{Invocation, Surroundings, Terminals, program};
 use ir_stream::FromStd;
 use progress::Progress;
 use standard::stand_ins;
@@ -25,21 +26,21 @@ fn complain(rt: &impl Eprint, why: &str) {
 fn run<R: Threads + Wait + Sync + Clock + Eprint + AllocGlobal>(
     rt: &HostRuntime,
     threads: &R,
-) -> u8 {
+) -> ExitStatus {
     let words = match collected(rt) {
         Ok(words) => words,
         Err(error) if error.kind() == ErrorKind::InvalidData => {
             complain(rt, "an argument is no text");
-            return BAD_ARGUMENTS;
+            return ExitStatus::BadArguments;
         }
         Err(_) => {
             complain(rt, "memory ran out");
-            return FAULT;
+            return ExitStatus::Failed;
         }
     };
     let Ok(input) = BufReader::new(rt.alloc(), rt.reader()) else {
         complain(rt, "memory ran out");
-        return FAULT;
+        return ExitStatus::Failed;
     };
     let mut out = FromStd::new(io::writer(rt));
     let mut faults = FromStd::new(rt.stderr());
@@ -49,14 +50,15 @@ fn run<R: Threads + Wait + Sync + Clock + Eprint + AllocGlobal>(
     };
     let progress = Progress::new(threads, terminals.faults);
     program(
-        threads,
-        rt.alloc(),
+        Surroundings {
+            rt: threads,
+            folder: rt,
+            gate: &progress,
+        },
         &Invocation {
             arguments: words.as_slice(),
             terminals,
         },
-        rt,
-        &progress,
         FromStd::new(input),
         &mut out,
         &mut faults,
@@ -64,7 +66,7 @@ fn run<R: Threads + Wait + Sync + Clock + Eprint + AllocGlobal>(
 }
 
 fn main(rt: HostRuntime) -> ExitCode {
-    ExitCode::from(match stand_ins(&rt) {
+    let status = match stand_ins(&rt) {
         // They stand in until all is done.
         Ok(_kept) => run(&rt, &rt),
         Err(_) => {
@@ -72,7 +74,8 @@ fn main(rt: HostRuntime) -> ExitCode {
                 &rt,
                 "a standard stream is closed, and /dev/null can't be opened",
             );
-            FAULT
+            ExitStatus::Failed
         }
-    })
+    };
+    ExitCode::from(status.number())
 }

@@ -1,3 +1,4 @@
 pub mod Outputs
 pub mod Places
+pub mod Statuses
 pub mod Writers

@@ -1,6 +1,7 @@
-//! Files that a program reads and writes, and what it tells on standard error.
+//! Files that a program reads and writes, what it tells on standard error, and its exit status.
 #![tactic(auto)]
 
+mod exit_status;
 mod files;
 mod folder;
 mod output_files;
@@ -9,6 +10,7 @@ mod reason;
 mod telling;
 mod whole_file;
 
+pub use exit_status::ExitStatus;
 pub use files::{FileErr, MOST_BYTES, MOST_INPUT, NewFile, read_all, read_file};
 pub use folder::Folder;
 pub use output_files::{OutputFiles, OutputSink, output_paths};

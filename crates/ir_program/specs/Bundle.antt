@@ -7,6 +7,8 @@ use Rattle.ir_debug.specs.Session.{Session, most_input}
 use Rattle.ir_debug.specs.declared.ended.Ended.{Ended}
 use Rattle.ir_debug.specs.declared.ended.Ended.TheVariants.{Quit, InputEnd, ImageRefused, TraceRefused, NotFit}
 use Rattle.ir_debug.specs.declared.ended.SessionErr.{SessionErr}
+use Rattle.ir_files.specs.declared.exit_status.ExitStatus.{ExitStatus}
+use Rattle.ir_files.specs.declared.exit_status.ExitStatus.TheVariants as status
 use Rattle.ir_program.specs.declared.fault.BundleErr.{BundleErr}
 use Rattle.ir_program.specs.declared.fault.BundleErr.TheVariants.{BadLine, NoMem, Read, Write, TooLong}
 
@@ -55,12 +57,12 @@ pub record Bundled (result : Result Ended SessionErr) (old new : Option (List �
   pub session : Session bundle.image bundle.trace most_input result old new bundle.commands
 
 -- the exit status of a session that ended
-abbrev pub status_of : Ended → ℕ
-status_of Quit = 0
-status_of InputEnd = 0
-status_of ImageRefused = 3
-status_of TraceRefused = 3
-status_of NotFit = 4
+abbrev pub status_of : Ended → ExitStatus
+status_of Quit = status.Done
+status_of InputEnd = status.Done
+status_of ImageRefused = status.Refused
+status_of TraceRefused = status.Refused
+status_of NotFit = status.NotFit
 
 -- a fault in words
 abbrev pub fault_words : BundleErr → List ℕ

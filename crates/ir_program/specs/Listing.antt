@@ -8,6 +8,8 @@ use Rattle.ir_text.specs.Texts.{log_text}
 use Rattle.ir_debug.specs.Machine.Opening.{TraceRefused, opening_text}
 use Rattle.ir_record_run.specs.Recording.{thread_line}
 use Rattle.ir_files.specs.Writers.{Writer, Failed}
+use Rattle.ir_files.specs.declared.exit_status.ExitStatus.{ExitStatus}
+use Rattle.ir_files.specs.declared.exit_status.ExitStatus.TheVariants as status
 use Rattle.ir_program.specs.declared.fault.BundleErr.{BundleErr}
 use Rattle.ir_program.specs.declared.fault.BundleErr.TheVariants as fault
 use Rattle.ir_program.specs.declared.list_err.ListErr.{ListErr}
@@ -37,9 +39,9 @@ shown (Ok r) = listing r
 shown (Err e) = opening_text (TraceRefused e)
 
 -- and the exit status
-abbrev pub status_of : Result Recorded TraceErr → ℕ
-status_of (Ok r) = 0
-status_of (Err e) = 3
+abbrev pub status_of : Result Recorded TraceErr → ExitStatus
+status_of (Ok r) = status.Done
+status_of (Err e) = status.Refused
 
 -- what is left where not all of a text was written
 abbrev pub Stops : ListErr → Writer → List ℕ → Type 0

@@ -4,6 +4,7 @@ ghost use Rattle.std.specs.Prelude.{◌≡◌, ◌≢◌, IfOk, IfErr, OnOk, Ok,
 ghost use Rattle.ir_program.specs.Bundle.{status_of, fault_words};
 ghost use Rattle.ir_program.specs.Leaving.{Comes, Leaves};
 ghost use Rattle.ir_files.specs.Writers.{writer_of, Reports, fault_text};
+ghost use Rattle.ir_files.specs.declared.exit_status.ExitStatus.TheVariants.{Failed};
 ghost use Rattle.ir_program.specs.declared.fault.BundleErr.{BundleErr};
 ghost use Rattle.ir_debug.specs.declared.ended.Ended.{Ended};
 ghost use Rattle.ir_program.specs.Taking.{reader_of, TakesBytes, LineFails};
@@ -11,14 +12,11 @@ ghost use Rattle.ir_program.specs.Taking.{reader_of, TakesBytes, LineFails};
 use crate::fault::BundleErr;
 use crate::line::{bytes_of, read_line};
 use ir_debug::{Ended, SessionErr, Sink, Source, session};
-use ir_files::tell;
+use ir_files::{ExitStatus, tell};
 use ir_object::OpenGate;
 use std::alloc::Global;
 use std::thread::Threads;
 use std::time::Clock;
-
-/// The exit status of a fault.
-pub const FAULT: u8 = 1;
 
 // The bytes of the next line of hexadecimal digits.
 fn next_bytes<R: Source>(alloc: Global, reader: &mut R) -> Result<Vec<u8>, BundleErr>
@@ -73,35 +71,35 @@ pub fn bundled<T: Threads + Clock + Sync, R: Source, W: Sink>(
     }
 }
 
-/// The exit status of a session that ended: 0, 3 for a refused image or trace, 4 for a trace that doesn't fit.
-pub fn status(ended: Ended) -> u8
+/// The exit status of a session that ended.
+pub fn status(ended: Ended) -> ExitStatus
     ensures { result ≡ status_of ended }
 {
     match ended {
-        Ended::Quit | Ended::InputEnd => 0,
-        Ended::ImageRefused | Ended::TraceRefused => 3,
-        Ended::NotFit => 4,
+        Ended::Quit | Ended::InputEnd => ExitStatus::Done,
+        Ended::ImageRefused | Ended::TraceRefused => ExitStatus::Refused,
+        Ended::NotFit => ExitStatus::NotFit,
     }
 }
 
-/// Runs a bundled session, and gives the exit status: 0 where it ended, 3 for a refused image or trace, 4 for a trace
-/// that doesn't fit, 1 for a fault, which is told in one line.
+/// Runs a bundled session, and gives the exit status: that of the session where it ended, and `Failed` for a fault, which is
+/// told in one line.
 pub fn bundle<T: Threads + Clock + Sync, R: Source, W: Sink, E: Sink>(
     rt: &T,
     alloc: Global,
     reader: &mut R,
     writer: &mut W,
     faults: &mut E,
-) -> u8
+) -> ExitStatus
     requires reads { R.broken reader.old ≡ false }
     requires writes { W.broken writer.old ≡ false }
     requires reports { E.broken faults.old ≡ false }
     // The status of a session that ended, whose bytes were written. No fault is told.
-    ensures ended { result ≢ 1 → (e : Ended) × (result ≡ status_of e) × Comes (Ok e)
+    ensures ended { result ≢ Failed → (e : Ended) × (result ≡ status_of e) × Comes (Ok e)
         (reader_of (R.left reader.old) (R.left reader.new) (R.broken reader.new))
         (writer_of (W.written writer.old) (W.written writer.new) (W.broken writer.new)) × (faults.new ≡ faults.old) }
     // Else what stopped it, what that leaves, and that it is told.
-    ensures stopped { result ≡ 1 → (e : BundleErr) × Leaves e
+    ensures stopped { result ≡ Failed → (e : BundleErr) × Leaves e
         (reader_of (R.left reader.old) (R.left reader.new) (R.broken reader.new))
         (writer_of (W.written writer.old) (W.written writer.new) (W.broken writer.new)) (writer.new ≡ writer.old)
         × Reports (writer_of (E.written faults.old) (E.written faults.new) (E.broken faults.new)) (fault_text (fault_words e)) }
@@ -110,7 +108,7 @@ pub fn bundle<T: Threads + Clock + Sync, R: Source, W: Sink, E: Sink>(
         Ok(ended) => status(ended),
         Err(why) => {
             tell(faults, why.words());
-            FAULT
+            ExitStatus::Failed
         }
     }
 }

@@ -4,8 +4,8 @@ ghost use Rattle.std.specs.Prelude.{◌≡◌, OnSome, false};
 
 pub mod assemble;
 pub mod debug;
-pub mod list;
 pub mod record;
+pub mod trace;
 
 use ir_files::{Folder, loses, read_file, tell_of};
 use ir_stream::Sink;

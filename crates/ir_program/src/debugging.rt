@@ -5,15 +5,15 @@ ghost use Rattle.ir_program.specs.Bundle.{status_of, fault_words};
 ghost use Rattle.ir_program.specs.Taking.{reader_of};
 ghost use Rattle.ir_program.specs.Leaving.{Ends, Stops, fault_of};
 ghost use Rattle.ir_files.specs.Writers.{writer_of, Reports, fault_text};
+ghost use Rattle.ir_files.specs.declared.exit_status.ExitStatus.TheVariants.{Failed};
 ghost use Rattle.ir_debug.specs.declared.ended.Ended.{Ended};
 ghost use Rattle.ir_debug.specs.declared.ended.SessionErr.{SessionErr};
 
-use crate::bundles::{FAULT, status};
+use crate::bundles::status;
 use crate::fault::BundleErr;
 use ir_debug::{SessionErr, Sink, Source, session};
-use ir_files::tell;
+use ir_files::{ExitStatus, tell};
 use ir_object::OpenGate;
-use std::alloc::Global;
 use std::thread::Threads;
 use std::time::Clock;
 
@@ -28,35 +28,34 @@ fn fault_of(error: SessionErr) -> BundleErr
     }
 }
 
-/// Runs the session of an image and a trace over the lines of the reader, and gives the exit status: 0 where it ended, 3
-/// for a refused image or trace, 4 for a trace that doesn't fit, 1 for a fault, which is told in one line.
-pub fn debug_run<T: Threads + Clock + Sync, R: Source, W: Sink, E: Sink>(
+/// Runs the session of an image and a trace over the lines of the reader, and gives the exit status: that of the session
+/// where it ended, and `Failed` for a fault, which is told in one line.
+pub fn debug_run<T: Threads + Clock + Sync + AllocGlobal, R: Source, W: Sink, E: Sink>(
     rt: &T,
-    alloc: Global,
     image: &[u8],
     trace: &[u8],
     reader: &mut R,
     writer: &mut W,
     faults: &mut E,
-) -> u8
+) -> ExitStatus
     requires reads { R.broken reader.old ≡ false }
     requires writes { W.broken writer.old ≡ false }
     requires reports { E.broken faults.old ≡ false }
     // The status of a session that ended, whose bytes were written. No fault is told.
-    ensures ended { result ≢ 1 → (e : Ended) × (result ≡ status_of e) × Ends image.now trace.now (Ok e)
+    ensures ended { result ≢ Failed → (e : Ended) × (result ≡ status_of e) × Ends image.now trace.now (Ok e)
         (reader_of (R.left reader.old) (R.left reader.new) (R.broken reader.new))
         (writer_of (W.written writer.old) (W.written writer.new) (W.broken writer.new)) × (faults.new ≡ faults.old) }
     // Else what stopped it, what that leaves, and that it is told.
-    ensures stopped { result ≡ 1 → (e : SessionErr) × Stops image.now trace.now e
+    ensures stopped { result ≡ Failed → (e : SessionErr) × Stops image.now trace.now e
         (reader_of (R.left reader.old) (R.left reader.new) (R.broken reader.new))
         (writer_of (W.written writer.old) (W.written writer.new) (W.broken writer.new)) ((reader.new ≡ reader.old) × (writer.new ≡ writer.old))
         × Reports (writer_of (E.written faults.old) (E.written faults.new) (E.broken faults.new)) (fault_text (fault_words (fault_of e))) }
 {
-    match session(rt, alloc, image, trace, reader, writer, &OpenGate) {
+    match session(rt, rt.alloc(), image, trace, reader, writer, &OpenGate) {
         Ok(ended) => status(ended),
         Err(error) => {
             tell(faults, fault_of(error).words());
-            FAULT
+            ExitStatus::Failed
         }
     }
 }

@@ -5,28 +5,18 @@ ghost use Rattle.std.specs.Prelude.{◌≡◌, false};
 use crate::bundles::bundle;
 use crate::commands::assemble::assemble_file;
 use crate::commands::debug::debug_files;
-use crate::commands::list::list_file;
 use crate::commands::record::record_file;
 use crate::commands::say;
+use crate::commands::trace::trace_file;
 use crate::prompting::Prompting;
 use ir_arguments::{Asked, parsed};
 use ir_debug::{Sink, Source};
-use ir_files::Folder;
+use ir_files::{ExitStatus, Folder};
 use ir_object::Gate;
 use ir_stream::write_all;
-use std::alloc::Global;
 use std::sync::Wait;
 use std::thread::Threads;
 use std::time::Clock;
-
-/// All was done.
-pub const DONE: u8 = 0;
-
-/// Something failed.
-pub const FAULT: u8 = 1;
-
-/// The words ask for nothing that there is.
-pub const BAD_ARGUMENTS: u8 = 2;
 
 /// Which streams are terminals.
 #[derive(Clone, Copy, Debug, PartialEq, Eq)]
@@ -47,28 +37,35 @@ pub struct Invocation<'a> {
 }
 
 // Writes a text about the program.
-fn help<O: Sink, E: Sink>(text: &str, out: &mut O, faults: &mut E) -> u8 {
+fn help<O: Sink, E: Sink>(text: &str, out: &mut O, faults: &mut E) -> ExitStatus {
     match write_all(out, text.as_bytes()) {
-        Ok(()) => DONE,
+        Ok(()) => ExitStatus::Done,
         Err(_) => {
             say(faults, "standard output can't be written", "", "");
-            FAULT
+            ExitStatus::Failed
         }
     }
 }
 
-/// Does what the arguments ask for, and gives the exit status. Threads that record or replay are those of the handle, and
-/// the gate is told of what they do while they record.
+/// What the program uses beside its streams.
+#[derive(Clone, Copy)]
+pub struct Surroundings<'a, R, D, G> {
+    /// Memory, the clock, and the threads that record or replay.
+    pub rt: &'a R,
+    /// The files that the arguments name.
+    pub folder: &'a D,
+    /// What is told of what threads do while they record.
+    pub gate: &'a G,
+}
+
+/// Does what the arguments ask for, and gives the exit status.
 pub fn program<R, D, G, I, O, E>(
-    rt: &R,
-    alloc: Global,
+    around: Surroundings<'_, R, D, G>,
     invocation: &Invocation<'_>,
-    folder: &D,
-    gate: &G,
     input: I,
     out: &mut O,
     faults: &mut E,
-) -> u8
+) -> ExitStatus
 where
     R: Threads + Wait + Sync + Clock + Eprint + AllocGlobal,
     D: Folder,
@@ -80,35 +77,31 @@ where
     requires writes { O.broken out.old ≡ false }
     requires reports { E.broken faults.old ≡ false }
 {
+    let Surroundings { rt, folder, gate } = around;
+    let alloc = rt.alloc();
     let terminals = invocation.terminals;
     match parsed(alloc, invocation.arguments) {
         Asked::Session => {
             let mut input = input;
             bundle(rt, alloc, &mut input, out, faults)
         }
-        Asked::Debugging(image, trace) => debug_files(
-            rt,
-            alloc,
-            folder,
-            image.as_str(),
-            trace.as_str(),
-            &mut Prompting::new(input, rt, terminals.input),
-            out,
-            faults,
-        ),
-        Asked::Listing(trace) => list_file(alloc, folder, trace.as_str(), out, faults),
-        Asked::Assembling(arguments) => {
+        Asked::Assemble(arguments) => {
             assemble_file(alloc, folder, &arguments, terminals.faults, faults)
         }
-        Asked::Recording(arguments) => { record_file(rt, folder, gate, &arguments, out, faults) }
+        Asked::Record(arguments) => record_file(rt, folder, gate, &arguments, out, faults),
+        Asked::Debug(arguments) => {
+            let mut input = Prompting::new(input, rt, terminals.input);
+            debug_files(rt, folder, &arguments, &mut input, out, faults)
+        }
+        Asked::Trace(arguments) => trace_file(alloc, folder, &arguments, out, faults),
         Asked::Help(text) => help(text.as_str(), out, faults),
         Asked::Nothing(why) => {
             say(faults, why.as_str(), "", "");
-            BAD_ARGUMENTS
+            ExitStatus::BadArguments
         }
         Asked::NoMem => {
             say(faults, "memory ran out", "", "");
-            FAULT
+            ExitStatus::Failed
         }
     }
 }

@@ -16,6 +16,6 @@ mod tracing;
 
 pub use assembling::asm_run;
 pub use bundles::{bundle, bundled};
-pub use dispatch::{BAD_ARGUMENTS, DONE, FAULT, Invocation, Terminals, program};
+pub use dispatch::{Invocation, Surroundings, Terminals, program};
 pub use fault::BundleErr;
 pub use tracing::trace_run;

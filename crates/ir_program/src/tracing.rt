@@ -6,23 +6,18 @@ ghost use Rattle.ir_trace.specs.Reading.{recorded_at};
 ghost use Rattle.ir_program.specs.Bundle.{fault_words};
 ghost use Rattle.ir_program.specs.Listing.{shown, status_of, Stops, fault_of};
 ghost use Rattle.ir_files.specs.Writers.{writer_of, Took, Reports, fault_text};
+ghost use Rattle.ir_files.specs.declared.exit_status.ExitStatus.TheVariants.{Failed};
 ghost use Rattle.ir_program.specs.declared.list_err.ListErr.{ListErr};
 
 use crate::list_err::ListErr;
 use crate::listing::{write_listing, write_refusal};
 use ir_debug::Sink;
-use ir_files::tell;
+use ir_files::{ExitStatus, tell};
 use ir_trace::{TraceErr, read_trace};
 use std::alloc::Global;
 
-const DONE: u8 = 0;
-
-const FAULT: u8 = 1;
-
-const REFUSED: u8 = 3;
-
 // Writes what the bytes of a trace show; the status.
-fn show<W: Sink>(alloc: Global, trace: &[u8], out: &mut W) -> Result<u8, ListErr>
+fn show<W: Sink>(alloc: Global, trace: &[u8], out: &mut W) -> Result<ExitStatus, ListErr>
     requires { W.broken out.old ≡ false }
     ensures ok { IfOk result (λ status. (status ≡ status_of (recorded_at trace.now)) × Appends (W.written out.old) (W.written out.new) (shown (recorded_at trace.now))) }
     ensures works { OnOk result (W.broken out.new ≡ false) }
@@ -31,28 +26,33 @@ fn show<W: Sink>(alloc: Global, trace: &[u8], out: &mut W) -> Result<u8, ListErr
     match read_trace(alloc, trace) {
         Ok(trace) => {
             write_listing(alloc, &trace, out)?;
-            Ok(DONE)
+            Ok(ExitStatus::Done)
         }
         Err(TraceErr::NoMem) => Err(ListErr::NoMem),
         Err(error) => {
             write_refusal(alloc, &error, out)?;
-            Ok(REFUSED)
+            Ok(ExitStatus::Refused)
         }
     }
 }
 
-/// Lists the bytes of a trace: writes its lines, or the line with which a session refuses it. The answer is the exit
-/// status: 0 where all lines were written, 3 where the trace is refused, which was written, and 1 where memory ran out or
-/// the writer failed, with a prefix written at most and the fault told in one line.
-pub fn trace_run<W: Sink, E: Sink>(alloc: Global, trace: &[u8], out: &mut W, faults: &mut E) -> u8
+/// Lists the bytes of a trace: writes its lines, or the line with which a session refuses it. The exit status is `Done`
+/// where all lines were written, `Refused` where the trace is refused, which was written, and `Failed` where memory ran out
+/// or the writer failed, with a prefix written at most and the fault told in one line.
+pub fn trace_run<W: Sink, E: Sink>(
+    alloc: Global,
+    trace: &[u8],
+    out: &mut W,
+    faults: &mut E,
+) -> ExitStatus
     requires writes { W.broken out.old ≡ false }
     requires reports { E.broken faults.old ≡ false }
     // All was written, by what the bytes are, and no fault told.
-    ensures done { result ≢ 1 → (result ≡ status_of (recorded_at trace.now))
+    ensures done { result ≢ Failed → (result ≡ status_of (recorded_at trace.now))
         × Took (writer_of (W.written out.old) (W.written out.new) (W.broken out.new)) (shown (recorded_at trace.now))
         × (W.broken out.new ≡ false) × (faults.new ≡ faults.old) }
     // Else what stopped it, what that leaves, and that it is told.
-    ensures stopped { result ≡ 1 → (e : ListErr)
+    ensures stopped { result ≡ Failed → (e : ListErr)
         × Stops e (writer_of (W.written out.old) (W.written out.new) (W.broken out.new)) (shown (recorded_at trace.now))
         × Reports (writer_of (E.written faults.old) (E.written faults.new) (E.broken faults.new)) (fault_text (fault_words (fault_of e))) }
 {
@@ -60,7 +60,7 @@ pub fn trace_run<W: Sink, E: Sink>(alloc: Global, trace: &[u8], out: &mut W, fau
         Ok(status) => status,
         Err(why) => {
             tell(faults, why.fault().words());
-            FAULT
+            ExitStatus::Failed
         }
     }
 }

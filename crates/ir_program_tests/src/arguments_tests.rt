@@ -2,6 +2,7 @@
 
 use crate::device_tests::{ENDLESS, empty_page};
 use ir_arguments::{ASM_AFTER, Asked, parsed};
+use ir_files::ExitStatus;
 use ir_program::asm_run;
 use ir_thread::{Call, Profile};
 use std::test::Fail;
@@ -72,7 +73,7 @@ fn wrong_arguments_are_named(rt: HostRuntime) -> Result<(), Fail> {
 #[test]
 fn a_list_may_begin_with_a_hyphen(rt: HostRuntime) -> Result<(), Fail> {
     match asked(&rt, "ir record a.img a.trc --order -1")? {
-        Asked::Recording(arguments) => {
+        Asked::Record(arguments) => {
             assert_eq!(rt;
                 arguments.order.as_ref().map(|list| list.as_str()),
                 Some("-1")
@@ -91,7 +92,7 @@ fn the_first_profile_is_taken_where_none_is_given(rt: HostRuntime) -> Result<(),
         ("ir record a.img a.trc --profile 2", Profile::Two),
     ] {
         match asked(&rt, line)? {
-            Asked::Recording(arguments) => assert_eq!(rt; arguments.profile, wanted),
+            Asked::Record(arguments) => assert_eq!(rt; arguments.profile, wanted),
             _ => assert!(rt; false),
         }
     }
@@ -133,7 +134,7 @@ fn is_taken(rt: &HostRuntime, name: &str, operands: &str) -> Result<bool, Fail> 
     let mut image = empty_page(rt, 1000, ENDLESS);
     let mut faults = empty_page(rt, 1000, ENDLESS);
     let status = asm_run(rt.alloc(), source.as_bytes(), None, &mut image, &mut faults);
-    Ok(status == 0)
+    Ok(status == ExitStatus::Done)
 }
 
 // Each of the 50 instructions stands in the help by its form.

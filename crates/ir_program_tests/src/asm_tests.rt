@@ -37,7 +37,7 @@ fn assembled(
     let mut image = empty_page(rt, most, image_calls);
     let mut faults = empty_page(rt, most, fault_calls);
     let status = asm_run(rt.alloc(), source, None, &mut image, &mut faults);
-    (status, image, faults)
+    (status.number(), image, faults)
 }
 
 #[test]
@@ -149,7 +149,7 @@ fn explained(rt: &HostRuntime, source: &[u8], fault_calls: u64) -> (u8, Page) {
     let mut image = empty_page(rt, 1, 0);
     let mut faults = empty_page(rt, 7, fault_calls);
     let status = asm_run(rt.alloc(), source, Some("bad.s"), &mut image, &mut faults);
-    (status, faults)
+    (status.number(), faults)
 }
 
 // A report by its parts.

@@ -159,8 +159,8 @@ fn answered<R: AllocGlobal + Threads + Clock + Sync>(
     };
     let mut writer = empty_page(rt, most, ENDLESS);
     let mut faults = empty_page(rt, most, ENDLESS);
-    let code = bundle(rt, rt.alloc(), &mut reader, &mut writer, &mut faults);
-    Ok((writer, faults, code))
+    let status = bundle(rt, rt.alloc(), &mut reader, &mut writer, &mut faults);
+    Ok((writer, faults, status.number()))
 }
 
 // Each row: a trace line, commands, the answers, and the exit status.
@@ -236,7 +236,7 @@ fn lines_of_digits(rt: HostRuntime) {
         let mut faults = empty_page(&rt, 100, ENDLESS);
         let status = bundle(&rt, rt.alloc(), &mut reader, &mut writer, &mut faults);
         assert_eq!(rt; writer.bytes.as_slice(), answers);
-        assert_eq!(rt; status, wanted);
+        assert_eq!(rt; status.number(), wanted);
         let is_told = faults.bytes.as_slice().starts_with(b"ir: a line of the");
         assert_eq!(rt; is_told, wanted == 1);
     }

@@ -4,7 +4,7 @@
 use crate::device_tests::{Bytes, ENDLESS, Page, empty_page};
 use crate::shelf::Shelf;
 use ir_object::OpenGate;
-use ir_program::{Invocation, Terminals, program};
+use ir_program::{Invocation, Surroundings, Terminals, program};
 use std::alloc::{AllocError, AllocGlobal, Global};
 use std::sync::Wait;
 use std::test::Fail;
@@ -46,8 +46,11 @@ fn ran_at<R: Threads + Wait + Sync + Clock + Eprint + AllocGlobal>(
     let mut out = empty_page(rt, 1000, out_calls);
     let mut faults = empty_page(rt, 1000, ENDLESS);
     let status = program(
-        rt,
-        rt.alloc(),
+        Surroundings {
+            rt,
+            folder: &shelf,
+            gate: &OpenGate,
+        },
         &Invocation {
             arguments: words.as_slice(),
             terminals: Terminals {
@@ -55,13 +58,11 @@ fn ran_at<R: Threads + Wait + Sync + Clock + Eprint + AllocGlobal>(
                 faults: at_terminal,
             },
         },
-        &shelf,
-        &OpenGate,
         input,
         &mut out,
         &mut faults,
     );
-    Ok((status, out, faults))
+    Ok((status.number(), out, faults))
 }
 
 // The same, without a terminal.

@@ -230,7 +230,7 @@ pub fn recorded<R: Threads + Wait + Sync + Clock + AllocGlobal>(
         &mut faults,
     );
     Run {
-        status,
+        status: status.number(),
         trace,
         outputs,
         out,

@@ -35,7 +35,7 @@ fn listed(rt: &HostRuntime, trace: &[u8], most: usize, calls: u64) -> (u8, Page,
     let mut out = empty_page(rt, most, calls);
     let mut faults = empty_page(rt, most, ENDLESS);
     let status = trace_run(rt.alloc(), trace, &mut out, &mut faults);
-    (status, out, faults)
+    (status.number(), out, faults)
 }
 
 #[test]

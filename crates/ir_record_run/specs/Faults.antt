@@ -12,6 +12,8 @@ use Rattle.ir_record_run.specs.Plan.{Plan}
 use Rattle.ir_record_run.specs.Recording.{IsRecordedOf, lines_of}
 use Rattle.ir_files.specs.Outputs.{OutputWriter, TookEach, FailedAtOne}
 use Rattle.ir_files.specs.Writers.{Writer, Took, Failed}
+use Rattle.ir_files.specs.declared.exit_status.ExitStatus.{ExitStatus}
+use Rattle.ir_files.specs.declared.exit_status.ExitStatus.TheVariants as status
 use Rattle.ir_record_run.specs.declared.order.OrderErr.{OrderErr}
 use Rattle.ir_record_run.specs.declared.order.OrderErr.TheVariants as order_err
 use Rattle.ir_record_run.specs.declared.record_fault.RecordFault.{RecordFault}
@@ -22,15 +24,15 @@ abbrev pub Allows : List ℕ → Plan → Type 0
 Allows image plan = (guest : Guest) → guest_at image ≡ Ok guest → IsAllowed plan.profile guest
 
 -- the exit status of a fault
-abbrev pub fault_status : RecordFault → ℕ
-fault_status (Image e) = 3
-fault_status TooLarge = 3
-fault_status Order = 3
-fault_status NoMem = 1
-fault_status Clock = 1
-fault_status Trace = 1
-fault_status Output = 1
-fault_status Lines = 1
+abbrev pub fault_status : RecordFault → ExitStatus
+fault_status (Image e) = status.Refused
+fault_status TooLarge = status.Refused
+fault_status Order = status.Refused
+fault_status NoMem = status.Failed
+fault_status Clock = status.Failed
+fault_status Trace = status.Failed
+fault_status Output = status.Failed
+fault_status Lines = status.Failed
 
 -- the fault that a refusal of the image is
 abbrev pub of_image : ImageErr → RecordFault

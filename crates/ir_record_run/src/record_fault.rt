@@ -3,6 +3,7 @@
 ghost use Rattle.std.specs.Prelude.{◌≡◌, ◌≤◌, length};
 
 use crate::order::OrderErr;
+use ir_files::ExitStatus;
 use ir_image::ImageErr;
 use std::alloc::AllocError;
 
@@ -31,13 +32,15 @@ impl RecordFault {
     ghost use Rattle.ir_record_run.specs.Faults.{fault_status};
 
     /// The exit status.
-    pub fn status(&self) -> u8
+    pub fn status(&self) -> ExitStatus
         ensures { result ≡ fault_status self.now }
     {
         match self {
-            RecordFault::Image(_) | RecordFault::TooLarge | RecordFault::Order => 3,
-            RecordFault::NoMem | RecordFault::Clock => 1,
-            RecordFault::Trace | RecordFault::Output | RecordFault::Lines => 1,
+            RecordFault::Image(_) | RecordFault::TooLarge | RecordFault::Order => {
+                ExitStatus::Refused
+            }
+            RecordFault::NoMem | RecordFault::Clock => ExitStatus::Failed,
+            RecordFault::Trace | RecordFault::Output | RecordFault::Lines => ExitStatus::Failed,
         }
     }
 

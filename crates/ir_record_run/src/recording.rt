@@ -13,6 +13,7 @@ ghost use Rattle.ir_record_run.specs.Recording.{origins, IsRecordedOf, line_by, 
 ghost use Rattle.ir_record_run.specs.Sources.{made_with, is_counted};
 ghost use Rattle.ir_files.specs.Outputs.{output_writer_of, TookEach, FailedAtOne};
 ghost use Rattle.ir_files.specs.Writers.{writer_of};
+ghost use Rattle.ir_files.specs.declared.exit_status.ExitStatus.TheVariants.{Done};
 ghost use Rattle.ir_record_run.specs.Faults.{Allows, fault_status, Refuses, WriteFails, Stops};
 ghost use Rattle.ir_record_run.specs.declared.record_fault.RecordFault.{RecordFault};
 ghost use Rattle.ir_record_run.specs.declared.record_fault.RecordFault.TheVariants.{NoMem, Clock};
@@ -22,7 +23,7 @@ use crate::plan::RecordPlan;
 use crate::program_world::ProgramWorld;
 use crate::record_fault::RecordFault;
 use crate::time::Time;
-use ir_files::{OutputSink, WholeSink, tell, tell_of};
+use ir_files::{ExitStatus, OutputSink, WholeSink, tell, tell_of};
 use ir_image::{Image, read_image};
 use ir_object::Gate;
 use ir_record::{Outputs, RecordErr, record, record_in_turns};
@@ -32,8 +33,6 @@ use std::alloc::{AllocError, Global};
 use std::sync::Wait;
 use std::thread::Threads;
 use std::time::{Clock, Instant};
-
-const DONE: u8 = 0;
 
 // The worlds of so many threads. Each has its own random words and its own copy of the file.
 fn worlds<'a, C>(
@@ -346,9 +345,9 @@ fn tell_fault<W: WholeSink, P: OutputSink, E: Sink>(
 /// the milliseconds since the start, modulo 2^32; each thread's INPUT gives all bytes of the input. Without a list it may
 /// wait for threads, and that it ends isn't promised; the gate is told of what they do. The profile says which system calls
 /// there are.
-/// The answer is the exit status: 0 where all were written and the trace stands in its place, 3 where the image is
-/// refused, it has more threads or objects than the profile allows, or the list spells no order of its threads, and 1 where
-/// memory ran out, the clock can't be read or a writer failed; then what was written before stays. A fault is told in one line.
+/// The exit status is `Done` where all were written and the trace stands in its place; `Refused` where the image is
+/// refused, it has more threads or objects than the profile allows, or the list spells no order of its threads; and `Failed`
+/// where memory ran out, the clock can't be read or a writer failed. Then what was written before stays. A fault is told in one line.
 pub fn record_run<
     R: Threads + Wait + Sync + Clock + AllocGlobal,
     G: Gate + Sync,
@@ -365,23 +364,23 @@ pub fn record_run<
     outputs: &mut P,
     out: &mut O,
     faults: &mut E,
-) -> u8
+) -> ExitStatus
     requires writes { W.broken trace.old ≡ false }
     requires puts { P.broken outputs.old ≡ false }
     requires prints { O.broken out.old ≡ false }
     requires reports { E.broken faults.old ≡ false }
     // Of the run by the order, or of some complete run, the trace was written, what each of its threads printed as that
     // thread's output, and its lines, and no fault told.
-    ensures done { result ≡ 0 → (recorded : Recorded) × (printed : List (List ℕ)) × IsRecordedOf image.now plan.now recorded printed
+    ensures done { result ≡ Done → (recorded : Recorded) × (printed : List (List ℕ)) × IsRecordedOf image.now plan.now recorded printed
         × Appends (W.written trace.old) (W.written trace.new) (encoding recorded)
         × TookEach (output_writer_of (P.taken outputs.old) (P.taken outputs.new) (P.broken outputs.new)) printed
         × Appends (O.written out.old) (O.written out.new) (lines_of recorded) }
-    ensures whole { result ≡ 0 → W.whole trace.new ≡ true }
+    ensures whole { result ≡ Done → W.whole trace.new ≡ true }
     // The profile allows its threads and objects.
-    ensures allowed { result ≡ 0 → Allows image.now plan.now }
-    ensures quiet { result ≡ 0 → faults.new ≡ faults.old }
+    ensures allowed { result ≡ Done → Allows image.now plan.now }
+    ensures quiet { result ≡ Done → faults.new ≡ faults.old }
     // Else what stopped it, and what that left.
-    ensures stopped { result ≢ 0 → (e : RecordFault) × (result ≡ fault_status e) × Stops e image.now plan.now
+    ensures stopped { result ≢ Done → (e : RecordFault) × (result ≡ fault_status e) × Stops e image.now plan.now
         (writer_of (W.written trace.old) (W.written trace.new) (W.broken trace.new))
         (output_writer_of (P.taken outputs.old) (P.taken outputs.new) (P.broken outputs.new))
         (writer_of (O.written out.old) (O.written out.new) (O.broken out.new))
@@ -389,7 +388,7 @@ pub fn record_run<
 {
     let alloc = rt.alloc();
     match run(rt, alloc, gate, image, plan, trace, outputs, out) {
-        Ok(()) => DONE,
+        Ok(()) => ExitStatus::Done,
         Err(why) => {
             tell_fault(alloc, faults, &why, image, plan.order, trace, outputs);
             why.status()

@@ -4,9 +4,8 @@ ghost use Rattle.std.specs.Prelude.{◌≡◌, false};
 
 use crate::assembling::asm_run;
 use crate::commands::{bytes_of, is_lost, say};
-use crate::dispatch::{BAD_ARGUMENTS, DONE, FAULT};
-use ir_arguments::AssemblyArguments;
-use ir_files::{Folder, MOST_BYTES, WholeFile, WholeSink, path_beside};
+use ir_arguments::AssembleArguments;
+use ir_files::{ExitStatus, Folder, MOST_BYTES, WholeFile, WholeSink, path_beside};
 use ir_stream::Sink;
 use std::alloc::Global;
 
@@ -39,24 +38,24 @@ fn loses_source<D: Folder, E: Sink>(
 pub fn assemble_file<D: Folder, E: Sink>(
     alloc: Global,
     folder: &D,
-    arguments: &AssemblyArguments,
+    arguments: &AssembleArguments,
     explains: bool,
     faults: &mut E,
-) -> u8
+) -> ExitStatus
     requires reports { E.broken faults.old ≡ false }
 {
     let source = arguments.source.as_str();
     let image = arguments.image.as_str();
     let Ok(beside) = path_beside(alloc, image) else {
         say(faults, "memory ran out", "", "");
-        return FAULT;
+        return ExitStatus::Failed;
     };
     let mut file = WholeFile::new(folder, image, beside.as_str());
     if loses_source(folder, faults, source, image, file.first_place()) {
-        return BAD_ARGUMENTS;
+        return ExitStatus::BadArguments;
     }
     let Some(bytes) = bytes_of(alloc, folder, faults, source, MOST_BYTES) else {
-        return FAULT;
+        return ExitStatus::Failed;
     };
     // A name that would part the line, or lead a terminal, isn't shown.
     let name = if source.chars().any(|c| c.is_control()) {
@@ -66,14 +65,14 @@ pub fn assemble_file<D: Folder, E: Sink>(
     };
     let explained = (explains || arguments.explain).then_some(name);
     let status = asm_run(alloc, bytes.as_slice(), explained, &mut file, faults);
-    if status == DONE {
+    if status == ExitStatus::Done {
         let _ = file.finish();
     }
     if file.failed() {
         say(faults, image, " can't be written: ", file.why());
-        return FAULT;
+        return ExitStatus::Failed;
     }
-    if status == FAULT {
+    if status == ExitStatus::Failed {
         say(faults, source, ": ", "memory ran out");
     }
     status

@@ -4,26 +4,23 @@ ghost use Rattle.std.specs.Prelude.{◌≡◌, false};
 
 use crate::commands::bytes_of;
 use crate::debugging::debug_run;
-use crate::dispatch::FAULT;
+use ir_arguments::DebugArguments;
 use ir_debug::{Sink, Source};
-use ir_files::{Folder, MOST_BYTES};
-use std::alloc::Global;
+use ir_files::{ExitStatus, Folder, MOST_BYTES};
 use std::thread::Threads;
 use std::time::Clock;
 
 // The session of an image and a trace in files.
 pub fn debug_files<R, D, I, O, E>(
     rt: &R,
-    alloc: Global,
     folder: &D,
-    image: &str,
-    trace: &str,
+    arguments: &DebugArguments,
     reader: &mut I,
     out: &mut O,
     faults: &mut E,
-) -> u8
+) -> ExitStatus
 where
-    R: Threads + Clock + Sync,
+    R: Threads + Clock + Sync + AllocGlobal,
     D: Folder,
     I: Source,
     O: Sink,
@@ -32,19 +29,12 @@ where
     requires writes { O.broken out.old ≡ false }
     requires reports { E.broken faults.old ≡ false }
 {
-    let Some(image) = bytes_of(alloc, folder, faults, image, MOST_BYTES) else {
-        return FAULT;
+    let alloc = rt.alloc();
+    let Some(image) = bytes_of(alloc, folder, faults, arguments.image.as_str(), MOST_BYTES) else {
+        return ExitStatus::Failed;
     };
-    let Some(trace) = bytes_of(alloc, folder, faults, trace, MOST_BYTES) else {
-        return FAULT;
+    let Some(trace) = bytes_of(alloc, folder, faults, arguments.trace.as_str(), MOST_BYTES) else {
+        return ExitStatus::Failed;
     };
-    debug_run(
-        rt,
-        alloc,
-        image.as_slice(),
-        trace.as_slice(),
-        reader,
-        out,
-        faults,
-    )
+    debug_run(rt, image.as_slice(), trace.as_slice(), reader, out, faults)
 }

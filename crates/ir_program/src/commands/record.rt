@@ -3,10 +3,10 @@
 ghost use Rattle.std.specs.Prelude.{◌≡◌, OnSome, OnOk, false};
 
 use crate::commands::{bytes_of, is_lost, say};
-use crate::dispatch::{BAD_ARGUMENTS, FAULT};
 use ir_arguments::RecordArguments;
 use ir_files::{
-    Folder, MOST_BYTES, MOST_INPUT, OutputFiles, WholeFile, WholeSink, output_paths, path_beside,
+    ExitStatus, Folder, MOST_BYTES, MOST_INPUT, OutputFiles, WholeFile, WholeSink, output_paths,
+    path_beside,
 };
 use ir_image::{ImageErr, read_image};
 use ir_object::Gate;
@@ -159,16 +159,16 @@ fn output_places<D: Folder, E: Sink>(
     faults: &mut E,
     arguments: &RecordArguments,
     image: &[u8],
-) -> Result<Option<Vec<String>>, u8>
+) -> Result<Option<Vec<String>>, ExitStatus>
     ensures kept { OnOk result (faults.new ≡ faults.old) }
 {
     let Ok(paths) = paths_of(alloc, arguments, image) else {
         say(faults, "memory ran out", "", "");
-        return Err(FAULT);
+        return Err(ExitStatus::Failed);
     };
     match &paths {
         Some(each) if any_loses(folder, faults, arguments, each.as_slice()) => {
-            return Err(BAD_ARGUMENTS);
+            return Err(ExitStatus::BadArguments);
         }
         _ => {}
     }
@@ -183,7 +183,7 @@ pub fn record_file<R, D, G, O, E>(
     arguments: &RecordArguments,
     out: &mut O,
     faults: &mut E,
-) -> u8
+) -> ExitStatus
 where
     R: Threads + Wait + Sync + Clock + AllocGlobal,
     D: Folder,
@@ -197,21 +197,21 @@ where
     let place = arguments.trace.as_str();
     let Ok(beside) = path_beside(alloc, place) else {
         say(faults, "memory ran out", "", "");
-        return FAULT;
+        return ExitStatus::Failed;
     };
     let mut trace = WholeFile::new(folder, place, beside.as_str());
     if loses_input(folder, faults, arguments, trace.first_place()) {
-        return BAD_ARGUMENTS;
+        return ExitStatus::BadArguments;
     }
     let Some(image) = bytes_of(alloc, folder, faults, arguments.image.as_str(), MOST_BYTES) else {
-        return FAULT;
+        return ExitStatus::Failed;
     };
     let paths = match output_places(alloc, folder, faults, arguments, image.as_slice()) {
         Ok(paths) => paths,
         Err(status) => return status,
     };
     let Some(input) = input_of(alloc, folder, faults, arguments) else {
-        return FAULT;
+        return ExitStatus::Failed;
     };
     let paths = paths.as_ref().map(|paths| paths.as_slice());
     let mut outputs = OutputFiles::new(folder, paths, place);

@@ -1,0 +1,76 @@
+//! The arguments of `ir debug`.
+
+use crate::asked::Asked;
+use crate::values::{IMAGE, TRACE, file_arg, text_of};
+use clap::{ArgMatches, Command};
+use std::alloc::{AllocError, Global};
+
+/// What follows the help of `ir debug`.
+pub const DEBUG_AFTER: &str =
+    "The session opens with `ready`, or with what is wrong with IMAGE or TRACE, and reads no line then. Then each line of
+standard input is a command, and is answered before the next is read. A position is a number of steps of a thread; the
+threads stand at a cut, a position for each, at which all that their steps need of other threads has been done.
+  step T N      N steps of thread T forwards, the others no further than these need
+  back T N      N steps of thread T backwards, the others no further than must be
+  goto T K      thread T to position K, forwards or backwards
+  cont T        thread T forwards to the first position at which a point hits it, or to its last
+  rcont T       thread T backwards to the last position at which a point hits it, or to 0
+  start         all threads to position 0
+  end           all threads to their last positions
+  pos           the position of each thread
+  break T A     sets a breakpoint: hits thread T before the instruction at address A of the code
+  watch T A     sets a watchpoint: hits thread T behind a step that changes the word at address A of its memory
+  owatch O      sets an object's watchpoint: hits a thread behind its step that leaves object O after writing
+  clear N       takes point N away; the three above answer `point N`, the next number from 1 on, and 64 may be set
+  regs T        pc and registers of thread T
+  mem T A N     N bytes, 1 to 256, from address A on, of the code or of thread T's memory
+  obj O         object O: its version, who is inside, its words
+  out T         what thread T has put out
+  log T         the events that thread T has logged so far
+  next T        the next step of thread T
+  keep          keeps the cut, by the next number from 1 on; 64 are kept beside the start, which is 0
+  load N        all threads to the kept cut N
+  drop N        keeps the cut N no longer
+  kept          each number, and the positions of its cut
+  quit          ends the session
+Numbers are decimal, or `0x` and hexadecimal digits. A move answers `at` and the positions, one of thread T then `hit N` where
+point N stopped it, `end` where it is at its last position and `start` where it is at 0. A line that can't be carried out is
+answered `refused R` and why, and changes nothing. At a terminal standard error prompts for each line.
+What a session opens with instead of `ready`:
+  image refused N           1 cut short, 2 no image, 3 a number over its limit, 4 an entry outside the code, 5 bytes left over
+  trace refused N           1 cut short, 2 no trace, 3 a number over its limit, 4 an unknown event, 5 reserved bytes that aren't 0,
+                            6 an end, a code or an input out of its range, 7 bytes left over
+  header differs C          1 another number of threads than the image has, 2 of objects
+  incoherent thread T event E cause C
+                            event E of thread T is an entry at a version that 1 nobody made, 2 another write entry has too,
+                            3 had another number of readers
+  thread T disagrees event E step S
+                            step S of thread T isn't what the trace has, E being the next event of its log
+  thread T starves event E  event E of thread T is an entry whose version or readers never come
+  thread T same             thread T ends as the trace says, while another doesn't
+Exit status: 0 done, 1 a fault, 2 bad arguments, 3 a refused image or trace, 4 a trace that doesn't fit.
+";
+
+/// Which run is debugged.
+#[derive(Drop)]
+pub struct DebugArguments {
+    /// The file of the image.
+    pub image: String,
+    /// The file of the trace.
+    pub trace: String,
+}
+
+/// The command with its arguments.
+pub fn with_arguments<'a>(alloc: Global, command: Command<'a>) -> Result<Command<'a>, AllocError> {
+    command
+        .arg(file_arg(alloc, IMAGE, "The file with the image"))?
+        .arg(file_arg(alloc, TRACE, "The file with the trace"))
+}
+
+/// What its arguments ask for.
+pub fn asked(alloc: Global, matches: &ArgMatches<'_>) -> Result<Asked, AllocError> {
+    Ok(Asked::Debug(DebugArguments {
+        image: text_of(alloc, matches, IMAGE)?,
+        trace: text_of(alloc, matches, TRACE)?,
+    }))
+}

@@ -1,0 +1,83 @@
+//! The subcommands, in one table.
+
+use crate::asked::Asked;
+use crate::{assemble, debug, record, trace};
+use clap::{ArgMatches, Command};
+use std::alloc::{AllocError, Global};
+
+/// A subcommand.
+#[derive(Clone, Copy)]
+pub enum Subcommand {
+    Assemble,
+    Record,
+    Debug,
+    Trace,
+}
+
+/// The subcommands, in the order in which the help lists them.
+pub const SUBCOMMANDS: [Subcommand; 4] = [
+    Subcommand::Assemble,
+    Subcommand::Record,
+    Subcommand::Debug,
+    Subcommand::Trace,
+];
+
+/// What the help says of a subcommand, beside its arguments.
+#[derive(Clone, Copy)]
+pub struct Row<'a> {
+    pub name: &'a str,
+    pub about: &'a str,
+    pub after: &'a str,
+}
+
+impl Subcommand {
+    /// Its name, what it does, and what follows its help.
+    pub fn row<'a>(self) -> Row<'a> {
+        match self {
+            Subcommand::Assemble => Row {
+                name: "asm",
+                about: "Assembles a guest's source into an image",
+                after: assemble::ASM_AFTER,
+            },
+            Subcommand::Record => Row {
+                name: "record",
+                about: "Records a guest, and prints a line for each thread",
+                after: record::RECORD_AFTER,
+            },
+            Subcommand::Debug => Row {
+                name: "debug",
+                about: "Debugs a recorded run, forwards and backwards",
+                after: debug::DEBUG_AFTER,
+            },
+            Subcommand::Trace => Row {
+                name: "trace",
+                about: "Prints a trace in lines",
+                after: trace::TRACE_AFTER,
+            },
+        }
+    }
+
+    /// The parser of its arguments.
+    pub fn command<'a>(self, alloc: Global) -> Result<Command<'a>, AllocError> {
+        let row = self.row();
+        let command = Command::new(alloc, row.name)
+            .about(row.about)
+            .after_help(row.after);
+        match self {
+            Subcommand::Assemble => assemble::with_arguments(alloc, command),
+            Subcommand::Record => record::with_arguments(alloc, command),
+            Subcommand::Debug => debug::with_arguments(alloc, command),
+            Subcommand::Trace => trace::with_arguments(alloc, command),
+        }
+    }
+
+    /// What its arguments ask for.
+    pub fn asked(self, alloc: Global, matches: &ArgMatches<'_>) -> Result<Asked, AllocError> {
+        match self {
+            Subcommand::Assemble => assemble::asked(alloc, matches),
+            Subcommand::Record => record::asked(alloc, matches),
+            Subcommand::Debug => debug::asked(alloc, matches),
+            Subcommand::Trace => trace::asked(alloc, matches),
+        }
+    }
+}

@@ -1,0 +1,32 @@
+//! Arguments that more than one subcommand has, and how their values are read.
+
+use clap::{Arg, ArgMatches};
+use std::alloc::{AllocError, Global};
+
+/// The file of an image.
+pub const IMAGE: &str = "IMAGE";
+
+/// The file of a trace.
+pub const TRACE: &str = "TRACE";
+
+/// A file that has to be named.
+pub fn file_arg<'a>(alloc: Global, name: &'a str, help: &'a str) -> Arg<'a> {
+    Arg::new(alloc, name).required(true).help(help)
+}
+
+/// The text of an argument, empty where it isn't given.
+pub fn text_of(alloc: Global, matches: &ArgMatches<'_>, name: &str) -> Result<String, AllocError> {
+    String::from_str(alloc, matches.get_str(name).unwrap_or_default())
+}
+
+/// The text of an option, if it is given.
+pub fn given_text(
+    alloc: Global,
+    matches: &ArgMatches<'_>,
+    name: &str,
+) -> Result<Option<String>, AllocError> {
+    match matches.get_str(name) {
+        Some(text) => Ok(Some(String::from_str(alloc, text)?)),
+        None => Ok(None),
+    }
+}
