@@ -42,6 +42,8 @@ mod tries_tests;
 pub mod trying_guests;
 #[cfg(test)]
 mod waiting_tests;
+#[cfg(test)]
+mod weave_tests;
 pub mod worlds;
 
 pub use laws::recordings_fit;
