@@ -103,11 +103,9 @@ OWN_FILES = [
     ("asm d.s ./d.s", "ir: ./d.s: IMAGE would be written over SOURCE\n"),
     ("asm d.s link.s", "ir: link.s: IMAGE would be written over SOURCE\n"),
     ("asm d.s hard.s", "ir: hard.s: IMAGE would be written over SOURCE\n"),
-    ("asm d.trc.part d.trc", "ir: d.trc.part: IMAGE.part would be written over SOURCE\n"),
     ("record d.img d.img", "ir: d.img: TRACE would be written over IMAGE\n"),
     ("record d.img link.img", "ir: link.img: TRACE would be written over IMAGE\n"),
     ("record d.img d.trc --input d.trc", "ir: d.trc: TRACE would be written over FILE\n"),
-    ("record d.trc.part d.trc", "ir: d.trc.part: TRACE.part would be written over IMAGE\n"),
 ]
 
 # One of the threads of `examples/counter.s`, each of which adds one to the first word of an object, in 18 steps.
@@ -237,6 +235,27 @@ def test_own_files(folder):
         wants(arguments, (ended.returncode, ended.stdout, ended.stderr.decode()), (2, b"", message))
     for name in names:
         wants(name, (folder / name).read_bytes(), before[name])
+
+
+def test_parts(folder):
+    """A file that is there already stays, whatever its name; recordings to one place at once each end whole."""
+    (folder / "w.trc.part").write_bytes(b"mine")
+    (folder / "elsewhere").write_bytes(b"mine too")
+    (folder / "w.trc.part2").symlink_to("elsewhere")
+    (folder / "w.trc.part3").symlink_to("nowhere")
+    ended = run("record d.img w.trc", folder)
+    wants("recording", (ended.returncode, ended.stdout, ended.stderr), (0, DOUBLE_LINE, b""))
+    wants("the part of another", (folder / "w.trc.part").read_bytes(), b"mine")
+    wants("what a link leads to", (folder / "elsewhere").read_bytes(), b"mine too")
+    wants("what a link leads to nowhere", (folder / "nowhere").exists(), False)
+    wants("the trace", run("trace w.trc", folder).stdout, DOUBLE_TRACE)
+    at_once = [subprocess.Popen([PROGRAM, "record", "d.img", "same.trc"], cwd=folder, stdout=subprocess.PIPE, stderr=subprocess.PIPE)
+               for _ in range(8)]
+    for recording in at_once:
+        out, faults = recording.communicate(timeout=60)
+        wants("one of eight recordings", (recording.returncode, out, faults), (0, DOUBLE_LINE, b""))
+    wants("the trace of one of them", run("trace same.trc", folder).stdout, DOUBLE_TRACE)
+    wants("parts", list(folder.glob("same.trc.part*")), [])
 
 
 def test_names(folder):

@@ -36,7 +36,7 @@ list, rounds over the threads from 0 on take one step of each that has one, unti
 18 steps before thread 0 takes its first.
 CLOCK gives milliseconds since the start, modulo 2^32; with LIST it counts its own calls from 0, in each thread.
 RANDOM gives PCG32's words, started by S plus the thread's number; each thread reads its own copy of FILE, of at most
-1048576 bytes, or nothing. TRACE is written as TRACE.part, which is renamed once it is whole.
+1048576 bytes, or nothing. TRACE is written to a new file, TRACE.part, which is renamed once it is whole.
 With P 2 guests may call TRY_WRITE too, call 13, and TRACE is of the second form, IRT2; with 1 it is an unknown call, TRACE
 is IRT1, and a guest has at most 8 threads and 16 objects. A try is answered 0 where another thread is inside, and may be
 where none is; with LIST it isn't then.

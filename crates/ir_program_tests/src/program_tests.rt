@@ -129,7 +129,7 @@ pub fn prepared<R: Threads + Wait + Sync + Clock + Eprint + AllocGlobal>(
 const EXPLAINED: &str = "line 2 error 2\nbad.s:2: an unknown instruction or directive: x\n";
 
 // The words, the exit status, and what is told.
-const ROWS: [(&str, u8, &str); 51] = [
+const ROWS: [(&str, u8, &str); 49] = [
     (
         "ir asm",
         2,
@@ -195,16 +195,6 @@ const ROWS: [(&str, u8, &str); 51] = [
         "ir record d.img longer --input longer",
         2,
         "ir: longer: TRACE would be written over FILE\n",
-    ),
-    (
-        "ir record held.trc.part held.trc",
-        2,
-        "ir: held.trc.part: TRACE.part would be written over IMAGE\n",
-    ),
-    (
-        "ir record d.img held.trc --input held.trc.part",
-        2,
-        "ir: held.trc.part: TRACE.part would be written over FILE\n",
     ),
     (
         "ir record image.1 d.trc --output image",
@@ -479,6 +469,23 @@ fn outputs_are_written_where_they_are_asked_for(rt: HostRuntime) -> Result<(), F
         assert_eq!(rt; are_there(&shelf), (is_asked_for, is_asked_for, false));
     }
     assert!(rt; holds(&shelf, "other.0", b"A") && holds(&shelf, "other.1", b""));
+    Ok(())
+}
+
+// A file that is there already is neither written to nor removed, though it has the name of a part.
+#[test]
+fn a_part_of_another_stays(rt: HostRuntime) -> Result<(), Fail> {
+    let shelf = prepared(&rt)?;
+    for line in [
+        "ir record d.img held.trc",
+        "ir record d.img held.trc --input held.trc.part",
+        "ir asm d.s held.trc",
+    ] {
+        assert!(rt; goes_well(&rt, &shelf, line)?, "{line}");
+        assert!(rt; shelf.bytes_of("held.trc").is_some(), "{line}");
+        assert!(rt; holds(&shelf, "held.trc.part", b"A"), "{line}");
+        assert!(rt; shelf.bytes_of("held.trc.part2").is_none(), "{line}");
+    }
     Ok(())
 }
 

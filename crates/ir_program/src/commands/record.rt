@@ -6,7 +6,6 @@ use crate::commands::{bytes_of, is_lost, say};
 use ir_arguments::RecordArguments;
 use ir_files::{
     ExitStatus, Folder, MOST_BYTES, MOST_INPUT, OutputFiles, WholeFile, WholeSink, output_paths,
-    path_beside,
 };
 use ir_image::{ImageErr, read_image};
 use ir_object::Gate;
@@ -32,13 +31,8 @@ fn input_of<D: Folder, E: Sink>(
     }
 }
 
-// Whether a recording's trace, or what it is written to first, would be written over one of the files that it reads.
-fn loses_input<D: Folder, E: Sink>(
-    folder: &D,
-    faults: &mut E,
-    arguments: &RecordArguments,
-    first: &str,
-) -> bool
+// Whether a recording's trace would be written over one of the files that it reads.
+fn loses_input<D: Folder, E: Sink>(folder: &D, faults: &mut E, arguments: &RecordArguments) -> bool
     ensures kept { result ≡ false → faults.new ≡ faults.old }
 {
     let trace = arguments.trace.as_str();
@@ -49,32 +43,17 @@ fn loses_input<D: Folder, E: Sink>(
         "TRACE would be written over IMAGE",
         image,
         trace,
-    ) || is_lost(
-        folder,
-        faults,
-        "TRACE.part would be written over IMAGE",
-        image,
-        first,
     ) {
         return true;
     }
     match &arguments.input {
-        Some(file) => {
-            let file = file.as_str();
-            is_lost(
-                folder,
-                faults,
-                "TRACE would be written over FILE",
-                file,
-                trace,
-            ) || is_lost(
-                folder,
-                faults,
-                "TRACE.part would be written over FILE",
-                file,
-                first,
-            )
-        }
+        Some(file) => is_lost(
+            folder,
+            faults,
+            "TRACE would be written over FILE",
+            file.as_str(),
+            trace,
+        ),
         None => false,
     }
 }
@@ -195,12 +174,8 @@ where
 {
     let alloc = rt.alloc();
     let place = arguments.trace.as_str();
-    let Ok(beside) = path_beside(alloc, place) else {
-        say(faults, "memory ran out", "", "");
-        return ExitStatus::Failed;
-    };
-    let mut trace = WholeFile::new(folder, place, beside.as_str());
-    if loses_input(folder, faults, arguments, trace.first_place()) {
+    let mut trace = WholeFile::new(alloc, folder, place);
+    if loses_input(folder, faults, arguments) {
         return ExitStatus::BadArguments;
     }
     let Some(image) = bytes_of(alloc, folder, faults, arguments.image.as_str(), MOST_BYTES) else {
