@@ -95,7 +95,7 @@ ARGUMENTS = [
 ]
 
 # The lines of its trace.
-DOUBLE_TRACE = b"threads 1 objects 0 budget 1000000\n" + DOUBLE_LINE + b"log 0 of 0\n"
+DOUBLE_TRACE = b"threads 1 objects 0 budget 1000000 profile 1\n" + DOUBLE_LINE + b"log 0 of 0\n"
 
 # Each row: the arguments of a run that would write over what it reads, and the message.
 OWN_FILES = [

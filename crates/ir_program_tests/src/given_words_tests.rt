@@ -18,7 +18,7 @@ const TRYING: &[u8] =
 
 const ASKED: &str = "thread 0 end 1 code 2442223337 steps 6 events 2\n";
 
-const ASKED_TRACE: &str = "threads 1 objects 0 budget 500
+const ASKED_TRACE: &str = "threads 1 objects 0 budget 500 profile 1
 thread 0 end 1 code 2442223337 steps 6 events 2
 log 2 of 2
 0 input 65
@@ -27,7 +27,7 @@ log 2 of 2
 
 const TRIED: &str = "thread 0 end 1 code 1 steps 6 events 1\n";
 
-const TRIED_TRACE: &str = "threads 1 objects 1 budget 1000000
+const TRIED_TRACE: &str = "threads 1 objects 1 budget 1000000 profile 2
 thread 0 end 1 code 1 steps 6 events 1
 log 1 of 1
 0 write 0 version 0 readers 0

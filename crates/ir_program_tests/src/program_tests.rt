@@ -404,7 +404,7 @@ const TURNS: [(&str, &[u8], u8, &str); 8] = [
         "ir trace d.trc",
         b"",
         0,
-        "threads 1 objects 0 budget 1000000\nthread 0 end 1 code 144 steps 6 events 0\nlog 0 of 0\n",
+        "threads 1 objects 0 budget 1000000 profile 1\nthread 0 end 1 code 144 steps 6 events 0\nlog 0 of 0\n",
     ),
     ("ir trace d.img", b"", 3, "trace refused 2\n"),
     (
