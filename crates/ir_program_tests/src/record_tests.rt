@@ -7,7 +7,7 @@ use crate::kept_outputs::{KeptOutputs, no_outputs};
 use ir_log::Event;
 use ir_object::OpenGate;
 use ir_program::asm_run;
-use ir_record_run::{RecordPlan, record_run};
+use ir_record_run::{ParsedImage, RecordPlan, record_run};
 use ir_runs::EnvKind;
 use ir_thread::Profile;
 use ir_trace::{Trace, read_trace};
@@ -216,7 +216,7 @@ pub fn recorded<R: Threads + Wait + Sync + Clock + AllocGlobal>(
     let status = record_run(
         rt,
         &OpenGate,
-        image,
+        &ParsedImage::new(rt.alloc(), image),
         &RecordPlan {
             order: how.order,
             budget: how.budget as u64,

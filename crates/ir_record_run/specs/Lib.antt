@@ -1,4 +1,5 @@
 pub mod Faults
+pub mod Images
 pub mod Numerals
 pub mod Order
 pub mod Plan

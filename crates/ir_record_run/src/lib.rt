@@ -3,6 +3,7 @@
 
 mod numeral;
 mod order;
+mod parsed_image;
 mod plan;
 mod program_world;
 mod record_fault;
@@ -12,6 +13,7 @@ mod time;
 
 pub use numeral::number_within;
 pub use order::{OrderErr, bad_item, read_order};
+pub use parsed_image::ParsedImage;
 pub use plan::RecordPlan;
 pub use program_world::{MOST_ANSWERS, ProgramWorld};
 pub use record_fault::RecordFault;

@@ -29,7 +29,21 @@ pub enum RecordFault {
 }
 
 impl RecordFault {
-    ghost use Rattle.ir_record_run.specs.Faults.{fault_status};
+    ghost use Rattle.ir_record_run.specs.Faults.{fault_status, of_image};
+
+    /// The fault that a refusal of the image is.
+    pub fn of_image(why: &ImageErr) -> RecordFault
+        ensures { result ≡ of_image why.now }
+    {
+        match why {
+            ImageErr::Short => RecordFault::Image(ImageErr::Short),
+            ImageErr::Magic => RecordFault::Image(ImageErr::Magic),
+            ImageErr::Count => RecordFault::Image(ImageErr::Count),
+            ImageErr::Entry => RecordFault::Image(ImageErr::Entry),
+            ImageErr::Trailing => RecordFault::Image(ImageErr::Trailing),
+            ImageErr::NoMem => RecordFault::NoMem,
+        }
+    }
 
     /// The exit status.
     pub fn status(&self) -> ExitStatus
@@ -71,19 +85,6 @@ fn image_words(why: &ImageErr) -> &'static str
         ImageErr::Entry => "the image is refused, 4: an entry is no place in the code",
         ImageErr::Trailing => "the image is refused, 5: bytes stand after the end",
         ImageErr::NoMem => "memory ran out",
-    }
-}
-
-impl From<ImageErr> for RecordFault {
-    ghost use Rattle.ir_record_run.specs.Faults.{of_image};
-
-    ghost from_gives = { λ e f. f ≡ of_image e };
-
-    fn from(e: ImageErr) -> RecordFault {
-        match e {
-            ImageErr::NoMem => RecordFault::NoMem,
-            why => RecordFault::Image(why),
-        }
     }
 }
 

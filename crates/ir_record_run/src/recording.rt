@@ -3,8 +3,6 @@
 ghost use Rattle.std.specs.Prelude.{◌≡◌, ◌≢◌, ◌<◌, ◌+◌, ℕ, List, Some, None, Ok, Err, true, false, IfOk, IfErr, OnOk, OnErr, ◌⊎◌, [], length, map, replicate};
 ghost use Rattle.std.specs.String.{string_bytes};
 ghost use Rattle.std.specs.Io.KnownBytes.{Appends};
-ghost use Rattle.ir_image.specs.Reading.{guest_at};
-ghost use Rattle.ir_thread.specs.Allowed.{IsAllowed};
 ghost use Rattle.ir_trace.specs.Recorded.{Recorded};
 ghost use Rattle.ir_trace.specs.Encoding.{encoding};
 ghost use Rattle.ir_record.specs.Recording.{printed_by};
@@ -19,12 +17,12 @@ ghost use Rattle.ir_record_run.specs.declared.record_fault.RecordFault.{RecordFa
 ghost use Rattle.ir_record_run.specs.declared.record_fault.RecordFault.TheVariants.{NoMem, Clock};
 
 use crate::order::{bad_item, read_order};
+use crate::parsed_image::ParsedImage;
 use crate::plan::RecordPlan;
 use crate::program_world::ProgramWorld;
 use crate::record_fault::RecordFault;
 use crate::time::Time;
 use ir_files::{ExitStatus, OutputSink, WholeSink, tell, tell_of};
-use ir_image::{Image, read_image};
 use ir_object::Gate;
 use ir_record::{Outputs, RecordErr, record, record_in_turns};
 use ir_stream::{DeviceErr, Sink, write_all};
@@ -79,28 +77,13 @@ fn printed<W: Drop>(alloc: Global, outputs: Outputs<W>) -> Result<Vec<Vec<u8>>, 
     Ok(printed)
 }
 
-// The image, where the profile allows its threads and objects.
-fn allowed_image(alloc: Global, bytes: &[u8], plan: &RecordPlan<'_>) -> Result<Image, RecordFault>
-    ensures exact { IfOk result (λ image. guest_at bytes.now ≡ Ok image) }
-    ensures allowed { IfOk result (IsAllowed plan.now.profile) }
-    ensures allows { OnOk result (Allows bytes.now plan.now) }
-    ensures refused { IfErr result (λ e. Refuses e bytes.now plan.now) }
-{
-    let image = read_image(alloc, bytes)?;
-    if plan.profile.allows(&image) {
-        Ok(image)
-    } else {
-        Err(RecordFault::TooLarge)
-    }
-}
-
 // The recording of the image's guest by the order that the list spells, on one thread: the trace, and what each thread
 // printed.
 #[tactic(auto, using(ir_image::proofs::CallerLemmas::few_threads))]
 fn recorded_in_order<C: Clock>(
     clock: &C,
     alloc: Global,
-    image: &[u8],
+    image: &ParsedImage<'_>,
     list: &str,
     plan: &RecordPlan<'_>,
 ) -> Result<(Trace, Vec<Vec<u8>>), RecordFault>
@@ -109,8 +92,8 @@ fn recorded_in_order<C: Clock>(
     ensures allowed { OnOk result (Allows image.now plan.now) }
     ensures refused { IfErr result (λ e. Refuses e image.now plan.now) }
 {
-    let image = allowed_image(alloc, image, plan)?;
-    let threads = image.entries().len();
+    let guest = image.allowed(plan)?;
+    let threads = guest.entries().len();
     let order = read_order(alloc, list, threads)?;
     let worlds = worlds(
         alloc,
@@ -122,7 +105,7 @@ fn recorded_in_order<C: Clock>(
     )?;
     match record_in_turns(
         alloc,
-        &image,
+        guest,
         order.as_slice(),
         worlds,
         plan.budget,
@@ -139,7 +122,7 @@ fn recorded_by_threads<R: Threads + Wait + Sync + Clock, G: Gate + Sync>(
     rt: &R,
     alloc: Global,
     gate: &G,
-    image: &[u8],
+    image: &ParsedImage<'_>,
     plan: &RecordPlan<'_>,
 ) -> Result<(Trace, Vec<Vec<u8>>), RecordFault>
     requires { plan.now.order ≡ None }
@@ -147,8 +130,8 @@ fn recorded_by_threads<R: Threads + Wait + Sync + Clock, G: Gate + Sync>(
     ensures allowed { OnOk result (Allows image.now plan.now) }
     ensures refused { IfErr result (λ e. Refuses e image.now plan.now) }
 {
-    let image = allowed_image(alloc, image, plan)?;
-    let threads = image.entries().len();
+    let guest = image.allowed(plan)?;
+    let threads = guest.entries().len();
     let Ok(start) = Instant::now(rt) else {
         return Err(RecordFault::Clock);
     };
@@ -160,7 +143,7 @@ fn recorded_by_threads<R: Threads + Wait + Sync + Clock, G: Gate + Sync>(
         plan.random,
         plan.input,
     )?;
-    match record(rt, alloc, &image, worlds, gate, plan.budget, plan.profile) {
+    match record(rt, alloc, guest, worlds, gate, plan.budget, plan.profile) {
         Ok((trace, outputs)) => Ok((trace, printed(alloc, outputs)?)),
         Err(why) => Err(stopped_by(why)),
     }
@@ -171,7 +154,7 @@ fn recorded<R: Threads + Wait + Sync + Clock, G: Gate + Sync>(
     rt: &R,
     alloc: Global,
     gate: &G,
-    image: &[u8],
+    image: &ParsedImage<'_>,
     plan: &RecordPlan<'_>,
 ) -> Result<(Trace, Vec<Vec<u8>>), RecordFault>
     ensures recorded { IfOk result (λ r. IsRecordedOf image.now plan.now r.0 (map (λ b. b.items) r.1.items)) }
@@ -268,11 +251,16 @@ fn written<W: WholeSink, P: OutputSink, O: Sink>(
 }
 
 // Records, and writes what was recorded.
-fn run<R: Threads + Wait + Sync + Clock, G: Gate + Sync, W: WholeSink, P: OutputSink, O: Sink>(
+fn run<
+    R: Threads + Wait + Sync + Clock + AllocGlobal,
+    G: Gate + Sync,
+    W: WholeSink,
+    P: OutputSink,
+    O: Sink,
+>(
     rt: &R,
-    alloc: Global,
     gate: &G,
-    image: &[u8],
+    image: &ParsedImage<'_>,
     plan: &RecordPlan<'_>,
     trace: &mut W,
     outputs: &mut P,
@@ -290,6 +278,7 @@ fn run<R: Threads + Wait + Sync + Clock, G: Gate + Sync, W: WholeSink, P: Output
         (writer_of (O.written out.old) (O.written out.new) (O.broken out.new))
         ((trace.new ≡ trace.old) × (outputs.new ≡ outputs.old) × (out.new ≡ out.old)) ((outputs.new ≡ outputs.old) × (out.new ≡ out.old)) (out.new ≡ out.old)) }
 {
+    let alloc = rt.alloc();
     let (recorded, printed) = recorded(rt, alloc, gate, image, plan)?;
     let bytes = write_trace(alloc, &recorded)?;
     let lines = lines(alloc, &recorded)?;
@@ -305,11 +294,11 @@ fn run<R: Threads + Wait + Sync + Clock, G: Gate + Sync, W: WholeSink, P: Output
 
 // Tells that a list spells no order of an image's threads: which item doesn't, and why.
 #[tactic(auto, using(ir_image::proofs::CallerLemmas::few_threads))]
-fn tell_order<E: Sink>(alloc: Global, faults: &mut E, image: &[u8], list: &str)
+fn tell_order<E: Sink>(faults: &mut E, image: &ParsedImage<'_>, list: &str)
     requires { E.broken faults.old ≡ false }
 {
-    if let Ok(image) = read_image(alloc, image) {
-        if let Some((item, why)) = bad_item(list, image.entries().len()) {
+    if let Some(guest) = image.guest() {
+        if let Some((item, why)) = bad_item(list, guest.entries().len()) {
             tell_of(faults, "LIST: the item '", item, "' ", why);
             return;
         }
@@ -319,10 +308,9 @@ fn tell_order<E: Sink>(alloc: Global, faults: &mut E, image: &[u8], list: &str)
 
 // Tells why nothing was recorded, or not all of it written.
 fn tell_fault<W: WholeSink, P: OutputSink, E: Sink>(
-    alloc: Global,
     faults: &mut E,
     why: &RecordFault,
-    image: &[u8],
+    image: &ParsedImage<'_>,
     order: Option<&str>,
     trace: &W,
     outputs: &P,
@@ -331,7 +319,7 @@ fn tell_fault<W: WholeSink, P: OutputSink, E: Sink>(
 {
     const UNWRITTEN: &str = " can't be written: ";
     match (why, order) {
-        (RecordFault::Order, Some(list)) => tell_order(alloc, faults, image, list),
+        (RecordFault::Order, Some(list)) => tell_order(faults, image, list),
         (RecordFault::Trace, _) => tell_of(faults, "", trace.name(), UNWRITTEN, trace.why()),
         (RecordFault::Output, _) => tell_of(faults, "", outputs.name(), UNWRITTEN, outputs.why()),
         _ => tell(faults, why.words()),
@@ -358,7 +346,7 @@ pub fn record_run<
 >(
     rt: &R,
     gate: &G,
-    image: &[u8],
+    image: &ParsedImage<'_>,
     plan: &RecordPlan<'_>,
     trace: &mut W,
     outputs: &mut P,
@@ -386,11 +374,10 @@ pub fn record_run<
         (writer_of (O.written out.old) (O.written out.new) (O.broken out.new))
         ((trace.new ≡ trace.old) × (outputs.new ≡ outputs.old) × (out.new ≡ out.old)) ((outputs.new ≡ outputs.old) × (out.new ≡ out.old)) (out.new ≡ out.old) }
 {
-    let alloc = rt.alloc();
-    match run(rt, alloc, gate, image, plan, trace, outputs, out) {
+    match run(rt, gate, image, plan, trace, outputs, out) {
         Ok(()) => ExitStatus::Done,
         Err(why) => {
-            tell_fault(alloc, faults, &why, image, plan.order, trace, outputs);
+            tell_fault(faults, &why, image, plan.order, trace, outputs);
             why.status()
         }
     }

@@ -7,9 +7,8 @@ use ir_arguments::RecordArguments;
 use ir_files::{
     ExitStatus, Folder, MOST_BYTES, MOST_INPUT, OutputFiles, WholeFile, WholeSink, output_paths,
 };
-use ir_image::{ImageErr, read_image};
 use ir_object::Gate;
-use ir_record_run::record_run;
+use ir_record_run::{ParsedImage, record_run};
 use ir_stream::Sink;
 use std::alloc::{AllocError, Global};
 use std::sync::Wait;
@@ -58,21 +57,17 @@ fn loses_input<D: Folder, E: Sink>(folder: &D, faults: &mut E, arguments: &Recor
     }
 }
 
-// The paths of what the threads of an image print, if they are asked for. Bytes that are no image have no threads.
+// The paths of what the threads of an image print, if they are asked for.
 fn paths_of(
     alloc: Global,
     arguments: &RecordArguments,
-    image: &[u8],
+    image: &ParsedImage<'_>,
 ) -> Result<Option<Vec<String>>, AllocError> {
     let Some(prefix) = &arguments.output else {
         return Ok(None);
     };
-    let threads = match read_image(alloc, image) {
-        Ok(image) => image.entries().len(),
-        Err(ImageErr::NoMem) => return Err(AllocError),
-        Err(_) => 0,
-    };
-    Ok(Some(output_paths(alloc, prefix.as_str(), threads)?))
+    let paths = output_paths(alloc, prefix.as_str(), image.threads()?)?;
+    Ok(Some(paths))
 }
 
 // Whether what a thread prints would be written over another file of its recording.
@@ -137,7 +132,7 @@ fn output_places<D: Folder, E: Sink>(
     folder: &D,
     faults: &mut E,
     arguments: &RecordArguments,
-    image: &[u8],
+    image: &ParsedImage<'_>,
 ) -> Result<Option<Vec<String>>, ExitStatus>
     ensures kept { OnOk result (faults.new ≡ faults.old) }
 {
@@ -181,7 +176,8 @@ where
     let Some(image) = bytes_of(alloc, folder, faults, arguments.image.as_str(), MOST_BYTES) else {
         return ExitStatus::Failed;
     };
-    let paths = match output_places(alloc, folder, faults, arguments, image.as_slice()) {
+    let image = ParsedImage::new(alloc, image.as_slice());
+    let paths = match output_places(alloc, folder, faults, arguments, &image) {
         Ok(paths) => paths,
         Err(status) => return status,
     };
@@ -193,7 +189,7 @@ where
     record_run(
         rt,
         gate,
-        image.as_slice(),
+        &image,
         &arguments.plan(input.as_slice()),
         &mut trace,
         &mut outputs,
