@@ -367,7 +367,7 @@ def test_sixteen_threads(folder):
     before = (folder / "sixteen.trc").read_bytes()
     for order in ("", " --order 0", " --profile 1"):
         ended = run(f"record sixteen.img sixteen.trc{order}", folder)
-        told = b"ir: the first profile takes at most 8 threads and 16 objects\n"
+        told = b"ir: the first profile takes at most 8 threads and 16 objects, and --profile 2 takes more\n"
         wants("the first profile", (ended.returncode, ended.stdout, ended.stderr), (3, b"", told))
     wants("the trace", (folder / "sixteen.trc").read_bytes(), before)
 
