@@ -109,6 +109,9 @@ pub fn prepared<R: Threads + Wait + Sync + Clock + Eprint + AllocGlobal>(
     shelf.add_file("d.s", DOUBLE)?;
     shelf.add_file("bad.s", b"nop\nx\n")?;
     shelf.add_file("held.trc.part", b"A")?;
+    shelf.add_file("list", b"0x3,0\r\n")?;
+    shelf.add_file("bad.list", b"0,x\n")?;
+    shelf.add_file("no.text", b"\xff")?;
     let mut long = Vec::new(rt.alloc());
     long.resize(1_048_577, 0)?;
     shelf.add_file("longer", long.as_slice())?;
@@ -129,7 +132,7 @@ pub fn prepared<R: Threads + Wait + Sync + Clock + Eprint + AllocGlobal>(
 const EXPLAINED: &str = "line 2 error 2\nbad.s:2: an unknown instruction or directive: x\n";
 
 // The words, the exit status, and what is told.
-const ROWS: [(&str, u8, &str); 49] = [
+const ROWS: [(&str, u8, &str); 54] = [
     (
         "ir asm",
         2,
@@ -190,6 +193,31 @@ const ROWS: [(&str, u8, &str); 49] = [
         "ir record d.img d.img",
         2,
         "ir: d.img: TRACE would be written over IMAGE\n",
+    ),
+    (
+        "ir record d.img list --order-file list",
+        2,
+        "ir: list: TRACE would be written over LISTFILE\n",
+    ),
+    (
+        "ir record d.img d.trc --order-file bad.list",
+        3,
+        "ir: LIST: the item 'x' is neither T nor TxN\n",
+    ),
+    (
+        "ir record d.img d.trc --order-file no.text",
+        3,
+        "ir: no.text: LIST is no text\n",
+    ),
+    (
+        "ir record d.img d.trc --order-file none",
+        1,
+        "ir: none can't be read: no such file or folder\n",
+    ),
+    (
+        "ir record d.img d.trc --order 0 --order-file list",
+        2,
+        "ir: the argument '--order <LIST>' cannot be used with '--order-file <LISTFILE>'\n",
     ),
     (
         "ir record d.img longer --input longer",
@@ -464,6 +492,10 @@ fn outputs_are_written_where_they_are_asked_for(rt: HostRuntime) -> Result<(), F
         ("ir record two.img d.trc --order 0", false),
         ("ir record two.img d.trc --output out", true),
         ("ir record two.img d2.trc --output other --order 1,0", true),
+        (
+            "ir record two.img d2.trc --output other --order-file list",
+            true,
+        ),
     ] {
         assert!(rt; goes_well(&rt, &shelf, line)?, "{line}");
         assert_eq!(rt; are_there(&shelf), (is_asked_for, is_asked_for, false));
