@@ -95,7 +95,7 @@ ARGUMENTS = [
 ]
 
 # The lines of its trace.
-DOUBLE_TRACE = b"threads 1 objects 0 budget 1000000\n" + DOUBLE_LINE + b"log 0 of 0\n"
+DOUBLE_TRACE = b"threads 1 objects 0 budget 1000000 profile 1\n" + DOUBLE_LINE + b"log 0 of 0\n"
 
 # Each row: the arguments of a run that would write over what it reads, and the message.
 OWN_FILES = [
@@ -103,11 +103,9 @@ OWN_FILES = [
     ("asm d.s ./d.s", "ir: ./d.s: IMAGE would be written over SOURCE\n"),
     ("asm d.s link.s", "ir: link.s: IMAGE would be written over SOURCE\n"),
     ("asm d.s hard.s", "ir: hard.s: IMAGE would be written over SOURCE\n"),
-    ("asm d.trc.part d.trc", "ir: d.trc.part: IMAGE.part would be written over SOURCE\n"),
     ("record d.img d.img", "ir: d.img: TRACE would be written over IMAGE\n"),
     ("record d.img link.img", "ir: link.img: TRACE would be written over IMAGE\n"),
     ("record d.img d.trc --input d.trc", "ir: d.trc: TRACE would be written over FILE\n"),
-    ("record d.trc.part d.trc", "ir: d.trc.part: TRACE.part would be written over IMAGE\n"),
 ]
 
 # One of the threads of `examples/counter.s`, each of which adds one to the first word of an object, in 18 steps.
@@ -239,6 +237,27 @@ def test_own_files(folder):
         wants(name, (folder / name).read_bytes(), before[name])
 
 
+def test_parts(folder):
+    """A file that is there already stays, whatever its name; recordings to one place at once each end whole."""
+    (folder / "w.trc.part").write_bytes(b"mine")
+    (folder / "elsewhere").write_bytes(b"mine too")
+    (folder / "w.trc.part2").symlink_to("elsewhere")
+    (folder / "w.trc.part3").symlink_to("nowhere")
+    ended = run("record d.img w.trc", folder)
+    wants("recording", (ended.returncode, ended.stdout, ended.stderr), (0, DOUBLE_LINE, b""))
+    wants("the part of another", (folder / "w.trc.part").read_bytes(), b"mine")
+    wants("what a link leads to", (folder / "elsewhere").read_bytes(), b"mine too")
+    wants("what a link leads to nowhere", (folder / "nowhere").exists(), False)
+    wants("the trace", run("trace w.trc", folder).stdout, DOUBLE_TRACE)
+    at_once = [subprocess.Popen([PROGRAM, "record", "d.img", "same.trc"], cwd=folder, stdout=subprocess.PIPE, stderr=subprocess.PIPE)
+               for _ in range(8)]
+    for recording in at_once:
+        out, faults = recording.communicate(timeout=60)
+        wants("one of eight recordings", (recording.returncode, out, faults), (0, DOUBLE_LINE, b""))
+    wants("the trace of one of them", run("trace same.trc", folder).stdout, DOUBLE_TRACE)
+    wants("parts", list(folder.glob("same.trc.part*")), [])
+
+
 def test_names(folder):
     """What a user wrote is told in one line, without what leads a terminal; a name may be as long as the system has it."""
     for words, status, error in (
@@ -348,9 +367,19 @@ def test_sixteen_threads(folder):
     before = (folder / "sixteen.trc").read_bytes()
     for order in ("", " --order 0", " --profile 1"):
         ended = run(f"record sixteen.img sixteen.trc{order}", folder)
-        told = b"ir: the first profile takes at most 8 threads and 16 objects\n"
+        told = b"ir: the first profile takes at most 8 threads and 16 objects, and --profile 2 takes more\n"
         wants("the first profile", (ended.returncode, ended.stdout, ended.stderr), (3, b"", told))
     wants("the trace", (folder / "sixteen.trc").read_bytes(), before)
+
+
+def test_progress(folder):
+    """At a terminal a recording of seconds shows its steps, those of the last of sixteen threads too."""
+    labels = [f"thread{number}" for number in range(16)]
+    source = [".large", *(f".thread {label}" for label in labels), *(f"{label}:" for label in labels[:15]), "ebreak"]
+    (folder / "last.s").write_text("\n".join([*source, "thread15:", FOREVER]))
+    wants("assembling", run("asm last.s last.img", folder).returncode, 0)
+    status, told = at_terminal("record last.img last.trc --profile 2 --budget 4000000000", folder)
+    wants("the last thread's steps", (status, " million steps\r" in told), (0, True))
 
 
 def test_trace(folder):

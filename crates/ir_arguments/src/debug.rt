@@ -51,6 +51,23 @@ What a session opens with instead of `ready`:
 Exit status: 0 done, 1 a fault, 2 bad arguments, 3 a refused image or trace, 4 a trace that doesn't fit.
 ";
 
+// What stands in that right before the commands, and right behind them.
+const BEFORE_FORMS: &str = "has been done.\n";
+
+const BEHIND_FORMS: &str = "Numbers are decimal";
+
+/// The commands of a session, as the help of `ir debug` lists them: in each line the form of one, and what it does.
+pub fn command_forms() -> &'static str {
+    let behind = match DEBUG_AFTER.split_once(BEFORE_FORMS) {
+        Some((_, behind)) => behind,
+        None => DEBUG_AFTER,
+    };
+    match behind.split_once(BEHIND_FORMS) {
+        Some((forms, _)) => forms,
+        None => behind,
+    }
+}
+
 /// Which run is debugged.
 #[derive(Drop)]
 pub struct DebugArguments {

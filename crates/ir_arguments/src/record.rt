@@ -1,7 +1,6 @@
 //! The arguments of `ir record`.
 
 ghost use Rattle.std.specs.Prelude.{◌≡◌, ◌≤◌, option_map};
-ghost use Rattle.std.specs.String.{string_bytes};
 ghost use Rattle.ir_thread.specs.Calls.{most_budget};
 
 use crate::asked::Asked;
@@ -12,6 +11,8 @@ use ir_thread::{MOST_BUDGET, Profile};
 use std::alloc::{AllocError, Global};
 
 const ORDER: &str = "order";
+
+const ORDER_FILE: &str = "order-file";
 
 const BUDGET: &str = "budget";
 
@@ -33,10 +34,12 @@ second. Ctrl-C stops a recording, and TRACE stays as it was.
 With LIST all run on one thread, and recordings don't differ. LIST is items joined by commas: `T`, one step of thread T;
 or `TxN`, N steps of it, N from 1 to 1000000. An entry of a thread that is done or must wait takes no step. After the
 list, rounds over the threads from 0 on take one step of each that has one, until all are done. 1x18 lets thread 1 take
-18 steps before thread 0 takes its first.
+18 steps before thread 0 takes its first; 0x10 is ten steps of thread 0, and no hexadecimal number. A line may end LISTFILE.
+A guest that polls, which enters an object again and again until a word there changes, may take hundreds of turns before the
+thread that changes the word gets in. It then ends by 13, its budget spent, though nothing is stuck: give a larger B, or LIST.
 CLOCK gives milliseconds since the start, modulo 2^32; with LIST it counts its own calls from 0, in each thread.
 RANDOM gives PCG32's words, started by S plus the thread's number; each thread reads its own copy of FILE, of at most
-1048576 bytes, or nothing. TRACE is written as TRACE.part, which is renamed once it is whole.
+1048576 bytes, or nothing. TRACE is written to a new file, TRACE.part, which is renamed once it is whole.
 With P 2 guests may call TRY_WRITE too, call 13, and TRACE is of the second form, IRT2; with 1 it is an unknown call, TRACE
 is IRT1, and a guest has at most 8 threads and 16 objects. A try is answered 0 where another thread is inside, and may be
 where none is; with LIST it isn't then.
@@ -60,6 +63,8 @@ pub struct RecordArguments {
     pub trace: String,
     /// The list that writes the order out, if it is given.
     pub order: Option<String>,
+    /// The file with that list, if it is given so.
+    pub order_file: Option<String>,
     /// The most steps of each thread.
     pub budget: u64,
     /// Where random words start.
@@ -74,12 +79,12 @@ pub struct RecordArguments {
 }
 
 impl RecordArguments {
-    /// The plan of the recording, of a guest that reads these bytes.
-    pub fn plan<'a>(&'a self, input: &'a [u8]) -> RecordPlan<'a>
-        ensures { result ≡ record { order = option_map string_bytes self.now.order; budget = self.now.budget; random = self.now.random; input = input.now; profile = self.now.profile } }
+    /// The plan of the recording, in the order of this list if there is one, of a guest that reads these bytes.
+    pub fn plan<'a>(&self, order: Option<&'a str>, input: &'a [u8]) -> RecordPlan<'a>
+        ensures { result ≡ record { order = option_map (λ s. s.now) order; budget = self.now.budget; random = self.now.random; input = input.now; profile = self.now.profile } }
     {
         RecordPlan {
-            order: self.order.as_ref().map(|list| list.as_str()),
+            order,
             budget: self.budget,
             random: self.random,
             input,
@@ -94,6 +99,13 @@ fn order_arg<'a>(alloc: Global) -> Arg<'a> {
         .value_name("LIST")
         .allow_hyphen_values(true)
         .help("Which thread takes each next step; without it the guest runs on real threads")
+}
+
+fn order_file_arg<'a>(alloc: Global) -> Arg<'a> {
+    Arg::new(alloc, ORDER_FILE)
+        .long(ORDER_FILE)
+        .value_name("LISTFILE")
+        .help("The file with LIST, in place of --order")
 }
 
 fn budget_arg<'a>(alloc: Global) -> Arg<'a> {
@@ -143,6 +155,7 @@ pub fn with_arguments<'a>(alloc: Global, command: Command<'a>) -> Result<Command
         .arg(file_arg(alloc, IMAGE, "The file with the image"))?
         .arg(file_arg(alloc, TRACE, "The file that the trace is written to"))?
         .arg(order_arg(alloc))?
+        .arg(order_file_arg(alloc).conflicts_with(ORDER)?)?
         .arg(budget_arg(alloc))?
         .arg(random_arg(alloc))?
         .arg(profile_arg(alloc))?
@@ -187,6 +200,7 @@ pub fn asked(alloc: Global, matches: &ArgMatches<'_>) -> Result<Asked, AllocErro
         image: text_of(alloc, matches, IMAGE)?,
         trace: text_of(alloc, matches, TRACE)?,
         order: given_text(alloc, matches, ORDER)?,
+        order_file: given_text(alloc, matches, ORDER_FILE)?,
         budget: most,
         random: start,
         profile: calls,

@@ -7,7 +7,7 @@ use std::alloc::{AllocError, Global};
 
 /// What follows the help of `ir trace`.
 pub const TRACE_AFTER: &str =
-    "The first line is `threads N objects M budget B`. Then come for each thread its line as `ir record` prints it, `thread T
+    "The first line is `threads N objects M budget B profile P`. Then come for each thread its line as `ir record` prints it, `thread T
 end E code C steps S events N`, and its events as `log T` of `ir debug` shows them at the thread's end: `log N of N`, and a
 line for each, with its number from 0 on:
   I clock V                          CLOCK answered V

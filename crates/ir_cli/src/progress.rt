@@ -1,9 +1,11 @@
 //! How far a long recording is.
 
 use crossbeam_utils::CachePadded;
+use ir_image::MOST_THREADS;
 use ir_object::Gate;
 use ir_record_run::millis_since;
 use ir_runs::Access;
+use std::array;
 use std::sync::atomic::{AtomicU32, AtomicU64, Ordering};
 use std::time::{Clock, Instant};
 
@@ -17,7 +19,7 @@ pub struct Progress<'a, R> {
     // None where nothing is shown.
     start: Option<Instant>,
     // Of each thread, which alone writes it.
-    steps: [CachePadded<AtomicU64>; 8],
+    steps: [CachePadded<AtomicU64>; MOST_THREADS as usize],
     // The second in which it was shown last.
     shown: AtomicU32,
 }
@@ -33,16 +35,7 @@ impl<'a, R: Clock> Progress<'a, R> {
         Progress {
             rt,
             start,
-            steps: [
-                CachePadded::new(AtomicU64::new(0)),
-                CachePadded::new(AtomicU64::new(0)),
-                CachePadded::new(AtomicU64::new(0)),
-                CachePadded::new(AtomicU64::new(0)),
-                CachePadded::new(AtomicU64::new(0)),
-                CachePadded::new(AtomicU64::new(0)),
-                CachePadded::new(AtomicU64::new(0)),
-                CachePadded::new(AtomicU64::new(0)),
-            ],
+            steps: array::from_fn(|_| CachePadded::new(AtomicU64::new(0))),
             shown: AtomicU32::new(0),
         }
     }

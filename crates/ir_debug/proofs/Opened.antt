@@ -1,12 +1,10 @@
 -- From the answers to lines to the bytes of a session.
-use Rattle.std.proofs.Common.{◌≡◌, ℕ, List, [], ◌∷◌, ◌++◌, Option, Some, None, Result, Ok, Err, refl, sym, ap, subst, arith}
+use Rattle.std.proofs.Common.{◌≡◌, ℕ, List, [], ◌∷◌, ◌++◌, Option, Some, None, Result, Ok, Err, refl, sym, ap, subst, arith, inl, inr}
 use Rattle.std.specs.Prelude.{IfSome}
-use Rattle.std.proofs.lemmas.List.{append-nil}
 use Rattle.std.specs.Io.KnownBytes.{Appends, Consumes}
 use Rattle.std.proofs.KnownBytes.{Appends-trans}
 use Rattle.ir_stream.specs.Lines.{cut, lines_of, heard}
-use Rattle.ir_stream.specs.Answers.{Answered, Wrote, WrotePrefix, through}
-use Rattle.ir_stream.proofs.CallerLemmas.{prefix_after}
+use Rattle.ir_stream.specs.Answers.{Wrote, WroteInPart, through}
 use Rattle.ir_stream.specs.Devices.{AppendsPrefix, Reads}
 use Rattle.ir_stream.specs.Endings.{IfEnded, LeadsTo}
 use Rattle.ir_stream.specs.declared.serving.Served.{Served}
@@ -20,7 +18,7 @@ use Rattle.ir_debug.specs.Debugging.{Debugging}
 use Rattle.ir_debug.specs.Opened.{opening_of}
 use Rattle.ir_debug.specs.declared.opening.Opened.{Opened}
 use Rattle.ir_debug.specs.declared.opening.Opened.TheVariants as opened
-use Rattle.ir_debug.specs.Session.{Session, AnsweredInPart, SessionText, Writes, WritesPrefix, IfServed, ended_by, ending_of}
+use Rattle.ir_debug.specs.Session.{Session, AnsweredInPart, SessionText, Writes, WritesInPart, IfServed, ended_by, ending_of}
 use Rattle.ir_debug.specs.declared.ended.Ended.{Ended}
 use Rattle.ir_debug.specs.declared.ended.SessionErr.{SessionErr}
 use Rattle.ir_debug.specs.declared.ended.SessionErr.TheVariants as err
@@ -44,15 +42,6 @@ unfolding through
 through-none [] e = refl
 through-none (l ∷ ls) e = absurd cc
 
--- the opening lines alone, where there are no other lines
-text-none : (o : Opening) (lines : List (List ℕ)) → lines ≡ [] → SessionText o lines (opening_text o)
-unfolding Answered
-text-none (ImageRefused e) lines none = refl
-text-none (TraceRefused e) lines none = refl
-text-none (Unfit v) lines none = refl
-text-none (Ready d) [] none = ([], d, (refl, refl), sym (append-nil (opening_text (Ready d))))
-text-none (Ready d) (l ∷ ls) none = absurd cc
-
 -- the writer failed in the opening lines
 pub none_read : (image trace : List ℕ) (o : Opening) (limit : ℕ) (a w0 w1 : Option (List ℕ)) → Opens image trace o
     → AppendsPrefix w0 w1 (opening_text o) → Reads limit a a (AnsweredInPart image trace a w0 w1)
@@ -65,7 +54,7 @@ none_read image trace o limit a w0 w1 opens prefix = record {
     opens = opens;
     goes = through-none (lines_of []) no_line;
     ended = λ some. absurd (some no_rest);
-    wrote = record { text = opening_text o; session_text = text-none o (lines_of []) no_line; grown = prefix };
+    wrote = inl (no_line, prefix);
   };
 }
 
@@ -141,14 +130,10 @@ writes d lines w0 w1 w2 begun wrote = record {
   grown = Appends-trans w0 w1 w2 (opening_text (Ready d)) wrote.text begun wrote.grown;
 }
 
--- a prefix of them
-pub writes_prefix : (d : Desk) (lines : List (List ℕ)) (w0 w1 w2 : Option (List ℕ)) → Appends w0 w1 (opening_text (Ready d))
-    → WrotePrefix Replies d lines w1 w2 → WritesPrefix (Ready d) lines w0 w2
-writes_prefix d lines w0 w1 w2 begun wrote = record {
-  text = opening_text (Ready d) ++ wrote.text;
-  session_text = (wrote.text, wrote.last, wrote.answered, refl);
-  grown = prefix_after w0 w1 w2 (opening_text (Ready d)) wrote.text begun wrote.grown;
-}
+-- a part of them
+pub writes_in_part : (d : Desk) (lines : List (List ℕ)) (w0 w1 w2 : Option (List ℕ)) → Appends w0 w1 (opening_text (Ready d))
+    → WroteInPart Replies d lines w1 w2 → WritesInPart (Ready d) lines w0 w2
+writes_in_part d lines w0 w1 w2 begun wrote = inr (record { desk = d; ready = refl; opened = w1; begun = begun; wrote = wrote })
 
 session_of : (image trace : List ℕ) (d : Desk) (limit : ℕ) (r : Result Served Fault) (w0 w1 w2 : Option (List ℕ)) (input : List ℕ)
     → Opens image trace (Ready d) → Appends w0 w1 (opening_text (Ready d)) → LeadsTo Replies quits d limit r w1 w2 input

@@ -1,8 +1,8 @@
 -- The bytes of a whole session, and how it ends.
-use Rattle.std.specs.Prelude.{◌≡◌, ◌≢◌, ℕ, false, ⊤, List, [], ◌++◌, Option, Result, Ok, Err}
+use Rattle.std.specs.Prelude.{◌≡◌, ◌≢◌, ◌⊎◌, ℕ, false, ⊤, List, [], ◌++◌, Option, Result, Ok, Err}
 use Rattle.std.specs.Io.KnownBytes.{Appends, IsAtEnd}
 use Rattle.ir_stream.specs.Lines.{cut, heard, lines_of}
-use Rattle.ir_stream.specs.Answers.{Answered, through, some_quits}
+use Rattle.ir_stream.specs.Answers.{Answered, WroteInPart, through, some_quits}
 use Rattle.ir_stream.specs.Devices.{AppendsPrefix}
 use Rattle.ir_stream.specs.Endings.{ends}
 use Rattle.ir_stream.specs.declared.serving.Served.{Served}
@@ -71,11 +71,17 @@ pub record Writes (o : Opening) (lines : List (List ℕ)) (old new : Option (Lis
   pub session_text : SessionText o lines text
   pub grown : Appends old new text
 
--- the writer took a prefix of such a text
-pub record WritesPrefix (o : Opening) (lines : List (List ℕ)) (old new : Option (List ℕ)) : Type 0 where
-  pub text : List ℕ
-  pub session_text : SessionText o lines text
-  pub grown : AppendsPrefix old new text
+-- the writer took the opening lines of a machine that is ready, its answers to all lines but the last, and a prefix of its answer to that one
+pub record AnswersInPart (o : Opening) (lines : List (List ℕ)) (old new : Option (List ℕ)) : Type 0 where
+  pub desk : Desk
+  pub ready : o ≡ opening.Ready desk
+  pub opened : Option (List ℕ)
+  pub begun : Appends old opened (opening_text o)
+  pub wrote : WroteInPart Replies desk lines opened new
+
+-- the writer took such a text in part: where there are no lines a prefix of the opening lines
+abbrev pub WritesInPart : Opening → List (List ℕ) → Option (List ℕ) → Option (List ℕ) → Type 0
+WritesInPart o lines old new = ((lines ≡ []) × AppendsPrefix old new (opening_text o)) ⊎ AnswersInPart o lines old new
 
 -- the input leads to this result, and the writer took the opening lines and the answers to the lines up to and with the first that quits
 pub record Session (image trace : List ℕ) (limit : ℕ) (result : Result Ended SessionErr) (old new : Option (List ℕ)) (input : List ℕ) : Type
@@ -92,11 +98,11 @@ pub record AnsweredWhole (image trace : List ℕ) (old new : Option (List ℕ)) 
   pub goes : some_quits quits (cut consumed).whole ≡ false
   pub wrote : Writes opening (cut consumed).whole old new
 
--- the writer took a prefix of the opening lines and the answers to the lines that were read, of which none but the last may quit; it is
--- unfinished only at the end of the input
+-- a prefix of the opening lines was written before a line was read; or these, all answers to the lines but the last and a prefix of the
+-- answer to that one, before a byte behind it was read: none but the last may quit, and it is unfinished only at the end of the input
 pub record AnsweredInPart (image trace : List ℕ) (left old new : Option (List ℕ)) (consumed : List ℕ) : Type 0 where
   pub opening : Opening
   pub opens : Opens image trace opening
   pub goes : through quits (lines_of consumed) ≡ lines_of consumed
   pub ended : (cut consumed).rest ≢ [] → IsAtEnd left
-  pub wrote : WritesPrefix opening (lines_of consumed) old new
+  pub wrote : WritesInPart opening (lines_of consumed) old new

@@ -4,7 +4,7 @@ ghost use Rattle.std.specs.Prelude.{◌≡◌, ◌≢◌, true, false, [], IfOk,
 ghost use Rattle.std.specs.Io.KnownBytes.{IsAtEnd};
 ghost use Rattle.ir_stream.specs.Lines.{cut, lines_of, last_line};
 ghost use Rattle.ir_stream.specs.Endings.{flow_after, served_after, IfEnded, LeadsTo};
-ghost use Rattle.ir_stream.specs.Answers.{Wrote, WrotePrefix, Replied, RepliedPrefix, through, some_quits};
+ghost use Rattle.ir_stream.specs.Answers.{Wrote, WroteInPart, Replied, RepliedPrefix, through, some_quits};
 ghost use Rattle.ir_stream.specs.Devices.{Reads};
 ghost use Rattle.ir_debug.specs.Machine.Answers.{Replies, quits, quits_by};
 ghost use Rattle.ir_debug.specs.Debugging.{IsAnswer};
@@ -87,7 +87,8 @@ fn finish<T: Threads + Clock + Sync, W: Sink, G: Gate + Sync>(
     ensures served { IfOk result (λ e. e ≡ served_after (some_quits quits (last_line line.now))) }
     ensures stays { OnOk result (W.broken writer.new ≡ W.broken writer.old) }
     ensures fault { IfErr result (λ f. f ≡ Fault.Write) }
-    ensures prefix { OnErr result (WrotePrefix Replies debugger.old.desk (last_line line.now) (W.written writer.old) (W.written writer.new)) }
+    ensures some { OnErr result (line.now ≢ []) }
+    ensures prefix { OnErr result (RepliedPrefix Replies debugger.old.desk line.now (W.written writer.old) (W.written writer.new)) }
     ensures err { OnErr result (W.broken writer.new ≡ true) }
 {
     if line.is_empty() {
@@ -126,12 +127,12 @@ pub fn serve<T: Threads + Clock + Sync, R: Source, W: Sink, G: Gate + Sync>(
     ensures read { result ≡ Err Fault.Read → (R.broken reader.new ≡ true) × (W.broken writer.new ≡ false)
         × Reads limit (R.left reader.old) (R.left reader.new) (λ consumed. (some_quits quits (cut consumed).whole ≡ false)
         × Wrote Replies debugger.old.desk (cut consumed).whole (W.written writer.old) (W.written writer.new)) }
-    // After a failed write, a prefix of the answers to the lines that were read, of which none but the last may quit. It
-    // is unfinished only at the end of the input.
+    // After a failed write, the answers to the lines but the last, and a prefix of that one's: an answer is out before a
+    // byte behind its line is read. None but the last may quit, and it is unfinished only at the end of the input.
     ensures write { result ≡ Err Fault.Write → (R.broken reader.new ≡ false) × (W.broken writer.new ≡ true)
         × Reads limit (R.left reader.old) (R.left reader.new) (λ consumed. (through quits (lines_of consumed) ≡ lines_of consumed)
         × ((cut consumed).rest ≢ [] → IsAtEnd (R.left reader.new))
-        × WrotePrefix Replies debugger.old.desk (lines_of consumed) (W.written writer.old) (W.written writer.new)) }
+        × WroteInPart Replies debugger.old.desk (lines_of consumed) (W.written writer.old) (W.written writer.new)) }
 {
     let mut line = ArrayVec::<u8, KEPT>::new();
     for taken in 0..limit {

@@ -70,7 +70,8 @@ pub fn session_up_to<T: Threads + Clock + Sync, R: Source, W: Sink, G: Gate + Sy
     ensures read { result ≡ Err SessionErr.Read → (R.broken reader.new ≡ true) × (W.broken writer.new ≡ false)
         × Reads limit (R.left reader.old) (R.left reader.new)
         (AnsweredWhole image.now trace.now (W.written writer.old) (W.written writer.new)) }
-    // After a failed write, a prefix of the opening lines and the answers to the lines that were read.
+    // After a failed write, the opening lines and the answers to the lines but the last, in full, and a prefix of the last
+    // one's: an answer is out before a byte behind its line is read.
     ensures write { result ≡ Err SessionErr.Write → (R.broken reader.new ≡ false) × (W.broken writer.new ≡ true)
         × Reads limit (R.left reader.old) (R.left reader.new)
         (AnsweredInPart image.now trace.now (R.left reader.new) (W.written writer.old) (W.written writer.new)) }

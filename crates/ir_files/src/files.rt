@@ -71,7 +71,7 @@ pub fn read_file<D: Folder>(
 }
 
 // Writes some bytes from the prefix, again where a signal interrupts it.
-fn put<W: Write>(file: &mut W, bytes: &[u8]) -> Result<usize, ErrorKind>
+pub fn put<W: Write>(file: &mut W, bytes: &[u8]) -> Result<usize, ErrorKind>
     ensures count { IfOk result (λ n. n ≤ length bytes.now) }
     ensures some { result ≡ Ok 0 → bytes.now ≡ [] }
 {
@@ -111,11 +111,6 @@ impl<'a, D: Folder> NewFile<'a, D> {
             failed: false,
             why: "",
         }
-    }
-
-    /// Whether the file was made.
-    pub fn is_made(&self) -> bool {
-        self.file.is_some()
     }
 
     /// Why it failed, if it did.

@@ -3,7 +3,7 @@
 ghost use Rattle.std.specs.Prelude.{◌≡◌, ℕ, List, Option, Some, None, IfOk, IfSome};
 
 use crate::places::Found;
-use std::fs::{self, File};
+use std::fs::{self, File, OpenOptions};
 use std::io::{self, Read, Write};
 use std::os::unix::fs::MetadataExt;
 
@@ -27,6 +27,12 @@ pub trait Folder {
     /// # Errors
     /// The reason why it can't be.
     fn create(&self, path: &str) -> io::Result<Self::Open>;
+
+    /// Makes a file where nothing is, to be written.
+    ///
+    /// # Errors
+    /// The reason why it can't be: `AlreadyExists` where something is, be it a link that leads nowhere.
+    fn create_new(&self, path: &str) -> io::Result<Self::Open>;
 
     /// Puts a file in another place, over what stood there.
     ///
@@ -56,6 +62,13 @@ impl Folder for HostRuntime {
 
     fn create(&self, path: &str) -> io::Result<File> {
         File::create(self, path)
+    }
+
+    fn create_new(&self, path: &str) -> io::Result<File> {
+        OpenOptions::new()
+            .write(true)
+            .create_new(true)
+            .open(self, path)
     }
 
     fn rename(&self, from: &str, to: &str) -> io::Result<()> {

@@ -16,4 +16,4 @@ pub use folder::Folder;
 pub use output_files::{OutputFiles, OutputSink, output_paths};
 pub use places::{Found, loses};
 pub use telling::{tell, tell_of};
-pub use whole_file::{WholeFile, WholeSink, path_beside};
+pub use whole_file::{WholeFile, WholeSink};

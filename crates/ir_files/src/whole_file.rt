@@ -2,11 +2,12 @@
 
 ghost use Rattle.std.specs.Prelude.{◌≡◌, Bool, OnOk, OnErr, None, false, true};
 
-use crate::files::NewFile;
+use crate::files::put;
 use crate::folder::Folder;
 use crate::reason::reason;
 use ir_stream::{DeviceErr, Sink};
 use std::alloc::{AllocError, Global};
+use std::io::ErrorKind;
 
 /// A sink whose bytes may stand elsewhere until they are whole.
 pub trait WholeSink: Sink {
@@ -30,78 +31,106 @@ pub trait WholeSink: Sink {
     fn why(&self) -> &str;
 }
 
-// What stands behind the name of a place whose file isn't whole.
+// What is added to the name of a place whose file isn't whole.
 const PART: &str = ".part";
+
+// How many such names are tried.
+const MOST_PARTS: u32 = 1000;
 
 // The most bytes of a file's name, as Linux has it.
 const MOST_NAME: usize = 255;
 
-/// The path beside a place at which its file is written until it is whole: `.part` behind its name, of which as much is left out
-/// at its end as would make that too long for a file's name.
-///
-/// # Errors
-/// Out of memory.
-pub fn path_beside(alloc: Global, place: &str) -> Result<String, AllocError> {
+// As much of the path of a place as leaves room for so many bytes more in its name.
+fn shortened(place: &str, more: usize) -> &str {
     let name = place.split('/').last().unwrap_or(place);
-    let excess = name
-        .len()
-        .saturating_add(PART.len())
-        .saturating_sub(MOST_NAME);
+    let excess = name.len().saturating_add(more).saturating_sub(MOST_NAME);
     let end = place.len().saturating_sub(excess);
     // A character has at most four bytes.
     let kept = (0..4).find_map(|less| place.get(..end.saturating_sub(less)));
-    let kept = kept.unwrap_or(place);
-    format!(in alloc; "{kept}{PART}")
+    kept.unwrap_or(place)
 }
 
-/// A file that is written beside its place and then put there, over what stood there before. Where a write fails, or
-/// putting it there, nothing of it is left and its place is as it was. What stands there and is no file, as a device or a
-/// link, is written to as it is.
+// The nth path beside a place at which its file may be written until it is whole: `.part` after its name, or `.part` and the
+// number from 2 on, of which name as much is left out at its end as would make it too long for a file's.
+fn path_beside(alloc: Global, place: &str, number: u32) -> Result<String, AllocError> {
+    let suffix = match number {
+        1 => String::from_str(alloc, PART)?,
+        _ => format!(in alloc; "{PART}{number}")?,
+    };
+    let kept = shortened(place, suffix.len());
+    format!(in alloc; "{kept}{suffix}")
+}
+
+// A new file beside a place, under the first of its names at which nothing is.
+fn made_beside<D: Folder>(
+    alloc: Global,
+    folder: &D,
+    place: &str,
+) -> Result<(D::Open, String), &'static str> {
+    for number in 1..=MOST_PARTS {
+        let Ok(path) = path_beside(alloc, place, number) else {
+            return Err("memory ran out");
+        };
+        match folder.create_new(path.as_str()) {
+            Ok(file) => return Ok((file, path)),
+            Err(error) => {
+                if error.kind() != ErrorKind::AlreadyExists {
+                    return Err(reason(error.kind()));
+                }
+            }
+        }
+    }
+    Err("files of all names for its parts are there")
+}
+
+/// A file that is written beside its place and then put there, over what was there before. Nothing that is there already is
+/// written to, or removed: the file beside is a new one. Where a write fails, or putting it there, nothing of it is left and
+/// its place is as it was. What is there and is no file, as a device or a link, is written to as it is.
 #[derive(Drop)]
 pub struct WholeFile<'a, D: Folder> {
+    alloc: Global,
     folder: &'a D,
     place: &'a str,
-    beside: Option<&'a str>,
-    file: NewFile<'a, D>,
+    file: Option<D::Open>,
+    // The path of what is written beside the place; none where it is written at its place, or not yet.
+    beside: Option<String>,
     failed: bool,
     why: &'static str,
     whole: bool,
 }
 
 impl<'a, D: Folder> WholeFile<'a, D> {
-    /// The file of a place, to be written beside it first, to which nothing was written yet.
-    pub fn new(folder: &'a D, place: &'a str, beside: &'a str) -> WholeFile<'a, D>
+    /// The file of a place, to which nothing was written yet.
+    pub fn new(alloc: Global, folder: &'a D, place: &'a str) -> WholeFile<'a, D>
         ensures { result.failed ≡ false }
     {
-        let beside = if folder.is_kept(place) {
-            None
-        } else {
-            Some(beside)
-        };
         WholeFile {
+            alloc,
             folder,
             place,
-            beside,
-            file: NewFile::new(folder, beside.unwrap_or(place)),
+            file: None,
+            beside: None,
             failed: false,
             why: "",
             whole: false,
         }
     }
 
-    /// The path of the file that its bytes are written to first.
-    pub fn first_place(&self) -> &'a str {
-        self.beside.unwrap_or(self.place)
-    }
-
-    // Before the first byte: what stands beside its place goes, so that nothing is written through a link there.
-    fn clear(&self) {
-        match self.beside {
-            Some(beside) if !self.file.is_made() => {
-                let _ = self.folder.remove(beside);
+    // Before the first byte: the file is made.
+    fn make(&mut self) -> Result<(), &'static str>
+        ensures { self.new.failed ≡ self.old.failed }
+    {
+        if self.folder.is_kept(self.place) {
+            match self.folder.create(self.place) {
+                Ok(file) => self.file = Some(file),
+                Err(error) => return Err(reason(error.kind())),
             }
-            _ => {}
+            return Ok(());
         }
+        let (file, path) = made_beside(self.alloc, self.folder, self.place)?;
+        self.file = Some(file);
+        self.beside = Some(path);
+        Ok(())
     }
 
     // It failed, for this reason, and what was written beside its place goes.
@@ -110,11 +139,8 @@ impl<'a, D: Folder> WholeFile<'a, D> {
     {
         self.failed = true;
         self.why = why;
-        match self.beside {
-            Some(beside) if self.file.is_made() => {
-                let _ = self.folder.remove(beside);
-            }
-            _ => {}
+        if let Some(beside) = &self.beside {
+            let _ = self.folder.remove(beside.as_str());
         }
         DeviceErr
     }
@@ -126,13 +152,18 @@ impl<D: Folder> Sink for WholeFile<'_, D> {
     ghost broken = { λ f. f.failed };
 
     fn write(&mut self, bytes: &[u8]) -> Result<usize, DeviceErr> {
-        self.clear();
-        match self.file.write(bytes) {
-            Ok(count) => Ok(count),
-            Err(_) => {
-                let why = self.file.why();
-                Err(self.fail(why))
+        if self.file.is_none() {
+            if let Err(why) = self.make() {
+                return Err(self.fail(why));
             }
+        }
+        let count = match &mut self.file {
+            Some(file) => put(file, bytes),
+            None => Err(ErrorKind::NotFound),
+        };
+        match count {
+            Ok(count) => Ok(count),
+            Err(kind) => Err(self.fail(reason(kind))),
         }
     }
 
@@ -145,8 +176,8 @@ impl<D: Folder> WholeSink for WholeFile<'_, D> {
     ghost whole = { λ f. f.whole };
 
     fn finish(&mut self) -> Result<(), DeviceErr> {
-        if let Some(beside) = self.beside {
-            if let Err(error) = self.folder.rename(beside, self.place) {
+        if let Some(beside) = &self.beside {
+            if let Err(error) = self.folder.rename(beside.as_str(), self.place) {
                 return Err(self.fail(reason(error.kind())));
             }
         }

@@ -6,6 +6,7 @@ mod Runs
 mod Alone
 mod Counted
 mod Splice
+mod Replies
 mod Lone
 mod Bounded
 pub mod CallerLemmas

@@ -71,7 +71,7 @@ pub record Led {T : Type 0} (m : Machine T) (now : ℕ → T) (t : ℕ) (x : T) 
   pub others : (u : ℕ) → u ≢ t → trail m (With now t x f) (map (λ r. (t, r)) ls) u ≡ []
 
 -- what a private step emits
-private_label : {T : Type 0} (m : Machine T) (q : Act) (v : ℕ) (b : Object) (ks : List Label) → is_shared q ≡ false → MayReply m q v
+pub private_label : {T : Type 0} (m : Machine T) (q : Act) (v : ℕ) (b : Object) (ks : List Label) → is_shared q ≡ false → MayReply m q v
     → emitted q b ≡ alone_label q ks
 private_label m Silent v b ks p h = refl
 private_label m (Refusal _) v b ks p h = refl
@@ -258,7 +258,7 @@ pub record Prefixes {T : Type 0} (m : Machine T) (y : T) (ws : List ℕ) (q : Ac
   pub rest : alone_after m (m.take y v) (tail_of ws) ≡ alone_after m y ws
   pub trails : (k : Label) (ks : List Label) → alone_trail m y ws (k ∷ ks) ≡ (y, k) ∷ alone_trail m (m.take y v) (tail_of ws) ks
 
-shared_label : (q : Act) (k : Label) (ks : List Label) → is_shared q ≡ true → alone_label q (k ∷ ks) ≡ k
+pub shared_label : (q : Act) (k : Label) (ks : List Label) → is_shared q ≡ true → alone_label q (k ∷ ks) ≡ k
 shared_label Silent k ks p = absurd (cc p)
 shared_label (Refusal _) k ks p = absurd (cc p)
 shared_label (Result i res) k ks p = absurd (cc p)

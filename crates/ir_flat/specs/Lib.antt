@@ -4,3 +4,4 @@ pub mod Next
 pub mod Alone
 pub mod Laws
 pub mod Splice
+pub mod Replies

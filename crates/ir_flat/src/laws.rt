@@ -1,6 +1,7 @@
 //! Laws of the flat machine, each the contract of a function without parameters.
 
 ghost use Rattle.ir_flat.specs.Laws.{NothingStuck, WritersAlone, HeldInside, CountsFit};
+ghost use Rattle.ir_flat.specs.Replies.{EachAlone};
 ghost use Rattle.ir_flat.specs.Splice.{AloneIsLone, Splices};
 ghost use Rattle.ir_thread.specs.State as thread;
 
@@ -32,4 +33,10 @@ pub fn splices()
 /// A thread with replies that it may be given is the thread run alone with the values among them.
 pub fn alone_is_lone()
     ensures { AloneIsLone }
+{}
+
+/// Each thread of a run is the thread run alone with what the run replied to it: the replies are all that it sees of
+/// the others.
+pub fn each_alone()
+    ensures { EachAlone }
 {}

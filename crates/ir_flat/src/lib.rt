@@ -7,4 +7,6 @@ mod parts;
 mod start;
 
 pub use flat::{Flat, NotAdmitted};
-pub use laws::{alone_is_lone, counts_fit, held_inside, nothing_stuck, splices, writers_alone};
+pub use laws::{
+    alone_is_lone, counts_fit, each_alone, held_inside, nothing_stuck, splices, writers_alone,
+};

@@ -5,6 +5,7 @@ use Rattle.std.specs.Io.KnownBytes.{Appends}
 use Rattle.std.proofs.KnownBytes.{Appends-nil, Appends-trans}
 use Rattle.ir_stream.specs.Devices.{AppendsPrefix}
 use Rattle.ir_stream.proofs.CallerLemmas.{prefix_after, prefix_longer}
+use Rattle.ir_thread.specs.declared.profile.Profile.{Profile}
 use Rattle.ir_log.specs.Logging.{label_of}
 use Rattle.ir_log.specs.declared.event.Event.{Event}
 use Rattle.ir_trace.specs.Recorded.{RecordedThread}
@@ -98,9 +99,10 @@ rest_stopped : {A : Type 0} (result : Result A ListErr) (a b c : Option (List �
 rest_stopped (Ok x) a b c failed bytes first rest same done h = tt
 rest_stopped (Err e) a b c failed bytes first rest same done h = after_first e a b c failed first rest (subst (Appends a b) same done) h
 
-pub same_header : (threads others : List RecordedThread) (objects objects' budget budget' : ℕ) → threads ≡ others → objects ≡ objects'
-    → budget ≡ budget' → header_line (length threads) objects budget ≡ header_line (length others) objects' budget'
-same_header threads others objects objects' budget budget' e o b = λ i. header_line (length (e i)) (o i) (b i)
+pub same_header : (threads others : List RecordedThread) (objects objects' budget budget' : ℕ) (profile profile' : Profile) → threads ≡ others
+    → objects ≡ objects' → budget ≡ budget' → profile ≡ profile'
+    → header_line (length threads) objects budget profile ≡ header_line (length others) objects' budget' profile'
+same_header threads others objects objects' budget budget' profile profile' e o b p = λ i. header_line (length (e i)) (o i) (b i) (p i)
 
 pub threads_stopped : {A : Type 0} (result : Result A ListErr) (a b c : Option (List ℕ)) (failed : Bool) (bytes first : List ℕ)
     (threads others : List RecordedThread) → bytes ≡ first → threads ≡ others → Appends a b bytes

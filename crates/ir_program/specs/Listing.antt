@@ -1,6 +1,8 @@
 -- A trace in lines.
 use Rattle.std.specs.Prelude.{◌≡◌, ℕ, ◌+◌, List, [], ◌∷◌, ◌++◌, codes, decimal, length, map, Result, Ok, Err, false}
 use Rattle.ir_stream.specs.Devices.{AppendsPrefix}
+use Rattle.ir_thread.specs.declared.profile.Profile.{Profile}
+use Rattle.ir_thread.specs.declared.profile.Profile.TheVariants.{One, Two}
 use Rattle.ir_log.specs.Logging.{label_of}
 use Rattle.ir_trace.specs.Recorded.{RecordedThread, Recorded}
 use Rattle.ir_trace.specs.declared.trace_err.TraceErr.{TraceErr}
@@ -15,10 +17,16 @@ use Rattle.ir_program.specs.declared.fault.BundleErr.TheVariants as fault
 use Rattle.ir_program.specs.declared.list_err.ListErr.{ListErr}
 use Rattle.ir_program.specs.declared.list_err.ListErr.TheVariants.{NoMem, Write}
 
--- how many threads and objects, and the budget
-abbrev pub header_line : ℕ → ℕ → ℕ → List ℕ
-header_line threads objects budget =
-    codes "threads " ++ (decimal threads ++ (codes " objects " ++ (decimal objects ++ (codes " budget " ++ (decimal budget ++ 10 ∷ [])))))
+-- the number of each profile
+abbrev pub profile_number : Profile → ℕ
+profile_number One = 1
+profile_number Two = 2
+
+-- how many threads and objects, the budget and the profile
+abbrev pub header_line : ℕ → ℕ → ℕ → Profile → List ℕ
+header_line threads objects budget profile =
+    codes "threads " ++ (decimal threads ++ (codes " objects " ++ (decimal objects ++ (codes " budget " ++ (decimal budget
+    ++ (codes " profile " ++ (decimal (profile_number profile) ++ 10 ∷ [])))))))
 
 -- the line of thread t as its recording prints it, and all of its events as the debugger shows a log
 abbrev pub thread_listing : ℕ → RecordedThread → List ℕ
@@ -31,7 +39,7 @@ threads_listing t (r ∷ rs) = thread_listing t r ++ threads_listing (t + 1) rs
 
 -- the lines of a trace
 abbrev pub listing : Recorded → List ℕ
-listing r = header_line (length r.threads) r.objects r.budget ++ threads_listing 0 r.threads
+listing r = header_line (length r.threads) r.objects r.budget r.profile ++ threads_listing 0 r.threads
 
 -- what is written of the bytes of a trace: its lines, or the line with which a session refuses it
 abbrev pub shown : Result Recorded TraceErr → List ℕ

@@ -36,6 +36,12 @@ pub struct Invocation<'a> {
     pub terminals: Terminals,
 }
 
+// What is said at a terminal where nothing was asked for.
+const WAITS: &str =
+    "ir: waiting for an image and a trace, a line of hexadecimal digits each, and then for commands; ir --help tells
+what else it does
+";
+
 // Writes a text about the program.
 fn help<O: Sink, E: Sink>(text: &str, out: &mut O, faults: &mut E) -> ExitStatus {
     match write_all(out, text.as_bytes()) {
@@ -83,6 +89,9 @@ where
     match parsed(alloc, invocation.arguments) {
         Asked::Session => {
             let mut input = input;
+            if terminals.input {
+                let _ = rt.eprint(format_args!("{WAITS}"));
+            }
             bundle(rt, alloc, &mut input, out, faults)
         }
         Asked::Assemble(arguments) => {
@@ -91,7 +100,15 @@ where
         Asked::Record(arguments) => record_file(rt, folder, gate, &arguments, out, faults),
         Asked::Debug(arguments) => {
             let mut input = Prompting::new(input, rt, terminals.input);
-            debug_files(rt, folder, &arguments, &mut input, out, faults)
+            debug_files(
+                rt,
+                folder,
+                &arguments,
+                terminals.faults,
+                &mut input,
+                out,
+                faults,
+            )
         }
         Asked::Trace(arguments) => trace_file(alloc, folder, &arguments, out, faults),
         Asked::Help(text) => help(text.as_str(), out, faults),

@@ -7,6 +7,7 @@ mod commands;
 mod debugging;
 mod dispatch;
 mod fault;
+mod hints;
 mod line;
 mod list_err;
 mod listing;

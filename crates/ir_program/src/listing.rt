@@ -4,7 +4,7 @@ ghost use Rattle.std.specs.Prelude.{◌≡◌, OnOk, IfOk, IfErr, length, false}
 ghost use Rattle.std.specs.String.{string_bytes};
 ghost use Rattle.std.specs.Io.KnownBytes.{Appends};
 ghost use Rattle.ir_debug.specs.Machine.Opening.{TraceRefused, opening_text};
-ghost use Rattle.ir_program.specs.Listing.{header_line, thread_listing, threads_listing, listing, Stops};
+ghost use Rattle.ir_program.specs.Listing.{profile_number, header_line, thread_listing, threads_listing, listing, Stops};
 ghost use Rattle.ir_files.specs.Writers.{writer_of};
 
 use crate::list_err::ListErr;
@@ -12,18 +12,30 @@ use ir_debug::Sink;
 use ir_record_run::thread_line;
 use ir_stream::write_all;
 use ir_text::write_log;
+use ir_thread::Profile;
 use ir_trace::{ThreadTrace, Trace, TraceErr};
 use std::alloc::{AllocError, Global};
+
+fn profile_number(profile: Profile) -> u8
+    ensures { result ≡ profile_number profile }
+{
+    match profile {
+        Profile::One => 1,
+        Profile::Two => 2,
+    }
+}
 
 fn header_line(
     alloc: Global,
     threads: usize,
     objects: u8,
     budget: u64,
+    profile: Profile,
 ) -> Result<String, AllocError>
-    ensures { IfOk result (λ s. string_bytes s ≡ header_line threads objects budget) }
+    ensures { IfOk result (λ s. string_bytes s ≡ header_line threads objects budget profile) }
 {
-    format!(in alloc; "threads {threads} objects {objects} budget {budget}\n")
+    let number = profile_number(profile);
+    format!(in alloc; "threads {threads} objects {objects} budget {budget} profile {number}\n")
 }
 
 // Writes the line of a thread, and then its events.
@@ -58,7 +70,7 @@ fn put_threads<W: Sink>(alloc: Global, threads: &[ThreadTrace], out: &mut W) -> 
     Ok(())
 }
 
-/// Writes the lines of a trace: how many threads and objects there are and the budget, and for each thread the line of its
+/// Writes the lines of a trace: how many threads and objects there are, the budget and the profile, and for each thread the line of its
 /// recording and its whole log. The memory that is taken doesn't grow with the events.
 ///
 /// # Errors
@@ -70,7 +82,13 @@ pub fn write_listing<W: Sink>(alloc: Global, trace: &Trace, out: &mut W) -> Resu
     ensures fails { IfErr result (λ e. Stops e (writer_of (W.written out.old) (W.written out.new) (W.broken out.new)) (listing trace.now)) }
 {
     let threads = trace.threads();
-    let header = header_line(alloc, threads.len(), trace.objects(), trace.budget())?;
+    let header = header_line(
+        alloc,
+        threads.len(),
+        trace.objects(),
+        trace.budget(),
+        trace.profile(),
+    )?;
     write_all(out, header.as_bytes())?;
     put_threads(alloc, threads, out)
 }

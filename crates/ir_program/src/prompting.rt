@@ -2,11 +2,16 @@
 
 ghost use Rattle.std.specs.Prelude.{◌≡◌};
 
+use crate::hints::advise;
+use arrayvec::ArrayVec;
 use ir_debug::{DeviceErr, Source};
+use ir_stream::{KEPT, keep};
 
 const PROMPT: &str = "(ir) ";
 
-/// A reader of lines that prompts on standard error before it reads the first byte of one, where it is to ask.
+/// A reader of lines that prompts on standard error before it reads the first byte of one, where it is to ask, and says there
+/// what was wanted in place of the line before, if that was refused for its words. Where the input ends, so does the line of
+/// the prompt.
 #[derive(Drop)]
 pub struct Prompting<'a, S, R> {
     reader: S,
@@ -14,6 +19,8 @@ pub struct Prompting<'a, S, R> {
     asks: bool,
     // Whether the next byte begins a line.
     begins: bool,
+    // The line that was read last, or the first bytes of one.
+    line: ArrayVec<u8, KEPT>,
 }
 
 impl<'a, S: Source, R> Prompting<'a, S, R> {
@@ -26,7 +33,28 @@ impl<'a, S: Source, R> Prompting<'a, S, R> {
             rt,
             asks,
             begins: true,
+            line: ArrayVec::new(),
         }
+    }
+}
+
+// Puts these bytes, of one line, behind those that were read of it.
+fn keep_all(line: &mut ArrayVec<u8, KEPT>, bytes: &[u8]) {
+    for &byte in bytes {
+        if byte != b'\n' {
+            keep(line, byte);
+        }
+    }
+}
+
+impl<S, R: Eprint> Prompting<'_, S, R> {
+    // Before a line is read, and after the one before it was answered.
+    fn prompt(&mut self)
+        ensures { self.new.reader ≡ self.old.reader }
+    {
+        advise(self.rt, self.line.as_slice());
+        self.line.clear();
+        let _ = self.rt.eprint(format_args!("{PROMPT}"));
     }
 }
 
@@ -37,9 +65,15 @@ impl<S: Source, R: Eprint> Source for Prompting<'_, S, R> {
 
     fn read(&mut self, buffer: &mut [u8]) -> Result<usize, DeviceErr> {
         if self.asks && self.begins {
-            let _ = self.rt.eprint(format_args!("{PROMPT}"));
+            self.prompt();
         }
         let count = self.reader.read(buffer)?;
+        if self.asks {
+            keep_all(&mut self.line, &buffer[..count]);
+            if count == 0 && !buffer.is_empty() {
+                let _ = self.rt.eprint(format_args!("\n"));
+            }
+        }
         self.begins = buffer[..count].last() == Some(&b'\n');
         Ok(count)
     }

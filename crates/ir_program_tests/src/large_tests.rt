@@ -102,7 +102,8 @@ fn nine_threads_are_recorded_with_the_second_profile(rt: HostRuntime) -> Result<
 // Threads and objects that are one too many for the first profile.
 const TOO_MANY: [(u32, &str); 2] = [(9, ""), (1, ".objects 17\n")];
 
-const REFUSED: &[u8] = b"ir: the first profile takes at most 8 threads and 16 objects\n";
+const REFUSED: &[u8] =
+    b"ir: the first profile takes at most 8 threads and 16 objects, and --profile 2 takes more\n";
 
 #[test]
 fn more_threads_or_objects_want_the_second_profile(rt: HostRuntime) -> Result<(), Fail> {

@@ -8,6 +8,8 @@ mod asm_tests;
 #[cfg(test)]
 mod device_tests;
 #[cfg(test)]
+mod given_words_tests;
+#[cfg(test)]
 mod kept_outputs;
 #[cfg(test)]
 mod large_tests;

@@ -77,7 +77,7 @@ fn ran<R: Threads + Wait + Sync + Clock + Eprint + AllocGlobal>(
 }
 
 // Whether a run of the program by these words, which reads this, ends with the status, writes this and tells this.
-fn says<R: Threads + Wait + Sync + Clock + Eprint + AllocGlobal>(
+pub fn says<R: Threads + Wait + Sync + Clock + Eprint + AllocGlobal>(
     rt: &R,
     shelf: &Shelf,
     line: &str,
@@ -102,13 +102,16 @@ fn holds(shelf: &Shelf, path: &str, wanted: &[u8]) -> bool {
 
 // Two sources and their images, one of them at a second path, a source with a fault, a file that is too long to be read by
 // guests, and folders.
-fn prepared<R: Threads + Wait + Sync + Clock + Eprint + AllocGlobal>(
+pub fn prepared<R: Threads + Wait + Sync + Clock + Eprint + AllocGlobal>(
     rt: &R,
 ) -> Result<Shelf, Fail> {
     let shelf = Shelf::new(rt.alloc());
     shelf.add_file("d.s", DOUBLE)?;
     shelf.add_file("bad.s", b"nop\nx\n")?;
     shelf.add_file("held.trc.part", b"A")?;
+    shelf.add_file("list", b"0x3,0\r\n")?;
+    shelf.add_file("bad.list", b"0,x\n")?;
+    shelf.add_file("no.text", b"\xff")?;
     let mut long = Vec::new(rt.alloc());
     long.resize(1_048_577, 0)?;
     shelf.add_file("longer", long.as_slice())?;
@@ -129,7 +132,7 @@ fn prepared<R: Threads + Wait + Sync + Clock + Eprint + AllocGlobal>(
 const EXPLAINED: &str = "line 2 error 2\nbad.s:2: an unknown instruction or directive: x\n";
 
 // The words, the exit status, and what is told.
-const ROWS: [(&str, u8, &str); 51] = [
+const ROWS: [(&str, u8, &str); 54] = [
     (
         "ir asm",
         2,
@@ -192,19 +195,34 @@ const ROWS: [(&str, u8, &str); 51] = [
         "ir: d.img: TRACE would be written over IMAGE\n",
     ),
     (
+        "ir record d.img list --order-file list",
+        2,
+        "ir: list: TRACE would be written over LISTFILE\n",
+    ),
+    (
+        "ir record d.img d.trc --order-file bad.list",
+        3,
+        "ir: LIST: the item 'x' is neither T nor TxN\n",
+    ),
+    (
+        "ir record d.img d.trc --order-file no.text",
+        3,
+        "ir: no.text: LIST is no text\n",
+    ),
+    (
+        "ir record d.img d.trc --order-file none",
+        1,
+        "ir: none can't be read: no such file or folder\n",
+    ),
+    (
+        "ir record d.img d.trc --order 0 --order-file list",
+        2,
+        "ir: the argument '--order <LIST>' cannot be used with '--order-file <LISTFILE>'\n",
+    ),
+    (
         "ir record d.img longer --input longer",
         2,
         "ir: longer: TRACE would be written over FILE\n",
-    ),
-    (
-        "ir record held.trc.part held.trc",
-        2,
-        "ir: held.trc.part: TRACE.part would be written over IMAGE\n",
-    ),
-    (
-        "ir record d.img held.trc --input held.trc.part",
-        2,
-        "ir: held.trc.part: TRACE.part would be written over FILE\n",
     ),
     (
         "ir record image.1 d.trc --output image",
@@ -414,7 +432,7 @@ const TURNS: [(&str, &[u8], u8, &str); 8] = [
         "ir trace d.trc",
         b"",
         0,
-        "threads 1 objects 0 budget 1000000\nthread 0 end 1 code 144 steps 6 events 0\nlog 0 of 0\n",
+        "threads 1 objects 0 budget 1000000 profile 1\nthread 0 end 1 code 144 steps 6 events 0\nlog 0 of 0\n",
     ),
     ("ir trace d.img", b"", 3, "trace refused 2\n"),
     (
@@ -474,11 +492,32 @@ fn outputs_are_written_where_they_are_asked_for(rt: HostRuntime) -> Result<(), F
         ("ir record two.img d.trc --order 0", false),
         ("ir record two.img d.trc --output out", true),
         ("ir record two.img d2.trc --output other --order 1,0", true),
+        (
+            "ir record two.img d2.trc --output other --order-file list",
+            true,
+        ),
     ] {
         assert!(rt; goes_well(&rt, &shelf, line)?, "{line}");
         assert_eq!(rt; are_there(&shelf), (is_asked_for, is_asked_for, false));
     }
     assert!(rt; holds(&shelf, "other.0", b"A") && holds(&shelf, "other.1", b""));
+    Ok(())
+}
+
+// A file that is there already is neither written to nor removed, though it has the name of a part.
+#[test]
+fn a_part_of_another_stays(rt: HostRuntime) -> Result<(), Fail> {
+    let shelf = prepared(&rt)?;
+    for line in [
+        "ir record d.img held.trc",
+        "ir record d.img held.trc --input held.trc.part",
+        "ir asm d.s held.trc",
+    ] {
+        assert!(rt; goes_well(&rt, &shelf, line)?, "{line}");
+        assert!(rt; shelf.bytes_of("held.trc").is_some(), "{line}");
+        assert!(rt; holds(&shelf, "held.trc.part", b"A"), "{line}");
+        assert!(rt; shelf.bytes_of("held.trc.part2").is_none(), "{line}");
+    }
     Ok(())
 }
 

@@ -176,6 +176,13 @@ impl<'a> Folder for &'a Shelf {
         Folder::open(self, path)
     }
 
+    fn create_new(&self, path: &str) -> io::Result<Taken<'a>> {
+        if self.place_of(path).is_some() {
+            return Err(io::Error::from(ErrorKind::AlreadyExists));
+        }
+        Folder::create(self, path)
+    }
+
     fn rename(&self, from: &str, to: &str) -> io::Result<()> {
         let Some(bytes) = self.bytes_of(from) else {
             return Err(io::Error::from(ErrorKind::NotFound));

@@ -17,7 +17,7 @@ const TRACE: [u8; 86] = [
     5, 0, 0, 0, 0, 0, 0, 0, 13, 0, 0, 0, 0, 0, 0, 0, 0, // thread 1
 ];
 
-const LINES: &[u8] = b"threads 2 objects 2 budget 1000000000000
+const LINES: &[u8] = b"threads 2 objects 2 budget 1000000000000 profile 1
 thread 0 end 1 code 4294967295 steps 40 events 6
 log 6 of 6
 0 clock 4294967295

@@ -64,7 +64,8 @@ impl RecordFault {
     {
         match self {
             RecordFault::Image(why) => image_words(why),
-            RecordFault::TooLarge => "the first profile takes at most 8 threads and 16 objects",
+            RecordFault::TooLarge =>
+                "the first profile takes at most 8 threads and 16 objects, and --profile 2 takes more",
             RecordFault::Order => "LIST is no order of this image's threads",
             RecordFault::NoMem => "memory ran out",
             RecordFault::Clock => "the clock can't be read",

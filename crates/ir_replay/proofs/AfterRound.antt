@@ -22,7 +22,7 @@ use Rattle.ir_replay.specs.Workers.{IsReady, HasWorked, Pairs}
 use Rattle.ir_replay.specs.declared.worker.Worker.{Worker}
 use Rattle.ir_replay.proofs.Down.{Down, down_map, down_both, down_all, down_at, down_pairs, back_threads, down_threads, down_seats, IsFirst}
 use Rattle.ir_replay.proofs.Gathered.{stands_there, still_reached}
-use Rattle.ir_replay.proofs.Numbers.{ahead_at}
+use Rattle.ir_weave.proofs.CallerLemmas.{ahead_at}
 
 -- the guest at a cut below the target
 pub record Starts (f : FittedTrace) (target : List ℕ) (s : Standing) : Type 0 where

@@ -4,5 +4,5 @@ mod Unmarked
 mod Gathered
 mod Dealt
 mod Down
-mod Numbers
+mod Below
 mod AfterRound

@@ -6,6 +6,7 @@ use Rattle.ir_thread.specs.State as thread
 use Rattle.ir_weave.specs.Woven.{View}
 use Rattle.ir_replay.specs.declared.worker.Worker.{Worker}
 use Rattle.ir_cut.specs.Positions.{cut_of}
+use Rattle.ir_runs.specs.Cuts.{Cut}
 use Rattle.ir_fit.specs.Fit.{FittedTrace}
 use Rattle.ir_weave.specs.Standing.{Standing, StandsAt, flat_in}
 use Rattle.ir_weave.specs.States.{positions}
@@ -16,6 +17,10 @@ pub record IsBetween (f : FittedTrace) (target : List ℕ) (old new : Standing) 
   pub stands : StandsAt f (positions (flat_in f new)) new
   pub above : (t : ℕ) → positions (flat_in f old) t ≤ positions (flat_in f new) t
   pub below : (t : ℕ) → positions (flat_in f new) t ≤ cut_of target t
+
+-- at these positions at most one thread is below its target
+abbrev pub OneIsBelow : List ℕ → Cut → Type 0
+OneIsBelow target p = (t u : ℕ) → p t < cut_of target t → p u < cut_of target u → t ≡ u
 
 -- fewer steps are left, if any were
 abbrev pub Goes : FittedTrace → List ℕ → Standing → Standing → Type 0

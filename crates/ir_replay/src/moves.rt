@@ -1,12 +1,12 @@
 //! The state at a later cut.
 
-ghost use Rattle.std.specs.Prelude.{◌≡◌, ◌<◌, ◌≤◌, ℕ, true, false, length, slice_index_or, IfOk, IfErr};
+ghost use Rattle.std.specs.Prelude.{◌≡◌, ◌<◌, ◌≤◌, ◌↔◌, ℕ, true, false, length, slice_index_or, IfOk, IfErr, IsOk, IsTrue};
 ghost use Rattle.ir_flat.specs.Flat.{idle};
 ghost use Rattle.ir_cut.specs.Positions.{IsConsistentCut, cut_of};
 ghost use Rattle.ir_weave.specs.Standing.{StandsAt, flat_in};
 ghost use Rattle.ir_weave.specs.States.{positions};
 ghost use Rattle.ir_weave.specs.Stepping.{steps_left};
-ghost use Rattle.ir_replay.specs.Rounds.{IsBetween, Goes};
+ghost use Rattle.ir_replay.specs.Rounds.{IsBetween, OneIsBelow, Goes};
 
 use crate::pace::Pace;
 use crate::passes::{finish, follow};
@@ -57,10 +57,11 @@ fn is_there(threads: &[Thread], target: &Cut) -> bool
 // Whether at most one thread is below its target.
 fn is_alone(threads: &[Thread], target: &Cut) -> bool
     requires { length target.now ≡ length threads.now }
+    ensures { IsTrue result ↔ OneIsBelow target.now (λ t. (slice_index_or threads.now t idle).steps) }
 {
     let mut below = 0u64;
-    for (t, thread) in threads.iter().enumerate() {
-        if thread.steps() < target.position(t) {
+    for t in 0..threads.len() {
+        if target.position(t) > threads[t].steps() {
             below = below.saturating_add(1);
         }
     }
@@ -93,6 +94,7 @@ fn turn<R: Threads + Clock + Sync, G: Gate + Sync>(
     ensures ok { IfOk result (λ s. IsBetween fitted.now target.now state s) }
     ensures goes { IfOk result (λ s. Goes fitted.now target.now state s) }
     ensures err { IfErr result (λ e. e.0 ≡ state) }
+    ensures alone { OneIsBelow target.now (positions (flat_in fitted.now state)) → IsOk result }
 {
     if is_alone(state.threads(), target) {
         return Ok(stretch(fitted, state, target, u64::MAX, gate));
@@ -128,6 +130,8 @@ pub fn advance<R: Threads + Clock + Sync, G: Gate + Sync>(
     requires below { (t : ℕ) → positions (flat_in fitted.now state) t ≤ cut_of target.now t }
     ensures ok { IfOk result (λ s. StandsAt fitted.now (cut_of target.now) s) }
     ensures err { IfErr result (λ e. IsBetween fitted.now target.now state e.0) }
+    // One thread alone takes its steps without memory.
+    ensures alone { OneIsBelow target.now (positions (flat_in fitted.now state)) → IsOk result }
 {
     let mut state = state;
     let mut pace = Pace::new();

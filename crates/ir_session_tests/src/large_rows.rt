@@ -1,7 +1,7 @@
 //! Sessions on traces of sixteen threads at an object of sixteen words.
 
 use crate::sessions::{Files, Said, is_answered};
-use ir_tests::guests::{SIXTEEN_COUNTERS, SIXTEEN_READERS, Source};
+use ir_tests::guests::{LAST_WORD, SIXTEEN_COUNTERS, SIXTEEN_READERS, Source};
 use ir_tests::recordings::{BUDGET, tried_in_order};
 use ir_tests::sources::image_bytes;
 use ir_trace::write_trace;
@@ -69,6 +69,14 @@ words 00000000 00000000 00000000 00000000 00000000 00000000 00000000 00000000 \
 00000000 00000000 00000000 00000000 00000000 00000000 00000000 00000000\n",
 )];
 
+// Of `LAST_WORD`.
+const PUT: [Said; 1] = [(
+    "end\nobj 0\n",
+    "ready\nat 9\nversion 1 left 0 readers - writer -\n\
+words 00000000 00000000 00000000 00000000 00000000 00000000 00000000 00000000 \
+00000000 00000000 00000000 00000000 00000000 00000000 00000000 00000007\n",
+)];
+
 // The guest, and its trace where it is recorded in rounds.
 fn files_of(alloc: Global, source: Source) -> Result<Files, Fail> {
     let fitted = tried_in_order(alloc, source, &[], BUDGET)?;
@@ -102,4 +110,9 @@ fn sixteen_writers_are_answered(rt: HostRuntime) -> Result<(), Fail> {
 #[test]
 fn sixteen_readers_are_answered(rt: HostRuntime) -> Result<(), Fail> {
     are_answered(&rt, SIXTEEN_READERS, &READ)
+}
+
+#[test]
+fn the_last_word_is_answered(rt: HostRuntime) -> Result<(), Fail> {
+    are_answered(&rt, LAST_WORD, &PUT)
 }

@@ -247,9 +247,10 @@ fn is_trace_told<R: AllocGlobal + Threads + Clock + Sync>(
     Ok(true)
 }
 
-const CHANGED: [(Source, TraceRow); 2] = [
+const CHANGED: [(Source, TraceRow); 3] = [
     (DOUBLED, ENDED_BY_144),
     (READ_THEN_WRITE, READ_AND_WRITTEN),
+    (TWO_COUNTERS, SECOND_FIRST),
 ];
 
 #[test]

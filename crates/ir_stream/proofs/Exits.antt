@@ -9,11 +9,11 @@ use Rattle.ir_stream.specs.declared.serving.Served.TheVariants.{Quit}
 use Rattle.ir_stream.specs.declared.serving.Fault.{Fault}
 use Rattle.ir_stream.specs.declared.serving.Fault.TheVariants.{Read, Write, TooLong}
 use Rattle.ir_stream.specs.Lines.{most_kept_bytes, Cut, cut, last_line, lines_of}
-use Rattle.ir_stream.specs.Answers.{Replying, Answered, Wrote, WrotePrefix, Replied, RepliedPrefix, through, some_quits}
+use Rattle.ir_stream.specs.Answers.{Replying, Answered, Wrote, WroteInPart, Replied, RepliedPrefix, through, some_quits}
 use Rattle.ir_stream.specs.Devices.{Reads}
 use Rattle.ir_stream.specs.Endings.{served_after, IfEnded, LeadsTo}
 use Rattle.ir_stream.proofs.Cuts.{cut-feed, cut-other, take-again}
-use Rattle.ir_stream.proofs.Replies.{prefix_after, answered-append, answered-nil, answered-one, answered_prefix, some_quits-append, some_quits-one, some_quits-nil, through-append, through-last, through-one, some_quits_prefix}
+use Rattle.ir_stream.proofs.Replies.{last_some, answered-append, answered-nil, answered-one, answered_prefix, some_quits-append, some_quits-one, some_quits-nil, through-append, through-last, through-one, some_quits_prefix}
 use Rattle.ir_stream.proofs.Hearing.{consumed_any, leads_quit, leads_end, leads_long}
 
 -- after these bytes: what is left, what was written, the machine and the line that has begun
@@ -105,14 +105,15 @@ module _ {S : Type 0} (R : Replying S) (quits : List ℕ → Bool)
           Appends-trans w0 written written' at.text p.text at.grown p.grown;
     }
 
-    fed_prefix : (written' : Option (List ℕ)) → RepliedPrefix R s line written written'
-        → WrotePrefix R s0 ((cut at.bytes).whole ++ (cut at.bytes).rest ∷ []) w0 written'
-    fed_prefix written' p = record {
-      text = at.text ++ p.text;
-      last = p.next;
-      answered = fed p.text p.next p.is;
-      grown =
-          prefix_after w0 written written' at.text p.text at.grown p.grown;
+    fed_part : (written' : Option (List ℕ)) → RepliedPrefix R s line written written'
+        → WroteInPart R s0 ((cut at.bytes).whole ++ (cut at.bytes).rest ∷ []) w0 written'
+    fed_part written' p = record {
+      before = (cut at.bytes).whole;
+      line = (cut at.bytes).rest;
+      are = refl;
+      between = written;
+      all = record { text = at.text; last = s; answered = at.answered; grown = at.grown };
+      part = record { text = p.text; next = p.next; is = whole_reply p.text p.next p.is; grown = p.grown };
     }
 
     -- a line feed, whose line was answered and doesn't quit
@@ -159,14 +160,14 @@ module _ {S : Type 0} (R : Replying S) (quits : List ℕ → Bool)
       -- the writer failed in the answer to a line whose line feed came
       pub feed_failed : (written' : Option (List ℕ)) → Consumes left left' (10 ∷ []) → RepliedPrefix R s line written written'
           → Reads limit input left' (λ consumed. (through quits (lines_of consumed) ≡ lines_of consumed)
-          × (((cut consumed).rest ≡ [] → ⊥) → IsAtEnd left') × WrotePrefix R s0 (lines_of consumed) w0 written')
+          × (((cut consumed).rest ≡ [] → ⊥) → IsAtEnd left') × WroteInPart R s0 (lines_of consumed) w0 written')
       unfolding cut
       feed_failed written' took p =
           let k = cut-feed at.bytes [] in
           let lines : lines_of (at.bytes ++ 10 ∷ []) ≡ (cut at.bytes).whole ++ (cut at.bytes).rest ∷ [] =
           ap (λ (c : Cut). c.whole ++ last_line c.rest) k ∙ append-nil ((cut at.bytes).whole ++ (cut at.bytes).rest ∷ []) in
           let none : (cut (at.bytes ++ 10 ∷ [])).rest ≡ [] = ap (λ (c : Cut). c.rest) k in
-          let P : List (List ℕ) → Type 0 = λ x. WrotePrefix R s0 x w0 written' in
+          let P : List (List ℕ) → Type 0 = λ x. WroteInPart R s0 x w0 written' in
           record {
             consumed = at.bytes ++ 10 ∷ [];
             taken = Consumes-trans input left left' at.bytes (10 ∷ []) at.parts took;
@@ -175,7 +176,7 @@ module _ {S : Type 0} (R : Replying S) (quits : List ℕ → Bool)
               ap (through quits) lines ∙ through-append quits (cut at.bytes).whole ((cut at.bytes).rest ∷ []) at.quiet
                   ∙ ap (λ (t : List (List ℕ)). (cut at.bytes).whole ++ t) (through-one quits (cut at.bytes).rest) ∙ sym lines,
               λ some. absurd (some none),
-              subst P (sym lines) (fed_prefix written' p),
+              subst P (sym lines) (fed_part written' p),
             );
           }
 
@@ -209,15 +210,10 @@ module _ {S : Type 0} (R : Replying S) (quits : List ℕ → Bool)
             Appends-trans w0 written written' at.text p.text at.grown p.grown;
       }
 
-      all_prefix : (written' : Option (List ℕ)) → WrotePrefix R s (last_line line) written written'
-          → WrotePrefix R s0 (lines_of at.bytes) w0 written'
-      all_prefix written' p = record {
-        text = at.text ++ p.text;
-        last = p.last;
-        answered = all p.text p.last p.answered;
-        grown =
-            prefix_after w0 written written' at.text p.text at.grown p.grown;
-      }
+      -- what the input ended in isn't empty, as what was kept of it isn't
+      ended_line : (line ≡ [] → ⊥) → lines_of at.bytes ≡ (cut at.bytes).whole ++ (cut at.bytes).rest ∷ []
+      ended_line some = ap (λ (ls : List (List ℕ)). (cut at.bytes).whole ++ ls)
+          (last_some (cut at.bytes).rest (λ none. some (at.begun ∙ ap (take most_kept_bytes) none)))
 
       module _ (took : Consumes left left' []) where
         ended_bytes : Consumes input left' at.bytes
@@ -245,20 +241,22 @@ module _ {S : Type 0} (R : Replying S) (quits : List ℕ → Bool)
             gone (end_leads e written' p served)
 
         -- the writer failed in the answer to what the input ended in
-        pub end_failed : (written' : Option (List ℕ)) → IsAtEnd left' → WrotePrefix R s (last_line line) written written'
+        pub end_failed : (written' : Option (List ℕ)) → IsAtEnd left' → (line ≡ [] → ⊥) → RepliedPrefix R s line written written'
             → Reads limit input left' (λ consumed. (through quits (lines_of consumed) ≡ lines_of consumed)
-            × (((cut consumed).rest ≡ [] → ⊥) → IsAtEnd left') × WrotePrefix R s0 (lines_of consumed) w0 written')
-        end_failed written' gone p = record {
-          consumed = at.bytes;
-          taken = ended_bytes;
-          within = omega (arith, at.count);
-          holds = (
-            through-append quits (cut at.bytes).whole (last_line (cut at.bytes).rest) at.quiet
-                ∙ ap (λ (t : List (List ℕ)). (cut at.bytes).whole ++ t) (through-last quits (cut at.bytes).rest),
-            λ _. gone,
-            all_prefix written' p,
-          );
-        }
+            × (((cut consumed).rest ≡ [] → ⊥) → IsAtEnd left') × WroteInPart R s0 (lines_of consumed) w0 written')
+        end_failed written' gone some p =
+            let P : List (List ℕ) → Type 0 = λ x. WroteInPart R s0 x w0 written' in
+            record {
+              consumed = at.bytes;
+              taken = ended_bytes;
+              within = omega (arith, at.count);
+              holds = (
+                through-append quits (cut at.bytes).whole (last_line (cut at.bytes).rest) at.quiet
+                    ∙ ap (λ (t : List (List ℕ)). (cut at.bytes).whole ++ t) (through-last quits (cut at.bytes).rest),
+                λ _. gone,
+                subst P (sym (ended_line some)) (fed_part written' p),
+              );
+            }
 
         -- what finishing answered
         pub finish_ended : (result : Result Served Fault) (written' : Option (List ℕ))
@@ -280,11 +278,11 @@ module _ {S : Type 0} (R : Replying S) (quits : List ℕ → Bool)
         finish_known (Err TooLong) written' gone p served fault = absurd cc
 
         pub finish_failed : (result : Result Served Fault) (written' : Option (List ℕ)) → IsAtEnd left' → result ≡ Err Write
-            → OnErr result (WrotePrefix R s (last_line line) written written')
+            → OnErr result (line ≡ [] → ⊥) → OnErr result (RepliedPrefix R s line written written')
             → Reads limit input left' (λ consumed. (through quits (lines_of consumed) ≡ lines_of consumed)
-            × (((cut consumed).rest ≡ [] → ⊥) → IsAtEnd left') × WrotePrefix R s0 (lines_of consumed) w0 written')
-        finish_failed (Ok e) written' gone failed p = absurd cc
-        finish_failed (Err x) written' gone failed p = end_failed written' gone p
+            × (((cut consumed).rest ≡ [] → ⊥) → IsAtEnd left') × WroteInPart R s0 (lines_of consumed) w0 written')
+        finish_failed (Ok e) written' gone failed some p = absurd cc
+        finish_failed (Err x) written' gone failed some p = end_failed written' gone some p
 
   -- the limit came
   module _ (left written : Option (List ℕ)) (s : S) (line : List ℕ) (limit : ℕ)

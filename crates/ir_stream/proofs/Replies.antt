@@ -6,7 +6,7 @@ use Rattle.std.proofs.KnownBytes.{Appends-nil, Appends-trans}
 use Rattle.std.specs.Io.KnownBytes.{Appends}
 use Rattle.ir_stream.specs.Lines.{most_kept_bytes, last_line}
 use Rattle.ir_stream.specs.Devices.{AppendsPrefix}
-use Rattle.ir_stream.specs.Answers.{Replying, Answered, Wrote, WrotePrefix, Replied, RepliedPrefix, through, some_quits}
+use Rattle.ir_stream.specs.Answers.{Replying, Answered, Wrote, Replied, through, some_quits}
 
 -- a prefix of a text is one of a longer text
 pub prefix_longer : (a b : Option (List ℕ)) (text more : List ℕ) → AppendsPrefix a b text → AppendsPrefix a b (text ++ more)
@@ -54,6 +54,11 @@ pub answered-one : {S : Type 0} (R : Replying S) (s : S) (l text : List ℕ) (ne
 unfolding Answered
 answered-one R s l text next is = (text, next, [], is, (refl, refl), sym (append-nil text))
 
+-- the end of an input that isn't empty is a line
+pub last_some : (r : List ℕ) → (r ≡ [] → ⊥) → last_line r ≡ r ∷ []
+last_some [] some = absurd (some refl)
+last_some (b ∷ r) some = refl
+
 -- an empty end of an input has no answer
 pub wrote_none : {S : Type 0} (R : Replying S) (s : S) (r : List ℕ) (w : Option (List ℕ)) → r ≡ [] → Wrote R s (last_line r) w w
 wrote_none R s [] w e = record { text = []; last = s; answered = answered-nil R s; grown = Appends-nil w }
@@ -68,17 +73,6 @@ wrote_some R s next (b ∷ r) old new some p = record {
   last = next;
   answered =
       answered-one R s (b ∷ r) p.text next p.is;
-  grown = p.grown;
-}
-
-pub prefix_some : {S : Type 0} (R : Replying S) (s : S) (r : List ℕ) (old new : Option (List ℕ)) → (r ≡ [] → ⊥)
-    → RepliedPrefix R s r old new → WrotePrefix R s (last_line r) old new
-prefix_some R s [] old new some p = absurd (some refl)
-prefix_some R s (b ∷ r) old new some p = record {
-  text = p.text;
-  last = p.next;
-  answered =
-      answered-one R s (b ∷ r) p.text p.next p.is;
   grown = p.grown;
 }
 

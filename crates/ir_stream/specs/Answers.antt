@@ -21,13 +21,6 @@ pub record Wrote {S : Type 0} (R : Replying S) (s : S) (lines : List (List ℕ))
   pub answered : Answered R s lines text last
   pub grown : Appends old new text
 
--- the machine may answer the lines so that the writer took a prefix of the answers
-pub record WrotePrefix {S : Type 0} (R : Replying S) (s : S) (lines : List (List ℕ)) (old new : Option (List ℕ)) : Type 0 where
-  pub text : List ℕ
-  pub last : S
-  pub answered : Answered R s lines text last
-  pub grown : AppendsPrefix old new text
-
 -- the machine answered a line and is then the second, and the writer took the answer
 pub record Replied {S : Type 0} (R : Replying S) (s : S) (line : List ℕ) (next : S) (old new : Option (List ℕ)) : Type 0 where
   pub text : List ℕ
@@ -40,6 +33,15 @@ pub record RepliedPrefix {S : Type 0} (R : Replying S) (s : S) (line : List ℕ)
   pub next : S
   pub is : R s line text next
   pub grown : AppendsPrefix old new text
+
+-- the writer took the answers to all lines but the last, and a prefix of what the machine may answer to that one
+pub record WroteInPart {S : Type 0} (R : Replying S) (s : S) (lines : List (List ℕ)) (old new : Option (List ℕ)) : Type 0 where
+  pub before : List (List ℕ)
+  pub line : List ℕ
+  pub are : lines ≡ before ++ line ∷ []
+  pub between : Option (List ℕ)
+  pub all : Wrote R s before old between
+  pub part : RepliedPrefix R all.last line between new
 
 -- the lines up to and with the first that quits
 unfoldable pub through : (List ℕ → Bool) → List (List ℕ) → List (List ℕ)

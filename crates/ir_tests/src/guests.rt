@@ -149,6 +149,22 @@ pub const TWO_READERS: Source = &[
     ONE_OBJECT, AT_MAIN, AT_MAIN, "main:\n", ENTER_READ, LEAVE, END,
 ];
 
+/// One thread, of a guest of the large form, puts 7 into the last word of object 0 and breaks inside.
+pub const LAST_WORD: Source = &[
+    LARGE,
+    ONE_OBJECT,
+    "
+        addi    a0, zero, 0
+        addi    a7, zero, 8             # ENTER_WRITE
+        ecall
+        addi    a1, zero, 15
+        addi    a2, zero, 7
+        addi    a7, zero, 11            # PUT
+        ecall
+        ebreak
+",
+];
+
 /// Sixteen threads, of a guest of the large form, enter object 0 for reading (step 2), leave it (4) and end (6).
 pub const SIXTEEN_READERS: Source = &[
     LARGE, ONE_OBJECT, AT_MAIN, AT_MAIN, AT_MAIN, AT_MAIN, AT_MAIN, AT_MAIN, AT_MAIN, AT_MAIN,

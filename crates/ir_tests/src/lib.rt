@@ -11,6 +11,8 @@ mod ends;
 mod example_tests;
 #[cfg(test)]
 mod examples;
+#[cfg(test)]
+mod gates_tests;
 pub mod guests;
 #[cfg(test)]
 mod keeper_tests;
@@ -40,6 +42,8 @@ mod tries_tests;
 pub mod trying_guests;
 #[cfg(test)]
 mod waiting_tests;
+#[cfg(test)]
+mod weave_tests;
 pub mod worlds;
 
 pub use laws::recordings_fit;

@@ -175,3 +175,69 @@ impl Gate for Yielding {
 
     fn leaving(&self, _thread: u8, _object: u8, _access: Access) {}
 }
+
+// What is told of object 0 by threads 0 and 1: their entries and their leaves.
+pub type Told = [(usize, usize); 2];
+
+// Counts what it is told, and tells another gate.
+#[derive(Drop)]
+pub struct Counting<'a, G> {
+    inner: &'a G,
+    // Of object 0, by each thread.
+    entries: [AtomicUsize; 2],
+    leaves: [AtomicUsize; 2],
+    // Of another object, or by another thread.
+    others: AtomicUsize,
+}
+
+impl<'a, G> Counting<'a, G> {
+    pub fn new(inner: &'a G) -> Counting<'a, G> {
+        Counting {
+            inner,
+            entries: [AtomicUsize::new(0), AtomicUsize::new(0)],
+            leaves: [AtomicUsize::new(0), AtomicUsize::new(0)],
+            others: AtomicUsize::new(0),
+        }
+    }
+
+    fn count(&self, counts: &[AtomicUsize; 2], thread: u8, object: u8) {
+        let counted = match (counts.get(thread as usize), object) {
+            (Some(own), 0) => own,
+            _ => &self.others,
+        };
+        counted.fetch_add(1, Ordering::SeqCst);
+    }
+
+    // What was told, if it was of object 0 by threads 0 and 1 alone.
+    pub fn told(&self) -> Option<Told> {
+        let [first, second] = &self.entries;
+        let [first_leaves, second_leaves] = &self.leaves;
+        let told = [
+            (
+                first.load(Ordering::SeqCst),
+                first_leaves.load(Ordering::SeqCst),
+            ),
+            (
+                second.load(Ordering::SeqCst),
+                second_leaves.load(Ordering::SeqCst),
+            ),
+        ];
+        (self.others.load(Ordering::SeqCst) == 0).then_some(told)
+    }
+}
+
+impl<G: Gate> Gate for Counting<'_, G> {
+    fn entered(&self, thread: u8, object: u8, access: Access) {
+        self.count(&self.entries, thread, object);
+        self.inner.entered(thread, object, access);
+    }
+
+    fn leaving(&self, thread: u8, object: u8, access: Access) {
+        self.count(&self.leaves, thread, object);
+        self.inner.leaving(thread, object, access);
+    }
+
+    fn stepped(&self, thread: u8, steps: u64) {
+        self.inner.stepped(thread, steps);
+    }
+}

@@ -8,8 +8,10 @@ pub use Rattle.ir_weave.proofs.Onward.{step_taken, alone_own, alone_others, alon
 -- the result with which a thread takes its next step, by what it asks
 pub use Rattle.ir_weave.proofs.Results.{call_next, call_none, entry_next, entry_shut, entry_none, refused_next, try_next, try_shut, try_none, object_there, object_found}
 -- what a step of a thread in a run emits, and the thread after it, by the thread before it
-pub use Rattle.ir_weave.proofs.Trails.{StepOf, first_thread, step_at}
+pub use Rattle.ir_weave.proofs.Trails.{StepOf, step_at}
 -- a state goes on by a step of a thread that is admitted
 pub use Rattle.ir_weave.proofs.Forth.{CaughtUp, catch_up}
 -- a thread that goes on by itself beside its trace
-pub use Rattle.ir_weave.proofs.Lone.{step_there, same_number}
+pub use Rattle.ir_weave.proofs.Lone.{step_there}
+-- a thread of a state is where it is
+pub use Rattle.ir_weave.proofs.Numbers.{ahead_at}

@@ -10,6 +10,8 @@ mod Words
 mod Moves
 mod Acts
 mod Lone
+mod Numbers
+mod Ended
 mod Seats
 mod Steps
 mod Opening

@@ -15,8 +15,12 @@ use Rattle.ir_thread.specs.State as thread
 use Rattle.ir_thread.specs.declared.profile.Profile.{Profile}
 use Rattle.ir_object.specs.Cell.{Cell}
 use Rattle.ir_object.specs.Word.{word_of, fields_of}
-use Rattle.ir_flat.specs.Flat.{Flat, IsFlat, empty, start_flat}
+use Rattle.ir_flat.specs.Flat.{Flat, IsFlat, idle, empty, start_flat}
 use Rattle.ir_weave.proofs.Onward.{starts_at}
+use Rattle.ir_weave.proofs.Numbers.{ahead_at}
+use Rattle.ir_weave.specs.Ahead.{IsAhead}
+use Rattle.std.specs.Prelude.{slice_get, Some}
+use Rattle.std.proofs.lemmas.Option.{slice_get_within, get_or_from_slice_get}
 use Rattle.ir_runs.specs.Cuts.{Cut}
 use Rattle.ir_fit.specs.Fit.{FittedTrace, HasRun, IsFitted}
 use Rattle.ir_fit.proofs.CallerLemmas.{allowed as header_allowed}
@@ -24,7 +28,7 @@ use Rattle.ir_weave.specs.Standing.{Standing, StandsAt, flat_in}
 use Rattle.ir_weave.specs.States.{IsStateAt, positions}
 use Rattle.ir_object.specs.Layout.{line_words, apart, table_length, word_place, content_place}
 use Rattle.ir_weave.specs.Table.{IsTable, IsLaid, laid, word_in, object_in}
-use Rattle.ir_weave.specs.Woven.{View, M, trace_in, opened_in, opened_at, progress, AreTracks, Woven, tracks_from, all_but_first, first_alone, AreSeats, AreAt, IsClosed, IsEnd, AreRead}
+use Rattle.ir_weave.specs.Woven.{View, M, trace_in, opened_in, opened_at, progress, IsSeated, AreTracks, Woven, tracks_from, all_but_first, first_alone, AreSeats, AreAt, IsClosed, IsEnd, AreRead}
 use Rattle.ir_weave.proofs.Acts.{one_word, cell_fits}
 use Rattle.ir_weave.specs.declared.plan.Plan.{Plan}
 
@@ -63,14 +67,41 @@ opens k ws run flat at table = record {
         (tracks_fit k 0 (length k.opened.value.threads) (omega arith))
     first (suc id) v e = absurd (some-ne-none v (sym e))
 
+-- the guest's state, as the plan knows it
+in_plan : (k : Plan) (f : FittedTrace) (s : Standing) → k.fitted.value ≡ f → k.opened.value ≡ s → StandsAt f (positions (flat_in f s)) s
+    → StandsAt (trace_in k) (opened_at k) k.opened.value
+in_plan k f s for is stands = subst (λ (z : FittedTrace × Standing). StandsAt z.0 (positions (flat_in z.0 z.1)) z.1)
+    (λ i. (sym for i, sym is i)) stands
+
 -- the plan of a guest and its state
 pub opens_for : (k : Plan) (f : FittedTrace) (s : Standing) (ws : List ℕ) → k.fitted.value ≡ f → k.opened.value ≡ s → HasRun f
     → StandsAt f (positions (flat_in f s)) s → IsTable s.objects ws
     → Woven k (opening ws [] (tracks_from k 0 (length k.opened.value.threads)))
 opens_for k f s ws for is run stands table =
-    let both : StandsAt (trace_in k) (positions (flat_in (trace_in k) k.opened.value)) k.opened.value =
-    subst (λ (z : FittedTrace × Standing). StandsAt z.0 (positions (flat_in z.0 z.1)) z.1) (λ i. (sym for i, sym is i)) stands in
+    let both = in_plan k f s for is stands in
     opens k ws (subst HasRun (sym for) run) both.flat both.at (subst (λ (z : Standing). IsTable z.objects ws) (sym is) table)
+
+-- the seat of a thread
+seat_of : (id : TableId) (k : Plan) (t i u : ℕ) (xs : List (Seat (Unit {0}) View)) (x : Seat (Unit {0}) View) → AreSeats id k t xs
+    → slice_get xs i ≡ Some x → u ≡ t + i → x.me ≡ (progress k u (opened_at k u) false ∷ [], [])
+seat_of id k t i u [] x h at e = absurd (cc at)
+seat_of id k t zero u (y ∷ ys) x h at e =
+    let same : y ≡ x = cc at in let here : t ≡ u = omega (arith, e) in
+    ap (λ z. z.me) (sym same) ∙ h.0.1 ∙ (λ j. (progress k (here j) (opened_at k (here j)) false ∷ [], []))
+seat_of id k t (suc i) u (y ∷ ys) x h at e = seat_of id k (suc t) i u ys x h.1 at (omega (arith, e))
+
+-- each thread can step at its seat
+pub all_seated : (id : TableId) (k : Plan) (f : FittedTrace) (s : Standing) (xs : List (Seat (Unit {0}) View)) → k.fitted.value ≡ f
+    → k.opened.value ≡ s → HasRun f → StandsAt f (positions (flat_in f s)) s → AreSeats id k 0 xs
+    → (t : ℕ) (x : thread.State) (seat : Seat (Unit {0}) View) → slice_get s.threads t ≡ Some x → slice_get xs t ≡ Some seat
+    → IsSeated k seat.me.0 x
+all_seated id k f s xs for is run stands are t x seat at here =
+    let both = in_plan k f s for is stands in
+    let there : slice_get k.opened.value.threads t ≡ Some x = ap (λ (z : Standing). slice_get z.threads t) is ∙ at in
+    let ahead : IsAhead (trace_in k) t (opened_at k t) x =
+    subst (IsAhead (trace_in k) t (opened_at k t)) (get_or_from_slice_get k.opened.value.threads t x idle there)
+    (ahead_at (trace_in k) (opened_in k) t (subst HasRun (sym for) run) both.flat both.at (slice_get_within k.opened.value.threads t x there)) in
+    subst (λ (v : View). IsSeated k v x) (sym (ap (λ (z : M). z.0) (seat_of id k 0 t t xs seat are here (omega arith)))) (refl, ahead)
 
 -- ---- cutting off the first thread
 

@@ -1,5 +1,5 @@
 -- A seat and its thread after a step.
-use Rattle.std.proofs.Common.{◌≡◌, ◌≢◌, ℕ, suc, zero, ◌+◌, ◌<◌, ◌≤◌, false, List, [], ◌∷◌, length, Some, refl, sym, ap, ◌∙◌, subst, arith, inl, inr, ◌⊎◌}
+use Rattle.std.proofs.Common.{◌≡◌, ◌≢◌, ℕ, suc, zero, ◌+◌, ◌<◌, false, List, [], ◌∷◌, length, Some, refl, sym, ap, ◌∙◌, subst, arith, inl, inr, ◌⊎◌}
 use Rattle.std.specs.Prelude.{slice_get}
 use Rattle.ir_thread.specs.Calls.{ask_of, after_ask, after_reply, step_of, run_of}
 use Rattle.ir_thread.specs.Instance.{shared_ask}
@@ -15,7 +15,7 @@ use Rattle.ir_runs.specs.declared.env_kind.EnvKind.{EnvKind}
 use Rattle.ir_thread.specs.declared.ask.Reply.{Reply}
 use Rattle.ir_thread.specs.declared.ask.Reply.TheVariants.{Go, Value}
 use Rattle.ir_runs.specs.Object.{Object, emitted, Admits}
-use Rattle.ir_runs.specs.Run.{Step, count}
+use Rattle.ir_runs.specs.Run.{Step, trail, count}
 use Rattle.ir_flat.proofs.CallerLemmas.{added}
 use Rattle.ir_log.specs.Logging.{label_of, ask_of as event_ask, Suits}
 use Rattle.ir_log.proofs.CallerLemmas.{call_suits}
@@ -23,12 +23,15 @@ use Rattle.ir_log.specs.declared.event.Event.{Event}
 use Rattle.ir_log.specs.declared.event.Event.TheVariants.{Answer as Answered, Read, Write, Try as Refused}
 use Rattle.ir_trace.specs.TraceOf.{recorded_thread}
 use Rattle.ir_fit.specs.Fit.{FittedTrace, IsRunOf}
-use Rattle.ir_cut.specs.Positions.{machine_of, start_of, cut_of, IsConsistentCut}
+use Rattle.ir_cut.specs.Positions.{machine_of, start_of}
 use Rattle.ir_weave.specs.Ahead.{IsRefused, IsAlone, event_of, HasStep, IsAhead, IsAsking, IsEntering, thread_at, ask_at}
-use Rattle.ir_weave.specs.Woven.{View, M, trace_in, progress, Answers, IsFor, IsSeated, HasStepped, HasWaited, HasRunOn, WasStopped}
+use Rattle.ir_weave.specs.Woven.{View, M, trace_in, progress, Answers, IsFor, IsOpened, IsSeated, HasStepped, HasWaited, HasRunOn, WasStopped}
 use Rattle.ir_weave.specs.declared.plan.Plan.{Plan}
 use Rattle.ir_weave.proofs.Lone.{Takes, is_go, really, ahead_alone, ahead_none, ahead_here, takes_go, takes_answer, takes_try, try_result, asks_in, event_there, more_steps, same_number, never_done}
 use Rattle.ir_weave.proofs.Trails.{StepOf, step_at}
+use Rattle.ir_weave.proofs.Ended.{has_step, same_count}
+use Rattle.ir_fit.proofs.CallerLemmas.{get_at}
+use Rattle.std.proofs.lemmas.Bool.{cases_lt}
 
 -- ---- the thread of a seat
 
@@ -175,30 +178,60 @@ never_disagrees k f v x q for seated asking one none =
     let some = event_suits k v x q seated (asking_for k f x q for asking) one in
     none some.0 (subst (λ z. slice_get (recorded_thread z.recorded x.number).events x.events ≡ Some some.0) for some.1) some.2
 
--- ---- below the target
+-- ---- the end of a thread
 
-pub below_has : (k : Plan) (f : FittedTrace) (target : List ℕ) (x : thread.State) → IsFor k f → IsConsistentCut f target
-    → x.steps < cut_of target x.number → HasStep f x.number x.steps
-below_has k f target x for consistent less run of = let within = (consistent run of).0 x.number in omega (arith, within, less)
+-- the thread of a seat that isn't done has a step
+pub asks_has : (k : Plan) (f : FittedTrace) (v : View) (x : thread.State) → IsFor k f → IsSeated k v x → ask_of f.guest.code x ≢ Done
+    → HasStep f x.number x.steps
+asks_has k f v x for seated not = subst (λ z. HasStep z x.number x.steps) for
+    (has_step (trace_in k) x.number x (seated_ahead k v x seated).at (subst (λ z. ask_of z.guest.code x ≢ Done) (sym for) not))
 
 pub not_done : (k : Plan) (f : FittedTrace) (v : View) (x : thread.State) → IsFor k f → IsSeated k v x → IsAsking f x Done → ⊥
 not_done k f v x for seated asking = let ask : IsAsking (trace_in k) x Done = asking_for k f x Done for asking in
     never_done (trace_in k) x.number (seated_at v) x (seated_ahead k v x seated) ask.has ask.asks
 
+-- a thread that is done has taken all its steps, and at the end of each run it isn't admitted
+pub done_waits : (k : Plan) (f : FittedTrace) (me : M) (x : thread.State) → IsFor k f → IsOpened k → IsSeated k me.0 x
+    → ask_of f.guest.code x ≡ Done → HasWaited k me me x x
+done_waits k f me x for opened seated done =
+    let g : FittedTrace = trace_in k in
+    let ahead : IsAhead g x.number (seated_at me.0) x = seated_ahead k me.0 x seated in
+    let last : List Step = ahead.run.run in
+    let same = λ (run : List Step) (of : IsRunOf g.guest g.recorded run). same_count g last run ahead.run.whole of in
+    let all : count (machine_of g) (start_of g) last x.number ≡ x.steps =
+    elim (cases_lt x.steps (count (machine_of g) (start_of g) last x.number)) [
+      | inl less ↦ absurd (never_done g x.number (seated_at me.0) x ahead
+          (λ run of. (let e = same run of x.number in omega (arith, less, e))) (subst (λ z. ask_of z.guest.code x ≡ Done) (sym for) done))
+      | inr past ↦ (let within = (ahead.at last ahead.run.whole).0 in omega (arith, past, within))
+    ] in
+    record {
+      seated = seated;
+      slots = refl;
+      same = refl;
+      stopped = record {
+        cut = count (machine_of g) (start_of g) last;
+        is_cut = λ run of u. (let e = same run of u in omega (arith, e));
+        consistent = λ run of t i u j a b emitted needed needs less.
+            (let within = (get_at (trail (machine_of g) (start_of g) run u) j (needed.0, b) needed.1).0 in let e = same run of u in
+            omega (arith, within, e));
+        above = λ u. opened last ahead.run.whole u;
+        here = all;
+        stopped = λ run of admitted. (let e = same run of x.number in let less = admitted.0 in omega (arith, e, less));
+      };
+    }
+
 -- ---- many private steps
 
 run_steps : (f : FittedTrace) (t i n : ℕ) (x y : thread.State) → IsAhead f t i x → PrivateSteps f.guest.code n x y
-    → ((run : List Step) → IsRunOf f.guest f.recorded run → x.steps + n ≤ count (machine_of f) (start_of f) run t)
     → IsAhead f t i (run_of f.guest.code n x) × ((run_of f.guest.code n x).steps ≡ x.steps + n)
 unfolding run_of step_of
-run_steps f t i zero x y ahead steps room = (ahead, omega arith)
-run_steps f t i (suc n) x y ahead steps room =
+run_steps f t i zero x y ahead steps = (ahead, omega arith)
+run_steps f t i (suc n) x y ahead steps =
     let z : thread.State = run_of f.guest.code n x in
-    let before = run_steps f t i n x z ahead (record { steps = refl; each = λ k l. steps.each k (omega (arith, l)) })
-    (λ run of. (let r = room run of in omega (arith, r))) in
+    let before = run_steps f t i n x z ahead (record { steps = refl; each = λ k l. steps.each k (omega (arith, l)) }) in
     let asks : ask_of f.guest.code z ≡ Private = steps.each n (omega arith) in
     let takes : Takes f t z Private Go = takes_go f t i z Private before.0 asks
-    (λ run of. (let r = room run of in let s = before.1 in omega (arith, r, s))) tt tt in
+    (has_step f t z before.0.at (λ done. cc (asks, done))) tt tt in
     let next : after_reply f.guest.code z Go ≡ after_ask f.guest.code z Private Go = replied f.guest.code f z Private Go refl asks in
     let more = more_steps f.guest.code z Private Go tt in (
       subst (IsAhead f t i) (sym next) (ahead_alone f t i z Private Go before.0 takes tt),
@@ -206,21 +239,17 @@ run_steps f t i (suc n) x y ahead steps room =
           ∙ (let s = before.1 in omega (arith, s)),
     )
 
-pub runs_on : (k : Plan) (f : FittedTrace) (code : List ℕ) (target : List ℕ) (v : View) (x y : thread.State) (n : ℕ) → IsFor k f
-    → code ≡ f.guest.code → IsConsistentCut f target → x.steps + n ≤ cut_of target x.number → IsSeated k v x → PrivateSteps code n x y
-    → HasRunOn k v x y n
-runs_on k f code target v x y n for same consistent below seated steps =
+pub runs_on : (k : Plan) (f : FittedTrace) (code : List ℕ) (v : View) (x y : thread.State) (n : ℕ) → IsFor k f → code ≡ f.guest.code
+    → IsSeated k v x → PrivateSteps code n x y → HasRunOn k v x y n
+runs_on k f code v x y n for same seated steps =
     let g : FittedTrace = trace_in k in
     let own : PrivateSteps g.guest.code n x y = subst (λ c. PrivateSteps c n x y) (same ∙ ap (λ z. z.guest.code) (sym for)) steps in
-    let cut : IsConsistentCut g target = subst (λ z. IsConsistentCut z target) (sym for) consistent in
-    let room : (run : List Step) → IsRunOf g.guest g.recorded run → x.steps + n ≤ count (machine_of g) (start_of g) run x.number =
-    λ run of. (let within = (cut run of).0 x.number in omega (arith, within, below)) in
     let all : (i : ℕ) → IsAhead g x.number i x → IsAhead g x.number i y =
-    λ i ahead. subst (IsAhead g x.number i) (sym own.steps) (run_steps g x.number i n x y ahead own room).0 in
+    λ i ahead. subst (IsAhead g x.number i) (sym own.steps) (run_steps g x.number i n x y ahead own).0 in
     record {
       seated = seated_on k v x y seated all;
       steps = ap (λ (z : thread.State). z.steps) own.steps
-          ∙ (run_steps g x.number (seated_at v) n x y (seated_ahead k v x seated) own room).1;
+          ∙ (run_steps g x.number (seated_at v) n x y (seated_ahead k v x seated) own).1;
       number = (all (seated_at v) (seated_ahead k v x seated)).number;
     }
 

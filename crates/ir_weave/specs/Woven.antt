@@ -48,6 +48,10 @@ opened_in k = flat_in (trace_in k) k.opened.value
 abbrev pub opened_at : Plan → Cut
 opened_at k = positions (opened_in k)
 
+-- the table was opened at a cut of each run
+abbrev pub IsOpened : Plan → Type 0
+IsOpened k = EachRun (trace_in k) (λ run. IsCut (machine_of (trace_in k)) (start_of (trace_in k)) run (opened_at k))
+
 abbrev pub progress : Plan → ℕ → ℕ → Bool → Progress
 progress k t i g = record { plan = k; thread = t; position = i; granted = g }
 

@@ -1,6 +1,6 @@
 //! How the table is opened and closed.
 
-ghost use Rattle.std.specs.Prelude.{◌≡◌, ◌≢◌, ◌+◌, ◌*◌, ◌^◌, ◌<◌, ◌≤◌, ℕ, [], ◌∷◌, ◌++◌, length, slice_index, IfOk, List};
+ghost use Rattle.std.specs.Prelude.{◌≡◌, ◌≢◌, ◌+◌, ◌*◌, ◌^◌, ◌<◌, ◌≤◌, ℕ, [], ◌∷◌, ◌++◌, length, slice_index, slice_get, Some, IfOk, List};
 ghost use Rattle.std.specs.Slots.{slots_items, slots_len, IsFull};
 ghost use Rattle.ir_weave.specs.declared.plan.Plan.{Plan};
 ghost use Rattle.ir_weave.specs.declared.plan.Progress.{Progress};
@@ -10,7 +10,7 @@ ghost use Rattle.ir_weave.specs.Standing.{StandsAt, flat_in};
 ghost use Rattle.ir_weave.specs.States.{positions};
 ghost use Rattle.ir_object.specs.Layout.{content_place, table_length};
 ghost use Rattle.ir_weave.specs.Table.{IsLaid, IsTable, laid, object_in};
-ghost use Rattle.ir_weave.specs.Woven.{trace_in, IsFor, AreSeats, IsClosed, IsEnd, AreRead, tracks_from};
+ghost use Rattle.ir_weave.specs.Woven.{trace_in, IsFor, AreSeats, IsSeated, IsClosed, IsEnd, AreRead, tracks_from};
 
 use crate::plan::Plan;
 use crate::plays::{Both, OffFirst};
@@ -72,6 +72,8 @@ impl Weave {
         ensures table { IfOk result (λ r. IsFor r.0.table.shared.key fitted.now) }
         ensures opened { IfOk result (λ r. r.0.table.shared.key.opened.value ≡ state.now) }
         ensures seats { IfOk result (λ r. AreSeats r.0.table.shared.table_id r.0.table.shared.key 0 r.1.items × (length r.1.items ≡ length fitted.now.guest.entries)) }
+        // Each thread of the state can step at its seat.
+        ensures seated { IfOk result (λ r. (t : ℕ) (x : _) (s : _) → slice_get state.now.threads t ≡ Some x → slice_get r.1.items t ≡ Some s → IsSeated r.0.table.shared.key s.me.0 x) }
     {
         let words = lay(alloc, state.objects())?;
         let count = state.threads().len();

@@ -4,7 +4,7 @@ ghost use Rattle.std.specs.Prelude.{◌≡◌, ◌≢◌, ◌<◌, ◌≤◌, �
 ghost use Rattle.ir_thread.specs.Calls.{ask_of};
 ghost use Rattle.ir_thread.specs.declared.ask.Ask.TheVariants as ask;
 ghost use Rattle.ir_thread.specs.declared.end.End.{End};
-ghost use Rattle.ir_cut.specs.Positions.{IsConsistentCut, cut_of};
+ghost use Rattle.ir_cut.specs.Positions.{cut_of};
 ghost use Rattle.ir_weave.specs.Ahead.{IsAsking};
 ghost use Rattle.ir_weave.specs.Woven.{IsFor, IsSeated, HasStepped, HasWaited, HasRunOn};
 ghost use Rattle.ir_weave.specs.declared.stepping.Tried.TheVariants.{Stepped, NotNow, AtTarget};
@@ -21,7 +21,7 @@ use ir_thread::{Ask, Reply, Thread};
 pub enum Tried {
     /// The thread took its next step.
     Stepped,
-    /// The step wasn't admitted.
+    /// The step wasn't admitted, or the thread is done.
     NotNow,
     /// The thread is at its target.
     AtTarget,
@@ -216,8 +216,8 @@ impl Weave {
         true
     }
 
-    /// Takes the thread's next step, for which it asks so, if it is below its target and the step is admitted. Takes no
-    /// memory, and waits for nobody.
+    /// Takes the thread's next step, for which it asks so, if it is below its target and the step is admitted. A thread
+    /// that is done has no such step. Takes no memory, and waits for nobody.
     pub fn try_asked(
         &self,
         seat: &mut WeaveSeat,
@@ -229,7 +229,7 @@ impl Weave {
         requires seat { seat.old.table_id ≡ self.now.table.shared.table_id }
         requires table { IsFor self.now.table.shared.key fitted.now }
         requires thread { IsSeated self.now.table.shared.key seat.old.me.0 thread.old }
-        requires target { (length target.now ≡ length fitted.now.guest.entries) × IsConsistentCut fitted.now target.now }
+        requires target { length target.now ≡ length fitted.now.guest.entries }
         requires below { thread.old.steps ≤ cut_of target.now thread.old.number }
         requires asked { asked ≡ ask_of fitted.now.guest.code thread.old }
 
@@ -245,6 +245,9 @@ impl Weave {
         if thread.steps() >= target.position(thread.number() as usize) {
             return Tried::AtTarget;
         }
+        if matches!(asked, Ask::Done) {
+            return Tried::NotNow;
+        }
         if self.take(seat, thread, fitted, asked) {
             Tried::Stepped
         } else {
@@ -252,8 +255,8 @@ impl Weave {
         }
     }
 
-    /// Takes the thread's next step, if it is below its target and the step is admitted. Takes no memory, and waits for
-    /// nobody.
+    /// Takes the thread's next step, if it is below its target and the step is admitted. A thread that is done has no
+    /// such step. Takes no memory, and waits for nobody.
     pub fn try_step(
         &self,
         seat: &mut WeaveSeat,
@@ -264,7 +267,7 @@ impl Weave {
         requires seat { seat.old.table_id ≡ self.now.table.shared.table_id }
         requires table { IsFor self.now.table.shared.key fitted.now }
         requires thread { IsSeated self.now.table.shared.key seat.old.me.0 thread.old }
-        requires target { (length target.now ≡ length fitted.now.guest.entries) × IsConsistentCut fitted.now target.now }
+        requires target { length target.now ≡ length fitted.now.guest.entries }
         requires below { thread.old.steps ≤ cut_of target.now thread.old.number }
 
         ensures seat { (seat.new.table_id ≡ seat.old.table_id) × (seat.new.id ≡ seat.old.id) }
@@ -291,7 +294,7 @@ impl Weave {
     ) -> (u64, Ask)
         requires table { IsFor self.now.table.shared.key fitted.now }
         requires thread { IsSeated self.now.table.shared.key seat.now.me.0 thread.old }
-        requires target { (length target.now ≡ length fitted.now.guest.entries) × IsConsistentCut fitted.now target.now }
+        requires target { length target.now ≡ length fitted.now.guest.entries }
         requires below { thread.old.steps ≤ cut_of target.now thread.old.number }
         ensures ran { HasRunOn self.now.table.shared.key seat.now.me.0 thread.old thread.new result.0 }
         ensures below { thread.new.steps ≤ cut_of target.now thread.new.number }

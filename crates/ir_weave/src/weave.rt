@@ -8,7 +8,7 @@ ghost use Rattle.ir_log.specs.declared.event.Event.{Event};
 ghost use Rattle.ir_fit.specs.Ahead.{IsOpen};
 ghost use Rattle.ir_weave.specs.Ahead.{IsAsking, IsEntering};
 ghost use Rattle.ir_object.specs.Layout.{table_length};
-ghost use Rattle.ir_weave.specs.Woven.{trace_in, progress, IsSeated, IsGranted, WasStopped, Opens, Answers};
+ghost use Rattle.ir_weave.specs.Woven.{trace_in, progress, IsOpened, IsSeated, IsGranted, WasStopped, Opens, Answers};
 ghost use Rattle.ir_runs.specs.Labels.{Out};
 ghost use Rattle.ir_runs.specs.declared.access.Access.TheVariants.{Writing};
 ghost use Rattle.ir_runs.specs.Cuts.{Emits};
@@ -33,6 +33,7 @@ pub struct Weave {
     pub table: Table<(), LinkedList<Progress>, Plan, Law, Global>,
     ghost words: { table.shared.table_id.words ≡ table_length (object_count (trace_in table.shared.key).guest) },
     ghost slots: { table.shared.table_id.slots ≡ 0 },
+    ghost opened: { IsOpened table.shared.key },
 }
 
 // Whether an object with this word can be entered as the event says.

@@ -5,34 +5,9 @@ ghost use Rattle.std.specs.Prelude.{◌≡◌, false};
 use crate::assembling::asm_run;
 use crate::commands::{bytes_of, is_lost, say};
 use ir_arguments::AssembleArguments;
-use ir_files::{ExitStatus, Folder, MOST_BYTES, WholeFile, WholeSink, path_beside};
+use ir_files::{ExitStatus, Folder, MOST_BYTES, WholeFile, WholeSink};
 use ir_stream::Sink;
 use std::alloc::Global;
-
-// Whether an image, or what it is written to first, would be written over its source.
-fn loses_source<D: Folder, E: Sink>(
-    folder: &D,
-    faults: &mut E,
-    source: &str,
-    image: &str,
-    first: &str,
-) -> bool
-    ensures kept { result ≡ false → faults.new ≡ faults.old }
-{
-    is_lost(
-        folder,
-        faults,
-        "IMAGE would be written over SOURCE",
-        source,
-        image,
-    ) || is_lost(
-        folder,
-        faults,
-        "IMAGE.part would be written over SOURCE",
-        source,
-        first,
-    )
-}
 
 // Assembles a file into another, which stands in its place only once it is whole.
 pub fn assemble_file<D: Folder, E: Sink>(
@@ -46,12 +21,14 @@ pub fn assemble_file<D: Folder, E: Sink>(
 {
     let source = arguments.source.as_str();
     let image = arguments.image.as_str();
-    let Ok(beside) = path_beside(alloc, image) else {
-        say(faults, "memory ran out", "", "");
-        return ExitStatus::Failed;
-    };
-    let mut file = WholeFile::new(folder, image, beside.as_str());
-    if loses_source(folder, faults, source, image, file.first_place()) {
+    let mut file = WholeFile::new(alloc, folder, image);
+    if is_lost(
+        folder,
+        faults,
+        "IMAGE would be written over SOURCE",
+        source,
+        image,
+    ) {
         return ExitStatus::BadArguments;
     }
     let Some(bytes) = bytes_of(alloc, folder, faults, source, MOST_BYTES) else {

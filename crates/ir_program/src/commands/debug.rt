@@ -2,19 +2,70 @@
 
 ghost use Rattle.std.specs.Prelude.{◌≡◌, false};
 
-use crate::commands::bytes_of;
+use crate::commands::{bytes_of, say};
 use crate::debugging::debug_run;
 use ir_arguments::DebugArguments;
 use ir_debug::{Sink, Source};
 use ir_files::{ExitStatus, Folder, MOST_BYTES};
+use ir_image::read_image;
+use ir_trace::read_trace;
+use std::alloc::{AllocError, Global};
 use std::thread::Threads;
 use std::time::Clock;
 
-// The session of an image and a trace in files.
+// What a session reads.
+#[derive(Clone, Copy)]
+struct Files<'a> {
+    image: &'a [u8],
+    trace: &'a [u8],
+}
+
+impl Files<'_> {
+    // Whether each begins as the other should.
+    fn are_exchanged(self) -> bool {
+        self.image.starts_with(b"IRT") && self.trace.starts_with(b"IRI")
+    }
+
+    // Why the image, or else the trace, is refused, in words.
+    fn refusal(self, alloc: Global) -> Result<String, AllocError> {
+        let Err(why) = read_image(alloc, self.image) else {
+            return match read_trace(alloc, self.trace) {
+                Ok(_) => Ok(String::new(alloc)),
+                Err(why) => format!(in alloc; "the trace is refused: {why}"),
+            };
+        };
+        format!(in alloc; "the image is refused: {why}")
+    }
+}
+
+// Says in words why the image or the trace is refused.
+fn explain_refusal<E: Sink>(alloc: Global, files: Files<'_>, faults: &mut E) {
+    if files.are_exchanged() {
+        say(faults, "IMAGE and TRACE are exchanged", "", "");
+    } else if let Ok(why) = files.refusal(alloc) {
+        say(faults, why.as_str(), "", "");
+    }
+}
+
+// Says in words why a session opened nothing, if it didn't.
+fn explain<E: Sink>(alloc: Global, files: Files<'_>, status: ExitStatus, faults: &mut E) {
+    match status {
+        ExitStatus::Refused => explain_refusal(alloc, files, faults),
+        ExitStatus::NotFit => {
+            let why =
+                "no run of this image has this trace: it may be another image's, or the image was changed";
+            say(faults, why, "", "");
+        }
+        _ => {}
+    }
+}
+
+// The session of an image and a trace in files. Where somebody looks on, it is said in words why nothing was opened.
 pub fn debug_files<R, D, I, O, E>(
     rt: &R,
     folder: &D,
     arguments: &DebugArguments,
+    explains: bool,
     reader: &mut I,
     out: &mut O,
     faults: &mut E,
@@ -36,5 +87,10 @@ where
     let Some(trace) = bytes_of(alloc, folder, faults, arguments.trace.as_str(), MOST_BYTES) else {
         return ExitStatus::Failed;
     };
-    debug_run(rt, image.as_slice(), trace.as_slice(), reader, out, faults)
+    let (image, trace) = (image.as_slice(), trace.as_slice());
+    let status = debug_run(rt, image, trace, reader, out, faults);
+    if explains {
+        explain(alloc, Files { image, trace }, status, faults);
+    }
+    status
 }

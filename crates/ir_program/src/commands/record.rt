@@ -6,7 +6,6 @@ use crate::commands::{bytes_of, is_lost, say};
 use ir_arguments::RecordArguments;
 use ir_files::{
     ExitStatus, Folder, MOST_BYTES, MOST_INPUT, OutputFiles, WholeFile, WholeSink, output_paths,
-    path_beside,
 };
 use ir_object::Gate;
 use ir_record_run::{ParsedImage, record_run};
@@ -31,51 +30,41 @@ fn input_of<D: Folder, E: Sink>(
     }
 }
 
-// Whether a recording's trace, or what it is written to first, would be written over one of the files that it reads.
-fn loses_input<D: Folder, E: Sink>(
+// A file that is read, if there is one, and what is told where it would be lost.
+type Kept<'a> = (&'static str, Option<&'a String>);
+
+// Whether one of the files would be lost by writing to a path, which is told.
+fn loses_one<D: Folder, E: Sink>(
     folder: &D,
     faults: &mut E,
-    arguments: &RecordArguments,
-    first: &str,
+    written: &str,
+    files: &[Kept<'_>],
 ) -> bool
     ensures kept { result ≡ false → faults.new ≡ faults.old }
 {
-    let trace = arguments.trace.as_str();
-    let image = arguments.image.as_str();
-    if is_lost(
-        folder,
-        faults,
-        "TRACE would be written over IMAGE",
-        image,
-        trace,
-    ) || is_lost(
-        folder,
-        faults,
-        "TRACE.part would be written over IMAGE",
-        image,
-        first,
-    ) {
-        return true;
-    }
-    match &arguments.input {
-        Some(file) => {
-            let file = file.as_str();
-            is_lost(
-                folder,
-                faults,
-                "TRACE would be written over FILE",
-                file,
-                trace,
-            ) || is_lost(
-                folder,
-                faults,
-                "TRACE.part would be written over FILE",
-                file,
-                first,
-            )
+    for (would, file) in files {
+        if let Some(file) = file {
+            if is_lost(folder, faults, would, file.as_str(), written) {
+                return true;
+            }
         }
-        None => false,
     }
+    false
+}
+
+// Whether a recording's trace would be written over one of the files that it reads.
+fn loses_input<D: Folder, E: Sink>(folder: &D, faults: &mut E, arguments: &RecordArguments) -> bool
+    ensures kept { result ≡ false → faults.new ≡ faults.old }
+{
+    let files = [
+        ("TRACE would be written over IMAGE", Some(&arguments.image)),
+        ("TRACE would be written over FILE", arguments.input.as_ref()),
+        (
+            "TRACE would be written over LISTFILE",
+            arguments.order_file.as_ref(),
+        ),
+    ];
+    loses_one(folder, faults, arguments.trace.as_str(), &files)
 }
 
 // The paths of what the threads of an image print, if they are asked for.
@@ -100,33 +89,25 @@ fn loses_other<D: Folder, E: Sink>(
 ) -> bool
     ensures kept { result ≡ false → faults.new ≡ faults.old }
 {
-    let image = arguments.image.as_str();
-    let trace = arguments.trace.as_str();
-    if is_lost(
-        folder,
-        faults,
-        "PREFIX.T would be written over IMAGE",
-        image,
-        path,
-    ) || is_lost(
-        folder,
-        faults,
-        "PREFIX.T would be written over TRACE",
-        trace,
-        path,
-    ) {
-        return true;
-    }
-    match &arguments.input {
-        Some(file) => is_lost(
-            folder,
-            faults,
-            "PREFIX.T would be written over FILE",
-            file.as_str(),
-            path,
+    let files = [
+        (
+            "PREFIX.T would be written over IMAGE",
+            Some(&arguments.image),
         ),
-        None => false,
-    }
+        (
+            "PREFIX.T would be written over TRACE",
+            Some(&arguments.trace),
+        ),
+        (
+            "PREFIX.T would be written over FILE",
+            arguments.input.as_ref(),
+        ),
+        (
+            "PREFIX.T would be written over LISTFILE",
+            arguments.order_file.as_ref(),
+        ),
+    ];
+    loses_one(folder, faults, path, &files)
 }
 
 // The same of any of these threads.
@@ -170,6 +151,48 @@ fn output_places<D: Folder, E: Sink>(
     Ok(paths)
 }
 
+// The list of a file, which a line feed may end. Where there is none, it is told why.
+fn list_in<D: Folder, E: Sink>(
+    alloc: Global,
+    folder: &D,
+    faults: &mut E,
+    path: &str,
+) -> Result<String, ExitStatus>
+    ensures kept { OnOk result (faults.new ≡ faults.old) }
+{
+    let Some(bytes) = bytes_of(alloc, folder, faults, path, MOST_BYTES) else {
+        return Err(ExitStatus::Failed);
+    };
+    match String::from_utf8(bytes) {
+        Ok(list) => Ok(list),
+        Err(_) => {
+            say(faults, path, ": ", "LIST is no text");
+            Err(ExitStatus::Refused)
+        }
+    }
+}
+
+// The list of the file that is named, if one is.
+fn list_of<D: Folder, E: Sink>(
+    alloc: Global,
+    folder: &D,
+    faults: &mut E,
+    arguments: &RecordArguments,
+) -> Result<Option<String>, ExitStatus>
+    ensures kept { OnOk result (faults.new ≡ faults.old) }
+{
+    match &arguments.order_file {
+        Some(path) => Ok(Some(list_in(alloc, folder, faults, path.as_str())?)),
+        None => Ok(None),
+    }
+}
+
+// Without the line feed, and the carriage return before it, at its end.
+fn without_end(list: &str) -> &str {
+    let line = list.strip_suffix('\n').unwrap_or(list);
+    line.strip_suffix('\r').unwrap_or(line)
+}
+
 // Records a guest into a file, and what its threads print into others where they are asked for.
 pub fn record_file<R, D, G, O, E>(
     rt: &R,
@@ -190,12 +213,8 @@ where
 {
     let alloc = rt.alloc();
     let place = arguments.trace.as_str();
-    let Ok(beside) = path_beside(alloc, place) else {
-        say(faults, "memory ran out", "", "");
-        return ExitStatus::Failed;
-    };
-    let mut trace = WholeFile::new(folder, place, beside.as_str());
-    if loses_input(folder, faults, arguments, trace.first_place()) {
+    let mut trace = WholeFile::new(alloc, folder, place);
+    if loses_input(folder, faults, arguments) {
         return ExitStatus::BadArguments;
     }
     let Some(image) = bytes_of(alloc, folder, faults, arguments.image.as_str(), MOST_BYTES) else {
@@ -209,13 +228,21 @@ where
     let Some(input) = input_of(alloc, folder, faults, arguments) else {
         return ExitStatus::Failed;
     };
+    let list = match list_of(alloc, folder, faults, arguments) {
+        Ok(list) => list,
+        Err(status) => return status,
+    };
+    let order = match &list {
+        Some(list) => Some(without_end(list.as_str())),
+        None => arguments.order.as_ref().map(|list| list.as_str()),
+    };
     let paths = paths.as_ref().map(|paths| paths.as_slice());
     let mut outputs = OutputFiles::new(folder, paths, place);
     record_run(
         rt,
         gate,
         &image,
-        &arguments.plan(input.as_slice()),
+        &arguments.plan(order, input.as_slice()),
         &mut trace,
         &mut outputs,
         out,

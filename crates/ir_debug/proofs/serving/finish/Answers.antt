@@ -5,7 +5,7 @@ use Rattle.ir_stream.specs.declared.serving.Flow.{Flow}
 use Rattle.ir_stream.specs.declared.serving.Flow.TheVariants.{Goes, Quits}
 use Rattle.ir_stream.specs.declared.serving.Served.TheVariants.{Quit, InputEnd}
 use Rattle.ir_stream.specs.Endings.{flow_after, served_after}
-use Rattle.ir_stream.proofs.CallerLemmas.{wrote_none, wrote_some, prefix_some, some_quits_empty, some_quits_some}
+use Rattle.ir_stream.proofs.CallerLemmas.{wrote_none, wrote_some, some_quits_empty, some_quits_some}
 use Rattle.ir_debug.specs.Machine.Answers.{Replies, quits}
 use Rattle.ir_debug.proofs.serving.finish.Goals as goal
 
@@ -54,7 +54,5 @@ returns-in-Ok-Quits-clause-served g c = quit c.in-Ok-Quits.field-0 (quits c.args
     ∙ ap served_after (sym (some_quits_some quits c.args.line.now
     (some c.args.line.now c.is_empty.result c.is_empty.ensures c.if-is_empty.false)))
 
-pub returns-in-Err-clause-prefix : goal.returns-in-Err-clause-prefix
-returns-in-Err-clause-prefix g c = prefix_some Replies c.args.debugger.now.desk c.args.line.now (g.W.Sink.written c.args.writer.now)
-    (g.W.Sink.written c.respond.new.writer) (some c.args.line.now c.is_empty.result c.is_empty.ensures c.if-is_empty.false)
-    c.in-Err.ensures.prefix
+pub returns-in-Err-clause-some : goal.returns-in-Err-clause-some
+returns-in-Err-clause-some g c = some c.args.line.now c.is_empty.result c.is_empty.ensures c.if-is_empty.false

@@ -74,7 +74,7 @@ returns-in-End-clause-write g c = λ failed. (
       c.loop-taken.debugger.desk c.loop-taken.line.items c.as_slice.result.now c.loop-taken.taken c.loop-taken.taken
       c.loop-taken.invariant.at c.as_slice.ensures.value refl)
       c.args.limit c.loop-taken-test.true c.in-End.ensures.bytes.0 c.finish.result (g.W.Sink.written c.finish.new.writer)
-      c.in-End.ensures.bytes.1 failed c.finish.ensures.prefix,
+      c.in-End.ensures.bytes.1 failed c.finish.ensures.some c.finish.ensures.prefix,
 )
 
 pub loop-taken-preserved-then-byte-ne10 : goal.loop-taken-preserved-then-byte-ne10

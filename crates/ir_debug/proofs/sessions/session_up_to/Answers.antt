@@ -2,7 +2,7 @@ use Rattle.std.proofs.Common.{sym, ◌∙◌}
 use Rattle.ir_stream.specs.Lines.{cut, lines_of}
 use Rattle.ir_debug.specs.Machine.Opening.{Ready}
 use Rattle.ir_debug.specs.Opened.{opening_of}
-use Rattle.ir_debug.proofs.Opened.{none_read, Reads-map, opens_ready, begun_ready, was_read, was_write, served_known, served_ended, writes, writes_prefix}
+use Rattle.ir_debug.proofs.Opened.{none_read, Reads-map, opens_ready, begun_ready, was_read, was_write, served_known, served_ended, writes, writes_in_part}
 use Rattle.ir_debug.proofs.sessions.session_up_to.Goals as goal
 
 pub returns-in-Err-clause-write : goal.returns-in-Err-clause-write
@@ -54,7 +54,7 @@ returns-in-Ready-clause-write g c = λ e.
         opens = opens_ready c.args.image.now c.args.trace.now c.in-Ok.opened c.in-Ready.debugger c.in-Ready.is c.in-Ok.ensures;
         goes = p.0;
         ended = p.1;
-        wrote = writes_prefix c.in-Ready.debugger.desk (lines_of consumed) (g.W.Sink.written c.args.writer.now)
+        wrote = writes_in_part c.in-Ready.debugger.desk (lines_of consumed) (g.W.Sink.written c.args.writer.now)
             (g.W.Sink.written c.announce.new.writer) (g.W.Sink.written c.serve.new.writer)
             (begun_ready c.in-Ok.opened c.in-Ready.debugger _ _ c.in-Ready.is c.in-Ok-announce.ensures.ok) p.2;
       }) r.2,

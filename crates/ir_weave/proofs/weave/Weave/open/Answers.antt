@@ -1,7 +1,7 @@
-use Rattle.std.proofs.Common.{sym, subst, length}
+use Rattle.std.proofs.Common.{rules, sym, subst, length}
 use Rattle.ir_object.specs.Layout.{table_length}
 use Rattle.ir_weave.specs.Table.{IsLaid}
-use Rattle.ir_weave.proofs.Opening.{opens_for, table_of, some_threads}
+use Rattle.ir_weave.proofs.Opening.{opens_for, all_seated, table_of, some_threads}
 use Rattle.ir_weave.proofs.weave.Weave.open.Goals as goal
 
 pub of_words-requires : goal.of_words-requires
@@ -16,3 +16,7 @@ of_words-requires c =
 pub deal-requires-clause-some : goal.deal-requires-clause-some
 deal-requires-clause-some c = some_threads c.args.fitted.now c.args.state.now c.threads-count.result.now c.image.result.now
     c.code.ensures.within c.image.ensures.value c.threads-count.ensures c.requires.at.threads
+
+pub returns-clause-seated : goal.returns-clause-seated
+returns-clause-seated c = all_seated c.in_ok-table.table.shared.table_id c.in_ok-table.table.shared.key c.args.fitted.now c.args.state.now
+    c.in_ok-seats.seats.items (search rules) (search rules) c.image.ensures.within c.requires c.in_ok-seats.ensures.0

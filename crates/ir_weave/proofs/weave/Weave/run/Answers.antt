@@ -12,9 +12,9 @@ room c = let at : c.position.result ≡ cut_of c.args.target.now c.args.thread.n
     let few = c.run.ensures.within in let now = c.steps.ensures.value in let below = c.requires.below in omega (arith, at, few, now, below)
 
 ran : (c : After-run) → HasRunOn c.args.self.now.table.shared.key c.args.seat.now.me.0 c.args.thread.now c.run.new.self c.run.result.0
-ran c = runs_on c.args.self.now.table.shared.key c.args.fitted.now c.code.result.now c.args.target.now c.args.seat.now.me.0
+ran c = runs_on c.args.self.now.table.shared.key c.args.fitted.now c.code.result.now c.args.seat.now.me.0
     c.args.thread.now c.run.new.self c.run.result.0 c.requires.table (c.code.ensures.value ∙ ap (λ g. g.code) c.image.ensures.value)
-    c.requires.target.1 (room c) c.requires.thread c.run.ensures.steps
+    c.requires.thread c.run.ensures.steps
 
 pub returns-clause-ran : goal.returns-clause-ran
 returns-clause-ran c = ran c

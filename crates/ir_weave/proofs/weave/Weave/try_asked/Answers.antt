@@ -1,17 +1,21 @@
-use Rattle.std.proofs.Common.{◌≡◌, ◌<◌, ◌∙◌, ap, arith, sym}
-use Rattle.ir_cut.specs.Positions.{cut_of}
-use Rattle.ir_weave.proofs.Steps.{below_has}
+use Rattle.std.proofs.Common.{sym, ◌∙◌}
+use Rattle.ir_weave.proofs.Steps.{asks_has, done_waits}
 use Rattle.ir_weave.proofs.weave.Weave.try_asked.Goals as goal
+use Rattle.ir_weave.proofs.weave.Weave.try_asked.Goals.{in-Done, in_default}
 
 pub take-requires-clause-asking : goal.take-requires-clause-asking
-take-requires-clause-asking c =
-    let at : c.position.result ≡ cut_of c.args.target.now c.args.thread.now.number = c.position.ensures
-    ∙ ap (cut_of c.args.target.now) c.number.ensures in
-    let now = c.steps.ensures.value in
-    let under = c.if-steps-position.false in
-    let below : c.args.thread.now.steps < cut_of c.args.target.now c.args.thread.now.number = omega (arith, at, now, under) in
-    record {
-      asks = sym c.requires.asked;
-      has = below_has c.args.self.now.table.shared.key c.args.fitted.now c.args.target.now c.args.thread.now c.requires.table
-          c.requires.target.1 below;
-    }
+take-requires-clause-asking c = elim c.match-matches.branch [
+  | in-Done w ↦ absurd (cc (w.matches-is, c.if-matches.false))
+  | in_default w ↦ record {
+    asks = sym c.requires.asked;
+    has = asks_has c.args.self.now.table.shared.key c.args.fitted.now c.args.seat.now.me.0 c.args.thread.now c.requires.table
+        c.requires.thread (λ done. w.in_default.not-Done (c.requires.asked ∙ done));
+  }
+]
+
+pub returns-then-matches-clause-stopped : goal.returns-then-matches-clause-stopped
+returns-then-matches-clause-stopped c _ = elim c.match-matches.branch [
+  | in-Done w ↦ done_waits c.args.self.now.table.shared.key c.args.fitted.now c.args.seat.now.me c.args.thread.now c.requires.table
+      c.args.self.now.opened c.requires.thread (sym c.requires.asked ∙ w.in-Done.is)
+  | in_default w ↦ absurd (cc (w.matches-is, c.if-matches.true))
+]

@@ -14,7 +14,8 @@ use Rattle.ir_fit.specs.Fit.{FittedTrace, HasRun, IsRunOf}
 use Rattle.ir_cut.specs.Positions.{machine_of, start_of}
 use Rattle.ir_weave.specs.Ahead.{IsAhead, thread_at, ask_at}
 use Rattle.ir_weave.specs.States.{IsStateAt, positions}
-use Rattle.ir_weave.proofs.CallerLemmas.{same_number, step_there, StepOf, step_at, first_thread}
+use Rattle.ir_weave.proofs.Lone.{same_number, step_there}
+use Rattle.ir_weave.proofs.Trails.{StepOf, step_at, first_thread}
 
 start_number : (g : Guest) (budget : ℕ) (profile : Profile) (from n t : ℕ) → t < n
     → (slice_index_or (start_threads g budget profile from n) t idle).number ≡ from + t
