@@ -33,3 +33,7 @@ returns-in-Err-clause-kept g c = record {
   origins = same_at g.W.World.origin c.args.worlds.now.items c.args.t c.index_mut.result.now c.answer.new.self
       c.index_mut.ensures.value c.in-Err.ensures.origin;
 }
+
+pub returns-in-Err-clause-no_more : goal.returns-in-Err-clause-no_more
+returns-in-Err-clause-no_more g c = same_at g.W.World.answers c.args.worlds.now.items c.args.t c.index_mut.result.now c.answer.new.self
+    c.index_mut.ensures.value c.in-Err.ensures.kept

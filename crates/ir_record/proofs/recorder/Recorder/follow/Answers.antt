@@ -1,7 +1,12 @@
+use Rattle.std.proofs.Common.{◌+◌, ◌++◌, take, drop}
+use Rattle.ir_flat.specs.Flat.{tables}
+use Rattle.ir_record.specs.Progress.{Progress}
 use Rattle.ir_record.specs.Recorders.{progress_of}
+use Rattle.ir_record.specs.Turns.{order_of_turns}
 use Rattle.ir_record.proofs.Steps.{took_nothing}
-use Rattle.ir_record.proofs.Following.{followed_more, followed_end}
+use Rattle.ir_record.proofs.Following.{followed_more, followed_all, followed_end}
 use Rattle.ir_record.proofs.Asking.{same_worlds, worlds_on}
+use Rattle.ir_record.proofs.Stopped.{if_error, stopped_within, stopped_after}
 use Rattle.ir_record.proofs.recorder.Recorder.follow.Goals as goal
 
 pub order-init : goal.order-init
@@ -30,3 +35,13 @@ returns-clause-took g c = followed_end c.args.order.now c.order.item-index
 
 pub returns-in_err-turns-clause-kept : goal.returns-in_err-turns-clause-kept
 returns-in_err-turns-clause-kept g c = worlds_on c.order.invariant.kept c.turns.ensures.kept
+
+pub returns-in_err-turns-clause-stopped : goal.returns-in_err-turns-clause-stopped
+returns-in_err-turns-clause-stopped g c = if_error _ c.from_residual.result c.in_err-turns.field-0.0 c.from_residual.ensures.1 (
+    let entry : Progress = progress_of g.W.World.answers c.args.self.now in
+    let before : Progress = progress_of g.W.World.answers c.order.self in
+    let first = order_of_turns (take c.order.item-index c.args.order.now) in
+    stopped_within (first ++ _) (order_of_turns (drop (c.order.item-index + 1) c.args.order.now)) (order_of_turns c.args.order.now)
+    (tables entry.flat) entry _ _ (followed_all c.args.order.now c.order.item-index _ c.order-test.true)
+    (stopped_after first _ entry before _ _ c.order.invariant.took c.in_err-turns.ensures.stopped)
+    )

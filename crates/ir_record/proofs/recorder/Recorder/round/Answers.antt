@@ -1,4 +1,4 @@
-use Rattle.std.proofs.Common.{◌≡◌, ◌<◌, ℕ, List, [], arith, length, ap, sym, subst, refl, ◌∙◌}
+use Rattle.std.proofs.Common.{◌≡◌, ◌<◌, ◌+◌, ◌-◌, ℕ, List, [], ◌∷◌, ◌++◌, arith, length, ap, sym, subst, refl, ◌∙◌}
 use Rattle.std.specs.List.{range_with_len}
 use Rattle.ir_record.specs.Ahead.{lead, CanSkip, WentIf}
 use Rattle.ir_flat.specs.Flat.{tables, machine}
@@ -8,6 +8,7 @@ use Rattle.ir_record.specs.Recorders.{progress_of}
 use Rattle.ir_record.proofs.Asking.{same_worlds, worlds_on}
 use Rattle.ir_record.proofs.Going.{at_lead, still, reached, ahead_there}
 use Rattle.ir_record.proofs.Passing.{none_passed, pass_more, turn_noted}
+use Rattle.ir_record.proofs.Stopped.{if_error, range_all, stopped_within, stopped_ahead}
 use Rattle.ir_record.proofs.recorder.Recorder.round.Goals as goal
 
 pub loop-t-init : goal.loop-t-init
@@ -86,3 +87,20 @@ returns-clause-free g c =
     omega (arith, e, c.loop-t-test.false, c.loop-t.auto.t-end, c.loop-t.invariant.threads) in
     subst (λ n. CanSkip (machine c.loop-t.self.tape.flat) n c.loop-t.pass.free c.loop-t.ahead.items (tables c.loop-t.self.tape.flat)) all
     c.loop-t.invariant.passing.each
+
+pub returns-in_err-turned-clause-stopped : goal.returns-in_err-turned-clause-stopped
+returns-in_err-turned-clause-stopped g c = if_error _ c.from_residual.result c.in_err-turned.field-0.0 c.from_residual.ensures.1 (
+    λ s h.
+    let a : Progress = progress_of g.W.World.answers c.args.self.now in
+    let b : Progress = progress_of g.W.World.answers c.loop-t.self in
+    let n : ℕ = length c.args.self.now.tape.flat.threads in
+    let e : length c.threads-t-end.result.now ≡ n = ap (λ xs. length xs) c.threads-t-end.ensures.value in
+    let below : c.loop-t.t < n = omega (arith, e, c.loop-t-test.true, c.loop-t.auto.t-end) in
+    let p : WentIf c.loop-t.pass.moved (range_with_len 0 c.loop-t.t) s a c.args.ahead.now.items b c.loop-t.ahead.items =
+    c.loop-t.invariant.went s h in
+    stopped_within (range_with_len 0 c.loop-t.t ++ c.loop-t.t ∷ []) (range_with_len (c.loop-t.t + 1) (n - (c.loop-t.t + 1)))
+    (range_with_len 0 n) s a _ _ (range_all c.loop-t.t n below)
+    (stopped_ahead (range_with_len 0 c.loop-t.t) (c.loop-t.t ∷ []) s a b c.args.ahead.now.items c.loop-t.ahead.items _ _ p.went
+    (c.in_err-turned.ensures.stopped (reached p.went)
+    (ahead_there (range_with_len 0 c.loop-t.t) s a b c.args.ahead.now.items c.loop-t.ahead.items p.went)))
+    )

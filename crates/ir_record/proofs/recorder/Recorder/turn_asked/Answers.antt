@@ -45,6 +45,7 @@ returns-in_default g c = record {
       refl c.requires.ready.works;
   none = c.go.ensures.none;
   failed = tt;
+  stopped = tt;
   kept = same_worlds;
 }
 
