@@ -20,7 +20,7 @@ impl<W: World> Recorder<'_, W> {
         ensures ready { OnOk result (CanGoOn W.answers W.broken self.new) }
         ensures failed { IfErr result (NamesFirst W.broken self.new.worlds.items) }
         ensures stopped { IfErr result (StopsIn W.answers (replicate count t) (tables self.old.tape.flat) self.old self.new.worlds.items) }
-        ensures kept { AreSameWorlds W.answers W.origin self.old.worlds.items self.new.worlds.items }
+        ensures kept { AreSameWorlds W.origin self.old.worlds.items self.new.worlds.items }
     {
         let mut left = count;
         'turns: while left > 0 {
@@ -43,7 +43,7 @@ impl<W: World> Recorder<'_, W> {
         ensures ready { OnOk result (CanGoOn W.answers W.broken self.new) }
         ensures failed { IfErr result (NamesFirst W.broken self.new.worlds.items) }
         ensures stopped { IfErr result (StopsIn W.answers (order_of_turns order.now) (tables self.old.tape.flat) self.old self.new.worlds.items) }
-        ensures kept { AreSameWorlds W.answers W.origin self.old.worlds.items self.new.worlds.items }
+        ensures kept { AreSameWorlds W.origin self.old.worlds.items self.new.worlds.items }
     {
         'order: for item in order {
             self.turns(item.thread as usize, item.count)?;

@@ -41,7 +41,7 @@ impl<W: World> Recorder<'_, W> {
         ensures ready { OnOk result (CanGoOn W.answers W.broken self.new) }
         ensures failed { IfErr result (NamesFirst W.broken self.new.worlds.items) }
         ensures stopped { IfErr result (λ f. (count : ℕ) × StopsIn W.answers (order_of_turns order.now ++ rounds (length self.old.tape.flat.threads) count) (tables self.old.tape.flat) self.old self.new.worlds.items f) }
-        ensures kept { AreSameWorlds W.answers W.origin self.old.worlds.items self.new.worlds.items }
+        ensures kept { AreSameWorlds W.origin self.old.worlds.items self.new.worlds.items }
     {
         self.follow(order)?;
         self.rounds(ahead, asks)?;

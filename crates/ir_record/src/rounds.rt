@@ -67,7 +67,7 @@ impl<W: World> Recorder<'_, W> {
         ensures ready { OnOk result (CanGoOn W.answers W.broken self.new) }
         ensures failed { IfErr result (NamesFirst W.broken self.new.worlds.items) }
         ensures stopped { IfErr result (λ f. (s : State thread.State) → IsAhead (machine self.old.tape.flat) ahead.old.items s (tables self.old.tape.flat) → StopsIn W.answers (t ∷ []) s self.old self.new.worlds.items f) }
-        ensures kept { AreSameWorlds W.answers W.origin self.old.worlds.items self.new.worlds.items }
+        ensures kept { AreSameWorlds W.origin self.old.worlds.items self.new.worlds.items }
     {
         let lead = ahead[t];
         if lead > 0 {
@@ -96,7 +96,7 @@ impl<W: World> Recorder<'_, W> {
         ensures ready { OnOk result (CanGoOn W.answers W.broken self.new) }
         ensures failed { IfErr result (NamesFirst W.broken self.new.worlds.items) }
         ensures stopped { IfErr result (λ f. (s : State thread.State) → IsAhead (machine self.old.tape.flat) ahead.old.items s (tables self.old.tape.flat) → StopsIn W.answers (range_with_len 0 (length self.old.tape.flat.threads)) s self.old self.new.worlds.items f) }
-        ensures kept { AreSameWorlds W.answers W.origin self.old.worlds.items self.new.worlds.items }
+        ensures kept { AreSameWorlds W.origin self.old.worlds.items self.new.worlds.items }
     {
         let mut pass = Pass::new();
         for t in 0..self.tape.flat.threads().len() {
@@ -116,7 +116,7 @@ impl<W: World> Recorder<'_, W> {
         ensures ready { OnOk result (CanGoOn W.answers W.broken self.new) }
         ensures failed { IfErr result (NamesFirst W.broken self.new.worlds.items) }
         ensures stopped { IfErr result (λ f. (count : ℕ) × StopsIn W.answers (rounds (length self.old.tape.flat.threads) count) (tables self.old.tape.flat) self.old self.new.worlds.items f) }
-        ensures kept { AreSameWorlds W.answers W.origin self.old.worlds.items self.new.worlds.items }
+        ensures kept { AreSameWorlds W.origin self.old.worlds.items self.new.worlds.items }
     {
         self.ask_all(asks);
         'rounds: loop {

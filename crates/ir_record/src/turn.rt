@@ -30,7 +30,7 @@ fn answer_to<W: World>(worlds: &mut Vec<W>, t: usize, kind: EnvKind) -> Result<u
     ensures failed { IfErr result (NamesFirst W.broken worlds.new.items) }
     ensures named { IfErr result (λ f. f.thread ≡ t) }
     ensures no_more { OnErr result (map W.answers worlds.new.items ≡ map W.answers worlds.old.items) }
-    ensures kept { AreSameWorlds W.answers W.origin worlds.old.items worlds.new.items }
+    ensures kept { AreSameWorlds W.origin worlds.old.items worlds.new.items }
 {
     match worlds[t].answer(kind) {
         Ok(value) => Ok(value),
@@ -51,7 +51,7 @@ impl<W: World> Recorder<'_, W> {
         ensures ready { OnOk result (CanGoOn W.answers W.broken self.new) }
         ensures failed { IfErr result (NamesFirst W.broken self.new.worlds.items) }
         ensures stopped { IfErr result (StopsAtOnce W.answers t self.old self.new.worlds.items) }
-        ensures kept { AreSameWorlds W.answers W.origin self.old.worlds.items self.new.worlds.items }
+        ensures kept { AreSameWorlds W.origin self.old.worlds.items self.new.worlds.items }
     {
         match asked {
             Ask::Env(kind) => {

@@ -1,11 +1,10 @@
-use Rattle.std.proofs.Common.{◌+◌, ◌++◌, take, drop}
+use Rattle.std.proofs.Common.{◌+◌, ◌++◌, take, drop, refl, ◌∙◌}
 use Rattle.ir_flat.specs.Flat.{tables}
 use Rattle.ir_record.specs.Progress.{Progress}
 use Rattle.ir_record.specs.Recorders.{progress_of}
 use Rattle.ir_record.specs.Turns.{order_of_turns}
 use Rattle.ir_record.proofs.Steps.{took_nothing}
 use Rattle.ir_record.proofs.Following.{followed_more, followed_all, followed_end}
-use Rattle.ir_record.proofs.Asking.{same_worlds, worlds_on}
 use Rattle.ir_record.proofs.Stopped.{if_error, stopped_within, stopped_after}
 use Rattle.ir_record.proofs.recorder.Recorder.follow.Goals as goal
 
@@ -14,7 +13,7 @@ order-init g c = record {
   took = took_nothing (progress_of g.W.World.answers c.args.self.now);
   ready =
       c.requires;
-  kept = same_worlds;
+  kept = refl;
 }
 
 pub order-preserved : goal.order-preserved
@@ -25,7 +24,7 @@ order-preserved g c = record {
       (progress_of g.W.World.answers c.turns.new.self)
       c.order-test.true c.order.invariant.took c.in_ok-turns.ensures.took;
   ready = c.in_ok-turns.ensures.ready;
-  kept = worlds_on c.order.invariant.kept c.turns.ensures.kept;
+  kept = c.turns.ensures.kept ∙ c.order.invariant.kept;
 }
 
 pub returns-clause-took : goal.returns-clause-took
@@ -34,7 +33,7 @@ returns-clause-took g c = followed_end c.args.order.now c.order.item-index
     (progress_of g.W.World.answers c.order.self) c.order-test.false c.order.invariant.took
 
 pub returns-in_err-turns-clause-kept : goal.returns-in_err-turns-clause-kept
-returns-in_err-turns-clause-kept g c = worlds_on c.order.invariant.kept c.turns.ensures.kept
+returns-in_err-turns-clause-kept g c = c.turns.ensures.kept ∙ c.order.invariant.kept
 
 pub returns-in_err-turns-clause-stopped : goal.returns-in_err-turns-clause-stopped
 returns-in_err-turns-clause-stopped g c = if_error _ c.from_residual.result c.in_err-turns.field-0.0 c.from_residual.ensures.1 (

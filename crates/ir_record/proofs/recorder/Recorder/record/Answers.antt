@@ -6,7 +6,6 @@ use Rattle.ir_record.specs.Progress.{Progress, Took}
 use Rattle.ir_record.specs.Recorders.{progress_of}
 use Rattle.ir_record.specs.Turns.{order_of_turns}
 use Rattle.ir_record.proofs.Steps.{took_both}
-use Rattle.ir_record.proofs.Asking.{worlds_on}
 use Rattle.ir_record.proofs.Stopped.{if_error, stopped_within, stopped_after}
 use Rattle.ir_record.proofs.recorder.Recorder.record.Goals as goal
 
@@ -23,10 +22,10 @@ returns-clause-took g c =
     )
 
 pub returns-clause-kept : goal.returns-clause-kept
-returns-clause-kept g c = worlds_on c.follow.ensures.kept c.rounds.ensures.kept
+returns-clause-kept g c = c.rounds.ensures.kept ∙ c.follow.ensures.kept
 
 pub returns-in_err-rounds-clause-kept : goal.returns-in_err-rounds-clause-kept
-returns-in_err-rounds-clause-kept g c = worlds_on c.follow.ensures.kept c.rounds.ensures.kept
+returns-in_err-rounds-clause-kept g c = c.rounds.ensures.kept ∙ c.follow.ensures.kept
 
 pub rounds-requires-clause-level : goal.rounds-requires-clause-level
 rounds-requires-clause-level g c = c.requires.level ∙ ap (λ n. replicate n 0) (sym c.in_ok-follow.ensures.took.threads)

@@ -5,7 +5,6 @@ use Rattle.ir_flat.specs.Flat.{tables, machine}
 use Rattle.ir_record.specs.Noting.{Noted}
 use Rattle.ir_record.specs.Progress.{Progress}
 use Rattle.ir_record.specs.Recorders.{progress_of}
-use Rattle.ir_record.proofs.Asking.{same_worlds, worlds_on}
 use Rattle.ir_record.proofs.Going.{at_lead, still, reached, ahead_there}
 use Rattle.ir_record.proofs.Passing.{none_passed, pass_more, turn_noted}
 use Rattle.ir_record.proofs.Stopped.{if_error, range_all, stopped_within, stopped_ahead}
@@ -22,7 +21,7 @@ loop-t-init g c = record {
   threads = refl;
   asks = c.requires.asks;
   ready = c.requires.ready;
-  kept = same_worlds;
+  kept = refl;
 }
 
 pub loop-t-preserved : goal.loop-t-preserved
@@ -65,7 +64,7 @@ loop-t-preserved g c = record {
   threads = c.in_ok-turned.ensures.threads ∙ c.loop-t.invariant.threads;
   asks = c.in_ok-turned.ensures.asks;
   ready = c.in_ok-turned.ensures.ready;
-  kept = worlds_on c.loop-t.invariant.kept c.turn_ahead.ensures.kept;
+  kept = c.turn_ahead.ensures.kept ∙ c.loop-t.invariant.kept;
 }
 
 pub returns-clause-went : goal.returns-clause-went
@@ -77,7 +76,7 @@ returns-clause-went g c = λ s h. subst (λ n. WentIf c.loop-t.pass.moved (range
     (c.loop-t.invariant.went s h)
 
 pub returns-in_err-turned-clause-kept : goal.returns-in_err-turned-clause-kept
-returns-in_err-turned-clause-kept g c = worlds_on c.loop-t.invariant.kept c.turn_ahead.ensures.kept
+returns-in_err-turned-clause-kept g c = c.turn_ahead.ensures.kept ∙ c.loop-t.invariant.kept
 
 pub returns-clause-free : goal.returns-clause-free
 returns-clause-free g c =

@@ -1,11 +1,10 @@
-use Rattle.std.proofs.Common.{◌≡◌, ◌-◌, ◌+◌, [], ◌∷◌, ◌++◌, arith, map, length, replicate, refl, ap, subst}
+use Rattle.std.proofs.Common.{◌≡◌, ◌-◌, ◌+◌, [], ◌∷◌, ◌++◌, arith, map, length, replicate, refl, ap, subst, ◌∙◌}
 use Rattle.ir_flat.specs.Flat.{tables}
 use Rattle.ir_record.specs.Progress.{Progress, progress, Took}
 use Rattle.ir_record.specs.Recorders.{progress_of}
 use Rattle.ir_record.proofs.Steps.{took_nothing}
 use Rattle.ir_record.proofs.Joining.{ready_after}
 use Rattle.ir_record.proofs.Following.{past_none, none_after, turns_rest, turns_joined, turns_more}
-use Rattle.ir_record.proofs.Asking.{same_worlds, worlds_on}
 use Rattle.ir_record.proofs.Stopped.{if_error, turns_all, stopped_here, stopped_within, stopped_after}
 use Rattle.ir_record.proofs.recorder.Recorder.turns.Goals as goal
 
@@ -17,7 +16,7 @@ turns-init g c =
       took = subst (λ n. Took (replicate n c.args.t) entry entry) (let e : 0 ≡ c.args.count - c.args.count = omega arith in e)
           (took_nothing entry);
       ready = c.requires;
-      kept = same_worlds;
+      kept = refl;
     }
 
 pub returns-then-t-threads-clause-took : goal.returns-then-t-threads-clause-took
@@ -68,14 +67,14 @@ turns-preserved g c =
           (omega (arith, c.turns-test.true)) (omega (arith, within)) c.turns.invariant.took
           (c.run-ran.ensures.took (map g.W.World.answers c.turns.self.worlds.items)) c.in_ok-turn_asked.ensures.took;
       ready = c.in_ok-turn_asked.ensures.ready;
-      kept = worlds_on c.turns.invariant.kept c.turn_asked.ensures.kept;
+      kept = c.turn_asked.ensures.kept ∙ c.turns.invariant.kept;
     }
 
 pub returns-then-not-branch-clause-kept : goal.returns-then-not-branch-clause-kept
-returns-then-not-branch-clause-kept g c = worlds_on c.turns.invariant.kept c.turn_asked.ensures.kept
+returns-then-not-branch-clause-kept g c = c.turn_asked.ensures.kept ∙ c.turns.invariant.kept
 
 pub returns-in_err-turn_asked-clause-kept : goal.returns-in_err-turn_asked-clause-kept
-returns-in_err-turn_asked-clause-kept g c = worlds_on c.turns.invariant.kept c.turn_asked.ensures.kept
+returns-in_err-turn_asked-clause-kept g c = c.turn_asked.ensures.kept ∙ c.turns.invariant.kept
 
 pub returns-in_err-turn_asked-clause-stopped : goal.returns-in_err-turn_asked-clause-stopped
 returns-in_err-turn_asked-clause-stopped g c = if_error _ c.from_residual.result c.in_err-turn_asked.field-0.0 c.from_residual.ensures.1 (
