@@ -1,7 +1,7 @@
 //! The files that the arguments name.
 
-ghost use Rattle.std.specs.Prelude.{◌≡◌, ◌≤◌, [], length, false, true, IfOk, IfSome, Ok, None};
-ghost use Rattle.ir_files.specs.declared.files.FileErr.TheVariants.{NoMem};
+ghost use Rattle.std.specs.Prelude.{◌≡◌, ◌<◌, ◌≤◌, ℕ, [], length, false, true, IfOk, IfSome, Ok, Err, None};
+ghost use Rattle.ir_files.specs.declared.files.FileErr.TheVariants.{NoMem, TooLong};
 
 use crate::folder::Folder;
 use crate::reason::reason;
@@ -39,6 +39,7 @@ impl From<AllocError> for FileErr {
 pub fn read_all<R: Read + Drop>(alloc: Global, reader: R, most: u32) -> Result<Vec<u8>, FileErr>
     ensures all { IfOk result (λ v. IfSome (R.remaining reader) (λ xs. v.items ≡ xs)) }
     ensures few { IfOk result (λ v. length v.items ≤ most) }
+    ensures long { (limit : ℕ) → result ≡ Err (TooLong limit) → (limit ≡ most) × IfSome (R.remaining reader) (λ xs. most < length xs) }
 {
     let mut bytes = Vec::new(alloc);
     match reader.take(most as u64 + 1).read_to_end(&mut bytes) {
@@ -59,7 +60,9 @@ pub fn read_file<D: Folder>(
     path: &str,
     most: u32,
 ) -> Result<Vec<u8>, FileErr>
+    ensures all { IfOk result (λ v. IfSome (D.bytes_at folder.now path.now) (λ bytes. v.items ≡ bytes)) }
     ensures few { IfOk result (λ v. length v.items ≤ most) }
+    ensures long { (limit : ℕ) → result ≡ Err (TooLong limit) → (limit ≡ most) × IfSome (D.bytes_at folder.now path.now) (λ bytes. most < length bytes) }
 {
     match folder.open(path) {
         Ok(file) => read_all(alloc, file, most),

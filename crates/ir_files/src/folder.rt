@@ -1,5 +1,7 @@
 //! The files that the program reads and writes.
 
+ghost use Rattle.std.specs.Prelude.{◌≡◌, ℕ, List, Option, Some, None, IfOk, IfSome};
+
 use crate::places::Found;
 use std::fs::{self, File, OpenOptions};
 use std::io::{self, Read, Write};
@@ -10,11 +12,15 @@ pub trait Folder {
     /// A file that is open.
     type Open: Read + Write + Drop;
 
+    /// The bytes of the file at a path, where they are known.
+    ghost bytes_at: { Self → List ℕ → Option (List ℕ) } = { λ _ _. None };
+
     /// Opens a file, to be read.
     ///
     /// # Errors
     /// The reason why it can't be.
-    fn open(&self, path: &str) -> io::Result<Self::Open>;
+    fn open(&self, path: &str) -> io::Result<Self::Open>
+        ensures { IfOk result (λ file. IfSome (bytes_at self.now path.now) (λ bytes. Self.Open.remaining file ≡ Some bytes)) };
 
     /// Makes a file, or empties the one that stands there, to be written.
     ///

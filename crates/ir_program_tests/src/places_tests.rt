@@ -1,6 +1,8 @@
-//! Which writing loses what is read, by what stands at the two paths.
+//! Which writing loses what is read, by what stands at the two paths; and files of the most bytes.
 
-use ir_files::{Found, loses};
+use crate::shelf::Shelf;
+use ir_files::{FileErr, Found, loses, read_file};
+use std::test::Fail;
 
 const ONE: Found = Found::File(1, 7);
 
@@ -26,4 +28,21 @@ fn the_same_file_is_lost(rt: HostRuntime) {
     for &(written, at_written, read, at_read, is_lost) in &ROWS {
         assert_eq!(rt; loses(written, at_written, read, at_read), is_lost);
     }
+}
+
+#[test]
+fn a_file_may_have_the_most_bytes(rt: HostRuntime) -> Result<(), Fail> {
+    let shelf = Shelf::new(rt.alloc());
+    shelf.add_file("four", b"abcd")?;
+    for most in 0..=4 {
+        let read = read_file(rt.alloc(), &&shelf, "four", most);
+        match read {
+            Ok(bytes) => {
+                assert_eq!(rt; bytes.as_slice(), b"abcd".as_slice());
+                assert_eq!(rt; most, 4);
+            }
+            Err(why) => assert!(rt; matches!(why, FileErr::TooLong(limit) if limit == most)),
+        }
+    }
+    Ok(())
 }

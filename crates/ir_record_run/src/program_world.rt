@@ -1,7 +1,9 @@
 //! The world of a thread that is recorded.
 
-ghost use Rattle.std.specs.Prelude.{◌≡◌, ◌≤◌, [], vec_len, vec_capacity, IfOk, false};
+ghost use Rattle.std.specs.Prelude.{◌≡◌, ◌≤◌, ◌⊎◌, [], ◌∷◌, ◌++◌, vec_len, vec_capacity, IfOk, OnOk, OnErr, true, false};
 ghost use Rattle.ir_thread.specs.Calls.{most_events};
+ghost use Rattle.ir_thread.specs.Instance.{is_result};
+ghost use Rattle.ir_runs.specs.declared.env_kind.EnvKind.TheVariants.{Clock};
 ghost use Rattle.ir_record_run.specs.Sources.{source, Gave, Gave-prop, MadeWith, made_with, is_counted, from_sources};
 
 use crate::sources::Sources;
@@ -71,16 +73,22 @@ impl<'a, C> ProgramWorld<'a, C> {
     }
 }
 
-impl<C: Clock> World for ProgramWorld<'_, C> {
-    ghost answers = { λ w. w.answers.items };
-
-    ghost Origin = { MadeWith };
-
-    ghost origin = { λ w. made_with w.time w.seed w.file.now };
-
-    ghost broken = { λ w. w.failed };
-
-    fn answer(&mut self, kind: EnvKind) -> Result<u32, WorldErr> {
+impl<C: Clock> ProgramWorld<'_, C> {
+    /// The next answer, as `World::answer` gives it.
+    ///
+    /// # Errors
+    /// As many answers were given as a thread may log, or the call is answered by the clock, which can't be read.
+    pub fn answered(&mut self, kind: EnvKind) -> Result<u32, WorldErr>
+        requires { self.old.failed ≡ false }
+        ensures origin { made_with self.new.time self.new.seed self.new.file.now ≡ made_with self.old.time self.old.seed self.old.file.now }
+        ensures fits { IfOk result (λ value. is_result kind value ≡ true) }
+        ensures answered { IfOk result (λ value. self.new.answers.items ≡ self.old.answers.items ++ (kind, value) ∷ []) }
+        ensures works { OnOk result (self.new.failed ≡ false) }
+        ensures kept { OnErr result (self.new.answers.items ≡ self.old.answers.items) }
+        ensures failed { OnErr result (self.new.failed ≡ true) }
+        // It fails for no other reason.
+        ensures limits { OnErr result ((most_events ≤ vec_len self.old.answers) ⊎ ((kind ≡ Clock) × (is_counted self.old.time ≡ false))) }
+    {
         if self.answers.len() >= MOST_ANSWERS {
             self.failed = true;
             self.full = true;
@@ -97,6 +105,20 @@ impl<C: Clock> World for ProgramWorld<'_, C> {
         let value = self.sources.answer(kind);
         self.answers.push_reserved((kind, value));
         Ok(value)
+    }
+}
+
+impl<C: Clock> World for ProgramWorld<'_, C> {
+    ghost answers = { λ w. w.answers.items };
+
+    ghost Origin = { MadeWith };
+
+    ghost origin = { λ w. made_with w.time w.seed w.file.now };
+
+    ghost broken = { λ w. w.failed };
+
+    fn answer(&mut self, kind: EnvKind) -> Result<u32, WorldErr> {
+        self.answered(kind)
     }
 
     fn failed(&self) -> bool {
