@@ -35,7 +35,8 @@ threads stand at a cut, a position for each, at which all that their steps need 
   quit          ends the session
 Numbers are decimal, or `0x` and hexadecimal digits. A move answers `at` and the positions, one of thread T then `hit N` where
 point N stopped it, `end` where it is at its last position and `start` where it is at 0. A line that can't be carried out is
-answered `refused R` and why, and changes nothing. At a terminal standard error prompts for each line.
+answered `refused R` and why, and changes nothing. At a terminal standard error prompts for each line, and says after a refused
+one what was wanted; `help` lists the commands there.
 What a session opens with instead of `ready`:
   image refused N           1 cut short, 2 no image, 3 a number over its limit, 4 an entry outside the code, 5 bytes left over
   trace refused N           1 cut short, 2 no trace, 3 a number over its limit, 4 an unknown event, 5 reserved bytes that aren't 0,
