@@ -1,5 +1,5 @@
 -- Why there is no recording, and what that leaves.
-use Rattle.std.specs.Prelude.{◌≡◌, ℕ, List, length, ⊤, ◌⊎◌, None, option_and_then, Ok, Err}
+use Rattle.std.specs.Prelude.{◌≡◌, ℕ, List, length, codes, ⊤, ◌⊎◌, None, option_and_then, Ok, Err}
 use Rattle.ir_image.specs.Guest.{Guest}
 use Rattle.ir_image.specs.Reading.{guest_at}
 use Rattle.ir_image.specs.declared.image_err.ImageErr.{ImageErr}
@@ -11,7 +11,7 @@ use Rattle.ir_record_run.specs.Order.{order_of}
 use Rattle.ir_record_run.specs.Plan.{Plan}
 use Rattle.ir_record_run.specs.Recording.{IsRecordedOf, lines_of}
 use Rattle.ir_files.specs.Outputs.{OutputWriter, TookEach, FailedAtOne}
-use Rattle.ir_files.specs.Writers.{Writer, Took, Failed}
+use Rattle.ir_files.specs.Writers.{Writer, Took, Failed, Reports, fault_text}
 use Rattle.ir_files.specs.declared.exit_status.ExitStatus.{ExitStatus}
 use Rattle.ir_files.specs.declared.exit_status.ExitStatus.TheVariants as status
 use Rattle.ir_record_run.specs.declared.order.OrderErr.{OrderErr}
@@ -33,6 +33,37 @@ fault_status Clock = status.Failed
 fault_status Trace = status.Failed
 fault_status Output = status.Failed
 fault_status Lines = status.Failed
+
+-- a refusal of the image in words
+abbrev pub image_words : ImageErr → List ℕ
+image_words image.Short = codes "the image is refused, 1: a field passes the end"
+image_words image.Magic = codes "the image is refused, 2: these bytes are no image"
+image_words image.Count = codes "the image is refused, 3: a count is over its limit, or no thread"
+image_words image.Entry = codes "the image is refused, 4: an entry is no place in the code"
+image_words image.Trailing = codes "the image is refused, 5: bytes stand after the end"
+image_words image.NoMem = codes "memory ran out"
+
+-- a fault in words, where it names nothing that a user wrote
+abbrev pub fault_words : RecordFault → List ℕ
+fault_words (Image e) = image_words e
+fault_words TooLarge = codes "the first profile takes at most 8 threads and 16 objects, and --profile 2 takes more"
+fault_words Order = codes "LIST is no order of this image's threads"
+fault_words NoMem = codes "memory ran out"
+fault_words Clock = codes "the clock can't be read"
+fault_words Trace = codes "the trace can't be written"
+fault_words Output = codes "an output can't be written"
+fault_words Lines = codes "standard output can't be written"
+
+-- a fault that names nothing that a user wrote is reported by its line; of the line of one that does nothing is said
+abbrev pub IsReported : RecordFault → Writer → Type 0
+IsReported (Image e) faults = Reports faults (fault_text (image_words e))
+IsReported TooLarge faults = Reports faults (fault_text (fault_words TooLarge))
+IsReported NoMem faults = Reports faults (fault_text (fault_words NoMem))
+IsReported Clock faults = Reports faults (fault_text (fault_words Clock))
+IsReported Lines faults = Reports faults (fault_text (fault_words Lines))
+IsReported Order faults = ⊤
+IsReported Trace faults = ⊤
+IsReported Output faults = ⊤
 
 -- the fault that a refusal of the image is
 abbrev pub of_image : ImageErr → RecordFault

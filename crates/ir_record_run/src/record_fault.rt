@@ -1,6 +1,7 @@
 //! Why there is no recording.
 
-ghost use Rattle.std.specs.Prelude.{◌≡◌, ◌≤◌, length};
+ghost use Rattle.std.specs.Prelude.{◌≡◌};
+ghost use Rattle.ir_record_run.specs.Faults.{image_words};
 
 use crate::order::OrderErr;
 use ir_files::ExitStatus;
@@ -29,7 +30,7 @@ pub enum RecordFault {
 }
 
 impl RecordFault {
-    ghost use Rattle.ir_record_run.specs.Faults.{fault_status, of_image};
+    ghost use Rattle.ir_record_run.specs.Faults.{fault_status, fault_words, of_image};
 
     /// The fault that a refusal of the image is.
     pub fn of_image(why: &ImageErr) -> RecordFault
@@ -60,7 +61,7 @@ impl RecordFault {
 
     /// The fault in words.
     pub fn words(&self) -> &'static str
-        ensures { length result.now ≤ 100 }
+        ensures { result.now ≡ fault_words self.now }
     {
         match self {
             RecordFault::Image(why) => image_words(why),
@@ -77,7 +78,7 @@ impl RecordFault {
 }
 
 fn image_words(why: &ImageErr) -> &'static str
-    ensures { length result.now ≤ 100 }
+    ensures { result.now ≡ image_words why.now }
 {
     match why {
         ImageErr::Short => "the image is refused, 1: a field passes the end",
