@@ -11,12 +11,11 @@ ghost use Rattle.ir_record_run.specs.Recording.{origins, IsRecordedOf, line_by, 
 ghost use Rattle.ir_record_run.specs.Sources.{made_with, is_counted};
 ghost use Rattle.ir_files.specs.Outputs.{output_writer_of, TookEach, FailedAtOne};
 ghost use Rattle.ir_files.specs.Writers.{writer_of};
-<<<<<<< HEAD
-ghost use Rattle.ir_record_run.specs.Faults.{Allows, fault_status, Refuses, WriteFails, Stops};
-=======
-ghost use Rattle.ir_files.specs.declared.exit_status.ExitStatus.TheVariants.{Done};
-ghost use Rattle.ir_record_run.specs.Faults.{Allows, fault_status, Refuses, WriteFails, Stops, IsReported};
->>>>>>> 3672f4217b59980c2f51816cfe767ebd26ac2a33
+    ensures allowed { OnOk result (Allows image.now plan.now) }
+    ensures quiet { OnOk result (faults.new ≡ faults.old) }
+    // Else what stopped it, what that left, and that it is reported.
+    ensures stopped { IfErr result (λ status. (e : RecordFault) × (status ≡ fault_status e)
+        × IsReported e (writer_of (E.written faults.old) (E.written faults.new) (E.broken faults.new)) × Stops e image.now plan.now
 ghost use Rattle.ir_record_run.specs.declared.record_fault.RecordFault.{RecordFault};
 ghost use Rattle.ir_record_run.specs.declared.record_fault.RecordFault.TheVariants.{NoMem, Clock};
 
@@ -376,18 +375,11 @@ pub fn record_run<
         × Appends (O.written out.old) (O.written out.new) (lines_of recorded)) }
     ensures whole { OnOk result (W.whole trace.new ≡ true) }
     // The profile allows its threads and objects.
-<<<<<<< HEAD
     ensures allowed { OnOk result (Allows image.now plan.now) }
     ensures quiet { OnOk result (faults.new ≡ faults.old) }
-    // Else what stopped it, and what that left.
-    ensures stopped { IfErr result (λ status. (e : RecordFault) × (status ≡ fault_status e) × Stops e image.now plan.now
-=======
-    ensures allowed { result ≡ Done → Allows image.now plan.now }
-    ensures quiet { result ≡ Done → faults.new ≡ faults.old }
     // Else what stopped it, what that left, and that it is reported.
-    ensures stopped { result ≢ Done → (e : RecordFault) × (result ≡ fault_status e)
+    ensures stopped { IfErr result (λ status. (e : RecordFault) × (status ≡ fault_status e)
         × IsReported e (writer_of (E.written faults.old) (E.written faults.new) (E.broken faults.new)) × Stops e image.now plan.now
->>>>>>> 3672f4217b59980c2f51816cfe767ebd26ac2a33
         (writer_of (W.written trace.old) (W.written trace.new) (W.broken trace.new))
         (output_writer_of (P.taken outputs.old) (P.taken outputs.new) (P.broken outputs.new))
         (writer_of (O.written out.old) (O.written out.new) (O.broken out.new))
