@@ -11,11 +11,7 @@ ghost use Rattle.ir_record_run.specs.Recording.{origins, IsRecordedOf, line_by, 
 ghost use Rattle.ir_record_run.specs.Sources.{made_with, is_counted};
 ghost use Rattle.ir_files.specs.Outputs.{output_writer_of, TookEach, FailedAtOne};
 ghost use Rattle.ir_files.specs.Writers.{writer_of};
-    ensures allowed { OnOk result (Allows image.now plan.now) }
-    ensures quiet { OnOk result (faults.new ≡ faults.old) }
-    // Else what stopped it, what that left, and that it is reported.
-    ensures stopped { IfErr result (λ status. (e : RecordFault) × (status ≡ fault_status e)
-        × IsReported e (writer_of (E.written faults.old) (E.written faults.new) (E.broken faults.new)) × Stops e image.now plan.now
+ghost use Rattle.ir_record_run.specs.Faults.{Allows, fault_status, Refuses, WriteFails, Stops, IsReported};
 ghost use Rattle.ir_record_run.specs.declared.record_fault.RecordFault.{RecordFault};
 ghost use Rattle.ir_record_run.specs.declared.record_fault.RecordFault.TheVariants.{NoMem, Clock};
 
