@@ -87,7 +87,7 @@ pub struct RecordArguments {
 impl RecordArguments {
     /// The plan of the recording, in the order of this list if there is one, of a guest that reads these bytes.
     pub fn plan<'a>(&self, order: Option<&'a str>, input: &'a [u8]) -> RecordPlan<'a>
-        ensures { result ≡ record { order = option_map (λ s. s.now) order; budget = self.now.budget; random = self.now.random; input = input.now; profile = self.now.profile } }
+        ensures { result ≡ record { order = option_map (λ s. s.now) order.entry; budget = self.now.budget; random = self.now.random; input = input.now; profile = self.now.profile } }
     {
         RecordPlan {
             order,
