@@ -5,7 +5,8 @@ use crate::values::{IMAGE, TRACE, file_arg, text_of};
 use clap::{ArgMatches, Command};
 use std::alloc::{AllocError, Global};
 
-/// What follows the help of `ir debug`.
+/// What follows the help of `ir debug`. The form of each command, and what it does, is a line that begins with two spaces, of which the
+/// last is before the line that begins with `Numbers`.
 pub const DEBUG_AFTER: &str =
     "The session opens with `ready`, or with what is wrong with IMAGE or TRACE, and reads no line then. Then each line of
 standard input is a command, and is answered before the next is read. A position is a number of steps of a thread; the
@@ -35,7 +36,8 @@ threads stand at a cut, a position for each, at which all that their steps need 
   quit          ends the session
 Numbers are decimal, or `0x` and hexadecimal digits. A move answers `at` and the positions, one of thread T then `hit N` where
 point N stopped it, `end` where it is at its last position and `start` where it is at 0. A line that can't be carried out is
-answered `refused R` and why, and changes nothing. At a terminal standard error prompts for each line.
+answered `refused R` and why, and changes nothing. At a terminal standard error prompts for each line, and says after a refused
+one what was wanted; `help` lists the commands there.
 What a session opens with instead of `ready`:
   image refused N           1 cut short, 2 no image, 3 a number over its limit, 4 an entry outside the code, 5 bytes left over
   trace refused N           1 cut short, 2 no trace, 3 a number over its limit, 4 an unknown event, 5 reserved bytes that aren't 0,
@@ -50,23 +52,6 @@ What a session opens with instead of `ready`:
   thread T same             thread T ends as the trace says, while another doesn't
 Exit status: 0 done, 1 a fault, 2 bad arguments, 3 a refused image or trace, 4 a trace that doesn't fit.
 ";
-
-// What stands in that right before the commands, and right behind them.
-const BEFORE_FORMS: &str = "has been done.\n";
-
-const BEHIND_FORMS: &str = "Numbers are decimal";
-
-/// The commands of a session, as the help of `ir debug` lists them: in each line the form of one, and what it does.
-pub fn command_forms() -> &'static str {
-    let behind = match DEBUG_AFTER.split_once(BEFORE_FORMS) {
-        Some((_, behind)) => behind,
-        None => DEBUG_AFTER,
-    };
-    match behind.split_once(BEHIND_FORMS) {
-        Some((forms, _)) => forms,
-        None => behind,
-    }
-}
 
 /// Which run is debugged.
 #[derive(Drop)]

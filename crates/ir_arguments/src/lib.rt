@@ -13,6 +13,6 @@ mod values;
 pub use arguments::{collected, parsed};
 pub use asked::Asked;
 pub use assemble::{ASM_AFTER, AssembleArguments};
-pub use debug::{DebugArguments, command_forms};
+pub use debug::{DEBUG_AFTER, DebugArguments};
 pub use record::RecordArguments;
 pub use trace::TraceArguments;

@@ -5,7 +5,7 @@ ghost use Rattle.ir_thread.specs.Calls.{most_budget};
 
 use crate::asked::Asked;
 use crate::values::{IMAGE, TRACE, file_arg, given_text, text_of};
-use clap::{Arg, ArgMatches, Command};
+use clap::{Arg, ArgAction, ArgMatches, Command};
 use ir_record_run::{RecordPlan, number_within};
 use ir_thread::{MOST_BUDGET, Profile};
 use std::alloc::{AllocError, Global};
@@ -23,6 +23,8 @@ const PROFILE: &str = "profile";
 const INPUT: &str = "input";
 
 const OUTPUT: &str = "output";
+
+const STATUS: &str = "status";
 
 /// What follows the help of `ir record`.
 pub const RECORD_AFTER: &str =
@@ -50,8 +52,10 @@ A line is `thread T end E code C steps S events N`; the ends E are
    3 no instruction        8 an unknown call         13 the budget is spent
    4 a misaligned jump     9 no such object          14 too many events
    5 outside the code     10 an entry out of order
+At a terminal standard error says in words how a thread ended, where that wasn't END with code 0.
 Exit status: 0 recorded, 1 a file that can't be read or written or is too long, 2 bad arguments, 3 a refused image or LIST,
-or a guest with more threads or objects than P allows.
+or a guest with more threads or objects than P allows; with --status 5 where it is recorded, and a thread doesn't end by END
+with code 0: `until ! ir record --status IMAGE TRACE; do :; done` records until one doesn't.
 ";
 
 /// What is recorded, how, and where to.
@@ -75,13 +79,15 @@ pub struct RecordArguments {
     pub input: Option<String>,
     /// What the paths of the files of what threads print begin with, if they are asked for.
     pub output: Option<String>,
+    /// Whether the exit status says that a thread didn't end by END with code 0.
+    pub status: bool,
     ghost within: { budget ≤ most_budget },
 }
 
 impl RecordArguments {
     /// The plan of the recording, in the order of this list if there is one, of a guest that reads these bytes.
     pub fn plan<'a>(&self, order: Option<&'a str>, input: &'a [u8]) -> RecordPlan<'a>
-        ensures { result ≡ record { order = option_map (λ s. s.now) order; budget = self.now.budget; random = self.now.random; input = input.now; profile = self.now.profile } }
+        ensures { result ≡ record { order = option_map (λ s. s.now) order.entry; budget = self.now.budget; random = self.now.random; input = input.now; profile = self.now.profile } }
     {
         RecordPlan {
             order,
@@ -149,6 +155,13 @@ fn output_arg<'a>(alloc: Global) -> Arg<'a> {
         .help("What each thread T prints is written to the file PREFIX.T")
 }
 
+fn status_arg<'a>(alloc: Global) -> Arg<'a> {
+    Arg::new(alloc, STATUS)
+        .long(STATUS)
+        .action(ArgAction::SetTrue)
+        .help("Ends with exit status 5 where a thread doesn't end by END with code 0")
+}
+
 /// The command with its arguments.
 pub fn with_arguments<'a>(alloc: Global, command: Command<'a>) -> Result<Command<'a>, AllocError> {
     command
@@ -160,7 +173,8 @@ pub fn with_arguments<'a>(alloc: Global, command: Command<'a>) -> Result<Command
         .arg(random_arg(alloc))?
         .arg(profile_arg(alloc))?
         .arg(input_arg(alloc))?
-        .arg(output_arg(alloc))
+        .arg(output_arg(alloc))?
+        .arg(status_arg(alloc))
 }
 
 // That the value of an option is no number up to the most.
@@ -206,5 +220,6 @@ pub fn asked(alloc: Global, matches: &ArgMatches<'_>) -> Result<Asked, AllocErro
         profile: calls,
         input: given_text(alloc, matches, INPUT)?,
         output: given_text(alloc, matches, OUTPUT)?,
+        status: matches.get_flag(STATUS),
     }))
 }

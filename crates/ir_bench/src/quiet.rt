@@ -16,6 +16,8 @@ pub struct Quiet {
 impl World for Quiet {
     ghost answers = { λ _. [] };
 
+    ghost Origin = { Unit {0} };
+
     ghost origin = { λ _. tt };
 
     ghost broken = { λ s. s.failed };

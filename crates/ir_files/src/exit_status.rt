@@ -15,12 +15,14 @@ pub enum ExitStatus {
     Refused,
     /// A trace doesn't fit its image.
     NotFit,
+    /// A thread of a recording didn't end by END with code 0, and that was asked for.
+    Unended,
 }
 
 impl ExitStatus {
     ghost use Rattle.ir_files.specs.Statuses.{status_number};
 
-    /// The number that the system is given, 0 to 4 in the order above.
+    /// The number that the system is given, 0 to 5 in the order above.
     pub fn number(self) -> u8
         ensures { result ≡ status_number self }
     {
@@ -30,6 +32,7 @@ impl ExitStatus {
             ExitStatus::BadArguments => 2,
             ExitStatus::Refused => 3,
             ExitStatus::NotFit => 4,
+            ExitStatus::Unended => 5,
         }
     }
 }

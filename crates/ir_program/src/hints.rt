@@ -1,10 +1,26 @@
 //! What is said at a terminal of a line that is refused: the form that was wanted, or which commands there are.
 
-use ir_arguments::command_forms;
+use ir_arguments::DEBUG_AFTER;
 use ir_command::{Refusal, next_word, parse_line};
 
 // What asks for the forms of all commands. It is no command, and refused as any other.
 const HELP: &[u8] = b"help";
+
+// How many of the help's lines come before what is said of numbers: the forms of the commands are among these.
+fn form_lines() -> usize {
+    let mut count = 0;
+    for line in DEBUG_AFTER.lines() {
+        if line.starts_with("Numbers") {
+            break;
+        }
+        count += 1;
+    }
+    count
+}
+
+fn is_form(line: &str) -> bool {
+    line.starts_with("  ")
+}
 
 fn first_word(line: &[u8]) -> &[u8] {
     match next_word(line) {
@@ -13,18 +29,31 @@ fn first_word(line: &[u8]) -> &[u8] {
     }
 }
 
-// The form of a command, and what it does.
-fn form_of(name: &[u8]) -> Option<&'static str> {
-    command_forms()
-        .lines()
-        .find(|form| first_word(form.as_bytes()) == name)
+// Says the form of a command, and what it does.
+fn say_form<R: Eprint>(rt: &R, name: &[u8]) {
+    for line in DEBUG_AFTER.lines().take(form_lines()) {
+        if is_form(line) && first_word(line.as_bytes()) == name {
+            let form = line.trim_start();
+            let _ = rt.eprint(format_args!("wanted: {form}\n"));
+        }
+    }
+}
+
+// Says the forms of all commands.
+fn say_forms<R: Eprint>(rt: &R) {
+    for line in DEBUG_AFTER.lines().take(form_lines()) {
+        if is_form(line) {
+            let _ = rt.eprint(format_args!("{line}\n"));
+        }
+    }
 }
 
 // Says the names of all commands, in one line.
 fn say_names<R: Eprint>(rt: &R) {
     let _ = rt.eprint(format_args!("the commands are"));
-    for form in command_forms().lines() {
-        if let Some(name) = form.split_whitespace().next() {
+    for line in DEBUG_AFTER.lines().take(form_lines()) {
+        if is_form(line) {
+            let name = line.split_whitespace().next().unwrap_or_default();
             let _ = rt.eprint(format_args!(" {name}"));
         }
     }
@@ -35,17 +64,9 @@ fn say_names<R: Eprint>(rt: &R) {
 pub fn advise<R: Eprint>(rt: &R, line: &[u8]) {
     let name = first_word(line);
     match parse_line(line) {
-        Err(Refusal::UnknownCommand) if name == HELP => {
-            let forms = command_forms();
-            let _ = rt.eprint(format_args!("{forms}"));
-        }
+        Err(Refusal::UnknownCommand) if name == HELP => say_forms(rt),
         Err(Refusal::UnknownCommand) => say_names(rt),
-        Err(Refusal::BadArgument) => {
-            if let Some(form) = form_of(name) {
-                let form = form.trim_start();
-                let _ = rt.eprint(format_args!("wanted: {form}\n"));
-            }
-        }
+        Err(Refusal::BadArgument) => say_form(rt, name),
         _ => {}
     }
 }

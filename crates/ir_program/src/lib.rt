@@ -6,6 +6,7 @@ mod bundles;
 mod commands;
 mod debugging;
 mod dispatch;
+mod ends;
 mod fault;
 mod hints;
 mod line;

@@ -29,7 +29,7 @@ fn words_of(alloc: Global, line: &str) -> Result<Vec<String>, AllocError> {
 
 // A run of the program by these words, which reads this, where faults are told at a terminal or aren't: its status, and
 // what it wrote and told.
-fn ran_at<R: Threads + Wait + Sync + Clock + Eprint + AllocGlobal>(
+pub fn ran_at<R: Threads + Wait + Sync + Clock + Eprint + AllocGlobal>(
     rt: &R,
     shelf: &Shelf,
     line: &str,

@@ -213,7 +213,7 @@ pub fn recorded<R: Threads + Wait + Sync + Clock + AllocGlobal>(
     let mut outputs = no_outputs(rt, how.output_calls);
     let mut out = empty_page(rt, 7, how.out_calls);
     let mut faults = empty_page(rt, 7, ENDLESS);
-    let status = record_run(
+    let recorded = record_run(
         rt,
         &OpenGate,
         &ParsedImage::new(rt.alloc(), image),
@@ -230,7 +230,10 @@ pub fn recorded<R: Threads + Wait + Sync + Clock + AllocGlobal>(
         &mut faults,
     );
     Run {
-        status: status.number(),
+        status: match recorded {
+            Ok(_) => 0,
+            Err(status) => status.number(),
+        },
         trace,
         outputs,
         out,

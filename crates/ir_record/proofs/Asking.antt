@@ -1,8 +1,8 @@
 -- Worlds that are asked.
-use Rattle.std.proofs.Common.{◌≡◌, ℕ, ◌<◌, ◌≤◌, true, false, Bool, List, [], ◌∷◌, ◌++◌, length, map, set, get_or, refl, sym, ap, ◌∙◌, subst, arith, inl, inr, get_or-set_same, get_or-set_other, append-nil, append_assoc, length-set, length-append, ◌+◌, zero, suc}
-use Rattle.std.proofs.lemmas.Bool.{cases_eq, cases_lt}
+use Rattle.std.proofs.Common.{◌≡◌, ℕ, ◌<◌, true, false, Bool, List, [], ◌∷◌, ◌++◌, length, map, set, get_or, refl, sym, ap, ◌∙◌, subst, arith, inl, inr, get_or-set_same, get_or-set_other, length-append, ◌+◌, zero, suc}
+use Rattle.std.proofs.lemmas.Bool.{cases_eq}
 use Rattle.std.proofs.lemmas.List.{get_or-map, map-set, length-map}
-use Rattle.ir_record.specs.Worlds.{Answered, NoneFailed, IsFirstFailed, Extends, AreSameWorlds}
+use Rattle.ir_record.specs.Worlds.{Answered, NoneFailed, IsFirstFailed}
 use Rattle.ir_record.specs.Progress.{answers_at}
 
 -- a world that is asked has not failed
@@ -32,61 +32,6 @@ first_failed broken worlds t new works l h = subst (λ z. IsFirstFailed z t) (sy
   get_or-set_same (map broken worlds) t (broken new) false (let n = length-map worlds broken in omega (arith, n, l)) ∙ h,
   λ u below. get_or-set_other (map broken worlds) t u (broken new) false (λ e. omega (arith, e, below)) ∙ works u,
 )
-
--- what has been answered before is kept
-extends_same : (a : List (List Answered)) → Extends a a
-extends_same a = record { worlds = refl; more = λ t. ([], sym (append-nil (get_or a t []))) }
-
-extends_both : (a b c : List (List Answered)) → Extends a b → Extends b c → Extends a c
-extends_both a b c p q = record {
-  worlds = q.worlds ∙ p.worlds;
-  more = λ t. (
-    (p.more t).0 ++ (q.more t).0,
-    (q.more t).1 ∙ ap (λ z. z ++ (q.more t).0) (p.more t).1
-        ∙ append_assoc (get_or a t []) (p.more t).0 (q.more t).0,
-  );
-}
-
--- worlds that are not asked are those that they were
-pub same_worlds : {W O : Type 0} {answers : W → List Answered} {origin : W → O} {a : List W} → AreSameWorlds answers origin a a
-same_worlds {answers = answers} {a = a} = record { answered = extends_same (map answers a); origins = refl }
-
-pub worlds_on : {W O : Type 0} {answers : W → List Answered} {origin : W → O} {a b c : List W} → AreSameWorlds answers origin a b
-    → AreSameWorlds answers origin b c → AreSameWorlds answers origin a c
-worlds_on {answers = answers} {a = a} {b = b} {c = c} p q = record {
-  answered = extends_both (map answers a) (map answers b) (map answers c) p.answered q.answered;
-  origins = q.origins ∙ p.origins;
-}
-
--- one world has answered so many more
-extends_at : (a : List (List Answered)) (t : ℕ) (added : List Answered) → Extends a (set a t (get_or a t [] ++ added))
-extends_at a t added = record {
-  worlds = length-set a t (get_or a t [] ++ added);
-  more = λ u. elim (cases_eq u t) [
-    | inl e ↦ elim (cases_lt t (length a)) [
-      | inl l ↦ (
-        added,
-        subst (λ z. get_or (set a t (get_or a t [] ++ added)) z [] ≡ get_or a z [] ++ added) (sym e)
-            (get_or-set_same a t (get_or a t [] ++ added) [] l),
-      )
-      | inr past ↦ ([], ap (λ z. get_or z u []) (set_past a t (get_or a t [] ++ added) past) ∙ sym (append-nil (get_or a u [])))
-    ]
-    | inr ne ↦ ([], get_or-set_other a t u (get_or a t [] ++ added) [] ne ∙ sym (append-nil (get_or a u [])))
-  ];
-}
-  where
-    set_past : (xs : List (List Answered)) (i : ℕ) (x : List Answered) → length xs ≤ i → set xs i x ≡ xs
-    set_past [] i x l = refl
-    set_past (y ∷ xs) zero x l = absurd (omega arith)
-    set_past (y ∷ xs) (suc i) x l = ap (λ z. y ∷ z) (set_past xs i x (omega arith))
-
-pub asked_extends : {W : Type 0} (answers : W → List Answered) (worlds : List W) (t : ℕ) (w new : W) (added : List Answered)
-    → t < length worlds → w ≡ get_or worlds t w → answers new ≡ answers w ++ added
-    → Extends (map answers worlds) (map answers (set worlds t new))
-asked_extends answers worlds t w new added l e h =
-    subst (Extends (map answers worlds)) (sym (map-set answers worlds t new
-    ∙ ap (set (map answers worlds) t) (h ∙ ap (λ z. z ++ added) (ap answers e ∙ sym (get_or-map answers worlds t w [] l)))))
-    (extends_at (map answers worlds) t added)
 
 -- one world more that has not failed
 pub one_more_works : {W : Type 0} (broken : W → Bool) (worlds new : List W) (w : W) → NoneFailed (map broken worlds) → new ≡ worlds ++ w

@@ -1,10 +1,11 @@
 -- What the workers of all threads come to.
 use Rattle.ir_thread.specs.declared.profile.Profile.{Profile}
-use Rattle.std.proofs.Common.{◌≡◌, ℕ, zero, suc, ◌+◌, ◌<◌, Bool, false, List, [], ◌∷◌, ◌++◌, map, length, get_or, replicate, None, refl, sym, ap, ◌∙◌, subst, arith, append-nil}
+use Rattle.std.proofs.Common.{◌≡◌, ℕ, zero, suc, ◌+◌, ◌<◌, Bool, true, false, List, [], ◌∷◌, ◌++◌, map, length, get_or, replicate, None, refl, sym, ap, ◌∙◌, subst, arith, append-nil}
 use Rattle.std.proofs.lemmas.List.{length-replicate, length-map}
 use Rattle.std.specs.List.{AllByRecursion}
 use Rattle.atomic_table.specs.Seated.{TableId}
 use Rattle.ir_image.specs.Guest.{Guest, IsGuest, object_count}
+use Rattle.ir_runs.specs.declared.env_kind.EnvKind.{EnvKind}
 use Rattle.ir_thread.specs.Calls.{ask_of, Permits}
 use Rattle.ir_thread.specs.Held.{held_at}
 use Rattle.ir_thread.specs.Instance.{thread_machine}
@@ -17,10 +18,10 @@ use Rattle.ir_trace.specs.Recorded.{RecordedThread}
 use Rattle.ir_trace.specs.TraceOf.{absent}
 use Rattle.ir_record.specs.Gathered.{IsThreadTrace}
 use Rattle.ir_record.specs.Progress.{answers_at}
-use Rattle.ir_record.specs.Recording.{OthersWentOn}
+use Rattle.ir_record.specs.Recording.{WentOn, EachWentOn}
 use Rattle.ir_record.specs.Threads.{IsNew, AreNew, IsOver, AreTraces, HasRoom, IsSeatOf, views_of, Pairs}
-use Rattle.ir_record.specs.Working.{work_of, IsWorking, IsReadyWorker, RanToEnd}
-use Rattle.ir_record.specs.Worlds.{Answered, answers_in, NoneFailed, Extends, AreSameWorlds}
+use Rattle.ir_record.specs.Working.{Work, work_of, IsWorking, IsReadyWorker, RanToEnd}
+use Rattle.ir_record.specs.Worlds.{Answered, answers_in, NoneFailed, AreSameWorlds}
 use Rattle.ir_record.specs.declared.room.Room.{Room}
 use Rattle.ir_record.specs.declared.worker.Worker.{Worker}
 use Rattle.ir_record.proofs.ByThreads.{AllOver, work_at, tracks_of}
@@ -137,26 +138,36 @@ module _ {W O : Type 0} (answers : W → List Answered) (broken : W → Bool) (o
         over_end objects (suc t) vs ws n new.1 p.1 (λ u. works (suc u)),
       )
 
-  kept_end : (vs ws : List (Worker W)) → Pairs R vs ws
-      → Extends (map answers (map (λ w. w.world) vs)) (map answers (map (λ w. w.world) ws))
-  kept_end [] [] p = record { worlds = refl; more = λ t. ([], refl) }
-  kept_end [] (w ∷ ws) p = absurd p
-  kept_end (v ∷ vs) [] p = absurd p
-  kept_end (v ∷ vs) (w ∷ ws) p = let r = kept_end vs ws p.1 in record { worlds = ap suc r.worlds; more = λ t. by t p.0.world.more r.more }
-    where
-      by : (t : ℕ) → ((more : List Answered) × (answers w.world ≡ answers v.world ++ more))
-          → ((u : ℕ) → (added : List Answered)
-          × (get_or (map answers (map (λ w. w.world) ws)) u [] ≡ get_or (map answers (map (λ w. w.world) vs)) u [] ++ added))
-          → (added : List Answered) × (get_or (map answers (map (λ w. w.world) (w ∷ ws))) t [] ≡ get_or
-          (map answers (map (λ w. w.world) (v ∷ vs))) t [] ++ added)
-      by zero h r = h
-      by (suc t) h r = r t
+  -- the work of a worker until its world failed
+  at_stop : (t : ℕ) (vs ws : List (Worker W)) → AreNew g budget profile id t vs → Pairs R vs ws → (k : ℕ) → k < length vs
+      → get_or (map (λ w. broken w.world) ws) k false ≡ true
+      → (last : Work) × IsWorking g budget profile (t + k) (answers_at (map answers (map (λ w. w.world) vs)) k) last
+      × ((kind : EnvKind) × (ask_of g.code last.thread ≡ ask.Env kind))
+      × (answers_at (map answers (map (λ w. w.world) ws)) k ≡ last.answers)
+  at_stop t [] ws new p k l failed = absurd (omega arith)
+  at_stop t (v ∷ vs) [] new p k l failed = absurd p
+  at_stop t (v ∷ vs) (w ∷ ws) new p zero l failed =
+      let h = p.0.worked failed in (
+        h.last,
+        subst (λ z. IsWorking g budget profile z (answers v.world) h.last) (let e : t ≡ t + 0 = omega arith in e)
+            (h.still budget profile t (answers v.world) (new_working answers g budget profile t id v new.0)),
+        h.asks,
+        h.no_more,
+      )
+  at_stop t (v ∷ vs) (w ∷ ws) new p (suc k) l failed =
+      let r = at_stop (suc t) vs ws new.1 p.1 k (omega (arith, l)) failed in (
+        r.0,
+        subst (λ z. IsWorking g budget profile z (answers_at (map answers (map (λ w. w.world) vs)) k) r.0)
+            (let e : suc t + k ≡ t + suc k = omega arith in e) r.1,
+        r.2,
+        r.3,
+      )
 
   origins_end : (vs ws : List (Worker W)) → Pairs R vs ws → map origin (map (λ w. w.world) ws) ≡ map origin (map (λ w. w.world) vs)
   origins_end [] [] p = refl
   origins_end [] (w ∷ ws) p = absurd p
   origins_end (v ∷ vs) [] p = absurd p
-  origins_end (v ∷ vs) (w ∷ ws) p = λ i. p.0.world.same_origin i ∷ origins_end vs ws p.1 i
+  origins_end (v ∷ vs) (w ∷ ws) p = λ i. p.0.same_origin i ∷ origins_end vs ws p.1 i
 
 answers_of : {W : Type 0} (answers : W → List Answered) (ws : List (Worker W)) (t : ℕ)
     → answers_at (map answers (map (λ w. w.world) ws)) t ≡ (work_at (map (work_of answers) ws) t).answers
@@ -184,12 +195,8 @@ module _ {W O : Type 0} {answers : W → List Answered} {broken : W → Bool} {o
   pub room_there : {room : Room W} {n m : ℕ} → HasRoom n room → n ≡ length vs → m ≡ length ws → HasRoom m room
   room_there {room} {n} {m} h was now = subst (λ z. HasRoom z room) (was ∙ sym same_count ∙ sym now) h
 
-  pub worlds_there : AreSameWorlds answers origin worlds (map (λ w. w.world) ws)
-  worlds_there = record {
-    answered = subst (λ z. Extends (map answers z) (map answers (map (λ w. w.world) ws))) ran.same
-        (kept_end answers broken origin g budget profile id vs ws ran.pairs);
-    origins = origins_end answers broken origin g budget profile id vs ws ran.pairs ∙ ap (map origin) ran.same;
-  }
+  pub worlds_there : AreSameWorlds origin worlds (map (λ w. w.world) ws)
+  worlds_there = origins_end answers broken origin g budget profile id vs ws ran.pairs ∙ ap (map origin) ran.same
 
   pub seats_there : NoneBroken broken ws → AllByRecursion (IsSeatOf id) (map (λ w. w.seat) ws)
   seats_there = seats_end answers broken origin g budget profile id 0 vs ws ran.new ran.pairs
@@ -218,18 +225,51 @@ module _ {W O : Type 0} {answers : W → List Answered} {broken : W → Bool} {o
     done = λ t l. (end_of t l (works t)).1;
   }
 
-  pub others_there : OthersWentOn answers broken g budget profile worlds (map (λ w. w.world) ws)
-  others_there t l works =
-      let r = end_of t l (ap (λ z. get_or z t false) (sym (map_map broken (λ w. w.world) ws)) ∙ works) in
-      let w = r.0.worked in
+  -- a thread whose world has failed asked it last
+  stop_of : (t : ℕ) → t < length g.entries → get_or (map (λ w. broken w.world) ws) t false ≡ true
+      → (last : Work) × IsWorking g budget profile t (answers_at (map answers worlds) t) last
+      × ((kind : EnvKind) × (ask_of g.code last.thread ≡ ask.Env kind))
+      × (answers_at (map answers (map (λ w. w.world) ws)) t ≡ last.answers)
+  stop_of t l failed =
+      let r = at_stop answers broken origin g budget profile id 0 vs ws ran.new ran.pairs t
+      (let n = threads_there in let m = same_count in omega (arith, l, n, m)) failed in (
+        r.0,
+        subst (λ z. IsWorking g budget profile t (answers_at (map answers z) t) r.0) ran.same
+            (subst (λ k. IsWorking g budget profile k (answers_at (map answers (map (λ w. w.world) vs)) t) r.0)
+            (let z : 0 + t ≡ t = omega arith in z) r.1),
+        r.2,
+        r.3,
+      )
+
+  -- what a worker's thread did alone
+  went_on : (t : ℕ) (last : Work) (failed : Bool) (after : List Answered)
+      → IsWorking g budget profile t (answers_at (map answers worlds) t) last → (failed ≡ false → ask_of g.code last.thread ≡ ask.Done)
+      → (failed ≡ true → (kind : EnvKind) × (ask_of g.code last.thread ≡ ask.Env kind)) → after ≡ last.answers
+      → WentOn g budget profile t failed (answers_at (map answers worlds) t) after
+  went_on t last failed after i done asks e =
+      let w = i.worked in
       record {
         replies = w.replies;
         may = w.may;
-        done = ap (ask_of g.code) w.now ∙ r.1;
-        answered = answers_of answers ws t ∙ r.0.answered ∙ ap (λ z. answers_at (map answers worlds) t ++ z)
+        done = λ f. ap (ask_of g.code) w.now ∙ done f;
+        asks = λ f. ((asks f).0, ap (ask_of g.code) w.now ∙ (asks f).1);
+        answered = e ∙ i.answered ∙ ap (λ z. answers_at (map answers worlds) t ++ z)
             (ap answers_in (sym w.logged)
-            ∙ answers_alone (thread_machine g.code) (thread.start_state g t budget profile) w.replies r.0.track);
+            ∙ answers_alone (thread_machine g.code) (thread.start_state g t budget profile) w.replies i.track);
       }
+
+  pub each_there : EachWentOn answers broken g budget profile worlds (map (λ w. w.world) ws)
+  each_there t l = by (get_or (map broken (map (λ w. w.world) ws)) t false) refl
+    where
+      by : (b : Bool) → get_or (map broken (map (λ w. w.world) ws)) t false ≡ b
+          → WentOn g budget profile t (get_or (map broken (map (λ w. w.world) ws)) t false) (answers_at (map answers worlds) t)
+          (answers_at (map answers (map (λ w. w.world) ws)) t)
+      by false e =
+          let r = end_of t l (ap (λ z. get_or z t false) (sym (map_map broken (λ w. w.world) ws)) ∙ e) in
+          went_on t (work_at (map (work_of answers) ws) t) _ _ r.0 (λ f. r.1) (λ f. absurd (cc (e, f))) (answers_of answers ws t)
+      by true e =
+          let r = stop_of t l (ap (λ z. get_or z t false) (sym (map_map broken (λ w. w.world) ws)) ∙ e) in
+          went_on t r.0 _ _ r.1 (λ f. absurd (cc (e, f))) (λ f. r.2) r.3
 
 pub views_tracks : {W : Type 0} (answers : W → List Answered) (ws : List (Worker W))
     → views_of (map (λ w. w.seat) ws) ≡ tracks_of (map (work_of answers) ws)

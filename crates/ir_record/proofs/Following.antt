@@ -1,6 +1,6 @@
 -- Turns of one thread, and by an order.
 use Rattle.std.proofs.Common.{◌≡◌, ℕ, zero, suc, ◌+◌, ◌-◌, ◌<◌, ◌≤◌, false, Bool, List, [], ◌∷◌, ◌++◌, length, take, drop, replicate, get_or, refl, sym, ap, ◌∙◌, subst, arith, inl, inr, append-nil}
-use Rattle.std.proofs.lemmas.List.{get_or_past, replicate-append-replicate, take_all, take_more, length-drop}
+use Rattle.std.proofs.lemmas.List.{get_or_past, replicate-append-replicate, take-append-drop, take_all, take_more, length-drop}
 use Rattle.std.proofs.lemmas.List.Concat.{flat_map-append}
 use Rattle.ir_thread.specs.Calls.{ask_of}
 use Rattle.ir_thread.specs.Instance.{shared_ask}
@@ -103,6 +103,17 @@ followed_more order at none a b c l p q =
     let x : Turns = get_or order at none in
     subst (λ z. Took z a c) (sym (ap order_of_turns (take_more order at none l) ∙ turns_last (take at order) x))
     (took_both (order_of_turns (take at order)) (replicate x.count x.thread) a b c p q)
+
+-- the turns of the items before one, its own, and those of the items after it
+pub followed_all : (order : List Turns) (at : ℕ) (none : Turns) → at < length order
+    → (order_of_turns (take at order) ++ replicate (get_or order at none).count (get_or order at none).thread)
+    ++ order_of_turns (drop (at + 1) order) ≡ order_of_turns order
+followed_all order at none l =
+    let x : Turns = get_or order at none in
+    ap (λ (z : List ℕ). z ++ order_of_turns (drop (at + 1) order))
+    (sym (ap order_of_turns (take_more order at none l) ∙ turns_last (take at order) x))
+    ∙ sym (flat_map-append (λ (t : Turns). replicate t.count t.thread) (take (at + 1) order) (drop (at + 1) order))
+    ∙ ap order_of_turns (take-append-drop (at + 1) order)
 
 pub followed_end : (order : List Turns) (at : ℕ) (a b : Progress) → length order ≤ at → Took (order_of_turns (take at order)) a b
     → Took (order_of_turns order) a b

@@ -19,6 +19,7 @@ mod Skipping
 mod Passing
 mod Telling
 mod Ended
+mod Stopped
 mod Working
 mod WorkerSteps
 mod ByThreads

@@ -38,7 +38,7 @@ use Rattle.ir_crew.specs.declared.deed.ObjectStep.{ObjectStep}
 use Rattle.ir_crew.proofs.CallerLemmas.{entries_more, track, act, target_by}
 use Rattle.ir_record.specs.Worlds.{Answered, answers_in}
 use Rattle.ir_record.specs.declared.worker.Worker.{Worker}
-use Rattle.ir_record.specs.Working.{Work, IsWorking, StillWorks, IsOwn, IsInside, IsSeated, Stays, IsSameWorld}
+use Rattle.ir_record.specs.Working.{Work, IsWorking, StillWorks, IsOwn, IsInside, IsSeated, Stays}
 use Rattle.ir_record.proofs.Profiles.{asks_profile}
 use Rattle.ir_record.proofs.Working.{worked_more, held_own, held_inside}
 
@@ -376,11 +376,3 @@ pub did_leave : (me me' : M) (o p : ℕ) (a : Access) (v : ℕ) → me' ≡ (did
     → inside_by p (history me'.0) ≡ None
 did_leave me me' o p a v e h same = did_inside me me' o p (Leave a v) e h
     ∙ ap (λ b. inside_if b (shared_by o (Leave a v)).0 (inside_by p (history me.0))) (eq-eqb p o same)
-
--- ---- a world that was not asked
-
-pub more_none : {A : Type 0} {xs ys : List A} → ys ≡ xs → (more : List A) × (ys ≡ xs ++ more)
-more_none {xs = xs} e = ([], e ∙ sym (append-nil xs))
-
-pub same_world : {W O : Type 0} {answers : W → List Answered} {origin : W → O} {v w : W} → w ≡ v → IsSameWorld answers origin v w
-same_world {answers = answers} {origin = origin} e = record { more = more_none (ap answers e); same_origin = ap origin e }

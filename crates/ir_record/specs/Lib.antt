@@ -8,3 +8,4 @@ pub mod Noting
 pub mod Working
 pub mod Threads
 pub mod Turns
+pub mod Failures

@@ -1,5 +1,8 @@
 -- The recorder in order, by what its worlds have answered and whether they have failed.
-use Rattle.std.specs.Prelude.{List, map, Bool}
+use Rattle.std.specs.Prelude.{ℕ, List, map, Bool}
+use Rattle.ir_runs.specs.Run.{State}
+use Rattle.ir_thread.specs.State as thread
+use Rattle.ir_record.specs.Failures.{IsUnanswered, StoppedAt}
 use Rattle.ir_record.specs.Progress.{Progress, progress, IsReady}
 use Rattle.ir_record.specs.Worlds.{Answered, IsFirstFailed}
 use Rattle.ir_record.specs.declared.recorder.Recorder.{Recorder}
@@ -16,3 +19,11 @@ CanGoOn answers broken r = IsReady (progress_of answers r) (map broken r.worlds.
 -- the world of the thread that is named has failed, and none of a lower thread
 abbrev pub NamesFirst : {W : Type 0} → (W → Bool) → List W → Failed → Type 0
 NamesFirst broken worlds f = IsFirstFailed (map broken worlds) f.thread
+
+-- thread t asks its world, which is the one that failed; these are the worlds afterwards
+abbrev pub StopsAtOnce : {W : Type 0} → (W → List Answered) → ℕ → Recorder W → List W → Failed → Type 0
+StopsAtOnce answers t r worlds f = IsUnanswered t (progress_of answers r) f.thread (map answers worlds)
+
+-- from s on the turns of the order were taken until the one of the thread whose world failed
+abbrev pub StopsIn : {W : Type 0} → (W → List Answered) → List ℕ → State thread.State → Recorder W → List W → Failed → Type 0
+StopsIn answers order s r worlds f = StoppedAt order s (progress_of answers r) f.thread (map answers worlds)

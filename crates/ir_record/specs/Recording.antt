@@ -1,18 +1,20 @@
 -- What a recording of a run holds.
 use Rattle.ir_thread.specs.declared.profile.Profile.{Profile}
-use Rattle.std.specs.Prelude.{◌≡◌, ℕ, ◌<◌, ◌++◌, List, [], length, map, slice_get, slice_index_or, Some, Bool, false, ⊤}
+use Rattle.std.specs.Prelude.{◌≡◌, ℕ, ◌<◌, ◌++◌, List, [], ◌∷◌, length, map, slice_get, slice_index_or, Some, Bool, true, false, ⊤}
 use Rattle.ir_image.specs.Guest.{Guest, object_count}
 use Rattle.ir_thread.specs.Calls.{ask_of}
 use Rattle.ir_thread.specs.Instance.{thread_machine}
 use Rattle.ir_thread.specs.State.{start_state}
-use Rattle.ir_thread.specs.declared.ask.Ask.TheVariants.{Done}
+use Rattle.ir_thread.specs.declared.ask.Ask.TheVariants as ask
 use Rattle.ir_flat.specs.Flat.{start_flat, tables, machine}
 use Rattle.ir_flat.specs.Splice.{MayRun, alone_after, alone_trail}
-use Rattle.ir_runs.specs.Run.{Step, events, log, end}
+use Rattle.ir_runs.specs.Machine.{Env}
+use Rattle.ir_runs.specs.Run.{Step, asked, events, log, end}
+use Rattle.ir_runs.specs.declared.env_kind.EnvKind.{EnvKind}
 use Rattle.ir_runs.specs.Verdicts.{IsWhole}
 use Rattle.ir_trace.specs.Recorded.{Recorded}
 use Rattle.ir_trace.specs.TraceOf.{trace_of}
-use Rattle.ir_runs.specs.InOrder.{IsByOrder}
+use Rattle.ir_runs.specs.InOrder.{InTurn, IsByOrder, rounds}
 use Rattle.ir_record.specs.Progress.{answers_at}
 use Rattle.ir_record.specs.Worlds.{Answered, answers_in, NoneFailed, IsFirstFailed, AreSameWorlds}
 use Rattle.ir_record.specs.declared.outputs.Outputs.{Outputs}
@@ -87,30 +89,49 @@ AllWork broken r = NoneFailed (each_world broken r.1)
 abbrev pub AreHandedBack : {W O : Type 0} → (W → O) → List W → Recorded × Outputs W → Type 0
 AreHandedBack origin before r = each_world origin r.1 ≡ map origin before
 
--- out of memory; or a world has failed, those of lower threads have not, and all worlds that were handed in are handed back, each gone
--- on by the answers that it gave
-abbrev pub IsFailureInOrder : {W O : Type 0} → (W → List Answered) → (W → Bool) → (W → O) → List W → RecordErr W → Type 0
-IsFailureInOrder answers broken origin before NoMem = ⊤
-IsFailureInOrder answers broken origin before (World thread worlds) = IsFirstFailed (map broken worlds.items) thread
-    × AreSameWorlds answers origin before worlds.items
+-- the turns by the order, and by rounds after it, were taken until the one of the thread whose world failed, which asks its world there:
+-- they are a run of the guest, and each world answered what it had answered, and then the answers that this run logged of it
+pub record StoppedInOrder (guest : Guest) (budget : ℕ) (profile : Profile) (order : List ℕ) (failed : ℕ) (before after : List (List Answered)) :
+    Type 0 where
+  pub count : ℕ
+  pub taken : List ℕ
+  pub left : List ℕ
+  pub so_far : order ++ rounds (length guest.entries) count ≡ taken ++ failed ∷ left
+  pub run : List Step
+  pub turns : InTurn (machine (start_flat guest budget profile)) (tables (start_flat guest budget profile)) taken run
+  pub kind : EnvKind
+  pub asks : asked (machine (start_flat guest budget profile))
+      (end (machine (start_flat guest budget profile)) (tables (start_flat guest budget profile)) run) failed ≡ Env kind
+  pub answered : AreAnswers guest budget profile run before after
 
--- thread t of the guest, alone, is done after these replies, and its world answered what it had answered, and then those of them that
--- are answers of the environment
-pub record WentToItsEnd (guest : Guest) (budget : ℕ) (profile : Profile) (t : ℕ) (before after : List Answered) : Type 0 where
+-- out of memory; or a world has failed, those of lower threads have not, the worlds that were handed in are handed back, and they answered
+-- what the run by the order asked until then
+abbrev pub IsFailureInOrder : {W O : Type 0} → (W → List Answered) → (W → Bool) → (W → O) → Guest → ℕ → Profile → List ℕ → List W → RecordErr W
+    → Type 0
+IsFailureInOrder answers broken origin guest budget profile order before NoMem = ⊤
+IsFailureInOrder answers broken origin guest budget profile order before (World thread worlds) = IsFirstFailed (map broken worlds.items) thread
+    × AreSameWorlds origin before worlds.items × StoppedInOrder guest budget profile order thread (map answers before) (map answers worlds.items)
+
+-- thread t of the guest, alone, is done after these replies, or where its world failed asks it; its world answered what it had answered, and
+-- then those of the replies that are answers of the environment
+pub record WentOn (guest : Guest) (budget : ℕ) (profile : Profile) (t : ℕ) (failed : Bool) (before after : List Answered) : Type 0 where
   pub replies : List ℕ
   pub may : MayRun (thread_machine guest.code) (start_state guest t budget profile) replies
-  pub done : ask_of guest.code (alone_after (thread_machine guest.code) (start_state guest t budget profile) replies) ≡ Done
+  pub done : failed ≡ false
+      → ask_of guest.code (alone_after (thread_machine guest.code) (start_state guest t budget profile) replies) ≡ ask.Done
+  pub asks : failed ≡ true → (kind : EnvKind)
+      × (ask_of guest.code (alone_after (thread_machine guest.code) (start_state guest t budget profile) replies) ≡ ask.Env kind)
   pub answered : after ≡ before ++ answers_in
       (events (alone_trail (thread_machine guest.code) (start_state guest t budget profile) replies []))
 
--- each thread whose world has not failed went on to its end
-abbrev pub OthersWentOn : {W : Type 0} → (W → List Answered) → (W → Bool) → Guest → ℕ → Profile → List W → List W → Type 0
-OthersWentOn answers broken guest budget profile before after = (t : ℕ) → t < length guest.entries
-    → slice_index_or (map broken after) t false ≡ false
-    → WentToItsEnd guest budget profile t (answers_at (map answers before) t) (answers_at (map answers after) t)
+-- each thread went on, to its end or until its world failed
+abbrev pub EachWentOn : {W : Type 0} → (W → List Answered) → (W → Bool) → Guest → ℕ → Profile → List W → List W → Type 0
+EachWentOn answers broken guest budget profile before after = (t : ℕ) → t < length guest.entries
+    → WentOn guest budget profile t (slice_index_or (map broken after) t false) (answers_at (map answers before) t)
+    (answers_at (map answers after) t)
 
 -- the same of a recording by threads, in which the others go on where a world has failed
 abbrev pub IsFailure : {W O : Type 0} → (W → List Answered) → (W → Bool) → (W → O) → Guest → ℕ → Profile → List W → RecordErr W → Type 0
 IsFailure answers broken origin guest budget profile before NoMem = ⊤
 IsFailure answers broken origin guest budget profile before (World thread worlds) = IsFirstFailed (map broken worlds.items) thread
-    × AreSameWorlds answers origin before worlds.items × OthersWentOn answers broken guest budget profile before worlds.items
+    × AreSameWorlds origin before worlds.items × EachWentOn answers broken guest budget profile before worlds.items

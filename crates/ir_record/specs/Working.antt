@@ -10,6 +10,7 @@ use Rattle.ir_thread.specs.Held.{held_at}
 use Rattle.ir_thread.specs.Instance.{thread_machine}
 use Rattle.ir_runs.specs.Machine.{Machine}
 use Rattle.ir_runs.specs.Labels.{Label}
+use Rattle.ir_runs.specs.declared.env_kind.EnvKind.{EnvKind}
 use Rattle.ir_thread.specs.State as thread
 use Rattle.ir_thread.specs.declared.ask.Ask.{Ask}
 use Rattle.ir_thread.specs.declared.ask.Ask.TheVariants as ask
@@ -115,16 +116,20 @@ pub record Stays {W : Type 0} (answers : W → List Answered) (g : Guest) (v w :
 abbrev pub StaysAtWork : {W : Type 0} → (W → List Answered) → Crew → Worker W → Worker W → Type 0
 StaysAtWork answers crew v w = Stays answers crew.table.shared.key v w
 
--- the world has been asked, if at all, and is the one that it was
-pub record IsSameWorld {W O : Type 0} (answers : W → List Answered) (origin : W → O) (v w : W) : Type 0 where
-  pub more : (added : List Answered) × (answers w ≡ answers v ++ added)
-  pub same_origin : origin w ≡ origin v
-
--- its world failed, and its thread took no step
-pub record IsStopped {W : Type 0} (broken : W → Bool) (v w : Worker W) : Type 0 where
+-- its thread asks its world, which failed and answered no more; the thread took no step
+pub record IsStopped {W : Type 0} (answers : W → List Answered) (broken : W → Bool) (code : List ℕ) (v w : Worker W) : Type 0 where
   pub failed : broken w.world ≡ true
   pub seat : w.seat ≡ v.seat
   pub thread : w.thread ≡ v.thread
+  pub asks : (kind : EnvKind) × (ask_of code v.thread ≡ ask.Env kind)
+  pub no_more : answers w.world ≡ answers v.world
+
+-- its world failed: it worked until its thread asked its world, which answered no more
+pub record WorkedUntil {W : Type 0} (answers : W → List Answered) (g : Guest) (v w : Worker W) : Type 0 where
+  pub last : Work
+  pub still : StillWorks g (work_of answers v) last
+  pub asks : (kind : EnvKind) × (ask_of g.code last.thread ≡ ask.Env kind)
+  pub no_more : answers w.world ≡ last.answers
 
 -- a worker whose world has not failed, before it runs
 pub record IsReadyWorker {W : Type 0} (answers : W → List Answered) (broken : W → Bool) (g : Guest) (id : TableId) (code : List ℕ)
@@ -141,5 +146,6 @@ pub record RanToEnd {W O : Type 0} (answers : W → List Answered) (broken : W �
     0 where
   pub stays : broken w.world ≡ false → Stays answers g v w
   pub done : broken w.world ≡ false → ask_of g.code w.thread ≡ ask.Done
+  pub worked : broken w.world ≡ true → WorkedUntil answers g v w
   pub released : broken w.world ≡ true → IsOutside v.seat.table_id w.seat
-  pub world : IsSameWorld answers origin v.world w.world
+  pub same_origin : origin w.world ≡ origin v.world

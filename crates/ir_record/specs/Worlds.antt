@@ -1,5 +1,5 @@
 -- What the world outside has answered.
-use Rattle.std.specs.Prelude.{◌≡◌, ◌<◌, ℕ, List, [], ◌∷◌, ◌++◌, length, map, Bool, true, false}
+use Rattle.std.specs.Prelude.{◌≡◌, ◌<◌, ℕ, List, [], ◌∷◌, map, Bool, true, false}
 use Rattle.std.specs.List.{slice_index_or}
 use Rattle.ir_runs.specs.Labels.{Label, Answer}
 use Rattle.ir_runs.specs.declared.env_kind.EnvKind.{EnvKind}
@@ -22,12 +22,6 @@ NoneFailed failed = (t : ℕ) → slice_index_or failed t false ≡ false
 abbrev pub IsFirstFailed : List Bool → ℕ → Type 0
 IsFirstFailed failed t = (slice_index_or failed t false ≡ true) × ((u : ℕ) → u < t → slice_index_or failed u false ≡ false)
 
--- each world has answered what it had answered, and perhaps more
-pub record Extends (old new : List (List Answered)) : Type 0 where
-  pub worlds : length new ≡ length old
-  pub more : (t : ℕ) → (added : List Answered) × (slice_index_or new t [] ≡ slice_index_or old t [] ++ added)
-
--- the worlds are those that they were, each gone on by the answers that it gave
-pub record AreSameWorlds {W O : Type 0} (answers : W → List Answered) (origin : W → O) (old new : List W) : Type 0 where
-  pub answered : Extends (map answers old) (map answers new)
-  pub origins : map origin new ≡ map origin old
+-- the worlds are those that they were
+abbrev pub AreSameWorlds : {W O : Type 0} → (W → O) → List W → List W → Type 0
+AreSameWorlds origin old new = map origin new ≡ map origin old

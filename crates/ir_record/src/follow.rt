@@ -1,8 +1,9 @@
 //! Turns by an order.
 
 ghost use Rattle.std.specs.Prelude.{replicate, OnOk, IfErr};
+ghost use Rattle.ir_flat.specs.Flat.{tables};
 ghost use Rattle.ir_record.specs.Progress.{Took};
-ghost use Rattle.ir_record.specs.Recorders.{progress_of, CanGoOn, NamesFirst};
+ghost use Rattle.ir_record.specs.Recorders.{progress_of, CanGoOn, NamesFirst, StopsIn};
 ghost use Rattle.ir_record.specs.Turns.{order_of_turns};
 ghost use Rattle.ir_record.specs.Worlds.{AreSameWorlds};
 
@@ -18,7 +19,8 @@ impl<W: World> Recorder<'_, W> {
         ensures took { OnOk result (Took (replicate count t) (progress_of W.answers self.old) (progress_of W.answers self.new)) }
         ensures ready { OnOk result (CanGoOn W.answers W.broken self.new) }
         ensures failed { IfErr result (NamesFirst W.broken self.new.worlds.items) }
-        ensures kept { AreSameWorlds W.answers W.origin self.old.worlds.items self.new.worlds.items }
+        ensures stopped { IfErr result (StopsIn W.answers (replicate count t) (tables self.old.tape.flat) self.old self.new.worlds.items) }
+        ensures kept { AreSameWorlds W.origin self.old.worlds.items self.new.worlds.items }
     {
         let mut left = count;
         'turns: while left > 0 {
@@ -40,7 +42,8 @@ impl<W: World> Recorder<'_, W> {
         ensures took { OnOk result (Took (order_of_turns order.now) (progress_of W.answers self.old) (progress_of W.answers self.new)) }
         ensures ready { OnOk result (CanGoOn W.answers W.broken self.new) }
         ensures failed { IfErr result (NamesFirst W.broken self.new.worlds.items) }
-        ensures kept { AreSameWorlds W.answers W.origin self.old.worlds.items self.new.worlds.items }
+        ensures stopped { IfErr result (StopsIn W.answers (order_of_turns order.now) (tables self.old.tape.flat) self.old self.new.worlds.items) }
+        ensures kept { AreSameWorlds W.origin self.old.worlds.items self.new.worlds.items }
     {
         'order: for item in order {
             self.turns(item.thread as usize, item.count)?;

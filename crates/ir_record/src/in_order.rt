@@ -6,7 +6,7 @@ ghost use Rattle.ir_thread.specs.Calls.{most_budget};
 ghost use Rattle.ir_flat.specs.Flat.{tables, machine};
 ghost use Rattle.ir_runs.specs.InOrder.{HasNone, rounds};
 ghost use Rattle.ir_record.specs.Progress.{Took};
-ghost use Rattle.ir_record.specs.Recorders.{progress_of, CanGoOn, NamesFirst};
+ghost use Rattle.ir_record.specs.Recorders.{progress_of, CanGoOn, NamesFirst, StopsIn};
 ghost use Rattle.ir_record.specs.Recording.{IsRecordedInOrder, AllWork, AreHandedBack, IsFailureInOrder};
 ghost use Rattle.ir_record.specs.Turns.{order_of_turns};
 ghost use Rattle.ir_record.specs.Worlds.{NoneFailed, AreSameWorlds};
@@ -40,7 +40,8 @@ impl<W: World> Recorder<'_, W> {
         ensures over { OnOk result ((t : ℕ) → t < length self.new.tape.flat.threads → HasNone (machine self.new.tape.flat) (tables self.new.tape.flat) t) }
         ensures ready { OnOk result (CanGoOn W.answers W.broken self.new) }
         ensures failed { IfErr result (NamesFirst W.broken self.new.worlds.items) }
-        ensures kept { AreSameWorlds W.answers W.origin self.old.worlds.items self.new.worlds.items }
+        ensures stopped { IfErr result (λ f. (count : ℕ) × StopsIn W.answers (order_of_turns order.now ++ rounds (length self.old.tape.flat.threads) count) (tables self.old.tape.flat) self.old self.new.worlds.items f) }
+        ensures kept { AreSameWorlds W.origin self.old.worlds.items self.new.worlds.items }
     {
         self.follow(order)?;
         self.rounds(ahead, asks)?;
@@ -70,7 +71,7 @@ pub fn record_in_turns<W: World + Drop>(
     ensures works { IfOk result (AllWork W.broken) }
     // The worlds are those that were handed in.
     ensures origins { IfOk result (AreHandedBack W.origin worlds.items) }
-    ensures failed { IfErr result (IsFailureInOrder W.answers W.broken W.origin worlds.items) }
+    ensures failed { IfErr result (IsFailureInOrder W.answers W.broken W.origin image.now budget profile (order_of_turns order.now) worlds.items) }
 {
     let mut recorder = Recorder {
         tape: Tape::start(alloc, image, budget, profile)?,
@@ -115,7 +116,7 @@ pub fn record_in_order<W: World + Drop>(
     ensures works { IfOk result (AllWork W.broken) }
     // The worlds are those that were handed in.
     ensures origins { IfOk result (AreHandedBack W.origin worlds.items) }
-    ensures failed { IfErr result (IsFailureInOrder W.answers W.broken W.origin worlds.items) }
+    ensures failed { IfErr result (IsFailureInOrder W.answers W.broken W.origin image.now budget profile order.now worlds.items) }
 {
     let turns = turns_of(alloc, order)?;
     record_in_turns(alloc, image, turns.as_slice(), worlds, budget, profile)

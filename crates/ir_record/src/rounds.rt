@@ -9,7 +9,7 @@ ghost use Rattle.ir_record.specs.Ahead.{lead, IsAhead, CanSkip, AreAsks, WentIf}
 ghost use Rattle.ir_runs.specs.InOrder.{HasNone, rounds};
 ghost use Rattle.ir_record.specs.Noting.{has_moved};
 ghost use Rattle.ir_record.specs.Progress.{Took};
-ghost use Rattle.ir_record.specs.Recorders.{progress_of, CanGoOn, NamesFirst};
+ghost use Rattle.ir_record.specs.Recorders.{progress_of, CanGoOn, NamesFirst, StopsIn};
 ghost use Rattle.ir_record.specs.declared.pass.Turned.TheVariants.{Stepped, Waited};
 ghost use Rattle.ir_record.specs.Worlds.{AreSameWorlds};
 
@@ -66,7 +66,8 @@ impl<W: World> Recorder<'_, W> {
         ensures threads { OnOk result (length self.new.tape.flat.threads ≡ length self.old.tape.flat.threads) }
         ensures ready { OnOk result (CanGoOn W.answers W.broken self.new) }
         ensures failed { IfErr result (NamesFirst W.broken self.new.worlds.items) }
-        ensures kept { AreSameWorlds W.answers W.origin self.old.worlds.items self.new.worlds.items }
+        ensures stopped { IfErr result (λ f. (s : State thread.State) → IsAhead (machine self.old.tape.flat) ahead.old.items s (tables self.old.tape.flat) → StopsIn W.answers (t ∷ []) s self.old self.new.worlds.items f) }
+        ensures kept { AreSameWorlds W.origin self.old.worlds.items self.new.worlds.items }
     {
         let lead = ahead[t];
         if lead > 0 {
@@ -94,7 +95,8 @@ impl<W: World> Recorder<'_, W> {
         ensures threads { OnOk result (length self.new.tape.flat.threads ≡ length self.old.tape.flat.threads) }
         ensures ready { OnOk result (CanGoOn W.answers W.broken self.new) }
         ensures failed { IfErr result (NamesFirst W.broken self.new.worlds.items) }
-        ensures kept { AreSameWorlds W.answers W.origin self.old.worlds.items self.new.worlds.items }
+        ensures stopped { IfErr result (λ f. (s : State thread.State) → IsAhead (machine self.old.tape.flat) ahead.old.items s (tables self.old.tape.flat) → StopsIn W.answers (range_with_len 0 (length self.old.tape.flat.threads)) s self.old self.new.worlds.items f) }
+        ensures kept { AreSameWorlds W.origin self.old.worlds.items self.new.worlds.items }
     {
         let mut pass = Pass::new();
         for t in 0..self.tape.flat.threads().len() {
@@ -113,7 +115,8 @@ impl<W: World> Recorder<'_, W> {
         ensures over { OnOk result ((t : ℕ) → t < length self.new.tape.flat.threads → HasNone (machine self.new.tape.flat) (tables self.new.tape.flat) t) }
         ensures ready { OnOk result (CanGoOn W.answers W.broken self.new) }
         ensures failed { IfErr result (NamesFirst W.broken self.new.worlds.items) }
-        ensures kept { AreSameWorlds W.answers W.origin self.old.worlds.items self.new.worlds.items }
+        ensures stopped { IfErr result (λ f. (count : ℕ) × StopsIn W.answers (rounds (length self.old.tape.flat.threads) count) (tables self.old.tape.flat) self.old self.new.worlds.items f) }
+        ensures kept { AreSameWorlds W.origin self.old.worlds.items self.new.worlds.items }
     {
         self.ask_all(asks);
         'rounds: loop {

@@ -1,11 +1,11 @@
 //! A turn of one thread.
 
-ghost use Rattle.std.specs.Prelude.{◌≡◌, ◌<◌, [], ◌∷◌, ◌++◌, true, false, length, map, slice_set, IfOk, OnOk, IfErr};
+ghost use Rattle.std.specs.Prelude.{◌≡◌, ◌<◌, [], ◌∷◌, ◌++◌, true, false, length, map, slice_set, IfOk, OnOk, IfErr, OnErr};
 ghost use Rattle.ir_flat.specs.Flat.{IsFlat, thread_of};
 ghost use Rattle.ir_thread.specs.Calls.{ask_of};
 ghost use Rattle.ir_thread.specs.Instance.{is_result};
 ghost use Rattle.ir_record.specs.Progress.{TookIf, answers_at};
-ghost use Rattle.ir_record.specs.Recorders.{progress_of, CanGoOn, NamesFirst};
+ghost use Rattle.ir_record.specs.Recorders.{progress_of, CanGoOn, NamesFirst, StopsAtOnce};
 ghost use Rattle.ir_record.specs.Worlds.{NoneFailed, AreSameWorlds};
 
 use crate::recorder::Recorder;
@@ -28,7 +28,9 @@ fn answer_to<W: World>(worlds: &mut Vec<W>, t: usize, kind: EnvKind) -> Result<u
     ensures gained { IfOk result (λ value. map W.answers worlds.new.items ≡ slice_set (map W.answers worlds.old.items) t (answers_at (map W.answers worlds.old.items) t ++ (kind, value) ∷ [])) }
     ensures works { OnOk result (NoneFailed (map W.broken worlds.new.items)) }
     ensures failed { IfErr result (NamesFirst W.broken worlds.new.items) }
-    ensures kept { AreSameWorlds W.answers W.origin worlds.old.items worlds.new.items }
+    ensures named { IfErr result (λ f. f.thread ≡ t) }
+    ensures no_more { OnErr result (map W.answers worlds.new.items ≡ map W.answers worlds.old.items) }
+    ensures kept { AreSameWorlds W.origin worlds.old.items worlds.new.items }
 {
     match worlds[t].answer(kind) {
         Ok(value) => Ok(value),
@@ -48,7 +50,8 @@ impl<W: World> Recorder<'_, W> {
         ensures none { IfOk result (λ moved. moved ≡ false → self.new.tape.flat ≡ self.old.tape.flat) }
         ensures ready { OnOk result (CanGoOn W.answers W.broken self.new) }
         ensures failed { IfErr result (NamesFirst W.broken self.new.worlds.items) }
-        ensures kept { AreSameWorlds W.answers W.origin self.old.worlds.items self.new.worlds.items }
+        ensures stopped { IfErr result (StopsAtOnce W.answers t self.old self.new.worlds.items) }
+        ensures kept { AreSameWorlds W.origin self.old.worlds.items self.new.worlds.items }
     {
         match asked {
             Ask::Env(kind) => {

@@ -4,7 +4,7 @@ ghost use Rattle.std.specs.Prelude.{◌≡◌, ◌≢◌, ◌++◌, false, OnOk,
 ghost use Rattle.ir_thread.specs.Calls.{ask_of};
 ghost use Rattle.ir_runs.specs.declared.access.Access.TheVariants.{Reading, Writing};
 ghost use Rattle.ir_thread.specs.declared.ask.Ask.TheVariants as ask;
-ghost use Rattle.ir_record.specs.Working.{IsAtWork, StaysAtWork, IsSameWorld, IsStopped, IsReadyWorker, RanToEnd, IsOwn, IsInside, IsOutside};
+ghost use Rattle.ir_record.specs.Working.{IsAtWork, StaysAtWork, IsStopped, IsReadyWorker, RanToEnd, IsOwn, IsInside, IsOutside};
 
 use crate::worker::Worker;
 use crate::world::{World, WorldErr};
@@ -157,8 +157,8 @@ impl<W: World> Worker<W> {
         requires works { W.broken self.old.world ≡ false }
         ensures stays { OnOk result (StaysAtWork W.answers crew.now self.old self.new) }
         ensures works { OnOk result (W.broken self.new.world ≡ false) }
-        ensures stopped { OnErr result (IsStopped W.broken self.old self.new) }
-        ensures world { IsSameWorld W.answers W.origin self.old.world self.new.world }
+        ensures stopped { OnErr result (IsStopped W.answers W.broken code.now self.old self.new) }
+        ensures world { W.origin self.new.world ≡ W.origin self.old.world }
     {
         match self.world.answer(kind) {
             Ok(value) => {
@@ -186,8 +186,8 @@ impl<W: World> Worker<W> {
         requires works { W.broken self.old.world ≡ false }
         ensures stays { OnOk result (StaysAtWork W.answers crew.now self.old self.new) }
         ensures works { OnOk result (W.broken self.new.world ≡ false) }
-        ensures stopped { OnErr result (IsStopped W.broken self.old self.new) }
-        ensures world { IsSameWorld W.answers W.origin self.old.world self.new.world }
+        ensures stopped { OnErr result (IsStopped W.answers W.broken code.now self.old self.new) }
+        ensures world { W.origin self.new.world ≡ W.origin self.old.world }
     {
         match asked {
             Ask::Env(kind) => return self.ask_world(crew, code, kind),

@@ -11,12 +11,12 @@ use ir_runs::EnvKind;
 pub struct WorldErr;
 
 /// Answers a thread's calls of the environment. In clauses the list of its answers so far, whether it has failed, and what
-/// it was made with.
+/// tells it apart from other worlds.
 pub trait World {
     ghost answers: { Self → List Answered };
 
-    /// What it was made with, which no answer changes.
-    ghost Origin: { Type 0 } = { Unit {0} };
+    /// What tells worlds apart, which no answer changes. Which world is handed back to whom is said by this alone.
+    ghost Origin: { Type 0 };
 
     ghost origin: { Self → Self.Origin };
 

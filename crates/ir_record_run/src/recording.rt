@@ -11,7 +11,6 @@ ghost use Rattle.ir_record_run.specs.Recording.{origins, IsRecordedOf, line_by, 
 ghost use Rattle.ir_record_run.specs.Sources.{made_with, is_counted};
 ghost use Rattle.ir_files.specs.Outputs.{output_writer_of, TookEach, FailedAtOne};
 ghost use Rattle.ir_files.specs.Writers.{writer_of};
-ghost use Rattle.ir_files.specs.declared.exit_status.ExitStatus.TheVariants.{Done};
 ghost use Rattle.ir_record_run.specs.Faults.{Allows, fault_status, Refuses, WriteFails, Stops, IsReported};
 ghost use Rattle.ir_record_run.specs.declared.record_fault.RecordFault.{RecordFault};
 ghost use Rattle.ir_record_run.specs.declared.record_fault.RecordFault.TheVariants.{NoMem, Clock};
@@ -250,7 +249,7 @@ fn written<W: WholeSink, P: OutputSink, O: Sink>(
     Ok(())
 }
 
-// Records, and writes what was recorded.
+// Records, writes what was recorded, and hands it back.
 fn run<
     R: Threads + Wait + Sync + Clock + AllocGlobal,
     G: Gate + Sync,
@@ -265,8 +264,8 @@ fn run<
     trace: &mut W,
     outputs: &mut P,
     out: &mut O,
-) -> Result<(), RecordFault>
-    ensures done { OnOk result ((recorded : Recorded) × (printed : List (List ℕ)) × IsRecordedOf image.now plan.now recorded printed
+) -> Result<Trace, RecordFault>
+    ensures done { IfOk result (λ recorded. (printed : List (List ℕ)) × IsRecordedOf image.now plan.now recorded printed
         × Appends (W.written trace.old) (W.written trace.new) (encoding recorded)
         × TookEach (output_writer_of (P.taken outputs.old) (P.taken outputs.new) (P.broken outputs.new)) printed
         × Appends (O.written out.old) (O.written out.new) (lines_of recorded)) }
@@ -282,14 +281,17 @@ fn run<
     let (recorded, printed) = recorded(rt, alloc, gate, image, plan)?;
     let bytes = write_trace(alloc, &recorded)?;
     let lines = lines(alloc, &recorded)?;
-    written(
+    match written(
         trace,
         outputs,
         out,
         bytes.as_slice(),
         printed.as_slice(),
         lines.as_bytes(),
-    )
+    ) {
+        Ok(()) => Ok(recorded),
+        Err(why) => Err(why),
+    }
 }
 
 // Tells that a list spells no order of an image's threads: which item doesn't, and why.
@@ -334,9 +336,12 @@ fn tell_fault<W: WholeSink, P: OutputSink, E: Sink>(
 /// the milliseconds since the start, modulo 2^32; each thread's INPUT gives all bytes of the input. Without a list it may
 /// wait for threads, and that it ends isn't promised; the gate is told of what they do. The profile says which system calls
 /// there are.
-/// The exit status is `Done` where all were written and the trace stands in its place; `Refused` where the image is
-/// refused, it has more threads or objects than the profile allows, or the list spells no order of its threads; and `Failed`
-/// where memory ran out, the clock can't be read or a writer failed. Then what was written before stays. A fault is told in one line.
+/// Where all were written and the trace is in its place, what was recorded is handed back.
+///
+/// # Errors
+/// The exit status: `Refused` where the image is refused, it has more threads or objects than the profile allows, or the list
+/// spells no order of its threads; and `Failed` where memory ran out, the clock can't be read or a writer failed. Then what was
+/// written before stays. A fault is told in one line.
 pub fn record_run<
     R: Threads + Wait + Sync + Clock + AllocGlobal,
     G: Gate + Sync,
@@ -353,34 +358,34 @@ pub fn record_run<
     outputs: &mut P,
     out: &mut O,
     faults: &mut E,
-) -> ExitStatus
+) -> Result<Trace, ExitStatus>
     requires writes { W.broken trace.old ≡ false }
     requires puts { P.broken outputs.old ≡ false }
     requires prints { O.broken out.old ≡ false }
     requires reports { E.broken faults.old ≡ false }
     // Of the run by the order, or of some complete run, the trace was written, what each of its threads printed as that
     // thread's output, and its lines, and no fault told.
-    ensures done { result ≡ Done → (recorded : Recorded) × (printed : List (List ℕ)) × IsRecordedOf image.now plan.now recorded printed
+    ensures done { IfOk result (λ recorded. (printed : List (List ℕ)) × IsRecordedOf image.now plan.now recorded printed
         × Appends (W.written trace.old) (W.written trace.new) (encoding recorded)
         × TookEach (output_writer_of (P.taken outputs.old) (P.taken outputs.new) (P.broken outputs.new)) printed
-        × Appends (O.written out.old) (O.written out.new) (lines_of recorded) }
-    ensures whole { result ≡ Done → W.whole trace.new ≡ true }
+        × Appends (O.written out.old) (O.written out.new) (lines_of recorded)) }
+    ensures whole { OnOk result (W.whole trace.new ≡ true) }
     // The profile allows its threads and objects.
-    ensures allowed { result ≡ Done → Allows image.now plan.now }
-    ensures quiet { result ≡ Done → faults.new ≡ faults.old }
+    ensures allowed { OnOk result (Allows image.now plan.now) }
+    ensures quiet { OnOk result (faults.new ≡ faults.old) }
     // Else what stopped it, what that left, and that it is reported.
-    ensures stopped { result ≢ Done → (e : RecordFault) × (result ≡ fault_status e)
+    ensures stopped { IfErr result (λ status. (e : RecordFault) × (status ≡ fault_status e)
         × IsReported e (writer_of (E.written faults.old) (E.written faults.new) (E.broken faults.new)) × Stops e image.now plan.now
         (writer_of (W.written trace.old) (W.written trace.new) (W.broken trace.new))
         (output_writer_of (P.taken outputs.old) (P.taken outputs.new) (P.broken outputs.new))
         (writer_of (O.written out.old) (O.written out.new) (O.broken out.new))
-        ((trace.new ≡ trace.old) × (outputs.new ≡ outputs.old) × (out.new ≡ out.old)) ((outputs.new ≡ outputs.old) × (out.new ≡ out.old)) (out.new ≡ out.old) }
+        ((trace.new ≡ trace.old) × (outputs.new ≡ outputs.old) × (out.new ≡ out.old)) ((outputs.new ≡ outputs.old) × (out.new ≡ out.old)) (out.new ≡ out.old)) }
 {
     match run(rt, gate, image, plan, trace, outputs, out) {
-        Ok(()) => ExitStatus::Done,
+        Ok(recorded) => Ok(recorded),
         Err(why) => {
             tell_fault(faults, &why, image, plan.order, trace, outputs);
-            why.status()
+            Err(why.status())
         }
     }
 }

@@ -125,6 +125,8 @@ struct Counting<'a> {
 impl World for Counting<'_> {
     ghost answers = { λ w. w.answered.items };
 
+    ghost Origin = { Unit {0} };
+
     ghost origin = { λ _. tt };
 
     ghost broken = { λ w. w.failed };

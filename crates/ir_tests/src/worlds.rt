@@ -26,6 +26,8 @@ pub struct Script {
 impl World for Script {
     ghost answers = { λ s. s.answered.items };
 
+    ghost Origin = { Unit {0} };
+
     ghost origin = { λ _. tt };
 
     ghost broken = { λ s. s.failed };

@@ -311,7 +311,10 @@ fn runs(rt: HostRuntime) -> Result<(), Fail> {
     let image = image(&rt, rt.alloc(), &program)?;
     let kept = Mach::new(rt.alloc(), &image, 0)?;
     let mut mach = kept.copy()?;
-    let lengths = (mach.run_on(image.code(), 2).0, mach.run_on(image.code(), 2).0);
+    let lengths = (
+        mach.run_on(image.code(), 2).0,
+        mach.run_on(image.code(), 2).0,
+    );
     assert_eq!(rt; (lengths, mach.reg(10)), ((2, 1), 3));
     mach.assign(&kept);
     assert_eq!(rt; mach.run_on(image.code(), 9), (3, Ran::Call));

@@ -3,6 +3,8 @@
 ghost use Rattle.std.specs.Prelude.{◌≡◌, OnSome, OnOk, false};
 
 use crate::commands::{bytes_of, is_lost, say};
+use crate::dispatch::Surroundings;
+use crate::ends::{all_ended, tell_ends};
 use ir_arguments::RecordArguments;
 use ir_files::{
     ExitStatus, Folder, MOST_BYTES, MOST_INPUT, OutputFiles, WholeFile, WholeSink, output_paths,
@@ -10,6 +12,7 @@ use ir_files::{
 use ir_object::Gate;
 use ir_record_run::{ParsedImage, record_run};
 use ir_stream::Sink;
+use ir_trace::Trace;
 use std::alloc::{AllocError, Global};
 use std::sync::Wait;
 use std::thread::Threads;
@@ -193,12 +196,61 @@ fn without_end(list: &str) -> &str {
     line.strip_suffix('\r').unwrap_or(line)
 }
 
+// What a recording reads beside its image, and where what its threads print goes.
+#[derive(Drop)]
+struct Beside {
+    outputs: Option<Vec<String>>,
+    input: Vec<u8>,
+    list: Option<String>,
+}
+
+impl Beside {
+    // Reads it; where it can't be, it is told why.
+    fn of<D: Folder, E: Sink>(
+        alloc: Global,
+        folder: &D,
+        faults: &mut E,
+        arguments: &RecordArguments,
+        image: &ParsedImage<'_>,
+    ) -> Result<Beside, ExitStatus>
+        ensures kept { OnOk result (faults.new ≡ faults.old) }
+    {
+        let outputs = output_places(alloc, folder, faults, arguments, image)?;
+        let Some(input) = input_of(alloc, folder, faults, arguments) else {
+            return Err(ExitStatus::Failed);
+        };
+        let list = list_of(alloc, folder, faults, arguments)?;
+        Ok(Beside {
+            outputs,
+            input,
+            list,
+        })
+    }
+}
+
+// The exit status of a recording, whose ends are told in words where somebody looks on.
+fn status_of<E: Sink>(
+    alloc: Global,
+    trace: &Trace,
+    asks: bool,
+    explains: bool,
+    faults: &mut E,
+) -> ExitStatus {
+    if explains {
+        tell_ends(alloc, trace, faults);
+    }
+    if asks && !all_ended(trace) {
+        ExitStatus::Unended
+    } else {
+        ExitStatus::Done
+    }
+}
+
 // Records a guest into a file, and what its threads print into others where they are asked for.
 pub fn record_file<R, D, G, O, E>(
-    rt: &R,
-    folder: &D,
-    gate: &G,
+    around: Surroundings<'_, R, D, G>,
     arguments: &RecordArguments,
+    explains: bool,
     out: &mut O,
     faults: &mut E,
 ) -> ExitStatus
@@ -211,9 +263,9 @@ where
     requires writes { O.broken out.old ≡ false }
     requires reports { E.broken faults.old ≡ false }
 {
+    let Surroundings { rt, folder, gate } = around;
     let alloc = rt.alloc();
     let place = arguments.trace.as_str();
-    let mut trace = WholeFile::new(alloc, folder, place);
     if loses_input(folder, faults, arguments) {
         return ExitStatus::BadArguments;
     }
@@ -221,31 +273,29 @@ where
         return ExitStatus::Failed;
     };
     let image = ParsedImage::new(alloc, image.as_slice());
-    let paths = match output_places(alloc, folder, faults, arguments, &image) {
-        Ok(paths) => paths,
+    let beside = match Beside::of(alloc, folder, faults, arguments, &image) {
+        Ok(beside) => beside,
         Err(status) => return status,
     };
-    let Some(input) = input_of(alloc, folder, faults, arguments) else {
-        return ExitStatus::Failed;
-    };
-    let list = match list_of(alloc, folder, faults, arguments) {
-        Ok(list) => list,
-        Err(status) => return status,
-    };
-    let order = match &list {
+    let order = match &beside.list {
         Some(list) => Some(without_end(list.as_str())),
         None => arguments.order.as_ref().map(|list| list.as_str()),
     };
-    let paths = paths.as_ref().map(|paths| paths.as_slice());
+    let paths = beside.outputs.as_ref().map(|paths| paths.as_slice());
+    let plan = arguments.plan(order, beside.input.as_slice());
+    let mut trace = WholeFile::new(alloc, folder, place);
     let mut outputs = OutputFiles::new(folder, paths, place);
-    record_run(
+    match record_run(
         rt,
         gate,
         &image,
-        &arguments.plan(order, input.as_slice()),
+        &plan,
         &mut trace,
         &mut outputs,
         out,
         faults,
-    )
+    ) {
+        Ok(recorded) => status_of(alloc, &recorded, arguments.status, explains, faults),
+        Err(status) => status,
+    }
 }

@@ -3,13 +3,13 @@ use Rattle.std.specs.List.{AllByRecursion}
 use Rattle.ir_image.specs.Guest.{Guest, object_count}
 use Rattle.ir_image.proofs.CallerLemmas.{few_threads}
 use Rattle.ir_crew.specs.Ends.{IsEnd}
-use Rattle.ir_record.specs.Recording.{OthersWentOn}
+use Rattle.ir_record.specs.Recording.{EachWentOn}
 use Rattle.ir_record.specs.Threads.{Pairs, IsSeatOf, views_of}
 use Rattle.ir_record.specs.Working.{work_of, IsReadyWorker, RanToEnd}
 use Rattle.ir_record.specs.Worlds.{NoneFailed, IsFirstFailed, AreSameWorlds}
 use Rattle.ir_record.specs.declared.worker.Worker.{Worker}
 use Rattle.ir_record.proofs.ByThreads.{recorded_of}
-use Rattle.ir_record.proofs.Crewed.{NoneBroken, HaveRun, ready, threads_there, room_there, worlds_there, seats_there, ended_there, all_over, others_there, views_tracks, traces_at, map_map}
+use Rattle.ir_record.proofs.Crewed.{NoneBroken, HaveRun, ready, threads_there, room_there, worlds_there, seats_there, ended_there, all_over, each_there, views_tracks, traces_at, map_map}
 use Rattle.ir_record.proofs.Manning.{traces_count}
 use Rattle.ir_record.proofs.by_threads.record.Given as given
 use Rattle.ir_record.proofs.by_threads.record.Goals as goal
@@ -78,10 +78,10 @@ returns-in-Some-clause-failed g c = (
   subst (λ z. IsFirstFailed z c.in-Some.thread) (ap (map (λ w. g.W.World.broken w.world)) c.as_slice.ensures.value
       ∙ sym (map_map g.W.World.broken (λ w. w.world) c.run_workers.new.workers.items)
       ∙ ap (map g.W.World.broken) (sym c.worlds_of.ensures)) c.in-Some.ensures.failed,
-  subst (AreSameWorlds g.W.World.answers g.W.World.origin c.args.worlds.items) (sym c.worlds_of.ensures)
+  subst (AreSameWorlds g.W.World.origin c.args.worlds.items) (sym c.worlds_of.ensures)
       (worlds_there (ran_some g c.before.before.before)),
-  subst (OthersWentOn g.W.World.answers g.W.World.broken c.args.image.now c.args.budget c.args.profile c.args.worlds.items)
-      (sym c.worlds_of.ensures) (others_there (ran_some g c.before.before.before)),
+  subst (EachWentOn g.W.World.answers g.W.World.broken c.args.image.now c.args.budget c.args.profile c.args.worlds.items)
+      (sym c.worlds_of.ensures) (each_there (ran_some g c.before.before.before)),
 )
 
 pub gathered-seats-requires-clause-over : goal.gathered-seats-requires-clause-over
@@ -123,4 +123,4 @@ returns-clause-works g c = subst NoneFailed (sym (sym (map_map g.W.World.broken 
 
 pub returns-clause-origins : goal.returns-clause-origins
 returns-clause-origins g c = sym (map_map g.W.World.origin (λ o. o.world) c.gathered-seats.result.2.each.items)
-    ∙ ap (map g.W.World.origin) c.gathered-seats.ensures.worlds ∙ (worlds_there (ran_all g (at_count g c))).origins
+    ∙ ap (map g.W.World.origin) c.gathered-seats.ensures.worlds ∙ worlds_there (ran_all g (at_count g c))

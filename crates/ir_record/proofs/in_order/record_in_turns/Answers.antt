@@ -6,6 +6,7 @@ use Rattle.ir_record.specs.Turns.{order_of_turns}
 use Rattle.ir_record.specs.Worlds.{NoneFailed}
 use Rattle.ir_record.proofs.Ended.{start_ready, Over, over_from, started, threads_there, objects_there, profiles_there, ended_there, recorded_there, mapped_twice}
 use Rattle.ir_record.proofs.in_order.record_in_turns.Given as given
+use Rattle.ir_record.proofs.Stopped.{stopped_there}
 use Rattle.ir_record.proofs.in_order.record_in_turns.Goals as goal
 
 pub record-requires-clause-ready : goal.record-requires-clause-ready
@@ -52,4 +53,11 @@ returns-clause-works g c = subst NoneFailed (sym (mapped_twice g.W.World.broken 
 
 pub returns-clause-origins : goal.returns-clause-origins
 returns-clause-origins g c = mapped_twice g.W.World.origin (λ o. o.world) c.in_ok-outputs.outputs.each.items c.record.new.self.worlds.items
-    c.in_ok-outputs.ensures.worlds ∙ c.record.ensures.kept.origins
+    c.in_ok-outputs.ensures.worlds ∙ c.record.ensures.kept
+
+pub returns-in-Err-clause-failed : goal.returns-in-Err-clause-failed
+returns-in-Err-clause-failed g c = (
+  c.in-Err.ensures.failed,
+  c.record.ensures.kept,
+  stopped_there c.in_ok-start.ensures.flat c.in_ok-start.ensures.logs c.in-Err.ensures.stopped,
+)

@@ -1,5 +1,4 @@
-use Rattle.std.proofs.Common.{[], ◌∷◌, ◌∙◌, sym, append-nil}
-use Rattle.ir_record.proofs.Asking.{works_at, gained_at, still_works, first_failed, asked_extends, same_at}
+use Rattle.ir_record.proofs.Asking.{works_at, gained_at, still_works, first_failed, same_at}
 use Rattle.ir_record.proofs.turn.answer_to.Goals as goal
 
 pub answer-requires : goal.answer-requires
@@ -19,17 +18,13 @@ returns-in-Err-clause-failed g c = first_failed g.W.World.broken c.args.worlds.n
     c.requires.thread c.in-Err.ensures.failed
 
 pub returns-in-Ok-clause-kept : goal.returns-in-Ok-clause-kept
-returns-in-Ok-clause-kept g c = record {
-  answered = asked_extends g.W.World.answers c.args.worlds.now.items c.args.t c.index_mut.result.now c.answer.new.self
-      ((c.args.kind, c.in-Ok.value) ∷ []) c.requires.thread c.index_mut.ensures.value c.in-Ok.ensures.answered;
-  origins = same_at g.W.World.origin c.args.worlds.now.items c.args.t c.index_mut.result.now c.answer.new.self
-      c.index_mut.ensures.value c.in-Ok.ensures.origin;
-}
+returns-in-Ok-clause-kept g c = same_at g.W.World.origin c.args.worlds.now.items c.args.t c.index_mut.result.now c.answer.new.self
+    c.index_mut.ensures.value c.in-Ok.ensures.origin
 
 pub returns-in-Err-clause-kept : goal.returns-in-Err-clause-kept
-returns-in-Err-clause-kept g c = record {
-  answered = asked_extends g.W.World.answers c.args.worlds.now.items c.args.t c.index_mut.result.now c.answer.new.self
-      [] c.requires.thread c.index_mut.ensures.value (c.in-Err.ensures.kept ∙ sym (append-nil (g.W.World.answers c.index_mut.result.now)));
-  origins = same_at g.W.World.origin c.args.worlds.now.items c.args.t c.index_mut.result.now c.answer.new.self
-      c.index_mut.ensures.value c.in-Err.ensures.origin;
-}
+returns-in-Err-clause-kept g c = same_at g.W.World.origin c.args.worlds.now.items c.args.t c.index_mut.result.now c.answer.new.self
+    c.index_mut.ensures.value c.in-Err.ensures.origin
+
+pub returns-in-Err-clause-no_more : goal.returns-in-Err-clause-no_more
+returns-in-Err-clause-no_more g c = same_at g.W.World.answers c.args.worlds.now.items c.args.t c.index_mut.result.now c.answer.new.self
+    c.index_mut.ensures.value c.in-Err.ensures.kept

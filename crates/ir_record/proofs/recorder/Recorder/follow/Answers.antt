@@ -1,7 +1,11 @@
+use Rattle.std.proofs.Common.{◌+◌, ◌++◌, take, drop, refl, ◌∙◌}
+use Rattle.ir_flat.specs.Flat.{tables}
+use Rattle.ir_record.specs.Progress.{Progress}
 use Rattle.ir_record.specs.Recorders.{progress_of}
+use Rattle.ir_record.specs.Turns.{order_of_turns}
 use Rattle.ir_record.proofs.Steps.{took_nothing}
-use Rattle.ir_record.proofs.Following.{followed_more, followed_end}
-use Rattle.ir_record.proofs.Asking.{same_worlds, worlds_on}
+use Rattle.ir_record.proofs.Following.{followed_more, followed_all, followed_end}
+use Rattle.ir_record.proofs.Stopped.{if_error, stopped_within, stopped_after}
 use Rattle.ir_record.proofs.recorder.Recorder.follow.Goals as goal
 
 pub order-init : goal.order-init
@@ -9,7 +13,7 @@ order-init g c = record {
   took = took_nothing (progress_of g.W.World.answers c.args.self.now);
   ready =
       c.requires;
-  kept = same_worlds;
+  kept = refl;
 }
 
 pub order-preserved : goal.order-preserved
@@ -20,7 +24,7 @@ order-preserved g c = record {
       (progress_of g.W.World.answers c.turns.new.self)
       c.order-test.true c.order.invariant.took c.in_ok-turns.ensures.took;
   ready = c.in_ok-turns.ensures.ready;
-  kept = worlds_on c.order.invariant.kept c.turns.ensures.kept;
+  kept = c.turns.ensures.kept ∙ c.order.invariant.kept;
 }
 
 pub returns-clause-took : goal.returns-clause-took
@@ -29,4 +33,14 @@ returns-clause-took g c = followed_end c.args.order.now c.order.item-index
     (progress_of g.W.World.answers c.order.self) c.order-test.false c.order.invariant.took
 
 pub returns-in_err-turns-clause-kept : goal.returns-in_err-turns-clause-kept
-returns-in_err-turns-clause-kept g c = worlds_on c.order.invariant.kept c.turns.ensures.kept
+returns-in_err-turns-clause-kept g c = c.turns.ensures.kept ∙ c.order.invariant.kept
+
+pub returns-in_err-turns-clause-stopped : goal.returns-in_err-turns-clause-stopped
+returns-in_err-turns-clause-stopped g c = if_error _ c.from_residual.result c.in_err-turns.field-0.0 c.from_residual.ensures.1 (
+    let entry : Progress = progress_of g.W.World.answers c.args.self.now in
+    let before : Progress = progress_of g.W.World.answers c.order.self in
+    let first = order_of_turns (take c.order.item-index c.args.order.now) in
+    stopped_within (first ++ _) (order_of_turns (drop (c.order.item-index + 1) c.args.order.now)) (order_of_turns c.args.order.now)
+    (tables entry.flat) entry _ _ (followed_all c.args.order.now c.order.item-index _ c.order-test.true)
+    (stopped_after first _ entry before _ _ c.order.invariant.took c.in_err-turns.ensures.stopped)
+    )

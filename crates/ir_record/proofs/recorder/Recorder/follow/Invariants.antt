@@ -10,5 +10,5 @@ invariant-order g l = record {
   took : Took (order_of_turns (take l.item-index l.order)) (progress_of g.W.World.answers l.fn.self)
       (progress_of g.W.World.answers l.self);
   ready : CanGoOn g.W.World.answers g.W.World.broken l.self;
-  kept : AreSameWorlds g.W.World.answers g.W.World.origin l.fn.self.worlds.items l.self.worlds.items;
+  kept : AreSameWorlds g.W.World.origin l.fn.self.worlds.items l.self.worlds.items;
 }

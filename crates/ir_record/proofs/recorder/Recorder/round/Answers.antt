@@ -1,13 +1,13 @@
-use Rattle.std.proofs.Common.{◌≡◌, ◌<◌, ℕ, List, [], arith, length, ap, sym, subst, refl, ◌∙◌}
+use Rattle.std.proofs.Common.{◌≡◌, ◌<◌, ◌+◌, ◌-◌, ℕ, List, [], ◌∷◌, ◌++◌, arith, length, ap, sym, subst, refl, ◌∙◌}
 use Rattle.std.specs.List.{range_with_len}
 use Rattle.ir_record.specs.Ahead.{lead, CanSkip, WentIf}
 use Rattle.ir_flat.specs.Flat.{tables, machine}
 use Rattle.ir_record.specs.Noting.{Noted}
 use Rattle.ir_record.specs.Progress.{Progress}
 use Rattle.ir_record.specs.Recorders.{progress_of}
-use Rattle.ir_record.proofs.Asking.{same_worlds, worlds_on}
 use Rattle.ir_record.proofs.Going.{at_lead, still, reached, ahead_there}
 use Rattle.ir_record.proofs.Passing.{none_passed, pass_more, turn_noted}
+use Rattle.ir_record.proofs.Stopped.{if_error, range_all, stopped_within, stopped_ahead}
 use Rattle.ir_record.proofs.recorder.Recorder.round.Goals as goal
 
 pub loop-t-init : goal.loop-t-init
@@ -21,7 +21,7 @@ loop-t-init g c = record {
   threads = refl;
   asks = c.requires.asks;
   ready = c.requires.ready;
-  kept = same_worlds;
+  kept = refl;
 }
 
 pub loop-t-preserved : goal.loop-t-preserved
@@ -64,7 +64,7 @@ loop-t-preserved g c = record {
   threads = c.in_ok-turned.ensures.threads ∙ c.loop-t.invariant.threads;
   asks = c.in_ok-turned.ensures.asks;
   ready = c.in_ok-turned.ensures.ready;
-  kept = worlds_on c.loop-t.invariant.kept c.turn_ahead.ensures.kept;
+  kept = c.turn_ahead.ensures.kept ∙ c.loop-t.invariant.kept;
 }
 
 pub returns-clause-went : goal.returns-clause-went
@@ -76,7 +76,7 @@ returns-clause-went g c = λ s h. subst (λ n. WentIf c.loop-t.pass.moved (range
     (c.loop-t.invariant.went s h)
 
 pub returns-in_err-turned-clause-kept : goal.returns-in_err-turned-clause-kept
-returns-in_err-turned-clause-kept g c = worlds_on c.loop-t.invariant.kept c.turn_ahead.ensures.kept
+returns-in_err-turned-clause-kept g c = c.turn_ahead.ensures.kept ∙ c.loop-t.invariant.kept
 
 pub returns-clause-free : goal.returns-clause-free
 returns-clause-free g c =
@@ -86,3 +86,20 @@ returns-clause-free g c =
     omega (arith, e, c.loop-t-test.false, c.loop-t.auto.t-end, c.loop-t.invariant.threads) in
     subst (λ n. CanSkip (machine c.loop-t.self.tape.flat) n c.loop-t.pass.free c.loop-t.ahead.items (tables c.loop-t.self.tape.flat)) all
     c.loop-t.invariant.passing.each
+
+pub returns-in_err-turned-clause-stopped : goal.returns-in_err-turned-clause-stopped
+returns-in_err-turned-clause-stopped g c = if_error _ c.from_residual.result c.in_err-turned.field-0.0 c.from_residual.ensures.1 (
+    λ s h.
+    let a : Progress = progress_of g.W.World.answers c.args.self.now in
+    let b : Progress = progress_of g.W.World.answers c.loop-t.self in
+    let n : ℕ = length c.args.self.now.tape.flat.threads in
+    let e : length c.threads-t-end.result.now ≡ n = ap (λ xs. length xs) c.threads-t-end.ensures.value in
+    let below : c.loop-t.t < n = omega (arith, e, c.loop-t-test.true, c.loop-t.auto.t-end) in
+    let p : WentIf c.loop-t.pass.moved (range_with_len 0 c.loop-t.t) s a c.args.ahead.now.items b c.loop-t.ahead.items =
+    c.loop-t.invariant.went s h in
+    stopped_within (range_with_len 0 c.loop-t.t ++ c.loop-t.t ∷ []) (range_with_len (c.loop-t.t + 1) (n - (c.loop-t.t + 1)))
+    (range_with_len 0 n) s a _ _ (range_all c.loop-t.t n below)
+    (stopped_ahead (range_with_len 0 c.loop-t.t) (c.loop-t.t ∷ []) s a b c.args.ahead.now.items c.loop-t.ahead.items _ _ p.went
+    (c.in_err-turned.ensures.stopped (reached p.went)
+    (ahead_there (range_with_len 0 c.loop-t.t) s a b c.args.ahead.now.items c.loop-t.ahead.items p.went)))
+    )

@@ -19,5 +19,5 @@ invariant-loop-t g l = record {
   threads : length l.self.tape.flat.threads ≡ length l.fn.self.tape.flat.threads;
   asks : AreAsks l.asks.items l.self.tape.flat;
   ready : CanGoOn g.W.World.answers g.W.World.broken l.self;
-  kept : AreSameWorlds g.W.World.answers g.W.World.origin l.fn.self.worlds.items l.self.worlds.items;
+  kept : AreSameWorlds g.W.World.origin l.fn.self.worlds.items l.self.worlds.items;
 }

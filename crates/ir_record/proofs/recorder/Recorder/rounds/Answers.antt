@@ -1,12 +1,17 @@
-use Rattle.std.proofs.Common.{ℕ, length, sym, ap, ◌∙◌, subst}
+use Rattle.std.proofs.Common.{ℕ, suc, length, map, replicate, sym, ap, ◌∙◌, subst, refl}
 use Rattle.std.proofs.lemmas.Bool.{not-false, not-true}
 use Rattle.std.proofs.lemmas.List.{length-replicate}
+use Rattle.std.specs.List.{range_with_len}
+use Rattle.ir_flat.specs.Flat.{tables}
+use Rattle.ir_runs.specs.InOrder.{rounds}
+use Rattle.ir_record.specs.Failures.{StoppedAt}
 use Rattle.ir_record.specs.Progress.{Progress}
 use Rattle.ir_record.specs.Recorders.{progress_of}
-use Rattle.ir_record.proofs.Asking.{same_worlds, worlds_on}
-use Rattle.ir_record.proofs.Going.{Rounding, first_round, rounded, caught, all_over}
+use Rattle.ir_record.proofs.Going.{Rounding, reached, ahead_there, first_round, rounded, caught, all_over}
+use Rattle.ir_record.proofs.Joining.{rounds_more}
 use Rattle.ir_record.proofs.Skipping.{Skips, skip_more}
 use Rattle.ir_record.proofs.recorder.Recorder.rounds.Given as given
+use Rattle.ir_record.proofs.Stopped.{if_error, stopped_ahead}
 use Rattle.ir_record.proofs.recorder.Recorder.rounds.Goals as goal
 
 pub rounds-init : goal.rounds-init
@@ -18,7 +23,7 @@ rounds-init g c =
       each = ap (λ xs. length xs) c.requires.level ∙ length-replicate {A = ℕ} n 0;
       asks = c.ask_all.ensures;
       ready = c.requires.ready;
-      kept = same_worlds;
+      kept = refl;
     }
 
 -- the rounds so far, the round that was taken, and those that are skipped
@@ -34,7 +39,7 @@ rounds-preserved g c = record {
   each = c.lower.ensures.size ∙ c.in_ok-pass.ensures.each;
   asks = c.in_ok-pass.ensures.asks;
   ready = c.in_ok-pass.ensures.ready;
-  kept = worlds_on c.rounds.invariant.kept c.round.ensures.kept;
+  kept = c.round.ensures.kept ∙ c.rounds.invariant.kept;
 }
 
 pub rounds-smaller : goal.rounds-smaller
@@ -51,7 +56,24 @@ returns-then-not-pass-clause-over g c =
     (not-true c.in_ok-pass.pass.moved c.if-not-pass.true)
 
 pub returns-then-not-pass-clause-kept : goal.returns-then-not-pass-clause-kept
-returns-then-not-pass-clause-kept g c = worlds_on c.rounds.invariant.kept c.round.ensures.kept
+returns-then-not-pass-clause-kept g c = c.round.ensures.kept ∙ c.rounds.invariant.kept
 
 pub returns-in_err-pass-clause-kept : goal.returns-in_err-pass-clause-kept
-returns-in_err-pass-clause-kept g c = worlds_on c.rounds.invariant.kept c.round.ensures.kept
+returns-in_err-pass-clause-kept g c = c.round.ensures.kept ∙ c.rounds.invariant.kept
+
+pub returns-in_err-pass-clause-stopped : goal.returns-in_err-pass-clause-stopped
+returns-in_err-pass-clause-stopped g c = if_error _ c.from_residual.result c.in_err-pass.field-0.0 c.from_residual.ensures.1 (
+    let n : ℕ = length c.args.self.now.tape.flat.threads in
+    let a : Progress = progress_of g.W.World.answers c.args.self.now in
+    let b : Progress = progress_of g.W.World.answers c.rounds.self in
+    let failed : ℕ = c.in_err-pass.field-0.0.thread in
+    let answers = map g.W.World.answers c.round.new.self.worlds.items in
+    let p : Rounding n a b c.rounds.ahead.items = c.rounds.invariant.went in (
+      suc p.0,
+      subst (λ order. StoppedAt order (tables a.flat) a failed answers) (rounds_more n p.0)
+          (stopped_ahead (rounds n p.0) (range_with_len 0 n) (tables a.flat) a b (replicate n 0) c.rounds.ahead.items failed answers p.1
+          (subst (λ k. StoppedAt (range_with_len 0 k) (reached p.1) b failed answers) p.1.threads
+          (c.in_err-pass.ensures.stopped (reached p.1)
+          (ahead_there (rounds n p.0) (tables a.flat) a b (replicate n 0) c.rounds.ahead.items p.1)))),
+    )
+    )

@@ -14,7 +14,7 @@ invariant-rounds g l = record {
   each : length l.ahead.items ≡ length l.self.tape.flat.threads;
   asks : AreAsks l.asks.items l.self.tape.flat;
   ready : CanGoOn g.W.World.answers g.W.World.broken l.self;
-  kept : AreSameWorlds g.W.World.answers g.W.World.origin l.fn.self.worlds.items l.self.worlds.items;
+  kept : AreSameWorlds g.W.World.origin l.fn.self.worlds.items l.self.worlds.items;
 }
 
 abbrev pub decreases-rounds : goal.decreases-rounds

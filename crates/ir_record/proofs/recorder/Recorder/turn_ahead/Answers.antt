@@ -1,9 +1,11 @@
-use Rattle.std.proofs.Common.{◌≡◌, ◌<◌, ◌-◌, ℕ, suc, List, [], ◌∷◌, length, set, sym, ◌∙◌, subst, arith, length-set, true}
-use Rattle.ir_record.specs.Ahead.{lead, AreAsks, WentIf}
+use Rattle.std.proofs.Common.{◌≡◌, ◌<◌, ◌-◌, ℕ, suc, List, [], ◌∷◌, length, map, set, sym, ap, ◌∙◌, subst, arith, length-set, true}
+use Rattle.ir_flat.specs.Flat.{machine}
+use Rattle.ir_record.specs.Ahead.{alone, lead, AreAsks, WentIf}
 use Rattle.ir_record.specs.Progress.{Progress, TookIf}
 use Rattle.ir_record.specs.Recorders.{progress_of}
 use Rattle.ir_record.proofs.Going.{at_lead, has_none, turn_spent, turn_stays, turn_steps}
 use Rattle.ir_record.proofs.Kept.{at_ask, asks_on}
+use Rattle.ir_record.proofs.Stopped.{if_error, stopped_here}
 use Rattle.ir_record.proofs.recorder.Recorder.turn_ahead.Goals as goal
 
 pub returns-then-lead-gt0-clause-went : goal.returns-then-lead-gt0-clause-went
@@ -75,3 +77,15 @@ returns-clause-asks g c = asks_on c.args.asks.now.items (progress_of g.W.World.a
     (progress_of g.W.World.answers c.turn_asked.new.self) c.run-ran.new.self.flat c.args.t c.run-ran.result.0 c.run-ran.result.1
     c.in_ok-turn_asked.field-0 c.requires.thread c.requires.asks c.run-ran.ensures.still_flat c.in_ok-turn_asked.ensures.took
     c.run-ran.ensures.alone c.run-ran.ensures.asked
+
+pub returns-in_err-turn_asked-clause-stopped : goal.returns-in_err-turn_asked-clause-stopped
+returns-in_err-turn_asked-clause-stopped g c = if_error _ c.from_residual.result c.in_err-turn_asked.field-0.0 c.from_residual.ensures.1 (
+    λ s h.
+    let a : Progress = progress_of g.W.World.answers c.args.self.now in
+    let l : c.args.t < length c.args.ahead.now.items = omega (arith, c.requires.each, c.requires.thread) in
+    let here : lead c.args.ahead.now.items c.args.t ≡ c.index-lead.result.now =
+    at_lead c.args.ahead.now.items c.args.t c.index-lead.result.now l c.index-lead.ensures in
+    let level : lead c.args.ahead.now.items c.args.t ≡ 0 = omega (arith, here, c.if-lead-gt0.false) in
+    stopped_here c.args.t s a _ _ (map g.W.World.broken c.args.self.now.worlds.items) c.requires.ready
+    (sym (h.threads c.args.t ∙ ap (λ k. alone (machine a.flat) k (s.now c.args.t)) level)) c.in_err-turn_asked.ensures.stopped
+    )

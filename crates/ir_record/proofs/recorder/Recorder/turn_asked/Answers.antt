@@ -2,7 +2,6 @@ use Rattle.std.proofs.Common.{true, [], ◌∷◌, refl, ap, ◌∙◌, arith, l
 use Rattle.ir_record.specs.Progress.{progress, TookIf}
 use Rattle.ir_record.specs.Recorders.{progress_of}
 use Rattle.ir_record.proofs.recorder.Recorder.turn_asked.Given.{Over}
-use Rattle.ir_record.proofs.Asking.{same_worlds}
 use Rattle.ir_record.proofs.Ready.{stays_ready}
 use Rattle.ir_record.proofs.recorder.Recorder.turn_asked.Goals as goal
 
@@ -45,11 +44,12 @@ returns-in_default g c = record {
       refl c.requires.ready.works;
   none = c.go.ensures.none;
   failed = tt;
-  kept = same_worlds;
+  stopped = tt;
+  kept = refl;
 }
 
 pub returns-in-Enter-clause-kept : goal.returns-in-Enter-clause-kept
-returns-in-Enter-clause-kept g c = same_worlds
+returns-in-Enter-clause-kept g c = refl
 
 pub returns-in-Try-clause-ready : goal.returns-in-Try-clause-ready
 returns-in-Try-clause-ready g c = stays_ready c.args.t true

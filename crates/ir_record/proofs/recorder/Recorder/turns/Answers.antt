@@ -1,10 +1,11 @@
-use Rattle.std.proofs.Common.{◌≡◌, ◌-◌, ◌+◌, arith, map, length, replicate, refl, ap, subst}
+use Rattle.std.proofs.Common.{◌≡◌, ◌-◌, ◌+◌, [], ◌∷◌, ◌++◌, arith, map, length, replicate, refl, ap, subst, ◌∙◌}
+use Rattle.ir_flat.specs.Flat.{tables}
 use Rattle.ir_record.specs.Progress.{Progress, progress, Took}
 use Rattle.ir_record.specs.Recorders.{progress_of}
 use Rattle.ir_record.proofs.Steps.{took_nothing}
 use Rattle.ir_record.proofs.Joining.{ready_after}
-use Rattle.ir_record.proofs.Following.{past_none, none_after, turns_rest, turns_more}
-use Rattle.ir_record.proofs.Asking.{same_worlds, worlds_on}
+use Rattle.ir_record.proofs.Following.{past_none, none_after, turns_rest, turns_joined, turns_more}
+use Rattle.ir_record.proofs.Stopped.{if_error, turns_all, stopped_here, stopped_within, stopped_after}
 use Rattle.ir_record.proofs.recorder.Recorder.turns.Goals as goal
 
 pub turns-init : goal.turns-init
@@ -15,7 +16,7 @@ turns-init g c =
       took = subst (λ n. Took (replicate n c.args.t) entry entry) (let e : 0 ≡ c.args.count - c.args.count = omega arith in e)
           (took_nothing entry);
       ready = c.requires;
-      kept = same_worlds;
+      kept = refl;
     }
 
 pub returns-then-t-threads-clause-took : goal.returns-then-t-threads-clause-took
@@ -66,11 +67,31 @@ turns-preserved g c =
           (omega (arith, c.turns-test.true)) (omega (arith, within)) c.turns.invariant.took
           (c.run-ran.ensures.took (map g.W.World.answers c.turns.self.worlds.items)) c.in_ok-turn_asked.ensures.took;
       ready = c.in_ok-turn_asked.ensures.ready;
-      kept = worlds_on c.turns.invariant.kept c.turn_asked.ensures.kept;
+      kept = c.turn_asked.ensures.kept ∙ c.turns.invariant.kept;
     }
 
 pub returns-then-not-branch-clause-kept : goal.returns-then-not-branch-clause-kept
-returns-then-not-branch-clause-kept g c = worlds_on c.turns.invariant.kept c.turn_asked.ensures.kept
+returns-then-not-branch-clause-kept g c = c.turn_asked.ensures.kept ∙ c.turns.invariant.kept
 
 pub returns-in_err-turn_asked-clause-kept : goal.returns-in_err-turn_asked-clause-kept
-returns-in_err-turn_asked-clause-kept g c = worlds_on c.turns.invariant.kept c.turn_asked.ensures.kept
+returns-in_err-turn_asked-clause-kept g c = c.turn_asked.ensures.kept ∙ c.turns.invariant.kept
+
+pub returns-in_err-turn_asked-clause-stopped : goal.returns-in_err-turn_asked-clause-stopped
+returns-in_err-turn_asked-clause-stopped g c = if_error _ c.from_residual.result c.in_err-turn_asked.field-0.0 c.from_residual.ensures.1 (
+    let entry : Progress = progress_of g.W.World.answers c.args.self.now in
+    let before : Progress = progress_of g.W.World.answers c.turns.self in
+    let ran : Progress = progress c.run-ran.new.self (map g.W.World.answers c.turns.self.worlds.items) in
+    let failed = map g.W.World.broken c.turns.self.worlds.items in
+    let few = c.turns.invariant.few in
+    let within = c.run-ran.ensures.within in
+    let took = c.run-ran.ensures.took (map g.W.World.answers c.turns.self.worlds.items) in
+    let taken = c.args.count - c.turns.left + c.run-ran.result.0 in
+    stopped_within (replicate taken c.args.t ++ c.args.t ∷ []) (replicate (c.turns.left - (c.run-ran.result.0 + 1)) c.args.t)
+    (replicate c.args.count c.args.t) (tables entry.flat) entry _ _
+    (turns_all c.args.t c.args.count c.turns.left c.run-ran.result.0 few (omega (arith, c.turns-test.true)) (omega (arith, within)))
+    (stopped_after (replicate taken c.args.t) (c.args.t ∷ []) entry ran _ _
+    (turns_joined c.args.t (c.args.count - c.turns.left) c.run-ran.result.0 taken entry before ran refl c.turns.invariant.took took)
+    (stopped_here c.args.t (tables ran.flat) ran _ _ failed
+    (ready_after (replicate c.run-ran.result.0 c.args.t) before ran failed c.turns.invariant.ready took c.run-ran.ensures.tape refl)
+    refl c.in_err-turn_asked.ensures.stopped))
+    )

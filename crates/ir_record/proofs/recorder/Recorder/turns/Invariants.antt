@@ -10,7 +10,7 @@ invariant-turns g l = record {
   took : Took (replicate (l.count - l.left) l.t) (progress_of g.W.World.answers l.fn.self)
       (progress_of g.W.World.answers l.self);
   ready : CanGoOn g.W.World.answers g.W.World.broken l.self;
-  kept : AreSameWorlds g.W.World.answers g.W.World.origin l.fn.self.worlds.items l.self.worlds.items;
+  kept : AreSameWorlds g.W.World.origin l.fn.self.worlds.items l.self.worlds.items;
 }
 
 abbrev pub decreases-turns : goal.decreases-turns

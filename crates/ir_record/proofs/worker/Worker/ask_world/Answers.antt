@@ -2,7 +2,7 @@ use Rattle.std.proofs.Common.{Some, None, refl}
 use Rattle.ir_record.proofs.Logs.{result_fits}
 use Rattle.ir_log.specs.declared.event.Event.TheVariants as event
 use Rattle.ir_thread.specs.declared.ask.Ask.TheVariants as ask
-use Rattle.ir_record.proofs.WorkerSteps.{step_on, answer_room, more_none}
+use Rattle.ir_record.proofs.WorkerSteps.{step_on, answer_room}
 use Rattle.ir_record.proofs.worker.Worker.ask_world.Goals as goal
 
 pub push-requires : goal.push-requires
@@ -16,8 +16,11 @@ returns-in-Ok-clause-stays g c = record {
       c.requires.asked refl c.take_asked.ensures c.push.ensures c.in-Ok.ensures.answered;
 }
 
-pub returns-in-Ok-clause-world : goal.returns-in-Ok-clause-world
-returns-in-Ok-clause-world g c = record { more = (_, c.in-Ok.ensures.answered); same_origin = c.answer.ensures.origin }
-
-pub returns-in-Err-clause-world : goal.returns-in-Err-clause-world
-returns-in-Err-clause-world g c = record { more = more_none c.in-Err.ensures.kept; same_origin = c.answer.ensures.origin }
+pub returns-in-Err-clause-stopped : goal.returns-in-Err-clause-stopped
+returns-in-Err-clause-stopped g c = record {
+  failed = c.in-Err.ensures.failed;
+  seat = refl;
+  thread = refl;
+  asks = (c.args.kind, c.requires.asked);
+  no_more = c.in-Err.ensures.kept;
+}
