@@ -221,9 +221,9 @@ serves a b c d image trace image' trace' P p q same_image same_trace reads = rec
 pub session_failed : (e : SessionErr) (reader : Reader) (writer : Writer) (Same : Type 0)
     → (e ≡ err.NoMem → (reader.failed ≡ false) × Same)
     → (e ≡ err.Read → (reader.failed ≡ true) × (writer.failed ≡ false)
-        × Serves reader.before reader.after (CameWhole writer.before writer.after))
+    × Serves reader.before reader.after (CameWhole writer.before writer.after))
     → (e ≡ err.Write → (reader.failed ≡ false) × (writer.failed ≡ true)
-        × Serves reader.before reader.after (CameInPart reader.after writer.before writer.after))
+    × Serves reader.before reader.after (CameInPart reader.after writer.before writer.after))
     → (e ≡ err.TooLong → Comes (Err err.TooLong) reader writer) → Leaves (fault_of e) reader writer Same
 session_failed err.NoMem reader writer Same no_memory read write long = no_memory refl
 session_failed err.Read reader writer Same no_memory read write long = let h = read refl in (h.0, h.1, inr h.2)
