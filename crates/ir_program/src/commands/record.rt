@@ -3,7 +3,6 @@
 ghost use Rattle.std.specs.Prelude.{◌≡◌, OnSome, OnOk, false};
 
 use crate::commands::{bytes_of, is_lost, say};
-use crate::dispatch::Surroundings;
 use crate::ends::{all_ended, tell_ends};
 use ir_arguments::RecordArguments;
 use ir_files::{
@@ -36,7 +35,17 @@ fn input_of<D: Folder, E: Sink>(
 // A file that is read, if there is one, and what is told where it would be lost.
 type Kept<'a> = (&'static str, Option<&'a String>);
 
-// Whether one of the files would be lost by writing to a path, which is told.
+// Whether this file would be lost by writing to a path, which is told.
+fn loses_this<D: Folder, E: Sink>(folder: &D, faults: &mut E, written: &str, kept: Kept<'_>) -> bool
+    ensures kept { result ≡ false → faults.new ≡ faults.old }
+{
+    match kept {
+        (would, Some(file)) => is_lost(folder, faults, would, file.as_str(), written),
+        (_, None) => false,
+    }
+}
+
+// The same of any of these files.
 fn loses_one<D: Folder, E: Sink>(
     folder: &D,
     faults: &mut E,
@@ -45,11 +54,9 @@ fn loses_one<D: Folder, E: Sink>(
 ) -> bool
     ensures kept { result ≡ false → faults.new ≡ faults.old }
 {
-    for (would, file) in files {
-        if let Some(file) = file {
-            if is_lost(folder, faults, would, file.as_str(), written) {
-                return true;
-            }
+    for &kept in files {
+        if loses_this(folder, faults, written, kept) {
+            return true;
         }
     }
     false
@@ -248,7 +255,9 @@ fn status_of<E: Sink>(
 
 // Records a guest into a file, and what its threads print into others where they are asked for.
 pub fn record_file<R, D, G, O, E>(
-    around: Surroundings<'_, R, D, G>,
+    rt: &R,
+    folder: &D,
+    gate: &G,
     arguments: &RecordArguments,
     explains: bool,
     out: &mut O,
@@ -263,7 +272,6 @@ where
     requires writes { O.broken out.old ≡ false }
     requires reports { E.broken faults.old ≡ false }
 {
-    let Surroundings { rt, folder, gate } = around;
     let alloc = rt.alloc();
     let place = arguments.trace.as_str();
     if loses_input(folder, faults, arguments) {
