@@ -17,7 +17,7 @@ from pathlib import Path
 
 TOP = Path(__file__).resolve().parent.parent
 ITEM = re.compile(r"\s{0,3}(?:[-*]|\d+\.)\s+")
-END = re.compile(r"(?<=[.!?])[*)\"]*\s+(?=[A-Z0-9`\"'(\[*_])")
+END = re.compile(r"(?:(?<=[.!?])|(?<=[.!?][*)\"])|(?<=[.!?]\*\*))\s+(?=[A-Z0-9`\"'(\[*_])")
 CODE = re.compile(r"`[^`]*`")
 LINK = re.compile(r"\[([^\]]*)\]\([^)]*\)")
 WORD = re.compile(r"[\w']+(?:[-.,/][\w']+)*")
@@ -41,7 +41,8 @@ def paragraphs_of(text):
             fenced = not fenced
         elif not is_break:
             begins = begins if found else number
-            found.append(ITEM.sub("", line, count=1).strip())
+            item = ITEM.match(line)
+            found.append(line[item.end() if item else 0:].strip())
 
 
 def sentences_of(text):
