@@ -1,6 +1,6 @@
-# The lost update of examples/lost_update.s, twenty times in each of two threads, by a guest that looks at the result. The
-# thread that is done last ends with code 1 if the counter isn't 40. All other ends have code 0, so `ir record --status`
-# tells a bad run from a good one.
+# The lost update of examples/lost_update.s, made likely, by a guest that looks at the result. Each of two threads makes
+# twenty additions, and in each it works for 40,000 steps between reading and writing. The thread that is done last ends
+# with code 1 if the counter isn't 40. All other ends have code 0, so `ir record --status` tells a bad run from a good one.
 
         .objects 2                      # 0 the counter, 1 how many threads are done
         .thread main
@@ -17,6 +17,9 @@ again:  addi    a0, zero, 0
         addi    a0, zero, 0
         addi    a7, zero, 9             # LEAVE: from here on the other thread may write
         ecall
+        li      t0, 20000
+work:   addi    t0, t0, -1
+        bne     t0, zero, work
         addi    a7, zero, 8             # ENTER_WRITE; a0 is still 0
         ecall
         addi    a2, s0, 0
