@@ -1,6 +1,6 @@
 # The commands of the repository. Each needs the Rattle kit's `rt` and Python 3, and nothing else, but for the tests of the built program.
 
-.PHONY: all run test edits program-test refuse mutate bench
+.PHONY: all try run test edits program-test refuse mutate bench
 
 all: ir
 
@@ -13,9 +13,13 @@ ir: $(SOURCES)
 	cp crates/ir_cli/out/ir_cli ir
 	@echo "The program is ./ir"
 
-# The first session of the README.
-run: ir
-	./ir < crates/ir_cli/stdin
+# A first look before anything is proved: sessions of examples/sessions, in one to two minutes.
+try:
+	python3 scripts/try_unproved.py
+
+# A first session, by the program where it is built, and else by a build that isn't proved.
+run:
+	@if [ -x ir ]; then ./ir < crates/ir_cli/stdin; else python3 scripts/try_unproved.py; fi
 
 # The merge gate: the rooms of the crates, and then every proof from nothing, must-fail edits, tests, programs.
 test:

@@ -56,13 +56,32 @@ def place_of(crate, edit):
     return f"{crate.name}::{module}::", before[-1] if before else None
 
 
+def changed(crate, edits):
+    """The crate's files that the edits change, one after the other, with their new texts."""
+    texts = {}
+    for edit in edits:
+        path, pairs = pairs_of(edit)
+        text = texts.get(path) or (crate / path).read_text(encoding="utf-8")
+        texts[path] = applied(text, pairs)
+    return texts
+
+
+def go_together(crate, edits):
+    """Whether the edits apply one after the other: what one writes may be what another looks for."""
+    try:
+        changed(crate, edits)
+    except BadEdit:
+        return False
+    return True
+
+
 def batches(crate, edits):
-    """The edits in as few lists as have no function twice; the name of each function beside it."""
+    """The edits in few lists that have no function twice and go together; the name of each function beside it."""
     lists = []
     for edit in edits:
         place = place_of(crate, edit)
         for batch in lists:
-            if place[1] and place not in [other for _, other in batch]:
+            if place[1] and place not in [other for _, other in batch] and go_together(crate, [*(other for other, _ in batch), edit]):
                 batch.append((edit, place))
                 break
         else:
@@ -84,10 +103,8 @@ def refused(crate, edits):
     """Checks a copy of the crate with these edits; the functions that are refused for themselves, and whether any of the crate's own is.
     Then the copy has the crate's own files again, since crates above it are checked over it."""
     room = laid(crate)
-    for edit in edits:
-        path, pairs = pairs_of(edit)
-        file = room / path
-        file.write_text(applied(file.read_text(encoding="utf-8"), pairs), encoding="utf-8")
+    for path, text in changed(crate, edits).items():
+        (room / path).write_text(text, encoding="utf-8")
     ran = subprocess.run(["rt", "check", "--jobs", "1"], cwd=room, text=True, errors="replace",
                          stdout=subprocess.PIPE, stderr=subprocess.STDOUT, check=False)
     laid(crate)

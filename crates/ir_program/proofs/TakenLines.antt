@@ -1,5 +1,5 @@
 -- Lines that are taken byte by byte.
-use Rattle.std.proofs.Common.{◌≡◌, ◌≤◌, ◌<◌, ◌+◌, ◌-◌, ℕ, Bool, false, List, [], ◌∷◌, ◌++◌, length, Option, Some, None, Result, Ok, Err, leb, refl, sym, ap, subst, ◌∙◌, arith, inl, inr}
+use Rattle.std.proofs.Common.{◌≡◌, ◌≤◌, ◌<◌, ◌+◌, ◌-◌, ℕ, Bool, true, false, List, [], ◌∷◌, ◌++◌, length, Option, Some, None, Result, Ok, Err, leb, refl, sym, ap, subst, ◌∙◌, arith, inl, inr}
 use Rattle.std.specs.Prelude.{IfSome, IfErr}
 use Rattle.std.specs.Io.KnownBytes.{Consumes, IsAtEnd, Keeps}
 use Rattle.std.proofs.KnownBytes.{Consumes-kept}
@@ -11,9 +11,9 @@ use Rattle.ir_debug.specs.Session.{Session, IfServed, most_input}
 use Rattle.ir_debug.specs.declared.ended.Ended.{Ended}
 use Rattle.ir_debug.specs.declared.ended.SessionErr.{SessionErr}
 use Rattle.ir_debug.specs.declared.ended.SessionErr.TheVariants as err
-use Rattle.ir_program.specs.Taking.{IsPlain, reader_of, TakesLine, TakesBytes, IsInLine, GivesNone, LineFails}
+use Rattle.ir_program.specs.Taking.{IsPlain, Reader, reader_of, TakesLine, TakesBytes, IsInLine, GivesNone, LineFails}
 use Rattle.ir_files.specs.Writers.{Writer}
-use Rattle.ir_program.specs.Leaving.{Serves, Leaves}
+use Rattle.ir_program.specs.Leaving.{Serves, CameWhole, CameInPart, Comes, Leaves, fault_of}
 use Rattle.ir_program.specs.declared.fault.BundleErr.{BundleErr}
 use Rattle.ir_program.specs.declared.fault.BundleErr.TheVariants as fault
 use Rattle.ir_stream.specs.Devices.{Reads}
@@ -216,3 +216,16 @@ serves a b c d image trace image' trace' P p q same_image same_trace reads = rec
   commands = subst (λ (x : List ℕ). Reads most_input c d (P image x)) same_trace
       (subst (λ (x : List ℕ). Reads most_input c d (P x trace')) same_image reads);
 }
+
+-- the session was stopped by a fault, which leaves what each of its kind does
+pub session_failed : (e : SessionErr) (reader : Reader) (writer : Writer) (Same : Type 0)
+    → (e ≡ err.NoMem → (reader.failed ≡ false) × Same)
+    → (e ≡ err.Read → (reader.failed ≡ true) × (writer.failed ≡ false)
+    × Serves reader.before reader.after (CameWhole writer.before writer.after))
+    → (e ≡ err.Write → (reader.failed ≡ false) × (writer.failed ≡ true)
+    × Serves reader.before reader.after (CameInPart reader.after writer.before writer.after))
+    → (e ≡ err.TooLong → Comes (Err err.TooLong) reader writer) → Leaves (fault_of e) reader writer Same
+session_failed err.NoMem reader writer Same no_memory read write long = no_memory refl
+session_failed err.Read reader writer Same no_memory read write long = let h = read refl in (h.0, h.1, inr h.2)
+session_failed err.Write reader writer Same no_memory read write long = write refl
+session_failed err.TooLong reader writer Same no_memory read write long = long refl

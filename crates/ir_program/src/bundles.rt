@@ -11,7 +11,7 @@ ghost use Rattle.ir_program.specs.Taking.{reader_of, TakesBytes, LineFails};
 
 use crate::fault::BundleErr;
 use crate::line::{bytes_of, read_line};
-use ir_debug::{Ended, SessionErr, Sink, Source, session};
+use ir_debug::{Ended, Sink, Source, session};
 use ir_files::{ExitStatus, tell};
 use ir_object::OpenGate;
 use std::alloc::Global;
@@ -54,21 +54,9 @@ pub fn bundled<T: Threads + Clock + Sync, R: Source, W: Sink>(
 {
     let image = next_bytes(alloc, reader)?;
     let trace = next_bytes(alloc, reader)?;
-    match session(
-        rt,
-        alloc,
-        image.as_slice(),
-        trace.as_slice(),
-        reader,
-        writer,
-        &OpenGate,
-    ) {
-        Ok(ended) => Ok(ended),
-        Err(SessionErr::NoMem) => Err(BundleErr::NoMem),
-        Err(SessionErr::Read) => Err(BundleErr::Read),
-        Err(SessionErr::Write) => Err(BundleErr::Write),
-        Err(SessionErr::TooLong) => Err(BundleErr::TooLong),
-    }
+    let (image, trace) = (image.as_slice(), trace.as_slice());
+    let ended = session(rt, alloc, image, trace, reader, writer, &OpenGate)?;
+    Ok(ended)
 }
 
 /// The exit status of a session that ended.

@@ -11,22 +11,11 @@ ghost use Rattle.ir_debug.specs.declared.ended.SessionErr.{SessionErr};
 
 use crate::bundles::status;
 use crate::fault::BundleErr;
-use ir_debug::{SessionErr, Sink, Source, session};
+use ir_debug::{Sink, Source, session};
 use ir_files::{ExitStatus, tell};
 use ir_object::OpenGate;
 use std::thread::Threads;
 use std::time::Clock;
-
-fn fault_of(error: SessionErr) -> BundleErr
-    ensures { result ≡ fault_of error }
-{
-    match error {
-        SessionErr::NoMem => BundleErr::NoMem,
-        SessionErr::Read => BundleErr::Read,
-        SessionErr::Write => BundleErr::Write,
-        SessionErr::TooLong => BundleErr::TooLong,
-    }
-}
 
 /// Runs the session of an image and a trace over the lines of the reader, and gives the exit status: that of the session
 /// where it ended, and `Failed` for a fault, which is told in one line.
@@ -54,7 +43,7 @@ pub fn debug_run<T: Threads + Clock + Sync + AllocGlobal, R: Source, W: Sink, E:
     match session(rt, rt.alloc(), image, trace, reader, writer, &OpenGate) {
         Ok(ended) => status(ended),
         Err(error) => {
-            tell(faults, fault_of(error).words());
+            tell(faults, BundleErr::from(error).words());
             ExitStatus::Failed
         }
     }

@@ -83,7 +83,7 @@ where
     requires writes { O.broken out.old ≡ false }
     requires reports { E.broken faults.old ≡ false }
 {
-    let Surroundings { rt, folder, .. } = around;
+    let Surroundings { rt, folder, gate } = around;
     let alloc = rt.alloc();
     let terminals = invocation.terminals;
     match parsed(alloc, invocation.arguments) {
@@ -97,7 +97,15 @@ where
         Asked::Assemble(arguments) => {
             assemble_file(alloc, folder, &arguments, terminals.faults, faults)
         }
-        Asked::Record(arguments) => record_file(around, &arguments, terminals.faults, out, faults),
+        Asked::Record(arguments) => record_file(
+            rt,
+            folder,
+            gate,
+            &arguments,
+            terminals.faults,
+            out,
+            faults,
+        ),
         Asked::Debug(arguments) => {
             let mut input = Prompting::new(input, rt, terminals.input);
             debug_files(

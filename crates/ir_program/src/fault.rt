@@ -3,6 +3,7 @@
 ghost use Rattle.std.specs.Prelude.{◌≡◌};
 ghost use Rattle.ir_program.specs.declared.fault.BundleErr.TheVariants.{NoMem};
 
+use ir_debug::SessionErr;
 use std::alloc::{AllocError, AllocFailed};
 
 /// Why an image and a trace in hexadecimal had no session, or their session stopped.
@@ -35,6 +36,21 @@ impl BundleErr {
             BundleErr::Read => "standard input can't be read",
             BundleErr::Write => "standard output can't be written",
             BundleErr::TooLong => "1073741824 bytes of commands held no line of quit",
+        }
+    }
+}
+
+impl From<SessionErr> for BundleErr {
+    ghost use Rattle.ir_program.specs.Leaving.{fault_of};
+
+    ghost from_gives = { λ e f. f ≡ fault_of e };
+
+    fn from(e: SessionErr) -> BundleErr {
+        match e {
+            SessionErr::NoMem => BundleErr::NoMem,
+            SessionErr::Read => BundleErr::Read,
+            SessionErr::Write => BundleErr::Write,
+            SessionErr::TooLong => BundleErr::TooLong,
         }
     }
 }

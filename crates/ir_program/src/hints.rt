@@ -8,14 +8,10 @@ const HELP: &[u8] = b"help";
 
 // How many of the help's lines come before what is said of numbers: the forms of the commands are among these.
 fn form_lines() -> usize {
-    let mut count = 0;
-    for line in DEBUG_AFTER.lines() {
-        if line.starts_with("Numbers") {
-            break;
-        }
-        count += 1;
-    }
-    count
+    DEBUG_AFTER
+        .lines()
+        .position(|line| line.starts_with("Numbers"))
+        .unwrap_or_default()
 }
 
 fn is_form(line: &str) -> bool {

@@ -16,14 +16,13 @@ pub enum ListErr {
     Write,
 }
 
-impl ListErr {
+impl From<ListErr> for BundleErr {
     ghost use Rattle.ir_program.specs.Listing.{fault_of};
 
-    /// The fault that is told.
-    pub fn fault(self) -> BundleErr
-        ensures { result ≡ fault_of self }
-    {
-        match self {
+    ghost from_gives = { λ e f. f ≡ fault_of e };
+
+    fn from(e: ListErr) -> BundleErr {
+        match e {
             ListErr::NoMem => BundleErr::NoMem,
             ListErr::Write => BundleErr::Write,
         }

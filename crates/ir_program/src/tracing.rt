@@ -9,6 +9,7 @@ ghost use Rattle.ir_files.specs.Writers.{writer_of, Took, Reports, fault_text};
 ghost use Rattle.ir_files.specs.declared.exit_status.ExitStatus.TheVariants.{Failed};
 ghost use Rattle.ir_program.specs.declared.list_err.ListErr.{ListErr};
 
+use crate::fault::BundleErr;
 use crate::list_err::ListErr;
 use crate::listing::{write_listing, write_refusal};
 use ir_debug::Sink;
@@ -59,7 +60,7 @@ pub fn trace_run<W: Sink, E: Sink>(
     match show(alloc, trace, out) {
         Ok(status) => status,
         Err(why) => {
-            tell(faults, why.fault().words());
+            tell(faults, BundleErr::from(why).words());
             ExitStatus::Failed
         }
     }

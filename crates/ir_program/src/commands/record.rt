@@ -3,7 +3,6 @@
 ghost use Rattle.std.specs.Prelude.{◌≡◌, OnSome, OnOk, false};
 
 use crate::commands::{bytes_of, is_lost, say};
-use crate::dispatch::Surroundings;
 use crate::ends::{all_ended, tell_ends};
 use ir_arguments::RecordArguments;
 use ir_files::{
@@ -33,41 +32,33 @@ fn input_of<D: Folder, E: Sink>(
     }
 }
 
-// A file that is read, if there is one, and what is told where it would be lost.
-type Kept<'a> = (&'static str, Option<&'a String>);
-
-// Whether one of the files would be lost by writing to a path, which is told.
-fn loses_one<D: Folder, E: Sink>(
+// Whether the file that is read, if one was given, would be lost by writing to a path, which is told.
+fn loses_given<D: Folder, E: Sink>(
     folder: &D,
     faults: &mut E,
+    would: &str,
+    file: &Option<String>,
     written: &str,
-    files: &[Kept<'_>],
 ) -> bool
     ensures kept { result ≡ false → faults.new ≡ faults.old }
 {
-    for (would, file) in files {
-        if let Some(file) = file {
-            if is_lost(folder, faults, would, file.as_str(), written) {
-                return true;
-            }
-        }
+    match file {
+        Some(file) => is_lost(folder, faults, would, file.as_str(), written),
+        None => false,
     }
-    false
 }
 
 // Whether a recording's trace would be written over one of the files that it reads.
 fn loses_input<D: Folder, E: Sink>(folder: &D, faults: &mut E, arguments: &RecordArguments) -> bool
     ensures kept { result ≡ false → faults.new ≡ faults.old }
 {
-    let files = [
-        ("TRACE would be written over IMAGE", Some(&arguments.image)),
-        ("TRACE would be written over FILE", arguments.input.as_ref()),
-        (
-            "TRACE would be written over LISTFILE",
-            arguments.order_file.as_ref(),
-        ),
-    ];
-    loses_one(folder, faults, arguments.trace.as_str(), &files)
+    const OVER_IMAGE: &str = "TRACE would be written over IMAGE";
+    const OVER_FILE: &str = "TRACE would be written over FILE";
+    const OVER_LIST: &str = "TRACE would be written over LISTFILE";
+    let trace = arguments.trace.as_str();
+    is_lost(folder, faults, OVER_IMAGE, arguments.image.as_str(), trace)
+        || loses_given(folder, faults, OVER_FILE, &arguments.input, trace)
+        || loses_given(folder, faults, OVER_LIST, &arguments.order_file, trace)
 }
 
 // The paths of what the threads of an image print, if they are asked for.
@@ -92,25 +83,14 @@ fn loses_other<D: Folder, E: Sink>(
 ) -> bool
     ensures kept { result ≡ false → faults.new ≡ faults.old }
 {
-    let files = [
-        (
-            "PREFIX.T would be written over IMAGE",
-            Some(&arguments.image),
-        ),
-        (
-            "PREFIX.T would be written over TRACE",
-            Some(&arguments.trace),
-        ),
-        (
-            "PREFIX.T would be written over FILE",
-            arguments.input.as_ref(),
-        ),
-        (
-            "PREFIX.T would be written over LISTFILE",
-            arguments.order_file.as_ref(),
-        ),
-    ];
-    loses_one(folder, faults, path, &files)
+    const OVER_IMAGE: &str = "PREFIX.T would be written over IMAGE";
+    const OVER_TRACE: &str = "PREFIX.T would be written over TRACE";
+    const OVER_FILE: &str = "PREFIX.T would be written over FILE";
+    const OVER_LIST: &str = "PREFIX.T would be written over LISTFILE";
+    is_lost(folder, faults, OVER_IMAGE, arguments.image.as_str(), path)
+        || is_lost(folder, faults, OVER_TRACE, arguments.trace.as_str(), path)
+        || loses_given(folder, faults, OVER_FILE, &arguments.input, path)
+        || loses_given(folder, faults, OVER_LIST, &arguments.order_file, path)
 }
 
 // The same of any of these threads.
@@ -154,20 +134,39 @@ fn output_places<D: Folder, E: Sink>(
     Ok(paths)
 }
 
+// Without the line feed, and the carriage return before it, at its end.
+fn without_end(list: &str) -> &str {
+    let line = list.strip_suffix('\n').unwrap_or(list);
+    line.strip_suffix('\r').unwrap_or(line)
+}
+
+// A copy of a list. Where memory runs out, that is told.
+fn copied<E: Sink>(alloc: Global, faults: &mut E, list: &str) -> Result<Option<String>, ExitStatus>
+    ensures kept { OnOk result (faults.new ≡ faults.old) }
+{
+    match String::from_str(alloc, list) {
+        Ok(list) => Ok(Some(list)),
+        Err(_) => {
+            say(faults, "memory ran out", "", "");
+            Err(ExitStatus::Failed)
+        }
+    }
+}
+
 // The list of a file, which a line feed may end. Where there is none, it is told why.
 fn list_in<D: Folder, E: Sink>(
     alloc: Global,
     folder: &D,
     faults: &mut E,
     path: &str,
-) -> Result<String, ExitStatus>
+) -> Result<Option<String>, ExitStatus>
     ensures kept { OnOk result (faults.new ≡ faults.old) }
 {
     let Some(bytes) = bytes_of(alloc, folder, faults, path, MOST_BYTES) else {
         return Err(ExitStatus::Failed);
     };
     match String::from_utf8(bytes) {
-        Ok(list) => Ok(list),
+        Ok(list) => copied(alloc, faults, without_end(list.as_str())),
         Err(_) => {
             say(faults, path, ": ", "LIST is no text");
             Err(ExitStatus::Refused)
@@ -175,7 +174,7 @@ fn list_in<D: Folder, E: Sink>(
     }
 }
 
-// The list of the file that is named, if one is.
+// The list that writes the order out, if there is one.
 fn list_of<D: Folder, E: Sink>(
     alloc: Global,
     folder: &D,
@@ -184,16 +183,11 @@ fn list_of<D: Folder, E: Sink>(
 ) -> Result<Option<String>, ExitStatus>
     ensures kept { OnOk result (faults.new ≡ faults.old) }
 {
-    match &arguments.order_file {
-        Some(path) => Ok(Some(list_in(alloc, folder, faults, path.as_str())?)),
-        None => Ok(None),
+    match (&arguments.order_file, &arguments.order) {
+        (Some(path), _) => list_in(alloc, folder, faults, path.as_str()),
+        (None, Some(list)) => copied(alloc, faults, list.as_str()),
+        (None, None) => Ok(None),
     }
-}
-
-// Without the line feed, and the carriage return before it, at its end.
-fn without_end(list: &str) -> &str {
-    let line = list.strip_suffix('\n').unwrap_or(list);
-    line.strip_suffix('\r').unwrap_or(line)
 }
 
 // What a recording reads beside its image, and where what its threads print goes.
@@ -248,7 +242,9 @@ fn status_of<E: Sink>(
 
 // Records a guest into a file, and what its threads print into others where they are asked for.
 pub fn record_file<R, D, G, O, E>(
-    around: Surroundings<'_, R, D, G>,
+    rt: &R,
+    folder: &D,
+    gate: &G,
     arguments: &RecordArguments,
     explains: bool,
     out: &mut O,
@@ -263,7 +259,6 @@ where
     requires writes { O.broken out.old ≡ false }
     requires reports { E.broken faults.old ≡ false }
 {
-    let Surroundings { rt, folder, gate } = around;
     let alloc = rt.alloc();
     let place = arguments.trace.as_str();
     if loses_input(folder, faults, arguments) {
@@ -277,10 +272,7 @@ where
         Ok(beside) => beside,
         Err(status) => return status,
     };
-    let order = match &beside.list {
-        Some(list) => Some(without_end(list.as_str())),
-        None => arguments.order.as_ref().map(|list| list.as_str()),
-    };
+    let order = beside.list.as_ref().map(|list| list.as_str());
     let paths = beside.outputs.as_ref().map(|paths| paths.as_slice());
     let plan = arguments.plan(order, beside.input.as_slice());
     let mut trace = WholeFile::new(alloc, folder, place);
