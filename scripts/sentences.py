@@ -8,7 +8,7 @@ the words of one on average, at the ninetieth percentile and of the longest, and
 prints each sentence of more than N words, with the page and the paragraph's line.
 
 Headings, tables, indented lines and fenced blocks hold no sentences. A paragraph or an item of a list is divided after `.`, `!` and `?`
-where a blank follows and then a capital letter, a digit, a quotation or a mark of emphasis, code or a link. Code between backquotes is one
+if a blank follows and then a capital letter, a digit, a quotation, a crate or a mark of emphasis, code or a link. Code between backquotes is one
 word, and of a link only its text counts.
 """
 import re
@@ -17,7 +17,7 @@ from pathlib import Path
 
 TOP = Path(__file__).resolve().parent.parent
 ITEM = re.compile(r"\s{0,3}(?:[-*]|\d+\.)\s+")
-END = re.compile(r"(?:(?<=[.!?])|(?<=[.!?][*)\"])|(?<=[.!?]\*\*))\s+(?=[A-Z0-9`\"'(\[*_])")
+END = re.compile(r"(?:(?<=[.!?])|(?<=[.!?][*)\"])|(?<=[.!?]\*\*))\s+(?=[A-Z0-9`\"'(\[*_]|ir_)")
 CODE = re.compile(r"`[^`]*`")
 LINK = re.compile(r"\[([^\]]*)\]\([^)]*\)")
 WORD = re.compile(r"[\w']+(?:[-.,/][\w']+)*")
