@@ -3,13 +3,13 @@
 
 python3 scripts/sentences.py [--over N] [PAGE ..]
 
-Without PAGE it reads README.md, the pages of docs and of its folders, and examples/README.md. It prints a line for each page: its sentences,
-the words of one on average, at the ninetieth percentile and of the longest, and the words of the longest cell of a table. With --over it also
-prints each sentence of more than N words, with the page and the paragraph's line.
+Without PAGE it reads README.md, the pages of docs and of its folders, and examples/README.md. It prints a line for each page: its
+sentences, the words of one on average, at the ninetieth percentile and of the longest, and the words of the longest cell of a table. With
+--over it also prints each sentence of more than N words, with the page and the paragraph's line.
 
-Headings, tables, indented lines and fenced blocks hold no sentences. A paragraph or an item of a list is divided after `.`, `!` and `?`
-if a blank follows and then a capital letter, a digit, a quotation, a crate or a mark of emphasis, code or a link. Code between backquotes is one
-word, and of a link only its text counts.
+Headings, tables, indented lines and fenced blocks hold no sentences. A paragraph or an item of a list is divided after `.`, `!` and `?` if a
+blank follows and then a capital letter, a digit, a quotation, a crate, or a mark of emphasis, code or a link. Code between backquotes is
+one word, and of a link only its text counts.
 """
 import re
 import sys
