@@ -610,6 +610,25 @@ def test_pages(folder):
             raise Wrong(f"{page.relative_to(ROOT)} has no commands")
 
 
+# The sessions of examples/sessions: the arguments that record each.
+SESSIONS = {"lost_update": " --order 0x10,1x25", "overwritten": ""}
+
+
+def test_sessions(folder):
+    """The sessions that `make try` runs are of their examples, and each ends with its quit."""
+    sessions = sorted((ROOT / "examples" / "sessions").iterdir())
+    wants("sessions", [session.name for session in sessions], sorted(SESSIONS))
+    for session in sessions:
+        shutil.copy(ROOT / "examples" / f"{session.name}.s", folder)
+        wants(session.name, run(f"asm {session.name}.s s.img", folder).returncode, 0)
+        wants(session.name, run(f"record s.img s.trc{SESSIONS[session.name]}", folder).returncode, 0)
+        image, trace = session.read_text(encoding="ascii").splitlines()[:2]
+        wants(f"{session.name}: the image", bytes.fromhex(image), (folder / "s.img").read_bytes())
+        wants(f"{session.name}: the trace", bytes.fromhex(trace), (folder / "s.trc").read_bytes())
+        ended = subprocess.run([PROGRAM], input=session.read_bytes(), capture_output=True, timeout=60, check=False)
+        wants(session.name, (ended.returncode, ended.stdout[:6], ended.stdout[-4:], ended.stderr), (0, b"ready\n", b"bye\n", b""))
+
+
 def main():
     """Runs each test in a folder of its own."""
     global PROGRAM
