@@ -3,10 +3,11 @@ pipes, signals and files of a disk.
 
     python3 scripts/program_test.py ./ir
 
-It needs Linux, and bash and xxd for the commands of the README. The last line is `N passed, M failed`.
+It needs Linux, and bash and xxd for the commands of the README and the guide. The last line is `N passed, M failed`.
 """
 
 import os
+import re
 import resource
 import shlex
 import shutil
@@ -561,11 +562,18 @@ def test_large_order(folder):
         raise Wrong(f"it took {time.monotonic() - start:.1f} s")
 
 
+# A row of a table that has a command, and then the last line that it writes.
+ROW = re.compile(r"\| `\$ (.+?)` \| `(.+?)` \|$")
+
+
 def commands_of(text):
-    """The commands of the README, each with the lines that are typed at its prompts and those that it writes."""
+    """The commands of a page, each with the lines that are typed at its prompts and those that it writes."""
     commands = []
     for line in text.splitlines():
-        if line.startswith("    $ "):
+        row = ROW.search(line)
+        if row:
+            commands.append((row[1], [], ["..", row[2]]))
+        elif line.startswith("    $ "):
             commands.append((line[6:], [], []))
         elif line.startswith("    (ir) ") and commands:
             commands[-1][1].append(line[9:])
@@ -583,18 +591,23 @@ def matches(found, wanted):
     return bool(found) and found[0] == wanted[0] and matches(found[1:], wanted[1:])
 
 
-def test_readme(folder):
-    """Each command of the README writes what stands there."""
-    for name in ("crates", "examples"):
-        (folder / name).symlink_to(ROOT / name)
-    commands = commands_of((ROOT / "README.md").read_text())
-    for command, typed, wanted in commands:
-        ended = shell(command, folder, "".join(f"{line}\n" for line in typed).encode())
-        if wanted and not matches(ended.stdout.decode().splitlines(), wanted):
-            raise Wrong(f"{command}: wrote {ended.stdout.decode()!r}")
-        wants(f"{command}: standard error", ended.stderr, b"")
-    if len(commands) < 3:
-        raise Wrong("the README has no commands")
+def test_pages(folder):
+    """Each command of the README, of the guide and of the page of the examples writes what follows it there; `make` isn't run."""
+    pages = [ROOT / "README.md", *sorted((ROOT / "docs" / "guide").glob("*.md")), ROOT / "examples" / "README.md"]
+    for number, page in enumerate(pages):
+        place = folder / f"page{number}"
+        place.mkdir()
+        (place / "ir").symlink_to(PROGRAM)
+        for name in ("crates", "docs", "examples"):
+            (place / name).symlink_to(ROOT / name)
+        commands = [row for row in commands_of(page.read_text()) if row[0].split()[0] != "make"]
+        for command, typed, wanted in commands:
+            ended = shell(command, place, "".join(f"{line}\n" for line in typed).encode())
+            if not matches(ended.stdout.decode().splitlines(), wanted):
+                raise Wrong(f"{page.relative_to(ROOT)}: {command}: wrote {ended.stdout.decode()!r}")
+            wants(f"{page.relative_to(ROOT)}: {command}: standard error", ended.stderr, b"")
+        if not commands and page.name != "concepts.md":
+            raise Wrong(f"{page.relative_to(ROOT)} has no commands")
 
 
 # The sessions of examples/sessions: the arguments that record each.

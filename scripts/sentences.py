@@ -1,0 +1,91 @@
+#!/usr/bin/env python3
+"""Counts how long the sentences of the pages are.
+
+python3 scripts/sentences.py [--over N] [PAGE ..]
+
+Without PAGE it reads README.md, the pages of docs and of its folders, and examples/README.md. It prints a line for each page: its
+sentences, the words of one on average, at the ninetieth percentile and of the longest, and the words of the longest cell of a table. With
+--over it also prints each sentence of more than N words, with the page and the paragraph's line.
+
+Headings, tables, indented lines and fenced blocks hold no sentences. A paragraph or an item of a list is divided after `.`, `!` and `?` if a
+blank follows and then a capital letter, a digit, a quotation, a crate, or a mark of emphasis, code or a link. Code between backquotes is
+one word, and of a link only its text counts.
+"""
+import re
+import sys
+from pathlib import Path
+
+TOP = Path(__file__).resolve().parent.parent
+ITEM = re.compile(r"\s{0,3}(?:[-*]|\d+\.)\s+")
+END = re.compile(r"(?:(?<=[.!?])|(?<=[.!?][*)\"])|(?<=[.!?]\*\*))\s+(?=[A-Z0-9`\"'(\[*_]|ir_)")
+CODE = re.compile(r"`[^`]*`")
+LINK = re.compile(r"\[([^\]]*)\]\([^)]*\)")
+WORD = re.compile(r"[\w']+(?:[-.,/][\w']+)*")
+
+
+def words_of(text):
+    """How many words a text has."""
+    return len(WORD.findall(LINK.sub(r"\1", CODE.sub("code", text))))
+
+
+def paragraphs_of(text):
+    """Each paragraph and each item of a list, with the number of its first line."""
+    fenced, found, begins = False, [], 0
+    for number, line in enumerate([*text.splitlines(), ""], 1):
+        is_fence = line.startswith("```")
+        is_break = fenced or is_fence or not line.strip() or line.startswith(("#", "|", "    "))
+        if found and (is_break or ITEM.match(line)):
+            yield begins, " ".join(found)
+            found = []
+        if is_fence:
+            fenced = not fenced
+        elif not is_break:
+            begins = begins if found else number
+            item = ITEM.match(line)
+            found.append(line[item.end() if item else 0:].strip())
+
+
+def sentences_of(text):
+    """Each sentence, with the line of its paragraph."""
+    for number, paragraph in paragraphs_of(text):
+        # Code is one word, whatever it holds.
+        for sentence in END.split(CODE.sub("`code`", paragraph)):
+            if words_of(sentence):
+                yield number, sentence
+
+
+def longest_cell(text):
+    """The words of the longest cell of a table."""
+    cells = [cell for line in text.splitlines() if line.startswith("|") for cell in CODE.sub("code", line).strip("|").split("|")]
+    return max(map(words_of, cells), default=0)
+
+
+def pages():
+    """The pages that people read."""
+    return [TOP / "README.md", *sorted((TOP / "docs").rglob("*.md")), TOP / "examples" / "README.md"]
+
+
+def main():
+    words = sys.argv[1:]
+    over = None
+    if words[:1] == ["--over"] and len(words) > 1 and words[1].isdigit():
+        over, words = int(words[1]), words[2:]
+    if any(word.startswith("-") for word in words):
+        print(__doc__)
+        sys.exit(2)
+    for page in [Path(word) for word in words] or [page for page in pages() if page.exists()]:
+        text = page.read_text(encoding="utf-8")
+        found = [(words_of(sentence), number, sentence) for number, sentence in sentences_of(text)]
+        counts = sorted(count for count, _, _ in found) or [0]
+        name = page.relative_to(TOP) if page.is_relative_to(TOP) else page
+        mean = sum(counts) / len(counts)
+        ninetieth = counts[(len(counts) * 9 + 9) // 10 - 1]
+        print(f"{name}: {len(found)} sentences, {mean:.1f} words on average, {ninetieth} at the ninetieth percentile, "
+              f"{counts[-1]} at most; a cell {longest_cell(text)}")
+        for count, number, sentence in found:
+            if over is not None and count > over:
+                print(f"  {name}:{number}: {count}: {sentence}")
+
+
+if __name__ == "__main__":
+    main()
