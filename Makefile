@@ -30,7 +30,7 @@ test:
 edits: ir
 	python3 scripts/edits.py
 
-# The program as a person runs it: devices, pipes, signals, the README's commands. Needs Linux, bash and xxd beside.
+# The program as a person runs it: devices, pipes, signals, the commands of README, guide and examples. Needs Linux, bash and xxd beside.
 program-test: ir
 	python3 scripts/program_test.py ./ir
 
