@@ -1,0 +1,5 @@
+pub mod Draws
+pub mod Ways
+pub mod Ranking
+pub mod Choices
+pub mod Schedules
