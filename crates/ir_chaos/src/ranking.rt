@@ -1,6 +1,19 @@
 //! A choice by priorities.
 
+ghost use Rattle.ir_chaos.specs.Ranking.{Ranking, leader, fallen, chosen_highest, settled};
+ghost use Rattle.std.specs.Prelude.{◌≡◌, ◌<◌, length, All};
+ghost use Rattle.std.specs.List.{Contains};
+
 use std::marker::Model;
+
+// The priorities of threads that have not fallen begin here.
+const FIRST_PRIORITY: u64 = 1 << 34;
+
+// The priority of a thread that falls at the first place.
+const FALLEN_PRIORITY: u64 = 1 << 33;
+
+// The fewest times in a row after which a thread polls.
+const FEWEST_IN_A_ROW: u64 = 16;
 
 // The priorities of a guest's threads, which fall.
 #[derive(Drop)]
@@ -27,4 +40,64 @@ impl Model for Ranking {
     ghost Value = { Ranking };
 
     ghost view = { λ r. record { priorities = r.priorities.items; places = r.places.items; left = r.left; last = r.last; patience = r.patience; limit = r.limit; lowest = r.lowest } };
+}
+
+// Who goes of these threads: the first of the highest priority.
+fn leader(priorities: &[u64], ready: &[u8]) -> u8
+    requires some { 0 < length ready.now }
+    requires within { All (λ t. t < length priorities.now) ready.now }
+    ensures value { result ≡ leader priorities.now ready.now }
+    ensures below { result < length priorities.now }
+    ensures member { Contains ready.now result }
+{
+    let mut best = ready[0];
+    'ready: for thread in ready {
+        if priorities[best as usize] < priorities[*thread as usize] {
+            best = *thread;
+        }
+    }
+    best
+}
+
+impl Ranking {
+    // Whoever would go falls at each place that is reached.
+    fn fall(&mut self, ready: &[u8])
+        requires some { 0 < length ready.now }
+        requires within { All (λ t. t < length self.old.priorities) ready.now }
+        ensures value { self.new ≡ record self.old { priorities = fallen ready.now self.old.left 0 self.old.places self.old.priorities } }
+        ensures threads { length self.new.priorities ≡ length self.old.priorities }
+    {
+        'places: for number in 0..self.places.len() {
+            if self.places[number] == self.left {
+                let thread = leader(self.priorities.as_slice(), ready);
+                self.priorities[thread as usize] = FALLEN_PRIORITY + number as u64;
+            }
+        }
+    }
+
+    // Who goes of these threads.
+    pub fn choose(&mut self, ready: &[u8]) -> u8
+        requires some { 0 < length ready.now }
+        requires within { All (λ t. t < length self.old.priorities) ready.now }
+        ensures value { (result, self.new) ≡ chosen_highest self.old ready.now }
+        ensures member { Contains ready.now result }
+        ensures threads { length self.new.priorities ≡ length self.old.priorities }
+    {
+        self.fall(ready);
+        let thread = leader(self.priorities.as_slice(), ready);
+        let before = if thread == self.last {
+            self.patience
+        } else {
+            self.limit
+        };
+        self.left = self.left.saturating_sub(1);
+        self.last = thread;
+        self.patience = before.saturating_sub(1);
+        if self.patience == 0 && ready.len() > 1 {
+            self.priorities[thread as usize] = self.lowest;
+            self.lowest = self.lowest.saturating_sub(1);
+            self.patience = self.limit;
+        }
+        thread
+    }
 }
