@@ -1,5 +1,5 @@
 -- Who goes on where all threads are at rest.
-use Rattle.std.specs.Prelude.{ℕ, ◌-◌, List, [], ◌∷◌, length, nat_lt, if◌then◌else◌}
+use Rattle.std.specs.Prelude.{◌≡◌, ⊤, ℕ, ◌-◌, List, [], ◌∷◌, length, nat_lt, if◌then◌else◌}
 use Rattle.std.specs.List.{slice_index_or}
 use Rattle.rand_pcg.specs.Lcg.{Lcg}
 use Rattle.ir_chaos.specs.Draws.{generator_of, drawn}
@@ -41,3 +41,9 @@ chooser_by way.Mix seed threads choices = Walk (generator_of seed)
 
 abbrev pub chooser_of : Way → ℕ → ℕ → ℕ → Chooser
 chooser_of by seed threads choices = chooser_by (way_of by seed) seed threads choices
+
+-- it can choose of the threads of a guest that has so many
+abbrev pub Serves : ℕ → Chooser → Type 0
+Serves threads (Rounds last) = ⊤
+Serves threads (Walk g) = ⊤
+Serves threads (Highest p) = length p.priorities ≡ threads

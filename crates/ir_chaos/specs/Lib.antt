@@ -3,3 +3,4 @@ pub mod Ways
 pub mod Ranking
 pub mod Choices
 pub mod Schedules
+pub mod Laws

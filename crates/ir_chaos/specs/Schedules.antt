@@ -1,5 +1,5 @@
 -- Runs in which threads change at rest alone.
-use Rattle.std.specs.Prelude.{◌≡◌, ◌<◌, ℕ, zero, suc, Bool, true, false, List, [], ◌∷◌, ◌++◌, ◌⊎◌}
+use Rattle.std.specs.Prelude.{◌≡◌, ◌<◌, ℕ, zero, suc, Bool, true, false, List, [], ◌∷◌, ◌++◌, ◌⊎◌, map}
 use Rattle.ir_runs.specs.Machine.{Ask, Private, Env, Enter, Try, Leave, Get, Put, Done, Machine}
 use Rattle.ir_runs.specs.Run.{State, Step, asked, Can, after, end, IsDone}
 use Rattle.ir_runs.specs.InOrder.{EntersIfFree}
@@ -39,9 +39,9 @@ pub record IsChosen {T : Type 0} (tries : Bool) (m : Machine T) (n : ℕ) (s : S
   pub are : AreReady m s n ready
   pub choice : (t, d) ≡ chosen c ready
 
--- the next step: whoever is under way goes on, the lowest first; where all rest, the chosen one enters
+-- the next step, of one of the n threads: whoever is under way goes on, the lowest first; where all rest, the chosen one goes
 abbrev pub IsNext : {T : Type 0} → Bool → Machine T → ℕ → State T → Chooser → Step → Chooser → Type 0
-IsNext tries m n s c e d = Can m s e × EntersIfFree m s e × ((IsUnderWay tries m s e.0 × (d ≡ c)) ⊎ IsChosen tries m n s c e.0 d)
+IsNext tries m n s c e d = (e.0 < n) × Can m s e × EntersIfFree m s e × ((IsUnderWay tries m s e.0 × (d ≡ c)) ⊎ IsChosen tries m n s c e.0 d)
 
 -- the steps of a run by the chooser, which is d after them
 abbrev pub Leads : {T : Type 0} → Bool → Machine T → ℕ → State T → Chooser → List Step → Chooser → Type 0
@@ -53,3 +53,7 @@ pub record IsSchedule {T : Type 0} (tries : Bool) (m : Machine T) (n : ℕ) (s :
   pub last : Chooser
   pub leads : Leads tries m n s c run last
   pub done : IsDone m (end m s run)
+
+-- whose steps these are
+abbrev pub threads_of : List Step → List ℕ
+threads_of run = map (λ e. e.0) run

@@ -3,8 +3,10 @@
 
 mod chooser;
 mod draw;
+mod laws;
 mod ranking;
 mod way;
 
 pub use chooser::Chooser;
+pub use laws::{schedules_are_of_threads, schedules_are_orders};
 pub use way::Way;

@@ -1,9 +1,13 @@
 //! A choice by priorities.
 
-ghost use Rattle.ir_chaos.specs.Ranking.{Ranking, leader, fallen, chosen_highest, settled};
-ghost use Rattle.std.specs.Prelude.{◌≡◌, ◌<◌, length, All};
+ghost use Rattle.ir_chaos.specs.Ranking.{Ranking, leader, fallen, chosen_highest, first_priorities, after_words, first_places, first_ranking};
+ghost use Rattle.std.specs.Prelude.{◌≡◌, ◌<◌, length, All, IfOk, OnOk};
 ghost use Rattle.std.specs.List.{Contains};
 
+use crate::draw::draw;
+use rand_core::utils::NextWord;
+use rand_pcg::Pcg32;
+use std::alloc::{AllocError, Global};
 use std::marker::Model;
 
 // The priorities of threads that have not fallen begin here.
@@ -59,7 +63,64 @@ fn leader(priorities: &[u64], ready: &[u8]) -> u8
     best
 }
 
+// The priorities of so many threads, each of a word.
+fn priorities(alloc: Global, random: &mut Pcg32, threads: usize) -> Result<Vec<u64>, AllocError>
+    ensures value { IfOk result (λ v. v.items ≡ first_priorities threads random.old) }
+    ensures generator { OnOk result (random.new ≡ after_words threads random.old) }
+{
+    let mut priorities = Vec::with_capacity(alloc, threads)?;
+    'threads: for _ in 0..threads {
+        let word = random.next_word();
+        priorities.push(FIRST_PRIORITY + word as u64)?;
+    }
+    Ok(priorities)
+}
+
+// So many places, each one of so many choices.
+fn places(
+    alloc: Global,
+    random: &mut Pcg32,
+    choices: u32,
+    count: u32,
+) -> Result<Vec<u64>, AllocError>
+    requires { 0 < choices }
+    ensures { IfOk result (λ v. v.items ≡ first_places choices count random.old) }
+{
+    let mut places = Vec::new(alloc);
+    'places: for _ in 0..count {
+        let place = draw(random, choices);
+        places.push(place as u64 + 1)?;
+    }
+    Ok(places)
+}
+
 impl Ranking {
+    // So many threads, of whose runs one has so many choices, and so many places.
+    pub fn new(
+        alloc: Global,
+        random: &mut Pcg32,
+        threads: usize,
+        choices: u32,
+        count: u32,
+    ) -> Result<Ranking, AllocError>
+        requires { 0 < choices }
+        ensures value { IfOk result (λ r. r ≡ first_ranking threads choices count random.old) }
+        ensures threads { IfOk result (λ r. length r.priorities ≡ threads) }
+    {
+        let priorities = priorities(alloc, random, threads)?;
+        let places = places(alloc, random, choices, count)?;
+        let limit = (choices as u64).max(FEWEST_IN_A_ROW);
+        Ok(Ranking {
+            priorities,
+            places,
+            left: choices as u64,
+            last: 0,
+            patience: limit,
+            limit,
+            lowest: FALLEN_PRIORITY - 1,
+        })
+    }
+
     // Whoever would go falls at each place that is reached.
     fn fall(&mut self, ready: &[u8])
         requires some { 0 < length ready.now }

@@ -8,18 +8,18 @@ use Rattle.ir_chaos.proofs.ranking.leader.Goals.{then-priorities-best, else-prio
 pub ready-preserved : goal.ready-preserved
 ready-preserved c = elim c.if-priorities-best.branch [
   | then-priorities-best w ↦ record {
-      below = subst (λ t. t < length c.args.priorities.now) (sym w.best-is)
-          (All-get_or (λ t. t < length c.args.priorities.now) c.args.ready.now c.ready.thread-index 0 c.ready-test.true c.requires.within);
-      member = element c.args.ready.now c.ready.thread-index c.if-priorities-best.best c.ready-test.true w.best-is;
-      rest = highest_more c.args.priorities.now c.args.ready.now c.ready.thread-index c.ready.best c.if-priorities-best.best c.ready-test.true
-          (is_higher c.args.priorities.now c.ready.best (get_or c.args.ready.now c.ready.thread-index 0) c.if-priorities-best.best w.if-priorities-best.true w.best-is)
-          ∙ c.ready.invariant.rest;
-    }
+    below = subst (λ t. t < length c.args.priorities.now) (sym w.best-is)
+        (All-get_or (λ t. t < length c.args.priorities.now) c.args.ready.now c.ready.thread-index 0 c.ready-test.true c.requires.within);
+    member = element c.args.ready.now c.ready.thread-index c.if-priorities-best.best c.ready-test.true w.best-is;
+    rest = highest_more c.args.priorities.now c.args.ready.now c.ready.thread-index c.ready.best c.if-priorities-best.best c.ready-test.true
+        (is_higher c.args.priorities.now c.ready.best (get_or c.args.ready.now c.ready.thread-index 0) c.if-priorities-best.best w.if-priorities-best.true w.best-is)
+        ∙ c.ready.invariant.rest;
+  }
   | else-priorities-best w ↦ record {
-      below = subst (λ t. t < length c.args.priorities.now) (sym w.best-is) c.ready.invariant.below;
-      member = subst (λ t. Contains c.args.ready.now t) (sym w.best-is) c.ready.invariant.member;
-      rest = highest_more c.args.priorities.now c.args.ready.now c.ready.thread-index c.ready.best c.if-priorities-best.best c.ready-test.true
-          (is_no_higher c.args.priorities.now c.ready.best (get_or c.args.ready.now c.ready.thread-index 0) c.if-priorities-best.best w.if-priorities-best.false w.best-is)
-          ∙ c.ready.invariant.rest;
-    }
+    below = subst (λ t. t < length c.args.priorities.now) (sym w.best-is) c.ready.invariant.below;
+    member = subst (λ t. Contains c.args.ready.now t) (sym w.best-is) c.ready.invariant.member;
+    rest = highest_more c.args.priorities.now c.args.ready.now c.ready.thread-index c.ready.best c.if-priorities-best.best c.ready-test.true
+        (is_no_higher c.args.priorities.now c.ready.best (get_or c.args.ready.now c.ready.thread-index 0) c.if-priorities-best.best w.if-priorities-best.false w.best-is)
+        ∙ c.ready.invariant.rest;
+  }
 ]
