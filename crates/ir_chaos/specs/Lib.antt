@@ -4,3 +4,4 @@ pub mod Ranking
 pub mod Choices
 pub mod Schedules
 pub mod Laws
+pub mod Conditions
