@@ -13,7 +13,7 @@ ir: $(SOURCES)
 	cp crates/ir_cli/out/ir_cli ir
 	@echo "The program is ./ir"
 
-# A first look before anything is proved: sessions of examples/sessions, in one to two minutes.
+# A first look before anything is proved: sessions of examples/sessions, in about a minute.
 try:
 	python3 scripts/try_unproved.py
 

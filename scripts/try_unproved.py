@@ -1,5 +1,5 @@
 #!/usr/bin/env python3
-"""Runs the sessions of examples/sessions on a build that isn't proved yet, in one to two minutes.
+"""Runs the sessions of examples/sessions on a build that isn't proved yet, in about a minute.
 
 python3 scripts/try_unproved.py
 
