@@ -222,6 +222,38 @@ def test_explaining(folder):
     wants("no fault", at_terminal("asm --explain d.s d2.img", folder), (0, ""))
 
 
+def typed(arguments, lines, folder):
+    """A run at a terminal where these lines are typed, and then the end of the input: the status, standard output, and what stands there."""
+    control, terminal = os.openpty()
+    with subprocess.Popen([PROGRAM, *shlex.split(arguments)], cwd=folder, stdin=terminal, stdout=subprocess.PIPE, stderr=terminal) as process:
+        os.close(terminal)
+        os.write(control, "".join(f"{line}\n" for line in lines).encode() + b"\x04")
+        out = process.stdout.read()
+        status = process.wait(timeout=60)
+    told = b""
+    with open(control, "rb", buffering=0) as screen:
+        try:
+            while part := screen.read(4096):
+                told += part
+        except OSError:
+            # The other end is closed, and all was read.
+            pass
+    return status, out, told.decode().replace("\r\n", "\n")
+
+
+def test_hints(folder):
+    """At a terminal it is said what was wanted in place of a refused line; standard output is as elsewhere."""
+    wants("recording", run("record d.img hints.trc", folder).returncode, 0)
+    status, out, told = typed("debug d.img hints.trc", ["step 0", "foo", "help", "step 9 1"], folder)
+    answers = b"ready\nrefused 2 bad argument\nrefused 1 unknown command\nrefused 1 unknown command\nrefused 3 no such thread\n"
+    wants("a session", (status, out), (0, answers))
+    for words in ("wanted: step T N ", "the commands are step back goto ", "\n  goto T K ", "\n  quit "):
+        wants(f"{words!r} is said once", told.count(words), 1)
+    wants("each line and the end are prompted for", told.count("(ir) "), 5)
+    status, out, told = typed("", ["00"], folder)
+    wants("no argument", (status, out, "ir: waiting for an image and a trace, " in told), (3, b"image refused 1\n", True))
+
+
 def test_own_files(folder):
     """What is read isn't written over."""
     (folder / "link.s").symlink_to("d.s")
