@@ -1,5 +1,5 @@
 -- Points that are set, and where a thread stops at them.
-use Rattle.std.proofs.Common.{◌≡◌, ◌≢◌, ◌<◌, ◌≤◌, ◌+◌, ◌==◌, ℕ, zero, suc, Bool, true, false, List, [], ◌∷◌, ◌++◌, length, drop, Option, Some, None, refl, sym, ap, ◌∙◌, subst, arith, get_or, inl, inr}
+use Rattle.std.proofs.Common.{◌≡◌, ◌≢◌, ◌<◌, ◌≤◌, ◌+◌, ◌==◌, ℕ, suc, Bool, true, false, List, [], ◌∷◌, ◌++◌, length, drop, Option, Some, None, refl, sym, ap, ◌∙◌, subst, arith, get_or, inl, inr}
 use Rattle.std.specs.Prelude.{not, find, cond, is_some}
 use Rattle.std.proofs.lemmas.List.{at_drop_more, at_drop_all}
 use Rattle.std.proofs.lemmas.Bool.{cases_lt}
@@ -7,10 +7,11 @@ use Rattle.std.proofs.lemmas.Bool.Decides.{nat_tests}
 use Rattle.ir_mach.specs.Memory.{memory_word}
 use Rattle.ir_thread.specs.State as thread
 use Rattle.ir_runs.specs.declared.access.Access.TheVariants.{Writing}
-use Rattle.ir_runs.specs.Labels.{Label, Out}
-use Rattle.ir_runs.specs.Run.{Step, trail, thread_in, end}
+use Rattle.ir_runs.specs.Labels.{Out}
+use Rattle.ir_runs.specs.Run.{Step, trail, end}
 use Rattle.ir_fit.specs.Fit.{FittedTrace, HasRun, IsRunOf}
 use Rattle.ir_fit.proofs.CallerLemmas.{get_at}
+use Rattle.ir_weave.proofs.CallerLemmas.{past_end}
 use Rattle.ir_cut.specs.Positions.{machine_of, start_of, EachRun}
 use Rattle.ir_command.specs.declared.command.Direction.{Direction}
 use Rattle.ir_command.specs.declared.command.Direction.TheVariants.{Forwards, Backwards}
@@ -65,11 +66,6 @@ all_without [] n all = tt
 all_without (p ∷ ps) n all = by_kept p (points_without ps n) (not (p.number == n)) all.0 (all_without ps n all.1)
 
 -- ---- where a thread stops
-
-past_end : {T : Type 0} (xs : List (T × Label)) (k : ℕ) (last : T) → length xs ≤ k → thread_in xs k last ≡ last
-past_end [] k last le = refl
-past_end (x ∷ xs) zero last le = absurd (omega (arith, le))
-past_end (x ∷ xs) (suc k) last le = past_end xs k last (omega (arith, le))
 
 -- behind its last step a thread stays as it is
 pub stays : (f : FittedTrace) (run : List Step) (t j : ℕ) → steps_of f run t ≤ j → thread_at f run t j ≡ thread_at f run t (suc j)

@@ -13,5 +13,7 @@ pub use Rattle.ir_weave.proofs.Trails.{StepOf, step_at}
 pub use Rattle.ir_weave.proofs.Forth.{CaughtUp, catch_up}
 -- a thread that goes on by itself beside its trace
 pub use Rattle.ir_weave.proofs.Lone.{step_there}
+-- behind its last step a thread is as at the end
+pub use Rattle.ir_weave.proofs.Ended.{past_end}
 -- a thread of a state is where it is
 pub use Rattle.ir_weave.proofs.Numbers.{ahead_at}
