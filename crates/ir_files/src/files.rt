@@ -102,7 +102,9 @@ pub struct NewFile<'a, D: Folder> {
 impl<'a, D: Folder> NewFile<'a, D> {
     /// The file of a path, to which nothing was written yet.
     pub fn new(folder: &'a D, path: &'a str) -> NewFile<'a, D>
-        ensures { result.failed ≡ false }
+        ensures folder { result.folder.now ≡ folder.now }
+        ensures path { result.path.now ≡ path.now }
+        ensures works { result.failed ≡ false }
     {
         NewFile {
             folder,

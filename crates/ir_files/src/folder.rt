@@ -1,6 +1,6 @@
 //! The files that the program reads and writes.
 
-ghost use Rattle.std.specs.Prelude.{◌≡◌, ℕ, List, Option, Some, None, IfOk, IfSome};
+ghost use Rattle.std.specs.Prelude.{◌≡◌, ℕ, List, Bool, true, Option, Some, None, IfOk, OnOk, IfSome};
 
 use crate::places::Found;
 use std::fs::{self, File, OpenOptions};
@@ -14,6 +14,9 @@ pub trait Folder {
 
     /// The bytes of the file at a path, where they are known.
     ghost bytes_at: { Self → List ℕ → Option (List ℕ) } = { λ _ _. None };
+
+    /// Whether what stood at the first path was put at the second.
+    ghost was_put: { Self → List ℕ → List ℕ → Bool } = { λ _ _ _. true };
 
     /// Opens a file, to be read.
     ///
@@ -38,7 +41,8 @@ pub trait Folder {
     ///
     /// # Errors
     /// The reason why it can't be, and all is as it was.
-    fn rename(&self, from: &str, to: &str) -> io::Result<()>;
+    fn rename(&self, from: &str, to: &str) -> io::Result<()>
+        ensures { OnOk result (was_put self.now from.now to.now ≡ true) };
 
     /// Removes a file.
     ///

@@ -1,6 +1,7 @@
 //! Files that stand in their place only once they are whole.
 
-ghost use Rattle.std.specs.Prelude.{◌≡◌, Bool, OnOk, OnErr, None, false, true};
+ghost use Rattle.std.specs.Prelude.{◌≡◌, Bool, OnOk, OnErr, IfSome, None, false, true};
+ghost use Rattle.std.specs.String.{string_bytes};
 
 use crate::files::put;
 use crate::folder::Folder;
@@ -102,7 +103,10 @@ pub struct WholeFile<'a, D: Folder> {
 impl<'a, D: Folder> WholeFile<'a, D> {
     /// The file of a place, to which nothing was written yet.
     pub fn new(alloc: Global, folder: &'a D, place: &'a str) -> WholeFile<'a, D>
-        ensures { result.failed ≡ false }
+        ensures folder { result.folder.now ≡ folder.now }
+        ensures place { result.place.now ≡ place.now }
+        ensures works { result.failed ≡ false }
+        ensures whole { result.whole ≡ false }
     {
         WholeFile {
             alloc,
@@ -175,7 +179,13 @@ impl<D: Folder> Sink for WholeFile<'_, D> {
 impl<D: Folder> WholeSink for WholeFile<'_, D> {
     ghost whole = { λ f. f.whole };
 
-    fn finish(&mut self) -> Result<(), DeviceErr> {
+    fn finish(&mut self) -> Result<(), DeviceErr>
+        ensures whole { OnOk result (self.new.whole ≡ true) }
+        // What was written beside its place was put there.
+        ensures put { OnOk result (IfSome self.old.beside (λ beside. D.was_put self.old.folder.now (string_bytes beside) self.old.place.now ≡ true)) }
+        ensures stays { OnOk result (self.new.failed ≡ self.old.failed) }
+        ensures err { OnErr result (self.new.failed ≡ true) }
+    {
         if let Some(beside) = &self.beside {
             if let Err(error) = self.folder.rename(beside.as_str(), self.place) {
                 return Err(self.fail(reason(error.kind())));
