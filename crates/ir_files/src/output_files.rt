@@ -74,7 +74,9 @@ pub struct OutputFiles<'a, D: Folder> {
 impl<'a, D: Folder> OutputFiles<'a, D> {
     /// The files at these paths, beside a trace at this one.
     pub fn new(folder: &'a D, paths: Option<&'a [String]>, trace: &'a str) -> OutputFiles<'a, D>
-        ensures { result.failed ≡ false }
+        ensures folder { result.folder.now ≡ folder.now }
+        ensures trace { result.trace.now ≡ trace.now }
+        ensures works { result.failed ≡ false }
     {
         OutputFiles {
             folder,
