@@ -174,6 +174,8 @@ def named_by_contract(file, item):
     """What the contract of a function names, or the contracts of a trait."""
     text, where = code(file)
     begins = re.search(rf"^pub (?:fn|trait) {item}\b.*?^[{{}}]", text, re.MULTILINE | re.DOTALL)
+    if begins is None:
+        sys.exit(f"scripts/definitions.py: crates/{file} has no {item}")
     return named_in(begins[0], where)
 
 
