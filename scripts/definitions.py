@@ -5,7 +5,8 @@ python3 scripts/definitions.py [--check]
 
 With --check it writes nothing and prints a line for each page that differs, and then fails; scripts/rooms.py prints these lines too. The page
 itself has to be as it would be made. The tables of docs/internals/theorem.md have to name the files to which the contracts of PARTS lead. Each
-edit that docs/internals/contracts.md names has to be one of some crate.
+call and each edit that docs/internals/contracts.md names has to be one of some crate. Each crate has to have its words in
+docs/internals/architecture.md.
 
 A contract leads to the definitions that it names, and these to those that they name: names are followed by the `use` lines of their file. A type
 of the code leads to what its ghost fields and its `impl Model` name. What leads to std or to another crate of the kit isn't followed.
@@ -61,6 +62,7 @@ BEGINS = re.compile(r"^(?:abbrev pub|unfoldable pub|pub record|pub data|pub(?! u
 NAME = re.compile(r"[^\s(){}\[\].,;λ]+(?:\.[^\s(){}\[\].,;λ]+)*")
 EXPORT = re.compile(r"^pub use [\w:]+::(?:\{([^}]*)\}|(\w+));", re.MULTILINE)
 ITEM = re.compile(r"^(?:pub (?:const )?(?:fn|trait|struct|enum) (\w+)|impl(?:<[^{]*?>)? (?:[^{]*? for )?(\w+)).*?^\{?\}", re.MULTILINE | re.DOTALL)
+CALL = re.compile(r"\b(?:fn|trait|struct|enum) (\w+)")
 ROW = re.compile(r"^\| \[(ir_\w+)/specs/([\w/]+)\]", re.MULTILINE)
 
 
@@ -276,22 +278,37 @@ def listed(heading):
     return {(crate, name.replace("/", ".")) for crate, name in ROW.findall(section)}
 
 
-def faults():
-    """What differs on the pages, a line each."""
-    if not PAGE.exists() or PAGE.read_text(encoding="utf-8") != page():
-        yield f"{PAGE.relative_to(TOP)}: isn't what specs/ says: run python3 scripts/definitions.py"
+def table_faults():
+    """What differs in the tables of theorem.md."""
     for title, heading, files, _ in parts():
         there = listed(heading) if heading else set()
         for crate, name in sorted(files - there):
             yield f"docs/internals/theorem.md: {crate}/specs/{name.replace('.', '/')} isn't in the table of {title}"
         for crate, name in sorted(there - files):
             yield f"docs/internals/theorem.md: no contract of {title} leads to {crate}/specs/{name.replace('.', '/')}"
+
+
+def name_faults():
+    """What contracts.md names and no crate has, and the crates of which architecture.md says nothing."""
     edits = {path.stem for path in (TOP / "crates").glob("*/*/*.edit")}
+    calls = {name for path in (TOP / "crates").glob("*/src/**/*.rt") for name in CALL.findall(path.read_text(encoding="utf-8"))}
     for line in (PAGES / "contracts.md").read_text(encoding="utf-8").partition("\n## Tested")[0].splitlines():
-        cells = line.strip("|").split("|")
-        for name in re.findall(r"`(\w+)`", cells[2]) if line.startswith("|") and len(cells) == 3 else []:
-            if name not in edits:
-                yield f"docs/internals/contracts.md: no crate has the edit {name}"
+        if line.startswith("|"):
+            _, call, *edit = line.strip("|").split("|")
+            named = [name for path in re.findall(r"`([\w:]+)`", call) for name in path.split("::")]
+            yield from (f"docs/internals/contracts.md: no crate has the call {name}" for name in named if name not in calls)
+            named = re.findall(r"`(\w+)`", "".join(edit))
+            yield from (f"docs/internals/contracts.md: no crate has the edit {name}" for name in named if name not in edits)
+    known = set(re.findall(r"\bir_\w+", (PAGES / "architecture.md").read_text(encoding="utf-8")))
+    yield from (f"docs/internals/architecture.md: says nothing of {crate}" for crate in crates() if crate not in known)
+
+
+def faults():
+    """What differs on the pages, a line each."""
+    if not PAGE.exists() or PAGE.read_text(encoding="utf-8") != page():
+        yield f"{PAGE.relative_to(TOP)}: isn't what specs/ says: run python3 scripts/definitions.py"
+    yield from table_faults()
+    yield from name_faults()
 
 
 def main():
