@@ -101,7 +101,7 @@ def definitions_of(lines):
     for line in lines:
         begins = BEGINS.match(line)
         if begins:
-            present = found.setdefault(begins[1], Definition(" ".join(comment), begins[2].strip().removeprefix(":").strip()))
+            present = found.setdefault(begins[1], Definition(" ".join(comment), begins[2].strip().removeprefix(":").removesuffix("where").strip()))
         if line.startswith("--"):
             comment.append(line[2:].strip())
         else:
