@@ -12,6 +12,7 @@ import re
 import sys
 from pathlib import Path
 
+import definitions
 from edits import BadEdit, applied, pairs_of
 
 TOP = Path(__file__).resolve().parent.parent
@@ -112,7 +113,7 @@ def bad_edits():
 
 
 def main():
-    found = [*faults(), *examples(), *bad_edits()]
+    found = [*faults(), *examples(), *bad_edits(), *definitions.faults()]
     print("\n".join(found) or "rooms: each crate cites what the others offer; the examples are as ir_tests has them; the edits apply")
     return 1 if found else 0
 
