@@ -3,10 +3,10 @@
 
 mod program_world;
 mod sources;
-mod time;
 mod thread_worlds;
+mod time;
 
 pub use program_world::{MOST_ANSWERS, ProgramWorld};
 pub use sources::Sources;
-pub use time::{Time, millis_since};
 pub use thread_worlds::worlds;
+pub use time::{Time, millis_since};
