@@ -3,3 +3,4 @@ mod Items
 mod Numerals
 mod Parts
 mod Printed
+mod Reported
