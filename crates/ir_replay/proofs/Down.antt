@@ -94,7 +94,7 @@ down_threads (w ∷ ws) rest xs e =
 
 -- the seat of thread t as the table is opened
 abbrev pub IsFirst : TableId → Plan → ℕ → Seat (Unit {0}) View → Type 0
-IsFirst id k t s = (s.table_id ≡ id) × (s.me ≡ (progress k t (opened_at k t) false ∷ [], []))
+IsFirst id k t s = (s.table_id ≡ id) × (s.me ≡ (progress k t (opened_at k t) false k.opened.value ∷ [], []))
 
 seat_at : (id : TableId) (k : Plan) (t m : ℕ) (xs rest : List (Seat (Unit {0}) View)) (s : Seat (Unit {0}) View) → m ≡ t + length xs
     → AreSeats id k t (xs ++ s ∷ rest) → IsFirst id k m s

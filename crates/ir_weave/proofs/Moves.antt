@@ -11,7 +11,8 @@ use Rattle.ir_runs.proofs.CallerLemmas.{persists}
 use Rattle.ir_fit.specs.Fit.{FittedTrace}
 use Rattle.ir_weave.specs.States.{IsStateAt, positions}
 use Rattle.ir_weave.specs.Table.{IsTable}
-use Rattle.ir_weave.specs.Woven.{View, trace_in, progress, AdmittedAt, IsTrack, AreTracks, Woven}
+use Rattle.ir_weave.specs.Standing.{Standing}
+use Rattle.ir_weave.specs.Woven.{View, trace_in, progress, stood, AdmittedAt, IsTrack, AreTracks, Woven}
 use Rattle.ir_weave.specs.declared.plan.Plan.{Plan}
 use Rattle.ir_weave.specs.declared.plan.Progress.{Progress}
 
@@ -47,15 +48,17 @@ others_stay k old new t seat j (q ∷ qs) g ne h =
         mine = h.0.mine;
         position = g.others q.thread apart ∙ h.0.position;
         granted = λ on. stays_admitted (trace_in k) old new t q.thread g apart (h.0.granted on);
+        met = λ u. (let a = h.0.met u in let b = up (trace_in k) old new t g u in omega (arith, a, b));
       },
       others_stay k old new t seat j qs g ne h.1,
     )
 
 pub moves : (k : Plan) (x : State (Unit {0}) View) (h : Woven k x) (id : ℕ) (q : Progress) → get_elem? x.views id ≡ some (q ∷ [])
     → (new : Flat) → IsFurther (trace_in k) h.state new q.thread → (i : ℕ) → positions new q.thread ≡ i
-    → (granted : Bool) → (granted ≡ true → AdmittedAt (trace_in k) (positions new) q.thread) → (ws : List ℕ) (hs : List _)
-    → IsTable new.objects ws → Woven k (record { words = ws; homes = hs; views = set x.views id (progress k q.thread i granted ∷ []) })
-moves k x h id q at new g i here granted ad ws hs table =
+    → (granted : Bool) → (granted ≡ true → AdmittedAt (trace_in k) (positions new) q.thread)
+    → (m : Standing) → ((u : ℕ) → stood m u ≤ positions new u) → (ws : List ℕ) (hs : List _)
+    → IsTable new.objects ws → Woven k (record { words = ws; homes = hs; views = set x.views id (progress k q.thread i granted m ∷ []) })
+moves k x h id q at new g i here granted ad m met ws hs table =
     let own : IsTrack k h.state h.seat id q = (h.tracks id (q ∷ []) at).0 in record {
       run = h.run;
       state = new;
@@ -63,7 +66,7 @@ moves k x h id q at new g i here granted ad ws hs table =
       at = g.at;
       above = λ t. (let a = h.above t in let b = up (trace_in k) h.state new q.thread g t in omega (arith, a, b));
       seat = h.seat;
-      tracks = λ j v e. elim (at_set x.views id j (progress k q.thread i granted ∷ []) v e) [
+      tracks = λ j v e. elim (at_set x.views id j (progress k q.thread i granted m ∷ []) v e) [
         | inl r ↦ subst (AreTracks k new h.seat j) r.1 (
           record {
             plan = refl;
@@ -71,6 +74,7 @@ moves k x h id q at new g i here granted ad ws hs table =
             mine = own.mine ∙ sym r.0;
             position = here;
             granted = ad;
+            met = met;
           },
           tt,
         )

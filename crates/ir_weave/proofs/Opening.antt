@@ -44,6 +44,7 @@ tracks_fit k u (suc m) le = (
     position = refl;
     granted =
         λ on. absurd (cc on);
+    met = λ z. omega arith;
   },
   tracks_fit k (suc u) m (omega (arith, le)),
 )
@@ -83,11 +84,11 @@ opens_for k f s ws for is run stands table =
 
 -- the seat of a thread
 seat_of : (id : TableId) (k : Plan) (t i u : ℕ) (xs : List (Seat (Unit {0}) View)) (x : Seat (Unit {0}) View) → AreSeats id k t xs
-    → slice_get xs i ≡ Some x → u ≡ t + i → x.me ≡ (progress k u (opened_at k u) false ∷ [], [])
+    → slice_get xs i ≡ Some x → u ≡ t + i → x.me ≡ (progress k u (opened_at k u) false k.opened.value ∷ [], [])
 seat_of id k t i u [] x h at e = absurd (cc at)
 seat_of id k t zero u (y ∷ ys) x h at e =
     let same : y ≡ x = cc at in let here : t ≡ u = omega (arith, e) in
-    ap (λ z. z.me) (sym same) ∙ h.0.1 ∙ (λ j. (progress k (here j) (opened_at k (here j)) false ∷ [], []))
+    ap (λ z. z.me) (sym same) ∙ h.0.1 ∙ (λ j. (progress k (here j) (opened_at k (here j)) false k.opened.value ∷ [], []))
 seat_of id k t (suc i) u (y ∷ ys) x h at e = seat_of id k (suc t) i u ys x h.1 at (omega (arith, e))
 
 -- each thread can step at its seat
@@ -116,6 +117,7 @@ later k s seat t new id u (suc m) lt h = (
         ∙ h.0.mine;
     position = h.0.position;
     granted = h.0.granted;
+    met = h.0.met;
   },
   later k s seat t new id (suc u) m (omega (arith, lt)) h.1,
 )
@@ -132,6 +134,7 @@ elsewhere k s seat t new j (q ∷ qs) ne h = (
     position =
         h.0.position;
     granted = h.0.granted;
+    met = h.0.met;
   },
   elsewhere k s seat t new j qs ne h.1,
 )
@@ -154,7 +157,7 @@ splits k id t m v is x h at =
       words = x.words;
       homes = x.homes;
       views =
-          set x.views id (tracks_from k (suc t) m) ++ (progress k t (opened_at k t) false ∷ []) ∷ [];
+          set x.views id (tracks_from k (suc t) m) ++ (progress k t (opened_at k t) false k.opened.value ∷ []) ∷ [];
     }) = record {
       run = h.run;
       state = h.state;
@@ -162,7 +165,7 @@ splits k id t m v is x h at =
       at = h.at;
       above = h.above;
       seat = seat';
-      tracks = λ j u e. elim (at_end (set x.views id (tracks_from k (suc t) m)) (progress k t (opened_at k t) false ∷ []) u j e) [
+      tracks = λ j u e. elim (at_end (set x.views id (tracks_from k (suc t) m)) (progress k t (opened_at k t) false k.opened.value ∷ []) u j e) [
         | inl was ↦ elim (at_set x.views id j (tracks_from k (suc t) m) u was) [
           | inl r ↦ subst (λ (z : ℕ). AreTracks k h.state seat' z u) (sym r.0)
               (subst (AreTracks k h.state seat' id) r.1 (later k h.state h.seat t new id (suc t) m (omega arith) f.1))
@@ -176,6 +179,7 @@ splits k id t m v is x h at =
                 ∙ (sym wide ∙ sym q.0);
             position = f.0.position;
             granted = λ on. absurd (cc on);
+            met = f.0.met;
           },
           tt,
         )
@@ -203,6 +207,7 @@ moved k s seat id other j (q ∷ qs) ne h = (
     position =
         h.0.position;
     granted = h.0.granted;
+    met = h.0.met;
   },
   moved k s seat id other j qs ne h.1,
 )
@@ -220,6 +225,7 @@ taken_in k s seat id other [] (q ∷ qs) f g = (
     position = g.0.position;
     granted =
         g.0.granted;
+    met = g.0.met;
   },
   taken_in k s seat id other [] qs tt g.1,
 )
@@ -251,12 +257,12 @@ joins k id other v w x h at apart at' =
 -- ---- dealing
 
 pub seats-snoc : (id : TableId) (k : Plan) (t u : ℕ) (xs : List (Seat (Unit {0}) View)) (x : Seat (Unit {0}) View) → AreSeats id k t xs
-    → u ≡ t + length xs → x.table_id ≡ id → x.me ≡ (progress k u (opened_at k u) false ∷ [], []) → AreSeats id k t (xs ++ x ∷ [])
+    → u ≡ t + length xs → x.table_id ≡ id → x.me ≡ (progress k u (opened_at k u) false k.opened.value ∷ [], []) → AreSeats id k t (xs ++ x ∷ [])
 seats-snoc id k t u [] x h e i m = (
   (
     i,
     m ∙ (λ j.
-        (progress k ((let q : u ≡ t = omega (arith, e) in q) j) (opened_at k ((let q : u ≡ t = omega (arith, e) in q) j)) false ∷ [], [])),
+        (progress k ((let q : u ≡ t = omega (arith, e) in q) j) (opened_at k ((let q : u ≡ t = omega (arith, e) in q) j)) false k.opened.value ∷ [], [])),
   ),
   tt,
 )
@@ -267,7 +273,7 @@ pub dealt : (k : Plan) (l m n : ℕ) (me w : M) → me ≡ (tracks_from k l (suc
 dealt k l m n me w is emitted long = emitted ∙ (λ i. (all_but_first (is i).0, (is i).1)) ∙ (λ i. (tracks_from k (sym long i) m, []))
 
 pub dealt_first : (k : Plan) (l m : ℕ) (me w : M) → me ≡ (tracks_from k l (suc m), []) → w ≡ (first_alone me.0, [])
-    → w ≡ (progress k l (opened_at k l) false ∷ [], [])
+    → w ≡ (progress k l (opened_at k l) false k.opened.value ∷ [], [])
 dealt_first k l m me w is emitted = emitted ∙ (λ i. (first_alone (is i).0, []))
 
 pub all_but : (k : Plan) (l m n : ℕ) (me : M) → me ≡ (tracks_from k l m, []) → m ≡ suc n → me ≡ (tracks_from k l (suc n), [])

@@ -22,7 +22,8 @@ use Rattle.ir_cut.specs.Positions.{machine_of, start_of, EachRun}
 use Rattle.ir_weave.specs.Ahead.{IsAlone, event_of, HasStep, IsAhead, IsAsking, IsEntering, IsNextObject, ask_at, thread_at}
 use Rattle.ir_object.specs.Layout.{word_place, content_place, table_length}
 use Rattle.ir_object.specs.Word.{version_unit, reader_leaves}
-use Rattle.ir_weave.specs.Woven.{View, M, trace_in, progress, Woven, Opens, Answers, WasStopped, looked, stepped_on, read_version, IsSeated, IsGranted}
+use Rattle.ir_weave.specs.Standing.{Standing}
+use Rattle.ir_weave.specs.Woven.{View, M, trace_in, progress, met_of, Rises, HasMet, Woven, Opens, Answers, WasStopped, looked, stepped_on, read_version, IsSeated, IsGranted}
 use Rattle.ir_weave.specs.declared.plan.Plan.{Plan}
 use Rattle.ir_weave.specs.declared.plan.Progress.{Progress}
 use Rattle.ir_weave.proofs.Lone.{ahead_here}
@@ -187,12 +188,12 @@ put_allows k slots id o i v x (q ∷ [], c) value seated asking =
 -- ---- what it is told
 
 -- the seat's view with its thread at i
-abbrev pub view_at : Plan → thread.State → ℕ → Bool → View
-view_at k x i granted = progress k x.number i granted ∷ []
+abbrev pub view_at : Plan → thread.State → ℕ → Bool → Standing → View
+view_at k x i granted m = progress k x.number i granted m ∷ []
 
-same_view : (k : Plan) (q : Progress) (x : thread.State) (i j : ℕ) (g : Bool) → q.plan ≡ k → x.number ≡ q.thread → i ≡ j
-    → progress q.plan q.thread i g ∷ [] ≡ view_at k x j g
-same_view k q x i j g plan number here = λ z. progress (plan z) (sym number z) (here z) g ∷ []
+same_view : (k : Plan) (q : Progress) (x : thread.State) (i j : ℕ) (g : Bool) (m : Standing) → q.plan ≡ k → x.number ≡ q.thread → i ≡ j
+    → progress q.plan q.thread i g m ∷ [] ≡ view_at k x j g m
+same_view k q x i j g m plan number here = λ z. progress (plan z) (sym number z) (here z) g m ∷ []
 
 -- what is told of these steps doesn't depend on their words
 abbrev pub any_step : TableStep (Unit {0})
@@ -200,7 +201,7 @@ any_step = step 0 0 0 0 none
 
 -- of a step on an object
 pub record WasEmitted (k : Plan) (x : thread.State) (me w : M) (n : ℕ) : Type 0 where
-  pub view : ◌≡◌ {A = M} w (view_at k x (suc x.steps) false, me.1)
+  pub view : ◌≡◌ {A = M} w (view_at k x (suc x.steps) false (met_of me.0), me.1)
   pub answers : Answers (trace_in k) x.number x.steps n
 
 pub step_emitted : (k : Plan) (x : thread.State) (asked : Ask) (me w : M) (n : ℕ) → IsSeated k me.0 x
@@ -214,7 +215,7 @@ step_emitted k x asked (q ∷ [], c) w n seated is touches emitted =
     (touches_next f q.thread q.position x asked seated.1 ask
     (subst (λ (z : Plan × ℕ). IsAlone asked (event_of (trace_in z.0) z.1 x) → ⊥) (λ i. (sym seated.0 i, seated.1.number i)) touches)) in
     record {
-      view = emitted.2 ∙ (λ i. (same_view k q x (suc emitted.0) (suc x.steps) false seated.0 seated.1.number (ap suc here) i, c));
+      view = emitted.2 ∙ (λ i. (same_view k q x (suc emitted.0) (suc x.steps) false q.met.value seated.0 seated.1.number (ap suc here) i, c));
       answers = subst (λ (z : Plan × ℕ × ℕ). Answers (trace_in z.0) z.1 z.2 n) (λ i. (seated.0 i, sym seated.1.number i, here i)) emitted.3;
     }
 
@@ -226,8 +227,10 @@ touches_by k x o a e entering =
 
 -- of a load before an entry
 pub record WasShown (k : Plan) (x : thread.State) (e : Event) (me w : M) (n : ℕ) : Type 0 where
-  pub opened : Opens n e → ◌≡◌ {A = M} w (view_at k x x.steps true, me.1)
-  pub shut : (Opens n e → ⊥) → (◌≡◌ {A = M} w (view_at k x x.steps false, me.1)) × WasStopped k x.number x.steps
+  pub rises : Rises me.0 w.0
+  pub opened : Opens n e → ◌≡◌ {A = M} w (view_at k x x.steps true (met_of w.0), me.1)
+  pub shut : (Opens n e → ⊥) → (◌≡◌ {A = M} w (view_at k x x.steps false (met_of w.0), me.1)) × (s : WasStopped k x.number x.steps)
+      × HasMet me.0 w.0 s.cut
 
 pub look_emitted : (k : Plan) (x : thread.State) (o : ℕ) (a : Access) (e : Event) (me w : M) (n : ℕ) → IsSeated k me.0 x
     → IsEntering (trace_in k) x o a e → looked any_step me n w → WasShown k x e me w n
@@ -247,12 +250,14 @@ look_emitted k x o a e (q ∷ [], c) w n seated entering emitted =
     ∙ ap (λ (z : thread.State). slice_get (recorded_thread f.recorded q.thread).events z.events)
     (sym (seated.1.at seated.1.run.run seated.1.run.whole).1)
     ∙ subst (λ t. slice_get (recorded_thread f.recorded t).events x.events ≡ Some e) seated.1.number ent.event) in record {
-      opened = λ on. emitted.4 (subst (Opens n) (sym event) on)
-          ∙ (λ i. (same_view k q x emitted.0 x.steps true seated.0 seated.1.number here i, c));
+      rises = emitted.4;
+      opened = λ on. emitted.5 (subst (Opens n) (sym event) on)
+          ∙ (λ i. (same_view k q x emitted.0 x.steps true (met_of w.0) seated.0 seated.1.number here i, c));
       shut = λ off.
-          let z = emitted.5 (λ on. off (subst (Opens n) event on)) in (
-            z.0 ∙ (λ i. (same_view k q x emitted.0 x.steps false seated.0 seated.1.number here i, c)),
-            subst (λ (z : Plan × ℕ × ℕ). WasStopped z.0 z.1 z.2) (λ i. (seated.0 i, sym seated.1.number i, here i)) z.1,
+          let z = emitted.6 (λ on. off (subst (Opens n) event on)) in (
+            z.0 ∙ (λ i. (same_view k q x emitted.0 x.steps false (met_of w.0) seated.0 seated.1.number here i, c)),
+            subst (λ (z : Plan × ℕ × ℕ). (s : WasStopped z.0 z.1 z.2) × HasMet (q ∷ []) w.0 s.cut)
+                (λ i. (seated.0 i, sym seated.1.number i, here i)) (z.1, z.2),
           );
     }
   where
@@ -346,10 +351,10 @@ put_there k x (p ∷ []) o i n words seated asking size =
 -- ---- an entry in two steps
 
 -- the seat with its thread, counted up to it
-pub seat_here : (k : Plan) (v : View) (x : thread.State) (g : Bool) → IsSeated k v x → IsSeated k (view_at k x x.steps g) x
-seat_here k [] x g seated = absurd seated
-seat_here k (q ∷ r ∷ qs) x g seated = absurd seated
-seat_here k (q ∷ []) x g seated = (
+pub seat_here : (k : Plan) (v : View) (x : thread.State) (g : Bool) (m : Standing) → IsSeated k v x → IsSeated k (view_at k x x.steps g m) x
+seat_here k [] x g m seated = absurd seated
+seat_here k (q ∷ r ∷ qs) x g m seated = absurd seated
+seat_here k (q ∷ []) x g m seated = (
   refl,
   subst (λ (z : Plan × ℕ). IsAhead (trace_in z.0) z.1 x.steps x)
       (λ i. (seated.0 i, sym seated.1.number i)) (ahead_here (trace_in q.plan) q.thread q.position x seated.1),
@@ -358,8 +363,8 @@ seat_here k (q ∷ []) x g seated = (
 pub granted_by : (k : Plan) (x : thread.State) (e : Event) (me w : M) (n : ℕ) → IsSeated k me.0 x → WasShown k x e me w n → Opens n e
     → IsGranted k w.0 x
 granted_by k x e me w n seated shown on =
-    let view : w.0 ≡ view_at k x x.steps true = ap (λ (z : M). z.0) (shown.opened on) in
-    record { seated = subst (λ v. IsSeated k v x) (sym view) (seat_here k me.0 x true seated); view = view }
+    let view : w.0 ≡ view_at k x x.steps true (met_of w.0) = ap (λ (z : M). z.0) (shown.opened on) in
+    record { seated = subst (λ v. IsSeated k v x) (sym view) (seat_here k me.0 x true (met_of w.0) seated); view = view }
 
 pub test_true : (b : Bool) (P : Type 0) → IsTrue b ↔ P → b ≡ true → P
 test_true b P h e = h.0 e
@@ -369,8 +374,8 @@ test_false b P h e p = true≢false (sym (h.1 p) ∙ e)
 
 -- after the second
 pub entered_then : (k : Plan) (x : thread.State) (e : Event) (me w u : M) (n m : ℕ) → WasShown k x e me w n → Opens n e → WasEmitted k x w u m
-    → ◌≡◌ {A = M} u (view_at k x (suc x.steps) false, me.1)
-entered_then k x e me w u n m shown on emitted = emitted.view ∙ (λ i. (view_at k x (suc x.steps) false, (shown.opened on i).1))
+    → ◌≡◌ {A = M} u (view_at k x (suc x.steps) false (met_of w.0), me.1)
+entered_then k x e me w u n m shown on emitted = emitted.view ∙ (λ i. (view_at k x (suc x.steps) false (met_of w.0), (shown.opened on i).1))
 
 -- ---- a writer's leave in two steps
 
@@ -378,5 +383,6 @@ pub seated_still : (k : Plan) (x : thread.State) (o : ℕ) (me w : M) (n : ℕ) 
 seated_still k x o me w n seated seen = subst (λ (z : M). IsSeated k z.0 x) (sym seen.view) seated
 
 pub left_then : (k : Plan) (x : thread.State) (o : ℕ) (me w u : M) (n m : ℕ) → WasSeen k x o me w n → WasEmitted k x w u m
-    → ◌≡◌ {A = M} u (view_at k x (suc x.steps) false, me.1)
-left_then k x o me w u n m seen emitted = emitted.view ∙ (λ i. (view_at k x (suc x.steps) false, (seen.view i).1))
+    → ◌≡◌ {A = M} u (view_at k x (suc x.steps) false (met_of me.0), me.1)
+left_then k x o me w u n m seen emitted =
+    emitted.view ∙ (λ i. (view_at k x (suc x.steps) false (met_of (seen.view i).0), (seen.view i).1))

@@ -1,5 +1,5 @@
 -- A seat and its thread after a step.
-use Rattle.std.proofs.Common.{◌≡◌, ◌≢◌, ℕ, suc, zero, ◌+◌, ◌<◌, false, List, [], ◌∷◌, length, Some, refl, sym, ap, ◌∙◌, subst, arith, inl, inr, ◌⊎◌}
+use Rattle.std.proofs.Common.{◌≡◌, ◌≢◌, ℕ, suc, zero, ◌+◌, ◌<◌, ◌≤◌, false, List, [], ◌∷◌, length, Some, refl, sym, ap, ◌∙◌, subst, arith, inl, inr, ◌⊎◌}
 use Rattle.std.specs.Prelude.{slice_get}
 use Rattle.ir_thread.specs.Calls.{ask_of, after_ask, after_reply, step_of, run_of}
 use Rattle.ir_thread.specs.Instance.{shared_ask}
@@ -25,7 +25,8 @@ use Rattle.ir_trace.specs.TraceOf.{recorded_thread}
 use Rattle.ir_fit.specs.Fit.{FittedTrace, IsRunOf}
 use Rattle.ir_cut.specs.Positions.{machine_of, start_of}
 use Rattle.ir_weave.specs.Ahead.{IsRefused, IsAlone, event_of, HasStep, IsAhead, IsAsking, IsEntering, thread_at, ask_at}
-use Rattle.ir_weave.specs.Woven.{View, M, trace_in, progress, Answers, IsFor, IsOpened, IsSeated, HasStepped, HasWaited, HasRunOn, WasStopped}
+use Rattle.ir_weave.specs.Standing.{Standing}
+use Rattle.ir_weave.specs.Woven.{View, M, trace_in, progress, stood, met_of, HasMet, Answers, IsFor, IsOpened, IsSeated, HasStepped, HasWaited, HasRunOn, WasStopped}
 use Rattle.ir_weave.specs.declared.plan.Plan.{Plan}
 use Rattle.ir_weave.proofs.Lone.{Takes, is_go, really, ahead_alone, ahead_none, ahead_here, takes_go, takes_answer, takes_try, try_result, asks_in, event_there, more_steps, same_number, never_done}
 use Rattle.ir_weave.proofs.Trails.{StepOf, step_at}
@@ -76,13 +77,15 @@ stepped_alone k f code me x y q r for same seated alone step takes is =
       slots = refl;
       steps = more_steps (trace_in k).guest.code x q r step;
       number = same_number (trace_in k).guest.code x q r;
+      rises = λ u. omega arith;
     })
 
 -- a step on an object
 pub stepped_object : (k : Plan) (f : FittedTrace) (code : List ℕ) (me me' : M) (x y : thread.State) (q : Ask) (r : Reply) → IsFor k f
     → code ≡ f.guest.code → IsSeated k me.0 x → really q → Takes (trace_in k) x.number x q r → y ≡ after_reply code x r
-    → ◌≡◌ {A = M} me' (progress k x.number (suc x.steps) false ∷ [], me.1) → HasStepped k me me' x y
-stepped_object k f code me me' x y q r for same seated step takes is moved =
+    → (m : Standing) → ((u : ℕ) → stood (met_of me.0) u ≤ stood m u)
+    → ◌≡◌ {A = M} me' (progress k x.number (suc x.steps) false m ∷ [], me.1) → HasStepped k me me' x y
+stepped_object k f code me me' x y q r for same seated step takes is m rises moved =
     let y_is : y ≡ after_ask (trace_in k).guest.code x q r = is
     ∙ replied code (trace_in k) x q r (same ∙ ap (λ z. z.guest.code) (sym for)) takes.asks in
     subst (λ (z : thread.State × M). HasStepped k me z.1 x z.0) (λ i. (sym y_is i, sym moved i)) (record {
@@ -90,6 +93,7 @@ stepped_object k f code me me' x y q r for same seated step takes is moved =
       slots = refl;
       steps = more_steps (trace_in k).guest.code x q r step;
       number = same_number (trace_in k).guest.code x q r;
+      rises = rises;
     })
 
 -- ---- which steps it takes
@@ -218,6 +222,11 @@ done_waits k f me x for opened seated done =
         here = all;
         stopped = λ run of admitted. (let e = same run of x.number in let less = admitted.0 in omega (arith, e, less));
       };
+      fresh = inr (record {
+        done = subst (λ z. ask_of z.guest.code x ≡ Done) (sym for) done;
+        same = refl;
+        end = λ run of u. (let e = same run of u in omega (arith, e));
+      });
     }
 
 -- ---- many private steps
@@ -255,13 +264,15 @@ runs_on k f code v x y n for same seated steps =
 
 -- ---- a thread that waits
 
-pub waited : (k : Plan) (me me' : M) (x : thread.State) → IsSeated k me.0 x → ◌≡◌ {A = M} me' (progress k x.number x.steps false ∷ [], me.1)
-    → WasStopped k x.number x.steps → HasWaited k me me' x x
-waited k me me' x seated is stopped = subst (λ (z : M). HasWaited k me z x x) (sym is) (record {
+pub waited : (k : Plan) (me me' : M) (x : thread.State) → IsSeated k me.0 x
+    → ◌≡◌ {A = M} me' (progress k x.number x.steps false (met_of me'.0) ∷ [], me.1)
+    → (s : WasStopped k x.number x.steps) → HasMet me.0 me'.0 s.cut → HasWaited k me me' x x
+waited k me me' x seated is stopped met = subst (λ (z : M). HasWaited k me z x x) (sym is) (record {
   seated = (refl, ahead_here (trace_in k) x.number (seated_at me.0) x (seated_ahead k me.0 x seated));
   slots = refl;
   same = refl;
   stopped = stopped;
+  fresh = inl (record { above = met.above; met = met.met });
 })
 
 -- ---- what the calls of a step promise
@@ -290,17 +301,19 @@ answer_stepped k f code me x y kind j n for same seated asking event is =
 
 pub object_stepped : (k : Plan) (f : FittedTrace) (code : List ℕ) (me me' : M) (x y : thread.State) (q : Ask) → IsFor k f
     → code ≡ f.guest.code → IsSeated k me.0 x → IsAsking f x q → is_go q → really q
-    → y ≡ after_reply code x Go → ◌≡◌ {A = M} me' (progress k x.number (suc x.steps) false ∷ [], me.1) → HasStepped k me me' x y
-object_stepped k f code me me' x y q for same seated asking go real is moved =
+    → y ≡ after_reply code x Go → (m : Standing) → ((u : ℕ) → stood (met_of me.0) u ≤ stood m u)
+    → ◌≡◌ {A = M} me' (progress k x.number (suc x.steps) false m ∷ [], me.1) → HasStepped k me me' x y
+object_stepped k f code me me' x y q for same seated asking go real is m rises moved =
     stepped_object k f code me me' x y q Go for same seated real (go_takes k me.0 x q seated (asking_for k f x q for asking) go real) is
-    moved
+    m rises moved
 
 pub get_stepped : (k : Plan) (f : FittedTrace) (code : List ℕ) (me me' : M) (x y : thread.State) (o i n : ℕ) → IsFor k f
     → code ≡ f.guest.code → IsSeated k me.0 x → IsAsking f x (Get o i) → Answers (trace_in k) x.number x.steps n
-    → y ≡ after_reply code x (Value n) → ◌≡◌ {A = M} me' (progress k x.number (suc x.steps) false ∷ [], me.1) → HasStepped k me me' x y
+    → y ≡ after_reply code x (Value n) → ◌≡◌ {A = M} me' (progress k x.number (suc x.steps) false (met_of me.0) ∷ [], me.1)
+    → HasStepped k me me' x y
 get_stepped k f code me me' x y o i n for same seated asking answers is moved =
     stepped_object k f code me me' x y (Get o i) (Value n) for same seated tt
-    (get_takes k me.0 x o i n seated (asking_for k f x (Get o i) for asking) answers) is moved
+    (get_takes k me.0 x o i n seated (asking_for k f x (Get o i) for asking) answers) is (met_of me.0) (λ u. omega arith) moved
 
 pub entering_for : (k : Plan) (f : FittedTrace) (x : thread.State) (q : Ask) (o : ℕ) (a : Access) (e : Event) → IsFor k f → IsAsking f x q
     → slice_get (recorded_thread f.recorded x.number).events x.events ≡ Some e → Suits q e → event_ask e ≡ Enter o a
@@ -324,10 +337,11 @@ try_takes k f v x o e for seated asking event =
 pub try_entered : (k : Plan) (f : FittedTrace) (code : List ℕ) (me me' : M) (x y : thread.State) (o : ℕ) (e : Event) → IsFor k f
     → code ≡ f.guest.code → IsSeated k me.0 x → IsAsking f x (Try o)
     → slice_get (recorded_thread f.recorded x.number).events x.events ≡ Some e → try_result e ≡ 1
-    → y ≡ after_reply code x (Value 1) → ◌≡◌ {A = M} me' (progress k x.number (suc x.steps) false ∷ [], me.1) → HasStepped k me me' x y
-try_entered k f code me me' x y o e for same seated asking event one is moved =
+    → y ≡ after_reply code x (Value 1) → (m : Standing) → ((u : ℕ) → stood (met_of me.0) u ≤ stood m u)
+    → ◌≡◌ {A = M} me' (progress k x.number (suc x.steps) false m ∷ [], me.1) → HasStepped k me me' x y
+try_entered k f code me me' x y o e for same seated asking event one is m rises moved =
     stepped_object k f code me me' x y (Try o) (Value 1) for same seated tt
-    (subst (λ n. Takes (trace_in k) x.number x (Try o) (Value n)) one (try_takes k f me.0 x o e for seated asking event)) is moved
+    (subst (λ n. Takes (trace_in k) x.number x (Try o) (Value n)) one (try_takes k f me.0 x o e for seated asking event)) is m rises moved
 
 -- what suits a try and isn't refused got in
 pub entered_to_write : (o : ℕ) (e : Event) → Suits (Try o) e → ((p : ℕ) → e ≢ Refused p) → (try_result e ≡ 1) × (event_ask e ≡ Enter o Writing)

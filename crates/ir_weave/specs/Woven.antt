@@ -1,11 +1,12 @@
 -- The rule of the table of a replay.
-use Rattle.std.specs.Prelude.{◌≡◌, ℕ, suc, zero, ◌+◌, ◌/◌, ◌^◌, ◌<◌, ◌≤◌, Bool, true, false, List, [], ◌∷◌, length, slice_get, slice_index, Some}
+use Rattle.std.specs.Prelude.{◌≡◌, ℕ, suc, zero, ◌+◌, ◌/◌, ◌^◌, ◌<◌, ◌≤◌, Bool, true, false, List, [], ◌∷◌, length, slice_get, slice_index, Some, ◌⊎◌}
+use Rattle.std.specs.List.{slice_index_or}
 use mathlib.Core.Option.{some}
 use lib.ListN.{get_elem?}
 use Rattle.atomic_table.specs.Table.{State, Me, Step}
 use Rattle.atomic_table.specs.Seated.{TableId}
 use Rattle.atomic_table.specs.declared.shared.Seat.{Seat}
-use Rattle.ir_thread.specs.Calls.{after_ask}
+use Rattle.ir_thread.specs.Calls.{ask_of, after_ask}
 use Rattle.ir_runs.specs.Labels.{Out}
 use Rattle.ir_thread.specs.State as thread
 use Rattle.ir_runs.specs.declared.access.Access.TheVariants.{Writing}
@@ -14,16 +15,17 @@ use Rattle.ir_thread.specs.declared.ask.Reply.TheVariants.{Value}
 use Rattle.ir_image.specs.Guest.{most_object_words}
 use Rattle.ir_object.specs.Cell.{Cell}
 use Rattle.ir_object.specs.Word.{version_unit, fields_of, word_of}
-use Rattle.ir_flat.specs.Flat.{Flat, IsFlat}
+use Rattle.ir_flat.specs.Flat.{Flat, IsFlat, idle}
 use Rattle.ir_log.specs.declared.event.Event.{Event}
 use Rattle.ir_trace.specs.TraceOf.{recorded_thread}
 use Rattle.ir_fit.specs.Ahead.{IsOpen}
+use Rattle.ir_runs.specs.Run.{count}
 use Rattle.ir_runs.specs.Cuts.{Cut, IsCut, Consistent, Admitted, Emits}
 use Rattle.ir_fit.specs.Fit.{FittedTrace, HasRun}
 use Rattle.ir_cut.specs.Positions.{machine_of, start_of, EachRun}
 use Rattle.ir_weave.specs.Ahead.{thread_at, ask_at, IsNextObject, IsAhead}
 use Rattle.ir_weave.specs.States.{IsStateAt, positions}
-use Rattle.ir_weave.specs.Standing.{flat_in}
+use Rattle.ir_weave.specs.Standing.{Standing, flat_in}
 use Rattle.ir_object.specs.Layout.{word_place}
 use Rattle.ir_weave.specs.Table.{IsTable, object_in}
 use Rattle.ir_weave.specs.declared.plan.Plan.{Plan}
@@ -52,20 +54,40 @@ opened_at k = positions (opened_in k)
 abbrev pub IsOpened : Plan → Type 0
 IsOpened k = EachRun (trace_in k) (λ run. IsCut (machine_of (trace_in k)) (start_of (trace_in k)) run (opened_at k))
 
-abbrev pub progress : Plan → ℕ → ℕ → Bool → Progress
-progress k t i g = record { plan = k; thread = t; position = i; granted = g }
+abbrev pub progress : Plan → ℕ → ℕ → Bool → Standing → Progress
+progress k t i g m = record { plan = k; thread = t; position = i; granted = g; met = record { value = m } }
+
+-- how many steps each thread has taken in it
+abbrev pub stood : Standing → Cut
+stood m t = (slice_index_or m.threads t idle).steps
+
+-- what a seat of one thread has met
+abbrev pub met_of : View → Standing
+met_of [] = record { threads = []; objects = [] }
+met_of (q ∷ qs) = q.met.value
+
+-- the cut that the seat has met is no lower than before
+abbrev pub Rises : View → View → Type 0
+Rises v w = (u : ℕ) → stood (met_of v) u ≤ stood (met_of w) u
+
+-- the seat has met this cut now, at or above the one that it had met before
+pub record HasMet (v w : View) (cut : Cut) : Type 0 where
+  pub above : (u : ℕ) → stood (met_of v) u ≤ cut u
+  pub met : (u : ℕ) → stood (met_of w) u ≡ cut u
 
 -- thread t is admitted at the cut p of each run
 abbrev pub AdmittedAt : FittedTrace → Cut → ℕ → Type 0
 AdmittedAt f p t = EachRun f (λ run. Admitted (machine_of f) (start_of f) run p t)
 
--- the thread is where the view says, it is this seat's, and where it was granted its next step it is admitted
+-- the thread is where the view says, it is this seat's, where it was granted its next step it is admitted, and the threads are at or above
+-- the cut that the seat has met
 pub record IsTrack (k : Plan) (s : Flat) (seat : ℕ → ℕ) (id : ℕ) (q : Progress) : Type 0 where
   pub plan : q.plan ≡ k
   pub there : q.thread < length s.threads
   pub mine : seat q.thread ≡ id
   pub position : positions s q.thread ≡ q.position
   pub granted : q.granted ≡ true → AdmittedAt (trace_in k) (positions s) q.thread
+  pub met : (u : ℕ) → stood q.met.value u ≤ positions s u
 
 abbrev pub AreTracks : Plan → Flat → (ℕ → ℕ) → ℕ → View → Type 0
 AreTracks k s seat id [] = Unit {0}
@@ -113,21 +135,23 @@ Leaves f t k word v = EachRun f (λ run. (o : ℕ) → word ≡ word_place o →
     → Emits (machine_of f) (start_of f) run t k (Out o Writing v))
 
 -- what a load before an entry emits: the position is that of the entry; the thread is granted it where the word is open to its event, and
--- else it wasn't admitted
+-- else it wasn't admitted at the cut that the seat has met by this, which is at or above the one that it had met before
 abbrev pub looked : Step (Unit {0}) → M → ℕ → M → Type 0
 looked s ([], c) n w = ⊥
 looked s (q ∷ r ∷ qs, c) n w = ⊥
 looked s (q ∷ [], c) n w = (i : ℕ) × (e : Event) × IsNextObject (trace_in q.plan) q.thread q.position i
     × IsEventAt (trace_in q.plan) q.thread i e
-    × (Opens n e → w ≡ (progress q.plan q.thread i true ∷ [], c))
-    × ((Opens n e → ⊥) → (w ≡ (progress q.plan q.thread i false ∷ [], c)) × WasStopped q.plan q.thread i)
+    × Rises (q ∷ []) w.0
+    × (Opens n e → w ≡ (progress q.plan q.thread i true (met_of w.0) ∷ [], c))
+    × ((Opens n e → ⊥) → (w ≡ (progress q.plan q.thread i false (met_of w.0) ∷ [], c)) × (s : WasStopped q.plan q.thread i)
+    × HasMet (q ∷ []) w.0 s.cut)
 
 -- what a step on an object emits: it is the thread's next such, and what was found where it is a load
 abbrev pub stepped_on : Step (Unit {0}) → M → ℕ → M → Type 0
 stepped_on s ([], c) n w = ⊥
 stepped_on s (q ∷ r ∷ qs, c) n w = ⊥
 stepped_on s (q ∷ [], c) n w = (i : ℕ) × IsNextObject (trace_in q.plan) q.thread q.position i
-    × (w ≡ (progress q.plan q.thread (suc i) false ∷ [], c)) × Answers (trace_in q.plan) q.thread i n
+    × (w ≡ (progress q.plan q.thread (suc i) false q.met.value ∷ [], c)) × Answers (trace_in q.plan) q.thread i n
 
 -- what a load before a writer's leave emits: the version that is left
 abbrev pub read_version : Step (Unit {0}) → M → ℕ → M → Type 0
@@ -139,7 +163,7 @@ read_version s (q ∷ [], c) n w = (i : ℕ) × IsNextObject (trace_in q.plan) q
 -- the tracks of n threads from t on, at these positions
 abbrev pub tracks_from : Plan → ℕ → ℕ → View
 tracks_from k t zero = []
-tracks_from k t (suc n) = progress k t (opened_at k t) false ∷ tracks_from k (suc t) n
+tracks_from k t (suc n) = progress k t (opened_at k t) false k.opened.value ∷ tracks_from k (suc t) n
 
 abbrev pub all_but_first : View → View
 all_but_first [] = []
@@ -158,7 +182,7 @@ IsSeated k (q ∷ []) x = (q.plan ≡ k) × IsAhead (trace_in q.plan) q.thread q
 -- the seat was granted the step that its thread asks
 pub record IsGranted (k : Plan) (v : View) (x : thread.State) : Type 0 where
   pub seated : IsSeated k v x
-  pub view : v ≡ progress k x.number x.steps true ∷ []
+  pub view : v ≡ progress k x.number x.steps true (met_of v) ∷ []
 
 -- the table is of this guest and trace
 abbrev pub IsFor : Plan → FittedTrace → Type 0
@@ -170,13 +194,22 @@ pub record HasStepped (k : Plan) (me me' : M) (x x' : thread.State) : Type 0 whe
   pub slots : me'.1 ≡ me.1
   pub steps : x'.steps ≡ x.steps + 1
   pub number : x'.number ≡ x.number
+  pub rises : Rises me.0 me'.0
 
--- the thread x has taken none, and wasn't admitted to its next at some consistent cut, at or above the one at which the table was opened
+-- the thread x is done, and its seat as it was; this cut is the end of each run
+pub record IsOver (k : Plan) (me me' : M) (x : thread.State) (cut : Cut) : Type 0 where
+  pub done : ask_of (trace_in k).guest.code x ≡ ask.Done
+  pub same : me' ≡ me
+  pub end : EachRun (trace_in k) (λ run. (u : ℕ) → cut u ≡ count (machine_of (trace_in k)) (start_of (trace_in k)) run u)
+
+-- the thread x has taken none, and wasn't admitted to its next at some consistent cut, at or above the one at which the table was opened:
+-- one that its seat has met now, at or above the one that it had met before, or else, if the thread is done, the end
 pub record HasWaited (k : Plan) (me me' : M) (x x' : thread.State) : Type 0 where
   pub seated : IsSeated k me'.0 x'
   pub slots : me'.1 ≡ me.1
   pub same : x' ≡ x
   pub stopped : WasStopped k x.number x.steps
+  pub fresh : HasMet me.0 me'.0 stopped.cut ⊎ IsOver k me me' x stopped.cut
 
 -- the thread has gone on by n private steps
 pub record HasRunOn (k : Plan) (v : View) (x y : thread.State) (n : ℕ) : Type 0 where
@@ -187,7 +220,7 @@ pub record HasRunOn (k : Plan) (v : View) (x y : thread.State) (n : ℕ) : Type 
 -- seats of the threads from t on, one for each, where they stood when the table was opened
 abbrev pub AreSeats : TableId → Plan → ℕ → List (Seat (Unit {0}) View) → Type 0
 AreSeats id k t [] = Unit {0}
-AreSeats id k t (x ∷ xs) = ((x.table_id ≡ id) × (x.me ≡ (progress k t (opened_at k t) false ∷ [], []))) × AreSeats id k (suc t) xs
+AreSeats id k t (x ∷ xs) = ((x.table_id ≡ id) × (x.me ≡ (progress k t (opened_at k t) false k.opened.value ∷ [], []))) × AreSeats id k (suc t) xs
 
 -- at what cut the threads of a view stand
 abbrev pub AreAt : Cut → View → Type 0

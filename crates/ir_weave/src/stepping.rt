@@ -237,7 +237,7 @@ impl Weave {
         // The thread has taken its next step of each run with the trace, and nothing but private steps part it from its
         // seat's view.
         ensures stepped { result ≡ Stepped → HasStepped self.now.table.shared.key seat.old.me seat.new.me thread.old thread.new }
-        // At some consistent cut, at or above the one at which the table was opened, the thread wasn't admitted.
+        // At some consistent cut, at or above the one that the seat had met before, the thread wasn't admitted.
         ensures stopped { result ≡ NotNow → HasWaited self.now.table.shared.key seat.old.me seat.new.me thread.old thread.new }
         ensures reached { result ≡ AtTarget → (thread.new ≡ thread.old) × (seat.new.me ≡ seat.old.me) }
         ensures target { (result ≡ AtTarget) ↔ (thread.old.steps ≡ cut_of target.now thread.old.number) }
@@ -274,7 +274,7 @@ impl Weave {
         // The thread has taken its next step of each run with the trace, and nothing but private steps part it from its
         // seat's view.
         ensures stepped { result ≡ Stepped → HasStepped self.now.table.shared.key seat.old.me seat.new.me thread.old thread.new }
-        // At some consistent cut, at or above the one at which the table was opened, the thread wasn't admitted.
+        // At some consistent cut, at or above the one that the seat had met before, the thread wasn't admitted.
         ensures stopped { result ≡ NotNow → HasWaited self.now.table.shared.key seat.old.me seat.new.me thread.old thread.new }
         ensures reached { result ≡ AtTarget → (thread.new ≡ thread.old) × (seat.new.me ≡ seat.old.me) }
         ensures target { (result ≡ AtTarget) ↔ (thread.old.steps ≡ cut_of target.now thread.old.number) }

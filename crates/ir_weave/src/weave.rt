@@ -8,7 +8,7 @@ ghost use Rattle.ir_log.specs.declared.event.Event.{Event};
 ghost use Rattle.ir_fit.specs.Ahead.{IsOpen};
 ghost use Rattle.ir_weave.specs.Ahead.{IsAsking, IsEntering};
 ghost use Rattle.ir_object.specs.Layout.{table_length};
-ghost use Rattle.ir_weave.specs.Woven.{trace_in, progress, IsOpened, IsSeated, IsGranted, WasStopped, Opens, Answers};
+ghost use Rattle.ir_weave.specs.Woven.{trace_in, progress, met_of, Rises, HasMet, IsOpened, IsSeated, IsGranted, WasStopped, Opens, Answers};
 ghost use Rattle.ir_runs.specs.Labels.{Out};
 ghost use Rattle.ir_runs.specs.declared.access.Access.TheVariants.{Writing};
 ghost use Rattle.ir_runs.specs.Cuts.{Emits};
@@ -71,8 +71,9 @@ impl Weave {
         requires thread { IsSeated self.now.table.shared.key seat.old.me.0 thread.now }
         requires entering { IsEntering (trace_in self.now.table.shared.key) thread.now object access event }
         ensures seat { (seat.new.table_id ≡ seat.old.table_id) × (seat.new.id ≡ seat.old.id) }
-        ensures granted { result ≡ true → (seat.new.me ≡ (progress self.now.table.shared.key thread.now.number thread.now.steps true ∷ [], seat.old.me.1)) × IsGranted self.now.table.shared.key seat.new.me.0 thread.now }
-        ensures stopped { result ≡ false → (seat.new.me ≡ (progress self.now.table.shared.key thread.now.number thread.now.steps false ∷ [], seat.old.me.1)) × WasStopped self.now.table.shared.key thread.now.number thread.now.steps }
+        ensures granted { result ≡ true → (seat.new.me ≡ (progress self.now.table.shared.key thread.now.number thread.now.steps true (met_of seat.new.me.0) ∷ [], seat.old.me.1)) × IsGranted self.now.table.shared.key seat.new.me.0 thread.now }
+        ensures stopped { result ≡ false → (seat.new.me ≡ (progress self.now.table.shared.key thread.now.number thread.now.steps false (met_of seat.new.me.0) ∷ [], seat.old.me.1)) × (s : WasStopped self.now.table.shared.key thread.now.number thread.now.steps) × HasMet seat.old.me.0 seat.new.me.0 s.cut }
+        ensures rises { Rises seat.old.me.0 seat.new.me.0 }
     {
         let place = WORD_PLACE + APART * object as usize;
         let seen = self.table.shared.load::<Look>(seat, place);
@@ -85,7 +86,7 @@ impl Weave {
         requires granted { IsGranted self.now.table.shared.key seat.old.me.0 thread.now }
         requires entering { (event : Event) × IsEntering (trace_in self.now.table.shared.key) thread.now object access event }
         ensures seat { (seat.new.table_id ≡ seat.old.table_id) × (seat.new.id ≡ seat.old.id) }
-        ensures entered { seat.new.me ≡ (progress self.now.table.shared.key thread.now.number (suc thread.now.steps) false ∷ [], seat.old.me.1) }
+        ensures entered { seat.new.me ≡ (progress self.now.table.shared.key thread.now.number (suc thread.now.steps) false (met_of seat.old.me.0) ∷ [], seat.old.me.1) }
     {
         let place = WORD_PLACE + APART * object as usize;
         match access {
@@ -113,8 +114,9 @@ impl Weave {
         requires thread { IsSeated self.now.table.shared.key seat.old.me.0 thread.now }
         requires entering { IsEntering (trace_in self.now.table.shared.key) thread.now object access event }
         ensures seat { (seat.new.table_id ≡ seat.old.table_id) × (seat.new.id ≡ seat.old.id) }
-        ensures entered { result ≡ true → seat.new.me ≡ (progress self.now.table.shared.key thread.now.number (suc thread.now.steps) false ∷ [], seat.old.me.1) }
-        ensures stopped { result ≡ false → (seat.new.me ≡ (progress self.now.table.shared.key thread.now.number thread.now.steps false ∷ [], seat.old.me.1)) × WasStopped self.now.table.shared.key thread.now.number thread.now.steps }
+        ensures entered { result ≡ true → seat.new.me ≡ (progress self.now.table.shared.key thread.now.number (suc thread.now.steps) false (met_of seat.new.me.0) ∷ [], seat.old.me.1) }
+        ensures stopped { result ≡ false → (seat.new.me ≡ (progress self.now.table.shared.key thread.now.number thread.now.steps false (met_of seat.new.me.0) ∷ [], seat.old.me.1)) × (s : WasStopped self.now.table.shared.key thread.now.number thread.now.steps) × HasMet seat.old.me.0 seat.new.me.0 s.cut }
+        ensures rises { Rises seat.old.me.0 seat.new.me.0 }
     {
         if !self.look(seat, thread, object, access, event) {
             return false;
@@ -142,7 +144,7 @@ impl Weave {
         requires thread { IsSeated self.now.table.shared.key seat.old.me.0 thread.now }
         requires asking { IsAsking (trace_in self.now.table.shared.key) thread.now (ask.Leave object access) }
         ensures seat { (seat.new.table_id ≡ seat.old.table_id) × (seat.new.id ≡ seat.old.id) }
-        ensures left { seat.new.me ≡ (progress self.now.table.shared.key thread.now.number (suc thread.now.steps) false ∷ [], seat.old.me.1) }
+        ensures left { seat.new.me ≡ (progress self.now.table.shared.key thread.now.number (suc thread.now.steps) false (met_of seat.old.me.0) ∷ [], seat.old.me.1) }
     {
         let place = WORD_PLACE + APART * object as usize;
         match access {
@@ -166,7 +168,7 @@ impl Weave {
         requires thread { IsSeated self.now.table.shared.key seat.old.me.0 thread.now }
         requires asking { IsAsking (trace_in self.now.table.shared.key) thread.now (ask.Get object index) }
         ensures seat { (seat.new.table_id ≡ seat.old.table_id) × (seat.new.id ≡ seat.old.id) }
-        ensures read { seat.new.me ≡ (progress self.now.table.shared.key thread.now.number (suc thread.now.steps) false ∷ [], seat.old.me.1) }
+        ensures read { seat.new.me ≡ (progress self.now.table.shared.key thread.now.number (suc thread.now.steps) false (met_of seat.old.me.0) ∷ [], seat.old.me.1) }
         ensures value { Answers (trace_in self.now.table.shared.key) thread.now.number thread.now.steps result }
     {
         let place = CONTENT_PLACE + APART * object as usize + index as usize;
@@ -186,7 +188,7 @@ impl Weave {
         requires thread { IsSeated self.now.table.shared.key seat.old.me.0 thread.now }
         requires asking { IsAsking (trace_in self.now.table.shared.key) thread.now (ask.Put object index value) }
         ensures seat { (seat.new.table_id ≡ seat.old.table_id) × (seat.new.id ≡ seat.old.id) }
-        ensures put { seat.new.me ≡ (progress self.now.table.shared.key thread.now.number (suc thread.now.steps) false ∷ [], seat.old.me.1) }
+        ensures put { seat.new.me ≡ (progress self.now.table.shared.key thread.now.number (suc thread.now.steps) false (met_of seat.old.me.0) ∷ [], seat.old.me.1) }
     {
         let place = CONTENT_PLACE + APART * object as usize + index as usize;
         self.table.shared.store::<StepOn>(seat, place, value as u64);

@@ -1,7 +1,7 @@
 use Rattle.std.proofs.Common.{◌∙◌, ◌+◌, ◌*◌, suc, false, sym, subst}
 use Rattle.ir_thread.specs.declared.ask.Ask.TheVariants.{Leave}
 use Rattle.ir_weave.specs.Ahead.{IsAsking}
-use Rattle.ir_weave.specs.Woven.{M, trace_in, IsSeated}
+use Rattle.ir_weave.specs.Woven.{M, trace_in, met_of, IsSeated}
 use Rattle.ir_weave.proofs.Seats.{read_leave_allows, write_leave_allows, step_emitted, left_there, view_at}
 use Rattle.ir_weave.proofs.weave.Weave.leave.Goals as goal
 
@@ -44,6 +44,7 @@ returns-in-Writing-clause-left c =
     (subst (λ (m : M). IsSeated c.args.self.now.table.shared.key m.0 c.args.thread.now) (sym c.version-version.ensures.seat.2)
     c.requires.thread) c.requires.asking.asks (λ b. b) c.store.ensures.2).view
     ∙ (λ i. (
-      view_at c.args.self.now.table.shared.key c.args.thread.now (suc c.args.thread.now.steps) false,
+      view_at c.args.self.now.table.shared.key c.args.thread.now (suc c.args.thread.now.steps) false
+          (met_of (c.version-version.ensures.seat.2 i).0),
       (c.version-version.ensures.seat.2 i).1,
     ))

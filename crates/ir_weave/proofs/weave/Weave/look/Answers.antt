@@ -28,3 +28,6 @@ returns-clause-granted c on =
 
 pub returns-clause-stopped : goal.returns-clause-stopped
 returns-clause-stopped c off = (shown c).shut (test_false c.opens.result (Opens c.load-seen.result c.args.event) c.opens.ensures off)
+
+pub returns-clause-rises : goal.returns-clause-rises
+returns-clause-rises c = (shown c).rises

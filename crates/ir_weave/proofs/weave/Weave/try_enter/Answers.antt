@@ -6,6 +6,7 @@ use Rattle.ir_log.specs.declared.event.Event.{Event}
 use Rattle.ir_trace.specs.Recorded.{Recorded}
 use Rattle.ir_trace.specs.TraceOf.{recorded_thread}
 use Rattle.ir_thread.specs.declared.ask.Ask.TheVariants.{Enter}
+use Rattle.ir_weave.specs.Woven.{met_of}
 use Rattle.ir_weave.proofs.Steps.{object_stepped, never_disagrees, waited, entering_for}
 use Rattle.ir_weave.proofs.weave.Weave.try_enter.Goals as goal
 
@@ -25,11 +26,11 @@ enter-requires-clause-entering c = entering_for c.args.self.now.table.shared.key
 
 pub returns-then-not-enter-clause-stopped : goal.returns-then-not-enter-clause-stopped
 returns-then-not-enter-clause-stopped c off = let z = c.enter.ensures.stopped c.if-not-enter.true in
-    waited c.args.self.now.table.shared.key c.args.seat.now.me c.enter.new.seat.me c.args.thread.now c.requires.thread z.0 z.1
+    waited c.args.self.now.table.shared.key c.args.seat.now.me c.enter.new.seat.me c.args.thread.now c.requires.thread z.0 z.1 z.2
 
 pub returns-clause-stepped : goal.returns-clause-stepped
 returns-clause-stepped c on =
     object_stepped c.args.self.now.table.shared.key c.args.fitted.now c.code.result.now c.args.seat.now.me c.enter.new.seat.me
     c.args.thread.now c.take_asked.new.self (Enter c.args.object c.args.access) c.requires.table
     (c.code.ensures.value ∙ ap (λ g. g.code) c.image.ensures.value) c.requires.thread c.requires.asking tt tt c.take_asked.ensures
-    (c.enter.ensures.entered c.if-not-enter.false)
+    (met_of c.enter.new.seat.me.0) c.enter.ensures.rises (c.enter.ensures.entered c.if-not-enter.false)

@@ -6,6 +6,7 @@ use Rattle.ir_trace.specs.Recorded.{Recorded}
 use Rattle.ir_trace.specs.TraceOf.{recorded_thread}
 use Rattle.ir_thread.specs.declared.ask.Ask.TheVariants.{Try}
 use Rattle.ir_runs.specs.declared.access.Access.TheVariants.{Writing}
+use Rattle.ir_weave.specs.Woven.{met_of}
 use Rattle.ir_weave.proofs.Steps.{never_disagrees, waited, entering_for, entered_to_write, try_entered, try_refused}
 use Rattle.ir_weave.proofs.weave.Weave.try_in.Goals as goal
 
@@ -34,7 +35,7 @@ returns-in-Try-clause-stepped c on =
 
 pub returns-then-not-enter-clause-stopped : goal.returns-then-not-enter-clause-stopped
 returns-then-not-enter-clause-stopped c off = let z = c.enter.ensures.stopped c.if-not-enter.true in
-    waited c.args.self.now.table.shared.key c.args.seat.now.me c.enter.new.seat.me c.args.thread.now c.requires.thread z.0 z.1
+    waited c.args.self.now.table.shared.key c.args.seat.now.me c.enter.new.seat.me c.args.thread.now c.requires.thread z.0 z.1 z.2
 
 pub returns-else-not-enter-clause-stepped : goal.returns-else-not-enter-clause-stepped
 returns-else-not-enter-clause-stepped c on =
@@ -44,4 +45,4 @@ returns-else-not-enter-clause-stepped c on =
     (subst (λ (z : Recorded × ℕ × ℕ). slice_get (recorded_thread z.0 z.1).events z.2 ≡ Some c.in-Ok.event)
     (λ i. (c.trace.ensures.value i, c.number-number.ensures i, c.events.ensures.value i)) c.in-Ok.ensures.next)
     (entered_to_write c.args.object c.in-Ok.event c.in-Ok.ensures.suits c.in_default.not-Try).0 c.take_asked-in_default.ensures
-    (c.enter.ensures.entered c.if-not-enter.false)
+    (met_of c.enter.new.seat.me.0) c.enter.ensures.rises (c.enter.ensures.entered c.if-not-enter.false)
