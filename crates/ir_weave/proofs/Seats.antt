@@ -254,10 +254,13 @@ look_emitted k x o a e (q ∷ [], c) w n seated entering emitted =
       opened = λ on. emitted.5 (subst (Opens n) (sym event) on)
           ∙ (λ i. (same_view k q x emitted.0 x.steps true (met_of w.0) seated.0 seated.1.number here i, c));
       shut = λ off.
-          let z = emitted.6 (λ on. off (subst (Opens n) event on)) in (
+          let z = emitted.6 (λ on. off (subst (Opens n) event on)) in
+          let moved : (s : WasStopped k x.number x.steps) × HasMet (q ∷ []) w.0 s.cut =
+          subst (λ (z : Plan × ℕ × ℕ). (s : WasStopped z.0 z.1 z.2) × HasMet (q ∷ []) w.0 s.cut)
+          (λ i. (seated.0 i, sym seated.1.number i, here i)) (z.1, z.2) in (
             z.0 ∙ (λ i. (same_view k q x emitted.0 x.steps false (met_of w.0) seated.0 seated.1.number here i, c)),
-            subst (λ (z : Plan × ℕ × ℕ). (s : WasStopped z.0 z.1 z.2) × HasMet (q ∷ []) w.0 s.cut)
-                (λ i. (seated.0 i, sym seated.1.number i, here i)) (z.1, z.2),
+            moved.0,
+            moved.1,
           );
     }
   where

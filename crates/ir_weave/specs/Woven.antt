@@ -55,7 +55,7 @@ abbrev pub IsOpened : Plan → Type 0
 IsOpened k = EachRun (trace_in k) (λ run. IsCut (machine_of (trace_in k)) (start_of (trace_in k)) run (opened_at k))
 
 abbrev pub progress : Plan → ℕ → ℕ → Bool → Standing → Progress
-progress k t i g m = record { plan = k; thread = t; position = i; granted = g; met = record { value = m } }
+progress k t i g m = record { plan = k; thread = t; position = i; granted = g; met = record k.opened { value = m } }
 
 -- how many steps each thread has taken in it
 abbrev pub stood : Standing → Cut

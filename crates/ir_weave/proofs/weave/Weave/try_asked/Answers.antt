@@ -19,3 +19,6 @@ returns-then-matches-clause-stopped c _ = elim c.match-matches.branch [
       c.args.self.now.opened c.requires.thread (sym c.requires.asked ∙ w.in-Done.is)
   | in_default w ↦ absurd (cc (w.matches-is, c.if-matches.true))
 ]
+
+pub returns-else-take-clause-stopped : goal.returns-else-take-clause-stopped
+returns-else-take-clause-stopped c _ = c.take.ensures.stopped c.if-take.false
