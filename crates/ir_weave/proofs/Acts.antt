@@ -40,7 +40,7 @@ use Rattle.ir_weave.specs.States.{IsStateAt, positions}
 use Rattle.ir_object.specs.Layout.{word_place, content_place}
 use Rattle.ir_weave.specs.Table.{IsTable, object_in}
 use Rattle.ir_weave.specs.Standing.{Standing}
-use Rattle.ir_weave.specs.Woven.{View, trace_in, progress, stood, HasMet, AdmittedAt, Woven, Answers, IsEventAt, looked, stepped_on, read_version}
+use Rattle.ir_weave.specs.Woven.{View, trace_in, progress, stood, AdmittedAt, Woven, Answers, IsEventAt, looked, stepped_on, read_version}
 use Rattle.ir_weave.specs.declared.plan.Plan.{Plan}
 use Rattle.ir_weave.specs.declared.plan.Progress.{Progress}
 use Rattle.ir_weave.specs.Stepping.{LogsNext}
