@@ -39,8 +39,7 @@ use Rattle.ir_weave.specs.Ahead.{IsRefused, IsAlone, GoesAlone, event_of, HasSte
 use Rattle.ir_weave.specs.States.{IsStateAt, positions}
 use Rattle.ir_object.specs.Layout.{word_place, content_place}
 use Rattle.ir_weave.specs.Table.{IsTable, object_in}
-use Rattle.ir_weave.specs.Standing.{Standing}
-use Rattle.ir_weave.specs.Woven.{View, trace_in, progress, stood, AdmittedAt, Woven, Answers, IsEventAt, looked, stepped_on, read_version}
+use Rattle.ir_weave.specs.Woven.{View, trace_in, Met, progress, met_in, stood, AdmittedAt, Woven, Answers, IsEventAt, looked, stepped_on, read_version}
 use Rattle.ir_weave.specs.declared.plan.Plan.{Plan}
 use Rattle.ir_weave.specs.declared.plan.Progress.{Progress}
 use Rattle.ir_weave.specs.Stepping.{LogsNext}
@@ -146,9 +145,9 @@ found_fields n f fits is = ap fields_of is ∙ one_word f fits
 
 -- ---- a load before an entry
 
--- the threads and objects, which a look meets
-abbrev pub standing : Flat → Standing
-standing s = record { threads = s.threads; objects = s.objects }
+-- what a look meets
+abbrev pub met_now : Progress → Flat → Met
+met_now q s = record { state = record { threads = s.threads; objects = s.objects }; looks = suc q.looks }
 
 pub looks_at : (slots id o : ℕ) (a : Access) (e : Event) (y : thread.State) (q : Progress) (c : List (ℕ × Unit {0}))
     → IsAhead (trace_in q.plan) q.thread q.position y → o < object_count (trace_in q.plan).guest → IsEntering (trace_in q.plan) y o a e
@@ -161,7 +160,7 @@ looks_at slots id o a e y q c ahead inside entering x h homes at small =
     let n : ℕ = get_or x.words (word_place o) 0 in
     let l : o < length h.state.objects = (let e' = h.at.objects in omega (arith, e', inside)) in
     let here : positions cu.state t ≡ y.steps = ap (λ (z : thread.State). z.steps) cu.own in
-    let rises : (u : ℕ) → stood q.met.value u ≤ stood (standing cu.state) u =
+    let rises : (u : ℕ) → stood (met_in q) u ≤ stood (met_now q cu.state) u =
     λ u. (let a = (h.tracks id (q ∷ []) at).0.met u in let b = up f h.state cu.state t (further_by k x h id q y at ahead cu) u in
     omega (arith, a, b)) in
     let same : fields_of n ≡ (cell_of cu.state o).fields =
@@ -184,28 +183,28 @@ looks_at slots id o a e y q c ahead inside entering x h homes at small =
     (same_words h.state.objects x.words (word_place o) h.table) in
     elim (opens_or (record { fields = fields_of n; words = [] }) e) [
       | inl yes' ↦ (
-        progress k t y.steps true (standing cu.state) ∷ [],
+        progress k t y.steps true (met_now q cu.state) ∷ [],
         keeps,
         tt,
         moves k x h id q at cu.state (further_by k x h id q y at ahead cu) y.steps here true
             (λ on. open_admitted f cu.state t o a e entering.asked h.run cu.flat cu.at (there k x h id q y at cu) ask has event
             entering.suits entering.enters
             (opens_by (record { fields = fields_of n; words = [] }) (cell_of cu.state o) e same yes'))
-            (standing cu.state) (λ u. omega arith) (set x.words (word_place o) n) x.homes table,
-        (y.steps, e, nexts, emitted_event, rises, (λ b. refl), (λ no'. absurd (no' yes'))),
+            (met_now q cu.state) (λ u. omega arith) (set x.words (word_place o) n) x.homes table,
+        (y.steps, e, nexts, emitted_event, record { cut = rises; looks = omega arith }, (λ b. refl), (λ no'. absurd (no' yes'))),
       )
       | inr no' ↦ (
-        progress k t y.steps false (standing cu.state) ∷ [],
+        progress k t y.steps false (met_now q cu.state) ∷ [],
         keeps,
         tt,
         moves k x h id q at cu.state (further_by k x h id q y at ahead cu) y.steps here false (λ on. absurd (cc on))
-            (standing cu.state) (λ u. omega arith) (set x.words (word_place o) n) x.homes table,
+            (met_now q cu.state) (λ u. omega arith) (set x.words (word_place o) n) x.homes table,
         (
           y.steps,
           e,
           nexts,
           emitted_event,
-          rises,
+          record { cut = rises; looks = omega arith },
           (λ yes'. absurd (no' yes')),
           (λ b. (
             refl,
@@ -220,7 +219,7 @@ looks_at slots id o a e y q c ahead inside entering x h homes at small =
                   entering.suits entering.enters
                   (λ yes'. no' (opens_by (cell_of cu.state o) (record { fields = fields_of n; words = [] }) e (sym same) yes'));
             },
-            record { above = rises; met = λ u. refl },
+            record { above = rises; met = λ u. refl; looked = omega arith },
           )),
         ),
       )
@@ -271,8 +270,8 @@ steps_on slots id word first second q c x h at y ahead asked touches is cu v g n
       own = (let a = (h.tracks id (q ∷ []) at).0.position in let b = ahead.past in omega (arith, own, before, a, b));
       others = λ u ne. g.others u ne ∙ cu.others u ne;
     } in (
-      progress k t (suc y.steps) false q.met.value ∷ [],
-      moves k x h id q at (next cu.state t v asked) further (suc y.steps) (omega (arith, own, before)) false (λ on. absurd (cc on)) q.met.value
+      progress k t (suc y.steps) false (met_in q) ∷ [],
+      moves k x h id q at (next cu.state t v asked) further (suc y.steps) (omega (arith, own, before)) false (λ on. absurd (cc on)) (met_in q)
           (λ u. (let a = (h.tracks id (q ∷ []) at).0.met u in let b = up f h.state (next cu.state t v asked) t further u in
           omega (arith, a, b))) ws x.homes table,
       (

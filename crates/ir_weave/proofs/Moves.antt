@@ -11,8 +11,7 @@ use Rattle.ir_runs.proofs.CallerLemmas.{persists}
 use Rattle.ir_fit.specs.Fit.{FittedTrace}
 use Rattle.ir_weave.specs.States.{IsStateAt, positions}
 use Rattle.ir_weave.specs.Table.{IsTable}
-use Rattle.ir_weave.specs.Standing.{Standing}
-use Rattle.ir_weave.specs.Woven.{View, trace_in, progress, stood, AdmittedAt, IsTrack, AreTracks, Woven}
+use Rattle.ir_weave.specs.Woven.{View, trace_in, Met, progress, stood, AdmittedAt, IsTrack, AreTracks, Woven}
 use Rattle.ir_weave.specs.declared.plan.Plan.{Plan}
 use Rattle.ir_weave.specs.declared.plan.Progress.{Progress}
 
@@ -56,7 +55,7 @@ others_stay k old new t seat j (q ∷ qs) g ne h =
 pub moves : (k : Plan) (x : State (Unit {0}) View) (h : Woven k x) (id : ℕ) (q : Progress) → get_elem? x.views id ≡ some (q ∷ [])
     → (new : Flat) → IsFurther (trace_in k) h.state new q.thread → (i : ℕ) → positions new q.thread ≡ i
     → (granted : Bool) → (granted ≡ true → AdmittedAt (trace_in k) (positions new) q.thread)
-    → (m : Standing) → ((u : ℕ) → stood m u ≤ positions new u) → (ws : List ℕ) (hs : List _)
+    → (m : Met) → ((u : ℕ) → stood m u ≤ positions new u) → (ws : List ℕ) (hs : List _)
     → IsTable new.objects ws → Woven k (record { words = ws; homes = hs; views = set x.views id (progress k q.thread i granted m ∷ []) })
 moves k x h id q at new g i here granted ad m met ws hs table =
     let own : IsTrack k h.state h.seat id q = (h.tracks id (q ∷ []) at).0 in record {

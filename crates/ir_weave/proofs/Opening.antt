@@ -28,7 +28,7 @@ use Rattle.ir_weave.specs.Standing.{Standing, StandsAt, flat_in}
 use Rattle.ir_weave.specs.States.{IsStateAt, positions}
 use Rattle.ir_object.specs.Layout.{line_words, apart, table_length, word_place, content_place}
 use Rattle.ir_weave.specs.Table.{IsTable, IsLaid, laid, word_in, object_in}
-use Rattle.ir_weave.specs.Woven.{View, M, trace_in, opened_in, opened_at, progress, IsSeated, AreTracks, Woven, tracks_from, all_but_first, first_alone, AreSeats, AreAt, IsClosed, IsEnd, AreRead}
+use Rattle.ir_weave.specs.Woven.{View, M, trace_in, opened_in, opened_at, progress, first_met, IsSeated, AreTracks, Woven, tracks_from, all_but_first, first_alone, AreSeats, AreAt, IsClosed, IsEnd, AreRead}
 use Rattle.ir_weave.proofs.Acts.{one_word, cell_fits}
 use Rattle.ir_weave.specs.declared.plan.Plan.{Plan}
 
@@ -84,11 +84,11 @@ opens_for k f s ws for is run stands table =
 
 -- the seat of a thread
 seat_of : (id : TableId) (k : Plan) (t i u : ℕ) (xs : List (Seat (Unit {0}) View)) (x : Seat (Unit {0}) View) → AreSeats id k t xs
-    → slice_get xs i ≡ Some x → u ≡ t + i → x.me ≡ (progress k u (opened_at k u) false k.opened.value ∷ [], [])
+    → slice_get xs i ≡ Some x → u ≡ t + i → x.me ≡ (progress k u (opened_at k u) false (first_met k) ∷ [], [])
 seat_of id k t i u [] x h at e = absurd (cc at)
 seat_of id k t zero u (y ∷ ys) x h at e =
     let same : y ≡ x = cc at in let here : t ≡ u = omega (arith, e) in
-    ap (λ z. z.me) (sym same) ∙ h.0.1 ∙ (λ j. (progress k (here j) (opened_at k (here j)) false k.opened.value ∷ [], []))
+    ap (λ z. z.me) (sym same) ∙ h.0.1 ∙ (λ j. (progress k (here j) (opened_at k (here j)) false (first_met k) ∷ [], []))
 seat_of id k t (suc i) u (y ∷ ys) x h at e = seat_of id k (suc t) i u ys x h.1 at (omega (arith, e))
 
 -- each thread can step at its seat
@@ -157,7 +157,7 @@ splits k id t m v is x h at =
       words = x.words;
       homes = x.homes;
       views =
-          set x.views id (tracks_from k (suc t) m) ++ (progress k t (opened_at k t) false k.opened.value ∷ []) ∷ [];
+          set x.views id (tracks_from k (suc t) m) ++ (progress k t (opened_at k t) false (first_met k) ∷ []) ∷ [];
     }) = record {
       run = h.run;
       state = h.state;
@@ -165,7 +165,7 @@ splits k id t m v is x h at =
       at = h.at;
       above = h.above;
       seat = seat';
-      tracks = λ j u e. elim (at_end (set x.views id (tracks_from k (suc t) m)) (progress k t (opened_at k t) false k.opened.value ∷ []) u j e) [
+      tracks = λ j u e. elim (at_end (set x.views id (tracks_from k (suc t) m)) (progress k t (opened_at k t) false (first_met k) ∷ []) u j e) [
         | inl was ↦ elim (at_set x.views id j (tracks_from k (suc t) m) u was) [
           | inl r ↦ subst (λ (z : ℕ). AreTracks k h.state seat' z u) (sym r.0)
               (subst (AreTracks k h.state seat' id) r.1 (later k h.state h.seat t new id (suc t) m (omega arith) f.1))
@@ -257,12 +257,12 @@ joins k id other v w x h at apart at' =
 -- ---- dealing
 
 pub seats-snoc : (id : TableId) (k : Plan) (t u : ℕ) (xs : List (Seat (Unit {0}) View)) (x : Seat (Unit {0}) View) → AreSeats id k t xs
-    → u ≡ t + length xs → x.table_id ≡ id → x.me ≡ (progress k u (opened_at k u) false k.opened.value ∷ [], []) → AreSeats id k t (xs ++ x ∷ [])
+    → u ≡ t + length xs → x.table_id ≡ id → x.me ≡ (progress k u (opened_at k u) false (first_met k) ∷ [], []) → AreSeats id k t (xs ++ x ∷ [])
 seats-snoc id k t u [] x h e i m = (
   (
     i,
     m ∙ (λ j.
-        (progress k ((let q : u ≡ t = omega (arith, e) in q) j) (opened_at k ((let q : u ≡ t = omega (arith, e) in q) j)) false k.opened.value ∷ [], [])),
+        (progress k ((let q : u ≡ t = omega (arith, e) in q) j) (opened_at k ((let q : u ≡ t = omega (arith, e) in q) j)) false (first_met k) ∷ [], [])),
   ),
   tt,
 )
@@ -273,7 +273,7 @@ pub dealt : (k : Plan) (l m n : ℕ) (me w : M) → me ≡ (tracks_from k l (suc
 dealt k l m n me w is emitted long = emitted ∙ (λ i. (all_but_first (is i).0, (is i).1)) ∙ (λ i. (tracks_from k (sym long i) m, []))
 
 pub dealt_first : (k : Plan) (l m : ℕ) (me w : M) → me ≡ (tracks_from k l (suc m), []) → w ≡ (first_alone me.0, [])
-    → w ≡ (progress k l (opened_at k l) false k.opened.value ∷ [], [])
+    → w ≡ (progress k l (opened_at k l) false (first_met k) ∷ [], [])
 dealt_first k l m me w is emitted = emitted ∙ (λ i. (first_alone (is i).0, []))
 
 pub all_but : (k : Plan) (l m n : ℕ) (me : M) → me ≡ (tracks_from k l m, []) → m ≡ suc n → me ≡ (tracks_from k l (suc n), [])

@@ -22,8 +22,7 @@ use Rattle.ir_cut.specs.Positions.{machine_of, start_of, EachRun}
 use Rattle.ir_weave.specs.Ahead.{IsAlone, event_of, HasStep, IsAhead, IsAsking, IsEntering, IsNextObject, ask_at, thread_at}
 use Rattle.ir_object.specs.Layout.{word_place, content_place, table_length}
 use Rattle.ir_object.specs.Word.{version_unit, reader_leaves}
-use Rattle.ir_weave.specs.Standing.{Standing}
-use Rattle.ir_weave.specs.Woven.{View, M, trace_in, progress, met_of, Rises, HasMet, Woven, Opens, Answers, WasStopped, looked, stepped_on, read_version, IsSeated, IsGranted}
+use Rattle.ir_weave.specs.Woven.{View, M, trace_in, Met, progress, met_in, met_of, Rises, HasMet, Woven, Opens, Answers, WasStopped, looked, stepped_on, read_version, IsSeated, IsGranted}
 use Rattle.ir_weave.specs.declared.plan.Plan.{Plan}
 use Rattle.ir_weave.specs.declared.plan.Progress.{Progress}
 use Rattle.ir_weave.proofs.Lone.{ahead_here}
@@ -188,10 +187,10 @@ put_allows k slots id o i v x (q ∷ [], c) value seated asking =
 -- ---- what it is told
 
 -- the seat's view with its thread at i
-abbrev pub view_at : Plan → thread.State → ℕ → Bool → Standing → View
+abbrev pub view_at : Plan → thread.State → ℕ → Bool → Met → View
 view_at k x i granted m = progress k x.number i granted m ∷ []
 
-same_view : (k : Plan) (q : Progress) (x : thread.State) (i j : ℕ) (g : Bool) (m : Standing) → q.plan ≡ k → x.number ≡ q.thread → i ≡ j
+same_view : (k : Plan) (q : Progress) (x : thread.State) (i j : ℕ) (g : Bool) (m : Met) → q.plan ≡ k → x.number ≡ q.thread → i ≡ j
     → progress q.plan q.thread i g m ∷ [] ≡ view_at k x j g m
 same_view k q x i j g m plan number here = λ z. progress (plan z) (sym number z) (here z) g m ∷ []
 
@@ -215,7 +214,7 @@ step_emitted k x asked (q ∷ [], c) w n seated is touches emitted =
     (touches_next f q.thread q.position x asked seated.1 ask
     (subst (λ (z : Plan × ℕ). IsAlone asked (event_of (trace_in z.0) z.1 x) → ⊥) (λ i. (sym seated.0 i, seated.1.number i)) touches)) in
     record {
-      view = emitted.2 ∙ (λ i. (same_view k q x (suc emitted.0) (suc x.steps) false q.met.value seated.0 seated.1.number (ap suc here) i, c));
+      view = emitted.2 ∙ (λ i. (same_view k q x (suc emitted.0) (suc x.steps) false (met_in q) seated.0 seated.1.number (ap suc here) i, c));
       answers = subst (λ (z : Plan × ℕ × ℕ). Answers (trace_in z.0) z.1 z.2 n) (λ i. (seated.0 i, sym seated.1.number i, here i)) emitted.3;
     }
 
@@ -227,10 +226,10 @@ touches_by k x o a e entering =
 
 -- of a load before an entry
 pub record WasShown (k : Plan) (x : thread.State) (e : Event) (me w : M) (n : ℕ) : Type 0 where
-  pub rises : Rises me.0 w.0
+  pub rises : Rises (met_of me.0) (met_of w.0)
   pub opened : Opens n e → ◌≡◌ {A = M} w (view_at k x x.steps true (met_of w.0), me.1)
   pub shut : (Opens n e → ⊥) → (◌≡◌ {A = M} w (view_at k x x.steps false (met_of w.0), me.1)) × (s : WasStopped k x.number x.steps)
-      × HasMet me.0 w.0 s.cut
+      × HasMet (met_of me.0) (met_of w.0) s.cut
 
 pub look_emitted : (k : Plan) (x : thread.State) (o : ℕ) (a : Access) (e : Event) (me w : M) (n : ℕ) → IsSeated k me.0 x
     → IsEntering (trace_in k) x o a e → looked any_step me n w → WasShown k x e me w n
@@ -255,8 +254,8 @@ look_emitted k x o a e (q ∷ [], c) w n seated entering emitted =
           ∙ (λ i. (same_view k q x emitted.0 x.steps true (met_of w.0) seated.0 seated.1.number here i, c));
       shut = λ off.
           let z = emitted.6 (λ on. off (subst (Opens n) event on)) in
-          let moved : (s : WasStopped k x.number x.steps) × HasMet (q ∷ []) w.0 s.cut =
-          subst (λ (z : Plan × ℕ × ℕ). (s : WasStopped z.0 z.1 z.2) × HasMet (q ∷ []) w.0 s.cut)
+          let moved : (s : WasStopped k x.number x.steps) × HasMet (met_in q) (met_of w.0) s.cut =
+          subst (λ (z : Plan × ℕ × ℕ). (s : WasStopped z.0 z.1 z.2) × HasMet (met_in q) (met_of w.0) s.cut)
           (λ i. (seated.0 i, sym seated.1.number i, here i)) (z.1, z.2) in (
             z.0 ∙ (λ i. (same_view k q x emitted.0 x.steps false (met_of w.0) seated.0 seated.1.number here i, c)),
             moved.0,
@@ -354,7 +353,7 @@ put_there k x (p ∷ []) o i n words seated asking size =
 -- ---- an entry in two steps
 
 -- the seat with its thread, counted up to it
-pub seat_here : (k : Plan) (v : View) (x : thread.State) (g : Bool) (m : Standing) → IsSeated k v x → IsSeated k (view_at k x x.steps g m) x
+pub seat_here : (k : Plan) (v : View) (x : thread.State) (g : Bool) (m : Met) → IsSeated k v x → IsSeated k (view_at k x x.steps g m) x
 seat_here k [] x g m seated = absurd seated
 seat_here k (q ∷ r ∷ qs) x g m seated = absurd seated
 seat_here k (q ∷ []) x g m seated = (

@@ -25,8 +25,7 @@ use Rattle.ir_trace.specs.TraceOf.{recorded_thread}
 use Rattle.ir_fit.specs.Fit.{FittedTrace, IsRunOf}
 use Rattle.ir_cut.specs.Positions.{machine_of, start_of}
 use Rattle.ir_weave.specs.Ahead.{IsRefused, IsAlone, event_of, HasStep, IsAhead, IsAsking, IsEntering, thread_at, ask_at}
-use Rattle.ir_weave.specs.Standing.{Standing}
-use Rattle.ir_weave.specs.Woven.{View, M, trace_in, progress, stood, met_of, HasMet, Answers, IsFor, IsOpened, IsSeated, HasStepped, HasWaited, HasRunOn, WasStopped}
+use Rattle.ir_weave.specs.Woven.{View, M, trace_in, Met, progress, met_of, Rises, HasMet, Answers, IsFor, IsOpened, IsSeated, HasStepped, HasWaited, HasRunOn, WasStopped}
 use Rattle.ir_weave.specs.declared.plan.Plan.{Plan}
 use Rattle.ir_weave.proofs.Lone.{Takes, is_go, really, ahead_alone, ahead_none, ahead_here, takes_go, takes_answer, takes_try, try_result, asks_in, event_there, more_steps, same_number, never_done}
 use Rattle.ir_weave.proofs.Trails.{StepOf, step_at}
@@ -64,6 +63,10 @@ replied : (code : List ℕ) (f : FittedTrace) (x : thread.State) (q : Ask) (r : 
 unfolding after_reply
 replied code f x q r same is = (λ i. after_ask (same i) x (ask_of (same i) x) r) ∙ ap (λ a. after_ask f.guest.code x a r) is
 
+-- nothing more was met
+pub still : (m : Met) → Rises m m
+still m = record { cut = λ u. omega arith; looks = omega arith }
+
 -- a step that touches no object
 pub stepped_alone : (k : Plan) (f : FittedTrace) (code : List ℕ) (me : M) (x y : thread.State) (q : Ask) (r : Reply) → IsFor k f
     → code ≡ f.guest.code → IsSeated k me.0 x → IsAlone q (event_of (trace_in k) x.number x) → really q → Takes (trace_in k) x.number x q r → y ≡ after_reply code x r
@@ -77,13 +80,13 @@ stepped_alone k f code me x y q r for same seated alone step takes is =
       slots = refl;
       steps = more_steps (trace_in k).guest.code x q r step;
       number = same_number (trace_in k).guest.code x q r;
-      rises = λ u. omega arith;
+      rises = still (met_of me.0);
     })
 
 -- a step on an object
 pub stepped_object : (k : Plan) (f : FittedTrace) (code : List ℕ) (me me' : M) (x y : thread.State) (q : Ask) (r : Reply) → IsFor k f
     → code ≡ f.guest.code → IsSeated k me.0 x → really q → Takes (trace_in k) x.number x q r → y ≡ after_reply code x r
-    → (m : Standing) → ((u : ℕ) → stood (met_of me.0) u ≤ stood m u)
+    → (m : Met) → Rises (met_of me.0) m
     → ◌≡◌ {A = M} me' (progress k x.number (suc x.steps) false m ∷ [], me.1) → HasStepped k me me' x y
 stepped_object k f code me me' x y q r for same seated step takes is m rises moved =
     let y_is : y ≡ after_ask (trace_in k).guest.code x q r = is
@@ -93,7 +96,7 @@ stepped_object k f code me me' x y q r for same seated step takes is m rises mov
       slots = refl;
       steps = more_steps (trace_in k).guest.code x q r step;
       number = same_number (trace_in k).guest.code x q r;
-      rises = rises;
+      rises = record { cut = rises.cut; looks = rises.looks };
     })
 
 -- ---- which steps it takes
@@ -266,13 +269,13 @@ runs_on k f code v x y n for same seated steps =
 
 pub waited : (k : Plan) (me me' : M) (x : thread.State) → IsSeated k me.0 x
     → ◌≡◌ {A = M} me' (progress k x.number x.steps false (met_of me'.0) ∷ [], me.1)
-    → (s : WasStopped k x.number x.steps) → HasMet me.0 me'.0 s.cut → HasWaited k me me' x x
+    → (s : WasStopped k x.number x.steps) → HasMet (met_of me.0) (met_of me'.0) s.cut → HasWaited k me me' x x
 waited k me me' x seated is stopped met = subst (λ (z : M). HasWaited k me z x x) (sym is) (record {
   seated = (refl, ahead_here (trace_in k) x.number (seated_at me.0) x (seated_ahead k me.0 x seated));
   slots = refl;
   same = refl;
   stopped = stopped;
-  fresh = inl (record { above = met.above; met = met.met });
+  fresh = inl (record { above = met.above; met = met.met; looked = met.looked });
 })
 
 -- ---- what the calls of a step promise
@@ -301,7 +304,7 @@ answer_stepped k f code me x y kind j n for same seated asking event is =
 
 pub object_stepped : (k : Plan) (f : FittedTrace) (code : List ℕ) (me me' : M) (x y : thread.State) (q : Ask) → IsFor k f
     → code ≡ f.guest.code → IsSeated k me.0 x → IsAsking f x q → is_go q → really q
-    → y ≡ after_reply code x Go → (m : Standing) → ((u : ℕ) → stood (met_of me.0) u ≤ stood m u)
+    → y ≡ after_reply code x Go → (m : Met) → Rises (met_of me.0) m
     → ◌≡◌ {A = M} me' (progress k x.number (suc x.steps) false m ∷ [], me.1) → HasStepped k me me' x y
 object_stepped k f code me me' x y q for same seated asking go real is m rises moved =
     stepped_object k f code me me' x y q Go for same seated real (go_takes k me.0 x q seated (asking_for k f x q for asking) go real) is
@@ -313,7 +316,7 @@ pub get_stepped : (k : Plan) (f : FittedTrace) (code : List ℕ) (me me' : M) (x
     → HasStepped k me me' x y
 get_stepped k f code me me' x y o i n for same seated asking answers is moved =
     stepped_object k f code me me' x y (Get o i) (Value n) for same seated tt
-    (get_takes k me.0 x o i n seated (asking_for k f x (Get o i) for asking) answers) is (met_of me.0) (λ u. omega arith) moved
+    (get_takes k me.0 x o i n seated (asking_for k f x (Get o i) for asking) answers) is (met_of me.0) (still (met_of me.0)) moved
 
 pub entering_for : (k : Plan) (f : FittedTrace) (x : thread.State) (q : Ask) (o : ℕ) (a : Access) (e : Event) → IsFor k f → IsAsking f x q
     → slice_get (recorded_thread f.recorded x.number).events x.events ≡ Some e → Suits q e → event_ask e ≡ Enter o a
@@ -337,7 +340,7 @@ try_takes k f v x o e for seated asking event =
 pub try_entered : (k : Plan) (f : FittedTrace) (code : List ℕ) (me me' : M) (x y : thread.State) (o : ℕ) (e : Event) → IsFor k f
     → code ≡ f.guest.code → IsSeated k me.0 x → IsAsking f x (Try o)
     → slice_get (recorded_thread f.recorded x.number).events x.events ≡ Some e → try_result e ≡ 1
-    → y ≡ after_reply code x (Value 1) → (m : Standing) → ((u : ℕ) → stood (met_of me.0) u ≤ stood m u)
+    → y ≡ after_reply code x (Value 1) → (m : Met) → Rises (met_of me.0) m
     → ◌≡◌ {A = M} me' (progress k x.number (suc x.steps) false m ∷ [], me.1) → HasStepped k me me' x y
 try_entered k f code me me' x y o e for same seated asking event one is m rises moved =
     stepped_object k f code me me' x y (Try o) (Value 1) for same seated tt

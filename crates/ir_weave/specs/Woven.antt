@@ -54,26 +54,40 @@ opened_at k = positions (opened_in k)
 abbrev pub IsOpened : Plan → Type 0
 IsOpened k = EachRun (trace_in k) (λ run. IsCut (machine_of (trace_in k)) (start_of (trace_in k)) run (opened_at k))
 
-abbrev pub progress : Plan → ℕ → ℕ → Bool → Standing → Progress
-progress k t i g m = record { plan = k; thread = t; position = i; granted = g; met = record k.opened { value = m } }
+-- what a seat has met: the threads and objects as it last looked or, if it never did, as the table was opened; how many times it has looked
+pub record Met : Type 0 where
+  pub state : Standing
+  pub looks : ℕ
 
--- how many steps each thread has taken in it
-abbrev pub stood : Standing → Cut
-stood m t = (slice_index_or m.threads t idle).steps
+abbrev pub progress : Plan → ℕ → ℕ → Bool → Met → Progress
+progress k t i g m = record { plan = k; thread = t; position = i; granted = g; met = record k.opened { value = m.state }; looks = m.looks }
+
+-- what a seat has met that never looked
+abbrev pub first_met : Plan → Met
+first_met k = record { state = k.opened.value; looks = 0 }
+
+abbrev pub met_in : Progress → Met
+met_in q = record { state = q.met.value; looks = q.looks }
 
 -- what a seat of one thread has met
-abbrev pub met_of : View → Standing
-met_of [] = record { threads = []; objects = [] }
-met_of (q ∷ qs) = q.met.value
+abbrev pub met_of : View → Met
+met_of [] = record { state = record { threads = []; objects = [] }; looks = 0 }
+met_of (q ∷ qs) = met_in q
 
--- the cut that the seat has met is no lower than before
-abbrev pub Rises : View → View → Type 0
-Rises v w = (u : ℕ) → stood (met_of v) u ≤ stood (met_of w) u
+-- where the threads stood there
+abbrev pub stood : Met → Cut
+stood m t = (slice_index_or m.state.threads t idle).steps
 
--- the seat has met this cut now, at or above the one that it had met before
-pub record HasMet (v w : View) (cut : Cut) : Type 0 where
-  pub above : (u : ℕ) → stood (met_of v) u ≤ cut u
-  pub met : (u : ℕ) → stood (met_of w) u ≡ cut u
+-- a seat that had met a has met b since: it is no lower, and the seat has looked no fewer times
+pub record Rises (a b : Met) : Type 0 where
+  pub cut : (u : ℕ) → stood a u ≤ stood b u
+  pub looks : a.looks ≤ b.looks
+
+-- a seat that had met a has looked since, and met b by that: it is this cut, at or above the one that it had met before
+pub record HasMet (a b : Met) (cut : Cut) : Type 0 where
+  pub above : (u : ℕ) → stood a u ≤ cut u
+  pub met : (u : ℕ) → stood b u ≡ cut u
+  pub looked : a.looks < b.looks
 
 -- thread t is admitted at the cut p of each run
 abbrev pub AdmittedAt : FittedTrace → Cut → ℕ → Type 0
@@ -87,7 +101,7 @@ pub record IsTrack (k : Plan) (s : Flat) (seat : ℕ → ℕ) (id : ℕ) (q : Pr
   pub mine : seat q.thread ≡ id
   pub position : positions s q.thread ≡ q.position
   pub granted : q.granted ≡ true → AdmittedAt (trace_in k) (positions s) q.thread
-  pub met : (u : ℕ) → stood q.met.value u ≤ positions s u
+  pub met : (u : ℕ) → stood (met_in q) u ≤ positions s u
 
 abbrev pub AreTracks : Plan → Flat → (ℕ → ℕ) → ℕ → View → Type 0
 AreTracks k s seat id [] = Unit {0}
@@ -141,17 +155,17 @@ looked s ([], c) n w = ⊥
 looked s (q ∷ r ∷ qs, c) n w = ⊥
 looked s (q ∷ [], c) n w = (i : ℕ) × (e : Event) × IsNextObject (trace_in q.plan) q.thread q.position i
     × IsEventAt (trace_in q.plan) q.thread i e
-    × Rises (q ∷ []) w.0
+    × Rises (met_in q) (met_of w.0)
     × (Opens n e → w ≡ (progress q.plan q.thread i true (met_of w.0) ∷ [], c))
     × ((Opens n e → ⊥) → (w ≡ (progress q.plan q.thread i false (met_of w.0) ∷ [], c)) × (s : WasStopped q.plan q.thread i)
-    × HasMet (q ∷ []) w.0 s.cut)
+    × HasMet (met_in q) (met_of w.0) s.cut)
 
 -- what a step on an object emits: it is the thread's next such, and what was found where it is a load
 abbrev pub stepped_on : Step (Unit {0}) → M → ℕ → M → Type 0
 stepped_on s ([], c) n w = ⊥
 stepped_on s (q ∷ r ∷ qs, c) n w = ⊥
 stepped_on s (q ∷ [], c) n w = (i : ℕ) × IsNextObject (trace_in q.plan) q.thread q.position i
-    × (w ≡ (progress q.plan q.thread (suc i) false q.met.value ∷ [], c)) × Answers (trace_in q.plan) q.thread i n
+    × (w ≡ (progress q.plan q.thread (suc i) false (met_in q) ∷ [], c)) × Answers (trace_in q.plan) q.thread i n
 
 -- what a load before a writer's leave emits: the version that is left
 abbrev pub read_version : Step (Unit {0}) → M → ℕ → M → Type 0
@@ -163,7 +177,7 @@ read_version s (q ∷ [], c) n w = (i : ℕ) × IsNextObject (trace_in q.plan) q
 -- the tracks of n threads from t on, at these positions
 abbrev pub tracks_from : Plan → ℕ → ℕ → View
 tracks_from k t zero = []
-tracks_from k t (suc n) = progress k t (opened_at k t) false k.opened.value ∷ tracks_from k (suc t) n
+tracks_from k t (suc n) = progress k t (opened_at k t) false (first_met k) ∷ tracks_from k (suc t) n
 
 abbrev pub all_but_first : View → View
 all_but_first [] = []
@@ -194,7 +208,7 @@ pub record HasStepped (k : Plan) (me me' : M) (x x' : thread.State) : Type 0 whe
   pub slots : me'.1 ≡ me.1
   pub steps : x'.steps ≡ x.steps + 1
   pub number : x'.number ≡ x.number
-  pub rises : Rises me.0 me'.0
+  pub rises : Rises (met_of me.0) (met_of me'.0)
 
 -- the thread x is done, and its seat as it was; this cut is the end of each run
 pub record IsOver (k : Plan) (me me' : M) (x : thread.State) (cut : Cut) : Type 0 where
@@ -203,13 +217,13 @@ pub record IsOver (k : Plan) (me me' : M) (x : thread.State) (cut : Cut) : Type 
   pub end : EachRun (trace_in k) (λ run. (u : ℕ) → cut u ≡ count (machine_of (trace_in k)) (start_of (trace_in k)) run u)
 
 -- the thread x has taken none, and wasn't admitted to its next at some consistent cut, at or above the one at which the table was opened:
--- one that its seat has met now, at or above the one that it had met before, or else, if the thread is done, the end
+-- one that its seat has met by a look now, at or above the one that it had met before, or else, if the thread is done, the end
 pub record HasWaited (k : Plan) (me me' : M) (x x' : thread.State) : Type 0 where
   pub seated : IsSeated k me'.0 x'
   pub slots : me'.1 ≡ me.1
   pub same : x' ≡ x
   pub stopped : WasStopped k x.number x.steps
-  pub fresh : HasMet me.0 me'.0 stopped.cut ⊎ IsOver k me me' x stopped.cut
+  pub fresh : HasMet (met_of me.0) (met_of me'.0) stopped.cut ⊎ IsOver k me me' x stopped.cut
 
 -- the thread has gone on by n private steps
 pub record HasRunOn (k : Plan) (v : View) (x y : thread.State) (n : ℕ) : Type 0 where
@@ -220,7 +234,7 @@ pub record HasRunOn (k : Plan) (v : View) (x y : thread.State) (n : ℕ) : Type 
 -- seats of the threads from t on, one for each, where they stood when the table was opened
 abbrev pub AreSeats : TableId → Plan → ℕ → List (Seat (Unit {0}) View) → Type 0
 AreSeats id k t [] = Unit {0}
-AreSeats id k t (x ∷ xs) = ((x.table_id ≡ id) × (x.me ≡ (progress k t (opened_at k t) false k.opened.value ∷ [], []))) × AreSeats id k (suc t) xs
+AreSeats id k t (x ∷ xs) = ((x.table_id ≡ id) × (x.me ≡ (progress k t (opened_at k t) false (first_met k) ∷ [], []))) × AreSeats id k (suc t) xs
 
 -- at what cut the threads of a view stand
 abbrev pub AreAt : Cut → View → Type 0

@@ -11,12 +11,14 @@ pub struct Plan {
     pub opened: Snapshot<State>,
 }
 
-/// Of which plan a thread is, where it is, whether its next step was granted, and the threads and objects that its seat
-/// last met: as it last looked at an object, or, if it never did, as the table was opened. No value of it is made.
+/// Of which plan a thread is, where it is, whether its next step was granted, the threads and objects that its seat last
+/// met (as it last looked at an object or, if it never did, as the table was opened), and how many times it has looked.
+/// No value of it is made.
 pub struct Progress {
     pub plan: Plan,
     pub thread: u8,
     pub position: u64,
     pub granted: bool,
     pub met: Snapshot<State>,
+    pub looks: u64,
 }

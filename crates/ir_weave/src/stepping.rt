@@ -237,7 +237,8 @@ impl Weave {
         // The thread has taken its next step of each run with the trace, and nothing but private steps part it from its
         // seat's view.
         ensures stepped { result ≡ Stepped → HasStepped self.now.table.shared.key seat.old.me seat.new.me thread.old thread.new }
-        // At some consistent cut, at or above the one that the seat had met before, the thread wasn't admitted.
+        // The thread wasn't admitted at some consistent cut that its seat has met by a look in this call, at or above
+        // the one that it had met before. If the thread is done, this is the end of each run.
         ensures stopped { result ≡ NotNow → HasWaited self.now.table.shared.key seat.old.me seat.new.me thread.old thread.new }
         ensures reached { result ≡ AtTarget → (thread.new ≡ thread.old) × (seat.new.me ≡ seat.old.me) }
         ensures target { (result ≡ AtTarget) ↔ (thread.old.steps ≡ cut_of target.now thread.old.number) }
@@ -274,7 +275,8 @@ impl Weave {
         // The thread has taken its next step of each run with the trace, and nothing but private steps part it from its
         // seat's view.
         ensures stepped { result ≡ Stepped → HasStepped self.now.table.shared.key seat.old.me seat.new.me thread.old thread.new }
-        // At some consistent cut, at or above the one that the seat had met before, the thread wasn't admitted.
+        // The thread wasn't admitted at some consistent cut that its seat has met by a look in this call, at or above
+        // the one that it had met before. If the thread is done, this is the end of each run.
         ensures stopped { result ≡ NotNow → HasWaited self.now.table.shared.key seat.old.me seat.new.me thread.old thread.new }
         ensures reached { result ≡ AtTarget → (thread.new ≡ thread.old) × (seat.new.me ≡ seat.old.me) }
         ensures target { (result ≡ AtTarget) ↔ (thread.old.steps ≡ cut_of target.now thread.old.number) }

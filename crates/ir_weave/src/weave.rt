@@ -72,8 +72,8 @@ impl Weave {
         requires entering { IsEntering (trace_in self.now.table.shared.key) thread.now object access event }
         ensures seat { (seat.new.table_id ≡ seat.old.table_id) × (seat.new.id ≡ seat.old.id) }
         ensures granted { result ≡ true → (seat.new.me ≡ (progress self.now.table.shared.key thread.now.number thread.now.steps true (met_of seat.new.me.0) ∷ [], seat.old.me.1)) × IsGranted self.now.table.shared.key seat.new.me.0 thread.now }
-        ensures stopped { result ≡ false → (seat.new.me ≡ (progress self.now.table.shared.key thread.now.number thread.now.steps false (met_of seat.new.me.0) ∷ [], seat.old.me.1)) × (s : WasStopped self.now.table.shared.key thread.now.number thread.now.steps) × HasMet seat.old.me.0 seat.new.me.0 s.cut }
-        ensures rises { Rises seat.old.me.0 seat.new.me.0 }
+        ensures stopped { result ≡ false → (seat.new.me ≡ (progress self.now.table.shared.key thread.now.number thread.now.steps false (met_of seat.new.me.0) ∷ [], seat.old.me.1)) × (s : WasStopped self.now.table.shared.key thread.now.number thread.now.steps) × HasMet (met_of seat.old.me.0) (met_of seat.new.me.0) s.cut }
+        ensures rises { Rises (met_of seat.old.me.0) (met_of seat.new.me.0) }
     {
         let place = WORD_PLACE + APART * object as usize;
         let seen = self.table.shared.load::<Look>(seat, place);
@@ -115,8 +115,8 @@ impl Weave {
         requires entering { IsEntering (trace_in self.now.table.shared.key) thread.now object access event }
         ensures seat { (seat.new.table_id ≡ seat.old.table_id) × (seat.new.id ≡ seat.old.id) }
         ensures entered { result ≡ true → seat.new.me ≡ (progress self.now.table.shared.key thread.now.number (suc thread.now.steps) false (met_of seat.new.me.0) ∷ [], seat.old.me.1) }
-        ensures stopped { result ≡ false → (seat.new.me ≡ (progress self.now.table.shared.key thread.now.number thread.now.steps false (met_of seat.new.me.0) ∷ [], seat.old.me.1)) × (s : WasStopped self.now.table.shared.key thread.now.number thread.now.steps) × HasMet seat.old.me.0 seat.new.me.0 s.cut }
-        ensures rises { Rises seat.old.me.0 seat.new.me.0 }
+        ensures stopped { result ≡ false → (seat.new.me ≡ (progress self.now.table.shared.key thread.now.number thread.now.steps false (met_of seat.new.me.0) ∷ [], seat.old.me.1)) × (s : WasStopped self.now.table.shared.key thread.now.number thread.now.steps) × HasMet (met_of seat.old.me.0) (met_of seat.new.me.0) s.cut }
+        ensures rises { Rises (met_of seat.old.me.0) (met_of seat.new.me.0) }
     {
         if !self.look(seat, thread, object, access, event) {
             return false;

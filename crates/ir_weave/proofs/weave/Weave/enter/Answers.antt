@@ -15,4 +15,5 @@ returns-clause-entered c on = c.step_in.ensures.entered
     ))
 
 pub returns-clause-rises : goal.returns-clause-rises
-returns-clause-rises c = subst (λ (z : M). Rises c.args.seat.now.me.0 z.0) (sym c.step_in.ensures.entered) c.look.ensures.rises
+returns-clause-rises c = subst (λ (z : M). Rises (met_of c.args.seat.now.me.0) (met_of z.0)) (sym c.step_in.ensures.entered)
+    (record { cut = c.look.ensures.rises.cut; looks = c.look.ensures.rises.looks })
