@@ -7,7 +7,7 @@ use Rattle.atomic_table.specs.Seated.{TableId}
 use Rattle.atomic_table.specs.declared.shared.Seat.{Seat}
 use Rattle.ir_flat.specs.Flat.{idle}
 use Rattle.ir_thread.specs.State as thread
-use Rattle.ir_weave.specs.Woven.{View, AreSeats, opened_at, progress}
+use Rattle.ir_weave.specs.Woven.{View, AreSeats, opened_at, progress, first_met}
 use Rattle.ir_weave.specs.declared.plan.Plan.{Plan}
 use Rattle.ir_replay.specs.Rounds.{backwards, threads_of, seats_of}
 use Rattle.ir_replay.specs.Workers.{Pairs}
@@ -94,7 +94,7 @@ down_threads (w ∷ ws) rest xs e =
 
 -- the seat of thread t as the table is opened
 abbrev pub IsFirst : TableId → Plan → ℕ → Seat (Unit {0}) View → Type 0
-IsFirst id k t s = (s.table_id ≡ id) × (s.me ≡ (progress k t (opened_at k t) false k.opened.value ∷ [], []))
+IsFirst id k t s = (s.table_id ≡ id) × (s.me ≡ (progress k t (opened_at k t) false (first_met k) ∷ [], []))
 
 seat_at : (id : TableId) (k : Plan) (t m : ℕ) (xs rest : List (Seat (Unit {0}) View)) (s : Seat (Unit {0}) View) → m ≡ t + length xs
     → AreSeats id k t (xs ++ s ∷ rest) → IsFirst id k m s
