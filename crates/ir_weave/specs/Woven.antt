@@ -211,7 +211,7 @@ pub record HasStepped (k : Plan) (me me' : M) (x x' : thread.State) : Type 0 whe
   pub rises : Rises (met_of me.0) (met_of me'.0)
 
 -- the thread x is done, and its seat as it was; this cut is the end of each run
-pub record IsOver (k : Plan) (me me' : M) (x : thread.State) (cut : Cut) : Type 0 where
+pub record IsDoneAt (k : Plan) (me me' : M) (x : thread.State) (cut : Cut) : Type 0 where
   pub done : ask_of (trace_in k).guest.code x ≡ ask.Done
   pub same : me' ≡ me
   pub end : EachRun (trace_in k) (λ run. (u : ℕ) → cut u ≡ count (machine_of (trace_in k)) (start_of (trace_in k)) run u)
@@ -223,7 +223,7 @@ pub record HasWaited (k : Plan) (me me' : M) (x x' : thread.State) : Type 0 wher
   pub slots : me'.1 ≡ me.1
   pub same : x' ≡ x
   pub stopped : WasStopped k x.number x.steps
-  pub fresh : HasMet (met_of me.0) (met_of me'.0) stopped.cut ⊎ IsOver k me me' x stopped.cut
+  pub fresh : HasMet (met_of me.0) (met_of me'.0) stopped.cut ⊎ IsDoneAt k me me' x stopped.cut
 
 -- the thread has gone on by n private steps
 pub record HasRunOn (k : Plan) (v : View) (x y : thread.State) (n : ℕ) : Type 0 where
