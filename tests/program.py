@@ -1,13 +1,13 @@
-"""Tests of the program as a person runs it: what no test inside a crate can hold, since it takes closed and full devices,
-pipes, signals and files of a disk.
+#!/usr/bin/env python3
+"""Tests of the program as a person runs it: closed and full devices, pipes, signals, files of a disk, and what the pages say.
 
-    python3 scripts/program_test.py ./ir
+python3 tests/program.py IR [TEST ..]
 
-It needs Linux, and bash and xxd for the commands of the README and the guide. The last line is `N passed, M failed`.
+Runs each test in a folder of its own, or only those that are named. Needs Linux, and bash and xxd for the commands of the README and the
+guide. The last line is `N passed, M failed`.
 """
 
 import os
-import re
 import resource
 import shlex
 import shutil
@@ -18,17 +18,8 @@ import tempfile
 import time
 from pathlib import Path
 
-ROOT = Path(__file__).resolve().parent.parent
-PROGRAM = ""
-
-DOUBLE = """
-        addi a0, zero, 72
-        addi a7, zero, 2
-        ecall
-        add a0, a0, a0
-        addi a7, zero, 1
-        ecall
-"""
+import pages
+from lib import BAD, DOUBLE, TOP, Wrong, assembled, counters, finish, program, run, shell, use, wants
 
 # Two threads; the first prints a byte, the second nothing.
 TWO = """
@@ -109,15 +100,6 @@ OWN_FILES = [
     ("record d.img d.trc --input d.trc", "ir: d.trc: TRACE would be written over FILE\n"),
 ]
 
-# One of the threads of `examples/counter.s`, each of which adds one to the first word of an object, in 18 steps.
-COUNTING = "        .thread main\n"
-
-
-def counters(example, threads):
-    """That example with so many threads."""
-    return COUNTING * threads + example.replace(COUNTING, "")
-
-
 # Tries to enter object 0, and ends with the answer; what is printed where the first of two that do is inside.
 TRY = """
 main:   addi a0, zero, 0
@@ -149,43 +131,16 @@ FAILED_OUTPUTS = [
 ]
 
 
-class Wrong(Exception):
-    """What a test found."""
-
-
-def wants(what, found, wanted):
-    """Fails where what was found isn't what was wanted."""
-    if found != wanted:
-        raise Wrong(f"{what}: found {found!r}, wanted {wanted!r}")
-
-
-def run(arguments, folder, **more):
-    """A run of the program in a folder, to its end."""
-    if "input" not in more:
-        more.setdefault("stdin", subprocess.DEVNULL)
-    more.setdefault("stdout", subprocess.PIPE)
-    more.setdefault("stderr", subprocess.PIPE)
-    return subprocess.run([PROGRAM] + shlex.split(arguments), cwd=folder, timeout=120, **more)
-
-
-def shell(command, folder, typed=b""):
-    """A run of a command by bash, in which `./ir` is the program, over what is typed."""
-    return subprocess.run(["bash", "-c", command], cwd=folder, timeout=120, input=typed, capture_output=True)
-
-
 def prepare(folder):
     """The files that the tests read."""
-    (folder / "ir").symlink_to(PROGRAM)
+    (folder / "ir").symlink_to(program())
     (folder / "folder").mkdir()
-    (folder / "d.s").write_text(DOUBLE)
-    (folder / "two.s").write_text(TWO)
-    (folder / "forever.s").write_text(FOREVER)
-    (folder / "bad.s").write_text("nop\nx\n")
+    (folder / "bad.s").write_text(BAD)
     for name, size in (("long", 200_000_001), ("longer", 1_048_577)):
         with open(folder / name, "wb") as file:
             file.truncate(size)
-    for name in ("d", "two", "forever"):
-        wants("assembling", run(f"asm {name}.s {name}.img", folder).returncode, 0)
+    for name, source in (("d", DOUBLE), ("two", TWO), ("forever", FOREVER)):
+        assembled(folder, name, source)
     wants("recording", run("record d.img whole.trc --order 0", folder).returncode, 0)
 
 
@@ -198,20 +153,25 @@ def test_arguments(folder):
             wants(f"{arguments}: {name}", (folder / name).exists(), False)
 
 
+def shown_at(control):
+    """What was written to a terminal whose other end is closed."""
+    shown = b""
+    with open(control, "rb", buffering=0) as screen:
+        try:
+            while part := screen.read(4096):
+                shown += part
+        except OSError:
+            # The other end is closed, and all was read.
+            pass
+    return shown.decode().replace("\r\n", "\n")
+
+
 def at_terminal(arguments, folder):
     """A run whose standard error is a terminal: the status, and what stands there."""
     control, terminal = os.openpty()
     ended = run(arguments, folder, stderr=terminal)
     os.close(terminal)
-    told = b""
-    with open(control, "rb", buffering=0) as screen:
-        try:
-            while part := screen.read(4096):
-                told += part
-        except OSError:
-            # The other end is closed, and all was read.
-            pass
-    return ended.returncode, told.decode().replace("\r\n", "\n")
+    return ended.returncode, shown_at(control)
 
 
 def test_explaining(folder):
@@ -225,20 +185,12 @@ def test_explaining(folder):
 def typed(arguments, lines, folder):
     """A run at a terminal where these lines are typed, and then the end of the input: the status, standard output, and what stands there."""
     control, terminal = os.openpty()
-    with subprocess.Popen([PROGRAM, *shlex.split(arguments)], cwd=folder, stdin=terminal, stdout=subprocess.PIPE, stderr=terminal) as process:
+    with subprocess.Popen([program(), *shlex.split(arguments)], cwd=folder, stdin=terminal, stdout=subprocess.PIPE, stderr=terminal) as process:
         os.close(terminal)
         os.write(control, "".join(f"{line}\n" for line in lines).encode() + b"\x04")
         out = process.stdout.read()
         status = process.wait(timeout=60)
-    told = b""
-    with open(control, "rb", buffering=0) as screen:
-        try:
-            while part := screen.read(4096):
-                told += part
-        except OSError:
-            # The other end is closed, and all was read.
-            pass
-    return status, out, told.decode().replace("\r\n", "\n")
+    return status, out, shown_at(control)
 
 
 def test_hints(folder):
@@ -282,7 +234,7 @@ def test_parts(folder):
     wants("what a link leads to", (folder / "elsewhere").read_bytes(), b"mine too")
     wants("what a link leads to nowhere", (folder / "nowhere").exists(), False)
     wants("the trace", run("trace w.trc", folder).stdout, DOUBLE_TRACE)
-    at_once = [subprocess.Popen([PROGRAM, "record", "d.img", "same.trc"], cwd=folder, stdout=subprocess.PIPE, stderr=subprocess.PIPE)
+    at_once = [subprocess.Popen([program(), "record", "d.img", "same.trc"], cwd=folder, stdout=subprocess.PIPE, stderr=subprocess.PIPE)
                for _ in range(8)]
     for recording in at_once:
         out, faults = recording.communicate(timeout=60)
@@ -300,13 +252,13 @@ def test_names(folder):
         (["record", "d.img", "d.trc", "--random", "5\n"], 2, "ir: --random: '5?' is no number up to 18446744073709551615\n"),
         (["debug", "d\u00e9", "d.trc"], 1, "ir: d\u00e9 can't be read: no such file or folder\n"),
     ):
-        ended = subprocess.run([PROGRAM, *words], cwd=folder, capture_output=True, timeout=60, check=False)
+        ended = run(words, folder)
         wants(repr(words), (ended.returncode, ended.stdout, ended.stderr.decode()), (status, b"", error))
     shutil.copy(folder / "bad.s", folder / "b\nd.s")
-    ended = subprocess.run([PROGRAM, "asm", "--explain", "b\nd.s", "x"], cwd=folder, capture_output=True, timeout=60, check=False)
+    ended = run(["asm", "--explain", "b\nd.s", "x"], folder)
     wants("a source's name", ended.stderr.decode(), EXPLAINED.replace("bad.s", "SOURCE"))
     for name in ("i" * 250, "i" * 251, "i" * 255, "\u00e9" * 127, "i" + "\u00e9" * 127):
-        ended = subprocess.run([PROGRAM, "asm", "d.s", name], cwd=folder, capture_output=True, timeout=60, check=False)
+        ended = run(["asm", "d.s", name], folder)
         wants(name, (ended.returncode, ended.stderr), (0, b""))
         wants(f"{name}: the image", (folder / name).read_bytes(), (folder / "d.img").read_bytes())
         (folder / name).unlink()
@@ -367,8 +319,7 @@ def test_failed_outputs(folder):
 def test_profiles(folder):
     """A guest that tries: in the second profile it enters, beside a writer it is refused, and in the first there is no such call."""
     for threads in (1, 2):
-        (folder / f"try{threads}.s").write_text(".objects 1\n" + threads * ".thread main\n" + TRY)
-        wants("assembling", run(f"asm try{threads}.s try{threads}.img", folder).returncode, 0)
+        assembled(folder, f"try{threads}", ".objects 1\n" + threads * ".thread main\n" + TRY)
     for arguments, magic, lines in (
         ("try1.img try.trc --profile 2", b"IRT2", b"thread 0 end 1 code 1 steps 6 events 1\n"),
         ("try1.img try.trc --profile 2 --order 0", b"IRT2", b"thread 0 end 1 code 1 steps 6 events 1\n"),
@@ -380,21 +331,18 @@ def test_profiles(folder):
         wants(arguments, (ended.returncode, ended.stdout, ended.stderr), (0, lines, b""))
         wants(f"{arguments}: the magic", (folder / "try.trc").read_bytes()[:4], magic)
     wants("lines", run("trace try.trc", folder).stdout.splitlines()[-1], b"0 try 0")
-    ended = subprocess.run([PROGRAM, "debug", "try2.img", "try.trc"], cwd=folder, input=b"end\nlog 1\nquit\n", capture_output=True)
+    ended = run("debug try2.img try.trc", folder, input=b"end\nlog 1\nquit\n")
     wants("a session", ended.stdout, b"ready\nat 6 5\nlog 1 of 1\n0 try 0\nbye\n")
 
 
 def test_sixteen_threads(folder):
     """A guest of sixteen threads at an object of sixteen words, recorded by threads with the second profile, and refused with the first."""
-    example = (ROOT / "examples" / "counter.s").read_text()
-    (folder / "sixteen.s").write_text(".large\n" + counters(example, 16))
-    wants("assembling", run("asm sixteen.s sixteen.img", folder).returncode, 0)
-    wants("the form", (folder / "sixteen.img").read_bytes()[:6], b"IRI2\x10\x01")
+    wants("the form", assembled(folder, "sixteen", ".large\n" + counters(16))[:6], b"IRI2\x10\x01")
     lines = "".join(f"thread {thread} end 1 code 0 steps 18 events 1\n" for thread in range(16)).encode()
     for order in ("", " --order 15x18,3x2"):
         ended = run(f"record sixteen.img sixteen.trc --profile 2{order}", folder)
         wants("recording", (ended.returncode, ended.stdout, ended.stderr), (0, lines, b""))
-        ended = subprocess.run([PROGRAM, "debug", "sixteen.img", "sixteen.trc"], cwd=folder, input=b"end\nobj 0\nquit\n", capture_output=True)
+        ended = run("debug sixteen.img sixteen.trc", folder, input=b"end\nobj 0\nquit\n")
         words = b"words 00000010" + 15 * b" 00000000" + b"\n"
         wants("a session", ended.stdout, b"ready\nat" + 16 * b" 18" + b"\nversion 16 left 0 readers - writer -\n" + words + b"bye\n")
     before = (folder / "sixteen.trc").read_bytes()
@@ -409,8 +357,7 @@ def test_progress(folder):
     """At a terminal a recording of seconds shows its steps, those of the last of sixteen threads too."""
     labels = [f"thread{number}" for number in range(16)]
     source = [".large", *(f".thread {label}" for label in labels), *(f"{label}:" for label in labels[:15]), "ebreak"]
-    (folder / "last.s").write_text("\n".join([*source, "thread15:", FOREVER]))
-    wants("assembling", run("asm last.s last.img", folder).returncode, 0)
+    assembled(folder, "last", "\n".join([*source, "thread15:", FOREVER]))
     status, told = at_terminal("record last.img last.trc --profile 2 --budget 4000000000", folder)
     wants("the last thread's steps", (status, " million steps\r" in told), (0, True))
 
@@ -464,7 +411,7 @@ def test_full_devices(folder):
         ended = run(arguments, folder)
         wants(arguments, (ended.returncode, ended.stdout, ended.stderr), (1, b"", message))
     wants("help", shell("./ir --help >/dev/full", folder).returncode, 1)
-    wants("a session", shell("./ir < %s/crates/ir_cli/stdin >/dev/full" % shlex.quote(str(ROOT)), folder).returncode, 1)
+    wants("a session", shell("./ir < %s/crates/ir_cli/stdin >/dev/full" % shlex.quote(str(TOP)), folder).returncode, 1)
 
 
 def test_closed_pipe(folder):
@@ -529,7 +476,7 @@ def unprivileged():
 def test_read_only_folder(folder):
     """A folder that nothing may be written in is told, and nothing is."""
     own = folder / "own"
-    shutil.copy(PROGRAM, own)
+    shutil.copy(program(), own)
     folder.chmod(0o755)
     locked = folder / "locked"
     locked.mkdir()
@@ -548,7 +495,7 @@ def test_interrupt(folder):
     """Ctrl-C stops a recording, and TRACE stays as it was."""
     for order in ("", " --order 0x1000000"):
         (folder / "f.trc").write_bytes(b"an older trace")
-        command = [PROGRAM] + shlex.split(f"record forever.img f.trc --budget 1000000000000{order}")
+        command = [program()] + shlex.split(f"record forever.img f.trc --budget 1000000000000{order}")
         with subprocess.Popen(command, cwd=folder, stdout=subprocess.DEVNULL, stderr=subprocess.DEVNULL) as started:
             time.sleep(0.3)
             started.send_signal(signal.SIGINT)
@@ -558,14 +505,14 @@ def test_interrupt(folder):
 
 def test_answers_come(folder):
     """Each answer comes before the next line is sent."""
-    lines = (ROOT / "crates/ir_cli/stdin").read_bytes().splitlines(keepends=True)
+    lines = (TOP / "crates/ir_cli/stdin").read_bytes().splitlines(keepends=True)
     rows = (
         (b"".join(lines[:2]), b"ready\n"),
         (b"step 0 3\n", b"at 3\n"),
         (b"foo\n", b"refused 1 unknown command\n"),
         (b"quit\n", b"bye\n"),
     )
-    with subprocess.Popen([PROGRAM], cwd=folder, stdin=subprocess.PIPE, stdout=subprocess.PIPE, bufsize=0) as session:
+    with subprocess.Popen([program()], cwd=folder, stdin=subprocess.PIPE, stdout=subprocess.PIPE, bufsize=0) as session:
         for asked, answer in rows:
             session.stdin.write(asked)
             wants(repr(asked[-9:]), session.stdout.readline(), answer)
@@ -594,94 +541,33 @@ def test_large_order(folder):
         raise Wrong(f"it took {time.monotonic() - start:.1f} s")
 
 
-# A row of a table that has a command, and then the last line that it writes.
-ROW = re.compile(r"\| `\$ (.+?)` \| `(.+?)` \|$")
+def tests():
+    """Each test, by its name."""
+    return {name.removeprefix("test_"): test for place in (globals(), vars(pages)) for name, test in place.items() if name.startswith("test_")}
 
 
-def commands_of(text):
-    """The commands of a page, each with the lines that are typed at its prompts and those that it writes."""
-    commands = []
-    for line in text.splitlines():
-        row = ROW.search(line)
-        if row:
-            commands.append((row[1], [], ["..", row[2]]))
-        elif line.startswith("    $ "):
-            commands.append((line[6:], [], []))
-        elif line.startswith("    (ir) ") and commands:
-            commands[-1][1].append(line[9:])
-        elif line.startswith("    ") and commands:
-            commands[-1][2].append(line[4:])
-    return commands
-
-
-def matches(found, wanted):
-    """Whether the lines are these, in which `..` stands for any."""
-    if not wanted:
-        return not found
-    if wanted[0] == "..":
-        return any(matches(found[k:], wanted[1:]) for k in range(len(found) + 1))
-    return bool(found) and found[0] == wanted[0] and matches(found[1:], wanted[1:])
-
-
-def test_pages(folder):
-    """Each command of the README, of the guide and of the page of the examples writes what follows it there; `make` isn't run."""
-    pages = [ROOT / "README.md", *sorted((ROOT / "docs" / "guide").glob("*.md")), ROOT / "examples" / "README.md"]
-    for number, page in enumerate(pages):
-        place = folder / f"page{number}"
-        place.mkdir()
-        (place / "ir").symlink_to(PROGRAM)
-        for name in ("crates", "docs", "examples"):
-            (place / name).symlink_to(ROOT / name)
-        commands = [row for row in commands_of(page.read_text()) if row[0].split()[0] != "make"]
-        for command, typed, wanted in commands:
-            ended = shell(command, place, "".join(f"{line}\n" for line in typed).encode())
-            if not matches(ended.stdout.decode().splitlines(), wanted):
-                raise Wrong(f"{page.relative_to(ROOT)}: {command}: wrote {ended.stdout.decode()!r}")
-            wants(f"{page.relative_to(ROOT)}: {command}: standard error", ended.stderr, b"")
-        if not commands and page.name != "concepts.md":
-            raise Wrong(f"{page.relative_to(ROOT)} has no commands")
-
-
-# The sessions of examples/sessions: the arguments that record each.
-SESSIONS = {"lost_update": " --order 0x10,1x25", "overwritten": ""}
-
-
-def test_sessions(folder):
-    """The sessions that `make try` runs are of their examples, and each ends with its quit."""
-    sessions = sorted((ROOT / "examples" / "sessions").iterdir())
-    wants("sessions", [session.name for session in sessions], sorted(SESSIONS))
-    for session in sessions:
-        shutil.copy(ROOT / "examples" / f"{session.name}.s", folder)
-        wants(session.name, run(f"asm {session.name}.s s.img", folder).returncode, 0)
-        wants(session.name, run(f"record s.img s.trc{SESSIONS[session.name]}", folder).returncode, 0)
-        image, trace = session.read_text(encoding="ascii").splitlines()[:2]
-        wants(f"{session.name}: the image", bytes.fromhex(image), (folder / "s.img").read_bytes())
-        wants(f"{session.name}: the trace", bytes.fromhex(trace), (folder / "s.trc").read_bytes())
-        ended = subprocess.run([PROGRAM], input=session.read_bytes(), capture_output=True, timeout=60, check=False)
-        wants(session.name, (ended.returncode, ended.stdout[:6], ended.stdout[-4:], ended.stderr), (0, b"ready\n", b"bye\n", b""))
+def passes(name, test):
+    """Whether a test in a folder of its own passes; prints a line."""
+    with tempfile.TemporaryDirectory() as folder:
+        try:
+            prepare(Path(folder))
+            test(Path(folder))
+        except (Wrong, subprocess.TimeoutExpired, OSError) as why:
+            print(f"{name}: failed: {why}", flush=True)
+            return False
+    print(f"{name}: passed", flush=True)
+    return True
 
 
 def main():
-    """Runs each test in a folder of its own."""
-    global PROGRAM
-    if len(sys.argv) != 2:
-        print(__doc__)
-        sys.exit(2)
-    PROGRAM = str(Path(sys.argv[1]).resolve())
-    failed = 0
-    tests = [(name, test) for name, test in globals().items() if name.startswith("test_")]
-    for name, test in tests:
-        with tempfile.TemporaryDirectory() as folder:
-            try:
-                prepare(Path(folder))
-                test(Path(folder))
-                print(f"{name[5:]}: passed", flush=True)
-            except (Wrong, subprocess.TimeoutExpired, OSError) as why:
-                failed += 1
-                print(f"{name[5:]}: failed: {why}", flush=True)
-    print(f"{len(tests) - failed} passed, {failed} failed")
-    sys.exit(1 if failed else 0)
+    all_ = tests()
+    names = sys.argv[2:] or list(all_)
+    if len(sys.argv) < 2 or any(name not in all_ for name in names):
+        sys.exit(__doc__ + "\nThe tests are " + ", ".join(all_) + ".")
+    use(sys.argv[1])
+    passed = sum(passes(name, all_[name]) for name in names)
+    return finish(passed, len(names) - passed)
 
 
 if __name__ == "__main__":
-    main()
+    sys.exit(main())

@@ -1,7 +1,7 @@
 #!/usr/bin/env python3
 """Counts the host instructions that each operation of a guest costs, by valgrind's callgrind.
 
-python3 scripts/instructions.py IR [--jobs N]
+python3 bench/instructions.py IR [--jobs N]
 
 A guest is one thread with a loop around the operation. It is run with so many turns and with twice as many, and the
 difference, without that of an empty loop, is the operation's cost, so that the figures repeat to the last digit for
