@@ -6,7 +6,7 @@ all: ir
 
 SOURCES := crates.txt $(shell find crates -name out -prune -o -type f -name '*.rt' -print -o -type f -name '*.antt' -print)
 
-# Proves and builds the program, where it isn't built of these sources yet.
+# Proves and builds the program, unless it is built of these sources already.
 ir: $(SOURCES)
 	python3 scripts/prove.py ir_cli
 	cd crates/ir_cli && rt run < stdin > out.txt && cmp out.txt stdout && rm out.txt
@@ -17,7 +17,7 @@ ir: $(SOURCES)
 try:
 	python3 scripts/try_unproved.py
 
-# A first session, by the program where it is built, and else by a build that isn't proved.
+# A first session, by the program if it is built, else by a build that isn't proved.
 run:
 	@if [ -x ir ]; then ./ir < crates/ir_cli/stdin; else python3 scripts/try_unproved.py; fi
 
@@ -54,7 +54,7 @@ refuse: ir $(TESTS)
 mutate: ir
 	python3 tests/damaged_files.py ./ir
 
-# Host instructions of each operation of a guest, where valgrind is installed; millions of instructions per second, and the assembler's lines.
+# Host instructions of each operation of a guest, if valgrind is installed; millions of instructions per second, and the assembler's lines.
 bench: ir
 	python3 bench/instructions.py ./ir
 	python3 scripts/prove.py ir_bench

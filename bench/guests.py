@@ -95,7 +95,7 @@ def side_by_side():
 
 
 def hit_late(after):
-    """A counted loop, and another of 4,096 times `after` turns; and where the second begins."""
+    """A counted loop, and another of 4,096 times `after` turns; and the address at which the second begins."""
     first, second = counted("", [], 12200 - after), counted("", [], after)
     head = first.statements[:-len(END)]
     guest = Guest("hit late", head + second.statements, first.steps + second.steps - len(END))

@@ -211,7 +211,7 @@ def sessions(programs):
 
 
 def timed(programs, label, files, before, lines, times=1, run=None):
-    """Prints the milliseconds of each of so many lines after others, the best of three sessions; and how many runs of the guest they are."""
+    """Prints the milliseconds of each of these lines after others, the best of three sessions, and how many runs of the guest that is."""
     each = min(programs.answering(files, before, lines) for _ in range(3)) / times
     print(f"{label:72}{times:>6}{each * 1e3:>10.2f}{f'{each / run:>8.2f}' if run else ''}", flush=True)
 

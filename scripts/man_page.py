@@ -160,7 +160,7 @@ def command_line():
 
 
 def first_code(rows):
-    """What stands as code in the first cell of each row."""
+    """What is code in the first cell of each row."""
     return {code for row in rows for code in CODE.findall(row[0])}
 
 

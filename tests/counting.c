@@ -1,4 +1,4 @@
-/* Writes the most bytes that were asked for at once into a file of eight bytes, descriptor COUNTED. Loaded before the program. */
+/* Writes the most bytes that were held at any one time into a file of eight bytes, descriptor COUNTED. Loaded before the program. */
 #include <malloc.h>
 #include <stdlib.h>
 #include <sys/mman.h>

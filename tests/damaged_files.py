@@ -1,13 +1,17 @@
 #!/usr/bin/env python3
-"""Images and traces that were cut or changed, opened by the program: each is refused, doesn't fit, or is served, and nothing else happens.
+"""Images and traces that were cut or changed, opened by the program: each is refused, doesn't fit, or opens, and nothing else happens.
 
 python3 tests/damaged_files.py IR [--few] [--count N] [--seed S] [--jobs J]
 
-Every proper prefix of each image and trace (of `examples`, and of guests of one to three threads below), each other value of each of their bytes
-(with `--few` ten of the 255), and N random mutations of the traces of three threads (100,000 where none is given), each in a session of a few
-commands. A run may take 1 GiB of address space and 20 seconds of a processor. Then counts and lengths that aren't borne out, of which each is
-told beside the most memory that was asked for at once: no more than without the count. Needs Linux and a C compiler (`cc`), for a library that
-counts the memory. The last line is `N passed, M failed`.
+It tries these, each in a session of a few commands:
+
+- every proper prefix of each image and trace, of `examples` and of guests of one to three threads below;
+- each other value of each of their bytes, or with `--few` ten of the 255;
+- N random mutations of the traces of three threads, 100,000 if none is given.
+
+A run may take 1 GiB of address space and 20 seconds of a processor. Then come counts and lengths that the bytes don't bear out. Each is
+reported with the most memory that was held at any one time: no more than without the count. Needs Linux and a C compiler (`cc`), for
+counting.c. The last line is `N passed, M failed`.
 """
 import collections
 import concurrent.futures
@@ -73,7 +77,7 @@ second: addi a7, zero, 4
         ebreak
 """
 
-# Ends inside an object, whose first word it has changed.
+# Ends while it holds an object, whose first word it has changed.
 BROKEN_INSIDE = "        .objects 1\n        addi a0, zero, 0\n        addi a7, zero, 8\n        ecall\n        addi a1, zero, 0\n" + """
         addi a2, zero, 7
         addi a7, zero, 11
@@ -115,7 +119,7 @@ writer: addi a0, zero, 0
         ecall
 """
 
-# One thread tries to enter an object while the other is inside, and once more when it has left.
+# One thread tries to enter an object while the other holds it, and once more when it has left.
 TRYING = """
         .objects 1
         .thread writer
@@ -184,7 +188,7 @@ def session(image, trace):
 
 
 def outcome(ended):
-    """What became of them; none, where it is nothing that may."""
+    """What became of them; none if that isn't allowed."""
     out = ended.stdout
     if ended.stderr:
         return None
@@ -207,8 +211,8 @@ def judge(case):
         return None, f"{what}: no end in 120 seconds"
     found = outcome(ended)
     if found is None or (want and ended.stdout != want):
-        told = f"{what}: status {ended.returncode}, {ended.stdout[:200]!r}, {ended.stderr[:200]!r}"
-        return None, f"{told}: image {image.hex()} trace {trace.hex()}"
+        report = f"{what}: status {ended.returncode}, {ended.stdout[:200]!r}, {ended.stderr[:200]!r}"
+        return None, f"{report}: image {image.hex()} trace {trace.hex()}"
     return found, ""
 
 
@@ -283,7 +287,7 @@ def all_cases(folder, count, seed, few):
 
 
 def measured(counting, words, typed, folder):
-    """The end of a run, and the most bytes that it asked for at once."""
+    """The end of a run, and the most bytes that it held at any one time."""
     with tempfile.TemporaryFile() as counted:
         counted.write(bytes(8))
         counted.flush()
@@ -333,7 +337,7 @@ def unborne(folder):
 
 
 def judged(cases, jobs):
-    """What became of each case and what was wrong with it, ten thousand at a time, after which it is told how far it is."""
+    """What became of each case and what was wrong with it, ten thousand at a time; after each it reports how far it is."""
     count = 0
     with concurrent.futures.ProcessPoolExecutor(jobs) as pool:
         while batch := list(itertools.islice(cases, 10_000)):

@@ -58,10 +58,10 @@ def program():
 
 
 def parser_of(doc):
-    """A parser of arguments: the program, and how many tests run at once."""
+    """A parser of arguments: the program, and how many runs there are at the same time."""
     parser = argparse.ArgumentParser(description=doc.splitlines()[0])
     parser.add_argument("program", metavar="IR", help="the built program")
-    parser.add_argument("--jobs", type=int, default=len(os.sched_getaffinity(0)), help="how many runs at once")
+    parser.add_argument("--jobs", type=int, default=len(os.sched_getaffinity(0)), help="how many runs at the same time")
     return parser
 
 

@@ -29,7 +29,7 @@ def commands_of(text):
 
 
 def matches(found, wanted):
-    """Whether the lines are these, in which `..` stands for any."""
+    """Whether the lines are these, with `..` for any."""
     if not wanted:
         return not found
     if wanted[0] == "..":

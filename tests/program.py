@@ -34,7 +34,7 @@ silent: ebreak
 # Never ends by itself.
 FOREVER = "again: jal zero, again\n"
 
-# What recordings of the first and the second print, and what is told where nobody takes it.
+# What recordings of the first and the second print, and what is reported if it can't be written.
 DOUBLE_LINE = b"thread 0 end 1 code 144 steps 6 events 0\n"
 TWO_LINES = b"thread 0 end 2 code 0 steps 4 events 0\nthread 1 end 2 code 0 steps 1 events 0\n"
 FULL = b"ir: standard output can't be written\n"
@@ -100,7 +100,7 @@ OWN_FILES = [
     ("record d.img d.trc --input d.trc", "ir: d.trc: TRACE would be written over FILE\n"),
 ]
 
-# Tries to enter object 0, and ends with the answer; what is printed where the first of two that do is inside.
+# Tries to enter object 0, and ends with the answer; what is printed if the first of two holds it.
 TRY = """
 main:   addi a0, zero, 0
         addi a7, zero, 13
@@ -167,7 +167,7 @@ def shown_at(control):
 
 
 def at_terminal(arguments, folder):
-    """A run whose standard error is a terminal: the status, and what stands there."""
+    """A run whose standard error is a terminal: the status, and what is shown there."""
     control, terminal = os.openpty()
     ended = run(arguments, folder, stderr=terminal)
     os.close(terminal)
@@ -175,7 +175,7 @@ def at_terminal(arguments, folder):
 
 
 def test_explaining(folder):
-    """At a terminal a fault is explained, asked for or not; elsewhere only where it is asked for (see above)."""
+    """At a terminal a fault is explained, asked for or not; elsewhere only if it is asked for (see above)."""
     for arguments in ("asm bad.s d2.img", "asm --explain bad.s d2.img"):
         wants(arguments, at_terminal(arguments, folder), (3, EXPLAINED))
         wants(f"{arguments}: d2.img", (folder / "d2.img").exists(), False)
@@ -183,7 +183,7 @@ def test_explaining(folder):
 
 
 def typed(arguments, lines, folder):
-    """A run at a terminal where these lines are typed, and then the end of the input: the status, standard output, and what stands there."""
+    """A run at a terminal, with these lines typed and then the end of the input: the status, standard output, and what is shown there."""
     control, terminal = os.openpty()
     with subprocess.Popen([program(), *shlex.split(arguments)], cwd=folder, stdin=terminal, stdout=subprocess.PIPE, stderr=terminal) as process:
         os.close(terminal)
@@ -196,14 +196,14 @@ def typed(arguments, lines, folder):
 def test_hints(folder):
     """At a terminal it is said what was wanted in place of a refused line; standard output is as elsewhere."""
     wants("recording", run("record d.img hints.trc", folder).returncode, 0)
-    status, out, told = typed("debug d.img hints.trc", ["step 0", "foo", "help", "step 9 1"], folder)
+    status, out, message = typed("debug d.img hints.trc", ["step 0", "foo", "help", "step 9 1"], folder)
     answers = b"ready\nrefused 2 bad argument\nrefused 1 unknown command\nrefused 1 unknown command\nrefused 3 no such thread\n"
     wants("a session", (status, out), (0, answers))
     for words in ("wanted: step T N ", "the commands are step back goto ", "\n  goto T K ", "\n  quit "):
-        wants(f"{words!r} is said once", told.count(words), 1)
-    wants("each line and the end are prompted for", told.count("(ir) "), 5)
-    status, out, told = typed("", ["00"], folder)
-    wants("no argument", (status, out, "ir: waiting for an image and a trace, " in told), (3, b"image refused 1\n", True))
+        wants(f"{words!r} is said once", message.count(words), 1)
+    wants("each line and the end are prompted for", message.count("(ir) "), 5)
+    status, out, message = typed("", ["00"], folder)
+    wants("no argument", (status, out, "ir: waiting for an image and a trace, " in message), (3, b"image refused 1\n", True))
 
 
 def test_own_files(folder):
@@ -223,7 +223,7 @@ def test_own_files(folder):
 
 
 def test_parts(folder):
-    """A file that is there already stays, whatever its name; recordings to one place at once each end whole."""
+    """A file that is there already stays, whatever its name; recordings to one place at the same time each end whole."""
     (folder / "w.trc.part").write_bytes(b"mine")
     (folder / "elsewhere").write_bytes(b"mine too")
     (folder / "w.trc.part2").symlink_to("elsewhere")
@@ -244,7 +244,7 @@ def test_parts(folder):
 
 
 def test_names(folder):
-    """What a user wrote is told in one line, without what leads a terminal; a name may be as long as the system has it."""
+    """What a user wrote is reported in one line, without control characters; a name may be as long as the system allows."""
     for words, status, error in (
         (["debug", "a\nb", "d.trc"], 1, "ir: a?b can't be read: no such file or folder\n"),
         (["asm", "d.s", "none/\x1b[2J"], 1, "ir: none/?[2J can't be written: no such file or folder\n"),
@@ -265,7 +265,7 @@ def test_names(folder):
 
 
 def test_outputs(folder):
-    """What each thread prints stands in a file of its own, where that is asked for."""
+    """What each thread prints is written to a file of its own, if that is asked for."""
     wants("no file", list(folder.glob("*.0")), [])
     for prefix, more in (("out", ""), ("out", " --order 1,0"), ("folder/out", ""), ("folder/.", " --order 0")):
         for thread in (0, 1):
@@ -299,7 +299,7 @@ def test_own_outputs(folder):
 
 
 def test_failed_outputs(folder):
-    """An output that can't be written is told; the trace and the outputs before it stand."""
+    """An output that can't be written is reported; the trace and the outputs before it stay."""
     wants("recording", run("record two.img whole2.trc --order 0", folder).returncode, 0)
     whole = (folder / "whole2.trc").read_bytes()
     (folder / "full.0").symlink_to("/dev/full")
@@ -348,8 +348,8 @@ def test_sixteen_threads(folder):
     before = (folder / "sixteen.trc").read_bytes()
     for order in ("", " --order 0", " --profile 1"):
         ended = run(f"record sixteen.img sixteen.trc{order}", folder)
-        told = b"ir: the first profile takes at most 8 threads and 16 objects, and --profile 2 takes more\n"
-        wants("the first profile", (ended.returncode, ended.stdout, ended.stderr), (3, b"", told))
+        message = b"ir: the first profile takes at most 8 threads and 16 objects, and --profile 2 takes more\n"
+        wants("the first profile", (ended.returncode, ended.stdout, ended.stderr), (3, b"", message))
     wants("the trace", (folder / "sixteen.trc").read_bytes(), before)
 
 
@@ -358,8 +358,8 @@ def test_progress(folder):
     labels = [f"thread{number}" for number in range(16)]
     source = [".large", *(f".thread {label}" for label in labels), *(f"{label}:" for label in labels[:15]), "ebreak"]
     assembled(folder, "last", "\n".join([*source, "thread15:", FOREVER]))
-    status, told = at_terminal("record last.img last.trc --profile 2 --budget 4000000000", folder)
-    wants("the last thread's steps", (status, " million steps\r" in told), (0, True))
+    status, message = at_terminal("record last.img last.trc --profile 2 --budget 4000000000", folder)
+    wants("the last thread's steps", (status, " million steps\r" in message), (0, True))
 
 
 def test_trace(folder):
@@ -399,7 +399,7 @@ def test_closed_streams(folder):
 
 
 def test_full_devices(folder):
-    """A full device is told, and the trace stands."""
+    """A full device is reported, and the trace stays."""
     whole = (folder / "whole.trc").read_bytes()
     ended = shell("./ir record d.img d.trc --order 0 >/dev/full", folder)
     wants("lines", (ended.returncode, ended.stderr), (1, FULL))
@@ -415,7 +415,7 @@ def test_full_devices(folder):
 
 
 def test_closed_pipe(folder):
-    """Nobody reads the output."""
+    """No process reads the output."""
     for arguments in ("record d.img d.trc --order 0", "--help", "trace whole.trc", "debug d.img whole.trc"):
         reader, writer = os.pipe()
         os.close(reader)
@@ -446,22 +446,22 @@ def test_failed_sessions(folder):
 
 
 def small_files():
-    """Files have at most 10 bytes, as where a disk is full."""
+    """Files have at most 10 bytes, as if the disk were full."""
     signal.signal(signal.SIGXFSZ, signal.SIG_IGN)
     resource.setrlimit(resource.RLIMIT_FSIZE, (10, 10))
 
 
 def test_half_written(folder):
-    """An image or a trace that can't be written whole leaves what stood in its place, and nothing beside it."""
+    """An image or a trace that can't be written whole leaves what was in its place, and nothing beside it."""
     for arguments, name in (("asm d.s d2.img", "d2.img"), ("record d.img d.trc --order 0", "d.trc")):
         for before in (None, b"an older file"):
             if before is not None:
                 (folder / name).write_bytes(before)
             ended = run(arguments, folder, preexec_fn=small_files)
-            told = f"ir: {name} can't be written: it would be too large\n".encode()
-            wants("the end", (ended.returncode, ended.stdout, ended.stderr), (1, b"", told))
+            message = f"ir: {name} can't be written: it would be too large\n".encode()
+            wants("the end", (ended.returncode, ended.stdout, ended.stderr), (1, b"", message))
             place = folder / name
-            wants("what stood there", place.read_bytes() if place.exists() else None, before)
+            wants("what was there", place.read_bytes() if place.exists() else None, before)
             wants("what is left beside it", (folder / f"{name}.part").exists(), False)
 
 
@@ -474,7 +474,7 @@ def unprivileged():
 
 
 def test_read_only_folder(folder):
-    """A folder that nothing may be written in is told, and nothing is."""
+    """A folder in which nothing may be written is reported, and nothing is written."""
     own = folder / "own"
     shutil.copy(program(), own)
     folder.chmod(0o755)
@@ -486,9 +486,9 @@ def test_read_only_folder(folder):
     locked.chmod(0o555)
     for arguments, name in (("asm d.s d2.img", "d2.img"), ("record d.img d.trc --order 0", "d.trc"), ("record d.img d.trc", "d.trc")):
         ended = subprocess.run([own, *arguments.split()], cwd=locked, capture_output=True, timeout=120, preexec_fn=unprivileged)
-        told = f"ir: {name} can't be written: permission denied\n".encode()
-        wants(arguments, (ended.returncode, ended.stdout, ended.stderr), (1, b"", told))
-    wants("what stands there", sorted(path.name for path in locked.iterdir()), ["d.img", "d.s"])
+        message = f"ir: {name} can't be written: permission denied\n".encode()
+        wants(arguments, (ended.returncode, ended.stdout, ended.stderr), (1, b"", message))
+    wants("what is there", sorted(path.name for path in locked.iterdir()), ["d.img", "d.s"])
 
 
 def test_interrupt(folder):
@@ -521,7 +521,7 @@ def test_answers_come(folder):
 
 
 def test_long_lines_of_digits(folder):
-    """The image's line has at most 4,194,304 digits: so many are judged, and more are not."""
+    """The image's line has at most 4,194,304 digits: a line of that length is judged, and a longer one is not."""
     image = (folder / "d.img").read_bytes().hex().encode()
     for digits, status, answers in ((4_194_304, 3, b"image refused 5\n"), (4_194_306, 1, b"")):
         ended = run("", folder, input=image.ljust(digits, b"0") + b"\n\n")

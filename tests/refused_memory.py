@@ -1,17 +1,23 @@
 #!/usr/bin/env python3
-"""Each request for memory refused in turn: the program goes on, or says so, and loses nothing.
+"""Each request for memory refused in turn: the program goes on, or reports it, and loses nothing.
 
 python3 tests/refused_memory.py IR [--tests crates/ir_session_tests/out/ir_session_tests_tests] [--jobs J]
 
-Each row below is run again and again, with its first request for memory refused, then its second, and so on until a run asks for no more; a
-thread that isn't started is among the requests. A command of a session answers as it does with ample memory, or, where it may, `refused 8 no
-memory`, after which position and kept cuts are as before and the same command answers as it would have; and so do points, which a second run
-of the session asks for by moves to their hits. A session that can't be opened writes nothing. `ir asm`, `ir record` and `ir trace` end as with
-ample memory, or with status 1 and a line that says why; then lines that are missing are the last, and a file that is there is whole. Where a
-thread isn't started all is as with ample memory. Then the same with all requests refused from that one on, where a session may go on to want
-for memory, and ends by `quit`. With `--tests`, a built program of tests, each of its `memory_tests` is walked too, which has to pass whichever
-request is refused. A line a row says how many refusals were tried, and what became of them; the last line is `N passed, M failed`. Needs Linux
-and a C compiler (`cc`), for a library that is loaded before the program.
+Each row below is run again and again. First its first request for memory is refused, then its second, and so on until a run makes no more
+requests. The start of a thread is a request too.
+
+- A command of a session answers as it does with ample memory or, if it may, `refused 8 no memory`. After that, position and kept cuts are as
+  before, and the same command answers as it would have. So are points: a second run of the session finds them by moves to their hits.
+- A session that can't be opened writes nothing.
+- `ir asm`, `ir record` and `ir trace` end as with ample memory, or with status 1 and a line that says why. Then only the last lines may be
+  missing, and a file that is there is whole.
+- If a thread isn't started, all is as with ample memory.
+
+Then the same with all requests refused from that one on. A session may then run out of memory again and again, and ends by `quit`. With
+`--tests`, a built program of tests, each of its `memory_tests` is run too, which has to pass whichever request is refused.
+
+A line for each row says how many refusals were tried, and what became of them. The last line is `N passed, M failed`. Needs Linux and a C
+compiler (`cc`), for refusing.c.
 """
 import collections
 import concurrent.futures
@@ -43,7 +49,7 @@ again:  sub t3, t1, t2
         ecall
 """
 
-# Moves of each kind, some of them looked at at once: then what is shown takes no memory.
+# Moves of each kind. Some are looked at right after: then what is shown takes no memory.
 MOVES = ("step 0 3", "keep", "watch 0 0x100000", "break 0 0x10008", "end", "out 0", "rcont 0", "regs 0", "back 0 1", "regs 0", "kept", "load 1", "mem 0 0x10000 8",
          "cont 0", "log 0", "goto 0 1", "regs 0", "drop 1", "keep", "clear 1", "regs 0", "mem 0 0x10000 8", "out 0", "log 0", "next 0", "start",
          "regs 0", "load 9", "obj 0", "quit")
@@ -52,7 +58,7 @@ MOVES = ("step 0 3", "keep", "watch 0 0x100000", "break 0 0x10008", "end", "out 
 WANTING = {"step", "back", "goto", "start", "end", "cont", "rcont", "load", "keep", "next"}
 SHOWING = {"regs", "mem", "obj", "out", "log"}
 
-# Tells which points are set: where they hit, each one's number, and the number of the next.
+# Shows which points are set: their hits, each one's number, and the number of the next.
 POINTS = ("start", "cont 0", "cont 0", "cont 1", "end", "rcont 0", "rcont 1", "clear 1", "clear 2", "clear 3", "clear 4", "break 0 0x10000")
 
 # The sessions: a name, the guest, the order of its recording (none: by threads), the commands.
@@ -97,15 +103,15 @@ class Refused:
     library = ""
 
     def __init__(self, words, folder, number, lasts=False, other="", **streams):
-        self.reader, told = os.pipe()
+        self.reader, report = os.pipe()
         os.set_blocking(self.reader, False)
-        more = {"LD_PRELOAD": Refused.library, "REFUSED": str(number), "TOLD": str(told)} | ({"LASTS": "1"} if lasts else {})
-        self.run = subprocess.Popen([other or program(), *words.split()], cwd=folder, env=os.environ | more, pass_fds=(told,),
+        more = {"LD_PRELOAD": Refused.library, "REFUSED": str(number), "TOLD": str(report)} | ({"LASTS": "1"} if lasts else {})
+        self.run = subprocess.Popen([other or program(), *words.split()], cwd=folder, env=os.environ | more, pass_fds=(report,),
                                     stdout=subprocess.PIPE, stderr=subprocess.PIPE, **streams)
-        os.close(told)
+        os.close(report)
 
     def ended(self):
-        """Its status, what it wrote and told since, and what was refused: memory (m), a thread (t), or nothing."""
+        """Its status, what it wrote since, and what was refused: memory (m), a thread (t), or nothing."""
         out, error = self.run.communicate(timeout=300)
         try:
             met = os.read(self.reader, 8).decode()
@@ -147,7 +153,7 @@ def answers_of(folder, name, commands):
 
 
 def is_opened(run):
-    """Whether a session is opened; where it isn't, it says so and writes nothing."""
+    """Whether a session is opened; if it isn't, it says so and writes nothing."""
     if run.run.stdout.readline() == b"ready\n":
         return True
     with contextlib.suppress(BrokenPipeError):
@@ -160,7 +166,7 @@ def is_opened(run):
 
 
 def compare(run, asked, commands, wanted):
-    """Asks for what a command that wanted for memory may not have changed."""
+    """Asks for what a command that ran out of memory may not have changed."""
     for command in commands:
         ask(run.run, command)
     found = lines_of(run.run, wanted.count(b"\n"))
@@ -169,7 +175,7 @@ def compare(run, asked, commands, wanted):
 
 
 def after_want(run, asked, how):
-    """What is asked after a command that wanted for memory: once the command again, then the points, and while it lasts the command and the end.
+    """What is asked after a command that ran out of memory: once the command again, then the points, and while it lasts the command and the end.
     Whether the session goes on."""
     if how == "once":
         compare(run, asked, ("pos", "kept", asked.command), asked.here + asked.answer)
@@ -189,7 +195,7 @@ def after_want(run, asked, how):
 
 
 def converse(run, found, how):
-    """Asks each command, as long as the session goes on. Whether one wanted for memory."""
+    """Asks each command, as long as the session goes on. Whether one ran out of memory."""
     wanted = False
     for asked in found:
         ask(run.run, asked.command)
@@ -206,14 +212,14 @@ def converse(run, found, how):
 
 
 def typed_before(folder, row):
-    """What is typed before the commands of a session: its image and its trace, or nothing where they are its arguments."""
+    """What is typed before the commands of a session: its image and its trace, or nothing if they are its arguments."""
     if not row[0].endswith("typed"):
         return b""
     return b"".join((folder / f"{row[1]}.{end}").read_bytes().hex().encode() + b"\n" for end in ("img", "trc"))
 
 
 def session(folder, row, found, number, how="once"):
-    """A session with one refusal: what was refused, and what became of it. Where one command wanted for memory, another that asks for the points;
+    """A session with one refusal: what was refused, and what became of it. If one command ran out of memory, another that asks for the points;
     then one in which the refusal lasts."""
     typed = typed_before(folder, row)
     words = "" if typed else f"debug {row[1]}.img {row[1]}.trc"
@@ -284,7 +290,7 @@ def ended_run(folder, words, files, ample, number, lasts):
 
 
 def one_run(folder, words, files, ample, number):
-    """A run with one refusal: what was refused, and what became of it. Where there was one, another run in which it lasts."""
+    """A run with one refusal: what was refused, and what became of it. If there was one, another run in which it lasts."""
     met, became = ended_run(folder, words, files, ample, number, False)
     if met:
         ended_run(folder, words, files, ample, number, True)

@@ -7,10 +7,10 @@
 #include <stdlib.h>
 #include <unistd.h>
 extern void *__libc_malloc(size_t), *__libc_calloc(size_t, size_t), *__libc_realloc(void *, size_t), *__libc_memalign(size_t, size_t);
-static long refuses, lasts, left, told;
+static long refuses, lasts, left, reports;
 __attribute__((constructor)) static void begin(void) {
     const char *number = getenv("REFUSED"), *descriptor = getenv("TOLD");
-    told = descriptor ? atol(descriptor) : 2;
+    reports = descriptor ? atol(descriptor) : 2;
     left = number ? atol(number) : 0;
     lasts = getenv("LASTS") != NULL;
     refuses = left > 0;
@@ -20,7 +20,7 @@ static int refused(const char *kind) {
     long now = __atomic_sub_fetch(&left, 1, __ATOMIC_SEQ_CST);
     if (now > 0 || (now < 0 && !lasts)) return 0;
     errno = ENOMEM;
-    return now < 0 || write(told, kind, 1) == 1;
+    return now < 0 || write(reports, kind, 1) == 1;
 }
 void *malloc(size_t n) { return refused("m") ? NULL : __libc_malloc(n); }
 void *calloc(size_t n, size_t m) { return refused("m") ? NULL : __libc_calloc(n, m); }
