@@ -12,6 +12,7 @@ import re
 import sys
 from pathlib import Path
 
+import definitions
 from edits import BadEdit, applied, pairs_of
 from man_page import differences
 
@@ -113,8 +114,8 @@ def bad_edits():
 
 
 def main():
-    found = [*faults(), *examples(), *differences(), *bad_edits()]
-    print("\n".join(found) or "rooms: each crate cites what the others offer; examples and help are the same in each place; the edits apply")
+    found = [*faults(), *examples(), *differences(), *bad_edits(), *definitions.faults()]
+    print("\n".join(found) or "rooms: each crate cites what the others offer; examples, help and definitions agree with the pages; the edits apply")
     return 1 if found else 0
 
 

@@ -1,11 +1,11 @@
 #!/usr/bin/env python3
 """Counts how long the sentences of the pages are.
 
-python3 scripts/sentences.py [--over N] [PAGE ..]
+python3 scripts/sentences.py [--over N] [--cells N] [PAGE ..]
 
 Without PAGE it reads README.md, the pages of docs and of its folders, and examples/README.md. It prints a line for each page: its
 sentences, the words of one on average, at the ninetieth percentile and of the longest, and the words of the longest cell of a table. With
---over it also prints each sentence of more than N words, with the page and the paragraph's line.
+--over it also prints each sentence of more than N words, with the page and the paragraph's line; with --cells each such cell of a table.
 
 Headings, tables, indented lines and fenced blocks hold no sentences. A paragraph or an item of a list is divided after `.`, `!` and `?` if a
 blank follows and then a capital letter, a digit, a quotation, a crate, or a mark of emphasis, code or a link. Code between backquotes is
@@ -54,10 +54,11 @@ def sentences_of(text):
                 yield number, sentence
 
 
-def longest_cell(text):
-    """The words of the longest cell of a table."""
-    cells = [cell for line in text.splitlines() if line.startswith("|") for cell in CODE.sub("code", line).strip("|").split("|")]
-    return max(map(words_of, cells), default=0)
+def cells_of(text):
+    """Each cell of a table, with its line."""
+    for number, line in enumerate(text.splitlines(), 1):
+        if line.startswith("|"):
+            yield from ((number, cell.strip()) for cell in CODE.sub("`code`", line).strip("|").split("|"))
 
 
 def pages():
@@ -67,24 +68,26 @@ def pages():
 
 def main():
     words = sys.argv[1:]
-    over = None
-    if words[:1] == ["--over"] and len(words) > 1 and words[1].isdigit():
-        over, words = int(words[1]), words[2:]
+    most = {"--over": None, "--cells": None}
+    while len(words) > 1 and words[0] in most and words[1].isdigit():
+        most[words[0]], words = int(words[1]), words[2:]
     if any(word.startswith("-") for word in words):
         print(__doc__)
         sys.exit(2)
     for page in [Path(word) for word in words] or [page for page in pages() if page.exists()]:
         text = page.read_text(encoding="utf-8")
         found = [(words_of(sentence), number, sentence) for number, sentence in sentences_of(text)]
+        cells = [(words_of(cell), number, cell) for number, cell in cells_of(text)]
         counts = sorted(count for count, _, _ in found) or [0]
         name = page.relative_to(TOP) if page.is_relative_to(TOP) else page
         mean = sum(counts) / len(counts)
         ninetieth = counts[(len(counts) * 9 + 9) // 10 - 1]
         print(f"{name}: {len(found)} sentences, {mean:.1f} words on average, {ninetieth} at the ninetieth percentile, "
-              f"{counts[-1]} at most; a cell {longest_cell(text)}")
-        for count, number, sentence in found:
-            if over is not None and count > over:
-                print(f"  {name}:{number}: {count}: {sentence}")
+              f"{counts[-1]} at most; a cell {max(cells, default=(0,))[0]}")
+        for option, rows in (("--over", found), ("--cells", cells)):
+            for count, number, piece in rows:
+                if most[option] is not None and count > most[option]:
+                    print(f"  {name}:{number}: {count}: {piece}")
 
 
 if __name__ == "__main__":

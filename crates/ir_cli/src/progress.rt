@@ -3,8 +3,8 @@
 use crossbeam_utils::CachePadded;
 use ir_image::MOST_THREADS;
 use ir_object::Gate;
-use ir_record_run::millis_since;
 use ir_runs::Access;
+use ir_sources::millis_since;
 use std::array;
 use std::sync::atomic::{AtomicU32, AtomicU64, Ordering};
 use std::time::{Clock, Instant};

@@ -1,4 +1,5 @@
 mod InParts
 mod Putting
 mod ReadFiles
+mod Shown
 pub mod CallerLemmas

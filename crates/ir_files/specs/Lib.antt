@@ -1,4 +1,5 @@
 pub mod Outputs
 pub mod Places
+pub mod Shown
 pub mod Statuses
 pub mod Writers

@@ -2,6 +2,7 @@
 use Rattle.std.specs.Prelude.{◌≡◌, ℕ, Bool, true, List, [], ◌∷◌, ◌++◌, codes, ◌⊎◌, Option}
 use Rattle.std.specs.Io.KnownBytes.{Appends}
 use Rattle.ir_stream.specs.Devices.{AppendsPrefix}
+use Rattle.ir_files.specs.Shown.{shown}
 
 -- a writer: what it took before and after, and whether it has failed
 pub record Writer : Type 0 where
@@ -27,3 +28,7 @@ Reports w text = Took w text ⊎ Failed w text
 -- the line that reports a fault in words
 abbrev pub fault_text : List ℕ → List ℕ
 fault_text words = codes "ir: " ++ (words ++ 10 ∷ [])
+
+-- a fault of a named thing in words: the name, and why it failed, without control characters
+abbrev pub named_fault : List ℕ → List ℕ → List ℕ → List ℕ → List ℕ
+named_fault before name what why = before ++ (shown name ++ (what ++ shown why))

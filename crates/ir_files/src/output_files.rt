@@ -1,6 +1,6 @@
 //! Files of what the threads of a recording print.
 
-ghost use Rattle.std.specs.Prelude.{◌≡◌, Bool, List, ◌∷◌, [], map, OnOk, OnErr, IfOk, None, true, false};
+ghost use Rattle.std.specs.Prelude.{◌≡◌, ℕ, Bool, List, ◌∷◌, [], map, OnOk, OnErr, IfOk, None, true, false};
 ghost use Rattle.std.specs.declared.option.Option.{Option};
 ghost use Rattle.std.specs.List.{range_with_len};
 ghost use Rattle.std.specs.String.{string_bytes};
@@ -20,6 +20,12 @@ pub trait OutputSink {
     /// Whether it has failed.
     ghost broken: { Self → Bool };
 
+    /// What messages call the output that failed, if one did.
+    ghost called: { Self → List ℕ };
+
+    /// Why it failed, if it did.
+    ghost cause: { Self → List ℕ };
+
     /// Takes what a thread printed, all of it.
     ///
     /// # Errors
@@ -31,10 +37,12 @@ pub trait OutputSink {
         ensures err { OnErr result (broken self.new ≡ true) };
 
     /// What messages call the output that failed, if one did.
-    fn name(&self) -> &str;
+    fn name(&self) -> &str
+        ensures { result.now ≡ called self.now };
 
     /// Why it failed, if it did.
-    fn why(&self) -> &str;
+    fn why(&self) -> &str
+        ensures { result.now ≡ cause self.now };
 }
 
 fn output_path(alloc: Global, prefix: &str, thread: usize) -> Result<String, AllocError>
@@ -119,6 +127,10 @@ impl<D: Folder> OutputSink for OutputFiles<'_, D> {
     ghost taken = { λ _. None };
 
     ghost broken = { λ f. f.failed };
+
+    ghost called = { λ f. f.name.now };
+
+    ghost cause = { λ f. f.why.now };
 
     fn put(&mut self, thread: usize, bytes: &[u8]) -> Result<(), DeviceErr> {
         let Some(paths) = self.paths else {

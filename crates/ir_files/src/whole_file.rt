@@ -1,6 +1,6 @@
 //! Files that stand in their place only once they are whole.
 
-ghost use Rattle.std.specs.Prelude.{◌≡◌, Bool, OnOk, OnErr, IfSome, None, false, true};
+ghost use Rattle.std.specs.Prelude.{◌≡◌, ℕ, List, Bool, OnOk, OnErr, IfSome, None, false, true};
 ghost use Rattle.std.specs.String.{string_bytes};
 
 use crate::files::put;
@@ -15,6 +15,12 @@ pub trait WholeSink: Sink {
     /// Whether they are whole and stand in their place.
     ghost whole: { Self → Bool };
 
+    /// What messages call it.
+    ghost called: { Self → List ℕ };
+
+    /// Why it failed, if it did.
+    ghost cause: { Self → List ℕ };
+
     /// All bytes were written: from now on they stand in their place.
     ///
     /// # Errors
@@ -26,10 +32,12 @@ pub trait WholeSink: Sink {
         ensures err { OnErr result (Self.broken self.new ≡ true) };
 
     /// What messages call it.
-    fn name(&self) -> &str;
+    fn name(&self) -> &str
+        ensures { result.now ≡ called self.now };
 
     /// Why it failed, if it did.
-    fn why(&self) -> &str;
+    fn why(&self) -> &str
+        ensures { result.now ≡ cause self.now };
 }
 
 // What is added to the name of a place whose file isn't whole.
@@ -178,6 +186,10 @@ impl<D: Folder> Sink for WholeFile<'_, D> {
 
 impl<D: Folder> WholeSink for WholeFile<'_, D> {
     ghost whole = { λ f. f.whole };
+
+    ghost called = { λ f. f.place.now };
+
+    ghost cause = { λ f. f.why.now };
 
     fn finish(&mut self) -> Result<(), DeviceErr>
         ensures whole { OnOk result (self.new.whole ≡ true) }

@@ -53,6 +53,30 @@ fn help<O: Sink, E: Sink>(text: &str, out: &mut O, faults: &mut E) -> ExitStatus
     }
 }
 
+// The session of what is read, an image and a trace as lines of digits and then commands.
+fn bundled_session<R, I, O, E>(
+    rt: &R,
+    at_terminal: bool,
+    input: I,
+    out: &mut O,
+    faults: &mut E,
+) -> ExitStatus
+where
+    R: Threads + Wait + Sync + Clock + Eprint + AllocGlobal,
+    I: Source + Drop,
+    O: Sink,
+    E: Sink,
+    requires reads { I.broken input ≡ false }
+    requires writes { O.broken out.old ≡ false }
+    requires reports { E.broken faults.old ≡ false }
+{
+    let mut input = input;
+    if at_terminal {
+        let _ = rt.eprint(format_args!("{WAITS}"));
+    }
+    bundle(rt, rt.alloc(), &mut input, out, faults)
+}
+
 /// What the program uses beside its streams.
 #[derive(Clone, Copy)]
 pub struct Surroundings<'a, R, D, G> {
@@ -87,13 +111,7 @@ where
     let alloc = rt.alloc();
     let terminals = invocation.terminals;
     match parsed(alloc, invocation.arguments) {
-        Asked::Session => {
-            let mut input = input;
-            if terminals.input {
-                let _ = rt.eprint(format_args!("{WAITS}"));
-            }
-            bundle(rt, alloc, &mut input, out, faults)
-        }
+        Asked::Session => bundled_session(rt, terminals.input, input, out, faults),
         Asked::Assemble(arguments) => {
             assemble_file(alloc, folder, &arguments, terminals.faults, faults)
         }

@@ -76,7 +76,13 @@ impl Sink for Page {
 
 // Putting the page in its place is a call too.
 impl WholeSink for Page {
+    ghost use Rattle.std.specs.Prelude.{codes};
+
     ghost whole = { λ p. p.whole };
+
+    ghost called = { λ _. codes "page" };
+
+    ghost cause = { λ _. codes "its calls are used up" };
 
     fn finish(&mut self) -> Result<(), DeviceErr> {
         if self.calls_left == 0 {

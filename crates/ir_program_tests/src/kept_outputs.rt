@@ -50,12 +50,16 @@ impl KeptOutputs {
 }
 
 impl OutputSink for KeptOutputs {
-    ghost use Rattle.std.specs.Prelude.{Some, map};
+    ghost use Rattle.std.specs.Prelude.{Some, map, codes};
     ghost use Rattle.ir_files.specs.Outputs.{Printed};
 
     ghost taken = { λ k. Some (map {B = Printed} (λ o. (o.thread, o.bytes.items)) k.each.items) };
 
     ghost broken = { λ k. k.failed };
+
+    ghost called = { λ _. codes "output" };
+
+    ghost cause = { λ _. codes "its calls are used up" };
 
     fn put(&mut self, thread: usize, bytes: &[u8]) -> Result<(), DeviceErr> {
         if self.calls_left == 0 || self.add(thread, bytes).is_err() {

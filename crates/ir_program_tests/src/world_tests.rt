@@ -1,8 +1,8 @@
 //! What a world answers, by clocks that stand still or can't be read.
 
 use ir_record::{World, WorldErr};
-use ir_record_run::{ProgramWorld, Time};
 use ir_runs::EnvKind;
+use ir_sources::{ProgramWorld, Time};
 use std::io;
 use std::test::Fail;
 use std::time::{Clock, Duration, Instant};

@@ -1,5 +1,4 @@
 mod Fresh
-mod Giving
 mod Items
 mod Numerals
 mod Parts

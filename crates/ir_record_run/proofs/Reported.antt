@@ -1,16 +1,24 @@
--- Faults that are reported.
+-- Faults that are reported by their own words.
+use Rattle.std.proofs.Common.{◌≡◌, ℕ, List, ◌⊎◌, inl, inr, sym, subst}
+use Rattle.ir_image.specs.declared.image_err.ImageErr.{ImageErr}
 use Rattle.ir_files.specs.Writers.{Writer, Reports, fault_text}
-use Rattle.ir_record_run.specs.Faults.{fault_words, IsReported}
+use Rattle.ir_record_run.specs.Plan.{Plan}
+use Rattle.ir_record_run.specs.Faults.{Unwritten, fault_words, IsReported}
 use Rattle.ir_record_run.specs.declared.record_fault.RecordFault.{RecordFault}
-use Rattle.ir_record_run.specs.declared.record_fault.RecordFault.TheVariants.{Clock, Image, TooLarge, Order, NoMem, Trace, Output, Lines}
+use Rattle.ir_record_run.specs.declared.record_fault.RecordFault.TheVariants.{Clock, Image, TooLarge, NoMem, Lines}
 
--- the line of its words reports any fault
-pub reported : (e : RecordFault) (w : Writer) → Reports w (fault_text (fault_words e)) → IsReported e w
-reported (Image e) w h = h
-reported TooLarge w h = h
-reported Order w h = tt
-reported NoMem w h = h
-reported Clock w h = h
-reported Trace w h = tt
-reported Output w h = tt
-reported Lines w h = h
+same_fault : (e f : RecordFault) (image : List ℕ) (plan : Plan) (trace output : Unwritten) (w : Writer) → e ≡ f
+    → (Reports w (fault_text (fault_words f)) → IsReported f image plan trace output w) → Reports w (fault_text (fault_words e))
+    → IsReported e image plan trace output w
+same_fault e f image plan trace output w is by r = subst (λ (z : RecordFault). IsReported z image plan trace output w) (sym is)
+    (by (subst (λ (z : RecordFault). Reports w (fault_text (fault_words z))) is r))
+
+-- the line of its words reports a fault that names nothing
+pub reported : (e : RecordFault) (image : List ℕ) (plan : Plan) (trace output : Unwritten) (w : Writer)
+    → ((x : ImageErr) × (e ≡ Image x)) ⊎ ((e ≡ TooLarge) ⊎ ((e ≡ NoMem) ⊎ ((e ≡ Clock) ⊎ (e ≡ Lines))))
+    → Reports w (fault_text (fault_words e)) → IsReported e image plan trace output w
+reported e image plan trace output w (inl (x, is)) = same_fault e (Image x) image plan trace output w is (λ h. h)
+reported e image plan trace output w (inr (inl is)) = same_fault e TooLarge image plan trace output w is (λ h. h)
+reported e image plan trace output w (inr (inr (inl is))) = same_fault e NoMem image plan trace output w is (λ h. h)
+reported e image plan trace output w (inr (inr (inr (inl is)))) = same_fault e Clock image plan trace output w is (λ h. h)
+reported e image plan trace output w (inr (inr (inr (inr is)))) = same_fault e Lines image plan trace output w is (λ h. h)

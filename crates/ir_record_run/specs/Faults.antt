@@ -1,5 +1,6 @@
 -- Why there is no recording, and what that leaves.
-use Rattle.std.specs.Prelude.{◌≡◌, ℕ, List, length, codes, ⊤, ◌⊎◌, None, option_and_then, Ok, Err}
+use Rattle.std.specs.Prelude.{◌≡◌, ℕ, ◌==◌, List, [], length, codes, ⊤, ◌⊎◌, Some, None, option_and_then, Ok, Err}
+use Rattle.std.specs.List.{slice_split}
 use Rattle.ir_image.specs.Guest.{Guest}
 use Rattle.ir_image.specs.Reading.{guest_at}
 use Rattle.ir_image.specs.declared.image_err.ImageErr.{ImageErr}
@@ -7,11 +8,11 @@ use Rattle.ir_image.specs.declared.image_err.ImageErr.TheVariants as image
 use Rattle.ir_thread.specs.Allowed.{IsAllowed}
 use Rattle.ir_trace.specs.Recorded.{Recorded}
 use Rattle.ir_trace.specs.Encoding.{encoding}
-use Rattle.ir_record_run.specs.Order.{order_of}
+use Rattle.ir_record_run.specs.Order.{order_of, first_bad, IsItemFault}
 use Rattle.ir_record_run.specs.Plan.{Plan}
 use Rattle.ir_record_run.specs.Recording.{IsRecordedOf, lines_of}
 use Rattle.ir_files.specs.Outputs.{OutputWriter, TookEach, FailedAtOne}
-use Rattle.ir_files.specs.Writers.{Writer, Took, Failed, Reports, fault_text}
+use Rattle.ir_files.specs.Writers.{Writer, Took, Failed, Reports, fault_text, named_fault}
 use Rattle.ir_files.specs.declared.exit_status.ExitStatus.{ExitStatus}
 use Rattle.ir_files.specs.declared.exit_status.ExitStatus.TheVariants as status
 use Rattle.ir_record_run.specs.declared.order.OrderErr.{OrderErr}
@@ -54,16 +55,34 @@ fault_words Trace = codes "the trace can't be written"
 fault_words Output = codes "an output can't be written"
 fault_words Lines = codes "standard output can't be written"
 
--- a fault that names nothing that a user wrote is reported by its line; of the line of one that does nothing is said
-abbrev pub IsReported : RecordFault → Writer → Type 0
-IsReported (Image e) faults = Reports faults (fault_text (image_words e))
-IsReported TooLarge faults = Reports faults (fault_text (fault_words TooLarge))
-IsReported NoMem faults = Reports faults (fault_text (fault_words NoMem))
-IsReported Clock faults = Reports faults (fault_text (fault_words Clock))
-IsReported Lines faults = Reports faults (fault_text (fault_words Lines))
-IsReported Order faults = ⊤
-IsReported Trace faults = ⊤
-IsReported Output faults = ⊤
+-- what can't be written, as messages call it, and why
+pub record Unwritten : Type 0 where
+  pub called : List ℕ
+  pub cause : List ℕ
+
+abbrev pub unwritten_of : List ℕ → List ℕ → Unwritten
+unwritten_of called cause = record { called = called; cause = cause }
+
+abbrev pub unwritten_words : Unwritten → List ℕ
+unwritten_words u = named_fault [] u.called (codes " can't be written: ") u.cause
+
+-- the line of the first item of the plan's list that spells no steps, or that of the list as a whole
+abbrev pub IsOrderReported : List ℕ → Plan → Writer → Type 0
+IsOrderReported image plan faults = Reports faults (fault_text (fault_words Order))
+    ⊎ ((guest : Guest) × (list item why : List ℕ) × (guest_at image ≡ Ok guest) × (plan.order ≡ Some list)
+    × (first_bad (length guest.entries) (slice_split (λ b. b == 44) list) ≡ Some item) × IsItemFault why
+    × Reports faults (fault_text (named_fault (codes "LIST: the item '") item (codes "' ") why)))
+
+-- a fault is reported by one line, which says what can't be written, which item of the list spells no steps, or else the fault's own words
+abbrev pub IsReported : RecordFault → List ℕ → Plan → Unwritten → Unwritten → Writer → Type 0
+IsReported (Image e) image plan trace output faults = Reports faults (fault_text (image_words e))
+IsReported TooLarge image plan trace output faults = Reports faults (fault_text (fault_words TooLarge))
+IsReported NoMem image plan trace output faults = Reports faults (fault_text (fault_words NoMem))
+IsReported Clock image plan trace output faults = Reports faults (fault_text (fault_words Clock))
+IsReported Lines image plan trace output faults = Reports faults (fault_text (fault_words Lines))
+IsReported Order image plan trace output faults = IsOrderReported image plan faults
+IsReported Trace image plan trace output faults = Reports faults (fault_text (unwritten_words trace))
+IsReported Output image plan trace output faults = Reports faults (fault_text (unwritten_words output))
 
 -- the fault that a refusal of the image is
 abbrev pub of_image : ImageErr → RecordFault

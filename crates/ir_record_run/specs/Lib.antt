@@ -4,4 +4,3 @@ pub mod Numerals
 pub mod Order
 pub mod Plan
 pub mod Recording
-pub mod Sources

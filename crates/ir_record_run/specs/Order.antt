@@ -1,6 +1,7 @@
 -- Lists that say which thread takes each next step.
-use Rattle.std.specs.Prelude.{ℕ, ◌-◌, ◌==◌, List, [], ◌∷◌, ◌++◌, replicate, Option, Some, None}
+use Rattle.std.specs.Prelude.{◌≡◌, ◌⊎◌, codes, if◌then◌else◌, ℕ, ◌-◌, ◌==◌, List, [], ◌∷◌, ◌++◌, replicate, Option, Some, None}
 use Rattle.std.specs.List.{slice_split}
+use Rattle.std.specs.Option.{is_none}
 use Rattle.ir_record_run.specs.Numerals.{number_within}
 
 -- the most steps of an item
@@ -34,3 +35,13 @@ items_of threads (item ∷ items) = joined (item_of threads item) (items_of thre
 -- the threads in the order that a list spells, which is items with commas between them; the guest has so many threads
 abbrev pub order_of : ℕ → List ℕ → Option (List ℕ)
 order_of threads list = items_of threads (slice_split (λ b. b == 44) list)
+
+-- the first of these items that spells no steps
+abbrev pub first_bad : ℕ → List (List ℕ) → Option (List ℕ)
+first_bad threads [] = None
+first_bad threads (item ∷ items) = if is_none (item_of threads item) then Some item else first_bad threads items
+
+-- why an item spells no steps, in words
+abbrev pub IsItemFault : List ℕ → Type 0
+IsItemFault why = (why ≡ codes "is neither T nor TxN") ⊎ (why ≡ codes "names no thread of the image")
+    ⊎ (why ≡ codes "has an N that is not from 1 to 1000000")

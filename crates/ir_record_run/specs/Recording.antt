@@ -1,6 +1,6 @@
 -- What recording a guest writes.
-use Rattle.std.specs.Prelude.{◌≡◌, ◌<◌, ℕ, ◌+◌, ◌%◌, ◌^◌, List, [], ◌∷◌, ◌++◌, length, map, replicate, codes, decimal, Bool, Option, Some, None, Ok}
-use Rattle.std.specs.List.{range_with_len, slice_index_or}
+use Rattle.std.specs.Prelude.{◌≡◌, ◌<◌, ℕ, ◌+◌, List, [], ◌∷◌, ◌++◌, length, replicate, codes, decimal, Option, Some, None, Ok}
+use Rattle.std.specs.List.{slice_index_or}
 use Rattle.std.specs.Option.{is_some}
 use Rattle.ir_image.specs.Guest.{Guest}
 use Rattle.ir_image.specs.Reading.{guest_at}
@@ -11,19 +11,7 @@ use Rattle.ir_record.specs.Recording.{IsRecording, IsRecordingOfSome}
 use Rattle.ir_record.specs.Worlds.{Answered}
 use Rattle.ir_record_run.specs.Order.{order_of}
 use Rattle.ir_record_run.specs.Plan.{Plan}
-use Rattle.ir_record_run.specs.Sources.{MadeWith, IsAnswered}
-
--- the seed of the random words of thread t
-abbrev pub seed_of : ℕ → ℕ → ℕ
-seed_of random t = (random + t) % 2 ^ 64
-
--- what the world of thread t is made with
-abbrev pub origin_of : Bool → ℕ → List ℕ → ℕ → MadeWith
-origin_of counted random file t = record { counted = counted; seed = seed_of random t; file = file }
-
--- the same of so many threads
-abbrev pub origins : Bool → ℕ → List ℕ → ℕ → List MadeWith
-origins counted random file threads = map (origin_of counted random file) (range_with_len 0 threads)
+use Rattle.ir_sources.specs.Sources.{origin_of, IsAnswered}
 
 -- before the first step no world has answered
 abbrev pub unasked : Guest → List (List Answered)

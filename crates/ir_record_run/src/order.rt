@@ -1,10 +1,11 @@
 //! Lists that say which thread takes each next step.
 
-ghost use Rattle.std.specs.Prelude.{◌≡◌, ◌<◌, ◌-◌, ◌≤◌, [], ◌∷◌, length, MatchOption, IfOk, IfSome, Some, None, Err, option_map, replicate, ◌==◌};
+ghost use Rattle.std.specs.Prelude.{◌≡◌, ◌<◌, ◌-◌, ◌≤◌, [], ◌∷◌, length, MatchOption, IfOk, IfSome, Some, None, Err, option_map, replicate, ◌==◌, true};
 ghost use Rattle.std.specs.List.{slice_split};
+ghost use Rattle.std.specs.Option.{is_some};
 ghost use Rattle.ir_image.specs.Guest.{most_threads};
 ghost use Rattle.ir_record.specs.Turns.{order_of_turns};
-ghost use Rattle.ir_record_run.specs.Order.{item_of, order_of};
+ghost use Rattle.ir_record_run.specs.Order.{item_of, order_of, first_bad, IsItemFault};
 ghost use Rattle.ir_record_run.specs.Numerals.{number_within};
 ghost use Rattle.ir_record_run.specs.declared.order.OrderErr.TheVariants.{Bad, NoMem};
 
@@ -90,7 +91,7 @@ fn is_digits(text: &str) -> bool {
 fn item_fault(item: &str, threads: usize) -> Option<&'static str>
     requires some { 1 ≤ threads }
     requires few { threads ≤ most_threads }
-    ensures bad { IfSome result (λ _. item_of threads item.now ≡ None) }
+    ensures { MatchOption result (is_some (item_of threads item.now) ≡ true) (λ why. (item_of threads item.now ≡ None) × IsItemFault why.now) }
 {
     if turns_of(item, threads).is_some() {
         return None;
@@ -109,11 +110,15 @@ fn item_fault(item: &str, threads: usize) -> Option<&'static str>
 pub fn bad_item(list: &str, threads: usize) -> Option<(&str, &'static str)>
     requires some { 1 ≤ threads }
     requires few { threads ≤ most_threads }
+    ensures { MatchOption result (first_bad threads (slice_split (λ b. b == 44) list.now) ≡ None) (λ found. (first_bad threads (slice_split (λ b. b == 44) list.now) ≡ Some found.0.now) × IsItemFault found.1.now) }
 {
-    for item in list.split(',') {
+    let mut rest = Some(list);
+    'items: while let Some(text) = rest {
+        let (item, others) = first_part(text, ',');
         if let Some(why) = item_fault(item, threads) {
             return Some((item, why));
         }
+        rest = others;
     }
     None
 }

@@ -6,51 +6,27 @@ ghost use Rattle.std.specs.Io.KnownBytes.{Appends};
 ghost use Rattle.ir_trace.specs.Recorded.{Recorded};
 ghost use Rattle.ir_trace.specs.Encoding.{encoding};
 ghost use Rattle.ir_record.specs.Recording.{printed_by};
-ghost use Rattle.ir_record.specs.Worlds.{NoneFailed};
-ghost use Rattle.ir_record_run.specs.Recording.{origins, IsRecordedOf, line_by, thread_line, lines_of};
-ghost use Rattle.ir_record_run.specs.Sources.{made_with, is_counted};
+ghost use Rattle.ir_record_run.specs.Recording.{IsRecordedOf, line_by, thread_line, lines_of};
 ghost use Rattle.ir_files.specs.Outputs.{output_writer_of, TookEach, FailedAtOne};
 ghost use Rattle.ir_files.specs.Writers.{writer_of};
-ghost use Rattle.ir_record_run.specs.Faults.{Allows, fault_status, Refuses, WriteFails, Stops, IsReported};
+ghost use Rattle.ir_record_run.specs.Faults.{Allows, fault_status, Refuses, WriteFails, Stops, IsOrderReported, IsReported, unwritten_of};
 ghost use Rattle.ir_record_run.specs.declared.record_fault.RecordFault.{RecordFault};
 ghost use Rattle.ir_record_run.specs.declared.record_fault.RecordFault.TheVariants.{NoMem, Clock};
 
 use crate::order::{bad_item, read_order};
 use crate::parsed_image::ParsedImage;
 use crate::plan::RecordPlan;
-use crate::program_world::ProgramWorld;
 use crate::record_fault::RecordFault;
-use crate::time::Time;
 use ir_files::{ExitStatus, OutputSink, WholeSink, tell, tell_of};
 use ir_object::Gate;
 use ir_record::{Outputs, RecordErr, record, record_in_turns};
+use ir_sources::{ProgramWorld, Time, worlds};
 use ir_stream::{DeviceErr, Sink, write_all};
 use ir_trace::{ThreadTrace, Trace, write_trace};
 use std::alloc::{AllocError, Global};
 use std::sync::Wait;
 use std::thread::Threads;
 use std::time::{Clock, Instant};
-
-// The worlds of so many threads. Each has its own random words and its own copy of the file.
-fn worlds<'a, C>(
-    alloc: Global,
-    clock: &'a C,
-    time: Time,
-    threads: usize,
-    random: u64,
-    file: &'a [u8],
-) -> Result<Vec<ProgramWorld<'a, C>>, AllocError>
-    ensures origins { IfOk result (λ worlds. map (λ w. made_with w.time w.seed w.file.now) worlds.items ≡ origins (is_counted time) random file.now threads) }
-    ensures fresh { IfOk result (λ worlds. map (λ w. w.answers.items) worlds.items ≡ replicate threads []) }
-    ensures works { IfOk result (λ worlds. NoneFailed (map (λ w. w.failed) worlds.items)) }
-{
-    let mut worlds = Vec::with_capacity(alloc, threads)?;
-    for thread in 0..threads {
-        let seed = random.wrapping_add(thread as u64);
-        worlds.push(ProgramWorld::new(alloc, clock, time, seed, file)?)?;
-    }
-    Ok(worlds)
-}
 
 // What stops a recording by threads: memory, or the clock of a thread that asks for the time.
 fn stopped_by<C: Clock>(why: RecordErr<ProgramWorld<C>>) -> RecordFault
@@ -294,12 +270,13 @@ fn run<
     }
 }
 
-// Tells that a list spells no order of an image's threads: which item doesn't, and why.
+// Tells that a plan's list spells no order of an image's threads: which item doesn't, and why.
 #[tactic(auto, using(ir_image::proofs::CallerLemmas::few_threads))]
-fn tell_order<E: Sink>(faults: &mut E, image: &ParsedImage<'_>, list: &str)
+fn tell_order<E: Sink>(faults: &mut E, image: &ParsedImage<'_>, plan: &RecordPlan<'_>)
     requires { E.broken faults.old ≡ false }
+    ensures { IsOrderReported image.now plan.now (writer_of (E.written faults.old) (E.written faults.new) (E.broken faults.new)) }
 {
-    if let Some(guest) = image.guest() {
+    if let (Some(guest), Some(list)) = (image.guest(), plan.order) {
         if let Some((item, why)) = bad_item(list, guest.entries().len()) {
             tell_of(faults, "LIST: the item '", item, "' ", why);
             return;
@@ -313,19 +290,24 @@ fn tell_fault<W: WholeSink, P: OutputSink, E: Sink>(
     faults: &mut E,
     why: &RecordFault,
     image: &ParsedImage<'_>,
-    order: Option<&str>,
+    plan: &RecordPlan<'_>,
     trace: &W,
     outputs: &P,
 )
     requires { E.broken faults.old ≡ false }
-    ensures { IsReported why.now (writer_of (E.written faults.old) (E.written faults.new) (E.broken faults.new)) }
+    ensures { IsReported why.now image.now plan.now (unwritten_of (W.called trace.now) (W.cause trace.now)) (unwritten_of (P.called outputs.now) (P.cause outputs.now))
+        (writer_of (E.written faults.old) (E.written faults.new) (E.broken faults.new)) }
 {
     const UNWRITTEN: &str = " can't be written: ";
-    match (why, order) {
-        (RecordFault::Order, Some(list)) => tell_order(faults, image, list),
-        (RecordFault::Trace, _) => tell_of(faults, "", trace.name(), UNWRITTEN, trace.why()),
-        (RecordFault::Output, _) => tell_of(faults, "", outputs.name(), UNWRITTEN, outputs.why()),
-        _ => tell(faults, why.words()),
+    match why {
+        RecordFault::Order => tell_order(faults, image, plan),
+        RecordFault::Trace => tell_of(faults, "", trace.name(), UNWRITTEN, trace.why()),
+        RecordFault::Output => tell_of(faults, "", outputs.name(), UNWRITTEN, outputs.why()),
+        RecordFault::Image(_)
+        | RecordFault::TooLarge
+        | RecordFault::NoMem
+        | RecordFault::Clock
+        | RecordFault::Lines => tell(faults, why.words()),
     }
 }
 
@@ -375,7 +357,8 @@ pub fn record_run<
     ensures quiet { OnOk result (faults.new ≡ faults.old) }
     // Else what stopped it, what that left, and that it is reported.
     ensures stopped { IfErr result (λ status. (e : RecordFault) × (status ≡ fault_status e)
-        × IsReported e (writer_of (E.written faults.old) (E.written faults.new) (E.broken faults.new)) × Stops e image.now plan.now
+        × IsReported e image.now plan.now (unwritten_of (W.called trace.new) (W.cause trace.new)) (unwritten_of (P.called outputs.new) (P.cause outputs.new))
+        (writer_of (E.written faults.old) (E.written faults.new) (E.broken faults.new)) × Stops e image.now plan.now
         (writer_of (W.written trace.old) (W.written trace.new) (W.broken trace.new))
         (output_writer_of (P.taken outputs.old) (P.taken outputs.new) (P.broken outputs.new))
         (writer_of (O.written out.old) (O.written out.new) (O.broken out.new))
@@ -384,7 +367,7 @@ pub fn record_run<
     match run(rt, gate, image, plan, trace, outputs, out) {
         Ok(recorded) => Ok(recorded),
         Err(why) => {
-            tell_fault(faults, &why, image, plan.order, trace, outputs);
+            tell_fault(faults, &why, image, plan, trace, outputs);
             Err(why.status())
         }
     }

@@ -1,8 +1,9 @@
 use Rattle.std.proofs.Common.{◌≡◌, ℕ, List, length, map, false, sym, ap, ◌∙◌, subst, arith}
 use Rattle.ir_record_run.specs.Plan.{Plan}
 use Rattle.ir_record_run.specs.Recording.{IsRecordedOf}
-use Rattle.ir_record_run.specs.Sources.{made_with}
-use Rattle.ir_record_run.proofs.Fresh.{many, answered_by, recorded_by}
+use Rattle.ir_sources.specs.Sources.{made_with}
+use Rattle.ir_sources.proofs.CallerLemmas.{many, answered_by}
+use Rattle.ir_record_run.proofs.Fresh.{recorded_by}
 use Rattle.ir_record_run.proofs.recording.recorded_by_threads.Goals as goal
 
 pub record-requires-clause-each : goal.record-requires-clause-each

@@ -2,8 +2,9 @@ use Rattle.std.proofs.Common.{◌≡◌, ℕ, List, length, map, true, sym, ap, 
 use Rattle.ir_record.specs.Turns.{order_of_turns}
 use Rattle.ir_record_run.specs.Plan.{Plan}
 use Rattle.ir_record_run.specs.Recording.{IsRecordedOf}
-use Rattle.ir_record_run.specs.Sources.{made_with}
-use Rattle.ir_record_run.proofs.Fresh.{many, answered_by, recorded_from}
+use Rattle.ir_sources.specs.Sources.{made_with}
+use Rattle.ir_sources.proofs.CallerLemmas.{many, answered_by}
+use Rattle.ir_record_run.proofs.Fresh.{recorded_from}
 use Rattle.ir_record_run.proofs.recording.recorded_in_order.Goals as goal
 
 pub record_in_turns-requires-clause-each : goal.record_in_turns-requires-clause-each

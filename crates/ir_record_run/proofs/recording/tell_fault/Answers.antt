@@ -1,5 +1,24 @@
+use Rattle.std.proofs.Common.{◌≡◌, sym, subst}
+use Rattle.ir_files.specs.Writers.{writer_of}
+use Rattle.ir_record_run.specs.Faults.{IsReported, unwritten_of}
+use Rattle.ir_record_run.specs.declared.record_fault.RecordFault.{RecordFault}
 use Rattle.ir_record_run.proofs.Reported.{reported}
 use Rattle.ir_record_run.proofs.recording.tell_fault.Goals as goal
 
-pub returns-in_default : goal.returns-in_default
-returns-in_default g c = reported c.args.why.now _ (rw c.words.ensures at c.tell.ensures)
+pub returns-in-Trace : goal.returns-in-Trace
+returns-in-Trace g c = subst (λ (e : RecordFault). IsReported e c.args.image.now c.args.plan.now
+    (unwritten_of (g.W.WholeSink.called c.args.trace.now) (g.W.WholeSink.cause c.args.trace.now))
+    (unwritten_of (g.P.OutputSink.called c.args.outputs.now) (g.P.OutputSink.cause c.args.outputs.now))
+    (writer_of (g.E.Sink.written c.args.faults.now) (g.E.Sink.written c.tell_of.new.faults) (g.E.Sink.broken c.tell_of.new.faults)))
+    (sym c.in-Trace.is) (rw c.name.ensures at (rw c.why.ensures at c.tell_of.ensures))
+
+pub returns-in-Output : goal.returns-in-Output
+returns-in-Output g c = subst (λ (e : RecordFault). IsReported e c.args.image.now c.args.plan.now
+    (unwritten_of (g.W.WholeSink.called c.args.trace.now) (g.W.WholeSink.cause c.args.trace.now))
+    (unwritten_of (g.P.OutputSink.called c.args.outputs.now) (g.P.OutputSink.cause c.args.outputs.now))
+    (writer_of (g.E.Sink.written c.args.faults.now) (g.E.Sink.written c.tell_of-in-Output.new.faults)
+    (g.E.Sink.broken c.tell_of-in-Output.new.faults)))
+    (sym c.in-Output.is) (rw c.name-in-Output.ensures at (rw c.why-in-Output.ensures at c.tell_of-in-Output.ensures))
+
+pub returns-in-Image : goal.returns-in-Image
+returns-in-Image g c = reported c.args.why.now _ _ _ _ _ c.in-Image.is (rw c.words.ensures at c.tell.ensures)

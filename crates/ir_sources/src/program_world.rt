@@ -4,7 +4,7 @@ ghost use Rattle.std.specs.Prelude.{◌≡◌, ◌≤◌, ◌⊎◌, [], ◌∷�
 ghost use Rattle.ir_thread.specs.Calls.{most_events};
 ghost use Rattle.ir_thread.specs.Instance.{is_result};
 ghost use Rattle.ir_runs.specs.declared.env_kind.EnvKind.TheVariants.{Clock};
-ghost use Rattle.ir_record_run.specs.Sources.{source, Gave, Gave-prop, MadeWith, made_with, is_counted, from_sources};
+ghost use Rattle.ir_sources.specs.Sources.{source, Gave, Gave-prop, MadeWith, made_with, is_counted, from_sources};
 
 use crate::sources::Sources;
 use crate::time::{Time, millis_since};
@@ -63,6 +63,20 @@ impl<'a, C> ProgramWorld<'a, C> {
             failed: false,
             full: false,
         })
+    }
+
+    /// As it was before its first answer: its counts, words and bytes start again.
+    pub fn restart(&mut self)
+        ensures time { self.new.time ≡ self.old.time }
+        ensures seed { self.new.seed ≡ self.old.seed }
+        ensures file { self.new.file.now ≡ self.old.file.now }
+        ensures fresh { self.new.answers.items ≡ [] }
+        ensures works { self.new.failed ≡ false }
+    {
+        self.answers.clear();
+        self.sources = Sources::new(self.seed, self.file);
+        self.failed = false;
+        self.full = false;
     }
 
     /// Whether it failed since it has no room for more answers; else only its clock fails it.

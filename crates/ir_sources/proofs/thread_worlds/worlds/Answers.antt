@@ -1,7 +1,7 @@
 use Rattle.ir_record.proofs.CallerLemmas.{one_more_works}
-use Rattle.ir_record_run.specs.Sources.{made_with, is_counted}
-use Rattle.ir_record_run.proofs.Fresh.{origins_more, made_by, fresh_more}
-use Rattle.ir_record_run.proofs.recording.worlds.Goals as goal
+use Rattle.ir_sources.specs.Sources.{made_with, is_counted}
+use Rattle.ir_sources.proofs.Fresh.{origins_more, made_by, fresh_more}
+use Rattle.ir_sources.proofs.thread_worlds.worlds.Goals as goal
 
 pub loop-thread-preserved : goal.loop-thread-preserved
 loop-thread-preserved g c =

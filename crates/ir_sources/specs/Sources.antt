@@ -1,6 +1,6 @@
 -- What answers a thread that is recorded: a count or a clock, a generator of random words, and the bytes of a file.
-use Rattle.std.specs.Prelude.{◌≡◌, ℕ, ◌+◌, List, [], ◌∷◌, drop, Bool, true, false}
-use Rattle.std.specs.List.{slice_index_or}
+use Rattle.std.specs.Prelude.{◌≡◌, ℕ, ◌+◌, ◌%◌, ◌^◌, List, [], ◌∷◌, drop, map, Bool, true, false}
+use Rattle.std.specs.List.{range_with_len, slice_index_or}
 use Rattle.std.specs.Coded.{×_prop}
 use Rattle.std.proofs.Props.{props}
 use Rattle.rand_core.specs.Pcg32Seed.{pcg32_seed}
@@ -9,8 +9,8 @@ use Rattle.rand_pcg.specs.Pcg.{pcg32, pcg32_of_seed}
 use Rattle.ir_runs.specs.declared.env_kind.EnvKind.{EnvKind}
 use Rattle.ir_runs.specs.declared.env_kind.EnvKind.TheVariants.{Clock, Random, Input}
 use Rattle.ir_record.specs.Worlds.{Answered}
-use Rattle.ir_record_run.specs.declared.time.Time.{Time}
-use Rattle.ir_record_run.specs.declared.time.Time.TheVariants.{Counted, Since}
+use Rattle.ir_sources.specs.declared.time.Time.{Time}
+use Rattle.ir_sources.specs.declared.time.Time.TheVariants.{Counted, Since}
 
 -- whether calls for the time are counted; else a clock answers them
 abbrev pub is_counted : Time → Bool
@@ -69,3 +69,15 @@ from_sources false answers = untimed answers
 -- a world that was made so has given these answers, in turn those that come from its sources
 abbrev pub IsAnswered : MadeWith → List Answered → Type 0
 IsAnswered made answers = (left : Source) × Gave (source made.seed made.file) (from_sources made.counted answers) left
+
+-- the seed of the random words of thread t
+abbrev pub seed_of : ℕ → ℕ → ℕ
+seed_of random t = (random + t) % 2 ^ 64
+
+-- what the world of thread t is made with
+abbrev pub origin_of : Bool → ℕ → List ℕ → ℕ → MadeWith
+origin_of counted random file t = record { counted = counted; seed = seed_of random t; file = file }
+
+-- the same of so many threads
+abbrev pub origins : Bool → ℕ → List ℕ → ℕ → List MadeWith
+origins counted random file threads = map (origin_of counted random file) (range_with_len 0 threads)

@@ -1,7 +1,7 @@
 //! What answers a thread that is recorded in a given order.
 
 ghost use Rattle.std.specs.Prelude.{◌≡◌, ◌<◌, ◌+◌, ◌^◌, true, false};
-ghost use Rattle.ir_record_run.specs.Sources.{Source, source, given};
+ghost use Rattle.ir_sources.specs.Sources.{Source, source, given};
 ghost use Rattle.ir_thread.specs.Instance.{is_result};
 ghost use Rattle.ir_runs.specs.declared.env_kind.EnvKind.TheVariants.{Clock, Random, Input};
 

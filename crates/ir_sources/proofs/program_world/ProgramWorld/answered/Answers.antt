@@ -1,7 +1,7 @@
 use Rattle.std.proofs.Common.{rules, arith, vec_len}
-use Rattle.ir_record_run.specs.Sources.{source, is_counted}
-use Rattle.ir_record_run.proofs.Giving.{still_few, still_gave, still_left}
-use Rattle.ir_record_run.proofs.program_world.ProgramWorld.answered.Goals as goal
+use Rattle.ir_sources.specs.Sources.{source, is_counted}
+use Rattle.ir_sources.proofs.Giving.{still_few, still_gave, still_left}
+use Rattle.ir_sources.proofs.program_world.ProgramWorld.answered.Goals as goal
 
 pub invariant_of-self-in-Clock-Since : goal.invariant_of-self-in-Clock-Since
 invariant_of-self-in-Clock-Since g c =

@@ -1,9 +1,9 @@
 -- Answers that are given in turn.
 use Rattle.std.proofs.Common.{Bool, true, false, ◌≡◌, ◌≤◌, ◌+◌, ℕ, List, [], ◌∷◌, ◌++◌, refl, sym, ap, ◌∙◌, subst, arith}
 use Rattle.std.specs.Prelude.{◌≢◌}
-use Rattle.ir_record_run.specs.Sources.{Source, given, Gave, untimed, from_sources, is_counted}
-use Rattle.ir_record_run.specs.declared.time.Time.{Time}
-use Rattle.ir_record_run.specs.declared.time.Time.TheVariants.{Since}
+use Rattle.ir_sources.specs.Sources.{Source, given, Gave, untimed, from_sources, is_counted}
+use Rattle.ir_sources.specs.declared.time.Time.{Time}
+use Rattle.ir_sources.specs.declared.time.Time.TheVariants.{Since}
 use Rattle.ir_record.specs.Worlds.{Answered}
 use Rattle.ir_runs.specs.declared.env_kind.EnvKind.{EnvKind}
 use Rattle.ir_runs.specs.declared.env_kind.EnvKind.TheVariants.{Clock, Random, Input}

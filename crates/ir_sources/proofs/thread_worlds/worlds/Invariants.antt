@@ -1,9 +1,9 @@
 use Rattle.std.proofs.Common.{◌≡◌, [], map}
 use Rattle.std.specs.Prelude.{replicate}
 use Rattle.ir_record.specs.Worlds.{NoneFailed}
-use Rattle.ir_record_run.specs.Recording.{origins}
-use Rattle.ir_record_run.specs.Sources.{made_with, is_counted}
-use Rattle.ir_record_run.proofs.recording.worlds.Given as goal
+use Rattle.ir_sources.specs.Sources.{origins}
+use Rattle.ir_sources.specs.Sources.{made_with, is_counted}
+use Rattle.ir_sources.proofs.thread_worlds.worlds.Given as goal
 
 abbrev pub invariant-loop-thread : goal.invariant-loop-thread
 invariant-loop-thread g l = record {

@@ -1,0 +1,3 @@
+mod Fresh
+mod Giving
+pub mod CallerLemmas

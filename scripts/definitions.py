@@ -1,0 +1,327 @@
+#!/usr/bin/env python3
+"""Makes docs/internals/definitions.md: what the headline rests on, in files and lines, and an index of the definitions of specs/.
+
+python3 scripts/definitions.py [--check]
+
+With --check it writes nothing and prints a line for each page that differs, and then fails; scripts/rooms.py prints these lines too. The page
+itself has to be as it would be made. The tables of docs/internals/theorem.md have to name the files to which the contracts of PARTS lead. Each
+call and each edit that docs/internals/contracts.md names has to be one of some crate. Each crate has to have its words in
+docs/internals/architecture.md.
+
+A contract leads to the definitions that it names, and these to those that they name: names are followed by the `use` lines of their file. A type
+of the code leads to what its ghost fields and its `impl Model` name. What leads to std or to another crate of the kit isn't followed.
+"""
+import re
+import sys
+from dataclasses import dataclass, field
+from functools import cache
+from pathlib import Path
+
+TOP = Path(__file__).resolve().parent.parent
+PAGES = TOP / "docs" / "internals"
+PAGE = PAGES / "definitions.md"
+MOST_WORDS = 30
+
+# Each part of the headline: its name, its heading in theorem.md, and the functions and traits whose contracts it is.
+PARTS = [
+    ("the session", "### The session", {
+        "ir_debug/src/sessions.rt": ["session", "session_up_to"],
+        "ir_stream/src/device.rt": ["Source", "Sink"],
+        "ir_object/src/gate.rt": ["Gate"],
+    }),
+    ("recording, beside these", "### Recording", {
+        "ir_record/src/by_threads.rt": ["record"],
+        "ir_record/src/in_order.rt": ["record_in_order", "record_in_turns"],
+        "ir_record/src/world.rt": ["World"],
+    }),
+    ("`fit`, beside these", None, {"ir_fit/src/fitting.rt": ["fit"]}),
+    ("`advance`, beside these", "### Advance", {"ir_replay/src/moves.rt": ["advance", "advance_in_order"]}),
+]
+
+HEAD = """# Definitions
+
+`python3 scripts/definitions.py` makes this page of the comments in `specs/`, and the gate refuses it if it differs. What to read first, and in
+which order, is in [theorem](theorem.md).
+
+## What the headline rests on
+
+The files of the tables of [theorem](theorem.md#what-a-reader-has-to-believe). They hold more than what is needed of them. The last two columns
+count the definitions to which the contracts lead, and the lines of these without comments, imports and blank lines.
+
+"""
+INDEX = """
+## Index
+
+The definitions that the public calls and types of the crates name in contracts, laws and invariants, by crate and file. Those to which the
+headline leads are in **bold**. A definition without a comment has its type instead. A comment of more than 30 words is cut (`..`). A file that
+has none of them states what holds inside its crate.
+"""
+
+USE = re.compile(r"^\s*(?:ghost )?(?:pub )?use Rattle\.(ir_\w+)\.specs\.([\w.]+?)(?:\.\{([^}]*)\}| as (\w+))?;?\s*$", re.MULTILINE)
+BEGINS = re.compile(r"^(?:abbrev pub|unfoldable pub|pub record|pub data|pub(?! use| mod)) ([^\s:]+)(.*)")
+NAME = re.compile(r"[^\s(){}\[\].,;λ]+(?:\.[^\s(){}\[\].,;λ]+)*")
+EXPORT = re.compile(r"^pub use [\w:]+::(?:\{([^}]*)\}|(\w+));", re.MULTILINE)
+ITEM = re.compile(r"^(?:pub (?:const )?(?:fn|trait|struct|enum) (\w+)|impl(?:<[^{]*?>)? (?:[^{]*? for )?(\w+)).*?^\{?\}", re.MULTILINE | re.DOTALL)
+CALL = re.compile(r"\b(?:fn|trait|struct|enum) (\w+)")
+ROW = re.compile(r"^\| \[(ir_\w+)/specs/([\w/]+)\]", re.MULTILINE)
+
+
+@dataclass
+class Definition:
+    """A definition: its `--` lines, what its first line has after its name, and its lines."""
+    says: str
+    type: str
+    lines: list = field(default_factory=list)
+
+
+@dataclass
+class Module:
+    """A file of specs/, or one of the code: its definitions, and what its `use` lines name."""
+    lines: list
+    definitions: dict
+    names: dict
+    aliases: dict
+
+
+def imports_of(text):
+    """What each imported name stands for, as crate, module and name, and what each name of a module does."""
+    names, aliases = {}, {}
+    for crate, module, listed, alias in USE.findall(text):
+        if alias:
+            aliases[alias] = (crate, module)
+        for item in filter(None, map(str.strip, listed.split(","))):
+            name, _, local = item.partition(" as ")
+            names[(local or name).strip()] = (crate, module, name.strip())
+    return names, aliases
+
+
+def definitions_of(lines):
+    """The definitions of a file, by name."""
+    found, comment, present = {}, [], None
+    for line in lines:
+        begins = BEGINS.match(line)
+        if begins:
+            present = found.setdefault(begins[1], Definition(" ".join(comment), begins[2].strip().removeprefix(":").removesuffix("where").strip()))
+        if line.startswith("--"):
+            comment.append(line[2:].strip())
+        else:
+            comment = []
+        if line.startswith("use "):
+            present = None
+        code = line.partition("--")[0].rstrip()
+        if present and code:
+            present.lines.append(code)
+    return found
+
+
+@cache
+def module(crate, name):
+    """A module of a crate's specs/, if it is a file there."""
+    path = TOP / "crates" / crate / "specs" / (name.replace(".", "/") + ".antt")
+    if not path.is_file():
+        return None
+    text = path.read_text(encoding="utf-8")
+    return Module(text.splitlines(), definitions_of(text.splitlines()), *imports_of(text))
+
+
+@cache
+def code(path):
+    """The text of a file of the code, with what it imports."""
+    text = (TOP / "crates" / path).read_text(encoding="utf-8")
+    return text, Module([], {}, *imports_of(text))
+
+
+def named_in(text, where, here=None):
+    """The definitions that a text of a module names, as crate, module and name."""
+    found = set()
+    for path in NAME.findall(text):
+        parts = path.split(".")
+        for part, after in zip(parts, [*parts[1:], None]):
+            if part in where.names:
+                found.add(where.names[part])
+            elif part in where.definitions:
+                found.add((*here, part))
+            if part in where.aliases and after:
+                found.add((*where.aliases[part], after))
+    return found
+
+
+def named_by_type(crate, name):
+    """What the ghost fields and the `impl Model` of a type of the code name, `declared.file.Type`."""
+    *path, kind = [part for part in name.split(".")[1:] if part != "TheVariants"]
+    file = f"{crate}/src/{'/'.join(path)}.rt"
+    if not (TOP / "crates" / file).is_file():
+        return set()
+    text, where = code(file)
+    models = re.findall(rf"^impl(?:<[^>]*>)? Model for {kind}\b[^{{]*\{{(.*?)^\}}", text, re.MULTILINE | re.DOTALL)
+    fields = re.findall(rf"^pub struct {kind}\b[^{{;]*\{{(.*?)^\}}", text, re.MULTILINE | re.DOTALL)
+    ghosts = [ghost for body in fields for ghost in re.findall(r"ghost \w+: \{(.*)\}", body)]
+    return {found for part in [*models, *ghosts] for found in named_in(part, where)}
+
+
+def named_by(definition):
+    """The definitions that one names."""
+    crate, name, item = definition
+    if name.startswith("declared."):
+        return named_by_type(crate, name)
+    where = module(crate, name)
+    if where is None:
+        return set()
+    if item in where.definitions:
+        return named_in("\n".join(where.definitions[item].lines), where, (crate, name))
+    return {where.names[item]} if item in where.names else set()
+
+
+def named_by_contract(file, item):
+    """What the contract of a function names, or the contracts of a trait."""
+    text, where = code(file)
+    begins = re.search(rf"^pub (?:fn|trait) {item}\b.*?^[{{}}]", text, re.MULTILINE | re.DOTALL)
+    if begins is None:
+        sys.exit(f"scripts/definitions.py: crates/{file} has no {item}")
+    return named_in(begins[0], where)
+
+
+def led_to(contracts):
+    """The definitions to which contracts lead."""
+    rest = {found for file, items in contracts.items() for item in items for found in named_by_contract(file, item)}
+    found = set()
+    while rest:
+        found |= rest
+        rest = {other for definition in rest for other in named_by(definition)} - found
+    return {(crate, name, item) for crate, name, item in found if module(crate, name) and item in module(crate, name).definitions}
+
+
+def parts():
+    """Each part of the headline with its heading, the files that it adds and its definitions there."""
+    files, known = set(), set()
+    for title, heading, contracts in PARTS:
+        more = led_to(contracts) - known
+        known |= more
+        added = {(crate, name) for crate, name, _ in more} - files
+        files |= added
+        yield title, heading, added, more
+
+
+def counts():
+    """The table of what the headline rests on."""
+    rows, totals = [], [0] * 4
+    for title, _, files, definitions in parts():
+        lines = sum(len(module(*file).lines) for file in files)
+        needed = sum(len(module(crate, name).definitions[item].lines) for crate, name, item in definitions)
+        row = [len(files), lines, len(definitions), needed]
+        totals = [total + more for total, more in zip(totals, row)]
+        rows.append((title, row))
+    yield "| Part | Files | Lines | Definitions | Their lines |\n|---|---|---|---|---|"
+    for title, row in [*rows, ("in all", totals)]:
+        yield f"| {title} | " + " | ".join(f"{count:,}" for count in row) + " |"
+
+
+def named_by_public(crate):
+    """The definitions that the public calls and types of a crate name: those that its lib.rt hands on."""
+    source = TOP / "crates" / crate / "src"
+    exports = EXPORT.findall((source / "lib.rt").read_text(encoding="utf-8")) if (source / "lib.rt").exists() else []
+    public = {name.strip() for several, one in exports for name in (several or one).split(",")}
+    found = set()
+    for path in source.rglob("*.rt"):
+        text, where = code(str(path.relative_to(TOP / "crates")))
+        for item in ITEM.finditer(text):
+            if {item[1], item[2]} & public:
+                found |= named_in(item[0], where)
+    return found
+
+
+def cell(definition):
+    """What a definition says, in one cell of a table."""
+    words = definition.says.split()
+    if not words:
+        return f"`{definition.type}`" if definition.type else ""
+    text = " ".join(words) if len(words) <= MOST_WORDS else " ".join(words[:MOST_WORDS - 1]) + " .."
+    return text.replace("|", "\\|")
+
+
+def crates():
+    """The crates in the order of crates.txt."""
+    for line in (TOP / "crates.txt").read_text(encoding="utf-8").splitlines():
+        if ":" in line and not line.startswith("#"):
+            yield line.split(":")[0].split()[0]
+
+
+def index():
+    """The index, as lines."""
+    headline = {definition for _, _, _, definitions in parts() for definition in definitions}
+    shown = {definition for crate in crates() for definition in named_by_public(crate)}
+    for crate in crates():
+        specs = TOP / "crates" / crate / "specs"
+        names = [path.relative_to(specs).with_suffix("") for path in sorted(specs.rglob("*.antt")) if path.stem != "Lib"]
+        if names:
+            yield f"\n### {crate}"
+        for path in names:
+            name = ".".join(path.parts)
+            where = module(crate, name)
+            rows = [(item, found) for item, found in where.definitions.items() if (crate, name, item) in shown]
+            yield f"\n[{path}](../../crates/{crate}/specs/{path}.antt): {where.lines[0].removeprefix('--').strip()}"
+            if rows:
+                yield "\n| Definition | Says |\n|---|---|"
+            for item, found in rows:
+                yield f"| {f'**`{item}`**' if (crate, name, item) in headline else f'`{item}`'} | {cell(found)} |"
+
+
+def page():
+    """The page as it has to be."""
+    return HEAD + "\n".join(counts()) + "\n" + INDEX + "\n".join(index()) + "\n"
+
+
+def listed(heading):
+    """The files that theorem.md has in the section of a heading."""
+    text = (PAGES / "theorem.md").read_text(encoding="utf-8")
+    section = re.split(r"^#{2,3} ", text.partition(heading + "\n")[2], maxsplit=1, flags=re.MULTILINE)[0]
+    return {(crate, name.replace("/", ".")) for crate, name in ROW.findall(section)}
+
+
+def table_faults():
+    """What differs in the tables of theorem.md."""
+    for title, heading, files, _ in parts():
+        there = listed(heading) if heading else set()
+        for crate, name in sorted(files - there):
+            yield f"docs/internals/theorem.md: {crate}/specs/{name.replace('.', '/')} isn't in the table of {title}"
+        for crate, name in sorted(there - files):
+            yield f"docs/internals/theorem.md: no contract of {title} leads to {crate}/specs/{name.replace('.', '/')}"
+
+
+def name_faults():
+    """What contracts.md names and no crate has, and the crates of which architecture.md says nothing."""
+    edits = {path.stem for path in (TOP / "crates").glob("*/*/*.edit")}
+    calls = {name for path in (TOP / "crates").glob("*/src/**/*.rt") for name in CALL.findall(path.read_text(encoding="utf-8"))}
+    for line in (PAGES / "contracts.md").read_text(encoding="utf-8").partition("\n## Tested")[0].splitlines():
+        if line.startswith("|"):
+            _, call, *edit = line.strip("|").split("|")
+            named = [name for path in re.findall(r"`([\w:]+)`", call) for name in path.split("::")]
+            yield from (f"docs/internals/contracts.md: no crate has the call {name}" for name in named if name not in calls)
+            named = re.findall(r"`(\w+)`", "".join(edit))
+            yield from (f"docs/internals/contracts.md: no crate has the edit {name}" for name in named if name not in edits)
+    known = set(re.findall(r"\bir_\w+", (PAGES / "architecture.md").read_text(encoding="utf-8")))
+    yield from (f"docs/internals/architecture.md: says nothing of {crate}" for crate in crates() if crate not in known)
+
+
+def faults():
+    """What differs on the pages, a line each."""
+    if not PAGE.exists() or PAGE.read_text(encoding="utf-8") != page():
+        yield f"{PAGE.relative_to(TOP)}: isn't what specs/ says: run python3 scripts/definitions.py"
+    yield from table_faults()
+    yield from name_faults()
+
+
+def main():
+    if sys.argv[1:] == ["--check"]:
+        found = list(faults())
+        print("\n".join(found) or "definitions: the pages are as specs/ and the contracts say")
+        return 1 if found else 0
+    if sys.argv[1:]:
+        print(__doc__)
+        return 2
+    PAGE.write_text(page(), encoding="utf-8")
+    return 0
+
+
+if __name__ == "__main__":
+    sys.exit(main())
