@@ -1,12 +1,12 @@
 # The commands of the repository. Each needs the Rattle kit's `rt` and Python 3, and nothing else, but for the tests of the built program.
 
-.PHONY: all try run test edits program-test refuse mutate bench
+.PHONY: all try run check test edits program-test refuse mutate bench
 
 all: ir
 
 SOURCES := crates.txt $(shell find crates -name out -prune -o -type f -name '*.rt' -print -o -type f -name '*.antt' -print)
 
-# Proves and builds the program, where it isn't built of these sources yet.
+# Proves and builds the program, unless it is built of these sources already.
 ir: $(SOURCES)
 	python3 scripts/prove.py ir_cli
 	cd crates/ir_cli && rt run < stdin > out.txt && cmp out.txt stdout && rm out.txt
@@ -17,9 +17,14 @@ ir: $(SOURCES)
 try:
 	python3 scripts/try_unproved.py
 
-# A first session, by the program where it is built, and else by a build that isn't proved.
+# A first session, by the program if it is built, else by a build that isn't proved.
 run:
 	@if [ -x ir ]; then ./ir < crates/ir_cli/stdin; else python3 scripts/try_unproved.py; fi
+
+# The quick test: the layout and the pages, and the program as a person runs it, if it is built.
+check:
+	python3 scripts/rooms.py
+	@if [ -x ir ]; then python3 tests/program.py ./ir; else echo "./ir isn't built, so its tests aren't run; \`make\` builds it"; fi
 
 # The merge gate: the rooms of the crates, and then every proof from nothing, must-fail edits, tests, programs.
 test:
@@ -32,7 +37,7 @@ edits: ir
 
 # The program as a person runs it: devices, pipes, signals, the commands of README, guide and examples. Needs Linux, bash and xxd beside.
 program-test: ir
-	python3 scripts/program_test.py ./ir
+	python3 tests/program.py ./ir
 
 # The tests of sessions as a program, of which those about memory are run here. Proves them too.
 TESTS := crates/ir_session_tests/out/ir_session_tests_tests
@@ -43,15 +48,15 @@ $(TESTS): $(SOURCES)
 
 # Each request for memory refused in turn, on the built program and in those tests. Needs Linux and a C compiler beside.
 refuse: ir $(TESTS)
-	python3 scripts/refuse.py ./ir --tests $(TESTS)
+	python3 tests/refused_memory.py ./ir --tests $(TESTS)
 
 # Images and traces that were cut or changed, opened by the program. Needs Linux and a C compiler beside.
 mutate: ir
-	python3 scripts/mutate.py ./ir
+	python3 tests/damaged_files.py ./ir
 
-# Host instructions of each operation of a guest, where valgrind is installed; millions of instructions per second, and the assembler's lines.
+# Host instructions of each operation of a guest, if valgrind is installed; millions of instructions per second, and the assembler's lines.
 bench: ir
-	python3 scripts/instructions.py ./ir
+	python3 bench/instructions.py ./ir
 	python3 scripts/prove.py ir_bench
 	cd crates/ir_bench && rt run < stdin > out.txt && rm out.txt
-	python3 scripts/bench.py ./ir crates/ir_bench/out/ir_bench
+	python3 bench/speed.py ./ir crates/ir_bench/out/ir_bench

@@ -5,8 +5,8 @@ python3 scripts/rooms.py
 
 Of another crate's proofs a file may cite what its `proofs/CallerLemmas.antt` offers, and nothing else; no other module
 of `proofs/` is public; a crate stands in crates.txt on each crate that its files name; the texts of ir_tests'
-`examples.rt` are those of the files of `examples`, since a test can read no file; and each edit of `must-fail/` and `edits/`
-applies, has no line that isn't read, and writes no name that its file doesn't have.
+`examples.rt` are those of the files of `examples`, since a test can read no file; the manual page and docs/reference agree with the texts of
+`--help`; and each edit of `must-fail/` and `edits/` applies, has no line that isn't read, and writes no name that its file doesn't have.
 """
 import re
 import sys
@@ -14,6 +14,7 @@ from pathlib import Path
 
 import definitions
 from edits import BadEdit, applied, pairs_of
+from man_page import differences
 
 TOP = Path(__file__).resolve().parent.parent
 CITED = re.compile(r"\bRattle\.(ir_\w+)\.proofs\.(\w+)")
@@ -113,8 +114,8 @@ def bad_edits():
 
 
 def main():
-    found = [*faults(), *examples(), *bad_edits(), *definitions.faults()]
-    print("\n".join(found) or "rooms: each crate cites what the others offer; the examples are as ir_tests has them; the edits apply")
+    found = [*faults(), *examples(), *differences(), *bad_edits(), *definitions.faults()]
+    print("\n".join(found) or "rooms: each crate cites what the others offer; examples, help and definitions agree with the pages; the edits apply")
     return 1 if found else 0
 
 

@@ -14,13 +14,13 @@ pub const ASM_AFTER: &str =
     "A source is lines: labels `name:` of at most 64 characters, then an instruction of RV32IM or a directive, then a comment from
 `#` on.
 Directives:
-  .large             stands before every other statement: more threads, objects and words of objects, and an image IRI2
-  .text, .data       the section from here on; a source begins in text. Code stands at 0x00010000, data at 0x00100000, where
-                     each thread's own memory of 65,536 bytes begins with them; sp is 0x00110000 at its start
+  .large             comes before every other statement: more threads, objects and words of objects, and an image IRI2
+  .text, .data       the section from here on; a source begins in text. Code begins at 0x00010000. Data begins at 0x00100000,
+                     as does each thread's own memory of 65,536 bytes; sp is 0x00110000 at a thread's start
   .word V, ..        words, in text or data; V from -2147483648 to 4294967295
   .byte V, ..        bytes, in data; V from 0 to 255
   .space N           N zero bytes, in data, at most 65536
-  .thread LABEL      the next thread's entry, at most 8, or 16 with .large; without any one thread starts where the text does
+  .thread LABEL      the next thread's entry, at most 8, or 16 with .large; without it one thread starts where the text does
   .objects N         the number of shared objects, at most 16, or 64 with .large
   .object O, V, ..   the first words of object O, at most 8, or 16 with .large
 Instructions, a form a line; TARGET is a label, `.+N` or `.-N`, and V a number, decimal or `0x` and hexadecimal digits:
@@ -38,19 +38,19 @@ Instructions, a form a line; TARGET is a label, `.+N` or `.-N`, and V a number, 
 Registers are x0 to x31, or zero, ra, sp, gp, tp, t0 to t6, s0 (fp) to s11, a0 to a7.
 Calls, made by `ecall` with the number in a7, 13 under `--profile 2` alone; one without an answer keeps all registers:
    1  END          a0 code                        the thread ends
-   2  PUTC         a0                             its low byte is put out
-   3  PUTN         a0                             put out in decimal, with its sign, and a line feed
+   2  PUTC         a0                             prints its low byte
+   3  PUTN         a0                             prints it in decimal, with its sign, and a line feed
    4  CLOCK                                       answers the time in a0
    5  RANDOM                                      answers a random word in a0
    6  INPUT                                       answers the next byte in a0, 0xFFFFFFFF at the end
-   7  ENTER_READ   a0 object                      waits while another is inside for writing
-   8  ENTER_WRITE  a0 object                      waits while another is inside
-   9  LEAVE        a0 object                      the thread is no longer inside
+   7  ENTER_READ   a0 object                      waits while another thread holds it for writing
+   8  ENTER_WRITE  a0 object                      waits while another thread holds it
+   9  LEAVE        a0 object                      the thread no longer holds it
   10  GET          a0 object, a1 index            answers the object's word in a0
   11  PUT          a0 object, a1 index, a2 word   writes the object's word
   12  SELF                                        answers the thread's number in a0
-  13  TRY_WRITE    a0 object                      never waits: answers 1 in a0, and is inside for writing, or 0
-A fault is emitted on standard error as `line L error C`, C being
+  13  TRY_WRITE    a0 object                      never waits: answers 1 in a0, and holds it for writing, or 0
+A fault is reported on standard error as `line L error C`, C being
    1 a byte that a source may not hold        7 an undefined label
    2 an unknown instruction or directive      8 a label that is too far away
    3 a wrong number or form of operands       9 a statement or label of the wrong section, or `.large` after a statement
@@ -58,7 +58,7 @@ A fault is emitted on standard error as `line L error C`, C being
    5 a malformed number or one out of range  11 too many threads, or no such object
    6 a label defined twice                   12 a malformed label
 With --explain, and at a terminal without it, a line `SOURCE:L: CAUSE: TEXT` follows: the file, the line's number, the cause
-in words as above, and the line's first 200 bytes, a tab as a space and what isn't printable as `?`.
+in words as above, and the line's first 200 bytes. A tab is shown as a space, and what isn't printable as `?`.
 Exit status: 0 assembled, 1 a file that can't be read or written, 2 bad arguments, 3 a fault of the source.
 ";
 

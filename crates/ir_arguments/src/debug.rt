@@ -9,43 +9,43 @@ use std::alloc::{AllocError, Global};
 /// last is before the line that begins with `Numbers`.
 pub const DEBUG_AFTER: &str =
     "The session opens with `ready`, or with what is wrong with IMAGE or TRACE, and reads no line then. Then each line of
-standard input is a command, and is answered before the next is read. A position is a number of steps of a thread; the
-threads stand at a cut, a position for each, at which all that their steps need of other threads has been done.
+standard input is a command, and is answered before the next is read. Each thread has a position, the number of steps that
+it has taken. A cut is a position for each thread. A command that moves one thread moves the others only as far as it must.
   step T N      N steps of thread T forwards, the others no further than these need
   back T N      N steps of thread T backwards, the others no further than must be
   goto T K      thread T to position K, forwards or backwards
-  cont T        thread T forwards to the first position at which a point hits it, or to its last
+  cont T        thread T forwards to the first position at which a point hits it, or to its last position
   rcont T       thread T backwards to the last position at which a point hits it, or to 0
   start         all threads to position 0
   end           all threads to their last positions
   pos           the position of each thread
   break T A     sets a breakpoint: hits thread T before the instruction at address A of the code
-  watch T A     sets a watchpoint: hits thread T behind a step that changes the word at address A of its memory
-  owatch O      sets an object's watchpoint: hits a thread behind its step that leaves object O after writing
-  clear N       takes point N away; the three above answer `point N`, the next number from 1 on, and 64 may be set
+  watch T A     sets a watchpoint: hits thread T after a step that changes the word at address A of its memory
+  owatch O      sets an object's watchpoint: hits a thread after its step that leaves object O after writing
+  clear N       removes point N; the three above answer `point N`, the next number from 1 on, and 64 may be set
   regs T        pc and registers of thread T
   mem T A N     N bytes, 1 to 256, from address A on, of the code or of thread T's memory
-  obj O         object O: its version, who is inside, its words
-  out T         what thread T has put out
+  obj O         object O: its version, which threads hold it, its words
+  out T         what thread T has printed
   log T         the events that thread T has logged so far
   next T        the next step of thread T
-  keep          keeps the cut, by the next number from 1 on; 64 are kept beside the start, which is 0
+  keep          keeps the cut, with the next number from 1 on; at most 64 are kept, and the start, which is 0
   load N        all threads to the kept cut N
-  drop N        keeps the cut N no longer
+  drop N        removes the kept cut N
   kept          each number, and the positions of its cut
   quit          ends the session
-Numbers are decimal, or `0x` and hexadecimal digits. A move answers `at` and the positions, one of thread T then `hit N` where
-point N stopped it, `end` where it is at its last position and `start` where it is at 0. A line that can't be carried out is
-answered `refused R` and why, and changes nothing. At a terminal standard error prompts for each line, and says after a refused
-one what was wanted; `help` lists the commands there.
+Numbers are decimal, or `0x` and hexadecimal digits. A move answers `at` and the positions. A move of thread T then answers
+`hit N` if point N stopped it, `end` if it is at its last position, and `start` if it is at 0. A line that can't be carried
+out is answered `refused R` and why, and changes nothing. At a terminal standard error prompts for each line, and after a
+refused one it says what was wanted; `help` lists the commands there.
 What a session opens with instead of `ready`:
   image refused N           1 cut short, 2 no image, 3 a number over its limit, 4 an entry outside the code, 5 bytes left over
   trace refused N           1 cut short, 2 no trace, 3 a number over its limit, 4 an unknown event, 5 reserved bytes that aren't 0,
                             6 an end, a code or an input out of its range, 7 bytes left over
   header differs C          1 another number of threads than the image has, 2 of objects
   incoherent thread T event E cause C
-                            event E of thread T is an entry at a version that 1 nobody made, 2 another write entry has too,
-                            3 had another number of readers
+                            event E of thread T is an entry at a version that 1 no write entry made, 2 another write entry has
+                            too, 3 had another number of readers
   thread T disagrees event E step S
                             step S of thread T isn't what the trace has, E being the next event of its log
   thread T starves event E  event E of thread T is an entry whose version or readers never come

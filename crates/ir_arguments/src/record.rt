@@ -28,33 +28,33 @@ const STATUS: &str = "status";
 
 /// What follows the help of `ir record`.
 pub const RECORD_AFTER: &str =
-    "Without LIST each thread of the guest runs on a thread of its own, and TRACE is of the run that came about. Recordings
-of one guest, with the same arguments, may differ in who enters an object first, in what CLOCK answers, and in what follows
-from these; else not. A thread that waits for an object takes no step, and the budget doesn't end it; it goes on once
-those inside have left or ended, which the budget sees to. At a terminal standard error shows the steps so far, once a
-second. Ctrl-C stops a recording, and TRACE stays as it was.
-With LIST all run on one thread, and recordings don't differ. LIST is items joined by commas: `T`, one step of thread T;
-or `TxN`, N steps of it, N from 1 to 1000000. An entry of a thread that is done or must wait takes no step. After the
-list, rounds over the threads from 0 on take one step of each that has one, until all are done. 1x18 lets thread 1 take
-18 steps before thread 0 takes its first; 0x10 is ten steps of thread 0, and no hexadecimal number. A line may end LISTFILE.
-A guest that polls, which enters an object again and again until a word there changes, may take hundreds of turns before the
+    "Without LIST each thread of the guest runs on a thread of its own, and TRACE is of the run that came about. Recordings of
+one guest, with the same arguments, may differ in which thread enters an object first, in what CLOCK answers, and in what
+follows from these. They don't differ otherwise. A thread that waits for an object takes no step, and the budget doesn't end
+it. It continues when the threads that hold the object have left or ended, which their budgets see to. At a terminal standard
+error shows the steps so far, once a second. Ctrl-C stops a recording, and TRACE stays as it was.
+With LIST all run on one thread, and recordings don't differ. LIST is items joined by commas: `T` is one step of thread T,
+and `TxN` is N steps of it, N from 1 to 1000000. A turn of a thread that is done or must wait takes no step. After the list,
+rounds over the threads from 0 on take one step of each that has one, until all are done. 1x18 lets thread 1 take 18 steps
+before thread 0 takes its first. 0x10 is ten steps of thread 0, and no hexadecimal number. A line feed may end LISTFILE.
+A guest that polls enters an object again and again until a word there changes. It may take hundreds of turns before the
 thread that changes the word gets in. It then ends by 13, its budget spent, though nothing is stuck: give a larger B, or LIST.
 CLOCK gives milliseconds since the start, modulo 2^32; with LIST it counts its own calls from 0, in each thread.
-RANDOM gives PCG32's words, started by S plus the thread's number; each thread reads its own copy of FILE, of at most
+RANDOM gives PCG32's words, started by S plus the thread's number. Each thread reads its own copy of FILE, of at most
 1048576 bytes, or nothing. TRACE is written to a new file, TRACE.part, which is renamed once it is whole.
-With P 2 guests may call TRY_WRITE too, call 13, and TRACE is of the second form, IRT2; with 1 it is an unknown call, TRACE
-is IRT1, and a guest has at most 8 threads and 16 objects. A try is answered 0 where another thread is inside, and may be
-where none is; with LIST it isn't then.
-With PREFIX what thread T printed is then written to PREFIX.T, which is empty where it printed nothing, before the lines.
+With P 2 guests may call TRY_WRITE too, call 13, and TRACE is of the second form, IRT2. With P 1 it is an unknown call, TRACE
+is an IRT1, and a guest has at most 8 threads and 16 objects. A try is answered 0 if another thread holds the object. It may
+also be answered 0 if none does, but not with LIST.
+With PREFIX what thread T printed is then written to PREFIX.T, before the lines. The file is empty if T printed nothing.
 A line is `thread T end E code C steps S events N`; the ends E are
    1 END                   6 a bad load              11 an object that isn't held
    2 EBREAK                7 a bad store             12 too much output
    3 no instruction        8 an unknown call         13 the budget is spent
    4 a misaligned jump     9 no such object          14 too many events
    5 outside the code     10 an entry out of order
-At a terminal standard error says in words how a thread ended, where that wasn't END with code 0.
+At a terminal standard error says in words how a thread ended, unless it was by END with code 0.
 Exit status: 0 recorded, 1 a file that can't be read or written or is too long, 2 bad arguments, 3 a refused image or LIST,
-or a guest with more threads or objects than P allows; with --status 5 where it is recorded, and a thread doesn't end by END
+or a guest with more threads or objects than P allows; with --status 5 if it is recorded, and a thread doesn't end by END
 with code 0: `until ! ir record --status IMAGE TRACE; do :; done` records until one doesn't.
 ";
 
@@ -159,7 +159,7 @@ fn status_arg<'a>(alloc: Global) -> Arg<'a> {
     Arg::new(alloc, STATUS)
         .long(STATUS)
         .action(ArgAction::SetTrue)
-        .help("Ends with exit status 5 where a thread doesn't end by END with code 0")
+        .help("Exits with status 5 if a thread doesn't end by END with code 0")
 }
 
 /// The command with its arguments.

@@ -7,16 +7,16 @@ use std::alloc::{AllocError, Global};
 
 /// What follows the help of `ir trace`.
 pub const TRACE_AFTER: &str =
-    "The first line is `threads N objects M budget B profile P`. Then come for each thread its line as `ir record` prints it, `thread T
-end E code C steps S events N`, and its events as `log T` of `ir debug` shows them at the thread's end: `log N of N`, and a
-line for each, with its number from 0 on:
+    "The first line is `threads N objects M budget B profile P`. Then comes for each thread its line as `ir record` prints it,
+`thread T end E code C steps S events N`. Its events follow, as `log T` of `ir debug` shows them at the thread's end:
+`log N of N`, and a line for each event, with its number from 0 on:
   I clock V                          CLOCK answered V
   I random V                         RANDOM answered V
   I input V                          INPUT answered V
   I read O version V                 entered object O for reading, at its version V
   I write O version V readers R      entered object O for writing, at its version V, after R readers of it
   I try O                            tried to enter object O for writing, and was refused
-A TRACE that is none is refused by one line `trace refused N`, as `ir debug` refuses it.
+If TRACE is no trace, the one line is `trace refused N`, as `ir debug` has it.
 Exit status: 0 printed, 1 a file that can't be read or standard output that can't be written, 2 bad arguments,
 3 a refused trace.
 ";

@@ -1,4 +1,4 @@
-//! What holds whichever request for memory is refused. `scripts/refuse.py` refuses each in turn.
+//! What holds whichever request for memory is refused. `tests/refused_memory.py` refuses each in turn.
 
 ghost use Rattle.std.specs.Prelude.{◌≡◌, ◌≤◌, ℕ, length, map, IfOk};
 ghost use Rattle.ir_cut.specs.Positions.{IsConsistentCut, cut_of};

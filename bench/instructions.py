@@ -1,13 +1,13 @@
 #!/usr/bin/env python3
 """Counts the host instructions that each operation of a guest costs, by valgrind's callgrind.
 
-python3 scripts/instructions.py IR [--jobs N]
+python3 bench/instructions.py IR [--jobs N]
 
-A guest is one thread with a loop around the operation. It is run with so many turns and with twice as many, and the
+A guest is one thread with a loop around the operation. It is run with n turns and with 2n turns, and the
 difference, without that of an empty loop, is the operation's cost, so that the figures repeat to the last digit for
 the same program. What sets a call's arguments counts with the call, at the cost of plain instructions. Prints a
 table: a row for each operation; a column for recording in order, recording by threads, fitting, and moving to the end.
-Says so where valgrind isn't installed, and then ends with status 0.
+If valgrind isn't installed it says so, and ends with status 0.
 """
 import argparse
 import os
@@ -93,7 +93,7 @@ def table(program, jobs):
 def main():
     parser = argparse.ArgumentParser(description=__doc__.splitlines()[0])
     parser.add_argument("program", metavar="IR", type=Path, help="the built program")
-    parser.add_argument("--jobs", type=int, default=len(os.sched_getaffinity(0)), help="commands at once")
+    parser.add_argument("--jobs", type=int, default=len(os.sched_getaffinity(0)), help="how many commands at the same time")
     arguments = parser.parse_args()
     if not shutil.which("valgrind"):
         print("host instructions aren't counted: valgrind isn't installed")

@@ -1,15 +1,18 @@
 #!/usr/bin/env python3
-"""Images and traces that were cut or changed, opened by the program: each is refused, doesn't fit, or is served, and nothing else happens.
+"""Images and traces that were cut or changed, opened by the program: each is refused, doesn't fit, or opens, and nothing else happens.
 
-    python3 scripts/mutate.py ./ir [--few] [--count N] [--seed S] [--jobs J]
+python3 tests/damaged_files.py IR [--few] [--count N] [--seed S] [--jobs J]
 
-Every proper prefix of each image and trace (of `examples`, and of guests of one to three threads below), each other value of each of their bytes
-(with `--few` ten of the 255), and N random mutations of the traces of three threads (100,000 where none is given), each in a session of a few
-commands. A run may take 1 GiB of address space and 20 seconds of a processor. Then counts and lengths that aren't borne out, of which each is
-told beside the most memory that was asked for at once: no more than without the count. Needs Linux and a C compiler (`cc`), for a library that
-counts the memory. The last line is `N passed, M failed`.
+It tries these, each in a session of a few commands:
+
+- every proper prefix of each image and trace, of `examples` and of guests of one to three threads below;
+- each other value of each of their bytes, or with `--few` ten of the 255;
+- N random mutations of the traces of three threads, 100,000 if none is given.
+
+A run may take 1 GiB of address space and 20 seconds of a processor. Then come counts and lengths that the bytes don't bear out. Each is
+reported with the most memory that was held at any one time: no more than without the count. Needs Linux and a C compiler (`cc`), for
+counting.c. The last line is `N passed, M failed`.
 """
-import argparse
 import collections
 import concurrent.futures
 import itertools
@@ -17,17 +20,12 @@ import os
 import random
 import re
 import resource
-import shlex
 import subprocess
 import sys
 import tempfile
 from pathlib import Path
 
-from program_test import DOUBLE, counters
-from refuse import REENTERED, STORES
-
-ROOT = Path(__file__).resolve().parent.parent
-PROGRAM = ""
+from lib import DOUBLE, REENTERED, STORES, assembled, counters, examples, finish, library, parser_of, program, recorded, use
 
 COMMANDS = b"pos\nend\nlog 0\nnext 0\nback 0 1\nregs 0\nrcont 0\nkeep\nload 1\nquit\n"
 MOST_MEMORY = 1 << 30
@@ -79,7 +77,7 @@ second: addi a7, zero, 4
         ebreak
 """
 
-# Ends inside an object, whose first word it has changed.
+# Ends while it holds an object, whose first word it has changed.
 BROKEN_INSIDE = "        .objects 1\n        addi a0, zero, 0\n        addi a7, zero, 8\n        ecall\n        addi a1, zero, 0\n" + """
         addi a2, zero, 7
         addi a7, zero, 11
@@ -121,7 +119,7 @@ writer: addi a0, zero, 0
         ecall
 """
 
-# One thread tries to enter an object while the other is inside, and once more when it has left.
+# One thread tries to enter an object while the other holds it, and once more when it has left.
 TRYING = """
         .objects 1
         .thread writer
@@ -146,7 +144,7 @@ other:  addi a0, zero, 0
 GUESTS = (
     ("doubled", DOUBLE, "0", 1000),
     ("doubled_short", DOUBLE, "0", 2),
-    ("two_counters", counters((ROOT / "examples" / "counter.s").read_text(), 2), "1x18", 1000),
+    ("two_counters", counters(2), "1x18", 1000),
     ("reentered", REENTERED, "0", 1000),
     ("stores", STORES, "0", 1000),
     ("broken_inside", BROKEN_INSIDE, "0", 1000),
@@ -154,7 +152,7 @@ GUESTS = (
     ("readers", READERS, "0,1", 1000),
     ("readers_and_writer", READERS_AND_WRITER, "0x7,1x7", 1000),
     ("trying", TRYING, "0x3,1x3,0x3,1", 1000),
-    ("sixteen_counters", ".large\n" + counters((ROOT / "examples" / "counter.s").read_text(), 16), "15x18,3x2", 1000),
+    ("sixteen_counters", ".large\n" + counters(16), "15x18,3x2", 1000),
 )
 
 # The orders in which the three are recorded.
@@ -186,11 +184,11 @@ def typed_of(image, trace):
 
 def session(image, trace):
     """The end of a session over both, and what it wrote."""
-    return limited([PROGRAM], typed_of(image, trace))
+    return limited([program()], typed_of(image, trace))
 
 
 def outcome(ended):
-    """What became of them; none, where it is nothing that may."""
+    """What became of them; none if that isn't allowed."""
     out = ended.stdout
     if ended.stderr:
         return None
@@ -213,40 +211,22 @@ def judge(case):
         return None, f"{what}: no end in 120 seconds"
     found = outcome(ended)
     if found is None or (want and ended.stdout != want):
-        told = f"{what}: status {ended.returncode}, {ended.stdout[:200]!r}, {ended.stderr[:200]!r}"
-        return None, f"{told}: image {image.hex()} trace {trace.hex()}"
+        report = f"{what}: status {ended.returncode}, {ended.stdout[:200]!r}, {ended.stderr[:200]!r}"
+        return None, f"{report}: image {image.hex()} trace {trace.hex()}"
     return found, ""
 
 
-def assembled(folder, name, source):
-    """The image of a source."""
-    (folder / f"{name}.s").write_text(source)
-    subprocess.run([PROGRAM, "asm", f"{name}.s", f"{name}.img"], cwd=folder, check=True)
-    return (folder / f"{name}.img").read_bytes()
-
-
-def profile_of(source):
-    """The profile of system calls in which a guest is recorded."""
-    return 2 if "TRY_WRITE" in source or ".large" in source else 1
-
-
-def recorded(folder, name, order, budget=1_000_000):
-    """The trace of an image's guest by an order."""
-    profile = profile_of((folder / f"{name}.s").read_text())
-    words = shlex.split(f"record {name}.img {name}.trc --order {order} --budget {budget} --input input --profile {profile}")
-    subprocess.run([PROGRAM, *words], cwd=folder, check=True, stdout=subprocess.DEVNULL)
-    return (folder / f"{name}.trc").read_bytes()
+def pair(folder, name, source, order, budget=1_000_000):
+    """The image of a source, and the trace of its recording."""
+    return assembled(folder, name, source), recorded(folder, name, order, budget, ("--input", "input"))
 
 
 def pairs(folder):
     """Images with traces, and of the three threads all traces."""
-    found = []
-    for path in sorted((ROOT / "examples").glob("*.s")):
-        found.append((path.stem, assembled(folder, path.stem, path.read_text()), recorded(folder, path.stem, "0")))
-    for name, source, order, budget in GUESTS:
-        found.append((name, assembled(folder, name, source), recorded(folder, name, order, budget)))
-    image = assembled(folder, "three", THREE)
-    return found, image, [recorded(folder, "three", order) for order in ORDERS]
+    found = [(name, *pair(folder, name, source, "0")) for name, source in examples().items()]
+    found += [(name, *pair(folder, name, source, order, budget)) for name, source, order, budget in GUESTS]
+    threes = [pair(folder, "three", THREE, order) for order in ORDERS]
+    return found, threes[0][0], [trace for _, trace in threes]
 
 
 def changed(bytes_, few):
@@ -306,45 +286,12 @@ def all_cases(folder, count, seed, few):
         yield f"mutation {number} of seed {seed}", image, trace, b""
 
 
-# Keeps the most bytes that were asked for at once in a file of eight bytes.
-COUNTING = r"""
-#include <malloc.h>
-#include <stdlib.h>
-#include <sys/mman.h>
-extern void *__libc_malloc(size_t), *__libc_calloc(size_t, size_t), *__libc_realloc(void *, size_t), *__libc_memalign(size_t, size_t);
-extern void __libc_free(void *);
-static long now, unkept, *most = &unkept;
-__attribute__((constructor)) static void begin(void) {
-    void *kept = mmap(NULL, sizeof(long), PROT_READ | PROT_WRITE, MAP_SHARED, atoi(getenv("COUNTED")), 0);
-    if (kept == MAP_FAILED) abort();
-    most = kept;
-}
-static void *taken(void *p) {
-    long all = __atomic_add_fetch(&now, p ? malloc_usable_size(p) : 0, __ATOMIC_SEQ_CST), seen = *most;
-    while (all > seen && !__atomic_compare_exchange_n(most, &seen, all, 0, __ATOMIC_SEQ_CST, __ATOMIC_SEQ_CST)) {}
-    return p;
-}
-static void given(void *p) { __atomic_sub_fetch(&now, p ? malloc_usable_size(p) : 0, __ATOMIC_SEQ_CST); }
-void *malloc(size_t n) { return taken(__libc_malloc(n)); }
-void *calloc(size_t n, size_t m) { return taken(__libc_calloc(n, m)); }
-void *realloc(void *p, size_t n) {
-    given(p);
-    void *q = __libc_realloc(p, n);
-    return taken(q ? q : n ? p : q);
-}
-void *aligned_alloc(size_t a, size_t n) { return taken(__libc_memalign(a, n)); }
-void *memalign(size_t a, size_t n) { return taken(__libc_memalign(a, n)); }
-int posix_memalign(void **p, size_t a, size_t n) { return (*p = taken(__libc_memalign(a, n))) ? 0 : 12; }
-void free(void *p) { given(p); __libc_free(p); }
-"""
-
-
-def measured(library, words, typed, folder):
-    """The end of a run, and the most bytes that it asked for at once."""
+def measured(counting, words, typed, folder):
+    """The end of a run, and the most bytes that it held at any one time."""
     with tempfile.TemporaryFile() as counted:
         counted.write(bytes(8))
         counted.flush()
-        more = {"LD_PRELOAD": library, "COUNTED": str(counted.fileno())}
+        more = {"LD_PRELOAD": counting, "COUNTED": str(counted.fileno())}
         ended = limited(words, typed, cwd=folder, env=os.environ | more, pass_fds=(counted.fileno(),))
         counted.seek(0)
         return ended, int.from_bytes(counted.read(8), sys.byteorder)
@@ -370,12 +317,11 @@ def counts(image):
 
 def unborne(folder):
     """Counts and lengths that the bytes don't bear: what was wrong of each. A line of each is printed."""
-    library = f"{folder}/counting.so"
-    subprocess.run(["cc", "-O2", "-shared", "-fPIC", "-x", "c", "-", "-o", library], input=COUNTING.encode(), check=True)
-    image, trace = assembled(folder, "hello", (ROOT / "examples" / "hello.s").read_text()), recorded(folder, "hello", "0")
+    counting = library(folder, "counting")
+    image, trace = pair(folder, "hello", examples()["hello"], "0")
     for what, large_image, large_trace, least_image, least_trace, want in counts(image):
-        ended, most = measured(library, [PROGRAM], typed_of(large_image, large_trace), folder)
-        _, least = measured(library, [PROGRAM], typed_of(least_image, least_trace), folder)
+        ended, most = measured(counting, [program()], typed_of(large_image, large_trace), folder)
+        _, least = measured(counting, [program()], typed_of(least_image, least_trace), folder)
         print(f"{what}: {most} bytes at most, {least} with the least count", flush=True)
         is_wanted = (ended.returncode, ended.stdout, ended.stderr) == (3, want, b"") and 0 < most <= least
         yield "" if is_wanted else f"{what}: {ended.returncode} {ended.stdout[:200]!r} {ended.stderr[:200]!r}, {most} bytes, not {least}"
@@ -384,14 +330,14 @@ def unborne(folder):
         ("a trace, and zeros up to 200,000,000 bytes", trace + bytes(200_000_000 - len(trace)), b"trace refused 7\n"),
     ):
         (folder / "long.trc").write_bytes(long)
-        ended, most = measured(library, [PROGRAM, "debug", "hello.img", "long.trc"], COMMANDS, folder)
+        ended, most = measured(counting, [program(), "debug", "hello.img", "long.trc"], COMMANDS, folder)
         print(f"{what}: {most} bytes at most", flush=True)
         is_wanted = (ended.returncode, ended.stdout, ended.stderr) == (3, want, b"") and len(long) <= most <= 3 * len(long)
         yield "" if is_wanted else f"{what}: {ended.returncode} {ended.stdout[:200]!r} {ended.stderr[:200]!r}, {most} bytes"
 
 
 def judged(cases, jobs):
-    """What became of each case and what was wrong with it, ten thousand at a time, after which it is told how far it is."""
+    """What became of each case and what was wrong with it, ten thousand at a time; after each it reports how far it is."""
     count = 0
     with concurrent.futures.ProcessPoolExecutor(jobs) as pool:
         while batch := list(itertools.islice(cases, 10_000)):
@@ -401,15 +347,12 @@ def judged(cases, jobs):
 
 
 def main():
-    global PROGRAM
-    parser = argparse.ArgumentParser()
-    parser.add_argument("program")
-    parser.add_argument("--few", action="store_true")
-    parser.add_argument("--count", type=int, default=100_000)
-    parser.add_argument("--seed", type=int, default=1)
-    parser.add_argument("--jobs", type=int, default=len(os.sched_getaffinity(0)))
+    parser = parser_of(__doc__)
+    parser.add_argument("--few", action="store_true", help="ten of the 255 other values of each byte")
+    parser.add_argument("--count", type=int, default=100_000, help="how many random mutations")
+    parser.add_argument("--seed", type=int, default=1, help="where they start")
     words = parser.parse_args()
-    PROGRAM = os.path.abspath(words.program)
+    use(words.program)
     seen, faults = collections.Counter(), []
     with tempfile.TemporaryDirectory() as name:
         folder = Path(name)
@@ -423,8 +366,7 @@ def main():
     for fault in faults[:20]:
         print(fault)
     print(", ".join(f"{count} {what}" for what, count in sorted(seen.items(), key=str) if what))
-    print(f"{sum(seen.values()) - seen[None]} passed, {len(faults)} failed")
-    return bool(faults)
+    return finish(sum(seen.values()) - seen[None], len(faults))
 
 
 if __name__ == "__main__":

@@ -1,19 +1,24 @@
 #!/usr/bin/env python3
-"""Each request for memory refused in turn: the program goes on, or says so, and loses nothing.
+"""Each request for memory refused in turn: the program goes on, or reports it, and loses nothing.
 
-    python3 scripts/refuse.py ./ir [--tests crates/ir_session_tests/out/ir_session_tests_tests] [--jobs J]
+python3 tests/refused_memory.py IR [--tests crates/ir_session_tests/out/ir_session_tests_tests] [--jobs J]
 
-Each row below is run again and again, with its first request for memory refused, then its second, and so on until a run asks for no more; a
-thread that isn't started is among the requests. A command of a session answers as it does with ample memory, or, where it may, `refused 8 no
-memory`, after which position and kept cuts are as before and the same command answers as it would have; and so do points, which a second run
-of the session asks for by moves to their hits. A session that can't be opened writes nothing. `ir asm`, `ir record` and `ir trace` end as with
-ample memory, or with status 1 and a line that says why; then lines that are missing are the last, and a file that is there is whole. Where a
-thread isn't started all is as with ample memory. Then the same with all requests refused from that one on, where a session may go on to want
-for memory, and ends by `quit`. With `--tests`, a built program of tests, each of its `memory_tests` is walked too, which has to pass whichever
-request is refused. A line a row says how many refusals were tried, and what became of them; the last line is `N passed, M failed`. Needs Linux
-and a C compiler (`cc`), for a library that is loaded before the program.
+Each row below is run again and again. First its first request for memory is refused, then its second, and so on until a run makes no more
+requests. The start of a thread is a request too.
+
+- A command of a session answers as it does with ample memory or, if it may, `refused 8 no memory`. After that, position and kept cuts are as
+  before, and the same command answers as it would have. So are points: a second run of the session finds them by moves to their hits.
+- A session that can't be opened writes nothing.
+- `ir asm`, `ir record` and `ir trace` end as with ample memory, or with status 1 and a line that says why. Then only the last lines may be
+  missing, and a file that is there is whole.
+- If a thread isn't started, all is as with ample memory.
+
+Then the same with all requests refused from that one on. A session may then run out of memory again and again, and ends by `quit`. With
+`--tests`, a built program of tests, each of its `memory_tests` is run too, which has to pass whichever request is refused.
+
+A line for each row says how many refusals were tried, and what became of them. The last line is `N passed, M failed`. Needs Linux and a C
+compiler (`cc`), for refusing.c.
 """
-import argparse
 import collections
 import concurrent.futures
 import contextlib
@@ -23,60 +28,10 @@ import sys
 import tempfile
 from pathlib import Path
 
-from program_test import DOUBLE, counters
+from lib import (BAD, DOUBLE, REENTERED, STORES, Wrong, assembled, counters, examples, finish, library, parser_of, program, recorded, run,
+                 said, use)
 
-ROOT = Path(__file__).resolve().parent.parent
-PROGRAM = LIBRARY = ""
 TOO_LITTLE = b"refused 8 no memory\n"
-
-# Refuses one request for memory (m) or for a thread (t), the one of this number, and tells it by that byte on a descriptor; where it is to last,
-# all after it too.
-SOURCE = r"""
-#define _GNU_SOURCE
-#include <dlfcn.h>
-#include <errno.h>
-#include <pthread.h>
-#include <stdlib.h>
-#include <unistd.h>
-extern void *__libc_malloc(size_t), *__libc_calloc(size_t, size_t), *__libc_realloc(void *, size_t), *__libc_memalign(size_t, size_t);
-static long refuses, lasts, left, told;
-__attribute__((constructor)) static void begin(void) {
-    const char *number = getenv("REFUSED"), *descriptor = getenv("TOLD");
-    told = descriptor ? atol(descriptor) : 2;
-    left = number ? atol(number) : 0;
-    lasts = getenv("LASTS") != NULL;
-    refuses = left > 0;
-}
-static int refused(const char *kind) {
-    if (!refuses) return 0;
-    long now = __atomic_sub_fetch(&left, 1, __ATOMIC_SEQ_CST);
-    if (now > 0 || (now < 0 && !lasts)) return 0;
-    errno = ENOMEM;
-    return now < 0 || write(told, kind, 1) == 1;
-}
-void *malloc(size_t n) { return refused("m") ? NULL : __libc_malloc(n); }
-void *calloc(size_t n, size_t m) { return refused("m") ? NULL : __libc_calloc(n, m); }
-void *realloc(void *p, size_t n) { return refused("m") ? NULL : __libc_realloc(p, n); }
-void *aligned_alloc(size_t a, size_t n) { return refused("m") ? NULL : __libc_memalign(a, n); }
-void *memalign(size_t a, size_t n) { return refused("m") ? NULL : __libc_memalign(a, n); }
-int posix_memalign(void **p, size_t a, size_t n) {
-    *p = refused("m") ? NULL : __libc_memalign(a, n);
-    return *p ? 0 : ENOMEM;
-}
-int pthread_create(pthread_t *t, const pthread_attr_t *a, void *(*f)(void *), void *x) {
-    int (*next)(pthread_t *, const pthread_attr_t *, void *(*)(void *), void *) = dlsym(RTLD_NEXT, "pthread_create");
-    return refused("t") ? EAGAIN : next(t, a, f, x);
-}
-"""
-
-# Two stores of the same word, and an end.
-STORES = """
-        lui a0, 0x100
-        sw a0, 0(a0)
-        sw a0, 0(a0)
-        addi a7, zero, 1
-        ecall
-"""
 
 # Four million steps, which write four pages; the last two begin at 0x10028.
 LONG = """
@@ -94,10 +49,7 @@ again:  sub t3, t1, t2
         ecall
 """
 
-# An entry for reading, and then one for writing.
-REENTERED = "        .objects 1\n        addi a0, zero, 0\n" + "".join(f"        addi a7, zero, {call}\n        ecall\n" for call in (7, 9, 8, 9, 1))
-
-# Moves of each kind, some of them looked at at once: then what is shown takes no memory.
+# Moves of each kind. Some are looked at right after: then what is shown takes no memory.
 MOVES = ("step 0 3", "keep", "watch 0 0x100000", "break 0 0x10008", "end", "out 0", "rcont 0", "regs 0", "back 0 1", "regs 0", "kept", "load 1", "mem 0 0x10000 8",
          "cont 0", "log 0", "goto 0 1", "regs 0", "drop 1", "keep", "clear 1", "regs 0", "mem 0 0x10000 8", "out 0", "log 0", "next 0", "start",
          "regs 0", "load 9", "obj 0", "quit")
@@ -106,7 +58,7 @@ MOVES = ("step 0 3", "keep", "watch 0 0x100000", "break 0 0x10008", "end", "out 
 WANTING = {"step", "back", "goto", "start", "end", "cont", "rcont", "load", "keep", "next"}
 SHOWING = {"regs", "mem", "obj", "out", "log"}
 
-# Tells which points are set: where they hit, each one's number, and the number of the next.
+# Shows which points are set: their hits, each one's number, and the number of the next.
 POINTS = ("start", "cont 0", "cont 0", "cont 1", "end", "rcont 0", "rcont 1", "clear 1", "clear 2", "clear 3", "clear 4", "break 0 0x10000")
 
 # The sessions: a name, the guest, the order of its recording (none: by threads), the commands.
@@ -144,23 +96,22 @@ RUNS = (
 )
 
 
-class Wrong(Exception):
-    """What a run did that it may not."""
-
-
 class Refused:
-    """A run of a program whose request of this number is refused, and where that lasts all after it; none is, where it is 0."""
+    """A run of a program whose request of this number is refused, and if that lasts all after it; with 0 none is."""
 
-    def __init__(self, words, folder, number, lasts=False, program="", **streams):
-        self.reader, told = os.pipe()
+    # The library that refuses.
+    library = ""
+
+    def __init__(self, words, folder, number, lasts=False, other="", **streams):
+        self.reader, report = os.pipe()
         os.set_blocking(self.reader, False)
-        more = {"LD_PRELOAD": LIBRARY, "REFUSED": str(number), "TOLD": str(told)} | ({"LASTS": "1"} if lasts else {})
-        self.run = subprocess.Popen([program or PROGRAM, *words.split()], cwd=folder, env=os.environ | more, pass_fds=(told,),
+        more = {"LD_PRELOAD": Refused.library, "REFUSED": str(number), "TOLD": str(report)} | ({"LASTS": "1"} if lasts else {})
+        self.run = subprocess.Popen([other or program(), *words.split()], cwd=folder, env=os.environ | more, pass_fds=(report,),
                                     stdout=subprocess.PIPE, stderr=subprocess.PIPE, **streams)
-        os.close(told)
+        os.close(report)
 
     def ended(self):
-        """Its status, what it wrote and told since, and what was refused: memory (m), a thread (t), or nothing."""
+        """Its status, what it wrote since, and what was refused: memory (m), a thread (t), or nothing."""
         out, error = self.run.communicate(timeout=300)
         try:
             met = os.read(self.reader, 8).decode()
@@ -179,12 +130,6 @@ def ask(run, command):
     """Sends a command."""
     run.stdin.write(command.encode() + b"\n")
     run.stdin.flush()
-
-
-def said(folder, name, commands):
-    """What a session of these commands writes with ample memory."""
-    typed = "".join(f"{command}\n" for command in commands).encode()
-    return subprocess.run([PROGRAM, "debug", f"{name}.img", f"{name}.trc"], cwd=folder, input=typed, capture_output=True, timeout=300).stdout
 
 
 Asked = collections.namedtuple("Asked", "command answer here points may_want")
@@ -208,7 +153,7 @@ def answers_of(folder, name, commands):
 
 
 def is_opened(run):
-    """Whether a session is opened; where it isn't, it says so and writes nothing."""
+    """Whether a session is opened; if it isn't, it says so and writes nothing."""
     if run.run.stdout.readline() == b"ready\n":
         return True
     with contextlib.suppress(BrokenPipeError):
@@ -221,7 +166,7 @@ def is_opened(run):
 
 
 def compare(run, asked, commands, wanted):
-    """Asks for what a command that wanted for memory may not have changed."""
+    """Asks for what a command that ran out of memory may not have changed."""
     for command in commands:
         ask(run.run, command)
     found = lines_of(run.run, wanted.count(b"\n"))
@@ -230,7 +175,7 @@ def compare(run, asked, commands, wanted):
 
 
 def after_want(run, asked, how):
-    """What is asked after a command that wanted for memory: once the command again, then the points, and while it lasts the command and the end.
+    """What is asked after a command that ran out of memory: once the command again, then the points, and while it lasts the command and the end.
     Whether the session goes on."""
     if how == "once":
         compare(run, asked, ("pos", "kept", asked.command), asked.here + asked.answer)
@@ -250,7 +195,7 @@ def after_want(run, asked, how):
 
 
 def converse(run, found, how):
-    """Asks each command, as long as the session goes on. Whether one wanted for memory."""
+    """Asks each command, as long as the session goes on. Whether one ran out of memory."""
     wanted = False
     for asked in found:
         ask(run.run, asked.command)
@@ -267,14 +212,14 @@ def converse(run, found, how):
 
 
 def typed_before(folder, row):
-    """What is typed before the commands of a session: its image and its trace, or nothing where they are its arguments."""
+    """What is typed before the commands of a session: its image and its trace, or nothing if they are its arguments."""
     if not row[0].endswith("typed"):
         return b""
     return b"".join((folder / f"{row[1]}.{end}").read_bytes().hex().encode() + b"\n" for end in ("img", "trc"))
 
 
 def session(folder, row, found, number, how="once"):
-    """A session with one refusal: what was refused, and what became of it. Where one command wanted for memory, another that asks for the points;
+    """A session with one refusal: what was refused, and what became of it. If one command ran out of memory, another that asks for the points;
     then one in which the refusal lasts."""
     typed = typed_before(folder, row)
     words = "" if typed else f"debug {row[1]}.img {row[1]}.trc"
@@ -314,8 +259,7 @@ def whole(folder, words, files, number, lasts=False):
 def eight_counted(folder, trace):
     """Whether a trace of the eight threads is one of theirs."""
     (folder / "found.trc").write_bytes(trace)
-    again = subprocess.run([PROGRAM, "debug", "eight_counters.img", "found.trc"], cwd=folder, input=b"end\nobj 0\nquit\n",
-                           capture_output=True, timeout=300)
+    again = run("debug eight_counters.img found.trc", folder, input=b"end\nobj 0\nquit\n", timeout=300)
     return b"version 8 left 0 readers - writer -\nwords 00000008 " in again.stdout
 
 
@@ -346,7 +290,7 @@ def ended_run(folder, words, files, ample, number, lasts):
 
 
 def one_run(folder, words, files, ample, number):
-    """A run with one refusal: what was refused, and what became of it. Where there was one, another run in which it lasts."""
+    """A run with one refusal: what was refused, and what became of it. If there was one, another run in which it lasts."""
     met, became = ended_run(folder, words, files, ample, number, False)
     if met:
         ended_run(folder, words, files, ample, number, True)
@@ -395,36 +339,31 @@ def walked(kind, row):
 
 def prepare(folder):
     """The guests and their recordings."""
-    sources = {path.stem: path.read_text() for path in (ROOT / "examples").glob("*.s")}
-    sources |= {"doubled": DOUBLE, "reentered": REENTERED, "stores": STORES, "long": LONG,
-                "two_counters": counters(sources["counter"], 2), "eight_counters": counters(sources["counter"], 8)}
+    sources = examples() | {"doubled": DOUBLE, "reentered": REENTERED, "stores": STORES, "long": LONG,
+                            "two_counters": counters(2), "eight_counters": counters(8)}
     for name, source in sources.items():
-        (folder / f"{name}.s").write_text(source)
-        subprocess.run([PROGRAM, "asm", f"{name}.s", f"{name}.img"], cwd=folder, check=True)
+        assembled(folder, name, source)
     for _, name, order, _ in SESSIONS:
-        profile = "2" if "TRY_WRITE" in sources[name] else "1"
-        words = [PROGRAM, "record", f"{name}.img", f"{name}.trc", "--budget", "100000000", "--profile", profile, *(["--order", order] if order else [])]
-        subprocess.run(words, cwd=folder, check=True, stdout=subprocess.DEVNULL)
-    (folder / "bad.s").write_text("nop\nx\n")
+        recorded(folder, name, order, budget=100_000_000)
+    (folder / "bad.s").write_text(BAD)
+
+
+def memory_tests(path):
+    """A row for each of the tests about memory of a built program of tests."""
+    listed = subprocess.run([path, "--list"], check=True, capture_output=True, text=True).stdout.splitlines()
+    return [("test", (line.removesuffix(": test"), path)) for line in listed if line.startswith("memory_tests::")]
 
 
 def main():
-    global PROGRAM, LIBRARY
-    parser = argparse.ArgumentParser()
-    parser.add_argument("program")
-    parser.add_argument("--tests")
-    parser.add_argument("--jobs", type=int, default=len(os.sched_getaffinity(0)))
+    parser = parser_of(__doc__)
+    parser.add_argument("--tests", help="a built program of tests, whose memory_tests are tried too")
     words = parser.parse_args()
-    PROGRAM = os.path.abspath(words.program)
+    use(words.program)
     passed, failed = 0, 0
     rows = [("session", row) for row in SESSIONS] + [("run", row) for row in RUNS]
-    if words.tests:
-        tests = os.path.abspath(words.tests)
-        listed = subprocess.run([tests, "--list"], check=True, capture_output=True, text=True).stdout.splitlines()
-        rows += [("test", (line.removesuffix(": test"), tests)) for line in listed if line.startswith("memory_tests::")]
+    rows += memory_tests(os.path.abspath(words.tests)) if words.tests else []
     with tempfile.TemporaryDirectory() as name:
-        LIBRARY = f"{name}/refusing.so"
-        subprocess.run(["cc", "-O2", "-shared", "-fPIC", "-x", "c", "-", "-o", LIBRARY, "-ldl", "-lpthread"], input=SOURCE.encode(), check=True)
+        Refused.library = library(name, "refusing")
         with concurrent.futures.ThreadPoolExecutor(words.jobs) as pool:
             for row, count, seen, faults in pool.map(lambda both: walked(*both), rows):
                 became = ", ".join(f"{many} {what}" for what, many in seen.items() if many)
@@ -432,8 +371,7 @@ def main():
                 for fault in faults:
                     print(f"  {fault[:600]}")
                 passed, failed = passed + count - len(faults), failed + len(faults)
-    print(f"{passed} passed, {failed} failed")
-    return bool(failed)
+    return finish(passed, failed)
 
 
 if __name__ == "__main__":

@@ -1,13 +1,13 @@
-"""Tests of the program as a person runs it: what no test inside a crate can hold, since it takes closed and full devices,
-pipes, signals and files of a disk.
+#!/usr/bin/env python3
+"""Tests of the program as a person runs it: closed and full devices, pipes, signals, files of a disk, and what the pages say.
 
-    python3 scripts/program_test.py ./ir
+python3 tests/program.py IR [TEST ..]
 
-It needs Linux, and bash and xxd for the commands of the README and the guide. The last line is `N passed, M failed`.
+Runs each test in a folder of its own, or only those that are named. Needs Linux, and bash and xxd for the commands of the README and the
+guide. The last line is `N passed, M failed`.
 """
 
 import os
-import re
 import resource
 import shlex
 import shutil
@@ -18,17 +18,8 @@ import tempfile
 import time
 from pathlib import Path
 
-ROOT = Path(__file__).resolve().parent.parent
-PROGRAM = ""
-
-DOUBLE = """
-        addi a0, zero, 72
-        addi a7, zero, 2
-        ecall
-        add a0, a0, a0
-        addi a7, zero, 1
-        ecall
-"""
+import pages
+from lib import BAD, DOUBLE, TOP, Wrong, assembled, counters, finish, program, run, shell, use, wants
 
 # Two threads; the first prints a byte, the second nothing.
 TWO = """
@@ -43,7 +34,7 @@ silent: ebreak
 # Never ends by itself.
 FOREVER = "again: jal zero, again\n"
 
-# What recordings of the first and the second print, and what is told where nobody takes it.
+# What recordings of the first and the second print, and what is reported if it can't be written.
 DOUBLE_LINE = b"thread 0 end 1 code 144 steps 6 events 0\n"
 TWO_LINES = b"thread 0 end 2 code 0 steps 4 events 0\nthread 1 end 2 code 0 steps 1 events 0\n"
 FULL = b"ir: standard output can't be written\n"
@@ -109,16 +100,7 @@ OWN_FILES = [
     ("record d.img d.trc --input d.trc", "ir: d.trc: TRACE would be written over FILE\n"),
 ]
 
-# One of the threads of `examples/counter.s`, each of which adds one to the first word of an object, in 18 steps.
-COUNTING = "        .thread main\n"
-
-
-def counters(example, threads):
-    """That example with so many threads."""
-    return COUNTING * threads + example.replace(COUNTING, "")
-
-
-# Tries to enter object 0, and ends with the answer; what is printed where the first of two that do is inside.
+# Tries to enter object 0, and ends with the answer; what is printed if the first of two holds it.
 TRY = """
 main:   addi a0, zero, 0
         addi a7, zero, 13
@@ -149,43 +131,16 @@ FAILED_OUTPUTS = [
 ]
 
 
-class Wrong(Exception):
-    """What a test found."""
-
-
-def wants(what, found, wanted):
-    """Fails where what was found isn't what was wanted."""
-    if found != wanted:
-        raise Wrong(f"{what}: found {found!r}, wanted {wanted!r}")
-
-
-def run(arguments, folder, **more):
-    """A run of the program in a folder, to its end."""
-    if "input" not in more:
-        more.setdefault("stdin", subprocess.DEVNULL)
-    more.setdefault("stdout", subprocess.PIPE)
-    more.setdefault("stderr", subprocess.PIPE)
-    return subprocess.run([PROGRAM] + shlex.split(arguments), cwd=folder, timeout=120, **more)
-
-
-def shell(command, folder, typed=b""):
-    """A run of a command by bash, in which `./ir` is the program, over what is typed."""
-    return subprocess.run(["bash", "-c", command], cwd=folder, timeout=120, input=typed, capture_output=True)
-
-
 def prepare(folder):
     """The files that the tests read."""
-    (folder / "ir").symlink_to(PROGRAM)
+    (folder / "ir").symlink_to(program())
     (folder / "folder").mkdir()
-    (folder / "d.s").write_text(DOUBLE)
-    (folder / "two.s").write_text(TWO)
-    (folder / "forever.s").write_text(FOREVER)
-    (folder / "bad.s").write_text("nop\nx\n")
+    (folder / "bad.s").write_text(BAD)
     for name, size in (("long", 200_000_001), ("longer", 1_048_577)):
         with open(folder / name, "wb") as file:
             file.truncate(size)
-    for name in ("d", "two", "forever"):
-        wants("assembling", run(f"asm {name}.s {name}.img", folder).returncode, 0)
+    for name, source in (("d", DOUBLE), ("two", TWO), ("forever", FOREVER)):
+        assembled(folder, name, source)
     wants("recording", run("record d.img whole.trc --order 0", folder).returncode, 0)
 
 
@@ -198,24 +153,29 @@ def test_arguments(folder):
             wants(f"{arguments}: {name}", (folder / name).exists(), False)
 
 
-def at_terminal(arguments, folder):
-    """A run whose standard error is a terminal: the status, and what stands there."""
-    control, terminal = os.openpty()
-    ended = run(arguments, folder, stderr=terminal)
-    os.close(terminal)
-    told = b""
+def shown_at(control):
+    """What was written to a terminal whose other end is closed."""
+    shown = b""
     with open(control, "rb", buffering=0) as screen:
         try:
             while part := screen.read(4096):
-                told += part
+                shown += part
         except OSError:
             # The other end is closed, and all was read.
             pass
-    return ended.returncode, told.decode().replace("\r\n", "\n")
+    return shown.decode().replace("\r\n", "\n")
+
+
+def at_terminal(arguments, folder):
+    """A run whose standard error is a terminal: the status, and what is shown there."""
+    control, terminal = os.openpty()
+    ended = run(arguments, folder, stderr=terminal)
+    os.close(terminal)
+    return ended.returncode, shown_at(control)
 
 
 def test_explaining(folder):
-    """At a terminal a fault is explained, asked for or not; elsewhere only where it is asked for (see above)."""
+    """At a terminal a fault is explained, asked for or not; elsewhere only if it is asked for (see above)."""
     for arguments in ("asm bad.s d2.img", "asm --explain bad.s d2.img"):
         wants(arguments, at_terminal(arguments, folder), (3, EXPLAINED))
         wants(f"{arguments}: d2.img", (folder / "d2.img").exists(), False)
@@ -223,35 +183,27 @@ def test_explaining(folder):
 
 
 def typed(arguments, lines, folder):
-    """A run at a terminal where these lines are typed, and then the end of the input: the status, standard output, and what stands there."""
+    """A run at a terminal, with these lines typed and then the end of the input: the status, standard output, and what is shown there."""
     control, terminal = os.openpty()
-    with subprocess.Popen([PROGRAM, *shlex.split(arguments)], cwd=folder, stdin=terminal, stdout=subprocess.PIPE, stderr=terminal) as process:
+    with subprocess.Popen([program(), *shlex.split(arguments)], cwd=folder, stdin=terminal, stdout=subprocess.PIPE, stderr=terminal) as process:
         os.close(terminal)
         os.write(control, "".join(f"{line}\n" for line in lines).encode() + b"\x04")
         out = process.stdout.read()
         status = process.wait(timeout=60)
-    told = b""
-    with open(control, "rb", buffering=0) as screen:
-        try:
-            while part := screen.read(4096):
-                told += part
-        except OSError:
-            # The other end is closed, and all was read.
-            pass
-    return status, out, told.decode().replace("\r\n", "\n")
+    return status, out, shown_at(control)
 
 
 def test_hints(folder):
     """At a terminal it is said what was wanted in place of a refused line; standard output is as elsewhere."""
     wants("recording", run("record d.img hints.trc", folder).returncode, 0)
-    status, out, told = typed("debug d.img hints.trc", ["step 0", "foo", "help", "step 9 1"], folder)
+    status, out, message = typed("debug d.img hints.trc", ["step 0", "foo", "help", "step 9 1"], folder)
     answers = b"ready\nrefused 2 bad argument\nrefused 1 unknown command\nrefused 1 unknown command\nrefused 3 no such thread\n"
     wants("a session", (status, out), (0, answers))
     for words in ("wanted: step T N ", "the commands are step back goto ", "\n  goto T K ", "\n  quit "):
-        wants(f"{words!r} is said once", told.count(words), 1)
-    wants("each line and the end are prompted for", told.count("(ir) "), 5)
-    status, out, told = typed("", ["00"], folder)
-    wants("no argument", (status, out, "ir: waiting for an image and a trace, " in told), (3, b"image refused 1\n", True))
+        wants(f"{words!r} is said once", message.count(words), 1)
+    wants("each line and the end are prompted for", message.count("(ir) "), 5)
+    status, out, message = typed("", ["00"], folder)
+    wants("no argument", (status, out, "ir: waiting for an image and a trace, " in message), (3, b"image refused 1\n", True))
 
 
 def test_own_files(folder):
@@ -271,7 +223,7 @@ def test_own_files(folder):
 
 
 def test_parts(folder):
-    """A file that is there already stays, whatever its name; recordings to one place at once each end whole."""
+    """A file that is there already stays, whatever its name; recordings to one place at the same time each end whole."""
     (folder / "w.trc.part").write_bytes(b"mine")
     (folder / "elsewhere").write_bytes(b"mine too")
     (folder / "w.trc.part2").symlink_to("elsewhere")
@@ -282,7 +234,7 @@ def test_parts(folder):
     wants("what a link leads to", (folder / "elsewhere").read_bytes(), b"mine too")
     wants("what a link leads to nowhere", (folder / "nowhere").exists(), False)
     wants("the trace", run("trace w.trc", folder).stdout, DOUBLE_TRACE)
-    at_once = [subprocess.Popen([PROGRAM, "record", "d.img", "same.trc"], cwd=folder, stdout=subprocess.PIPE, stderr=subprocess.PIPE)
+    at_once = [subprocess.Popen([program(), "record", "d.img", "same.trc"], cwd=folder, stdout=subprocess.PIPE, stderr=subprocess.PIPE)
                for _ in range(8)]
     for recording in at_once:
         out, faults = recording.communicate(timeout=60)
@@ -292,7 +244,7 @@ def test_parts(folder):
 
 
 def test_names(folder):
-    """What a user wrote is told in one line, without what leads a terminal; a name may be as long as the system has it."""
+    """What a user wrote is reported in one line, without control characters; a name may be as long as the system allows."""
     for words, status, error in (
         (["debug", "a\nb", "d.trc"], 1, "ir: a?b can't be read: no such file or folder\n"),
         (["asm", "d.s", "none/\x1b[2J"], 1, "ir: none/?[2J can't be written: no such file or folder\n"),
@@ -300,20 +252,20 @@ def test_names(folder):
         (["record", "d.img", "d.trc", "--random", "5\n"], 2, "ir: --random: '5?' is no number up to 18446744073709551615\n"),
         (["debug", "d\u00e9", "d.trc"], 1, "ir: d\u00e9 can't be read: no such file or folder\n"),
     ):
-        ended = subprocess.run([PROGRAM, *words], cwd=folder, capture_output=True, timeout=60, check=False)
+        ended = run(words, folder)
         wants(repr(words), (ended.returncode, ended.stdout, ended.stderr.decode()), (status, b"", error))
     shutil.copy(folder / "bad.s", folder / "b\nd.s")
-    ended = subprocess.run([PROGRAM, "asm", "--explain", "b\nd.s", "x"], cwd=folder, capture_output=True, timeout=60, check=False)
+    ended = run(["asm", "--explain", "b\nd.s", "x"], folder)
     wants("a source's name", ended.stderr.decode(), EXPLAINED.replace("bad.s", "SOURCE"))
     for name in ("i" * 250, "i" * 251, "i" * 255, "\u00e9" * 127, "i" + "\u00e9" * 127):
-        ended = subprocess.run([PROGRAM, "asm", "d.s", name], cwd=folder, capture_output=True, timeout=60, check=False)
+        ended = run(["asm", "d.s", name], folder)
         wants(name, (ended.returncode, ended.stderr), (0, b""))
         wants(f"{name}: the image", (folder / name).read_bytes(), (folder / "d.img").read_bytes())
         (folder / name).unlink()
 
 
 def test_outputs(folder):
-    """What each thread prints stands in a file of its own, where that is asked for."""
+    """What each thread prints is written to a file of its own, if that is asked for."""
     wants("no file", list(folder.glob("*.0")), [])
     for prefix, more in (("out", ""), ("out", " --order 1,0"), ("folder/out", ""), ("folder/.", " --order 0")):
         for thread in (0, 1):
@@ -347,7 +299,7 @@ def test_own_outputs(folder):
 
 
 def test_failed_outputs(folder):
-    """An output that can't be written is told; the trace and the outputs before it stand."""
+    """An output that can't be written is reported; the trace and the outputs before it stay."""
     wants("recording", run("record two.img whole2.trc --order 0", folder).returncode, 0)
     whole = (folder / "whole2.trc").read_bytes()
     (folder / "full.0").symlink_to("/dev/full")
@@ -367,8 +319,7 @@ def test_failed_outputs(folder):
 def test_profiles(folder):
     """A guest that tries: in the second profile it enters, beside a writer it is refused, and in the first there is no such call."""
     for threads in (1, 2):
-        (folder / f"try{threads}.s").write_text(".objects 1\n" + threads * ".thread main\n" + TRY)
-        wants("assembling", run(f"asm try{threads}.s try{threads}.img", folder).returncode, 0)
+        assembled(folder, f"try{threads}", ".objects 1\n" + threads * ".thread main\n" + TRY)
     for arguments, magic, lines in (
         ("try1.img try.trc --profile 2", b"IRT2", b"thread 0 end 1 code 1 steps 6 events 1\n"),
         ("try1.img try.trc --profile 2 --order 0", b"IRT2", b"thread 0 end 1 code 1 steps 6 events 1\n"),
@@ -380,28 +331,25 @@ def test_profiles(folder):
         wants(arguments, (ended.returncode, ended.stdout, ended.stderr), (0, lines, b""))
         wants(f"{arguments}: the magic", (folder / "try.trc").read_bytes()[:4], magic)
     wants("lines", run("trace try.trc", folder).stdout.splitlines()[-1], b"0 try 0")
-    ended = subprocess.run([PROGRAM, "debug", "try2.img", "try.trc"], cwd=folder, input=b"end\nlog 1\nquit\n", capture_output=True)
+    ended = run("debug try2.img try.trc", folder, input=b"end\nlog 1\nquit\n")
     wants("a session", ended.stdout, b"ready\nat 6 5\nlog 1 of 1\n0 try 0\nbye\n")
 
 
 def test_sixteen_threads(folder):
     """A guest of sixteen threads at an object of sixteen words, recorded by threads with the second profile, and refused with the first."""
-    example = (ROOT / "examples" / "counter.s").read_text()
-    (folder / "sixteen.s").write_text(".large\n" + counters(example, 16))
-    wants("assembling", run("asm sixteen.s sixteen.img", folder).returncode, 0)
-    wants("the form", (folder / "sixteen.img").read_bytes()[:6], b"IRI2\x10\x01")
+    wants("the form", assembled(folder, "sixteen", ".large\n" + counters(16))[:6], b"IRI2\x10\x01")
     lines = "".join(f"thread {thread} end 1 code 0 steps 18 events 1\n" for thread in range(16)).encode()
     for order in ("", " --order 15x18,3x2"):
         ended = run(f"record sixteen.img sixteen.trc --profile 2{order}", folder)
         wants("recording", (ended.returncode, ended.stdout, ended.stderr), (0, lines, b""))
-        ended = subprocess.run([PROGRAM, "debug", "sixteen.img", "sixteen.trc"], cwd=folder, input=b"end\nobj 0\nquit\n", capture_output=True)
+        ended = run("debug sixteen.img sixteen.trc", folder, input=b"end\nobj 0\nquit\n")
         words = b"words 00000010" + 15 * b" 00000000" + b"\n"
         wants("a session", ended.stdout, b"ready\nat" + 16 * b" 18" + b"\nversion 16 left 0 readers - writer -\n" + words + b"bye\n")
     before = (folder / "sixteen.trc").read_bytes()
     for order in ("", " --order 0", " --profile 1"):
         ended = run(f"record sixteen.img sixteen.trc{order}", folder)
-        told = b"ir: the first profile takes at most 8 threads and 16 objects, and --profile 2 takes more\n"
-        wants("the first profile", (ended.returncode, ended.stdout, ended.stderr), (3, b"", told))
+        message = b"ir: the first profile takes at most 8 threads and 16 objects, and --profile 2 takes more\n"
+        wants("the first profile", (ended.returncode, ended.stdout, ended.stderr), (3, b"", message))
     wants("the trace", (folder / "sixteen.trc").read_bytes(), before)
 
 
@@ -409,10 +357,9 @@ def test_progress(folder):
     """At a terminal a recording of seconds shows its steps, those of the last of sixteen threads too."""
     labels = [f"thread{number}" for number in range(16)]
     source = [".large", *(f".thread {label}" for label in labels), *(f"{label}:" for label in labels[:15]), "ebreak"]
-    (folder / "last.s").write_text("\n".join([*source, "thread15:", FOREVER]))
-    wants("assembling", run("asm last.s last.img", folder).returncode, 0)
-    status, told = at_terminal("record last.img last.trc --profile 2 --budget 4000000000", folder)
-    wants("the last thread's steps", (status, " million steps\r" in told), (0, True))
+    assembled(folder, "last", "\n".join([*source, "thread15:", FOREVER]))
+    status, message = at_terminal("record last.img last.trc --profile 2 --budget 4000000000", folder)
+    wants("the last thread's steps", (status, " million steps\r" in message), (0, True))
 
 
 def test_trace(folder):
@@ -452,7 +399,7 @@ def test_closed_streams(folder):
 
 
 def test_full_devices(folder):
-    """A full device is told, and the trace stands."""
+    """A full device is reported, and the trace stays."""
     whole = (folder / "whole.trc").read_bytes()
     ended = shell("./ir record d.img d.trc --order 0 >/dev/full", folder)
     wants("lines", (ended.returncode, ended.stderr), (1, FULL))
@@ -464,11 +411,11 @@ def test_full_devices(folder):
         ended = run(arguments, folder)
         wants(arguments, (ended.returncode, ended.stdout, ended.stderr), (1, b"", message))
     wants("help", shell("./ir --help >/dev/full", folder).returncode, 1)
-    wants("a session", shell("./ir < %s/crates/ir_cli/stdin >/dev/full" % shlex.quote(str(ROOT)), folder).returncode, 1)
+    wants("a session", shell("./ir < %s/crates/ir_cli/stdin >/dev/full" % shlex.quote(str(TOP)), folder).returncode, 1)
 
 
 def test_closed_pipe(folder):
-    """Nobody reads the output."""
+    """No process reads the output."""
     for arguments in ("record d.img d.trc --order 0", "--help", "trace whole.trc", "debug d.img whole.trc"):
         reader, writer = os.pipe()
         os.close(reader)
@@ -499,22 +446,22 @@ def test_failed_sessions(folder):
 
 
 def small_files():
-    """Files have at most 10 bytes, as where a disk is full."""
+    """Files have at most 10 bytes, as if the disk were full."""
     signal.signal(signal.SIGXFSZ, signal.SIG_IGN)
     resource.setrlimit(resource.RLIMIT_FSIZE, (10, 10))
 
 
 def test_half_written(folder):
-    """An image or a trace that can't be written whole leaves what stood in its place, and nothing beside it."""
+    """An image or a trace that can't be written whole leaves what was in its place, and nothing beside it."""
     for arguments, name in (("asm d.s d2.img", "d2.img"), ("record d.img d.trc --order 0", "d.trc")):
         for before in (None, b"an older file"):
             if before is not None:
                 (folder / name).write_bytes(before)
             ended = run(arguments, folder, preexec_fn=small_files)
-            told = f"ir: {name} can't be written: it would be too large\n".encode()
-            wants("the end", (ended.returncode, ended.stdout, ended.stderr), (1, b"", told))
+            message = f"ir: {name} can't be written: it would be too large\n".encode()
+            wants("the end", (ended.returncode, ended.stdout, ended.stderr), (1, b"", message))
             place = folder / name
-            wants("what stood there", place.read_bytes() if place.exists() else None, before)
+            wants("what was there", place.read_bytes() if place.exists() else None, before)
             wants("what is left beside it", (folder / f"{name}.part").exists(), False)
 
 
@@ -527,9 +474,9 @@ def unprivileged():
 
 
 def test_read_only_folder(folder):
-    """A folder that nothing may be written in is told, and nothing is."""
+    """A folder in which nothing may be written is reported, and nothing is written."""
     own = folder / "own"
-    shutil.copy(PROGRAM, own)
+    shutil.copy(program(), own)
     folder.chmod(0o755)
     locked = folder / "locked"
     locked.mkdir()
@@ -539,16 +486,16 @@ def test_read_only_folder(folder):
     locked.chmod(0o555)
     for arguments, name in (("asm d.s d2.img", "d2.img"), ("record d.img d.trc --order 0", "d.trc"), ("record d.img d.trc", "d.trc")):
         ended = subprocess.run([own, *arguments.split()], cwd=locked, capture_output=True, timeout=120, preexec_fn=unprivileged)
-        told = f"ir: {name} can't be written: permission denied\n".encode()
-        wants(arguments, (ended.returncode, ended.stdout, ended.stderr), (1, b"", told))
-    wants("what stands there", sorted(path.name for path in locked.iterdir()), ["d.img", "d.s"])
+        message = f"ir: {name} can't be written: permission denied\n".encode()
+        wants(arguments, (ended.returncode, ended.stdout, ended.stderr), (1, b"", message))
+    wants("what is there", sorted(path.name for path in locked.iterdir()), ["d.img", "d.s"])
 
 
 def test_interrupt(folder):
     """Ctrl-C stops a recording, and TRACE stays as it was."""
     for order in ("", " --order 0x1000000"):
         (folder / "f.trc").write_bytes(b"an older trace")
-        command = [PROGRAM] + shlex.split(f"record forever.img f.trc --budget 1000000000000{order}")
+        command = [program()] + shlex.split(f"record forever.img f.trc --budget 1000000000000{order}")
         with subprocess.Popen(command, cwd=folder, stdout=subprocess.DEVNULL, stderr=subprocess.DEVNULL) as started:
             time.sleep(0.3)
             started.send_signal(signal.SIGINT)
@@ -558,14 +505,14 @@ def test_interrupt(folder):
 
 def test_answers_come(folder):
     """Each answer comes before the next line is sent."""
-    lines = (ROOT / "crates/ir_cli/stdin").read_bytes().splitlines(keepends=True)
+    lines = (TOP / "crates/ir_cli/stdin").read_bytes().splitlines(keepends=True)
     rows = (
         (b"".join(lines[:2]), b"ready\n"),
         (b"step 0 3\n", b"at 3\n"),
         (b"foo\n", b"refused 1 unknown command\n"),
         (b"quit\n", b"bye\n"),
     )
-    with subprocess.Popen([PROGRAM], cwd=folder, stdin=subprocess.PIPE, stdout=subprocess.PIPE, bufsize=0) as session:
+    with subprocess.Popen([program()], cwd=folder, stdin=subprocess.PIPE, stdout=subprocess.PIPE, bufsize=0) as session:
         for asked, answer in rows:
             session.stdin.write(asked)
             wants(repr(asked[-9:]), session.stdout.readline(), answer)
@@ -574,7 +521,7 @@ def test_answers_come(folder):
 
 
 def test_long_lines_of_digits(folder):
-    """The image's line has at most 4,194,304 digits: so many are judged, and more are not."""
+    """The image's line has at most 4,194,304 digits: a line of that length is judged, and a longer one is not."""
     image = (folder / "d.img").read_bytes().hex().encode()
     for digits, status, answers in ((4_194_304, 3, b"image refused 5\n"), (4_194_306, 1, b"")):
         ended = run("", folder, input=image.ljust(digits, b"0") + b"\n\n")
@@ -594,94 +541,33 @@ def test_large_order(folder):
         raise Wrong(f"it took {time.monotonic() - start:.1f} s")
 
 
-# A row of a table that has a command, and then the last line that it writes.
-ROW = re.compile(r"\| `\$ (.+?)` \| `(.+?)` \|$")
+def tests():
+    """Each test, by its name."""
+    return {name.removeprefix("test_"): test for place in (globals(), vars(pages)) for name, test in place.items() if name.startswith("test_")}
 
 
-def commands_of(text):
-    """The commands of a page, each with the lines that are typed at its prompts and those that it writes."""
-    commands = []
-    for line in text.splitlines():
-        row = ROW.search(line)
-        if row:
-            commands.append((row[1], [], ["..", row[2]]))
-        elif line.startswith("    $ "):
-            commands.append((line[6:], [], []))
-        elif line.startswith("    (ir) ") and commands:
-            commands[-1][1].append(line[9:])
-        elif line.startswith("    ") and commands:
-            commands[-1][2].append(line[4:])
-    return commands
-
-
-def matches(found, wanted):
-    """Whether the lines are these, in which `..` stands for any."""
-    if not wanted:
-        return not found
-    if wanted[0] == "..":
-        return any(matches(found[k:], wanted[1:]) for k in range(len(found) + 1))
-    return bool(found) and found[0] == wanted[0] and matches(found[1:], wanted[1:])
-
-
-def test_pages(folder):
-    """Each command of the README, of the guide and of the page of the examples writes what follows it there; `make` isn't run."""
-    pages = [ROOT / "README.md", *sorted((ROOT / "docs" / "guide").glob("*.md")), ROOT / "examples" / "README.md"]
-    for number, page in enumerate(pages):
-        place = folder / f"page{number}"
-        place.mkdir()
-        (place / "ir").symlink_to(PROGRAM)
-        for name in ("crates", "docs", "examples"):
-            (place / name).symlink_to(ROOT / name)
-        commands = [row for row in commands_of(page.read_text()) if row[0].split()[0] != "make"]
-        for command, typed, wanted in commands:
-            ended = shell(command, place, "".join(f"{line}\n" for line in typed).encode())
-            if not matches(ended.stdout.decode().splitlines(), wanted):
-                raise Wrong(f"{page.relative_to(ROOT)}: {command}: wrote {ended.stdout.decode()!r}")
-            wants(f"{page.relative_to(ROOT)}: {command}: standard error", ended.stderr, b"")
-        if not commands and page.name != "concepts.md":
-            raise Wrong(f"{page.relative_to(ROOT)} has no commands")
-
-
-# The sessions of examples/sessions: the arguments that record each.
-SESSIONS = {"lost_update": " --order 0x10,1x25", "overwritten": ""}
-
-
-def test_sessions(folder):
-    """The sessions that `make try` runs are of their examples, and each ends with its quit."""
-    sessions = sorted((ROOT / "examples" / "sessions").iterdir())
-    wants("sessions", [session.name for session in sessions], sorted(SESSIONS))
-    for session in sessions:
-        shutil.copy(ROOT / "examples" / f"{session.name}.s", folder)
-        wants(session.name, run(f"asm {session.name}.s s.img", folder).returncode, 0)
-        wants(session.name, run(f"record s.img s.trc{SESSIONS[session.name]}", folder).returncode, 0)
-        image, trace = session.read_text(encoding="ascii").splitlines()[:2]
-        wants(f"{session.name}: the image", bytes.fromhex(image), (folder / "s.img").read_bytes())
-        wants(f"{session.name}: the trace", bytes.fromhex(trace), (folder / "s.trc").read_bytes())
-        ended = subprocess.run([PROGRAM], input=session.read_bytes(), capture_output=True, timeout=60, check=False)
-        wants(session.name, (ended.returncode, ended.stdout[:6], ended.stdout[-4:], ended.stderr), (0, b"ready\n", b"bye\n", b""))
+def passes(name, test):
+    """Whether a test in a folder of its own passes; prints a line."""
+    with tempfile.TemporaryDirectory() as folder:
+        try:
+            prepare(Path(folder))
+            test(Path(folder))
+        except (Wrong, subprocess.TimeoutExpired, OSError) as why:
+            print(f"{name}: failed: {why}", flush=True)
+            return False
+    print(f"{name}: passed", flush=True)
+    return True
 
 
 def main():
-    """Runs each test in a folder of its own."""
-    global PROGRAM
-    if len(sys.argv) != 2:
-        print(__doc__)
-        sys.exit(2)
-    PROGRAM = str(Path(sys.argv[1]).resolve())
-    failed = 0
-    tests = [(name, test) for name, test in globals().items() if name.startswith("test_")]
-    for name, test in tests:
-        with tempfile.TemporaryDirectory() as folder:
-            try:
-                prepare(Path(folder))
-                test(Path(folder))
-                print(f"{name[5:]}: passed", flush=True)
-            except (Wrong, subprocess.TimeoutExpired, OSError) as why:
-                failed += 1
-                print(f"{name[5:]}: failed: {why}", flush=True)
-    print(f"{len(tests) - failed} passed, {failed} failed")
-    sys.exit(1 if failed else 0)
+    all_ = tests()
+    names = sys.argv[2:] or list(all_)
+    if len(sys.argv) < 2 or any(name not in all_ for name in names):
+        sys.exit(__doc__ + "\nThe tests are " + ", ".join(all_) + ".")
+    use(sys.argv[1])
+    passed = sum(passes(name, all_[name]) for name in names)
+    return finish(passed, len(names) - passed)
 
 
 if __name__ == "__main__":
-    main()
+    sys.exit(main())
