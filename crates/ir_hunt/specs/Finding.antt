@@ -1,0 +1,49 @@
+-- What a hunt finds.
+use Rattle.std.specs.Prelude.{◌≡◌, ◌<◌, ℕ, List, length, All, true, Some, Ok}
+use Rattle.ir_image.specs.Guest.{Guest, object_count}
+use Rattle.ir_image.specs.Reading.{guest_at}
+use Rattle.ir_runs.specs.Run.{Step, end, log}
+use Rattle.ir_runs.specs.InOrder.{IsByOrder}
+use Rattle.ir_flat.specs.Flat.{Flat, tables, machine, start_flat}
+use Rattle.ir_trace.specs.Recorded.{Recorded}
+use Rattle.ir_record.specs.Recording.{IsTraceOf, AreOutputs}
+use Rattle.ir_record.specs.Worlds.{answers_in}
+use Rattle.ir_sources.specs.Sources.{origin_of, IsAnswered}
+use Rattle.ir_record_run.specs.Order.{order_of}
+use Rattle.ir_record_run.specs.Plan.{Plan}
+use Rattle.ir_chaos.specs.Conditions.{Condition, fulfils, outcome_of}
+
+-- the guest before its first step
+abbrev pub first : Guest → Plan → Flat
+first guest plan = start_flat guest plan.budget plan.profile
+
+-- the complete run of the guest by the order, each of whose threads was answered by its own sources
+pub record IsSourced (guest : Guest) (plan : Plan) (order : List ℕ) (run : List Step) : Type 0 where
+  pub by_order : IsByOrder (machine (first guest plan)) (tables (first guest plan)) (length guest.entries) order run
+  pub answered : (t : ℕ) → t < length guest.entries → IsAnswered (origin_of true plan.random plan.input t)
+      (answers_in (log (machine (first guest plan)) (tables (first guest plan)) run t))
+
+-- these threads and objects are what the guest came to by the run
+pub record CameTo (guest : Guest) (plan : Plan) (run : List Step) (f : Flat) : Type 0 where
+  pub ends : tables f ≡ end (machine (first guest plan)) (tables (first guest plan)) run
+  pub threads : length f.threads ≡ length (first guest plan).threads
+  pub objects : length f.objects ≡ length (first guest plan).objects
+
+-- what the guest came to by the run fulfils each condition
+pub record FulfilsEach (guest : Guest) (plan : Plan) (conditions : List Condition) (run : List Step) : Type 0 where
+  pub flat : Flat
+  pub came : CameTo guest plan run flat
+  pub each : All (λ c. fulfils c (outcome_of flat) ≡ true) conditions
+
+-- of the run that the list spells, which fulfils each condition: its trace, and what its threads printed
+pub record IsFinding (image : List ℕ) (plan : Plan) (conditions : List Condition) (list : List ℕ) (trace : Recorded)
+    (outputs : List (List ℕ)) : Type 0 where
+  pub guest : Guest
+  pub is : guest_at image ≡ Ok guest
+  pub order : List ℕ
+  pub spelled : order_of (length guest.entries) list ≡ Some order
+  pub run : List Step
+  pub sourced : IsSourced guest plan order run
+  pub fulfilled : FulfilsEach guest plan conditions run
+  pub emitted : IsTraceOf guest plan.budget plan.profile run trace
+  pub printed : AreOutputs guest plan.budget plan.profile run outputs
