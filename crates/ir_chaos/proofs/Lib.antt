@@ -8,3 +8,4 @@ mod Turns
 mod Worlds
 mod Values
 mod Texts
+pub mod CallerLemmas

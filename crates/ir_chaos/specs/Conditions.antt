@@ -1,5 +1,5 @@
 -- What a hunt looks for in what a run came to.
-use Rattle.std.specs.Prelude.{ℕ, ◌==◌, ◌&&◌, ◌||◌, nat_lt, Bool, true, false, List, [], ◌∷◌, map, not, if◌then◌else◌, Option, Some, None}
+use Rattle.std.specs.Prelude.{ℕ, ◌==◌, eqb, ◌&&◌, ◌||◌, nat_lt, Bool, true, false, List, [], ◌∷◌, map, not, if◌then◌else◌, Option, Some, None}
 use Rattle.std.specs.List.{slice_index_or, starts_with}
 use Rattle.ir_flat.specs.Flat.{Flat}
 use Rattle.ir_image.specs.Guest.{Guest, object_count, object_words}
@@ -81,8 +81,8 @@ some_is test (x ∷ xs) = test x || some_is test xs
 
 -- whether the text occurs in the bytes
 abbrev pub occurs_in : List ℕ → List ℕ → Bool
-occurs_in text [] = starts_with ◌==◌ [] text
-occurs_in text (x ∷ bytes) = starts_with ◌==◌ (x ∷ bytes) text || occurs_in text bytes
+occurs_in text [] = starts_with eqb [] text
+occurs_in text (x ∷ bytes) = starts_with eqb (x ∷ bytes) text || occurs_in text bytes
 
 -- whether a fact is so of what a run came to; nothing is so of a thread, an object or a word that there isn't but that a word is 0
 abbrev pub is_so : Fact → Outcome → Bool

@@ -1,5 +1,5 @@
 -- How conditions are written.
-use Rattle.std.specs.Prelude.{ℕ, suc, ◌+◌, ◌==◌, ◌&&◌, nat_le, nat_lt, Bool, true, false, not, List, [], ◌∷◌, length, take, drop, codes, Option, Some, None, option_map, option_and_then, if◌then◌else◌}
+use Rattle.std.specs.Prelude.{ℕ, suc, ◌+◌, ◌%◌, ◌==◌, ◌&&◌, nat_le, nat_lt, Bool, List, [], ◌∷◌, length, take, drop, codes, Option, Some, None, option_map, option_and_then, if◌then◌else◌}
 use Rattle.std.specs.Str.{bytes_eq}
 use Rattle.ir_command.specs.Limits.{most_small}
 use Rattle.ir_command.specs.Numbers.{number_up_to}
@@ -65,9 +65,11 @@ fact_with name (Some arguments) = fact_named name arguments
 abbrev pub fact_of : List ℕ → Option Fact
 fact_of text = fact_with (word_of text) (rest_of text)
 
--- the condition that a text writes: `!` denies what is behind it
+-- how many `!` stand at its start
+abbrev pub marks : List ℕ → ℕ
+marks [] = 0
+marks (b ∷ text) = if b == 33 then suc (marks text) else 0
+
+-- the condition that a text writes: each `!` denies what is behind it
 abbrev pub condition_of : List ℕ → Option Condition
-condition_of [] = None
-condition_of (b ∷ text) =
-    if b == 33 then option_map (λ (c : Condition). record { is_denied = not c.is_denied; fact = c.fact }) (condition_of text)
-    else option_map (λ fact. record { is_denied = false; fact = fact }) (fact_of (b ∷ text))
+condition_of text = option_map (λ fact. record { is_denied = marks text % 2 == 1; fact = fact }) (fact_of (drop (marks text) text))

@@ -6,7 +6,7 @@ ghost use Rattle.std.specs.Prelude.{◌≡◌, option_map};
 
 use crate::condition::{Condition, Fact};
 use crate::number::value_of;
-use crate::text::cut;
+use crate::text::{cut, marks};
 
 // The greatest number of an end.
 const MOST_END: u32 = 14;
@@ -96,16 +96,10 @@ fn fact_of(text: &[u8]) -> Option<Fact<'_>>
 pub fn condition_of(text: &[u8]) -> Option<Condition<'_>>
     ensures { option_map as_condition result ≡ condition_of text.now }
 {
-    if let [b'!', rest @ ..] = text {
-        let condition = condition_of(rest)?;
-        return Some(Condition {
-            is_denied: !condition.is_denied,
-            fact: condition.fact,
-        });
-    }
-    let fact = fact_of(text)?;
+    let marks = marks(text);
+    let fact = fact_of(&text[marks..])?;
     Some(Condition {
-        is_denied: false,
+        is_denied: marks % 2 == 1,
         fact,
     })
 }

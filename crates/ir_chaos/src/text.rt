@@ -1,7 +1,7 @@
 //! Texts, and their words.
 
 ghost use Rattle.ir_chaos.specs.Conditions.{occurs_in};
-ghost use Rattle.ir_chaos.specs.Spelling.{word_length, word_of, rest_of};
+ghost use Rattle.ir_chaos.specs.Spelling.{marks, word_length, word_of, rest_of};
 ghost use Rattle.std.specs.Prelude.{◌≡◌, ◌≤◌, length, option_map};
 
 // Whether the text occurs in the bytes.
@@ -42,4 +42,18 @@ pub fn cut(text: &[u8]) -> (&[u8], Option<&[u8]>)
         return (word, None);
     }
     (word, Some(&text[length + 1..]))
+}
+
+// How many `!` stand at the text's start.
+#[tactic(auto, using(crate::proofs::Texts::marks_end, crate::proofs::Texts::marks_go_on, crate::proofs::Texts::marks_all))]
+pub fn marks(text: &[u8]) -> usize
+    ensures value { result ≡ marks text.now }
+    ensures within { result ≤ length text.now }
+{
+    'bytes: for index in 0..text.len() {
+        if text[index] != b'!' {
+            return index;
+        }
+    }
+    text.len()
 }

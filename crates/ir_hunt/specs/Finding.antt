@@ -1,16 +1,16 @@
 -- What a hunt finds.
-use Rattle.std.specs.Prelude.{◌≡◌, ◌<◌, ℕ, List, length, All, true, Some, Ok}
+use Rattle.std.specs.Prelude.{◌≡◌, ℕ, List, length, true, Some, Ok}
+use Rattle.std.specs.List.{list_all}
 use Rattle.ir_image.specs.Guest.{Guest, object_count}
 use Rattle.ir_image.specs.Reading.{guest_at}
-use Rattle.ir_runs.specs.Run.{Step, end, log}
-use Rattle.ir_runs.specs.InOrder.{IsByOrder}
+use Rattle.ir_runs.specs.Run.{Step, end}
 use Rattle.ir_flat.specs.Flat.{Flat, tables, machine, start_flat}
 use Rattle.ir_trace.specs.Recorded.{Recorded}
 use Rattle.ir_record.specs.Recording.{IsTraceOf, AreOutputs}
-use Rattle.ir_record.specs.Worlds.{answers_in}
-use Rattle.ir_sources.specs.Sources.{origin_of, IsAnswered}
+use Rattle.ir_sources.specs.Sources.{origin_of}
 use Rattle.ir_record_run.specs.Order.{order_of}
 use Rattle.ir_record_run.specs.Plan.{Plan}
+use Rattle.ir_order.specs.OneRun.{IsAnsweredByOrder}
 use Rattle.ir_chaos.specs.Conditions.{Condition, fulfils, outcome_of}
 
 -- the guest before its first step
@@ -18,10 +18,8 @@ abbrev pub first : Guest → Plan → Flat
 first guest plan = start_flat guest plan.budget plan.profile
 
 -- the complete run of the guest by the order, each of whose threads was answered by its own sources
-pub record IsSourced (guest : Guest) (plan : Plan) (order : List ℕ) (run : List Step) : Type 0 where
-  pub by_order : IsByOrder (machine (first guest plan)) (tables (first guest plan)) (length guest.entries) order run
-  pub answered : (t : ℕ) → t < length guest.entries → IsAnswered (origin_of true plan.random plan.input t)
-      (answers_in (log (machine (first guest plan)) (tables (first guest plan)) run t))
+abbrev pub IsSourced : Guest → Plan → List ℕ → List Step → Type 0
+IsSourced guest plan order run = IsAnsweredByOrder guest plan.budget plan.profile order (origin_of true plan.random plan.input) run
 
 -- these threads and objects are what the guest came to by the run
 pub record CameTo (guest : Guest) (plan : Plan) (run : List Step) (f : Flat) : Type 0 where
@@ -33,17 +31,31 @@ pub record CameTo (guest : Guest) (plan : Plan) (run : List Step) (f : Flat) : T
 pub record FulfilsEach (guest : Guest) (plan : Plan) (conditions : List Condition) (run : List Step) : Type 0 where
   pub flat : Flat
   pub came : CameTo guest plan run flat
-  pub each : All (λ c. fulfils c (outcome_of flat) ≡ true) conditions
+  pub each : list_all (λ c. fulfils c (outcome_of flat)) conditions ≡ true
 
--- of the run that the list spells, which fulfils each condition: its trace, and what its threads printed
-pub record IsFinding (image : List ℕ) (plan : Plan) (conditions : List Condition) (list : List ℕ) (trace : Recorded)
-    (outputs : List (List ℕ)) : Type 0 where
-  pub guest : Guest
-  pub is : guest_at image ≡ Ok guest
+-- a list spells the order of a complete run of the guest, which fulfils each condition
+pub record IsFound (guest : Guest) (plan : Plan) (conditions : List Condition) (list : List ℕ) : Type 0 where
   pub order : List ℕ
   pub spelled : order_of (length guest.entries) list ≡ Some order
   pub run : List Step
   pub sourced : IsSourced guest plan order run
   pub fulfilled : FulfilsEach guest plan conditions run
-  pub emitted : IsTraceOf guest plan.budget plan.profile run trace
-  pub printed : AreOutputs guest plan.budget plan.profile run outputs
+
+-- the same of an image's guest
+pub record IsFoundIn (image : List ℕ) (plan : Plan) (conditions : List Condition) (list : List ℕ) : Type 0 where
+  pub guest : Guest
+  pub is : guest_at image ≡ Ok guest
+  pub found : IsFound guest plan conditions list
+
+-- the trace of that run, and what its threads printed
+pub record IsFinding (image : List ℕ) (plan : Plan) (conditions : List Condition) (list : List ℕ) (trace : Recorded)
+    (outputs : List (List ℕ)) : Type 0 where
+  pub guest : Guest
+  pub is : guest_at image ≡ Ok guest
+  pub found : IsFound guest plan conditions list
+  pub emitted : IsTraceOf guest plan.budget plan.profile found.run trace
+  pub printed : AreOutputs guest plan.budget plan.profile found.run outputs
+
+-- how what was found is recorded
+abbrev pub by_list : Plan → List ℕ → Plan
+by_list plan list = record plan { order = Some list }

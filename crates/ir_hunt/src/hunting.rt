@@ -1,11 +1,21 @@
 //! A hunt, and the recording of what it finds.
 
-ghost use Rattle.std.specs.Prelude.{◌≡◌, false};
+ghost use Rattle.std.specs.Prelude.{◌≡◌, ◌<◌, ◌++◌, ℕ, List, map, false, IfOk, IfSome, MatchOption, OnOk, Some};
+ghost use Rattle.std.specs.String.{string_bytes};
+ghost use Rattle.std.specs.Io.KnownBytes.{Appends};
+ghost use Rattle.ir_image.specs.Reading.{guest_at};
+ghost use Rattle.ir_thread.specs.Allowed.{IsAllowed};
+ghost use Rattle.ir_trace.specs.Encoding.{encoding};
+ghost use Rattle.ir_files.specs.Outputs.{output_writer_of, TookEach};
+ghost use Rattle.ir_record_run.specs.Recording.{IsRecordedOf, lines_of};
+ghost use Rattle.ir_chaos.specs.Conditions.{as_condition};
+ghost use Rattle.ir_hunt.specs.Finding.{IsFound, IsFoundIn, IsFinding, by_list};
+ghost use Rattle.ir_hunt.specs.Lines.{found_line, none_line};
 
 use crate::lines::Lines;
 use crate::plan::{HuntPlan, Seeds};
 use crate::report::{found_line, none_line};
-use crate::search::{Sought, sought};
+use crate::search::{Search, lowest_seed};
 use crate::seeker::{Lost, Seeker};
 use ir_chaos::Way;
 use ir_files::{ExitStatus, OutputSink, WholeSink, tell};
@@ -35,7 +45,11 @@ fn run_again<C: Clock>(
     plan: &HuntPlan<'_>,
     seed: u64,
     choices: u32,
-) -> Result<Option<Found>, RecordFault> {
+) -> Result<Option<Found>, RecordFault>
+    requires allowed { IsAllowed plan.now.record.profile image.now }
+    requires choices { 0 < choices }
+    ensures { IfOk result (λ o. IfSome o (λ f. IsFound image.now plan.now.record (map as_condition plan.now.conditions.now) (string_bytes f.list))) }
+{
     let mut seeker = Seeker::new(alloc, clock, image, plan)?;
     match seeker.fulfils(seed, choices) {
         Ok(true) => Ok(Some(Found {
@@ -85,13 +99,15 @@ fn hunted<R: Threads + Clock + Sync + Eprint>(
     alloc: Global,
     image: &ParsedImage<'_>,
     plan: &HuntPlan<'_>,
-) -> Result<(Option<Found>, u64), RecordFault> {
+) -> Result<(Option<Found>, u64), RecordFault>
+    ensures { IfOk result (λ r. IfSome r.0 (λ f. IsFoundIn image.now plan.now.record (map as_condition plan.now.conditions.now) (string_bytes f.list))) }
+{
     let guest = image.allowed(&plan.record)?;
-    let Sought {
+    let Search {
         found,
         choices,
         left_out,
-    } = sought(rt, alloc, guest, plan)?;
+    } = lowest_seed(rt, alloc, guest, plan)?;
     match found {
         Some(seed) => Ok((run_again(rt, alloc, guest, plan, seed, choices)?, left_out)),
         None => Ok((None, left_out)),
@@ -99,7 +115,9 @@ fn hunted<R: Threads + Clock + Sync + Eprint>(
 }
 
 // Writes the line of what was found, and those of its recording.
-fn write_lines<O: Sink>(out: &mut O, line: &[u8], lines: &[u8]) -> Result<(), DeviceErr> {
+fn write_lines<O: Sink>(out: &mut O, line: &[u8], lines: &[u8]) -> Result<(), DeviceErr>
+    ensures { OnOk result (Appends (O.written out.old) (O.written out.new) (line.now ++ lines.now)) }
+{
     write_all(out, line)?;
     write_all(out, lines)
 }
@@ -133,6 +151,10 @@ where
     requires puts { P.broken outputs.old ≡ false }
     requires prints { O.broken out.old ≡ false }
     requires reports { E.broken faults.old ≡ false }
+    ensures { IfOk result (λ recorded. (printed : List (List ℕ)) × IsRecordedOf image.now plan.now recorded printed
+        × Appends (W.written trace.old) (W.written trace.new) (encoding recorded)
+        × TookEach (output_writer_of (P.taken outputs.old) (P.taken outputs.new) (P.broken outputs.new)) printed
+        × Appends (O.written out.old) (O.written out.new) (line.now ++ lines_of recorded)) }
 {
     let Ok(mut lines) = Lines::new(rt.alloc()) else {
         tell(faults, RecordFault::NoMem.words());
@@ -162,7 +184,7 @@ fn tell_left_out<E: Sink>(alloc: Global, faults: &mut E, count: u64)
     tell(faults, words.as_str());
 }
 
-// What the arguments ask for is recorded, or it is told that nothing is there.
+// The recording of what was found by its list.
 fn recorded<R, W, P, O, E>(
     rt: &R,
     image: &ParsedImage<'_>,
@@ -183,6 +205,10 @@ where
     requires puts { P.broken outputs.old ≡ false }
     requires prints { O.broken out.old ≡ false }
     requires reports { E.broken faults.old ≡ false }
+    ensures { IfOk result (λ recorded. (printed : List (List ℕ)) × IsRecordedOf image.now (by_list plan.now.record (string_bytes found.now.list)) recorded printed
+        × Appends (W.written trace.old) (W.written trace.new) (encoding recorded)
+        × TookEach (output_writer_of (P.taken outputs.old) (P.taken outputs.new) (P.broken outputs.new)) printed
+        × Appends (O.written out.old) (O.written out.new) (found_line found.now.seed (string_bytes found.now.list) ++ lines_of recorded)) }
 {
     let Ok(line) = found_line(rt.alloc(), found.seed, found.list.as_str()) else {
         tell(faults, RecordFault::NoMem.words());
@@ -232,6 +258,15 @@ where
     requires puts { P.broken outputs.old ≡ false }
     requires prints { O.broken out.old ≡ false }
     requires reports { E.broken faults.old ≡ false }
+    // Of the run that a list spells, which fulfils each condition: its trace was written, what its threads printed, and the lines with
+    // the list. Or nothing was written but that none was found.
+    ensures { IfOk result (λ o. MatchOption o
+        ((trace.new ≡ trace.old) × (outputs.new ≡ outputs.old) × Appends (O.written out.old) (O.written out.new) (none_line plan.now.seeds.first plan.now.seeds.last))
+        (λ recorded. (seed : ℕ) × (list : List ℕ) × (printed : List (List ℕ))
+        × IsFinding image.now plan.now.record (map as_condition plan.now.conditions.now) list recorded printed
+        × Appends (W.written trace.old) (W.written trace.new) (encoding recorded)
+        × TookEach (output_writer_of (P.taken outputs.old) (P.taken outputs.new) (P.broken outputs.new)) printed
+        × Appends (O.written out.old) (O.written out.new) (found_line seed list ++ lines_of recorded))) }
 {
     let alloc = rt.alloc();
     let (found, left_out) = match hunted(rt, alloc, image, plan) {

@@ -1,5 +1,9 @@
 //! The lowest seed, sought on all processors.
 
+ghost use Rattle.std.specs.Prelude.{◌≡◌, ◌<◌, IfOk, map, None};
+ghost use Rattle.ir_hunt.specs.Seeds.{lower, lowest_from};
+ghost use Rattle.ir_thread.specs.Allowed.{IsAllowed};
+
 use crate::plan::{HuntPlan, Seeds};
 use crate::seeker::{Lost, Seeker};
 use crate::shown::Shown;
@@ -22,6 +26,7 @@ struct Worker<'a, C> {
     // How many runs weren't followed to their ends.
     left_out: u64,
     failed: bool,
+    ghost some: { 0 < choices },
 }
 
 impl<C: Clock> Worker<'_, C> {
@@ -53,7 +58,7 @@ impl<C: Clock> Worker<'_, C> {
 
 /// What a search came to.
 #[derive(Clone, Copy, Debug, PartialEq, Eq)]
-pub struct Sought {
+pub struct Search {
     /// The lowest seed that fulfils.
     pub found: Option<u64>,
     /// How many choices the run in rounds has.
@@ -62,9 +67,26 @@ pub struct Sought {
     pub left_out: u64,
 }
 
+// The lower of two seeds, of which each may be none.
+fn lower(one: Option<u64>, other: Option<u64>) -> Option<u64>
+    ensures { result ≡ lower one other }
+{
+    match (one, other) {
+        (Some(seed), Some(next)) => Some(seed.min(next)),
+        (seed, None) => seed,
+        (None, seed) => seed,
+    }
+}
+
 // The lowest seed that a worker found.
-fn lowest<C>(workers: &[Worker<'_, C>]) -> Option<u64> {
-    workers.iter().filter_map(|worker| worker.found).min()
+fn lowest<C>(workers: &[Worker<'_, C>]) -> Option<u64>
+    ensures { result ≡ lowest_from None (map (λ w. w.found) workers.now) }
+{
+    let mut seed = None;
+    for worker in workers {
+        seed = lower(seed, worker.found);
+    }
+    seed
 }
 
 // As many workers as there are processors, or as there are seeds.
@@ -75,7 +97,10 @@ fn workers<'a, R: Threads + Clock>(
     plan: &'a HuntPlan<'a>,
     count: usize,
     choices: u32,
-) -> Result<Vec<Worker<'a, R>>, AllocError> {
+) -> Result<Vec<Worker<'a, R>>, AllocError>
+    requires allowed { IsAllowed plan.now.record.profile image.now }
+    requires choices { 0 < choices }
+{
     let mut workers = Vec::with_capacity(alloc, count)?;
     for _ in 0..count {
         workers.push(Worker {
@@ -90,7 +115,9 @@ fn workers<'a, R: Threads + Clock>(
 }
 
 // How many processors there are.
-fn processors(rt: &impl Threads) -> usize {
+fn processors(rt: &impl Threads) -> usize
+    ensures { 0 < result }
+{
     match thread::available_parallelism(rt) {
         Ok(count) => count.get().min(MOST_WORKERS),
         Err(_) => 1,
@@ -115,12 +142,15 @@ fn left_out<C>(workers: &[Worker<'_, C>]) -> u64 {
 ///
 /// # Errors
 /// Out of memory.
-pub fn sought<R: Threads + Clock + Sync + Eprint>(
+pub fn lowest_seed<R: Threads + Clock + Sync + Eprint>(
     rt: &R,
     alloc: Global,
     image: &Image,
     plan: &HuntPlan<'_>,
-) -> Result<Sought, AllocError> {
+) -> Result<Search, AllocError>
+    requires { IsAllowed plan.now.record.profile image.now }
+    ensures { IfOk result (λ s. 0 < s.choices) }
+{
     let choices = Seeker::new(alloc, rt, image, plan)?.choices()?;
     let count = processors(rt);
     let mut workers = workers(rt, alloc, image, plan, count, choices)?;
@@ -143,7 +173,7 @@ pub fn sought<R: Threads + Clock + Sync + Eprint>(
         }
         stretches.took(shown.tried(rt, stretch));
     }
-    Ok(Sought {
+    Ok(Search {
         found,
         choices,
         left_out: left_out(workers.as_slice()),
