@@ -7,6 +7,7 @@ ghost use Rattle.ir_chaos.specs.Moments.{moment_of, Ran, RanToEnd, Took, TookSom
 ghost use Rattle.ir_chaos.specs.Schedules.{is_rest, AreReady, IsChosen};
 ghost use Rattle.ir_chaos.specs.declared.chooser.Chooser.{Chooser};
 ghost use Rattle.ir_flat.specs.Flat.{tables, machine, thread_of, IsFlat};
+ghost use Rattle.ir_record.specs.Worlds.{AreSameWorlds};
 ghost use Rattle.ir_runs.specs.Run.{Can};
 ghost use Rattle.ir_thread.specs.Calls.{ask_of};
 ghost use Rattle.ir_thread.specs.Instance.{shared_ask};
@@ -39,6 +40,7 @@ impl<W: World> Runner<'_, W> {
         ensures ready { OnOk result (IsReady W.broken self.new) }
         ensures others { OnOk result ((tries : Bool) → OthersRest tries t self.old.flat self.new.flat) }
         ensures fewer { OnOk result (TookSome 1 self.old.flat self.new.flat) }
+        ensures kept { AreSameWorlds W.origin self.old.worlds.items self.new.worlds.items }
         ensures told { IfErr result (Tells W.broken self.new) }
     {
         match asked {
@@ -66,6 +68,7 @@ impl<W: World> Runner<'_, W> {
         ensures flat { IsFlat self.new.flat }
         ensures others { OnOk result ((tries : Bool) → OthersRest tries t self.old.flat self.new.flat) }
         ensures fewer { OnOk result (TookSome 0 self.old.flat self.new.flat) }
+        ensures kept { AreSameWorlds W.origin self.old.worlds.items self.new.worlds.items }
         ensures told { IfErr result (Tells W.broken self.new) }
     {
         let (count, asked) = self.flat.run_to_ask(t, u64::MAX);
@@ -85,6 +88,7 @@ impl<W: World> Runner<'_, W> {
         ensures ready { OnOk result (IsReady W.broken self.new) }
         ensures others { OnOk result (OthersRest tries t self.old.flat self.new.flat) }
         ensures fewer { OnOk result (TookSome 0 self.old.flat self.new.flat) }
+        ensures kept { AreSameWorlds W.origin self.old.worlds.items self.new.worlds.items }
         ensures told { IfErr result (Tells W.broken self.new) }
     {
         'steps: loop {
@@ -102,6 +106,7 @@ impl<W: World> Runner<'_, W> {
         ensures ran { OnOk result ((c : Chooser) → Ran tries (moment_of W.answers self.old) c (moment_of W.answers self.new) c) }
         ensures rest { OnOk result (AllRest tries self.new.flat) }
         ensures ready { OnOk result (IsReady W.broken self.new) }
+        ensures kept { AreSameWorlds W.origin self.old.worlds.items self.new.worlds.items }
         ensures told { IfErr result (Tells W.broken self.new) }
     {
         'threads: for t in 0..self.flat.threads().len() {
@@ -134,6 +139,7 @@ impl<W: World> Runner<'_, W> {
         ensures rest { OnOk result (AllRest tries self.new.flat) }
         ensures ready { OnOk result (IsReady W.broken self.new) }
         ensures fewer { OnOk result (TookSome 1 self.old.flat self.new.flat) }
+        ensures kept { AreSameWorlds W.origin self.old.worlds.items self.new.worlds.items }
         ensures told { IfErr result (Tells W.broken self.new) }
     {
         let asked = self.flat.ask(t);
@@ -143,25 +149,28 @@ impl<W: World> Runner<'_, W> {
     }
 
     /// The whole run by the chooser, from the guest's start. Its steps are added to the turns. Where
-    /// there are tries, a thread also rests before it leaves an object.
+    /// there are tries, a thread also rests before it leaves an object. How many choices it made is not proved.
     ///
     /// # Errors
     /// `Stop::World` if a thread's world fails; `Stop::TooLong` if the turns don't fit. The guest is then on the way.
-    pub fn run(&mut self, tries: bool, chooser: &mut Chooser) -> Result<(), Stop>
+    pub fn run(&mut self, tries: bool, chooser: &mut Chooser) -> Result<u32, Stop>
         requires start { IsStartOfGuest self.old.flat }
         requires ready { IsReady W.broken self.old }
         requires serves { Serves (length self.old.flat.threads) chooser.old }
         ensures ran { OnOk result (RanToEnd tries (moment_of W.answers self.old) chooser.old (moment_of W.answers self.new)) }
         ensures ready { OnOk result (IsReady W.broken self.new) }
+        ensures kept { AreSameWorlds W.origin self.old.worlds.items self.new.worlds.items }
         ensures told { IfErr result (Tells W.broken self.new) }
     {
         self.go_to_rests(tries)?;
+        let mut choices = 0u32;
         'choices: loop {
             let ready = self.ready();
             if ready.is_empty() {
-                return Ok(());
+                return Ok(choices);
             }
             let thread = chooser.choose(self.flat.threads().len(), ready.as_slice());
+            choices = choices.saturating_add(1);
             self.turn(tries, thread as usize)?;
         }
     }

@@ -6,7 +6,7 @@ ghost use Rattle.ir_chaos.specs.Schedules.{is_rest};
 ghost use Rattle.ir_chaos.specs.declared.stop.Stop.TheVariants.{World};
 ghost use Rattle.ir_flat.specs.Flat.{machine, tables, thread_of};
 ghost use Rattle.ir_record.specs.Progress.{answers_at};
-ghost use Rattle.ir_record.specs.Worlds.{NoneFailed, IsFirstFailed};
+ghost use Rattle.ir_record.specs.Worlds.{NoneFailed, IsFirstFailed, AreSameWorlds};
 ghost use Rattle.ir_runs.specs.Run.{Can};
 ghost use Rattle.ir_thread.specs.Calls.{ask_of};
 ghost use Rattle.ir_thread.specs.Instance.{is_result, shared_ask};
@@ -37,6 +37,7 @@ pub fn answer_to<W: World>(worlds: &mut Vec<W>, t: usize, kind: EnvKind) -> Resu
     ensures gained { IfOk result (λ value. map W.answers worlds.new.items ≡ slice_set (map W.answers worlds.old.items) t (answers_at (map W.answers worlds.old.items) t ++ (kind, value) ∷ [])) }
     ensures works { OnOk result (NoneFailed (map W.broken worlds.new.items)) }
     ensures each { OnOk result (length worlds.new.items ≡ length worlds.old.items) }
+    ensures kept { AreSameWorlds W.origin worlds.old.items worlds.new.items }
     ensures why { IfErr result (λ stop. stop ≡ World t) }
     ensures failed { IfErr result (λ _. IsFirstFailed (map W.broken worlds.new.items) t) }
 {

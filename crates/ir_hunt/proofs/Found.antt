@@ -1,11 +1,8 @@
 -- What was found, and what is recorded of it.
-use Rattle.std.proofs.Common.{◌≡◌, ◌<◌, ℕ, zero, suc, List, [], ◌++◌, length, get_or, true, sym, ap, ◌∙◌, subst, refl}
-use Rattle.std.specs.Prelude.{Some, Ok, Result, slice_get, replicate}
-use Rattle.std.specs.List.{list_all}
-use Rattle.std.proofs.lemmas.Option.{get_or_from_slice_get}
+use Rattle.std.proofs.Common.{◌≡◌, ◌<◌, ◌≤◌, ℕ, zero, suc, List, [], ◌++◌, length, get_or, true, sym, ap, ◌∙◌, subst, refl}
+use Rattle.std.specs.Prelude.{◌≢◌, replicate}
+use Rattle.std.specs.List.{list_all, AllByRecursion}
 use Rattle.ir_image.specs.Guest.{Guest}
-use Rattle.ir_image.specs.Reading.{guest_at}
-use Rattle.ir_image.specs.declared.image_err.ImageErr.{ImageErr}
 use Rattle.ir_flat.specs.Flat.{tables, machine}
 use Rattle.ir_flat.proofs.CallerLemmas.{threads_length}
 use Rattle.ir_runs.specs.InOrder.{IsByOrder}
@@ -15,17 +12,17 @@ use Rattle.ir_record.specs.Progress.{answers_at}
 use Rattle.ir_record.specs.Turns.{order_of_turns}
 use Rattle.ir_record.specs.Worlds.{Answered, answers_in}
 use Rattle.ir_sources.specs.Sources.{origin_of, IsAnswered}
-use Rattle.ir_record_run.specs.Order.{order_of}
 use Rattle.ir_record_run.specs.Plan.{Plan}
 use Rattle.ir_record_run.specs.Recording.{IsRecordedOf}
-use Rattle.ir_order.specs.OneRun.{AreSame}
-use Rattle.ir_order.proofs.CallerLemmas.{one_run_by_an_order}
-use Rattle.ir_chaos.proofs.CallerLemmas.{schedules_are_orders}
+use Rattle.ir_order.specs.Recording.{IsPlanned}
+use Rattle.ir_order.specs.Spelling.{Spells}
+use Rattle.ir_order.proofs.CallerLemmas.{complete_runs, recordings_of_run}
+use Rattle.ir_chaos.proofs.CallerLemmas.{schedules_are_orders, schedules_are_of_threads}
 use Rattle.ir_chaos.specs.Conditions.{Condition, fulfils, outcome_of}
 use Rattle.ir_chaos.specs.Moments.{Moment}
 use Rattle.ir_chaos.specs.Schedules.{IsSchedule, threads_of}
 use Rattle.ir_chaos.specs.declared.chooser.Chooser.{Chooser}
-use Rattle.ir_hunt.specs.Finding.{first, IsSourced, FulfilsEach, IsFound, IsFinding, by_list}
+use Rattle.ir_hunt.specs.Finding.{first, FulfilsEach, IsFound, IsFoundIn, IsFinding, by_list}
 use Rattle.ir_hunt.specs.Seeking.{RanBy, has_tries}
 
 -- no world had answered
@@ -47,7 +44,7 @@ by_turns guest plan chooser run h = schedules_are_orders (has_tries plan.profile
 pub found_run : (guest : Guest) (plan : Plan) (conditions : List Condition) (chooser : Chooser) (b : Moment) → RanBy guest plan chooser b
     → ((t : ℕ) → t < length guest.entries → IsAnswered (origin_of true plan.random plan.input t) (answers_at b.answers t))
     → list_all (λ c. fulfils c (outcome_of b.flat)) conditions ≡ true
-    → (run : List Step) × IsSourced guest plan (order_of_turns b.turns) run × FulfilsEach guest plan conditions run
+    → (run : List Step) × IsPlanned guest plan (order_of_turns b.turns) run × FulfilsEach guest plan conditions run
 found_run guest plan conditions chooser b h answered holds = (
   h.run,
   record {
@@ -64,55 +61,44 @@ found_run guest plan conditions chooser b h answered holds = (
   },
 )
 
-same_guest : (a b : Guest) (r : Result Guest ImageErr) → r ≡ Ok a → r ≡ Ok b → a ≡ b
-same_guest a b r p q = cc (p, q)
+-- the turns of a run to its end are of the guest's threads
+of_threads : (guest : Guest) (plan : Plan) (chooser : Chooser) (b : Moment) → RanBy guest plan chooser b
+    → AllByRecursion (λ t. t < length guest.entries) (order_of_turns b.turns)
+of_threads guest plan chooser b h = subst (AllByRecursion (λ t. t < length guest.entries)) (sym h.gained.order)
+    (schedules_are_of_threads (has_tries plan.profile) (machine (first guest plan)) (length guest.entries) (tables (first guest plan)) chooser
+    h.run (subst (λ n. IsSchedule (has_tries plan.profile) (machine (first guest plan)) n (tables (first guest plan)) chooser h.run)
+    (threads_length guest plan.budget plan.profile 0 (length guest.entries)) h.schedule))
 
-same_order : (a b : List ℕ) (o : _) → o ≡ Some a → o ≡ Some b → a ≡ b
-same_order a b o p q = cc (p, q)
+-- and there are some
+pub some_turns : (guest : Guest) (plan : Plan) (chooser : Chooser) (b : Moment) → 1 ≤ length guest.entries → RanBy guest plan chooser b
+    → order_of_turns b.turns ≢ []
+some_turns guest plan chooser b some h none = complete_runs guest plan.budget plan.profile h.run some h.schedule.done
+    (sym h.gained.order ∙ none)
 
-same_answers : (answers : List (List Answered)) (n t : ℕ) (given : List Answered) → slice_get answers t ≡ Some (get_or (replicate n []) t [] ++ given)
-    → get_or answers t [] ≡ given
-same_answers answers n t given e = get_or_from_slice_get answers t (get_or (replicate n []) t [] ++ given) [] e
-    ∙ ap (λ z. z ++ given) (none_before n t)
+-- the list of a seed's turns, where what its run came to fulfils each condition
+pub found_by : (guest : Guest) (plan : Plan) (conditions : List Condition) (chooser : Chooser) (b : Moment) (list : List ℕ)
+    → RanBy guest plan chooser b
+    → ((t : ℕ) → t < length guest.entries → IsAnswered (origin_of true plan.random plan.input t) (answers_at b.answers t))
+    → list_all (λ c. fulfils c (outcome_of b.flat)) conditions ≡ true → Spells list (order_of_turns b.turns)
+    → IsFound guest plan conditions list
+found_by guest plan conditions chooser b list h answered holds spells =
+    let r = found_run guest plan conditions chooser b h answered holds in
+    record {
+      order = order_of_turns b.turns;
+      spelled = spells (length guest.entries) (of_threads guest plan chooser b h);
+      run = r.0;
+      planned = r.1;
+      fulfilled = r.2;
+    }
 
 -- a recording by the list is of the run that was found
 pub finding : (image : List ℕ) (plan : Plan) (conditions : List Condition) (list : List ℕ) (trace : Recorded) (outputs : List (List ℕ))
-    (guest : Guest) → guest_at image ≡ Ok guest → IsFound guest plan conditions list → IsRecordedOf image (by_list plan list) trace outputs
+    → IsFoundIn image plan conditions list → IsRecordedOf image (by_list plan list) trace outputs
     → IsFinding image plan conditions list trace outputs
-finding image plan conditions list trace outputs guest is found r =
-    let f : IsFound r.guest plan conditions list = subst (λ g. IsFound g plan conditions list)
-    (same_guest guest r.guest (guest_at image) is r.is) found in
-    let order = r.recorded.0 in
-    let rec = r.recorded.2 in
-    let same : f.order ≡ order = same_order f.order order (order_of (length r.guest.entries) list) f.spelled r.recorded.1 in
-    let sourced : IsSourced r.guest plan order rec.run = record {
-      by_order = rec.by_order;
-      answered = λ t l. subst (IsAnswered (origin_of true plan.random plan.input t))
-          (same_answers r.answers (length r.guest.entries) t
-          (answers_in (log (machine (first r.guest plan)) (tables (first r.guest plan)) rec.run t)) (rec.of.answered.each t l))
-          (r.answered t l);
-    } in
-    let one : AreSame (machine (first r.guest plan)) (tables (first r.guest plan)) f.run rec.run =
-    one_run_by_an_order r.guest plan.budget plan.profile order (origin_of true plan.random plan.input) f.run rec.run (λ t l. refl)
-    (subst (λ o. IsSourced r.guest plan o f.run) same f.sourced) sourced in
-    record {
-      guest = r.guest;
-      is = r.is;
-      found = record {
-        order = order;
-        spelled = r.recorded.1;
-        run = rec.run;
-        sourced = sourced;
-        fulfilled = record {
-          flat = f.fulfilled.flat;
-          came = record {
-            ends = f.fulfilled.came.ends ∙ one.ends;
-            threads = f.fulfilled.came.threads;
-            objects = f.fulfilled.came.objects;
-          };
-          each = f.fulfilled.each;
-        };
-      };
-      emitted = rec.of.emitted;
-      printed = rec.of.printed;
-    }
+finding image plan conditions list trace outputs found r = record {
+  guest = found.guest;
+  is = found.is;
+  found = found.found;
+  recorded = recordings_of_run image found.guest (by_list plan list) list found.found.order found.found.run trace outputs found.is refl
+      found.found.spelled found.found.planned r;
+}

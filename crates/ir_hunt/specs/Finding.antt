@@ -6,20 +6,14 @@ use Rattle.ir_image.specs.Reading.{guest_at}
 use Rattle.ir_runs.specs.Run.{Step, end}
 use Rattle.ir_flat.specs.Flat.{Flat, tables, machine, start_flat}
 use Rattle.ir_trace.specs.Recorded.{Recorded}
-use Rattle.ir_record.specs.Recording.{IsTraceOf, AreOutputs}
-use Rattle.ir_sources.specs.Sources.{origin_of}
 use Rattle.ir_record_run.specs.Order.{order_of}
 use Rattle.ir_record_run.specs.Plan.{Plan}
-use Rattle.ir_order.specs.OneRun.{IsAnsweredByOrder}
+use Rattle.ir_order.specs.Recording.{IsPlanned, IsOfRun}
 use Rattle.ir_chaos.specs.Conditions.{Condition, fulfils, outcome_of}
 
 -- the guest before its first step
 abbrev pub first : Guest → Plan → Flat
 first guest plan = start_flat guest plan.budget plan.profile
-
--- the complete run of the guest by the order, each of whose threads was answered by its own sources
-abbrev pub IsSourced : Guest → Plan → List ℕ → List Step → Type 0
-IsSourced guest plan order run = IsAnsweredByOrder guest plan.budget plan.profile order (origin_of true plan.random plan.input) run
 
 -- these threads and objects are what the guest came to by the run
 pub record CameTo (guest : Guest) (plan : Plan) (run : List Step) (f : Flat) : Type 0 where
@@ -38,7 +32,7 @@ pub record IsFound (guest : Guest) (plan : Plan) (conditions : List Condition) (
   pub order : List ℕ
   pub spelled : order_of (length guest.entries) list ≡ Some order
   pub run : List Step
-  pub sourced : IsSourced guest plan order run
+  pub planned : IsPlanned guest plan order run
   pub fulfilled : FulfilsEach guest plan conditions run
 
 -- the same of an image's guest
@@ -53,8 +47,7 @@ pub record IsFinding (image : List ℕ) (plan : Plan) (conditions : List Conditi
   pub guest : Guest
   pub is : guest_at image ≡ Ok guest
   pub found : IsFound guest plan conditions list
-  pub emitted : IsTraceOf guest plan.budget plan.profile found.run trace
-  pub printed : AreOutputs guest plan.budget plan.profile found.run outputs
+  pub recorded : IsOfRun guest plan.budget plan.profile found.run trace outputs
 
 -- how what was found is recorded
 abbrev pub by_list : Plan → List ℕ → Plan

@@ -70,13 +70,13 @@ pub fn order_of_seed<C: Clock>(
     alloc: Global,
     clock: &C,
     image: &ParsedImage<'_>,
-    record: RecordPlan<'_>,
+    how: RecordPlan<'_>,
     way: Way,
     seed: u64,
 ) -> Result<String, RecordFault> {
-    let guest = image.allowed(&record)?;
+    let guest = image.allowed(&how)?;
     let plan = HuntPlan {
-        record,
+        record: how,
         way,
         seeds: Seeds {
             first: seed,
@@ -184,6 +184,19 @@ fn tell_left_out<E: Sink>(alloc: Global, faults: &mut E, count: u64)
     tell(faults, words.as_str());
 }
 
+// How a guest is recorded by a list.
+fn by_list<'a>(how: &RecordPlan<'a>, list: &'a str) -> RecordPlan<'a>
+    ensures { result ≡ by_list how.now list.now }
+{
+    RecordPlan {
+        order: Some(list),
+        budget: how.budget,
+        random: how.random,
+        input: how.input,
+        profile: how.profile,
+    }
+}
+
 // The recording of what was found by its list.
 fn recorded<R, W, P, O, E>(
     rt: &R,
@@ -210,21 +223,16 @@ where
         × TookEach (output_writer_of (P.taken outputs.old) (P.taken outputs.new) (P.broken outputs.new)) printed
         × Appends (O.written out.old) (O.written out.new) (found_line found.now.seed (string_bytes found.now.list) ++ lines_of recorded)) }
 {
-    let Ok(line) = found_line(rt.alloc(), found.seed, found.list.as_str()) else {
+    let list = found.list.as_str();
+    let Ok(line) = found_line(rt.alloc(), found.seed, list) else {
         tell(faults, RecordFault::NoMem.words());
         return Err(ExitStatus::Failed);
     };
-    let by_list = RecordPlan {
-        order: Some(found.list.as_str()),
-        budget: plan.record.budget,
-        random: plan.record.random,
-        input: plan.record.input,
-        profile: plan.record.profile,
-    };
+    let plan = by_list(&plan.record, list);
     record_found(
         rt,
         image,
-        &by_list,
+        &plan,
         line.as_str(),
         trace,
         outputs,

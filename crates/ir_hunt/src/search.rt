@@ -45,7 +45,9 @@ impl<C: Clock> Worker<'_, C> {
     }
 
     // Tries each seed of a stretch from one on, by as many as there are workers, until one fulfils.
-    fn seek(&mut self, stretch: Seeds, place: u64, workers: u64) {
+    fn seek(&mut self, stretch: Seeds, place: u64, workers: u64)
+        requires { 0 < workers }
+    {
         let mut next = stretch.first.checked_add(place);
         'seeds: while let Some(seed) = next {
             if seed > stretch.last || self.try_seed(seed) {

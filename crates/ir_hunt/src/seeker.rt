@@ -1,14 +1,15 @@
 //! What runs a guest by one seed after another.
 
-ghost use Rattle.std.specs.Prelude.{◌≡◌, ◌<◌, [], length, map, replicate, true, false, IfOk, OnOk};
+ghost use Rattle.std.specs.Prelude.{◌≡◌, ◌≢◌, ◌<◌, [], length, map, replicate, true, false, IfOk, OnOk};
 ghost use Rattle.std.specs.List.{list_all};
 ghost use Rattle.ir_thread.specs.Allowed.{IsAllowed};
+ghost use Rattle.ir_record.specs.Turns.{order_of_turns};
 ghost use Rattle.ir_record.specs.Worlds.{NoneFailed};
 ghost use Rattle.ir_sources.specs.Sources.{made_with, origins};
 ghost use Rattle.ir_chaos.specs.Choices.{Serves, chooser_of};
 ghost use Rattle.ir_chaos.specs.Conditions.{as_condition, fulfils, outcome_of};
 ghost use Rattle.ir_chaos.specs.Moments.{moment_of};
-ghost use Rattle.ir_hunt.specs.Seeking.{fresh, RanBy};
+ghost use Rattle.ir_hunt.specs.Seeking.{has_tries, fresh, RanBy};
 
 use crate::plan::HuntPlan;
 use ir_chaos::{Chooser, Runner, Stop};
@@ -55,11 +56,21 @@ pub struct Seeker<'a, C> {
     ghost origins: { map (λ w. made_with w.time w.seed w.file.now) runner.worlds.items ≡ origins true plan.now.record.random plan.now.record.input (length image.now.entries) },
 }
 
+// Whether there are tries.
+fn has_tries(profile: Profile) -> bool
+    ensures { result ≡ has_tries profile }
+{
+    match profile {
+        Profile::One => false,
+        Profile::Two => true,
+    }
+}
+
 // Each world is as it was before its first answer.
-fn restart_all<C>(worlds: &mut [ProgramWorld<'_, C>])
-    ensures made { map (λ w. made_with w.time w.seed w.file.now) worlds.new ≡ map (λ w. made_with w.time w.seed w.file.now) worlds.old }
-    ensures answers { map (λ w. w.answers.items) worlds.new ≡ replicate (length worlds.old) [] }
-    ensures works { NoneFailed (map (λ w. w.failed) worlds.new) }
+fn restart_all<C>(worlds: &mut Vec<ProgramWorld<'_, C>>)
+    ensures made { map (λ w. made_with w.time w.seed w.file.now) worlds.new.items ≡ map (λ w. made_with w.time w.seed w.file.now) worlds.old.items }
+    ensures answers { map (λ w. w.answers.items) worlds.new.items ≡ replicate (length worlds.old.items) [] }
+    ensures works { NoneFailed (map (λ w. w.failed) worlds.new.items) }
 {
     for place in 0..worlds.len() {
         worlds[place].restart();
@@ -114,22 +125,22 @@ impl<'a, C: Clock> Seeker<'a, C> {
     {
         let record = &self.plan.record;
         self.runner.flat = Flat::start(self.alloc, self.image, record.budget, record.profile)?;
-        restart_all(self.runner.worlds.as_mut_slice());
+        restart_all(&mut self.runner.worlds);
         self.runner.turns.clear();
         Ok(())
     }
 
-    // The run by a chooser.
-    fn run(&mut self, chooser: &mut Chooser) -> Result<(), Lost>
+    // The run by a chooser, and how many choices it made.
+    fn run(&mut self, chooser: &mut Chooser) -> Result<u32, Lost>
         requires serves { Serves (length self.old.image.now.entries) chooser.old }
         ensures image { self.new.image ≡ self.old.image }
         ensures plan { self.new.plan ≡ self.old.plan }
         ensures ran { OnOk result (RanBy self.old.image.now self.old.plan.now.record chooser.old (moment_of (λ w. w.answers.items) self.new.runner)) }
     {
         self.restart()?;
-        let tries = self.plan.record.profile == Profile::Two;
-        self.runner.run(tries, chooser)?;
-        Ok(())
+        let record = &self.plan.record;
+        let tries = has_tries(record.profile);
+        Ok(self.runner.run(tries, chooser)?)
     }
 
     /// How many choices the run in rounds has, at least 1; as many as a run may have where it has too many.
@@ -144,7 +155,7 @@ impl<'a, C: Clock> Seeker<'a, C> {
         match self.run(&mut Chooser::rounds()) {
             Err(Lost::NoMem) => Err(AllocError),
             Err(Lost::TooLong) => Ok(MOST_TURNS as u32),
-            Ok(()) => Ok((self.runner.turns.len() as u32).max(1)),
+            Ok(choices) => Ok(choices.max(1)),
         }
     }
 
@@ -168,6 +179,7 @@ impl<'a, C: Clock> Seeker<'a, C> {
         ensures image { self.new.image ≡ self.old.image }
         ensures plan { self.new.plan ≡ self.old.plan }
         ensures ran { OnOk result (RanBy self.old.image.now self.old.plan.now.record (chooser_of self.old.plan.now.way seed (length self.old.image.now.entries) choices) (moment_of (λ w. w.answers.items) self.new.runner)) }
+        ensures some { OnOk result (order_of_turns self.new.runner.turns.items ≢ []) }
         ensures each { IfOk result (λ b. b ≡ list_all (λ c. fulfils (as_condition c) (outcome_of self.new.runner.flat)) self.old.plan.now.conditions.now) }
     {
         let threads = self.image.entries().len();

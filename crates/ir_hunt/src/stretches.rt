@@ -1,5 +1,8 @@
 //! The seeds of a hunt, a stretch at a time.
 
+ghost use Rattle.std.specs.Prelude.{◌≡◌, ◌<◌, OnSome};
+ghost use Rattle.ir_hunt.specs.Seeds.{seeds_left};
+
 use crate::plan::Seeds;
 
 // The most seeds of a stretch, for each worker.
@@ -28,7 +31,9 @@ impl Stretches {
     }
 
     /// The next stretch, if seeds are left.
-    pub fn next(&mut self) -> Option<Seeds> {
+    pub fn next(&mut self) -> Option<Seeds>
+        ensures fewer { OnSome result (seeds_left self.new.left < seeds_left self.old.left) }
+    {
         let Seeds { first, last } = self.left?;
         let more = self.each.saturating_mul(self.workers).saturating_sub(1);
         let end = first.saturating_add(more).min(last);
@@ -44,7 +49,9 @@ impl Stretches {
     }
 
     /// The last stretch took so many milliseconds.
-    pub fn took(&mut self, millis: u32) {
+    pub fn took(&mut self, millis: u32)
+        ensures { self.new.left ≡ self.old.left }
+    {
         if millis < ENOUGH_MILLIS && self.each < MOST_EACH {
             self.each *= 2;
         }

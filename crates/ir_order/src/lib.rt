@@ -1,28 +1,11 @@
-//! Orders as lists (a stand-in).
+//! Orders that are printed and recorded again: the list of an order, and that the run by an order is one.
 #![tactic(auto)]
 
-use ir_record::Turns;
-use std::alloc::{AllocError, Global};
+mod laws;
+mod list;
 
-/// The list.
-pub fn list_of(alloc: Global, turns: &[Turns]) -> Result<String, AllocError> {
-    let mut list = String::new(alloc);
-    for part in turns {
-        let mut left = part.count;
-        while left > 0 {
-            let count = left.min(1_000_000);
-            if !list.is_empty() {
-                list.push(',')?;
-            }
-            let thread = part.thread;
-            let item = if count == 1 {
-                format!(in alloc; "{thread}")?
-            } else {
-                format!(in alloc; "{thread}x{count}")?
-            };
-            list.push_str(item.as_str())?;
-            left -= count;
-        }
-    }
-    Ok(list)
-}
+pub use laws::{
+    complete_runs_have_steps, one_recording_by_a_list, one_run_by_an_order,
+    recordings_are_of_the_run,
+};
+pub use list::list_of;

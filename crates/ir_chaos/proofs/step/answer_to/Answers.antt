@@ -1,3 +1,5 @@
+use Rattle.std.proofs.Common.{◌∙◌, ap}
+use Rattle.std.proofs.Math.Seq.{map-set_same}
 use Rattle.ir_chaos.proofs.Worlds.{works_at, gained_at, still_works, first_failed}
 use Rattle.ir_chaos.proofs.step.answer_to.Goals as goal
 
@@ -16,3 +18,11 @@ returns-in-Ok-clause-works g c = still_works g.W.World.broken c.args.worlds.now.
 pub returns-in-Err-clause-failed : goal.returns-in-Err-clause-failed
 returns-in-Err-clause-failed g c = first_failed g.W.World.broken c.args.worlds.now.items c.args.t c.answer.new.self c.requires.works
     c.requires.thread c.in-Err.ensures.failed
+
+pub returns-in-Ok-clause-kept : goal.returns-in-Ok-clause-kept
+returns-in-Ok-clause-kept g c = map-set_same g.W.World.origin c.args.worlds.now.items c.args.t c.answer.new.self c.index_mut.result.now
+    (c.in-Ok.ensures.origin ∙ ap g.W.World.origin c.index_mut.ensures.value)
+
+pub returns-in-Err-clause-kept : goal.returns-in-Err-clause-kept
+returns-in-Err-clause-kept g c = map-set_same g.W.World.origin c.args.worlds.now.items c.args.t c.answer.new.self c.index_mut.result.now
+    (c.in-Err.ensures.origin ∙ ap g.W.World.origin c.index_mut.ensures.value)

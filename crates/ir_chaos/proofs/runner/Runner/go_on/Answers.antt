@@ -9,6 +9,7 @@ use Rattle.ir_chaos.proofs.runner.Runner.go_on.Goals as goal
 
 pub steps-init : goal.steps-init
 steps-init g c = record {
+  kept = refl;
   ran = λ d. ran_nothing c.args.tries (moment_of g.W.World.answers c.args.self.now) d;
   ready = c.requires.ready;
   thread = c.requires.thread;
@@ -49,6 +50,7 @@ steps-preserved g c =
     rest_of c.args.tries c.run_to_ask.new.self.flat c.args.t c.in_ok-asked.asked false c.in_ok-asked.ensures.asked
     (sym c.if-is_rest.false ∙ c.is_rest.ensures) in
     record {
+      kept = c.in_ok-step.ensures.kept ∙ c.in_ok-asked.ensures.kept ∙ c.steps.invariant.kept;
       ran = λ d.
           ran_both c.args.tries (moment_of g.W.World.answers c.args.self.now) (moment_of g.W.World.answers c.run_to_ask.new.self)
           (moment_of g.W.World.answers c.step.new.self) d d d

@@ -1,12 +1,14 @@
 use Rattle.std.proofs.Common.{◌≡◌, ◌<◌, ℕ, length}
 use Rattle.ir_flat.specs.Flat.{tables}
 use Rattle.ir_record.specs.Progress.{all_left}
+use Rattle.ir_record.specs.Worlds.{AreSameWorlds}
 use Rattle.ir_chaos.specs.Moments.{moment_of, Ran, TookSome, IsAtRest, OthersRest, IsReady}
 use Rattle.ir_chaos.specs.declared.chooser.Chooser.{Chooser}
 use Rattle.ir_chaos.proofs.runner.Runner.go_on.Given as goal
 
 abbrev pub invariant-steps : goal.invariant-steps
 invariant-steps g l = record {
+  kept : AreSameWorlds g.W.World.origin l.fn.self.worlds.items l.self.worlds.items;
   ran : (c : Chooser) → Ran l.fn.tries (moment_of g.W.World.answers l.fn.self) c (moment_of g.W.World.answers l.self) c;
   ready : IsReady g.W.World.broken l.self;
   thread : l.t < length l.self.flat.threads;

@@ -7,6 +7,7 @@ use Rattle.ir_chaos.proofs.runner.Runner.go_to_rests.Goals as goal
 
 pub threads-init : goal.threads-init
 threads-init g c = record {
+  kept = refl;
   ran = λ d. ran_nothing c.args.tries (moment_of g.W.World.answers c.args.self.now) d;
   ready = c.requires.ready;
   rest = λ u l. absurd (omega (arith, l));
@@ -15,6 +16,7 @@ threads-init g c = record {
 
 pub threads-preserved : goal.threads-preserved
 threads-preserved g c = record {
+  kept = c.in_ok-go_on.ensures.kept ∙ c.threads.invariant.kept;
   ran = λ d. ran_both c.args.tries (moment_of g.W.World.answers c.args.self.now) (moment_of g.W.World.answers c.threads.self)
       (moment_of g.W.World.answers c.go_on.new.self) d d d (c.threads.invariant.ran d) (c.in_ok-go_on.ensures.ran d);
   ready = c.in_ok-go_on.ensures.ready;

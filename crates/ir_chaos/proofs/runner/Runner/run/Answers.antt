@@ -12,6 +12,7 @@ use Rattle.ir_chaos.proofs.runner.Runner.run.Goals as goal
 
 pub choices-init : goal.choices-init
 choices-init g c = record {
+  kept = c.in_ok-go_to_rests.ensures.kept;
   ran = c.in_ok-go_to_rests.ensures.ran c.args.chooser.now;
   ready = c.in_ok-go_to_rests.ensures.ready;
   rest = c.in_ok-go_to_rests.ensures.rest;
@@ -56,6 +57,7 @@ ran g c = c.in_ok-turn.ensures.ran c.choices.chooser c.choose-thread.new.self (r
 
 pub choices-preserved : goal.choices-preserved
 choices-preserved g c = record {
+  kept = c.in_ok-turn.ensures.kept ∙ c.choices.invariant.kept;
   ran = ran_both c.args.tries (moment_of g.W.World.answers c.args.self.now) (moment_of g.W.World.answers c.choices.self)
       (moment_of g.W.World.answers c.turn.new.self) c.args.chooser.now c.choices.chooser c.choose-thread.new.self c.choices.invariant.ran
       (ran g c);
