@@ -2,6 +2,7 @@
 
 use crate::assemble::AssembleArguments;
 use crate::debug::DebugArguments;
+use crate::hunt::HuntArguments;
 use crate::record::RecordArguments;
 use crate::trace::TraceArguments;
 
@@ -14,6 +15,8 @@ pub enum Asked {
     Assemble(AssembleArguments),
     /// A recording.
     Record(RecordArguments),
+    /// A hunt.
+    Hunt(HuntArguments),
     /// A session of an image and a trace in files.
     Debug(DebugArguments),
     /// The lines of a trace.

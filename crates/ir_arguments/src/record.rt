@@ -1,30 +1,32 @@
 //! The arguments of `ir record`.
 
-ghost use Rattle.std.specs.Prelude.{◌≡◌, ◌≤◌, option_map};
-ghost use Rattle.ir_thread.specs.Calls.{most_budget};
+ghost use Rattle.std.specs.Prelude.{◌≡◌, option_map};
 
 use crate::asked::Asked;
+use crate::recording::{RecordingOptions, no_number, options_of, with_options};
+use crate::seeds::{by_arg, way_by};
 use crate::values::{IMAGE, TRACE, file_arg, given_text, text_of};
 use clap::{Arg, ArgAction, ArgMatches, Command};
+use ir_chaos::Way;
 use ir_record_run::{RecordPlan, number_within};
-use ir_thread::{MOST_BUDGET, Profile};
 use std::alloc::{AllocError, Global};
 
 const ORDER: &str = "order";
 
 const ORDER_FILE: &str = "order-file";
 
-const BUDGET: &str = "budget";
-
-const RANDOM: &str = "random";
-
-const PROFILE: &str = "profile";
-
-const INPUT: &str = "input";
-
-const OUTPUT: &str = "output";
+const CHAOS: &str = "chaos";
 
 const STATUS: &str = "status";
+
+/// A seed that gives an order.
+#[derive(Clone, Copy, Debug, PartialEq, Eq)]
+pub struct Chaos {
+    /// The seed.
+    pub seed: u64,
+    /// How it chooses which thread goes on.
+    pub way: Way,
+}
 
 /// What follows the help of `ir record`.
 pub const RECORD_AFTER: &str =
@@ -69,33 +71,20 @@ pub struct RecordArguments {
     pub order: Option<String>,
     /// The file with that list, if it is given so.
     pub order_file: Option<String>,
-    /// The most steps of each thread.
-    pub budget: u64,
-    /// Where random words start.
-    pub random: u64,
-    /// Which system calls guests may make.
-    pub profile: Profile,
-    /// The file that guests read.
-    pub input: Option<String>,
-    /// What the paths of the files of what threads print begin with, if they are asked for.
-    pub output: Option<String>,
+    /// The seed that gives the order, and how, if it is given.
+    pub chaos: Option<Chaos>,
+    /// How the guest is recorded, by whatever order.
+    pub options: RecordingOptions,
     /// Whether the exit status says that a thread didn't end by END with code 0.
     pub status: bool,
-    ghost within: { budget ≤ most_budget },
 }
 
 impl RecordArguments {
     /// The plan of the recording, in the order of this list if there is one, of a guest that reads these bytes.
     pub fn plan<'a>(&self, order: Option<&'a str>, input: &'a [u8]) -> RecordPlan<'a>
-        ensures { result ≡ record { order = option_map (λ s. s.now) order.entry; budget = self.now.budget; random = self.now.random; input = input.now; profile = self.now.profile } }
+        ensures { result ≡ record { order = option_map (λ s. s.now) order.entry; budget = self.now.options.budget; random = self.now.options.random; input = input.now; profile = self.now.options.profile } }
     {
-        RecordPlan {
-            order,
-            budget: self.budget,
-            random: self.random,
-            input,
-            profile: self.profile,
-        }
+        self.options.plan(order, input)
     }
 }
 
@@ -114,47 +103,6 @@ fn order_file_arg<'a>(alloc: Global) -> Arg<'a> {
         .help("The file with LIST, in place of --order")
 }
 
-fn budget_arg<'a>(alloc: Global) -> Arg<'a> {
-    Arg::new(alloc, BUDGET)
-        .long(BUDGET)
-        .value_name("B")
-        .default_value("1000000")
-        .allow_negative_numbers(true)
-        .help("The most steps of each thread, at most 1000000000000")
-}
-
-fn random_arg<'a>(alloc: Global) -> Arg<'a> {
-    Arg::new(alloc, RANDOM)
-        .long(RANDOM)
-        .value_name("S")
-        .default_value("0")
-        .allow_negative_numbers(true)
-        .help("Where random words start, at most 18446744073709551615")
-}
-
-fn profile_arg<'a>(alloc: Global) -> Arg<'a> {
-    Arg::new(alloc, PROFILE)
-        .long(PROFILE)
-        .value_name("P")
-        .default_value("1")
-        .allow_negative_numbers(true)
-        .help("Which system calls there are: 1, calls 1 to 12, or 2, TRY_WRITE too")
-}
-
-fn input_arg<'a>(alloc: Global) -> Arg<'a> {
-    Arg::new(alloc, INPUT)
-        .long(INPUT)
-        .value_name("FILE")
-        .help("The file that guests read")
-}
-
-fn output_arg<'a>(alloc: Global) -> Arg<'a> {
-    Arg::new(alloc, OUTPUT)
-        .long(OUTPUT)
-        .value_name("PREFIX")
-        .help("What each thread T prints is written to the file PREFIX.T")
-}
-
 fn status_arg<'a>(alloc: Global) -> Arg<'a> {
     Arg::new(alloc, STATUS)
         .long(STATUS)
@@ -162,64 +110,65 @@ fn status_arg<'a>(alloc: Global) -> Arg<'a> {
         .help("Exits with status 5 if a thread doesn't end by END with code 0")
 }
 
+fn chaos_arg<'a>(alloc: Global) -> Arg<'a> {
+    Arg::new(alloc, CHAOS)
+        .long(CHAOS)
+        .value_name("SEED")
+        .allow_negative_numbers(true)
+        .help("The seed that gives the order, at most 18446744073709551615")
+}
+
 /// The command with its arguments.
 pub fn with_arguments<'a>(alloc: Global, command: Command<'a>) -> Result<Command<'a>, AllocError> {
-    command
+    let command = command
         .arg(file_arg(alloc, IMAGE, "The file with the image"))?
         .arg(file_arg(alloc, TRACE, "The file that the trace is written to"))?
         .arg(order_arg(alloc))?
         .arg(order_file_arg(alloc).conflicts_with(ORDER)?)?
-        .arg(budget_arg(alloc))?
-        .arg(random_arg(alloc))?
-        .arg(profile_arg(alloc))?
-        .arg(input_arg(alloc))?
-        .arg(output_arg(alloc))?
-        .arg(status_arg(alloc))
+        .arg(
+            chaos_arg(alloc)
+                .conflicts_with(ORDER)?
+                .conflicts_with(ORDER_FILE)?,
+        )?
+        .arg(by_arg(alloc))?;
+    with_options(alloc, command)?.arg(status_arg(alloc))
 }
 
-// That the value of an option is no number up to the most.
-fn no_number(alloc: Global, option: &str, value: &str, most: u64) -> Result<String, AllocError> {
-    format!(in alloc; "--{option}: '{value}' is no number up to {most}")
-}
-
-// The profile that the value of the option names.
-fn profile_of(value: &str) -> Option<Profile> {
-    match value {
-        "1" => Some(Profile::One),
-        "2" => Some(Profile::Two),
-        _ => None,
+// The seed that gives the order and how, if it is given, or else what is wrong with it.
+fn chaos_of(
+    alloc: Global,
+    matches: &ArgMatches<'_>,
+) -> Result<Result<Option<Chaos>, String>, AllocError> {
+    let way = match way_by(alloc, matches)? {
+        Ok(way) => way,
+        Err(why) => return Ok(Err(why)),
+    };
+    let Some(text) = matches.get_str(CHAOS) else {
+        return Ok(Ok(None));
+    };
+    match number_within(0, u64::MAX, text) {
+        Some(seed) => Ok(Ok(Some(Chaos { seed, way }))),
+        None => Ok(Err(no_number(alloc, CHAOS, text, u64::MAX)?)),
     }
-}
-
-// That the value of the option names no profile.
-fn no_profile(alloc: Global, option: &str, value: &str) -> Result<String, AllocError> {
-    format!(in alloc; "--{option}: '{value}' is neither 1 nor 2")
 }
 
 /// What its arguments ask for.
 pub fn asked(alloc: Global, matches: &ArgMatches<'_>) -> Result<Asked, AllocError> {
-    let budget = matches.get_str(BUDGET).unwrap_or_default();
-    let Some(most) = number_within(0, MOST_BUDGET, budget) else {
-        return Ok(Asked::Nothing(no_number(alloc, BUDGET, budget, MOST_BUDGET)?));
+    let options = match options_of(alloc, matches)? {
+        Ok(options) => options,
+        Err(why) => return Ok(Asked::Nothing(why)),
     };
-    let random = matches.get_str(RANDOM).unwrap_or_default();
-    let Some(start) = number_within(0, u64::MAX, random) else {
-        return Ok(Asked::Nothing(no_number(alloc, RANDOM, random, u64::MAX)?));
-    };
-    let profile = matches.get_str(PROFILE).unwrap_or_default();
-    let Some(calls) = profile_of(profile) else {
-        return Ok(Asked::Nothing(no_profile(alloc, PROFILE, profile)?));
+    let chaos = match chaos_of(alloc, matches)? {
+        Ok(chaos) => chaos,
+        Err(why) => return Ok(Asked::Nothing(why)),
     };
     Ok(Asked::Record(RecordArguments {
         image: text_of(alloc, matches, IMAGE)?,
         trace: text_of(alloc, matches, TRACE)?,
         order: given_text(alloc, matches, ORDER)?,
         order_file: given_text(alloc, matches, ORDER_FILE)?,
-        budget: most,
-        random: start,
-        profile: calls,
-        input: given_text(alloc, matches, INPUT)?,
-        output: given_text(alloc, matches, OUTPUT)?,
+        chaos,
+        options,
         status: matches.get_flag(STATUS),
     }))
 }

@@ -1,7 +1,7 @@
 //! The subcommands, in one table.
 
 use crate::asked::Asked;
-use crate::{assemble, debug, record, trace};
+use crate::{assemble, debug, hunt, record, trace};
 use clap::{ArgMatches, Command};
 use std::alloc::{AllocError, Global};
 
@@ -10,14 +10,16 @@ use std::alloc::{AllocError, Global};
 pub enum Subcommand {
     Assemble,
     Record,
+    Hunt,
     Debug,
     Trace,
 }
 
 /// The subcommands, in the order in which the help lists them.
-pub const SUBCOMMANDS: [Subcommand; 4] = [
+pub const SUBCOMMANDS: [Subcommand; 5] = [
     Subcommand::Assemble,
     Subcommand::Record,
+    Subcommand::Hunt,
     Subcommand::Debug,
     Subcommand::Trace,
 ];
@@ -44,6 +46,11 @@ impl Subcommand {
                 about: "Records a guest, and prints a line for each thread",
                 after: record::RECORD_AFTER,
             },
+            Subcommand::Hunt => Row {
+                name: "hunt",
+                about: "Records the first of many seeds' orders that fulfils conditions",
+                after: hunt::HUNT_AFTER,
+            },
             Subcommand::Debug => Row {
                 name: "debug",
                 about: "Debugs a recorded run, forwards and backwards",
@@ -66,6 +73,7 @@ impl Subcommand {
         match self {
             Subcommand::Assemble => assemble::with_arguments(alloc, command),
             Subcommand::Record => record::with_arguments(alloc, command),
+            Subcommand::Hunt => hunt::with_arguments(alloc, command),
             Subcommand::Debug => debug::with_arguments(alloc, command),
             Subcommand::Trace => trace::with_arguments(alloc, command),
         }
@@ -76,6 +84,7 @@ impl Subcommand {
         match self {
             Subcommand::Assemble => assemble::asked(alloc, matches),
             Subcommand::Record => record::asked(alloc, matches),
+            Subcommand::Hunt => hunt::asked(alloc, matches),
             Subcommand::Debug => debug::asked(alloc, matches),
             Subcommand::Trace => trace::asked(alloc, matches),
         }

@@ -4,7 +4,9 @@ ghost use Rattle.std.specs.Prelude.{◌≡◌, OnSome, false};
 
 pub mod assemble;
 pub mod debug;
+pub mod hunt;
 pub mod record;
+pub mod recording;
 pub mod trace;
 
 use ir_files::{Folder, loses, read_file, tell_of};

@@ -5,6 +5,7 @@ ghost use Rattle.std.specs.Prelude.{◌≡◌, false};
 use crate::bundles::bundle;
 use crate::commands::assemble::assemble_file;
 use crate::commands::debug::debug_files;
+use crate::commands::hunt::hunt_file;
 use crate::commands::record::record_file;
 use crate::commands::say;
 use crate::commands::trace::trace_file;
@@ -124,6 +125,9 @@ where
             out,
             faults,
         ),
+        Asked::Hunt(arguments) => {
+            hunt_file(rt, folder, &arguments, terminals.faults, out, faults)
+        }
         Asked::Debug(arguments) => {
             let mut input = Prompting::new(input, rt, terminals.input);
             debug_files(

@@ -1,138 +1,21 @@
 //! `ir record`: a guest in a file is recorded, its trace and what its threads print go into others.
 
-ghost use Rattle.std.specs.Prelude.{◌≡◌, OnSome, OnOk, false};
+ghost use Rattle.std.specs.Prelude.{◌≡◌, OnOk, false};
 
-use crate::commands::{bytes_of, is_lost, say};
+use crate::commands::recording::{RecordingPaths, input_of, loses_input, output_places};
+use crate::commands::{bytes_of, say};
 use crate::ends::{all_ended, tell_ends};
-use ir_arguments::RecordArguments;
-use ir_files::{
-    ExitStatus, Folder, MOST_BYTES, MOST_INPUT, OutputFiles, WholeFile, WholeSink, output_paths,
-};
+use ir_arguments::{Chaos, RecordArguments};
+use ir_files::{ExitStatus, Folder, MOST_BYTES, OutputFiles, WholeFile};
+use ir_hunt::order_of_seed;
 use ir_object::Gate;
 use ir_record_run::{ParsedImage, record_run};
 use ir_stream::Sink;
 use ir_trace::Trace;
-use std::alloc::{AllocError, Global};
+use std::alloc::Global;
 use std::sync::Wait;
 use std::thread::Threads;
 use std::time::Clock;
-
-// The bytes that guests read, none without a file.
-fn input_of<D: Folder, E: Sink>(
-    alloc: Global,
-    folder: &D,
-    faults: &mut E,
-    arguments: &RecordArguments,
-) -> Option<Vec<u8>>
-    ensures kept { OnSome result (faults.new ≡ faults.old) }
-{
-    match &arguments.input {
-        Some(path) => bytes_of(alloc, folder, faults, path.as_str(), MOST_INPUT),
-        None => Some(Vec::new(alloc)),
-    }
-}
-
-// Whether the file that is read, if one was given, would be lost by writing to a path, which is told.
-fn loses_given<D: Folder, E: Sink>(
-    folder: &D,
-    faults: &mut E,
-    would: &str,
-    file: &Option<String>,
-    written: &str,
-) -> bool
-    ensures kept { result ≡ false → faults.new ≡ faults.old }
-{
-    match file {
-        Some(file) => is_lost(folder, faults, would, file.as_str(), written),
-        None => false,
-    }
-}
-
-// Whether a recording's trace would be written over one of the files that it reads.
-fn loses_input<D: Folder, E: Sink>(folder: &D, faults: &mut E, arguments: &RecordArguments) -> bool
-    ensures kept { result ≡ false → faults.new ≡ faults.old }
-{
-    const OVER_IMAGE: &str = "TRACE would be written over IMAGE";
-    const OVER_FILE: &str = "TRACE would be written over FILE";
-    const OVER_LIST: &str = "TRACE would be written over LISTFILE";
-    let trace = arguments.trace.as_str();
-    is_lost(folder, faults, OVER_IMAGE, arguments.image.as_str(), trace)
-        || loses_given(folder, faults, OVER_FILE, &arguments.input, trace)
-        || loses_given(folder, faults, OVER_LIST, &arguments.order_file, trace)
-}
-
-// The paths of what the threads of an image print, if they are asked for.
-fn paths_of(
-    alloc: Global,
-    arguments: &RecordArguments,
-    image: &ParsedImage<'_>,
-) -> Result<Option<Vec<String>>, AllocError> {
-    let Some(prefix) = &arguments.output else {
-        return Ok(None);
-    };
-    let paths = output_paths(alloc, prefix.as_str(), image.threads()?)?;
-    Ok(Some(paths))
-}
-
-// Whether what a thread prints would be written over another file of its recording.
-fn loses_other<D: Folder, E: Sink>(
-    folder: &D,
-    faults: &mut E,
-    arguments: &RecordArguments,
-    path: &str,
-) -> bool
-    ensures kept { result ≡ false → faults.new ≡ faults.old }
-{
-    const OVER_IMAGE: &str = "PREFIX.T would be written over IMAGE";
-    const OVER_TRACE: &str = "PREFIX.T would be written over TRACE";
-    const OVER_FILE: &str = "PREFIX.T would be written over FILE";
-    const OVER_LIST: &str = "PREFIX.T would be written over LISTFILE";
-    is_lost(folder, faults, OVER_IMAGE, arguments.image.as_str(), path)
-        || is_lost(folder, faults, OVER_TRACE, arguments.trace.as_str(), path)
-        || loses_given(folder, faults, OVER_FILE, &arguments.input, path)
-        || loses_given(folder, faults, OVER_LIST, &arguments.order_file, path)
-}
-
-// The same of any of these threads.
-fn any_loses<D: Folder, E: Sink>(
-    folder: &D,
-    faults: &mut E,
-    arguments: &RecordArguments,
-    paths: &[String],
-) -> bool
-    ensures kept { result ≡ false → faults.new ≡ faults.old }
-{
-    for path in paths {
-        if loses_other(folder, faults, arguments, path.as_str()) {
-            return true;
-        }
-    }
-    false
-}
-
-// The paths of what the threads of an image print, if they are asked for. Where memory runs out, or one would be written
-// over another file of the recording, that is told, and the exit status is answered.
-fn output_places<D: Folder, E: Sink>(
-    alloc: Global,
-    folder: &D,
-    faults: &mut E,
-    arguments: &RecordArguments,
-    image: &ParsedImage<'_>,
-) -> Result<Option<Vec<String>>, ExitStatus>
-    ensures kept { OnOk result (faults.new ≡ faults.old) }
-{
-    let Ok(paths) = paths_of(alloc, arguments, image) else {
-        say(faults, "memory ran out", "", "");
-        return Err(ExitStatus::Failed);
-    };
-    match &paths {
-        Some(each) if any_loses(folder, faults, arguments, each.as_slice()) => {
-            return Err(ExitStatus::BadArguments);
-        }
-        _ => {}
-    }
-    Ok(paths)
-}
 
 // Without the line feed, and the carriage return before it, at its end.
 fn without_end(list: &str) -> &str {
@@ -190,6 +73,17 @@ fn list_of<D: Folder, E: Sink>(
     }
 }
 
+// The files of a recording.
+fn paths(arguments: &RecordArguments) -> RecordingPaths<'_> {
+    RecordingPaths {
+        image: arguments.image.as_str(),
+        trace: arguments.trace.as_str(),
+        input: arguments.options.input.as_ref(),
+        list: arguments.order_file.as_ref(),
+        output: arguments.options.output.as_ref(),
+    }
+}
+
 // What a recording reads beside its image, and where what its threads print goes.
 #[derive(Drop)]
 struct Beside {
@@ -209,8 +103,9 @@ impl Beside {
     ) -> Result<Beside, ExitStatus>
         ensures kept { OnOk result (faults.new ≡ faults.old) }
     {
-        let outputs = output_places(alloc, folder, faults, arguments, image)?;
-        let Some(input) = input_of(alloc, folder, faults, arguments) else {
+        let paths = paths(arguments);
+        let outputs = output_places(alloc, folder, faults, &paths, image)?;
+        let Some(input) = input_of(alloc, folder, faults, &paths) else {
             return Err(ExitStatus::Failed);
         };
         let list = list_of(alloc, folder, faults, arguments)?;
@@ -219,6 +114,30 @@ impl Beside {
             input,
             list,
         })
+    }
+}
+
+// The list of the seed that was asked for, if one was.
+fn list_of_seed<C: Clock, E: Sink>(
+    alloc: Global,
+    clock: &C,
+    faults: &mut E,
+    arguments: &RecordArguments,
+    image: &ParsedImage<'_>,
+    input: &[u8],
+) -> Result<Option<String>, ExitStatus>
+    ensures kept { OnOk result (faults.new ≡ faults.old) }
+{
+    let Some(Chaos { seed, way }) = arguments.chaos else {
+        return Ok(None);
+    };
+    let plan = arguments.plan(None, input);
+    match order_of_seed(alloc, clock, image, plan, way, seed) {
+        Ok(list) => Ok(Some(list)),
+        Err(why) => {
+            say(faults, why.words(), "", "");
+            Err(why.status())
+        }
     }
 }
 
@@ -261,7 +180,7 @@ where
 {
     let alloc = rt.alloc();
     let place = arguments.trace.as_str();
-    if loses_input(folder, faults, arguments) {
+    if loses_input(folder, faults, &paths(arguments)) {
         return ExitStatus::BadArguments;
     }
     let Some(image) = bytes_of(alloc, folder, faults, arguments.image.as_str(), MOST_BYTES) else {
@@ -272,9 +191,15 @@ where
         Ok(beside) => beside,
         Err(status) => return status,
     };
-    let order = beside.list.as_ref().map(|list| list.as_str());
+    let input = beside.input.as_slice();
+    let by_seed = match list_of_seed(alloc, rt, faults, arguments, &image, input) {
+        Ok(list) => list,
+        Err(status) => return status,
+    };
+    let list = by_seed.as_ref().or(beside.list.as_ref());
+    let order = list.map(|list| list.as_str());
     let paths = beside.outputs.as_ref().map(|paths| paths.as_slice());
-    let plan = arguments.plan(order, beside.input.as_slice());
+    let plan = arguments.plan(order, input);
     let mut trace = WholeFile::new(alloc, folder, place);
     let mut outputs = OutputFiles::new(folder, paths, place);
     match record_run(

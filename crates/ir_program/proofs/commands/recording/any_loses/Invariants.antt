@@ -1,5 +1,5 @@
 use Rattle.std.proofs.Common.{◌≡◌}
-use Rattle.ir_program.proofs.commands.record.any_loses.Given as goal
+use Rattle.ir_program.proofs.commands.recording.any_loses.Given as goal
 
 -- nothing was told
 abbrev pub invariant-loop-path : goal.invariant-loop-path

@@ -1,0 +1,125 @@
+//! The arguments of `ir hunt`.
+
+use crate::asked::Asked;
+use crate::recording::{RecordingOptions, options_of, with_options};
+use crate::seeds::{by_arg, seeds_by, way_by};
+use crate::values::{IMAGE, TRACE, file_arg, text_of};
+use clap::{Arg, ArgAction, ArgMatches, Command};
+use ir_chaos::{Way, condition_of};
+use ir_hunt::Seeds;
+use std::alloc::{AllocError, Global};
+
+const SEEDS: &str = "seeds";
+
+const UNTIL: &str = "until";
+
+/// What follows the help of `ir hunt`.
+pub const HUNT_AFTER: &str =
+    "Each seed gives one order of the guest's threads, always the same. The guest is run by the order of A, A+1 and so on up to
+B, on all processors. The lowest seed whose run fulfils each COND is recorded again: TRACE is written, and then
+`found seed S order LIST` and the lines of `ir record`. LIST is for `ir record --order`. If no seed does, `none A..B` is
+written and nothing else, and the exit status is 5. A+N is N seeds from A on.
+Threads change places only before an entry, and when one is done; with P 2 also before a leave. The ways to choose:
+   walk    each thread that can go on has the same chance
+   pct:D   the thread of the highest priority goes on. Priorities are drawn; at D - 1 drawn places the thread that would go on
+           falls below the others. A thread that enters again and again while others could go on falls too: it polls.
+   mix     even seeds walk, odd ones are pct:2, pct:3 and pct:4 in turn
+COND is one argument, and `!` before it denies it. Numbers are decimal, or hexadecimal after 0x:
+   end T E       thread T's end is E
+   code T V      thread T ended by END with code V
+   word O I V    word I of object O is V at the end
+   out T TEXT    TEXT, all that follows one blank, occurs in what thread T printed
+   fault         some thread didn't end by END
+   budget        some thread's budget is spent, which is how a guest that waits forever ends
+CLOCK, RANDOM, FILE, P and PREFIX are those of `ir record` with LIST. Ctrl-C ends a hunt, and nothing is written.
+Exit status: 0 found, 1 a file that can't be read or written or is too long, 2 bad arguments, 3 a refused image, a guest with
+more threads or objects than P allows, or a COND about what the guest hasn't, 5 none was found.
+";
+
+/// What is hunted, how, and where what is found goes.
+#[derive(Drop)]
+pub struct HuntArguments {
+    /// The file of the image.
+    pub image: String,
+    /// The file that the trace is written to.
+    pub trace: String,
+    /// The seeds that are tried.
+    pub seeds: Seeds,
+    /// How a seed chooses which thread goes on.
+    pub way: Way,
+    /// The conditions, as they are written.
+    pub until: Vec<String>,
+    /// How the guest is recorded, by whatever order.
+    pub options: RecordingOptions,
+}
+
+fn seeds_arg<'a>(alloc: Global) -> Arg<'a> {
+    Arg::new(alloc, SEEDS)
+        .long(SEEDS)
+        .value_name("SEEDS")
+        .required(true)
+        .help("The seeds that are tried: A..B, from A to B, or A+N, N from A on")
+}
+
+fn until_arg<'a>(alloc: Global) -> Arg<'a> {
+    Arg::new(alloc, UNTIL)
+        .long(UNTIL)
+        .value_name("COND")
+        .required(true)
+        .action(ArgAction::Append)
+        .help("What has to hold of what a run came to; given more than once, all of it")
+}
+
+/// The command with its arguments.
+pub fn with_arguments<'a>(alloc: Global, command: Command<'a>) -> Result<Command<'a>, AllocError> {
+    let command = command
+        .arg(file_arg(alloc, IMAGE, "The file with the image"))?
+        .arg(file_arg(alloc, TRACE, "The file that the trace is written to"))?
+        .arg(seeds_arg(alloc))?
+        .arg(until_arg(alloc))?
+        .arg(by_arg(alloc))?;
+    with_options(alloc, command)
+}
+
+// The conditions as they are written, or the first that is none.
+fn conditions_of(
+    alloc: Global,
+    matches: &ArgMatches<'_>,
+) -> Result<Result<Vec<String>, String>, AllocError> {
+    let mut conditions = Vec::new(alloc);
+    for text in matches.get_strs(UNTIL).unwrap_or_default() {
+        if condition_of(text.as_bytes()).is_none() {
+            return Ok(Err(format!(in alloc; "--{UNTIL}: '{text}' is no condition")?));
+        }
+        conditions.push(String::from_str(alloc, text)?)?;
+    }
+    Ok(Ok(conditions))
+}
+
+/// What its arguments ask for.
+pub fn asked(alloc: Global, matches: &ArgMatches<'_>) -> Result<Asked, AllocError> {
+    let options = match options_of(alloc, matches)? {
+        Ok(options) => options,
+        Err(why) => return Ok(Asked::Nothing(why)),
+    };
+    let seeds = match seeds_by(alloc, SEEDS, matches.get_str(SEEDS).unwrap_or_default())? {
+        Ok(seeds) => seeds,
+        Err(why) => return Ok(Asked::Nothing(why)),
+    };
+    let way = match way_by(alloc, matches)? {
+        Ok(way) => way,
+        Err(why) => return Ok(Asked::Nothing(why)),
+    };
+    let until = match conditions_of(alloc, matches)? {
+        Ok(until) => until,
+        Err(why) => return Ok(Asked::Nothing(why)),
+    };
+    Ok(Asked::Hunt(HuntArguments {
+        image: text_of(alloc, matches, IMAGE)?,
+        trace: text_of(alloc, matches, TRACE)?,
+        seeds,
+        way,
+        until,
+        options,
+    }))
+}

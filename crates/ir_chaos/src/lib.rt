@@ -1,0 +1,26 @@
+//! Orders of a guest's threads that a seed gives.
+#![tactic(auto)]
+
+mod chooser;
+mod condition;
+mod draw;
+mod laws;
+mod note;
+mod number;
+mod outcome;
+mod ranking;
+mod run;
+mod runner;
+mod spelling;
+mod step;
+mod stop;
+mod text;
+mod way;
+
+pub use chooser::Chooser;
+pub use condition::{Condition, Fact};
+pub use laws::{schedules_are_of_threads, schedules_are_orders};
+pub use runner::Runner;
+pub use spelling::condition_of;
+pub use stop::Stop;
+pub use way::Way;

@@ -1,0 +1,104 @@
+-- What was found, and what is recorded of it.
+use Rattle.std.proofs.Common.{◌≡◌, ◌<◌, ◌≤◌, ℕ, zero, suc, List, [], ◌++◌, length, get_or, true, sym, ap, ◌∙◌, subst, refl}
+use Rattle.std.specs.Prelude.{◌≢◌, replicate}
+use Rattle.std.specs.List.{list_all, AllByRecursion}
+use Rattle.ir_image.specs.Guest.{Guest}
+use Rattle.ir_flat.specs.Flat.{tables, machine}
+use Rattle.ir_flat.proofs.CallerLemmas.{threads_length}
+use Rattle.ir_runs.specs.InOrder.{IsByOrder}
+use Rattle.ir_runs.specs.Run.{Step, log}
+use Rattle.ir_trace.specs.Recorded.{Recorded}
+use Rattle.ir_record.specs.Progress.{answers_at}
+use Rattle.ir_record.specs.Turns.{order_of_turns}
+use Rattle.ir_record.specs.Worlds.{Answered, answers_in}
+use Rattle.ir_sources.specs.Sources.{origin_of, IsAnswered}
+use Rattle.ir_record_run.specs.Plan.{Plan}
+use Rattle.ir_record_run.specs.Recording.{IsRecordedOf}
+use Rattle.ir_order.specs.Recording.{IsPlanned}
+use Rattle.ir_order.specs.Spelling.{Spells}
+use Rattle.ir_order.proofs.CallerLemmas.{complete_runs, recordings_of_run}
+use Rattle.ir_chaos.proofs.CallerLemmas.{schedules_are_orders, schedules_are_of_threads}
+use Rattle.ir_chaos.specs.Conditions.{Condition, fulfils, outcome_of}
+use Rattle.ir_chaos.specs.Moments.{Moment}
+use Rattle.ir_chaos.specs.Schedules.{IsSchedule, threads_of}
+use Rattle.ir_chaos.specs.declared.chooser.Chooser.{Chooser}
+use Rattle.ir_hunt.specs.Finding.{first, FulfilsEach, IsFound, IsFoundIn, IsFinding, by_list}
+use Rattle.ir_hunt.specs.Seeking.{RanBy, has_tries}
+
+-- no world had answered
+none_before : (n t : ℕ) → get_or {A = List Answered} (replicate n []) t [] ≡ []
+none_before zero t = refl
+none_before (suc n) zero = refl
+none_before (suc n) (suc t) = none_before n t
+
+-- a run by a chooser to its end is the run by the order of its turns
+by_turns : (guest : Guest) (plan : Plan) (chooser : Chooser) (run : List Step)
+    → IsSchedule (has_tries plan.profile) (machine (first guest plan)) (length (first guest plan).threads) (tables (first guest plan)) chooser run
+    → IsByOrder (machine (first guest plan)) (tables (first guest plan)) (length guest.entries) (threads_of run) run
+by_turns guest plan chooser run h = schedules_are_orders (has_tries plan.profile) (machine (first guest plan)) (length guest.entries)
+    (tables (first guest plan)) chooser run
+    (subst (λ n. IsSchedule (has_tries plan.profile) (machine (first guest plan)) n (tables (first guest plan)) chooser run)
+    (threads_length guest plan.budget plan.profile 0 (length guest.entries)) h)
+
+-- what a seed's run came to, where it fulfils each condition
+pub found_run : (guest : Guest) (plan : Plan) (conditions : List Condition) (chooser : Chooser) (b : Moment) → RanBy guest plan chooser b
+    → ((t : ℕ) → t < length guest.entries → IsAnswered (origin_of true plan.random plan.input t) (answers_at b.answers t))
+    → list_all (λ c. fulfils c (outcome_of b.flat)) conditions ≡ true
+    → (run : List Step) × IsPlanned guest plan (order_of_turns b.turns) run × FulfilsEach guest plan conditions run
+found_run guest plan conditions chooser b h answered holds = (
+  h.run,
+  record {
+    by_order = subst (λ o. IsByOrder (machine (first guest plan)) (tables (first guest plan)) (length guest.entries) o h.run)
+        (sym h.gained.order) (by_turns guest plan chooser h.run h.schedule);
+    answered = λ t l. subst (IsAnswered (origin_of true plan.random plan.input t))
+        (h.gained.answers t (subst (λ n. t < n) (sym (threads_length guest plan.budget plan.profile 0 (length guest.entries))) l) ∙ ap (λ z. z ++ answers_in (log (machine (first guest plan)) (tables (first guest plan)) h.run t))
+        (none_before (length guest.entries) t)) (answered t l);
+  },
+  record {
+    flat = b.flat;
+    came = record { ends = h.gained.ends; threads = h.gained.threads; objects = h.gained.objects };
+    each = holds;
+  },
+)
+
+-- the turns of a run to its end are of the guest's threads
+of_threads : (guest : Guest) (plan : Plan) (chooser : Chooser) (b : Moment) → RanBy guest plan chooser b
+    → AllByRecursion (λ t. t < length guest.entries) (order_of_turns b.turns)
+of_threads guest plan chooser b h = subst (AllByRecursion (λ t. t < length guest.entries)) (sym h.gained.order)
+    (schedules_are_of_threads (has_tries plan.profile) (machine (first guest plan)) (length guest.entries) (tables (first guest plan)) chooser
+    h.run (subst (λ n. IsSchedule (has_tries plan.profile) (machine (first guest plan)) n (tables (first guest plan)) chooser h.run)
+    (threads_length guest plan.budget plan.profile 0 (length guest.entries)) h.schedule))
+
+-- and there are some
+pub some_turns : (guest : Guest) (plan : Plan) (chooser : Chooser) (b : Moment) → 1 ≤ length guest.entries → RanBy guest plan chooser b
+    → order_of_turns b.turns ≢ []
+some_turns guest plan chooser b some h none = complete_runs guest plan.budget plan.profile h.run some h.schedule.done
+    (sym h.gained.order ∙ none)
+
+-- the list of a seed's turns, where what its run came to fulfils each condition
+pub found_by : (guest : Guest) (plan : Plan) (conditions : List Condition) (chooser : Chooser) (b : Moment) (list : List ℕ)
+    → RanBy guest plan chooser b
+    → ((t : ℕ) → t < length guest.entries → IsAnswered (origin_of true plan.random plan.input t) (answers_at b.answers t))
+    → list_all (λ c. fulfils c (outcome_of b.flat)) conditions ≡ true → Spells list (order_of_turns b.turns)
+    → IsFound guest plan conditions list
+found_by guest plan conditions chooser b list h answered holds spells =
+    let r = found_run guest plan conditions chooser b h answered holds in
+    record {
+      order = order_of_turns b.turns;
+      spelled = spells (length guest.entries) (of_threads guest plan chooser b h);
+      run = r.0;
+      planned = r.1;
+      fulfilled = r.2;
+    }
+
+-- a recording by the list is of the run that was found
+pub finding : (image : List ℕ) (plan : Plan) (conditions : List Condition) (list : List ℕ) (trace : Recorded) (outputs : List (List ℕ))
+    → IsFoundIn image plan conditions list → IsRecordedOf image (by_list plan list) trace outputs
+    → IsFinding image plan conditions list trace outputs
+finding image plan conditions list trace outputs found r = record {
+  guest = found.guest;
+  is = found.is;
+  found = found.found;
+  recorded = recordings_of_run image found.guest (by_list plan list) list found.found.order found.found.run trace outputs found.is refl
+      found.found.spelled found.found.planned r;
+}

@@ -1,0 +1,4 @@
+pub mod Finding
+pub mod Lines
+pub mod Seeds
+pub mod Seeking

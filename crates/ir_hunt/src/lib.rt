@@ -1,0 +1,14 @@
+//! What `ir hunt` does: seeds are tried until one leads to a run that fulfils conditions, which is then recorded.
+#![tactic(auto)]
+
+mod hunting;
+mod lines;
+mod plan;
+mod report;
+mod search;
+mod seeker;
+mod shown;
+mod stretches;
+
+pub use hunting::{hunt_run, order_of_seed};
+pub use plan::{HuntPlan, Seeds};

@@ -1,0 +1,28 @@
+//! What is hunted, and how.
+
+use ir_chaos::{Condition, Way};
+use ir_record_run::RecordPlan;
+
+/// Seeds, from the first to the last. There is none where the first is above the last.
+#[derive(Clone, Copy, Debug, PartialEq, Eq)]
+pub struct Seeds {
+    /// The first.
+    pub first: u64,
+    /// The last.
+    pub last: u64,
+}
+
+/// What is hunted, and how.
+#[derive(Drop)]
+pub struct HuntPlan<'a> {
+    /// How each run goes but for its order. It has no list.
+    pub record: RecordPlan<'a>,
+    /// How a seed chooses which thread goes on.
+    pub way: Way,
+    /// The seeds that are tried.
+    pub seeds: Seeds,
+    /// What has to hold of what a run came to, all of it.
+    pub conditions: &'a [Condition<'a>],
+    /// Whether it is shown on standard error, once a second, how many seeds were tried.
+    pub is_shown: bool,
+}

@@ -1,0 +1,197 @@
+//! What runs a guest by one seed after another.
+
+ghost use Rattle.std.specs.Prelude.{◌≡◌, ◌≢◌, ◌<◌, [], length, map, replicate, true, false, IfOk, OnOk};
+ghost use Rattle.std.specs.List.{list_all};
+ghost use Rattle.ir_thread.specs.Allowed.{IsAllowed};
+ghost use Rattle.ir_record.specs.Turns.{order_of_turns};
+ghost use Rattle.ir_record.specs.Worlds.{NoneFailed};
+ghost use Rattle.ir_sources.specs.Sources.{made_with, origins};
+ghost use Rattle.ir_chaos.specs.Choices.{Serves, chooser_of};
+ghost use Rattle.ir_chaos.specs.Conditions.{as_condition, fulfils, outcome_of};
+ghost use Rattle.ir_chaos.specs.Moments.{moment_of};
+ghost use Rattle.ir_hunt.specs.Seeking.{has_tries, fresh, RanBy};
+
+use crate::plan::HuntPlan;
+use ir_chaos::{Chooser, Runner, Stop};
+use ir_flat::Flat;
+use ir_image::Image;
+use ir_record::Turns;
+use ir_sources::{ProgramWorld, Time, worlds};
+use ir_thread::Profile;
+use std::alloc::{AllocError, Global};
+use std::time::Clock;
+
+/// The most turns of a run that a hunt follows.
+const MOST_TURNS: usize = 1 << 20;
+
+/// Why the run of a seed wasn't followed to its end.
+#[derive(Clone, Copy, Debug, PartialEq, Eq)]
+pub enum Lost {
+    /// Out of memory.
+    NoMem,
+    /// It has too many turns, or too many answers of the world outside.
+    TooLong,
+}
+
+impl From<AllocError> for Lost {
+    fn from(_e: AllocError) -> Lost {
+        Lost::NoMem
+    }
+}
+
+impl From<Stop> for Lost {
+    fn from(_e: Stop) -> Lost {
+        Lost::TooLong
+    }
+}
+
+/// What runs a guest by one seed after another.
+#[derive(Drop)]
+pub struct Seeker<'a, C> {
+    alloc: Global,
+    image: &'a Image,
+    plan: &'a HuntPlan<'a>,
+    runner: Runner<'a, ProgramWorld<'a, C>>,
+    ghost allowed: { IsAllowed plan.now.record.profile image.now },
+    ghost origins: { map (λ w. made_with w.time w.seed w.file.now) runner.worlds.items ≡ origins true plan.now.record.random plan.now.record.input (length image.now.entries) },
+}
+
+// Whether there are tries.
+fn has_tries(profile: Profile) -> bool
+    ensures { result ≡ has_tries profile }
+{
+    match profile {
+        Profile::One => false,
+        Profile::Two => true,
+    }
+}
+
+// Each world is as it was before its first answer.
+fn restart_all<C>(worlds: &mut Vec<ProgramWorld<'_, C>>)
+    ensures made { map (λ w. made_with w.time w.seed w.file.now) worlds.new.items ≡ map (λ w. made_with w.time w.seed w.file.now) worlds.old.items }
+    ensures answers { map (λ w. w.answers.items) worlds.new.items ≡ replicate (length worlds.old.items) [] }
+    ensures works { NoneFailed (map (λ w. w.failed) worlds.new.items) }
+{
+    for place in 0..worlds.len() {
+        worlds[place].restart();
+    }
+}
+
+impl<'a, C: Clock> Seeker<'a, C> {
+    /// Before the first run, of a guest that the profile allows.
+    ///
+    /// # Errors
+    /// Out of memory.
+    pub fn new(
+        alloc: Global,
+        clock: &'a C,
+        image: &'a Image,
+        plan: &'a HuntPlan<'a>,
+    ) -> Result<Seeker<'a, C>, AllocError>
+        requires { IsAllowed plan.now.record.profile image.now }
+        ensures image { IfOk result (λ s. s.image.now ≡ image.now) }
+        ensures plan { IfOk result (λ s. s.plan.now ≡ plan.now) }
+    {
+        let record = &plan.record;
+        let threads = image.entries().len();
+        let flat = Flat::start(alloc, image, record.budget, record.profile)?;
+        let worlds = worlds(
+            alloc,
+            clock,
+            Time::Counted,
+            threads,
+            record.random,
+            record.input,
+        )?;
+        let turns = Vec::with_capacity(alloc, MOST_TURNS)?;
+        Ok(Seeker {
+            alloc,
+            image,
+            plan,
+            runner: Runner {
+                flat,
+                worlds,
+                turns,
+            },
+        })
+    }
+
+    // Before the first step.
+    fn restart(&mut self) -> Result<(), AllocError>
+        ensures image { self.new.image ≡ self.old.image }
+        ensures plan { self.new.plan ≡ self.old.plan }
+        ensures fresh { OnOk result (moment_of (λ w. w.answers.items) self.new.runner ≡ fresh self.old.image.now self.old.plan.now.record) }
+        ensures works { OnOk result (NoneFailed (map (λ w. w.failed) self.new.runner.worlds.items)) }
+    {
+        let record = &self.plan.record;
+        self.runner.flat = Flat::start(self.alloc, self.image, record.budget, record.profile)?;
+        restart_all(&mut self.runner.worlds);
+        self.runner.turns.clear();
+        Ok(())
+    }
+
+    // The run by a chooser, and how many choices it made.
+    fn run(&mut self, chooser: &mut Chooser) -> Result<u32, Lost>
+        requires serves { Serves (length self.old.image.now.entries) chooser.old }
+        ensures image { self.new.image ≡ self.old.image }
+        ensures plan { self.new.plan ≡ self.old.plan }
+        ensures ran { OnOk result (RanBy self.old.image.now self.old.plan.now.record chooser.old (moment_of (λ w. w.answers.items) self.new.runner)) }
+    {
+        self.restart()?;
+        let record = &self.plan.record;
+        let tries = has_tries(record.profile);
+        Ok(self.runner.run(tries, chooser)?)
+    }
+
+    /// How many choices the run in rounds has, at least 1; as many as a run may have where it has too many.
+    ///
+    /// # Errors
+    /// Out of memory.
+    pub fn choices(&mut self) -> Result<u32, AllocError>
+        ensures image { self.new.image ≡ self.old.image }
+        ensures plan { self.new.plan ≡ self.old.plan }
+        ensures some { IfOk result (λ n. 0 < n) }
+    {
+        match self.run(&mut Chooser::rounds()) {
+            Err(Lost::NoMem) => Err(AllocError),
+            Err(Lost::TooLong) => Ok(MOST_TURNS as u32),
+            Ok(choices) => Ok(choices.max(1)),
+        }
+    }
+
+    // Whether what the run came to fulfils each condition.
+    fn holds(&self) -> bool
+        ensures { result ≡ list_all (λ c. fulfils (as_condition c) (outcome_of self.now.runner.flat)) self.now.plan.now.conditions.now }
+    {
+        let flat = &self.runner.flat;
+        self.plan
+            .conditions
+            .iter()
+            .all(|condition| condition.holds(flat))
+    }
+
+    /// Whether the run of a seed fulfils each condition.
+    ///
+    /// # Errors
+    /// It wasn't followed to its end.
+    pub fn fulfils(&mut self, seed: u64, choices: u32) -> Result<bool, Lost>
+        requires { 0 < choices }
+        ensures image { self.new.image ≡ self.old.image }
+        ensures plan { self.new.plan ≡ self.old.plan }
+        ensures ran { OnOk result (RanBy self.old.image.now self.old.plan.now.record (chooser_of self.old.plan.now.way seed (length self.old.image.now.entries) choices) (moment_of (λ w. w.answers.items) self.new.runner)) }
+        ensures some { OnOk result (order_of_turns self.new.runner.turns.items ≢ []) }
+        ensures each { IfOk result (λ b. b ≡ list_all (λ c. fulfils (as_condition c) (outcome_of self.new.runner.flat)) self.old.plan.now.conditions.now) }
+    {
+        let threads = self.image.entries().len();
+        let mut chooser = Chooser::of_seed(self.alloc, self.plan.way, seed, threads, choices)?;
+        self.run(&mut chooser)?;
+        Ok(self.holds())
+    }
+
+    /// The turns of the last run.
+    pub fn turns(&self) -> &[Turns]
+        ensures { result.now ≡ self.now.runner.turns.items }
+    {
+        self.runner.turns.as_slice()
+    }
+}

@@ -1,0 +1,50 @@
+//! How many seeds were tried, on standard error.
+
+use crate::plan::Seeds;
+use ir_sources::millis_since;
+use std::time::{Clock, Instant};
+
+/// What is shown of a hunt on the way, once a second.
+#[derive(Clone, Copy, Debug)]
+pub struct Shown {
+    // None where the clock can't be read.
+    start: Option<Instant>,
+    is_shown: bool,
+    // The milliseconds since the start at the end of the last stretch.
+    millis: u32,
+    seeds: u64,
+}
+
+impl Shown {
+    /// Before the first seed.
+    pub fn new<R: Clock>(rt: &R, is_shown: bool) -> Shown {
+        Shown {
+            start: Instant::now(rt).ok(),
+            is_shown,
+            millis: 0,
+            seeds: 0,
+        }
+    }
+
+    // Shows how many seeds were tried so far, and in each second.
+    fn show<R: Eprint>(&self, rt: &R) {
+        let seconds = (self.millis / 1000).max(1) as u64;
+        let (seeds, rate) = (self.seeds, self.seeds / seconds);
+        let _ = rt.eprint(format_args!("{seeds} seeds, {rate} per second\r"));
+    }
+
+    /// A stretch was tried: how many milliseconds it took. It is shown where a second has passed.
+    pub fn tried<R: Clock + Eprint>(&mut self, rt: &R, stretch: Seeds) -> u32 {
+        let more = stretch.last.saturating_sub(stretch.first).saturating_add(1);
+        self.seeds = self.seeds.saturating_add(more);
+        let Some(millis) = self.start.and_then(|start| millis_since(rt, start)) else {
+            return 0;
+        };
+        let before = self.millis;
+        self.millis = millis;
+        if self.is_shown && millis / 1000 != before / 1000 {
+            self.show(rt);
+        }
+        millis.saturating_sub(before)
+    }
+}

@@ -1,0 +1,134 @@
+//! `ir hunt`: the first of many seeds whose run fulfils conditions is recorded.
+
+ghost use Rattle.std.specs.Prelude.{◌≡◌, OnOk, false};
+
+use crate::commands::recording::{RecordingPaths, input_of, loses_input, output_places};
+use crate::commands::{bytes_of, say};
+use crate::ends::tell_ends;
+use ir_arguments::HuntArguments;
+use ir_chaos::{Condition, condition_of};
+use ir_files::{ExitStatus, Folder, MOST_BYTES, OutputFiles, WholeFile};
+use ir_hunt::{HuntPlan, hunt_run};
+use ir_record_run::ParsedImage;
+use ir_stream::Sink;
+use std::alloc::{AllocError, Global};
+use std::sync::Wait;
+use std::thread::Threads;
+use std::time::Clock;
+
+// The files of a hunt.
+fn paths(arguments: &HuntArguments) -> RecordingPaths<'_> {
+    RecordingPaths {
+        image: arguments.image.as_str(),
+        trace: arguments.trace.as_str(),
+        input: arguments.options.input.as_ref(),
+        list: None,
+        output: arguments.options.output.as_ref(),
+    }
+}
+
+// The conditions that these texts write.
+fn read_conditions(alloc: Global, texts: &[String]) -> Result<Vec<Condition<'_>>, AllocError> {
+    let mut conditions = Vec::with_capacity(alloc, texts.len())?;
+    for text in texts {
+        if let Some(condition) = condition_of(text.as_bytes()) {
+            conditions.push(condition)?;
+        }
+    }
+    Ok(conditions)
+}
+
+// The first of these texts that is about a thread, an object or a word that the image hasn't.
+fn about_nothing<'a>(image: &ParsedImage<'_>, texts: &'a [String]) -> Option<&'a str> {
+    let guest = image.guest()?;
+    for text in texts {
+        match condition_of(text.as_bytes()) {
+            Some(condition) if !condition.is_about(guest) => return Some(text.as_str()),
+            _ => {}
+        }
+    }
+    None
+}
+
+// The conditions of a hunt; where there is none, it is told why.
+fn conditions_of<'a, E: Sink>(
+    alloc: Global,
+    faults: &mut E,
+    image: &ParsedImage<'_>,
+    texts: &'a [String],
+) -> Result<Vec<Condition<'a>>, ExitStatus>
+    ensures kept { OnOk result (faults.new ≡ faults.old) }
+{
+    if let Some(text) = about_nothing(image, texts) {
+        let why = ": the image has no such thread, object or word";
+        say(faults, text, why, "");
+        return Err(ExitStatus::Refused);
+    }
+    match read_conditions(alloc, texts) {
+        Ok(conditions) => Ok(conditions),
+        Err(_) => {
+            say(faults, "memory ran out", "", "");
+            Err(ExitStatus::Failed)
+        }
+    }
+}
+
+// Hunts for a run of a guest, and records it into a file, and what its threads print into others where they are asked for.
+pub fn hunt_file<R, D, O, E>(
+    rt: &R,
+    folder: &D,
+    arguments: &HuntArguments,
+    explains: bool,
+    out: &mut O,
+    faults: &mut E,
+) -> ExitStatus
+where
+    R: Threads + Wait + Sync + Clock + Eprint + AllocGlobal,
+    D: Folder,
+    O: Sink,
+    E: Sink,
+    requires writes { O.broken out.old ≡ false }
+    requires reports { E.broken faults.old ≡ false }
+{
+    let alloc = rt.alloc();
+    let paths = paths(arguments);
+    if loses_input(folder, faults, &paths) {
+        return ExitStatus::BadArguments;
+    }
+    let Some(image) = bytes_of(alloc, folder, faults, paths.image, MOST_BYTES) else {
+        return ExitStatus::Failed;
+    };
+    let image = ParsedImage::new(alloc, image.as_slice());
+    let texts = arguments.until.as_slice();
+    let conditions = match conditions_of(alloc, faults, &image, texts) {
+        Ok(conditions) => conditions,
+        Err(status) => return status,
+    };
+    let outputs = match output_places(alloc, folder, faults, &paths, &image) {
+        Ok(outputs) => outputs,
+        Err(status) => return status,
+    };
+    let Some(input) = input_of(alloc, folder, faults, &paths) else {
+        return ExitStatus::Failed;
+    };
+    let plan = HuntPlan {
+        record: arguments.options.plan(None, input.as_slice()),
+        way: arguments.way,
+        seeds: arguments.seeds,
+        conditions: conditions.as_slice(),
+        is_shown: explains,
+    };
+    let places = outputs.as_ref().map(|each| each.as_slice());
+    let mut trace = WholeFile::new(alloc, folder, paths.trace);
+    let mut outputs = OutputFiles::new(folder, places, paths.trace);
+    match hunt_run(rt, &image, &plan, &mut trace, &mut outputs, out, faults) {
+        Ok(Some(recorded)) => {
+            if explains {
+                tell_ends(alloc, &recorded, faults);
+            }
+            ExitStatus::Done
+        }
+        Ok(None) => ExitStatus::Unended,
+        Err(status) => status,
+    }
+}
