@@ -1,0 +1,113 @@
+-- There is one run by an order.
+use Rattle.std.proofs.Common.{◌≡◌, ℕ, zero, suc, ◌+◌, ◌-◌, ◌<◌, ◌≤◌, Bool, true, List, [], ◌∷◌, ◌++◌, length, refl, sym, ap, ◌∙◌, subst, arith, inl, inr, append_assoc}
+use Rattle.std.specs.List.{range_with_len}
+use Rattle.std.proofs.lemmas.Bool.{cases_lt}
+use Rattle.ir_image.specs.Guest.{Guest}
+use Rattle.ir_runs.specs.Machine.{Act, act_of, Machine, upd}
+use Rattle.ir_runs.specs.Object.{target, Admits}
+use Rattle.ir_runs.specs.Run.{State, Step, asked, act, Can, after, end, log, IsDone, IsIdle}
+use Rattle.ir_runs.specs.InOrder.{HasNone, EntersIfFree, InTurn, rounds, IsByOrder}
+use Rattle.ir_runs.proofs.CallerLemmas.{below_idle}
+use Rattle.ir_thread.specs.declared.profile.Profile.{Profile}
+use Rattle.ir_flat.specs.Flat.{start_flat, tables, machine}
+use Rattle.ir_flat.proofs.CallerLemmas.{start_idle}
+use Rattle.ir_record.specs.Worlds.{answers_in, Answered}
+use Rattle.ir_sources.specs.Sources.{MadeWith, Source, source, from_sources, Gave, IsAnswered}
+use Rattle.ir_order.specs.OneRun.{AreSame, AreAnswered, IsAnsweredByOrder, OneRunByAnOrder}
+use Rattle.ir_order.proofs.Given.{Takes, left_by, HasGiven, AreGiven, step_takes, step_leaves, one_act}
+use Rattle.ir_order.proofs.Alike.{Alike, acted_by, alike_equal, alike_step, same_by}
+
+-- where all threads are done, no order has a step
+none_left : {T : Type 0} (m : Machine T) (s : State T) (order : List ℕ) (run : List Step) → IsDone m s → InTurn m s order run → run ≡ []
+none_left m s [] run done h = h
+none_left m s (t ∷ order) run done (inl none) = none_left m s order run done none.1
+none_left m s (t ∷ order) run done (inr some) =
+    absurd (subst (λ q. Admits m (act_of q some.0) (s.objects (target (act_of q some.0)))) (done t) some.3)
+
+-- what two turns of one thread leave to the turns after them
+after_both : {T : Type 0} (m : Machine T) (s : State T) (n : ℕ) (sources : ℕ → Source) (t r w : ℕ) (order : List ℕ) (run : List Step)
+    → act m s (t, r) ≡ act m s (t, w) → InTurn m (after m s (t, w)) order run
+    → AreGiven m s n sources ((t, w) ∷ run)
+    → InTurn m (after m s (t, r)) order run
+    × AreGiven m (after m s (t, r)) n (upd sources t (left_by (act m s (t, r)) (sources t))) run
+unfolding after
+after_both m s n sources t r w order run p turns gives = (
+  subst (λ (q : Act). InTurn m (acted_by m s t q) order run) (sym p) turns,
+  subst (λ (q : Act). AreGiven m (acted_by m s t q) n (upd sources t (left_by q (sources t))) run) (sym p)
+      (step_leaves m s n sources (t, w) run gives),
+)
+
+-- where a run by turns ends with all threads done, each run by these turns and more is the same
+alike : {T : Type 0} (m : Machine T) (n : ℕ) (more : List ℕ) (order : List ℕ) (s : State T) (sources : ℕ → Source) (a b : List Step) → IsIdle m s n
+    → InTurn m s order a → IsDone m (end m s a) → InTurn m s (order ++ more) b → AreGiven m s n sources a → AreGiven m s n sources b
+    → Alike m s a b
+unfolding after
+alike m n more [] s sources a b idle turns done turns' gives gives' = alike_equal m s a b
+    (turns ∙ sym (none_left m s more b (subst (λ z. IsDone m (end m s z)) turns done) turns'))
+alike m n more (t ∷ order) s sources a b idle (inl none) done (inl none') gives gives' =
+    alike m n more order s sources a b idle none.1 done none'.1 gives gives'
+alike m n more (t ∷ order) s sources a b idle (inl none) done (inr some') gives gives' = absurd (none.0 some'.0 some'.3)
+alike m n more (t ∷ order) s sources a b idle (inr some) done (inl none') gives gives' = absurd (none'.0 some.0 some.3)
+alike m n more (t ∷ order) s sources a b idle (inr some) done (inr some') gives gives' =
+    let r : ℕ = some.0 in
+    let w : ℕ = some'.0 in
+    let below = below_idle m s n idle (t, r) some.3 in
+    let given_a : AreGiven m s n sources ((t, r) ∷ some.1) = subst (AreGiven m s n sources) some.2 gives in
+    let given_b : AreGiven m s n sources ((t, w) ∷ some'.1) = subst (AreGiven m s n sources) some'.2 gives' in
+    let p : act m s (t, r) ≡ act m s (t, w) = one_act m s.objects (sources t) (asked m s t) r w some.3 some'.3 some.4 some'.4
+        (step_takes m s n sources (t, r) some.1 given_a below.0) (step_takes m s n sources (t, w) some'.1 given_b below.0) in
+    let rest = after_both m s n sources t r w (order ++ more) some'.1 p some'.5 given_b in
+    let h : Alike m s ((t, r) ∷ some.1) ((t, w) ∷ some'.1) = alike_step m s t r w some.1 some'.1 p
+        (alike m n more order (after m s (t, r)) (upd sources t (left_by (act m s (t, r)) (sources t))) some.1 some'.1 below.1 some.5
+        (subst (λ z. IsDone m (end m s z)) some.2 done) rest.0 (step_leaves m s n sources (t, r) some.1 given_a) rest.1) in
+    subst (λ z. Alike m s z b) (sym some.2) (subst (Alike m s ((t, r) ∷ some.1)) (sym some'.2) h)
+
+-- more rounds
+rounds_more : (n c d : ℕ) → rounds n (c + d) ≡ rounds n c ++ rounds n d
+rounds_more n zero d = let e : zero + d ≡ d = omega arith in ap (rounds n) e
+rounds_more n (suc c) d = let e : suc c + d ≡ suc (c + d) = omega arith in
+    ap (rounds n) e ∙ ap (λ (z : List ℕ). range_with_len 0 n ++ z) (rounds_more n c d)
+    ∙ sym (append_assoc (range_with_len 0 n) (rounds n c) (rounds n d))
+
+turns_within : {T : Type 0} (m : Machine T) (s : State T) (n c d : ℕ) (order : List ℕ) (run : List Step) → c ≤ d
+    → InTurn m s (order ++ rounds n d) run → InTurn m s ((order ++ rounds n c) ++ rounds n (d - c)) run
+turns_within m s n c d order run l h =
+    let e : c + (d - c) ≡ d = omega (arith, l) in
+    subst (λ (z : List ℕ). InTurn m s z run)
+    (ap (λ (k : ℕ). order ++ rounds n k) (sym e) ∙ ap (λ (z : List ℕ). order ++ z) (rounds_more n c (d - c))
+    ∙ sym (append_assoc order (rounds n c) (rounds n (d - c)))) h
+
+-- runs by an order are alike where the one takes no more rounds than the other
+alike_within : {T : Type 0} (m : Machine T) (s : State T) (n : ℕ) (sources : ℕ → Source) (order : List ℕ) (a b : List Step) → IsIdle m s n
+    → (x : IsByOrder m s n order a) (y : IsByOrder m s n order b) → x.count ≤ y.count → AreGiven m s n sources a
+    → AreGiven m s n sources b → Alike m s a b
+alike_within m s n sources order a b idle x y l gives gives' =
+    alike m n (rounds n (y.count - x.count)) (order ++ rounds n x.count) s sources a b idle x.turns x.done
+    (turns_within m s n x.count y.count order b l y.turns) gives gives'
+
+-- they are the same
+one_run : {T : Type 0} (m : Machine T) (s : State T) (n : ℕ) (sources : ℕ → Source) (order : List ℕ) (a b : List Step) → IsIdle m s n
+    → IsByOrder m s n order a → IsByOrder m s n order b → AreGiven m s n sources a → AreGiven m s n sources b → AreSame m s a b
+one_run m s n sources order a b idle x y gives gives' = elim (cases_lt x.count y.count) [
+  | inl l ↦ same_by m s a b (alike_within m s n sources order a b idle x y (omega (arith, l)) gives gives')
+  | inr g ↦ turned m s a b (same_by m s b a (alike_within m s n sources order b a idle y x g gives' gives))
+]
+  where
+    turned : {T : Type 0} (m : Machine T) (s : State T) (a b : List Step) → AreSame m s b a → AreSame m s a b
+    turned m s a b h = record { steps = sym h.steps; trails = λ t. sym (h.trails t); traces = sym h.traces; ends = sym h.ends }
+
+-- worlds in which calls for the time are counted answer from their sources alone
+given_by : {T : Type 0} (m : Machine T) (s : State T) (n : ℕ) (made : ℕ → MadeWith) (run : List Step)
+    → ((t : ℕ) → t < n → (made t).counted ≡ true) → AreAnswered m s n made run
+    → AreGiven m s n (λ t. source (made t).seed (made t).file) run
+given_by m s n made run counted h t l =
+    subst (λ (c : Bool). (left : Source) × Gave (source (made t).seed (made t).file) (from_sources c (answers_in (log m s run t))) left)
+    (counted t l) (h t l)
+
+pub one_run_by_order : OneRunByAnOrder
+one_run_by_order guest budget profile order made a b counted x y =
+    let f = start_flat guest budget profile in
+    one_run (machine f) (tables f) (length guest.entries) (λ t. source (made t).seed (made t).file) order a b
+    (start_idle guest budget profile) x.by_order y.by_order
+    (given_by (machine f) (tables f) (length guest.entries) made a counted x.answered)
+    (given_by (machine f) (tables f) (length guest.entries) made b counted y.answered)
