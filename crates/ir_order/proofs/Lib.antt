@@ -1,3 +1,5 @@
 mod Given
 mod Alike
 mod OneRun
+mod Items
+mod Lists

@@ -1,1 +1,2 @@
 pub mod OneRun
+pub mod Spelling

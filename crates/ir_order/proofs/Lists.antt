@@ -1,0 +1,120 @@
+-- What a list of items spells.
+use Rattle.std.proofs.Common.{◌≡◌, ◌<◌, ◌≤◌, ◌+◌, ◌-◌, ◌^◌, ℕ, zero, suc, Bool, true, false, List, [], ◌∷◌, ◌++◌, length, take, get_or, refl, sym, ap, ◌∙◌, subst, arith, inl, inr, append_assoc, append-nil}
+use Rattle.std.specs.Prelude.{◌≢◌, ◌==◌, decimal, replicate, Option, Some, None}
+use Rattle.std.specs.List.{AllByRecursion, slice_split, onto_first}
+use Rattle.std.proofs.lemmas.Bool.{eq-eqb, cases_Bool}
+use Rattle.std.proofs.lemmas.List.Splits.{length-slice_split, slice_split-cons_yes, slice_split-cons_no}
+use Rattle.std.proofs.lemmas.List.{replicate-append-replicate}
+use Rattle.ir_record.specs.Turns.{order_of_turns}
+use Rattle.ir_record.specs.declared.turns.Turns.{Turns}
+use Rattle.ir_record_run.specs.Order.{most_turns, joined, item_of, items_of, order_of}
+use Rattle.ir_order.specs.Spelling.{item_text, with_item, Spells, SpellsSoFar}
+use Rattle.ir_order.proofs.Items.{item_of-item_text, item_text-one_part, item_text-some}
+
+-- ---- a text that is cut at its last mark
+
+onto_append : (b : ℕ) (parts more : List (List ℕ)) → 0 < length parts → onto_first b (parts ++ more) ≡ onto_first b parts ++ more
+onto_append b [] more some = absurd (omega (arith, some))
+onto_append b (part ∷ parts) more some = refl
+
+split_some : (p : ℕ → Bool) (bs : List ℕ) → 0 < length (slice_split p bs)
+split_some p bs = omega (arith, length-slice_split p bs)
+
+-- two texts with a mark between
+split_append : (p : ℕ → Bool) (bs : List ℕ) (mark : ℕ) (cs : List ℕ) → p mark ≡ true
+    → slice_split p (bs ++ mark ∷ cs) ≡ slice_split p bs ++ slice_split p cs
+split_append p [] mark cs is = slice_split-cons_yes p mark cs is
+split_append p (b ∷ bs) mark cs is = elim (cases_Bool (p b)) [
+  | inl is_mark ↦ slice_split-cons_yes p b (bs ++ mark ∷ cs) is_mark ∙ ap (λ (z : List (List ℕ)). [] ∷ z) (split_append p bs mark cs is)
+      ∙ sym (ap (λ (z : List (List ℕ)). z ++ slice_split p cs) (slice_split-cons_yes p b bs is_mark))
+  | inr is_none ↦ slice_split-cons_no p b (bs ++ mark ∷ cs) is_none ∙ ap (onto_first b) (split_append p bs mark cs is)
+      ∙ onto_append b (slice_split p bs) (slice_split p cs) (split_some p bs)
+      ∙ sym (ap (λ (z : List (List ℕ)). z ++ slice_split p cs) (slice_split-cons_no p b bs is_none))
+]
+
+-- ---- items one after the other
+
+joined_assoc : (a b c : Option (List ℕ)) → joined a (joined b c) ≡ joined (joined a b) c
+joined_assoc None b c = refl
+joined_assoc (Some a) None c = refl
+joined_assoc (Some a) (Some b) None = refl
+joined_assoc (Some a) (Some b) (Some c) = ap (λ (z : List ℕ). Some z) (sym (append_assoc a b c))
+
+joined_none : (a : Option (List ℕ)) → joined (Some []) a ≡ a
+joined_none None = refl
+joined_none (Some a) = refl
+
+items_append : (n : ℕ) (items more : List (List ℕ)) → items_of n (items ++ more) ≡ joined (items_of n items) (items_of n more)
+items_append n [] more = sym (joined_none (items_of n more))
+items_append n (item ∷ items) more = ap (joined (item_of n item)) (items_append n items more)
+    ∙ joined_assoc (item_of n item) (items_of n items) (items_of n more)
+
+-- ---- all of two lists
+
+both_parts : {X : Type 0} (P : X → Type 0) (xs ys : List X) → AllByRecursion P (xs ++ ys) → AllByRecursion P xs × AllByRecursion P ys
+both_parts P [] ys h = (tt, h)
+both_parts P (x ∷ xs) ys h = let rest = both_parts P xs ys h.1 in ((h.0, rest.0), rest.1)
+
+of_each : {X : Type 0} (P : X → Type 0) (count : ℕ) (x : X) → 1 ≤ count → AllByRecursion P (replicate count x) → P x
+of_each P zero x some h = absurd (omega (arith, some))
+of_each P (suc count) x some h = h.0
+
+-- ---- a list with one item more
+
+-- a list that is one item
+order_of-item : (n thread count : ℕ) → thread < n → thread < 2 ^ 8 → 1 ≤ count → count ≤ most_turns
+    → order_of n (item_text thread count) ≡ Some (replicate count thread)
+order_of-item n thread count l small some few =
+    ap (items_of n) (item_text-one_part thread count small few)
+    ∙ ap (λ (z : Option (List ℕ)). joined z (Some [])) (item_of-item_text n thread count l small some few)
+    ∙ ap (λ (z : List ℕ). Some z) (append-nil (replicate count thread))
+
+order_of-more : (n : ℕ) (list item : List ℕ) → order_of n (list ++ 44 ∷ item) ≡ joined (order_of n list) (order_of n item)
+order_of-more n list item = ap (items_of n) (split_append (λ b. b == 44) list 44 item (eq-eqb 44 44 refl))
+    ∙ items_append n (slice_split (λ b. b == 44) list) (slice_split (λ b. b == 44) item)
+
+so_far : (list order : List ℕ) → 0 < length list → Spells list order → SpellsSoFar list order
+so_far [] order some h = absurd (omega (arith, some))
+so_far (b ∷ list) order some h = h
+
+pub spells_more : (list order : List ℕ) (thread count : ℕ) → thread < 2 ^ 8 → 1 ≤ count → count ≤ most_turns → SpellsSoFar list order
+    → SpellsSoFar (with_item list (item_text thread count)) (order ++ replicate count thread)
+spells_more [] order thread count small some few none =
+    so_far (item_text thread count) (order ++ replicate count thread) (item_text-some thread count small)
+    (subst (λ (z : List ℕ). Spells (item_text thread count) (z ++ replicate count thread)) (sym none)
+    (λ n all. order_of-item n thread count (of_each (λ t. t < n) count thread some all) small some few))
+spells_more (b ∷ list) order thread count small some few h = λ n all.
+    let parts = both_parts (λ t. t < n) order (replicate count thread) all in
+    order_of-more n (b ∷ list) (item_text thread count)
+    ∙ ap (λ (z : Option (List ℕ)). joined z (order_of n (item_text thread count))) (h n parts.0)
+    ∙ ap (joined (Some order)) (order_of-item n thread count (of_each (λ t. t < n) count thread some parts.1) small some few)
+
+-- a list that isn't empty any more
+pub spells_all : (list order : List ℕ) → order ≢ [] → SpellsSoFar list order → Spells list order
+spells_all [] order some none = absurd (some none)
+spells_all (b ∷ list) order some h = h
+
+-- so many turns more
+pub turns_more : (old list new : List ℕ) (thread total left count : ℕ) → thread < 2 ^ 8 → left ≤ total → 1 ≤ count → count ≤ most_turns
+    → count ≤ left → new ≡ with_item list (item_text thread count)
+    → ((order : List ℕ) → SpellsSoFar old order → SpellsSoFar list (order ++ replicate (total - left) thread))
+    → (order : List ℕ) → SpellsSoFar old order → SpellsSoFar new (order ++ replicate (total - (left - count)) thread)
+turns_more old list new thread total left count small within some few most is so_far order h =
+    let longer : (total - left) + count ≡ total - (left - count) = omega (arith, within, most) in
+    let same : (order ++ replicate (total - left) thread) ++ replicate count thread ≡ order ++ replicate (total - (left - count)) thread =
+        append_assoc order (replicate (total - left) thread) (replicate count thread)
+        ∙ ap (λ (z : List ℕ). order ++ z) (replicate-append-replicate (total - left) count thread
+        ∙ ap (λ (k : ℕ). replicate k thread) longer) in
+    subst (λ (z : List ℕ). SpellsSoFar z (order ++ replicate (total - (left - count)) thread)) (sym is)
+    (subst (SpellsSoFar (with_item list (item_text thread count))) same
+    (spells_more list (order ++ replicate (total - left) thread) thread count small some few (so_far order h)))
+
+-- the turns so far, and one more
+pub order_of_turns-more : (turns : List Turns) (k : ℕ) (t : Turns) → k < length turns → t ≡ get_or turns k t
+    → order_of_turns (take (suc k) turns) ≡ order_of_turns (take k turns) ++ replicate t.count t.thread
+order_of_turns-more [] k t l e = absurd (omega (arith, l))
+order_of_turns-more (x ∷ xs) zero t l e =
+    append-nil (replicate x.count x.thread) ∙ ap (λ (z : Turns). replicate z.count z.thread) (sym e)
+order_of_turns-more (x ∷ xs) (suc k) t l e = ap (λ (z : List ℕ). replicate x.count x.thread ++ z)
+    (order_of_turns-more xs k t (omega (arith, l)) e)
+    ∙ sym (append_assoc (replicate x.count x.thread) (order_of_turns (take k xs)) (replicate t.count t.thread))
