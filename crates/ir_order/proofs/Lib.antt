@@ -3,3 +3,5 @@ mod Alike
 mod OneRun
 mod Items
 mod Lists
+mod Traces
+mod Recorded

@@ -1,2 +1,3 @@
 pub mod OneRun
+pub mod Recording
 pub mod Spelling

@@ -1,8 +1,19 @@
 //! Laws of runs by an order, each the contract of a function without parameters.
 
 ghost use Rattle.ir_order.specs.OneRun.{OneRunByAnOrder};
+ghost use Rattle.ir_order.specs.Recording.{OneRecordingByAList, RecordingsAreOfTheRun};
 
 /// Of a guest, an order of its threads and what their worlds are made with, there is one run.
 pub fn one_run_by_an_order()
     ensures { OneRunByAnOrder }
+{}
+
+/// What is recorded with a list is of each run that the guest makes by the list's order with the same answers.
+pub fn recordings_are_of_the_run()
+    ensures { RecordingsAreOfTheRun }
+{}
+
+/// What is recorded of an image with a list is always the same.
+pub fn one_recording_by_a_list()
+    ensures { OneRecordingByAList }
 {}
