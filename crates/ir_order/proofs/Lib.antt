@@ -5,3 +5,4 @@ mod Items
 mod Lists
 mod Traces
 mod Recorded
+mod Complete

@@ -1,3 +1,4 @@
+pub mod Complete
 pub mod OneRun
 pub mod Recording
 pub mod Spelling

@@ -1,5 +1,6 @@
 //! Laws of runs by an order, each the contract of a function without parameters.
 
+ghost use Rattle.ir_order.specs.Complete.{CompleteRunsHaveSteps};
 ghost use Rattle.ir_order.specs.OneRun.{OneRunByAnOrder};
 ghost use Rattle.ir_order.specs.Recording.{OneRecordingByAList, RecordingsAreOfTheRun};
 
@@ -16,4 +17,9 @@ pub fn recordings_are_of_the_run()
 /// What is recorded of an image with a list is always the same.
 pub fn one_recording_by_a_list()
     ensures { OneRecordingByAList }
+{}
+
+/// A complete run of a guest has a step, so its order can be printed.
+pub fn complete_runs_have_steps()
+    ensures { CompleteRunsHaveSteps }
 {}

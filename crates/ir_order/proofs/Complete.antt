@@ -1,0 +1,29 @@
+-- A complete run has a step.
+use Rattle.std.proofs.Common.{◌≡◌, ◌≤◌, ℕ, zero, suc, List, [], ◌∷◌, length, map, get_or, None, refl, ap, subst, arith}
+use Rattle.std.specs.Prelude.{◌≢◌}
+use Rattle.ir_image.specs.Guest.{Guest}
+use Rattle.ir_runs.specs.Run.{Step, IsDone, end}
+use Rattle.ir_thread.specs.Calls.{ask_of, Permits}
+use Rattle.ir_thread.specs.State.{State, start_state}
+use Rattle.ir_thread.specs.declared.ask.Ask.{Ask}
+use Rattle.ir_thread.specs.declared.ask.Ask.TheVariants.{Done}
+use Rattle.ir_thread.specs.declared.profile.Profile.{Profile}
+use Rattle.ir_thread.proofs.CallerLemmas.{ask_permits}
+use Rattle.ir_flat.specs.Flat.{thread_of, start_threads, start_flat, tables, machine, idle}
+use Rattle.ir_flat.proofs.CallerLemmas.{really_done}
+use Rattle.ir_order.specs.Complete.{CompleteRunsHaveSteps}
+
+first_thread : (guest : Guest) (budget : ℕ) (profile : Profile) (n : ℕ) → 1 ≤ n
+    → (get_or (start_threads guest budget profile 0 n) 0 idle).ended ≡ None
+first_thread guest budget profile zero some = absurd (omega (arith, some))
+first_thread guest budget profile (suc n) some = refl
+
+-- a thread that hasn't ended asks for something
+asks : (code : List ℕ) (x : State) → x.ended ≡ None → ask_of code x ≢ Done
+asks code x live done = let permits : Permits x Done = subst (Permits x) done (ask_permits code x) in permits.0 live
+
+pub complete_runs : CompleteRunsHaveSteps
+complete_runs guest budget profile [] some done h =
+    asks guest.code (thread_of (start_flat guest budget profile) 0) (first_thread guest budget profile (length guest.entries) some)
+    (really_done (ask_of guest.code (thread_of (start_flat guest budget profile) 0)) (done 0))
+complete_runs guest budget profile (e ∷ run) some done h = absurd (cc h)
