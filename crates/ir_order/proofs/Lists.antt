@@ -8,7 +8,7 @@ use Rattle.std.proofs.lemmas.List.{replicate-append-replicate}
 use Rattle.ir_record.specs.Turns.{order_of_turns}
 use Rattle.ir_record.specs.declared.turns.Turns.{Turns}
 use Rattle.ir_record_run.specs.Order.{most_turns, joined, item_of, items_of, order_of}
-use Rattle.ir_order.specs.Spelling.{item_text, with_item, Spells, SpellsSoFar}
+use Rattle.ir_order.specs.Spelling.{item_text, with_item, Spells, IsListOf}
 use Rattle.ir_order.proofs.Items.{item_of-item_text, item_text-one_part, item_text-some}
 
 -- ---- a text that is cut at its last mark
@@ -73,41 +73,54 @@ order_of-more : (n : ℕ) (list item : List ℕ) → order_of n (list ++ 44 ∷ 
 order_of-more n list item = ap (items_of n) (split_append (λ b. b == 44) list 44 item (eq-eqb 44 44 refl))
     ∙ items_append n (slice_split (λ b. b == 44) list) (slice_split (λ b. b == 44) item)
 
-so_far : (list order : List ℕ) → 0 < length list → Spells list order → SpellsSoFar list order
-so_far [] order some h = absurd (omega (arith, some))
-so_far (b ∷ list) order some h = h
+some_turns : (order : List ℕ) (thread count : ℕ) → 1 ≤ count → order ++ replicate count thread ≢ []
+some_turns [] thread zero some h = absurd (omega (arith, some))
+some_turns [] thread (suc count) some h = absurd (cc h)
+some_turns (t ∷ order) thread count some h = absurd (cc h)
 
-pub spells_more : (list order : List ℕ) (thread count : ℕ) → thread < 2 ^ 8 → 1 ≤ count → count ≤ most_turns → SpellsSoFar list order
-    → SpellsSoFar (with_item list (item_text thread count)) (order ++ replicate count thread)
-spells_more [] order thread count small some few none =
-    so_far (item_text thread count) (order ++ replicate count thread) (item_text-some thread count small)
+not_empty : (list order : List ℕ) → 0 < length list → order ≢ [] → Spells list order → IsListOf list order
+not_empty [] order some steps h = absurd (omega (arith, some))
+not_empty (b ∷ list) order some steps h = (steps, h)
+
+pub more_items : (list order : List ℕ) (thread count : ℕ) → thread < 2 ^ 8 → 1 ≤ count → count ≤ most_turns → IsListOf list order
+    → IsListOf (with_item list (item_text thread count)) (order ++ replicate count thread)
+more_items [] order thread count small some few none =
+    not_empty (item_text thread count) (order ++ replicate count thread) (item_text-some thread count small) (some_turns order thread count some)
     (subst (λ (z : List ℕ). Spells (item_text thread count) (z ++ replicate count thread)) (sym none)
     (λ n all. order_of-item n thread count (of_each (λ t. t < n) count thread some all) small some few))
-spells_more (b ∷ list) order thread count small some few h = λ n all.
-    let parts = both_parts (λ t. t < n) order (replicate count thread) all in
-    order_of-more n (b ∷ list) (item_text thread count)
-    ∙ ap (λ (z : Option (List ℕ)). joined z (order_of n (item_text thread count))) (h n parts.0)
-    ∙ ap (joined (Some order)) (order_of-item n thread count (of_each (λ t. t < n) count thread some parts.1) small some few)
+more_items (b ∷ list) order thread count small some few h = (
+  some_turns order thread count some,
+  λ n all.
+      let parts = both_parts (λ t. t < n) order (replicate count thread) all in
+      order_of-more n (b ∷ list) (item_text thread count)
+      ∙ ap (λ (z : Option (List ℕ)). joined z (order_of n (item_text thread count))) (h.1 n parts.0)
+      ∙ ap (joined (Some order)) (order_of-item n thread count (of_each (λ t. t < n) count thread some parts.1) small some few),
+)
 
--- a list that isn't empty any more
-pub spells_all : (list order : List ℕ) → order ≢ [] → SpellsSoFar list order → Spells list order
-spells_all [] order some none = absurd (some none)
-spells_all (b ∷ list) order some h = h
+-- a list isn't empty where its order isn't
+pub list_spells : (list order : List ℕ) → IsListOf list order → order ≢ [] → Spells list order
+list_spells [] order none some = absurd (some none)
+list_spells (b ∷ list) order h some = h.1
+
+-- and is empty where its order is
+pub list_empty : (list order : List ℕ) → IsListOf list order → order ≡ [] → list ≡ []
+list_empty [] order none e = refl
+list_empty (b ∷ list) order h e = absurd (h.0 e)
 
 -- so many turns more
 pub turns_more : (old list new : List ℕ) (thread total left count : ℕ) → thread < 2 ^ 8 → left ≤ total → 1 ≤ count → count ≤ most_turns
     → count ≤ left → new ≡ with_item list (item_text thread count)
-    → ((order : List ℕ) → SpellsSoFar old order → SpellsSoFar list (order ++ replicate (total - left) thread))
-    → (order : List ℕ) → SpellsSoFar old order → SpellsSoFar new (order ++ replicate (total - (left - count)) thread)
-turns_more old list new thread total left count small within some few most is so_far order h =
+    → ((order : List ℕ) → IsListOf old order → IsListOf list (order ++ replicate (total - left) thread))
+    → (order : List ℕ) → IsListOf old order → IsListOf new (order ++ replicate (total - (left - count)) thread)
+turns_more old list new thread total left count small within some few most is before order h =
     let longer : (total - left) + count ≡ total - (left - count) = omega (arith, within, most) in
     let same : (order ++ replicate (total - left) thread) ++ replicate count thread ≡ order ++ replicate (total - (left - count)) thread =
-        append_assoc order (replicate (total - left) thread) (replicate count thread)
-        ∙ ap (λ (z : List ℕ). order ++ z) (replicate-append-replicate (total - left) count thread
-        ∙ ap (λ (k : ℕ). replicate k thread) longer) in
-    subst (λ (z : List ℕ). SpellsSoFar z (order ++ replicate (total - (left - count)) thread)) (sym is)
-    (subst (SpellsSoFar (with_item list (item_text thread count))) same
-    (spells_more list (order ++ replicate (total - left) thread) thread count small some few (so_far order h)))
+    append_assoc order (replicate (total - left) thread) (replicate count thread)
+    ∙ ap (λ (z : List ℕ). order ++ z) (replicate-append-replicate (total - left) count thread
+    ∙ ap (λ (k : ℕ). replicate k thread) longer) in
+    subst (λ (z : List ℕ). IsListOf z (order ++ replicate (total - (left - count)) thread)) (sym is)
+    (subst (IsListOf (with_item list (item_text thread count))) same
+    (more_items list (order ++ replicate (total - left) thread) thread count small some few (before order h)))
 
 -- the turns so far, and one more
 pub order_of_turns-more : (turns : List Turns) (k : ℕ) (t : Turns) → k < length turns → t ≡ get_or turns k t

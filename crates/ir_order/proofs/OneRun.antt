@@ -55,11 +55,11 @@ alike m n more (t ∷ order) s sources a b idle (inr some) done (inr some') give
     let given_a : AreGiven m s n sources ((t, r) ∷ some.1) = subst (AreGiven m s n sources) some.2 gives in
     let given_b : AreGiven m s n sources ((t, w) ∷ some'.1) = subst (AreGiven m s n sources) some'.2 gives' in
     let p : act m s (t, r) ≡ act m s (t, w) = one_act m s.objects (sources t) (asked m s t) r w some.3 some'.3 some.4 some'.4
-        (step_takes m s n sources (t, r) some.1 given_a below.0) (step_takes m s n sources (t, w) some'.1 given_b below.0) in
+    (step_takes m s n sources (t, r) some.1 given_a below.0) (step_takes m s n sources (t, w) some'.1 given_b below.0) in
     let rest = after_both m s n sources t r w (order ++ more) some'.1 p some'.5 given_b in
     let h : Alike m s ((t, r) ∷ some.1) ((t, w) ∷ some'.1) = alike_step m s t r w some.1 some'.1 p
-        (alike m n more order (after m s (t, r)) (upd sources t (left_by (act m s (t, r)) (sources t))) some.1 some'.1 below.1 some.5
-        (subst (λ z. IsDone m (end m s z)) some.2 done) rest.0 (step_leaves m s n sources (t, r) some.1 given_a) rest.1) in
+    (alike m n more order (after m s (t, r)) (upd sources t (left_by (act m s (t, r)) (sources t))) some.1 some'.1 below.1 some.5
+    (subst (λ z. IsDone m (end m s z)) some.2 done) rest.0 (step_leaves m s n sources (t, r) some.1 given_a) rest.1) in
     subst (λ z. Alike m s z b) (sym some.2) (subst (Alike m s ((t, r) ∷ some.1)) (sym some'.2) h)
 
 -- more rounds

@@ -51,7 +51,6 @@ same_events xs ys e = sym (events_of-labels xs) ∙ ap events_of e ∙ events_of
 abbrev end_by : ℕ × ℕ → Option End
 end_by e = end_of e.0 e.1
 
-
 end_by-end : (e : End) → end_by (end_number e, end_code e) ≡ Some e
 end_by-end (Exit code) = rw (eq-eqb code code refl) refl
 end_by-end Breakpoint = refl

@@ -1,5 +1,5 @@
 -- Lists that are printed, item by item.
-use Rattle.std.specs.Prelude.{◌≡◌, ◌<◌, ◌==◌, if◌then◌else◌, ℕ, List, [], ◌∷◌, ◌++◌, decimal, Some}
+use Rattle.std.specs.Prelude.{◌≡◌, ◌≢◌, ◌<◌, ◌==◌, if◌then◌else◌, ℕ, List, [], ◌∷◌, ◌++◌, decimal, Some}
 use Rattle.std.specs.List.{AllByRecursion}
 use Rattle.ir_record_run.specs.Order.{order_of}
 
@@ -16,7 +16,7 @@ with_item (b ∷ list) item = (b ∷ list) ++ 44 ∷ item
 abbrev pub Spells : List ℕ → List ℕ → Type 0
 Spells list order = (n : ℕ) → AllByRecursion (λ t. t < n) order → order_of n list ≡ Some order
 
--- the same of a list that is begun: where it is empty, so is the order
-abbrev pub SpellsSoFar : List ℕ → List ℕ → Type 0
-SpellsSoFar [] order = order ≡ []
-SpellsSoFar (b ∷ list) order = Spells (b ∷ list) order
+-- the list of an order: it spells the order, and is empty where the order is
+abbrev pub IsListOf : List ℕ → List ℕ → Type 0
+IsListOf [] order = order ≡ []
+IsListOf (b ∷ list) order = (order ≢ []) × Spells (b ∷ list) order

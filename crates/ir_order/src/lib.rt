@@ -4,5 +4,8 @@
 mod laws;
 mod list;
 
-pub use laws::{complete_runs_have_steps, one_recording_by_a_list, one_run_by_an_order, recordings_are_of_the_run};
+pub use laws::{
+    complete_runs_have_steps, one_recording_by_a_list, one_run_by_an_order,
+    recordings_are_of_the_run,
+};
 pub use list::list_of;

@@ -3,10 +3,13 @@
 ghost use Rattle.std.specs.Prelude.{◌≡◌, ◌≢◌, ℕ, List, [], ◌++◌, IfOk, OnOk, replicate};
 ghost use Rattle.std.specs.String.{string_bytes};
 ghost use Rattle.ir_record.specs.Turns.{order_of_turns};
-ghost use Rattle.ir_order.specs.Spelling.{item_text, with_item, Spells, SpellsSoFar};
+ghost use Rattle.ir_order.specs.Spelling.{item_text, with_item, Spells, IsListOf};
 
 use ir_record::Turns;
 use std::alloc::{AllocError, Global};
+
+#[cfg(test)]
+mod tests;
 
 /// The most steps of an item.
 const MOST_TURNS: u64 = 1_000_000;
@@ -38,7 +41,7 @@ fn push_item(alloc: Global, list: &mut String, turns: Turns) -> Result<(), Alloc
 
 // Puts turns at the end of a list, in items of no more than `MOST_TURNS` steps.
 fn push_turns(alloc: Global, list: &mut String, turns: Turns) -> Result<(), AllocError>
-    ensures { OnOk result ((order : List ℕ) → SpellsSoFar (string_bytes list.old) order → SpellsSoFar (string_bytes list.new) (order ++ replicate turns.count turns.thread)) }
+    ensures { OnOk result ((order : List ℕ) → IsListOf (string_bytes list.old) order → IsListOf (string_bytes list.new) (order ++ replicate turns.count turns.thread)) }
 {
     let thread = turns.thread;
     let mut left = turns.count;
@@ -50,34 +53,18 @@ fn push_turns(alloc: Global, list: &mut String, turns: Turns) -> Result<(), Allo
     Ok(())
 }
 
-/// The list that spells these turns: `T` for one step of thread T, `TxN` for N steps, with commas between.
+/// The list that spells these turns: `T` for one step of thread T, `TxN` for N steps, with commas between. It is empty
+/// where there is no step.
 ///
 /// # Errors
 /// Out of memory.
 pub fn list_of(alloc: Global, turns: &[Turns]) -> Result<String, AllocError>
-    requires some { order_of_turns turns.now ≢ [] }
-    ensures { IfOk result (λ list. Spells (string_bytes list) (order_of_turns turns.now)) }
+    ensures spelled { IfOk result (λ list. order_of_turns turns.now ≢ [] → Spells (string_bytes list) (order_of_turns turns.now)) }
+    ensures empty { IfOk result (λ list. order_of_turns turns.now ≡ [] → string_bytes list ≡ []) }
 {
     let mut list = String::new(alloc);
     'turns: for each in turns {
         push_turns(alloc, &mut list, *each)?;
     }
     Ok(list)
-}
-
-#[cfg(test)]
-mod tests {
-    use super::*;
-
-    #[test]
-    fn items_of_turns() {
-        let turns = [
-            Turns { thread: 0, count: 25 },
-            Turns { thread: 1, count: 1 },
-            Turns { thread: 2, count: 0 },
-            Turns { thread: 3, count: 2_000_001 },
-        ];
-        let list = list_of(Global, &turns).unwrap();
-        assert_eq!(list.as_str(), "0x25,1,3x1000000,3x1000000,3");
-    }
 }

@@ -1,9 +1,9 @@
 use Rattle.std.proofs.Common.{take}
 use Rattle.std.specs.String.{string_bytes}
 use Rattle.ir_record.specs.Turns.{order_of_turns}
-use Rattle.ir_order.specs.Spelling.{SpellsSoFar}
+use Rattle.ir_order.specs.Spelling.{IsListOf}
 use Rattle.ir_order.proofs.list.list_of.Given as goal
 
--- the list spells the turns so far
+-- it is the list of the turns so far
 abbrev pub invariant-turns : goal.invariant-turns
-invariant-turns l = SpellsSoFar (string_bytes l.list) (order_of_turns (take l.each-index l.turns))
+invariant-turns l = IsListOf (string_bytes l.list) (order_of_turns (take l.each-index l.turns))
