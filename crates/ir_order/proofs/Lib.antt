@@ -6,3 +6,4 @@ mod Lists
 mod Traces
 mod Recorded
 mod Complete
+pub mod CallerLemmas
