@@ -1,15 +1,13 @@
 -- A complete run has a step.
-use Rattle.std.proofs.Common.{◌≡◌, ◌≤◌, ℕ, zero, suc, List, [], ◌∷◌, length, map, get_or, None, refl, ap, subst, arith}
+use Rattle.std.proofs.Common.{◌≡◌, ◌≤◌, ℕ, zero, suc, List, [], ◌∷◌, length, get_or, None, refl, subst, arith}
 use Rattle.std.specs.Prelude.{◌≢◌}
 use Rattle.ir_image.specs.Guest.{Guest}
-use Rattle.ir_runs.specs.Run.{Step, IsDone, end}
 use Rattle.ir_thread.specs.Calls.{ask_of, Permits}
-use Rattle.ir_thread.specs.State.{State, start_state}
-use Rattle.ir_thread.specs.declared.ask.Ask.{Ask}
+use Rattle.ir_thread.specs.State.{State}
 use Rattle.ir_thread.specs.declared.ask.Ask.TheVariants.{Done}
 use Rattle.ir_thread.specs.declared.profile.Profile.{Profile}
 use Rattle.ir_thread.proofs.CallerLemmas.{ask_permits}
-use Rattle.ir_flat.specs.Flat.{thread_of, start_threads, start_flat, tables, machine, idle}
+use Rattle.ir_flat.specs.Flat.{thread_of, start_threads, start_flat, idle}
 use Rattle.ir_flat.proofs.CallerLemmas.{really_done}
 use Rattle.ir_order.specs.Complete.{CompleteRunsHaveSteps}
 

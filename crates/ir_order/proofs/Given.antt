@@ -1,12 +1,10 @@
 -- What the world of a thread answers next.
-use Rattle.std.proofs.Common.{◌≡◌, ◌≢◌, ◌<◌, ℕ, zero, suc, true, List, [], ◌∷◌, refl, sym, ap, ◌∙◌, subst, inl, inr}
-use Rattle.std.proofs.lemmas.Bool.{cases_eq}
+use Rattle.std.proofs.Common.{◌≡◌, ◌<◌, ℕ, zero, suc, List, ◌∷◌, refl, sym, ap, ◌∙◌, subst}
 use Rattle.ir_runs.specs.Machine.{Ask, Private, Env, Enter, Try, Leave, Get, Put, Done, Act, act_of, Silent, Result, Entry, Refusal, Exit, Load, Store, Never, Machine, upd}
 use Rattle.ir_runs.specs.Labels.{Label, logged}
 use Rattle.ir_runs.specs.declared.access.Access.TheVariants.{Reading, Writing}
-use Rattle.ir_runs.specs.declared.env_kind.EnvKind.{EnvKind}
 use Rattle.ir_runs.specs.Object.{Object, target, Admits, emitted}
-use Rattle.ir_runs.specs.Run.{State, Step, act, after, events, trail, log}
+use Rattle.ir_runs.specs.Run.{State, Step, act, after, events, log}
 use Rattle.ir_runs.proofs.CallerLemmas.{upd_elim, trail_same, trail_other}
 use Rattle.ir_record.specs.Worlds.{answers_in}
 use Rattle.ir_sources.specs.Sources.{Source, given, Gave}

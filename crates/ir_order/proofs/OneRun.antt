@@ -1,20 +1,18 @@
 -- There is one run by an order.
-use Rattle.std.proofs.Common.{◌≡◌, ℕ, zero, suc, ◌+◌, ◌-◌, ◌<◌, ◌≤◌, Bool, true, List, [], ◌∷◌, ◌++◌, length, refl, sym, ap, ◌∙◌, subst, arith, inl, inr, append_assoc}
+use Rattle.std.proofs.Common.{◌≡◌, ℕ, zero, suc, ◌+◌, ◌-◌, ◌<◌, ◌≤◌, Bool, true, List, [], ◌∷◌, ◌++◌, length, sym, ap, ◌∙◌, subst, arith, inl, inr, append_assoc}
 use Rattle.std.specs.List.{range_with_len}
 use Rattle.std.proofs.lemmas.Bool.{cases_lt}
-use Rattle.ir_image.specs.Guest.{Guest}
 use Rattle.ir_runs.specs.Machine.{Act, act_of, Machine, upd}
 use Rattle.ir_runs.specs.Object.{target, Admits}
-use Rattle.ir_runs.specs.Run.{State, Step, asked, act, Can, after, end, log, IsDone, IsIdle}
-use Rattle.ir_runs.specs.InOrder.{HasNone, EntersIfFree, InTurn, rounds, IsByOrder}
+use Rattle.ir_runs.specs.Run.{State, Step, asked, act, after, end, log, IsDone, IsIdle}
+use Rattle.ir_runs.specs.InOrder.{InTurn, rounds, IsByOrder}
 use Rattle.ir_runs.proofs.CallerLemmas.{below_idle}
-use Rattle.ir_thread.specs.declared.profile.Profile.{Profile}
 use Rattle.ir_flat.specs.Flat.{start_flat, tables, machine}
 use Rattle.ir_flat.proofs.CallerLemmas.{start_idle}
-use Rattle.ir_record.specs.Worlds.{answers_in, Answered}
-use Rattle.ir_sources.specs.Sources.{MadeWith, Source, source, from_sources, Gave, IsAnswered}
-use Rattle.ir_order.specs.OneRun.{AreSame, AreAnswered, IsAnsweredByOrder, OneRunByAnOrder}
-use Rattle.ir_order.proofs.Given.{Takes, left_by, HasGiven, AreGiven, step_takes, step_leaves, one_act}
+use Rattle.ir_record.specs.Worlds.{answers_in}
+use Rattle.ir_sources.specs.Sources.{MadeWith, Source, source, from_sources, Gave}
+use Rattle.ir_order.specs.OneRun.{AreSame, AreAnswered, OneRunByAnOrder}
+use Rattle.ir_order.proofs.Given.{left_by, AreGiven, step_takes, step_leaves, one_act}
 use Rattle.ir_order.proofs.Alike.{Alike, acted_by, alike_equal, alike_step, same_by}
 
 -- where all threads are done, no order has a step

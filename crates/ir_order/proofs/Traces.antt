@@ -1,6 +1,5 @@
 -- A run has one trace, and its threads printed one output each.
-use Rattle.std.proofs.Common.{◌≡◌, ◌<◌, ℕ, List, [], ◌∷◌, length, map, get_or, Option, Some, None, refl, sym, ap, ◌∙◌, subst, eq-eqb, true}
-use Rattle.std.specs.Prelude.{◌==◌, ◌&&◌, Bool, find}
+use Rattle.std.proofs.Common.{◌≡◌, ◌<◌, ℕ, List, [], ◌∷◌, length, map, Option, Some, refl, sym, ap, ◌∙◌, subst, eq-eqb}
 use Rattle.std.proofs.lemmas.List.{ext_get_or}
 use Rattle.std.proofs.lemmas.Option.{get_or_from_slice_get}
 use Rattle.ir_image.specs.Guest.{Guest}

@@ -1,5 +1,5 @@
 -- Runs after which all threads are done.
-use Rattle.std.specs.Prelude.{◌≡◌, ◌≢◌, ◌≤◌, ℕ, List, [], length, map}
+use Rattle.std.specs.Prelude.{◌≢◌, ◌≤◌, ℕ, List, [], length, map}
 use Rattle.ir_image.specs.Guest.{Guest}
 use Rattle.ir_runs.specs.Run.{Step, IsDone, end}
 use Rattle.ir_thread.specs.declared.profile.Profile.{Profile}
