@@ -1,0 +1,3 @@
+mod Leaders
+mod Words
+mod Orders
