@@ -5,3 +5,4 @@ pub mod Choices
 pub mod Schedules
 pub mod Laws
 pub mod Conditions
+pub mod Moments

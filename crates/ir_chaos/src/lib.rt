@@ -5,10 +5,17 @@ mod chooser;
 mod condition;
 mod draw;
 mod laws;
+mod note;
 mod ranking;
+mod run;
+mod runner;
+mod step;
+mod stop;
 mod way;
 
 pub use chooser::Chooser;
 pub use condition::{Condition, Fact};
 pub use laws::{schedules_are_of_threads, schedules_are_orders};
+pub use runner::Runner;
+pub use stop::Stop;
 pub use way::Way;

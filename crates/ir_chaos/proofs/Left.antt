@@ -1,0 +1,126 @@
+-- Each step leaves fewer.
+use Rattle.std.proofs.Common.{◌≡◌, ◌≢◌, ℕ, zero, suc, ◌+◌, ◌-◌, ◌<◌, ◌≤◌, List, [], ◌∷◌, length, replicate, Option, Some, None, Bool, refl, sym, ap, ◌∙◌, subst, arith, inl, inr}
+use Rattle.std.proofs.lemmas.Bool.{cases_eq, cases_lt}
+use Rattle.std.proofs.lemmas.List.{get_or_past}
+use Rattle.ir_image.specs.Guest.{most_objects}
+use Rattle.ir_thread.specs.Calls.{most_closing, Permits, ask_of, after_ask}
+use Rattle.ir_thread.specs.Held.{held_at, held_count}
+use Rattle.ir_thread.specs.Instance.{reply_of, thread_machine}
+use Rattle.ir_thread.specs.State as thread
+use Rattle.ir_thread.specs.declared.ask.Ask.{Ask}
+use Rattle.ir_thread.specs.declared.ask.Ask.TheVariants.{Private, Env, Enter, Try, Leave, Get, Put, Print, End, Done}
+use Rattle.ir_thread.specs.declared.ask.Reply.{Reply}
+use Rattle.ir_thread.specs.declared.end.End as end
+use Rattle.ir_thread.proofs.CallerLemmas.{ask_permits, one_fewer, count_le_length}
+use Rattle.ir_runs.specs.Machine.{upd}
+use Rattle.ir_runs.specs.Object.{target, reply}
+use Rattle.ir_runs.specs.Run as run
+use Rattle.ir_runs.specs.Run.{State, Step, act, Can, after, IsRun}
+use Rattle.ir_runs.proofs.CallerLemmas.{upd_same, upd_other, upd_elim}
+use Rattle.ir_flat.specs.Flat.{Flat, IsFlat, idle, tables, thread_of}
+use Rattle.ir_flat.proofs.CallerLemmas.{moved_thread, now_after, never_done, held_length}
+use Rattle.ir_record.specs.Progress.{steps_left, all_left}
+
+-- a step of a thread that has not ended and goes on
+goes : (ended : Option end.End) (x y : thread.State) → x.ended ≡ None → x.steps < x.budget → y.ended ≡ x.ended → y.budget ≡ x.budget
+    → y.steps ≡ x.steps + 1 → steps_left y.ended y + 1 ≤ steps_left x.ended x
+goes ended x y lives less same budget steps =
+    let own : steps_left x.ended x ≡ most_closing + (x.budget - x.steps) = ap (λ e. steps_left e x) lives in
+    let new : steps_left y.ended y ≡ most_closing + (y.budget - y.steps) = ap (λ e. steps_left e y) (same ∙ lives) in
+    omega (arith, own, new, less, budget, steps)
+
+leaves : (ended : Option end.End) (x y : thread.State) (object : ℕ) → x.ended ≡ ended → (x.ended ≡ None → x.steps < x.budget)
+    → y.ended ≡ x.ended → y.budget ≡ x.budget → y.steps ≡ x.steps + 1 → held_count x.held ≡ suc (held_count y.held)
+    → steps_left y.ended y + 1 ≤ steps_left x.ended x
+leaves None x y object is less same budget steps fewer = goes None x y is (less is) same budget steps
+leaves (Some e) x y object is less same budget steps fewer =
+    let own : steps_left x.ended x ≡ held_count x.held = ap (λ z. steps_left z x) is in
+    let new : steps_left y.ended y ≡ held_count y.held = ap (λ z. steps_left z y) (same ∙ is) in
+    omega (arith, own, new, fewer)
+
+some_access : {A : Type 0} (x : Option A) (a : A) → x ≡ Some a → x ≢ None
+some_access x a e n = cc (e, n)
+
+-- each step leaves its thread fewer
+one_less : (code : List ℕ) (x : thread.State) (q : Ask) (r : Reply) → length x.held ≤ most_objects → Permits x q → q ≢ Done
+    → steps_left (after_ask code x q r).ended (after_ask code x q r) + 1 ≤ steps_left x.ended x
+one_less code x Private r few p ne = goes x.ended x (after_ask code x Private r) p.lives p.has_budget refl refl refl
+one_less code x (Env kind) r few p ne = goes x.ended x (after_ask code x (Env kind) r) p.0.lives p.0.has_budget refl refl refl
+one_less code x (Enter object access) r few p ne =
+    goes x.ended x (after_ask code x (Enter object access) r) p.0.lives p.0.has_budget refl refl refl
+one_less code x (Try object) r few p ne = goes x.ended x (after_ask code x (Try object) r) p.0.lives p.0.has_budget refl refl refl
+one_less code x (Leave object access) r few p ne =
+    leaves x.ended x (after_ask code x (Leave object access) r) object refl p.0
+    refl refl refl (one_fewer x.held object p.1 (some_access (held_at x.held object) access p.2))
+one_less code x (Get object index) r few p ne =
+    goes x.ended x (after_ask code x (Get object index) r) p.0.lives p.0.has_budget refl refl refl
+one_less code x (Put object index value) r few p ne =
+    goes x.ended x (after_ask code x (Put object index value) r) p.0.lives p.0.has_budget refl refl refl
+one_less code x Print r few p ne = goes x.ended x (after_ask code x Print r) p.0.lives p.0.has_budget refl refl refl
+one_less code x (End e) r few p ne =
+    let own : steps_left x.ended x ≡ most_closing + (x.budget - x.steps) = ap (λ z. steps_left z x) p in
+    let most = count_le_length x.held in
+    omega (arith, own, most, few)
+one_less code x Done r few p ne = absurd (ne refl)
+
+left_past : (n : ℕ) (now : ℕ → thread.State) (t : ℕ) (y : thread.State) → n ≤ t → all_left n (upd now t y) ≡ all_left n now
+left_past zero now t y l = refl
+left_past (suc n) now t y l =
+    let here : steps_left (upd now t y n).ended (upd now t y n) ≡ steps_left (now n).ended (now n) =
+    ap (λ z. steps_left z.ended z) (upd_other now t n y (λ e. omega (arith, e, l))) in
+    let rest = left_past n now t y (omega arith) in
+    omega (arith, here, rest)
+
+-- what one thread has fewer, all have
+all_less : (n : ℕ) (now : ℕ → thread.State) (t : ℕ) (y : thread.State) → t < n
+    → steps_left y.ended y + 1 ≤ steps_left (now t).ended (now t) → all_left n (upd now t y) + 1 ≤ all_left n now
+all_less zero now t y l less = absurd (omega arith)
+all_less (suc n) now t y l less = elim (cases_eq n t) [
+  | inl e ↦
+      let here : steps_left (upd now t y n).ended (upd now t y n) ≡ steps_left y.ended y =
+      ap (λ z. steps_left z.ended z) (ap (upd now t y) e ∙ upd_same now t y) in
+      let was : steps_left (now n).ended (now n) ≡ steps_left (now t).ended (now t) = ap (λ k. steps_left (now k).ended (now k)) e in
+      let rest = left_past n now t y (omega (arith, e)) in
+      omega (arith, here, was, rest, less)
+  | inr ne ↦
+      let here : steps_left (upd now t y n).ended (upd now t y n) ≡ steps_left (now n).ended (now n) =
+      ap (λ z. steps_left z.ended z) (upd_other now t n y ne) in
+      let rest = all_less n now t y (let h : t < n = omega (arith, l, ne) in h) less in
+      omega (arith, here, rest)
+]
+
+-- no thread holds more objects than a guest may have
+abbrev pub Few : State thread.State → Type 0
+Few s = (t : ℕ) → length (s.now t).held ≤ most_objects
+
+pub flat_few : (f : Flat) → IsFlat f → Few (tables f)
+flat_few f flat t = elim (cases_lt t (length f.threads)) [
+  | inl l ↦ omega (arith, flat.places t l, flat.few_objects)
+  | inr past ↦ let none : length (thread_of f t).held ≡ 0 = ap (λ x. length x.held) (get_or_past f.threads t idle past) in
+      omega (arith, none)
+]
+
+stays_few : (code : List ℕ) (s : State thread.State) (e : Step) → Few s → Few (after (thread_machine code) s e)
+stays_few code s e few t =
+    subst (λ now. length (now t).held ≤ most_objects) (sym (now_after code s e))
+    (upd_elim s.now e.0 (moved_thread code s e) t (λ z. length z.held ≤ most_objects)
+    (λ _. let same = held_length code (s.now e.0) (ask_of code (s.now e.0))
+    (reply_of (ask_of code (s.now e.0)) (reply (act (thread_machine code) s e) (s.objects (target (act (thread_machine code) s e))))) in
+    let was = few e.0 in omega (arith, same, was))
+    (λ _. few t))
+
+-- a step leaves fewer
+pub step_less : (code : List ℕ) (n : ℕ) (s : State thread.State) (e : Step) → Few s → e.0 < n → Can (thread_machine code) s e
+    → all_left n (after (thread_machine code) s e).now + 1 ≤ all_left n s.now
+step_less code n s e few l can = subst (λ now. all_left n now + 1 ≤ all_left n s.now) (sym (now_after code s e))
+    (all_less n s.now e.0 (moved_thread code s e) l
+    (one_less code (s.now e.0) (ask_of code (s.now e.0)) _ (few e.0) (ask_permits code (s.now e.0)) (never_done code s e can)))
+
+-- so do the steps of one thread
+pub alone_less : (code : List ℕ) (n t k : ℕ) (s : State thread.State) → Few s → t < n → IsRun (thread_machine code) s (replicate k (t, 0))
+    → all_left n (run.end (thread_machine code) s (replicate k (t, 0))).now + k ≤ all_left n s.now
+alone_less code n t zero s few l ok = omega arith
+alone_less code n t (suc k) s few l ok =
+    let first = step_less code n s (t, 0) few l ok.0 in
+    let rest = alone_less code n t k (after (thread_machine code) s (t, 0)) (stays_few code s (t, 0) few) l ok.1 in
+    omega (arith, first, rest)

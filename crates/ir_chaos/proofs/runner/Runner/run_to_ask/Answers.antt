@@ -1,0 +1,24 @@
+use Rattle.std.proofs.Common.{refl, arith}
+use Rattle.ir_chaos.proofs.Runs.{ran_alone, alone_fewer, alone_others}
+use Rattle.ir_chaos.specs.Moments.{moment_of}
+use Rattle.ir_chaos.proofs.runner.Runner.run_to_ask.Goals as goal
+
+pub returns-in_ok-note-clause-ran : goal.returns-in_ok-note-clause-ran
+returns-in_ok-note-clause-ran g c = λ tries lower d.
+    ran_alone tries (moment_of g.W.World.answers c.args.self.now)
+    (record (moment_of g.W.World.answers c.args.self.now) { flat = c.run_to_ask-count.new.self; turns = c.note.new.turns.items }) c.args.t
+    c.run_to_ask-count.result.0 d c.requires.thread lower c.run_to_ask-count.ensures.went c.in_ok-note.ensures.noted refl
+
+pub returns-in_ok-note-clause-others : goal.returns-in_ok-note-clause-others
+returns-in_ok-note-clause-others g c = λ tries.
+    alone_others tries c.args.self.now.flat c.run_to_ask-count.new.self c.args.t c.run_to_ask-count.result.0
+    c.run_to_ask-count.ensures.went
+
+pub returns-in_ok-note-clause-fewer : goal.returns-in_ok-note-clause-fewer
+returns-in_ok-note-clause-fewer g c = alone_fewer c.args.self.now.flat c.run_to_ask-count.new.self c.args.t c.run_to_ask-count.result.0
+    c.run_to_ask-count.ensures.flat c.requires.thread c.run_to_ask-count.ensures.went
+
+pub returns-else-count-gt0-clause-others : goal.returns-else-count-gt0-clause-others
+returns-else-count-gt0-clause-others g c = λ tries.
+    alone_others tries c.args.self.now.flat c.run_to_ask-count.new.self c.args.t c.run_to_ask-count.result.0
+    c.run_to_ask-count.ensures.went

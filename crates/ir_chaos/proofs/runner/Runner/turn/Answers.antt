@@ -1,0 +1,21 @@
+use Rattle.std.proofs.Common.{◌≡◌, ◌<◌, ◌∙◌, ℕ, length, sym, subst}
+use Rattle.ir_chaos.proofs.Ready.{rest_again}
+use Rattle.ir_chaos.proofs.Runs.{ran_both, ran_chosen, lower_rest, others_both, some_both}
+use Rattle.ir_chaos.specs.Choices.{before_rounds}
+use Rattle.ir_chaos.specs.Moments.{IsAtRest, moment_of}
+use Rattle.ir_chaos.proofs.runner.Runner.turn.Given.{Over}
+use Rattle.ir_chaos.proofs.runner.Runner.turn.Goals as goal
+
+pub returns-clause-ran : goal.returns-clause-ran
+returns-clause-ran g c = λ d e chosen.
+    ran_both c.args.tries (moment_of g.W.World.answers c.args.self.now) (moment_of g.W.World.answers c.step.new.self)
+    (moment_of g.W.World.answers c.go_on.new.self) d e e
+    (ran_chosen c.args.tries (moment_of g.W.World.answers c.args.self.now) (moment_of g.W.World.answers c.step.new.self) c.args.t d e
+    c.requires.thread chosen c.in_ok-step.ensures.took)
+    (c.in_ok-go_on.ensures.ran e)
+
+pub returns-clause-rest : goal.returns-clause-rest
+returns-clause-rest g c = rest_again c.args.tries c.args.t c.args.self.now.flat c.go_on.new.self.flat
+    ((c.in_ok-go_on.ensures.ran before_rounds).gained.threads ∙ c.in_ok-step.ensures.took.gained.threads) c.requires.rest
+    (others_both c.args.tries c.args.t c.args.self.now.flat c.step.new.self.flat c.go_on.new.self.flat
+    (c.in_ok-step.ensures.others c.args.tries) c.in_ok-go_on.ensures.others) c.in_ok-go_on.ensures.rests
