@@ -1,6 +1,6 @@
 -- The thread of the highest priority, and threads that fall.
-use Rattle.std.proofs.Common.{◌≡◌, ◌<◌, ◌≤◌, ℕ, zero, suc, ◌+◌, ◌==◌, Bool, true, false, List, [], ◌∷◌, length, drop, set, nat_lt, if◌then◌else◌, get_or, refl, sym, ap, ◌∙◌, subst, arith, ◌≢◌, eq-eqb, ne_eqb}
-use Rattle.std.specs.List.{Contains, slice_index_or}
+use Rattle.std.proofs.Common.{◌≡◌, ◌<◌, ◌≤◌, ℕ, zero, suc, ◌+◌, ◌==◌, List, [], ◌∷◌, length, drop, set, nat_lt, if◌then◌else◌, get_or, refl, sym, ap, ◌∙◌, arith, ◌≢◌, eq-eqb, ne_eqb}
+use Rattle.std.specs.List.{Contains}
 use Rattle.std.proofs.lemmas.Bool.{lt-ltb, le-ltb}
 use Rattle.std.proofs.lemmas.List.{get_or_default, drop_all}
 use Rattle.ir_chaos.specs.Ranking.{priority, highest, leader, fallen, fallen_priority}

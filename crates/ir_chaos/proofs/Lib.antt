@@ -6,3 +6,5 @@ mod Runs
 mod Ready
 mod Turns
 mod Worlds
+mod Values
+mod Texts

@@ -1,62 +1,107 @@
 -- What a hunt looks for in what a run came to.
-use Rattle.std.specs.Prelude.{ℕ, ◌==◌, ◌&&◌, ◌||◌, Bool, true, false, List, [], ◌∷◌, not, if◌then◌else◌}
-use Rattle.std.specs.List.{slice_index_or}
+use Rattle.std.specs.Prelude.{ℕ, ◌==◌, eqb, ◌&&◌, ◌||◌, nat_lt, Bool, true, false, List, [], ◌∷◌, map, not, if◌then◌else◌, Option, Some, None}
+use Rattle.std.specs.List.{slice_index_or, starts_with}
+use Rattle.ir_flat.specs.Flat.{Flat}
+use Rattle.ir_image.specs.Guest.{Guest, object_count, object_words}
+use Rattle.std.specs.Prelude.{length}
 use Rattle.ir_thread.specs.Ends.{end_number}
-use Rattle.ir_thread.specs.declared.end.End.{End}
-use Rattle.ir_thread.specs.declared.end.End.TheVariants.{Exit, Breakpoint, BudgetSpent}
-use Rattle.ir_chaos.specs.declared.condition.Fact.{Fact}
-use Rattle.ir_chaos.specs.declared.condition.Fact.TheVariants as fact
-use Rattle.ir_chaos.specs.declared.condition.Condition.{Condition}
+use Rattle.ir_thread.specs.declared.end.End as end
+use Rattle.ir_thread.specs.declared.end.End.TheVariants as ends
+use Rattle.ir_chaos.specs.declared.condition.Condition as declared
+use Rattle.ir_chaos.specs.declared.condition.Fact as fact
+use Rattle.ir_chaos.specs.declared.condition.Fact.TheVariants as facts
 
--- what a complete run came to
+-- a fact of what a run came to; a text as its bytes
+pub data Fact : Type 0 where
+  End : (thread number : ℕ) → Fact
+  Code : (thread code : ℕ) → Fact
+  Word : (object index value : ℕ) → Fact
+  Printed : (thread : ℕ) → (text : List ℕ) → Fact
+  Fault : Fact
+  Budget : Fact
+
+-- a fact, or that it isn't so
+pub record Condition : Type 0 where
+  pub is_denied : Bool
+  pub fact : Fact
+
+-- the same of the code's
+abbrev pub as_fact : fact.Fact → Fact
+as_fact (facts.End thread number) = End thread number
+as_fact (facts.Code thread code) = Code thread code
+as_fact (facts.Word object index value) = Word object index value
+as_fact (facts.Printed thread text) = Printed thread text.now
+as_fact facts.Fault = Fault
+as_fact facts.Budget = Budget
+
+abbrev pub as_condition : declared.Condition → Condition
+as_condition c = record { is_denied = c.is_denied; fact = as_fact c.fact }
+
+-- what a run came to
 pub record Outcome : Type 0 where
-  -- how each thread ended
-  pub ends : List End
+  -- how each thread ended, if it has
+  pub ends : List (Option end.End)
   -- what each thread printed
   pub outputs : List (List ℕ)
   -- the words of each object
   pub words : List (List ℕ)
 
--- how thread t ended
-abbrev pub end_at : Outcome → ℕ → End
-end_at o t = slice_index_or o.ends t Breakpoint
+-- what threads and objects came to
+abbrev pub outcome_of : Flat → Outcome
+outcome_of f = record {
+  ends = map (λ x. x.ended) f.threads;
+  outputs = map (λ x. x.output) f.threads;
+  words =
+      map (λ c. c.words) f.objects;
+}
+
+-- whether a thread has ended so
+abbrev pub ends_by : ℕ → Option end.End → Bool
+ends_by number None = false
+ends_by number (Some e) = end_number e == number
 
 -- whether a thread exits with this code; one that ends by a fault has none
-abbrev pub exits_with : ℕ → End → Bool
-exits_with code (Exit c) = c == code
-exits_with code end = false
+abbrev pub exits_with : ℕ → Option end.End → Bool
+exits_with code (Some (ends.Exit c)) = c == code
+exits_with code ended = false
 
-abbrev pub is_exit : End → Bool
-is_exit end = end_number end == 1
+-- whether a thread has ended, and not by an exit
+abbrev pub is_fault : Option end.End → Bool
+is_fault None = false
+is_fault (Some e) = not (end_number e == 1)
 
-abbrev pub is_spent : End → Bool
-is_spent end = end_number end == end_number BudgetSpent
+-- whether a thread has spent its budget
+abbrev pub is_spent : Option end.End → Bool
+is_spent ended = ends_by (end_number ends.BudgetSpent) ended
 
 -- whether some element passes the test
 abbrev pub some_is : {A : Type 0} → (A → Bool) → List A → Bool
 some_is test [] = false
 some_is test (x ∷ xs) = test x || some_is test xs
 
--- whether the first bytes are these
-abbrev pub begins_with : List ℕ → List ℕ → Bool
-begins_with [] bytes = true
-begins_with (x ∷ xs) [] = false
-begins_with (x ∷ xs) (y ∷ ys) = (x == y) && begins_with xs ys
-
 -- whether the text occurs in the bytes
 abbrev pub occurs_in : List ℕ → List ℕ → Bool
-occurs_in text [] = begins_with text []
-occurs_in text (x ∷ bytes) = begins_with text (x ∷ bytes) || occurs_in text bytes
+occurs_in text [] = starts_with eqb [] text
+occurs_in text (x ∷ bytes) = starts_with eqb (x ∷ bytes) text || occurs_in text bytes
 
--- whether a fact holds of what a run came to
-abbrev pub is_fact : Fact → Outcome → Bool
-is_fact (fact.End thread number) o = end_number (end_at o thread) == number
-is_fact (fact.Code thread code) o = exits_with code (end_at o thread)
-is_fact (fact.Word object index value) o = slice_index_or (slice_index_or o.words object []) index 0 == value
-is_fact (fact.Printed thread text) o = occurs_in text.now (slice_index_or o.outputs thread [])
-is_fact fact.Fault o = some_is (λ end. not (is_exit end)) o.ends
-is_fact fact.Budget o = some_is is_spent o.ends
+-- whether a fact is so of what a run came to; nothing is so of a thread, an object or a word that there isn't but that a word is 0
+abbrev pub is_so : Fact → Outcome → Bool
+is_so (End thread number) o = ends_by number (slice_index_or o.ends thread None)
+is_so (Code thread code) o = exits_with code (slice_index_or o.ends thread None)
+is_so (Word object index value) o = slice_index_or (slice_index_or o.words object []) index 0 == value
+is_so (Printed thread text) o = occurs_in text (slice_index_or o.outputs thread [])
+is_so Fault o = some_is is_fault o.ends
+is_so Budget o = some_is is_spent o.ends
 
--- whether the condition holds of it: the fact does, or with `!` it does not
+-- whether the condition holds of it: the fact is so, or with `!` it isn't
 abbrev pub fulfils : Condition → Outcome → Bool
-fulfils c o = if c.is_denied then not (is_fact c.fact o) else is_fact c.fact o
+fulfils c o = if c.is_denied then not (is_so c.fact o) else is_so c.fact o
+
+-- whether the guest has the thread, the object and the word that the fact is about
+abbrev pub is_about : Fact → Guest → Bool
+is_about (End thread number) g = nat_lt thread (length g.entries)
+is_about (Code thread code) g = nat_lt thread (length g.entries)
+is_about (Word object index value) g = nat_lt object (object_count g) && nat_lt index (object_words g)
+is_about (Printed thread text) g = nat_lt thread (length g.entries)
+is_about Fault g = true
+is_about Budget g = true

@@ -6,3 +6,4 @@ pub mod Schedules
 pub mod Laws
 pub mod Conditions
 pub mod Moments
+pub mod Spelling

@@ -1,16 +1,24 @@
 //! What a hunt looks for in what a run came to.
 
-/// A fact of a complete run.
+ghost use Rattle.ir_chaos.specs.Conditions.{as_condition, as_fact, fulfils, is_about, is_so, outcome_of};
+ghost use Rattle.std.specs.Prelude.{◌≡◌};
+
+use crate::outcome::{end_at, ends_by, exits_with, output_at, some_fault, some_spent, word_at};
+use crate::text::occurs;
+use ir_flat::Flat;
+use ir_image::Image;
+
+/// A fact of what a run came to. Threads, objects and words are given by their numbers, from 0.
 #[derive(Clone, Copy, Debug, PartialEq, Eq)]
 pub enum Fact<'a> {
     /// The thread's end has this number.
-    End(u8, u8),
+    End(u32, u32),
     /// The thread exits with this code.
-    Code(u8, u32),
+    Code(u32, u32),
     /// The object's word of this index has this value at the end.
-    Word(u8, u8, u32),
+    Word(u32, u32, u32),
     /// The text occurs in what the thread printed.
-    Printed(u8, &'a [u8]),
+    Printed(u32, &'a [u8]),
     /// Some thread doesn't exit.
     Fault,
     /// Some thread's budget is spent.
@@ -24,4 +32,52 @@ pub struct Condition<'a> {
     pub is_denied: bool,
     /// The fact.
     pub fact: Fact<'a>,
+}
+
+impl Fact<'_> {
+    // Whether it is so of what these threads and objects came to.
+    fn is_so(&self, flat: &Flat<'_>) -> bool
+        ensures { result ≡ is_so (as_fact self.now) (outcome_of flat.now) }
+    {
+        match *self {
+            Fact::End(thread, number) => ends_by(end_at(flat, thread), number),
+            Fact::Code(thread, code) => exits_with(end_at(flat, thread), code),
+            Fact::Word(object, index, value) => word_at(flat, object, index) == value,
+            Fact::Printed(thread, text) => occurs(text, output_at(flat, thread)),
+            Fact::Fault => some_fault(flat.threads()),
+            Fact::Budget => some_spent(flat.threads()),
+        }
+    }
+
+    // Whether the guest has what it is about.
+    fn is_about(&self, image: &Image) -> bool
+        ensures { result ≡ is_about (as_fact self.now) image.now }
+    {
+        let threads = image.entries().len();
+        match *self {
+            Fact::End(thread, _) | Fact::Code(thread, _) | Fact::Printed(thread, _) => {
+                (thread as usize) < threads
+            }
+            Fact::Word(object, index, _) => {
+                (object as usize) < image.object_count() && (index as usize) < image.object_words()
+            }
+            Fact::Fault | Fact::Budget => true,
+        }
+    }
+}
+
+impl Condition<'_> {
+    /// Whether it holds of what these threads and objects came to.
+    pub fn holds(&self, flat: &Flat<'_>) -> bool
+        ensures { result ≡ fulfils (as_condition self.now) (outcome_of flat.now) }
+    {
+        self.fact.is_so(flat) != self.is_denied
+    }
+
+    /// Whether the guest has the thread, the object and the word that it is about.
+    pub fn is_about(&self, image: &Image) -> bool
+        ensures { result ≡ is_about (as_condition self.now).fact image.now }
+    {
+        self.fact.is_about(image)
+    }
 }

@@ -1,4 +1,4 @@
-use Rattle.std.proofs.Common.{rules, arith, sym, ap, ◌∙◌, ◌≡◌, ◌+◌, suc, length, ◌-◌}
+use Rattle.std.proofs.Common.{rules, ap, ◌∙◌, ◌-◌}
 use Rattle.ir_record.specs.declared.turns.Turns.{Turns}
 use Rattle.ir_chaos.proofs.Turns.{noted_longer, same_item}
 use Rattle.ir_chaos.proofs.note.lengthen.Goals as goal

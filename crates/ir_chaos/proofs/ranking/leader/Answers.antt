@@ -1,4 +1,4 @@
-use Rattle.std.proofs.Common.{◌≡◌, ◌<◌, ◌∙◌, length, get_or, sym, subst}
+use Rattle.std.proofs.Common.{◌<◌, ◌∙◌, length, get_or, sym, subst}
 use Rattle.std.specs.List.{Contains}
 use Rattle.std.proofs.lemmas.List.Elements.{All-get_or}
 use Rattle.ir_chaos.proofs.Leaders.{highest_more, is_higher, is_no_higher, element}

@@ -1,4 +1,4 @@
-use Rattle.std.proofs.Common.{◌≡◌, ◌++◌, ◌∙◌}
+use Rattle.std.proofs.Common.{◌∙◌}
 use Rattle.ir_chaos.specs.Ranking.{first_places}
 use Rattle.ir_chaos.proofs.Words.{places_more, places_all}
 use Rattle.ir_chaos.proofs.ranking.places.Goals as goal

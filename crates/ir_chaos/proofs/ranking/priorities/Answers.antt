@@ -1,4 +1,4 @@
-use Rattle.std.proofs.Common.{rules, ◌≡◌, ◌++◌, ◌∙◌}
+use Rattle.std.proofs.Common.{◌∙◌}
 use Rattle.ir_chaos.specs.Ranking.{first_priorities, after_words}
 use Rattle.ir_chaos.proofs.Words.{priorities_more, words_more, priorities_all, words_all}
 use Rattle.ir_chaos.proofs.ranking.priorities.Goals as goal

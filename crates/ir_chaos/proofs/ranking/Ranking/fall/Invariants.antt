@@ -1,4 +1,4 @@
-use Rattle.std.proofs.Common.{◌≡◌, ◌<◌, length, drop}
+use Rattle.std.proofs.Common.{◌≡◌, length, drop}
 use Rattle.ir_chaos.specs.Ranking.{fallen}
 use Rattle.ir_chaos.proofs.ranking.Ranking.fall.Given as goal
 

@@ -1,9 +1,8 @@
 use Rattle.std.proofs.Common.{◌≡◌, ◌<◌, ◌∙◌, ℕ, length, sym, refl, subst, arith, false}
 use Rattle.ir_chaos.proofs.Runs.{ran_nothing, ran_both, ran_under_way, others_both, some_both, lower_rest, rest_of, left_less, some_more}
 use Rattle.ir_chaos.specs.Choices.{before_rounds}
-use Rattle.ir_chaos.specs.Moments.{IsAtRest, Ran, TookSome, moment_of}
+use Rattle.ir_chaos.specs.Moments.{IsAtRest, TookSome, moment_of}
 use Rattle.ir_chaos.specs.Schedules.{rests}
-use Rattle.ir_chaos.specs.declared.chooser.Chooser.{Chooser}
 use Rattle.ir_flat.specs.Flat.{machine, tables}
 use Rattle.ir_chaos.proofs.runner.Runner.go_on.Given.{Over}
 use Rattle.ir_chaos.proofs.runner.Runner.go_on.Goals as goal

@@ -1,4 +1,4 @@
-use Rattle.std.proofs.Common.{◌≡◌, ◌<◌, ◌+◌, ◌∙◌, ℕ, length, refl, ap, arith, subst, sym}
+use Rattle.std.proofs.Common.{◌≡◌, ◌∙◌, length, refl, ap, arith}
 use Rattle.ir_chaos.proofs.Ready.{rest_more}
 use Rattle.ir_chaos.proofs.Runs.{ran_nothing, ran_both}
 use Rattle.ir_chaos.specs.Choices.{before_rounds}

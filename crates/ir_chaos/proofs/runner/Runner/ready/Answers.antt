@@ -1,4 +1,4 @@
-use Rattle.std.proofs.Common.{◌≡◌, ◌≤◌, ◌+◌, length, [], ◌∷◌, ◌++◌, ap, ◌∙◌, subst, sym, arith, length-append, rules}
+use Rattle.std.proofs.Common.{◌≡◌, ◌+◌, length, [], ◌∷◌, ◌++◌, ap, ◌∙◌, subst, sym, arith, length-append, rules}
 use Rattle.ir_chaos.proofs.Ready.{ready_more, ready_same}
 use Rattle.ir_chaos.specs.Schedules.{AreReady}
 use Rattle.ir_flat.specs.Flat.{tables, machine}

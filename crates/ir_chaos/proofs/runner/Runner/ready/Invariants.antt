@@ -1,6 +1,6 @@
-use Rattle.std.proofs.Common.{◌≡◌, ◌≤◌, length}
+use Rattle.std.proofs.Common.{◌≤◌, length}
 use Rattle.ir_chaos.specs.Schedules.{AreReady}
-use Rattle.ir_flat.specs.Flat.{tables, machine, IsFlat}
+use Rattle.ir_flat.specs.Flat.{tables, machine}
 use Rattle.ir_chaos.proofs.runner.Runner.ready.Given as goal
 
 abbrev pub invariant-threads : goal.invariant-threads

@@ -1,4 +1,4 @@
-use Rattle.std.proofs.Common.{◌≡◌, length}
+use Rattle.std.proofs.Common.{length}
 use Rattle.ir_flat.specs.Flat.{tables}
 use Rattle.ir_record.specs.Progress.{all_left}
 use Rattle.ir_chaos.specs.Choices.{Serves}

@@ -1,4 +1,4 @@
-use Rattle.std.proofs.Common.{refl, arith}
+use Rattle.std.proofs.Common.{refl}
 use Rattle.ir_chaos.proofs.Runs.{ran_alone, alone_fewer, alone_others}
 use Rattle.ir_chaos.specs.Moments.{moment_of}
 use Rattle.ir_chaos.proofs.runner.Runner.run_to_ask.Goals as goal

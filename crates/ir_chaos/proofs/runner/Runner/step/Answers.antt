@@ -1,4 +1,4 @@
-use Rattle.std.proofs.Common.{◌≡◌, ◌∙◌, refl, sym, subst}
+use Rattle.std.proofs.Common.{◌∙◌, refl, sym, subst}
 use Rattle.ir_chaos.proofs.Runs.{Acted, acted_quiet, acted_answer, took_acted, took_others, took_fewer, no_call}
 use Rattle.ir_chaos.specs.Moments.{IsNoCall, Took, moment_of}
 use Rattle.ir_chaos.proofs.runner.Runner.step.Given.{Over}

@@ -1,9 +1,8 @@
-use Rattle.std.proofs.Common.{◌≡◌, ◌<◌, ◌∙◌, ℕ, length, sym, subst}
+use Rattle.std.proofs.Common.{◌∙◌}
 use Rattle.ir_chaos.proofs.Ready.{rest_again}
-use Rattle.ir_chaos.proofs.Runs.{ran_both, ran_chosen, lower_rest, others_both, some_both}
+use Rattle.ir_chaos.proofs.Runs.{ran_both, ran_chosen, others_both}
 use Rattle.ir_chaos.specs.Choices.{before_rounds}
-use Rattle.ir_chaos.specs.Moments.{IsAtRest, moment_of}
-use Rattle.ir_chaos.proofs.runner.Runner.turn.Given.{Over}
+use Rattle.ir_chaos.specs.Moments.{moment_of}
 use Rattle.ir_chaos.proofs.runner.Runner.turn.Goals as goal
 
 pub returns-clause-ran : goal.returns-clause-ran

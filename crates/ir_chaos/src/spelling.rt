@@ -1,0 +1,105 @@
+//! How conditions are written.
+
+ghost use Rattle.ir_chaos.specs.Conditions.{as_condition, as_fact};
+ghost use Rattle.ir_chaos.specs.Spelling.{two_values, three_values, printed_fact, bare_fact, fact_named, fact_of, condition_of};
+ghost use Rattle.std.specs.Prelude.{◌≡◌, option_map};
+
+use crate::condition::{Condition, Fact};
+use crate::number::value_of;
+use crate::text::{cut, marks};
+
+// The greatest number of an end.
+const MOST_END: u32 = 14;
+
+// Two numbers with a blank between them.
+#[tactic(auto, unfolding(crate::specs::Spelling::two_values))]
+fn two_values(text: &[u8]) -> Option<(u32, u32)>
+    ensures { result ≡ two_values text.now }
+{
+    let (word, rest) = cut(text);
+    let first = value_of(word)?;
+    let second = value_of(rest?)?;
+    Some((first, second))
+}
+
+// Three numbers with a blank between each two.
+#[tactic(auto, unfolding(crate::specs::Spelling::three_values))]
+fn three_values(text: &[u8]) -> Option<(u32, u32, u32)>
+    ensures { result ≡ three_values text.now }
+{
+    let (word, rest) = cut(text);
+    let first = value_of(word)?;
+    let (second, third) = two_values(rest?)?;
+    Some((first, second, third))
+}
+
+// A thread's number, a blank, and any text.
+#[tactic(auto, unfolding(crate::specs::Spelling::printed_fact))]
+fn printed_fact(text: &[u8]) -> Option<Fact<'_>>
+    ensures { option_map as_fact result ≡ printed_fact text.now }
+{
+    let (word, rest) = cut(text);
+    let thread = value_of(word)?;
+    Some(Fact::Printed(thread, rest?))
+}
+
+// The fact of a name with nothing behind it.
+#[tactic(auto, unfolding(crate::specs::Spelling::bare_fact))]
+fn bare_fact<'a>(name: &[u8]) -> Option<Fact<'a>>
+    ensures { option_map as_fact result ≡ bare_fact name.now }
+{
+    if name == b"fault".as_slice() {
+        Some(Fact::Fault)
+    } else if name == b"budget".as_slice() {
+        Some(Fact::Budget)
+    } else {
+        None
+    }
+}
+
+// The fact of a name with these arguments.
+#[tactic(auto, unfolding(crate::specs::Spelling::fact_named))]
+fn fact_named<'a>(name: &[u8], arguments: &'a [u8]) -> Option<Fact<'a>>
+    ensures { option_map as_fact result ≡ fact_named name.now arguments.now }
+{
+    if name == b"end".as_slice() {
+        let (thread, number) = two_values(arguments)?;
+        if number == 0 || number > MOST_END {
+            return None;
+        }
+        Some(Fact::End(thread, number))
+    } else if name == b"code".as_slice() {
+        let (thread, code) = two_values(arguments)?;
+        Some(Fact::Code(thread, code))
+    } else if name == b"word".as_slice() {
+        let (object, index, value) = three_values(arguments)?;
+        Some(Fact::Word(object, index, value))
+    } else if name == b"out".as_slice() {
+        printed_fact(arguments)
+    } else {
+        None
+    }
+}
+
+// The fact that a text writes.
+fn fact_of(text: &[u8]) -> Option<Fact<'_>>
+    ensures { option_map as_fact result ≡ fact_of text.now }
+{
+    match cut(text) {
+        (name, Some(arguments)) => fact_named(name, arguments),
+        (name, None) => bare_fact(name),
+    }
+}
+
+/// The condition that a text writes: `end T E`, `code T V`, `word O I V`, `out T TEXT`, `fault`, `budget`, or `!` and a condition. One
+/// blank stands between two words, and TEXT is all that stands behind one. Numbers are decimal, or `0x` and hexadecimal digits.
+pub fn condition_of(text: &[u8]) -> Option<Condition<'_>>
+    ensures { option_map as_condition result ≡ condition_of text.now }
+{
+    let marks = marks(text);
+    let fact = fact_of(&text[marks..])?;
+    Some(Condition {
+        is_denied: marks % 2 == 1,
+        fact,
+    })
+}

@@ -1,0 +1,89 @@
+//! Conditions, and what holds of a run.
+
+use crate::guests::{lost_update, run};
+use ir_chaos::{Condition, Fact, Way, condition_of};
+use std::test::Fail;
+
+// What a text writes.
+const WRITTEN: [(&str, Option<Fact<'static>>); 24] = [
+    ("end 1 13", Some(Fact::End(1, 13))),
+    ("end 0x1 0xD", Some(Fact::End(1, 13))),
+    ("code 0 4294967295", Some(Fact::Code(0, 0xffff_ffff))),
+    ("code 0 0xFFFFFFFF", Some(Fact::Code(0, 0xffff_ffff))),
+    ("word 63 15 2", Some(Fact::Word(63, 15, 2))),
+    ("out 2 ", Some(Fact::Printed(2, b""))),
+    ("out 2  a b ", Some(Fact::Printed(2, b" a b "))),
+    ("fault", Some(Fact::Fault)),
+    ("budget", Some(Fact::Budget)),
+    ("", None),
+    ("!", None),
+    ("end 1", None),
+    ("end 1 0", None),
+    ("end 1 15", None),
+    ("end 1 1 ", None),
+    ("end  1 1", None),
+    ("end 1 1 1", None),
+    ("code 0 4294967296", None),
+    ("code 0 -1", None),
+    ("code 0 0x", None),
+    ("word 0 1", None),
+    ("out 2", None),
+    ("fault ", None),
+    ("faults", None),
+];
+
+#[test]
+fn texts_write_conditions(rt: HostRuntime) -> Result<(), Fail> {
+    for (text, fact) in &WRITTEN {
+        let condition = condition_of(text.as_bytes());
+        let wanted = fact.map(|fact| Condition {
+            is_denied: false,
+            fact,
+        });
+        assert_eq!(rt; condition, wanted);
+    }
+    Ok(())
+}
+
+#[test]
+fn a_mark_denies(rt: HostRuntime) -> Result<(), Fail> {
+    let denied = condition_of(b"!fault".as_slice()).map(|condition| condition.is_denied);
+    assert_eq!(rt; denied, Some(true));
+    let twice = condition_of(b"!!fault".as_slice()).map(|condition| condition.is_denied);
+    assert_eq!(rt; twice, Some(false));
+    Ok(())
+}
+
+// Whether a condition holds of a run of the guest that loses an update, and whether the guest has what it is about.
+const HELD: [(&str, bool, bool); 14] = [
+    ("word 0 0 1", true, true),
+    ("!word 0 0 2", true, true),
+    ("word 0 0 2", false, true),
+    ("word 0 7 0", true, true),
+    ("word 0 8 0", true, false),
+    ("word 1 0 0", true, false),
+    ("end 1 1", true, true),
+    ("end 2 1", false, false),
+    ("code 1 0", true, true),
+    ("code 1 1", false, true),
+    ("out 0 ", true, true),
+    ("out 0 x", false, true),
+    ("fault", false, true),
+    ("!budget", true, true),
+];
+
+#[test]
+fn conditions_hold_of_a_run(rt: HostRuntime) -> Result<(), Fail> {
+    let alloc = rt.alloc();
+    let image = lost_update(alloc)?;
+    let (stop, runner) = run(alloc, &image, Way::Walk, 0, 16)?;
+    assert_eq!(rt; stop, None);
+    for (text, holds, is_about) in &HELD {
+        let Some(condition) = condition_of(text.as_bytes()) else {
+            return Err(Fail::from("no condition"));
+        };
+        assert_eq!(rt; condition.holds(&runner.flat), *holds);
+        assert_eq!(rt; condition.is_about(&image), *is_about);
+    }
+    Ok(())
+}
