@@ -143,11 +143,11 @@ impl<W: World> Runner<'_, W> {
     }
 
     /// The whole run by the chooser, from the guest's start. Its steps are added to the turns. Where
-    /// there are tries, a thread also rests before it leaves an object.
+    /// there are tries, a thread also rests before it leaves an object. How many choices it made is not proved.
     ///
     /// # Errors
     /// `Stop::World` if a thread's world fails; `Stop::TooLong` if the turns don't fit. The guest is then on the way.
-    pub fn run(&mut self, tries: bool, chooser: &mut Chooser) -> Result<(), Stop>
+    pub fn run(&mut self, tries: bool, chooser: &mut Chooser) -> Result<u32, Stop>
         requires start { IsStartOfGuest self.old.flat }
         requires ready { IsReady W.broken self.old }
         requires serves { Serves (length self.old.flat.threads) chooser.old }
@@ -156,12 +156,14 @@ impl<W: World> Runner<'_, W> {
         ensures told { IfErr result (Tells W.broken self.new) }
     {
         self.go_to_rests(tries)?;
+        let mut choices = 0u32;
         'choices: loop {
             let ready = self.ready();
             if ready.is_empty() {
-                return Ok(());
+                return Ok(choices);
             }
             let thread = chooser.choose(self.flat.threads().len(), ready.as_slice());
+            choices = choices.saturating_add(1);
             self.turn(tries, thread as usize)?;
         }
     }

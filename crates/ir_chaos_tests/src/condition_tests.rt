@@ -1,6 +1,6 @@
 //! Conditions, and what holds of a run.
 
-use crate::guests::{lost_update, run};
+use crate::guests::{ENTRIES, lost_update, run};
 use ir_chaos::{Condition, Fact, Way, condition_of};
 use std::test::Fail;
 
@@ -76,8 +76,8 @@ const HELD: [(&str, bool, bool); 14] = [
 fn conditions_hold_of_a_run(rt: HostRuntime) -> Result<(), Fail> {
     let alloc = rt.alloc();
     let image = lost_update(alloc)?;
-    let (stop, runner) = run(alloc, &image, Way::Walk, 0, 16)?;
-    assert_eq!(rt; stop, None);
+    let (choices, runner) = run(alloc, &image, Way::Walk, 0, 16)?;
+    assert_eq!(rt; choices, Ok(ENTRIES));
     for (text, holds, is_about) in &HELD {
         let Some(condition) = condition_of(text.as_bytes()) else {
             return Err(Fail::from("no condition"));

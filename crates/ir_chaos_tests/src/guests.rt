@@ -60,8 +60,8 @@ pub fn lost_update(alloc: Global) -> Result<Image, Fail>
     Ok(image)
 }
 
-// Why a run stopped, if it did, and the guest and its turns.
-pub type Ran<'a> = (Option<Stop>, Runner<'a, Silent>);
+// How many choices a run made, or why it stopped, and the guest and its turns.
+pub type Ran<'a> = (Result<u32, Stop>, Runner<'a, Silent>);
 
 // A run of the guest by a seed, with room for so many turns.
 pub fn run<'a>(
@@ -83,6 +83,6 @@ pub fn run<'a>(
         worlds,
         turns,
     };
-    let stop = runner.run(false, &mut chooser).err();
-    Ok((stop, runner))
+    let choices = runner.run(false, &mut chooser);
+    Ok((choices, runner))
 }

@@ -3,7 +3,7 @@
 ghost use Rattle.ir_thread.specs.Allowed.{IsAllowed};
 ghost use Rattle.ir_thread.specs.declared.profile.Profile.TheVariants.{One};
 
-use crate::guests::{lost_update, run};
+use crate::guests::{ENTRIES, lost_update, run};
 use ir_chaos::{Stop, Way, condition_of};
 use ir_image::Image;
 use ir_record::Turns;
@@ -75,8 +75,8 @@ fn ten_seeds_of_each_way(rt: HostRuntime) -> Result<(), Fail> {
     let image = lost_update(alloc)?;
     for (way, orders) in &CHOSEN {
         for (seed, chosen) in orders.iter().enumerate() {
-            let (stop, runner) = run(alloc, &image, *way, seed as u64, 16)?;
-            assert_eq!(rt; stop, None);
+            let (choices, runner) = run(alloc, &image, *way, seed as u64, 16)?;
+            assert_eq!(rt; choices, Ok(ENTRIES));
             let turns = turns_of(alloc, chosen)?;
             assert_eq!(rt; runner.turns.as_slice(), turns.as_slice());
         }
@@ -96,11 +96,11 @@ const LOST: [(Way, u32); 4] = [
 fn loses(alloc: Global, image: &Image, way: Way, seed: u64) -> Result<bool, Fail>
     requires { IsAllowed One image.now }
 {
-    let (stop, runner) = run(alloc, image, way, seed, 16)?;
+    let (choices, runner) = run(alloc, image, way, seed, 16)?;
     let Some(condition) = condition_of(b"word 0 0 1".as_slice()) else {
         return Err(Fail::from("no condition"));
     };
-    Ok(stop.is_none() && condition.holds(&runner.flat))
+    Ok(choices.is_ok() && condition.holds(&runner.flat))
 }
 
 #[test]
@@ -123,8 +123,8 @@ fn seeds_lose_an_update(rt: HostRuntime) -> Result<(), Fail> {
 fn a_run_stops_where_its_turns_do_not_fit(rt: HostRuntime) -> Result<(), Fail> {
     let alloc = rt.alloc();
     let image = lost_update(alloc)?;
-    let (stop, runner) = run(alloc, &image, Way::Walk, 0, 3)?;
-    assert_eq!(rt; stop, Some(Stop::TooLong));
+    let (choices, runner) = run(alloc, &image, Way::Walk, 0, 3)?;
+    assert_eq!(rt; choices, Err(Stop::TooLong));
     assert_eq!(rt; runner.turns.len(), runner.turns.capacity());
     Ok(())
 }
