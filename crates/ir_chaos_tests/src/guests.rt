@@ -2,7 +2,7 @@
 
 ghost use Rattle.ir_thread.specs.Allowed.{IsAllowed};
 ghost use Rattle.ir_thread.specs.declared.profile.Profile.TheVariants.{One};
-ghost use Rattle.std.specs.Prelude.{◌<◌, IfOk};
+ghost use Rattle.std.specs.Prelude.{IfOk};
 
 use crate::silent::{Silent, worlds};
 use ir_asm::assemble;
@@ -49,15 +49,21 @@ main:   addi a0, zero, 0
 // How many entries it makes.
 pub const ENTRIES: u32 = 4;
 
+// The guest, which the profile allows.
+fn allowed(profile: Profile, image: Image) -> Result<Image, Fail>
+    ensures { IfOk result (λ image. IsAllowed profile image) }
+{
+    if !profile.allows(&image) {
+        return Err(Fail::from("too many threads or objects"));
+    }
+    Ok(image)
+}
+
 // The guest, which the first profile allows.
 pub fn lost_update(alloc: Global) -> Result<Image, Fail>
     ensures { IfOk result (λ image. IsAllowed One image) }
 {
-    let image = assemble(alloc, LOST_UPDATE)?;
-    if !Profile::One.allows(&image) {
-        return Err(Fail::from("too many threads or objects"));
-    }
-    Ok(image)
+    allowed(Profile::One, assemble(alloc, LOST_UPDATE)?)
 }
 
 // How many choices a run made, or why it stopped, and the guest and its turns.

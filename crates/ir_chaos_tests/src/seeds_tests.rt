@@ -108,10 +108,10 @@ fn seeds_lose_an_update(rt: HostRuntime) -> Result<(), Fail> {
     let alloc = rt.alloc();
     let image = lost_update(alloc)?;
     for (way, count) in &LOST {
-        let mut lost = 0;
+        let mut lost = 0u32;
         for seed in 0..50u64 {
             if loses(alloc, &image, *way, seed)? {
-                lost += 1;
+                lost = lost.saturating_add(1);
             }
         }
         assert_eq!(rt; lost, *count);
