@@ -21,9 +21,11 @@ use Rattle.ir_chaos.proofs.CallerLemmas.{schedules_are_orders, schedules_are_of_
 use Rattle.ir_chaos.specs.Conditions.{Condition, fulfils, outcome_of}
 use Rattle.ir_chaos.specs.Moments.{Moment}
 use Rattle.ir_chaos.specs.Schedules.{IsSchedule, threads_of}
+use Rattle.ir_chaos.specs.Choices.{chooser_of}
 use Rattle.ir_chaos.specs.declared.chooser.Chooser.{Chooser}
-use Rattle.ir_hunt.specs.Finding.{first, FulfilsEach, IsFound, IsFoundIn, IsFinding, by_list}
-use Rattle.ir_hunt.specs.Seeking.{RanBy, has_tries}
+use Rattle.ir_chaos.specs.declared.way.Way.{Way}
+use Rattle.ir_hunt.specs.Finding.{has_tries, first, FulfilsEach, IsFound, IsFoundIn, IsFinding, by_list}
+use Rattle.ir_hunt.specs.Seeking.{RanBy}
 
 -- no world had answered
 none_before : (n t : ℕ) → get_or {A = List Answered} (replicate n []) t [] ≡ []
@@ -41,12 +43,11 @@ by_turns guest plan chooser run h = schedules_are_orders (has_tries plan.profile
     (threads_length guest plan.budget plan.profile 0 (length guest.entries)) h)
 
 -- what a seed's run came to, where it fulfils each condition
-pub found_run : (guest : Guest) (plan : Plan) (conditions : List Condition) (chooser : Chooser) (b : Moment) → RanBy guest plan chooser b
+pub found_run : (guest : Guest) (plan : Plan) (conditions : List Condition) (chooser : Chooser) (b : Moment) (h : RanBy guest plan chooser b)
     → ((t : ℕ) → t < length guest.entries → IsAnswered (origin_of true plan.random plan.input t) (answers_at b.answers t))
     → list_all (λ c. fulfils c (outcome_of b.flat)) conditions ≡ true
-    → (run : List Step) × IsPlanned guest plan (order_of_turns b.turns) run × FulfilsEach guest plan conditions run
+    → IsPlanned guest plan (order_of_turns b.turns) h.run × FulfilsEach guest plan conditions h.run
 found_run guest plan conditions chooser b h answered holds = (
-  h.run,
   record {
     by_order = subst (λ o. IsByOrder (machine (first guest plan)) (tables (first guest plan)) (length guest.entries) o h.run)
         (sym h.gained.order) (by_turns guest plan chooser h.run h.schedule);
@@ -76,26 +77,29 @@ some_turns guest plan chooser b some h none = complete_runs guest plan.budget pl
     (sym h.gained.order ∙ none)
 
 -- the list of a seed's turns, where what its run came to fulfils each condition
-pub found_by : (guest : Guest) (plan : Plan) (conditions : List Condition) (chooser : Chooser) (b : Moment) (list : List ℕ)
-    → RanBy guest plan chooser b
+pub found_by : (guest : Guest) (plan : Plan) (way : Way) (seed choices : ℕ) (conditions : List Condition) (b : Moment) (list : List ℕ)
+    → RanBy guest plan (chooser_of way seed (length guest.entries) choices) b
     → ((t : ℕ) → t < length guest.entries → IsAnswered (origin_of true plan.random plan.input t) (answers_at b.answers t))
     → list_all (λ c. fulfils c (outcome_of b.flat)) conditions ≡ true → Spells list (order_of_turns b.turns)
-    → IsFound guest plan conditions list
-found_by guest plan conditions chooser b list h answered holds spells =
+    → IsFound guest plan way seed conditions list
+found_by guest plan way seed choices conditions b list h answered holds spells =
+    let chooser = chooser_of way seed (length guest.entries) choices in
     let r = found_run guest plan conditions chooser b h answered holds in
     record {
       order = order_of_turns b.turns;
       spelled = spells (length guest.entries) (of_threads guest plan chooser b h);
-      run = r.0;
-      planned = r.1;
-      fulfilled = r.2;
+      run = h.run;
+      choices = choices;
+      of_seed = h.schedule;
+      planned = r.0;
+      fulfilled = r.1;
     }
 
 -- a recording by the list is of the run that was found
-pub finding : (image : List ℕ) (plan : Plan) (conditions : List Condition) (list : List ℕ) (trace : Recorded) (outputs : List (List ℕ))
-    → IsFoundIn image plan conditions list → IsRecordedOf image (by_list plan list) trace outputs
-    → IsFinding image plan conditions list trace outputs
-finding image plan conditions list trace outputs found r = record {
+pub finding : (image : List ℕ) (plan : Plan) (way : Way) (seed : ℕ) (conditions : List Condition) (list : List ℕ) (trace : Recorded)
+    (outputs : List (List ℕ)) → IsFoundIn image plan way seed conditions list → IsRecordedOf image (by_list plan list) trace outputs
+    → IsFinding image plan way seed conditions list trace outputs
+finding image plan way seed conditions list trace outputs found r = record {
   guest = found.guest;
   is = found.is;
   found = found.found;

@@ -1,20 +1,10 @@
 -- A guest that is run by one seed after another.
-use Rattle.std.specs.Prelude.{◌≡◌, ℕ, List, [], length, map, replicate, Bool, true, false}
+use Rattle.std.specs.Prelude.{[], length, replicate}
 use Rattle.ir_image.specs.Guest.{Guest}
-use Rattle.ir_thread.specs.declared.profile.Profile.{Profile}
-use Rattle.ir_thread.specs.declared.profile.Profile.TheVariants.{One, Two}
-use Rattle.ir_flat.specs.Flat.{Flat}
-use Rattle.ir_record.specs.Worlds.{Answered}
-use Rattle.ir_record.specs.declared.turns.Turns.{Turns}
 use Rattle.ir_record_run.specs.Plan.{Plan}
 use Rattle.ir_chaos.specs.Moments.{Moment, RanToEnd}
 use Rattle.ir_chaos.specs.declared.chooser.Chooser.{Chooser}
-use Rattle.ir_hunt.specs.Finding.{first}
-
--- whether there are tries
-abbrev pub has_tries : Profile → Bool
-has_tries One = false
-has_tries Two = true
+use Rattle.ir_hunt.specs.Finding.{first, has_tries}
 
 -- before the first step: no turns, and no world has answered
 abbrev pub fresh : Guest → Plan → Moment

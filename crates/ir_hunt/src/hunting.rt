@@ -48,7 +48,7 @@ fn run_again<C: Clock>(
 ) -> Result<Option<Found>, RecordFault>
     requires allowed { IsAllowed plan.now.record.profile image.now }
     requires choices { 0 < choices }
-    ensures { IfOk result (λ o. IfSome o (λ f. IsFound image.now plan.now.record (map as_condition plan.now.conditions.now) (string_bytes f.list))) }
+    ensures { IfOk result (λ o. IfSome o (λ f. IsFound image.now plan.now.record plan.now.way f.seed (map as_condition plan.now.conditions.now) (string_bytes f.list))) }
 {
     let mut seeker = Seeker::new(alloc, clock, image, plan)?;
     match seeker.fulfils(seed, choices) {
@@ -87,7 +87,8 @@ pub fn order_of_seed<C: Clock>(
     };
     let mut seeker = Seeker::new(alloc, clock, guest, &plan)?;
     let choices = seeker.choices()?;
-    match seeker.fulfils(seed, choices) {
+    let followed = seeker.fulfils(seed, choices);
+    match followed {
         Ok(_) => Ok(list_of(alloc, seeker.turns())?),
         Err(_) => Err(RecordFault::NoMem),
     }
@@ -100,7 +101,7 @@ fn hunted<R: Threads + Clock + Sync + Eprint>(
     image: &ParsedImage<'_>,
     plan: &HuntPlan<'_>,
 ) -> Result<(Option<Found>, u64), RecordFault>
-    ensures { IfOk result (λ r. IfSome r.0 (λ f. IsFoundIn image.now plan.now.record (map as_condition plan.now.conditions.now) (string_bytes f.list))) }
+    ensures { IfOk result (λ r. IfSome r.0 (λ f. IsFoundIn image.now plan.now.record plan.now.way f.seed (map as_condition plan.now.conditions.now) (string_bytes f.list))) }
 {
     let guest = image.allowed(&plan.record)?;
     let Search {
@@ -229,16 +230,7 @@ where
         return Err(ExitStatus::Failed);
     };
     let plan = by_list(&plan.record, list);
-    record_found(
-        rt,
-        image,
-        &plan,
-        line.as_str(),
-        trace,
-        outputs,
-        out,
-        faults,
-    )
+    record_found(rt, image, &plan, line.as_str(), trace, outputs, out, faults)
 }
 
 /// Tries the seeds of a plan, and records the run of the lowest that fulfils each of its conditions: the trace, what each
@@ -271,7 +263,7 @@ where
     ensures { IfOk result (λ o. MatchOption o
         ((trace.new ≡ trace.old) × (outputs.new ≡ outputs.old) × Appends (O.written out.old) (O.written out.new) (none_line plan.now.seeds.first plan.now.seeds.last))
         (λ recorded. (seed : ℕ) × (list : List ℕ) × (printed : List (List ℕ))
-        × IsFinding image.now plan.now.record (map as_condition plan.now.conditions.now) list recorded printed
+        × IsFinding image.now plan.now.record plan.now.way seed (map as_condition plan.now.conditions.now) list recorded printed
         × Appends (W.written trace.old) (W.written trace.new) (encoding recorded)
         × TookEach (output_writer_of (P.taken outputs.old) (P.taken outputs.new) (P.broken outputs.new)) printed
         × Appends (O.written out.old) (O.written out.new) (found_line seed list ++ lines_of recorded))) }

@@ -9,7 +9,8 @@ ghost use Rattle.ir_sources.specs.Sources.{made_with, origins};
 ghost use Rattle.ir_chaos.specs.Choices.{Serves, chooser_of};
 ghost use Rattle.ir_chaos.specs.Conditions.{as_condition, fulfils, outcome_of};
 ghost use Rattle.ir_chaos.specs.Moments.{moment_of};
-ghost use Rattle.ir_hunt.specs.Seeking.{has_tries, fresh, RanBy};
+ghost use Rattle.ir_hunt.specs.Finding.{has_tries};
+ghost use Rattle.ir_hunt.specs.Seeking.{fresh, RanBy};
 
 use crate::plan::HuntPlan;
 use ir_chaos::{Chooser, Runner, Stop};

@@ -1,6 +1,5 @@
-use Rattle.std.proofs.Common.{◌≡◌, List, [], length, map, true, sym, ◌∙◌, subst}
+use Rattle.std.proofs.Common.{List, [], length, map, true, sym, ◌∙◌, subst}
 use Rattle.std.specs.Prelude.{◌≢◌}
-use Rattle.std.specs.List.{list_all}
 use Rattle.std.specs.String.{string_bytes}
 use Rattle.std.proofs.lemmas.List.Folds.{list_all-map}
 use Rattle.ir_record.specs.Turns.{order_of_turns}
@@ -8,7 +7,6 @@ use Rattle.ir_record.specs.declared.turns.Turns.{Turns}
 use Rattle.ir_sources.specs.Sources.{made_with, origins}
 use Rattle.ir_sources.proofs.CallerLemmas.{answered_by}
 use Rattle.ir_order.specs.Spelling.{Spells}
-use Rattle.ir_chaos.specs.Choices.{chooser_of}
 use Rattle.ir_chaos.specs.Conditions.{as_condition, fulfils, outcome_of}
 use Rattle.ir_chaos.specs.Moments.{moment_of}
 use Rattle.ir_hunt.specs.Finding.{IsFound}
@@ -21,16 +19,15 @@ returns-in-Ok-true g c =
     let f = c.fulfils.new.self in
     let list = string_bytes c.in_ok-list_of-in-Ok-true.field-0 in
     let made = f.origins ∙ (λ i. origins true (c.in-Ok-true.ensures.plan i).now.record.random (c.in-Ok-true.ensures.plan i).now.record.input
-        (length (c.in-Ok-true.ensures.image i).now.entries)) in
+    (length (c.in-Ok-true.ensures.image i).now.entries)) in
     let holds = list_all-map (λ x. fulfils x (outcome_of f.runner.flat)) as_condition s.plan.now.conditions.now
-        ∙ sym c.in-Ok-true.ensures.each ∙ c.in-Ok-true.field-0-test in
+    ∙ sym c.in-Ok-true.ensures.each ∙ c.in-Ok-true.field-0-test in
     let spells = subst (λ (ts : List Turns). order_of_turns ts ≢ [] → Spells list (order_of_turns ts)) c.turns.ensures
-        c.in_ok-list_of-in-Ok-true.ensures.spelled c.in-Ok-true.ensures.some in
-    let found : IsFound s.image.now s.plan.now.record (map as_condition s.plan.now.conditions.now) list =
-        found_by s.image.now s.plan.now.record (map as_condition s.plan.now.conditions.now)
-        (chooser_of s.plan.now.way c.args.seed (length s.image.now.entries) c.args.choices)
-        (moment_of (λ w. w.answers.items) f.runner) list c.in-Ok-true.ensures.ran
-        (answered_by (λ w. made_with w.time w.seed w.file.now) (λ w. w.answers.items) (λ w. (w.sources, w.gave)) true
-        s.plan.now.record.random s.plan.now.record.input f.runner.worlds.items (length s.image.now.entries) made) holds spells in
-    subst (λ i. IsFound i c.args.plan.now.record (map as_condition c.args.plan.now.conditions.now) list) c.in_ok-seeker.ensures.image
-    (subst (λ p. IsFound s.image.now p.record (map as_condition p.conditions.now) list) c.in_ok-seeker.ensures.plan found)
+    c.in_ok-list_of-in-Ok-true.ensures.spelled c.in-Ok-true.ensures.some in
+    let found : IsFound s.image.now s.plan.now.record s.plan.now.way c.args.seed (map as_condition s.plan.now.conditions.now) list =
+    found_by s.image.now s.plan.now.record s.plan.now.way c.args.seed c.args.choices (map as_condition s.plan.now.conditions.now)
+    (moment_of (λ w. w.answers.items) f.runner) list c.in-Ok-true.ensures.ran
+    (answered_by (λ w. made_with w.time w.seed w.file.now) (λ w. w.answers.items) (λ w. (w.sources, w.gave)) true
+    s.plan.now.record.random s.plan.now.record.input f.runner.worlds.items (length s.image.now.entries) made) holds spells in
+    subst (λ i. IsFound i c.args.plan.now.record c.args.plan.now.way c.args.seed (map as_condition c.args.plan.now.conditions.now) list) c.in_ok-seeker.ensures.image
+    (subst (λ p. IsFound s.image.now p.record p.way c.args.seed (map as_condition p.conditions.now) list) c.in_ok-seeker.ensures.plan found)

@@ -1,7 +1,6 @@
-use Rattle.std.proofs.Common.{◌≡◌, List, [], length, map, true, ap, ◌∙◌}
+use Rattle.std.proofs.Common.{[], length, true, ap, ◌∙◌}
 use Rattle.std.specs.Prelude.{replicate}
 use Rattle.ir_flat.specs.Flat.{start_flat}
-use Rattle.ir_record.specs.Worlds.{Answered}
 use Rattle.ir_record_run.specs.Plan.{Plan}
 use Rattle.ir_sources.specs.Sources.{made_with}
 use Rattle.ir_sources.proofs.CallerLemmas.{many}
@@ -12,6 +11,6 @@ returns-clause-fresh g c =
     let s = c.args.self.now in
     let flat = c.in_ok-self.ensures ∙ ap (λ (p : Plan). start_flat s.image.now p.budget p.profile) c.record.view_is in
     let long = many (λ w. made_with w.time w.seed w.file.now) s.runner.worlds.items true s.plan.now.record.random s.plan.now.record.input
-        (length s.image.now.entries) s.origins in
+    (length s.image.now.entries) s.origins in
     let answers = c.restart_all.ensures.answers ∙ ap (λ n. replicate n []) long in
     λ i. record { flat = flat i; turns = c.clear.ensures.items i; answers = answers i }
