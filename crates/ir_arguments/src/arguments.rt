@@ -12,13 +12,14 @@ const ABOUT: &str = "A proved record and replay debugger for guests of RV32IM th
 const AFTER: &str = "A session of a source of your own:
   ir asm guest.s guest.img
   ir record guest.img guest.trc
+  ir hunt guest.img guest.trc --seeds 0+1000 --until fault
   ir trace guest.trc
   ir debug guest.img guest.trc
 Without a subcommand `ir` reads standard input: a line with an image in hexadecimal, a line with its trace in
 hexadecimal, and then the commands of `ir debug`, a line each. With xxd for the hexadecimal:
   { for file in guest.img guest.trc; do xxd -p $file | tr -d '\\n'; echo; done; echo end; echo regs 0; } | ir
 Exit status: 0 done, 1 a fault, 2 bad arguments, 3 a refused source, LIST, image or trace, 4 a trace that doesn't fit, 5 a
-thread that didn't end by END with code 0, if `ir record` was called with --status.
+thread that didn't end by END with code 0, if `ir record` was called with --status, or no seed that `ir hunt` found.
 ";
 
 // The parser of all arguments.

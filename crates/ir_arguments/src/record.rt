@@ -39,6 +39,7 @@ With LIST all run on one thread, and recordings don't differ. LIST is items join
 and `TxN` is N steps of it, N from 1 to 1000000. A turn of a thread that is done or must wait takes no step. After the list,
 rounds over the threads from 0 on take one step of each that has one, until all are done. 1x18 lets thread 1 take 18 steps
 before thread 0 takes its first. 0x10 is ten steps of thread 0, and no hexadecimal number. A line feed may end LISTFILE.
+With SEED all run on one thread too, by the order that SEED gives: `ir hunt --help` says how. The same SEED gives the same order.
 A guest that polls enters an object again and again until a word there changes. It may take hundreds of turns before the
 thread that changes the word gets in. It then ends by 13, its budget spent, though nothing is stuck: give a larger B, or LIST.
 CLOCK gives milliseconds since the start, modulo 2^32; with LIST it counts its own calls from 0, in each thread.
