@@ -15,8 +15,8 @@ pub enum ExitStatus {
     Refused,
     /// A trace doesn't fit its image.
     NotFit,
-    /// A thread of a recording didn't end by END with code 0, and that was asked for.
-    Unended,
+    /// What was asked for isn't so: a thread of a recording didn't end by END with code 0, or a hunt found no seed.
+    NotSo,
 }
 
 impl ExitStatus {
@@ -32,7 +32,7 @@ impl ExitStatus {
             ExitStatus::BadArguments => 2,
             ExitStatus::Refused => 3,
             ExitStatus::NotFit => 4,
-            ExitStatus::Unended => 5,
+            ExitStatus::NotSo => 5,
         }
     }
 }

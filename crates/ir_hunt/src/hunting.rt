@@ -61,11 +61,11 @@ fn run_again<C: Clock>(
     }
 }
 
-/// The list that spells the order of a seed, for a guest that is recorded so but for its order.
+/// The list that spells the order of a seed, for a guest that is recorded so but for its order. There is none where the run
+/// has too many turns, or too many answers of the world outside, to be followed.
 ///
 /// # Errors
-/// The image is refused, or has more threads or objects than the profile allows; out of memory; or the run has too many
-/// turns, or too many answers of the world outside, to be followed.
+/// The image is refused, or has more threads or objects than the profile allows; or out of memory.
 pub fn order_of_seed<C: Clock>(
     alloc: Global,
     clock: &C,
@@ -73,7 +73,7 @@ pub fn order_of_seed<C: Clock>(
     how: RecordPlan<'_>,
     way: Way,
     seed: u64,
-) -> Result<String, RecordFault> {
+) -> Result<Option<String>, RecordFault> {
     let guest = image.allowed(&how)?;
     let plan = HuntPlan {
         record: how,
@@ -89,8 +89,9 @@ pub fn order_of_seed<C: Clock>(
     let choices = seeker.choices()?;
     let followed = seeker.fulfils(seed, choices);
     match followed {
-        Ok(_) => Ok(list_of(alloc, seeker.turns())?),
-        Err(_) => Err(RecordFault::NoMem),
+        Ok(_) => Ok(Some(list_of(alloc, seeker.turns())?)),
+        Err(Lost::TooLong) => Ok(None),
+        Err(Lost::NoMem) => Err(RecordFault::NoMem),
     }
 }
 

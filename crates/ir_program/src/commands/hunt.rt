@@ -128,7 +128,7 @@ where
             }
             ExitStatus::Done
         }
-        Ok(None) => ExitStatus::Unended,
+        Ok(None) => ExitStatus::NotSo,
         Err(status) => status,
     }
 }

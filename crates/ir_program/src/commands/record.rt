@@ -133,7 +133,16 @@ fn list_of_seed<C: Clock, E: Sink>(
     };
     let plan = arguments.plan(None, input);
     match order_of_seed(alloc, clock, image, plan, way, seed) {
-        Ok(list) => Ok(Some(list)),
+        Ok(Some(list)) => Ok(Some(list)),
+        Ok(None) => {
+            say(
+                faults,
+                "the run of this seed has too many turns to be followed",
+                "",
+                "",
+            );
+            Err(ExitStatus::Failed)
+        }
         Err(why) => {
             say(faults, why.words(), "", "");
             Err(why.status())
@@ -153,7 +162,7 @@ fn status_of<E: Sink>(
         tell_ends(alloc, trace, faults);
     }
     if asks && !all_ended(trace) {
-        ExitStatus::Unended
+        ExitStatus::NotSo
     } else {
         ExitStatus::Done
     }
