@@ -18,6 +18,7 @@ import tempfile
 import time
 from pathlib import Path
 
+import hunting
 import pages
 from lib import BAD, DOUBLE, TOP, Wrong, assembled, counters, finish, program, run, shell, use, wants
 
@@ -501,6 +502,11 @@ def test_interrupt(folder):
             started.send_signal(signal.SIGINT)
             wants("the end", started.wait(10), -signal.SIGINT)
         wants("TRACE", (folder / "f.trc").read_bytes(), b"an older trace")
+
+
+def test_hunts(folder):
+    """Seeds are tried until a run fulfils conditions; it is recorded again (see hunting.py)."""
+    hunting.all_of_it(folder)
 
 
 def test_answers_come(folder):

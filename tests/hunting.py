@@ -1,0 +1,123 @@
+"""Tests of `ir hunt` and `ir record --chaos` on the built program, which `tests/program.py` runs."""
+import re
+import shutil
+import signal
+import subprocess
+import time
+
+from lib import TOP, examples, assembled, program, run, said, shell, wants
+
+# Each row: the arguments, the exit status, and what standard error says.
+REFUSED = [
+    ("hunt lost.img h.trc --seeds 0..9", 2, "the following required arguments were not provided: --until <COND>"),
+    ("hunt lost.img h.trc --until fault", 2, "the following required arguments were not provided: --seeds <SEEDS>"),
+    ("hunt lost.img h.trc --seeds 9..8 --until fault", 2,
+     "--seeds: '9..8' is neither A..B, A not above B, nor A+N, of numbers up to 18446744073709551615"),
+    ("hunt lost.img h.trc --seeds 9 --until fault", 2,
+     "--seeds: '9' is neither A..B, A not above B, nor A+N, of numbers up to 18446744073709551615"),
+    ("hunt lost.img h.trc --seeds 5+0 --until fault", 2,
+     "--seeds: '5+0' is neither A..B, A not above B, nor A+N, of numbers up to 18446744073709551615"),
+    ("hunt lost.img h.trc --seeds 18446744073709551615+2 --until fault", 2,
+     "--seeds: '18446744073709551615+2' is neither A..B, A not above B, nor A+N, of numbers up to 18446744073709551615"),
+    ("hunt lost.img h.trc --seeds 0..9 --until never", 2, "--until: 'never' is no condition"),
+    ("hunt lost.img h.trc --seeds 0..9 --until fault --until 'word 0 0'", 2, "--until: 'word 0 0' is no condition"),
+    ("hunt lost.img h.trc --seeds 0..9 --until 'end 0 15'", 2, "--until: 'end 0 15' is no condition"),
+    ("hunt lost.img h.trc --seeds 0..9 --until fault --by pct:0", 2, "--by: 'pct:0' is none of mix, walk and pct:D, D from 1 to 1000"),
+    ("hunt lost.img h.trc --seeds 0..9 --until fault --by run", 2, "--by: 'run' is none of mix, walk and pct:D, D from 1 to 1000"),
+    ("hunt lost.img h.trc --seeds 0..9 --until 'end 2 1'", 3, "end 2 1: the image has no such thread, object or word"),
+    ("hunt lost.img h.trc --seeds 0..9 --until '!word 1 0 0'", 3, "!word 1 0 0: the image has no such thread, object or word"),
+    ("hunt lost.img h.trc --seeds 0..9 --until 'word 0 8 0'", 3, "word 0 8 0: the image has no such thread, object or word"),
+    ("hunt lost.s h.trc --seeds 0..9 --until fault", 3, "the image is refused, 2: these bytes are no image"),
+    ("hunt none.img h.trc --seeds 0..9 --until fault", 1, "none.img can't be read: no such file or folder"),
+    ("hunt lost.img lost.img --seeds 0..9 --until fault", 2, "lost.img: TRACE would be written over IMAGE"),
+    ("hunt lost.img folder --seeds 0..9 --until '!fault'", 1, "folder can't be written: it is a folder"),
+    ("record lost.img h.trc --chaos x", 2, "--chaos: 'x' is no number up to 18446744073709551615"),
+    ("record lost.img h.trc --chaos 1 --order 0", 2, "the argument '--chaos <SEED>' cannot be used with '--order <LIST>'"),
+]
+
+FOUND = re.compile(rb"found seed (\d+) order ([0-9x,]+)\n")
+
+
+def found(arguments, folder):
+    """A hunt that finds: the seed, LIST, and the lines of the recording."""
+    ended = run(arguments, folder)
+    match = FOUND.match(ended.stdout)
+    wants(arguments, (ended.returncode, ended.stderr, bool(match)), (0, b"", True))
+    return int(match[1]), match[2].decode(), ended.stdout[match.end():]
+
+
+def refused(folder):
+    """What a hunt can't do is named, and nothing is written."""
+    for arguments, status, message in REFUSED:
+        ended = run(arguments, folder)
+        wants(arguments, (ended.returncode, ended.stdout, ended.stderr.decode()), (status, b"", f"ir: {message}\n"))
+        wants(f"{arguments}: h.trc", (folder / "h.trc").exists(), False)
+
+
+def recorded_again(folder):
+    """LIST gives the same trace, and so does the seed; the session shows what was looked for."""
+    for by in ("mix", "walk", "pct:2", "pct:3"):
+        seed, order, lines = found(f"hunt lost.img lost.trc --seeds 0+1000 --until '!word 0 0 2' --by {by}", folder)
+        trace = (folder / "lost.trc").read_bytes()
+        for again in (f"--order {order}", f"--chaos {seed} --by {by}"):
+            wants(f"{by}, {again}", run(f"record lost.img again.trc {again}", folder).stdout, lines)
+            wants(f"{by}, {again}: the trace", (folder / "again.trc").read_bytes(), trace)
+        wants(f"{by}: the word", said(folder, "lost", ["end", "obj 0"]).splitlines()[3][:14], b"words 00000001")
+        for lower in range(seed):
+            wants(f"{by}, seed {lower}", run(f"hunt lost.img no.trc --seeds {lower}+1 --until '!word 0 0 2' --by {by}", folder).returncode, 5)
+
+
+def conditions(folder):
+    """Each condition, met and denied."""
+    rows = (("fault", 5), ("!fault", 0), ("budget", 5), ("end 0 1", 0), ("end 0 2", 5), ("code 1 0", 0), ("code 1 0x1", 5),
+            ("word 0 0 1", 0), ("word 0 0 3", 5), ("out 0 x", 5), ("!out 0 x", 0), ("out 0 ", 0))
+    for condition, status in rows:
+        ended = run(["hunt", "lost.img", "c.trc", "--seeds", "0..20", "--until", condition], folder)
+        wants(condition, ended.returncode, status)
+        if status == 5:
+            wants(condition, (ended.stdout, ended.stderr), (b"none 0..20\n", b""))
+    both = run("hunt lost.img c.trc --seeds 0..20 --until 'word 0 0 1' --until 'word 0 0 2'", folder)
+    wants("both", (both.returncode, both.stdout), (5, b"none 0..20\n"))
+
+
+def last_seeds(folder):
+    """The greatest seed ends a hunt."""
+    last = 2**64 - 1
+    ended = run(f"hunt lost.img l.trc --seeds {last - 2}..{last} --until fault", folder)
+    wants("the last seeds", (ended.returncode, ended.stdout), (5, f"none {last - 2}..{last}\n".encode()))
+
+
+def kept(folder):
+    """None found, Ctrl-C or a full device: TRACE stays as it was."""
+    (folder / "k.trc").write_bytes(b"an older trace")
+    wants("none", run("hunt lost.img k.trc --seeds 0..99 --until fault", folder).returncode, 5)
+    command = [program(), "hunt", "lost.img", "k.trc", "--seeds", "0..18446744073709551615", "--until", "fault"]
+    with subprocess.Popen(command, cwd=folder, stdout=subprocess.DEVNULL, stderr=subprocess.DEVNULL) as started:
+        time.sleep(0.5)
+        started.send_signal(signal.SIGINT)
+        wants("the end", started.wait(10), -signal.SIGINT)
+    wants("TRACE", (folder / "k.trc").read_bytes(), b"an older trace")
+    ended = shell("./ir hunt lost.img k.trc --seeds 0..9 --until fault >/dev/full", folder)
+    wants("full", (ended.returncode, ended.stderr), (1, b"ir: standard output can't be written\n"))
+    wants("TRACE", (folder / "k.trc").read_bytes(), b"an older trace")
+
+
+def on_many_machines(folder):
+    """GNU parallel ends the other slices when one has found, if it is installed."""
+    if not shutil.which("parallel"):
+        return
+    slices = "parallel --will-cite --halt now,success=1 ./ir hunt lost.img p-{}.trc --seeds {}+10 --until \"'!word 0 0 2'\" ::: 0 10 20 30"
+    ended = shell(slices, folder)
+    wants("parallel", bool(FOUND.search(ended.stdout)), True)
+    wants("a trace", any(folder.glob("p-*.trc")), True)
+
+
+def all_of_it(folder):
+    """All tests of hunts, in a folder of their own."""
+    assembled(folder, "lost", examples()["lost_update"])
+    (folder / "folder").mkdir(exist_ok=True)
+    for test in (refused, recorded_again, conditions, last_seeds, kept, on_many_machines):
+        test(folder)
+    assembled(folder, "account", (TOP / "docs/guide/account.s").read_text())
+    found("hunt account.img account.trc --seeds 0+1000 --until 'word 0 0 0xffffff9c'", folder)
+    wants("overdrawn", said(folder, "account", ["end", "obj 0"]).splitlines()[3][:14], b"words ffffff9c")
