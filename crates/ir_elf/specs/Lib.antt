@@ -1,3 +1,7 @@
 pub mod Refusal
 pub mod Layout
 pub mod Header
+pub mod Segments
+pub mod Memory
+pub mod Table
+pub mod Reading

@@ -111,7 +111,7 @@ pub fn headers_place(file: &[u8]) -> Result<HeadersPlace, Refusal>
 
 /// A program header, and the bytes after it.
 #[tactic(auto, unfolding(crate::specs::Header::header_at))]
-pub fn header_read(rest: &[u8]) -> Result<(Header, &[u8]), Refusal>
+pub fn next_header(rest: &[u8]) -> Result<(Header, &[u8]), Refusal>
     ensures { Reads (λ x. (x.0, x.1.now)) result (header_at rest.now) }
 {
     let (kind, rest) = word(rest, Refusal::Short)?;

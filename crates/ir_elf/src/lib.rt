@@ -3,8 +3,13 @@
 
 mod elf_err;
 mod header;
+mod memory;
 mod part;
+mod reading;
 mod refusal;
+mod segment;
+mod segments;
+mod table;
 
 pub use elf_err::ElfErr;
 pub use refusal::Refusal;
