@@ -1,2 +1,4 @@
 mod Loop
 mod Words
+mod Fields
+mod Limits

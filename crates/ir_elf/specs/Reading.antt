@@ -10,6 +10,10 @@ use Rattle.ir_elf.specs.Segments.{Segment, segments_at}
 use Rattle.ir_elf.specs.Memory.{memory_of, size_in, held_in, greatest, table_of, words_in}
 use Rattle.ir_elf.specs.Table.{Told, table_at}
 
+-- the code's part of memory
+abbrev pub code_memory : List Segment → List ℕ
+code_memory segments = memory_of Code segments
+
 -- how many words of code there are: up to the end of the last segment, the last word whole
 abbrev pub code_words : List Segment → ℕ
 code_words segments = (greatest (size_in Code) segments + 3) / 4
@@ -28,7 +32,7 @@ unfoldable pub guest_of : List Segment → Result Guest Refusal
 guest_of segments = unless (nat_lt 0 (code_words segments)) NoCode (told (code_words segments) (table_of segments) >>= λ t. Ok (record {
   form = t.form;
   entries = t.entries;
-  code = words_in (take (4 * code_words segments) (memory_of Code segments));
+  code = words_in (take (4 * code_words segments) (code_memory segments));
   bytes = take (data_bytes segments) (memory_of Memory segments);
   words = t.words;
 }))

@@ -12,4 +12,5 @@ mod segments;
 mod table;
 
 pub use elf_err::ElfErr;
+pub use reading::read_elf;
 pub use refusal::Refusal;

@@ -20,11 +20,7 @@ fn put_over(all: &mut [u8], place: usize, own: &[u8])
 }
 
 /// A part of memory: what the file holds of the part's segments, and 0 elsewhere.
-pub fn memory_of(
-    alloc: Global,
-    part: Part,
-    segments: &[Segment<'_>],
-) -> Result<Vec<u8>, AllocError>
+pub fn memory_of(alloc: Global, part: Part, segments: &[Segment<'_>]) -> Result<Vec<u8>, AllocError>
     ensures exact { IfOk result (λ v. v.items ≡ memory_of part (map seen segments.now)) }
     ensures count { IfOk result (λ v. length v.items ≡ size_of part) }
 {

@@ -80,12 +80,7 @@ fn entry(code: u32, bytes: &[u8]) -> Result<(u32, &[u8]), Refusal>
 }
 
 // So many entries, and the bytes after them.
-fn entries(
-    alloc: Global,
-    count: u32,
-    code: u32,
-    bytes: &[u8],
-) -> Result<(Vec<u32>, &[u8]), ElfErr>
+fn entries(alloc: Global, count: u32, code: u32, bytes: &[u8]) -> Result<(Vec<u32>, &[u8]), ElfErr>
     requires { code ≤ most_code_words }
     ensures { Gives (λ x. (x.0.items, x.1.now)) result (fields_at (entry_at code) count bytes.now) }
 {
