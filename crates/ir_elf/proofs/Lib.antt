@@ -2,3 +2,5 @@ mod Loop
 mod Words
 mod Fields
 mod Limits
+mod Order
+mod Addresses

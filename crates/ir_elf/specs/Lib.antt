@@ -5,3 +5,4 @@ pub mod Segments
 pub mod Memory
 pub mod Table
 pub mod Reading
+pub mod Addresses
