@@ -13,7 +13,7 @@ use Rattle.ir_elf.proofs.Order.{IsNext, AreOrdered}
 
 -- ---- bytes over others
 
-over_before : (place : ℕ) (own all : List ℕ) (i : ℕ) → i < place → place + length own ≤ length all
+pub over_before : (place : ℕ) (own all : List ℕ) (i : ℕ) → i < place → place + length own ≤ length all
     → get_or (over place own all) i 0 ≡ get_or all i 0
 over_before place own all i lt fits =
     let taken = length-take-le place all (omega arith) in
@@ -29,7 +29,7 @@ over_inside place own all i low high fits =
     get_or_append_left (take place all ++ own) (drop (place + length own) all) 0 i (omega (arith, high, taken, joined))
     ∙ get_or-append_right (take place all) own place i 0 taken low
 
-over_after : (place : ℕ) (own all : List ℕ) (i : ℕ) → place + length own ≤ i → place + length own ≤ length all
+pub over_after : (place : ℕ) (own all : List ℕ) (i : ℕ) → place + length own ≤ i → place + length own ≤ length all
     → get_or (over place own all) i 0 ≡ get_or all i 0
 over_after place own all i low fits =
     let taken = length-take-le place all (omega arith) in
@@ -48,7 +48,7 @@ over_length place own all fits =
 
 -- ---- parts
 
-same_is : (p q : Part) → is_same p q ≡ true → p ≡ q
+pub same_is : (p q : Part) → is_same p q ≡ true → p ≡ q
 same_is Code Code e = refl
 same_is Memory Memory e = refl
 same_is Table Table e = refl
@@ -74,7 +74,7 @@ one_part Table Memory i j l m e = absurd (omega (arith, l, m, e))
 -- ---- one segment
 
 -- a segment of the part fits into as many bytes as the part has
-fits_in : (part : Part) (s : Segment) (last : ℕ) (all : List ℕ) → IsNext last s → length all ≡ size_of part → is_same s.part part ≡ true
+pub fits_in : (part : Part) (s : Segment) (last : ℕ) (all : List ℕ) → IsNext last s → length all ≡ size_of part → is_same s.part part ≡ true
     → s.place + length s.bytes ≤ length all
 fits_in part s last all next whole same =
     let size : size_of s.part ≡ size_of part = ap size_of (same_is s.part part same) in
@@ -82,7 +82,7 @@ fits_in part s last all next whole same =
     let held = next.held in
     omega (arith, size, within, held, whole)
 
-segment_length : (part : Part) (s : Segment) (last : ℕ) (all : List ℕ) → IsNext last s → length all ≡ size_of part
+pub segment_length : (part : Part) (s : Segment) (last : ℕ) (all : List ℕ) → IsNext last s → length all ≡ size_of part
     → length (with_segment part s all) ≡ size_of part
 segment_length part s last all next whole =
     cond_both (is_same s.part part) (over s.place s.bytes all) all (λ xs. length xs ≡ size_of part)

@@ -4,3 +4,4 @@ mod Fields
 mod Limits
 mod Order
 mod Addresses
+mod Contents

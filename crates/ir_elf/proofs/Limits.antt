@@ -111,7 +111,7 @@ code_count n memory whole few =
 data_count : (n : ℕ) (memory : List ℕ) → n ≤ memory_size → length (take n memory) ≤ memory_size
 data_count n memory few = let least = length-take n memory in omega (arith, few, least)
 
-abbrev guest_by : List Segment → Told → Guest
+abbrev pub guest_by : List Segment → Told → Guest
 guest_by segments t = record {
   form = t.form;
   entries = t.entries;

@@ -3,6 +3,7 @@
 
 mod elf_err;
 mod header;
+mod laws;
 mod memory;
 mod part;
 mod reading;
@@ -12,5 +13,6 @@ mod segments;
 mod table;
 
 pub use elf_err::ElfErr;
+pub use laws::{code_is_segments, memory_is_segments};
 pub use reading::read_elf;
 pub use refusal::Refusal;

@@ -1,0 +1,33 @@
+//! Laws of guests from ELF files.
+
+ghost use Rattle.std.specs.Prelude.{◌≡◌, ◌<◌, ◌+◌, ◌*◌, ℕ, List, length, slice_index, Ok, Some};
+ghost use Rattle.ir_image.specs.Guest.{Guest, code_start, memory_start, memory_size};
+ghost use Rattle.ir_elf.specs.Segments.{Segment, segments_at};
+ghost use Rattle.ir_elf.specs.Reading.{elf_guest_at};
+ghost use Rattle.ir_elf.specs.Addresses.{byte_of, byte_at, word_at, IsInParts};
+
+/// Each word of the code is that of the four bytes that the segments have at its address, 0 where they have none.
+#[tactic(auto, using(crate::proofs::Contents::code_law))]
+pub fn code_is_segments()
+    ensures { (file : List ℕ) (segments : List Segment) (g : Guest) (k : ℕ) →
+        segments_at file ≡ Ok segments →
+        elf_guest_at file ≡ Ok g →
+        k < length g.code →
+        slice_index g.code k ≡ word_at segments (code_start + 4 * k) }
+{}
+
+/// Each byte that private memory begins with is the byte that the segments have at its address, 0 where they have none;
+/// and what the segments have is in the code, in private memory, or in the table.
+#[tactic(auto, using(crate::proofs::Contents::memory_law, crate::proofs::Contents::parts_law))]
+pub fn memory_is_segments()
+    ensures bytes { (file : List ℕ) (segments : List Segment) (g : Guest) (i : ℕ) →
+        segments_at file ≡ Ok segments →
+        elf_guest_at file ≡ Ok g →
+        i < memory_size →
+        slice_index g.bytes i ≡ byte_at segments (memory_start + i) }
+    ensures nowhere_else { (file : List ℕ) (segments : List Segment) (g : Guest) (a b : ℕ) →
+        segments_at file ≡ Ok segments →
+        elf_guest_at file ≡ Ok g →
+        byte_of segments a ≡ Some b →
+        IsInParts (length g.code) a }
+{}
