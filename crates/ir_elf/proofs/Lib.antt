@@ -5,3 +5,4 @@ mod Limits
 mod Order
 mod Addresses
 mod Contents
+mod Whole

@@ -23,7 +23,7 @@ use Rattle.ir_elf.proofs.Words.{word_count}
 
 -- ---- the table
 
-place_is : (words n : ℕ) → is_place words n ≡ true → IsPlace words n
+pub place_is : (words n : ℕ) → is_place words n ≡ true → IsPlace words n
 place_is words n h =
     let one = and_parts (eqb (n % 4) 0) (leb code_start n && ltb n (code_start + 4 * words)) h in
     let two = and_parts (leb code_start n) (ltb n (code_start + 4 * words)) one.1 in
@@ -56,7 +56,7 @@ objects_are form own h =
           (few_objects form (length own) (leb-true _ _ both.1));
     }
 
-abbrev told_by : ImageForm → List ℕ → List ℕ → Told
+abbrev pub told_by : ImageForm → List ℕ → List ℕ → Told
 told_by form entries own = record { form = form; entries = entries; words = words_in own }
 
 pub table_within : (code : ℕ) (bytes : List ℕ) (t : Told) → table_at code bytes ≡ Ok t → IsWithin code t

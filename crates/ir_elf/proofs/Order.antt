@@ -65,7 +65,7 @@ bytes_count place n file own e =
     let p = bytes_parts Short n before.1 x e2 in
     subst (λ (y : List ℕ). length y ≡ n) (ok_is Refusal x.0 own e3) (ap length p.prefix ∙ length-take-le n before.1 p.long)))
 
-abbrev made : List ℕ → Part → Header → Segment
+abbrev pub made : List ℕ → Part → Header → Segment
 made own part h = record { part = part; place = h.address - start_of part; size = h.size; bytes = own }
 
 segment_fits : (file : List ℕ) (last : ℕ) (h : Header) (s : Segment) → segment_at file last h ≡ Ok s → IsNext last s

@@ -1,11 +1,13 @@
 -- The table: which threads and objects there are.
-use Rattle.std.specs.Prelude.{◌≡◌, ℕ, ◌*◌, ◌/◌, ◌%◌, ◌≤◌, Bool, nat_le, ◌==◌, ◌&&◌, if◌then◌else◌, List, length, Result, Ok}
+use Rattle.std.specs.Prelude.{◌≡◌, ℕ, ◌*◌, ◌/◌, ◌%◌, ◌≤◌, Bool, nat_le, ◌==◌, ◌&&◌, if◌then◌else◌, List, ◌++◌, length, Result, Ok}
 use Rattle.std.specs.List.{AllByRecursion}
+use Rattle.byteorder.specs.Endian.{little_bytes}
 use Rattle.ir_bytes.specs.Reading.{◌>>=◌, Reader, Field, tested, within, field_at, fields_at}
 use Rattle.ir_image.specs.declared.form.ImageForm.{ImageForm}
 use Rattle.ir_image.specs.declared.form.ImageForm.TheVariants.{Small, Large}
 use Rattle.ir_image.specs.Forms.{limits_of}
-use Rattle.ir_image.specs.Guest.{IsPlace}
+use Rattle.ir_image.specs.Guest.{Guest, IsPlace}
+use Rattle.ir_image.specs.Encoding.{words_encoding}
 use Rattle.ir_image.specs.Reading.{is_place}
 use Rattle.ir_elf.specs.declared.refusal.Refusal.{Refusal}
 use Rattle.ir_elf.specs.declared.refusal.Refusal.TheVariants.{Table, Entry}
@@ -59,3 +61,15 @@ pub record IsWithin (code : ℕ) (t : Told) : Type 0 where
   pub entries_fit : AllByRecursion (IsPlace code) t.entries
   pub whole_objects : length t.words % (limits_of t.form).words ≡ 0
   pub few_objects : length t.words / (limits_of t.form).words ≤ (limits_of t.form).objects
+
+-- ---- the same, written
+
+-- the number of a form
+abbrev pub number_of : ImageForm → ℕ
+number_of Small = 1
+number_of Large = 2
+
+-- the form of a guest, how many threads it has, their entries, and the objects' first words
+abbrev pub table_encoding : Guest → List ℕ
+table_encoding g =
+    little_bytes 4 (number_of g.form) ++ (little_bytes 4 (length g.entries) ++ (words_encoding g.entries ++ words_encoding g.words))

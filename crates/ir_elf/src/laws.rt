@@ -1,7 +1,12 @@
 //! Laws of guests from ELF files.
 
 ghost use Rattle.std.specs.Prelude.{◌≡◌, ◌<◌, ◌+◌, ◌*◌, ℕ, List, length, slice_index, Ok, Some};
-ghost use Rattle.ir_image.specs.Guest.{Guest, code_start, memory_start, memory_size};
+ghost use Rattle.std.specs.List.{AllByRecursion};
+ghost use Rattle.ir_image.specs.Guest.{Guest, IsGuest, IsByte, code_start, memory_start, memory_size};
+ghost use Rattle.ir_image.specs.Encoding.{encoding};
+ghost use Rattle.ir_image.specs.Reading.{guest_at};
+ghost use Rattle.ir_elf.specs.Memory.{table_of};
+ghost use Rattle.ir_elf.specs.Table.{table_encoding};
 ghost use Rattle.ir_elf.specs.Segments.{Segment, segments_at};
 ghost use Rattle.ir_elf.specs.Reading.{elf_guest_at};
 ghost use Rattle.ir_elf.specs.Addresses.{byte_of, byte_at, word_at, IsInParts};
@@ -31,3 +36,20 @@ pub fn memory_is_segments()
         byte_of segments a ≡ Some b →
         IsInParts (length g.code) a }
 {}
+
+/// The table is the form of the guest, how many threads it has, their entries, and the objects' first words, and nothing else.
+pub fn table_is_segment()
+    ensures { (file : List ℕ) (segments : List Segment) (g : Guest) →
+        AllByRecursion IsByte file →
+        segments_at file ≡ Ok segments →
+        elf_guest_at file ≡ Ok g →
+        table_of segments ≡ Some (table_encoding g) }
+{}
+
+/// The guest of a file is within a guest's limits, and the image that is written of it is read as this guest.
+pub fn elf_round_trip()
+    ensures within { (file : List ℕ) (g : Guest) → AllByRecursion IsByte file → elf_guest_at file ≡ Ok g → IsGuest g }
+    ensures again { (file : List ℕ) (g : Guest) → AllByRecursion IsByte file → elf_guest_at file ≡ Ok g → guest_at (encoding g) ≡ Ok g }
+{
+    ir_image::encoding_is_read()
+}
