@@ -6,3 +6,4 @@ mod Order
 mod Addresses
 mod Contents
 mod Whole
+mod Refused

@@ -6,3 +6,4 @@ pub mod Memory
 pub mod Table
 pub mod Reading
 pub mod Addresses
+pub mod Tests
