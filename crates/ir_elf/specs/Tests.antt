@@ -39,7 +39,7 @@ number_in bytes place size = little_number size (drop place bytes)
 
 -- a field is whole, and its number passes
 abbrev pub field : Refusal → List ℕ → ℕ → ℕ → (ℕ → Bool) → Refusal → List Test → List Test
-field short bytes place size passes r others = test (is_whole bytes place size) short (test (passes (number_in bytes place size)) r others)
+field missing bytes place size passes r others = test (is_whole bytes place size) missing (test (passes (number_in bytes place size)) r others)
 
 -- ---- the header of the file
 
