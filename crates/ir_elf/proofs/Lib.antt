@@ -7,3 +7,6 @@ mod Addresses
 mod Contents
 mod Whole
 mod Refused
+mod HeaderTests
+mod SegmentTests
+mod TableTests

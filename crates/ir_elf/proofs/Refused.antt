@@ -18,7 +18,7 @@ Agrees read tests = fault_of read ≡ first_failed tests
 
 -- ---- one field
 
-abbrev known : ℕ → ℕ → List ℕ → ℕ × List ℕ
+abbrev pub known : ℕ → ℕ → List ℕ → ℕ × List ℕ
 known place size bytes = (little_number size (drop place bytes), drop (place + size) bytes)
 
 -- so many bytes from a place on are there, or they aren't
@@ -80,18 +80,24 @@ skip_agrees missing place n size bytes k others some h =
 -- ---- the same, where another step follows
 
 -- a step after a chain is a step after its last
-regroup : {A B Y : Type 0} (r : Result A Refusal) (f : A → Result B Refusal) (k : B → Result Y Refusal)
+pub regroup : {A B Y : Type 0} (r : Result A Refusal) (f : A → Result B Refusal) (k : B → Result Y Refusal)
     → ((r >>= f) >>= k) ≡ (r >>= λ a. f a >>= k)
 regroup (Ok a) f k = refl
 regroup (Err e) f k = refl
+
+pub step_agrees : {B Y : Type 0} (missing : Refusal) (place size : ℕ) (passes : ℕ → Bool) (other : Refusal) (bytes : List ℕ)
+    (f : ℕ × List ℕ → Result B Refusal) (k : B → Result Y Refusal) (others : List Test) → 0 < size
+    → Agrees (f (known place size bytes) >>= k) others
+    → Agrees ((field_at missing (tested size passes other) (drop place bytes) >>= f) >>= k) (field missing bytes place size passes other others)
+step_agrees missing place size passes other bytes f k others some h =
+    ap fault_of (regroup (field_at missing (tested size passes other) (drop place bytes)) f k)
+    ∙ field_agrees missing place size passes other bytes (λ a. f a >>= k) others some h
 
 field_then : {B Y : Type 0} (place size : ℕ) (passes : ℕ → Bool) (other : Refusal) (bytes : List ℕ) (f : ℕ × List ℕ → Result B Refusal)
     (k : B → Result Y Refusal) (others : List Test) → 0 < size → Agrees (f (known place size bytes) >>= k) others
     → Agrees ((field_at refusal.Short (tested size passes other) (drop place bytes) >>= f) >>= k)
     (field refusal.Short bytes place size passes other others)
-field_then place size passes other bytes f k others some h =
-    ap fault_of (regroup (field_at refusal.Short (tested size passes other) (drop place bytes)) f k)
-    ∙ field_agrees refusal.Short place size passes other bytes (λ a. f a >>= k) others some h
+field_then place size passes other bytes f k others some h = step_agrees refusal.Short place size passes other bytes f k others some h
 
 number_then : {B Y : Type 0} (place size : ℕ) (bytes : List ℕ) (f : ℕ × List ℕ → Result B Refusal) (k : B → Result Y Refusal)
     (others : List Test) → 0 < size → Agrees (f (known place size bytes) >>= k) others

@@ -6,7 +6,9 @@ ghost use Rattle.ir_image.specs.Guest.{Guest, IsGuest, IsByte, code_start, memor
 ghost use Rattle.ir_image.specs.Encoding.{encoding};
 ghost use Rattle.ir_image.specs.Reading.{guest_at};
 ghost use Rattle.ir_elf.specs.Memory.{table_of};
+ghost use Rattle.ir_bytes.specs.Format.{fault_of};
 ghost use Rattle.ir_elf.specs.Table.{table_encoding};
+ghost use Rattle.ir_elf.specs.Tests.{first_failed, elf_tests, IsElfGuest};
 ghost use Rattle.ir_elf.specs.Segments.{Segment, segments_at};
 ghost use Rattle.ir_elf.specs.Reading.{elf_guest_at};
 ghost use Rattle.ir_elf.specs.Addresses.{byte_of, byte_at, word_at, IsInParts};
@@ -53,3 +55,10 @@ pub fn elf_round_trip()
 {
     ir_image::encoding_is_read()
 }
+
+/// A file is refused exactly where one of its tests fails, for the first that fails; a file of which no test fails is read.
+pub fn refused_exactly()
+    ensures first { (file : List ℕ) → fault_of (elf_guest_at file) ≡ first_failed (elf_tests file) }
+    ensures read { (file : List ℕ) → IsElfGuest file → (g : Guest) × (elf_guest_at file ≡ Ok g) }
+    ensures only { (file : List ℕ) (g : Guest) → elf_guest_at file ≡ Ok g → IsElfGuest file }
+{}

@@ -13,6 +13,8 @@ mod segments;
 mod table;
 
 pub use elf_err::ElfErr;
-pub use laws::{code_is_segments, elf_round_trip, memory_is_segments, table_is_segment};
+pub use laws::{
+    code_is_segments, elf_round_trip, memory_is_segments, refused_exactly, table_is_segment,
+};
 pub use reading::read_elf;
 pub use refusal::Refusal;
