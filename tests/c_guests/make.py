@@ -44,7 +44,7 @@ def image(path):
     return b"IRI%d" % form + struct.pack("<BBII", threads, objects, len(code) // 4, len(data)) + entries + code + data + words
 
 def constant(name, what, text):
-    return "/// %s\npub const %s: &str = \"%s\";\n" % (what, name, text)
+    return "/// %s\npub const %s: &str =\n    \"%s\";\n" % (what, name, text)
 
 def main():
     guest, examples = (sys.argv[1:] + ["guest", "examples/c"][len(sys.argv) - 1:])[:2]

@@ -1,6 +1,5 @@
 -- What the segments put at each address.
-use Rattle.std.proofs.Common.{◌≡◌, ℕ, ◌+◌, ◌-◌, ◌≤◌, ◌<◌, cond, leb, ltb, Bool, true, false, refl, inl, inr, List, [], ◌∷◌, ◌++◌, length, get_or, take, drop, replicate, Option, Some, None, ap, subst, sym, ◌∙◌, arith, length-append, length-take-le}
-use Rattle.std.specs.Prelude.{◌&&◌}
+use Rattle.std.proofs.Common.{◌≡◌, ℕ, ◌+◌, ◌-◌, ◌≤◌, ◌<◌, leb, ltb, true, refl, inl, inr, List, [], ◌∷◌, ◌++◌, length, get_or, take, drop, Some, None, ap, sym, ◌∙◌, arith, length-append, length-take-le}
 use Rattle.std.proofs.lemmas.Bool.{cases_lt, cond_both, le-leb, lt-leb, lt-ltb, le-ltb, and_left, and_right, and_from}
 use Rattle.std.proofs.lemmas.List.{get_or-take, get_or-drop, get_or_append_left, get_or-append_right, get_or_past, length-drop}
 use Rattle.ir_elf.specs.declared.part.Part.{Part}
@@ -8,7 +7,7 @@ use Rattle.ir_elf.specs.declared.part.Part.TheVariants.{Code, Memory, Table}
 use Rattle.ir_elf.specs.Layout.{start_of, size_of}
 use Rattle.ir_elf.specs.Segments.{Segment, address_of, end_of}
 use Rattle.ir_elf.specs.Memory.{is_same, over, with_segment, with_segments}
-use Rattle.ir_elf.specs.Addresses.{byte_in, or_other, byte_of, or_zero}
+use Rattle.ir_elf.specs.Addresses.{byte_in, byte_of, or_zero}
 use Rattle.ir_elf.proofs.Order.{IsNext, AreOrdered}
 
 -- ---- bytes over others

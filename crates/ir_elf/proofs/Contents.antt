@@ -1,11 +1,11 @@
 -- A guest is what the segments of its file put at each address.
-use Rattle.std.proofs.Common.{◌≡◌, ℕ, zero, suc, ◌+◌, ◌-◌, ◌*◌, ◌/◌, ◌≤◌, ◌<◌, max, cond, leb, ltb, Bool, true, false, refl, inl, inr, List, [], ◌∷◌, ◌++◌, length, get_or, slice_index, take, drop, replicate, Option, Some, None, Result, Ok, Err, ap, subst, sym, ◌∙◌, arith, length-append, length-take, length-take-le}
+use Rattle.std.proofs.Common.{◌≡◌, ℕ, zero, suc, ◌+◌, ◌*◌, ◌/◌, ◌≤◌, ◌<◌, leb, ltb, refl, inl, inr, List, [], ◌∷◌, length, get_or, slice_index, take, replicate, Some, Ok, ap, subst, sym, ◌∙◌, arith, length-take}
 use Rattle.std.specs.Prelude.{◌&&◌}
-use Rattle.std.proofs.lemmas.Bool.{cases_lt, cases_Bool, cond_both, ltb-false, ltb-true, lt-ltb, leb-true, and_parts, le-ltb}
+use Rattle.std.proofs.lemmas.Bool.{cases_lt, cases_Bool, cond_both, ltb-true, lt-ltb, leb-true, and_parts}
 use Rattle.std.proofs.lemmas.List.{get_or-take, get_or_past, get_or-replicate, length-replicate}
 use Rattle.byteorder.specs.Endian.{little_number}
 use Rattle.ir_bytes.specs.Reading.{◌>>=◌, bytes_at, fields_at}
-use Rattle.ir_bytes.proofs.CallerLemmas.{two_ok, four_ok, ok_is, choose}
+use Rattle.ir_bytes.proofs.CallerLemmas.{two_ok, four_ok, ok_is}
 use Rattle.ir_image.specs.Guest.{Guest, code_start, memory_start, memory_size}
 use Rattle.ir_elf.specs.declared.part.Part.{Part}
 use Rattle.ir_elf.specs.declared.part.Part.TheVariants.{Code, Memory, Table}
@@ -17,7 +17,7 @@ use Rattle.ir_elf.specs.Segments.{Segment, address_of, end_of, segments_from, se
 use Rattle.ir_elf.specs.Memory.{is_same, over, with_segment, with_segments, memory_of, size_in, held_in, greatest, table_of, words_in}
 use Rattle.ir_elf.specs.Table.{Told}
 use Rattle.ir_elf.specs.Reading.{code_memory, code_words, data_bytes, told, guest_of, elf_guest_at}
-use Rattle.ir_elf.specs.Addresses.{byte_in, or_other, byte_of, or_zero, byte_at, word_at, IsInParts}
+use Rattle.ir_elf.specs.Addresses.{byte_of, byte_at, word_at, IsInParts}
 use Rattle.ir_elf.proofs.Limits.{unless_ok, guest_by}
 use Rattle.ir_elf.proofs.Order.{IsNext, AreOrdered, ordered}
 use Rattle.ir_elf.proofs.Addresses.{over_before, over_after, same_is, fits_in, segment_length, bytes_put}

@@ -1,6 +1,5 @@
 -- The segments of a file are within their parts, and each begins at or above the end of the one before.
-use Rattle.std.proofs.Common.{◌≡◌, ℕ, ◌+◌, ◌-◌, ◌≤◌, cond, leb, ltb, eqb, Bool, true, false, refl, List, [], ◌∷◌, length, take, Option, Some, None, Result, Ok, Err, ap, subst, sym, ◌∙◌, arith, length-take-le}
-use Rattle.std.specs.Prelude.{◌&&◌}
+use Rattle.std.proofs.Common.{◌≡◌, ℕ, ◌+◌, ◌-◌, ◌≤◌, cond, leb, true, List, [], ◌∷◌, length, Option, Some, None, Ok, ap, subst, ◌∙◌, arith, length-take-le}
 use Rattle.std.proofs.lemmas.Bool.{leb-true, and_parts}
 use Rattle.std.proofs.lemmas.Option.{same_Some}
 use Rattle.ir_bytes.specs.Reading.{◌>>=◌, bytes_at}

@@ -1,15 +1,15 @@
 -- The first test that fails names the refusal.
-use Rattle.std.proofs.Common.{◌≡◌, ℕ, zero, suc, ◌+◌, ◌-◌, ◌*◌, ◌≤◌, ◌<◌, cond, eqb, leb, ltb, Bool, true, false, refl, inl, inr, List, [], ◌∷◌, length, take, drop, Option, Some, None, Result, Ok, Err, ap, subst, sym, ◌∙◌, arith}
+use Rattle.std.proofs.Common.{◌≡◌, ℕ, ◌+◌, ◌*◌, ◌<◌, cond, eqb, leb, ltb, Bool, true, false, refl, inl, inr, List, length, take, drop, Some, None, Result, Ok, Err, ap, ◌∙◌, arith}
 use Rattle.std.specs.Prelude.{◌&&◌, not}
-use Rattle.std.proofs.lemmas.Bool.{cases_lt, cases_Bool, le-leb, lt-leb, lt-ltb, le-ltb}
+use Rattle.std.proofs.lemmas.Bool.{cases_lt, le-leb, lt-leb, lt-ltb, le-ltb}
 use Rattle.std.proofs.lemmas.List.{length-drop, drop-drop}
 use Rattle.byteorder.specs.Endian.{little_number}
-use Rattle.ir_bytes.specs.Reading.{◌>>=◌, Field, tested, unless, judged, number_at, field_at, bytes_at, fields_at}
+use Rattle.ir_bytes.specs.Reading.{◌>>=◌, tested, judged, number_at, field_at, bytes_at}
 use Rattle.ir_bytes.specs.Format.{fault_of}
 use Rattle.ir_elf.specs.declared.refusal.Refusal.{Refusal}
 use Rattle.ir_elf.specs.declared.refusal.Refusal.TheVariants as refusal
 use Rattle.ir_elf.specs.declared.header.HeadersPlace.{HeadersPlace}
-use Rattle.ir_elf.specs.Header.{class_field, linked_field, machine_field, version_field, flags_field, size_field, number_field, identified, kind_known, headers_found, headers_place_at, header_at}
+use Rattle.ir_elf.specs.Header.{class_field, linked_field, machine_field, version_field, flags_field, size_field, number_field, identified, kind_known, headers_found, headers_place_at}
 use Rattle.ir_elf.specs.Tests.{Test, first_failed, test, is_whole, number_in, field, headers_place, headers_number, header_tests}
 
 -- a reading is refused as tests say

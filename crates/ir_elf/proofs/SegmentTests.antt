@@ -1,5 +1,5 @@
 -- Segments are read if their headers pass.
-use Rattle.std.proofs.Common.{◌≡◌, ℕ, zero, suc, ◌+◌, ◌-◌, ◌≤◌, ◌<◌, cond, leb, ltb, eqb, Bool, true, false, refl, inl, inr, List, [], ◌∷◌, length, take, drop, Option, Some, None, Result, Ok, Err, ap, subst, sym, ◌∙◌, arith}
+use Rattle.std.proofs.Common.{◌≡◌, ℕ, ◌+◌, ◌≤◌, ◌<◌, cond, leb, Bool, true, false, refl, inl, inr, List, [], ◌∷◌, length, take, drop, Option, Some, None, Result, Ok, Err, ap, subst, sym, ◌∙◌, arith}
 use Rattle.std.specs.Prelude.{◌&&◌, not}
 use Rattle.std.proofs.lemmas.Bool.{cases_lt, cases_Bool, le-leb, lt-leb, lt-ltb, le-ltb}
 use Rattle.std.proofs.lemmas.List.{length-drop}
@@ -10,10 +10,9 @@ use Rattle.ir_elf.specs.declared.part.Part.TheVariants.{Code, Memory, Table}
 use Rattle.ir_elf.specs.declared.refusal.Refusal.{Refusal}
 use Rattle.ir_elf.specs.declared.refusal.Refusal.TheVariants as refusal
 use Rattle.ir_elf.specs.declared.header.Header.{Header}
-use Rattle.ir_elf.specs.Layout.{start_of}
 use Rattle.ir_elf.specs.Refusal.{unless}
 use Rattle.ir_elf.specs.Segments.{Segment, end_of, is_within, is_placed, is_protected, part_around, part_placed, part_of, bytes_from, segment_at, is_refused, is_loaded, loaded_at, end_after, with_first, segments_from}
-use Rattle.ir_elf.specs.Tests.{Test, first_failed, test, is_whole, part_in, segment_in, segments_in, loaded_tests, segment_tests}
+use Rattle.ir_elf.specs.Tests.{Test, test, part_in, segment_in, segments_in, loaded_tests, segment_tests}
 use Rattle.ir_elf.proofs.Refused.{Agrees, regroup}
 use Rattle.ir_elf.proofs.Order.{made}
 

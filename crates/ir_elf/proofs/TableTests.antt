@@ -1,7 +1,6 @@
 -- A guest is made if the tests of its table pass, and so is that of a file.
-use Rattle.std.proofs.Common.{◌≡◌, ℕ, zero, suc, ◌+◌, ◌*◌, ◌≤◌, ◌<◌, ◌↔◌, cond, leb, ltb, eqb, Bool, true, false, refl, inl, inr, List, [], ◌∷◌, length, drop, Option, Some, None, Result, Ok, Err, ap, subst, sym, ◌∙◌, arith}
+use Rattle.std.proofs.Common.{◌≡◌, ℕ, zero, suc, ◌+◌, ◌*◌, leb, ltb, Bool, true, false, refl, List, [], ◌∷◌, length, drop, Option, Some, None, Result, Ok, Err, ap, subst, sym, ◌∙◌, arith}
 use Rattle.std.specs.Prelude.{◌&&◌}
-use Rattle.std.proofs.lemmas.Bool.{cases_Bool}
 use Rattle.ir_bytes.specs.Reading.{◌>>=◌, bytes_at, field_at, fields_at}
 use Rattle.ir_bytes.specs.Format.{fault_of}
 use Rattle.ir_image.specs.declared.form.ImageForm.{ImageForm}
@@ -10,15 +9,14 @@ use Rattle.ir_image.specs.Guest.{Guest}
 use Rattle.ir_image.specs.Reading.{is_place}
 use Rattle.ir_elf.specs.declared.refusal.Refusal.{Refusal}
 use Rattle.ir_elf.specs.declared.refusal.Refusal.TheVariants as refusal
-use Rattle.ir_elf.specs.declared.header.Header.{Header}
 use Rattle.ir_elf.specs.declared.header.HeadersPlace.{HeadersPlace}
 use Rattle.ir_elf.specs.Refusal.{unless}
 use Rattle.ir_elf.specs.Header.{headers_place_at, header_at}
 use Rattle.ir_elf.specs.Segments.{Segment, segments_from, segments_at}
 use Rattle.ir_elf.specs.Memory.{table_of}
-use Rattle.ir_elf.specs.Table.{Told, form_field, form_of, threads_field, entry_field, entry_at, are_objects, table_at}
+use Rattle.ir_elf.specs.Table.{Told, form_of, threads_field, entry_at, are_objects, table_at}
 use Rattle.ir_elf.specs.Reading.{code_words, told, guest_of, elf_guest_at}
-use Rattle.ir_elf.specs.Tests.{Test, first_failed, test, is_whole, number_in, field, headers_place, headers_number, headers_in, segments_in, segment_tests, entry_tests, form_in, table_tests, told_tests, guest_tests, elf_tests, IsElfGuest}
+use Rattle.ir_elf.specs.Tests.{Test, first_failed, test, number_in, field, headers_place, headers_number, headers_in, segments_in, segment_tests, entry_tests, form_in, table_tests, told_tests, guest_tests, elf_tests, IsElfGuest}
 use Rattle.ir_elf.proofs.Limits.{told_by, guest_by}
 use Rattle.ir_elf.proofs.Refused.{Agrees, known, regroup, step_agrees, place_agrees}
 use Rattle.ir_elf.proofs.HeaderTests.{headers_agree}

@@ -1,34 +1,34 @@
 -- A guest of bytes is within its limits, and the table is the encoding of its part of it.
-use Rattle.std.proofs.Common.{◌≡◌, ℕ, zero, suc, ◌+◌, ◌-◌, ◌*◌, ◌/◌, ◌%◌, ◌≤◌, ◌<◌, ◌^◌, max, cond, eqb, leb, ltb, Bool, true, false, refl, List, [], ◌∷◌, ◌++◌, length, take, drop, replicate, Option, Some, None, Result, Ok, Err, ap, subst, sym, ◌∙◌, arith}
+use Rattle.std.proofs.Common.{◌≡◌, ℕ, zero, suc, ◌+◌, ◌*◌, ◌/◌, ◌%◌, ◌≤◌, cond, eqb, leb, ltb, refl, List, [], ◌∷◌, ◌++◌, length, take, drop, replicate, Option, Some, None, Ok, Err, ap, subst, sym, ◌∙◌, arith}
 use Rattle.std.specs.Prelude.{◌&&◌}
-use Rattle.std.specs.List.{AllByRecursion, flat_map}
-use Rattle.std.proofs.lemmas.Bool.{cond_both, and_parts, leb-true, eqb-true}
+use Rattle.std.specs.List.{AllByRecursion}
+use Rattle.std.proofs.lemmas.Bool.{cond_both, and_parts, eqb-true}
 use Rattle.std.proofs.lemmas.Option.{same_Some}
 use Rattle.std.proofs.lemmas.List.Concat.{flat_map-cons}
 use Rattle.byteorder.specs.Endian.{little_bytes, little_number}
 use Rattle.ir_bytes.specs.Reading.{◌>>=◌, bytes_at, field_at, fields_at}
-use Rattle.ir_bytes.proofs.CallerLemmas.{two_ok, three_ok, four_ok, guard_ok, pass_ok, ok_is, choose, passed, within_ok, IsBytes, drop_fits, number_parts, number_whole, Takes, field_takes, bytes_take, TakesFields, fields_take}
+use Rattle.ir_bytes.proofs.CallerLemmas.{two_ok, three_ok, four_ok, guard_ok, pass_ok, ok_is, choose, passed, within_ok, IsBytes, drop_fits, number_parts, number_whole, Takes, field_takes, bytes_take, fields_take}
 use Rattle.ir_image.specs.declared.form.ImageForm.{ImageForm}
 use Rattle.ir_image.specs.declared.form.ImageForm.TheVariants.{Small, Large}
 use Rattle.ir_image.specs.Forms.{limits_of}
-use Rattle.ir_image.specs.Guest.{Guest, IsGuest, IsPlace, IsWord, IsByte, memory_size, most_code_words}
+use Rattle.ir_image.specs.Guest.{Guest, IsGuest, IsPlace, IsWord, IsByte, most_code_words}
 use Rattle.ir_image.specs.Encoding.{words_encoding}
 use Rattle.ir_elf.specs.declared.part.Part.{Part}
 use Rattle.ir_elf.specs.declared.part.Part.TheVariants.{Code, Memory, Table}
 use Rattle.ir_elf.specs.declared.refusal.Refusal.{Refusal}
 use Rattle.ir_elf.specs.declared.refusal.Refusal.TheVariants as refusal
 use Rattle.ir_elf.specs.declared.header.Header.{Header}
-use Rattle.ir_elf.specs.Layout.{start_of, size_of}
+use Rattle.ir_elf.specs.Layout.{size_of}
 use Rattle.ir_elf.specs.Refusal.{unless}
 use Rattle.ir_elf.specs.Header.{headers_place_at, header_at}
 use Rattle.ir_elf.specs.Segments.{Segment, end_of, is_protected, part_of, bytes_from, segment_at, is_refused, is_loaded, loaded_at, end_after, with_first, segments_from, segments_at}
 use Rattle.ir_elf.specs.Memory.{is_same, over, with_segment, with_segments, memory_of, held_in, greatest, table_of, words_in}
 use Rattle.ir_elf.specs.Table.{Told, form_field, form_of, threads_field, entry_field, entry_at, are_objects, table_at, number_of, table_encoding}
 use Rattle.ir_elf.specs.Reading.{code_memory, code_words, data_bytes, told, guest_of, elf_guest_at}
-use Rattle.ir_elf.proofs.Limits.{unless_ok, place_is, told_by, guest_by, guest_limits, guest_fits}
+use Rattle.ir_elf.proofs.Limits.{unless_ok, place_is, told_by, guest_limits, guest_fits}
 use Rattle.ir_elf.proofs.Order.{IsNext, AreOrdered, made}
 use Rattle.ir_elf.proofs.Addresses.{same_is}
-use Rattle.ir_elf.proofs.Contents.{segments_ordered, IsGuestOf, guest_parts, file_parts, memory_length, sizes_most}
+use Rattle.ir_elf.proofs.Contents.{segments_ordered, guest_parts, file_parts, memory_length, sizes_most}
 
 -- ---- bytes
 

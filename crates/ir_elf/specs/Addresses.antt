@@ -1,5 +1,5 @@
 -- What is at each address of a guest.
-use Rattle.std.specs.Prelude.{◌≡◌, ℕ, ◌+◌, ◌-◌, ◌*◌, ◌≤◌, ◌<◌, ◌⊎◌, nat_le, nat_lt, ◌&&◌, if◌then◌else◌, List, [], ◌∷◌, length, get_or, Option, Some, None}
+use Rattle.std.specs.Prelude.{ℕ, ◌+◌, ◌-◌, ◌*◌, ◌≤◌, ◌<◌, ◌⊎◌, nat_le, nat_lt, ◌&&◌, if◌then◌else◌, List, [], ◌∷◌, get_or, Option, Some, None}
 use Rattle.byteorder.specs.Endian.{little_number}
 use Rattle.ir_image.specs.Guest.{code_start, memory_start, memory_size}
 use Rattle.ir_elf.specs.Layout.{table_start, table_size}

@@ -1,5 +1,5 @@
 -- The tests of an ELF file, each field named by its place; the first that fails names the refusal.
-use Rattle.std.specs.Prelude.{◌≡◌, ℕ, zero, suc, ◌+◌, ◌-◌, ◌*◌, ◌%◌, Bool, true, false, not, nat_le, nat_lt, ◌==◌, ◌&&◌, ◌||◌, if◌then◌else◌, List, [], ◌∷◌, length, take, drop, Option, Some, None}
+use Rattle.std.specs.Prelude.{◌≡◌, ℕ, zero, suc, ◌+◌, ◌-◌, ◌*◌, Bool, true, false, not, nat_le, nat_lt, ◌==◌, ◌&&◌, if◌then◌else◌, List, [], ◌∷◌, length, take, drop, Option, Some, None}
 use Rattle.byteorder.specs.Endian.{little_number}
 use Rattle.ir_image.specs.declared.form.ImageForm.{ImageForm}
 use Rattle.ir_image.specs.Forms.{limits_of}
@@ -9,7 +9,7 @@ use Rattle.ir_elf.specs.declared.part.Part.TheVariants.{Code, Memory, Table}
 use Rattle.ir_elf.specs.declared.refusal.Refusal.{Refusal}
 use Rattle.ir_elf.specs.declared.refusal.Refusal.TheVariants as refusal
 use Rattle.ir_elf.specs.declared.header.Header.{Header}
-use Rattle.ir_elf.specs.Layout.{table_start, start_of}
+use Rattle.ir_elf.specs.Layout.{start_of}
 use Rattle.ir_elf.specs.Segments.{Segment, end_of, is_within, is_placed, is_protected, is_refused, is_loaded}
 use Rattle.ir_elf.specs.Memory.{table_of}
 use Rattle.ir_elf.specs.Table.{form_of, are_objects}

@@ -64,9 +64,17 @@ fn each_changed_byte_has_an_answer(rt: HostRuntime) -> Result<(), Fail> {
     let mut file = hex::decode(rt.alloc(), BANK_ELF)?;
     for place in (0..180).chain(644..692) {
         for flip in [1u8, 0xfe] {
-            put(file.as_mut_slice(), place, &[byte_at(file.as_slice(), place) ^ flip]);
+            put(
+                file.as_mut_slice(),
+                place,
+                &[byte_at(file.as_slice(), place) ^ flip],
+            );
             assert!(rt; refusal(rt.alloc(), file.as_slice()) <= 14, "at {place}");
-            put(file.as_mut_slice(), place, &[byte_at(file.as_slice(), place) ^ flip]);
+            put(
+                file.as_mut_slice(),
+                place,
+                &[byte_at(file.as_slice(), place) ^ flip],
+            );
         }
     }
     Ok(())

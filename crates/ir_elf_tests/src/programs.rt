@@ -20,8 +20,8 @@ pub const MEMORY: Header = [1, 52, 0x0010_0000, 0, 0, 8, 6, 4];
 
 // The header of the file up to the number of program headers.
 const START: [u8; 44] = [
-    0x7f, 0x45, 0x4c, 0x46, 1, 1, 1, 0, 0, 0, 0, 0, 0, 0, 0, 0, 2, 0, 243, 0, 1, 0, 0, 0, 0, 0, 0, 0,
-    72, 0, 0, 0, 0, 0, 0, 0, 0, 0, 0, 0, 52, 0, 32, 0,
+    0x7f, 0x45, 0x4c, 0x46, 1, 1, 1, 0, 0, 0, 0, 0, 0, 0, 0, 0, 2, 0, 243, 0, 1, 0, 0, 0, 0, 0, 0,
+    0, 72, 0, 0, 0, 0, 0, 0, 0, 0, 0, 0, 0, 52, 0, 32, 0,
 ];
 
 // `addi a7, zero, 1`, `ecall`; then the table: its form, one thread, and its entry.

@@ -42,7 +42,9 @@ fn of_table(alloc: Global, words: &[u32], more: u32) -> Result<u8, AllocError> {
     for (i, word) in words.iter().enumerate() {
         put(
             file.as_mut_slice(),
-            HEADERS.saturating_add(64).saturating_add(i.saturating_mul(4)),
+            HEADERS
+                .saturating_add(64)
+                .saturating_add(i.saturating_mul(4)),
             &word.to_le_bytes(),
         );
     }
@@ -82,7 +84,11 @@ const FAULTS: [(usize, u8, u8); 26] = [
 #[test]
 fn a_fault_of_the_header_is_named(rt: HostRuntime) -> Result<(), Fail> {
     for &(place, byte, want) in &FAULTS {
-        assert_eq!(rt; changed(rt.alloc(), place, &[byte])?, want, "{byte} at {place}");
+        assert_eq!(rt;
+            changed(rt.alloc(), place, &[byte])?,
+            want,
+            "{byte} at {place}"
+        );
     }
     Ok(())
 }
@@ -130,7 +136,10 @@ fn bytes_of_segments_are_whole(rt: HostRuntime) -> Result<(), Fail> {
     assert_eq!(rt; of_headers(alloc, &[with(CODE, 1, end - 8), TABLE])?, 0);
     assert_eq!(rt; of_headers(alloc, &[with(CODE, 1, end - 7), TABLE])?, 1);
     assert_eq!(rt; of_headers(alloc, &[with(CODE, 1, u32::MAX), TABLE])?, 1);
-    assert_eq!(rt; of_headers(alloc, &[with(CODE, LENGTH, u32::MAX), TABLE])?, 1);
+    assert_eq!(rt;
+        of_headers(alloc, &[with(CODE, LENGTH, u32::MAX), TABLE])?,
+        1
+    );
     Ok(())
 }
 
@@ -150,19 +159,38 @@ fn segments_are_within_their_parts(rt: HostRuntime) -> Result<(), Fail> {
         (0x000f_fffc, 8),
         (0xffff_fffc, 8),
     ] {
-        assert_eq!(rt; of_headers(alloc, &[with(CODE, ADDRESS, address), TABLE])?, want, "{address}");
+        assert_eq!(rt;
+            of_headers(alloc, &[with(CODE, ADDRESS, address), TABLE])?,
+            want,
+            "{address}"
+        );
     }
-    assert_eq!(rt; of_headers(alloc, &[CODE, with(MEMORY, SIZE, 65_536), TABLE])?, 0);
-    assert_eq!(rt; of_headers(alloc, &[CODE, with(MEMORY, SIZE, 65_537), TABLE])?, 8);
-    assert_eq!(rt; of_headers(alloc, &[CODE, with(MEMORY, ADDRESS, 0x0010_fff8), TABLE])?, 0);
-    assert_eq!(rt; of_headers(alloc, &[CODE, with(MEMORY, ADDRESS, 0x0010_fff9), TABLE])?, 8);
+    assert_eq!(rt;
+        of_headers(alloc, &[CODE, with(MEMORY, SIZE, 65_536), TABLE])?,
+        0
+    );
+    assert_eq!(rt;
+        of_headers(alloc, &[CODE, with(MEMORY, SIZE, 65_537), TABLE])?,
+        8
+    );
+    assert_eq!(rt;
+        of_headers(alloc, &[CODE, with(MEMORY, ADDRESS, 0x0010_fff8), TABLE])?,
+        0
+    );
+    assert_eq!(rt;
+        of_headers(alloc, &[CODE, with(MEMORY, ADDRESS, 0x0010_fff9), TABLE])?,
+        8
+    );
     Ok(())
 }
 
 #[test]
 fn the_table_is_at_its_place(rt: HostRuntime) -> Result<(), Fail> {
     let alloc = rt.alloc();
-    assert_eq!(rt; of_headers(alloc, &[CODE, with(TABLE, ADDRESS, 0x0020_0004)])?, 8);
+    assert_eq!(rt;
+        of_headers(alloc, &[CODE, with(TABLE, ADDRESS, 0x0020_0004)])?,
+        8
+    );
     assert_eq!(rt; of_headers(alloc, &[CODE, with(TABLE, LENGTH, 8)])?, 8);
     let long = with(with(TABLE, LENGTH, 4_168), SIZE, 4_168);
     assert_eq!(rt; of_headers(alloc, &[CODE, long])?, 13);
@@ -174,8 +202,14 @@ fn the_table_is_at_its_place(rt: HostRuntime) -> Result<(), Fail> {
 #[test]
 fn segments_are_in_order(rt: HostRuntime) -> Result<(), Fail> {
     let alloc = rt.alloc();
-    assert_eq!(rt; of_headers(alloc, &[CODE, with(CODE, ADDRESS, 0x0001_0008), TABLE])?, 0);
-    assert_eq!(rt; of_headers(alloc, &[CODE, with(CODE, ADDRESS, 0x0001_0007), TABLE])?, 9);
+    assert_eq!(rt;
+        of_headers(alloc, &[CODE, with(CODE, ADDRESS, 0x0001_0008), TABLE])?,
+        0
+    );
+    assert_eq!(rt;
+        of_headers(alloc, &[CODE, with(CODE, ADDRESS, 0x0001_0007), TABLE])?,
+        9
+    );
     assert_eq!(rt; of_headers(alloc, &[TABLE, CODE])?, 9);
     assert_eq!(rt; of_headers(alloc, &[CODE, TABLE, TABLE])?, 9);
     assert_eq!(rt; of_headers(alloc, &[MEMORY, CODE, TABLE])?, 9);
@@ -187,8 +221,14 @@ fn code_is_not_writable(rt: HostRuntime) -> Result<(), Fail> {
     let alloc = rt.alloc();
     for flags in 0..8u32 {
         let want = if flags / 2 % 2 == 1 { 10 } else { 0 };
-        assert_eq!(rt; of_headers(alloc, &[with(CODE, 6, flags), MEMORY, TABLE])?, want);
-        assert_eq!(rt; of_headers(alloc, &[CODE, with(MEMORY, 6, flags), TABLE])?, 0);
+        assert_eq!(rt;
+            of_headers(alloc, &[with(CODE, 6, flags), MEMORY, TABLE])?,
+            want
+        );
+        assert_eq!(rt;
+            of_headers(alloc, &[CODE, with(MEMORY, 6, flags), TABLE])?,
+            0
+        );
     }
     Ok(())
 }
@@ -221,7 +261,11 @@ fn forms_and_threads_are_known(rt: HostRuntime) -> Result<(), Fail> {
         words[0] = form;
         words[1] = threads;
         let end = 2 + (threads as usize).min(18);
-        assert_eq!(rt; of_table(alloc, &words[..end], 0)?, want, "{form} {threads}");
+        assert_eq!(rt;
+            of_table(alloc, &words[..end], 0)?,
+            want,
+            "{form} {threads}"
+        );
     }
     assert_eq!(rt; of_table(alloc, &[], 3)?, 13);
     assert_eq!(rt; of_table(alloc, &[1], 3)?, 13);
@@ -264,7 +308,11 @@ fn objects_are_whole(rt: HostRuntime) -> Result<(), Fail> {
         (2, 4_096, 0),
         (2, 4_160, 8),
     ] {
-        assert_eq!(rt; of_table(alloc, &[form, 1, 0x0001_0000], more)?, want, "{form} {more}");
+        assert_eq!(rt;
+            of_table(alloc, &[form, 1, 0x0001_0000], more)?,
+            want,
+            "{form} {more}"
+        );
     }
     Ok(())
 }
@@ -289,6 +337,11 @@ fn refusals_have_words(rt: HostRuntime) -> Result<(), Fail> {
     let alloc = rt.alloc();
     let text = format!(in alloc; "{}", ElfErr::Refused(Refusal::NoCode))?;
     assert_eq!(rt; text.as_str(), "there is no code");
-    assert!(rt; matches!(read_elf(alloc, &[]), Err(ElfErr::Refused(Refusal::Short)) | Err(ElfErr::NoMem)));
+    assert!(rt;
+        matches!(
+            read_elf(alloc, &[]),
+            Err(ElfErr::Refused(Refusal::Short)) | Err(ElfErr::NoMem)
+        )
+    );
     Ok(())
 }
