@@ -15,8 +15,8 @@ use Rattle.ir_elf.specs.Layout.{start_of, size_of}
 use Rattle.ir_elf.specs.Header.{headers_place_at, header_at}
 use Rattle.ir_elf.specs.Segments.{Segment, address_of, end_of, segments_from, segments_at}
 use Rattle.ir_elf.specs.Memory.{is_same, over, with_segment, with_segments, memory_of, size_in, held_in, greatest, table_of, words_in}
-use Rattle.ir_elf.specs.Table.{Told}
-use Rattle.ir_elf.specs.Reading.{code_memory, code_words, data_bytes, told, guest_of, elf_guest_at}
+use Rattle.ir_elf.specs.Table.{TableParts}
+use Rattle.ir_elf.specs.Reading.{code_memory, code_words, data_bytes, table_found, guest_of, elf_guest_at}
 use Rattle.ir_elf.specs.Addresses.{byte_of, byte_at, word_at, IsInParts}
 use Rattle.ir_elf.proofs.Limits.{unless_ok, guest_by}
 use Rattle.ir_elf.proofs.Order.{IsNext, AreOrdered, ordered}
@@ -33,16 +33,16 @@ segments_ordered file ss e =
     (λ found before headers e0 e1 e2 e3. ordered file 0 headers.0 ss e3)
 
 pub record IsGuestOf (ss : List Segment) (g : Guest) : Type 0 where
-  pub t : Told
+  pub t : TableParts
   pub some_code : 0 < code_words ss
-  pub table : told (code_words ss) (table_of ss) ≡ Ok t
+  pub table : table_found (code_words ss) (table_of ss) ≡ Ok t
   pub guest : guest_by ss t ≡ g
 
 pub guest_parts : (ss : List Segment) (g : Guest) → guest_of ss ≡ Ok g → IsGuestOf ss g
 unfolding guest_of
 guest_parts ss g e =
-    let p = unless_ok (ltb 0 (code_words ss)) NoCode (told (code_words ss) (table_of ss) >>= λ t. Ok (guest_by ss t)) g e in
-    two_ok (told (code_words ss) (table_of ss)) (λ t. Ok (guest_by ss t)) g p.1 (λ t e0 e1.
+    let p = unless_ok (ltb 0 (code_words ss)) NoCode (table_found (code_words ss) (table_of ss) >>= λ t. Ok (guest_by ss t)) g e in
+    two_ok (table_found (code_words ss) (table_of ss)) (λ t. Ok (guest_by ss t)) g p.1 (λ t e0 e1.
     record { t = t; some_code = ltb-true _ _ p.0; table = e0; guest = ok_is Refusal (guest_by ss t) g e1 })
 
 pub file_parts : (file : List ℕ) (ss : List Segment) (g : Guest) → segments_at file ≡ Ok ss → elf_guest_at file ≡ Ok g → IsGuestOf ss g

@@ -16,12 +16,20 @@ use Rattle.ir_elf.specs.declared.refusal.Refusal.TheVariants.{Table, Entry, NoCo
 use Rattle.ir_elf.specs.Refusal.{unless}
 use Rattle.ir_elf.specs.Segments.{Segment}
 use Rattle.ir_elf.specs.Memory.{memory_of, table_of, words_in}
-use Rattle.ir_elf.specs.Table.{Told, IsWithin, form_field, form_of, threads_field, entry_field, entry_at, are_objects, table_at}
-use Rattle.ir_elf.specs.Reading.{code_memory, code_words, data_bytes, told, guest_of}
+use Rattle.ir_elf.specs.Table.{TableParts, form_field, form_of, threads_field, entry_field, entry_at, are_objects, table_at}
+use Rattle.ir_elf.specs.Reading.{code_memory, code_words, data_bytes, table_found, guest_of}
 use Rattle.ir_elf.proofs.Fields.{field_passes, fields_are}
 use Rattle.ir_elf.proofs.Words.{word_count}
 
 -- ---- the table
+
+-- what a table says is within the limits of its form, and in code of so many words
+pub record IsWithin (code : ℕ) (t : TableParts) : Type 0 where
+  pub some_thread : 1 ≤ length t.entries
+  pub few_threads : length t.entries ≤ (limits_of t.form).threads
+  pub entries_fit : AllByRecursion (IsPlace code) t.entries
+  pub whole_objects : length t.words % (limits_of t.form).words ≡ 0
+  pub few_objects : length t.words / (limits_of t.form).words ≤ (limits_of t.form).objects
 
 pub place_is : (words n : ℕ) → is_place words n ≡ true → IsPlace words n
 place_is words n h =
@@ -56,20 +64,20 @@ objects_are form own h =
           (few_objects form (length own) (leb-true _ _ both.1));
     }
 
-abbrev pub told_by : ImageForm → List ℕ → List ℕ → Told
-told_by form entries own = record { form = form; entries = entries; words = words_in own }
+abbrev pub found_by : ImageForm → List ℕ → List ℕ → TableParts
+found_by form entries own = record { form = form; entries = entries; words = words_in own }
 
-pub table_within : (code : ℕ) (bytes : List ℕ) (t : Told) → table_at code bytes ≡ Ok t → IsWithin code t
+pub table_within : (code : ℕ) (bytes : List ℕ) (t : TableParts) → table_at code bytes ≡ Ok t → IsWithin code t
 unfolding table_at
 table_within code bytes t e =
     four_ok (field_at Table form_field bytes) (λ form. field_at Table (threads_field (form_of form.0)) form.1)
     (λ form threads. fields_at (entry_at code) threads.0 threads.1)
-    (λ form threads entries. cond (are_objects (form_of form.0) (length entries.1)) (Ok (told_by (form_of form.0) entries.0 entries.1)) (Err Table))
+    (λ form threads entries. cond (are_objects (form_of form.0) (length entries.1)) (Ok (found_by (form_of form.0) entries.0 entries.1)) (Err Table))
     t e (λ form threads entries e0 e1 e2 e3.
     let f = form_of form.0 in
     let n = within_ok 1 (limits_of f).threads threads.0 Table (field_passes Table (threads_field f) form.1 threads e1) in
     let own = fields_are (IsPlace code) (entry_at code) (entry_is code) threads.0 threads.1 entries e2 in
-    let p = pass_ok (are_objects f (length entries.1)) Table (told_by f entries.0 entries.1) t e3 in
+    let p = pass_ok (are_objects f (length entries.1)) Table (found_by f entries.0 entries.1) t e3 in
     let objects = objects_are f entries.1 p.0 in
     subst (IsWithin code) p.1 (record {
       some_thread = let count = own.count in let some = n.0 in omega (arith, count, some);
@@ -97,9 +105,9 @@ pub record HasLimits (g : Guest) : Type 0 where
   pub few_objects : object_count g ≤ (limits_of g.form).objects
   pub entries_fit : AllByRecursion (IsPlace (length g.code)) g.entries
 
-told_within : (code : ℕ) (table : Option (List ℕ)) (t : Told) → told code table ≡ Ok t → IsWithin code t
-told_within code (Some table) t e = table_within code table t e
-told_within code None t e = absurd cc
+found_within : (code : ℕ) (table : Option (List ℕ)) (t : TableParts) → table_found code table ≡ Ok t → IsWithin code t
+found_within code (Some table) t e = table_within code table t e
+found_within code None t e = absurd cc
 
 -- how many words of code there are
 code_count : (n : ℕ) (memory : List ℕ) → length memory ≡ 4 * most_code_words → n ≤ most_code_words → length (words_in (take (4 * n) memory)) ≡ n
@@ -111,7 +119,7 @@ code_count n memory whole few =
 data_count : (n : ℕ) (memory : List ℕ) → n ≤ memory_size → length (take n memory) ≤ memory_size
 data_count n memory few = let least = length-take n memory in omega (arith, few, least)
 
-abbrev pub guest_by : List Segment → Told → Guest
+abbrev pub guest_by : List Segment → TableParts → Guest
 guest_by segments t = record {
   form = t.form;
   entries = t.entries;
@@ -125,9 +133,9 @@ pub guest_limits : (segments : List Segment) (g : Guest) → code_words segments
 unfolding guest_of
 guest_limits segments g short_code short_data whole e =
     let p = unless_ok (ltb 0 (code_words segments)) NoCode
-    (told (code_words segments) (table_of segments) >>= λ t. Ok (guest_by segments t)) g e in
-    two_ok (told (code_words segments) (table_of segments)) (λ t. Ok (guest_by segments t)) g p.1 (λ t e0 e1.
-    let w = told_within (code_words segments) (table_of segments) t e0 in
+    (table_found (code_words segments) (table_of segments) >>= λ t. Ok (guest_by segments t)) g e in
+    two_ok (table_found (code_words segments) (table_of segments)) (λ t. Ok (guest_by segments t)) g p.1 (λ t e0 e1.
+    let w = found_within (code_words segments) (table_of segments) t e0 in
     let count = code_count (code_words segments) (code_memory segments) whole short_code in
     subst HasLimits (ok_is Refusal (guest_by segments t) g e1) (record {
       some_thread = w.some_thread;

@@ -14,10 +14,10 @@ use Rattle.ir_elf.specs.Refusal.{unless}
 use Rattle.ir_elf.specs.Header.{headers_place_at, header_at}
 use Rattle.ir_elf.specs.Segments.{Segment, segments_from, segments_at}
 use Rattle.ir_elf.specs.Memory.{table_of}
-use Rattle.ir_elf.specs.Table.{Told, form_of, threads_field, entry_at, are_objects, table_at}
-use Rattle.ir_elf.specs.Reading.{code_words, told, guest_of, elf_guest_at}
-use Rattle.ir_elf.specs.Tests.{Test, first_failed, test, number_in, field, headers_place, headers_number, headers_in, segments_in, segment_tests, entry_tests, form_in, table_tests, told_tests, guest_tests, elf_tests, IsElfGuest}
-use Rattle.ir_elf.proofs.Limits.{told_by, guest_by}
+use Rattle.ir_elf.specs.Table.{TableParts, form_of, threads_field, entry_at, are_objects, table_at}
+use Rattle.ir_elf.specs.Reading.{code_words, table_found, guest_of, elf_guest_at}
+use Rattle.ir_elf.specs.Tests.{Test, first_failed, test, number_in, field, headers_place, headers_number, headers_in, segments_in, segment_tests, entry_tests, form_in, table_tests, found_tests, guest_tests, elf_tests, IsElfGuest}
+use Rattle.ir_elf.proofs.Limits.{found_by, guest_by}
 use Rattle.ir_elf.proofs.Refused.{Agrees, known, regroup, step_agrees, place_agrees}
 use Rattle.ir_elf.proofs.HeaderTests.{headers_agree}
 use Rattle.ir_elf.proofs.SegmentTests.{segments_agree}
@@ -43,21 +43,21 @@ entries_agree code table (suc n) place k others h =
 
 -- ---- the table
 
-abbrev after_entries : ImageForm → List ℕ × List ℕ → Result Told Refusal
-after_entries form x = unless (are_objects form (length x.1)) refusal.Table (Ok (told_by form x.0 x.1))
+abbrev after_entries : ImageForm → List ℕ × List ℕ → Result TableParts Refusal
+after_entries form x = unless (are_objects form (length x.1)) refusal.Table (Ok (found_by form x.0 x.1))
 
-abbrev after_threads : ImageForm → ℕ → ℕ × List ℕ → Result Told Refusal
+abbrev after_threads : ImageForm → ℕ → ℕ × List ℕ → Result TableParts Refusal
 after_threads form code x = fields_at (entry_at code) x.0 x.1 >>= after_entries form
 
-abbrev after_form : ℕ → ℕ × List ℕ → Result Told Refusal
+abbrev after_form : ℕ → ℕ × List ℕ → Result TableParts Refusal
 after_form code x = field_at refusal.Table (threads_field (form_of x.0)) x.1 >>= after_threads (form_of x.0) code
 
-objects_agree : (b : Bool) (t : Told) (k : Told → Result Guest Refusal) → ((t : Told) → fault_of (k t) ≡ None)
+objects_agree : (b : Bool) (t : TableParts) (k : TableParts → Result Guest Refusal) → ((t : TableParts) → fault_of (k t) ≡ None)
     → Agrees (unless b refusal.Table (Ok t) >>= k) (test b refusal.Table [])
 objects_agree true t k h = h t
 objects_agree false t k h = refl
 
-table_agrees : (code : ℕ) (table : List ℕ) (k : Told → Result Guest Refusal) → ((t : Told) → fault_of (k t) ≡ None)
+table_agrees : (code : ℕ) (table : List ℕ) (k : TableParts → Result Guest Refusal) → ((t : TableParts) → fault_of (k t) ≡ None)
     → Agrees (table_at code table >>= k) (table_tests code table)
 unfolding table_at
 table_agrees code table k h =
@@ -70,12 +70,12 @@ table_agrees code table k h =
     (step_agrees refusal.Table 4 4 (λ n. leb 1 n && leb n (limits_of form).threads) refusal.Table table (after_threads form code) k t2 (omega arith)
     (ap fault_of (regroup (fields_at (entry_at code) n (drop 8 table)) (after_entries form) k)
     ∙ entries_agree code table n 8 (λ x. after_entries form x >>= k) t3
-    (λ xs. objects_agree (are_objects form (length (drop (8 + 4 * n) table))) (told_by form xs (drop (8 + 4 * n) table)) k h)))
+    (λ xs. objects_agree (are_objects form (length (drop (8 + 4 * n) table))) (found_by form xs (drop (8 + 4 * n) table)) k h)))
 
-told_agrees : (code : ℕ) (table : Option (List ℕ)) (k : Told → Result Guest Refusal) → ((t : Told) → fault_of (k t) ≡ None)
-    → Agrees (told code table >>= k) (told_tests code table)
-told_agrees code (Some table) k h = table_agrees code table k h
-told_agrees code None k h = refl
+found_agrees : (code : ℕ) (table : Option (List ℕ)) (k : TableParts → Result Guest Refusal) → ((t : TableParts) → fault_of (k t) ≡ None)
+    → Agrees (table_found code table >>= k) (found_tests code table)
+found_agrees code (Some table) k h = table_agrees code table k h
+found_agrees code None k h = refl
 
 -- ---- the guest
 
@@ -87,8 +87,8 @@ guest_by_tests false read tests h = refl
 guest_agrees : (ss : List Segment) → Agrees (guest_of ss) (guest_tests ss)
 unfolding guest_of
 guest_agrees ss =
-    guest_by_tests (ltb 0 (code_words ss)) (told (code_words ss) (table_of ss) >>= λ t. Ok (guest_by ss t)) (told_tests (code_words ss) (table_of ss))
-    (told_agrees (code_words ss) (table_of ss) (λ t. Ok (guest_by ss t)) (λ t. refl))
+    guest_by_tests (ltb 0 (code_words ss)) (table_found (code_words ss) (table_of ss) >>= λ t. Ok (guest_by ss t)) (found_tests (code_words ss) (table_of ss))
+    (found_agrees (code_words ss) (table_of ss) (λ t. Ok (guest_by ss t)) (λ t. refl))
 
 -- ---- the file
 

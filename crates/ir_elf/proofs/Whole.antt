@@ -23,9 +23,9 @@ use Rattle.ir_elf.specs.Refusal.{unless}
 use Rattle.ir_elf.specs.Header.{headers_place_at, header_at}
 use Rattle.ir_elf.specs.Segments.{Segment, end_of, is_protected, part_of, bytes_from, segment_at, is_refused, is_loaded, loaded_at, end_after, with_first, segments_from, segments_at}
 use Rattle.ir_elf.specs.Memory.{is_same, over, with_segment, with_segments, memory_of, held_in, greatest, table_of, words_in}
-use Rattle.ir_elf.specs.Table.{Told, form_field, form_of, threads_field, entry_field, entry_at, are_objects, table_at, number_of, table_encoding}
-use Rattle.ir_elf.specs.Reading.{code_memory, code_words, data_bytes, told, guest_of, elf_guest_at}
-use Rattle.ir_elf.proofs.Limits.{unless_ok, place_is, told_by, guest_limits, guest_fits}
+use Rattle.ir_elf.specs.Table.{TableParts, form_field, form_of, threads_field, entry_field, entry_at, are_objects, table_at, number_of, table_encoding}
+use Rattle.ir_elf.specs.Reading.{code_memory, code_words, data_bytes, table_found, guest_of, elf_guest_at}
+use Rattle.ir_elf.proofs.Limits.{unless_ok, place_is, found_by, guest_limits, guest_fits}
 use Rattle.ir_elf.proofs.Order.{IsNext, AreOrdered, made}
 use Rattle.ir_elf.proofs.Addresses.{same_is}
 use Rattle.ir_elf.proofs.Contents.{segments_ordered, guest_parts, file_parts, memory_length, sizes_most}
@@ -165,40 +165,40 @@ whole_words : (form : ImageForm) (n : ℕ) → n % (4 * (limits_of form).words) 
 whole_words Small n e = omega (arith, e)
 whole_words Large n e = omega (arith, e)
 
-abbrev told_encoding : Told → List ℕ
-told_encoding t =
+abbrev found_encoding : TableParts → List ℕ
+found_encoding t =
     little_bytes 4 (number_of t.form) ++ (little_bytes 4 (length t.entries) ++ (words_encoding t.entries ++ words_encoding t.words))
 
 four_parts : (a b c d e : List ℕ) (x y z w : List ℕ) → a ≡ x ++ b → b ≡ y ++ c → c ≡ z ++ d → d ≡ w → a ≡ x ++ (y ++ (z ++ w))
 four_parts a b c d e x y z w p q r s =
     p ∙ ap (λ (k : List ℕ). x ++ k) (q ∙ ap (λ (k : List ℕ). y ++ k) (r ∙ ap (λ (k : List ℕ). z ++ k) s))
 
-table_takes : (code : ℕ) (bytes : List ℕ) (t : Told) → IsBytes bytes → table_at code bytes ≡ Ok t → bytes ≡ told_encoding t
+table_takes : (code : ℕ) (bytes : List ℕ) (t : TableParts) → IsBytes bytes → table_at code bytes ≡ Ok t → bytes ≡ found_encoding t
 unfolding table_at
 table_takes code bytes t fits e =
     four_ok (field_at refusal.Table form_field bytes) (λ form. field_at refusal.Table (threads_field (form_of form.0)) form.1)
     (λ form threads. fields_at (entry_at code) threads.0 threads.1)
-    (λ form threads entries. cond (are_objects (form_of form.0) (length entries.1)) (Ok (told_by (form_of form.0) entries.0 entries.1))
+    (λ form threads entries. cond (are_objects (form_of form.0) (length entries.1)) (Ok (found_by (form_of form.0) entries.0 entries.1))
     (Err refusal.Table)) t e (λ form threads entries e0 e1 e2 e3.
     let f = form_of form.0 in
     let t0 = field_takes refusal.Table form_field bytes form fits e0 in
     let n = within_ok 1 2 form.0 refusal.Table t0.passes in
     let t1 = field_takes refusal.Table (threads_field f) form.1 threads t0.takes.rest_fits e1 in
     let t2 = fields_take (IsPlace code) (little_bytes 4) (entry_at code) (entry_takes code) threads.0 threads.1 entries t1.takes.rest_fits e2 in
-    let p = pass_ok (are_objects f (length entries.1)) refusal.Table (told_by f entries.0 entries.1) t e3 in
+    let p = pass_ok (are_objects f (length entries.1)) refusal.Table (found_by f entries.0 entries.1) t e3 in
     let both = and_parts (eqb (length entries.1 % (4 * (limits_of f).words)) 0)
     (leb (length entries.1) (4 * ((limits_of f).words * (limits_of f).objects))) p.0 in
     let whole = words_whole entries.1 t2.takes.rest_fits (whole_words f (length entries.1) (eqb-true _ _ both.0)) in
-    subst (λ (x : Told). bytes ≡ told_encoding x) p.1
+    subst (λ (x : TableParts). bytes ≡ found_encoding x) p.1
     (four_parts bytes form.1 threads.1 entries.1 [] (little_bytes 4 (number_of f)) (little_bytes 4 (length entries.0)) (words_encoding entries.0)
     (words_encoding (words_in entries.1))
     (t0.takes.parts ∙ ap (λ (k : ℕ). little_bytes 4 k ++ form.1) (sym (own_number form.0 n.0 n.1)))
     (t1.takes.parts ∙ ap (λ (k : ℕ). little_bytes 4 k ++ threads.1) (sym t2.count)) t2.takes.parts (sym whole)))
 
-told_takes : (code : ℕ) (table : Option (List ℕ)) (t : Told) → ((own : List ℕ) → table ≡ Some own → IsBytes own) → told code table ≡ Ok t
-    → table ≡ Some (told_encoding t)
-told_takes code (Some own) t fits e = ap (λ (x : List ℕ). Some x) (table_takes code own t (fits own refl) e)
-told_takes code None t fits e = absurd cc
+found_takes : (code : ℕ) (table : Option (List ℕ)) (t : TableParts) → ((own : List ℕ) → table ≡ Some own → IsBytes own) → table_found code table ≡ Ok t
+    → table ≡ Some (found_encoding t)
+found_takes code (Some own) t fits e = ap (λ (x : List ℕ). Some x) (table_takes code own t (fits own refl) e)
+found_takes code None t fits e = absurd cc
 
 pub table_law : (file : List ℕ) (segments : List Segment) (g : Guest) → AllByRecursion IsByte file → segments_at file ≡ Ok segments
     → elf_guest_at file ≡ Ok g → table_of segments ≡ Some (table_encoding g)
@@ -206,7 +206,7 @@ table_law file segments g fits e h =
     let p = file_parts file segments g e h in
     let have = segments_have file segments fits e in
     subst (λ (x : Guest). table_of segments ≡ Some (table_encoding x)) p.guest
-    (told_takes (code_words segments) (table_of segments) p.t (λ own. table_has segments own have) p.table)
+    (found_takes (code_words segments) (table_of segments) p.t (λ own. table_has segments own have) p.table)
 
 -- ---- the guest
 
@@ -225,28 +225,28 @@ helds_most (s ∷ ss) last o =
     let others = helds_most ss (end_of s) o.1 in
     omega (arith, first, others)
 
-table_words : (code : ℕ) (bytes : List ℕ) (t : Told) → IsBytes bytes → table_at code bytes ≡ Ok t → AllByRecursion IsWord t.words
+table_words : (code : ℕ) (bytes : List ℕ) (t : TableParts) → IsBytes bytes → table_at code bytes ≡ Ok t → AllByRecursion IsWord t.words
 unfolding table_at
 table_words code bytes t fits e =
     four_ok (field_at refusal.Table form_field bytes) (λ form. field_at refusal.Table (threads_field (form_of form.0)) form.1)
     (λ form threads. fields_at (entry_at code) threads.0 threads.1)
-    (λ form threads entries. cond (are_objects (form_of form.0) (length entries.1)) (Ok (told_by (form_of form.0) entries.0 entries.1))
+    (λ form threads entries. cond (are_objects (form_of form.0) (length entries.1)) (Ok (found_by (form_of form.0) entries.0 entries.1))
     (Err refusal.Table)) t e (λ form threads entries e0 e1 e2 e3.
     let f = form_of form.0 in
     let t0 = field_takes refusal.Table form_field bytes form fits e0 in
     let t1 = field_takes refusal.Table (threads_field f) form.1 threads t0.takes.rest_fits e1 in
     let t2 = fields_take (IsPlace code) (little_bytes 4) (entry_at code) (entry_takes code) threads.0 threads.1 entries t1.takes.rest_fits e2 in
-    let p = pass_ok (are_objects f (length entries.1)) refusal.Table (told_by f entries.0 entries.1) t e3 in
-    subst (λ (x : Told). AllByRecursion IsWord x.words) p.1 (words_fit entries.1 t2.takes.rest_fits))
+    let p = pass_ok (are_objects f (length entries.1)) refusal.Table (found_by f entries.0 entries.1) t e3 in
+    subst (λ (x : TableParts). AllByRecursion IsWord x.words) p.1 (words_fit entries.1 t2.takes.rest_fits))
 
-told_words : (code : ℕ) (table : Option (List ℕ)) (t : Told) → ((own : List ℕ) → table ≡ Some own → IsBytes own) → told code table ≡ Ok t
+found_words : (code : ℕ) (table : Option (List ℕ)) (t : TableParts) → ((own : List ℕ) → table ≡ Some own → IsBytes own) → table_found code table ≡ Ok t
     → AllByRecursion IsWord t.words
-told_words code (Some own) t fits e = table_words code own t (fits own refl) e
-told_words code None t fits e = absurd cc
+found_words code (Some own) t fits e = table_words code own t (fits own refl) e
+found_words code None t fits e = absurd cc
 
-numbers_fit : (ss : List Segment) (t : Told) → AllByRecursion HasBytes ss → told (code_words ss) (table_of ss) ≡ Ok t
+numbers_fit : (ss : List Segment) (t : TableParts) → AllByRecursion HasBytes ss → table_found (code_words ss) (table_of ss) ≡ Ok t
     → AllByRecursion IsWord t.words
-numbers_fit ss t have e = told_words (code_words ss) (table_of ss) t (λ own. table_has ss own have) e
+numbers_fit ss t have e = found_words (code_words ss) (table_of ss) t (λ own. table_has ss own have) e
 
 few_words : (n : ℕ) → n ≤ size_of Code → (n + 3) / 4 ≤ most_code_words
 few_words n h = omega (arith, h)

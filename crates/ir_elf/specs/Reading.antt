@@ -8,7 +8,7 @@ use Rattle.ir_elf.specs.declared.refusal.Refusal.TheVariants.{NoCode, NoTable}
 use Rattle.ir_elf.specs.Refusal.{unless}
 use Rattle.ir_elf.specs.Segments.{Segment, segments_at}
 use Rattle.ir_elf.specs.Memory.{memory_of, size_in, held_in, greatest, table_of, words_in}
-use Rattle.ir_elf.specs.Table.{Told, table_at}
+use Rattle.ir_elf.specs.Table.{TableParts, table_at}
 
 -- the code's part of memory
 abbrev pub code_memory : List Segment → List ℕ
@@ -23,13 +23,13 @@ abbrev pub data_bytes : List Segment → ℕ
 data_bytes segments = greatest (held_in Memory) segments
 
 -- what the table says, if there is one
-abbrev pub told : ℕ → Option (List ℕ) → Result Told Refusal
-told code (Some table) = table_at code table
-told code None = Err NoTable
+abbrev pub table_found : ℕ → Option (List ℕ) → Result TableParts Refusal
+table_found code (Some table) = table_at code table
+table_found code None = Err NoTable
 
 -- the guest of segments
 unfoldable pub guest_of : List Segment → Result Guest Refusal
-guest_of segments = unless (nat_lt 0 (code_words segments)) NoCode (told (code_words segments) (table_of segments) >>= λ t. Ok (record {
+guest_of segments = unless (nat_lt 0 (code_words segments)) NoCode (table_found (code_words segments) (table_of segments) >>= λ t. Ok (record {
   form = t.form;
   entries = t.entries;
   code = words_in (take (4 * code_words segments) (code_memory segments));

@@ -11,6 +11,7 @@ use Rattle.ir_elf.specs.Layout.{table_start, start_of, size_of}
 use Rattle.ir_elf.specs.Refusal.{unless}
 use Rattle.ir_elf.specs.Header.{headers_place_at, header_at}
 
+-- what is loaded into a part of a guest
 pub record Segment : Type 0 where
   -- what it is loaded into
   pub part : Part

@@ -1,12 +1,11 @@
 -- The table: which threads and objects there are.
-use Rattle.std.specs.Prelude.{◌≡◌, ℕ, ◌*◌, ◌/◌, ◌%◌, ◌≤◌, Bool, nat_le, ◌==◌, ◌&&◌, if◌then◌else◌, List, ◌++◌, length, Result, Ok}
-use Rattle.std.specs.List.{AllByRecursion}
+use Rattle.std.specs.Prelude.{ℕ, ◌*◌, ◌%◌, Bool, nat_le, ◌==◌, ◌&&◌, if◌then◌else◌, List, ◌++◌, length, Result, Ok}
 use Rattle.byteorder.specs.Endian.{little_bytes}
 use Rattle.ir_bytes.specs.Reading.{◌>>=◌, Reader, Field, tested, within, field_at, fields_at}
 use Rattle.ir_image.specs.declared.form.ImageForm.{ImageForm}
 use Rattle.ir_image.specs.declared.form.ImageForm.TheVariants.{Small, Large}
 use Rattle.ir_image.specs.Forms.{limits_of}
-use Rattle.ir_image.specs.Guest.{Guest, IsPlace}
+use Rattle.ir_image.specs.Guest.{Guest}
 use Rattle.ir_image.specs.Encoding.{words_encoding}
 use Rattle.ir_image.specs.Reading.{is_place}
 use Rattle.ir_elf.specs.declared.refusal.Refusal.{Refusal}
@@ -14,7 +13,8 @@ use Rattle.ir_elf.specs.declared.refusal.Refusal.TheVariants.{Table, Entry}
 use Rattle.ir_elf.specs.Refusal.{unless}
 use Rattle.ir_elf.specs.Memory.{words_in}
 
-pub record Told : Type 0 where
+-- what a table says
+pub record TableParts : Type 0 where
   pub form : ImageForm
   -- each thread's first pc
   pub entries : List ℕ
@@ -33,10 +33,11 @@ form_of n = if n == 2 then Large else Small
 abbrev pub threads_field : ImageForm → Field Refusal
 threads_field form = within 4 1 (limits_of form).threads Table
 
--- a word that is missing is a fault of the table, and one that is no place in code of so many words one of the entry
+-- an entry: a place in code of so many words
 abbrev pub entry_field : ℕ → Field Refusal
 entry_field words = tested 4 (is_place words) Entry
 
+-- an entry into code of so many words, and the bytes after it
 abbrev pub entry_at : ℕ → Reader ℕ Refusal
 entry_at words = field_at Table (entry_field words)
 
@@ -46,21 +47,13 @@ are_objects form count =
     count % (4 * (limits_of form).words) == 0 && nat_le count (4 * ((limits_of form).words * (limits_of form).objects))
 
 -- the form, the number of threads, their entries into code of so many words, and the objects' first words
-unfoldable pub table_at : ℕ → List ℕ → Result Told Refusal
+unfoldable pub table_at : ℕ → List ℕ → Result TableParts Refusal
 table_at code bytes = do
   form ← field_at Table form_field bytes
   threads ← field_at Table (threads_field (form_of form.0)) form.1
   entries ← fields_at (entry_at code) threads.0 threads.1
   unless (are_objects (form_of form.0) (length entries.1)) Table (Ok
       (record { form = form_of form.0; entries = entries.0; words = words_in entries.1 }))
-
--- what a table says is within the limits of its form, and in code of so many words
-pub record IsWithin (code : ℕ) (t : Told) : Type 0 where
-  pub some_thread : 1 ≤ length t.entries
-  pub few_threads : length t.entries ≤ (limits_of t.form).threads
-  pub entries_fit : AllByRecursion (IsPlace code) t.entries
-  pub whole_objects : length t.words % (limits_of t.form).words ≡ 0
-  pub few_objects : length t.words / (limits_of t.form).words ≤ (limits_of t.form).objects
 
 -- ---- the same, written
 

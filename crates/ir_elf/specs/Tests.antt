@@ -43,9 +43,11 @@ field missing bytes place size passes r others = test (is_whole bytes place size
 
 -- ---- the header of the file
 
+-- where the program headers begin
 abbrev pub headers_place : List ℕ → ℕ
 headers_place file = number_in file 28 4
 
+-- how many program headers there are
 abbrev pub headers_number : List ℕ → ℕ
 headers_number file = number_in file 44 2
 
@@ -138,17 +140,18 @@ table_tests code table =
     (entry_tests table code 8 (number_in table 4 4)
     (test (are_objects (form_in table) (length (drop (8 + 4 * number_in table 4 4) table))) refusal.Table [])))
 
--- a table that is there
-abbrev pub told_tests : ℕ → Option (List ℕ) → List Test
-told_tests code (Some table) = test true refusal.NoTable (table_tests code table)
-told_tests code None = test false refusal.NoTable []
+-- the tests of the table, if there is one
+abbrev pub found_tests : ℕ → Option (List ℕ) → List Test
+found_tests code (Some table) = test true refusal.NoTable (table_tests code table)
+found_tests code None = test false refusal.NoTable []
 
 -- the code is there, and the table
 abbrev pub guest_tests : List Segment → List Test
-guest_tests segments = test (nat_lt 0 (code_words segments)) refusal.NoCode (told_tests (code_words segments) (table_of segments))
+guest_tests segments = test (nat_lt 0 (code_words segments)) refusal.NoCode (found_tests (code_words segments) (table_of segments))
 
 -- ---- all tests
 
+-- the tests of a file: its header, each program header in turn, and the table
 abbrev pub elf_tests : List ℕ → List Test
 elf_tests file =
     header_tests file (segment_tests file 0 (headers_in file (headers_place file) (headers_number file))

@@ -1,6 +1,6 @@
 //! What the segments of a part put there.
 
-ghost use Rattle.std.specs.Prelude.{◌≡◌, ◌≤◌, ◌+◌, ◌%◌, length, map, replicate, option_map, IfOk, IfSome};
+ghost use Rattle.std.specs.Prelude.{◌≡◌, ◌≤◌, ◌+◌, ◌%◌, length, map, option_map, IfOk, IfSome};
 ghost use Rattle.ir_elf.specs.declared.part.Part.TheVariants.{Code, Table};
 ghost use Rattle.ir_elf.specs.Layout.{size_of};
 ghost use Rattle.ir_elf.specs.Segments.{seen};

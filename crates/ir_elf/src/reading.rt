@@ -13,7 +13,7 @@ use crate::part::Part;
 use crate::refusal::Refusal;
 use crate::segment::Segment;
 use crate::segments::segments;
-use crate::table::{Told, table};
+use crate::table::{TableParts, table};
 use ir_image::{Code, Image, ImageForm};
 use std::alloc::Global;
 
@@ -52,7 +52,7 @@ fn parts_of(alloc: Global, segments: &[Segment<'_>]) -> Result<Parts, ElfErr>
     let Some(own) = table_of(segments) else {
         return Err(ElfErr::Refused(Refusal::NoTable));
     };
-    let Told {
+    let TableParts {
         form,
         entries,
         words,

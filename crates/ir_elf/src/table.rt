@@ -1,25 +1,23 @@
 //! Reading the table.
 
-ghost use Rattle.std.specs.Prelude.{◌≡◌, ◌≤◌, ◌+◌, ◌*◌, length, IfOk};
-ghost use Rattle.std.specs.List.{AllByRecursion};
+ghost use Rattle.std.specs.Prelude.{◌≡◌, ◌≤◌, length, IfOk};
 ghost use Rattle.ir_bytes.specs.Reading.{Reads, field_at, fields_at};
 ghost use Rattle.ir_image.specs.Forms.{limits_of};
-ghost use Rattle.ir_image.specs.Guest.{IsPlace, most_code_words};
+ghost use Rattle.ir_image.specs.Guest.{most_code_words};
 ghost use Rattle.ir_elf.specs.declared.refusal.Refusal.TheVariants.{Table};
-ghost use Rattle.ir_elf.specs.Layout.{table_size};
 ghost use Rattle.ir_elf.specs.Refusal.{Gives};
 ghost use Rattle.ir_elf.specs.Table.{form_field, form_of, threads_field, entry_at, are_objects, table_at};
 
 use crate::elf_err::ElfErr;
 use crate::memory::words_of;
 use crate::refusal::Refusal;
-use ir_bytes::{word, word_within};
+use ir_bytes::word;
 use ir_image::{CODE_START, ImageForm};
 use std::alloc::Global;
 
 /// What the table says: the form, each thread's entry, and the objects' first words.
 #[derive(Drop)]
-pub struct Told {
+pub struct TableParts {
     pub form: ImageForm,
     pub entries: Vec<u32>,
     pub words: Vec<u32>,
@@ -105,7 +103,7 @@ fn are_objects(form: ImageForm, count: usize) -> bool
 
 /// What the table of a guest with so many words of code says.
 #[tactic(auto, unfolding(crate::specs::Table::table_at))]
-pub fn table(alloc: Global, code: u32, bytes: &[u8]) -> Result<Told, ElfErr>
+pub fn table(alloc: Global, code: u32, bytes: &[u8]) -> Result<TableParts, ElfErr>
     requires { code ≤ most_code_words }
     ensures { Gives (λ t. record { form = t.form; entries = t.entries.items; words = t.words.items }) result (table_at code bytes.now) }
 {
@@ -117,7 +115,7 @@ pub fn table(alloc: Global, code: u32, bytes: &[u8]) -> Result<Told, ElfErr>
         return Err(ElfErr::Refused(Refusal::Table));
     }
     let words = words_of(alloc, rest)?;
-    Ok(Told {
+    Ok(TableParts {
         form,
         entries,
         words,

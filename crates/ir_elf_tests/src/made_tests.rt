@@ -1,15 +1,17 @@
 //! Files that gcc made.
 
 use crate::files::{BANK_ELF, BANK_IMAGE, OVER_ELF, WIDE_ELF, WIDE_IMAGE};
-use crate::programs::{put, refusal};
+use crate::programs::refusal;
 use ir_elf::read_elf;
 use ir_image::{ImageForm, read_image, write_image};
 use std::alloc::Global;
 use std::test::Fail;
 
-// A byte of a file, or 0.
-fn byte_at(file: &[u8], place: usize) -> u8 {
-    file.get(place).copied().unwrap_or(0)
+// The file with other bits at a place.
+fn flip(file: &mut [u8], place: usize, bits: u8) {
+    if let Some(byte) = file.get_mut(place) {
+        *byte ^= bits;
+    }
 }
 
 // The file is read as the image that its segments stand for, which is read again.
@@ -63,18 +65,10 @@ fn each_prefix_is_short(rt: HostRuntime) -> Result<(), Fail> {
 fn each_changed_byte_has_an_answer(rt: HostRuntime) -> Result<(), Fail> {
     let mut file = hex::decode(rt.alloc(), BANK_ELF)?;
     for place in (0..180).chain(644..692) {
-        for flip in [1u8, 0xfe] {
-            put(
-                file.as_mut_slice(),
-                place,
-                &[byte_at(file.as_slice(), place) ^ flip],
-            );
+        for bits in [1u8, 0xfe] {
+            flip(file.as_mut_slice(), place, bits);
             assert!(rt; refusal(rt.alloc(), file.as_slice()) <= 14, "at {place}");
-            put(
-                file.as_mut_slice(),
-                place,
-                &[byte_at(file.as_slice(), place) ^ flip],
-            );
+            flip(file.as_mut_slice(), place, bits);
         }
     }
     Ok(())
