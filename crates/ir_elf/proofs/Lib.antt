@@ -1,0 +1,12 @@
+mod Loop
+mod Words
+mod Fields
+mod Limits
+mod Order
+mod Addresses
+mod Contents
+mod Whole
+mod Refused
+mod HeaderTests
+mod SegmentTests
+mod TableTests

@@ -1,0 +1,5 @@
+use Rattle.ir_elf.proofs.Whole.{table_law}
+use Rattle.ir_elf.proofs.laws.table_is_segment.Goals as goal
+
+pub returns : goal.returns
+returns c = table_law

@@ -1,0 +1,40 @@
+-- What is at each address of a guest.
+use Rattle.std.specs.Prelude.{ℕ, ◌+◌, ◌-◌, ◌*◌, ◌≤◌, ◌<◌, ◌⊎◌, nat_le, nat_lt, ◌&&◌, if◌then◌else◌, List, [], ◌∷◌, get_or, Option, Some, None}
+use Rattle.byteorder.specs.Endian.{little_number}
+use Rattle.ir_image.specs.Guest.{code_start, memory_start, memory_size}
+use Rattle.ir_elf.specs.Layout.{table_start, table_size}
+use Rattle.ir_elf.specs.Segments.{Segment, address_of, end_of}
+
+-- the byte of a segment at an address, if the segment has this address: the file's, or 0 where only memory has it
+abbrev pub byte_in : Segment → ℕ → Option ℕ
+byte_in s a = if nat_le (address_of s) a && nat_lt a (end_of s) then Some (get_or s.bytes (a - address_of s) 0) else None
+
+-- a number, or else another
+abbrev pub or_other : Option ℕ → Option ℕ → Option ℕ
+or_other (Some b) other = Some b
+or_other None other = other
+
+-- the byte of the segment that has an address, if any has it
+abbrev pub byte_of : List Segment → ℕ → Option ℕ
+byte_of [] a = None
+byte_of (s ∷ ss) a = or_other (byte_in s a) (byte_of ss a)
+
+-- this byte, or 0
+abbrev pub or_zero : Option ℕ → ℕ
+or_zero (Some b) = b
+or_zero None = 0
+
+-- the byte at an address: 0 where no segment has it
+abbrev pub byte_at : List Segment → ℕ → ℕ
+byte_at segments a = or_zero (byte_of segments a)
+
+-- the word of the four bytes from an address on
+abbrev pub word_at : List Segment → ℕ → ℕ
+word_at segments a =
+    little_number 4 (byte_at segments a ∷ byte_at segments (a + 1) ∷ byte_at segments (a + 2) ∷ byte_at segments (a + 3) ∷ [])
+
+-- an address in code of so many words, in private memory, or in the table
+abbrev pub IsInParts : ℕ → ℕ → Type 0
+IsInParts words a =
+    ((code_start ≤ a) × (a < code_start + 4 * words)) ⊎
+    (((memory_start ≤ a) × (a < memory_start + memory_size)) ⊎ ((table_start ≤ a) × (a < table_start + table_size)))

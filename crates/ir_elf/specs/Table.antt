@@ -1,0 +1,68 @@
+-- The table: which threads and objects there are.
+use Rattle.std.specs.Prelude.{ℕ, ◌*◌, ◌%◌, Bool, nat_le, ◌==◌, ◌&&◌, if◌then◌else◌, List, ◌++◌, length, Result, Ok}
+use Rattle.byteorder.specs.Endian.{little_bytes}
+use Rattle.ir_bytes.specs.Reading.{◌>>=◌, Reader, Field, tested, within, field_at, fields_at}
+use Rattle.ir_image.specs.declared.form.ImageForm.{ImageForm}
+use Rattle.ir_image.specs.declared.form.ImageForm.TheVariants.{Small, Large}
+use Rattle.ir_image.specs.Forms.{limits_of}
+use Rattle.ir_image.specs.Guest.{Guest}
+use Rattle.ir_image.specs.Encoding.{words_encoding}
+use Rattle.ir_image.specs.Reading.{is_place}
+use Rattle.ir_elf.specs.declared.refusal.Refusal.{Refusal}
+use Rattle.ir_elf.specs.declared.refusal.Refusal.TheVariants.{Table, Entry}
+use Rattle.ir_elf.specs.Refusal.{unless}
+use Rattle.ir_elf.specs.Memory.{words_in}
+
+-- what a table says
+pub record TableParts : Type 0 where
+  pub form : ImageForm
+  -- each thread's first pc
+  pub entries : List ℕ
+  -- the first words of the objects
+  pub words : List ℕ
+
+-- the form: 1 is small, 2 is large
+abbrev pub form_field : Field Refusal
+form_field = within 4 1 2 Table
+
+-- the form of this number
+abbrev pub form_of : ℕ → ImageForm
+form_of n = if n == 2 then Large else Small
+
+-- the number of threads
+abbrev pub threads_field : ImageForm → Field Refusal
+threads_field form = within 4 1 (limits_of form).threads Table
+
+-- an entry: a place in code of so many words
+abbrev pub entry_field : ℕ → Field Refusal
+entry_field words = tested 4 (is_place words) Entry
+
+-- an entry into code of so many words, and the bytes after it
+abbrev pub entry_at : ℕ → Reader ℕ Refusal
+entry_at words = field_at Table (entry_field words)
+
+-- so many bytes are those of whole objects, and not of too many
+abbrev pub are_objects : ImageForm → ℕ → Bool
+are_objects form count =
+    count % (4 * (limits_of form).words) == 0 && nat_le count (4 * ((limits_of form).words * (limits_of form).objects))
+
+-- the form, the number of threads, their entries into code of so many words, and the objects' first words
+unfoldable pub table_at : ℕ → List ℕ → Result TableParts Refusal
+table_at code bytes = do
+  form ← field_at Table form_field bytes
+  threads ← field_at Table (threads_field (form_of form.0)) form.1
+  entries ← fields_at (entry_at code) threads.0 threads.1
+  unless (are_objects (form_of form.0) (length entries.1)) Table (Ok
+      (record { form = form_of form.0; entries = entries.0; words = words_in entries.1 }))
+
+-- ---- the same, written
+
+-- the number of a form
+abbrev pub number_of : ImageForm → ℕ
+number_of Small = 1
+number_of Large = 2
+
+-- the form of a guest, how many threads it has, their entries, and the objects' first words
+abbrev pub table_encoding : Guest → List ℕ
+table_encoding g =
+    little_bytes 4 (number_of g.form) ++ (little_bytes 4 (length g.entries) ++ (words_encoding g.entries ++ words_encoding g.words))

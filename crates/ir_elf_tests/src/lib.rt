@@ -1,0 +1,11 @@
+//! Tests of guests from ELF files. They stand apart, since a crate with tests is proved twice.
+#![tactic(auto)]
+
+#[cfg(test)]
+mod files;
+#[cfg(test)]
+mod made_tests;
+#[cfg(test)]
+mod programs;
+#[cfg(test)]
+mod refusal_tests;
