@@ -60,3 +60,4 @@ bench: ir
 	python3 scripts/prove.py ir_bench
 	cd crates/ir_bench && rt run < stdin > out.txt && rm out.txt
 	python3 bench/speed.py ./ir crates/ir_bench/out/ir_bench
+	python3 bench/hunting.py ./ir
