@@ -21,7 +21,11 @@ TEXT = r'"((?:[^"\\]|\\.)*)"'
 CONSTANT = re.compile(r"const (\w+): &str =\s*" + TEXT)
 ROW = re.compile(rf"name: {TEXT},\s+about: {TEXT},\s+after: (\w+)::(\w+)")
 ARGUMENT = re.compile(r"file_arg\(alloc, (\w+), " + TEXT)
-OPTION = re.compile(r"Arg::new\(alloc, \w+\)\s+\.long\((\w+)\)(.*?)\.help\(" + TEXT, re.DOTALL)
+OPTION = re.compile(r"fn (\w+)_arg<'a>[^{]*\{\s+Arg::new\(alloc, \w+\)\s+\.long\((\w+)\)(.*?)\.help\(" + TEXT, re.DOTALL)
+# Where a subcommand's arguments are put together, and what is put together there: an option, or the options that are shared.
+PUT_TOGETHER = re.compile(r"pub fn with_arguments<'a>.*?\n\}", re.DOTALL)
+SHARED = re.compile(r"pub fn with_options<'a>.*?\n\}", re.DOTALL)
+PUT = re.compile(r"(\w+)_arg\(alloc|(with_options)\(alloc")
 VALUE = re.compile(r"\.value_name\(" + TEXT)
 DEFAULT = re.compile(r"\.default_value\(" + TEXT)
 # A cell of a row with several numbers and what each means.
@@ -60,23 +64,36 @@ def constants_of(source):
     return {name: meant(text) for name, text in CONSTANT.findall(source)}
 
 
-def options_of(source, constants):
-    """The options of a source, each with its form and its help."""
-    for name, body, text in OPTION.findall(source):
+def options_of(source):
+    """The options of a source by their functions' names, each with its form and its help."""
+    constants, found = constants_of(source), {}
+    for function, name, body, text in OPTION.findall(source):
         value, default = VALUE.search(body), DEFAULT.search(body)
         form = f"--{constants[name]}" + (f" {value[1]}" if value else "")
-        yield form, text + (f" [default: {default[1]}]" if default else "")
+        found[function] = (form, text + (f" [default: {default[1]}]" if default else ""))
+    return found
+
+
+def named_in(source, pattern):
+    """The functions of options that are called where a source puts arguments together, in order."""
+    found = pattern.search(source)
+    return [option or shared for option, shared in PUT.findall(found[0])] if found else []
 
 
 def subcommands():
     """The subcommands, in the order of the help."""
-    shared = constants_of(source_of("values"))
+    files = constants_of(source_of("values"))
+    recording = source_of("recording")
+    shared = options_of(recording) | options_of(source_of("seeds"))
     found = []
     for name, about, module, after in ROW.findall(source_of("subcommands")):
         source = source_of(module)
-        constants = shared | constants_of(source)
+        options, forms = shared | options_of(source), []
+        for function in named_in(source, PUT_TOGETHER):
+            forms += named_in(recording, SHARED) if function == "with_options" else [function]
+        constants = files | constants_of(source)
         arguments = [(constants[argument], text) for argument, text in ARGUMENT.findall(source)]
-        found.append(Subcommand(name, about, arguments, list(options_of(source, constants)), constants[after]))
+        found.append(Subcommand(name, about, arguments, [options[form] for form in forms if form in options], constants[after]))
     return found
 
 
