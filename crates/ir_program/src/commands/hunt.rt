@@ -119,8 +119,9 @@ where
         is_shown: explains,
     };
     let places = outputs.as_ref().map(|each| each.as_slice());
-    let mut trace = WholeFile::new(alloc, folder, paths.trace);
-    let mut outputs = OutputFiles::new(folder, places, paths.trace);
+    let place = arguments.trace.as_str();
+    let mut trace = WholeFile::new(alloc, folder, place);
+    let mut outputs = OutputFiles::new(folder, places, place);
     match hunt_run(rt, &image, &plan, &mut trace, &mut outputs, out, faults) {
         Ok(Some(recorded)) => {
             if explains {

@@ -9,7 +9,7 @@ use ir_arguments::{Chaos, RecordArguments};
 use ir_files::{ExitStatus, Folder, MOST_BYTES, OutputFiles, WholeFile};
 use ir_hunt::order_of_seed;
 use ir_object::Gate;
-use ir_record_run::{ParsedImage, record_run};
+use ir_record_run::{ParsedImage, RecordPlan, record_run};
 use ir_stream::Sink;
 use ir_trace::Trace;
 use std::alloc::Global;
@@ -73,6 +73,36 @@ fn list_of<D: Folder, E: Sink>(
     }
 }
 
+// The list of a seed.
+fn list_of_seed<C: Clock, E: Sink>(
+    alloc: Global,
+    clock: &C,
+    faults: &mut E,
+    image: &ParsedImage<'_>,
+    plan: RecordPlan<'_>,
+    chaos: Chaos,
+) -> Result<Option<String>, ExitStatus>
+    ensures kept { OnOk result (faults.new ≡ faults.old) }
+{
+    let Chaos { seed, way } = chaos;
+    match order_of_seed(alloc, clock, image, plan, way, seed) {
+        Ok(Some(list)) => Ok(Some(list)),
+        Ok(None) => {
+            say(
+                faults,
+                "the run of this seed has too many turns to be followed",
+                "",
+                "",
+            );
+            Err(ExitStatus::Failed)
+        }
+        Err(why) => {
+            say(faults, why.words(), "", "");
+            Err(why.status())
+        }
+    }
+}
+
 // The files of a recording.
 fn paths(arguments: &RecordArguments) -> RecordingPaths<'_> {
     RecordingPaths {
@@ -94,8 +124,9 @@ struct Beside {
 
 impl Beside {
     // Reads it; where it can't be, it is told why.
-    fn of<D: Folder, E: Sink>(
+    fn of<C: Clock, D: Folder, E: Sink>(
         alloc: Global,
+        clock: &C,
         folder: &D,
         faults: &mut E,
         arguments: &RecordArguments,
@@ -108,45 +139,18 @@ impl Beside {
         let Some(input) = input_of(alloc, folder, faults, &paths) else {
             return Err(ExitStatus::Failed);
         };
-        let list = list_of(alloc, folder, faults, arguments)?;
+        let list = match arguments.chaos {
+            Some(chaos) => {
+                let plan = arguments.plan(None, input.as_slice());
+                list_of_seed(alloc, clock, faults, image, plan, chaos)?
+            }
+            None => list_of(alloc, folder, faults, arguments)?,
+        };
         Ok(Beside {
             outputs,
             input,
             list,
         })
-    }
-}
-
-// The list of the seed that was asked for, if one was.
-fn list_of_seed<C: Clock, E: Sink>(
-    alloc: Global,
-    clock: &C,
-    faults: &mut E,
-    arguments: &RecordArguments,
-    image: &ParsedImage<'_>,
-    input: &[u8],
-) -> Result<Option<String>, ExitStatus>
-    ensures kept { OnOk result (faults.new ≡ faults.old) }
-{
-    let Some(Chaos { seed, way }) = arguments.chaos else {
-        return Ok(None);
-    };
-    let plan = arguments.plan(None, input);
-    match order_of_seed(alloc, clock, image, plan, way, seed) {
-        Ok(Some(list)) => Ok(Some(list)),
-        Ok(None) => {
-            say(
-                faults,
-                "the run of this seed has too many turns to be followed",
-                "",
-                "",
-            );
-            Err(ExitStatus::Failed)
-        }
-        Err(why) => {
-            say(faults, why.words(), "", "");
-            Err(why.status())
-        }
     }
 }
 
@@ -196,17 +200,12 @@ where
         return ExitStatus::Failed;
     };
     let image = ParsedImage::new(alloc, image.as_slice());
-    let beside = match Beside::of(alloc, folder, faults, arguments, &image) {
+    let beside = match Beside::of(alloc, rt, folder, faults, arguments, &image) {
         Ok(beside) => beside,
         Err(status) => return status,
     };
     let input = beside.input.as_slice();
-    let by_seed = match list_of_seed(alloc, rt, faults, arguments, &image, input) {
-        Ok(list) => list,
-        Err(status) => return status,
-    };
-    let list = by_seed.as_ref().or(beside.list.as_ref());
-    let order = list.map(|list| list.as_str());
+    let order = beside.list.as_ref().map(|list| list.as_str());
     let paths = beside.outputs.as_ref().map(|paths| paths.as_slice());
     let plan = arguments.plan(order, input);
     let mut trace = WholeFile::new(alloc, folder, place);
