@@ -74,10 +74,10 @@ fn conditions_of<'a, E: Sink>(
 }
 
 // Hunts for a run of a guest, and records it into a file, and what its threads print into others where they are asked for.
-pub fn hunt_file<R, D, O, E>(
+pub fn hunt_file<'a, R, D, O, E>(
     rt: &R,
-    folder: &D,
-    arguments: &HuntArguments,
+    folder: &'a D,
+    arguments: &'a HuntArguments,
     explains: bool,
     out: &mut O,
     faults: &mut E,
@@ -91,6 +91,7 @@ where
     requires reports { E.broken faults.old ≡ false }
 {
     let alloc = rt.alloc();
+    let place = arguments.trace.as_str();
     let paths = paths(arguments);
     if loses_input(folder, faults, &paths) {
         return ExitStatus::BadArguments;
@@ -119,7 +120,6 @@ where
         is_shown: explains,
     };
     let places = outputs.as_ref().map(|each| each.as_slice());
-    let place = arguments.trace.as_str();
     let mut trace = WholeFile::new(alloc, folder, place);
     let mut outputs = OutputFiles::new(folder, places, place);
     match hunt_run(rt, &image, &plan, &mut trace, &mut outputs, out, faults) {
