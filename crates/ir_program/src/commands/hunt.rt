@@ -11,6 +11,7 @@ use ir_files::{ExitStatus, Folder, MOST_BYTES, OutputFiles, WholeFile};
 use ir_hunt::{HuntPlan, hunt_run};
 use ir_record_run::ParsedImage;
 use ir_stream::Sink;
+use ir_trace::Trace;
 use std::alloc::{AllocError, Global};
 use std::sync::Wait;
 use std::thread::Threads;
@@ -73,11 +74,35 @@ fn conditions_of<'a, E: Sink>(
     }
 }
 
-// Hunts for a run of a guest, and records it into a file, and what its threads print into others where they are asked for.
-pub fn hunt_file<'a, R, D, O, E>(
+// Hunts for a run of a guest, whose trace and outputs go into files at these paths.
+fn hunted_into<'a, R, D, O, E>(
     rt: &R,
     folder: &'a D,
-    arguments: &'a HuntArguments,
+    place: &'a str,
+    places: Option<&'a [String]>,
+    image: &ParsedImage<'_>,
+    plan: &HuntPlan<'_>,
+    out: &mut O,
+    faults: &mut E,
+) -> Result<Option<Trace>, ExitStatus>
+where
+    R: Threads + Wait + Sync + Clock + Eprint + AllocGlobal,
+    D: Folder,
+    O: Sink,
+    E: Sink,
+    requires writes { O.broken out.old ≡ false }
+    requires reports { E.broken faults.old ≡ false }
+{
+    let mut trace = WholeFile::new(rt.alloc(), folder, place);
+    let mut outputs = OutputFiles::new(folder, places, place);
+    hunt_run(rt, image, plan, &mut trace, &mut outputs, out, faults)
+}
+
+// Hunts for a run of a guest, and records it into a file, and what its threads print into others where they are asked for.
+pub fn hunt_file<R, D, O, E>(
+    rt: &R,
+    folder: &D,
+    arguments: &HuntArguments,
     explains: bool,
     out: &mut O,
     faults: &mut E,
@@ -92,11 +117,10 @@ where
 {
     let alloc = rt.alloc();
     let place = arguments.trace.as_str();
-    let paths = paths(arguments);
-    if loses_input(folder, faults, &paths) {
+    if loses_input(folder, faults, &paths(arguments)) {
         return ExitStatus::BadArguments;
     }
-    let Some(image) = bytes_of(alloc, folder, faults, paths.image, MOST_BYTES) else {
+    let Some(image) = bytes_of(alloc, folder, faults, arguments.image.as_str(), MOST_BYTES) else {
         return ExitStatus::Failed;
     };
     let image = ParsedImage::new(alloc, image.as_slice());
@@ -105,11 +129,11 @@ where
         Ok(conditions) => conditions,
         Err(status) => return status,
     };
-    let outputs = match output_places(alloc, folder, faults, &paths, &image) {
+    let outputs = match output_places(alloc, folder, faults, &paths(arguments), &image) {
         Ok(outputs) => outputs,
         Err(status) => return status,
     };
-    let Some(input) = input_of(alloc, folder, faults, &paths) else {
+    let Some(input) = input_of(alloc, folder, faults, &paths(arguments)) else {
         return ExitStatus::Failed;
     };
     let plan = HuntPlan {
@@ -120,9 +144,7 @@ where
         is_shown: explains,
     };
     let places = outputs.as_ref().map(|each| each.as_slice());
-    let mut trace = WholeFile::new(alloc, folder, place);
-    let mut outputs = OutputFiles::new(folder, places, place);
-    match hunt_run(rt, &image, &plan, &mut trace, &mut outputs, out, faults) {
+    match hunted_into(rt, folder, place, places, &image, &plan, out, faults) {
         Ok(Some(recorded)) => {
             if explains {
                 tell_ends(alloc, &recorded, faults);
