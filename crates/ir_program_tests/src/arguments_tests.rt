@@ -92,7 +92,7 @@ fn the_first_profile_is_taken_where_none_is_given(rt: HostRuntime) -> Result<(),
         ("ir record a.img a.trc --profile 2", Profile::Two),
     ] {
         match asked(&rt, line)? {
-            Asked::Record(arguments) => assert_eq!(rt; arguments.profile, wanted),
+            Asked::Record(arguments) => assert_eq!(rt; arguments.options.profile, wanted),
             _ => assert!(rt; false),
         }
     }
