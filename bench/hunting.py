@@ -34,6 +34,16 @@ def needle(entries):
             f"again:\n{writes}        addi s0, s0, 1\n        bne s0, s2, again\n{call(1, 'zero, 0')}reader:\n{reads}{call(1, 's1, 0')}")
 
 
+def check_then_act(limit, rounds):
+    """Two threads that look, in an entry, whether a word is below the limit, and add one to it in another if it is; this, a few times."""
+    look = call(7, "zero, 0") + call(10, "zero, 0", "zero, 0") + "        addi s1, a0, 0\n" + call(9, "zero, 0")
+    act = (call(8, "zero, 0") + call(10, "zero, 0", "zero, 0") + "        addi s1, a0, 1\n" + call(11, "zero, 0", "zero, 0", "s1, 0")
+           + call(9, "zero, 0"))
+    return (f"        .objects 1\n        .thread main\n        .thread main\nmain:   addi s0, zero, {rounds}\n        addi s2, zero, {limit}\n"
+            f"again:\n{look}        bge s1, s2, next\n{act}next:   addi s0, s0, -1\n        bne s0, zero, again\n"
+            + call(7, "zero, 0") + call(9, "zero, 0") + call(1, "zero, 0"))
+
+
 def counting(rounds):
     """Two threads that count alone, and then enter an object once each."""
     return (f"        .objects 1\n        .thread main\n        .thread main\nmain:   li t0, {rounds}\nagain:  addi t0, t0, -1\n        bne t0, zero, again\n"
@@ -90,6 +100,8 @@ def main():
             print(f"{image}: {single:,.0f} seeds a second on one processor, {all_of_them:,.0f} on {len(everywhere)}: {all_of_them / single:.1f} times",
                   flush=True)
         rows = [(lost, "!word 0 0 2", arguments.seeds), (account, "word 0 0 0xffffff9c", arguments.seeds)]
+        acting = assembled(arguments.program, folder, "acting", check_then_act(4, 3))
+        rows.append((acting, "word 0 0 5", arguments.seeds))
         rows += [(assembled(arguments.program, folder, f"needle{n}", needle(n)), f"code 1 {n // 2}", 10 * arguments.seeds) for n in (100, 400)]
         for image, condition, seeds in rows:
             found = ", ".join(f"{way} {chance(arguments.program, folder, image, condition, way, seeds):.2f} %" for way in WAYS)
