@@ -21,7 +21,7 @@ TEXT = r'"((?:[^"\\]|\\.)*)"'
 CONSTANT = re.compile(r"const (\w+): &str =\s*" + TEXT)
 ROW = re.compile(rf"name: {TEXT},\s+about: {TEXT},\s+after: (\w+)::(\w+)")
 ARGUMENT = re.compile(r"file_arg\(alloc, (\w+), " + TEXT)
-OPTION = re.compile(r"fn (\w+)_arg<'a>[^{]*\{\s+Arg::new\(alloc, \w+\)\s+\.long\((\w+)\)(.*?)\.help\(" + TEXT, re.DOTALL)
+OPTION = re.compile(r"fn (\w+)_arg<'a>[^{]*\{\s+Arg::new\(alloc, \w+\)\s*\.long\((\w+)\)(.*?)\.help\(\s*" + TEXT, re.DOTALL)
 # Where a subcommand's arguments are put together, and what is put together there: an option, or the options that are shared.
 PUT_TOGETHER = re.compile(r"pub fn with_arguments<'a>.*?\n\}", re.DOTALL)
 SHARED = re.compile(r"pub fn with_options<'a>.*?\n\}", re.DOTALL)
@@ -64,9 +64,9 @@ def constants_of(source):
     return {name: meant(text) for name, text in CONSTANT.findall(source)}
 
 
-def options_of(source):
+def options_of(source, files):
     """The options of a source by their functions' names, each with its form and its help."""
-    constants, found = constants_of(source), {}
+    constants, found = files | constants_of(source), {}
     for function, name, body, text in OPTION.findall(source):
         value, default = VALUE.search(body), DEFAULT.search(body)
         form = f"--{constants[name]}" + (f" {value[1]}" if value else "")
@@ -84,11 +84,13 @@ def subcommands():
     """The subcommands, in the order of the help."""
     files = constants_of(source_of("values"))
     recording = source_of("recording")
-    shared = options_of(recording) | options_of(source_of("seeds"))
+    shared = {}
+    for module in ("recording", "seeds", "values"):
+        shared |= options_of(source_of(module), files)
     found = []
     for name, about, module, after in ROW.findall(source_of("subcommands")):
         source = source_of(module)
-        options, forms = shared | options_of(source), []
+        options, forms = shared | options_of(source, files), []
         for function in named_in(source, PUT_TOGETHER):
             forms += named_in(recording, SHARED) if function == "with_options" else [function]
         constants = files | constants_of(source)

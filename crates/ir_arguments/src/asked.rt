@@ -2,25 +2,48 @@
 
 use crate::assemble::AssembleArguments;
 use crate::debug::DebugArguments;
+use crate::elf::ElfArguments;
+use crate::events::EventsArguments;
 use crate::hunt::HuntArguments;
+use crate::list::ListArguments;
 use crate::record::RecordArguments;
 use crate::trace::TraceArguments;
+
+/// An image that is made of another file.
+#[derive(Drop)]
+pub enum Make {
+    /// Of a source.
+    Source(AssembleArguments),
+    /// Of an ELF file.
+    Elf(ElfArguments),
+}
+
+/// What is printed of files.
+#[derive(Drop)]
+pub enum Print {
+    /// The code of an image.
+    Code(ListArguments),
+    /// The lines of a trace.
+    Trace(TraceArguments),
+    /// The events of a recorded run, with their places.
+    Events(EventsArguments),
+}
 
 /// What the arguments ask for.
 #[derive(Drop)]
 pub enum Asked {
     /// A session over standard input and output.
     Session,
-    /// The image of a source.
-    Assemble(AssembleArguments),
+    /// An image.
+    Make(Make),
     /// A recording.
     Record(RecordArguments),
     /// A hunt.
     Hunt(HuntArguments),
     /// A session of an image and a trace in files.
     Debug(DebugArguments),
-    /// The lines of a trace.
-    Trace(TraceArguments),
+    /// Lines about files.
+    Print(Print),
     /// This text, about the program.
     Help(String),
     /// Nothing that there is, for this reason.

@@ -1,13 +1,11 @@
 //! The arguments of `ir asm`.
 
-use crate::asked::Asked;
-use crate::values::{IMAGE, file_arg, text_of};
+use crate::asked::{Asked, Make};
+use crate::values::{EXPLAIN, IMAGE, MAP, file_arg, given_text, text_of};
 use clap::{Arg, ArgAction, ArgMatches, Command};
 use std::alloc::{AllocError, Global};
 
 const SOURCE: &str = "SOURCE";
-
-const EXPLAIN: &str = "explain";
 
 /// What follows the help of `ir asm`.
 pub const ASM_AFTER: &str =
@@ -59,6 +57,8 @@ A fault is reported on standard error as `line L error C`, C being
    6 a label defined twice                   12 a malformed label
 With --explain, and at a terminal without it, a line `SOURCE:L: CAUSE: TEXT` follows: the file, the line's number, the cause
 in words as above, and the line's first 200 bytes. A tab is shown as a space, and what isn't printable as `?`.
+MAP has a line `A K NAME` for each label, by rising address: the address in eight hexadecimal digits, `t` in text or `d` in
+data, and the name, as `nm -n` prints them. `ir list` and `ir events` read it. It is written once IMAGE is.
 Exit status: 0 assembled, 1 a file that can't be read or written, 2 bad arguments, 3 a fault of the source.
 ";
 
@@ -69,27 +69,40 @@ pub struct AssembleArguments {
     pub source: String,
     /// The file that the image is written to.
     pub image: String,
-    /// Whether a fault is explained wherever it is told.
+    /// The file that the labels are written to, if there is one.
+    pub map: Option<String>,
+    /// Whether a fault is explained wherever it is reported.
     pub explain: bool,
+}
+
+fn map_arg<'a>(alloc: Global) -> Arg<'a> {
+    Arg::new(alloc, MAP).long(MAP).value_name("MAP").help(
+        "The file that the labels are written to, by rising address",
+    )
+}
+
+fn explain_arg<'a>(alloc: Global) -> Arg<'a> {
+    Arg::new(alloc, EXPLAIN)
+        .long(EXPLAIN)
+        .action(ArgAction::SetTrue)
+        .help("Explains a fault in a second line, as is done at a terminal")
 }
 
 /// The command with its arguments.
 pub fn with_arguments<'a>(alloc: Global, command: Command<'a>) -> Result<Command<'a>, AllocError> {
-    let explain = Arg::new(alloc, EXPLAIN)
-        .long(EXPLAIN)
-        .action(ArgAction::SetTrue)
-        .help("Explains a fault in a second line, as is done at a terminal");
     command
         .arg(file_arg(alloc, SOURCE, "The file with the source"))?
         .arg(file_arg(alloc, IMAGE, "The file that the image is written to"))?
-        .arg(explain)
+        .arg(map_arg(alloc))?
+        .arg(explain_arg(alloc))
 }
 
 /// What its arguments ask for.
 pub fn asked(alloc: Global, matches: &ArgMatches<'_>) -> Result<Asked, AllocError> {
-    Ok(Asked::Assemble(AssembleArguments {
+    Ok(Asked::Make(Make::Source(AssembleArguments {
         source: text_of(alloc, matches, SOURCE)?,
         image: text_of(alloc, matches, IMAGE)?,
+        map: given_text(alloc, matches, MAP)?,
         explain: matches.get_flag(EXPLAIN),
-    }))
+    })))
 }

@@ -1,7 +1,7 @@
 //! The subcommands, in one table.
 
 use crate::asked::Asked;
-use crate::{assemble, debug, hunt, record, trace};
+use crate::{assemble, debug, elf, events, hunt, list, record, trace};
 use clap::{ArgMatches, Command};
 use std::alloc::{AllocError, Global};
 
@@ -9,19 +9,25 @@ use std::alloc::{AllocError, Global};
 #[derive(Clone, Copy)]
 pub enum Subcommand {
     Assemble,
+    Elf,
+    List,
     Record,
     Hunt,
     Debug,
     Trace,
+    Events,
 }
 
 /// The subcommands, in the order in which the help lists them.
-pub const SUBCOMMANDS: [Subcommand; 5] = [
+pub const SUBCOMMANDS: [Subcommand; 8] = [
     Subcommand::Assemble,
+    Subcommand::Elf,
+    Subcommand::List,
     Subcommand::Record,
     Subcommand::Hunt,
     Subcommand::Debug,
     Subcommand::Trace,
+    Subcommand::Events,
 ];
 
 /// What the help says of a subcommand, beside its arguments.
@@ -40,6 +46,16 @@ impl Subcommand {
                 name: "asm",
                 about: "Assembles a guest's source into an image",
                 after: assemble::ASM_AFTER,
+            },
+            Subcommand::Elf => Row {
+                name: "elf",
+                about: "Makes the image of a guest that a C compiler and linker made",
+                after: elf::ELF_AFTER,
+            },
+            Subcommand::List => Row {
+                name: "list",
+                about: "Prints the code of an image as text",
+                after: list::LIST_AFTER,
             },
             Subcommand::Record => Row {
                 name: "record",
@@ -61,6 +77,11 @@ impl Subcommand {
                 about: "Prints a trace in lines",
                 after: trace::TRACE_AFTER,
             },
+            Subcommand::Events => Row {
+                name: "events",
+                about: "Prints each event of a recorded run with its position and address",
+                after: events::EVENTS_AFTER,
+            },
         }
     }
 
@@ -72,10 +93,13 @@ impl Subcommand {
             .after_help(row.after);
         match self {
             Subcommand::Assemble => assemble::with_arguments(alloc, command),
+            Subcommand::Elf => elf::with_arguments(alloc, command),
+            Subcommand::List => list::with_arguments(alloc, command),
             Subcommand::Record => record::with_arguments(alloc, command),
             Subcommand::Hunt => hunt::with_arguments(alloc, command),
             Subcommand::Debug => debug::with_arguments(alloc, command),
             Subcommand::Trace => trace::with_arguments(alloc, command),
+            Subcommand::Events => events::with_arguments(alloc, command),
         }
     }
 
@@ -83,10 +107,13 @@ impl Subcommand {
     pub fn asked(self, alloc: Global, matches: &ArgMatches<'_>) -> Result<Asked, AllocError> {
         match self {
             Subcommand::Assemble => assemble::asked(alloc, matches),
+            Subcommand::Elf => elf::asked(alloc, matches),
+            Subcommand::List => list::asked(alloc, matches),
             Subcommand::Record => record::asked(alloc, matches),
             Subcommand::Hunt => hunt::asked(alloc, matches),
             Subcommand::Debug => debug::asked(alloc, matches),
             Subcommand::Trace => trace::asked(alloc, matches),
+            Subcommand::Events => events::asked(alloc, matches),
         }
     }
 }

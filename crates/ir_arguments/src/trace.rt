@@ -1,6 +1,6 @@
 //! The arguments of `ir trace`.
 
-use crate::asked::Asked;
+use crate::asked::{Asked, Print};
 use crate::values::{TRACE, file_arg, text_of};
 use clap::{ArgMatches, Command};
 use std::alloc::{AllocError, Global};
@@ -35,7 +35,7 @@ pub fn with_arguments<'a>(alloc: Global, command: Command<'a>) -> Result<Command
 
 /// What its arguments ask for.
 pub fn asked(alloc: Global, matches: &ArgMatches<'_>) -> Result<Asked, AllocError> {
-    Ok(Asked::Trace(TraceArguments {
+    Ok(Asked::Print(Print::Trace(TraceArguments {
         trace: text_of(alloc, matches, TRACE)?,
-    }))
+    })))
 }

@@ -9,6 +9,12 @@ pub const IMAGE: &str = "IMAGE";
 /// The file of a trace.
 pub const TRACE: &str = "TRACE";
 
+/// The file with the names of addresses.
+pub const MAP: &str = "map";
+
+/// Whether a fault is explained.
+pub const EXPLAIN: &str = "explain";
+
 /// A file that has to be named.
 pub fn file_arg<'a>(alloc: Global, name: &'a str, help: &'a str) -> Arg<'a> {
     Arg::new(alloc, name).required(true).help(help)
@@ -29,4 +35,11 @@ pub fn given_text(
         Some(text) => Ok(Some(String::from_str(alloc, text)?)),
         None => Ok(None),
     }
+}
+
+/// The option that names the file with the names of addresses.
+pub fn names_arg<'a>(alloc: Global) -> Arg<'a> {
+    Arg::new(alloc, MAP).long(MAP).value_name("MAP").help(
+        "The file with the names of addresses, as `nm -n` prints them",
+    )
 }

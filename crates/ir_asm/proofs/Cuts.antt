@@ -24,7 +24,7 @@ pub cut_after : (p : ℕ → Bool) (xs : List ℕ) (n : ℕ) → n ≤ length xs
     → (n < length xs → p (get_or xs n 0) ≡ true) → drop n xs ≡ from p xs
 cut_after p xs n h none found = (cut_at p xs n h none found).1
 
--- the first part, by what stands before the first byte c and from it on
+-- the first part, by what comes before the first byte c and from it on
 abbrev pub split_rest : ℕ → List ℕ → List ℕ → List (List ℕ)
 split_rest c part [] = part ∷ []
 split_rest c part (b ∷ rest) = part ∷ split c rest

@@ -5,7 +5,7 @@ use Rattle.std.specs.Map.{lookup}
 use Rattle.ir_asm.specs.Names.{named}
 
 module _ {K X : Type 0} (text : K → List ℕ) where
-  -- a name and what stands beside it, as they are seen
+  -- a name and what is beside it, as they are seen
   abbrev pub seen : K × X → List ℕ × X
   seen e = (text e.0, e.1)
 

@@ -46,7 +46,7 @@ abbrev pub entry_count : Item → ℕ
 entry_count (Entry label) = 1
 entry_count item = 0
 
--- a label that stands in text is a place there
+-- a label that is in text has a place there
 abbrev pub IsTextPlace : Section → ℕ → Type 0
 IsTextPlace Text address = (address % 4 ≡ 0) × (code_start ≤ address)
 IsTextPlace Data address = Unit {0}
@@ -81,7 +81,7 @@ address_fits s label a fits e =
     by_section Text n f p = p
     by_section Data n f p = absurd (cc f)
 
--- so many words of zeros, cut
+-- the first k of n words of zeros
 take_zeros : (k n : ℕ) → k ≤ n → take k (replicate {A = ℕ} n 0) ≡ replicate {A = ℕ} k 0
 take_zeros zero n l = refl
 take_zeros (suc k) zero l = absurd (omega (arith, l))

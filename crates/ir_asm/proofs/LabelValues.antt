@@ -74,7 +74,7 @@ same_size Data u t c f = f
 
 -- ---- the form of the image
 
--- two items are of one size, and after both stands the same section
+-- two items are of one size, and after both the section is the same
 record IsLike (item other : Item) : Type 0 where
   size : size_of other ≡ size_of item
   section : (s : Section) → section_after other s ≡ section_after item s
@@ -123,7 +123,7 @@ like_by image (Object other) texts item e =
     (or_light (Object Small) (operands_of (Object Small) texts) (object_light Small))
 like_by image form texts item e = found _ item e
 
--- so does a statement, wherever it stands
+-- so does a statement, wherever it is
 like_first : (before : Option ImageForm) (section : Section) (statement : List ℕ) (item : Item)
     → item_in before section statement ≡ Ok item → IsLike item (item_or_nothing (item_in None section statement))
 like_first before section statement item e =
@@ -302,7 +302,7 @@ place_is lines t p =
     (λ i. record { section = p.section i; address = start_of (p.section i) + size_in (p.section i) t })
     ∙ (λ i. record { section = w; address = start_of w + size i })
 
--- a label stands after what was placed before it
+-- a label comes after what was placed before it
 pub label_value : (xs ys : List (List ℕ)) (line name : List ℕ) (s : Seen) → first_pass 1 (xs ++ line ∷ ys) nothing_seen ≡ Ok s
     → list_any (bytes_eq name) (line_of line).labels ≡ true → named s.labels name ≡ Some (place_after Text xs)
 label_value xs ys line name s e h =

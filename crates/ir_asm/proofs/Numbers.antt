@@ -32,7 +32,7 @@ from_on p low (suc count) h n l k =
 each_passes : (p : ℕ → Bool) → list_all p (range_with_len 0 32) ≡ true → (r : Register) → p r.number ≡ true
 each_passes p h r = from_on p 0 32 h r.number (omega arith) (omega (arith, r.in_range))
 
--- this very number stands there
+-- this very number is there
 abbrev is_there : ℕ → Option ℕ → Bool
 is_there n (Some m) = m == n
 is_there n None = false

@@ -166,7 +166,7 @@ form_stands image Data Space texts (Integer z ∷ []) m e = tt
 form_stands image section Thread texts (Symbol label ∷ []) m e = tt
 form_stands image section form texts xs m e = tt
 
--- what a statement places may stand there
+-- what a statement places is an item that its section may have
 pub item_stands : (before : Option ImageForm) (section : Section) (statement : List ℕ) (item : Item)
     → item_in before section statement ≡ Ok item → MayStand (stated before) section item
 item_stands before section statement item e =
@@ -201,7 +201,7 @@ guest_fits g l code bytes words = record {
 abbrev pub total : (Item → ℕ) → List Placed → ℕ
 total size placed = sum_by (λ x. size x.item) placed
 
--- what was seen tells what is placed, and is within the limits
+-- what was seen agrees with what is placed, and is within the limits
 pub record IsSound (s : Seen) : Type 0 where
   pub code : total code_size s.placed ≡ s.code
   pub bytes : total data_size s.placed ≡ s.filled

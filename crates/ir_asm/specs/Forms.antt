@@ -67,7 +67,7 @@ forms = base_rows ++ (multiply_rows ++ (immediate_rows ++ (memory_rows ++ (branc
 abbrev pub form_named : List ℕ → Option Form
 form_named name = named forms name
 
--- the form of an image, which the statements before say: a large one if `.large` stands there
+-- the form of an image, which the statements before say: a large one if `.large` is among them
 abbrev pub stated : Option ImageForm → ImageForm
 stated None = Small
 stated (Some image) = image
@@ -78,17 +78,17 @@ in_image image (Objects other) = Objects image
 in_image image (Object other) = Object image
 in_image image form = form
 
--- a form may stand after other statements
+-- a form may come after other statements
 abbrev pub may_follow : Form → Bool
 may_follow Enlarges = false
 may_follow form = true
 
--- a form may stand after these statements, if there are any
+-- a form may come after these statements, if there are any
 abbrev pub may_come : Option ImageForm → Form → Bool
 may_come None form = true
 may_come (Some image) form = may_follow form
 
--- the section in which a form has to stand, if not in either
+-- the section in which a form has to be, or none if it may be in either
 abbrev pub stands_in : Form → Option Section
 stands_in (Sections section) = None
 stands_in Enlarges = None
@@ -100,7 +100,7 @@ stands_in Bytes = Some Data
 stands_in Space = Some Data
 stands_in form = Some Text
 
--- a form may have so many operands
+-- a form may have n operands
 abbrev pub takes : Form → ℕ → Bool
 takes (Registers op) n = n == 3
 takes (Immediates op) n = n == 3

@@ -42,7 +42,7 @@ x_rows =
 abbrev pub register_rows : List (List ℕ × ℕ)
 register_rows = abi_rows ++ x_rows
 
--- what stands beside a name in a table
+-- what is beside a name in a table
 abbrev pub named : {A : Type 0} → List (List ℕ × A) → List ℕ → Option A
 named rows name = lookup (bytes_eq name) rows
 

@@ -45,7 +45,7 @@ distance_text text = signed_distance (first_byte text) (first_byte (drop 1 text)
 abbrev pub distance_in : ℤ → ℤ → List ℕ → Result ℤ Cause
 distance_in low high text = or_cause BadNumber (distance_text text) >>= λ z. unless (is_even z) BadNumber (within low high z)
 
--- what stands before the opening parenthesis, and between it and the closing one that ends the text
+-- what comes before the opening parenthesis, and what is between it and the closing one that ends the text
 abbrev pub in_parentheses : List (List ℕ) → List (List ℕ) → Option (List ℕ × List ℕ)
 in_parentheses (imm ∷ []) (base ∷ [] ∷ []) = Some (trim imm, trim base)
 in_parentheses a b = None
@@ -59,7 +59,7 @@ address_parts parts = None
 abbrev pub address : List ℕ → Option (List ℕ × List ℕ)
 address text = address_parts (split 40 text)
 
--- what may stand where a label may, be it allowed there or not
+-- a text that may be in the place of a label, be it allowed there or not
 abbrev pub is_like_label : List ℕ → Bool
 is_like_label text = is_name text || (is_digit (first_byte text) || ((first_byte text == 45) || (first_byte text == 46)))
 

@@ -24,11 +24,11 @@ use Rattle.ir_asm.specs.Source.{Seen, Fault, nothing_seen, same_section, at_line
 abbrev pub difference : ℕ → ℕ → ℤ
 difference a b = if nat_le b a then pos (a - b) else neg_ℤ (pos (b - a))
 
--- where a label stands
+-- where a label is
 abbrev pub value_of : Seen → List ℕ → Result Place Cause
 value_of s label = or_cause LabelMissing (named s.labels label)
 
--- the address of a label, which has to stand in text
+-- the address of a label, which has to be in text
 abbrev pub text_address : Seen → List ℕ → Result ℕ Cause
 text_address s label = value_of s label >>= λ place. unless (same_section place.section Text) WrongSection (Ok place.address)
 
@@ -71,7 +71,7 @@ abbrev pub second_pass : Seen → List Placed → Guest → Result Guest Fault
 second_pass s [] g = Ok g
 second_pass s (x ∷ xs) g = at_line x.line (put s x.address x.item g) >>= λ h. second_pass s xs h
 
--- before the first item: so many objects of zeros
+-- before the first item: the objects that were seen, all of zeros
 abbrev pub started : Seen → Guest
 started s = record {
   form = stated s.form;
@@ -102,6 +102,10 @@ assembled_lines lines =
 -- the guest of a source, or its first fault
 abbrev pub assembled : List ℕ → Result Guest Fault
 assembled source = assembled_lines (lines_of source)
+
+-- the labels of a source with their places, in the order of their lines, or the first fault of its first pass
+abbrev pub labels_of : List ℕ → Result (List (List ℕ × Place)) Fault
+labels_of source = first_pass 1 (lines_of source) nothing_seen >>= λ s. Ok s.labels
 
 -- a small image of one thread, and that word alone
 abbrev pub IsWordGuest : Result Guest Fault → ℕ → Type 0

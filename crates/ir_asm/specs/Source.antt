@@ -68,7 +68,8 @@ operand_texts statement = texts_of (trim (from is_blank statement))
 
 -- ---- the first pass
 
--- what the lines so far have: the form of the image, once there is a statement, the section, the sizes of both, the numbers of threads and of objects, the labels, and what is placed
+-- what the lines so far have: the form of the image, once there is a statement, the section, the sizes of both, the numbers of threads
+-- and of objects, the labels, and what is placed
 pub record Seen : Type 0 where
   pub form : Option ImageForm
   pub section : Section
@@ -118,12 +119,12 @@ same_section Text Text = true
 same_section Data Data = true
 same_section a b = false
 
--- a form for a section may stand in another
+-- a form for a section, if it is for one, may be in the section s
 abbrev pub may_stand : Option Section → Section → Bool
 may_stand None s = true
 may_stand (Some a) s = same_section a s
 
--- after a statement that takes so many bytes of its section
+-- after a statement that takes n bytes of its section
 abbrev pub grown : Section → ℕ → Seen → Result Seen Cause
 grown Text n s = unless (nat_le (s.code + n) (4 * most_code_words)) BadSize (Ok (record s { code = s.code + n }))
 grown Data n s = unless (nat_le (s.filled + n) memory_size) BadSize (Ok (record s { filled = s.filled + n }))
@@ -155,7 +156,7 @@ with_item line item s = grown s.section (size_of item) s >>= λ t. entered line 
 abbrev pub item_with : Form → List (List ℕ) → Result Item Cause
 item_with form texts = operands_of form texts >>= λ xs. Ok (item_of form xs)
 
--- what a statement places, after statements that say a form, and in a section: first its name, then where it stands, then its operands
+-- what a statement places, after statements that say a form, and in a section: first its name, then where it is, then its operands
 abbrev pub item_in : Option ImageForm → Section → List ℕ → Result Item Cause
 item_in before section statement =
     or_cause UnknownStatement (form_named (name_of statement)) >>= λ form.

@@ -1,4 +1,4 @@
--- What stands before a line: the section, and how many bytes of each.
+-- What comes before a line: the section, and how many bytes of each.
 use Rattle.std.specs.Prelude.{ℕ, ◌+◌, List, [], ◌∷◌, None, Result, Ok, Err, if◌then◌else◌}
 use Rattle.ir_asm.specs.declared.cause.Cause.{Cause}
 use Rattle.ir_asm.specs.declared.form.Section.{Section}

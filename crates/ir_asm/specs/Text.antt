@@ -41,7 +41,7 @@ abbrev pub from : (ℕ → Bool) → List ℕ → List ℕ
 from p [] = []
 from p (b ∷ bs) = if p b then b ∷ bs else from p bs
 
--- what stands before the first byte c
+-- what comes before the first byte c
 abbrev pub before : ℕ → List ℕ → List ℕ
 before c bs = until (λ b. b == c) bs
 
@@ -70,7 +70,7 @@ is_name (b ∷ bs) = begins_name b && (list_all goes_on_name bs && nat_le (lengt
 
 -- ---- numbers
 
--- between one and so many digits to a base
+-- at least one and at most `most` digits to a base
 abbrev pub is_numeral : ℕ → ℕ → List ℕ → Bool
 is_numeral radix most ds = (nat_le 1 (length ds) && nat_le (length ds) most) && list_all (λ c. nat_lt (digit_value c) radix) ds
 

@@ -1,16 +1,17 @@
 //! The assembler.
 
-ghost use Rattle.std.specs.Prelude.{◌≡◌, IfOk};
+ghost use Rattle.std.specs.Prelude.{◌≡◌, IfOk, Ok};
 ghost use Rattle.std.specs.List.{AllByRecursion};
 ghost use Rattle.ir_image.specs.Guest.{IsByte, IsWord};
 ghost use Rattle.ir_asm.specs.Forms.{stated};
-ghost use Rattle.ir_asm.specs.Passes.{guest_of, assembled};
+ghost use Rattle.ir_asm.specs.Passes.{guest_of, assembled, labels_of};
 ghost use Rattle.ir_asm.specs.Answered.{Answers};
 ghost use Rattle.ir_asm.specs.Bounds.{HaveFewWords, HasLimits};
 
 use crate::asm_err::AsmErr;
 use crate::cause::Cause;
 use crate::first_pass::first_pass;
+use crate::labels::Labels;
 use crate::parts::Parts;
 use crate::scan::Scan;
 use crate::second_pass::second_pass;
@@ -57,6 +58,37 @@ fn parts_of(alloc: Global, scan: &Scan) -> Result<Parts, AsmErr>
     Ok(parts)
 }
 
+/// What a source describes: an image, and where its labels are.
+#[derive(Drop)]
+pub struct Assembly {
+    /// The image.
+    pub image: Image,
+    /// The labels with their places, in the order of their lines.
+    pub labels: Labels,
+}
+
+/// The image that a source describes, and its labels.
+///
+/// # Errors
+/// As of `assemble`.
+pub fn assemble_with_labels(alloc: Global, source: &str) -> Result<Assembly, AsmErr>
+    ensures image { Answers (λ a. a.image) result (assembled source.now) }
+    ensures labels { IfOk result (λ a. labels_of source.now ≡ Ok a.labels) }
+{
+    let mut scan = Scan::new(alloc);
+    let line = first_pass(alloc, &mut scan, source.as_bytes())?;
+    if !scan.has_code() {
+        return Err(AsmErr::At {
+            line,
+            cause: Cause::BadSize,
+        });
+    }
+    let parts = parts_of(alloc, &scan)?;
+    let image = image(alloc, parts)?;
+    let labels = scan.labels;
+    Ok(Assembly { image, labels })
+}
+
 /// The image that a source describes.
 ///
 /// A source is lines of labels, a statement and a comment each. The code begins at address 0x00010000 and the data at
@@ -70,14 +102,8 @@ fn parts_of(alloc: Global, scan: &Scan) -> Result<Parts, AsmErr>
 pub fn assemble(alloc: Global, source: &str) -> Result<Image, AsmErr>
     ensures { Answers (λ i. i) result (assembled source.now) }
 {
-    let mut scan = Scan::new(alloc);
-    let line = first_pass(alloc, &mut scan, source.as_bytes())?;
-    if !scan.has_code() {
-        return Err(AsmErr::At {
-            line,
-            cause: Cause::BadSize,
-        });
+    match assemble_with_labels(alloc, source) {
+        Ok(assembly) => Ok(assembly.image),
+        Err(why) => Err(why),
     }
-    let parts = parts_of(alloc, &scan)?;
-    Ok(image(alloc, parts)?)
 }

@@ -31,7 +31,7 @@ fn even_bits(count: u32, value: i64) -> u32
     2 * (low_bits(count, value) / 2)
 }
 
-// The number that twelve bits stand for, the highest being its sign.
+// The number that twelve bits encode, the highest being its sign.
 fn signed_12(bits: u32) -> Immediate
     requires { bits < 2 ^ 12 }
     ensures { result.value ≡ sign_extended 12 bits }

@@ -38,7 +38,7 @@ pub enum Form {
     Object(ImageForm),
 }
 
-/// What may stand as an operand; numbers and distances with their least and greatest.
+/// What an operand may be; numbers and distances with their least and greatest.
 #[derive(Clone, Copy, Debug, PartialEq, Eq)]
 pub enum Kind {
     Register,

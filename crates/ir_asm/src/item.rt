@@ -51,7 +51,8 @@ pub enum Operand {
     Symbol(Name),
 }
 
-/// What a statement places or says: words that it alone tells, words that wait for a label, bytes, that the image is large, the section from here on, a thread's entry, the number of objects, an object's first words.
+/// What a statement places or says: words that it alone gives, words that wait for a label, bytes, that the image is large, the section from
+/// here on, a thread's entry, the number of objects, an object's first words.
 #[derive(Drop)]
 pub enum Item {
     Code(WordList),
@@ -67,7 +68,7 @@ pub enum Item {
     Nothing,
 }
 
-/// Where a label stands.
+/// Where a label is.
 #[derive(Clone, Copy, Debug, PartialEq, Eq)]
 pub struct Place {
     pub section: Section,

@@ -29,9 +29,9 @@ pub fn first_fault()
         assembled_lines (before ++ line ∷ after) ≡ Err (record { line = 1 + length before; cause = cause }) }
 {}
 
-/// Where the first pass has no fault and there is code, the fault of a source is that of the first of its placed
-/// statements, in the order of their lines, that has one: whose label is missing, in the wrong section or too far away,
-/// or whose object isn't there.
+/// If the first pass has no fault and there is code, the fault of a source is that of the first of its placed
+/// statements, in the order of their lines, that has one. Its label is missing, in the wrong section or too far away,
+/// or its object isn't there.
 #[tactic(auto, using(crate::proofs::OrderLaws::in_order))]
 pub fn second_fault()
     ensures order { (lines : List (List ℕ)) (s : Seen) → first_pass 1 lines nothing_seen ≡ Ok s → AreInOrder 1 s.placed }
@@ -41,7 +41,7 @@ pub fn second_fault()
         (assembled_lines lines ≡ Err fault) ↔ IsFirstFault s s.placed fault }
 {}
 
-/// A label stands after what was placed before it: its value is the start of its section plus the sizes of what stands
+/// A label comes after what was placed before it: its value is the start of its section plus the sizes of what comes
 /// before it in that section.
 #[tactic(auto, using(crate::proofs::LabelValues::label_value))]
 pub fn label_value()

@@ -25,7 +25,10 @@ mod table;
 mod text;
 
 pub use asm_err::AsmErr;
-pub use assembler::assemble;
+pub use assembler::{Assembly, assemble, assemble_with_labels};
 pub use cause::Cause;
+pub use form::Section;
 pub use ir_disasm::disassemble;
+pub use item::Place;
+pub use labels::Labels;
 pub use laws::{examples, first_fault, label_value, second_fault, word_law};

@@ -16,7 +16,7 @@ fn digit(byte: u8, radix: u32) -> Option<u64>
     }
 }
 
-// The value of between one and so many digits to a base.
+// The value of at least one and at most `most` digits to a base.
 #[tactic(auto, using(crate::proofs::Numerals::grows, crate::proofs::Numerals::ten_digits))]
 fn numeral(radix: u32, most: usize, digits: &[u8]) -> Option<u64>
     requires base { (radix ≡ 10) ⊎ (radix ≡ 16) }

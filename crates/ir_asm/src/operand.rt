@@ -70,7 +70,7 @@ fn name(alloc: Global, text: &[u8]) -> Result<Name, AllocError>
     Ok(Name { text })
 }
 
-// What stands before the one closing parenthesis, which ends the text.
+// What comes before the one closing parenthesis, which ends the text.
 #[tactic(auto, using(crate::proofs::Cuts::goes_on))]
 fn before_closing(text: &[u8]) -> Option<&[u8]>
     ensures { MatchOption result ((imm : List ℕ) → in_parentheses (imm ∷ []) (split 41 text.now) ≡ None) (λ base. split 41 text.now ≡ base.now ∷ [] ∷ []) }

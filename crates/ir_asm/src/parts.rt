@@ -37,7 +37,7 @@ fn padded(words: &[u32]) -> [u32; MOST_OBJECT_WORDS]
     all
 }
 
-// So many words at a place: these and then zeros.
+// Puts `count` words at a place: these and then zeros.
 fn put_first(all: &mut [u32], start: usize, count: usize, words: &[u32])
     requires few { length words.now ≤ count }
     requires most { count ≤ most_object_words }
@@ -49,7 +49,7 @@ fn put_first(all: &mut [u32], start: usize, count: usize, words: &[u32])
 }
 
 impl Parts {
-    /// So many objects of zeros, and nothing else.
+    /// Parts that have `objects` objects of zeros, and nothing else.
     pub fn new(alloc: Global, form: ImageForm, objects: u32) -> Result<Parts, AllocError>
         ensures { IfOk result (λ p. p ≡ record { form = form; entries = []; code = []; bytes = []; words = replicate ((limits_of form).words * objects) 0 }) }
     {

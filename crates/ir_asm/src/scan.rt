@@ -46,7 +46,7 @@ impl Model for Size {
 }
 
 impl Size {
-    // So many bytes more, where that many fit.
+    // The size with `bytes` bytes more, if they fit.
     fn plus(self, bytes: usize) -> Result<Size, Cause>
         ensures { result ≡ unless (nat_le (self + bytes) memory_size) BadSize (Ok (self + bytes)) }
     {
@@ -59,7 +59,8 @@ impl Size {
     }
 }
 
-/// The form of the image, once there is a statement, the section, the sizes of both, the numbers of threads and of objects, the labels, and what is placed.
+/// The form of the image, once there is a statement, the section, the sizes of both, the numbers of threads
+/// and of objects, the labels, and what is placed.
 #[derive(Drop)]
 pub struct Scan {
     pub form: Option<ImageForm>,
@@ -176,7 +177,7 @@ impl Scan {
         }
     }
 
-    // After a statement that takes so many bytes of a section.
+    // After a statement that takes `bytes` bytes of a section.
     fn grow(&mut self, section: Section, bytes: usize) -> Result<(), Refusal>
         ensures { Makes self.new result (grown section bytes self.old) }
     {

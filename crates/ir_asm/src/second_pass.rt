@@ -22,7 +22,7 @@ use ir_image::CODE_START;
 use ir_isa::{BranchOp, Inst, Register, encode};
 use std::alloc::Global;
 
-// Where a label stands.
+// Where a label is.
 fn value_of(scan: &Scan, label: &Name) -> Result<Place, Cause>
     ensures { result ≡ value_of scan.now label.now }
 {
@@ -32,7 +32,7 @@ fn value_of(scan: &Scan, label: &Name) -> Result<Place, Cause>
     }
 }
 
-// The address of a label, which has to stand in text.
+// The address of a label, which has to be in text.
 fn text_address(scan: &Scan, label: &Name) -> Result<u32, Cause>
     ensures { result ≡ text_address scan.now label.now }
 {

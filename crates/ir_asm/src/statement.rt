@@ -24,7 +24,7 @@ pub fn same_section(a: Section, b: Section) -> bool
     }
 }
 
-// Whether a form for a section may stand in another.
+// Whether a form for a section, if it is for one, may be in this one.
 fn may_stand(form: Option<Section>, section: Section) -> bool
     ensures { result ≡ may_stand form section }
 {

@@ -207,7 +207,7 @@ fn may_follow(form: Form) -> bool
     }
 }
 
-/// Whether a form may stand after these statements, if there are any.
+/// Whether a form may come after these statements, if there are any.
 pub fn may_come(before: Option<ImageForm>, form: Form) -> bool
     ensures { result ≡ may_come before form }
 {
@@ -217,7 +217,7 @@ pub fn may_come(before: Option<ImageForm>, form: Form) -> bool
     }
 }
 
-/// The section in which a form has to stand, if not in either.
+/// The section in which a form has to be, or none if it may be in either.
 pub fn stands_in(form: Form) -> Option<Section>
     ensures { result ≡ stands_in form }
 {
@@ -229,7 +229,7 @@ pub fn stands_in(form: Form) -> Option<Section>
     }
 }
 
-/// Whether a form may have so many operands.
+/// Whether a form may have `count` operands.
 pub fn takes(form: Form, count: usize) -> bool
     ensures { result ≡ takes form count }
 {

@@ -45,7 +45,7 @@ pub fn trim(text: &[u8]) -> &[u8]
     trim_end(skip_blanks(text))
 }
 
-// How many bytes stand before the first that is this one.
+// How many bytes come before the first that is this one.
 #[tactic(auto, using(crate::proofs::Cuts::cut_before, crate::proofs::Cuts::cut_after))]
 fn length_before(text: &[u8], byte: u8) -> usize
     ensures within { result ≤ length text.now }
@@ -80,7 +80,7 @@ pub fn first_part(text: &[u8], byte: u8) -> (&[u8], Option<&[u8]>)
     }
 }
 
-// How many bytes stand before the first blank.
+// How many bytes come before the first blank.
 #[tactic(auto, using(crate::proofs::Cuts::cut_before, crate::proofs::Cuts::cut_after))]
 fn length_unblank(text: &[u8]) -> usize
     ensures within { result ≤ length text.now }

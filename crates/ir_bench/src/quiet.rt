@@ -32,7 +32,7 @@ impl World for Quiet {
     }
 }
 
-/// So many of them.
+/// `count` of them.
 ///
 /// # Errors
 /// Out of memory.

@@ -89,7 +89,7 @@ pub byte_field_again : {E : Type 0} (short : E) (f : Field E) (n : ℕ) (rest : 
 unfolding field_at
 byte_field_again short f n rest one passes = rw (one, byte_again short n rest, passes) refl
 
--- ---- so many bytes
+-- ---- n bytes
 
 pub record TakesBytes (n : ℕ) (bytes : List ℕ) (x : List ℕ × List ℕ) : Type 0 where
   pub takes : Takes bytes x.0 x.1
@@ -136,7 +136,7 @@ bytes_again short own rest =
     let long : ltb (length (own ++ rest)) (length own) ≡ false = le-ltb _ _ (omega (arith, length-append own rest)) in
     rw (long, take-append_seam own rest, drop-append_seam own rest) refl
 
--- ---- so many of one kind
+-- ---- n fields of one kind
 
 pub record TakesFields {X : Type 0} (P : X → Type 0) (encode : X → List ℕ) (n : ℕ) (bytes : List ℕ) (x : List X × List ℕ) : Type 0 where
   pub takes : Takes bytes (flat_map encode x.0) x.1

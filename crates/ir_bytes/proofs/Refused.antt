@@ -112,7 +112,7 @@ pub before_refuses : {X Y E : Type 0} (short trailing : E) (r : Reader X E) (fir
 before_refuses short trailing r first s rest p q bytes =
     settled (r bytes) (λ x. s x.0 x.1) (λ x. first_refused short trailing rest x.1) (λ x. q x.0 x.1) ∙ sym (p rest bytes)
 
--- nothing stands after the last
+-- nothing follows the last
 pub end_refuses : {Y E : Type 0} (trailing : E) (y : Y) (b : Bool) → fault_of (cond b (Ok y) (Err trailing)) ≡ cond b None (Some trailing)
 end_refuses trailing y true = refl
 end_refuses trailing y false = refl

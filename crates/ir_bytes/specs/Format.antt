@@ -12,7 +12,7 @@ pub data Format (E : Type 0) : Type 0 where
 abbrev pub before : {E : Type 0} → Field E → Format E → Format E
 before f rest = next f (λ _. rest)
 
--- so many of one kind, one after the other
+-- n fields of one kind, one after the other
 abbrev pub repeated : {E : Type 0} → ℕ → (Format E → Format E) → Format E → Format E
 repeated zero one rest = rest
 repeated (suc n) one rest = one (repeated n one rest)
@@ -22,7 +22,7 @@ abbrev pub or_later : {E : Type 0} → Option E → Option E → Option E
 or_later (Some e) later = Some e
 or_later None later = later
 
--- the fault of the first field, from the left, that isn't whole or holds what it may not; or bytes stand after the last
+-- the fault of the first field, from the left, that isn't whole or holds what it may not; or else trailing, if bytes follow the last
 abbrev pub first_refused : {E : Type 0} → E → E → Format E → List ℕ → Option E
 first_refused short trailing finished bytes = if length bytes == 0 then None else Some trailing
 first_refused short trailing (next f after) bytes =

@@ -51,7 +51,7 @@ abbrev pub judged : {X E : Type 0} → Option E → X → Result X E
 judged (Some e) x = Err e
 judged None x = Ok x
 
--- the number of so many bytes, and the bytes after it
+-- the number that the first `size` bytes encode, and the bytes after them
 unfoldable pub number_at : {E : Type 0} → E → ℕ → Reader ℕ E
 number_at short size bytes = if nat_lt (length bytes) size then Err short else Ok (little_number size bytes, drop size bytes)
 
@@ -59,11 +59,11 @@ number_at short size bytes = if nat_lt (length bytes) size then Err short else O
 unfoldable pub field_at : {E : Type 0} → E → Field E → Reader ℕ E
 field_at short f bytes = number_at short f.size bytes >>= λ n. judged (f.fault n.0) n
 
--- the first so many bytes, and those after them
+-- the first n bytes, and those after them
 unfoldable pub bytes_at : {E : Type 0} → E → ℕ → Reader (List ℕ) E
 bytes_at short n bytes = if nat_lt (length bytes) n then Err short else Ok (take n bytes, drop n bytes)
 
--- so many of one kind, one after the other, and the bytes after them
+-- n fields of one kind, one after the other, and the bytes after them
 unfoldable pub fields_at : {X E : Type 0} → Reader X E → ℕ → Reader (List X) E
 fields_at read zero bytes = Ok ([], bytes)
 fields_at read (suc n) bytes = do

@@ -1,11 +1,8 @@
 mod Leaders
 mod Words
 mod Orders
-mod Left
 mod Runs
 mod Ready
 mod Turns
-mod Worlds
-mod Values
 mod Texts
 pub mod CallerLemmas

@@ -23,7 +23,7 @@ use Rattle.ir_thread.specs.Instance.{shared_ask, is_result, thread_machine}
 use Rattle.ir_thread.specs.State as thread
 use Rattle.ir_thread.specs.declared.ask.Ask.{Ask}
 use Rattle.ir_thread.specs.declared.ask.Ask.TheVariants as asks
-use Rattle.ir_chaos.proofs.Left.{flat_few, step_less, alone_less}
+use Rattle.ir_record.proofs.CallerLemmas.{flat_few, step_less, alone_less}
 use Rattle.ir_chaos.specs.Moments.{Moment, moment_of, IsReady, Moved, Gained, Took, Ran, IsAtRest, OthersRest, TookSome, IsNoTry, IsNoCall}
 use Rattle.ir_chaos.specs.Schedules.{is_rest, rests, IsChosen, Leads, threads_of}
 use Rattle.ir_chaos.specs.declared.chooser.Chooser.{Chooser}

@@ -1,4 +1,4 @@
--- Who goes on where all threads are at rest.
+-- Which thread continues if all threads are at rest.
 use Rattle.std.specs.Prelude.{◌≡◌, ⊤, ℕ, ◌-◌, List, [], ◌∷◌, length, nat_lt, if◌then◌else◌}
 use Rattle.std.specs.List.{slice_index_or}
 use Rattle.rand_pcg.specs.Lcg.{Lcg}
@@ -23,7 +23,7 @@ chosen_in_rounds last ready = first_above last ready (slice_index_or ready 0 0)
 abbrev pub chosen_at_random : Lcg → List ℕ → ℕ × Lcg
 chosen_at_random g ready = (slice_index_or ready (drawn (length ready) g).0 0, (drawn (length ready) g).1)
 
--- who goes on of these threads, which are by rising numbers, and the chooser after it
+-- which of these threads continues, which are by rising numbers, and the chooser after it
 abbrev pub chosen : Chooser → List ℕ → ℕ × Chooser
 chosen (Rounds last) ready = (chosen_in_rounds last ready, Rounds (chosen_in_rounds last ready))
 chosen (Walk g) ready = ((chosen_at_random g ready).0, Walk (chosen_at_random g ready).1)
@@ -33,7 +33,7 @@ chosen (Highest p) ready = ((chosen_highest p ready).0, Highest (chosen_highest 
 abbrev pub before_rounds : Chooser
 before_rounds = Rounds 255
 
--- the chooser of a seed that chooses so, for a guest of so many threads, whose run in rounds has so many choices
+-- the chooser of a seed that chooses so, for a guest of `threads` threads, whose run in rounds has `choices` choices
 abbrev pub chooser_by : Way → ℕ → ℕ → ℕ → Chooser
 chooser_by way.Walk seed threads choices = Walk (generator_of seed)
 chooser_by (way.Priorities depth) seed threads choices = Highest (first_ranking threads choices (depth - 1) (generator_of seed))
@@ -42,7 +42,7 @@ chooser_by way.Mix seed threads choices = Walk (generator_of seed)
 abbrev pub chooser_of : Way → ℕ → ℕ → ℕ → Chooser
 chooser_of by seed threads choices = chooser_by (way_of by seed) seed threads choices
 
--- it can choose of the threads of a guest that has so many
+-- it can choose of the threads of a guest that has `threads` threads
 abbrev pub Serves : ℕ → Chooser → Type 0
 Serves threads (Rounds last) = ⊤
 Serves threads (Walk g) = ⊤

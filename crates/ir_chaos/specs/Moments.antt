@@ -1,4 +1,4 @@
--- A guest that runs by a chooser, as it goes on.
+-- A guest that runs by a chooser, at each moment of its run.
 use Rattle.std.specs.Prelude.{◌≡◌, ◌≢◌, ◌<◌, ◌≤◌, ◌+◌, ◌++◌, ℕ, List, [], ◌∷◌, length, map, Bool, true, vec_len, vec_capacity, ⊤}
 use Rattle.ir_flat.specs.Flat.{Flat, tables, machine, start_flat}
 use Rattle.ir_image.specs.Guest.{Guest}
@@ -87,7 +87,7 @@ AllRest tries f = (t : ℕ) → t < length f.threads → IsAtRest tries f t
 abbrev pub OthersRest : Bool → ℕ → Flat → Flat → Type 0
 OthersRest tries t f g = (u : ℕ) → u ≢ t → rests tries (machine g) (tables g) u ≡ rests tries (machine f) (tables f) u
 
--- the threads have so many steps less to take, or even fewer
+-- the threads have at least `count` steps fewer to take
 abbrev pub TookSome : ℕ → Flat → Flat → Type 0
 TookSome count f g = all_left (length f.threads) (tables g).now + count ≤ all_left (length f.threads) (tables f).now
 

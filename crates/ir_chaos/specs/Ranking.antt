@@ -81,22 +81,22 @@ chosen_highest p ready = chosen_by p ready (fallen ready p.left 0 p.places p.pri
 
 -- ---- before the first choice
 
--- the priorities of so many threads: a word each
+-- the priorities of n threads: a word each
 abbrev pub first_priorities : ℕ → Lcg → List ℕ
 first_priorities zero g = []
 first_priorities (suc n) g = (first_priority + (pcg32 g).0) ∷ first_priorities n (pcg32 g).1
 
--- the generator after so many words
+-- the generator after n words
 abbrev pub after_words : ℕ → Lcg → Lcg
 after_words zero g = g
 after_words (suc n) g = after_words n (pcg32 g).1
 
--- so many places, each one of the choices of a run that has so many, counted from its end: 1 is the last
+-- n places, each one of the choices of a run that has `choices` choices, counted from its end: 1 is the last
 abbrev pub first_places : ℕ → ℕ → Lcg → List ℕ
 first_places choices zero g = []
 first_places choices (suc n) g = ((drawn choices g).0 + 1) ∷ first_places choices n (drawn choices g).1
 
--- so many threads of a guest, of whose runs one has so many choices; and so many places
+-- the ranking of `threads` threads of a guest, of whose runs one has `choices` choices, with `places` places
 abbrev pub first_ranking : ℕ → ℕ → ℕ → Lcg → Ranking
 first_ranking threads choices places g = record {
   priorities = first_priorities threads g;

@@ -6,8 +6,8 @@ use Rattle.ir_runs.specs.InOrder.{EntersIfFree}
 use Rattle.ir_chaos.specs.Choices.{chosen}
 use Rattle.ir_chaos.specs.declared.chooser.Chooser.{Chooser}
 
--- where a thread rests: before an entry or a try, and when it is done; where there are tries, also before it leaves an object, since a
--- try is refused only while somebody is inside
+-- where a thread rests: before an entry or a try, and when it is done; if there are tries, also before it leaves an object, since a
+-- try is refused only while a thread is inside
 abbrev pub is_rest : Bool → Ask → Bool
 is_rest tries Private = false
 is_rest tries (Env kind) = false
@@ -39,7 +39,7 @@ pub record IsChosen {T : Type 0} (tries : Bool) (m : Machine T) (n : ℕ) (s : S
   pub are : AreReady m s n ready
   pub choice : (t, d) ≡ chosen c ready
 
--- the next step, of one of the n threads: whoever is under way goes on, the lowest first; where all rest, the chosen one goes
+-- the next step, of one of the n threads: a thread under way continues, the lowest first; if all rest, the chosen one goes
 abbrev pub IsNext : {T : Type 0} → Bool → Machine T → ℕ → State T → Chooser → Step → Chooser → Type 0
 IsNext tries m n s c e d = (e.0 < n) × Can m s e × EntersIfFree m s e × ((IsUnderWay tries m s e.0 × (d ≡ c)) ⊎ IsChosen tries m n s c e.0 d)
 

@@ -5,16 +5,16 @@ use Rattle.ir_command.specs.Limits.{most_small}
 use Rattle.ir_command.specs.Numbers.{number_up_to}
 use Rattle.ir_chaos.specs.Conditions.{Fact, End, Code, Word, Printed, Fault, Budget, Condition}
 
--- how many bytes stand before the first blank
+-- how many bytes come before the first blank
 abbrev pub word_length : List ℕ → ℕ
 word_length [] = 0
 word_length (b ∷ text) = if b == 32 then 0 else suc (word_length text)
 
--- what stands before it
+-- what comes before it
 abbrev pub word_of : List ℕ → List ℕ
 word_of text = take (word_length text) text
 
--- what stands behind it, where there is one
+-- what comes after it, if there is one
 abbrev pub rest_of : List ℕ → Option (List ℕ)
 rest_of text = if nat_lt (word_length text) (length text) then Some (drop (word_length text + 1) text) else None
 
@@ -43,7 +43,7 @@ end_fact values = if is_end values.1 then Some (End values.0 values.1) else None
 unfoldable pub printed_fact : List ℕ → Option Fact
 printed_fact text = option_and_then (λ thread. option_map (λ rest. Printed thread rest) (rest_of text)) (value_of (word_of text))
 
--- the fact of a name with nothing behind it
+-- the fact of a name with nothing after it
 unfoldable pub bare_fact : List ℕ → Option Fact
 bare_fact name =
     if bytes_eq name (codes "fault") then Some Fault else
@@ -65,11 +65,11 @@ fact_with name (Some arguments) = fact_named name arguments
 abbrev pub fact_of : List ℕ → Option Fact
 fact_of text = fact_with (word_of text) (rest_of text)
 
--- how many `!` stand at its start
+-- how many `!` are at its start
 abbrev pub marks : List ℕ → ℕ
 marks [] = 0
 marks (b ∷ text) = if b == 33 then suc (marks text) else 0
 
--- the condition that a text writes: each `!` denies what is behind it
+-- the condition that a text writes: each `!` denies what is after it
 abbrev pub condition_of : List ℕ → Option Condition
 condition_of text = option_map (λ fact. record { is_denied = marks text % 2 == 1; fact = fact }) (fact_of (drop (marks text) text))

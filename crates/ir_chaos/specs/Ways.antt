@@ -1,4 +1,4 @@
--- The ways in which a seed chooses who goes on.
+-- The ways in which a seed chooses which thread continues.
 use Rattle.std.specs.Prelude.{ℕ, ◌+◌, ◌/◌, ◌%◌, ◌==◌, if◌then◌else◌}
 use Rattle.ir_chaos.specs.declared.way.Way.{Way}
 use Rattle.ir_chaos.specs.declared.way.Way.TheVariants.{Walk, Priorities, Mix}

@@ -1,4 +1,4 @@
-//! What chooses the thread that goes on.
+//! What chooses the thread that continues.
 
 ghost use Rattle.ir_chaos.specs.Choices.{chosen, chosen_in_rounds, chosen_at_random, Serves, before_rounds, chooser_of};
 ghost use Rattle.std.specs.Prelude.{◌≡◌, ◌<◌, ◌≤◌, length, All, IfOk, OnOk};
@@ -10,7 +10,7 @@ use crate::way::Way;
 use rand_pcg::Pcg32;
 use std::alloc::{AllocError, Global};
 
-/// Chooses the thread that goes on.
+/// Chooses the thread that continues.
 #[derive(Drop)]
 pub enum Chooser {
     // In rounds: after the thread of this number.
@@ -54,7 +54,7 @@ impl Chooser {
         Chooser::Rounds(u8::MAX)
     }
 
-    /// The chooser of a seed, for a guest of so many threads, whose run in rounds has so many choices.
+    /// The chooser of a seed, for a guest of `threads` threads, whose run in rounds has `choices` choices.
     ///
     /// # Errors
     /// Out of memory.
@@ -82,7 +82,7 @@ impl Chooser {
         }
     }
 
-    /// Who goes on of these threads of a guest that has so many.
+    /// Which of these threads of a guest that has `threads` threads continues.
     pub fn choose(&mut self, threads: usize, ready: &[u8]) -> u8
         requires some { 0 < length ready.now }
         requires few { length ready.now < 256 }

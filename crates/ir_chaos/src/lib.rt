@@ -6,7 +6,6 @@ mod condition;
 mod draw;
 mod laws;
 mod note;
-mod number;
 mod outcome;
 mod ranking;
 mod run;

@@ -7,7 +7,7 @@ ghost use Rattle.ir_record.specs.Turns.{order_of_turns};
 use crate::stop::Stop;
 use ir_record::Turns;
 
-// So many turns more of this thread are added to its last ones, if they fit.
+// `count` turns more of this thread are added to its last ones, if they fit.
 fn lengthen(turns: &mut Vec<Turns>, thread: u8, count: u64) -> bool
     ensures noted { result ≡ true → order_of_turns turns.new.items ≡ order_of_turns turns.old.items ++ replicate count thread }
     ensures same { result ≡ false → turns.new ≡ turns.old }
@@ -28,7 +28,7 @@ fn lengthen(turns: &mut Vec<Turns>, thread: u8, count: u64) -> bool
     }
 }
 
-// So many turns more of this thread, for which no memory is made.
+// `count` turns more of this thread, for which no memory is made.
 pub fn note(turns: &mut Vec<Turns>, thread: u8, count: u64) -> Result<(), Stop>
     ensures noted { OnOk result (order_of_turns turns.new.items ≡ order_of_turns turns.old.items ++ replicate count thread) }
     ensures full { OnErr result (vec_len turns.new ≡ vec_capacity turns.new) }

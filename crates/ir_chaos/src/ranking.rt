@@ -63,7 +63,7 @@ fn leader(priorities: &[u64], ready: &[u8]) -> u8
     best
 }
 
-// The priorities of so many threads, each of a word.
+// The priorities of `threads` threads, each of a word.
 fn priorities(alloc: Global, random: &mut Pcg32, threads: usize) -> Result<Vec<u64>, AllocError>
     ensures value { IfOk result (λ v. v.items ≡ first_priorities threads random.old) }
     ensures generator { OnOk result (random.new ≡ after_words threads random.old) }
@@ -76,7 +76,7 @@ fn priorities(alloc: Global, random: &mut Pcg32, threads: usize) -> Result<Vec<u
     Ok(priorities)
 }
 
-// So many places, each one of so many choices.
+// `count` places, each one of `choices` choices.
 fn places(
     alloc: Global,
     random: &mut Pcg32,
@@ -95,7 +95,7 @@ fn places(
 }
 
 impl Ranking {
-    // So many threads, of whose runs one has so many choices, and so many places.
+    // The ranking of `threads` threads, of whose runs one has `choices` choices, with `count` places.
     pub fn new(
         alloc: Global,
         random: &mut Pcg32,

@@ -78,7 +78,7 @@ impl<W: World> Runner<'_, W> {
         Ok(asked)
     }
 
-    // Thread t goes on to its next rest, while each lower thread rests.
+    // Thread t continues to its next rest, while each lower thread rests.
     fn go_on(&mut self, tries: bool, t: usize) -> Result<(), Stop>
         requires ready { IsReady W.broken self.old }
         requires thread { t < length self.old.flat.threads }
@@ -100,7 +100,7 @@ impl<W: World> Runner<'_, W> {
         }
     }
 
-    // Each thread goes on to its first rest.
+    // Each thread continues to its first rest.
     fn go_to_rests(&mut self, tries: bool) -> Result<(), Stop>
         requires ready { IsReady W.broken self.old }
         ensures ran { OnOk result ((c : Chooser) → Ran tries (moment_of W.answers self.old) c (moment_of W.answers self.new) c) }
@@ -129,7 +129,7 @@ impl<W: World> Runner<'_, W> {
         ready
     }
 
-    // Thread t, which is chosen, takes a step and goes on to its next rest.
+    // Thread t, which is chosen, takes a step and continues to its next rest.
     fn turn(&mut self, tries: bool, t: usize) -> Result<(), Stop>
         requires ready { IsReady W.broken self.old }
         requires thread { t < length self.old.flat.threads }

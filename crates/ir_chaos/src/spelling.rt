@@ -5,8 +5,8 @@ ghost use Rattle.ir_chaos.specs.Spelling.{two_values, three_values, printed_fact
 ghost use Rattle.std.specs.Prelude.{◌≡◌, option_map};
 
 use crate::condition::{Condition, Fact};
-use crate::number::value_of;
 use crate::text::{cut, marks};
+use ir_command::parse_u32;
 
 // The greatest number of an end.
 const MOST_END: u32 = 14;
@@ -17,8 +17,8 @@ fn two_values(text: &[u8]) -> Option<(u32, u32)>
     ensures { result ≡ two_values text.now }
 {
     let (word, rest) = cut(text);
-    let first = value_of(word)?;
-    let second = value_of(rest?)?;
+    let first = parse_u32(word)?;
+    let second = parse_u32(rest?)?;
     Some((first, second))
 }
 
@@ -28,7 +28,7 @@ fn three_values(text: &[u8]) -> Option<(u32, u32, u32)>
     ensures { result ≡ three_values text.now }
 {
     let (word, rest) = cut(text);
-    let first = value_of(word)?;
+    let first = parse_u32(word)?;
     let (second, third) = two_values(rest?)?;
     Some((first, second, third))
 }
@@ -39,11 +39,11 @@ fn printed_fact(text: &[u8]) -> Option<Fact<'_>>
     ensures { option_map as_fact result ≡ printed_fact text.now }
 {
     let (word, rest) = cut(text);
-    let thread = value_of(word)?;
+    let thread = parse_u32(word)?;
     Some(Fact::Printed(thread, rest?))
 }
 
-// The fact of a name with nothing behind it.
+// The fact of a name with nothing after it.
 #[tactic(auto, unfolding(crate::specs::Spelling::bare_fact))]
 fn bare_fact<'a>(name: &[u8]) -> Option<Fact<'a>>
     ensures { option_map as_fact result ≡ bare_fact name.now }
@@ -92,7 +92,7 @@ fn fact_of(text: &[u8]) -> Option<Fact<'_>>
 }
 
 /// The condition that a text writes: `end T E`, `code T V`, `word O I V`, `out T TEXT`, `fault`, `budget`, or `!` and a condition. One
-/// blank stands between two words, and TEXT is all that stands behind one. Numbers are decimal, or `0x` and hexadecimal digits.
+/// blank is between two words, and TEXT is all that comes after one. Numbers are decimal, or `0x` and hexadecimal digits.
 pub fn condition_of(text: &[u8]) -> Option<Condition<'_>>
     ensures { option_map as_condition result ≡ condition_of text.now }
 {

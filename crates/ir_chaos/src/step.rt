@@ -58,7 +58,7 @@ pub fn go(flat: &mut Flat<'_>, t: usize, asked: Ask, value: u32)
     let _ = flat.take(t, asked, value);
 }
 
-// Thread t, which tries to enter an object, does where it can, and else goes on without.
+// Thread t, which tries to enter an object, does if it can, and else continues without.
 pub fn enter_or_pass(flat: &mut Flat<'_>, t: usize, asked: Ask) -> u32
     requires thread { t < length flat.old.threads }
     requires asked { asked ≡ ask_of flat.old.code (thread_of flat.old t) }

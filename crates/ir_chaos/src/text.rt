@@ -17,7 +17,7 @@ pub fn occurs(text: &[u8], bytes: &[u8]) -> bool
     text.is_empty()
 }
 
-// How many bytes stand before the first blank.
+// How many bytes come before the first blank.
 #[tactic(auto, using(crate::proofs::Texts::word_ends, crate::proofs::Texts::word_goes_on, crate::proofs::Texts::word_all))]
 fn word_length(text: &[u8]) -> usize
     ensures value { result ≡ word_length text.now }
@@ -31,7 +31,7 @@ fn word_length(text: &[u8]) -> usize
     text.len()
 }
 
-// The bytes before the first blank, and those behind it, if there is one.
+// The bytes before the first blank, and those after it, if there is one.
 pub fn cut(text: &[u8]) -> (&[u8], Option<&[u8]>)
     ensures word { result.0.now ≡ word_of text.now }
     ensures rest { option_map (λ s. s.now) result.1 ≡ rest_of text.now }
@@ -44,7 +44,7 @@ pub fn cut(text: &[u8]) -> (&[u8], Option<&[u8]>)
     (word, Some(&text[length + 1..]))
 }
 
-// How many `!` stand at the text's start.
+// How many `!` are at the text's start.
 #[tactic(auto, using(crate::proofs::Texts::marks_end, crate::proofs::Texts::marks_go_on, crate::proofs::Texts::marks_all))]
 pub fn marks(text: &[u8]) -> usize
     ensures value { result ≡ marks text.now }

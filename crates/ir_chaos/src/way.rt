@@ -3,12 +3,12 @@
 ghost use Rattle.ir_chaos.specs.Ways.{way_of};
 ghost use Rattle.std.specs.Prelude.{◌≡◌};
 
-/// How a seed chooses which thread goes on.
+/// How a seed chooses which thread continues.
 #[derive(Clone, Copy, Debug, PartialEq, Eq)]
 pub enum Way {
     /// Each thread that has a step goes with the same chance.
     Walk,
-    /// The thread of the highest priority goes. The priorities are random, and whoever would go falls at so many places less one.
+    /// The thread of the highest priority goes. The priorities are random, and the thread that would go falls at one place fewer than this.
     Priorities(u32),
     /// An even seed walks, an odd one goes by priorities.
     Mix,

@@ -69,7 +69,7 @@ pub fn lost_update(alloc: Global) -> Result<Image, Fail>
 // How many choices a run made, or why it stopped, and the guest and its turns.
 pub type Ran<'a> = (Result<u32, Stop>, Runner<'a, Silent>);
 
-// A run of the guest by a seed, with room for so many turns.
+// A run of the guest by a seed, with room for `room` turns.
 pub fn run<'a>(
     alloc: Global,
     image: &'a Image,

@@ -1,4 +1,4 @@
-//! Tests of runs by choosers and of conditions. They stand apart, since a crate with tests is proved twice.
+//! Tests of runs by choosers and of conditions. They are a crate of their own, since a crate with tests is proved twice.
 #![tactic(auto)]
 
 #[cfg(test)]

@@ -42,7 +42,7 @@ const CHOSEN: [(Way, [&[u8; 4]; 10]); 4] = [
     ),
 ];
 
-// So many turns more of a thread.
+// `count` turns more of a thread.
 fn add(turns: &mut Vec<Turns>, thread: u8, count: u64) -> Result<(), AllocError> {
     if let Some(last) = turns.pop() {
         if last.thread == thread {

@@ -32,7 +32,7 @@ impl World for Silent {
     }
 }
 
-/// So many of them.
+/// `count` of them.
 ///
 /// # Errors
 /// Out of memory.

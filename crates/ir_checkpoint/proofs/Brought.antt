@@ -12,7 +12,7 @@ use Rattle.ir_weave.specs.Standing.{Standing, StandsAt, flat_in}
 use Rattle.ir_weave.specs.States.{positions}
 use Rattle.ir_checkpoint.specs.Checkpoints.{Stands}
 
--- what stands at a cut stands at its own positions
+-- what is at a cut is at its own positions
 pub stands_own : (f : FittedTrace) (p : Cut) (s : Standing) → StandsAt f p s → Stands f s
 stands_own f p s h = subst (λ (q : Cut). StandsAt f q s) (fun_ext (λ t. sym (h.at.steps t))) h
 

@@ -1,4 +1,4 @@
--- States that are kept in which a thread stands below a position.
+-- States that are kept in which a thread is below a position.
 use Rattle.std.proofs.Common.{◌≡◌, ◌<◌, ◌≤◌, ℕ, List, length, Option, Some, None, option_map, sym, ap, ◌∙◌, subst, inr, arith}
 use Rattle.std.proofs.lemmas.List.{length-map}
 use Rattle.std.proofs.lemmas.Option.{same_Some}
@@ -32,7 +32,7 @@ cut_length f kept n cut all found =
     let k = cut_found kept n cut (kept_as n kept) (λ i. kept_as n kept) found in
     ap length k.same ∙ length-map k.one.state.threads (λ (x : thread.State). x.steps) ∙ (one_stands f kept n k.one all k.is).at.threads
 
--- where thread t stands in it
+-- where thread t is in it
 pub is_below : (kept : List Kept) (n t p position : ℕ) (cut : List ℕ) → Some cut ≡ option_map cut_in (kept_as n kept) → p ≡ cut_of cut t
     → p < position → IsBelow kept t position (record { number = n; position = p })
 is_below kept n t p position cut found at less =

@@ -68,7 +68,7 @@ pub from_own : (f : FittedTrace) (s : Standing) (target from cut : List ℕ) →
     → IsOnWay f (cut_of from) (cut_of target) cut → IsOnWay f (positions (flat_in f s)) (cut_of target) cut
 from_own f s target from cut is way = subst (λ (q : Cut). IsOnWay f q (cut_of target) cut) (own_cut f s from is) way
 
--- what stands at such a cut isn't past the target
+-- what is at such a cut isn't past the target
 pub below_target : (f : FittedTrace) (low : Cut) (target cut : List ℕ) (s : Standing) → IsOnWay f low (cut_of target) cut
     → StandsAt f (cut_of cut) s → (t : ℕ) → positions (flat_in f s) t ≤ cut_of target t
 below_target f low target cut s way at t = let same = at.at.steps t in let le = way.below t in omega (arith, same, le)

@@ -1,4 +1,4 @@
-//! States that are kept in which a thread stands below a position.
+//! States that are kept in which a thread is below a position.
 
 ghost use Rattle.std.specs.Prelude.{◌<◌, length, IfOk, IfSome};
 ghost use Rattle.ir_weave.specs.Standing.{flat_in};
@@ -11,14 +11,14 @@ use ir_keep::{Keeper, MOST_STATES};
 use ir_replay::State;
 use std::alloc::AllocError;
 
-/// A state that is kept: its number, and where the thread that was asked for stands there.
+/// A state that is kept: its number, and the position in it of the thread that was asked for.
 #[derive(Clone, Copy)]
 pub struct Found {
     pub number: u32,
     pub position: u64,
 }
 
-// The kept state at a place, if thread t stands below the position there.
+// The kept state at a place, if thread t is below the position in it.
 fn below_at(
     fitted: &Fitted,
     keeper: &Keeper,
@@ -42,7 +42,7 @@ fn below_at(
     })
 }
 
-/// Whether the thread stands further on than in the best so far.
+/// Whether the thread is further on than in the best so far.
 pub fn is_further(best: Option<Found>, found: Found) -> bool {
     match best {
         None => true,
@@ -50,7 +50,7 @@ pub fn is_further(best: Option<Found>, found: Found) -> bool {
     }
 }
 
-/// The state with the most steps of thread t, of those in which it stands below the position.
+/// The state with the most steps of thread t, of those in which it is below the position.
 pub fn last_below(fitted: &Fitted, keeper: &Keeper, t: usize, position: u64) -> Option<Found>
     requires kept { AllStand fitted.now keeper.now.kept }
     requires thread { t < length fitted.now.guest.entries }

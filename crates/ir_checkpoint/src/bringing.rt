@@ -1,4 +1,4 @@
-//! How threads stand to a target, and where moves to it stop.
+//! Where threads are relative to a target, and where moves to it stop.
 
 ghost use Rattle.std.specs.Prelude.{◌≡◌, ◌<◌, ◌≤◌, ℕ, true, false, length, slice_index_or, IfSome};
 ghost use Rattle.ir_flat.specs.Flat.{idle};
@@ -69,7 +69,7 @@ pub fn steps_before(cut: &Cut) -> u64 {
     steps
 }
 
-/// How many steps a move of so many goes from one stop to the next, far from its target.
+/// How many steps a move of `steps` steps goes from one stop to the next, far from its target.
 pub fn gap_of(steps: u64) -> u64 {
     (steps / GAPS).max(LEAST_GAP)
 }

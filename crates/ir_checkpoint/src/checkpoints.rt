@@ -215,7 +215,7 @@ impl Checkpoints {
         self.nearest(fitted, target)
     }
 
-    // A state in which thread t stands below a position, the one with the most steps of it; the start, where there is none.
+    // A state in which thread t is below a position, the one with the most steps of it; the start, if there is none.
     fn last_before(
         &self,
         alloc: Global,
@@ -240,8 +240,8 @@ impl Checkpoints {
         }
     }
 
-    /// A state in which thread t stands below a position: of all that are kept the one with the most steps of thread t, and the start
-    /// where there is none. Where memory runs out the states that moves have passed are given up, and it is tried again.
+    /// A state in which thread t is below a position: of all that are kept the one with the most steps of thread t, and the start
+    /// if there is none. If memory runs out, the states that moves have passed are given up, and it is tried again.
     ///
     /// # Errors
     /// Out of memory.
@@ -267,7 +267,7 @@ impl Checkpoints {
         self.last_before(alloc, fitted, t, position)
     }
 
-    // Gives up the state that moves have passed which is missed the least, seen from so many steps.
+    // Gives up the state that moves have passed which is missed the least, seen from `present` steps.
     fn give_up(&mut self, fitted: &Fitted, present: u64)
         requires { AreCheckpoints fitted.now self.old }
         ensures { AreCheckpoints fitted.now self.new }
@@ -305,7 +305,7 @@ impl Checkpoints {
         self.note(fitted, state, steps_of(state.threads()));
     }
 
-    // Goes on towards the target, which no thread is past, until it is near or memory runs out, and keeps states on the way.
+    // Advances towards the target, which no thread is past, until it is near or memory runs out, and keeps states on the way.
     fn approach<R: Threads + Clock + Sync, G: Gate + Sync>(
         &mut self,
         rt: &R,
@@ -341,7 +341,8 @@ impl Checkpoints {
         state
     }
 
-    // Goes on to the target, which no thread is past. Where memory runs out the states that moves have passed are given up, and it goes on.
+    // Advances to the target, which no thread is past. If memory runs out, the states that moves have passed are given up, and it
+    // continues.
     fn forward<R: Threads + Clock + Sync, G: Gate + Sync>(
         &mut self,
         rt: &R,
@@ -371,11 +372,11 @@ impl Checkpoints {
         }
     }
 
-    /// Brings threads and objects to the target: by `advance`, from where they stand, or from the kept state at or below the target with
-    /// the most steps before it, where that is nearer or a thread is past its target. On a long way it keeps states that it passes: of
-    /// those that are the fewest steps apart, as seen from the target, one is given up when there are 64. Where memory lacks for one of
-    /// these, the move goes on without it; where it lacks for the move itself they are all given up, and it goes on. Where they stand at
-    /// the target already it takes no memory, and succeeds.
+    /// Brings threads and objects to the target: by `advance`, from where they are, or from the kept state at or below the target with
+    /// the most steps before it, if that is nearer or a thread is past its target. On a long way it keeps states that it passes: of
+    /// those that are the fewest steps apart, as seen from the target, one is given up when there are 64. If memory runs out for one
+    /// of these, the move continues without it; if it runs out for the move itself, they are all given up, and it continues. If
+    /// threads and objects are already at the target, it takes no memory and succeeds.
     ///
     /// # Errors
     /// Out of memory, with the threads and objects at some consistent cut.

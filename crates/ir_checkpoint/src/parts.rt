@@ -24,7 +24,7 @@ fn own_cut(alloc: Global, threads: &[Thread]) -> Result<Cut, AllocError>
     Ok(Cut::new(positions))
 }
 
-// The end of the first of so many pieces of the way between two positions.
+// The end of the first of `pieces` pieces of the way between two positions.
 fn first_piece(from: u64, to: u64, pieces: u64) -> u64
     requires some { 0 < pieces }
     requires order { from ≤ to }
@@ -75,8 +75,8 @@ fn first_part(
     Ok(cut)
 }
 
-/// A consistent cut between the threads' own positions and the target, at which each thread has gone about one of so many pieces of its
-/// way.
+/// A consistent cut between the threads' own positions and the target, at which each thread has gone about one of `pieces` pieces of
+/// its way.
 ///
 /// # Errors
 /// Out of memory.

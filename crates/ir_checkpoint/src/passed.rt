@@ -7,10 +7,10 @@ use arrayvec::ArrayVec;
 #[cfg(test)]
 mod tests;
 
-/// The most that are kept at once.
+/// The most that are kept at the same time.
 pub const MOST_PASSED: usize = 64;
 
-// So many times a gap is taken before it is divided by a distance: both are at most 2^43.
+// A gap is multiplied by this before it is divided by a distance: both are at most 2^43.
 const SCALE: u64 = 1 << 20;
 
 /// A state that a move has passed: the number under which it is kept, and how many steps its threads had taken in all.
@@ -88,8 +88,8 @@ impl Passed {
         least
     }
 
-    /// Takes away the one that is missed the least, where so many steps are before the present: gaps between the others then stay about in
-    /// proportion to their distance from the present. None where there is none.
+    /// Takes away the one that is missed the least, with `present` steps before the present: gaps between the others then stay about in
+    /// proportion to their distance from the present. None if there is none.
     pub fn give_up(&mut self, present: u64) -> Option<PassedCut> {
         let index = self.least_useful(present);
         self.cuts.swap_pop(index)

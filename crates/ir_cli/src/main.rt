@@ -16,7 +16,7 @@ use std::sync::Wait;
 use std::thread::Threads;
 use std::time::Clock;
 
-// Says why the program stops, in one line on standard error. Nobody is left to tell where that fails.
+// Says why the program stops, in one line on standard error. If that fails, there is no one left to report it to.
 fn complain(rt: &impl Eprint, why: &str) {
     let _ = rt.eprintln(format_args!("ir: {why}"));
 }
@@ -67,7 +67,7 @@ fn run<R: Threads + Wait + Sync + Clock + Eprint + AllocGlobal>(
 
 fn main(rt: HostRuntime) -> ExitCode {
     let status = match stand_ins(&rt) {
-        // They stand in until all is done.
+        // They are kept until all is done.
         Ok(_kept) => run(&rt, &rt),
         Err(_) => {
             complain(

@@ -9,7 +9,7 @@ use std::array;
 use std::sync::atomic::{AtomicU32, AtomicU64, Ordering};
 use std::time::{Clock, Instant};
 
-// A thread looks at the clock once in so many of its steps.
+// A thread looks at the clock once in this number of its steps.
 const STEPS_FOR_A_LOOK: u64 = 1 << 22;
 
 /// Shows on standard error, once a second, how many private steps all threads of a recording have taken.

@@ -13,11 +13,11 @@ fn stand_in(rt: &HostRuntime, stream: &impl AsFd, how: &OpenOptions) -> io::Resu
     }
 }
 
-/// What stands in for closed standard streams while it is kept, so that no other file gets the number of one, and takes
+/// What replaces closed standard streams while it is kept, so that no other file gets the number of one, and takes
 /// what is meant for it. Reading and writing such a stream fails, as it does where it is closed.
 ///
 /// # Errors
-/// A stream is closed and nothing can stand in for it.
+/// A stream is closed and nothing can replace it.
 pub fn stand_ins(rt: &HostRuntime) -> io::Result<[Option<File>; 3]> {
     let mut unread = OpenOptions::new();
     unread.write(true);

@@ -1,4 +1,4 @@
--- What the counts of a recorded trace tell of its events.
+-- What the counts of a recorded trace say of its events.
 use Rattle.std.proofs.Common.{◌≡◌, ℕ, suc, zero, ◌+◌, ◌<◌, ◌≤◌, inl, inr, Some, None, List, [], ◌∷◌, length, map, get_or, vec_len, refl, sym, ap, ◌∙◌, subst, arith}
 use Rattle.std.specs.Prelude.{slice_get}
 use Rattle.std.specs.List.{AllByRecursion}
@@ -48,7 +48,7 @@ may_stand : (profile : Profile) (objects : ℕ) (es : List Event) → AllByRecur
 may_stand profile objects [] all = tt
 may_stand profile objects (e ∷ es) all = ((profile, all.0), may_stand profile objects es all.1)
 
--- the events of a thread may stand in a trace of so many objects
+-- the events of a thread may be in a trace of as many objects as are counted
 pub thread_stands : (r : Recorded) → IsRecorded r → (i : ℕ) (c : EntryCounts) → i < length r.threads → CountsFirst r i c
     → AllByRecursion (MayStand (vec_len c.objects)) (recorded_thread r i).events
 thread_stands r fits i c l first = subst (λ n. AllByRecursion (MayStand n) (recorded_thread r i).events) (sym first.objects)
@@ -104,7 +104,7 @@ as_counted : (n : ℕ) (emitted : Trace) (c : EntryCounts) → CountsAll n emitt
     → cause_by (reads_of c) (writes_of c) m ≡ cause_by (reads_in n emitted) (writes_in n emitted) m
 as_counted n emitted c all m = λ i. cause_by (λ o v. all.reads o v i) (λ o v. all.writes o v i) m
 
--- what has a cause stands in the trace
+-- what has a cause is in the trace
 entry_of : (n : ℕ) (emitted : Trace) (t i : ℕ) (d : Cause) → HasCause n emitted t i d → (m : Label) × At (emitted.logs t) i m
 entry_of n emitted t i Unmade has = (In has.object has.access (suc has.version) has.left, has.entry)
 entry_of n emitted t i Twice has = (In has.1.object Writing has.1.version has.1.left, has.1.entry)

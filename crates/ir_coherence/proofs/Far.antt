@@ -1,4 +1,4 @@
--- How often a number stands in a list, by where those below it end and where those above it begin.
+-- How often a number occurs in a list, by where those below it end and where those above it begin.
 use Rattle.std.proofs.Common.{◌≡◌, ℕ, suc, zero, ◌+◌, ◌-◌, ◌<◌, ◌≤◌, cond, eqb, List, [], ◌∷◌, length, sym, ap, ◌∙◌, subst, arith, eq-eqb, ne_eqb}
 use Rattle.std.proofs.lemmas.List.Sums.{sum_by-append}
 use Rattle.ir_coherence.specs.Counting.{occurrences, IsBelow, IsFrom}

@@ -46,7 +46,7 @@ at_kept f xs i o x w l e same = elim (cases_eq i o) [
   | inr ne ↦ at_set_other f xs i o w ne
 ]
 
--- what stands in the list is what is written, or stood there
+-- what is in the list is what is written, or was there before
 pub set_seen : {X : Type 0} (xs : List X) (i o : ℕ) (w y : X) → slice_get (slice_set xs i w) o ≡ Some y → (y ≡ w)
     ⊎ ((i ≡ o → ⊥) × (slice_get xs o ≡ Some y))
 set_seen [] i o w y e = absurd (let bad : None ≡ Some y = e in cc)

@@ -7,7 +7,7 @@ use Rattle.ir_runs.specs.Coherent.{sum_below}
 use Rattle.ir_coherence.specs.Counting.{writes_one, writes, writes_in}
 use Rattle.ir_runs.specs.Cuts.{At}
 
--- one thing stands at a place
+-- one thing is at a place
 pub at_same : {A : Type 0} (xs : List A) (i : ℕ) (x y : A) → At xs i x → At xs i y → x ≡ y
 at_same [] i x y a b = absurd a
 at_same (z ∷ zs) zero x y a b = sym a ∙ b

@@ -8,7 +8,7 @@ use Rattle.ir_runs.specs.Cuts.{At}
 use Rattle.ir_coherence.specs.declared.cause.Cause.{Cause}
 use Rattle.ir_coherence.specs.declared.cause.Cause.TheVariants.{Unmade, Twice, Readers}
 
--- event i of thread t is an entry at a version after the first, and no write entry of the trace stands at the version before
+-- event i of thread t is an entry at a version after the first, and no write entry of the trace is at the version before
 pub record IsUnmade (tr : Trace) (t i : ℕ) : Type 0 where
   pub object : ℕ
   pub access : Access
@@ -17,7 +17,7 @@ pub record IsUnmade (tr : Trace) (t i : ℕ) : Type 0 where
   pub entry : At (tr.logs t) i (In object access (suc version) left)
   pub unmade : (u j k : ℕ) → At (tr.logs u) j (In object Writing version k) → ⊥
 
--- event i of thread t is a write entry, and another write entry of the trace stands at its version
+-- event i of thread t is a write entry, and another write entry of the trace is at its version
 pub record IsTwice (tr : Trace) (t i : ℕ) : Type 0 where
   pub object : ℕ
   pub version : ℕ
@@ -29,7 +29,8 @@ pub record IsTwice (tr : Trace) (t i : ℕ) : Type 0 where
   pub another : At (tr.logs thread) event (In object Writing version readers)
   pub apart : t ≡ thread → i ≡ event → ⊥
 
--- event i of thread t is a write entry with another number of readers than read entries of its version stand in the logs of the n threads
+-- event i of thread t is a write entry with another number of readers than there are read entries of its version in the logs of the n
+-- threads
 pub record IsMiscounted (n : ℕ) (tr : Trace) (t i : ℕ) : Type 0 where
   pub object : ℕ
   pub version : ℕ
@@ -43,7 +44,7 @@ HasCause n tr t i Unmade = IsUnmade tr t i
 HasCause n tr t i Twice = (IsUnmade tr t i → ⊥) × IsTwice tr t i
 HasCause n tr t i Readers = (IsUnmade tr t i → ⊥) × (IsTwice tr t i → ⊥) × IsMiscounted n tr t i
 
--- event j of thread u stands before event i of thread t
+-- event j of thread u comes before event i of thread t
 abbrev pub IsBefore : ℕ → ℕ → ℕ → ℕ → Type 0
 IsBefore u j t i = (u < t) ⊎ ((u ≡ t) × (j < i))
 

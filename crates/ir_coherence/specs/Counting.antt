@@ -1,4 +1,4 @@
--- How many entries of a trace there are of each object at each version, and what these numbers tell of an event.
+-- How many entries of a trace there are of each object at each version, and what these numbers say of an event.
 use Rattle.std.specs.Prelude.{◌≡◌, ℕ, ◌+◌, ◌-◌, ◌^◌, ◌<◌, ◌≤◌, Bool, cond, eqb, nat_lt, ◌==◌, ◌&&◌, if◌then◌else◌, List, [], ◌∷◌, Option, Some, None, slice_index, slice_get, vec_len, length}
 use Rattle.std.specs.Option.{option_map_or}
 use Rattle.std.specs.List.{sum_by}
@@ -16,7 +16,7 @@ use Rattle.ir_coherence.specs.declared.version_counts.VersionCounts.{VersionCoun
 use Rattle.ir_coherence.specs.declared.entry_counts.ObjectCounts.{ObjectCounts}
 use Rattle.ir_coherence.specs.declared.entry_counts.EntryCounts.{EntryCounts}
 
--- an event that may stand in a trace of so many objects, of whichever profile
+-- an event that may be in a trace of `objects` objects, of whichever profile
 abbrev pub MayStand : ℕ → Event → Type 0
 MayStand objects event = (profile : Profile) × IsEvent profile objects event
 
@@ -34,7 +34,7 @@ abbrev pub writes : ℕ → ℕ → List Label → ℕ
 writes o v [] = 0
 writes o v (k ∷ ks) = writes_one o v k + writes o v ks
 
--- how many read entries of object o at version v stand in the logs of the n threads
+-- how many read entries of object o at version v are in the logs of the n threads
 abbrev pub reads_in : ℕ → Trace → ℕ → ℕ → ℕ
 reads_in n tr o v = sum_below n (λ u. reads o v (tr.logs u))
 
@@ -46,8 +46,8 @@ writes_in n tr o v = sum_below n (λ u. writes o v (tr.logs u))
 abbrev pub nobody_made : (ℕ → ℕ → ℕ) → ℕ → ℕ → Bool
 nobody_made w o v = nat_lt 0 v && (w o (v - 1) == 0)
 
--- the first cause for which an event breaks coherence, where so many read entries and write entries stand in the trace at each version of
--- each object
+-- the first cause for which an event breaks coherence, where r counts the read entries and w the write entries of the trace at each version
+-- of each object
 abbrev pub cause_by : (ℕ → ℕ → ℕ) → (ℕ → ℕ → ℕ) → Label → Option Cause
 cause_by r w Quiet = None
 cause_by r w (Answer k x) = None
@@ -59,7 +59,7 @@ cause_by r w (In o Writing v l) =
 cause_by r w (Refused o) = None
 cause_by r w (Out o a v) = None
 
--- how often v stands among these
+-- how often v occurs among these
 abbrev pub occurrences : ℕ → List ℕ → ℕ
 occurrences v xs = sum_by (λ w. cond (eqb w v) 1 0) xs
 
@@ -107,7 +107,7 @@ pub record SameCounts (old new : EntryCounts) : Type 0 where
   pub reads : (o v : ℕ) → reads_of new o v ≡ reads_of old o v
   pub writes : (o v : ℕ) → writes_of new o v ≡ writes_of old o v
 
--- so many objects, and nothing is counted of any
+-- n objects, and nothing is counted of any
 pub record CountsNone (n : ℕ) (c : EntryCounts) : Type 0 where
   pub objects : vec_len c.objects ≡ n
   pub reads : (o v : ℕ) → reads_of c o v ≡ 0
@@ -119,7 +119,7 @@ pub record CountsMore (old new : EntryCounts) (ks : List Label) : Type 0 where
   pub reads : (o v : ℕ) → reads_of new o v ≡ reads_of old o v + reads o v ks
   pub writes : (o v : ℕ) → writes_of new o v ≡ writes_of old o v + writes o v ks
 
--- each count may grow by so many
+-- each count may grow by `more`
 pub record HasRoom (c : EntryCounts) (more : ℕ) : Type 0 where
   pub reads : (o v : ℕ) → reads_of c o v + more < 2 ^ 32
   pub writes : (o v : ℕ) → writes_of c o v + more < 2 ^ 32

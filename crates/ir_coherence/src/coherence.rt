@@ -51,10 +51,11 @@ fn first_among(counts: &EntryCounts, trace: &Trace) -> Option<Incoherence>
 }
 
 /// The first event that breaks a trace's coherence, by thread and then by place in its log, and its first cause; none
-/// where the trace is coherent: each entry at a version after the first has the write entry that made its version, no two
-/// write entries of an object stand at one version, and each write entry names as many readers as read entries of its
-/// version stand in the trace. Time and memory are linear in the events where their versions are no more than the write
-/// entries; the others are sorted, and looking one up takes the logarithm of their number at most.
+/// if the trace is coherent. A trace is coherent under three conditions. Each entry at a version after the first has the
+/// write entry that made its version. No two write entries of an object are at one version. Each write entry names as many
+/// readers as there are read entries of its version in the trace. Time and memory are linear in the events where their
+/// versions are no more than the write entries; the others are sorted, and looking one up takes the logarithm of their
+/// number at most.
 ///
 /// # Errors
 /// Out of memory.

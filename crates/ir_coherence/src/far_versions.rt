@@ -1,4 +1,4 @@
-//! Versions, one for each entry, and how often each stands among them.
+//! Versions, one for each entry, and how often each occurs among them.
 
 ghost use Rattle.std.specs.Prelude.{◌≡◌, [], ◌∷◌, ◌++◌, ◌-◌, ◌<◌, ℕ, OnOk};
 ghost use Rattle.std.specs.List.Sorted.{IsNonDecreasing};
@@ -18,7 +18,7 @@ pub struct FarVersions {
     shift: u32,
 }
 
-// For so many versions, by how many bits a version is shifted that gives its block.
+// For `count` versions, by how many bits a version is shifted to give its block.
 fn shift_of(count: usize) -> u32 {
     let mut shift = 32;
     for bits in 0..26u32 {
@@ -95,7 +95,7 @@ impl FarVersions {
         Ok(())
     }
 
-    // So many versions are below the number: as many as guessed, where that is seen at once, or as many as known.
+    // At least this many versions are below the number: as many as guessed if one look shows that, or else as many as known.
     fn raised(&self, number: u64, known: usize, guess: usize) -> usize
         requires sorted { IsNonDecreasing self.now.versions.items }
         requires known { IsBelow self.now.versions.items number known }
@@ -111,7 +111,7 @@ impl FarVersions {
         }
     }
 
-    // From this place on no version is below the number: from the guessed one, where that is seen at once, or from the known one.
+    // From this place on no version is below the number: from the guessed one if one look shows that, or else from the known one.
     fn lowered(&self, number: u64, known: usize, guess: usize) -> usize
         requires sorted { IsNonDecreasing self.now.versions.items }
         requires known { IsFrom self.now.versions.items number known }
@@ -151,7 +151,7 @@ impl FarVersions {
         }
     }
 
-    // A guess at how many versions are below the number, where its block's stand evenly from `low` up to `high`.
+    // A guess at how many versions are below the number, if its block's are spread evenly from `low` up to `high`.
     fn guess(&self, number: u64, low: usize, high: usize) -> usize {
         let shift = self.shift % 64;
         let into = number - (number >> shift << shift);
@@ -180,7 +180,7 @@ impl FarVersions {
         self.search(number, low, high)
     }
 
-    // How many versions are below the number, where so many are that are mostly all or all but one.
+    // How many versions are below the number, given that the first `first` of them are: mostly these are all, or all but one.
     fn next(&self, number: u64, first: usize) -> usize
         requires sorted { IsNonDecreasing self.now.versions.items }
         requires first { IsBelow self.now.versions.items number first }
@@ -193,7 +193,7 @@ impl FarVersions {
         self.search(number, next, end)
     }
 
-    /// How often a version stands among them.
+    /// How often a version occurs among them.
     pub fn count(&self, version: u32) -> usize
         requires { IsNonDecreasing self.now.versions.items }
         ensures { result ≡ occurrences version self.now.versions.items }
@@ -203,7 +203,7 @@ impl FarVersions {
         self.next(number + 1, first).saturating_sub(first)
     }
 
-    /// How often the version before and the version stand among them.
+    /// How often the version before and the version occur among them.
     pub fn both(&self, version: u32) -> (usize, usize)
         requires sorted { IsNonDecreasing self.now.versions.items }
         requires later { 0 < version }

@@ -1,4 +1,4 @@
-//! Whether the entries of a recorded trace can stand beside each other, whatever the guest: by counting them.
+//! Whether the entries of a recorded trace can occur together, whatever the guest: by counting them.
 #![tactic(auto)]
 
 mod cause;

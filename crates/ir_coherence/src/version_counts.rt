@@ -6,7 +6,8 @@ ghost use Rattle.ir_coherence.specs.Counting.{count, IsEmpty, IsSettled, OneMore
 use crate::far_versions::FarVersions;
 use std::alloc::{AllocError, Global};
 
-/// How many entries there are at each version. Versions below a limit have a place of their own, so that time and memory are linear where versions are dense; the others are sorted and searched.
+/// How many entries there are at each version. Versions below a limit have a place of their own, so that time and memory are linear
+/// where versions are dense; the others are sorted and searched.
 #[derive(Drop)]
 pub struct VersionCounts {
     near: Vec<u32>,

@@ -104,6 +104,6 @@ abbrev pub command_of_words : List (List ℕ) → Result (Option Command) Refusa
 command_of_words [] = Ok None
 command_of_words (name ∷ words) = some_command (command_named name words)
 
--- what a line asks, which stands before its line feed
+-- what a line asks, which is given without its line feed
 unfoldable pub command_of : List ℕ → Result (Option Command) Refusal
 command_of line = if nat_lt most_line (length line) then Err LineTooLong else command_of_words (words_of (without_return line))

@@ -20,10 +20,10 @@ most_small = 2 ^ 32 - 1
 abbrev pub most_position : ℕ
 most_position = 2 ^ 64 - 1
 
--- the most bytes that are shown at once
+-- the most bytes that one command shows
 abbrev pub most_bytes : ℕ
 most_bytes = 256
 
--- so many bytes, if they may be shown at once
+-- n, if one command may show n bytes
 abbrev pub byte_count : ℕ → Option ℕ
 byte_count n = if nat_le 1 n && nat_le n most_bytes then Some n else None

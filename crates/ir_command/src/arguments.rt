@@ -6,7 +6,7 @@ ghost use Rattle.ir_command.specs.Commands.{Small, Position, Bytes, arguments};
 ghost use Rattle.ir_command.specs.declared.refusal.Refusal.TheVariants.{BadArgument};
 
 use crate::command::ByteCount;
-use crate::number::{byte_count, large, small};
+use crate::number::{byte_count, parse_u32, parse_u64};
 use crate::refusal::Refusal;
 use crate::words::next_word;
 
@@ -58,7 +58,7 @@ pub fn one_number(words: &[u8]) -> Result<u32, Refusal>
         (λ e. (e ≡ BadArgument) × (arguments (Small ∷ []) (words_of words.now) ≡ None)) }
 {
     let word = one_word(words).ok_or(Refusal::BadArgument)?;
-    match small(word) {
+    match parse_u32(word) {
         Some(number) => Ok(number),
         None => Err(Refusal::BadArgument),
     }
@@ -71,7 +71,7 @@ pub fn two_numbers(words: &[u8]) -> Result<(u32, u32), Refusal>
         (λ e. (e ≡ BadArgument) × (arguments (Small ∷ Small ∷ []) (words_of words.now) ≡ None)) }
 {
     let (first, second) = two_words(words).ok_or(Refusal::BadArgument)?;
-    match (small(first), small(second)) {
+    match (parse_u32(first), parse_u32(second)) {
         (Some(first), Some(second)) => Ok((first, second)),
         _ => Err(Refusal::BadArgument),
     }
@@ -84,7 +84,7 @@ pub fn thread_and_position(words: &[u8]) -> Result<(u32, u64), Refusal>
         (λ e. (e ≡ BadArgument) × (arguments (Small ∷ Position ∷ []) (words_of words.now) ≡ None)) }
 {
     let (thread, position) = two_words(words).ok_or(Refusal::BadArgument)?;
-    match (small(thread), large(position)) {
+    match (parse_u32(thread), parse_u64(position)) {
         (Some(thread), Some(position)) => Ok((thread, position)),
         _ => Err(Refusal::BadArgument),
     }
@@ -97,7 +97,7 @@ pub fn thread_and_bytes(words: &[u8]) -> Result<(u32, u32, ByteCount), Refusal>
         (λ e. (e ≡ BadArgument) × (arguments (Small ∷ Small ∷ Bytes ∷ []) (words_of words.now) ≡ None)) }
 {
     let (thread, address, size) = three_words(words).ok_or(Refusal::BadArgument)?;
-    match (small(thread), small(address), byte_count(size)) {
+    match (parse_u32(thread), parse_u32(address), byte_count(size)) {
         (Some(thread), Some(address), Some(size)) => Ok((thread, address, size)),
         _ => Err(Refusal::BadArgument),
     }

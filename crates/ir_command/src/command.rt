@@ -10,9 +10,9 @@ pub enum Command {
     /// `cont T` and `rcont T`: a move that takes a thread to where a point hits it first in this direction, or to the
     /// end of its steps there.
     Continue { thread: u32, direction: Direction },
-    /// `pos`: tell the position of each thread.
+    /// `pos`: report the position of each thread.
     Position,
-    /// Show what stands at the cut.
+    /// Show what is at the cut.
     Show(Show),
     /// Set a point.
     Set(Point),
@@ -27,9 +27,9 @@ pub enum Command {
 /// A move of all threads to another cut.
 #[derive(Clone, Copy, Debug, PartialEq, Eq)]
 pub enum Move {
-    /// `step T N`: so many steps of the thread on, or to its last position.
+    /// `step T N`: N steps of the thread on, or to its last position.
     Step { thread: u32, count: u32 },
-    /// `back T N`: so many steps of the thread back, or to 0.
+    /// `back T N`: N steps of the thread back, or to 0.
     Back { thread: u32, count: u32 },
     /// `goto T K`: to this position of the thread, or to its last.
     Goto { thread: u32, position: u64 },
@@ -51,9 +51,9 @@ pub enum Direction {
 pub enum Point {
     /// `break T A`: a breakpoint, before the thread's instruction at this address.
     Break { thread: u32, address: u32 },
-    /// `watch T A`: a watchpoint, behind a step that changes the word of the thread's private memory at this address.
+    /// `watch T A`: a watchpoint, after a step that changes the word of the thread's private memory at this address.
     Watch { thread: u32, address: u32 },
-    /// `owatch O`: a watchpoint of an object, behind a thread's own step that leaves it after writing.
+    /// `owatch O`: a watchpoint of an object, after a thread's own step that leaves it after writing.
     WatchObject { object: u32 },
 }
 
@@ -123,10 +123,10 @@ impl ByteCount {
     ghost use Rattle.std.specs.Prelude.{◌≡◌, ◌≤◌, Some, None, nat_le, if◌then◌else◌};
     ghost use Rattle.ir_command.specs.Limits.{most_bytes, byte_count};
 
-    /// The most bytes that are shown at once.
+    /// The most bytes that one command shows.
     pub const MOST: u128 = 256;
 
-    /// So many bytes, if they may be shown at once.
+    /// The count of these bytes, if one command may show as many.
     pub fn new(bytes: u128) -> Option<ByteCount>
         ensures { result ≡ byte_count bytes }
     {

@@ -11,6 +11,7 @@ mod words;
 
 pub use command::{ByteCount, Command, Direction, Keeping, Move, Point, Show};
 pub use hit::Hit;
+pub use number::parse_u32;
 pub use parse::{MOST_LINE, parse_line};
 pub use refusal::Refusal;
 pub use words::{next_word, without_return};

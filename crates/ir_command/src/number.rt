@@ -32,7 +32,7 @@ fn value(radix: u32, digits: &[u8]) -> Option<u128>
     Some(value)
 }
 
-// The number that 1 to so many digits write.
+// The number that 1 to `most` digits write.
 #[tactic(auto, unfolding(crate::specs::Numbers::numeral))]
 fn numeral(radix: u32, most: usize, digits: &[u8]) -> Option<u128>
     requires low { 2 ≤ radix }
@@ -58,7 +58,7 @@ fn number(word: &[u8]) -> Option<u128>
 }
 
 /// The number that a word writes, if it is one of 32 bits.
-pub fn small(word: &[u8]) -> Option<u32>
+pub fn parse_u32(word: &[u8]) -> Option<u32>
     ensures { result ≡ number_up_to most_small word.now }
 {
     match number(word) {
@@ -68,7 +68,7 @@ pub fn small(word: &[u8]) -> Option<u32>
 }
 
 /// The number that a word writes, if it is one of 64 bits.
-pub fn large(word: &[u8]) -> Option<u64>
+pub fn parse_u64(word: &[u8]) -> Option<u64>
     ensures { result ≡ number_up_to most_position word.now }
 {
     match number(word) {
@@ -77,7 +77,7 @@ pub fn large(word: &[u8]) -> Option<u64>
     }
 }
 
-/// The number of bytes that a word writes, if so many are shown at once.
+/// The number of bytes that a word writes, if one command may show as many.
 pub fn byte_count(word: &[u8]) -> Option<ByteCount>
     ensures { result ≡ option_and_then limits.byte_count (number_of word.now) }
 {

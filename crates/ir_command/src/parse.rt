@@ -85,11 +85,12 @@ fn named(name: &[u8], words: &[u8]) -> Result<Command, Refusal>
 
 /// The command that a line asks; None where the line has no words.
 ///
-/// A line stands before its line feed; a carriage return at its end is dropped, but counts in its length.
+/// A line is given without its line feed; a carriage return at its end is dropped, but counts in its length.
 /// Words are parted by spaces and tabs.
 ///
 /// # Errors
-/// `LineTooLong` for more than 1,024 bytes, `UnknownCommand`, or `BadArgument` for the number of arguments, the form of one or its limit; tested in this order.
+/// `LineTooLong` for more than 1,024 bytes, `UnknownCommand`, or `BadArgument` for the number of arguments, the form of one or its limit;
+/// tested in this order.
 #[tactic(auto, unfolding(crate::specs::Commands::command_of))]
 pub fn parse_line(line: &[u8]) -> Result<Option<Command>, Refusal>
     ensures { result ≡ command_of line.now }

@@ -19,7 +19,7 @@ pub enum Refusal {
     LineTooLong,
     /// Out of memory.
     NoMemory,
-    /// As many points or kept cuts stand as there may be.
+    /// There are already as many points or kept cuts as there may be.
     Full,
 }
 

@@ -21,7 +21,7 @@ fn skip(line: &[u8]) -> &[u8]
     }
 }
 
-// How many bytes stand before the first blank.
+// How many bytes are before the first blank.
 #[tactic(auto, unfolding(crate::specs::Cuts::word_end))]
 fn word_len(line: &[u8]) -> usize
     ensures value { result ≡ word_end line.now }

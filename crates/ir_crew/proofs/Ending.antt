@@ -103,7 +103,7 @@ laying_more g laid more at word guest lt h is new = subst (λ z. IsLaying g z (a
     within : place < length laid
     within = subst (λ z. place < z) (sym h.size) (place_within g.form (length g.words) at guest.whole_objects lt)
 
--- an object's words at the start are the guest's, and 0 behind them
+-- an object's words at the start are the guest's, and 0 after them
 pub laying_ends : (g : Guest) (laid : List ℕ) → IsGuest g → IsLaying g laid (length g.words) → IsLaid g laid
 laying_ends g laid guest h = record {
   size = h.size;

@@ -201,7 +201,7 @@ since_other m (Exit o Writing) t u v b s a ne h = λ is. absurd (cc (sym (upd_ot
 since_other m (Load o i) t u v b s a ne h = h
 since_other m (Store o i w) t u v b s a ne h = h
 
--- what is told of another object
+-- what is reported of another object
 version_elsewhere : (q : Act) (b : Object) (o v : ℕ) → o ≢ target q → version_then o (emitted q b) v ≡ v
 version_elsewhere Silent b o v ne = refl
 version_elsewhere (Result k w) b o v ne = refl

@@ -465,7 +465,7 @@ puts g slots id o i v (q ∷ [], c) alone lt small fit inside x k homes at fits 
       (λ j. (did (q ∷ []) (sym (object_is_cell o i small) j) (Put (sym (index_is_cell o i small) j) v), c)),
     )
 
--- ---- what a call passes on of what its steps told
+-- ---- what a call passes on of what its steps emitted
 
 pub tried_hit : (d : ℕ → Deed) (slots o old new n : ℕ) (me first w : M) → tried d (step slots (word_place o) old new none) me n w → n ≡ old
     → me ≡ first → w ≡ (did first.0 o (d old), first.1)

@@ -62,7 +62,7 @@ abbrev pub entries : List Shared → ℕ
 entries [] = 0
 entries (x ∷ xs) = one_if_entry x.0 + entries xs
 
--- the objects of a guest that nobody has entered
+-- the objects of a guest that no thread has entered
 abbrev pub start_objects : Guest → ℕ → Object
 start_objects g o = record {
   version = 0;
@@ -77,7 +77,7 @@ pub record Represents (n : ℕ) (f : Fields) (b : Object) : Type 0 where
   pub left : f.left ≡ b.left
   pub inside : Counts n f b.inside
 
--- the words are those of so many objects
+-- the words are those of count objects
 pub record IsTable (n count : ℕ) (objects : ℕ → Object) (ws : List ℕ) : Type 0 where
   pub size : length ws ≡ table_length count
   pub words : (o : ℕ) → o < count → Represents n (fields_of (slice_index ws (word_place o))) (objects o)

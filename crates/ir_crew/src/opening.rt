@@ -30,7 +30,7 @@ fn lay(alloc: Global, image: &Image) -> Result<Vec<u64>, AllocError>
 }
 
 impl Crew {
-    /// The objects of the guest, which nobody has entered, and a seat for each of its threads.
+    /// The objects of the guest, which no thread has entered, and a seat for each of its threads.
     ///
     /// # Errors
     /// Out of memory.

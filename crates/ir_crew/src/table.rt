@@ -1,4 +1,4 @@
-//! The table, and the steps on it that wait for nobody.
+//! The table, and the steps on it that wait for no thread.
 
 ghost use Rattle.std.specs.Prelude.{◌≡◌, ◌≢◌, ◌+◌, ◌*◌, ◌<◌, ℕ, [], ◌++◌, Some, None};
 ghost use Rattle.ir_image.specs.Guest.{object_count, most_object_words};
@@ -16,13 +16,13 @@ use ir_runs::Access;
 use std::alloc::Global;
 use std::collections::LinkedList;
 
-/// A seat at the table, which stands for threads of the guest. Its view is the object steps that they have taken.
+/// A seat at the table, which represents threads of the guest. Its view is the object steps that they have taken.
 pub type CrewSeat = Seat<(), LinkedList<Track>>;
 
 /// The objects of a guest that is recorded by threads.
 #[derive(Drop)]
 pub struct Crew {
-    /// Word 0 is for joins. The other words stand where `ir_object` lays an object's word and contents.
+    /// Word 0 is for joins. The other words are where `ir_object` lays an object's word and contents.
     pub table: Table<(), LinkedList<Track>, Image, Law, Global>,
     ghost words: { table.shared.table_id.words ≡ table_length (object_count table.shared.key) },
     ghost slots: { table.shared.table_id.slots ≡ 0 },

@@ -1,4 +1,4 @@
-//! Tries, which wait for nobody.
+//! Tries, which wait for no thread.
 
 ghost use Rattle.std.specs.Prelude.{◌≡◌, ◌<◌, map, MatchOption};
 ghost use Rattle.ir_image.specs.Guest.{object_count};
@@ -13,7 +13,7 @@ use ir_object::{APART, WORD_PLACE, Word};
 
 impl Crew {
     /// The seat's thread tries to enter the object for writing: the version that it finds, and the readers that have left it, or
-    /// `None` where it goes on without. It waits for nobody and takes no memory, and may be refused though nobody is inside.
+    /// `None` if it continues without it. It waits for no thread and takes no memory, and may be refused although no thread is inside.
     pub fn try_write(&self, seat: &mut CrewSeat, object: u8) -> Option<(u32, u32)>
         requires seat { (seat.old.table_id ≡ self.now.table.shared.table_id) × IsAlone seat.old.me.0 }
         requires object { object < object_count self.now.table.shared.key }

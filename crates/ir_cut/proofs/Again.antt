@@ -69,7 +69,7 @@ pub place_within : (f : FittedTrace) (run : List Step) (t i : ℕ) (k : Label) �
     → i < count (machine_of f) (start_of f) run t
 place_within f run t i k emitted = (get_at (trail (machine_of f) (start_of f) run t) i (emitted.0, k) emitted.1).0
 
--- ---- what is told by an entry stands in the trace
+-- ---- what is reported by an entry is in the trace
 
 word_of : (profile : Profile) (objects : ℕ) (x : Event) (o : ℕ) (a : Access) (v l : ℕ) → IsEvent profile objects x → label_of x ≡ In o a v l → v < 2 ^ 32
 word_of profile objects (Result kind value) o a v l h e = absurd (cc e)

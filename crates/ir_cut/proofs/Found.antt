@@ -57,7 +57,7 @@ greatest_found f fit ps xs next qs next' t k v w size con there copied read leas
       (own.0 ∙ least ∙ ap (λ z. min z k) (sym own.1)) (λ u ne. kept_other ps xs t w u copied ne) rest (no_leaves f fit.run)) run is) over),
 )
 
--- ---- where the thread stands in them
+-- ---- where the thread is in them
 
 pub least_at : (f : FittedTrace) → IsFitted f → (ps qs : List ℕ) (t k : ℕ) → IsConsistentCut f ps → t < length f.guest.entries
     → k ≤ (recorded_thread f.recorded t).steps → IsLeastCut f ps t k qs → cut_of ps t ≤ k → cut_of qs t ≡ k

@@ -201,7 +201,7 @@ writer_lowered f x v old new is next r run ok = subst (λ a. LoweredFor f run (N
     (lowered_same f run (IsEntryAt x.object v) (Needs (Out x.object Writing x.version)) (writing_needs x.object x.version v next)
     (needs_writing x.object x.version v next) old new (r run ok))
 
--- there is no version behind the last that can be counted
+-- there is no version after the last that can be counted
 pub last_lowered : (f : FittedTrace) → IsFitted f → (x : Leave) (xs : List ℕ) → x.access ≡ Writing → (x.version + 1 < 2 ^ 32 → ⊥)
     → EachRun f (λ run. LoweredFor f run (Needing x) xs xs)
 last_lowered f k x xs is last run ok = subst (λ a. LoweredFor f run (Needs (Out x.object a x.version)) xs xs) (sym is)

@@ -74,7 +74,7 @@ fewer_events f qs next t i size there below read =
 
 -- ---- a leave is taken
 
--- the last of the first so many leaves
+-- the last of the leaves counted by next
 last_read : (f : FittedTrace) (qs next : List ℕ) (t i : ℕ) → AreLeaves f next → t < length f.guest.entries → HasAbove f qs next t
     → i ≡ slice_index_or next t i → (cut_of next t ≡ i - 1 + 1) × (t < length next)
 last_read f qs next t i are there above read =
@@ -122,7 +122,7 @@ leaves_still f qs next t i are there above read =
       ];
     }
 
--- all of the first so many leaves are inside, where the last is
+-- all leaves counted by next are inside if the last is
 pub all_below : (f : FittedTrace) → IsFitted f → (qs next : List ℕ) (t last : ℕ) (x : Leave) → t < length f.guest.entries
     → cut_of next t ≡ last + 1 → slice_get (placed_at f.placed t).leaves last ≡ Some x → x.position < cut_of qs t → NoneAbove f qs next t
 all_below f fit qs next t last x there at is_leave below e l less says =
@@ -200,7 +200,7 @@ pub behind_cut : (xs : List Leave) (n position : ℕ)
 behind_cut xs n position parted e l past is = ltb-false l.position position
     (subst (λ z. ltb z.position position ≡ false) (get_or_from_slice_get xs e l l is) (parted.1 e l past (slice_get_within xs e l is)))
 
--- no leave of the first so many is outside, where the last isn't
+-- no leave counted by next is outside if the last isn't
 pub first_below : (f : FittedTrace) → IsFitted f → (qs next : List ℕ) (t last : ℕ) (ls : List Leave) (d : Leave) → AreLeaves f next
     → t < length f.guest.entries → (1 ≤ slice_index_or next t 0) × (last ≡ slice_index_or next t 0 - 1) → ls ≡ (placed_at f.placed t).leaves
     → leb (slice_index_or qs t 0) (slice_index_or ls last d).position ≡ false → NoneAbove f qs next t

@@ -47,8 +47,8 @@ Needing l emitted = Needs (Out l.object l.access l.version) emitted
 abbrev pub IsEntryAt : ℕ → ℕ → Label → Type 0
 IsEntryAt o v emitted = (a : Access) × (l : ℕ) × (emitted ≡ In o a v l)
 
--- on the way from ps up to the least cut with thread t at k or more: no position is above that cut's, and what the first so many events of
--- each thread need is inside
+-- on the way from ps up to the least cut with thread t at k or more: no position is above that cut's, and what the events
+-- counted by next need is inside
 pub record Rising (f : FittedTrace) (ps : List ℕ) (t k : ℕ) (qs next : List ℕ) (run : List Step) : Type 0 where
   pub above : (u : ℕ) → cut_of ps u ≤ cut_of qs u
   pub reaches : k ≤ cut_of qs t
@@ -58,8 +58,8 @@ pub record Rising (f : FittedTrace) (ps : List ℕ) (t k : ℕ) (qs next : List 
   pub met : (u e : ℕ) (x : Event) → e < cut_of next u → slice_get (recorded_thread f.recorded u).events e ≡ Some x
       → AreInside f run (NeededBy (label_of x)) (cut_of qs)
 
--- on the way from ps down to the greatest cut with thread t at k or less: no position is below that cut's, and what needs the leaves of
--- each thread but the first so many is outside
+-- on the way from ps down to the greatest cut with thread t at k or less: no position is below that cut's, and what needs the
+-- leaves after those counted by next is outside
 pub record Falling (f : FittedTrace) (ps : List ℕ) (t k : ℕ) (qs next : List ℕ) (run : List Step) : Type 0 where
   pub below : (u : ℕ) → cut_of qs u ≤ cut_of ps u
   pub reaches : cut_of qs t ≤ k
@@ -68,11 +68,11 @@ pub record Falling (f : FittedTrace) (ps : List ℕ) (t k : ℕ) (qs next : List
   pub unmet : (u e : ℕ) (l : Leave) → cut_of next u ≤ e → slice_get (placed_at f.placed u).leaves e ≡ Some l
       → AreOutside f run (Needing l) (cut_of qs)
 
--- the event of thread u that comes next, behind the first so many, is no step of the cut
+-- the event of thread u that comes after those counted by next is no step of the cut
 abbrev pub NoneBelow : FittedTrace → List ℕ → List ℕ → ℕ → Type 0
 NoneBelow f qs next u = (i : ℕ) → slice_get (placed_at f.placed u).entries (cut_of next u) ≡ Some i → cut_of qs u ≤ i
 
--- the last of the first so many leaves of thread u is a step of the cut
+-- the leaves of thread u counted by next are steps of the cut
 abbrev pub NoneAbove : FittedTrace → List ℕ → List ℕ → ℕ → Type 0
 NoneAbove f qs next u = (e : ℕ) (l : Leave) → e < cut_of next u → slice_get (placed_at f.placed u).leaves e ≡ Some l
     → l.position < cut_of qs u
@@ -81,7 +81,7 @@ NoneAbove f qs next u = (e : ℕ) (l : Leave) → e < cut_of next u → slice_ge
 abbrev pub HasBelow : FittedTrace → List ℕ → List ℕ → ℕ → Type 0
 HasBelow f qs next u = (i : ℕ) × (slice_get (placed_at f.placed u).entries (cut_of next u) ≡ Some i) × (i < cut_of qs u)
 
--- the last of the first so many leaves of thread u is no step of the cut
+-- the last of the leaves of thread u counted by next is no step of the cut
 abbrev pub HasAbove : FittedTrace → List ℕ → List ℕ → ℕ → Type 0
 HasAbove f qs next u = (e : ℕ) × (l : Leave) × (cut_of next u ≡ suc e) × (slice_get (placed_at f.placed u).leaves e ≡ Some l)
     × (cut_of qs u ≤ l.position)
@@ -90,12 +90,12 @@ HasAbove f qs next u = (e : ℕ) × (l : Leave) × (cut_of next u ≡ suc e) × 
 abbrev pub AreFirst : FittedTrace → List ℕ → ℕ → ℕ → Type 0
 AreFirst f ps u n = (e i : ℕ) → e < n → slice_get (placed_at f.placed u).entries e ≡ Some i → i < cut_of ps u
 
--- no leave of thread u behind the first n is, and there are so many
+-- no leave of thread u after the first n is a step of the cut, and there are at least n
 pub record AreRest (f : FittedTrace) (ps : List ℕ) (u n : ℕ) : Type 0 where
   pub some : n ≤ length (placed_at f.placed u).leaves
   pub outside : (e : ℕ) (l : Leave) → n ≤ e → slice_get (placed_at f.placed u).leaves e ≡ Some l → cut_of ps u ≤ l.position
 
--- each thread has so many leaves
+-- each thread has the leaves that next counts
 pub record AreLeaves (f : FittedTrace) (next : List ℕ) : Type 0 where
   pub each : length next ≡ length f.guest.entries
   pub some : (t : ℕ) → t < length f.guest.entries → cut_of next t ≤ length (placed_at f.placed t).leaves
@@ -104,7 +104,7 @@ pub record AreLeaves (f : FittedTrace) (next : List ℕ) : Type 0 where
 abbrev pub IsClosed : FittedTrace → List Step → Cut → ℕ → Type 0
 IsClosed f run c t = (i : ℕ) (k : Label) → Emits (machine_of f) (start_of f) run t i k → i < c t → AreInside f run (NeededBy k) c
 
--- how many events are behind the first so many of each thread
+-- how many events of the threads come after those counted by next
 abbrev pub events_left : FittedTrace → List ℕ → ℕ
 events_left f next = sum_below (length f.guest.entries) (λ t. length (placed_at f.placed t).entries - cut_of next t)
 

@@ -56,7 +56,7 @@ fn are_within(fitted: &Fitted, positions: &[u64]) -> bool
 }
 
 /// Whether the cut is consistent: no thread is past its last step, and for each entry in it, the leave that made its
-/// version is in it too, and for one for writing also each leave after reading at its version. Takes no memory, and time
+/// version is in it too. For an entry for writing, so is each leave after reading at its version. Takes no memory, and time
 /// linear in the entries of the cut and the leaves that they need.
 pub fn consistent(fitted: &Fitted, cut: &Cut) -> bool
     requires { length cut.now ≡ length fitted.now.guest.entries }

@@ -12,7 +12,7 @@ use crate::needs::lower_for;
 use ir_fit::{Fitted, Leave};
 use std::alloc::{AllocError, Global};
 
-// How many leaves stand before this position, where they rise.
+// How many of the leaves, which are in the order of their positions, are before this position.
 fn count_before(leaves: &[Leave], position: u64) -> usize
     requires { IsNonDecreasingBy (λ (l : Leave). l.position) leaves.now }
     ensures bound { result ≤ length leaves.now }
@@ -39,7 +39,7 @@ fn leaves_inside(
     Ok(next)
 }
 
-// Whether the last leave of thread t, of the first so many, is no step of the cut.
+// Whether the last of thread t's leaves counted by `next` is no step of the cut.
 fn is_above(fitted: &Fitted, positions: &[u64], next: &[usize], t: usize) -> bool
     requires fitted { IsFitted fitted.now }
     requires size { length positions.now ≡ length fitted.now.guest.entries }
@@ -54,7 +54,7 @@ fn is_above(fitted: &Fitted, positions: &[u64], next: &[usize], t: usize) -> boo
     }
 }
 
-// A thread whose last leave, of the first so many, is no step of the cut.
+// A thread for which the last of the leaves counted by `next` is no step of the cut.
 fn thread_above(fitted: &Fitted, positions: &[u64], next: &[usize]) -> Option<usize>
     requires fitted { IsFitted fitted.now }
     requires size { length positions.now ≡ length fitted.now.guest.entries }
@@ -70,7 +70,7 @@ fn thread_above(fitted: &Fitted, positions: &[u64], next: &[usize]) -> Option<us
     None
 }
 
-// What needs the last of thread t's first so many leaves is brought outside.
+// What needs the last of thread t's leaves counted by `next` is brought outside.
 fn take_leave(fitted: &Fitted, positions: &mut Vec<u64>, next: &mut Vec<usize>, t: usize)
     requires fitted { IsFitted fitted.now }
     requires size { length positions.old.items ≡ length fitted.now.guest.entries }
@@ -88,7 +88,7 @@ fn take_leave(fitted: &Fitted, positions: &mut Vec<u64>, next: &mut Vec<usize>, 
     next[t] = last;
 }
 
-// Goes on until what needs a leave that is outside is outside.
+// Continues until what needs a leave that is outside is outside.
 fn fall(fitted: &Fitted, positions: &mut Vec<u64>, next: &mut Vec<usize>)
     requires fitted { IsFitted fitted.now }
     requires size { length positions.old.items ≡ length fitted.now.guest.entries }

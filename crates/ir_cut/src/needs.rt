@@ -13,7 +13,7 @@ use ir_fit::{Fitted, Leave};
 use ir_log::Event;
 use ir_runs::Access;
 
-// Whether the leave that made the version is inside. Nobody made the first.
+// Whether the leave that made the version is inside. No leave made the first.
 fn is_made(fitted: &Fitted, positions: &[u64], object: u8, version: u32) -> bool
     requires fitted { IsFitted fitted.now }
     requires size { length positions.now ≡ length fitted.now.guest.entries }

@@ -74,7 +74,7 @@ fn take_event(fitted: &Fitted, positions: &mut Vec<u64>, next: &mut Vec<usize>, 
     next[t] = i + 1;
 }
 
-// Goes on until what all events of the cut need is inside.
+// Continues until what all events of the cut need is inside.
 fn rise(fitted: &Fitted, positions: &mut Vec<u64>, next: &mut Vec<usize>)
     requires fitted { IsFitted fitted.now }
     requires size { length positions.old.items ≡ length fitted.now.guest.entries }

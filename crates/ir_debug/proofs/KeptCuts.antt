@@ -87,7 +87,7 @@ which o value ks n x found is = subst (λ z. MatchOption z (kept_cut ks n ≡ No
 
 -- ---- their lines
 
--- the first, which stands in a text that was empty, and the others
+-- the first, which is in a text that was empty, and the others
 pub lines_next : (ks : List Kept) (i : ℕ) (k : Kept) (first line : List ℕ) → i < length ks → k ≡ get_or ks i k → first ≡ []
     → line ≡ first ++ kept_line k → kept_text (drop i ks) ≡ line ++ kept_text (drop (i + 1) ks)
 unfolding kept_text

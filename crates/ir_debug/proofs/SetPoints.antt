@@ -67,7 +67,7 @@ all_without (p ∷ ps) n all = by_kept p (points_without ps n) (not (p.number ==
 
 -- ---- where a thread stops
 
--- behind its last step a thread stays as it is
+-- after its last step a thread stays as it is
 pub stays : (f : FittedTrace) (run : List Step) (t j : ℕ) → steps_of f run t ≤ j → thread_at f run t j ≡ thread_at f run t (suc j)
 stays f run t j le =
     let xs = trail (machine_of f) (start_of f) run t in

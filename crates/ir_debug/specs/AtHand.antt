@@ -33,7 +33,7 @@ object_here d o = object_with (cell_of (flat_in d.desk.fitted d.state) o) (held_
 abbrev pub events_of : Debugging → ℕ → List Event
 events_of d t = (recorded_thread d.desk.fitted.recorded t).events
 
--- those that it has logged where it stands
+-- those that it has logged at its position
 abbrev pub events_here : Debugging → ℕ → List Event
 events_here d t = take (thread_here d t).events (events_of d t)
 

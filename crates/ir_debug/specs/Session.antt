@@ -99,7 +99,7 @@ pub record AnsweredWhole (image trace : List ℕ) (old new : Option (List ℕ)) 
   pub wrote : Writes opening (cut consumed).whole old new
 
 -- a prefix of the opening lines was written before a line was read; or these, all answers to the lines but the last and a prefix of the
--- answer to that one, before a byte behind it was read: none but the last may quit, and it is unfinished only at the end of the input
+-- answer to that one, before a byte after it was read. None but the last may quit, and it is unfinished only at the end of the input
 pub record AnsweredInPart (image trace : List ℕ) (left old new : Option (List ℕ)) (consumed : List ℕ) : Type 0 where
   pub opening : Opening
   pub opens : Opens image trace opening

@@ -2,7 +2,7 @@
 
 use ir_command::{Hit, Move, Refusal, Show};
 
-/// An answer to a command. It tells of the debugger that gave it, as it is until its next command.
+/// An answer to a command. It reports on the debugger that gave it, as it is until its next command.
 #[derive(Drop)]
 pub enum Answer {
     /// To a move: where all threads are then.

@@ -156,7 +156,7 @@ impl Debugger {
         self.kept.as_slice()
     }
 
-    // The threads and objects in hand, which stand at the cut only where an answer needs them.
+    // The threads and objects in hand, which are at the cut only if an answer needs them.
     pub(crate) fn state(&self) -> &State
         ensures { result.now ≡ self.now.state }
     {
@@ -512,19 +512,20 @@ impl Debugger {
         }
     }
 
-    /// Carries out a command. A move brings the threads to the cut to which it leads, on threads of the system's: from where
-    /// they stand, or from the nearest state that is kept at or below it, by `keep` or on the way of an earlier move. Before something is shown, threads
-    /// that a move left elsewhere for lack of memory are brought to the cut.
+    /// Carries out a command. A move brings the threads to the cut to which it leads, on threads of the system's. It starts
+    /// from where they are, or from the nearest state that is kept at or below the cut, by `keep` or on the way of an earlier
+    /// move. Before something is shown, threads that a move left elsewhere because memory ran out are brought to the cut.
     ///
-    /// `cont` and `rcont` take a thread's steps anew to find where a point hits it. `cont` goes on from where it stands, and keeps states on
-    /// its way; `rcont` looks at one window of positions after the other, downwards, each from a state that is kept.
+    /// `cont` and `rcont` take a thread's steps again to find where a point hits it. The first continues from where the thread
+    /// is, and keeps states on its way. The second looks at one window of positions after the other, downwards, each from a state
+    /// that is kept.
     ///
-    /// What the answer tells is that of every run of the guest with the trace. A command is refused that names a thread
-    /// or an object that there isn't, the number of no point and no kept cut, bytes that aren't all in the code or in private
-    /// memory, or for a point no word of these; that would set a 65th point, or keep a 65th cut beside the start; and where
-    /// memory runs out, which after `open` and after a move happens to no command that shows something but `next`, and never
-    /// to one that sets or clears a point, `drop` and `kept`. A refusal leaves all positions, points and kept cuts as they
-    /// were.
+    /// What the answer says holds of every run of the guest with the trace. A command is refused if it names a thread or an
+    /// object that there isn't, the number of no point and no kept cut, or bytes that aren't all in the code or in private
+    /// memory. One for a point is refused if its address is no word of these. A command is refused if it would set a 65th point,
+    /// or keep a 65th cut beside the start. It is also refused if memory runs out. After `open` and after a move this happens to
+    /// no command that shows something but `next`, and it never happens to one that sets or clears a point, `drop` and `kept`.
+    /// A refusal leaves all positions, points and kept cuts as they were.
     pub fn command<R: Threads + Clock + Sync, G: Gate + Sync>(
         &mut self,
         rt: &R,

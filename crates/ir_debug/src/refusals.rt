@@ -70,7 +70,7 @@ fn object_named(command: &Command) -> Option<u32>
     }
 }
 
-// Whether so many bytes from an address on lie in the code.
+// Whether `width` bytes from an address on lie in the code.
 fn lies_in_code(image: &Image, width: usize, address: u32) -> bool
     requires { width ≤ 256 }
     ensures { result ≡ lies_in_code image.now width address }
@@ -81,7 +81,7 @@ fn lies_in_code(image: &Image, width: usize, address: u32) -> bool
     code_start <= start && start + width as u64 <= code_end
 }
 
-// Whether so many bytes from an address on lie in private memory.
+// Whether `width` bytes from an address on lie in private memory.
 fn lies_in_memory(width: usize, address: u32) -> bool
     requires { width ≤ 256 }
     ensures { result ≡ lies_in_memory width address }

@@ -21,10 +21,10 @@ use std::alloc::{AllocError, Global};
 use std::thread::Threads;
 use std::time::Clock;
 
-// So many steps a search upwards goes from one state that it keeps to the next.
+// How many steps a search upwards goes from one state that it keeps to the next.
 const STRETCH: u64 = 1 << 20;
 
-// Where thread t stands.
+// Where thread t is.
 fn position_of(state: &State, t: usize) -> u64
     requires { t < length state.now.threads }
     ensures { result ≡ (slice_index_or state.now.threads t idle).steps }
@@ -41,9 +41,9 @@ fn stretch_end(position: u64, last: u64) -> u64
     position.saturating_add(STRETCH).min(last)
 }
 
-/// Where a point first hits thread t above the position at which it stands, if one does. The threads and objects go on to there, or to the
-/// thread's last position; the other threads as far as its steps need. Where no point may hit the thread, they stay. On a long way it
-/// keeps states; where memory lacks for one of these, the search goes on without it.
+/// Where a point first hits thread t above its present position, if one does. The threads and objects advance to there, or to the
+/// thread's last position; the other threads as far as its steps need. If no point may hit the thread, they stay. On a long way it
+/// keeps states; if memory runs out for one of these, the search continues without it.
 ///
 /// # Errors
 /// Out of memory, with the threads and objects at some consistent cut.

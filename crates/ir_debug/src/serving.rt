@@ -48,7 +48,7 @@ fn carry_out<T: Threads + Clock + Sync, G: Gate + Sync>(
     }
 }
 
-// Answers a line. It comes without its line feed, and with the carriage return that may stand before it.
+// Answers a line. It comes without its line feed, and with the carriage return that may be before it.
 #[tactic(auto, unfolding(crate::specs::Machine::Answers::quits))]
 fn respond<T: Threads + Clock + Sync, W: Sink, G: Gate + Sync>(
     rt: &T,
@@ -120,15 +120,15 @@ pub fn serve<T: Threads + Clock + Sync, R: Source, W: Sink, G: Gate + Sync>(
     ensures ended { IfEnded result (Reads limit (R.left reader.old) (R.left reader.new)
         (LeadsTo Replies quits debugger.old.desk limit result (W.written writer.old) (W.written writer.new))) }
     ensures works { IfEnded result ((R.broken reader.new ≡ false) × (W.broken writer.new ≡ false)) }
-    // Where the reader tells its bytes, all of them together lead to it.
+    // If the reader makes its bytes known, all of them together lead to it.
     ensures known { IfEnded result (IfSome (R.left reader.old)
         (LeadsTo Replies quits debugger.old.desk limit result (W.written writer.old) (W.written writer.new))) }
     // After a failed read, the answers to the lines that were read whole, none of which quits.
     ensures read { result ≡ Err Fault.Read → (R.broken reader.new ≡ true) × (W.broken writer.new ≡ false)
         × Reads limit (R.left reader.old) (R.left reader.new) (λ consumed. (some_quits quits (cut consumed).whole ≡ false)
         × Wrote Replies debugger.old.desk (cut consumed).whole (W.written writer.old) (W.written writer.new)) }
-    // After a failed write, the answers to the lines but the last, and a prefix of that one's: an answer is out before a
-    // byte behind its line is read. None but the last may quit, and it is unfinished only at the end of the input.
+    // After a failed write, the answers to the lines but the last, and a prefix of that one's: an answer is written before a
+    // byte after its line is read. None but the last may quit, and it is unfinished only at the end of the input.
     ensures write { result ≡ Err Fault.Write → (R.broken reader.new ≡ false) × (W.broken writer.new ≡ true)
         × Reads limit (R.left reader.old) (R.left reader.new) (λ consumed. (through quits (lines_of consumed) ≡ lines_of consumed)
         × ((cut consumed).rest ≢ [] → IsAtEnd (R.left reader.new))

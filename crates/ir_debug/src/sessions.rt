@@ -34,8 +34,8 @@ fn ended(served: Result<Served, Fault>) -> Result<Ended, SessionErr>
 /// Opens a debugger on an image and a trace and answers the lines that the reader gives.
 ///
 /// The bytes that are written are the opening lines, and then the answers of the small machine that holds a run of the
-/// guest with the trace and a position of each thread, and nothing else; which order the threads that replay the run
-/// took makes no difference. The gate is told of each entry and leave of theirs. At most `limit` bytes are read; where
+/// guest with the trace and a position of each thread, and nothing else. Which order the threads that replay the run
+/// took makes no difference. Each entry and leave of theirs is reported to the gate. At most `limit` bytes are read; if
 /// they hold no line of `quit`, the lines that are whole in them are answered, and then `TooLong`. An image or a trace
 /// that is refused, and a trace that no run of the guest has, is named in the opening lines; then no line is read.
 ///
@@ -59,7 +59,7 @@ pub fn session_up_to<T: Threads + Clock + Sync, R: Source, W: Sink, G: Gate + Sy
     ensures ended { IfServed result (Reads limit (R.left reader.old) (R.left reader.new)
         (Session image.now trace.now limit result (W.written writer.old) (W.written writer.new))) }
     ensures works { IfServed result ((R.broken reader.new ≡ false) × (W.broken writer.new ≡ false)) }
-    // Where the reader tells its bytes, all of them together lead to it.
+    // If the reader makes its bytes known, all of them together lead to it.
     ensures known { IfServed result (IfSome (R.left reader.old)
         (Session image.now trace.now limit result (W.written writer.old) (W.written writer.new))) }
     // Where nothing was opened, nothing was read.
@@ -71,7 +71,7 @@ pub fn session_up_to<T: Threads + Clock + Sync, R: Source, W: Sink, G: Gate + Sy
         × Reads limit (R.left reader.old) (R.left reader.new)
         (AnsweredWhole image.now trace.now (W.written writer.old) (W.written writer.new)) }
     // After a failed write, the opening lines and the answers to the lines but the last, in full, and a prefix of the last
-    // one's: an answer is out before a byte behind its line is read.
+    // one's: an answer is written before a byte after its line is read.
     ensures write { result ≡ Err SessionErr.Write → (R.broken reader.new ≡ false) × (W.broken writer.new ≡ true)
         × Reads limit (R.left reader.old) (R.left reader.new)
         (AnsweredInPart image.now trace.now (R.left reader.new) (W.written writer.old) (W.written writer.new)) }

@@ -35,7 +35,7 @@ fn events_of(debugger: &Debugger, number: u32) -> &[Event]
         .events()
 }
 
-/// Writes the text of a show that isn't refused, where the threads and objects stand at the cut. Takes no memory.
+/// Writes the text of a show that isn't refused, when the threads and objects are at the cut. Takes no memory.
 pub fn write_shown<W: Sink>(
     debugger: &Debugger,
     show: Show,

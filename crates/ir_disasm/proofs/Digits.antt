@@ -16,7 +16,7 @@ sixteen (suc (suc (suc (suc (suc (suc zero)))))) h = (omega arith, omega arith)
 sixteen (suc (suc (suc (suc (suc (suc (suc zero))))))) h = (omega arith, omega arith)
 sixteen (suc (suc (suc (suc (suc (suc (suc (suc p)))))))) h = absurd (omega (arith, h))
 
--- the first of so many digits
+-- the first of k digits
 pub hex_step : (k n : ℕ) → 0 < k → hex k n ≡ digit_char (n / 16 ^ (k - 1) % 16) ∷ hex (k - 1) n
 hex_step zero n h = absurd (omega (arith, h))
 hex_step (suc k) n h = let e : suc k - 1 ≡ k = omega arith in rw e refl

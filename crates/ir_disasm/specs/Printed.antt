@@ -39,7 +39,7 @@ far pc z = distance z ++ (codes " # " ++ hex 8 ((pc + low_bits 32 z) % 2 ^ 32))
 abbrev pub address : ℤ → ℕ → List ℕ
 address imm base = signed_decimal imm ++ 40 ∷ (register_name base ++ 41 ∷ [])
 
--- the text of an instruction that stands at pc
+-- the text of an instruction at pc
 abbrev pub printed : ℕ → Inst → List ℕ
 printed pc (Lui rd imm) = two (codes "lui") (register_name rd.number) (codes "0x" ++ hex 5 (imm.value / 2 ^ 12))
 printed pc (Auipc rd imm) = two (codes "auipc") (register_name rd.number) (codes "0x" ++ hex 5 (imm.value / 2 ^ 12))
@@ -60,6 +60,6 @@ abbrev pub text_by : ℕ → ℕ → Option Inst → List ℕ
 text_by pc word (Some i) = printed pc i
 text_by pc word None = one (codes ".word") (codes "0x" ++ hex 8 word)
 
--- the text of a word that stands at pc
+-- the text of a word at pc
 abbrev pub text_of : ℕ → ℕ → List ℕ
 text_of pc word = text_by pc word (instruction_of word)

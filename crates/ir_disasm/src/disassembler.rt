@@ -39,7 +39,7 @@ fn digit(value: u32) -> &'static str
     }
 }
 
-// The digit to the base 16 that stands for so many sixteens.
+// The hexadecimal digit at `place`, counted from 0 at the low end.
 #[tactic(auto, using(crate::proofs::Digits::sixteen))]
 fn digit_at(number: u32, place: u32) -> &'static str
     requires { place < 8 }
@@ -48,7 +48,7 @@ fn digit_at(number: u32, place: u32) -> &'static str
     digit(number / 16_u32.pow(place) % 16)
 }
 
-// So many hexadecimal digits.
+// The lowest `count` hexadecimal digits of a number, the highest of them first.
 fn digits(alloc: Global, count: u32, number: u32) -> Result<String, AllocError>
     requires { count ≤ 8 }
     ensures { IfOk result (λ s. string_bytes s ≡ hex count number) }
@@ -242,7 +242,7 @@ fn printed(alloc: Global, pc: u32, inst: Inst) -> Result<String, AllocError>
     }
 }
 
-/// The text of the word that stands at `pc`: one statement of the assembler's, which gives the word again.
+/// The text of the word at `pc`: one statement of the assembler's, which gives the word again.
 ///
 /// Branches and jumps have their distance and, as a comment, the address that they go to; a word that is no instruction is a `.word`.
 ///

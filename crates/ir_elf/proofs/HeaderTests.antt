@@ -102,7 +102,7 @@ header_missing bytes lt =
     (λ x b7 none. absurd (omega (arith, none))))))))))
     lt
 
--- ---- so many
+-- ---- a number of headers
 
 headers_there : (file : List ℕ) (n p : ℕ) → p + 32 * n ≤ length file
     → fields_at header_at n (drop p file) ≡ Ok (headers_in file p n, drop (p + 32 * n) file)

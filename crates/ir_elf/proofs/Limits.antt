@@ -23,7 +23,7 @@ use Rattle.ir_elf.proofs.Words.{word_count}
 
 -- ---- the table
 
--- what a table says is within the limits of its form, and in code of so many words
+-- what a table says is within the limits of its form, and in code of `code` words
 pub record IsWithin (code : ℕ) (t : TableParts) : Type 0 where
   pub some_thread : 1 ≤ length t.entries
   pub few_threads : length t.entries ≤ (limits_of t.form).threads

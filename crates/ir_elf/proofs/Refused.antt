@@ -21,7 +21,7 @@ Agrees read tests = fault_of read ≡ first_failed tests
 abbrev pub known : ℕ → ℕ → List ℕ → ℕ × List ℕ
 known place size bytes = (little_number size (drop place bytes), drop (place + size) bytes)
 
--- so many bytes from a place on are there, or they aren't
+-- `size` bytes from a place on are there, or they aren't
 short_is : (place size : ℕ) (bytes : List ℕ) → 0 < size → ltb (length (drop place bytes)) size ≡ not (leb (place + size) (length bytes))
 short_is place size bytes some =
     let left = length-drop place bytes in

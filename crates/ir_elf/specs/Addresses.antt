@@ -33,7 +33,7 @@ abbrev pub word_at : List Segment → ℕ → ℕ
 word_at segments a =
     little_number 4 (byte_at segments a ∷ byte_at segments (a + 1) ∷ byte_at segments (a + 2) ∷ byte_at segments (a + 3) ∷ [])
 
--- an address in code of so many words, in private memory, or in the table
+-- an address in code of `words` words, in private memory, or in the table
 abbrev pub IsInParts : ℕ → ℕ → Type 0
 IsInParts words a =
     ((code_start ≤ a) × (a < code_start + 4 * words)) ⊎

@@ -60,7 +60,8 @@ kind_known bytes = do
   version ← field_at Short version_field machine.1
   Ok version.1
 
--- bytes 24 to 45: the entry, which isn't read, the program headers' place, the sections' place, which isn't read, the flags, the size of this header, which isn't read, the size and the number of the program headers
+-- bytes 24 to 45: the entry, the program headers' place, the sections' place, the flags, the size of this header, the size and the
+-- number of the program headers. The entry, the sections' place and the size of this header aren't read
 unfoldable pub headers_found : List ℕ → Result HeadersPlace Refusal
 headers_found bytes = do
   entry ← bytes_at Short 4 bytes
@@ -78,7 +79,8 @@ headers_place_at file = identified file >>= λ kind. kind_known kind >>= λ rest
 
 -- ---- the headers of segments
 
--- a program header: its kind, where its bytes are in the file, its address, a physical address, which isn't read, how many bytes it has in the file and in memory, its flags, an alignment, which isn't read
+-- a program header: its kind, where its bytes are in the file, its address, a physical address, how many bytes it has in the file and in
+-- memory, its flags, an alignment. The physical address and the alignment aren't read
 unfoldable pub header_at : Reader Header Refusal
 header_at bytes = do
   kind ← number_at Short 4 bytes

@@ -1,5 +1,5 @@
 -- The numbers of the refusals, and what an answer says of a reading.
-use Rattle.std.specs.Prelude.{◌≡◌, ℕ, Bool, Result, Ok, Err, if◌then◌else◌}
+use Rattle.std.specs.Prelude.{◌≡◌, ℕ, Bool, List, codes, Result, Ok, Err, if◌then◌else◌}
 use Rattle.ir_elf.specs.declared.refusal.Refusal.{Refusal}
 use Rattle.ir_elf.specs.declared.refusal.Refusal.TheVariants.{Short, Magic, Class, Kind, Flags, Headers, Dynamic, Outside, Order, Writable, NoCode, NoTable, Table, Entry}
 use Rattle.ir_elf.specs.declared.elf_err.ElfErr.{ElfErr}
@@ -21,6 +21,23 @@ refusal_number NoCode = 11
 refusal_number NoTable = 12
 refusal_number Table = 13
 refusal_number Entry = 14
+
+-- a refusal in words
+abbrev pub refusal_words : Refusal → List ℕ
+refusal_words Short = codes "a field or a segment passes the end of the file"
+refusal_words Magic = codes "the file is no ELF file"
+refusal_words Class = codes "the file isn't of 32 bits, little-endian, version 1"
+refusal_words Kind = codes "the file is no linked RISC-V program"
+refusal_words Flags = codes "the flags name compressed instructions, floating-point registers or RV32E"
+refusal_words Headers = codes "the program headers aren't of 32 bytes, or they aren't 1 to 64"
+refusal_words Dynamic = codes "the program is dynamic, wants an interpreter or has thread-local variables"
+refusal_words Outside = codes "a segment isn't within the code's, the memory's or the table's addresses"
+refusal_words Order = codes "a segment begins before the end of the one before it"
+refusal_words Writable = codes "a segment of the code is writable"
+refusal_words NoCode = codes "there is no code"
+refusal_words NoTable = codes "there is no table of threads and objects"
+refusal_words Table = codes "the table has no known form, a wrong number of threads, or no whole objects"
+refusal_words Entry = codes "a thread's entry is no place in the code"
 
 -- a step after a test, which is refused where the test fails
 abbrev pub unless : {A : Type 0} → Bool → Refusal → Result A Refusal → Result A Refusal

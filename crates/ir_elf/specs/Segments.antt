@@ -36,7 +36,7 @@ end_of s = start_of s.part + s.place + s.size
 
 -- ---- which part
 
--- so many bytes from an address are within a part
+-- `size` bytes from an address are within a part
 abbrev pub is_within : Part → ℕ → ℕ → Bool
 is_within part address size = nat_le (start_of part) address && nat_le (address + size) (start_of part + size_of part)
 
@@ -70,7 +70,7 @@ part_of h = unless (nat_le h.length h.size) Outside (part_placed h (part_around 
 
 -- ---- one segment
 
--- so many bytes from a place of the file on
+-- `length` bytes from a place of the file on
 unfoldable pub bytes_from : ℕ → ℕ → List ℕ → Result (List ℕ) Refusal
 bytes_from place length file = do
   before ← bytes_at Short place file

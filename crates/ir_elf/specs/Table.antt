@@ -33,20 +33,20 @@ form_of n = if n == 2 then Large else Small
 abbrev pub threads_field : ImageForm → Field Refusal
 threads_field form = within 4 1 (limits_of form).threads Table
 
--- an entry: a place in code of so many words
+-- an entry: a place in code of `words` words
 abbrev pub entry_field : ℕ → Field Refusal
 entry_field words = tested 4 (is_place words) Entry
 
--- an entry into code of so many words, and the bytes after it
+-- an entry into code of `words` words, and the bytes after it
 abbrev pub entry_at : ℕ → Reader ℕ Refusal
 entry_at words = field_at Table (entry_field words)
 
--- so many bytes are those of whole objects, and not of too many
+-- `count` bytes are those of whole objects, and not of too many
 abbrev pub are_objects : ImageForm → ℕ → Bool
 are_objects form count =
     count % (4 * (limits_of form).words) == 0 && nat_le count (4 * ((limits_of form).words * (limits_of form).objects))
 
--- the form, the number of threads, their entries into code of so many words, and the objects' first words
+-- the form, the number of threads, their entries into code of `code` words, and the objects' first words
 unfoldable pub table_at : ℕ → List ℕ → Result TableParts Refusal
 table_at code bytes = do
   form ← field_at Table form_field bytes

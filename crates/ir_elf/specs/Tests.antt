@@ -29,11 +29,11 @@ first_failed (t ∷ ts) = if t.passes then first_failed ts else Some t.refusal
 abbrev pub test : Bool → Refusal → List Test → List Test
 test passes r others = record { passes = passes; refusal = r } ∷ others
 
--- so many bytes from a place on are there
+-- `size` bytes from a place on are there
 abbrev pub is_whole : List ℕ → ℕ → ℕ → Bool
 is_whole bytes place size = nat_le (place + size) (length bytes)
 
--- the number of so many bytes from a place on
+-- the number of `size` bytes from a place on
 abbrev pub number_in : List ℕ → ℕ → ℕ → ℕ
 number_in bytes place size = little_number size (drop place bytes)
 
@@ -80,7 +80,7 @@ header_in file place = record {
   flags = number_in file (place + 24) 4;
 }
 
--- so many program headers from a place on
+-- n program headers from a place on
 abbrev pub headers_in : List ℕ → ℕ → ℕ → List Header
 headers_in file place zero = []
 headers_in file place (suc n) = header_in file place ∷ headers_in file (place + 32) n
@@ -122,7 +122,7 @@ segment_tests file last (h ∷ hs) others =
 
 -- ---- the table
 
--- so many entries from a place on, into code of so many words
+-- n entries from a place on, into code of `code` words
 abbrev pub entry_tests : List ℕ → ℕ → ℕ → ℕ → List Test → List Test
 entry_tests table code place zero others = others
 entry_tests table code place (suc n) others =
@@ -132,7 +132,7 @@ entry_tests table code place (suc n) others =
 abbrev pub form_in : List ℕ → ImageForm
 form_in table = form_of (number_in table 0 4)
 
--- the table of a guest with so many words of code
+-- the table of a guest with `code` words of code
 abbrev pub table_tests : ℕ → List ℕ → List Test
 table_tests code table =
     field refusal.Table table 0 4 (λ n. nat_le 1 n && nat_le n 2) refusal.Table

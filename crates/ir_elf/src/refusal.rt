@@ -1,40 +1,40 @@
 //! Why an ELF file is no guest.
 
 ghost use Rattle.std.specs.Prelude.{◌≡◌};
-ghost use Rattle.ir_elf.specs.Refusal.{refusal_number};
+ghost use Rattle.ir_elf.specs.Refusal.{refusal_number, refusal_words};
 
-use thiserror::Error;
+use std::{error, fmt};
 
 /// The first test that fails. Fields are read from the left, each whole and then tested.
-#[derive(Clone, Copy, Debug, PartialEq, Eq, Error)]
+#[derive(Clone, Copy, Debug, PartialEq, Eq)]
 pub enum Refusal {
-    #[error("a field or a segment passes the end of the file")]
+    /// A field or a segment passes the end of the file.
     Short,
-    #[error("the file is no ELF file")]
+    /// The file is no ELF file.
     Magic,
-    #[error("the file isn't of 32 bits, little-endian, version 1")]
+    /// The file isn't of 32 bits, little-endian, version 1.
     Class,
-    #[error("the file is no linked RISC-V program")]
+    /// The file is no linked RISC-V program.
     Kind,
-    #[error("the flags name compressed instructions, floating-point registers or RV32E")]
+    /// The flags name compressed instructions, floating-point registers or RV32E.
     Flags,
-    #[error("the program headers aren't of 32 bytes, or they aren't 1 to 64")]
+    /// The program headers aren't of 32 bytes, or they aren't 1 to 64.
     Headers,
-    #[error("the program is dynamic, wants an interpreter or has thread-local variables")]
+    /// The program is dynamic, wants an interpreter or has thread-local variables.
     Dynamic,
-    #[error("a segment isn't within the code's, the memory's or the table's addresses")]
+    /// A segment isn't within the code's, the memory's or the table's addresses.
     Outside,
-    #[error("a segment begins before the end of the one before it")]
+    /// A segment begins before the end of the one before it.
     Order,
-    #[error("a segment of the code is writable")]
+    /// A segment of the code is writable.
     Writable,
-    #[error("there is no code")]
+    /// There is no code.
     NoCode,
-    #[error("there is no table of threads and objects")]
+    /// There is no table of threads and objects.
     NoTable,
-    #[error("the table has no known form, a wrong number of threads, or no whole objects")]
+    /// The table has no known form, a wrong number of threads, or no whole objects.
     Table,
-    #[error("a thread's entry is no place in the code")]
+    /// A thread's entry is no place in the code.
     Entry,
 }
 
@@ -60,4 +60,38 @@ impl Refusal {
             Refusal::Entry => 14,
         }
     }
+
+    /// The refusal in words.
+    pub fn words(self) -> &'static str
+        ensures { result.now ≡ refusal_words self }
+    {
+        match self {
+            Refusal::Short => "a field or a segment passes the end of the file",
+            Refusal::Magic => "the file is no ELF file",
+            Refusal::Class => "the file isn't of 32 bits, little-endian, version 1",
+            Refusal::Kind => "the file is no linked RISC-V program",
+            Refusal::Flags =>
+                "the flags name compressed instructions, floating-point registers or RV32E",
+            Refusal::Headers => "the program headers aren't of 32 bytes, or they aren't 1 to 64",
+            Refusal::Dynamic =>
+                "the program is dynamic, wants an interpreter or has thread-local variables",
+            Refusal::Outside =>
+                "a segment isn't within the code's, the memory's or the table's addresses",
+            Refusal::Order => "a segment begins before the end of the one before it",
+            Refusal::Writable => "a segment of the code is writable",
+            Refusal::NoCode => "there is no code",
+            Refusal::NoTable => "there is no table of threads and objects",
+            Refusal::Table =>
+                "the table has no known form, a wrong number of threads, or no whole objects",
+            Refusal::Entry => "a thread's entry is no place in the code",
+        }
+    }
 }
+
+impl fmt::Display for Refusal {
+    fn fmt<W: fmt::Write>(&self, f: &mut fmt::Formatter<W>) -> fmt::Result {
+        f.write_str(self.words())
+    }
+}
+
+impl error::Error for Refusal {}

@@ -23,7 +23,7 @@ const INTERPRETER: u32 = 3;
 
 const THREAD_LOCAL: u32 = 7;
 
-// So many bytes from an address are within a part.
+// Whether `size` bytes from an address are within a part.
 fn is_within(part: Part, address: u32, size: u32) -> bool
     ensures { result ≡ is_within part address size }
 {
@@ -77,7 +77,7 @@ fn part_of(header: Header) -> Result<Part, Refusal>
     }
 }
 
-// So many bytes from a place of the file on.
+// `count` bytes from a place of the file on.
 #[tactic(auto, unfolding(crate::specs::Segments::bytes_from))]
 fn bytes_from(place: u32, count: u32, file: &[u8]) -> Result<&[u8], Refusal>
     ensures exact { Reads (λ x. x.now) result (bytes_from place count file.now) }
@@ -127,7 +127,7 @@ fn end(segment: Segment<'_>) -> u32
     segment.part.start() + segment.place + segment.size
 }
 
-// So many headers, and the bytes after them.
+// `count` headers, and the bytes after them.
 fn headers(alloc: Global, count: u16, bytes: &[u8]) -> Result<(Vec<Header>, &[u8]), ElfErr>
     ensures { Gives (λ x. (x.0.items, x.1.now)) result (fields_at header_at count bytes.now) }
 {

@@ -63,7 +63,7 @@ fn threads(form: ImageForm, bytes: &[u8]) -> Result<(u32, &[u8]), Refusal>
     }
 }
 
-// An entry into code of so many words, and the bytes after it.
+// An entry into code of `code` words, and the bytes after it.
 #[tactic(auto, unfolding(ir_bytes::specs::Reading::field_at))]
 fn entry(code: u32, bytes: &[u8]) -> Result<(u32, &[u8]), Refusal>
     requires { code ≤ most_code_words }
@@ -77,7 +77,7 @@ fn entry(code: u32, bytes: &[u8]) -> Result<(u32, &[u8]), Refusal>
     }
 }
 
-// So many entries, and the bytes after them.
+// `count` entries, and the bytes after them.
 fn entries(alloc: Global, count: u32, code: u32, bytes: &[u8]) -> Result<(Vec<u32>, &[u8]), ElfErr>
     requires { code ≤ most_code_words }
     ensures { Gives (λ x. (x.0.items, x.1.now)) result (fields_at (entry_at code) count bytes.now) }
@@ -92,7 +92,7 @@ fn entries(alloc: Global, count: u32, code: u32, bytes: &[u8]) -> Result<(Vec<u3
     Ok((entries, rest))
 }
 
-// So many bytes are those of whole objects, and not of too many.
+// Whether `count` bytes are those of whole objects, and not of too many.
 fn are_objects(form: ImageForm, count: usize) -> bool
     ensures { result ≡ are_objects form count }
 {
@@ -101,7 +101,7 @@ fn are_objects(form: ImageForm, count: usize) -> bool
     count % size == 0 && count <= size * limits.objects as usize
 }
 
-/// What the table of a guest with so many words of code says.
+/// What the table of a guest with `code` words of code says.
 #[tactic(auto, unfolding(crate::specs::Table::table_at))]
 pub fn table(alloc: Global, code: u32, bytes: &[u8]) -> Result<TableParts, ElfErr>
     requires { code ≤ most_code_words }

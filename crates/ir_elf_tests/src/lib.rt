@@ -1,4 +1,4 @@
-//! Tests of guests from ELF files. They stand apart, since a crate with tests is proved twice.
+//! Tests of guests from ELF files. They are a crate of their own, since a crate with tests is proved twice.
 #![tactic(auto)]
 
 #[cfg(test)]

@@ -14,7 +14,7 @@ fn flip(file: &mut [u8], place: usize, bits: u8) {
     }
 }
 
-// The file is read as the image that its segments stand for, which is read again.
+// Whether the file is read as the image of its segments, which is read again.
 fn is_made_so(alloc: Global, file: &str, image: &str) -> Result<bool, Fail> {
     let file = hex::decode(alloc, file)?;
     let want = hex::decode(alloc, image)?;

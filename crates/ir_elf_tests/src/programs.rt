@@ -29,7 +29,7 @@ const CONTENT: [u8; 20] = [
     0x93, 0x08, 0x10, 0x00, 0x73, 0x00, 0x00, 0x00, 1, 0, 0, 0, 1, 0, 0, 0, 0, 0, 1, 0,
 ];
 
-/// A file of these program headers, 64 at most, and so many bytes of 0 after them.
+/// A file of these program headers, 64 at most, and `more` bytes of 0 after them.
 pub fn file(alloc: Global, headers: &[Header], more: usize) -> Result<Vec<u8>, AllocError> {
     let mut bytes = Vec::new(alloc);
     bytes.extend_from_slice(&START)?;

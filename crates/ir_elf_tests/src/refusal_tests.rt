@@ -33,7 +33,7 @@ fn changed(alloc: Global, place: usize, bytes: &[u8]) -> Result<u8, AllocError> 
     Ok(refusal(alloc, file.as_slice()))
 }
 
-// The refusal of a table with these words, each of four bytes, and so many bytes of 0 after them.
+// The refusal of a table with these words, each of four bytes, and `more` bytes of 0 after them.
 fn of_table(alloc: Global, words: &[u32], more: u32) -> Result<u8, AllocError> {
     let length = 4 * words.len().min(20) as u32 + more.min(5_000);
     let place = HEADERS as u32 + 64;

@@ -16,7 +16,7 @@ is_late_control b c = (b == 194) && (nat_lt 127 c && nat_lt c 160)
 abbrev pub shown_byte : ℕ → ℕ
 shown_byte b = if is_control b then mark else b
 
--- a text in which a question mark stands for each control character
+-- a text with a question mark in the place of each control character
 abbrev pub shown : List ℕ → List ℕ
 shown [] = []
 shown (b ∷ []) = shown_byte b ∷ []

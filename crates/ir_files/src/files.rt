@@ -35,7 +35,7 @@ impl From<AllocError> for FileErr {
     }
 }
 
-/// All bytes of a reader, if they are at most so many.
+/// All bytes of a reader, if they are at most `most`.
 pub fn read_all<R: Read + Drop>(alloc: Global, reader: R, most: u32) -> Result<Vec<u8>, FileErr>
     ensures all { IfOk result (λ v. IfSome (R.remaining reader) (λ xs. v.items ≡ xs)) }
     ensures few { IfOk result (λ v. length v.items ≤ most) }
@@ -50,7 +50,7 @@ pub fn read_all<R: Read + Drop>(alloc: Global, reader: R, most: u32) -> Result<V
     }
 }
 
-/// The bytes of a file, which may have so many at most.
+/// The bytes of a file, which may have `most` at most.
 ///
 /// # Errors
 /// No such file, one that can't be read, one of more bytes, or out of memory.

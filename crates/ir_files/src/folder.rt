@@ -25,7 +25,7 @@ pub trait Folder {
     fn open(&self, path: &str) -> io::Result<Self::Open>
         ensures { IfOk result (λ file. IfSome (bytes_at self.now path.now) (λ bytes. Self.Open.remaining file ≡ Some bytes)) };
 
-    /// Makes a file, or empties the one that stands there, to be written.
+    /// Makes a file, or empties the one that is there, to be written.
     ///
     /// # Errors
     /// The reason why it can't be.
@@ -37,7 +37,7 @@ pub trait Folder {
     /// The reason why it can't be: `AlreadyExists` where something is, be it a link that leads nowhere.
     fn create_new(&self, path: &str) -> io::Result<Self::Open>;
 
-    /// Puts a file in another place, over what stood there.
+    /// Puts a file in another place, over what was there.
     ///
     /// # Errors
     /// The reason why it can't be, and all is as it was.
@@ -50,10 +50,10 @@ pub trait Folder {
     /// The reason why it can't be.
     fn remove(&self, path: &str) -> io::Result<()>;
 
-    /// What stands at a path, links followed. Nothing is opened.
+    /// What is at a path, links followed. Nothing is opened.
     fn found_at(&self, path: &str) -> Found;
 
-    /// Whether something stands there that another file may not be put in the place of, as a device or a link.
+    /// Whether something is there that another file may not be put in the place of, as a device or a link.
     fn is_kept(&self, path: &str) -> bool;
 }
 

@@ -1,4 +1,4 @@
-//! Files that a program reads and writes, what it tells on standard error, and its exit status.
+//! Files that a program reads and writes, what it reports on standard error, and its exit status.
 #![tactic(auto)]
 
 mod exit_status;

@@ -14,7 +14,7 @@ use std::alloc::{AllocError, Global};
 
 /// What takes the outputs of a recording, a thread's at a time. An `Err` makes `failed` true for good.
 pub trait OutputSink {
-    /// The outputs that it took whole so far, where it tells them.
+    /// The outputs that it took whole so far, if it says which they are.
     ghost taken: { Self → Option (List Printed) };
 
     /// Whether it has failed.
@@ -51,7 +51,7 @@ fn output_path(alloc: Global, prefix: &str, thread: usize) -> Result<String, All
     format!(in alloc; "{prefix}.{thread}")
 }
 
-/// The paths of the files of so many threads' outputs: `PREFIX.T` for thread T.
+/// The paths of the files of the outputs of `threads` threads: `PREFIX.T` for thread T.
 ///
 /// # Errors
 /// Out of memory.
@@ -66,12 +66,12 @@ pub fn output_paths(alloc: Global, prefix: &str, threads: usize) -> Result<Vec<S
 }
 
 /// The files of the threads' outputs. Each is made, or emptied, as it is put, also for a thread that printed nothing; what
-/// stands there and is no file, as a device or a link, is written to as it is. Where a write fails, a part of that output
-/// may stand there, and the outputs before it do. Without paths outputs go nowhere.
+/// is there and is no file, as a device or a link, is written to as it is. If a write fails, a part of that output may be
+/// there, and the outputs before it are. Without paths outputs go nowhere.
 #[derive(Drop)]
 pub struct OutputFiles<'a, D: Folder> {
     folder: &'a D,
-    // A path for each thread, or none as nobody asked for the outputs.
+    // A path for each thread, or none if no one asked for the outputs.
     paths: Option<&'a [String]>,
     trace: &'a str,
     failed: bool,
@@ -106,7 +106,7 @@ impl<'a, D: Folder> OutputFiles<'a, D> {
         DeviceErr
     }
 
-    // Whether writing at a path loses the trace, or one of the outputs before, all of which stand there already.
+    // Whether writing at a path loses the trace, or one of the outputs before, all of which are there already.
     fn loses_another(&self, path: &str, before: &[String]) -> bool {
         let found = self.folder.found_at(path);
         let trace = self.trace;

@@ -1,4 +1,4 @@
-//! Faults, told in one line.
+//! Faults, reported in one line.
 
 ghost use Rattle.std.specs.Prelude.{◌≡◌, ◌<◌, [], ◌∷◌, length, true, false, OnOk, OnErr, MatchOption};
 ghost use Rattle.std.specs.List.{list_all};
@@ -90,8 +90,8 @@ fn reported<E: Sink>(
     write_all(faults, b"\n")
 }
 
-/// Tells a fault of a named thing in one line, for which no memory is taken: a control character of the name, as a line feed,
-/// is told as a question mark, and so is one of the reason. Nobody is left to tell where that fails.
+/// Reports a fault of a named thing in one line, for which no memory is taken: a control character of the name, as a line feed,
+/// is written as a question mark, and so is one of the reason. If that fails, there is no one left to report it to.
 pub fn tell_of<E: Sink>(faults: &mut E, before: &str, name: &str, what: &str, why: &str)
     requires works { E.broken faults.old ≡ false }
     ensures { Reports (writer_of (E.written faults.old) (E.written faults.new) (E.broken faults.new)) (fault_text (named_fault before.now name.now what.now why.now)) }
@@ -99,7 +99,7 @@ pub fn tell_of<E: Sink>(faults: &mut E, before: &str, name: &str, what: &str, wh
     let _ = reported(faults, before, name, what, why);
 }
 
-// Writes the line that tells a fault.
+// Writes the line that reports a fault.
 fn put_line<E: Sink>(faults: &mut E, words: &str) -> Result<(), DeviceErr>
     ensures ok { OnOk result (Appends (E.written faults.old) (E.written faults.new) (fault_text words.now)) }
     ensures prefix { OnErr result (AppendsPrefix (E.written faults.old) (E.written faults.new) (fault_text words.now)) }
@@ -110,7 +110,7 @@ fn put_line<E: Sink>(faults: &mut E, words: &str) -> Result<(), DeviceErr>
     write_all(faults, b"\n")
 }
 
-/// Tells a fault in one line, for which no memory is taken. Nobody is left to tell where that fails.
+/// Reports a fault in one line, for which no memory is taken. If that fails, there is no one left to report it to.
 pub fn tell<E: Sink>(faults: &mut E, words: &str)
     requires works { E.broken faults.old ≡ false }
     ensures { Reports (writer_of (E.written faults.old) (E.written faults.new) (E.broken faults.new)) (fault_text words.now) }

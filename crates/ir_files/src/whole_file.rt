@@ -1,4 +1,4 @@
-//! Files that stand in their place only once they are whole.
+//! Files that are in their place only once they are whole.
 
 ghost use Rattle.std.specs.Prelude.{◌≡◌, ℕ, List, Bool, OnOk, OnErr, IfSome, None, false, true};
 ghost use Rattle.std.specs.String.{string_bytes};
@@ -10,9 +10,9 @@ use ir_stream::{DeviceErr, Sink};
 use std::alloc::{AllocError, Global};
 use std::io::ErrorKind;
 
-/// A sink whose bytes may stand elsewhere until they are whole.
+/// A sink whose bytes may be elsewhere until they are whole.
 pub trait WholeSink: Sink {
-    /// Whether they are whole and stand in their place.
+    /// Whether they are whole and in their place.
     ghost whole: { Self → Bool };
 
     /// What messages call it.
@@ -21,7 +21,7 @@ pub trait WholeSink: Sink {
     /// Why it failed, if it did.
     ghost cause: { Self → List ℕ };
 
-    /// All bytes were written: from now on they stand in their place.
+    /// All bytes were written: from now on they are in their place.
     ///
     /// # Errors
     /// They can't be put there. The sink has failed.
@@ -49,7 +49,7 @@ const MOST_PARTS: u32 = 1000;
 // The most bytes of a file's name, as Linux has it.
 const MOST_NAME: usize = 255;
 
-// As much of the path of a place as leaves room for so many bytes more in its name.
+// As much of the path of a place as leaves room for `more` bytes more in its name.
 fn shortened(place: &str, more: usize) -> &str {
     let name = place.split('/').last().unwrap_or(place);
     let excess = name.len().saturating_add(more).saturating_sub(MOST_NAME);
@@ -60,7 +60,7 @@ fn shortened(place: &str, more: usize) -> &str {
 }
 
 // The nth path beside a place at which its file may be written until it is whole: `.part` after its name, or `.part` and the
-// number from 2 on, of which name as much is left out at its end as would make it too long for a file's.
+// number from 2 on. As much is left out at the end of its name as would make the whole too long for a file's.
 fn path_beside(alloc: Global, place: &str, number: u32) -> Result<String, AllocError> {
     let suffix = match number {
         1 => String::from_str(alloc, PART)?,

@@ -1,4 +1,4 @@
--- The steps that are listed by object, access and version, against what the steps of the run tell.
+-- The steps that are listed by object, access and version, against what the steps of the run emit.
 use Rattle.std.proofs.Common.{◌≡◌, ℕ, suc, zero, ◌<◌, ◌⊎◌, Bool, true, false, ◌&&◌, eqb, inl, inr, List, [], ◌∷◌, length, get_or, refl, sym, ap, ◌∙◌, subst, arith, eq-eqb, eqb-true}
 use Rattle.std.specs.List.{Contains}
 use Rattle.std.proofs.lemmas.Bool.{cases_eq}
@@ -45,7 +45,7 @@ both_true true true h = (refl, refl)
 both_true true false h = absurd (cc h)
 both_true false c h = absurd (cc h)
 
--- at the prefix, or behind
+-- at the prefix, or after it
 at_joined : {A : Type 0} (b : Bool) (x y : A) (xs : List A) (i : ℕ) → At (join_if b x xs) i y → ((b ≡ true) × (x ≡ y))
     ⊎ ((j : ℕ) × At xs j y)
 at_joined true x y xs zero h = inl (refl, h)

@@ -76,7 +76,7 @@ there [] t l = absurd (omega (arith, l))
 there (v ∷ vs) zero l = (v, refl)
 there (v ∷ vs) (suc t) l = there vs t (omega (arith, l))
 
--- the run goes furthest, and what is said of the threads is how they stand at its end
+-- the run goes furthest, and what is said of the threads is how they are at its end
 pub verdicts_of : (g : Guest) (r : Recorded) → IsRecorded r → HasHeader g r → IsCoherent (length g.entries) (trace_of r) → (run : List Step)
     → following.Follows (following.closing (thread_machine g.code) (trace_of r)) (thread_machine g.code) (tables (start_flat g r.budget r.profile))
     (trace_of r) run → (vs : List ThreadVerdict) → length vs ≡ length g.entries

@@ -1,4 +1,4 @@
--- Where the entries and leaves of a run stand: the positions that are kept, against what the steps tell.
+-- Where the entries and leaves of a run are: the positions that are kept, against what the steps emit.
 use Rattle.std.proofs.Common.{◌≡◌, ℕ, suc, zero, ◌+◌, ◌<◌, ◌≤◌, ◌⊎◌, inl, inr, List, [], ◌∷◌, length, map, get_or, refl, sym, ap, ◌∙◌, subst, arith}
 use Rattle.std.proofs.lemmas.Bool.{cases_lt}
 use Rattle.std.proofs.lemmas.List.{length-map, get_or-map}
@@ -50,14 +50,14 @@ places_long n (x ∷ xs) = elim (logs_or x.1) [
   | inr p ↦ ap length (p.place n (places_from (suc n) xs)) ∙ places_long (suc n) xs ∙ sym (ap length (p.event (events xs)))
 ]
 
--- the step at position k emits e, where the first of these stands at n
+-- the step at position k emits e, where the first of these is at n
 abbrev StepAt : {T : Type 0} → ℕ → List (T × Label) → ℕ → Label → Type 0
 StepAt {T} n xs k e = (j : ℕ) × (k ≡ n + j) × ((x : T) × At xs j (x, e))
 
 onward : {T : Type 0} (n : ℕ) (x : T × Label) (xs : List (T × Label)) (k : ℕ) (e : Label) → StepAt (suc n) xs k e → StepAt n (x ∷ xs) k e
 onward n x xs k e g = (suc g.0, g.1 ∙ (let q : suc n + g.0 ≡ n + suc g.0 = omega arith in q), g.2)
 
--- the step of event i stands at position i
+-- the step of event i is at entry i of the positions
 step_of_event : {T : Type 0} (n : ℕ) (xs : List (T × Label)) (i k : ℕ) (e : Label) → At (events xs) i e → At (places_from n xs) i k
     → StepAt n xs k e
 step_of_event n [] i k e h g = absurd h
@@ -248,7 +248,7 @@ pub steps_in : (f : FittedTrace) (h : HasRun f) (t : ℕ) → t < length f.guest
     (recorded_thread f.recorded t).steps
 steps_in f h t l = h.whole.1.steps t l
 
--- no step stands past them
+-- no step is past them
 pub emits_within : (f : FittedTrace) (h : HasRun f) (t k : ℕ) (e : Label) → EmitsIn f h t k e → k < (recorded_thread f.recorded t).steps
 emits_within f h t k e emitted = subst (λ n. k < n) (steps_in f h t (emits_below f h t k e emitted))
     (get_at (trail_in f h t) k (emitted.0, e) emitted.1).0

@@ -1,4 +1,4 @@
--- A guest that goes on along a trace.
+-- A guest that continues along a trace.
 use Rattle.std.proofs.Common.{◌≡◌, ◌≢◌, ℕ, zero, suc, pred, ◌+◌, ◌-◌, ◌*◌, ◌<◌, ◌≤◌, List, [], ◌∷◌, ◌++◌, length, map, drop, replicate, Result, Ok, Err, OnOk, OnErr, None, refl, sym, ap, ◌∙◌, subst, arith, inl, inr, append-nil, append_assoc, length-append, length-set, get_or-set_same, get_or-set_other, get_or, eqb}
 use Rattle.std.proofs.lemmas.Bool.{cases_eq}
 use Rattle.std.proofs.lemmas.List.{get_or_default, length-map}
@@ -109,7 +109,7 @@ log_is guest r f ps k t = ap (λ n. drop n (map label_of (recorded_thread r t).e
     ∙ sym (log_over_is (closing (guest_machine guest r) (trace_of r) t) ((trace_of r).steps t) ((trace_of r).logs t)
     (trail (guest_machine guest r) (guest_start guest r) k.run t) (k.follows.1 t))
 
--- what holds of the guest as it stands and of what is left to thread t
+-- what holds of the guest as it is and of what is left to thread t
 abbrev pub Of : Type 1
 Of = Machine thread.State → State thread.State → ℕ → List Label → Type 0
 
@@ -278,7 +278,7 @@ alone_follows code tr s run t (suc n) h each le =
     (λ k l. ap (λ z. ask_of code ((end m z (replicate k (t, 0))).now t)) (end_append m s run (e ∷ [])) ∙ each (suc k) (omega (arith, l)))
     (omega (arith, le, size, was, now)))
 
--- private steps tell nothing
+-- private steps emit nothing
 alone_quiet : (code : List ℕ) (s : State thread.State) (t n : ℕ)
     → ((k : ℕ) → k < n → ask_of code ((end (thread_machine code) s (replicate k (t, 0))).now t) ≡ Private) → (u : ℕ)
     → AllQuiet (trail (thread_machine code) s (replicate n (t, 0)) u)
@@ -485,7 +485,7 @@ start_none r ps rooms t = (
   ap (λ z. (growing_at z t).leaves) rooms ∙ ap (λ z. z.leaves) (room_at r.threads t),
 )
 
--- ---- going on
+-- ---- continuing
 
 pub went_on : (r : Recorded) (f g : Flat) (ps : List Growing) (t n : ℕ) → WentAlone f g t n → n ≤ steps_ahead r f t → GoesOn r f ps g ps
 went_on r f g ps t n w le = record {
@@ -540,7 +540,7 @@ goes_both r f g h ps qs os p q = record {
   fewer = let a = p.fewer in let b = q.fewer in omega (arith, a, b);
 }
 
--- going on by private steps
+-- continuing by private steps
 pub went_further : (r q : Recorded) (f g h : Flat) (ps qs : List Growing) (t n left : ℕ) → q ≡ r → GoesOn r f ps g qs → WentAlone g h t n
     → n ≤ left → left ≡ steps_ahead q g t → GoesOn r f ps h qs
 went_further r q f g h ps qs t n left same goes w le is =
@@ -557,7 +557,7 @@ pub moved_less : (r q : Recorded) (f g h : Flat) (t n : ℕ) → WentAlone f g t
     → all_ahead q h < all_ahead r f
 moved_less r q f g h t n w less = let same = went_fewer r f g t n w in omega (arith, same, less)
 
--- a step after a look, and what comes behind it
+-- a step after a look, and what comes after it
 pub chained : (r q p : Recorded) (f g g' h i : Flat) (ps bs bs' cs ds : List Growing) → GoesOn r f ps g bs → g' ≡ g → bs' ≡ bs → q ≡ r
     → GoesOn q g' bs' h cs → p ≡ q → GoesOn p h cs i ds → GoesOn r f ps i ds
 chained r q p f g g' h i ps bs bs' cs ds goes same kept trace step after_it then =
@@ -573,7 +573,7 @@ chained_less r q p o g g' h i cs ds same trace less then last =
     let here_left : all_ahead o i ≡ all_ahead p i = ap (λ z. all_ahead z i) last in
     omega (arith, less, fewer, there_left, here_left)
 
--- ---- where threads stand
+-- ---- where threads are
 
 -- what the last step of a run met
 last_follows : (guest : Guest) (r : Recorded) (run : List Step) (t v : ℕ) → GuestFollows guest r (run ++ (t, v) ∷ [])

@@ -52,7 +52,7 @@ leaves_append i (x ∷ xs) ys =
     ∙ ap (λ (k : ℕ). leaves_from (suc i) xs ++ leaves_from k ys) (let e : suc i + length xs ≡ i + suc (length xs) = omega arith in e))
     ∙ leave_prefix x.1 i (leaves_from (suc i) xs) (leaves_from (i + suc (length xs)) ys)
 
--- steps that tell nothing
+-- steps that emit nothing
 abbrev pub AllQuiet : {T : Type 0} → List (T × Label) → Type 0
 AllQuiet [] = Unit {0}
 AllQuiet (x ∷ xs) = (x.1 ≡ Quiet) × AllQuiet xs

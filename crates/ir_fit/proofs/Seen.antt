@@ -579,7 +579,7 @@ seen_stops r f t (look.Goes m) seen no_move = absurd (no_move m refl)
 
 -- ---- events and the log
 
--- an event that suits stands in the log
+-- an event that suits is in the log
 pub event_left : (r : Recorded) (f : Flat) (t : ℕ) (q : Ask) → ask_of f.code (thread_of f t) ≡ q → AgreesAhead r f t → added q ≡ 1
     → (thread_of f t).events < length (recorded_thread r t).events
 event_left r f t (Env kind) is h one = let e =

@@ -24,7 +24,7 @@ use Rattle.ir_fit.specs.declared.follower.look.Look.{Look}
 use Rattle.ir_fit.specs.declared.follower.look.Look.TheVariants.{Done, Disagrees, Waits, Goes}
 use Rattle.ir_fit.specs.declared.follower.look.Move.{Move}
 
--- how many steps the trace leaves to thread t, where the guest stands so
+-- how many steps the trace leaves to thread t, with the guest in this state
 abbrev pub steps_ahead : Recorded → Flat → ℕ → ℕ
 steps_ahead r f t = (recorded_thread r t).steps - (thread_of f t).steps
 
@@ -49,8 +49,8 @@ IsStopped r f t = (v : ℕ) → CanFollow r f t v → ⊥
 abbrev pub AgreesAhead : Recorded → Flat → ℕ → Type 0
 AgreesAhead r f t = Agrees (machine f) ((trace_of r).ends t) (thread_of f t) (steps_ahead r f t) (log_ahead r f t)
 
--- the object can be entered now as the event says: at its version, for writing with its readers behind it, and nobody is inside who keeps
--- others out
+-- the object can be entered now as the event says: at its version, for writing after its readers have left, and no thread is inside that
+-- keeps others out
 abbrev pub IsOpen : Cell → Event → Type 0
 IsOpen c (Answer kind value) = ⊥
 IsOpen c (Read object version) = (c.fields.version ≡ version) × Admitted Reading c.fields
@@ -85,8 +85,8 @@ pub record IsEntryAhead (r : Recorded) (f : Flat) (t : ℕ) (e : Event) : Type 0
   pub awaits : Awaits (shared_ask (ask_of f.code (thread_of f t))) (log_ahead r f t)
   pub next : slice_get (recorded_thread r t).events (thread_of f t).events ≡ Some e
 
--- what is seen of thread t: it is done; its next step isn't the trace's; it is, and it is an entry or a try that got in, logged as this
--- event, that can't be taken now as the log says; or the step follows
+-- what is seen of thread t: it is done; its next step isn't the trace's; it is, but as an entry or a try that got in, logged as
+-- this event, it can't follow now; or the step follows
 abbrev pub IsSeen : Recorded → Flat → ℕ → Look → Type 0
 IsSeen r f t Done = ask_of f.code (thread_of f t) ≡ asks.Done
 IsSeen r f t Disagrees = (ask_of f.code (thread_of f t) ≢ asks.Done) × (AgreesAhead r f t → ⊥)

@@ -52,7 +52,7 @@ AreVerdicts guest r vs = let f = start_flat guest r.budget r.profile in (length 
     × ((run : List Step) → GoesFurthest guest r run → (t : ℕ) (v : ThreadVerdict) → slice_get vs t ≡ Some v
     → IsVerdict (machine f) (tables f) (trace_of r) run t v)
 
--- a guest, what was recorded of a run, and where each thread's events and leaves stand among its steps
+-- a guest, what was recorded of a run, and where each thread's events and leaves are among its steps
 pub record FittedTrace : Type 0 where
   pub guest : Guest
   pub recorded : Recorded
@@ -80,7 +80,7 @@ abbrev pub IsOther : Guest → Recorded → HeaderCause → Type 0
 IsOther guest r Threads = length r.threads ≢ length guest.entries
 IsOther guest r Objects = (length r.threads ≡ length guest.entries) × (r.objects ≢ object_count guest)
 
--- why no run of the guest has the trace: its header isn't the guest's; or an event can't stand beside the others, the first such; or not
+-- why no run of the guest has the trace: its header isn't the guest's; or an event can't occur with the others, the first such; or not
 -- all threads of a run that follows it furthest are the same
 abbrev pub IsRefusal : Guest → Recorded → Verdict → Type 0
 IsRefusal guest r (Header c) = IsOther guest r c

@@ -1,4 +1,4 @@
--- Where a thread's events and leaves stand among its steps, while it takes them.
+-- Where a thread's events and leaves are among its steps, while it takes them.
 use Rattle.std.specs.Prelude.{ℕ, List, [], ◌∷◌, ◌++◌, slice_set}
 use Rattle.std.specs.List.{slice_index_or}
 use Rattle.ir_thread.specs.declared.ask.Ask.{Ask}

@@ -1,10 +1,10 @@
--- Where a thread's events and leaves stand among its steps.
+-- Where a thread's events and leaves are among its steps.
 use Rattle.std.specs.Prelude.{ℕ, suc, List, [], ◌∷◌}
 use Rattle.std.specs.List.{slice_index_or}
 use Rattle.ir_runs.specs.Labels.{Label, Quiet, Answer, In, Refused, Out}
 use Rattle.ir_fit.specs.declared.leave.Leave.{Leave}
 
--- the position of a step that is logged, and those behind it
+-- the position of a step that is logged, and those after it
 abbrev pub place_if : Label → ℕ → List ℕ → List ℕ
 place_if Quiet k ps = ps
 place_if (Answer kind value) k ps = k ∷ ps
@@ -12,7 +12,7 @@ place_if (In o a v l) k ps = k ∷ ps
 place_if (Refused o) k ps = k ∷ ps
 place_if (Out o a v) k ps = ps
 
--- the positions of the steps that are logged, where the first step stands at k
+-- the positions of the steps that are logged, where the first step is at k
 abbrev pub places_from : {T : Type 0} → ℕ → List (T × Label) → List ℕ
 places_from k [] = []
 places_from k (x ∷ xs) = place_if x.1 k (places_from (suc k) xs)
@@ -21,7 +21,7 @@ places_from k (x ∷ xs) = place_if x.1 k (places_from (suc k) xs)
 abbrev pub places_of : {T : Type 0} → List (T × Label) → List ℕ
 places_of steps = places_from 0 steps
 
--- a step that is a leave, and those behind it
+-- a step that is a leave, and those after it
 abbrev pub leave_if : Label → ℕ → List Leave → List Leave
 leave_if Quiet k ls = ls
 leave_if (Answer kind value) k ls = ls
@@ -29,7 +29,7 @@ leave_if (In o a v l) k ls = ls
 leave_if (Refused o) k ls = ls
 leave_if (Out o a v) k ls = record { position = k; object = o; access = a; version = v } ∷ ls
 
--- the leaves among the steps, where the first step stands at k
+-- the leaves among the steps, where the first step is at k
 abbrev pub leaves_from : {T : Type 0} → ℕ → List (T × Label) → List Leave
 leaves_from k [] = []
 leaves_from k (x ∷ xs) = leave_if x.1 k (leaves_from (suc k) xs)

@@ -17,7 +17,7 @@ use Rattle.ir_fit.specs.Places.{Placed, placed_at}
 use Rattle.ir_fit.specs.declared.leave.Leave.{Leave}
 use Rattle.ir_fit.specs.declared.place.Place.{Place}
 
--- ---- what the steps of a run tell
+-- ---- what the steps of a run emit
 
 -- step k of thread t emits this in the run that is kept
 abbrev pub EmitsIn : (f : FittedTrace) → HasRun f → ℕ → ℕ → Label → Type 0
@@ -52,7 +52,7 @@ Visit = ℕ × Access × Place
 abbrev pub left_by : ℕ → List Leave → List Visit
 left_by t ls = map (λ l. (l.object, l.access, record { position = l.position; version = l.version; thread = t })) ls
 
--- an event of thread t that is logged at position k, and the entries behind it
+-- an event of thread t that is logged at position k, and the entries after it
 abbrev pub enter_if : ℕ → Event → ℕ → List Visit → List Visit
 enter_if t (Answer kind value) k vs = vs
 enter_if t (Try object) k vs = vs
@@ -108,7 +108,7 @@ listed x o a = slice_index_or (lists_for x a) o []
 abbrev pub AreSame : List (List Place) → List (List Place) → Type 0
 AreSame old new = (o : ℕ) → slice_index_or new o [] ≡ slice_index_or old o []
 
--- object o has this step behind those that it had, and the others have the same
+-- object o has this step after those that it had, and the others have the same
 abbrev pub IsOneMore : List (List Place) → List (List Place) → ℕ → Place → Type 0
 IsOneMore old new o p = (q : ℕ) → slice_index_or new q [] ≡ slice_index_or old q [] ++ join_if (eqb o q) p []
 
@@ -125,7 +125,7 @@ IsInOrder old new = AreSorted old.reading new.reading × AreSorted old.writing n
 abbrev pub none_listed : Listing
 none_listed = record { reading = []; writing = [] }
 
--- these visits are listed behind those that were
+-- these visits are listed after those that were
 abbrev pub AddsAll : Listing → Listing → List Visit → Type 0
 AddsAll old new vs = (o : ℕ) (a : Access) → listed new o a ≡ listed old o a ++ picked o a vs
 

@@ -16,7 +16,7 @@ use ir_trace::Trace;
 use std::alloc::{AllocError, Global};
 use std::marker::Model;
 
-/// A guest, a trace that a run of it has, and where each thread's events and leaves stand among its steps.
+/// A guest, a trace that a run of it has, and where each thread's events and leaves are among its steps.
 #[derive(Drop)]
 pub struct Fitted {
     image: Image,

@@ -36,7 +36,7 @@ impl Follower<'_> {
         Ok(verdicts)
     }
 
-    // The trace, and where each thread's events and leaves stand.
+    // The trace, and where each thread's events and leaves are.
     fn into_parts(self) -> (Trace, Vec<GrowingPlaces>)
         ensures trace { result.0 ≡ self.entry.trace }
         ensures places { result.1.items ≡ self.entry.places.items }
@@ -63,10 +63,10 @@ fn all_same(verdicts: &[ThreadVerdict]) -> bool
 /// on this thread.
 ///
 /// # Errors
-/// `FitErr::NoMem` where memory is wanted. Else `FitErr::Refused`, where no run of the guest has the trace: with
-/// `Verdict::Header` where it has another number of threads or of objects; with `Verdict::Incoherent` as `coherent`; with
-/// `Verdict::Threads` where not all threads of a run that follows the trace as far as any can are the same. Both image
-/// and trace are dropped.
+/// `FitErr::NoMem` if memory runs out. Else `FitErr::Refused`, if no run of the guest has the trace. It comes with
+/// `Verdict::Header` if the trace has another number of threads or of objects, and with `Verdict::Incoherent` as from
+/// `coherent`. It comes with `Verdict::Threads` if not all threads of a run that follows the trace as far as any can are
+/// the same. Both image and trace are dropped.
 pub fn fit(alloc: Global, image: Image, trace: Trace) -> Result<Fitted, FitErr>
     ensures fits { IfOk result (λ f. (f.guest ≡ image) × (f.recorded ≡ trace)) }
     // A complete run of the guest has the trace.

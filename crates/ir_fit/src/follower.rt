@@ -45,7 +45,7 @@ impl Follower<'_> {
         &self.flat.objects()[o as usize]
     }
 
-    // What the trace tells of thread t.
+    // What the trace says of thread t.
     pub fn emitted(&self, t: usize) -> &ThreadTrace
         requires { t < length self.now.trace.threads }
         ensures emitted { result.now ≡ recorded_thread self.now.trace t }

@@ -15,7 +15,7 @@ pub struct ObjectPlaces {
     places: Vec<Place>,
 }
 
-// How many stand before the version. Where each version has one step, as among write entries, that is the version's number,
+// How many are before the version. If each version has one step, as among write entries, that is the version's number,
 // which is looked at first.
 fn count_before(places: &[Place], version: u32) -> usize
     requires { IsNonDecreasingBy (λ (p : Place). p.version) places.now }
@@ -31,7 +31,7 @@ fn count_before(places: &[Place], version: u32) -> usize
     places.partition_point(|place| place.version < version)
 }
 
-// How many stand at the version or before it. None and one are seen at once.
+// How many are at the version or before it. None and one are found immediately.
 fn count_up_to(places: &[Place], version: u32) -> usize
     requires { IsNonDecreasingBy (λ (p : Place). p.version) places.now }
     ensures bound { result ≤ length places.now }
@@ -53,7 +53,7 @@ impl Model for ObjectPlaces {
 }
 
 impl ObjectPlaces {
-    // None, with room for so many.
+    // None, with room for `room` of them.
     pub fn new(alloc: Global, room: usize) -> Result<ObjectPlaces, AllocError>
         ensures { IfOk result (λ l. l ≡ []) }
     {

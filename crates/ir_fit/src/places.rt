@@ -1,4 +1,4 @@
-//! Where a thread's events and leaves stand among its steps.
+//! Where a thread's events and leaves are among its steps.
 
 ghost use Rattle.std.specs.Prelude.{◌≡◌};
 ghost use Rattle.ir_fit.specs.Places.{Placed};

@@ -9,7 +9,7 @@ use ir_runs::ThreadVerdict;
 pub enum Verdict {
     /// The trace is of another number of threads or objects.
     Header(HeaderCause),
-    /// An event can't stand beside the others of the trace, whatever the guest: the first such by thread and event.
+    /// An event can't occur with the others of the trace, whatever the guest: the first such by thread and event.
     Incoherent {
         thread: u8,
         /// The event's place in its thread's log, from 0.

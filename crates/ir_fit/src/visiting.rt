@@ -57,7 +57,7 @@ fn add_entry(
     )
 }
 
-// The entries of a log, whose events stand at these positions.
+// The entries of a log, whose events are at these positions.
 fn add_entries(
     visits: &mut Visits,
     rooms: &Rooms,
@@ -104,7 +104,7 @@ pub fn rooms(trace: &Trace) -> Rooms {
     rooms
 }
 
-/// The entries of all threads, with room for so many.
+/// The entries of all threads, with the room that `rooms` counts.
 ///
 /// # Errors
 /// Out of memory.
@@ -133,7 +133,7 @@ pub fn entered(
     Ok(visits)
 }
 
-/// The leaves of all threads, with room for so many.
+/// The leaves of all threads, with the room that `rooms` counts.
 ///
 /// # Errors
 /// Out of memory.

@@ -1,4 +1,4 @@
-//! Events that can stand beside each other, and such as can't.
+//! Events that can be in one trace together, and such as can't.
 
 use self::Logged::{Clock, Read, Write};
 use crate::event_bytes::put;
@@ -9,7 +9,7 @@ use ir_trace::{Trace, read_trace};
 use std::alloc::{AllocError, Global};
 use std::test::Fail;
 
-// What stands before the threads of a trace of sixteen objects, beside their number.
+// What comes before the threads of a trace of sixteen objects, after their number.
 const BUDGET: [u8; 11] = [16, 0, 0, 0xe8, 0x03, 0, 0, 0, 0, 0, 0];
 
 // A thread that ended with code 0 after eleven steps, beside its events.
@@ -91,7 +91,7 @@ const OF_ONE_VERSION: [Row; 8] = [
         &[&[Read(0, 0), Write(0, 0, 0)]],
         Some((0, 1, Cause::Readers)),
     ),
-    // A version that nobody made.
+    // A version that no thread made.
     (
         &[&[Write(0, 2, 0)], &[Write(0, 0, 0)]],
         Some((0, 0, Cause::Unmade)),
@@ -118,12 +118,12 @@ const OF_MORE: [Row; 6] = [
         &[&[Clock], &[Clock, Read(0, 9), Read(0, 8)]],
         Some((1, 1, Cause::Unmade)),
     ),
-    // The first thread's entry was made by the second's, which nobody made.
+    // The first thread's entry was made by the second's, which no thread made.
     (
         &[&[Read(0, 0xffff_ffff)], &[Write(0, 0xffff_fffe, 0)]],
         Some((1, 0, Cause::Unmade)),
     ),
-    // Objects are told apart.
+    // Objects are distinguished.
     (
         &[&[Write(1, 0, 0)], &[Read(0, 1)]],
         Some((1, 0, Cause::Unmade)),

@@ -122,7 +122,7 @@ pub const READ_AND_WRITE: [u32; 11] = [
     ECALL,
 ];
 
-// Says what is said of the thread that reads and writes, along a trace with so many events.
+// Gives what is answered of the thread that reads and writes, along a trace with `count` events.
 fn read_and_write(alloc: Global, count: u8, events: &[u8]) -> Result<Judged, Fail> {
     let image = guest(alloc, &[0], 1, &READ_AND_WRITE)?;
     let mut bytes = Vec::new(alloc);
@@ -277,7 +277,7 @@ fn crossed(alloc: Global, first: [u8; 2], second: [u8; 2]) -> Result<Judged, Fai
 const VERSIONS: [([u8; 2], [u8; 2], Judged); 5] = [
     // Each waits for the other.
     ([1, 0], [1, 0], Judged::Threads(STARVES, STARVES)),
-    // Who waits goes on after the leave.
+    // A thread that waits continues after the leave.
     ([1, 1], [0, 0], Judged::Fits),
     ([0, 1], [0, 1], Judged::Fits),
     // An incoherent trace is named before any step.

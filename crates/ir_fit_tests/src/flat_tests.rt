@@ -17,7 +17,7 @@ const NOT_HELD: u8 = 11;
 
 const NO_SUCH_OBJECT: u8 = 9;
 
-// The thread tries so many steps, each with this answer.
+// The thread tries `steps` steps, each with this answer.
 fn run(flat: &mut Flat, thread: usize, steps: u32, answer: u32) -> Result<(), NotAdmitted> {
     for _ in 0..steps {
         if thread < flat.threads().len() {
@@ -27,7 +27,7 @@ fn run(flat: &mut Flat, thread: usize, steps: u32, answer: u32) -> Result<(), No
     Ok(())
 }
 
-// Whether the first thread takes so many steps.
+// Whether the first thread takes `steps` steps.
 fn goes(flat: &mut Flat, steps: u32) -> bool {
     run(flat, 0, steps, 0).is_ok()
 }
@@ -51,7 +51,7 @@ fn seen(flat: &Flat) -> Seen {
     (end_of(flat), word(flat), held)
 }
 
-// The state of the only thread of a guest after so many steps, or as many as there are.
+// The state of the only thread of a guest after `steps` steps, or as many as there are.
 fn seen_alone(
     alloc: Global,
     objects: u8,
@@ -234,8 +234,8 @@ const READER_AND_WRITERS: [u32; 8] = [
     ECALL,
 ];
 
-// The thread that takes so many steps, whether there are so many, and after them the object's word and the second
-// thread's steps.
+// The thread that takes steps, their number, whether there are that many, and after them the object's word and the
+// second thread's steps.
 const WAITING: [(usize, u32, bool, (Option<u64>, Option<u64>)); 5] = [
     (0, 6, true, (Some(2), Some(0))),
     (1, 5, true, (Some(2), Some(5))),
@@ -265,7 +265,7 @@ fn a_writer_waits_for_a_reader(rt: HostRuntime) -> Result<(), Fail> {
     Ok(())
 }
 
-// What is seen of a copy that goes on by so many steps.
+// What is seen of a copy that takes `steps` further steps.
 fn seen_after(flat: &Flat, steps: u32) -> Result<Seen, Fail> {
     let mut copy = flat.copy()?;
     run(&mut copy, 0, steps, 0)?;
@@ -318,7 +318,7 @@ fn an_input_is_a_byte_or_the_end(rt: HostRuntime) -> Result<(), Fail> {
     Ok(())
 }
 
-// Private steps of the first thread, at most so many.
+// Private steps of the first thread, at most `limit`.
 fn together(flat: &mut Flat, limit: u64) -> u64 {
     if flat.threads().is_empty() {
         0
@@ -327,7 +327,7 @@ fn together(flat: &mut Flat, limit: u64) -> u64 {
     }
 }
 
-// The limit, how many steps are taken, and how many others behind them.
+// The limit, how many steps are taken, and how many others after them.
 const TOGETHER: [(u64, u64, u32); 4] = [(1, 1, 0), (9, 1, 0), (9, 0, 1), (9, 3, 3)];
 
 // The first row that isn't so.
@@ -353,7 +353,8 @@ fn can_step(flat: &Flat, thread: usize) -> bool {
     thread < flat.threads().len() && flat.can_step(thread)
 }
 
-// The thread that takes so many steps, whether there are so many, and which of the two threads have a step after them.
+// The thread that takes steps, their number, whether there are that many, and which of the two threads have a step after
+// them.
 const TURNS: [(usize, u32, bool, (bool, bool)); 6] = [
     (0, 0, true, (true, true)),
     (0, 3, true, (true, true)),

@@ -72,7 +72,7 @@ fn a_word_that_the_form_lacks_ends_the_thread(rt: HostRuntime) -> Result<(), Fai
     Ok(())
 }
 
-// A trace of so many threads, each with two steps and a breakpoint as its end, and objects.
+// A trace of `threads` threads, each with two steps and a breakpoint as its end, and of `objects` objects.
 fn trace(alloc: Global, form: u8, threads: u8, objects: u8) -> Result<Vec<u8>, AllocError> {
     let mut bytes = Vec::from_slice(alloc, &[0x49, 0x52, 0x54, form, threads, objects])?;
     bytes.extend_from_slice(&[0, 0, 0xe8, 3, 0, 0, 0, 0, 0, 0])?;

@@ -1,5 +1,5 @@
-//! Tests of threads, objects, logs and traces, of the flat interpreter and of the fitting of traces. They stand apart, since a
-//! crate with tests is proved twice.
+//! Tests of threads, objects, logs and traces, of the flat interpreter and of the fitting of traces. They are a crate
+//! of their own, since a crate with tests is proved twice.
 #![tactic(auto)]
 
 #[cfg(test)]

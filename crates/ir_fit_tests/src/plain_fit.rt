@@ -27,7 +27,7 @@ pub enum Answer {
     },
     // The two threads, not both of which are the same.
     Stands(ThreadVerdict, ThreadVerdict),
-    // No answer: runs that go furthest stand differently, or a search was given up.
+    // No answer: runs that go furthest end differently, or a search was given up.
     Unsettled,
 }
 
@@ -80,7 +80,7 @@ fn is_unmade(events: &[Event], object: u8, version: u32) -> bool {
     true
 }
 
-// Whether a write entry at the version stands at another place.
+// Whether a write entry at the version is at another place.
 fn is_twice(events: &[Event], place: usize, object: u8, version: u32) -> bool {
     for other in 0..events.len() {
         if other != place && is_write(events[other], object, version) {
@@ -98,7 +98,7 @@ fn readers_at(events: &[Event], object: u8, version: u32) -> usize {
         .count()
 }
 
-// Why the event at the place can't stand beside the others.
+// Why the event at the place can't be in one trace with the others.
 fn cause_at(events: &[Event], place: usize) -> Option<Cause> {
     let event = *events.get(place)?;
     let (object, version) = entered(event)?;
@@ -117,7 +117,8 @@ fn cause_at(events: &[Event], place: usize) -> Option<Cause> {
     None
 }
 
-// The first event that can't stand beside the others. So many are the first thread's, and the second's come after them.
+// The first event that can't be in one trace with the others. The first `firsts` are the first thread's, and the second's
+// come after them.
 pub fn broken(events: &[Event], firsts: usize) -> Option<Answer> {
     for place in 0..events.len() {
         if let Some(cause) = cause_at(events, place) {
@@ -136,7 +137,7 @@ pub fn broken(events: &[Event], firsts: usize) -> Option<Answer> {
     None
 }
 
-// What a thread asks and where it stands, and what the trace tells of it.
+// What a thread asks and where it is, and what the trace says of it.
 #[derive(Clone, Copy)]
 struct Place {
     asked: Ask,
@@ -149,7 +150,7 @@ struct Place {
     emitted_end: End,
 }
 
-// Where thread t stands, if there is such a thread.
+// Where thread t is, if there is such a thread.
 fn place_of(flat: &Flat, trace: &Trace, t: usize) -> Option<Place> {
     if t >= flat.threads().len() {
         return None;
@@ -245,7 +246,7 @@ impl Place {
     }
 }
 
-// Thread t goes on while its steps are private and follow the trace: these are nobody else's.
+// Thread t continues while its steps are private and follow the trace: these concern no other thread.
 fn go_on(flat: &mut Flat, trace: &Trace, t: usize) {
     for _ in 0..MOST_PRIVATE {
         let Some(place) = place_of(flat, trace, t) else {
@@ -258,7 +259,7 @@ fn go_on(flat: &mut Flat, trace: &Trace, t: usize) {
     }
 }
 
-// The state after the next step of thread t and the private ones behind it, if the step follows the trace.
+// The state after the next step of thread t and the private ones after it, if the step follows the trace.
 fn after_step<'a>(
     flat: &Flat<'a>,
     trace: &Trace,

@@ -117,7 +117,7 @@ fn put_thread(bytes: &mut Vec<u8>, steps: u8, events: &[Event]) -> Result<(), Al
     Ok(())
 }
 
-// The trace with so many steps of each thread and these events.
+// The trace with these numbers of steps of the threads and these events.
 fn traced(alloc: Global, steps: [u8; 2], first: &[Event], second: &[Event]) -> Result<Trace, Fail> {
     let mut bytes = Vec::new(alloc);
     bytes.extend_from_slice(&[

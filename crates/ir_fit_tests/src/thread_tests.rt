@@ -18,7 +18,7 @@ const PROGRAM: [u8; 18 + 40 + 32] = [
     0, 0, 0, 0, 0, 0, 0, 0, 0, 0, 0, 0, 0, 0, 0, 0, 0, 0, 0, 0, 0, 0, 0, 0, 0, 0, 0, 0, 0, 0, 0, 0,
 ];
 
-// Takes so many steps, and answers the value wherever one is wanted.
+// Takes `steps` steps, and answers the value wherever one is wanted.
 fn run(thread: &mut Thread, code: &Code, steps: u32, value: u32) {
     for _ in 0..steps {
         match thread.ask(code) {
@@ -81,7 +81,7 @@ fn a_copy_goes_its_own_way(rt: HostRuntime) -> Result<(), Fail> {
     Ok(())
 }
 
-// How many steps are answered, the limit of a run behind them, how many steps it goes, and how many were taken then.
+// How many steps are answered, the limit of a run after them, how many steps it goes, and how many were taken then.
 const RUNS: [(u32, u64, u64, u64); 4] = [(0, 9, 1, 1), (3, 1, 1, 5), (0, 9, 2, 7), (0, 9, 0, 7)];
 
 // A run goes past the call that answers the thread's number, and stops at its limit or before what isn't private.

@@ -51,7 +51,7 @@ fn changed(alloc: Global, bytes: &[u8], place: usize, byte: u8) -> Result<Vec<u8
     Ok(changed)
 }
 
-// The first bytes, so many of them.
+// The first `length` bytes, or all if there are fewer.
 fn prefix(bytes: &[u8], length: usize) -> &[u8] {
     match bytes.split_at_checked(length) {
         Some((prefix, _)) => prefix,
@@ -102,7 +102,7 @@ fn a_thread_without_events(rt: HostRuntime) -> Result<(), Fail> {
     Ok(())
 }
 
-// Whether a thread of two writers is told so, with its write entry.
+// Whether the trace gives a thread of two writers as it is, with its write entry.
 fn is_writer(trace: &Trace, thread: u32) -> bool {
     let written = Event::Write {
         object: 0,
@@ -258,7 +258,7 @@ const FAULTS: [Faults; 5] = [
     (&ONE_THREAD, [(31, 0x10), (29, 1)], 33, 3),
 ];
 
-// The refusal of so many bytes with two others among them.
+// The refusal of the first `length` bytes after two changes.
 fn refusal_of_two(
     alloc: Global,
     bytes: &[u8],

@@ -30,7 +30,7 @@ const ALONE: [(Profile, u32, Ended); 4] = [
     (Profile::One, 1, Some((8, 0, 3, 0))),
 ];
 
-// How the thread ends, where so many steps are tried.
+// How the thread ends, if five steps are tried.
 fn alone(alloc: Global, profile: Profile, answer: u32) -> Result<Ended, Fail> {
     let image = guest_for(alloc, profile, &[0], 1, &TRY)?;
     let mut flat = Flat::start(alloc, &image, 1000, profile)?;

@@ -40,7 +40,7 @@ abbrev pub CodeFits : Option end.End → Type 0
 CodeFits None = Unit {0}
 CodeFits (Some e) = IsWord (end_code e)
 
--- a thread within a budget, of a guest with so many objects, with a profile
+-- a thread within a budget, of a guest with `objects` objects, with a profile
 pub record IsBounded (budget objects : ℕ) (profile : Profile) (x : thread.State) : Type 0 where
   pub words : HasWords x.core
   pub number : IsWord x.number

@@ -5,7 +5,7 @@ pub use Rattle.ir_flat.proofs.Kept.{added, events_added, held_length}
 pub use Rattle.ir_flat.proofs.Next.{state_eq}
 -- a step keeps what the lists of threads and objects always keep
 pub use Rattle.ir_flat.proofs.Keeps.{may_admits, logged_fits, few_inside, enter_fits, leave_fits, leave_allowed, thread_count, object_count, next_flat, enter_object, try_object, can_by_may, taken_by}
--- at the start nobody is inside an object
+-- at the start no thread is inside an object
 pub use Rattle.ir_flat.proofs.Fresh.{threads_length, cells_length, fresh, no_steps, fields_at, words_at, words_count, start_none}
 -- what holds in each state that a run of a guest reaches
 pub use Rattle.ir_flat.proofs.Runs.{start_idle, nothing_is_stuck, counts_all_fit}

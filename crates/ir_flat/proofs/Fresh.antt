@@ -1,4 +1,4 @@
--- At the start nobody is inside an object.
+-- At the start no thread is inside an object.
 use Rattle.std.proofs.Common.{◌≡◌, ℕ, zero, suc, ◌+◌, ◌-◌, ◌*◌, ◌<◌, ◌≤◌, List, [], ◌∷◌, ◌++◌, length, take, drop, replicate, get_or, Option, None, refl, sym, ap, ◌∙◌, subst, arith, inl, inr, false}
 use Rattle.std.proofs.lemmas.List.{get_or-replicate, get_or_past, length-replicate, length-append, length-take}
 use Rattle.std.proofs.lemmas.Bool.{cases_lt}
@@ -81,7 +81,7 @@ words_at g from zero o l = absurd (omega arith)
 words_at g from (suc n) zero l = ap (first_words g) (let e : from ≡ from + 0 = omega arith in e)
 words_at g from (suc n) (suc o) l = words_at g (suc from) n o (omega arith) ∙ ap (first_words g) (let e : suc from + o ≡ from + suc o = omega arith in e)
 
--- there are so many, whatever the form
+-- there are most_object_words of them, whatever the form
 pub words_count : (g : Guest) (o : ℕ) → length (first_words g o) ≡ most_object_words
 words_count g o =
     let own = take (object_words g) (drop (object_words g * o) g.words) in
@@ -91,7 +91,7 @@ words_count g o =
     let rest = length-replicate {A = ℕ} (most_object_words - length own) 0 in
     omega (arith, few, most, parts, rest)
 
--- nobody is inside
+-- no thread is inside
 pub start_none : (g : Guest) (budget : ℕ) (profile : Profile) (o t : ℕ) → inside_of (start_flat g budget profile) o t ≡ None
 start_none g budget profile o t = (fresh g budget profile 0 (length g.entries) t).none o
 

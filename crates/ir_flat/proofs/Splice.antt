@@ -34,7 +34,7 @@ private_step m (Get o i) v t f p h = absurd (cc p)
 private_step m (Put o i w) v t f p h = absurd (cc p)
 private_step m Done v t f p h = absurd h
 
--- thread t is x, and stands in the state so
+-- the state in which thread t is x, and the objects are f
 abbrev pub With : {T : Type 0} → (ℕ → T) → ℕ → T → (ℕ → Object) → State T
 With now t x f = record { now = upd now t x; objects = f }
 
@@ -171,7 +171,7 @@ completes {T} m s s' run more W W' E E' O ok e c joins ends = record {
     there : end m s (run ++ more) ≡ end m s' more
     there = end_append m s run more ∙ ap (λ z. end m z more) e
 
--- a thread stands where it stands
+-- putting a thread where it is changes nothing
 with_now : {T : Type 0} (now : ℕ → T) (t : ℕ) (f : ℕ → Object) → With now t (now t) f ≡ state_of now f
 with_now now t f = λ i. record { now = upd_id now t (now t) refl i; objects = f }
 

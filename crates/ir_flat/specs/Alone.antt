@@ -5,7 +5,7 @@ use Rattle.ir_thread.specs.declared.ask.Ask.TheVariants as ask
 use Rattle.ir_flat.specs.Flat.{Flat, tables, machine}
 use Rattle.ir_runs.specs.Run.{IsRun, end, log}
 
--- g is f after so many steps of thread t, each of them private
+-- g is f after `count` steps of thread t, each of them private
 pub record WentAlone (f g : Flat) (t count : ℕ) : Type 0 where
   pub runs : IsRun (machine f) (tables f) (replicate count (t, 0))
   pub ends : tables g ≡ end (machine f) (tables f) (replicate count (t, 0))

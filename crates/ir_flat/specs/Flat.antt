@@ -71,11 +71,11 @@ abbrev pub start_threads : Guest → ℕ → Profile → ℕ → ℕ → List St
 start_threads guest budget profile from zero = []
 start_threads guest budget profile from (suc n) = start_state guest from budget profile ∷ start_threads guest budget profile (suc from) n
 
--- an object that nobody has entered
+-- an object that no thread has entered
 abbrev pub start_cell : List ℕ → Cell
 start_cell words = record { fields = record { version = 0; left = 0; inside = 0; writer = false }; words = words }
 
--- so many objects of a guest from a number on, with their words
+-- n objects of a guest from a number on, with their words
 abbrev pub start_cells : Guest → ℕ → ℕ → List Cell
 start_cells guest from zero = []
 start_cells guest from (suc n) = start_cell (first_words guest from) ∷ start_cells guest (suc from) n

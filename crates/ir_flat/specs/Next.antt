@@ -42,7 +42,7 @@ next f t r (Get o i) = answered f t (Get o i) (Value (slice_index (cell_of f o).
 next f t r (Put o i w) = with_object (answered f t (Put o i w) Go) o (record (cell_of f o) { words = slice_set (cell_of f o).words i w })
 next f t r q = answered f t q Go
 
--- whether a try may have this result: 1 where nobody is inside, 0 always
+-- whether a try may have this result: 1 if no thread is inside, 0 always
 abbrev pub MayTry : Fields → ℕ → Type 0
 MayTry c zero = ⊤
 MayTry c (suc zero) = Admitted Writing c

@@ -64,7 +64,7 @@ splice m now rs n [] = last_steps rs n
 splice m now rs n (x ∷ xs) = map (λ r. (x.0, r)) (lead m (now x.0) (rs x.0)) ++ (x.0, x.1.1)
     ∷ splice m (upd now x.0 (m.take (led m (now x.0) (rs x.0)) x.1.1)) (upd rs x.0 (tail_of (remain m (now x.0) (rs x.0)))) n xs
 
--- what a step of a thread alone emits, where ks is what its object steps tell
+-- what a step of a thread alone emits, where ks is what its object steps emit
 abbrev pub alone_label : Act → List Label → Label
 alone_label Silent ks = Quiet
 alone_label (Result k v) ks = Answer k v
@@ -78,7 +78,7 @@ labels_left false ks = ks
 labels_left true [] = []
 labels_left true (k ∷ ks) = ks
 
--- the steps of a thread alone, with what they tell
+-- the steps of a thread alone, with what they emit
 abbrev pub alone_trail : {T : Type 0} → Machine T → T → List ℕ → List Label → List (T × Label)
 alone_trail m x [] ks = []
 alone_trail m x (v ∷ vs) ks = (x, alone_label (act_of (m.ask x) v) ks)
@@ -94,8 +94,8 @@ pub record IsSplice {T : Type 0} (m : Machine T) (s : State T) (replies : ℕ �
   -- it is complete where each thread is done
   pub complete : ((t : ℕ) → m.ask (alone_after m (s.now t) (replies t)) ≡ Done) → IsDone m (end m s run)
 
--- where each of n threads, alone, has the object steps that the order has of it, and no other thread has a step, there is such a run: each
--- thread's private steps before its next object step, and its last ones at the end
+-- if each of n threads, alone, has its object steps of the order, and no other thread has steps, there is such a run: each thread's
+-- private steps before its next object step, and its last at the end
 abbrev pub Splices : Type 0 → Type 0
 Splices T = (m : Machine T) (s : State T) (replies : ℕ → List ℕ) (n : ℕ) (order : List (ℕ × Shared)) → ((t : ℕ) → n ≤ t → replies t ≡ [])
     → ((t : ℕ) → MayRun m (s.now t) (replies t))

@@ -18,8 +18,8 @@ use ir_thread::{Ask, Profile, Thread};
 use std::alloc::{AllocError, Global};
 use std::marker::Model;
 
-/// There is no such step now: the thread is done, it must wait, or the result is none of the call's; a try has result 1 only where
-/// nobody is inside.
+/// There is no such step now: the thread is done, it must wait, or the result is none of the call's; a try has result 1 only if
+/// no thread is inside.
 #[derive(Clone, Copy, Debug, PartialEq, Eq)]
 pub struct NotAdmitted;
 
@@ -162,8 +162,8 @@ impl<'a> Flat<'a> {
         self.parts.ask(t)
     }
 
-    /// Thread t takes its next step, for which it asks so. r is the result of a call of the environment, or of a try: 1 where
-    /// the thread is inside then, 0 where it goes on without. It is looked at in no other step.
+    /// Thread t takes its next step, for which it asks so. r is the result of a call of the environment, or of a try: 1 if
+    /// the thread is inside then, 0 if it continues without. It is looked at in no other step.
     ///
     /// # Errors
     /// There is no such step; nothing changes.
@@ -190,8 +190,8 @@ impl<'a> Flat<'a> {
         Ok(())
     }
 
-    /// Thread t takes its next step. r is the result of a call of the environment, or of a try: 1 where the thread is inside then,
-    /// 0 where it goes on without. It is looked at in no other step.
+    /// Thread t takes its next step. r is the result of a call of the environment, or of a try: 1 if the thread is inside then,
+    /// 0 if it continues without. It is looked at in no other step.
     ///
     /// # Errors
     /// There is no such step; nothing changes.

@@ -115,7 +115,7 @@ impl<'a> Parts<'a> {
         self.threads[t].take_asked(self.code, asked, reply);
     }
 
-    // Thread t takes instructions, at most so many: how many they are, and what it asks then.
+    // Thread t takes instructions, at most `limit`: how many they are, and what it asks then.
     #[inline(always)]
     pub fn run_to_ask(&mut self, t: usize, limit: u64) -> (u64, Ask)
         requires { t < length self.old.threads }
@@ -128,7 +128,7 @@ impl<'a> Parts<'a> {
         self.threads[t].run_to_ask(self.code, limit)
     }
 
-    // Thread t takes instructions none of which is marked, at most so many, and how many they are.
+    // Thread t takes instructions none of which is marked, at most `limit`: how many they are.
     pub fn run_unmarked(&mut self, t: usize, code: &MarkedCode<'_>, limit: u64) -> u64
         requires thread { t < length self.old.threads }
         requires code { code.now.words ≡ self.old.code }
@@ -167,7 +167,7 @@ impl<'a> Parts<'a> {
         self.objects[o as usize].put(index, value);
     }
 
-    // Whether a try may have this result: 1 where nobody is inside, 0 always.
+    // Whether a try may have this result: 1 if no thread is inside, 0 always.
     fn may_try(&self, o: u8, r: u32) -> bool
         requires { o < length self.now.objects }
         ensures { IsTrue result ↔ MayTry (cell_of self.now o).fields r }

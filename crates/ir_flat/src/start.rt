@@ -27,7 +27,7 @@ pub fn threads(
     Ok(threads)
 }
 
-// These words, and 0 behind them.
+// These words, and 0 after them.
 fn padded(words: &[u32]) -> [u32; MOST_OBJECT_WORDS]
     requires { length words.now ≤ most_object_words }
     ensures { result ≡ padded words.now }

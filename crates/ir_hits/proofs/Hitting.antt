@@ -29,7 +29,7 @@ pub never_hits : (f : FittedTrace) (run : List Step) (points : List Numbered) (t
     → HitByNumber f run points t k n → ⊥
 never_hits f run points t k n none h = none (h.0, h.1, h.2, may_hit f run t k h.1.point h.4)
 
--- no point hits behind the last step
+-- no point hits after the last step
 pub hit_within : (f : FittedTrace) (run : List Step) (t j : ℕ) (p : Point) → HitBy f run t (suc j) p → j < steps_of f run t
 hit_within f run t j (Break u address) h = omega (arith, h.2)
 hit_within f run t j (Watch u address) h = elim (cases_lt j (steps_of f run t)) [
@@ -126,7 +126,7 @@ none_hits f run points notes t k last y s none n h =
 
 -- ---- a step, and the start
 
--- behind step j
+-- after step j
 pub seen_after : (f : FittedTrace) (run : List Step) → IsRunOf f.guest f.recorded run → (points : List Numbered) (notes : List Before)
     → (t j last : ℕ) (x y : State) → x ≡ thread_at f run t j → y ≡ thread_at f run t (suc j) → y.steps ≡ suc j
     → last ≡ steps_of f run t → j < steps_of f run t → AllNoted t x points notes → IsSeen f run points notes t (suc j) last y

@@ -21,7 +21,7 @@ use Rattle.ir_hits.specs.Hits.{thread_at, steps_of, LeavesWritten}
 
 -- ---- one step
 
--- the ask behind a leave
+-- the ask of the step that emits a leave
 abbrev leave_of : Label → Ask
 leave_of Quiet = machine.Private
 leave_of (Answer k v) = machine.Private
@@ -87,7 +87,7 @@ pub emits_within : (f : FittedTrace) (run : List Step) (t j : ℕ) (a : Label) �
     → j < steps_of f run t
 emits_within f run t j a h = (get_at (trail (machine_of f) (start_of f) run t) j (h.0, a) h.1).0
 
--- the thread doesn't change behind its last step
+-- the thread doesn't change after its last step
 past_last : {T : Type 0} (xs : List (T × Label)) (k : ℕ) (last : T) → length xs ≤ k → thread_in xs k last ≡ last
 past_last [] k last l = refl
 past_last (x ∷ xs) zero last l = absurd (omega (arith, l))

@@ -1,4 +1,4 @@
--- What a thread that goes on shows of the points.
+-- What a thread that advances shows of the points.
 use Rattle.std.proofs.Common.{◌≡◌, ◌∙◌, ap, ℕ, zero, suc, ◌+◌, ◌-◌, ◌<◌, ◌≤◌, List, length, Option, Some, None, refl, sym, subst, inl, inr, arith}
 use Rattle.std.specs.List.{slice_index_or}
 use Rattle.ir_thread.specs.State.{State}
@@ -99,7 +99,7 @@ comes_to f last code points notes t to old new s run whole k next = elim s.passe
   | inr steps ↦ comes_more f last code points notes t to old new s run whole k next steps
 ]
 
--- what is seen of the thread behind it
+-- what is seen of the thread after it
 pub record IsBehind (f : FittedTrace) (run : List Step) (points : List Numbered) (notes : List Before) (t end : ℕ) (old new : Standing)
     : Type 0 where
   pub seen : IsSeen f run points notes t (positions (flat_in f new) t) end (slice_index_or new.threads t idle)
@@ -210,7 +210,7 @@ begun_at f last points notes t s end y y_is are stands is size none found start 
     subst (IsLastFrom f run points t (suc (suc p)) (suc p + 1)) (sym (later (omega (arith, above))))
     (none_yet f run points t (suc (suc p)) (suc p + 1) (omega arith))
 
--- the hit at the start, if the thread stands there and there is one, is the last so far
+-- the hit at the start, if the thread is there and there is one, is the last so far
 pub begun : (f : FittedTrace) (last : List ℕ) (points : List Numbered) (notes : List Before) (t : ℕ) (s : Standing) (end : ℕ)
     (y : State) → y ≡ slice_index_or s.threads t idle → AreLast f last → StandsAt f (positions (flat_in f s)) s → end ≡ cut_of last t
     → length notes ≡ length points → AllNothing notes → (found : Option Hit) → (y.steps ≡ 0 → IsStartHit t end y notes points found)

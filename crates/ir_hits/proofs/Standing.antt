@@ -1,4 +1,4 @@
--- Threads and objects of a guest, and the cuts at which they stand.
+-- Threads and objects of a guest, and the cuts at which they are.
 use Rattle.std.proofs.Common.{◌≡◌, ℕ, ◌<◌, List, length, sym, ap, ◌∙◌, subst, inl, inr, arith}
 use Rattle.std.specs.List.{slice_index_or}
 use Rattle.std.proofs.Math.Path.{fun_ext}
@@ -41,9 +41,9 @@ pub end_steps : (f : FittedTrace) (last : List ℕ) → AreLast f last → (run 
     → end ≡ cut_of last t → end ≡ steps_of f run t
 end_steps f last are run whole t end is = is ∙ last_steps f last are run whole t
 
--- ---- where threads stand
+-- ---- where threads are
 
--- what stands at a cut stands at its own positions
+-- what is at a cut is at its own positions
 pub stands_own : (f : FittedTrace) (p : Cut) (s : Standing) → StandsAt f p s → StandsAt f (positions (flat_in f s)) s
 stands_own f p s h = subst (λ (q : Cut). StandsAt f q s) (fun_ext (λ t. sym (h.at.steps t))) h
 
@@ -57,7 +57,7 @@ pub steps_here : (f : FittedTrace) (s : Standing) (t n : ℕ) (x : thread.State)
     → n ≡ positions (flat_in f s) t
 steps_here f s t n x is steps = steps ∙ ap (λ (y : thread.State). y.steps) is
 
--- a list of the threads' positions is the cut at which they stand
+-- a list of the threads' positions is the cut at which they are
 cut_same : (f : FittedTrace) (s : Standing) (at : List ℕ) → length at ≡ length s.threads
     → ((t : ℕ) → t < length s.threads → cut_of at t ≡ (slice_index_or s.threads t idle).steps) → (t : ℕ)
     → positions (flat_in f s) t ≡ cut_of at t

@@ -20,7 +20,7 @@ none_more f run points t from k before here j n low high h = elim (cases_eq j k)
   | inr ne ↦ before j n low (omega (arith, high, ne)) h
 ]
 
--- where the thread stands that has gone on to a hit
+-- the position of a thread that has advanced to a hit
 pub at_hit : (to p : ℕ) (found : Option Hit) (h : Hit) → p ≡ reached to found → found ≡ Some h → p ≡ h.position
 at_hit to p found h there is = there ∙ ap (reached to) is
 
@@ -29,7 +29,7 @@ pub start_near : (p : ℕ) → window_start p ≤ p + 1
 start_near zero = omega arith
 start_near (suc p) = omega arith
 
--- a hit is the last up to where it stands
+-- a hit is the last up to its own position
 pub last_here : (f : FittedTrace) (run : List Step) (points : List Numbered) (t from p to q : ℕ) (h : Hit) → from ≤ p → q ≡ h.position
     → IsNextHit f run points t p to (Some h) → IsLastFrom f run points t (window_start from) (q + 1) (Some h)
 last_here f run points t from p to q h low at next = (

@@ -1,4 +1,4 @@
--- What a thread passes over at once: which words of its code are marked, so that no point hits there.
+-- What a thread passes over in one call: which words of its code are marked, so that no point hits there.
 use Rattle.std.specs.Prelude.{◌≡◌, ◌⊎◌, ℕ, ◌+◌, ◌<◌, ◌≤◌, ⊤, Bool, true, false, List, slice_get, Option, Some}
 use Rattle.ir_isa.specs.declared.inst.Inst.{Inst}
 use Rattle.ir_isa.specs.declared.inst.Inst.TheVariants.{Store}

@@ -37,7 +37,7 @@ IsLastFrom f run points t from p (Some h) = (from ≤ h.position) × (h.position
     × IsLowest f run points t h.position h.number
 IsLastFrom f run points t from p None = NoneWithin f run points t from p
 
--- where the thread stands that has gone on to there
+-- the position that the thread has reached: that of the hit, or to if there is none
 abbrev pub reached : ℕ → Option Hit → ℕ
 reached to (Some h) = h.position
 reached to None = to

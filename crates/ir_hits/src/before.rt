@@ -3,7 +3,7 @@
 /// What a point notes of a thread before the thread's next step.
 #[derive(Clone, Copy, Debug, PartialEq, Eq)]
 pub enum Before {
-    /// Nothing that may be behind a hit.
+    /// Nothing from which a hit may follow.
     Nothing,
     /// The watched word.
     Word(u32),

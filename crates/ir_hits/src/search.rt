@@ -1,4 +1,4 @@
-//! Where points hit a thread, found by taking the thread's steps anew, at once where no point can hit.
+//! Where points hit a thread, found by taking the thread's steps again, in one call where no point can hit.
 
 ghost use Rattle.std.specs.Prelude.{◌≡◌, ◌<◌, ◌≤◌, ◌+◌, List, None, false, length, IfOk, OnOk};
 ghost use Rattle.ir_runs.specs.Run.{Step};
@@ -27,14 +27,14 @@ use std::alloc::{AllocError, Global};
 use std::thread::Threads;
 use std::time::Clock;
 
-/// Whether some point may hit thread t, wherever it stands.
+/// Whether some point may hit thread t, wherever it is.
 pub fn may_hit(t: usize, points: &[NumberedPoint]) -> bool
     ensures { result ≡ false → (f : FittedTrace) (run : List Step) → NeverHits f run points.now t }
 {
     some_concerns(t, points)
 }
 
-// Where a point hits thread t next, at most at a position. The thread goes on to there, and to that position where none does.
+// Where a point hits thread t next, at most at a position. The thread advances to there, or to that position if none does.
 fn next_hit<R: Threads + Clock + Sync, G: Gate + Sync>(
     rt: &R,
     alloc: Global,
@@ -74,8 +74,8 @@ fn next_hit<R: Threads + Clock + Sync, G: Gate + Sync>(
     Ok(None)
 }
 
-/// Where a point first hits thread t above the position at which it stands and at most at another, if one does. The threads and objects
-/// go on to there, or to that other position; the other threads as far as its steps need.
+/// Where a point first hits thread t above its present position and at most at another, if one does. The threads and objects
+/// advance to there, or to that other position; the other threads as far as its steps need.
 ///
 /// # Errors
 /// Out of memory, with the threads and objects at some consistent cut.
@@ -105,7 +105,7 @@ pub fn first_hit<R: Threads + Clock + Sync, G: Gate + Sync>(
     )
 }
 
-// The hit of thread t where it stands, if that is its start and a point hits there.
+// The hit of thread t at its present position, if that is its start and a point hits there.
 fn start_hit(
     thread: &Thread,
     t: usize,
@@ -166,8 +166,8 @@ fn last_in<R: Threads + Clock + Sync, G: Gate + Sync>(
     Ok(found)
 }
 
-/// Where a point last hits thread t above the position at which it stands, or also there where that is its start, and at most at
-/// another, if one does. The threads and objects go on to that other position; the other threads as far as its steps need.
+/// Where a point last hits thread t above its present position, or also there if that is its start, and at most at another, if
+/// one does. The threads and objects advance to that other position; the other threads as far as its steps need.
 ///
 /// # Errors
 /// Out of memory, with the threads and objects at some consistent cut.

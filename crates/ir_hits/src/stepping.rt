@@ -40,7 +40,7 @@ pub fn last_cut(alloc: Global, fitted: &Fitted) -> Result<Cut, AllocError>
     Ok(Cut::new(positions))
 }
 
-// Where the threads stand.
+// Where the threads are.
 fn cut_here(alloc: Global, threads: &[Thread]) -> Result<Cut, AllocError>
     ensures size { IfOk result (λ c. length c ≡ length threads.now) }
     ensures here { IfOk result (λ c. (t : ℕ) → t < length threads.now → cut_of c t ≡ (slice_index_or threads.now t idle).steps) }
@@ -109,8 +109,8 @@ fn take_step<R: Threads + Clock + Sync, G: Gate + Sync>(
     bring(rt, alloc, fitted, state, &next, gate)
 }
 
-// Thread t goes on, at most to a position: over instructions none of which is marked; or by its next step, where that isn't such a one.
-// The others stay, or go on as far as that step needs them.
+// Thread t advances, at most to a position: over instructions none of which is marked; or by its next step, if that isn't such a one.
+// The others stay, or advance as far as that step needs them.
 pub fn take_steps<R: Threads + Clock + Sync, G: Gate + Sync>(
     rt: &R,
     alloc: Global,

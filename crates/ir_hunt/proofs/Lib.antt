@@ -1,3 +1,5 @@
 mod Found
+mod Lowest
 mod Restarting
 mod Seeking
+mod Stopping

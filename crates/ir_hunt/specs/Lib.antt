@@ -2,3 +2,4 @@ pub mod Finding
 pub mod Lines
 pub mod Seeds
 pub mod Seeking
+pub mod Stopping

@@ -1,18 +1,21 @@
 //! A hunt, and the recording of what it finds.
 
-ghost use Rattle.std.specs.Prelude.{◌≡◌, ◌<◌, ◌++◌, ℕ, List, map, false, IfOk, IfSome, MatchOption, OnOk, Some};
+ghost use Rattle.std.specs.Prelude.{◌≡◌, ◌<◌, ◌++◌, ◌⊎◌, ℕ, List, [], map, false, true, IfOk, IfErr, IfSome, MatchOption, OnOk, Some, None};
 ghost use Rattle.std.specs.String.{string_bytes};
 ghost use Rattle.std.specs.Io.KnownBytes.{Appends};
-ghost use Rattle.ir_image.specs.Reading.{guest_at};
 ghost use Rattle.ir_thread.specs.Allowed.{IsAllowed};
 ghost use Rattle.ir_trace.specs.Encoding.{encoding};
 ghost use Rattle.ir_files.specs.Outputs.{output_writer_of, TookEach};
+ghost use Rattle.ir_files.specs.Writers.{writer_of, Failed};
+ghost use Rattle.ir_record_run.specs.Faults.{fault_status, Stops, IsReported, unwritten_of};
 ghost use Rattle.ir_record_run.specs.Recording.{IsRecordedOf, lines_of};
+ghost use Rattle.ir_record_run.specs.declared.record_fault.RecordFault.{RecordFault};
+ghost use Rattle.ir_record_run.specs.declared.record_fault.RecordFault.TheVariants.{NoMem, Lines};
 ghost use Rattle.ir_chaos.specs.Conditions.{as_condition};
 ghost use Rattle.ir_hunt.specs.Finding.{IsFound, IsFoundIn, IsFinding, by_list};
 ghost use Rattle.ir_hunt.specs.Lines.{found_line, none_line};
+ghost use Rattle.ir_hunt.specs.Stopping.{RefusesHunt, IsTold, IsHuntLine};
 
-use crate::lines::Lines;
 use crate::plan::{HuntPlan, Seeds};
 use crate::report::{found_line, none_line};
 use crate::search::{Search, lowest_seed};
@@ -23,7 +26,7 @@ use ir_image::Image;
 use ir_object::OpenGate;
 use ir_order::list_of;
 use ir_record_run::{ParsedImage, RecordFault, RecordPlan, record_run};
-use ir_stream::{DeviceErr, Sink, write_all};
+use ir_stream::{Sink, write_all};
 use ir_trace::Trace;
 use std::alloc::{AllocError, Global};
 use std::sync::Wait;
@@ -37,31 +40,29 @@ struct Found {
     list: String,
 }
 
-// The run of the seed that was found, once more.
-fn run_again<C: Clock>(
-    clock: &C,
+// The list that spells the order of a seed, if the run of that fulfils each condition.
+fn list_of_seed<C: Clock>(
     alloc: Global,
+    clock: &C,
     image: &Image,
     plan: &HuntPlan<'_>,
     seed: u64,
     choices: u32,
-) -> Result<Option<Found>, RecordFault>
+) -> Result<Option<String>, RecordFault>
     requires allowed { IsAllowed plan.now.record.profile image.now }
     requires choices { 0 < choices }
-    ensures { IfOk result (λ o. IfSome o (λ f. IsFound image.now plan.now.record plan.now.way f.seed (map as_condition plan.now.conditions.now) (string_bytes f.list))) }
+    ensures found { IfOk result (λ o. IfSome o (λ list. IsFound image.now plan.now.record plan.now.way seed (map as_condition plan.now.conditions.now) (string_bytes list))) }
+    ensures err { IfErr result (λ e. e ≡ NoMem) }
 {
     let mut seeker = Seeker::new(alloc, clock, image, plan)?;
     match seeker.fulfils(seed, choices) {
-        Ok(true) => Ok(Some(Found {
-            seed,
-            list: list_of(alloc, seeker.turns())?,
-        })),
+        Ok(true) => Ok(Some(list_of(alloc, seeker.turns())?)),
         Ok(false) | Err(Lost::TooLong) => Ok(None),
         Err(Lost::NoMem) => Err(RecordFault::NoMem),
     }
 }
 
-/// The list that spells the order of a seed, for a guest that is recorded so but for its order. There is none where the run
+/// The list that spells the order of a seed, for a guest that is recorded so but for its order. There is none if the run
 /// has too many turns, or too many answers of the world outside, to be followed.
 ///
 /// # Errors
@@ -73,7 +74,10 @@ pub fn order_of_seed<C: Clock>(
     how: RecordPlan<'_>,
     way: Way,
     seed: u64,
-) -> Result<Option<String>, RecordFault> {
+) -> Result<Option<String>, RecordFault>
+    ensures found { IfOk result (λ o. IfSome o (λ list. IsFoundIn image.now how.entry way seed [] (string_bytes list))) }
+    ensures refused { IfErr result (λ e. RefusesHunt e image.now how.entry) }
+{
     let guest = image.allowed(&how)?;
     let plan = HuntPlan {
         record: how,
@@ -85,93 +89,87 @@ pub fn order_of_seed<C: Clock>(
         conditions: &[],
         is_shown: false,
     };
-    let mut seeker = Seeker::new(alloc, clock, guest, &plan)?;
-    let choices = seeker.choices()?;
-    let followed = seeker.fulfils(seed, choices);
-    match followed {
-        Ok(_) => Ok(Some(list_of(alloc, seeker.turns())?)),
-        Err(Lost::TooLong) => Ok(None),
-        Err(Lost::NoMem) => Err(RecordFault::NoMem),
+    let choices = Seeker::new(alloc, clock, guest, &plan)?.choices()?;
+    list_of_seed(alloc, clock, guest, &plan, seed, choices)
+}
+
+// What a hunt comes to: the line that says so, what was found, and how many runs were left out.
+#[derive(Drop)]
+struct Sought {
+    line: String,
+    found: Option<Found>,
+    left_out: u64,
+}
+
+// The lowest seed that fulfils each condition, if there is one, and its list.
+fn found_by<R: Threads + Clock + Sync + Eprint>(
+    rt: &R,
+    alloc: Global,
+    image: &Image,
+    plan: &HuntPlan<'_>,
+) -> Result<(Option<Found>, u64), RecordFault>
+    requires { IsAllowed plan.now.record.profile image.now }
+    ensures found { IfOk result (λ r. IfSome r.0 (λ f. IsFound image.now plan.now.record plan.now.way f.seed (map as_condition plan.now.conditions.now) (string_bytes f.list))) }
+    ensures err { IfErr result (λ e. e ≡ NoMem) }
+{
+    let Search {
+        found,
+        choices,
+        left_out,
+    } = lowest_seed(rt, alloc, image, plan)?;
+    let Some(seed) = found else {
+        return Ok((None, left_out));
+    };
+    match list_of_seed(alloc, rt, image, plan, seed, choices)? {
+        Some(list) => Ok((Some(Found { seed, list }), left_out)),
+        None => Ok((None, left_out)),
     }
 }
 
-// The lowest seed that fulfils each condition, if there is one, and how many runs were left out.
+// The line of what was found, or that nothing was.
+fn line_of(alloc: Global, found: &Option<Found>, seeds: Seeds) -> Result<String, AllocError>
+    ensures { IfOk result (λ s. MatchOption found.now (string_bytes s ≡ none_line seeds.first seeds.last)
+        (λ f. string_bytes s ≡ found_line f.seed (string_bytes f.list))) }
+{
+    match found {
+        Some(found) => found_line(alloc, found.seed, found.list.as_str()),
+        None => none_line(alloc, seeds),
+    }
+}
+
+// What the hunt of a plan comes to.
 fn hunted<R: Threads + Clock + Sync + Eprint>(
     rt: &R,
     alloc: Global,
     image: &ParsedImage<'_>,
     plan: &HuntPlan<'_>,
-) -> Result<(Option<Found>, u64), RecordFault>
-    ensures { IfOk result (λ r. IfSome r.0 (λ f. IsFoundIn image.now plan.now.record plan.now.way f.seed (map as_condition plan.now.conditions.now) (string_bytes f.list))) }
+) -> Result<Sought, RecordFault>
+    ensures found { IfOk result (λ s. IfSome s.found (λ f. IsFoundIn image.now plan.now.record plan.now.way f.seed (map as_condition plan.now.conditions.now) (string_bytes f.list))) }
+    ensures line { IfOk result (λ s. MatchOption s.found (string_bytes s.line ≡ none_line plan.now.seeds.first plan.now.seeds.last)
+        (λ f. string_bytes s.line ≡ found_line f.seed (string_bytes f.list))) }
+    ensures refused { IfErr result (λ e. RefusesHunt e image.now plan.now.record) }
 {
     let guest = image.allowed(&plan.record)?;
-    let Search {
+    let (found, left_out) = found_by(rt, alloc, guest, plan)?;
+    let line = line_of(alloc, &found, plan.seeds)?;
+    Ok(Sought {
+        line,
         found,
-        choices,
         left_out,
-    } = lowest_seed(rt, alloc, guest, plan)?;
-    match found {
-        Some(seed) => Ok((run_again(rt, alloc, guest, plan, seed, choices)?, left_out)),
-        None => Ok((None, left_out)),
-    }
+    })
 }
 
-// Writes the line of what was found, and those of its recording.
-fn write_lines<O: Sink>(out: &mut O, line: &[u8], lines: &[u8]) -> Result<(), DeviceErr>
-    ensures { OnOk result (Appends (O.written out.old) (O.written out.new) (line.now ++ lines.now)) }
-{
-    write_all(out, line)?;
-    write_all(out, lines)
-}
-
-// Why nothing is told of what was found, or was not.
-fn unwritten<E: Sink>(faults: &mut E) -> ExitStatus
+// Reports a fault in its own words.
+fn told<E: Sink>(faults: &mut E, why: RecordFault) -> ExitStatus
     requires { E.broken faults.old ≡ false }
+    ensures status { result ≡ fault_status why }
+    ensures told { IsTold why (writer_of (E.written faults.old) (E.written faults.new) (E.broken faults.new)) }
 {
-    tell(faults, RecordFault::Lines.words());
-    RecordFault::Lines.status()
+    tell(faults, why.words());
+    why.status()
 }
 
-// The recording of what was found.
-fn record_found<R, W, P, O, E>(
-    rt: &R,
-    image: &ParsedImage<'_>,
-    plan: &RecordPlan<'_>,
-    line: &str,
-    trace: &mut W,
-    outputs: &mut P,
-    out: &mut O,
-    faults: &mut E,
-) -> Result<Trace, ExitStatus>
-where
-    R: Threads + Wait + Sync + Clock + AllocGlobal,
-    W: WholeSink,
-    P: OutputSink,
-    O: Sink,
-    E: Sink,
-    requires writes { W.broken trace.old ≡ false }
-    requires puts { P.broken outputs.old ≡ false }
-    requires prints { O.broken out.old ≡ false }
-    requires reports { E.broken faults.old ≡ false }
-    ensures { IfOk result (λ recorded. (printed : List (List ℕ)) × IsRecordedOf image.now plan.now recorded printed
-        × Appends (W.written trace.old) (W.written trace.new) (encoding recorded)
-        × TookEach (output_writer_of (P.taken outputs.old) (P.taken outputs.new) (P.broken outputs.new)) printed
-        × Appends (O.written out.old) (O.written out.new) (line.now ++ lines_of recorded)) }
-{
-    let Ok(mut lines) = Lines::new(rt.alloc()) else {
-        tell(faults, RecordFault::NoMem.words());
-        return Err(ExitStatus::Failed);
-    };
-    let recorded = record_run(
-        rt, &OpenGate, image, plan, trace, outputs, &mut lines, faults,
-    )?;
-    if write_lines(out, line.as_bytes(), lines.as_bytes()).is_err() {
-        return Err(unwritten(faults));
-    }
-    Ok(recorded)
-}
-
-// Tells how many runs were left out, if any were.
+// Reports how many runs were left out, if any were.
 fn tell_left_out<E: Sink>(alloc: Global, faults: &mut E, count: u64)
     requires { E.broken faults.old ≡ false }
 {
@@ -199,47 +197,12 @@ fn by_list<'a>(how: &RecordPlan<'a>, list: &'a str) -> RecordPlan<'a>
     }
 }
 
-// The recording of what was found by its list.
-fn recorded<R, W, P, O, E>(
-    rt: &R,
-    image: &ParsedImage<'_>,
-    plan: &HuntPlan<'_>,
-    found: &Found,
-    trace: &mut W,
-    outputs: &mut P,
-    out: &mut O,
-    faults: &mut E,
-) -> Result<Trace, ExitStatus>
-where
-    R: Threads + Wait + Sync + Clock + AllocGlobal,
-    W: WholeSink,
-    P: OutputSink,
-    O: Sink,
-    E: Sink,
-    requires writes { W.broken trace.old ≡ false }
-    requires puts { P.broken outputs.old ≡ false }
-    requires prints { O.broken out.old ≡ false }
-    requires reports { E.broken faults.old ≡ false }
-    ensures { IfOk result (λ recorded. (printed : List (List ℕ)) × IsRecordedOf image.now (by_list plan.now.record (string_bytes found.now.list)) recorded printed
-        × Appends (W.written trace.old) (W.written trace.new) (encoding recorded)
-        × TookEach (output_writer_of (P.taken outputs.old) (P.taken outputs.new) (P.broken outputs.new)) printed
-        × Appends (O.written out.old) (O.written out.new) (found_line found.now.seed (string_bytes found.now.list) ++ lines_of recorded)) }
-{
-    let list = found.list.as_str();
-    let Ok(line) = found_line(rt.alloc(), found.seed, list) else {
-        tell(faults, RecordFault::NoMem.words());
-        return Err(ExitStatus::Failed);
-    };
-    let plan = by_list(&plan.record, list);
-    record_found(rt, image, &plan, line.as_str(), trace, outputs, out, faults)
-}
-
-/// Tries the seeds of a plan, and records the run of the lowest that fulfils each of its conditions: the trace, what each
-/// thread printed, and then a line `found seed S order LIST` and the lines of the recording. Where none does, a line
+/// Tries the seeds of a plan. If the run of one fulfils each of its conditions, that of the lowest is recorded: first a line
+/// `found seed S order LIST` is written, and then all that `record_run` writes of the recording by LIST. Else a line
 /// `none A..B` is all that is written. What was recorded is handed back.
 ///
 /// # Errors
-/// The exit status, as of `record_run`. A fault is told in one line.
+/// The exit status, as of `record_run`. A fault is reported in one line.
 pub fn hunt_run<R, W, P, O, E>(
     rt: &R,
     image: &ParsedImage<'_>,
@@ -261,33 +224,46 @@ where
     requires reports { E.broken faults.old ≡ false }
     // Of the run that a list spells, which fulfils each condition: its trace was written, what its threads printed, and the lines with
     // the list. Or nothing was written but that none was found.
-    ensures { IfOk result (λ o. MatchOption o
+    ensures done { IfOk result (λ o. MatchOption o
         ((trace.new ≡ trace.old) × (outputs.new ≡ outputs.old) × Appends (O.written out.old) (O.written out.new) (none_line plan.now.seeds.first plan.now.seeds.last))
         (λ recorded. (seed : ℕ) × (list : List ℕ) × (printed : List (List ℕ))
         × IsFinding image.now plan.now.record plan.now.way seed (map as_condition plan.now.conditions.now) list recorded printed
         × Appends (W.written trace.old) (W.written trace.new) (encoding recorded)
         × TookEach (output_writer_of (P.taken outputs.old) (P.taken outputs.new) (P.broken outputs.new)) printed
         × Appends (O.written out.old) (O.written out.new) (found_line seed list ++ lines_of recorded))) }
+    ensures whole { IfOk result (λ o. IfSome o (λ _. W.whole trace.new ≡ true)) }
+    ensures quiet { IfOk result (λ o. IfSome o (λ _. faults.new ≡ faults.old)) }
+    // Else nothing was written; or the line failed; or what was found is said, and its recording stopped.
+    ensures stopped { IfErr result (λ status. (e : RecordFault) × (status ≡ fault_status e) × (
+        (RefusesHunt e image.now plan.now.record × (trace.new ≡ trace.old) × (outputs.new ≡ outputs.old) × (out.new ≡ out.old)
+        × IsTold e (writer_of (E.written faults.old) (E.written faults.new) (E.broken faults.new)))
+        ⊎ (((line : List ℕ) × (e ≡ Lines) × IsHuntLine image.now plan.now.record plan.now.way plan.now.seeds (map as_condition plan.now.conditions.now) line
+        × Failed (writer_of (O.written out.old) (O.written out.new) (O.broken out.new)) line × (trace.new ≡ trace.old) × (outputs.new ≡ outputs.old)
+        × IsTold e (writer_of (E.written faults.old) (E.written faults.new) (E.broken faults.new)))
+        ⊎ ((seed : ℕ) × (list : List ℕ) × (said : O)
+        × IsFoundIn image.now plan.now.record plan.now.way seed (map as_condition plan.now.conditions.now) list
+        × Appends (O.written out.old) (O.written said) (found_line seed list)
+        × IsReported e image.now (by_list plan.now.record list) (unwritten_of (W.called trace.new) (W.cause trace.new)) (unwritten_of (P.called outputs.new) (P.cause outputs.new))
+        (writer_of (E.written faults.old) (E.written faults.new) (E.broken faults.new))
+        × Stops e image.now (by_list plan.now.record list)
+        (writer_of (W.written trace.old) (W.written trace.new) (W.broken trace.new))
+        (output_writer_of (P.taken outputs.old) (P.taken outputs.new) (P.broken outputs.new))
+        (writer_of (O.written said) (O.written out.new) (O.broken out.new))
+        ((trace.new ≡ trace.old) × (outputs.new ≡ outputs.old) × (out.new ≡ said)) ((outputs.new ≡ outputs.old) × (out.new ≡ said)) (out.new ≡ said))))) }
 {
     let alloc = rt.alloc();
-    let (found, left_out) = match hunted(rt, alloc, image, plan) {
-        Ok(hunted) => hunted,
-        Err(why) => {
-            tell(faults, why.words());
-            return Err(why.status());
-        }
+    let sought = match hunted(rt, alloc, image, plan) {
+        Ok(sought) => sought,
+        Err(why) => return Err(told(faults, why)),
     };
-    if let Some(found) = &found {
-        let recorded = recorded(rt, image, plan, found, trace, outputs, out, faults)?;
-        return Ok(Some(recorded));
+    if write_all(out, sought.line.as_bytes()).is_err() {
+        return Err(told(faults, RecordFault::Lines));
     }
-    let Ok(line) = none_line(alloc, plan.seeds) else {
-        tell(faults, RecordFault::NoMem.words());
-        return Err(ExitStatus::Failed);
+    let Some(found) = &sought.found else {
+        tell_left_out(alloc, faults, sought.left_out);
+        return Ok(None);
     };
-    if write_all(out, line.as_bytes()).is_err() {
-        return Err(unwritten(faults));
-    }
-    tell_left_out(alloc, faults, left_out);
-    Ok(None)
+    let plan = by_list(&plan.record, found.list.as_str());
+    let recorded = record_run(rt, &OpenGate, image, &plan, trace, outputs, out, faults)?;
+    Ok(Some(recorded))
 }

@@ -2,7 +2,6 @@
 #![tactic(auto)]
 
 mod hunting;
-mod lines;
 mod plan;
 mod report;
 mod search;

@@ -1,7 +1,7 @@
 //! The lowest seed, sought on all processors.
 
-ghost use Rattle.std.specs.Prelude.{◌≡◌, ◌<◌, IfOk, map, None};
-ghost use Rattle.ir_hunt.specs.Seeds.{lower, lowest_from};
+ghost use Rattle.std.specs.Prelude.{◌≡◌, ◌<◌, IfOk, map};
+ghost use Rattle.ir_hunt.specs.Seeds.{lower, IsLowest};
 ghost use Rattle.ir_thread.specs.Allowed.{IsAllowed};
 
 use crate::plan::{HuntPlan, Seeds};
@@ -82,7 +82,7 @@ fn lower(one: Option<u64>, other: Option<u64>) -> Option<u64>
 
 // The lowest seed that a worker found.
 fn lowest<C>(workers: &[Worker<'_, C>]) -> Option<u64>
-    ensures { result ≡ lowest_from None (map (λ w. w.found) workers.now) }
+    ensures { IsLowest (map (λ w. w.found) workers.now) result }
 {
     let mut seed = None;
     for worker in workers {

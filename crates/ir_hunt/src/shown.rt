@@ -7,7 +7,7 @@ use std::time::{Clock, Instant};
 /// What is shown of a hunt on the way, once a second.
 #[derive(Clone, Copy, Debug)]
 pub struct Shown {
-    // None where the clock can't be read.
+    // None if the clock can't be read.
     start: Option<Instant>,
     is_shown: bool,
     // The milliseconds since the start at the end of the last stretch.
@@ -26,14 +26,14 @@ impl Shown {
         }
     }
 
-    // Shows how many seeds were tried so far, and in each second.
-    fn show<R: Eprint>(&self, rt: &R) {
+    // Shows how many seeds were tried so far and in each second, and the last of them.
+    fn show<R: Eprint>(&self, rt: &R, last: u64) {
         let seconds = (self.millis / 1000).max(1) as u64;
         let (seeds, rate) = (self.seeds, self.seeds / seconds);
-        let _ = rt.eprint(format_args!("{seeds} seeds, {rate} per second\r"));
+        let _ = rt.eprint(format_args!("{seeds} seeds, {rate} per second, up to {last}\r"));
     }
 
-    /// A stretch was tried: how many milliseconds it took. It is shown where a second has passed.
+    /// A stretch was tried: how many milliseconds it took. It is shown if a second has passed.
     pub fn tried<R: Clock + Eprint>(&mut self, rt: &R, stretch: Seeds) -> u32 {
         let more = stretch.last.saturating_sub(stretch.first).saturating_add(1);
         self.seeds = self.seeds.saturating_add(more);
@@ -43,7 +43,7 @@ impl Shown {
         let before = self.millis;
         self.millis = millis;
         if self.is_shown && millis / 1000 != before / 1000 {
-            self.show(rt);
+            self.show(rt, stretch.last);
         }
         millis.saturating_sub(before)
     }

@@ -57,7 +57,7 @@ words_within Large words whole few = omega (arith, whole, few)
 pub few_words : (g : Guest) → IsGuest g → length g.words ≤ most_object_words * most_objects
 few_words g fits = words_within g.form (length g.words) fits.whole_objects fits.few_objects
 
--- ---- words, and 0 behind them
+-- ---- words, and 0 after them
 
 zeros_at : (n i : ℕ) → get_or {A = ℕ} (replicate n 0) i 0 ≡ 0
 zeros_at n i = elim (cases_lt i n) [

@@ -58,7 +58,7 @@ counts_follow =
     (λ d after. after (counted f n m c d))
     (field_follows Short Trailing bytes_field) (λ d after b4. refl)))))
 
--- ---- what stands after the counts
+-- ---- what follows the counts
 
 abbrev entries_fields : Counts → Format ImageErr → Format ImageErr
 entries_fields c = repeated c.threads (before (entry_field c.words))

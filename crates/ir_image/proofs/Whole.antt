@@ -90,7 +90,7 @@ counts_again c rest within =
     ap counts_at (append_assoc (magic c.form) (c.threads ∷ c.objects ∷ [] ++ little_bytes 4 c.words ++ little_bytes 4 c.bytes) rest)
     ∙ rw (e0, e1, e2, e3, e4) refl
 
--- ---- what stands after the counts
+-- ---- what follows the counts
 
 -- what reading the rest of an image takes
 record TakesBody (c : Counts) (all : List ℕ) (g : Guest) : Type 0 where

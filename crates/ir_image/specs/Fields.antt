@@ -7,7 +7,8 @@ use Rattle.ir_image.specs.declared.image_err.ImageErr.TheVariants.{Short, Traili
 use Rattle.ir_image.specs.Forms.{limits_of, form_of}
 use Rattle.ir_image.specs.Reading.{magic_field, threads_field, objects_field, words_field, bytes_field, entry_field}
 
--- the magic, which names the form; how many threads, objects, words of code and bytes of data; the entries; the code; the data; the objects' first words
+-- the magic, which names the form; how many threads, objects, words of code and bytes of data; the entries; the code; the data; the
+-- objects' first words
 abbrev pub image_fields : Format ImageErr
 image_fields =
     next magic_field λ f. next (threads_field (form_of f)) λ n. next (objects_field (form_of f)) λ m. next words_field λ c. next bytes_field λ d.

@@ -41,7 +41,7 @@ object_words g = (limits_of g.form).words
 abbrev pub object_count : Guest → ℕ
 object_count g = length g.words / object_words g
 
--- words, and 0 behind them up to so many
+-- words, and 0 after them up to `count` words
 abbrev pub padded_to : ℕ → List ℕ → List ℕ
 padded_to count words = words ++ replicate (count - length words) 0
 
@@ -49,11 +49,11 @@ padded_to count words = words ++ replicate (count - length words) 0
 abbrev pub padded : List ℕ → List ℕ
 padded words = padded_to most_object_words words
 
--- what an object's words are at the start: its first words, and 0 behind them
+-- what an object's words are at the start: its first words, and 0 after them
 abbrev pub first_words : Guest → ℕ → List ℕ
 first_words g o = padded (take (object_words g) (drop (object_words g * o) g.words))
 
--- an address of a word in code of so many words
+-- the address of a word in code of `words` words
 pub record IsPlace (words place : ℕ) : Type 0 where
   pub aligned : place % 4 ≡ 0
   pub low : code_start ≤ place

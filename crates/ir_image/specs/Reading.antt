@@ -42,7 +42,7 @@ words_field = within 4 0 most_code_words Count
 abbrev pub bytes_field : Field ImageErr
 bytes_field = within 4 0 memory_size Count
 
--- the address of a word in code of so many words
+-- whether n is the address of a word in code of `words` words
 abbrev pub is_place : ℕ → ℕ → Bool
 is_place words n = (n % 4 == 0) && (nat_le code_start n && nat_lt n (code_start + 4 * words))
 
@@ -55,7 +55,7 @@ entry_field words = tested 4 (is_place words) Entry
 abbrev pub word_at : Reader ℕ ImageErr
 word_at = number_at Short 4
 
--- an entry into code of so many words, and the bytes after it
+-- an entry into code of `words` words, and the bytes after it
 abbrev pub entry_at : ℕ → Reader ℕ ImageErr
 entry_at words = field_at Short (entry_field words)
 

@@ -2,13 +2,13 @@
 
 use ir_isa::Inst;
 
-/// What stands in the code at a pc.
+/// What is in the code at a pc.
 #[derive(Clone, Copy, Debug, PartialEq, Eq)]
 pub enum Fetched {
     /// The pc is outside the code.
     Outside,
     /// The word there is no instruction.
     Illegal,
-    /// The instruction whose word stands there.
+    /// The instruction whose word is there.
     Found(Inst),
 }

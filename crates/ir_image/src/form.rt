@@ -57,7 +57,7 @@ impl ImageForm {
         }
     }
 
-    /// How many words so many objects have.
+    /// How many words `objects` objects have.
     pub fn words_of(self, objects: u32) -> usize
         ensures exact { result ≡ (limits_of self).words * objects }
         ensures few { result ≤ most_object_words * objects }

@@ -19,7 +19,7 @@ pub fn read_is_encoded()
 {}
 
 /// Bytes are refused exactly for the first of an image's fields, from the left, that isn't whole or holds what it may not, or
-/// else because bytes stand after the last; and for that field's fault. Bytes without such a field are read.
+/// else because bytes follow the last; and for that field's fault. Bytes without such a field are read.
 pub fn first_fault_is_named()
     ensures { (bytes : List ℕ) → fault_of (guest_at bytes) ≡ image_fault bytes }
 {}

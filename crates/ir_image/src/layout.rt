@@ -9,7 +9,7 @@ pub const MEMORY_START: u32 = 0x0010_0000;
 /// How many bytes a thread's private memory has: the most bytes of data.
 pub const MEMORY_SIZE: u32 = 0x0001_0000;
 
-/// How many bytes stand before the entries.
+/// How many bytes there are before the entries.
 pub const COUNTS_LENGTH: usize = 14;
 
 /// The most words of code.

@@ -17,7 +17,7 @@ use byteorder::{ByteOrder, LittleEndian};
 use ir_bytes::{byte_within, word, word_within};
 use std::alloc::Global;
 
-// What stands after the counts of an image.
+// What follows the counts of an image.
 #[derive(Drop)]
 struct Parts {
     entries: Vec<u32>,

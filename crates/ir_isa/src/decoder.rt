@@ -26,7 +26,7 @@ fn reg(word: u32, low: u32) -> Register
     }
 }
 
-// The number that twelve bits stand for, the highest being its sign.
+// The number that twelve bits encode, the highest being its sign.
 fn signed_12(field: u32) -> Immediate
     requires { field < 2 ^ 12 }
     ensures { result.value ≡ sign_extended 12 field }

@@ -41,7 +41,7 @@ not_later source place from (s ∷ sources) lt =
     let none : is_origin (at source place) (at s from) ≡ false = ap (λ (b : Bool). (source == s) && b) apart ∙ and_false (source == s) in
     (λ i. none i || not_later source place (suc from) sources (omega (arith, lt)) i)
 
--- a page that stands at its place
+-- the origin of a page at its place is in the list
 is_at : (from i : ℕ) (sources : List ℕ) → i < length sources → has_origin (at (get_or sources i 0) (from + i)) (origins from sources) ≡ true
 is_at from i [] lt = absurd (omega (arith, lt))
 is_at from zero (s ∷ sources) lt =

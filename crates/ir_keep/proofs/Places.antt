@@ -34,7 +34,7 @@ pub length-all : (threads : List thread.State) → length (all_pages threads) �
 length-all [] = refl
 length-all (t ∷ threads) = omega (arith, length-append (pages_of t.core.memory) (all_pages threads), length-all threads)
 
--- what is left behind the end
+-- what is left after the end
 drop_past : {X : Type 0} (xs : List X) (i : ℕ) → length xs ≤ i → drop i xs ≡ []
 drop_past [] zero le = refl
 drop_past [] (suc i) le = refl

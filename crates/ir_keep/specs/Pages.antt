@@ -27,7 +27,7 @@ pub record Origin : Type 0 where
 abbrev pub is_origin : Origin → Origin → Bool
 is_origin a b = (a.source == b.source) && (a.place == b.place)
 
--- whether it stands in the list
+-- whether it is in the list
 abbrev pub has_origin : Origin → List Origin → Bool
 has_origin a [] = false
 has_origin a (b ∷ bs) = is_origin a b || has_origin a bs

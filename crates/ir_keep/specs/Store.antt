@@ -109,7 +109,7 @@ taken_away (suc (suc place)) (entry ∷ older) = entry ∷ taken_away (suc place
 
 -- ---- entries are looked for and counted
 
--- where the entry of a number stands; their count, if there is none
+-- the place of the entry of a number, or the number of entries if there is none
 abbrev pub place_of : ℕ → List Entry → ℕ
 place_of n [] = 0
 place_of n (entry ∷ older) = if entry.number == n then 0 else suc (place_of n older)

@@ -7,7 +7,7 @@ ghost use Rattle.ir_keep.specs.Store as store;
 
 use crate::entry::Entry;
 
-// Where the entry of a number stands; their count, if there is none.
+// The place of the entry of a number, or the number of entries if there is none.
 pub fn place_of(entries: &[Entry], n: u32) -> usize
     ensures value { result ≡ store.place_of n entries.now }
     ensures within { result ≤ length entries.now }
@@ -60,7 +60,7 @@ fn steps_below(entry: &Entry, cut: &[u64]) -> Option<u128>
     }
 }
 
-// Where the entry stands that is at or below the cut with the most steps before it.
+// The place of the entry at or below the cut that has the most steps before it.
 pub fn nearest(entries: &[Entry], cut: &[u64]) -> usize
     requires each { store.AreEntries (length cut.now) entries.now }
     requires few { length cut.now ≤ most_threads }

@@ -1,4 +1,4 @@
--- The label that an event stands for.
+-- The label that an event denotes.
 use Rattle.std.specs.Prelude.{◌≡◌, ◌⊎◌, Option, Some, None}
 use Rattle.ir_runs.specs.Labels.{Label}
 use Rattle.ir_runs.specs.Labels as labels
@@ -8,7 +8,7 @@ use Rattle.ir_thread.specs.declared.ask.Ask.TheVariants as ask
 use Rattle.ir_log.specs.declared.event.Event.{Event}
 use Rattle.ir_log.specs.declared.event.Event.TheVariants.{Answer, Read, Write, Try}
 
--- the label of the step that the event is logged of; at an entry for reading nobody's leave is logged
+-- the label of the step that the event is logged of; at an entry for reading its count of leaves is 0
 abbrev pub label_of : Event → Label
 label_of (Answer kind value) = labels.Answer kind value
 label_of (Read object version) = labels.In object Reading version 0

@@ -14,7 +14,7 @@ use std::marker::Model;
 #[derive(Clone, Copy, Debug, PartialEq, Eq)]
 pub struct Disagree;
 
-/// A place in a log: how many events stand before it.
+/// A place in a log: how many events are before it.
 #[derive(Clone, Copy, Debug, PartialEq, Eq)]
 pub struct Cursor {
     place: usize,
@@ -38,7 +38,7 @@ impl Cursor {
         Cursor { place: 0 }
     }
 
-    /// The place that so many events stand before.
+    /// The place after `place` events.
     pub fn at(place: usize) -> Cursor
         requires { place ≤ most_events }
         ensures { result ≡ place }
@@ -46,7 +46,7 @@ impl Cursor {
         Cursor { place }
     }
 
-    /// How many events stand before this place.
+    /// How many events are before this place.
     pub fn place(&self) -> usize
         ensures value { result ≡ self.now }
         ensures within { result ≤ most_events }
@@ -54,7 +54,7 @@ impl Cursor {
         self.place
     }
 
-    /// Goes on to the place of the next event.
+    /// Moves to the place of the next event.
     pub fn advance(&mut self)
         requires { self.old < most_events }
         ensures { self.new ≡ self.old + 1 }

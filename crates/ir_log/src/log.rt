@@ -24,7 +24,7 @@ impl Model for Log {
 }
 
 impl Log {
-    /// The log without events, with room for so many.
+    /// The log without events, with room for `room` of them.
     ///
     /// # Errors
     /// Out of memory.

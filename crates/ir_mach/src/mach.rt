@@ -144,7 +144,7 @@ impl Mach {
         self.registers[n as usize]
     }
 
-    /// The bytes of private memory, the first of which stands at address 0x00100000.
+    /// The bytes of private memory, the first of which is at address 0x00100000.
     pub fn memory(&self) -> &[u8]
         ensures value { result.now ≡ self.now.memory }
         ensures within { IsCore self.now }

@@ -12,7 +12,7 @@ use byteorder::{ByteOrder, LittleEndian};
 use ir_image::{CODE_START, Code, MEMORY_SIZE, MEMORY_START};
 use ir_isa::{LoadOp, StoreOp};
 
-// The place of an address in private memory, where so many bytes lie there.
+// The place of an address in private memory, if `width` bytes from it on lie there.
 pub fn memory_offset(width: u32, address: u32) -> Option<usize>
     requires { width ≤ 4 }
     ensures { result ≡ offset_in_memory width address }
@@ -35,7 +35,7 @@ fn code_word(code: &Code, address: u32) -> Option<u32>
         .copied()
 }
 
-// The number of so many bytes at an address, from private memory or the code.
+// The number that one byte at an address encodes, or two or four of them in the functions below, from private memory or the code.
 fn byte(code: &Code, memory: &[u8], address: u32) -> Option<u32>
     requires { length memory.now ≡ memory_size }
     ensures { result ≡ number_at code.now memory.now 1 address }

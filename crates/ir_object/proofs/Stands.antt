@@ -126,7 +126,7 @@ neither None a b = refl
 neither (Some Reading) a b = absurd (a refl)
 neither (Some Writing) a b = absurd (b refl)
 
--- a writer may enter where nobody is inside
+-- a writer may enter if no thread is inside
 pub admits_writer : (n : ℕ) (f : Fields) (inside : ℕ → Option Access) → Counts n f inside → Admitted Writing f → (u : ℕ) → inside u ≡ None
 admits_writer n f inside c e u = elim (cases_lt u n) [
   | inl l ↦ neither (inside u) (nobody_reads n inside (sym c.readers ∙ e.1) u l) (nobody_writes n inside (sym c.writer ∙ e.0) u l)

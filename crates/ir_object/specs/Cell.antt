@@ -1,4 +1,4 @@
--- An object as the code keeps it, and the objects that it stands for.
+-- An object as the code keeps it, and the objects that it represents.
 use Rattle.std.specs.Prelude.{◌≡◌, ◌≢◌, ◌↔◌, ◌+◌, ◌<◌, ◌≤◌, ℕ, zero, suc, Bool, true, false, ◌||◌, List, length, slice_index, slice_set, Option, Some, None}
 use Rattle.ir_image.specs.Guest.{most_object_words}
 use Rattle.ir_runs.specs.declared.access.Access.{Access}
@@ -19,7 +19,7 @@ abbrev pub Admitted : Access → Fields → Type 0
 Admitted Reading f = f.writer ≡ false
 Admitted Writing f = (f.writer ≡ false) × (f.inside ≡ 0)
 
--- whether somebody is inside who may leave so
+-- whether a thread is inside that may leave with this access
 abbrev pub CanLeave : Access → Fields → Type 0
 CanLeave Reading f = 0 < f.inside
 CanLeave Writing f = f.writer ≡ true
@@ -52,14 +52,14 @@ pub record Counts (n : ℕ) (f : Fields) (inside : ℕ → Option Access) : Type
   pub writer : f.writer ≡ has_writer n inside
   pub others : (t : ℕ) → n ≤ t → inside t ≡ None
 
--- an object of n threads for which the code's stands
+-- an object of n threads that the code's object represents
 pub record StandsFor (n : ℕ) (c : Cell) (b : Object) : Type 0 where
   pub version : c.fields.version ≡ b.version
   pub left : c.fields.left ≡ b.left
   pub inside : Counts n c.fields b.inside
   pub words : (i : ℕ) → i < most_object_words → slice_index c.words i ≡ b.words i
 
--- the word emits who may enter and leave, and the code's object goes on standing for the object after each step of a thread
+-- the word says who may enter and leave, and the code's object still represents the object after each step of a thread
 pub record WordsStand : Type 0 where
   pub reads : (n : ℕ) (f : Fields) (inside : ℕ → Option Access) → Counts n f inside
       → Admitted Reading f ↔ ((u : ℕ) → inside u ≢ Some Writing)

@@ -1,4 +1,4 @@
--- Where the objects of a guest stand in a table of 64-bit words that threads share.
+-- Where the objects of a guest are in a table of 64-bit words that threads share.
 use Rattle.std.specs.Prelude.{ℕ, ◌+◌, ◌*◌}
 
 -- the words of a cache line
@@ -9,7 +9,7 @@ line_words = 8
 abbrev pub apart : ℕ
 apart = 24
 
--- an object's word stands alone in a cache line, and its contents begin in the next; the first line is for joins
+-- an object's word is alone in a cache line, and its contents begin in the next; the first line is for joins
 abbrev pub word_place : ℕ → ℕ
 word_place o = line_words + apart * o
 
@@ -17,6 +17,6 @@ word_place o = line_words + apart * o
 abbrev pub content_place : ℕ → ℕ → ℕ
 content_place o i = 2 * line_words + apart * o + i
 
--- how many words the table has for so many objects
+-- how many words the table has for `count` objects
 abbrev pub table_length : ℕ → ℕ
 table_length count = line_words + apart * count

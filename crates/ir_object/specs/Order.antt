@@ -62,7 +62,7 @@ Uses (Load o j) i = (j < most_object_words) × (i ≢ None)
 Uses (Store o j w) i = (j < most_object_words) × (w < 2 ^ 32) × (i ≡ Some Writing)
 Uses Never i = ⊥
 
--- the object step is one of n threads' and of so many objects', its thread is inside as it has to be, it is admitted, and this is its
+-- the object step is one of n threads' and of `count` objects', its thread is inside as it has to be, it is admitted, and this is its
 -- answer
 pub record IsStep {T : Type 0} (m : Machine T) (n count : ℕ) (f : ℕ → Object) (x : ℕ × Shared) : Type 0 where
   pub thread : x.0 < n

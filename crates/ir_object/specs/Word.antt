@@ -53,7 +53,7 @@ abbrev pub entered : Access → Fields → Fields
 entered Reading f = record f { inside = f.inside + 1 }
 entered Writing f = record f { writer = true }
 
--- what is said after a reader has left; a writer leaves nobody inside, and a new version
+-- what is said after a reader has left; a writer leaves no thread inside, and a new version
 abbrev pub left_by : Access → Fields → Fields
 left_by Reading f = record f { left = f.left + 1; inside = f.inside - 1 }
 left_by Writing f = record { version = f.version + 1; left = 0; inside = 0; writer = false }

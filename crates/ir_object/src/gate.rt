@@ -1,8 +1,8 @@
-//! What running threads tell of their entries, leaves and steps.
+//! What running threads report of their entries, leaves and steps.
 
 use ir_runs::Access;
 
-/// Is told of entries and leaves by those who run threads: of an entry just after it, of a leave just before it.
+/// What those who run threads report entries and leaves to: an entry just after it, a leave just before it.
 pub trait Gate {
     /// The thread has just entered the object.
     fn entered(&self, thread: u8, object: u8, access: Access);
@@ -10,7 +10,7 @@ pub trait Gate {
     /// The thread is about to leave the object.
     fn leaving(&self, thread: u8, object: u8, access: Access);
 
-    /// The thread has taken so many private steps more. A recording tells it before each other step, and now and then where
+    /// The thread has taken `_steps` private steps more. A recording reports it before each other step, and now and then when
     /// there is none.
     fn stepped(&self, _thread: u8, _steps: u64) {}
 }

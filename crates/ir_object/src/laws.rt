@@ -14,7 +14,7 @@ pub fn steps_of_words()
     ensures { StepsOfWords }
 {}
 
-/// The word tells who may enter and leave, and goes with each step of a thread.
+/// The word says who may enter and leave, and changes with each step of a thread.
 pub fn words_stand()
     ensures { WordsStand }
 {}

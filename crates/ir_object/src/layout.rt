@@ -1,7 +1,7 @@
-//! Where the objects of a guest stand in a table of 64-bit words that threads share: the word of object `o` at
+//! Where the objects of a guest are in a table of 64-bit words that threads share: the word of object `o` at
 //! `WORD_PLACE + APART * o`, and word `i` of its contents at `CONTENT_PLACE + APART * o + i`.
 //!
-//! Place 0 is for joins. An object's word stands alone in a cache line of eight words, and its contents begin in the next, so
+//! Place 0 is for joins. An object's word is alone in a cache line of eight words, and its contents begin in the next, so
 //! that threads at different objects don't wait for each other's lines. There is room for sixteen words of contents.
 
 // The words of a cache line.

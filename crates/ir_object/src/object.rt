@@ -28,7 +28,7 @@ impl Model for Object {
 }
 
 impl Object {
-    /// The object with these contents, which nobody has entered.
+    /// The object with these contents, which no thread has entered.
     pub fn new(contents: [u32; MOST_OBJECT_WORDS]) -> Object
         ensures { result ≡ record { fields = record { version = 0; left = 0; inside = 0; writer = false }; words = contents } }
     {
@@ -85,7 +85,7 @@ impl Object {
         self.word.can_read()
     }
 
-    /// Whether a writer may enter: nobody is inside.
+    /// Whether a writer may enter: no thread is inside.
     pub fn can_write(&self) -> bool
         ensures { IsTrue result ↔ Admitted Writing self.now.fields }
     {

@@ -82,7 +82,7 @@ impl Word {
         self.bits % READER == 0
     }
 
-    /// Whether a writer may enter: nobody is inside.
+    /// Whether a writer may enter: no thread is inside.
     pub fn can_write(self) -> bool
         ensures { IsTrue result ↔ Admitted Writing (fields_of self.bits) }
     {

@@ -107,7 +107,7 @@ pub list_empty : (list order : List ℕ) → IsListOf list order → order ≡ [
 list_empty [] order none e = refl
 list_empty (b ∷ list) order h e = absurd (h.0 e)
 
--- so many turns more
+-- count turns more
 pub turns_more : (old list new : List ℕ) (thread total left count : ℕ) → thread < 2 ^ 8 → left ≤ total → 1 ≤ count → count ≤ most_turns
     → count ≤ left → new ≡ with_item list (item_text thread count)
     → ((order : List ℕ) → IsListOf old order → IsListOf list (order ++ replicate (total - left) thread))

@@ -3,7 +3,7 @@ use Rattle.std.specs.Prelude.{◌≡◌, ◌≢◌, ◌<◌, ◌==◌, if◌then
 use Rattle.std.specs.List.{AllByRecursion}
 use Rattle.ir_record_run.specs.Order.{order_of}
 
--- so many steps of a thread, as an item
+-- count steps of a thread, as an item
 abbrev pub item_text : ℕ → ℕ → List ℕ
 item_text thread count = if count == 1 then decimal thread else decimal thread ++ 120 ∷ decimal count
 

@@ -14,7 +14,7 @@ mod tests;
 /// The most steps of an item.
 const MOST_TURNS: u64 = 1_000_000;
 
-// So many steps of a thread, as an item.
+// The steps of a thread that `turns` counts, as an item.
 fn item_text(alloc: Global, turns: Turns) -> Result<String, AllocError>
     ensures { IfOk result (λ s. string_bytes s ≡ item_text turns.thread turns.count) }
 {

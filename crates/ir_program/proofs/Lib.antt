@@ -1,3 +1,2 @@
 mod Listed
-mod ShownLines
 mod TakenLines

@@ -1,4 +1,3 @@
-pub mod Assembling
 pub mod Bundle
 pub mod Leaving
 pub mod Listing

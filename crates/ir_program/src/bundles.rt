@@ -29,7 +29,7 @@ fn next_bytes<R: Source>(alloc: Global, reader: &mut R) -> Result<Vec<u8>, Bundl
     bytes_of(alloc, line.as_slice())
 }
 
-/// Runs the session of an image and a trace that stand in hexadecimal in the reader's first two lines, over its other
+/// Runs the session of an image and a trace that are in hexadecimal in the reader's first two lines, over its other
 /// lines. A carriage return before a line feed or at the end is dropped, and a missing line is empty.
 ///
 /// # Errors
@@ -70,8 +70,8 @@ pub fn status(ended: Ended) -> ExitStatus
     }
 }
 
-/// Runs a bundled session, and gives the exit status: that of the session where it ended, and `Failed` for a fault, which is
-/// told in one line.
+/// Runs a bundled session, and gives the exit status: that of the session if it ended, and `Failed` for a fault, which is
+/// reported in one line.
 pub fn bundle<T: Threads + Clock + Sync, R: Source, W: Sink, E: Sink>(
     rt: &T,
     alloc: Global,
@@ -82,11 +82,11 @@ pub fn bundle<T: Threads + Clock + Sync, R: Source, W: Sink, E: Sink>(
     requires reads { R.broken reader.old ≡ false }
     requires writes { W.broken writer.old ≡ false }
     requires reports { E.broken faults.old ≡ false }
-    // The status of a session that ended, whose bytes were written. No fault is told.
+    // The status of a session that ended, whose bytes were written. No fault is reported.
     ensures ended { result ≢ Failed → (e : Ended) × (result ≡ status_of e) × Comes (Ok e)
         (reader_of (R.left reader.old) (R.left reader.new) (R.broken reader.new))
         (writer_of (W.written writer.old) (W.written writer.new) (W.broken writer.new)) × (faults.new ≡ faults.old) }
-    // Else what stopped it, what that leaves, and that it is told.
+    // Else what stopped it, what that leaves, and that it is reported.
     ensures stopped { result ≡ Failed → (e : BundleErr) × Leaves e
         (reader_of (R.left reader.old) (R.left reader.new) (R.broken reader.new))
         (writer_of (W.written writer.old) (W.written writer.new) (W.broken writer.new)) (writer.new ≡ writer.old)

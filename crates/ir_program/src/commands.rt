@@ -4,23 +4,27 @@ ghost use Rattle.std.specs.Prelude.{◌≡◌, OnSome, false};
 
 pub mod assemble;
 pub mod debug;
+pub mod elf;
+pub mod events;
 pub mod hunt;
+pub mod list;
+pub mod maps;
 pub mod record;
 pub mod recording;
 pub mod trace;
 
-use ir_files::{Folder, loses, read_file, tell_of};
+use ir_files::{ExitStatus, Folder, WholeSink, loses, read_file, tell_of};
 use ir_stream::Sink;
 use std::alloc::Global;
 
-// Tells what failed, or is wrong, and why, in one line; where faults can't be told any more, nobody is told.
+// Reports what failed, or is wrong, and why, in one line; if faults can't be reported any more, nothing is.
 pub fn say<E: Sink>(faults: &mut E, name: &str, what: &str, why: &str) {
     if !faults.failed() {
         tell_of(faults, "", name, what, why);
     }
 }
 
-// The bytes of a file; else it is told why there are none.
+// The bytes of a file; if there are none, the reason is reported.
 pub fn bytes_of<D: Folder, E: Sink>(
     alloc: Global,
     folder: &D,
@@ -42,7 +46,7 @@ pub fn bytes_of<D: Folder, E: Sink>(
     }
 }
 
-// Whether the file that is read would be lost by writing to a path, which is told.
+// Whether the file that is read would be lost by writing to a path, which is reported.
 pub fn is_lost<D: Folder, E: Sink>(
     folder: &D,
     faults: &mut E,
@@ -62,4 +66,33 @@ pub fn is_lost<D: Folder, E: Sink>(
         say(faults, written, ": ", would);
     }
     is_lost
+}
+
+// A path as it is shown in a line: one that would part the line, or lead a terminal, is called by what it is.
+pub fn shown_path<'a>(path: &'a str, called: &'a str) -> &'a str {
+    if path.chars().any(|c| c.is_control()) {
+        called
+    } else {
+        path
+    }
+}
+
+// Puts a file in its place if all of it was written, and says what failed; the exit status.
+pub fn put_in_place<W: WholeSink, E: Sink>(
+    file: &mut W,
+    status: ExitStatus,
+    read: &str,
+    faults: &mut E,
+) -> ExitStatus {
+    if status == ExitStatus::Done {
+        let _ = file.finish();
+    }
+    if file.failed() {
+        say(faults, file.name(), " can't be written: ", file.why());
+        return ExitStatus::Failed;
+    }
+    if status == ExitStatus::Failed {
+        say(faults, read, ": ", "memory ran out");
+    }
+    status
 }

@@ -18,7 +18,7 @@ use std::thread::Threads;
 use std::time::Clock;
 
 /// Runs the session of an image and a trace over the lines of the reader, and gives the exit status: that of the session
-/// where it ended, and `Failed` for a fault, which is told in one line.
+/// if it ended, and `Failed` for a fault, which is reported in one line.
 pub fn debug_run<T: Threads + Clock + Sync + AllocGlobal, R: Source, W: Sink, E: Sink>(
     rt: &T,
     image: &[u8],
@@ -30,11 +30,11 @@ pub fn debug_run<T: Threads + Clock + Sync + AllocGlobal, R: Source, W: Sink, E:
     requires reads { R.broken reader.old ≡ false }
     requires writes { W.broken writer.old ≡ false }
     requires reports { E.broken faults.old ≡ false }
-    // The status of a session that ended, whose bytes were written. No fault is told.
+    // The status of a session that ended, whose bytes were written. No fault is reported.
     ensures ended { result ≢ Failed → (e : Ended) × (result ≡ status_of e) × Ends image.now trace.now (Ok e)
         (reader_of (R.left reader.old) (R.left reader.new) (R.broken reader.new))
         (writer_of (W.written writer.old) (W.written writer.new) (W.broken writer.new)) × (faults.new ≡ faults.old) }
-    // Else what stopped it, what that leaves, and that it is told.
+    // Else what stopped it, what that leaves, and that it is reported.
     ensures stopped { result ≡ Failed → (e : SessionErr) × Stops image.now trace.now e
         (reader_of (R.left reader.old) (R.left reader.new) (R.broken reader.new))
         (writer_of (W.written writer.old) (W.written writer.new) (W.broken writer.new)) ((reader.new ≡ reader.old) × (writer.new ≡ writer.old))

@@ -5,16 +5,20 @@ ghost use Rattle.std.specs.Prelude.{◌≡◌, false};
 use crate::bundles::bundle;
 use crate::commands::assemble::assemble_file;
 use crate::commands::debug::debug_files;
+use crate::commands::elf::convert_file;
+use crate::commands::events::events_file;
 use crate::commands::hunt::hunt_file;
+use crate::commands::list::list_file;
 use crate::commands::record::record_file;
 use crate::commands::say;
 use crate::commands::trace::trace_file;
 use crate::prompting::Prompting;
-use ir_arguments::{Asked, parsed};
+use ir_arguments::{Asked, Make, Print, parsed};
 use ir_debug::{Sink, Source};
 use ir_files::{ExitStatus, Folder};
 use ir_object::Gate;
 use ir_stream::write_all;
+use std::alloc::Global;
 use std::sync::Wait;
 use std::thread::Threads;
 use std::time::Clock;
@@ -22,9 +26,9 @@ use std::time::Clock;
 /// Which streams are terminals.
 #[derive(Clone, Copy, Debug, PartialEq, Eq)]
 pub struct Terminals {
-    /// What is read. In a session of files somebody is asked for each line there.
+    /// What is read. In a session of files each line is prompted for there.
     pub input: bool,
-    /// Where faults are told. One of a source is explained there.
+    /// Where faults are reported. One of a source is explained there.
     pub faults: bool,
 }
 
@@ -78,6 +82,41 @@ where
     bundle(rt, rt.alloc(), &mut input, out, faults)
 }
 
+// Makes an image.
+fn make<D: Folder, E: Sink>(
+    alloc: Global,
+    folder: &D,
+    what: &Make,
+    explains: bool,
+    faults: &mut E,
+) -> ExitStatus
+    requires { E.broken faults.old ≡ false }
+{
+    match what {
+        Make::Source(arguments) => assemble_file(alloc, folder, arguments, explains, faults),
+        Make::Elf(arguments) => convert_file(alloc, folder, arguments, explains, faults),
+    }
+}
+
+// Prints lines about files.
+fn print<D: Folder, O: Sink, E: Sink>(
+    alloc: Global,
+    folder: &D,
+    what: &Print,
+    explains: bool,
+    out: &mut O,
+    faults: &mut E,
+) -> ExitStatus
+    requires writes { O.broken out.old ≡ false }
+    requires reports { E.broken faults.old ≡ false }
+{
+    match what {
+        Print::Code(arguments) => list_file(alloc, folder, arguments, out, faults),
+        Print::Trace(arguments) => trace_file(alloc, folder, arguments, out, faults),
+        Print::Events(arguments) => { events_file(alloc, folder, arguments, explains, out, faults) }
+    }
+}
+
 /// What the program uses beside its streams.
 #[derive(Clone, Copy)]
 pub struct Surroundings<'a, R, D, G> {
@@ -85,7 +124,7 @@ pub struct Surroundings<'a, R, D, G> {
     pub rt: &'a R,
     /// The files that the arguments name.
     pub folder: &'a D,
-    /// What is told of what threads do while they record.
+    /// What is notified of what threads do while they record.
     pub gate: &'a G,
 }
 
@@ -113,9 +152,7 @@ where
     let terminals = invocation.terminals;
     match parsed(alloc, invocation.arguments) {
         Asked::Session => bundled_session(rt, terminals.input, input, out, faults),
-        Asked::Assemble(arguments) => {
-            assemble_file(alloc, folder, &arguments, terminals.faults, faults)
-        }
+        Asked::Make(what) => make(alloc, folder, &what, terminals.faults, faults),
         Asked::Record(arguments) => record_file(
             rt,
             folder,
@@ -140,7 +177,7 @@ where
                 faults,
             )
         }
-        Asked::Trace(arguments) => trace_file(alloc, folder, &arguments, out, faults),
+        Asked::Print(what) => print(alloc, folder, &what, terminals.faults, out, faults),
         Asked::Help(text) => help(text.as_str(), out, faults),
         Asked::Nothing(why) => {
             say(faults, why.as_str(), "", "");

@@ -43,7 +43,7 @@ pub fn all_ended(trace: &Trace) -> bool {
         .all(|thread| thread.end() == End::Exit(0))
 }
 
-/// Tells each other end, in a line each.
+/// Reports each other end, in a line each.
 pub fn tell_ends<E: Sink>(alloc: Global, trace: &Trace, faults: &mut E) {
     for (number, thread) in trace.threads().iter().enumerate() {
         if thread.end() != End::Exit(0) {

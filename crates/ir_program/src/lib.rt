@@ -1,7 +1,6 @@
 //! The program `ir` as one call of its arguments, a folder and its streams: assembling, recording, listing a trace, debugging.
 #![tactic(auto)]
 
-mod assembling;
 mod bundles;
 mod commands;
 mod debugging;
@@ -13,10 +12,8 @@ mod line;
 mod list_err;
 mod listing;
 mod prompting;
-mod reporting;
 mod tracing;
 
-pub use assembling::asm_run;
 pub use bundles::{bundle, bundled};
 pub use dispatch::{Invocation, Surroundings, Terminals, program};
 pub use fault::BundleErr;

@@ -12,7 +12,7 @@ use std::alloc::Global;
 /// The most hexadecimal digits of a line.
 pub const MOST_DIGITS: usize = 4_194_304;
 
-// The most bytes of a line that may hold so many digits: a carriage return may follow them.
+// The most bytes of a line that may hold this number of digits: a carriage return may follow them.
 const MOST_LINE: usize = MOST_DIGITS + 1;
 
 /// Takes a line from the reader, without its line feed.

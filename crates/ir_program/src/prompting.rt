@@ -9,9 +9,9 @@ use ir_stream::{KEPT, keep};
 
 const PROMPT: &str = "(ir) ";
 
-/// A reader of lines that prompts on standard error before it reads the first byte of one, where it is to ask, and says there
-/// what was wanted in place of the line before, if that was refused for its words. Where the input ends, so does the line of
-/// the prompt.
+/// A reader of lines that prompts on standard error before it reads the first byte of one, if it is to ask. If the line before
+/// was refused for its words, it also says there what was wanted in place of that line. Where the input ends, so does the line
+/// of the prompt.
 #[derive(Drop)]
 pub struct Prompting<'a, S, R> {
     reader: S,
@@ -38,7 +38,7 @@ impl<'a, S: Source, R> Prompting<'a, S, R> {
     }
 }
 
-// Puts these bytes, of one line, behind those that were read of it.
+// Puts these bytes, of one line, after those that were read of it.
 fn keep_all(line: &mut ArrayVec<u8, KEPT>, bytes: &[u8]) {
     for &byte in bytes {
         if byte != b'\n' {

@@ -38,8 +38,8 @@ fn show<W: Sink>(alloc: Global, trace: &[u8], out: &mut W) -> Result<ExitStatus,
 }
 
 /// Lists the bytes of a trace: writes its lines, or the line with which a session refuses it. The exit status is `Done`
-/// where all lines were written, `Refused` where the trace is refused, which was written, and `Failed` where memory ran out
-/// or the writer failed, with a prefix written at most and the fault told in one line.
+/// if all lines were written, and `Refused` if the trace is refused, which was written. It is `Failed` if memory ran out or
+/// the writer failed, with a prefix written at most and the fault reported in one line.
 pub fn trace_run<W: Sink, E: Sink>(
     alloc: Global,
     trace: &[u8],
@@ -48,11 +48,11 @@ pub fn trace_run<W: Sink, E: Sink>(
 ) -> ExitStatus
     requires writes { W.broken out.old ≡ false }
     requires reports { E.broken faults.old ≡ false }
-    // All was written, by what the bytes are, and no fault told.
+    // All was written, by what the bytes are, and no fault reported.
     ensures done { result ≢ Failed → (result ≡ status_of (recorded_at trace.now))
         × Took (writer_of (W.written out.old) (W.written out.new) (W.broken out.new)) (shown (recorded_at trace.now))
         × (W.broken out.new ≡ false) × (faults.new ≡ faults.old) }
-    // Else what stopped it, what that leaves, and that it is told.
+    // Else what stopped it, what that leaves, and that it is reported.
     ensures stopped { result ≡ Failed → (e : ListErr)
         × Stops e (writer_of (W.written out.old) (W.written out.new) (W.broken out.new)) (shown (recorded_at trace.now))
         × Reports (writer_of (E.written faults.old) (E.written faults.new) (E.broken faults.new)) (fault_text (fault_words (fault_of e))) }

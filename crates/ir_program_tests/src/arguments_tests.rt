@@ -1,9 +1,8 @@
-//! What wrong arguments are told, and that the help of `ir asm` names what there is.
+//! What is reported of wrong arguments, and that the help of `ir asm` names what there is.
 
 use crate::device_tests::{ENDLESS, empty_page};
 use ir_arguments::{ASM_AFTER, Asked, parsed};
-use ir_files::ExitStatus;
-use ir_program::asm_run;
+use ir_image_run::asm_run;
 use ir_thread::{Call, Profile};
 use std::test::Fail;
 
@@ -133,11 +132,11 @@ fn is_taken(rt: &HostRuntime, name: &str, operands: &str) -> Result<bool, Fail> 
     let source = format!(in rt.alloc(); "{name} {operands}\nnop\nnop\n")?;
     let mut image = empty_page(rt, 1000, ENDLESS);
     let mut faults = empty_page(rt, 1000, ENDLESS);
-    let status = asm_run(rt.alloc(), source.as_bytes(), None, &mut image, &mut faults);
-    Ok(status == ExitStatus::Done)
+    let made = asm_run(rt.alloc(), source.as_bytes(), None, &mut image, &mut faults);
+    Ok(made.is_ok())
 }
 
-// Each of the 50 instructions stands in the help by its form.
+// Each of the 50 instructions is in the help by its form.
 #[test]
 fn the_help_names_each_instruction(rt: HostRuntime) -> Result<(), Fail> {
     let mut names = 0u32;

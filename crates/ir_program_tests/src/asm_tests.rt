@@ -2,7 +2,9 @@
 
 use crate::device_tests::{ENDLESS, Page, empty_page};
 use ir_arguments::ASM_AFTER;
-use ir_program::asm_run;
+use ir_asm::Labels;
+use ir_files::ExitStatus;
+use ir_image_run::asm_run;
 use std::alloc::{AllocError, Global};
 use std::test::Fail;
 
@@ -26,7 +28,16 @@ const FAULTS: [(&[u8], &[u8]); 7] = [
     (b"nop\n\nnop \x7f\n", b"line 3 error 1\n"),
 ];
 
-// The status, and what was written and told, by writers that fail after so many calls of so many bytes at most.
+// The number of the exit status of an assembly.
+fn number_of(made: Result<Labels, ExitStatus>) -> u8 {
+    match made {
+        Ok(_) => ExitStatus::Done.number(),
+        Err(status) => status.number(),
+    }
+}
+
+// The status, and what was written and reported, by writers of at most `most` bytes a call. That of the image fails after
+// `image_calls` calls, and that of faults after `fault_calls`.
 fn assembled(
     rt: &HostRuntime,
     source: &[u8],
@@ -36,8 +47,8 @@ fn assembled(
 ) -> (u8, Page, Page) {
     let mut image = empty_page(rt, most, image_calls);
     let mut faults = empty_page(rt, most, fault_calls);
-    let status = asm_run(rt.alloc(), source, None, &mut image, &mut faults);
-    (status.number(), image, faults)
+    let made = asm_run(rt.alloc(), source, None, &mut image, &mut faults);
+    (number_of(made), image, faults)
 }
 
 #[test]
@@ -143,13 +154,13 @@ const EXPLAINED: [(&str, u32, u32, &str, &str); 15] = [
     ("9a: nop", 1, 12, "a malformed label", ": 9a: nop"),
 ];
 
-// The status and what was told of a source whose faults are explained, by a writer that fails after so many calls of
-// seven bytes at most.
+// The status and what was reported of a source whose faults are explained, by a writer that fails after `fault_calls` calls
+// of seven bytes at most.
 fn explained(rt: &HostRuntime, source: &[u8], fault_calls: u64) -> (u8, Page) {
     let mut image = empty_page(rt, 1, 0);
     let mut faults = empty_page(rt, 7, fault_calls);
-    let status = asm_run(rt.alloc(), source, Some("bad.s"), &mut image, &mut faults);
-    (status.number(), faults)
+    let made = asm_run(rt.alloc(), source, Some("bad.s"), &mut image, &mut faults);
+    (number_of(made), faults)
 }
 
 // A report by its parts.
@@ -185,7 +196,7 @@ fn the_help_has_the_words_of_each_cause(rt: HostRuntime) -> Result<(), Fail> {
     Ok(())
 }
 
-// This text so many times.
+// This text `count` times.
 fn repeated(alloc: Global, text: &str, count: usize) -> Result<String, AllocError> {
     let mut all = String::new(alloc);
     for _ in 0..count {

@@ -42,7 +42,7 @@ impl Source for Bytes<'_> {
     }
 }
 
-// Takes at most so many bytes a call; the call of this number fails, and each after it.
+// Takes at most `most` bytes a call; after `calls_left` calls each fails.
 #[derive(Drop)]
 pub struct Page {
     pub bytes: Vec<u8>,
@@ -149,7 +149,7 @@ fn lines_of(
     Ok(all)
 }
 
-// What a bundle of these lines answers, the fault that it tells, and its exit status.
+// What a bundle of these lines answers, the fault that it reports, and its exit status.
 fn answered<R: AllocGlobal + Threads + Clock + Sync>(
     rt: &R,
     image: &[u8],
@@ -205,8 +205,8 @@ fn rows(rt: HostRuntime) -> Result<(), Fail> {
     Ok(())
 }
 
-// Both lines as they stand, the answers, and the exit status: capitals and a carriage return are taken, what isn't
-// there is empty, and what is no digit is told.
+// Both lines as they are, the answers, and the exit status: capitals and a carriage return are taken, what isn't
+// there is empty, and what is no digit is reported.
 const DIGITS: [(&[u8], &[u8], u8); 9] = [
     (b"49524931010\n4952543101\n", b"", 1),
     (b"4g\n4952543101\n", b"", 1),

@@ -74,7 +74,7 @@ const DOUBLED: &str = "thread 0 end 1 code 144 steps 6 events 0\n";
 const BROKEN: &str =
     "thread 0 end 2 code 0 steps 4 events 0\nthread 1 end 2 code 0 steps 1 events 0\n";
 
-// The words, the exit status, what is written, and what is told at a terminal.
+// The words, the exit status, what is written, and what is reported at a terminal.
 const ENDS: [(&str, u8, &str, &str); 5] = [
     ("ir record ending.img e.trc --status", 0, ENDED, ""),
     (
@@ -119,7 +119,7 @@ fn ends_are_answered(rt: HostRuntime) -> Result<(), Fail> {
     Ok(())
 }
 
-// What is told at a terminal of files that aren't as they should be, beside what is written.
+// What is reported at a terminal of files that aren't as they should be, beside what is written.
 const REFUSED: [(&str, &str, &str); 4] = [
     (
         "ir debug e.trc ending.img",

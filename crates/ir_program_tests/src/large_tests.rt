@@ -62,7 +62,7 @@ fn the_last_word_is_there_in_the_large_form(rt: HostRuntime) -> Result<(), Fail>
     Ok(())
 }
 
-// The image of so many threads that double, and of so many objects, in the large form.
+// The image of `threads` threads that double, and of the objects that a statement counts, in the large form.
 fn doubling(rt: &HostRuntime, threads: u32, objects: &str) -> Result<Vec<u8>, Fail> {
     let mut source = String::from_str(rt.alloc(), LARGE)?;
     source.push_str(objects)?;

@@ -1,4 +1,4 @@
-//! Which writing loses what is read, by what stands at the two paths; and files of the most bytes.
+//! Which writing loses what is read, by what is at the two paths; and files of the most bytes.
 
 use crate::shelf::Shelf;
 use ir_files::{FileErr, Found, loses, read_file};

@@ -27,8 +27,8 @@ fn words_of(alloc: Global, line: &str) -> Result<Vec<String>, AllocError> {
     Ok(words)
 }
 
-// A run of the program by these words, which reads this, where faults are told at a terminal or aren't: its status, and
-// what it wrote and told.
+// A run of the program by these words, which reads this, with faults reported at a terminal or not: its status, and what
+// it wrote and reported.
 pub fn ran_at<R: Threads + Wait + Sync + Clock + Eprint + AllocGlobal>(
     rt: &R,
     shelf: &Shelf,
@@ -76,7 +76,7 @@ fn ran<R: Threads + Wait + Sync + Clock + Eprint + AllocGlobal>(
     ran_at(rt, shelf, line, input, out_calls, false)
 }
 
-// Whether a run of the program by these words, which reads this, ends with the status, writes this and tells this.
+// Whether a run of the program by these words, which reads this, ends with the status, writes this and reports this.
 pub fn says<R: Threads + Wait + Sync + Clock + Eprint + AllocGlobal>(
     rt: &R,
     shelf: &Shelf,
@@ -131,7 +131,7 @@ pub fn prepared<R: Threads + Wait + Sync + Clock + Eprint + AllocGlobal>(
 // A fault that is explained.
 const EXPLAINED: &str = "line 2 error 2\nbad.s:2: an unknown instruction or directive: x\n";
 
-// The words, the exit status, and what is told.
+// The words, the exit status, and what is reported.
 const ROWS: [(&str, u8, &str); 54] = [
     (
         "ir asm",
@@ -389,7 +389,7 @@ const ROWS: [(&str, u8, &str); 54] = [
     ),
 ];
 
-// Whether none of the files stands that a run by a row's words would make.
+// Whether none of the files is there that a run by a row's words would make.
 fn leaves_nothing(shelf: &Shelf) -> bool {
     let mut is_left = false;
     for path in ["d2.img", "d.trc", "d.trc.part", "out.0", "out.1"] {
@@ -465,7 +465,7 @@ fn what_is_done_is_written(rt: HostRuntime) -> Result<(), Fail> {
     Ok(())
 }
 
-// Whether a run by these words ends well and tells nothing.
+// Whether a run by these words ends well and reports nothing.
 fn goes_well<R: Threads + Wait + Sync + Clock + Eprint + AllocGlobal>(
     rt: &R,
     shelf: &Shelf,
@@ -475,7 +475,7 @@ fn goes_well<R: Threads + Wait + Sync + Clock + Eprint + AllocGlobal>(
     Ok(status == 0 && faults.bytes.is_empty())
 }
 
-// Whether the outputs of the two threads stand there, and no third.
+// Whether the outputs of the two threads are there, and whether a third is.
 fn are_there(shelf: &Shelf) -> (bool, bool, bool) {
     (
         holds(shelf, "out.0", b"A"),
@@ -578,7 +578,7 @@ fn standard_output_that_fails_is_told(rt: HostRuntime) -> Result<(), Fail> {
     ] {
         assert!(rt; fails_at_output(&rt, &shelf, line, input)?, "{line}");
     }
-    // The trace stands in its place all the same.
+    // The trace is in its place all the same.
     assert!(rt; shelf.bytes_of("d.trc").is_some());
     Ok(())
 }

@@ -4,9 +4,9 @@ ghost use Rattle.std.specs.Prelude.{◌≤◌};
 
 use crate::device_tests::{ENDLESS, Page, empty_page};
 use crate::kept_outputs::{KeptOutputs, no_outputs};
+use ir_image_run::asm_run;
 use ir_log::Event;
 use ir_object::OpenGate;
-use ir_program::asm_run;
 use ir_record_run::{ParsedImage, RecordPlan, record_run};
 use ir_runs::EnvKind;
 use ir_thread::Profile;
@@ -391,7 +391,7 @@ fn ends_are_reported(rt: HostRuntime) {
     }
 }
 
-// The events of the second thread, where both logged so many bytes of events.
+// The events of the second thread, if both logged `length` bytes of events.
 fn second_events(trace: &[u8], length: u8) -> &[u8] {
     trace.get(16 + 17 + length as usize + 17..).unwrap_or(&[])
 }

@@ -5,7 +5,7 @@ use std::alloc::{AllocError, Global};
 use std::cell::Cell;
 use std::io::{self, ErrorKind, Read, Write};
 
-// A path, and the bytes that stand there; none for a folder.
+// A path, and the bytes that are there; none for a folder.
 #[derive(Drop)]
 struct Place {
     path: String,
@@ -28,7 +28,7 @@ impl Shelf {
         }
     }
 
-    // What stands there, until it is put back.
+    // What is there, until it is put back.
     fn take(&self) -> Vec<Place> {
         self.places.replace(Vec::new(self.alloc))
     }
@@ -37,7 +37,7 @@ impl Shelf {
         self.places.set(places);
     }
 
-    // Puts a file, or a folder, at a path at which nothing stands.
+    // Puts a file, or a folder, at a path at which nothing is.
     fn add(&self, path: &str, bytes: Option<Vec<u8>>) -> Result<(), AllocError> {
         let path = String::from_str(self.alloc, path)?;
         let mut places = self.take();
@@ -46,17 +46,17 @@ impl Shelf {
         if is_added { Ok(()) } else { Err(AllocError) }
     }
 
-    /// Puts a file of these bytes at a path at which nothing stands.
+    /// Puts a file of these bytes at a path at which nothing is.
     pub fn add_file(&self, path: &str, bytes: &[u8]) -> Result<(), AllocError> {
         self.add(path, Some(Vec::from_slice(self.alloc, bytes)?))
     }
 
-    /// Puts a folder at a path at which nothing stands.
+    /// Puts a folder at a path at which nothing is.
     pub fn add_folder(&self, path: &str) -> Result<(), AllocError> {
         self.add(path, None)
     }
 
-    // Where a path stands among the others, and whether it is a file.
+    // Where a path is among the others, and whether it is a file.
     fn place_of(&self, path: &str) -> Option<(usize, bool)> {
         let places = self.take();
         let mut found = None;

@@ -30,7 +30,8 @@ thread 1 end 13 code 0 steps 5 events 0
 log 0 of 0
 ";
 
-// The status, and what was written and told, by writers that take so many bytes a call and fail after so many calls.
+// The status, and what was written and reported, by writers that take `most` bytes a call, of which that of the lines fails
+// after `calls` calls.
 fn listed(rt: &HostRuntime, trace: &[u8], most: usize, calls: u64) -> (u8, Page, Page) {
     let mut out = empty_page(rt, most, calls);
     let mut faults = empty_page(rt, most, ENDLESS);

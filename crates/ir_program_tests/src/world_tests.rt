@@ -1,4 +1,4 @@
-//! What a world answers, by clocks that stand still or can't be read.
+//! What a world answers, by clocks that don't advance or can't be read.
 
 use ir_record::{World, WorldErr};
 use ir_runs::EnvKind;

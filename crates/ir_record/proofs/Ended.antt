@@ -1,4 +1,4 @@
--- What was recorded once nobody has a step.
+-- What was recorded once no thread has a step.
 use Rattle.ir_thread.specs.declared.profile.Profile.{Profile}
 use Rattle.std.proofs.Common.{◌≡◌, ◌≢◌, ℕ, ◌<◌, Bool, List, [], ◌∷◌, ◌++◌, length, map, replicate, Some, None, refl, sym, ap, ◌∙◌, subst, arith, inl, inr, ◌⊎◌}
 use Rattle.std.proofs.lemmas.Bool.{cases_lt}
@@ -97,7 +97,7 @@ has_ended code x e = (subst (Permits x) (really_done (ask_of code x) e) (ask_per
 
 -- ---- the whole recording
 
--- a recording at its end: turns by the order, and rounds, until nobody has a step
+-- a recording at its end: turns by the order, and rounds, until no thread has a step
 pub record Over (guest : Guest) (budget : ℕ) (profile : Profile) (order : List ℕ) (before : List (List Answered)) (b : Progress) : Type 0 where
   pub count : ℕ
   pub took : Took (order ++ rounds (length guest.entries) count) (start guest budget profile before) b

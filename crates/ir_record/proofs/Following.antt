@@ -40,7 +40,7 @@ none_after t a b moved e k =
     none_there none same code = subst (λ s. HasNone (machine b.flat) s t) (sym same)
         (subst (λ c. HasNone (machine (record a.flat { code = c })) (tables a.flat) t) (sym code) none)
 
--- so many turns of one thread
+-- n turns of one thread
 pub turns_joined : (t j k n : ℕ) (a b c : Progress) → j + k ≡ n → Took (replicate j t) a b → Took (replicate k t) b c
     → Took (replicate n t) a c
 turns_joined t j k n a b c e p q = subst (λ order. Took order a c) (replicate-append-replicate j k t ∙ ap (λ i. replicate i t) e)

@@ -28,7 +28,7 @@ one_set [] t k l = absurd (omega (arith, l))
 one_set (x ∷ xs) zero k l = omega arith
 one_set (x ∷ xs) (suc t) k l = let rest = one_set xs t k (omega (arith, l)) in omega (arith, rest)
 
--- a place that is read, whatever stands for none
+-- a place that is read, whatever the default is
 pub at_lead : (xs : List ℕ) (t v : ℕ) → t < length xs → v ≡ get_or xs t v → lead xs t ≡ v
 at_lead [] t v l is = absurd (omega (arith, l))
 at_lead (x ∷ xs) zero v l is = sym is
@@ -53,7 +53,7 @@ same_log m s later t r u is = by_case (eqb u t)
 
 -- ---- one turn
 
--- a thread that is ahead has its step behind it
+-- a thread that is ahead has already taken its step
 pub turn_spent : (s : State thread.State) (a : Progress) (c : List ℕ) (t k : ℕ) → t < length c → lead c t ≡ suc k
     → IsAhead (machine a.flat) c s (tables a.flat) → WentIf true (t ∷ []) s a c a (set c t k)
 turn_spent s a c t k l is h =
@@ -118,7 +118,7 @@ turn_stays s a b c t moved e is h k =
       none = λ m. (refl, refl, (is, tt));
     }
 
--- its step, and private steps behind it
+-- its step, and private steps after it
 pub turn_steps : (s : State thread.State) (a b : Progress) (g : Flat) (c : List ℕ) (t k : ℕ) → t < length c → t < length a.flat.threads
     → IsFlat b.flat → lead c t ≡ 0 → IsAhead (machine a.flat) c s (tables a.flat) → TookIf true (t ∷ []) a b
     → WentAlone b.flat g t k → WentIf true (t ∷ []) s a c (record b { flat = g }) (set c t k)
@@ -177,7 +177,7 @@ turn_steps s a b g c t k l below flat is h took w = by_turn took.took.turns
         omega (arith, some, size))
     by_turn (inr some) = here some.0 some.1 some.2 some.3 some.4 some.5
 
--- so many numbers and the next one
+-- t numbers and the next one
 pub range_last : (t : ℕ) → range_with_len 0 t ++ t ∷ [] ≡ range_with_len 0 (t + 1)
 range_last t = ap (λ k. range_with_len 0 t ++ k ∷ []) (let e : t ≡ 0 + t = omega arith in e) ∙ range_more 0 t
     ∙ ap (range_with_len 0) (let e : suc t ≡ t + 1 = omega arith in e)
@@ -342,7 +342,7 @@ module _ {moved : Bool} {a b e : Progress} {d f : List ℕ} (r : Rounded moved a
         (replicate (length a.flat.threads) 0) d f r.first.1 r.next.went),
   )
 
-  -- nobody is ahead after a round in which nobody took a step
+  -- no thread is ahead after a round in which no thread took a step
   none_ahead : moved ≡ false → (t : ℕ) → lead f t ≡ 0
   none_ahead is t =
       let h = r.next.none is in
@@ -370,7 +370,7 @@ module _ {moved : Bool} {a b e : Progress} {d f : List ℕ} (r : Rounded moved a
         },
       )
 
-  -- and nobody has a step
+  -- and no thread has a step
   pub all_over : moved ≡ false → (t : ℕ) → t < length e.flat.threads → HasNone (machine e.flat) (tables e.flat) t
   all_over is t l =
       let n : ℕ = length a.flat.threads in

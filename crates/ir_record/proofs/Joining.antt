@@ -13,13 +13,13 @@ some_run xs ys l = let n = length-append xs ys in omega (arith, n, l)
 pub some_after : {X : Type 0} (xs ys : List X) → 0 < length ys → 0 < length (xs ++ ys)
 some_after xs ys l = let n = length-append xs ys in omega (arith, n, l)
 
--- so many numbers and the next one
+-- n numbers and the next one
 pub range_more : (from n : ℕ) → range_with_len from n ++ (from + n) ∷ [] ≡ range_with_len from (suc n)
 range_more from zero = ap (λ k. k ∷ []) (let e : from + 0 ≡ from = omega arith in e)
 range_more from (suc n) = ap (λ xs. from ∷ xs)
     (ap (λ k. range_with_len (from + 1) n ++ k ∷ []) (let e : from + suc n ≡ from + 1 + n = omega arith in e) ∙ range_more (from + 1) n)
 
--- turns in which nobody takes a step
+-- turns in which no thread takes a step
 pub none_in_turn : {T : Type 0} (m : Machine T) (s : State T) (from n : ℕ) → InTurn m s (range_with_len from n) [] → (t : ℕ) → from ≤ t
     → t < from + n → HasNone m s t
 none_in_turn m s from zero h t low high = absurd (omega arith)

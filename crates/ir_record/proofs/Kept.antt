@@ -13,7 +13,7 @@ use Rattle.ir_record.specs.Ahead.{AreAsks}
 use Rattle.ir_record.specs.Progress.{Progress, TookIf}
 use Rattle.ir_record.proofs.Leading.{other_thread, other_end}
 
--- a place that is read, whatever stands for none
+-- a place that is read, whatever the default is
 pub at_ask : (xs : List Ask) (t : ℕ) (v : Ask) → t < length xs → v ≡ get_or xs t v → get_or xs t Done ≡ v
 at_ask [] t v l is = absurd (omega (arith, l))
 at_ask (x ∷ xs) zero v l is = sym is

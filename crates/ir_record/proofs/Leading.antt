@@ -63,7 +63,7 @@ pub now_there : {T : Type 0} (m : Machine T) (ahead : List ℕ) (s later : State
     → later.now t ≡ s.now t
 now_there m ahead s later t is h = h.threads t ∙ ap (λ k. alone m k (s.now t)) is
 
--- what a thread that stands so asks, with these objects
+-- what a thread in this state asks is admitted with these objects
 abbrev CanSo : {T : Type 0} → Machine T → T → (ℕ → Object) → ℕ → Type 0
 CanSo m x objects r = Admits m (act_of (m.ask x) r) (objects (target (act_of (m.ask x) r)))
 
@@ -172,7 +172,7 @@ gone_ahead m ahead s later t k l is h each =
       objects = objects_end m t k later each ∙ h.objects;
     }
 
--- ---- nobody ahead
+-- ---- no thread ahead
 
 pub level : {T : Type 0} (m : Machine T) (ahead : List ℕ) (s : State T) → ((t : ℕ) → lead ahead t ≡ 0) → IsAhead m ahead s s
 level m ahead s none = record {

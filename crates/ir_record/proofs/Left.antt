@@ -14,7 +14,7 @@ use Rattle.ir_thread.proofs.CallerLemmas.{one_fewer, count_le_length}
 use Rattle.ir_runs.proofs.CallerLemmas.{upd_same, upd_other}
 use Rattle.ir_record.specs.Progress.{steps_left, all_left}
 
--- a step of a thread that has not ended and goes on
+-- a step of a thread that has not ended and continues
 goes : (ended : Option end.End) (x y : thread.State) → x.ended ≡ None → x.steps < x.budget → y.ended ≡ x.ended → y.budget ≡ x.budget
     → y.steps ≡ x.steps + 1 → steps_left y.ended y + 1 ≤ steps_left x.ended x
 goes ended x y lives less same budget steps =

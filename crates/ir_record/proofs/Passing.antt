@@ -24,7 +24,7 @@ pub record Passing (n : ℕ) (pass : Pass) (ahead : List ℕ) (f : Flat) : Type 
 pub none_passed : (pass : Pass) (ahead : List ℕ) (f : Flat) → Passing 0 pass ahead f
 none_passed pass ahead f = record { all = λ w t l. absurd (omega (arith, l)); each = λ t l. absurd (omega (arith, l)) }
 
--- a turn that leaves its thread so many steps ahead, and the other threads as they were
+-- a turn that leaves its thread lead d t steps ahead, and the other threads as they were
 pub record Turning (turned : Turned) (t : ℕ) (c d : List ℕ) (f g : Flat) : Type 0 where
   pub code : g.code ≡ f.code
   pub others : (u : ℕ) → u ≢ t → lead d u ≡ lead c u

@@ -1,4 +1,4 @@
--- Rounds in which each thread has its step behind it, or has none.
+-- Rounds in which each thread has already taken its step, or has none.
 use Rattle.std.proofs.Common.{◌≡◌, ℕ, zero, suc, pred, ◌+◌, ◌-◌, ◌<◌, ◌≤◌, ◌⊎◌, Bool, true, false, List, [], ◌∷◌, length, set, replicate, refl, sym, ap, ◌∙◌, subst, arith, inl, inr, get_or-set_same, get_or-set_other, length-set, ext_get_or}
 use Rattle.std.proofs.lemmas.Bool.{cases_eq}
 use Rattle.std.proofs.lemmas.List.{set-get_or}
@@ -77,7 +77,7 @@ next_skips : {T : Type 0} (m : Machine T) (n k : ℕ) (c d : List ℕ) (later : 
 next_skips m n k c d later enough lower t l = elim (enough t l)
     [ inl more ↦ inl (let one = lower t l in omega (arith, more, one)) | inr none ↦ inr none ]
 
--- such rounds, and how far each thread is ahead behind them
+-- such rounds, and how far each thread is ahead after them
 record Skipped (n k : ℕ) (s : State thread.State) (a : Progress) (c : List ℕ) : Type 0 where
   pub left : List ℕ
   pub size : length left ≡ length c
@@ -111,7 +111,7 @@ skips n k s a c d size size' enough each h =
     subst (Went (rounds n k) s a c a) (ext_get_or 0 q.left d (q.size ∙ size ∙ sym size')
     (λ t l. let less : t < n = omega (arith, l, q.size, size) in q.each t less ∙ sym (each t less))) q.went
 
--- a round that was taken after some, and so many more that were skipped
+-- a round that was taken after some, and further rounds that were skipped
 pub record Skips (moved : Bool) (a b e : Progress) (d h : List ℕ) : Type 0 where
   pub rounding : Rounding (length a.flat.threads) a e h
   pub fewer : moved ≡ true → all_left (length e.flat.threads) (tables e.flat).now + all_ahead h

@@ -47,7 +47,7 @@ took_none t a b none same = subst (TookIf false (t ∷ []) a) (sym same) (record
   none = λ e. refl;
 })
 
--- a step of thread t that tells k
+-- a step of thread t that emits k
 pub record OneStep (t r : ℕ) (k : Label) (a b : Progress) : Type 0 where
   pub below : t < length a.flat.threads
   pub few : Few (tables a.flat)

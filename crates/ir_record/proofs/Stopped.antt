@@ -100,7 +100,7 @@ pub stopped_ahead : (order more : List ℕ) (s : State thread.State) (a b : Prog
 stopped_ahead order more s a b c d named answers p h =
     stopped_later order more s a b p.run named answers p.turns p.code p.threads p.answers h
 
--- so many numbers, and then the others
+-- n numbers, and then the others
 pub range_split : (from n more : ℕ) → range_with_len from n ++ range_with_len (from + n) more ≡ range_with_len from (n + more)
 range_split from zero more = ap (λ k. range_with_len k more) (let e : from + 0 ≡ from = omega arith in e)
     ∙ ap (range_with_len from) (let e : more ≡ 0 + more = omega arith in e)

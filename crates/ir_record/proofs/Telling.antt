@@ -30,7 +30,7 @@ pub record StandAtEnd (guest : Guest) (budget : ℕ) (profile : Profile) (run : 
   pub answered : (t : ℕ) → t < length guest.entries
       → answers t ≡ answers_at before t ++ answers_in (log (thread_machine guest.code) (tables (start_flat guest budget profile)) run t)
 
--- the end that is told of a recorded thread
+-- the end that is reported of a recorded thread
 ends_by : (r : RecordedThread) (x : Option end.End) → x ≡ Some r.end
     → ◌≡◌ {A = Option (ℕ × ℕ)} (Some (end_number r.end, end_code r.end)) (option_map (λ e. (end_number e, end_code e)) x)
 ends_by r x e = ap (option_map (λ k. (end_number k, end_code k))) (sym e)

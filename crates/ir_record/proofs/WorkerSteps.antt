@@ -221,7 +221,7 @@ step_on {g} {w} {w'} same q v step e may of fit asked me took log answers budget
     })
     (me ∙ seen_on t step i.track w.me i.view)
 
--- a step that is nobody else's
+-- a step that concerns no other thread
 record IsOwnStep (code : List ℕ) (q : Ask) : Type 0 where
   may : MayReply (thread_machine code) (act_of (shared_ask q) 0) 0
   of : AreOf q 0 [] []
@@ -245,7 +245,7 @@ own_step {g} {w} {w'} {code} same q own asked me took =
     let k : IsOwnStep g.code q = own_is_step g.code q own in
     step_on same q 0 None None k.may k.of tt asked me (took ∙ ap (after_reply code w.thread) k.reply)
 
--- so many private steps
+-- count private steps
 pub run_steps : {g : Guest} {w w' : Work} {code : List ℕ} → code ≡ g.code → (count : ℕ) → PrivateSteps code count w.thread w'.thread
     → w'.me ≡ w.me → w'.log ≡ w.log → w'.answers ≡ w.answers → StillWorks g w w'
 unfolding run_of step_of

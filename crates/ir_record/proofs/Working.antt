@@ -91,7 +91,7 @@ trail_more m x (u ∷ vs) v ks ls e = trail_step m x u vs v ls (λ is n. trail_m
 pub worked_starts : {T : Type 0} (m : Machine T) (x : T) → Worked m x x [] [] []
 worked_starts m x = record { replies = []; may = tt; now = refl; steps_are = refl; logged = refl }
 
--- one step more: its object step, if it is one, with what it told, and what is logged of it
+-- one step more: its object step, if it is one, with what it reported, and what is logged of it
 pub worked_more : {T : Type 0} (m : Machine T) (x y : T) (steps : List Shared) (labels log : List Label) (v : ℕ) (ls : List Label)
     → Worked m x y steps labels log → length labels ≡ length steps → MayReply m (act_of (m.ask y) v) v
     → Worked m x (m.take y v) (steps ++ keep_if (is_shared (act_of (m.ask y) v)) (act_of (m.ask y) v, v) []) (labels ++ ls)
@@ -148,7 +148,7 @@ deed_silent o (Leave a v) es = refl
 deed_silent o (Get i w) es = refl
 deed_silent o (Put i w) es = refl
 
--- f is what is logged of the steps behind this one, where object steps tell this
+-- f labels is what is logged of the steps after this one when object steps report these labels
 answers_step : (q : Act) (f : List Label → List Label) (track : List ObjectStep)
     → ((later : List ObjectStep) → answers_in (f (map label_of later)) ≡ answers_in (f []))
     → answers_in (logged (alone_label q (map label_of track)) (f (labels_left (is_shared q) (map label_of track))))

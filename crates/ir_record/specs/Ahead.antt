@@ -12,7 +12,7 @@ use Rattle.ir_runs.specs.InOrder.{HasNone, InTurn}
 use Rattle.ir_record.specs.Progress.{Progress, all_left, labels_at, answers_at}
 use Rattle.ir_record.specs.Worlds.{answers_in}
 
--- a thread after so many steps by itself
+-- a thread after k steps by itself
 abbrev pub alone : {T : Type 0} → Machine T → ℕ → T → T
 alone m zero x = x
 alone m (suc k) x = alone m k (m.take x 0)
@@ -21,7 +21,7 @@ alone m (suc k) x = alone m k (m.take x 0)
 abbrev pub lead : List ℕ → ℕ → ℕ
 lead ahead t = slice_index_or ahead t 0
 
--- the later state is s, with each thread so many private steps ahead
+-- the later state is s, with each thread t lead ahead t private steps ahead
 pub record IsAhead {T : Type 0} (m : Machine T) (ahead : List ℕ) (s later : State T) : Type 0 where
   pub threads : (t : ℕ) → later.now t ≡ alone m (lead ahead t) (s.now t)
   pub each : (t k : ℕ) → k < lead ahead t → m.ask (alone m k (s.now t)) ≡ Private

@@ -18,7 +18,7 @@ pub record IsUnanswered (t : ℕ) (p : Progress) (named : ℕ) (answers : List (
   pub asks : ask_of p.flat.code (thread_of p.flat t) ≡ ask.Env kind
   pub no_more : answers ≡ p.answers
 
--- from s on the turns of the order were taken until the one of the thread that is named, which asks its world there; each world
+-- from s on the turns of the order were taken until the one of the thread that is named, which asks its world there. Each world
 -- answered what it had answered in p, and then what the steps of these turns logged of it
 pub record StoppedAt (order : List ℕ) (s : State thread.State) (p : Progress) (named : ℕ) (answers : List (List Answered)) : Type 0 where
   pub taken : List ℕ

@@ -10,8 +10,8 @@ has_moved Spent = true
 has_moved Stepped = true
 has_moved Waited = false
 
--- a turn more, after which its thread is so many steps ahead: its lead bounds the rounds that may follow, and a step where a
--- thread had none leaves no such round
+-- one more turn, after which its thread is lead steps ahead: this bounds the rounds that may follow, and a step after a thread
+-- that had none leaves no such round
 abbrev pub Noted : Turned → ℕ → Pass → Pass → Type 0
 Noted Spent lead old new = (new.moved ≡ true) × (new.waited ≡ old.waited) × (new.free ≡ min old.free lead)
 Noted Stepped lead old new = (new.moved ≡ true) × (new.waited ≡ old.waited) × (old.waited ≡ true → new.free ≡ 0)

@@ -1,4 +1,4 @@
--- A recording as it goes on.
+-- A recording in progress.
 use Rattle.std.specs.Prelude.{◌≡◌, ◌<◌, ◌≤◌, ◌+◌, ◌-◌, ℕ, zero, suc, List, [], ◌++◌, length, map, Option, Some, None, Bool, true, false, ⊤}
 use Rattle.std.specs.List.{slice_index_or, AllByRecursion}
 use Rattle.ir_thread.specs.Calls.{most_events, most_closing}

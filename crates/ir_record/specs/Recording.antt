@@ -64,7 +64,7 @@ pub record IsRecording (guest : Guest) (budget : ℕ) (profile : Profile) (order
 
 -- ---- what a call that records hands back, of worlds by what they have answered, whether they have failed and what they were made with
 
--- what this tells of each thread's world, as it is handed back
+-- what f gives of each thread's world, as it is handed back
 abbrev pub each_world : {W A : Type 0} → (W → A) → Outputs W → List A
 each_world f outputs = map (λ o. f o.world) outputs.each.items
 
@@ -89,8 +89,8 @@ AllWork broken r = NoneFailed (each_world broken r.1)
 abbrev pub AreHandedBack : {W O : Type 0} → (W → O) → List W → Recorded × Outputs W → Type 0
 AreHandedBack origin before r = each_world origin r.1 ≡ map origin before
 
--- the turns by the order, and by rounds after it, were taken until the one of the thread whose world failed, which asks its world there:
--- they are a run of the guest, and each world answered what it had answered, and then the answers that this run logged of it
+-- the turns by the order, and by rounds after it, were taken until the one of the thread whose world failed, which asks its world there.
+-- They are a run of the guest, and each world answered what it had answered, and then the answers that this run logged of it
 pub record StoppedInOrder (guest : Guest) (budget : ℕ) (profile : Profile) (order : List ℕ) (failed : ℕ) (before after : List (List Answered)) :
     Type 0 where
   pub count : ℕ

@@ -26,7 +26,7 @@ abbrev pub AreNew : {W : Type 0} → Guest → ℕ → Profile → TableId → �
 AreNew g budget profile id t [] = ⊤
 AreNew g budget profile id t (w ∷ ws) = IsNew g budget profile id t w × AreNew g budget profile id (suc t) ws
 
--- a worker whose thread is done, of a guest with so many objects
+-- a worker whose thread is done, of a guest with the given number of objects
 pub record IsOver {W : Type 0} (profile : Profile) (objects : ℕ) (w : Worker W) : Type 0 where
   pub ended : w.thread.ended ≢ None
   pub events_fit : AllByRecursion (IsEvent profile objects) w.log.events
@@ -38,17 +38,17 @@ AreTraces [] (r ∷ rs) = ⊥
 AreTraces (w ∷ ws) [] = ⊥
 AreTraces (w ∷ ws) (r ∷ rs) = IsThreadTrace w.thread w.log r × AreTraces ws rs
 
--- an empty list with room for so many
+-- an empty list with room for n
 pub record IsEmptyFor {A : Type 0} (n : ℕ) (v : Vec A) : Type 0 where
   pub empty : v.items ≡ []
   pub room : n ≤ vec_capacity v
 
--- so many, each with room for all that a thread may print
+-- n empty lists, each with room for all that a thread may print
 pub record AreRooms (n : ℕ) (vs : List (Vec ℕ)) : Type 0 where
   pub count : length vs ≡ n
   pub each : AllByRecursion (IsEmptyFor most_output) vs
 
--- room for what so many workers hand back
+-- room for what n workers hand back
 pub record HasRoom {W : Type 0} (n : ℕ) (r : Room W) : Type 0 where
   pub seats : IsEmptyFor n r.seats
   pub traces : IsEmptyFor n r.traces

@@ -72,7 +72,7 @@ IsWorker g w = (budget : ℕ) × (profile : Profile) × (t : ℕ) × (before : L
 abbrev pub StillWorks : Guest → Work → Work → Type 0
 StillWorks g v w = (budget : ℕ) (profile : Profile) (t : ℕ) (before : List Answered) → IsWorking g budget profile t before v → IsWorking g budget profile t before w
 
--- the step is nobody else's, and nothing is logged of it
+-- the step concerns no other thread, and nothing is logged of it
 abbrev pub IsOwn : Ask → Type 0
 IsOwn ask.Private = Unit {0}
 IsOwn (ask.Env kind) = ⊥

@@ -20,7 +20,7 @@ use std::alloc::{AllocError, Global};
 use std::sync::Wait;
 use std::thread::Threads;
 
-// So many objects, to be written over.
+// `count` objects, to be written over.
 fn blanks(alloc: Global, count: usize) -> Result<Vec<Object>, AllocError>
     ensures { IfOk result (λ v. length v.items ≡ count) }
 {
@@ -36,12 +36,12 @@ fn blanks(alloc: Global, count: usize) -> Result<Vec<Object>, AllocError>
 /// which system calls there are, and has to allow the guest's threads and objects. Which of the guest's runs is recorded is
 /// open, and any try may be refused.
 ///
-/// The gate is told of each entry just after it, of each leave just before it, what a thread releases at its end or after
-/// its world has failed among them, on the thread that enters or leaves, and of private steps. A gate that holds a thread up
-/// may hold up all.
+/// Each entry is reported to the gate just after it, and each leave just before it, on the thread that enters or leaves. This
+/// includes what a thread releases at its end or after its world has failed. Private steps are reported too. A gate that
+/// holds a thread up may hold up all.
 ///
 /// It may wait for ever: a thread that waits for an object takes no step, so its budget doesn't end it, and a thread that
-/// the caller runs keeps those behind it waiting.
+/// the caller runs keeps those after it waiting.
 ///
 /// # Errors
 /// `RecordErr::NoMem` where memory is wanted: all is made before the first step, so none was taken. The worlds are dropped.

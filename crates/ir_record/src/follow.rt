@@ -13,7 +13,7 @@ use crate::turns::Turns;
 use crate::world::World;
 
 impl<W: World> Recorder<'_, W> {
-    // So many turns of thread t; none of them is a step where there is no such thread.
+    // `count` turns of thread t; none of them is a step if there is no such thread.
     fn turns(&mut self, t: usize, count: u64) -> Result<(), Failed>
         requires { CanGoOn W.answers W.broken self.old }
         ensures took { OnOk result (Took (replicate count t) (progress_of W.answers self.old) (progress_of W.answers self.new)) }

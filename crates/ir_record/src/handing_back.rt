@@ -16,7 +16,7 @@ use ir_thread::{MOST_OUTPUT, Profile};
 use ir_trace::Trace;
 use std::alloc::{AllocError, Global};
 
-// Room for what so many threads print.
+// Room for what `count` threads print.
 fn printed_room(alloc: Global, count: usize) -> Result<Vec<Vec<u8>>, AllocError>
     ensures { IfOk result (λ v. AreRooms count v.items) }
 {
@@ -27,7 +27,7 @@ fn printed_room(alloc: Global, count: usize) -> Result<Vec<Vec<u8>>, AllocError>
     Ok(rooms)
 }
 
-// Room for what so many workers hand back.
+// Room for what `count` workers hand back.
 pub fn room<W: Drop>(alloc: Global, count: usize) -> Result<Room<W>, AllocError>
     ensures { IfOk result (HasRoom count) }
 {

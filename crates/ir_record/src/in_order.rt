@@ -93,7 +93,7 @@ pub fn record_in_turns<W: World + Drop>(
 
 /// Records the guest on one thread. Each entry of the order takes one step of that thread, or none where it has none;
 /// an entry that is no thread has none. After the order, rounds over the threads from 0 upwards take one step of each
-/// that has one, until all are done. A try enters where nobody is inside. The budget is in steps, for each thread; the
+/// that has one, until all are done. A try enters if no thread is inside. The budget is in steps, for each thread; the
 /// profile says which system calls there are, and has to allow the guest's threads and objects.
 ///
 /// # Errors

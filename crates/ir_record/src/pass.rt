@@ -38,7 +38,7 @@ impl Pass {
         }
     }
 
-    // A turn more, after which its thread is so many private steps ahead. A step may end what an earlier thread waits for,
+    // One more turn, after which its thread is `lead` private steps ahead. A step may end what an earlier thread waits for,
     // and that thread is asked again in the next round.
     pub fn note(&mut self, turned: Turned, lead: u64)
         ensures { Noted turned lead self.old self.new }

@@ -19,7 +19,7 @@ use crate::turn::Failed;
 use crate::world::World;
 use ir_thread::Ask;
 
-// Every thread has so many more of its steps behind it, or all that it was ahead.
+// Every thread is `by` fewer steps ahead, or no longer ahead if it wasn't ahead by more.
 fn lower(ahead: &mut Vec<u64>, by: u64)
     ensures size { length ahead.new.items ≡ length ahead.old.items }
     ensures each { (t : ℕ) → t < length ahead.old.items → lead ahead.new.items t ≡ lead ahead.old.items t - by }

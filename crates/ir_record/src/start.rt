@@ -13,7 +13,7 @@ use ir_log::Log;
 use ir_thread::{MOST_EVENTS, Profile};
 use std::alloc::{AllocError, Global};
 
-// So many logs without events, each with room for all that a thread may log.
+// `count` logs without events, each with room for all that a thread may log.
 fn logs(alloc: Global, count: usize) -> Result<Vec<Log>, AllocError>
     ensures { IfOk result (λ logs. logs.items ≡ replicate count (record { events = []; room = most_events })) }
 {

@@ -85,7 +85,7 @@ impl Tape<'_> {
         true
     }
 
-    // Thread t tries to enter the object that it asks for: it enters where nobody is inside, and else goes on without.
+    // Thread t tries to enter the object that it asks for: it enters if no thread is inside, and otherwise continues without it.
     pub fn try_to_enter(&mut self, t: usize, object: u8)
         requires tape { IsTape self.old.flat self.old.logs.items }
         requires flat { IsFlat self.old.flat }
@@ -120,7 +120,7 @@ impl Tape<'_> {
         self.flat.take(t, asked, 0).is_ok()
     }
 
-    // Thread t takes instructions, at most so many: how many they are, and what it asks then.
+    // Thread t takes at most `limit` instructions: how many they are, and what it asks then.
     #[inline(always)]
     pub fn run(&mut self, t: usize, limit: u64) -> (u64, Ask)
         requires tape { IsTape self.old.flat self.old.logs.items }

@@ -5,7 +5,7 @@ ghost use Rattle.ir_record.specs.Turns.{order_of_turns};
 
 use std::alloc::{AllocError, Global};
 
-/// So many turns of one thread, one after the other. A turn of what is no thread is no step.
+/// `count` turns of one thread, one after the other. A turn of what is no thread is no step.
 #[derive(Clone, Copy, Debug, PartialEq, Eq)]
 pub struct Turns {
     /// The thread.

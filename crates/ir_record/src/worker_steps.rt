@@ -16,7 +16,7 @@ use ir_runs::{Access, EnvKind};
 use ir_thread::{Ask, Reply};
 use std::sync::Wait;
 
-// The most private steps that a thread takes before the gate is told: some hundredths of a second.
+// The most private steps that a thread takes before they are reported to the gate: some hundredths of a second.
 const STRETCH: u64 = 1 << 24;
 
 impl<W: World> Worker<W> {
@@ -126,7 +126,7 @@ impl<W: World> Worker<W> {
             .take_asked(code, Ask::Put(object, index, value), Reply::Go);
     }
 
-    // Its thread takes a step that is nobody else's.
+    // Its thread takes a step that concerns no other thread.
     fn take_own_step(&mut self, crew: &Crew, code: &Code, asked: Ask)
         requires worker { IsAtWork W.answers crew.now code.now self.old }
         requires asked { ask_of code.now self.old.thread ≡ asked }
@@ -137,8 +137,8 @@ impl<W: World> Worker<W> {
         self.thread.take_asked(code, asked, Reply::Go);
     }
 
-    // Its thread takes private steps that come next, all of them if they are few; and what it asks then. The gate is told how
-    // many they are.
+    // Its thread takes private steps that come next, all of them if they are few; and what it asks then. Their number is
+    // reported to the gate.
     fn take_private_steps<G: Gate>(&mut self, crew: &Crew, code: &Code, gate: &G) -> Ask
         requires worker { IsAtWork W.answers crew.now code.now self.old }
         ensures asked { result ≡ ask_of code.now self.new.thread }
@@ -219,7 +219,7 @@ impl<W: World> Worker<W> {
         }
     }
 
-    // Its thread goes on to its end, unless its world fails: then it leaves all that it holds.
+    // Its thread continues to its end, unless its world fails: then it leaves all that it holds.
     pub fn run_to_end<R: Wait, G: Gate>(&mut self, rt: &R, crew: &Crew, code: &Code, gate: &G)
         requires { IsReadyWorker W.answers W.broken crew.now.table.shared.key crew.now.table.shared.table_id code.now self.old }
         ensures { RanToEnd W.answers W.broken W.origin crew.now.table.shared.key self.old self.new }

@@ -1,5 +1,5 @@
 -- Why there is no recording, and what that leaves.
-use Rattle.std.specs.Prelude.{◌≡◌, ℕ, ◌==◌, List, [], length, codes, ⊤, ◌⊎◌, Some, None, option_and_then, Ok, Err}
+use Rattle.std.specs.Prelude.{◌≡◌, ℕ, ◌==◌, List, [], length, codes, ⊤, ◌⊎◌, Some, None, Ok, Err}
 use Rattle.std.specs.List.{slice_split}
 use Rattle.ir_image.specs.Guest.{Guest}
 use Rattle.ir_image.specs.Reading.{guest_at}
@@ -99,12 +99,12 @@ of_order order_err.Bad = Order
 of_order order_err.NoMem = NoMem
 
 -- why nothing is recorded: the image's first fault; more threads or objects than the profile allows; of a guest that it allows, a list
--- that spells no order, or without a list a clock that can't be read; that memory ran out says nothing of them
+-- that spells no order, or without a list a clock that can't be read. That memory ran out says nothing of them
 abbrev pub Refuses : RecordFault → List ℕ → Plan → Type 0
 Refuses (Image e) image plan = guest_at image ≡ Err e
 Refuses TooLarge image plan = (guest : Guest) × (guest_at image ≡ Ok guest) × (IsAllowed plan.profile guest → ⊥)
-Refuses Order image plan = (guest : Guest) × (guest_at image ≡ Ok guest) × IsAllowed plan.profile guest
-    × (option_and_then (order_of (length guest.entries)) plan.order ≡ None)
+Refuses Order image plan = (guest : Guest) × (list : List ℕ) × (guest_at image ≡ Ok guest) × IsAllowed plan.profile guest
+    × (plan.order ≡ Some list) × (order_of (length guest.entries) list ≡ None)
 Refuses Clock image plan = (guest : Guest) × (guest_at image ≡ Ok guest) × IsAllowed plan.profile guest × (plan.order ≡ None)
 Refuses NoMem image plan = ⊤
 Refuses Trace image plan = ⊥

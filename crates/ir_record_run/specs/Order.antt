@@ -8,7 +8,7 @@ use Rattle.ir_record_run.specs.Numerals.{number_within}
 abbrev pub most_turns : ℕ
 most_turns = 1000000
 
--- so many steps of a thread, where both are numbers
+-- count steps of a thread, if both are numbers
 abbrev pub turns : Option ℕ → Option ℕ → Option (List ℕ)
 turns (Some thread) (Some count) = Some (replicate count thread)
 turns thread count = None
@@ -19,7 +19,7 @@ item_by threads (thread ∷ []) = turns (number_within 0 (threads - 1) thread) (
 item_by threads (thread ∷ count ∷ []) = turns (number_within 0 (threads - 1) thread) (number_within 1 most_turns count)
 item_by threads parts = None
 
--- what an item spells, its parts standing round the letter x
+-- what an item spells, its parts being around the letter x
 abbrev pub item_of : ℕ → List ℕ → Option (List ℕ)
 item_of threads item = item_by threads (slice_split (λ b. b == 120) item)
 
@@ -32,7 +32,7 @@ abbrev pub items_of : ℕ → List (List ℕ) → Option (List ℕ)
 items_of threads [] = Some []
 items_of threads (item ∷ items) = joined (item_of threads item) (items_of threads items)
 
--- the threads in the order that a list spells, which is items with commas between them; the guest has so many threads
+-- the threads in the order that a list spells, which is items with commas between them; the first argument is how many the guest has
 abbrev pub order_of : ℕ → List ℕ → Option (List ℕ)
 order_of threads list = items_of threads (slice_split (λ b. b == 44) list)
 

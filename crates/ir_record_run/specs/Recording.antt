@@ -25,7 +25,7 @@ IsRecordedBy (Some list) guest budget profile trace outputs answers = (order : L
 IsRecordedBy None guest budget profile trace outputs answers = IsRecordingOfSome guest budget profile (unasked guest) trace outputs answers
 
 -- the trace and the outputs are of one such run of the image's guest, whose threads were answered by random words, the
--- file's bytes and a count; without a list by a clock in the place of the count, of which nothing is said but that the
+-- file's bytes and a count. Without a list a clock takes the place of the count, of which nothing is said but that the
 -- answers are its own
 pub record IsRecordedOf (image : List ℕ) (plan : Plan) (trace : Recorded) (outputs : List (List ℕ)) : Type 0 where
   pub guest : Guest

@@ -41,7 +41,7 @@ impl<T: Drop> From<AllocFailed<T>> for OrderErr {
     }
 }
 
-// The part of a text before the first such character, and what follows it, if it stands there.
+// The part of a text before the first such character, and what follows it, if there is one.
 fn first_part(text: &str, mark: char) -> (&str, Option<&str>)
     requires { mark < 128 }
     ensures parts { MatchOption result.1 (slice_split (λ b. b == mark) text.now ≡ result.0.now ∷ []) (λ rest. slice_split (λ b. b == mark) text.now ≡ result.0.now ∷ slice_split (λ b. b == mark) rest.now) }
@@ -53,7 +53,7 @@ fn first_part(text: &str, mark: char) -> (&str, Option<&str>)
     }
 }
 
-// The thread of this number, where the guest has so many.
+// The thread of this number, if a guest of `threads` threads has it.
 fn thread_of(number: &str, threads: usize) -> Option<u8>
     requires some { 1 ≤ threads }
     requires few { threads ≤ most_threads }
@@ -123,7 +123,7 @@ pub fn bad_item(list: &str, threads: usize) -> Option<(&str, &'static str)>
     None
 }
 
-/// The turns that a list spells, item by item; the guest has so many threads. It takes memory for each item.
+/// The turns that a list spells, item by item, for a guest of `threads` threads. It takes memory for each item.
 ///
 /// # Errors
 /// `Bad` where the list spells none; out of memory.

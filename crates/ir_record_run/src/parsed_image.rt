@@ -1,10 +1,11 @@
 //! An image that is parsed once.
 
-ghost use Rattle.std.specs.Prelude.{◌≡◌, ℕ, List, Ok, IfOk, IfErr, IfSome, OnOk};
+ghost use Rattle.std.specs.Prelude.{◌≡◌, ◌≢◌, ℕ, List, Ok, IfOk, IfErr, IfSome, OnOk};
 ghost use Rattle.ir_image.specs.Reading.{guest_at, Gives};
 ghost use Rattle.ir_thread.specs.Allowed.{IsAllowed};
 ghost use Rattle.ir_record_run.specs.Faults.{Allows, Refuses};
 ghost use Rattle.ir_record_run.specs.Images.{thread_count};
+ghost use Rattle.ir_record_run.specs.declared.record_fault.RecordFault.TheVariants.{Clock, Order};
 
 use crate::plan::RecordPlan;
 use crate::record_fault::RecordFault;
@@ -71,6 +72,7 @@ impl<'a> ParsedImage<'a> {
         ensures allowed { IfOk result (λ guest. IsAllowed plan.now.profile guest.now) }
         ensures allows { OnOk result (Allows self.now plan.now) }
         ensures refused { IfErr result (λ e. Refuses e self.now plan.now) }
+        ensures only { IfErr result (λ e. (e ≢ Order) × (e ≢ Clock)) }
     {
         match &self.guest {
             Ok(guest) if plan.profile.allows(guest) => Ok(guest),

@@ -194,7 +194,7 @@ fn put_each<P: OutputSink>(outputs: &mut P, printed: &[Vec<u8>]) -> Result<(), D
     Ok(())
 }
 
-// Writes the trace, which then stands in its place, then what each thread printed, and then the lines.
+// Writes the trace, which then is in its place, then what each thread printed, and then the lines.
 fn written<W: WholeSink, P: OutputSink, O: Sink>(
     trace: &mut W,
     outputs: &mut P,
@@ -270,7 +270,7 @@ fn run<
     }
 }
 
-// Tells that a plan's list spells no order of an image's threads: which item doesn't, and why.
+// Reports that a plan's list spells no order of an image's threads: which item doesn't, and why.
 #[tactic(auto, using(ir_image::proofs::CallerLemmas::few_threads))]
 fn tell_order<E: Sink>(faults: &mut E, image: &ParsedImage<'_>, plan: &RecordPlan<'_>)
     requires { E.broken faults.old ≡ false }
@@ -285,7 +285,7 @@ fn tell_order<E: Sink>(faults: &mut E, image: &ParsedImage<'_>, plan: &RecordPla
     tell(faults, RecordFault::Order.words());
 }
 
-// Tells why nothing was recorded, or not all of it written.
+// Reports why nothing was recorded, or not all of it written.
 fn tell_fault<W: WholeSink, P: OutputSink, E: Sink>(
     faults: &mut E,
     why: &RecordFault,
@@ -314,16 +314,16 @@ fn tell_fault<W: WholeSink, P: OutputSink, E: Sink>(
 /// Records the guest of an image by a plan: in the order that its list spells, on one thread; without a list on real
 /// threads. Writes the trace, then what each thread printed, an output each, and then a line `thread T end E code C steps S
 /// events N` for each thread. The budget is in steps, for each thread. RANDOM gives the words of PCG32, started for thread T
-/// by the number `random` plus T, modulo 2^64; CLOCK counts its own calls from 0, in each thread, and without a list gives
-/// the milliseconds since the start, modulo 2^32; each thread's INPUT gives all bytes of the input. Without a list it may
-/// wait for threads, and that it ends isn't promised; the gate is told of what they do. The profile says which system calls
+/// by the number `random` plus T, modulo 2^64. CLOCK counts its own calls from 0, in each thread, and without a list gives
+/// the milliseconds since the start, modulo 2^32. Each thread's INPUT gives all bytes of the input. Without a list it may
+/// wait for threads, and that it ends isn't promised; the gate is given notice of what they do. The profile says which system calls
 /// there are.
 /// Where all were written and the trace is in its place, what was recorded is handed back.
 ///
 /// # Errors
-/// The exit status: `Refused` where the image is refused, it has more threads or objects than the profile allows, or the list
-/// spells no order of its threads; and `Failed` where memory ran out, the clock can't be read or a writer failed. Then what was
-/// written before stays. A fault is told in one line.
+/// The exit status: `Refused` if the image is refused, it has more threads or objects than the profile allows, or the list
+/// spells no order of its threads. It is `Failed` if memory ran out, the clock can't be read or a writer failed. Then what was
+/// written before stays. A fault is reported in one line.
 pub fn record_run<
     R: Threads + Wait + Sync + Clock + AllocGlobal,
     G: Gate + Sync,
@@ -346,7 +346,7 @@ pub fn record_run<
     requires prints { O.broken out.old ≡ false }
     requires reports { E.broken faults.old ≡ false }
     // Of the run by the order, or of some complete run, the trace was written, what each of its threads printed as that
-    // thread's output, and its lines, and no fault told.
+    // thread's output, and its lines, and no fault reported.
     ensures done { IfOk result (λ recorded. (printed : List (List ℕ)) × IsRecordedOf image.now plan.now recorded printed
         × Appends (W.written trace.old) (W.written trace.new) (encoding recorded)
         × TookEach (output_writer_of (P.taken outputs.old) (P.taken outputs.new) (P.broken outputs.new)) printed

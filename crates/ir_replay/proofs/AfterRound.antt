@@ -107,7 +107,7 @@ pub of_table : (id : TableId) (k : Plan) (target : List ℕ) (ws : List Worker) 
 of_table id k target ws h = down_all (IsAfterRound id k target) (IsOfTable id) ws
     (λ t w l p. record { table = p.ready.table; slots = p.ready.slots }) h
 
--- ---- where the threads stand
+-- ---- where the threads are
 
 are_parts : (p : Cut) (v w : View) → AreAt p (v ++ w) → AreAt p v × AreAt p w
 are_parts p [] w h = (tt, h)

@@ -6,7 +6,7 @@ use Rattle.ir_runs.specs.Cuts.{Cut}
 use Rattle.ir_cut.specs.Positions.{cut_of}
 use Rattle.ir_replay.specs.Rounds.{OneIsBelow}
 
--- so many of the first n threads are below
+-- below is the number of the first n threads that are below their targets
 pub record Counts (target : List ℕ) (p : Cut) (n below : ℕ) : Type 0 where
   pub none : below ≡ 0 → (t : ℕ) → t < n → cut_of target t ≤ p t
   pub one : below ≡ 1 → (t : ℕ) × (t < n) × (p t < cut_of target t) × ((u : ℕ) → u < n → p u < cut_of target u → u ≡ t)

@@ -1,4 +1,4 @@
--- What a round leaves: the state where its threads stand, and that one of them has gone on.
+-- What a round leaves: the state where its threads are, and that one of them has advanced.
 use Rattle.std.proofs.Common.{◌≡◌, ℕ, suc, zero, ◌<◌, ◌≤◌, ◌⊎◌, List, length, refl, sym, ap, ◌∙◌, subst, arith, inl, inr}
 use Rattle.std.proofs.lemmas.Bool.{cases_lt, cases_eq}
 use Rattle.std.proofs.lemmas.List.{get_or_past, ext_get_or}
@@ -81,9 +81,9 @@ stands_there f s xs cells h flat at ahead size objects =
     λ i. record { code = g.at.code i; threads = threads i; objects = (g.objects ∙ sym objects) i } in
     record { flat = subst IsFlat same g.flat; at = subst (λ z. IsStateAt f (positions z) z) same g.at }
 
--- ---- a round in which nobody moves
+-- ---- a round in which no thread moves
 
--- where no thread has gone on and each rests, all are at their targets
+-- if no thread has advanced and each rests, all are at their targets
 pub still_reached : (k : Plan) (target : List ℕ) → HasRun (trace_in k) → IsStateAt (trace_in k) (opened_at k) (opened_in k)
     → length target ≡ length (trace_in k).guest.entries → IsConsistentCut (trace_in k) target → ((t : ℕ) → opened_at k t ≤ cut_of target t)
     → ((t : ℕ) → t < length target → (opened_at k t ≡ cut_of target t) ⊎ WasStopped k t (opened_at k t)) → (t : ℕ)

@@ -1,4 +1,4 @@
--- A thread that goes on alone, and threads that do so one after the other.
+-- A thread that advances alone, and threads that do so one after the other.
 use Rattle.std.proofs.Common.{◌≡◌, refl, ℕ, ◌+◌, ◌-◌, ◌<◌, ◌≤◌, List, length, subst, sym, arith, inl, inr, ◌∙◌}
 use Rattle.std.proofs.lemmas.Bool.{cases_eq, cases_lt}
 use Rattle.ir_flat.specs.Alone.{WentAlone}
@@ -100,7 +100,7 @@ pass_on f target old s new taken most t more k l under gone rests = record {
 
 -- ---- passes
 
--- after passes that began at old, by at most so many steps, of which so many are left
+-- after passes that began at old and may take most steps, of which left remain
 pub record ArePasses (f : FittedTrace) (target : List ℕ) (old s : Flat) (most left : ℕ) : Type 0 where
   pub under : IsUnder f target s
   pub above : (t : ℕ) → positions old t ≤ positions s t

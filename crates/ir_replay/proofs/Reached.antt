@@ -64,7 +64,7 @@ pub rests_same : (f : FittedTrace) (target : List ℕ) (old new : Flat) (t : ℕ
 rests_same f target old new t same rest = subst (λ (p : Cut). (cut_of target t ≤ p t)
     ⊎ ((run : List Step) → IsRunOf f.guest f.recorded run → Admitted (machine_of f) (start_of f) run p t → ⊥)) (λ i u. sym (same u) i) rest
 
--- ---- before and behind all steps
+-- ---- before and after all steps
 
 pub target_at : (f : FittedTrace) (target aim : List ℕ) → aim ≡ target → HasRun f → (length target ≡ length f.guest.entries)
     × IsConsistentCut f target → IsTarget f aim

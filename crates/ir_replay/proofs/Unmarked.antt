@@ -1,4 +1,4 @@
--- A thread that goes on by itself at no marked word.
+-- A thread that advances by itself at no marked word.
 use Rattle.std.proofs.Common.{◌≡◌, ℕ, ◌-◌, ◌<◌, ◌≤◌, List, length, sym, subst, arith, inl, inr}
 use Rattle.std.proofs.lemmas.Bool.{cases_lt}
 use Rattle.ir_mach.specs.Marks.{Marked}
@@ -33,7 +33,7 @@ pub unmarked_went : (f : FittedTrace) (old state : Standing) (s new : Flat) (cod
 unmarked_went f old state s new code t n was u is =
     subst (λ (z : Flat × Standing). UnmarkedSteps code n (thread_of z.0 t) (thread_of (flat_in f z.1) t)) (λ i. (was i, sym is i)) u
 
--- one that took fewer than so many stopped at its target, or before what it doesn't take
+-- one that took fewer than most steps stopped at its target, or before what it doesn't take
 pub unmarked_rests : (f : FittedTrace) (target aim : List ℕ) (state : Standing) (s new : Flat) (code : Marked) (t n limit most : ℕ)
     → aim ≡ target → WentAlone s new t n → (n < cut_of aim t - positions s t → n < most → n < limit) → (n < limit → StopsUnmarked code (thread_of new t))
     → state ≡ record { threads = new.threads; objects = new.objects } → n < most → RestsUnmarked target code (flat_in f state) t

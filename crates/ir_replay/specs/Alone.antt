@@ -1,4 +1,4 @@
--- Where a thread rests that goes on by itself at no marked word.
+-- Where a thread rests that advances by itself at no marked word.
 use Rattle.std.specs.Prelude.{ℕ, ◌≤◌, ◌⊎◌, List}
 use Rattle.ir_mach.specs.Marks.{Marked}
 use Rattle.ir_thread.specs.Private.{StopsUnmarked}

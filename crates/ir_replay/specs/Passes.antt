@@ -5,7 +5,7 @@ use Rattle.ir_fit.specs.Fit.{FittedTrace}
 use Rattle.ir_weave.specs.States.{positions}
 use Rattle.ir_weave.specs.Stepping.{IsUnder, IsSame, Rests, steps_left}
 
--- in a pass that began at old, behind the first n threads, which have taken so many of at most so many steps: they rest if they took none
+-- in a pass that began at old and may take most steps, after the first n threads, which took taken steps: they rest if they took none
 pub record IsPass (f : FittedTrace) (target : List ℕ) (old s : Flat) (taken most n : ℕ) : Type 0 where
   pub under : IsUnder f target s
   pub above : (t : ℕ) → positions old t ≤ positions s t

@@ -26,7 +26,7 @@ pub record HasWorked (id : TableId) (k : Plan) (target : List ℕ) (old new : Wo
   pub up : old.thread.steps ≤ new.thread.steps
   pub rests : (new.thread.steps ≡ cut_of target new.thread.number) ⊎ WasStopped k new.thread.number new.thread.steps
 
--- so many of both, and P holds of each two
+-- both lists have the same length, and P holds of each pair
 abbrev pub Pairs : {A : Type 0} → (A → A → Type 0) → List A → List A → Type 0
 Pairs P [] [] = Unit {0}
 Pairs P [] (y ∷ ys) = ⊥

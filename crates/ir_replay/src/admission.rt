@@ -1,4 +1,4 @@
-//! Whether a thread's next step is admitted: the log tells.
+//! Whether a thread's next step is admitted: the log says.
 
 ghost use Rattle.std.specs.Prelude.{◌≡◌, ◌<◌, ◌≤◌, length};
 ghost use Rattle.ir_thread.specs.Calls.{ask_of, most_events};

@@ -1,4 +1,4 @@
-//! One thread that goes on by itself.
+//! One thread that advances by itself.
 
 ghost use Rattle.ir_flat.specs.Flat.{thread_of};
 ghost use Rattle.ir_thread.specs.Private.{UnmarkedSteps};
@@ -17,8 +17,8 @@ use ir_mach::MarkedCode;
 use ir_object::Gate;
 use ir_weave::State;
 
-/// Takes thread t on by itself: until it has taken `most` steps, is at its target, or its next step isn't admitted, while the others
-/// stay where they are. The state then, and how many steps it took. Takes no memory. The gate is told of each entry and leave.
+/// Takes thread t on by itself: until it has taken `most` steps, is at its target, or its next step isn't admitted, while the
+/// others stay where they are. The state then, and how many steps it took. Takes no memory. Each entry and leave is reported to the gate.
 pub fn advance_alone<G: Gate>(
     fitted: &Fitted,
     state: State,

@@ -23,7 +23,7 @@ use std::time::Clock;
 
 /// Brings the threads and objects to the target, on this thread. Each entry of the order takes one step of that thread,
 /// or nothing where the guest has no such thread, or this one is at its target or its next step isn't admitted. After
-/// the order come passes over the threads from 0 upwards, in which each goes on as far as it can by itself, until all
+/// the order come passes over the threads from 0 upwards, in which each advances as far as it can by itself, until all
 /// are at their targets. The state at the target doesn't depend on the order. Takes no memory, and time linear in the
 /// steps up to the target, the entries of the order and, for each pass, the threads.
 pub fn advance_in_order(fitted: &Fitted, state: State, target: &Cut, order: &[u8]) -> State
@@ -113,7 +113,7 @@ fn turn<R: Threads + Clock + Sync, G: Gate + Sync>(
 /// Brings the threads and objects to the target by rounds of workers, one for each thread, over a table that they share.
 /// A worker whose next step isn't admitted looks again for a while, then ends its round. Where workers hinder each other,
 /// so that a round takes few steps, the caller takes a stretch of steps by itself before the next; where one thread alone
-/// has steps to take, it takes them all. The gate is told of each entry and leave.
+/// has steps to take, it takes them all. Each entry and leave is reported to the gate.
 ///
 /// # Errors
 /// Out of memory, with the state at a consistent cut between.

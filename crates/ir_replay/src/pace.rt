@@ -1,4 +1,4 @@
-//! How a move goes on: by workers, or by stretches on the caller where workers hinder each other.
+//! How a move advances: by workers, or by stretches on the caller if workers hinder each other.
 
 ghost use Rattle.std.specs.Prelude.{◌<◌};
 
@@ -33,7 +33,7 @@ impl Pace {
         if self.callers { self.stretch } else { 0 }
     }
 
-    // After a round in which the workers took so many steps.
+    // After a round in which the workers took `steps` steps.
     pub fn after_round(&mut self, steps: u64) {
         self.callers = steps < FEW_STEPS;
         if !self.callers {

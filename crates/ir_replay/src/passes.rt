@@ -25,7 +25,7 @@ pub fn follow(fitted: &Fitted, target: &[u64], flat: &mut Flat<'_>, order: &[u8]
     }
 }
 
-// Each thread in turn goes on as far as it can by itself, all by at most so many steps. How many they took.
+// Each thread in turn advances as far as it can by itself, all together by at most `most` steps. How many they took.
 fn pass<G: Gate>(fitted: &Fitted, target: &[u64], flat: &mut Flat<'_>, most: u64, gate: &G) -> u64
     requires target { IsTarget fitted.now target.now }
     requires under { IsUnder fitted.now target.now flat.old }
@@ -49,7 +49,7 @@ pub fn finish(fitted: &Fitted, target: &[u64], flat: &mut Flat<'_>)
     'passes: while pass(fitted, target, flat, u64::MAX, &OpenGate) > 0 {}
 }
 
-// Passes over the threads until they have taken so many steps or are at their targets.
+// Passes over the threads until they have taken `most` steps or are at their targets.
 pub fn go_on<G: Gate>(fitted: &Fitted, target: &[u64], flat: &mut Flat<'_>, most: u64, gate: &G)
     requires target { IsTarget fitted.now target.now }
     requires under { IsUnder fitted.now target.now flat.old }

@@ -41,12 +41,12 @@ impl<'a> Patience<'a> {
         }
     }
 
-    // More, for so many steps that were taken.
+    // More looks, for `steps` steps that were taken.
     pub fn grow(&mut self, steps: u64) {
         self.looks = self.looks.saturating_add(steps / STEPS_FOR_A_LOOK);
     }
 
-    // Waits a moment after so many looks for one step; or says that there is no time for another.
+    // Waits a moment after `looked` looks for one step; or says that there is no time for another.
     pub fn wait(&mut self, clock: &impl Clock, backoff: &Backoff, looked: u64) -> bool
         ensures { result ≡ true → self.new.looks < self.old.looks }
     {

@@ -1,4 +1,4 @@
-//! A round: each thread goes on by a worker of its own, over one table.
+//! A round: each thread advances by a worker of its own, over one table.
 
 ghost use Rattle.std.specs.Prelude.{◌≡◌, ◌<◌, ◌≤◌, ℕ, true, false, [], length, slice_index_or, vec_len, vec_capacity, IfOk, IfErr};
 ghost use Rattle.std.specs.List.{AllByRecursion};
@@ -111,7 +111,7 @@ fn run_at_table<R: Threads + Clock + Sync, G: Gate + Sync>(
     State::build(threads, objects)
 }
 
-// One round: each thread goes on until it is at its target or its next step isn't admitted for long.
+// One round: each thread advances until it is at its target or its next step isn't admitted for long.
 pub fn round<R: Threads + Clock + Sync, G: Gate + Sync>(
     rt: &R,
     alloc: Global,

@@ -77,7 +77,7 @@ pub fn step<G: Gate>(
     step_asked(fitted, target, flat, t, asked, gate)
 }
 
-// Thread t goes on until it has taken so many steps, is at its target, or its next step isn't admitted. How many it took.
+// Thread t advances until it has taken `most` steps, is at its target, or its next step isn't admitted. How many it took.
 pub fn go<G: Gate>(
     fitted: &Fitted,
     target: &[u64],

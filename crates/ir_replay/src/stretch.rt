@@ -1,4 +1,4 @@
-//! A state that goes on by steps on the caller.
+//! A state that advances by steps on the caller.
 
 ghost use Rattle.std.specs.Prelude.{◌≡◌, ◌<◌, ◌≤◌, ℕ, length};
 ghost use Rattle.ir_flat.specs.Flat.{IsFlat};
@@ -40,7 +40,7 @@ pub fn without_code(flat: Flat<'_>) -> State
     State::build(threads, objects)
 }
 
-// The state after so many steps, or at the target.
+// The state after `most` steps, or at the target.
 pub fn stretch<G: Gate>(fitted: &Fitted, state: State, target: &Cut, most: u64, gate: &G) -> State
     requires state { StandsAt fitted.now (positions (flat_in fitted.now state)) state }
     requires target { (length target.now ≡ length fitted.now.guest.entries) × IsConsistentCut fitted.now target.now }

@@ -1,16 +1,16 @@
-//! What a gate is told.
+//! What is reported to a gate.
 
 use ir_object::Gate;
 use ir_thread::{Ask, Thread};
 
-// Tells the gate of a leave, just before it.
+// Reports a leave to the gate, just before it.
 pub fn tell_leave<G: Gate>(gate: &G, thread: u8, asked: Ask) {
     if let Ask::Leave(object, access) = asked {
         gate.leaving(thread, object, access);
     }
 }
 
-// Tells the gate of an entry, just after it; of a try only where the thread got in.
+// Reports an entry to the gate, just after it; a try only if the thread got in.
 pub fn tell_entry<G: Gate>(gate: &G, thread: &Thread, asked: Ask) {
     match asked {
         Ask::Enter(object, access) => gate.entered(thread.number(), object, access),

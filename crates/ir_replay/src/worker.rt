@@ -59,7 +59,7 @@ fn try_again(
     }
 }
 
-// The thread goes on until it is at its target or its next step isn't admitted for long.
+// The thread advances until it is at its target or its next step isn't admitted for long.
 fn work<G: Gate>(
     clock: &impl Clock,
     weave: &Weave,
@@ -90,7 +90,7 @@ fn work<G: Gate>(
     }
 }
 
-// Each worker goes on in a thread of its own, where one can be made, and else on the caller's.
+// Each worker runs in a thread of its own, if one can be made, and otherwise on the caller's.
 pub fn work_all<R: Threads + Clock + Sync, G: Gate + Sync>(
     rt: &R,
     weave: &Weave,

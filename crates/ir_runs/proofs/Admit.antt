@@ -35,7 +35,7 @@ at_length [] n x h = absurd h
 at_length (y ∷ ys) zero x h = omega arith
 at_length (y ∷ ys) (suc n) x h = omega (arith, at_length ys n x h)
 
--- one more step, that logs what stands there
+-- one more step, which logs what the step at place n logs
 one_logs : {T : Type 0} (xs : List (T × Label)) (n : ℕ) (y x : T) (j k : Label) → At xs n (x, k) → logged k [] ≡ logged j []
     → events (take n xs ++ (y, j) ∷ []) ++ events (drop (suc n) xs) ≡ events xs
 one_logs xs n y x j k h l =

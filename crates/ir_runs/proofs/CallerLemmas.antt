@@ -29,7 +29,7 @@ pub use Rattle.ir_runs.proofs.Judge.{is_done, agrees, goes_further, judged, one_
 pub use Rattle.ir_runs.proofs.OneResult.{run_prefix, fits_last, one_step_each}
 -- there is a run that follows as far as any can
 pub use Rattle.ir_runs.proofs.Onward.{Built, build}
--- from where the threads stand to their verdicts
+-- from where the threads are to their verdicts
 pub use Rattle.ir_runs.proofs.Settled.{settled, verdict_at, goes_on, all_done}
 -- cuts: order, the lattice, extremes
 pub use Rattle.ir_runs.proofs.Order.{consistent_max, consistent_min, consistent_same, persists, Progress, progress, least_exact, greatest_exact}

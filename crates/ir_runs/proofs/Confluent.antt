@@ -124,7 +124,7 @@ sofar_step n m law tr s rem f e can is =
     lt_ne : (a t n : ℕ) → a < n → n ≤ t → t ≡ a → ⊥
     lt_ne a t n l g e = omega arith
 
--- a writer that is admitted at its logged version has all its readers behind it
+-- a writer that is admitted at its logged version has all its readers before it
 reader_waits : (n : ℕ) {T : Type 0} (m : Machine T) (tr : Trace) → IsCoherent n tr → (s : State T) (rem : ℕ → List Label)
     → Sofar n m tr s rem → (e d : Step) (o ans ans' : ℕ) → Can m s e → logged (label m s e) (unlogged (label m s e) (rem e.0)) ≡ rem e.0
     → act m s e ≡ Entry o Writing ans → act m s d ≡ Entry o Reading ans' → logged (label m s d) (unlogged (label m s d) (rem d.0)) ≡ rem d.0
@@ -213,7 +213,7 @@ nothing_or : {A : Type 0} (xs : List A) → (xs ≡ []) ⊎ Starts xs
 nothing_or [] = inl refl
 nothing_or (x ∷ xs) = inr (record { head = x; rest = xs; is = refl })
 
--- a step that stays goes behind the run
+-- a step that stays can be taken after the run
 behind : {T : Type 0} (E : Ending T) (m : Machine T) (s : State T) (ns : ℕ → ℕ) (rem : ℕ → List Label) (run : List Step)
     → Goes_on E m s ns rem run → (e : Step) → trail m s run e.0 ≡ [] → Stays m s run e
     → (0 < ns e.0) × (logged (label m s e) (unlogged (label m s e) (rem e.0)) ≡ rem e.0) × E e.0 (s.now e.0) (ns e.0) (rem e.0)

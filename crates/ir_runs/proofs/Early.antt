@@ -93,7 +93,7 @@ no_later m law s good e can run ok u j x (Out p Reading w) _ is h n = absurd n
 no_later m law s good e can run ok u j x (Out p Writing w) _ is h n = absurd n
 no_later m law s good e can run ok u j x _ _ is h n = absurd n
 
--- where a step of a run stands
+-- where a step of a run is
 pub record Placed {T : Type 0} (m : Machine T) (s : State T) (e : Step) (run : List Step) (t k : ℕ) (a : Label) : Type 0 where
   pub place : ℕ
   pub is : k ≡ cond (eqb t e.0) (suc place) place

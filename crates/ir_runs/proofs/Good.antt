@@ -12,7 +12,7 @@ use Rattle.ir_runs.specs.Run.{State, Step, asked, act, Can, after, IsRun, end, I
 abbrev pub Exclusive : Object → Type 0
 Exclusive b = (t u : ℕ) → t ≢ u → b.inside t ≡ Some Writing → b.inside u ≡ None
 
--- how thread t stands to the object that it asks about
+-- how a thread is inside the object that it asks about
 abbrev pub Inside : Act → Option Access → Type 0
 Inside Silent i = Unit {0}
 Inside (Refusal _) i = Unit {0}

@@ -112,7 +112,7 @@ agrees m fin x n es = all_three (positive n) (is_suited (m.ask x) es) (is_met (e
     positive zero = inr (λ h. omega arith)
     positive (suc n) = inl (omega arith)
 
--- a step behind those of a thread
+-- a step after those of a thread
 fits_more : {T : Type 0} (E : Check T) (n : ℕ) (es : List Label) (xs : List (T × Label)) (y : T × Label) → Fits E n es xs
     → (0 < left_steps xs n) × (logged y.1 (unlogged y.1 (left_log xs es)) ≡ left_log xs es) × E y.0 (left_steps xs n) (left_log xs es)
     → Fits E n es (xs ++ y ∷ [])
@@ -155,7 +155,7 @@ at_left : {T : Type 0} (xs : List (T × Label)) (es : List Label) (i : ℕ) (j :
 at_left [] es i j h = (i, h)
 at_left (x ∷ xs) es i j h = let g = at_left xs (unlogged x.1 es) i j h in at_unlogged x.1 es g.0 j g.1
 
--- where no step goes on, an entry is waited for
+-- if no step continues the run, an entry is waited for
 waits : {T : Type 0} (m : Machine T) (q : Ask) (es : List Label) → Suits q es → q ≢ Done → ((i : ℕ) (k : Label) → At es i k → IsEvent m k)
     → ((r : ℕ) → ((b : Object) → Admits m (act_of q r) b)
     → ((b : Object) → logged (emitted (act_of q r) b) (unlogged (emitted (act_of q r) b) es) ≡ es) → ⊥) → Awaits q es

@@ -54,7 +54,7 @@ event_cases m s e run t i k h = elim (event_in (eqb t e.0) (s.now t, label m s e
   | inr p ↦ inr p
 ]
 
--- an event stands in the trail
+-- an event is in the trail
 event_in_trail : {T : Type 0} (y : T × Label) (ys : List (T × Label)) (k : Label)
     → ((i : ℕ) → At (events ys) i k → (x : T) × (j : ℕ) × At ys j (x, k)) → (z : Label) (i : ℕ) → y.1 ≡ z → At (logged z (events ys)) i k
     → (x : T) × (j : ℕ) × At (y ∷ ys) j (x, k)

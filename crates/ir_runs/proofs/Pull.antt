@@ -1,4 +1,4 @@
--- A thread's first step of a run, taken at once.
+-- A thread's first step of a run, taken immediately.
 -- an entry that was taken, as the object saw it
 use Rattle.std.proofs.Common.{◌≡◌, ◌≢◌, ℕ, suc, zero, Bool, true, false, eqb, List, [], ◌∷◌, Some, refl, sym, ap, ◌∙◌, subst, arith, inl, inr, eq-eqb, ne_eqb, append-nil, ◌++◌}
 use Rattle.std.proofs.lemmas.Bool.{cases_eq, eqb-true}

@@ -1,4 +1,4 @@
--- What follows from where the threads stand at the end of a run.
+-- What follows from where the threads are at the end of a run.
 use Rattle.std.proofs.Common.{◌≡◌, ◌≢◌, ℕ, suc, zero, ◌<◌, List, [], ◌∷◌, refl, inl, inr}
 use Rattle.std.proofs.lemmas.Bool.{cases_lt}
 use Rattle.ir_runs.specs.Machine.{Ask, Private, Env, Enter, Try, Leave, Get, Put, Done, act_of, Machine, IsLawful}
@@ -74,7 +74,7 @@ stops m s tr run t Same h g = not_done m (end m s run) _ (last_of m tr s run _ g
 stops m s tr run t (Disagrees j k) h g = h.1 (agrees_last m s tr run _ (last_of m tr s run _ g))
 stops m s tr run t (Starves j) h g = h.2 g
 
--- a run has gone as far as any can where each thread stands so
+-- a run has gone as far as any can if each thread is as its verdict says
 pub settled : {T : Type 0} (n : ℕ) (m : Machine T) (s : State T) → IsIdle m s n → (tr : Trace) (run : List Step)
     → Follows (closing m tr) m s tr run → ((t : ℕ) → t < n → (v : ThreadVerdict) × StandsAs m s tr run t v)
     → IsMaximal (closing m tr) m s tr run
@@ -83,7 +83,7 @@ settled n m s im tr run f stands = one_step_each m tr s run (λ t g. elim (cases
   | inr le ↦ not_done m (end m s run) _ (last_of m tr s run _ g).can (run_idle m s n im run f.0 t le)
 ])
 
--- then what is said of a thread is how it stands
+-- at the end of a run that has gone as far as any can, how a thread is gives its verdict
 pub verdict_at : {T : Type 0} (n : ℕ) (m : Machine T) → IsLawful m → (tr : Trace) → IsCoherent n tr → HoldsEvents m tr → (s : State T)
     → Good m s → IsStart m s → IsIdle m s n → (run : List Step) → Follows (closing m tr) m s tr run → IsMaximal (closing m tr) m s tr run
     → (t : ℕ) (v : ThreadVerdict) → StandsAs m s tr run t v → IsVerdict m s tr run t v

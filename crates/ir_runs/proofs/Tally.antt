@@ -119,7 +119,7 @@ balance1 m n t (Load o j) b l ex i h f bal later = bal ∙ plain n t (f b.versio
 balance1 m n t (Store o j w) b l ex i h f bal later = bal ∙ plain n t (f b.version)
 balance1 m n t Never b l ex i h f bal later = absurd h
 
--- what is told is of the object that is asked about, at its version
+-- what is emitted is of the object that is asked about, at its version
 emitted_elsewhere : (q : Act) (b : Object) (o v : ℕ) → o ≢ target q → reads_one o v (emitted q b) ≡ 0
 emitted_elsewhere Silent b o v ne = refl
 emitted_elsewhere (Refusal _) b o v ne = refl

@@ -30,5 +30,5 @@ pub record IsCoherent (n : ℕ) (tr : Trace) : Type 0 where
   pub made : (t i o v l : ℕ) (a : Access) → At (tr.logs t) i (In o a (suc v) l) → (u j k : ℕ) × At (tr.logs u) j (In o Writing v k)
   -- one write entry at a version
   pub writer : (t i u j o v l k : ℕ) → At (tr.logs t) i (In o Writing v l) → At (tr.logs u) j (In o Writing v k) → (t ≡ u) × (i ≡ j)
-  -- a write entry has as many readers as read entries of its version stand in the trace
+  -- a write entry has as many readers as there are read entries of its version in the trace
   pub readers : (t i o v l : ℕ) → At (tr.logs t) i (In o Writing v l) → l ≡ sum_below n (λ u. reads o v (tr.logs u))

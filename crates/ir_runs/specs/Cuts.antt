@@ -6,7 +6,7 @@ use Rattle.ir_runs.specs.declared.access.Access.TheVariants.{Reading, Writing}
 use Rattle.ir_runs.specs.Object.{Object}
 use Rattle.ir_runs.specs.Run.{State, Step, Can, after, label, IsRun, end, join_if, trail, count, th}
 
--- x stands at place k of the list
+-- x is at place k of the list
 abbrev pub At : {A : Type 0} → List A → ℕ → A → Type 0
 At [] k x = ⊥
 At (y ∷ ys) zero x = y ≡ x

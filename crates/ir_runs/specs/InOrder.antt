@@ -8,7 +8,7 @@ use Rattle.ir_runs.specs.Run.{State, Step, asked, Can, after, end, IsDone}
 abbrev pub HasNone : {T : Type 0} → Machine T → State T → ℕ → Type 0
 HasNone m s t = (r : ℕ) → Can m s (t, r) → ⊥
 
--- a try enters where nobody is inside
+-- a try enters if no thread is inside
 abbrev pub EntersIfFree : {T : Type 0} → Machine T → State T → Step → Type 0
 EntersIfFree m s e = (o : ℕ) → asked m s e.0 ≡ Try o → Can m s (e.0, 1) → e.1 ≡ 1
 
@@ -20,7 +20,7 @@ InTurn m s (t ∷ order) run =
     ⊎ ((r : ℕ) × (rest : List Step) × (run ≡ (t, r) ∷ rest) × Can m s (t, r) × EntersIfFree m s (t, r)
     × InTurn m (after m s (t, r)) order rest)
 
--- so many rounds over the first n threads, from 0 upwards
+-- `count` rounds over the first n threads, from 0 upwards
 abbrev pub rounds : ℕ → ℕ → List ℕ
 rounds n zero = []
 rounds n (suc count) = range_with_len 0 n ++ rounds n count

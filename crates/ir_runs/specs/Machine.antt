@@ -4,7 +4,7 @@ use Rattle.ir_runs.specs.declared.access.Access.{Access}
 use Rattle.ir_runs.specs.declared.access.Access.TheVariants.{Reading, Writing}
 use Rattle.ir_runs.specs.declared.env_kind.EnvKind.{EnvKind}
 
--- what a thread asks for next; a try enters for writing if nobody is inside, and never waits
+-- what a thread asks for next; a try enters for writing if no thread is inside, and never waits
 pub data Ask : Type 0 where
   Private : Ask
   Env : (kind : EnvKind) → Ask
@@ -39,8 +39,8 @@ act_of (Get o i) r = Load o i
 act_of (Put o i w) r = Store o i w
 act_of Done r = Never
 
--- a thread's machine, where T is the state of a thread: what it asks, the thread after a reply, what it holds, which results suit a call of
--- the environment, its end and code once it has ended, and how many objects it holds
+-- a thread's machine, T being the thread's state: what it asks, the thread after a reply, what it holds, which results suit a call of
+-- the environment, its end and code once ended, and how many objects it holds
 pub record Machine (T : Type 0) : Type 0 where
   pub ask : T → Ask
   pub take : T → ℕ → T

@@ -38,7 +38,7 @@ Admits m (Load o i) b = Unit {0}
 Admits m (Store o i w) b = Unit {0}
 Admits m Never b = ⊥
 
--- the object after the act of thread t: a reader's leave adds 1 to left, a writer's leave makes a new version that nobody has left
+-- the object after the act of thread t: a reader's leave adds 1 to left, a writer's leave makes a new version that no reader has left
 abbrev pub acted : Act → ℕ → Object → Object
 acted Silent t b = b
 acted (Result k v) t b = b

@@ -88,7 +88,7 @@ trace m s run = record { steps = count m s run; logs = log m s run; ends = λ t.
 abbrev pub th : {T : Type 0} → Machine T → State T → List Step → ℕ → ℕ → T
 th m s run t k = thread_in (trail m s run t) k ((end m s run).now t)
 
--- nobody is inside, and nothing has happened
+-- no thread is inside, and nothing has happened
 pub record IsStart {T : Type 0} (m : Machine T) (s : State T) : Type 0 where
   pub version : (o : ℕ) → (s.objects o).version ≡ 0
   pub left : (o : ℕ) → (s.objects o).left ≡ 0

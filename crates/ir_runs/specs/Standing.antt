@@ -1,4 +1,4 @@
--- Where the threads stand at the end of a run that follows a trace.
+-- Where the threads are at the end of a run that follows a trace.
 use Rattle.std.specs.Prelude.{◌≡◌, ◌≢◌, ℕ, List, [], ◌∷◌, ◌++◌, length}
 use Rattle.ir_runs.specs.Machine.{Machine, Done}
 use Rattle.ir_runs.specs.Labels.{Label, Trace}

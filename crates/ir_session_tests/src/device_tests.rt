@@ -35,7 +35,7 @@ fn whole_lines(bytes: &[u8]) -> &[u8] {
     }
 }
 
-// Whether a session whose reads fail after so many answers the lines that it has read whole, after the opening line.
+// Whether a session whose reads fail after `calls` of them answers the lines that it has read whole, after the opening line.
 fn is_read_failed<R: AllocGlobal + Threads + Clock + Sync>(
     rt: &R,
     files: &Files,
@@ -73,7 +73,7 @@ fn each_read_fails_in_its_turn(rt: HostRuntime) -> Result<(), Fail> {
     Ok(())
 }
 
-// Whether a session whose writes fail after so many has written a prefix of what is answered else.
+// Whether a session whose writes fail after `calls` of them has written a prefix of what is answered else.
 fn is_write_failed<R: AllocGlobal + Threads + Clock + Sync>(
     rt: &R,
     files: &Files,

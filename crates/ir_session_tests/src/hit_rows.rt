@@ -48,7 +48,7 @@ refused 6 bad address\nrefused 6 bad address\npoint 2\nrefused 6 bad address\n\
 refused 6 bad address\nrefused 4 no such object\nrefused 3 no such thread\n\
 refused 3 no such thread\n",
     ),
-    // What is shown at a hit stands there, and points stay over moves and kept cuts.
+    // What is shown at a hit is of that place, and points stay over moves and kept cuts.
     (
         "owatch 0\nkeep\ncont 1\nnext 1\nload 1\nstep 0 3\nobj 0\ncont 1\nrcont 1\n",
         "ready\npoint 1\nkept 1\nat 0 15 hit 1\nnext 0001003c addi a0, zero, 0\nat 0 0\nat 3 15\n\
@@ -97,7 +97,7 @@ const OF_ONE: [Continued; 6] = [
             "ready\npoint 1\nat 5 hit 1\nat 6 end\nat 6 end\nat 5 hit 1\nat 0 start\n",
         ),
     ),
-    // A breakpoint where the thread stands is left out, both ways.
+    // A breakpoint where the thread is is left out, both ways.
     (
         DOUBLED,
         ENDED_BY_144,
@@ -147,7 +147,7 @@ at 1048580 hit 1\nat 1 hit 1\nat 0 start\nat 0 start\n",
         "break 0 0x10000\nend\nrcont 0\nrcont 0\n",
         "ready\npoint 1\nat 3145740\nat 0 hit 1 start\nat 0 start\n",
     ),
-    // Where a state is kept, from far above and from right above; and where one is kept and the thread stands there.
+    // Where a state is kept, from far above and from right above; and where one is kept and the thread is there.
     (
         "goto 0 1048580\nkeep\nbreak 0 0x10004\nend\nrcont 0\nrcont 0\nstep 0 1\nrcont 0\nrcont 0\n",
         "ready\nat 1048580\nkept 1\npoint 1\nat 3145740\nat 2097159 hit 1\nat 1048580 hit 1\n\
@@ -178,7 +178,7 @@ fn one_thread_is_continued(rt: HostRuntime) -> Result<(), Fail> {
     Ok(())
 }
 
-// Lines that set a point so many times, and what is answered.
+// Lines that set a point `times` times, and what is answered.
 fn point_lines(rt: &HostRuntime, times: u32) -> Result<(String, String), Fail> {
     let mut lines = String::new(rt.alloc());
     let mut answers = format!(in rt.alloc(); "ready\n")?;

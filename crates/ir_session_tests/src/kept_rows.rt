@@ -47,7 +47,7 @@ fn kept_cuts_are_answered(rt: HostRuntime) -> Result<(), Fail> {
     are_answered(&rt, TWO_COUNTERS, SECOND_FIRST, &KEPT)
 }
 
-// Lines that keep the cut so many times, and what is answered.
+// Lines that keep the cut `times` times, and what is answered.
 fn keep_lines(rt: &HostRuntime, times: u32) -> Result<(String, String), Fail> {
     let mut lines = String::new(rt.alloc());
     let mut answers = format!(in rt.alloc(); "ready\n")?;

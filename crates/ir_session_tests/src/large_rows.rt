@@ -54,7 +54,7 @@ refused 4 no such object\nrefused 3 no such thread\n",
     ),
 ];
 
-// Of `SIXTEEN_READERS`, recorded in rounds: all are inside at once.
+// Of `SIXTEEN_READERS`, recorded in rounds: all are inside at the same time.
 const READ: [Said; 1] = [(
     "step 15 3\nstep 9 3\nstep 10 3\nobj 0\nend\nobj 0\n",
     "ready\nat 0 0 0 0 0 0 0 0 0 0 0 0 0 0 0 3\n\

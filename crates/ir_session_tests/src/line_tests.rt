@@ -8,7 +8,7 @@ use std::test::Fail;
 use std::thread::Threads;
 use std::time::Clock;
 
-// So many of a byte, and a line's rest.
+// `count` of a byte, and a line's rest.
 pub fn line_of(alloc: Global, count: usize, byte: u8, rest: &[u8]) -> Result<Vec<u8>, AllocError> {
     let mut line = Vec::new(alloc);
     line.resize(count, byte)?;
@@ -16,7 +16,7 @@ pub fn line_of(alloc: Global, count: usize, byte: u8, rest: &[u8]) -> Result<Vec
     Ok(line)
 }
 
-// A byte so many times, the line's rest, and what is answered: 1,024 bytes are a line, and one more is too long.
+// How often a byte comes, the byte, the line's rest, and what is answered: 1,024 bytes are a line, and one more is too long.
 const LONG: [(usize, u8, &[u8], &[u8]); 9] = [
     (1024, b' ', b"\n", b"ready\n"),
     (1025, b' ', b"\n", b"ready\nrefused 7 line too long\n"),
@@ -112,14 +112,14 @@ fn positions_end_at_the_last(rt: HostRuntime) -> Result<(), Fail> {
     are_answered(&rt, TWO_COUNTERS, SECOND_FIRST, &PAST_THE_LAST)
 }
 
-// Nothing is run: the budget is spent at once.
+// Nothing is run: the budget is spent immediately.
 const UNRUN: TraceRow = TraceRow {
     objects: 0,
     budget: 0,
     threads: &[Ran(1, 13, 0, &[])],
 };
 
-// How many instructions stand before it, a word, and what it is shown as.
+// How many instructions come before a word, the word, and what it is shown as.
 const WORDS: [(usize, &str, &[u8]); 13] = [
     (
         3,
@@ -152,7 +152,7 @@ const WORDS: [(usize, &str, &[u8]); 13] = [
     ),
 ];
 
-// A guest of so many instructions and a word, at which its thread begins.
+// A guest of `before` instructions and a word, at which its thread begins.
 fn source_of(alloc: Global, before: usize, word: &str) -> Result<String, AllocError> {
     let mut source = String::new(alloc);
     for _ in 0..before {

@@ -145,7 +145,7 @@ impl World for Counting<'_> {
     }
 }
 
-// So many of them, each with room for two answers.
+// `count` of them, each with room for two answers.
 fn counting_worlds(
     alloc: Global,
     count: usize,

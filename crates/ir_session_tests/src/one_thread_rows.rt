@@ -146,7 +146,7 @@ t3=00000000 t4=00000000 t5=00000000 t6=00000000\n",
             "ready\nat 1\nnext 00010004 none\nat 2 end\nnext done\n",
         ),
     ),
-    // Words that are no instructions are shown as they stand.
+    // Words that are no instructions are shown as they are.
     (
         ILLEGAL_WORDS,
         1000,

@@ -1,4 +1,4 @@
-//! Images and traces in which some bytes stand for others.
+//! Images and traces in which some bytes are replaced by others.
 
 use crate::sessions::{Files, answered, ended_by, files_of};
 use ir_tests::guests::{DOUBLED, READ_THEN_WRITE, Source, TWO_COUNTERS};
@@ -9,7 +9,7 @@ use std::test::Fail;
 use std::thread::Threads;
 use std::time::Clock;
 
-// What stands for an image's bytes, and the cause by which it is refused.
+// What replaces an image's bytes, and the cause by which it is refused.
 const IMAGES: [(Patch, &[u8]); 14] = [
     ((41, &[], 42), b"image refused 1\n"),
     ((10, &[5, 0, 0, 0], 14), b"image refused 1\n"),
@@ -31,7 +31,7 @@ const IMAGES: [(Patch, &[u8]); 14] = [
     ((42, &[0], 42), b"image refused 5\n"),
 ];
 
-// The same for the trace of a guest of one thread: at byte 24 its end stands, and at 29 the number of its events.
+// The same for the trace of a guest of one thread: at byte 24 is its end, and at 29 the number of its events.
 const TRACES: [(Patch, &[u8]); 16] = [
     ((32, &[], 33), b"trace refused 1\n"),
     ((29, &[0, 0, 0x10, 0], 33), b"trace refused 1\n"),
@@ -61,7 +61,7 @@ const TRACES: [(Patch, &[u8]); 16] = [
     ((33, &[], 33), b"ready\n"),
 ];
 
-// The same for the trace of a guest of two threads, whose first event stands at byte 33.
+// The same for the trace of a guest of two threads, whose first event is at byte 33.
 const EVENTS: [(Patch, &[u8]); 11] = [
     ((5, &[17], 6), b"trace refused 3\n"),
     ((4, &[9], 5), b"trace refused 3\n"),
@@ -210,7 +210,7 @@ fn opens_or_tells<R: AllocGlobal + Threads + Clock + Sync>(
     is_opening(text) && ended == Ok(ended_by(text))
 }
 
-// What stands for a byte.
+// What replaces a byte.
 fn others(own: u8) -> [u8; 4] {
     [own ^ 1, own ^ 0x80, 0, 255]
 }

@@ -14,8 +14,8 @@ use std::time::Clock;
 /// Lines, and what is answered.
 pub type Said = (&'static str, &'static str);
 
-/// What a session of these bytes answers, and how it ends. The reader fails after so many calls; the writer after so
-/// many, of which each takes a byte, or never.
+/// What a session of these bytes answers, and how it ends. The reader fails after `reads` calls; the writer after
+/// `writes` calls, of which each takes a byte, or never.
 pub fn answered_until<R: AllocGlobal + Threads + Clock + Sync, G: Gate + Sync>(
     rt: &R,
     image: &[u8],

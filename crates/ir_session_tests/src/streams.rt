@@ -1,12 +1,12 @@
-//! Readers and writers in memory, which fail when they are told to.
+//! Readers and writers in memory, which fail when they are meant to.
 
 use ir_debug::{DeviceErr, Sink, Source};
 use std::alloc::Global;
 
-/// So many calls that none of them fails.
+/// A number of calls that is never reached, so that none of them fails.
 pub const ENDLESS: u64 = 1_000_000;
 
-// Gives its bytes; after so many calls each fails.
+// Gives its bytes; after `calls_left` calls each fails.
 #[derive(Drop)]
 pub struct Bytes<'a> {
     left: &'a [u8],
@@ -53,7 +53,7 @@ impl Source for Bytes<'_> {
     }
 }
 
-// Takes a byte a call, or a hundred; after so many calls each fails.
+// Takes a byte a call, or a hundred; after `calls_left` calls each fails.
 #[derive(Drop)]
 pub struct Page {
     pub bytes: Vec<u8>,

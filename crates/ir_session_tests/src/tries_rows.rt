@@ -21,7 +21,7 @@ const ENTERED: &[u8] =
 // The magic of the first profile.
 const FIRST_PROFILE: Patch = (3, b"1", 4);
 
-// A trace, what stands for some of its bytes, and a session.
+// A trace, what replaces some of its bytes, and a session.
 type Tried = (&'static [u8], Patch, Said);
 
 const TRIED: [Tried; 6] = [
@@ -30,7 +30,7 @@ const TRIED: [Tried; 6] = [
         UNPATCHED,
         ("end\nlog 0\n", "ready\nat 5\nlog 1 of 1\n0 try 0\n"),
     ),
-    // It is refused again, though nobody is inside.
+    // It is refused again, though no thread is inside.
     (
         REFUSED,
         UNPATCHED,

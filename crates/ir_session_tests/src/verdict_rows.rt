@@ -119,7 +119,7 @@ const DISAGREEING: [Unfit; 12] = [
     ),
 ];
 
-// Events whose versions stand against each other.
+// Events whose versions contradict each other.
 const INCOHERENT: [Unfit; 7] = [
     (
         TWO_COUNTERS,

@@ -62,7 +62,7 @@ fn sight<R: Threads + Clock + Sync>(rt: &R, alloc: Global, debugger: &mut Debugg
     page.bytes
 }
 
-// Goes back a step of a thread at a time, each in its turn, and tells all cuts on the way.
+// Goes back a step of a thread at a time, each in its turn, and gives all cuts on the way.
 fn back_to_start<R: Threads + Clock + Sync>(
     rt: &R,
     alloc: Global,

@@ -66,7 +66,7 @@ fn long_log(alloc: Global) -> Result<Vec<Event>, AllocError> {
     Ok(events)
 }
 
-// Whether a device that takes so many bytes gets these and fails then.
+// Whether a device that takes `room` bytes gets these and fails then.
 fn is_cut_off(alloc: Global, events: &[Event], all: &[u8], room: usize) -> bool {
     let mut page = Page::new(alloc, true, room as u64);
     let is_refused = write_log(events, 100, &mut page) == Err(DeviceErr);

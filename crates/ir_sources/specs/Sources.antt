@@ -78,6 +78,6 @@ seed_of random t = (random + t) % 2 ^ 64
 abbrev pub origin_of : Bool → ℕ → List ℕ → ℕ → MadeWith
 origin_of counted random file t = record { counted = counted; seed = seed_of random t; file = file }
 
--- the same of so many threads
+-- the same of each of a number of threads
 abbrev pub origins : Bool → ℕ → List ℕ → ℕ → List MadeWith
 origins counted random file threads = map (origin_of counted random file) (range_with_len 0 threads)

@@ -38,7 +38,7 @@ impl<'a, C> ProgramWorld<'a, C> {
     /// file. The clock is read where the time is not counted.
     ///
     /// # Errors
-    /// Out of memory: room is made for all answers at once, and no answer takes any.
+    /// Out of memory: room is made for all answers in this call, and no answer takes any.
     pub fn new(
         alloc: Global,
         clock: &'a C,

@@ -8,7 +8,7 @@ use crate::program_world::ProgramWorld;
 use crate::time::Time;
 use std::alloc::{AllocError, Global};
 
-/// The worlds of so many threads. Each has its own random words and its own copy of the file.
+/// The worlds of `threads` threads. Each has its own random words and its own copy of the file.
 ///
 /// # Errors
 /// Out of memory: each world makes room for all its answers.

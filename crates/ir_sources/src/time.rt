@@ -1,4 +1,4 @@
-//! What a thread is told when it asks for the time.
+//! What a thread is answered when it asks for the time.
 
 ghost use Rattle.std.specs.Prelude.{◌≡◌, ◌/◌, ◌%◌, ◌^◌};
 ghost use Rattle.std.specs.Duration.{as_nanos};

@@ -3,5 +3,5 @@
 pub use Rattle.ir_stream.proofs.Replies.{prefix_after, prefix_longer}
 -- the last line, which may be empty
 pub use Rattle.ir_stream.proofs.Replies.{wrote_none, wrote_some, some_quits_empty, some_quits_some}
--- where a loop over lines stands, byte by byte, and what it leaves at each of its exits
+-- where a loop over lines is, byte by byte, and what it leaves at each of its exits
 pub use Rattle.ir_stream.proofs.Exits.{At, at_other, at_start, at_byte, at_feed, quit_ended, quit_known, feed_failed, finish_ended, finish_known, finish_failed, long_ended, long_known}

@@ -10,7 +10,7 @@ pub record AppendsPrefix (old new : Option (List ℕ)) (text : List ℕ) : Type 
   pub splits : text ≡ part ++ more
   pub grown : Appends old new part
 
--- the bytes that were read, at most so many, and what holds of them
+-- the bytes that were read, at most limit, and what holds of them
 pub record Reads (limit : ℕ) (old new : Option (List ℕ)) (P : List ℕ → Type 0) : Type 0 where
   pub consumed : List ℕ
   pub taken : Consumes old new consumed

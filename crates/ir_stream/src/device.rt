@@ -11,7 +11,7 @@ pub struct DeviceErr;
 
 /// What gives bytes. An `Err` takes none of them and makes `failed` true for good.
 pub trait Source {
-    /// The bytes that are still to come, where the device tells them.
+    /// The bytes that are still to come, if the device makes them known.
     ghost left: { Self → Option (List ℕ) };
 
     /// Whether a read has failed.
@@ -34,7 +34,7 @@ pub trait Source {
 
 /// What takes bytes. An `Err` takes none of them and makes `failed` true for good.
 pub trait Sink {
-    /// The bytes that it took so far, where the device tells them.
+    /// The bytes that it took so far, if the device makes them known.
     ghost written: { Self → Option (List ℕ) };
 
     /// Whether a write has failed.

@@ -27,7 +27,7 @@ const COUNTED_DOWN: TraceRow = TraceRow {
 
 type Pair = (u64, u64);
 
-// Where both threads stand.
+// Where both threads are.
 fn positions(state: &State) -> Option<Pair> {
     match state.threads() {
         [first, second] => Some((first.steps(), second.steps())),
@@ -35,7 +35,7 @@ fn positions(state: &State) -> Option<Pair> {
     }
 }
 
-// Where both threads stand that are brought to these positions.
+// Where both threads are that are brought to these positions.
 fn brought<R: Threads + Clock + Sync>(
     rt: &R,
     alloc: Global,
@@ -57,7 +57,7 @@ fn brought<R: Threads + Clock + Sync>(
     Ok(positions(state))
 }
 
-// What is seen after a move: where both threads stand, and how many states moves have passed so far.
+// What is seen after a move: where both threads are, and how many states moves have passed so far.
 type Seen = (Option<Pair>, u32);
 
 // What is seen after a move to these positions.
@@ -123,7 +123,7 @@ fn threads_are_brought_back_and_forth(rt: HostRuntime) -> Result<(), Fail> {
     Ok(())
 }
 
-// Where both threads stand in the state from which the first is searched below a position.
+// Where both threads are in the state from which the first is searched below a position.
 fn before(
     alloc: Global,
     fitted: &Fitted,
@@ -138,7 +138,7 @@ fn before(
     Ok(positions(&state))
 }
 
-// Those before the start, before a state that was asked for, behind it, and before the end.
+// Those before the start, before a state that was asked for, after it, and before the end.
 fn restored(
     alloc: Global,
     fitted: &Fitted,

@@ -1,4 +1,4 @@
-//! The end of a thread that fails one condition, or several at once.
+//! The end of a thread that fails one condition, or several at the same time.
 
 use crate::recordings::fitted_in_order;
 use ir_thread::End;
@@ -157,7 +157,7 @@ fn a_call_ends_by_its_arguments(rt: HostRuntime) -> Result<(), Fail> {
     Ok(())
 }
 
-// Of two conditions that fail at once, the first that is tested decides.
+// Of two conditions that fail at the same time, the first that is tested decides.
 const FIRST: [Ended; 5] = [
     ("", NO_WORD, BUDGET, End::NoSuchObject), // and not held
     (LOG_FULL, NO_OBJECT, BUDGET, End::NoSuchObject), // and the log is full

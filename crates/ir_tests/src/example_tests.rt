@@ -143,8 +143,8 @@ fn are_left_at_end(alloc: Global, fitted: &Fitted, words: &[u32]) -> Result<bool
     }
 }
 
-// Lets other threads run after each entry and before each call: one that spins doesn't then use up its turns while the one
-// inside waits for its own, and is refused seldom enough for its log, however busy the machine is.
+// Lets other threads run after each entry and before each call. One that spins doesn't then use up its turns while the one
+// inside waits for its own. It is refused seldom enough for its log, however busy the machine is.
 struct YieldingAtCalls;
 
 impl Gate for YieldingAtCalls {

@@ -1,4 +1,4 @@
-//! What a gate is told, in a recording by threads and in its replay: each entry once, and each leave.
+//! What is reported to a gate, in a recording by threads and in its replay: each entry once, and each leave.
 
 use crate::guests::{BROKEN_INSIDE, Source, TWO_COUNTERS};
 use crate::meeting::{Counting, Refusing, Told};
@@ -11,7 +11,7 @@ use std::test::Fail;
 use std::thread::Threads;
 use std::time::Clock;
 
-// What is told while the guest is recorded on real threads, which this gate holds, and while its trace is replayed.
+// What is reported to a gate while the guest is recorded on real threads, which this one holds up, and while its trace is replayed.
 fn told<R: AllocGlobal + Threads + Wait + Clock + Sync, G: Gate + Sync>(
     rt: &R,
     source: Source,
@@ -26,7 +26,7 @@ fn told<R: AllocGlobal + Threads + Wait + Clock + Sync, G: Gate + Sync>(
     Ok((recording.told(), replaying.told()))
 }
 
-// Told both times.
+// The same both times.
 fn both(told: Told) -> (Option<Told>, Option<Told>) {
     (Some(told), Some(told))
 }

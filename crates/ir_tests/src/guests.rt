@@ -86,7 +86,7 @@ pub const CHANGED_ONCE: Source = &[
 /// A call that there isn't, a7 being 0.
 pub const CALL_OF_ZERO: Source = &[CALL];
 
-/// Reads nothing and waits for nobody: one instruction, after which the code ends.
+/// Reads nothing and waits for no thread: one instruction, after which the code ends.
 pub const ONE_NOP: Source = &["nop\n"];
 
 /// A word that is no instruction.
@@ -399,8 +399,9 @@ pub const EACH_EVENT: Source = &[
 ];
 
 /// Four threads make five rounds each. In a round each enters objects 0, 1 and 2, for reading or for writing by the sum
-/// of its number, the round and the object; adds the first word of each to a sum; writes the sum, its number and one more
-/// to each that it holds for writing, and leaves it. It prints the sum, with the clock's answer added.
+/// of its number, the round and the object. Then, for each object in turn, it adds the object's first word to a sum, puts the
+/// sum plus its own number plus 1 there if it holds the object for writing, and leaves the object. It prints the sum, with
+/// the clock's answer added.
 pub const SUMS: Source = &[
     "
         .objects 3

@@ -12,7 +12,7 @@ use std::alloc::Global;
 use std::process::Abort;
 use std::test::Fail;
 
-// Keeps a state of as many threads as the others, and tells how many pages are kept then; 0 where it isn't kept.
+// Keeps a state of as many threads as the others, and gives how many pages are kept then; 0 if it isn't kept.
 fn pages_with(keeper: &mut Keeper, state: &State) -> u32 {
     if state.threads().len() != keeper.threads() || keeper.last() >= 100 {
         return 0;
@@ -37,7 +37,7 @@ fn pages_at(
     }
 }
 
-// Drops a cut, and tells how many pages are kept then; 0 where it isn't kept.
+// Drops a cut, and gives how many pages are kept then; 0 if it isn't kept.
 fn pages_without(keeper: &mut Keeper, number: u32) -> u32 {
     if number == 0 || keeper.cut(number).is_none() {
         return 0;

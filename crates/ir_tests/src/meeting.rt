@@ -8,7 +8,7 @@ use std::thread::yield_now;
 // The turns that a thread waits for the other at most, each of which lets others run.
 const MOST_TURNS: usize = 1_000_000;
 
-// Waits until so many are counted. Whether they are.
+// Waits until `wanted` are counted. Whether they are.
 fn is_reached(count: &AtomicUsize, wanted: usize) -> bool {
     for _ in 0..MOST_TURNS {
         if count.load(Ordering::SeqCst) >= wanted {
@@ -176,10 +176,10 @@ impl Gate for Yielding {
     fn leaving(&self, _thread: u8, _object: u8, _access: Access) {}
 }
 
-// What is told of object 0 by threads 0 and 1: their entries and their leaves.
+// What is reported of object 0 by threads 0 and 1: their entries and their leaves.
 pub type Told = [(usize, usize); 2];
 
-// Counts what it is told, and tells another gate.
+// Counts what is reported to it, and passes it to another gate.
 #[derive(Drop)]
 pub struct Counting<'a, G> {
     inner: &'a G,
@@ -208,7 +208,7 @@ impl<'a, G> Counting<'a, G> {
         counted.fetch_add(1, Ordering::SeqCst);
     }
 
-    // What was told, if it was of object 0 by threads 0 and 1 alone.
+    // What was reported, if it was of object 0 by threads 0 and 1 alone.
     pub fn told(&self) -> Option<Told> {
         let [first, second] = &self.entries;
         let [first_leaves, second_leaves] = &self.leaves;

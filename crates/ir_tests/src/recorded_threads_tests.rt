@@ -135,7 +135,7 @@ fn failed<R: Threads + Wait + Sync, G: Gate + Sync>(
 }
 
 // Thread 1 is in object 1 before thread 0 asks for it, and its world fails at its second answer. It leaves the object, and
-// thread 0 goes on to its end.
+// thread 0 continues to its end.
 #[test]
 fn a_thread_whose_world_fails_holds_up_no_other(rt: HostRuntime) -> Result<(), Fail> {
     let gate = Meeting::new();

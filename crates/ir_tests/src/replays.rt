@@ -84,7 +84,7 @@ pub fn greatest_from(
     }
 }
 
-// So many threads before their first steps.
+// `threads` threads before their first steps.
 fn start_of(alloc: Global, threads: usize) -> Result<Cut, Fail> {
     let mut zeros = Vec::new(alloc);
     zeros.resize(threads, 0)?;

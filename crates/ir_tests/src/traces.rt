@@ -14,7 +14,7 @@ pub enum EventRow {
     Write(u8, u32, u32),
 }
 
-/// A thread ran so many steps to the end of this number and code, and logged this.
+/// A thread ran this number of steps to the end of this number and code, and logged this.
 #[derive(Clone, Copy)]
 pub struct Ran(pub u64, pub u8, pub u32, pub &'static [EventRow]);
 
@@ -60,7 +60,7 @@ pub const READ_AND_WRITTEN: TraceRow = TraceRow {
     threads: &[Ran(11, 1, 0, &[EventRow::Read(0, 0), EventRow::Write(0, 0, 1)])],
 };
 
-/// Of `TWO_READERS`: both readers of version 0 may be inside at once.
+/// Of `TWO_READERS`: both readers of version 0 may be inside at the same time.
 pub const BOTH_READ: TraceRow = TraceRow {
     objects: 1,
     budget: 1000,

@@ -15,7 +15,7 @@ use ir_weave::{State, Tried, Weave, WeaveSeat};
 use std::alloc::Global;
 use std::test::Fail;
 
-// What came of the last of at most so many tries, of which each but the last took a step.
+// What came of the last of at most `tries` tries, of which each but the last took a step.
 fn try_steps(
     weave: &Weave,
     seat: &mut WeaveSeat,
@@ -39,7 +39,8 @@ fn try_steps(
     Stepped
 }
 
-// What comes of so many tries of thread 1, from the start, and then of thread 0; none where the target isn't of two threads.
+// What comes of `tries.1` tries of thread 1, from the start, and then of `tries.0` of thread 0; none if the target isn't of
+// two threads.
 fn try_both(
     alloc: Global,
     fitted: &Fitted,

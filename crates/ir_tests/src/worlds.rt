@@ -70,7 +70,7 @@ impl Script {
     }
 }
 
-/// So many worlds with these answers each, the last one first, and what they do then.
+/// `count` worlds with these answers each, the last one first, and what they do then.
 pub fn worlds(
     alloc: Global,
     count: usize,

@@ -1,4 +1,4 @@
--- Texts that are written by one buffer: what stands in it, and what is left to be put into it.
+-- Texts that are written by one buffer: what is in it, and what is left to be put into it.
 use Rattle.std.proofs.Common.{◌≡◌, ℕ, List, [], ◌++◌, Option, Result, Ok, Err, OnOk, OnErr, refl, sym, ap, ◌∙◌, subst, append_assoc, append-nil}
 use Rattle.std.proofs.lemmas.Result.{on_ok_weaker, on_err_weaker}
 use Rattle.std.specs.Io.KnownBytes.{Appends}

@@ -93,7 +93,7 @@ pub room-next : (before after rest more at k : ℕ) → k ≡ min 16 rest → mo
     → (16 * after + 43 * more ≤ 16 * 200 + 43 * 256) × (at + 16 + more ≤ 2 ^ 31 + 256)
 room-next before after rest more at k is left grown fits some = (omega arith, omega arith)
 
--- a number is put behind what was put before
+-- a number is put after what was put before
 pub put-more : (before first words digits now after : List ℕ) → now ≡ before ++ first → after ≡ now ++ (words ++ digits)
     → after ≡ before ++ (first ++ words ++ digits)
 put-more before first words digits now after e f =

@@ -11,7 +11,7 @@ split : (t : ℕ) (vs : List ThreadVerdict) (d : ThreadVerdict) → t < length v
 unfolding threads_text
 split t vs d some = at_drop_more (threads_text t) vs t d some
 
--- the same, where the first stands in a text that was empty
+-- the same, if the first is in a text that was empty
 pub threads-next : (t : ℕ) (vs : List ThreadVerdict) (d : ThreadVerdict) (first line : List ℕ) → t < length vs → first ≡ []
     → line ≡ first ++ thread_line t (slice_index_or vs t d)
     → threads_text t (drop t vs) ≡ line ++ threads_text (t + 1) (drop (t + 1) vs)

@@ -26,14 +26,14 @@ reason_text Full = codes "full"
 abbrev pub refusal_text : Refusal → List ℕ
 refusal_text r = codes "refused " ++ decimal (refusal_number r) ++ codes " " ++ reason_text r ++ codes "\n"
 
--- four registers stand in a line
+-- a line has four registers
 abbrev pub after_register : ℕ → List ℕ
 after_register n = if n % 4 == 3 then codes "\n" else codes " "
 
 abbrev pub register_text : Core → ℕ → List ℕ
 register_text m n = register_name n ++ codes "=" ++ hex_word (register m n) ++ after_register n
 
--- the first so many registers
+-- the first n registers
 unfoldable pub registers_text : Core → ℕ → List ℕ
 registers_text m zero = []
 registers_text m (suc n) = registers_text m n ++ register_text m n

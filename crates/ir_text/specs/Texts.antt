@@ -1,4 +1,4 @@
--- The texts of answers, by what stands at the cut.
+-- The texts of answers, by what is at the cut.
 use Rattle.std.specs.Prelude.{◌==◌, ℕ, zero, suc, ◌+◌, ◌/◌, List, [], ◌∷◌, ◌++◌, take, drop, length, flat_map, codes, decimal, Option, Some, None, if◌then◌else◌}
 use Rattle.std.specs.List.{slice_index_or}
 use Rattle.hex.specs.Hex.{encode_lower}
@@ -40,12 +40,12 @@ stop_text last at = if at == last then codes " end" else if at == 0 then codes "
 
 -- ---- bytes
 
--- how many lines of so many bytes
+-- how many lines of width bytes hold count bytes
 abbrev pub lines_for : ℕ → ℕ → ℕ
 lines_for zero count = 0
 lines_for (suc width) count = (count + width) / suc width
 
--- so many lines of 16 bytes, each with the address of its first
+-- n lines of 16 bytes, each with the address of its first
 unfoldable pub memory_lines : ℕ → ℕ → List ℕ → List ℕ
 memory_lines zero address bytes = []
 memory_lines (suc n) address bytes = hex_word address ++ codes ": " ++ encode_lower (take 16 bytes) ++ codes "\n" ++ memory_lines n
@@ -55,7 +55,7 @@ memory_lines (suc n) address bytes = hex_word address ++ codes ": " ++ encode_lo
 abbrev pub memory_text : ℕ → List ℕ → List ℕ
 memory_text address bytes = memory_lines (lines_for 16 (length bytes)) address bytes
 
--- so many lines of 32 bytes
+-- n lines of 32 bytes
 unfoldable pub output_lines : ℕ → List ℕ → List ℕ
 output_lines zero bytes = []
 output_lines (suc n) bytes = encode_lower (take 32 bytes) ++ codes "\n" ++ output_lines n (drop 32 bytes)
@@ -69,7 +69,7 @@ abbrev pub byte_or_zero : Option ℕ → ℕ
 byte_or_zero (Some b) = b
 byte_or_zero None = 0
 
--- so many bytes from an address on, of code or private memory
+-- n bytes from an address on, of code or private memory
 unfoldable pub bytes_from : List ℕ → List ℕ → ℕ → ℕ → List ℕ
 bytes_from code memory zero address = []
 bytes_from code memory (suc n) address = byte_or_zero (byte_at code memory address) ∷ bytes_from code memory n (address + 1)
@@ -92,12 +92,12 @@ abbrev pub joined : List ℕ → List ℕ
 joined [] = codes "-"
 joined (n ∷ ns) = decimal n ++ flat_map (λ m. codes "," ++ decimal m) ns
 
--- the first so many of its words
+-- the first n of its words
 abbrev pub words_text : (ℕ → ℕ) → ℕ → List ℕ
 words_text words zero = []
 words_text words (suc n) = words_text words n ++ codes " " ++ hex_word (words n)
 
--- an object of so many words among so many threads
+-- an object by the number of threads and the number of its words that are shown
 abbrev pub object_text : ℕ → ℕ → Object → List ℕ
 object_text threads words o =
     codes "version " ++ decimal o.version ++ codes " left " ++ decimal o.left
@@ -109,7 +109,7 @@ object_text threads words o =
 abbrev pub held_by : List thread.State → ℕ → ℕ → Option Access
 held_by threads o t = held_at (slice_index_or threads t idle).held o
 
--- the first line of an object among so many threads
+-- the first line of an object by the number of threads
 abbrev pub state_line : ℕ → Object → List ℕ
 state_line threads o =
     codes "version " ++ decimal o.version ++ codes " left " ++ decimal o.left
@@ -138,7 +138,7 @@ unfoldable pub event_lines : ℕ → List Label → List ℕ
 event_lines i [] = []
 event_lines i (e ∷ es) = decimal i ++ codes " " ++ event_text e ++ codes "\n" ++ event_lines (i + 1) es
 
--- those so far, of so many
+-- those so far, and the number of all
 abbrev pub log_text : List Label → ℕ → List ℕ
 log_text so_far all = codes "log " ++ decimal (length so_far) ++ codes " of " ++ decimal all ++ codes "\n" ++ event_lines 0 so_far
 

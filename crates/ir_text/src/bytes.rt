@@ -17,13 +17,13 @@ use arrayvec::ArrayVec;
 use ir_image::{Code, MEMORY_START};
 use ir_stream::{DeviceErr, Sink, append, write_all};
 
-// How many bytes of memory stand in a line.
+// How many bytes of memory are in a line.
 const MEMORY_LINE: usize = 16;
 
-// How many bytes of output stand in a line.
+// How many bytes of output are in a line.
 const OUTPUT_LINE: usize = 32;
 
-// The most bytes of memory that are shown at once.
+// The most bytes of memory that are shown in one call.
 const MOST: usize = 256;
 
 // Bytes in hexadecimal.
@@ -51,7 +51,7 @@ fn put_memory_line(text: &mut Text, address: u32, bytes: &[u8])
     append(text, b"\n");
 }
 
-// Puts the lines of bytes that stand from an address on at the end.
+// Puts the lines of the bytes from an address on at the end.
 fn put_memory(text: &mut Text, address: u32, bytes: &[u8])
     requires room { array_vec_len text.old ≤ 200 }
     requires few { length bytes.now ≤ 256 }
@@ -95,7 +95,7 @@ fn bytes_from(code: &Code, memory: &[u8], address: u32, size: usize) -> ArrayVec
     bytes
 }
 
-/// Writes the lines of so many bytes from an address on, of private memory or the code. Takes no memory.
+/// Writes the lines of `size` bytes from an address on, of private memory or the code. Takes no memory.
 pub fn write_memory<W: Sink>(
     code: &Code,
     memory: &[u8],

@@ -24,7 +24,8 @@ fn kind_name(kind: EnvKind) -> &'static [u8]
     }
 }
 
-fn put_what(text: &mut Text, event: Event)
+/// Puts what an event says at the end, as the lines of a log have it: at most 96 bytes, for which there has to be room.
+pub fn put_event_text(text: &mut Text, event: Event)
     requires { array_vec_len text.old ≤ 920 }
     ensures text { text.new.items ≡ text.old.items ++ event_text (label_of event) }
     ensures len { array_vec_len text.new ≤ array_vec_len text.old + 96 }
@@ -58,7 +59,7 @@ fn put_event(text: &mut Text, index: u64, event: Event)
 {
     put_number(text, b"", index);
     append(text, b" ");
-    put_what(text, event);
+    put_event_text(text, event);
     append(text, b"\n");
 }
 

@@ -12,7 +12,7 @@ mod text;
 mod verdicts;
 
 pub use bytes::{write_memory, write_output};
-pub use events::write_log;
+pub use events::{put_event_text, write_log};
 pub use next::next_line;
 pub use objects::write_object;
 pub use positions::{put_hit, put_positions, put_stop};

@@ -88,7 +88,7 @@ fn put_joined(text: &mut Text, numbers: &[u8])
     }
 }
 
-// Puts so many of the object's words at the end.
+// Puts the first `count` of the object's words at the end.
 fn put_words(text: &mut Text, object: &Object, count: usize)
     requires few { count ≤ most_object_words }
     requires room { array_vec_len text.old ≤ 880 }
@@ -124,7 +124,7 @@ fn put_state(text: &mut Text, threads: &[Thread], number: usize, object: &Object
     append(text, b"\n");
 }
 
-/// Writes the lines of the object of this number among these threads, with so many of its words. Takes no memory.
+/// Writes the lines of the object of this number among these threads, with the first `words` of its words. Takes no memory.
 pub fn write_object<W: Sink>(
     threads: &[Thread],
     number: usize,

@@ -22,7 +22,7 @@ pub within_budget : (ended : Option End) (P Q : Type 0) → ended ≡ None → M
 within_budget None P Q e p = p
 within_budget (Some end) P Q e p = absurd cc
 
--- the thread with another machine and so many steps more
+-- the thread with another machine and n steps more
 abbrev pub advanced : State → Core → ℕ → State
 advanced s core n = record {
   core = core;

@@ -34,7 +34,7 @@ lone_after code s (Some next) = Some (record { thread = after_reply code s next.
 abbrev pub lone_step : List ℕ → Lone → Option Lone
 lone_step code l = lone_after code l.thread (lone_reply (ask_of code l.thread) l.values)
 
--- so many steps, if the thread has them
+-- n steps, if the thread has them
 abbrev pub lone_run : List ℕ → ℕ → Lone → Option Lone
 lone_run code zero l = Some l
 lone_run code (suc steps) l = option_and_then (lone_run code steps) (lone_step code l)

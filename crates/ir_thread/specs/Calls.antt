@@ -60,7 +60,7 @@ a1 s = register s.core 11
 abbrev pub a2 : State → ℕ
 a2 s = register s.core 12
 
--- the call that the thread makes where it stands at one
+-- the call that the thread makes if it is at one
 abbrev pub call_at : State → Option Call
 call_at s = call_of s.profile (a7 s)
 
@@ -104,7 +104,7 @@ printed_by _ s = []
 abbrev pub printed : State → List ℕ
 printed s = printed_by (call_at s) s
 
--- printing so many bytes, where there is room for them
+-- printing `count` bytes, if there is room for them
 abbrev pub print_ask : State → ℕ → Ask
 print_ask s count = if nat_le (length s.output + count) most_output then ask.Print else ask.End end.OutputFull
 
@@ -278,7 +278,7 @@ after_reply code s reply = after_ask code s (ask_of code s) reply
 unfoldable pub step_of : List ℕ → State → State
 step_of code s = after_reply code s Go
 
--- the thread after so many steps that are answered no value
+-- the thread after n steps that are answered no value
 unfoldable pub run_of : List ℕ → ℕ → State → State
 run_of code zero s = s
 run_of code (suc k) s = step_of code (run_of code k s)

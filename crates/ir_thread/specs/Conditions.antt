@@ -55,7 +55,7 @@ is_writing (Some Writing) = true
 abbrev pub object_held_for_writing : State → Condition
 object_held_for_writing s = record { met = is_writing (held_at s.held (a0 s)); otherwise = end.NotHeld }
 
--- there is room for so many bytes of output
+-- there is room for `count` bytes of output
 abbrev pub output_has_room : State → ℕ → Condition
 output_has_room s count = record { met = nat_le (length s.output + count) most_output; otherwise = end.OutputFull }
 

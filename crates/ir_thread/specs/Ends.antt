@@ -22,12 +22,12 @@ end_number OutputFull = 12
 end_number BudgetSpent = 13
 end_number LogFull = 14
 
--- the code that stands beside the number of an end
+-- the code that goes with the number of an end
 abbrev pub end_code : End → ℕ
 end_code (Exit code) = code
 end_code end = 0
 
--- the ends that a code may stand beside
+-- the ends that a code may go with
 abbrev pub ends_with : ℕ → List End
 ends_with code = Exit code ∷ Breakpoint ∷ IllegalWord ∷ TargetMisaligned ∷ OutsideCode ∷ BadLoad ∷ BadStore ∷ UnknownCall ∷ NoSuchObject
     ∷ EntryOutOfOrder ∷ NotHeld ∷ OutputFull ∷ BudgetSpent ∷ LogFull ∷ []

@@ -7,7 +7,7 @@ use Rattle.ir_runs.specs.declared.access.Access.{Access}
 abbrev pub held_at : List (Option Access) → ℕ → Option Access
 held_at held object = slice_index_or held object None
 
--- the greatest of the first object and those behind it
+-- the greatest of the first object and those after it
 abbrev pub higher_of : Option Access → Option (ℕ × Access) → Option (ℕ × Access)
 higher_of first (Some (object, access)) = Some (suc object, access)
 higher_of (Some access) None = Some (0, access)

@@ -13,7 +13,7 @@ use Rattle.ir_runs.specs.declared.env_kind.EnvKind.TheVariants.{Clock, Random, I
 use Rattle.ir_thread.specs.declared.ask.Reply.{Reply}
 use Rattle.ir_thread.specs.declared.ask.Reply.TheVariants.{Go, Value}
 
--- what is asked of others: printing and ending are nobody else's
+-- what is asked of others: printing and ending concern no other thread
 abbrev pub shared_ask : Ask → machine.Ask
 shared_ask ask.Private = machine.Private
 shared_ask (ask.Env kind) = machine.Env kind

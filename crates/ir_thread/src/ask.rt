@@ -6,13 +6,13 @@ use ir_runs::{Access, EnvKind};
 /// What a thread's next step is. Objects and their words are given by their numbers, from 0.
 #[derive(Clone, Copy, Debug, PartialEq, Eq)]
 pub enum Ask {
-    /// An instruction, or a call that needs nobody else.
+    /// An instruction, or a call that needs no one else.
     Private,
     /// A call of the environment, which is answered by a value.
     Env(EnvKind),
     /// An entry to an object.
     Enter(u8, Access),
-    /// An entry to an object for writing if nobody is inside, which is answered by 1, or else by 0.
+    /// An entry to an object for writing if no thread is inside, which is answered by 1, or else by 0.
     Try(u8),
     /// Leaving an object, by a call or, after the end, by giving it back; the access is that of the entry.
     Leave(u8, Access),

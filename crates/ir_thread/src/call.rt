@@ -27,7 +27,7 @@ pub enum Call {
     Put,
     /// 12: answers the thread's number.
     OwnNumber,
-    /// 13, in the second profile: enters object a0 for writing if nobody is inside, and answers 1; else answers 0.
+    /// 13, in the second profile: enters object a0 for writing if no thread is inside, and answers 1; else answers 0.
     TryWrite,
 }
 

@@ -71,7 +71,7 @@ impl End {
         }
     }
 
-    /// The end of this number and code; None where the number is none of 1 to 14, or a code stands beside another end than 1.
+    /// The end of this number and code; None if the number is none of 1 to 14, or if another code than 0 goes with another end than 1.
     pub fn from_parts(number: u8, code: u32) -> Option<End>
         ensures { result ≡ end_of number code }
     {

@@ -20,7 +20,7 @@ use Rattle.ir_trace.specs.Recorded.{RecordedThread, Recorded}
 use Rattle.ir_trace.specs.Reading.{magic_field, profile_of, threads_field, objects_field, reserved_field, budget_field, end_field, code_field, events_field, tag_field, input_field, object_field, profile_at, header_at, end_by, end_at, answer_at, input_at, read_at, write_at, try_at, try_by, event_by, event_at, thread_at, recorded_at, last_tag}
 use Rattle.ir_trace.specs.Fields.{tagged_fields, event_fields, thread_fields, trace_fault}
 
--- ---- what stands before the threads
+-- ---- what comes before the threads
 
 abbrev headed : Profile → ℕ → ℕ → ℕ → Header
 headed p n m b = record { profile = p; threads = n; objects = m; budget = b }

@@ -1,4 +1,4 @@
--- What a recording tells, told apart.
+-- Recordings that say the same are equal.
 use Rattle.std.proofs.Common.{◌≡◌, ℕ, zero, suc, List, [], ◌∷◌, length, map, Option, Some, refl, sym, ap, ◌∙◌, arith}
 use Rattle.std.specs.List.{slice_index_or}
 use Rattle.ir_thread.specs.Ends.{end_number, end_code, end_of}
@@ -50,7 +50,7 @@ same_end x y e =
 abbrev end_of_thread : RecordedThread → Option (ℕ × ℕ)
 end_of_thread t = both_numbers (end_number t.end) (end_code t.end)
 
--- two lists of threads that are told alike
+-- two lists of threads with the same steps, labels and ends
 record EmitAlike (xs ys : List RecordedThread) : Type 0 where
   steps : (t : ℕ) → (slice_index_or xs t absent).steps ≡ (slice_index_or ys t absent).steps
   logs : (t : ℕ) → map label_of (slice_index_or xs t absent).events ≡ map label_of (slice_index_or ys t absent).events

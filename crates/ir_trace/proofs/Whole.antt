@@ -21,7 +21,7 @@ use Rattle.ir_trace.specs.Reading.{profile_at, threads_field, objects_field, res
 use Rattle.ir_trace.proofs.EventLaws.{event_takes, event_again}
 use Rattle.ir_trace.proofs.Taken.{profile_takes, profile_again, reserved_takes, reserved_again, end_takes, end_again}
 
--- ---- what stands before the threads
+-- ---- what comes before the threads
 
 -- a header within its limits
 record IsWithin (h : Header) : Type 0 where

@@ -39,7 +39,7 @@ end_encoding end = end_number end ∷ little_bytes 4 (end_code end)
 unfoldable pub thread_encoding : RecordedThread → List ℕ
 thread_encoding t = little_bytes 8 t.steps ++ end_encoding t.end ++ little_bytes 4 (length t.events) ++ flat_map event_encoding t.events
 
--- what stands before the threads
+-- what comes before the threads
 abbrev pub header_of : Recorded → Header
 header_of r = record { profile = r.profile; threads = length r.threads; objects = r.objects; budget = r.budget }
 

@@ -16,7 +16,7 @@ tagged_fields objects tag rest =
     if tag == 5 then before (object_field objects) (before (plain 4) (before (plain 4) rest)) else
     if tag == 6 then before (object_field objects) rest else before (plain 4) rest
 
--- an event of a guest with so many objects
+-- an event of a guest with `objects` objects
 abbrev pub event_fields : Profile → ℕ → Format TraceErr → Format TraceErr
 event_fields profile objects rest = next (tag_field profile) λ tag. tagged_fields objects tag rest
 

@@ -94,7 +94,7 @@ is_input n = nat_lt n 256 || n == input_end
 abbrev pub input_field : Field TraceErr
 input_field = tested 4 is_input Range
 
--- the number of an object of a guest with so many
+-- the number of an object of a guest with `objects` objects
 abbrev pub object_field : ℕ → Field TraceErr
 object_field objects = tested 1 (λ n. nat_lt n objects) Count
 
@@ -104,7 +104,7 @@ object_field objects = tested 1 (λ n. nat_lt n objects) Count
 unfoldable pub profile_at : Reader Profile TraceErr
 profile_at bytes = field_at Short magic_field bytes >>= λ n. Ok (profile_of n.0, n.1)
 
--- what stands before the threads
+-- what comes before the threads
 unfoldable pub header_at : Reader Header TraceErr
 header_at bytes = do
   profile ← profile_at bytes
@@ -168,11 +168,11 @@ event_by profile tag objects bytes =
     if tag == 5 then write_at objects bytes else
     if tag == 6 then try_by profile objects bytes else Err Tag
 
--- an event of a guest with so many objects
+-- an event of a guest with `objects` objects
 unfoldable pub event_at : Profile → ℕ → Reader Event TraceErr
 event_at profile objects bytes = number_at Short 1 bytes >>= λ n. event_by profile n.0 objects n.1
 
--- a thread of a guest with so many objects
+-- a thread of a guest with `objects` objects
 unfoldable pub thread_at : Profile → ℕ → Reader RecordedThread TraceErr
 thread_at profile objects bytes = do
   steps ← number_at Short 8 bytes

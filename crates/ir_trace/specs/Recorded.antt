@@ -43,14 +43,14 @@ IsResult Clock value = IsWord value
 IsResult Random value = IsWord value
 IsResult Input value = (value < 256) ⊎ (value ≡ input_end)
 
--- the limits of an event of a guest with so many objects; a refused try stands in the second profile alone
+-- the limits of an event of a guest with `objects` objects; a refused try is in the second profile alone
 abbrev pub IsEvent : Profile → ℕ → Event → Type 0
 IsEvent profile objects (Answer kind value) = IsResult kind value
 IsEvent profile objects (Read object version) = (object < objects) × IsWord version
 IsEvent profile objects (Write object version readers) = (object < objects) × IsWord version × IsWord readers
 IsEvent profile objects (Try object) = (profile ≡ Two) × (object < objects)
 
--- the limits of what is recorded of a thread of a guest with so many objects
+-- the limits of what is recorded of a thread of a guest with `objects` objects
 pub record IsRecordedThread (profile : Profile) (objects : ℕ) (t : RecordedThread) : Type 0 where
   pub steps_fit : t.steps < 2 ^ 64
   pub code_fits : IsWord (end_code t.end)

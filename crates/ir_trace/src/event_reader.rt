@@ -127,7 +127,7 @@ fn shortest_event(profile: Profile) -> usize
     }
 }
 
-/// So many events of a profile, each about an object below the number of objects, and the bytes after them. Room is taken for
+/// `count` events of a profile, each about an object below the number of objects, and the bytes after them. Room is taken for
 /// no more events than the bytes may hold.
 ///
 /// # Errors

@@ -1,4 +1,4 @@
-//! What stands before the threads of a trace.
+//! What comes before the threads of a trace.
 
 use ir_thread::Profile;
 

@@ -24,7 +24,7 @@ pub fn read_is_encoded()
 {}
 
 /// Bytes are refused exactly for the first of a trace's fields, from the left, that isn't whole or holds what it may not, or
-/// else because bytes stand after the last; and for that field's fault. Bytes without such a field are read.
+/// else because bytes follow the last; and for that field's fault. Bytes without such a field are read.
 pub fn first_fault_is_named()
     ensures { (bytes : List ℕ) → fault_of (recorded_at bytes) ≡ trace_fault bytes }
 {}
@@ -34,7 +34,7 @@ pub fn bytes_are_their_number()
     ensures { (bytes : List ℕ) → AllByRecursion IsByte bytes → bytes ≡ little_bytes (length bytes) (little_number (length bytes) bytes) }
 {}
 
-/// Recordings of as many objects and threads, of one budget and one profile that tell the same of a run are the same.
+/// Recordings of as many objects and threads, of one budget and one profile that say the same of a run are the same.
 pub fn distinguished()
     ensures { (a b : Recorded) → a.objects ≡ b.objects → a.budget ≡ b.budget → a.profile ≡ b.profile → length a.threads ≡ length b.threads → trace_of a ≡ trace_of b → a ≡ b }
 {

@@ -9,10 +9,10 @@ pub const MAGIC_TWO: u32 = 0x3254_5249;
 /// The value of an input at its end.
 pub const INPUT_END: u32 = 0xffff_ffff;
 
-/// How many bytes stand before the threads.
+/// How many bytes come before the threads.
 pub const HEADER_LENGTH: usize = 16;
 
-/// How many bytes of a thread stand before its events.
+/// How many bytes of a thread come before its events.
 pub const THREAD_LENGTH: usize = 17;
 
 /// How many bytes the result of a call has.

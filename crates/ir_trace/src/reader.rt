@@ -108,7 +108,8 @@ fn trace(alloc: Global, bytes: &[u8]) -> Result<Trace, TraceErr>
     Ok(Trace::new(header.objects, header.budget, threads, header.profile))
 }
 
-/// The trace that the bytes encode, all of the bytes; the first four, `IRT1` or `IRT2`, say its profile. Numbers are little-endian, and room is taken only for events whose bytes are there.
+/// The trace that the bytes encode, all of the bytes; the first four, `IRT1` or `IRT2`, say its profile. Numbers are little-endian, and
+/// room is taken only for events whose bytes are there.
 ///
 /// # Errors
 /// The first fault from the left, each field being read whole and then tested; or out of memory.

@@ -76,10 +76,10 @@ impl Trace {
         self.threads.as_slice()
     }
 
-    /// The event of thread t that so many stand before, where a step that asks so may log it.
+    /// The event of thread t that comes after `before` others, if a step that asks so may log it.
     ///
     /// # Errors
-    /// `Disagree` where the thread has no such event, or it is none that such a step logs.
+    /// `Disagree` if the thread has no such event, or if it is none that such a step logs.
     #[inline(always)]
     pub fn next_event(&self, t: usize, before: u32, asked: Ask) -> Result<Event, Disagree>
         requires thread { t < length self.now.threads }

@@ -147,7 +147,7 @@ const BRANCHES: [(BranchOp, u32, u32, bool); 14] = [
     (BranchOp::Bgeu, 0x7fff_ffff, 0x8000_0000, false),
 ];
 
-// The program that loads a and b, which stand behind it, into t1 and t2, and carries out an instruction of them.
+// The program that loads a and b, which come after it, into t1 and t2, and carries out an instruction of them.
 fn image_with(alloc: Global, a: u32, b: u32, inst: &Inst) -> Result<Image, AllocError>
     ensures { IfOk result (λ image. 0 < length image.entries) }
 {
@@ -156,7 +156,7 @@ fn image_with(alloc: Global, a: u32, b: u32, inst: &Inst) -> Result<Image, Alloc
     image_of(alloc, words)
 }
 
-// a0 and pc after so many steps, where there are so many.
+// a0 and pc after four steps, if there are four.
 fn by_steps(alloc: Global, image: &Image) -> Result<Option<(u32, u32)>, AllocError>
     requires { 0 < length image.now.entries }
 {

@@ -2,7 +2,7 @@
 
 use ir_disasm::disassemble;
 
-// A word, where it stands, and its text.
+// A word, where it is, and its text.
 type Row = (u32, u32, &'static str);
 
 const TEXTS: [Row; 27] = [

@@ -210,7 +210,7 @@ fn threads_objects_and_data_are_written_in_order(rt: HostRuntime) -> Result<(), 
     Ok(())
 }
 
-// Eight threads that begin at the last word, 16 objects, 16,384 words of code and 65,536 bytes of data: all the limits at once.
+// Eight threads that begin at the last word, 16 objects, 16,384 words of code and 65,536 bytes of data: all the limits at the same time.
 fn largest(alloc: Global) -> Result<Vec<u8>, AllocError> {
     let mut bytes = Vec::new(alloc);
     bytes.extend_from_slice(&[0x49, 0x52, 0x49, 0x31, 8, 16, 0, 0x40, 0, 0, 0, 0, 1, 0])?;
@@ -263,7 +263,7 @@ fn no_byte_follows_the_largest(rt: HostRuntime) -> Result<(), Fail> {
     Ok(())
 }
 
-// An image of this form with so many threads and objects, one word of code and these words for the objects.
+// An image of this form with `threads` threads and `objects` objects, one word of code and these words for the objects.
 fn announced(
     alloc: Global,
     form: u8,

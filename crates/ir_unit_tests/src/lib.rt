@@ -1,5 +1,5 @@
-//! Tests of instructions, images, the assembler and the machine, and of the debugger's words and lines. They stand apart, since a
-//! crate with tests is proved twice.
+//! Tests of instructions, images, the assembler and the machine, and of the debugger's words and lines. They are a crate of
+//! their own, since a crate with tests is proved twice.
 #![tactic(auto)]
 
 #[cfg(test)]

@@ -11,7 +11,7 @@ use std::alloc::{AllocError, Global};
 use std::process::Abort;
 use std::test::Fail;
 
-// What the last step of a program comes to, of so many that are taken, and the machine after it.
+// What the step after the first `before` steps of a program comes to, and the machine after it.
 fn last(
     rt: &impl Abort,
     alloc: Global,
@@ -87,7 +87,7 @@ fn loads(rt: HostRuntime) -> Result<(), Fail> {
 }
 
 // Where t0 points, how far from there t1 is stored, and what the first word of private memory becomes, or the last
-// where t0 points behind it.
+// word if t0 points past it.
 const STORES: [(u32, i32, StoreOp, Option<u32>); 10] = [
     (0x0010_0000, 0, StoreOp::Sb, Some(0x0000_80fe)),
     (0x0010_0000, 2, StoreOp::Sh, Some(0xfffe_80ff)),
@@ -210,7 +210,7 @@ fn after_branch(
     Ok((ran, mach.pc()))
 }
 
-// A branch that isn't taken goes on, however misaligned its target.
+// After a branch that isn't taken a program continues, however misaligned its target.
 #[test]
 fn branches(rt: HostRuntime) -> Result<(), Fail> {
     for &(op, more, wanted, pc) in &BRANCHES {
@@ -265,7 +265,7 @@ fn calling() -> [Inst; 5] {
     ]
 }
 
-// What the next step comes to and a0 behind it; a call is passed with this answer.
+// What the next step comes to and a0 after it; a call is passed with this answer.
 fn went(mach: &mut Mach, code: &Code, answer: Option<u32>) -> (Ran, u32) {
     let ran = mach.step(code);
     if ran == Ran::Call {
@@ -274,7 +274,7 @@ fn went(mach: &mut Mach, code: &Code, answer: Option<u32>) -> (Ran, u32) {
     (ran, mach.reg(10))
 }
 
-// The answer to a call, what each step comes to, and a0 behind it.
+// The answer to a call, what each step comes to, and a0 after it.
 const CALLS: [(Option<u32>, Ran, u32); 6] = [
     (None, Ran::Ran, 72),
     (None, Ran::Call, 72),
@@ -327,7 +327,7 @@ fn ran(mach: &mut Mach, code: &Code) -> (u64, u32, u32, Ran) {
     (steps, mach.reg(10), mach.reg(0), ran)
 }
 
-// A run goes past a load of code, and stops at the word behind the code.
+// A run goes past a load of code, and stops at the word after the code.
 #[test]
 fn a_run_loads_code(rt: HostRuntime) -> Result<(), Fail> {
     let program = [
@@ -370,7 +370,7 @@ fn leaves(alloc: Global, image: &Image, steps: u64, left: &Mach) -> Result<bool,
     Ok(whole && same && mach.memory() == left.memory())
 }
 
-// A run of each length leaves what so many steps leave.
+// A run of each length leaves what its number of single steps leaves.
 #[test]
 fn a_run_is_its_steps(rt: HostRuntime) -> Result<(), Fail> {
     let image = image(&rt, rt.alloc(), &countdown())?;

@@ -433,7 +433,7 @@ leave_emits f s t o at is ad run of =
     (ap (λ code. ask_of code (thread_of s t)) (sym at.code) ∙ is) in
     subst (Emits (machine_of f) (start_of f) run t (positions s t)) emitted_is some.3
 
--- one label stands at each content_place
+-- one label is at each place
 pub same_label : {X : Type 0} (xs : List X) (k : ℕ) (a b : X) → At xs k a → At xs k b → a ≡ b
 same_label [] k a b h g = absurd h
 same_label (x ∷ xs) zero a b h g = sym h ∙ g

@@ -1,4 +1,4 @@
--- What the trace leaves to the threads at a cut is the log of the steps behind it.
+-- What the trace leaves to the threads at a cut is the log of the steps after it.
 use Rattle.std.proofs.Common.{◌≡◌, ℕ, suc, zero, ◌+◌, ◌<◌, List, [], ◌∷◌, ◌++◌, length, map, take, drop, refl, sym, ap, ◌∙◌, subst, arith, take-append-drop}
 use Rattle.std.proofs.Math.Path.{fun_ext}
 use Rattle.std.proofs.Math.Seq.{drop-append_seam}
@@ -74,9 +74,9 @@ events_counted f run ok t = (tally f.guest.code (start_of f) run ok t).events
     ∙ from_zero ((start_of f).now t).events (length (log (machine_of f) (start_of f) run t))
     (fresh f.guest f.recorded.budget f.recorded.profile 0 (length f.guest.entries) t).events
 
--- ---- the log behind a cut
+-- ---- the log after a cut
 
--- what thread t logs behind the cut
+-- what thread t logs after the cut
 abbrev pub behind : FittedTrace → List Step → Cut → ℕ → List Label
 behind f run p t = events (drop (p t) (trail (machine_of f) (start_of f) run t))
 

@@ -12,7 +12,7 @@ use Rattle.ir_fit.proofs.CallerLemmas.{idle_trail}
 use Rattle.ir_cut.specs.Positions.{machine_of, start_of}
 use Rattle.ir_weave.specs.Ahead.{HasStep, IsThreadAt}
 
--- behind its last step a thread is as at the end
+-- after its last step a thread is as at the end
 pub past_end : {T : Type 0} (xs : List (T × Label)) (k : ℕ) (last : T) → length xs ≤ k → thread_in xs k last ≡ last
 past_end [] k last le = refl
 past_end (x ∷ xs) zero last le = absurd (omega (arith, le))

@@ -1,4 +1,4 @@
--- A thread that goes on by itself beside its trace.
+-- A thread that advances by itself beside its trace.
 use Rattle.std.proofs.Common.{◌≡◌, ℕ, suc, zero, ◌+◌, ◌<◌, ◌≤◌, List, [], ◌∷◌, ◌++◌, length, map, take, drop, Some, refl, sym, ap, ◌∙◌, subst, arith, inl, inr, take-append-drop, length-append, le_refl}
 use Rattle.std.proofs.lemmas.Bool.{cases_lt}
 use Rattle.std.proofs.Math.Seq.{drop-append_seam}
@@ -100,7 +100,7 @@ counted f run of t (suc k) l =
     ∙ length-append (events (take k (trail (machine_of f) (start_of f) run t))) (logged at.0 []) in
     omega (arith, more, one, before, sum)
 
--- the trace's log behind it
+-- the trace's log after it
 log_left : (f : FittedTrace) (run : List Step) → IsRunOf f.guest f.recorded run → (t k : ℕ) → t < length f.guest.entries
     → k ≤ count (machine_of f) (start_of f) run t
     → drop (thread_at f run t k).events (map label_of (recorded_thread f.recorded t).events) ≡ events

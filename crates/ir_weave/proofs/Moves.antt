@@ -1,4 +1,4 @@
--- The table goes on with one seat.
+-- The table advances with one seat.
 use Rattle.std.proofs.Common.{◌≡◌, ◌≢◌, ℕ, ◌≤◌, Bool, true, List, [], ◌∷◌, length, set, refl, sym, ap, ◌∙◌, subst, arith, inl, inr}
 use Rattle.std.proofs.lemmas.Bool.{cases_eq}
 use mathlib.Core.Option.{some}
@@ -29,7 +29,7 @@ up f old new t g u = elim (cases_eq u t) [
   | inr ne ↦ let e = g.others u ne in omega (arith, e)
 ]
 
--- what is admitted stays so while another thread goes on
+-- what is admitted stays so while another thread advances
 pub stays_admitted : (f : FittedTrace) (old new : Flat) (t u : ℕ) → IsFurther f old new t → u ≢ t → AdmittedAt f (positions old) u
     → AdmittedAt f (positions new) u
 stays_admitted f old new t u g ne ad run of = persists (machine_of f) (start_of f) run (positions old) (positions new) u (ad run of)

@@ -1,4 +1,4 @@
--- A state that goes on along the trace is a state at a later cut.
+-- A state that advances along the trace is a state at a later cut.
 use Rattle.std.proofs.Common.{◌≡◌, ◌≢◌, ℕ, suc, zero, ◌+◌, ◌-◌, ◌<◌, ◌≤◌, List, [], ◌∷◌, ◌++◌, length, replicate, Result, Ok, Err, OnOk, OnErr, refl, sym, ap, ◌∙◌, subst, arith, inl, inr, append_assoc}
 use Rattle.std.proofs.lemmas.Bool.{cases_eq}
 use Rattle.ir_image.specs.Guest.{object_count}
@@ -188,7 +188,7 @@ alone_others s new t n w u ne = ap (λ z. (z.now u).steps) w.ends ∙ (tally s.c
     ∙ ap (λ z. positions s u + z) (count_others (machine s) (tables s) t n u ne)
     ∙ (let e : positions s u + 0 ≡ positions s u = omega arith in e)
 
--- a thread that goes on by private steps, not past its target
+-- a thread that advances by private steps, not past its target
 pub alone_under : (f : FittedTrace) (target : List ℕ) (s new : Flat) (t n : ℕ) → IsTarget f target → IsUnder f target s
     → n ≤ cut_of target t - positions s t → WentAlone s new t n → IsUnder f target new
 alone_under f target s new t n aim under few w =

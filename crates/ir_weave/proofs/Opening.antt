@@ -462,7 +462,7 @@ stands_first f first s is flat threads objects =
     } in
     record { flat = subst IsFlat (is ∙ sym same) flat; at = starts_at f (flat_in f s) same }
 
--- it stands at its own positions, below all others
+-- it is at its own positions, below all others
 pub stands_own : (f : FittedTrace) (s : Standing) → StandsAt f (λ t. 0) s → StandsAt f (positions (flat_in f s)) s
 stands_own f s h = subst (λ (p : Cut). StandsAt f p s) (λ i t. sym (h.at.steps t) i) h
 

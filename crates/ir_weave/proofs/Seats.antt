@@ -1,4 +1,4 @@
--- What a seat may do, by its view and its thread, and what it is told.
+-- What a seat may do, by its view and its thread, and what is reported to it.
 use Rattle.std.proofs.Common.{◌≡◌, ℕ, suc, ◌+◌, ◌*◌, ◌/◌, ◌%◌, ◌^◌, ◌<◌, Bool, true, false, true≢false, List, [], ◌∷◌, Some, refl, sym, ap, ◌∙◌, subst, arith, inl, inr}
 use Rattle.std.proofs.lemmas.Bool.{cases_eq, cases_lt}
 use Rattle.std.specs.Prelude.{slice_get, IsTrue, ◌↔◌}
@@ -184,7 +184,7 @@ put_allows k slots id o i v x (q ∷ [], c) value seated asking =
     (puts_at slots id o i v x q c value seated.1 inside.0 inside.1 ask.asks
     (own_has (trace_in q.plan) q.thread q.position x seated.1 ask.has))
 
--- ---- what it is told
+-- ---- what is reported to it
 
 -- the seat's view with its thread at i
 abbrev pub view_at : Plan → thread.State → ℕ → Bool → Met → View
@@ -194,7 +194,7 @@ same_view : (k : Plan) (q : Progress) (x : thread.State) (i j : ℕ) (g : Bool) 
     → progress q.plan q.thread i g m ∷ [] ≡ view_at k x j g m
 same_view k q x i j g m plan number here = λ z. progress (plan z) (sym number z) (here z) g m ∷ []
 
--- what is told of these steps doesn't depend on their words
+-- what is reported of these steps doesn't depend on their words
 abbrev pub any_step : TableStep (Unit {0})
 any_step = step 0 0 0 0 none
 

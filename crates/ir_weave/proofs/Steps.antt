@@ -45,7 +45,7 @@ seated_ahead k (q ∷ r ∷ qs) x seated = absurd seated
 seated_ahead k (q ∷ []) x seated = subst (λ (z : Plan × ℕ). IsAhead (trace_in z.0) z.1 q.position x)
     (λ i. (seated.0 i, sym seated.1.number i)) seated.1
 
--- the thread goes on, and the view stays
+-- the thread advances, and the view stays
 pub seated_on : (k : Plan) (v : View) (x y : thread.State) → IsSeated k v x
     → ((i : ℕ) → IsAhead (trace_in k) x.number i x → IsAhead (trace_in k) x.number i y) → IsSeated k v y
 seated_on k [] x y seated on = absurd seated

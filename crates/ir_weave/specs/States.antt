@@ -11,7 +11,7 @@ use Rattle.ir_cut.specs.Positions.{machine_of, start_of, EachRun}
 abbrev pub positions : Flat → Cut
 positions s t = (thread_of s t).steps
 
--- the cut p of the run is consistent, each thread is as it was after so many of its steps, and each object as it is at the cut
+-- the cut p of the run is consistent, each thread t is as it was after p t of its steps, and each object as it is at the cut
 pub record IsAt (f : FittedTrace) (p : Cut) (s : Flat) (run : List Step) : Type 0 where
   pub cut : IsCut (machine_of f) (start_of f) run p
   pub consistent : Consistent (machine_of f) (start_of f) run p

@@ -107,8 +107,8 @@ abbrev pub AreTracks : Plan → Flat → (ℕ → ℕ) → ℕ → View → Type
 AreTracks k s seat id [] = Unit {0}
 AreTracks k s seat id (q ∷ qs) = IsTrack k s seat id q × AreTracks k s seat id qs
 
--- whichever run with the trace it is: the positions in the views are a consistent cut, at or above the one at which the table was opened;
--- the words are each object's packed word and contents at this cut; and a view that is granted has its thread admitted there
+-- whichever run with the trace it is: the positions in the views are a consistent cut, at or above the one at which the table was opened.
+-- The words are each object's packed word and contents at this cut, and a view that is granted has its thread admitted there
 pub record Woven (k : Plan) (x : State (Unit {0}) View) : Type 0 where
   pub run : HasRun (trace_in k)
   -- the threads and objects at the positions in the views
@@ -148,8 +148,8 @@ abbrev pub Leaves : FittedTrace → ℕ → ℕ → ℕ → ℕ → Type 0
 Leaves f t k word v = EachRun f (λ run. (o : ℕ) → word ≡ word_place o → ask_at f run t k ≡ ask.Leave o Writing
     → Emits (machine_of f) (start_of f) run t k (Out o Writing v))
 
--- what a load before an entry emits: the position is that of the entry; the thread is granted it where the word is open to its event, and
--- else it wasn't admitted at the cut that the seat has met by this, which is at or above the one that it had met before
+-- what a load before an entry emits: the position is that of the entry, and the thread is granted it if the word is open to its event.
+-- Otherwise it wasn't admitted at the cut that the seat has met by this, which is at or above the one that it had met before
 abbrev pub looked : Step (Unit {0}) → M → ℕ → M → Type 0
 looked s ([], c) n w = ⊥
 looked s (q ∷ r ∷ qs, c) n w = ⊥
@@ -216,8 +216,8 @@ pub record IsDoneAt (k : Plan) (me me' : M) (x : thread.State) (cut : Cut) : Typ
   pub same : me' ≡ me
   pub end : EachRun (trace_in k) (λ run. (u : ℕ) → cut u ≡ count (machine_of (trace_in k)) (start_of (trace_in k)) run u)
 
--- the thread x has taken none, and wasn't admitted to its next at some consistent cut, at or above the one at which the table was opened:
--- one that its seat has met by a look now, at or above the one that it had met before, or else, if the thread is done, the end
+-- the thread x has taken none, and wasn't admitted to its next at some consistent cut, at or above the one at which the table was opened.
+-- This is one that its seat has met by a look now, at or above the one that it had met before, or else, if the thread is done, the end
 pub record HasWaited (k : Plan) (me me' : M) (x x' : thread.State) : Type 0 where
   pub seated : IsSeated k me'.0 x'
   pub slots : me'.1 ≡ me.1
@@ -236,13 +236,13 @@ abbrev pub AreSeats : TableId → Plan → ℕ → List (Seat (Unit {0}) View) �
 AreSeats id k t [] = Unit {0}
 AreSeats id k t (x ∷ xs) = ((x.table_id ≡ id) × (x.me ≡ (progress k t (opened_at k t) false (first_met k) ∷ [], []))) × AreSeats id k (suc t) xs
 
--- at what cut the threads of a view stand
+-- at what cut the threads of a view are
 abbrev pub AreAt : Cut → View → Type 0
 AreAt p [] = Unit {0}
 AreAt p (q ∷ qs) = (p q.thread ≡ q.position) × AreAt p qs
 
 -- the objects of the guest at a consistent cut of each run, at or above the one at which the table was opened, in which the threads of the
--- view stand where it says
+-- view are where it says
 pub record IsClosed (k : Plan) (v : View) (cells : List Cell) : Type 0 where
   pub state : Flat
   pub flat : IsFlat state
@@ -251,7 +251,7 @@ pub record IsClosed (k : Plan) (v : View) (cells : List Cell) : Type 0 where
   pub view : AreAt (positions state) v
   pub objects : cells ≡ state.objects
 
--- where the table stands at its end
+-- where the table is at its end
 pub record IsEnd (k : Plan) (v : View) (ws : List ℕ) : Type 0 where
   pub cells : List Cell
   pub table : IsTable cells ws

@@ -116,7 +116,7 @@ impl Weave {
         seat
     }
 
-    /// Ends the table, and writes the objects of the guest at the cut where the threads of its views stand.
+    /// Ends the table, and writes the objects of the guest at the cut where the threads of its views are.
     pub fn close(self, seat: WeaveSeat, objects: &mut [Object])
         requires seat { seat.table_id ≡ self.table.shared.table_id }
         requires room { length objects.old ≡ object_count (trace_in self.table.shared.key).guest }

@@ -1,4 +1,4 @@
-//! What a table is told, and what the view of a seat is made of.
+//! What a table is given, and what the view of a seat is made of.
 
 use crate::state::State;
 use ir_fit::Fitted;
@@ -12,8 +12,8 @@ pub struct Plan {
 }
 
 /// Of which plan a thread is, where it is, whether its next step was granted, the threads and objects that its seat last
-/// met (as it last looked at an object or, if it never did, as the table was opened), and how many times it has looked.
-/// No value of it is made.
+/// met, and how many times it has looked. Its seat met them as it last looked at an object or, if it never did, as the
+/// table was opened. No value of it is made.
 pub struct Progress {
     pub plan: Plan,
     pub thread: u8,

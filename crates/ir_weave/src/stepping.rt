@@ -39,7 +39,7 @@ impl Weave {
         thread.take_asked(fitted.image().code(), asked, Reply::Go);
     }
 
-    // A call of the environment, answered as the trace tells.
+    // A call of the environment, answered as the trace says.
     fn call(&self, seat: &WeaveSeat, thread: &mut Thread, fitted: &Fitted, kind: EnvKind)
         requires table { IsFor self.now.table.shared.key fitted.now }
         requires thread { IsSeated self.now.table.shared.key seat.now.me.0 thread.old }
@@ -217,7 +217,7 @@ impl Weave {
     }
 
     /// Takes the thread's next step, for which it asks so, if it is below its target and the step is admitted. A thread
-    /// that is done has no such step. Takes no memory, and waits for nobody.
+    /// that is done has no such step. Takes no memory, and waits for no thread.
     pub fn try_asked(
         &self,
         seat: &mut WeaveSeat,
@@ -257,7 +257,7 @@ impl Weave {
     }
 
     /// Takes the thread's next step, if it is below its target and the step is admitted. A thread that is done has no
-    /// such step. Takes no memory, and waits for nobody.
+    /// such step. Takes no memory, and waits for no thread.
     pub fn try_step(
         &self,
         seat: &mut WeaveSeat,

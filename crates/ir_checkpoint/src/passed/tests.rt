@@ -2,7 +2,7 @@
 
 use super::{Passed, PassedCut};
 
-// The number of the one that is given up of those after so many steps, kept under the numbers from 1 on.
+// The number of the one that is given up of those after these numbers of steps, kept under the numbers from 1 on.
 fn given_up(steps: &[u64], present: u64) -> u32 {
     let mut passed = Passed::new();
     let mut number = 0u32;

@@ -65,7 +65,7 @@ CarriesOut run d (Show show) text next = Gives (shown run d show) (spoken d) tex
 CarriesOut run d (Keeping keeping) text next = Keeps d keeping text next
 CarriesOut run d Quit text next = Gives (codes "bye\n") (spoken d) text next
 
--- a refusal, after which the machine stands where it stood
+-- a refusal, after which the machine is where it was
 abbrev pub Refuses : Refusal → Desk → List ℕ → Desk → Type 0
 Refuses r d text next = Gives (refusal_text r) (spoken d) text next
 

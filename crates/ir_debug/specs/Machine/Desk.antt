@@ -43,7 +43,7 @@ last_of f t = (recorded_thread f.recorded t).steps
 abbrev pub first_cut : FittedTrace → List ℕ
 first_cut f = replicate (threads_of f) 0
 
--- the last positions of so many threads, from this one on
+-- the last positions of n threads, from this one on
 unfoldable pub last_positions : FittedTrace → ℕ → ℕ → List ℕ
 last_positions f from zero = []
 last_positions f from (suc n) = last_of f from ∷ last_positions f (from + 1) n

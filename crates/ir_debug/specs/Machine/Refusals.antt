@@ -76,11 +76,11 @@ has_place d (command.Set point) = nat_lt (length d.points) most_points && nat_lt
 has_place d (command.Keeping Keep) = nat_lt (length d.kept) (most_kept + 1) && nat_lt d.last_kept most_number
 has_place d c = true
 
--- so many bytes from an address on lie in the code
+-- width bytes from an address on lie in the code
 abbrev pub lies_in_code : Guest → ℕ → ℕ → Bool
 lies_in_code g width address = nat_le code_start address && nat_le (address + width) (code_start + 4 * length g.code)
 
--- bytes are shown of the code or of private memory; a breakpoint stands at a word of the code, a watchpoint at one of private memory
+-- bytes are shown of the code or of private memory; a breakpoint is at a word of the code, a watchpoint at one of private memory
 abbrev pub has_address : Guest → Command → Bool
 has_address g (command.Show (Memory thread address size)) = lies_in_code g size address || lies_in_memory size address
 has_address g (command.Set (Break thread address)) = (address % 4 == 0) && lies_in_code g 4 address

@@ -1,4 +1,4 @@
-//! Where a thread's events and leaves stand among its steps, while it takes them.
+//! Where a thread's events and leaves are among its steps, while it takes them.
 
 ghost use Rattle.std.specs.Prelude.{◌≡◌, ◌<◌, ◌≤◌, ◌++◌, [], ◌∷◌, length, map, IfOk, vec_len, vec_capacity};
 ghost use Rattle.ir_fit.specs.Growing.{Growing, grown};
@@ -25,7 +25,7 @@ impl Model for GrowingPlaces {
 }
 
 impl GrowingPlaces {
-    // None, with room for so many.
+    // None, with room for `room` of them.
     pub fn new(alloc: Global, room: usize) -> Result<GrowingPlaces, AllocError>
         ensures { IfOk result (λ p. p ≡ record { entries = []; leaves = []; room = room }) }
     {

@@ -54,8 +54,8 @@ fn held_count(held: &[Option<Access>]) -> u64
     count
 }
 
-/// Whether the object can be entered now as the event says: it stands at the event's version, for an entry for writing
-/// as many have left it as the event counts, and nobody inside is in the way.
+/// Whether the object can be entered now as the event says: it is at the event's version, for an entry for writing
+/// as many have left it as the event counts, and no thread inside is in the way.
 #[inline(always)]
 pub fn is_open(object: &Object, event: Event) -> bool
     ensures { IsTrue result ↔ IsOpen object.now event }
@@ -73,7 +73,7 @@ pub fn is_open(object: &Object, event: Event) -> bool
 }
 
 impl Follower<'_> {
-    // The next event that the trace tells of thread t, where it is one of what the thread asks.
+    // The next event that the trace gives of thread t, if it is one of what the thread asks.
     #[inline(always)]
     fn next_event(&self, t: usize, asked: Ask) -> Result<Event, Disagree>
         requires thread { t < length self.now.flat.threads }
@@ -198,7 +198,7 @@ impl Follower<'_> {
         }
     }
 
-    // Thread t, of whose next step the trace tells nothing.
+    // Thread t, of whose next step the trace says nothing.
     #[inline(always)]
     fn look_own(&self, t: usize, asked: Ask) -> Look
         requires thread { t < length self.now.flat.threads }

@@ -9,7 +9,7 @@ use crate::follower::look::{Look, Move};
 use crate::follower::readiness::Readiness;
 
 impl Follower<'_> {
-    // Thread t goes on while its steps follow the trace.
+    // Thread t continues while its steps follow the trace.
     pub fn advance(&mut self, t: usize)
         requires sized { IsSized self.old }
         requires thread { t < length self.old.flat.threads }
@@ -50,7 +50,7 @@ impl Follower<'_> {
         None
     }
 
-    // The first thread's step that follows, where every thread is looked at once more.
+    // The first thread's step that follows, where every thread is looked at again.
     fn last_look(&self) -> Option<Move>
         requires { IsSized self.now }
         ensures follows { IfSome result (λ next. IsMove self.now.trace self.now.flat next) }
@@ -64,7 +64,8 @@ impl Follower<'_> {
         None
     }
 
-    // A step that follows the trace, of a thread that is ready before others. That there is none rests on a last look at each thread, and not on what is known of those that wait.
+    // A step that follows the trace, of a thread that is ready before others. That there is none rests on a last look at
+    // each thread, and not on what is known of those that wait.
     fn next(&mut self) -> Option<Move>
         requires { IsSized self.old }
         ensures flat { self.new.flat ≡ self.old.flat }
@@ -80,7 +81,7 @@ impl Follower<'_> {
         }
     }
 
-    // Goes on while any thread has a step that follows.
+    // Continues while any thread has a step that follows.
     pub fn follow(&mut self)
         requires { IsSized self.old }
         ensures goes { GoesOn self.old.trace self.old.flat self.old.places.items self.new.flat self.new.places.items }

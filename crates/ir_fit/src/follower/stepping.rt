@@ -64,7 +64,7 @@ impl Follower<'_> {
         self.ready[t] = readiness(look);
     }
 
-    // Keeps what the step tells: the position of an event, or a leave.
+    // Keeps what the step gives: the position of an event, or a leave.
     #[inline(always)]
     fn place(&mut self, next: Move)
         requires sized { IsSized self.old }

@@ -25,7 +25,7 @@ fn page_in(memory: &[u8], i: usize) -> &[u8]
     &memory[first..first + PAGE_SIZE]
 }
 
-// The bytes of these pages, one page behind the other.
+// The bytes of these pages, one page after the other.
 fn joined(alloc: Global, pages: &[&[u8]]) -> Result<Vec<u8>, AllocError>
     requires { ArePages (map (λ page. page.now) pages.now) }
     ensures size { IfOk result (λ memory. length memory.items ≡ memory_size) }

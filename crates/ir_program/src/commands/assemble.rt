@@ -2,14 +2,37 @@
 
 ghost use Rattle.std.specs.Prelude.{◌≡◌, false};
 
-use crate::assembling::asm_run;
-use crate::commands::{bytes_of, is_lost, say};
+use crate::commands::maps::labels_into;
+use crate::commands::{bytes_of, is_lost, put_in_place, shown_path};
 use ir_arguments::AssembleArguments;
-use ir_files::{ExitStatus, Folder, MOST_BYTES, WholeFile, WholeSink};
+use ir_files::{ExitStatus, Folder, MOST_BYTES, WholeFile};
+use ir_image_run::asm_run;
 use ir_stream::Sink;
 use std::alloc::Global;
 
-// Assembles a file into another, which stands in its place only once it is whole.
+// Whether a file would be written over one that is read, or over another that is written, which is reported.
+fn loses_file<D: Folder, E: Sink>(folder: &D, faults: &mut E, arguments: &AssembleArguments) -> bool
+    ensures kept { result ≡ false → faults.new ≡ faults.old }
+{
+    let source = arguments.source.as_str();
+    let image = arguments.image.as_str();
+    let would = "IMAGE would be written over SOURCE";
+    if is_lost(folder, faults, would, source, image) {
+        return true;
+    }
+    let Some(map) = &arguments.map else {
+        return false;
+    };
+    let map = map.as_str();
+    let would = "MAP would be written over SOURCE";
+    if is_lost(folder, faults, would, source, map) {
+        return true;
+    }
+    let would = "MAP would be written over IMAGE";
+    is_lost(folder, faults, would, image, map)
+}
+
+// Assembles a file into another, and its labels into a third if one is named; each is in its place only once it is whole.
 pub fn assemble_file<D: Folder, E: Sink>(
     alloc: Global,
     folder: &D,
@@ -19,38 +42,24 @@ pub fn assemble_file<D: Folder, E: Sink>(
 ) -> ExitStatus
     requires reports { E.broken faults.old ≡ false }
 {
-    let source = arguments.source.as_str();
-    let image = arguments.image.as_str();
-    let mut file = WholeFile::new(alloc, folder, image);
-    if is_lost(
-        folder,
-        faults,
-        "IMAGE would be written over SOURCE",
-        source,
-        image,
-    ) {
+    if loses_file(folder, faults, arguments) {
         return ExitStatus::BadArguments;
     }
+    let source = arguments.source.as_str();
     let Some(bytes) = bytes_of(alloc, folder, faults, source, MOST_BYTES) else {
         return ExitStatus::Failed;
     };
-    // A name that would part the line, or lead a terminal, isn't shown.
-    let name = if source.chars().any(|c| c.is_control()) {
-        "SOURCE"
-    } else {
-        source
+    let mut file = WholeFile::new(alloc, folder, arguments.image.as_str());
+    let explained = (explains || arguments.explain).then_some(shown_path(source, "SOURCE"));
+    let labels = match asm_run(alloc, bytes.as_slice(), explained, &mut file, faults) {
+        Ok(labels) => labels,
+        Err(status) => return put_in_place(&mut file, status, source, faults),
     };
-    let explained = (explains || arguments.explain).then_some(name);
-    let status = asm_run(alloc, bytes.as_slice(), explained, &mut file, faults);
-    if status == ExitStatus::Done {
-        let _ = file.finish();
+    let status = put_in_place(&mut file, ExitStatus::Done, source, faults);
+    match &arguments.map {
+        Some(map) if status == ExitStatus::Done => {
+            labels_into(alloc, folder, &labels, map.as_str(), faults)
+        }
+        _ => status,
     }
-    if file.failed() {
-        say(faults, image, " can't be written: ", file.why());
-        return ExitStatus::Failed;
-    }
-    if status == ExitStatus::Failed {
-        say(faults, source, ": ", "memory ran out");
-    }
-    status
 }

@@ -60,7 +60,18 @@ fn explain<E: Sink>(alloc: Global, files: Files<'_>, status: ExitStatus, faults:
     }
 }
 
-// The session of an image and a trace in files. Where somebody looks on, it is said in words why nothing was opened.
+// Says in words why an image and a trace opened nothing, if they didn't.
+pub fn explain_files<E: Sink>(
+    alloc: Global,
+    image: &[u8],
+    trace: &[u8],
+    status: ExitStatus,
+    faults: &mut E,
+) {
+    explain(alloc, Files { image, trace }, status, faults);
+}
+
+// The session of an image and a trace in files. If a person looks on, it is said in words why nothing was opened.
 pub fn debug_files<R, D, I, O, E>(
     rt: &R,
     folder: &D,
@@ -90,7 +101,7 @@ where
     let (image, trace) = (image.as_slice(), trace.as_slice());
     let status = debug_run(rt, image, trace, reader, out, faults);
     if explains {
-        explain(alloc, Files { image, trace }, status, faults);
+        explain_files(alloc, image, trace, status, faults);
     }
     status
 }

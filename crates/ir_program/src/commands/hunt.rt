@@ -51,7 +51,7 @@ fn about_nothing<'a>(image: &ParsedImage<'_>, texts: &'a [String]) -> Option<&'a
     None
 }
 
-// The conditions of a hunt; where there is none, it is told why.
+// The conditions of a hunt; if they can't be given, the reason is reported.
 fn conditions_of<'a, E: Sink>(
     alloc: Global,
     faults: &mut E,

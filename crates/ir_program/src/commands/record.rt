@@ -23,7 +23,7 @@ fn without_end(list: &str) -> &str {
     line.strip_suffix('\r').unwrap_or(line)
 }
 
-// A copy of a list. Where memory runs out, that is told.
+// A copy of a list. If memory runs out, that is reported.
 fn copied<E: Sink>(alloc: Global, faults: &mut E, list: &str) -> Result<Option<String>, ExitStatus>
     ensures kept { OnOk result (faults.new ≡ faults.old) }
 {
@@ -36,7 +36,7 @@ fn copied<E: Sink>(alloc: Global, faults: &mut E, list: &str) -> Result<Option<S
     }
 }
 
-// The list of a file, which a line feed may end. Where there is none, it is told why.
+// The list of a file, which a line feed may end. If there is none, the reason is reported.
 fn list_in<D: Folder, E: Sink>(
     alloc: Global,
     folder: &D,
@@ -123,7 +123,7 @@ struct Beside {
 }
 
 impl Beside {
-    // Reads it; where it can't be, it is told why.
+    // Reads it; if it can't be read, the reason is reported.
     fn of<C: Clock, D: Folder, E: Sink>(
         alloc: Global,
         clock: &C,
@@ -154,7 +154,7 @@ impl Beside {
     }
 }
 
-// The exit status of a recording, whose ends are told in words where somebody looks on.
+// The exit status of a recording, whose ends are reported in words if a person looks on.
 fn status_of<E: Sink>(
     alloc: Global,
     trace: &Trace,

@@ -38,7 +38,7 @@ pub fn input_of<D: Folder, E: Sink>(
     }
 }
 
-// Whether the file that is read, if one was given, would be lost by writing to a path, which is told.
+// Whether the file that is read, if one was given, would be lost by writing to a path, which is reported.
 fn loses_given<D: Folder, E: Sink>(
     folder: &D,
     faults: &mut E,
@@ -120,8 +120,8 @@ fn any_loses<D: Folder, E: Sink>(
     false
 }
 
-/// The paths of what the threads of an image print, if they are asked for. Where memory runs out, or one would be written
-/// over another file of the recording, that is told, and the exit status is answered.
+/// The paths of what the threads of an image print, if they are asked for. If memory runs out, or one would be written
+/// over another file of the recording, that is reported, and the exit status is answered.
 pub fn output_places<D: Folder, E: Sink>(
     alloc: Global,
     folder: &D,

@@ -28,14 +28,14 @@ impl Thread {
     ghost use Rattle.ir_thread.specs.Held.{held_at, highest};
     ghost use Rattle.ir_mach.specs.Execution.{outcome_of, ran_of};
 
-    // The call that the thread makes where it stands at one.
+    // The call that the thread makes if it is at one.
     pub(super) fn call(&self) -> Option<Call>
         ensures { result ≡ call_at self.now }
     {
         Call::of_number(self.profile, self.mach.reg(A7))
     }
 
-    // Printing so many bytes, where there is room for them.
+    // Printing `count` bytes, if there is room for them.
     fn printing(&self, count: usize) -> Ask
         ensures { result ≡ print_ask self.now count }
     {
@@ -161,7 +161,7 @@ impl Thread {
         }
     }
 
-    // What the thread asks where it stands at a call.
+    // What the thread asks if it is at a call.
     #[inline(always)]
     fn calling(&self) -> Ask
         ensures { result ≡ call_ask (call_at self.now) self.now }

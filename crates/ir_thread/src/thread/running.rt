@@ -65,7 +65,7 @@ impl Thread {
     #[tactic(auto, using(crate::proofs::PrivateRuns::none_taken))]
     pub fn run(&mut self, code: &Code, limit: u64) -> (u64, Ask)
         ensures within { result.0 ≤ limit }
-        // The thread is as after so many of its own steps, each of them private.
+        // The thread is as after `result.0` of its own steps, each of them private.
         ensures steps { PrivateSteps code.now result.0 self.old self.new }
         ensures asked { result.1 ≡ ask_of code.now self.new }
         // Why it stopped.

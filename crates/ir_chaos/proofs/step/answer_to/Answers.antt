@@ -1,6 +1,6 @@
 use Rattle.std.proofs.Common.{◌∙◌, ap}
 use Rattle.std.proofs.Math.Seq.{map-set_same}
-use Rattle.ir_chaos.proofs.Worlds.{works_at, gained_at, still_works, first_failed}
+use Rattle.ir_record.proofs.CallerLemmas.{works_at, gained_at, still_works, first_failed}
 use Rattle.ir_chaos.proofs.step.answer_to.Goals as goal
 
 pub answer-requires : goal.answer-requires

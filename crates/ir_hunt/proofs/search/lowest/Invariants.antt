@@ -1,6 +1,6 @@
 use Rattle.std.proofs.Common.{◌≡◌, drop, map}
 use Rattle.std.specs.Prelude.{None}
-use Rattle.ir_hunt.specs.Seeds.{lowest_from}
+use Rattle.ir_hunt.proofs.Lowest.{lowest_from}
 use Rattle.ir_hunt.proofs.search.lowest.Given as goal
 
 -- the lowest so far, and then the others

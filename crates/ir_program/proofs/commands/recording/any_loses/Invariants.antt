@@ -1,6 +1,6 @@
 use Rattle.std.proofs.Common.{◌≡◌}
 use Rattle.ir_program.proofs.commands.recording.any_loses.Given as goal
 
--- nothing was told
+-- nothing was reported
 abbrev pub invariant-loop-path : goal.invariant-loop-path
 invariant-loop-path g l = l.faults ≡ l.fn.faults

@@ -1,0 +1,69 @@
+//! The arguments of `ir elf`.
+
+use crate::asked::{Asked, Make};
+use crate::values::{EXPLAIN, IMAGE, file_arg, text_of};
+use clap::{Arg, ArgAction, ArgMatches, Command};
+use std::alloc::{AllocError, Global};
+
+const ELF: &str = "ELF";
+
+/// What follows the help of `ir elf`.
+pub const ELF_AFTER: &str =
+    "ELF is a program that a linker made for RV32IM, of 32 bits and little-endian, with a table of its threads and objects.
+guest/ir.h and guest/ir.ld make one of C:
+  riscv64-unknown-elf-gcc bank.c @guest/ir.opts -o bank.elf
+Its segments are the code from 0x00010000, each thread's variables from 0x00100000, and the table at 0x00200000. Sections and
+symbols aren't read. Compressed and atomic instructions aren't there: an atomic one is end 3 where a thread meets it.
+A file that is no guest is reported on standard error as `elf refused N`. It is the first test that fails, N being
+   1 a field or a segment passes the end of the file
+   2 the file is no ELF file
+   3 the file isn't of 32 bits, little-endian, version 1
+   4 the file is no linked RISC-V program
+   5 the flags name compressed instructions, floating-point registers or RV32E
+   6 the program headers aren't of 32 bytes, or they aren't 1 to 64
+   7 the program is dynamic, wants an interpreter or has thread-local variables
+   8 a segment isn't within the code's, the memory's or the table's addresses
+   9 a segment begins before the end of the one before it
+  10 a segment of the code is writable
+  11 there is no code
+  12 there is no table of threads and objects
+  13 the table has no known form, a wrong number of threads, or no whole objects
+  14 a thread's entry is no place in the code
+With --explain, and at a terminal without it, a line with the file and these words follows.
+Exit status: 0 converted, 1 a file that can't be read or written, 2 bad arguments, 3 a refused file.
+";
+
+/// What is converted, and where to.
+#[derive(Drop)]
+pub struct ElfArguments {
+    /// The file of the program.
+    pub elf: String,
+    /// The file that the image is written to.
+    pub image: String,
+    /// Whether a refusal is explained wherever it is reported.
+    pub explain: bool,
+}
+
+fn explain_arg<'a>(alloc: Global) -> Arg<'a> {
+    Arg::new(alloc, EXPLAIN)
+        .long(EXPLAIN)
+        .action(ArgAction::SetTrue)
+        .help("Explains a refusal in a second line, as is done at a terminal")
+}
+
+/// The command with its arguments.
+pub fn with_arguments<'a>(alloc: Global, command: Command<'a>) -> Result<Command<'a>, AllocError> {
+    command
+        .arg(file_arg(alloc, ELF, "The file with the program"))?
+        .arg(file_arg(alloc, IMAGE, "The file that the image is written to"))?
+        .arg(explain_arg(alloc))
+}
+
+/// What its arguments ask for.
+pub fn asked(alloc: Global, matches: &ArgMatches<'_>) -> Result<Asked, AllocError> {
+    Ok(Asked::Make(Make::Elf(ElfArguments {
+        elf: text_of(alloc, matches, ELF)?,
+        image: text_of(alloc, matches, IMAGE)?,
+        explain: matches.get_flag(EXPLAIN),
+    })))
+}

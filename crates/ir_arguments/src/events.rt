@@ -1,0 +1,46 @@
+//! The arguments of `ir events`.
+
+use crate::asked::{Asked, Print};
+use crate::values::{IMAGE, MAP, TRACE, file_arg, given_text, names_arg, text_of};
+use clap::{ArgMatches, Command};
+use std::alloc::{AllocError, Global};
+
+/// What follows the help of `ir events`.
+pub const EVENTS_AFTER: &str =
+    "For each event of each thread a line `thread T event I step S pc A EVENT` is printed: the event's number as in `ir trace`, the
+thread's position before the step that logs it, the address of its ecall, and the event as `ir trace` prints it. In a session
+of `ir debug` the command `goto T S` stops before that step, and `goto T S+1` after it, with the sum written out.
+With MAP the address has its name: ` <NAME>` is at the symbol, ` <NAME+N>` is N bytes after it. MAP is what `nm -n` prints of a
+program, and what `ir asm --map` writes: lines `A K NAME`, with the address in eight hexadecimal digits and a letter.
+A trace that no run of the image has is refused, as `ir debug` does.
+Exit status: 0 printed, 1 a file that can't be read or standard output that can't be written, 2 bad arguments, 3 a refused
+image or trace, or a line of MAP that is no symbol, 4 a trace that doesn't fit.
+";
+
+/// Which events are listed, and by which names.
+#[derive(Drop)]
+pub struct EventsArguments {
+    /// The file of the image.
+    pub image: String,
+    /// The file of the trace.
+    pub trace: String,
+    /// The file of the names, if there is one.
+    pub map: Option<String>,
+}
+
+/// The command with its arguments.
+pub fn with_arguments<'a>(alloc: Global, command: Command<'a>) -> Result<Command<'a>, AllocError> {
+    command
+        .arg(file_arg(alloc, IMAGE, "The file with the image"))?
+        .arg(file_arg(alloc, TRACE, "The file with the trace"))?
+        .arg(names_arg(alloc))
+}
+
+/// What its arguments ask for.
+pub fn asked(alloc: Global, matches: &ArgMatches<'_>) -> Result<Asked, AllocError> {
+    Ok(Asked::Print(Print::Events(EventsArguments {
+        image: text_of(alloc, matches, IMAGE)?,
+        trace: text_of(alloc, matches, TRACE)?,
+        map: given_text(alloc, matches, MAP)?,
+    })))
+}

@@ -1,0 +1,5 @@
+mod Again
+mod Ends
+mod Listed
+mod Passes
+mod Joined

@@ -1,0 +1,5 @@
+pub mod Events
+pub mod Walk
+pub mod Lines
+pub mod Texts
+pub mod Laws

@@ -1,0 +1,29 @@
+-- What is left where a hunt has no recording.
+use Rattle.std.proofs.Common.{◌≡◌, ℕ, true, false, List, map, refl, sym, ap, ◌∙◌, subst, inl, inr}
+use Rattle.std.specs.Prelude.{Option, Some, None, Result, Ok, Err, OnOk, OnErr, IfSome, MatchOption}
+use Rattle.std.specs.Result.{is_err}
+use Rattle.std.specs.String.{string_bytes}
+use Rattle.ir_record_run.specs.Plan.{Plan}
+use Rattle.ir_chaos.specs.Conditions.{Condition}
+use Rattle.ir_chaos.specs.declared.way.Way.{Way}
+use Rattle.ir_hunt.specs.declared.plan.Seeds.{Seeds}
+use Rattle.ir_hunt.specs.Finding.{IsFoundIn}
+use Rattle.ir_hunt.specs.Lines.{found_line, none_line}
+use Rattle.ir_hunt.specs.Stopping.{IsHuntLine}
+
+pub on_err : {A E : Type 0} (r : Result A E) (P : Type 0) → OnErr r P → is_err r ≡ true → P
+on_err (Ok x) P h e = absurd cc
+on_err (Err x) P h e = h
+
+pub on_ok : {A E : Type 0} (r : Result A E) (P : Type 0) → OnOk r P → is_err r ≡ false → P
+on_ok (Ok x) P h e = h
+on_ok (Err x) P h e = absurd cc
+
+-- the line of what was found, or of nothing
+pub line_is : {F : Type 0} (seed_of : F → ℕ) (list_of : F → List ℕ) (image : List ℕ) (plan : Plan) (way : Way) (seeds : Seeds)
+    (conditions : List Condition) (found : Option F) (line : List ℕ)
+    → IfSome found (λ f. IsFoundIn image plan way (seed_of f) conditions (list_of f))
+    → MatchOption found (line ≡ none_line seeds.first seeds.last) (λ f. line ≡ found_line (seed_of f) (list_of f))
+    → IsHuntLine image plan way seeds conditions line
+line_is seed_of list_of image plan way seeds conditions None line h e = inr e
+line_is seed_of list_of image plan way seeds conditions (Some f) line h e = inl (seed_of f, list_of f, h, e)

@@ -1,0 +1,70 @@
+-- A line of a text, as it is shown.
+use Rattle.std.proofs.Common.{◌≡◌, ◌-◌, ℕ, zero, suc, min, Bool, true, false, List, [], ◌∷◌, ◌++◌, length, map, take, get_or, Option, Some, None, refl, ap, ◌∙◌, codes, arith}
+use Rattle.std.proofs.lemmas.Bool.{eqb-true, ne_eqb}
+use Rattle.std.proofs.lemmas.List.{take_min, nil_from_length}
+use Rattle.std.specs.Prelude.{◌==◌, if◌then◌else◌, slice_get, unwrap_or, option_map}
+use Rattle.std.specs.Str.Lines.{lines, lines_of_parts, strip_carriage_return}
+use Rattle.ir_asm.specs.Text.{split}
+use Rattle.ir_asm.specs.Source.{lines_of, without_return, without_returns}
+use Rattle.ir_image_run.specs.Assembling.{line_at, shown, after_cause}
+
+-- ---- std's lines, and the assembler's
+
+-- a list, or what comes before its element n where that is a carriage return
+abbrev cut_at : List ℕ → ℕ → List ℕ
+cut_at l n = if get_or l n 0 == 13 then take n l else l
+
+cut_behind : (x : ℕ) (l : List ℕ) (n : ℕ) → cut_at (x ∷ l) (suc n) ≡ x ∷ cut_at l n
+cut_behind x l n = by_test (get_or l n 0 == 13)
+  where
+    by_test : (t : Bool) → (if t then x ∷ take n l else x ∷ l) ≡ x ∷ (if t then take n l else l)
+    by_test true = refl
+    by_test false = refl
+
+-- both drop one carriage return at the end
+same_return : (l : List ℕ) → strip_carriage_return l ≡ without_return l
+same_return [] = refl
+same_return (x ∷ []) = refl
+same_return (x ∷ y ∷ l) =
+    let n : length (x ∷ y ∷ l) - 1 ≡ suc (length (y ∷ l) - 1) = omega arith in
+    ap (cut_at (x ∷ y ∷ l)) n ∙ cut_behind x (y ∷ l) (length (y ∷ l) - 1) ∙ ap (λ (r : List ℕ). x ∷ r) (same_return (y ∷ l))
+
+-- an empty last part is no line of std's
+same_line : (parts : List (List ℕ)) (n : ℕ) → get_or (lines_of_parts parts) n [] ≡ get_or (without_returns parts) n []
+same_line [] n = refl
+same_line ([] ∷ []) zero = refl
+same_line ([] ∷ []) (suc n) = refl
+same_line ((b ∷ line) ∷ []) n =
+    ap (λ (t : Bool). get_or (if t then [] else (b ∷ line) ∷ []) n []) (ne_eqb (length (b ∷ line)) 0 (λ e. omega (arith, e)))
+same_line (x ∷ y ∷ parts) zero = same_return x
+same_line (x ∷ y ∷ parts) (suc n) = same_line (y ∷ parts) n
+
+element : (xs : List (List ℕ)) (n : ℕ) → unwrap_or (slice_get xs n) [] ≡ get_or xs n []
+element [] n = refl
+element (x ∷ xs) zero = refl
+element (x ∷ xs) (suc n) = element xs n
+
+read_by : {A : Type 0} (read : A → List ℕ) (found : Option A) (other : A) → read other ≡ [] → read (unwrap_or found other) ≡ unwrap_or (option_map read found) []
+read_by read None other none = none
+read_by read (Some x) other none = refl
+
+-- the line that was found, or an empty one
+pub line_found : {A : Type 0} (read : A → List ℕ) (text : List ℕ) (number n : ℕ) (found : Option A) (other line : A)
+    → option_map read found ≡ slice_get (lines text) n → n ≡ number - 1 → line ≡ unwrap_or found other → read other ≡ []
+    → read line ≡ line_at text number
+line_found read text number n found other line is at taken none =
+    ap read taken ∙ read_by read found other none ∙ ap (λ (o : Option (List ℕ)). unwrap_or o []) is ∙ element (lines text) n
+    ∙ same_line (split 10 text) n ∙ ap (λ (k : ℕ). get_or (lines_of text) k []) at
+
+-- ---- what is shown
+
+-- so much of a line, or all of a shorter one
+pub cut_at_most : (n : ℕ) (line : List ℕ) → take (min n (length line)) line ≡ take n line
+cut_at_most n line = take_min n line
+
+pub nothing_shown : (part : List ℕ) → (length part == 0) ≡ true → after_cause (map shown part) ≡ []
+nothing_shown part empty = ap (λ (l : List ℕ). after_cause (map shown l)) (nil_from_length part (eqb-true (length part) 0 empty))
+
+pub part_shown : (part : List ℕ) → (length part == 0) ≡ false → after_cause (map shown part) ≡ codes ": " ++ map shown part
+part_shown [] some = absurd (cc some)
+part_shown (b ∷ part) some = refl

@@ -1,0 +1,3 @@
+pub mod Assembling
+pub mod Converting
+pub mod Mapping

@@ -1,0 +1,40 @@
+//! `ir elf`: a program in an ELF file is made the image of a guest in another.
+
+ghost use Rattle.std.specs.Prelude.{◌≡◌, false};
+
+use crate::commands::{bytes_of, is_lost, put_in_place, shown_path};
+use ir_arguments::ElfArguments;
+use ir_files::{ExitStatus, Folder, MOST_BYTES, WholeFile};
+use ir_image_run::elf_run;
+use ir_stream::Sink;
+use std::alloc::Global;
+
+// Makes an image of an ELF file, which is in its place only once it is whole.
+pub fn convert_file<D: Folder, E: Sink>(
+    alloc: Global,
+    folder: &D,
+    arguments: &ElfArguments,
+    explains: bool,
+    faults: &mut E,
+) -> ExitStatus
+    requires reports { E.broken faults.old ≡ false }
+{
+    let elf = arguments.elf.as_str();
+    let image = arguments.image.as_str();
+    let mut file = WholeFile::new(alloc, folder, image);
+    if is_lost(
+        folder,
+        faults,
+        "IMAGE would be written over ELF",
+        elf,
+        image,
+    ) {
+        return ExitStatus::BadArguments;
+    }
+    let Some(bytes) = bytes_of(alloc, folder, faults, elf, MOST_BYTES) else {
+        return ExitStatus::Failed;
+    };
+    let explained = (explains || arguments.explain).then_some(shown_path(elf, "ELF"));
+    let status = elf_run(alloc, bytes.as_slice(), explained, &mut file, faults);
+    put_in_place(&mut file, status, elf, faults)
+}

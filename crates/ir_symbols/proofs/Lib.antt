@@ -1,0 +1,8 @@
+mod Names
+mod Counts
+mod Ranges
+mod Nearest
+mod Found
+mod Lines
+mod OneSort
+mod RoundTrip

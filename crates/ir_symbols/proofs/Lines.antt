@@ -1,0 +1,129 @@
+-- Lines that are read one after the other.
+use Rattle.std.proofs.Common.{◌≡◌, ◌+◌, ◌-◌, ◌<◌, ◌≤◌, ℕ, suc, Bool, true, false, cond, ltb, ltb-true, ltb-false, List, [], ◌∷◌, ◌++◌, length, take, drop, refl, sym, ap, ◌∙◌, arith, append_assoc, Bor}
+use Rattle.std.specs.Prelude.{Option, Some, None, Result, Ok, Err, map, position, ◌==◌, IfSome, MatchOption}
+use Rattle.std.specs.List.{slice_split, position_or_len}
+use Rattle.std.specs.Str.Lines.{strip_carriage_return}
+use Rattle.std.proofs.lemmas.List.{take_rest}
+use Rattle.std.proofs.lemmas.List.Splits.{slice_split_none, slice_split_first}
+use Rattle.std.proofs.lemmas.List.Sums.{fails_before_first}
+use Rattle.ir_symbols.specs.Symbols.{Symbol}
+use Rattle.ir_symbols.specs.Maps.{lines_of, entry_of, symbols_from, with_first, with_entry}
+use Rattle.ir_symbols.specs.declared.entry.Entry.{Entry}
+use Rattle.ir_symbols.specs.declared.entry.Entry.TheVariants.{Nothing, Names, Faulty}
+
+-- ---- cutting
+
+-- a line feed
+abbrev is_feed : ℕ → Bool
+is_feed b = b == 10
+
+place_by : (b : Bool) (m n : ℕ) → cond b (Some m) None ≡ Some n → (b ≡ true) × (m ≡ n)
+place_by true m n e = (refl, cc e)
+place_by false m n e = cc e
+
+no_place_by : (b : Bool) (m : ℕ) → cond b (Some m) None ≡ None → b ≡ false
+no_place_by true m e = cc e
+no_place_by false m e = refl
+
+split_found : (text : List ℕ) (n : ℕ) → position is_feed text ≡ Some n
+    → slice_split is_feed text ≡ take n text ∷ slice_split is_feed (drop (n + 1) text)
+split_found text n e =
+    let p = place_by (ltb (position_or_len is_feed text) (length text)) (position_or_len is_feed text) n e in
+    slice_split_first is_feed text 0 (ltb-true _ _ p.0)
+    ∙ ap (λ (k : ℕ). take k text ∷ slice_split is_feed (drop (k + 1) text)) p.1
+
+split_single : (text : List ℕ) → position is_feed text ≡ None → slice_split is_feed text ≡ text ∷ []
+split_single text e =
+    let past : length text ≤ position_or_len is_feed text =
+    ltb-false _ _ (no_place_by (ltb (position_or_len is_feed text) (length text)) (position_or_len is_feed text) e) in
+    slice_split_none is_feed text (λ k d l. fails_before_first is_feed text k d (omega (arith, past, l)))
+
+-- the first line, where a line feed ends it
+pub line_taken : (text line : List ℕ) (n : ℕ) → position is_feed text ≡ Some n → line ≡ strip_carriage_return (take n text)
+    → lines_of text ≡ line ∷ lines_of (take (length text - (n + 1)) (drop (n + 1) text))
+line_taken text line n e f =
+    ap (λ (parts : List (List ℕ)). map strip_carriage_return parts) (split_found text n e)
+    ∙ ap (λ (first : List ℕ). first ∷ lines_of (drop (n + 1) text)) (sym f)
+    ∙ ap (λ (rest : List ℕ). line ∷ lines_of rest) (sym (take_rest text (n + 1)))
+
+-- the last line
+pub line_alone : (text line : List ℕ) → position is_feed text ≡ None → line ≡ strip_carriage_return text → lines_of text ≡ line ∷ []
+line_alone text line e f =
+    ap (λ (parts : List (List ℕ)). map strip_carriage_return parts) (split_single text e) ∙ ap (λ (first : List ℕ). first ∷ []) (sym f)
+
+-- ---- reading
+
+-- the lines that are left of a map
+abbrev pub lines_left : Option (Bor (List ℕ)) → List (List ℕ)
+lines_left None = []
+lines_left (Some text) = lines_of text.now
+
+-- more than the bytes that are left
+abbrev pub size_left : Option (Bor (List ℕ)) → ℕ
+size_left None = 0
+size_left (Some text) = suc (length text.now)
+
+-- symbols before those that are read
+abbrev pub with_all : List Symbol → Result (List Symbol) ℕ → Result (List Symbol) ℕ
+with_all first (Ok symbols) = Ok (first ++ symbols)
+with_all first (Err number) = Err number
+
+with_all-with_first : (first : List Symbol) (s : Symbol) (read : Result (List Symbol) ℕ)
+    → with_all first (with_first s read) ≡ with_all (first ++ s ∷ []) read
+with_all-with_first first s (Ok symbols) = ap (λ (l : List Symbol). Ok l) (sym (append_assoc first (s ∷ []) symbols))
+with_all-with_first first s (Err number) = refl
+
+-- the next of the lines that are left
+next_left : (left after : Option (Bor (List ℕ))) (text : Bor (List ℕ)) (line : List ℕ) → left ≡ Some text
+    → MatchOption after (lines_of text.now ≡ line ∷ []) (λ rest. lines_of text.now ≡ line ∷ lines_of rest.now)
+    → lines_left left ≡ line ∷ lines_left after
+next_left left None text line e h = ap lines_left e ∙ h
+next_left left (Some rest) text line e h = ap lines_left e ∙ h
+
+-- what it says, and the others
+next_read : (number : ℕ) (left after : Option (Bor (List ℕ))) (text : Bor (List ℕ)) (line : List ℕ) (entry : Entry) → left ≡ Some text
+    → MatchOption after (lines_of text.now ≡ line ∷ []) (λ rest. lines_of text.now ≡ line ∷ lines_of rest.now)
+    → entry ≡ entry_of line
+    → symbols_from (number + 1) (lines_left left) ≡ with_entry (number + 1) entry (symbols_from (number + 1 + 1) (lines_left after))
+unfolding symbols_from
+next_read number left after text line entry e h f =
+    ap (symbols_from (number + 1)) (next_left left after text line e h)
+    ∙ ap (λ (said : Entry). with_entry (number + 1) said (symbols_from (number + 1 + 1) (lines_left after))) (sym f)
+
+-- of an empty rest
+pub none_left : (number : ℕ) (left : Option (Bor (List ℕ))) → ((text : Bor (List ℕ)) → left ≡ Some text → ⊥)
+    → symbols_from number (lines_left left) ≡ Ok []
+unfolding symbols_from
+none_left number None h = refl
+none_left number (Some text) h = absurd (h text refl)
+
+-- a line that says nothing, one of a symbol, and a faulty one
+pub nothing_read : (whole : Result (List Symbol) ℕ) (first : List Symbol) (number : ℕ) (left after : Option (Bor (List ℕ))) (text : Bor (List ℕ))
+    (line : List ℕ) → left ≡ Some text
+    → MatchOption after (lines_of text.now ≡ line ∷ []) (λ rest. lines_of text.now ≡ line ∷ lines_of rest.now) → Nothing ≡ entry_of line
+    → with_all first (symbols_from (number + 1) (lines_left left)) ≡ whole
+    → with_all first (symbols_from (number + 1 + 1) (lines_left after)) ≡ whole
+nothing_read whole first number left after text line e h f done =
+    sym (ap (with_all first) (next_read number left after text line Nothing e h f)) ∙ done
+
+pub symbol_read : (whole : Result (List Symbol) ℕ) (first : List Symbol) (number : ℕ) (left after : Option (Bor (List ℕ))) (text : Bor (List ℕ))
+    (line : List ℕ) (s : Symbol) → left ≡ Some text
+    → MatchOption after (lines_of text.now ≡ line ∷ []) (λ rest. lines_of text.now ≡ line ∷ lines_of rest.now) → Names s ≡ entry_of line
+    → with_all first (symbols_from (number + 1) (lines_left left)) ≡ whole
+    → with_all (first ++ s ∷ []) (symbols_from (number + 1 + 1) (lines_left after)) ≡ whole
+symbol_read whole first number left after text line s e h f done =
+    sym (ap (with_all first) (next_read number left after text line (Names s) e h f)
+    ∙ with_all-with_first first s (symbols_from (number + 1 + 1) (lines_left after))) ∙ done
+
+pub fault_read : (whole : Result (List Symbol) ℕ) (first : List Symbol) (number : ℕ) (left after : Option (Bor (List ℕ))) (text : Bor (List ℕ))
+    (line : List ℕ) → left ≡ Some text
+    → MatchOption after (lines_of text.now ≡ line ∷ []) (λ rest. lines_of text.now ≡ line ∷ lines_of rest.now) → Faulty ≡ entry_of line
+    → with_all first (symbols_from (number + 1) (lines_left left)) ≡ whole → whole ≡ Err (number + 1)
+fault_read whole first number left after text line e h f done =
+    sym done ∙ ap (with_all first) (next_read number left after text line Faulty e h f)
+
+-- there are fewer bytes left
+pub less_left : (left after : Option (Bor (List ℕ))) (text : Bor (List ℕ)) → left ≡ Some text
+    → IfSome after (λ rest. length rest.now < length text.now) → size_left after < size_left left
+less_left left None text e h = let size : size_left left ≡ suc (length text.now) = ap size_left e in omega (arith, size)
+less_left left (Some rest) text e h = let size : size_left left ≡ suc (length text.now) = ap size_left e in omega (arith, size, h)

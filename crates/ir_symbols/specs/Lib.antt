@@ -1,0 +1,4 @@
+pub mod Symbols
+pub mod Tables
+pub mod Names
+pub mod Maps
