@@ -1,6 +1,6 @@
 # The commands of the repository. Each needs the Rattle kit's `rt` and Python 3, and nothing else, but for the tests of the built program.
 
-.PHONY: all try run check test edits program-test refuse mutate bench
+.PHONY: all try run check test edits program-test c-test refuse mutate bench
 
 all: ir
 
@@ -38,6 +38,10 @@ edits: ir
 # The program as a person runs it: devices, pipes, signals, the commands of README, guide and examples. Needs Linux, bash and xxd beside.
 program-test: ir
 	python3 tests/program.py ./ir
+
+# Guests from C: compiled at four levels, converted, recorded, hunted in. Needs riscv64-unknown-elf-gcc beside, and says so if it isn't there.
+c-test: ir
+	python3 tests/c_guests.py ./ir
 
 # The tests of sessions as a program, of which those about memory are run here. Proves them too.
 TESTS := crates/ir_session_tests/out/ir_session_tests_tests

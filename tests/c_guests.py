@@ -1,0 +1,483 @@
+#!/usr/bin/env python3
+"""Tests of guests from C: sources are compiled, converted by `ir elf`, recorded, hunted in and debugged.
+
+python3 tests/c_guests.py IR [TEST ..]
+
+Needs riscv64-unknown-elf-gcc. If it isn't installed nothing is tested, and the status is 0. Runs each test in a folder of its own, or only
+those that are named. The last line is `N passed, M failed`.
+"""
+import re
+import shutil
+import subprocess
+import sys
+import tempfile
+from dataclasses import dataclass
+from functools import partial
+from pathlib import Path
+
+from hunting import found
+from lib import TOP, Wrong, finish, program, run, shell, use, wants
+from pages import commands_of, matches
+
+sys.path.append(str(TOP / "tests" / "c_guests"))
+
+import make  # noqa: E402
+
+TOOLS = "riscv64-unknown-elf-"
+LEVELS = ("-O0", "-Og", "-O2", "-Os")
+
+# The page, and the compiler whose addresses it has.
+PAGE = TOP / "docs" / "guide" / "c-guests.md"
+PAGE_COMPILER = "12.2.0"
+
+# The examples, by name: the source, and what its recordings need.
+EXAMPLES = {"bank": ("bank.c", ()), "buffer": ("buffer.c", ()), "over": ("over.c", ()), "wide": ("wide.c", ("--profile", "2")), "gas": ("gas.S", ())}
+
+# Each example without its fault: texts and what is in their place. A hunt through these seeds then finds nothing.
+MENDED = {
+    "bank": ("1+100", [("be another */\n", "be another */\n    if ((int)ir_get(BANK, FROM) < amount) {\n        ir_leave(BANK);\n        return 0;\n    }\n")]),
+    "buffer": ("1+100", [("count - 1);\n    }\n    ir_leave", "count - 1);\n    } else {\n        ir_put(BUFFER, WAITS, 1);\n    }\n    ir_leave"),
+                         ("    ir_enter_write(BUFFER);\n    ir_put(BUFFER, WAITS, 1);  ", "    ir_enter_write(BUFFER);  ")]),
+    "over": ("1+100", [("copy[4]", "copy[7]")]),
+    "wide": ("1+2", [("    if (!ir_try_write(pile))\n        return 0; ", "    while (!ir_try_write(pile))\n        ir_pause(20); ")]),
+    "gas": ("1+100", [("counter ENTER_READ", "counter ENTER_WRITE"),
+                      ("        counter LEAVE                   # from here on the other thread may write\n        counter ENTER_WRITE\n", "")]),
+}
+
+# What compilers make of many kinds of code, and how it prints. Threads share nothing, so each recording is the same.
+MIXED = r"""
+#include "ir.h"
+struct row { char name[12]; short number; };
+static const struct row rows[3] = {{"one", 1}, {"minus two", -2}, {"three", 3}};
+static struct row copies[3];
+static int counts[4] = {10, 20, 30, 40};
+static const char *const words[] = {"zero", "one", "two"};
+static volatile unsigned long long large = 1000000000000000003ull;
+static volatile double half = 1.5;
+static volatile int minus = -17;
+static int chosen(int n)
+{
+    switch (n) { case 0: return 7; case 1: return 5; case 2: return 11; case 3: return 13; case 4: return 17; case 5: return 19; }
+    return 23;
+}
+static unsigned fibonacci(unsigned n) { return n < 2 ? n : fibonacci(n - 1) + fibonacci(n - 2); }
+IR_THREAD(mixed)
+{
+    char text[] = "abcdef";
+    int sum = 0;
+    for (int i = 0; i < 3; i++) copies[i] = rows[2 - i];
+    for (int i = 0; i < 4; i++) sum += counts[i] *= i;
+    ir_puts(copies[1].name);
+    ir_putn(copies[0].number + 10 * copies[1].number);
+    ir_puts(words[2]);
+    ir_putn(sum);
+    ir_putn(chosen(4) + chosen(-minus));
+    ir_putn(fibonacci(12));
+    ir_putn(large / 21 >> 32);
+    ir_putn(large / 21);
+    ir_putn(minus / 5);
+    ir_putn(minus % 5);
+    ir_putn(half * 123);
+    memmove(text + 1, text, 4);
+    ir_puts(text);
+    ir_putn(memcmp(text, "aabcdg", 6) < 0);
+    memset(text, 'x', 3);
+    ir_puts(text);
+    return counts[3];
+}
+IR_THREADS(mixed, mixed);
+"""
+THIRD = 1000000000000000003 // 21
+LOW = (THIRD + 2**31) % 2**32 - 2**31
+PRINTED = f"minus two-17\ntwo200\n40\n144\n{THIRD >> 32}\n{LOW}\n-3\n-2\n184\naabcdf1\nxxxcdf".encode()
+
+# A source whose thread does this.
+HEAD = '#include "ir.h"\nint down(int n) {{ volatile char room[256]; room[n & 255] = n; return n ? down(n - 1) + room[0] : 0; }}\n'
+BODY = HEAD + "IR_THREAD(t) {{ {} return 0; }}\nIR_THREADS(t);\nIR_OBJECTS({{1}}, {{2}});\n"
+
+# Each row: what a thread does, and the number of its end.
+ENDS = [
+    ("ir_end(0);", 1),
+    ("__builtin_trap();", 2),
+    ("return *(volatile int *)0x300000;", 6),
+    ("*(volatile int *)ir_self() = 1;", 7),
+    ("static const int one = 1; *(volatile int *)&one = 2;", 7),
+    ("return down(20);", 1),
+    ("return down(10000);", 7),
+    ("return ir_try_write(0);", 8),
+    ("ir_enter_read(2);", 9),
+    ("ir_enter_read(0); return ir_get(0, 8);", 9),
+    ("ir_enter_write(1); ir_enter_read(0);", 10),
+    ("ir_enter_read(0); ir_enter_read(0);", 10),
+    ("ir_leave(0);", 11),
+    ("return ir_get(0, 0);", 11),
+    ("ir_enter_read(0); ir_put(0, 0, 1);", 11),
+    ("for (int i = 0; i < 65537; i++) ir_putc('x');", 12),
+    ("for (;;) ir_pause(1);", 13),
+]
+
+# Each row: a name, a source that is refused, more options, and what is reported.
+THREAD = '#include "ir.h"\nIR_THREAD(t) { return 0; }\n'
+REFUSED = [
+    ("code", '#include "ir.h"\nconst char large[65536] = {1};\nIR_THREAD(t) { return large[ir_self()]; }\nIR_THREADS(t);\n', [],
+     "ir.ld: code and constants are over 65536 bytes"),
+    ("variables", '#include "ir.h"\nchar large[49153];\nIR_THREAD(t) { return large[ir_self()]; }\nIR_THREADS(t);\n', [],
+     "ir.ld: stack and variables are over 65536 bytes"),
+    ("stack", f"{THREAD}IR_THREADS(t);\n", ["-Wl,--defsym=ir_stack=65537"], "ir.ld: stack and variables are over 65536 bytes"),
+    ("no-threads", THREAD, [], "ir.ld: no IR_THREADS"),
+    ("main", "int main(void) { return 0; }\n", [], "ir.ld: no IR_THREADS"),
+    ("constructor", f"{THREAD}IR_THREADS(t);\nint one;\n__attribute__((constructor)) void begin(void) {{ one = 1; }}\n", [], "ir.ld: a constructor"),
+    ("thread-local", f"{THREAD}IR_THREADS(t);\n_Thread_local int one = 1;\n", [], "ir.ld: a thread-local variable"),
+    ("thread-local-zero", f"{THREAD}IR_THREADS(t);\n_Thread_local int zero;\n", [], "ir.ld: a thread-local variable"),
+    ("atomic", '#include <stdatomic.h>\n#include "ir.h"\n_Atomic int n;\nIR_THREAD(t) { return atomic_fetch_add(&n, 1); }\nIR_THREADS(t);\n', [],
+     "undefined reference to `__atomic_fetch_add_4'"),
+    ("nine", f"{THREAD}IR_THREADS(t, t, t, t, t, t, t, t, t);\n", [], "IR_THREADS takes 1 to 8 threads, or 1 to 16 with IR_LARGE"),
+    ("none", f"{THREAD}IR_THREADS();\n", [], "IR_THREADS takes 1 to 8 threads, or 1 to 16 with IR_LARGE"),
+    ("twice", f"{THREAD}IR_THREADS(t);\nIR_THREADS(t);\n", [], "in expansion of macro 'IR_THREADS'"),
+    ("plain", '#include "ir.h"\nint f(void) { return 0; }\nIR_THREADS(f);\n', [], "initialization of 'struct made_by_IR_THREAD * (*)(void)'"),
+    ("objects", f"{THREAD}IR_THREADS(t);\nIR_OBJECTS([16] = {{1}});\n", [], "IR_OBJECTS takes at most 16 objects, or 64 with IR_LARGE"),
+    ("large-two", f"#define IR_LARGE 2\n{THREAD}IR_THREADS(t);\n", [], "IR_LARGE is 0 or 1"),
+    ("large-nothing", f"#define IR_LARGE\n{THREAD}IR_THREADS(t);\n", [], "IR_LARGE is 0 or 1"),
+    ("compressed", f"{THREAD}IR_THREADS(t);\n", ["-march=rv32imac"], "guests are for -march=rv32im -mabi=ilp32"),
+]
+
+
+@dataclass
+class Recording:
+    """What a recording came to: its lines, what each thread printed, the words of each object at the end, and the trace."""
+
+    lines: list
+    printed: list
+    objects: list
+    trace: bytes
+
+    def ends(self):
+        """The end of each thread, and its code."""
+        return [tuple(int(line.split()[k]) for k in (3, 5)) for line in self.lines]
+
+
+# Compiling and recording.
+
+
+def tool(name, folder, *arguments):
+    """What a tool for RISC-V prints."""
+    return subprocess.run([TOOLS + name, *arguments], cwd=folder, check=True, capture_output=True, text=True).stdout
+
+
+def gcc(folder, source, elf, *more):
+    """A run of the compiler, as a user runs it, and then more options."""
+    command = [TOOLS + "gcc", source, "@guest/ir.opts", *more, "-o", elf]
+    return subprocess.run(command, cwd=folder, check=False, capture_output=True, text=True, timeout=120)
+
+
+def converted(folder, source, name, *more):
+    """Compiles a source, and converts it. Each address has the byte that readelf and the file give it."""
+    ended = gcc(folder, source, f"{name}.elf", "-Wextra", "-Wpedantic", *more)
+    wants(f"{source}: the compiler", (ended.returncode, ended.stderr), (0, ""))
+    ended = run(["elf", f"{name}.elf", f"{name}.img"], folder)
+    wants(f"{source}: ir elf", (ended.returncode, ended.stdout, ended.stderr), (0, b"", b""))
+    image, wanted = (folder / f"{name}.img").read_bytes(), make.image(str(folder / f"{name}.elf"))
+    if image != wanted:
+        place = next((k for k, (a, b) in enumerate(zip(image, wanted)) if a != b), min(len(image), len(wanted)))
+        raise Wrong(f"{source}: the image of {len(image)} bytes isn't the one of {len(wanted)} bytes that readelf names, from byte {place} on")
+
+
+def example(folder, name, *more):
+    """Compiles and converts an example."""
+    converted(folder, f"examples/c/{EXAMPLES[name][0]}", name, *more)
+
+
+def session(folder, name, *lines):
+    """The lines that a session answers, without `ready`."""
+    ended = run(["debug", f"{name}.img", f"{name}.trc"], folder, input="".join(f"{line}\n" for line in lines).encode(), timeout=300)
+    answers = ended.stdout.decode().splitlines()
+    wants(f"{name}: a session", (ended.returncode, ended.stderr, answers[:1]), (0, b"", ["ready"]))
+    return answers[1:]
+
+
+def words_of(folder, name):
+    """The words of each object at the end."""
+    objects = (folder / f"{name}.img").read_bytes()[5]
+    answers = session(folder, name, "end", *(f"obj {number}" for number in range(objects)))
+    return [[int(word, 16) for word in line.split()[1:]] for line in answers if line.startswith("words ")]
+
+
+def recorded(folder, name, *more):
+    """Records an image."""
+    ended = run(["record", f"{name}.img", f"{name}.trc", "--output", name, *more], folder, timeout=300)
+    wants(f"recording {name}", (ended.returncode, ended.stderr), (0, b""))
+    lines = ended.stdout.decode().splitlines()
+    printed = [(folder / f"{name}.{thread}").read_bytes() for thread in range(len(lines))]
+    return Recording(lines, printed, words_of(folder, name), (folder / f"{name}.trc").read_bytes())
+
+
+# What holds of every recording of an example. Each function returns what is the same in all of them.
+
+
+def of_bank(recording):
+    """No money is lost, and what was moved is printed."""
+    left, moved = recording.objects[0][:2]
+    wants("the money", (left + moved) % 2**32, 100)
+    wants("what is printed", sum(map(int, recording.printed)), moved)
+    return recording.ends()
+
+
+def of_buffer(recording):
+    """The consumer prints the sum of all numbers, or waits for ever."""
+    ends, printed = recording.ends(), recording.printed
+    wants("the consumer", (ends[1], printed[1]) in (((1, 0), b"78\n"), ((13, 0), b"")), True)
+    wants("the producer", (ends[0] in ((1, 0), (13, 0)), printed[0]), (True, b""))
+
+
+def of_over(recording):
+    """The reader prints the sum of the first numbers, up to four, or comes to a bad store. The writer does the same each time."""
+    sums = [((1, 0), f"{sum(range(101, 101 + count))}\n".encode()) for count in range(5)]
+    wants("the reader", (recording.ends()[1], recording.printed[1]) in [*sums, ((7, 0), b"")], True)
+    wants("the list", recording.objects, [[6, 101, 102, 103, 104, 105, 106, 0]])
+    return recording.lines[0]
+
+
+def of_wide(recording):
+    """Each job is taken or left, and each worker prints how many it took."""
+    taken = [code for end, code in recording.ends() if end == 1]
+    wants("the jobs", sum(taken) + sum(pile[0] for pile in recording.objects), 64 * 16)
+    wants("what is printed", recording.printed, [f"{count}\n".encode() for count in taken])
+    return [line.split()[-1] for line in recording.lines]
+
+
+def of_gas(recording):
+    """A thread takes the same steps each time, and the counter is at most 11."""
+    wants("the counter", 7 <= recording.objects[0][0] <= 11, True)
+    return recording.lines
+
+
+def of_mixed(recording):
+    """All is known beforehand."""
+    wants("what is printed", recording.printed, [PRINTED, PRINTED])
+    wants("the ends", recording.ends(), [(1, 120), (1, 120)])
+    return [line.split()[2:] for line in recording.lines]
+
+
+JUDGES = {"bank": of_bank, "buffer": of_buffer, "over": of_over, "wide": of_wide, "gas": of_gas, "mixed": of_mixed}
+
+
+def both_ways(folder, name, more):
+    """An image recorded in order, twice, and by threads."""
+    orders = [recorded(folder, name, "--order", "0", *more) for _ in range(2)]
+    wants(f"{name}: the same order", orders[0], orders[1])
+    by_threads = recorded(folder, name, *more)
+    wants(f"{name}: by threads", JUDGES[name](by_threads), JUDGES[name](orders[0]))
+
+
+def test_level(folder, name, level):
+    """An example at a level: its image, and its recordings."""
+    if name == "mixed":
+        (folder / "mixed.c").write_text(MIXED)
+        converted(folder, "mixed.c", name, level)
+    else:
+        example(folder, name, level)
+    both_ways(folder, name, EXAMPLES.get(name, ("", ()))[1])
+
+
+# What a wrong source leads to.
+
+
+def test_refused(folder, source, more, message):
+    """A source that the compiler or the linker refuses, with a message that says why."""
+    (folder / "bad.c").write_text(source)
+    ended = gcc(folder, "bad.c", "bad.elf", *more)
+    wants("the status", ended.returncode, 1)
+    if message not in ended.stderr:
+        raise Wrong(f"{message!r} isn't reported: {ended.stderr}")
+
+
+def test_unasked(folder):
+    """Without the options the header says which to take."""
+    (folder / "bad.c").write_text(THREAD)
+    ended = subprocess.run([TOOLS + "gcc", "-Iguest", "-c", "bad.c"], cwd=folder, check=False, capture_output=True, text=True)
+    wants("the options", (ended.returncode, "compile by riscv64-unknown-elf-gcc FILE.c @guest/ir.opts -o FILE.elf" in ended.stderr), (1, True))
+
+
+def test_ends(folder):
+    """What a thread does wrong leads to the end that the header says."""
+    for level in ("-O0", "-O2"):
+        for body, end in ENDS:
+            (folder / "ends.c").write_text(BODY.format(body))
+            ended = gcc(folder, "ends.c", "ends.elf", level, "-w")
+            wants(f"{body}: the compiler", (ended.returncode, ended.stderr), (0, ""))
+            wants(f"{body}: ir elf", run("elf ends.elf ends.img", folder).returncode, 0)
+            ended = run("record ends.img ends.trc --budget 2000000", folder)
+            wants(f"{body} at {level}", ended.stdout.split()[3:4], [str(end).encode()])
+
+
+def test_files(folder):
+    """A guest of two files, with a stack of another size, and with variables and constants in sections of their own; stripped it is the same."""
+    (folder / "one.c").write_text('#include "ir.h"\nir_entry second;\nIR_THREAD(first) { return 1; }\nIR_THREADS(first, second, first);\n')
+    (folder / "two.c").write_text('#include "ir.h"\n#define IN(x) __attribute__((section(x)))\nIN("constants") const int c = 2; IN("variables") int v = 3;\n'
+                                  "IN(\"functions\") int f(int n) { return n + 1; }\nIR_THREAD(second) { v += c; return f(v); }\nIR_OBJECTS([2] = {7});\n")
+    converted(folder, "one.c", "files", "two.c", "-Wl,--defsym=ir_stack=100")
+    recording = recorded(folder, "files", "--order", "0")
+    wants("the ends", (recording.ends(), recording.objects[2][0]), ([(1, 1), (1, 6), (1, 1)], 7))
+    wants("the stack", re.search(r"(\w+) \w ir_stack_top", tool("nm", folder, "files.elf"))[1], "00100070")
+    converted(folder, "one.c", "stripped", "two.c", "-Wl,--defsym=ir_stack=100", "-s", "-Wl,-n")
+    wants("stripped", (folder / "stripped.img").read_bytes(), (folder / "files.img").read_bytes())
+
+
+def test_clang(folder):
+    """Clang has no warning about the header, its functions and the examples either, if it is installed and knows RISC-V."""
+    if not shutil.which("clang") or "riscv32" not in subprocess.run(["clang", "-print-targets"], check=False, capture_output=True, text=True).stdout:
+        print("  no clang for RISC-V is installed, so it isn't tried")
+        return
+    options = "--target=riscv32 -march=rv32im -mabi=ilp32 -ffreestanding -std=c11 -Wall -Wextra -Wpedantic -Werror -Iguest -c -o clang.o".split()
+    for source in ["guest/ir_mem.c", *(f"examples/c/{source}" for source, _ in EXAMPLES.values() if source.endswith(".c"))]:
+        for level in ("-O0", "-O2"):
+            ended = subprocess.run(["clang", *options, level, source], cwd=folder, check=False, capture_output=True, text=True)
+            wants(f"{source}: clang {level}", (ended.returncode, ended.stderr), (0, ""))
+
+
+# The stories of the examples.
+
+
+def hunt_of(name):
+    """The arguments of the hunt that an example's comment names."""
+    source, more = EXAMPLES[name]
+    arguments = re.search(r"^ +ir (hunt .*?)(?: \*/)?$", (TOP / "examples" / "c" / source).read_text(), re.MULTILINE)[1]
+    wants(f"{name}: what it needs", " ".join(more) in arguments, True)
+    return arguments
+
+
+def line_of(folder, name, address):
+    """The function and the line of an address, in the file of the user."""
+    return tool("addr2line", folder, "-fips", "-e", f"{name}.elf", address).splitlines()[-1].removeprefix(" (inlined by) ")
+
+
+def text_of(folder, name, address):
+    """The function of an address, and the text of its line."""
+    function, line = re.match(r"(\w+) at .*:(\d+)", line_of(folder, name, address)).groups()
+    return function, (TOP / "examples" / "c" / EXAMPLES[name][0]).read_text().splitlines()[int(line) - 1].strip()
+
+
+def stale_writes(folder, name, thread):
+    """How often a thread wrote over another version than it had read in the entry before."""
+    log = [line.split() for line in session(folder, name, "end", f"log {thread}") if " version " in line]
+    return sum(a[1] == "read" and b[1] == "write" and a[4] != b[4] for a, b in zip(log, log[1:]))
+
+
+def story_of_bank(folder):
+    """A payer decides by a balance that isn't in the account any more."""
+    wants("the account", words_of(folder, "bank")[0][:2], [2**32 - 20, 120])
+    stale = [thread for thread in (0, 1) if stale_writes(folder, "bank", thread)]
+    wants("who decided by an old balance", len(stale), 1)
+    answers = session(folder, "bank", "owatch 0", "end", f"rcont {stale[0]}", f"regs {stale[0]}")
+    wants("a hit", answers[2][-6:], " hit 1")
+    wants("the function", text_of(folder, "bank", answers[3].split()[1])[0], "transfer")
+
+
+def story_of_buffer(folder):
+    """The buffer is full, and the consumer waits."""
+    count, waits = words_of(folder, "buffer")[0][:2]
+    wants("the buffer", (count, waits), (4, 1))
+    answers = session(folder, "buffer", "owatch 0", "end", "rcont 1", "regs 1")
+    wants("the last that the consumer wrote", text_of(folder, "buffer", answers[3].split()[1])[0], "wait_until_woken")
+
+
+def story_of_over(folder):
+    """The pointer to the sum is written over in the loop that copies."""
+    wants("the end", b"thread 1 end 7 " in run("trace over.trc", folder).stdout, True)
+    mine = int(re.search(r"(\w+) d mine", tool("nm", folder, "over.elf"))[1], 16)
+    answers = session(folder, "over", f"watch 1 {mine + 16}", "end", "rcont 1", "back 1 1", "next 1", "end", "back 1 1", "next 1")
+    stores = [line.split() for line in answers if line.startswith("next ")]
+    wants("the stores", [store[2] for store in stores], ["sw", "sw"])
+    wants("who wrote over it", text_of(folder, "over", stores[0][1]), ("copied", "to[i] = ir_get(LIST, FIRST + i);"))
+    wants("the bad store", text_of(folder, "over", stores[1][1]), ("reader_body", "*mine.sum = total;"))
+
+
+def story_of_wide(folder):
+    """An attempt was refused, and a job is left."""
+    wants("jobs that are left", sum(pile[0] for pile in words_of(folder, "wide")) > 0, True)
+    wants("an attempt", b" try " in run("trace wide.trc", folder).stdout, True)
+
+
+def story_of_gas(folder):
+    """An update is lost."""
+    wants("the counter", words_of(folder, "gas")[0][0] < 11, True)
+    wants("who wrote over what it had not read", sum(stale_writes(folder, "gas", thread) for thread in (0, 1)) > 0, True)
+
+
+STORIES = {"bank": story_of_bank, "buffer": story_of_buffer, "over": story_of_over, "wide": story_of_wide, "gas": story_of_gas}
+
+
+def test_story(folder, name):
+    """The hunt of the example's comment finds its fault, at each level. A session shows it at the level of ir.opts, the last here."""
+    for level in sorted(LEVELS, key="-Og".__eq__):
+        example(folder, name, level)
+        _, _, lines = found(hunt_of(name), folder)
+        wants(f"{name}{level}: how many threads", len(lines.splitlines()), (folder / f"{name}.img").read_bytes()[4])
+    STORIES[name](folder)
+
+
+def test_mended(folder, name):
+    """Without the fault the same hunt finds nothing."""
+    source, _ = EXAMPLES[name]
+    text = (TOP / "examples" / "c" / source).read_text()
+    seeds, changes = MENDED[name]
+    for old, new in changes:
+        wants(f"{name}: {old!r}", text.count(old), 1)
+        text = text.replace(old, new)
+    (folder / source).write_text(text)
+    converted(folder, source, name)
+    ended = run(hunt_of(name).replace("--seeds 1+1000", f"--seeds {seeds}"), folder, timeout=300)
+    wants(f"{name}: a hunt", (ended.returncode, ended.stdout[:5]), (5, b"none "))
+
+
+def test_page(folder):
+    """Each command of the page writes what follows it there, if the compiler is the one of the page."""
+    if tool("gcc", folder, "-dumpfullversion").strip() != PAGE_COMPILER:
+        print(f"  the addresses of the page are those of gcc {PAGE_COMPILER}, so its commands aren't run")
+        return
+    for command, typed, wanted in commands_of(PAGE.read_text()):
+        ended = shell(command, folder, "".join(f"{line}\n" for line in typed).encode())
+        if not matches(ended.stdout.decode().splitlines(), wanted):
+            raise Wrong(f"{command}: wrote {ended.stdout.decode()!r}")
+        wants(f"{command}: standard error", ended.stderr, b"")
+
+
+def tests():
+    """Each test, by its name."""
+    all_ = {f"{name}{level}": partial(test_level, name=name, level=level) for name in JUDGES for level in LEVELS}
+    all_ |= {f"refused-{name}": partial(test_refused, source=source, more=more, message=why) for name, source, more, why in REFUSED}
+    all_ |= {"refused-unasked": test_unasked, "ends": test_ends, "files": test_files, "clang": test_clang, "page": test_page}
+    all_ |= {f"story-{name}": partial(test_story, name=name) for name in STORIES}
+    return all_ | {f"mended-{name}": partial(test_mended, name=name) for name in MENDED}
+
+
+def passes(name, test):
+    """Whether a test in a folder of its own passes; prints a line."""
+    with tempfile.TemporaryDirectory() as folder:
+        for linked in ("guest", "examples", "docs"):
+            (Path(folder) / linked).symlink_to(TOP / linked)
+        (Path(folder) / "ir").symlink_to(program())
+        try:
+            test(Path(folder))
+        except (Wrong, subprocess.SubprocessError, OSError) as why:
+            print(f"{name}: failed: {why}", flush=True)
+            return False
+    print(f"{name}: passed", flush=True)
+    return True
+
+
+def main():
+    all_ = tests()
+    names = sys.argv[2:] or list(all_)
+    if len(sys.argv) < 2 or any(name not in all_ for name in names):
+        sys.exit(__doc__ + "\nThe tests are " + ", ".join(all_) + ".")
+    if not shutil.which(TOOLS + "gcc"):
+        print(f"{TOOLS}gcc isn't installed, so guests from C aren't tested")
+        return finish(0, 0)
+    use(sys.argv[1])
+    passed = sum(passes(name, all_[name]) for name in names)
+    return finish(passed, len(names) - passed)
+
+
+if __name__ == "__main__":
+    sys.exit(main())
