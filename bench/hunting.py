@@ -44,6 +44,25 @@ def check_then_act(limit, rounds):
             + call(7, "zero, 0") + call(9, "zero, 0") + call(1, "zero, 0"))
 
 
+def sequence_lock(rounds):
+    """Thread 0 counts up, writes two words of another object, an entry each, and counts up again. Thread 1 reads the count, and then both
+    words in one entry, without a look at the count. It adds up how often the words differ. All a few times."""
+    def put(object_, index, value):
+        return call(8, f"zero, {object_}") + call(11, f"zero, {object_}", f"zero, {index}", value) + call(9, f"zero, {object_}")
+
+    def gets(object_, registers):
+        words = "".join(call(10, f"zero, {object_}", f"zero, {index}") + f"        addi {register}, a0, 0\n"
+                        for index, register in enumerate(registers))
+        return call(7, f"zero, {object_}") + words + call(9, f"zero, {object_}")
+
+    count = "        addi s1, s1, 1\n" + put(0, 0, "s1, 0")
+    writes = count + "        addi s2, s2, 1\n" + put(1, 0, "s2, 0") + put(1, 1, "s2, 0") + count
+    reads = (gets(0, ["s1"]) + gets(1, ["s2", "s4"]) + "        beq s2, s4, whole\n        addi s3, s3, 1\nwhole:\n")
+    again = "        addi s0, s0, -1\n        bne s0, zero, "
+    return (f"        .objects 3\n        .thread writer\n        .thread reader\nwriter: addi s0, zero, {rounds}\nwriting:\n{writes}{again}writing\n"
+            f"{gets(2, ['s4'])}{call(1, 'zero, 0')}reader: addi s0, zero, {rounds}\nreading:\n{reads}{again}reading\n{put(2, 0, 's3, 0')}{call(1, 'zero, 0')}")
+
+
 def counting(rounds):
     """Two threads that count alone, and then enter an object once each."""
     return (f"        .objects 1\n        .thread main\n        .thread main\nmain:   li t0, {rounds}\nagain:  addi t0, t0, -1\n        bne t0, zero, again\n"
@@ -102,6 +121,7 @@ def main():
         rows = [(lost, "!word 0 0 2", arguments.seeds), (account, "word 0 0 0xffffff9c", arguments.seeds)]
         acting = assembled(arguments.program, folder, "acting", check_then_act(4, 3))
         rows.append((acting, "word 0 0 5", arguments.seeds))
+        rows.append((assembled(arguments.program, folder, "lock", sequence_lock(2)), "!word 2 0 0", arguments.seeds))
         rows += [(assembled(arguments.program, folder, f"needle{n}", needle(n)), f"code 1 {n // 2}", 10 * arguments.seeds) for n in (100, 400)]
         for image, condition, seeds in rows:
             found = ", ".join(f"{way} {chance(arguments.program, folder, image, condition, way, seeds):.2f} %" for way in WAYS)

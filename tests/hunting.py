@@ -30,7 +30,6 @@ REFUSED = [
     ("hunt lost.s h.trc --seeds 0..9 --until fault", 3, "the image is refused, 2: these bytes are no image"),
     ("hunt none.img h.trc --seeds 0..9 --until fault", 1, "none.img can't be read: no such file or folder"),
     ("hunt lost.img lost.img --seeds 0..9 --until fault", 2, "lost.img: TRACE would be written over IMAGE"),
-    ("hunt lost.img folder --seeds 0..9 --until '!fault'", 1, "folder can't be written: it is a folder"),
     ("record lost.img h.trc --chaos x", 2, "--chaos: 'x' is no number up to 18446744073709551615"),
     ("record lost.img h.trc --chaos 1 --order 0", 2, "the argument '--chaos <SEED>' cannot be used with '--order <LIST>'"),
 ]
@@ -52,6 +51,15 @@ def refused(folder):
         ended = run(arguments, folder)
         wants(arguments, (ended.returncode, ended.stdout, ended.stderr.decode()), (status, b"", f"ir: {message}\n"))
         wants(f"{arguments}: h.trc", (folder / "h.trc").exists(), False)
+
+
+def reported_first(folder):
+    """What was found is said before it is recorded: a trace that can't be written doesn't lose it."""
+    ended = run("hunt lost.img folder --seeds 0..9 --until '!fault'", folder)
+    match = FOUND.fullmatch(ended.stdout)
+    wants("a folder", (ended.returncode, ended.stderr, bool(match)), (1, b"ir: folder can't be written: it is a folder\n", True))
+    again = run(f"record lost.img again.trc --order {match[2].decode()}", folder)
+    wants("its LIST", again.returncode, 0)
 
 
 def recorded_again(folder):
@@ -97,9 +105,10 @@ def kept(folder):
         started.send_signal(signal.SIGINT)
         wants("the end", started.wait(10), -signal.SIGINT)
     wants("TRACE", (folder / "k.trc").read_bytes(), b"an older trace")
-    ended = shell("./ir hunt lost.img k.trc --seeds 0..9 --until fault >/dev/full", folder)
-    wants("full", (ended.returncode, ended.stderr), (1, b"ir: standard output can't be written\n"))
-    wants("TRACE", (folder / "k.trc").read_bytes(), b"an older trace")
+    for condition in ("fault", "'!fault'"):
+        ended = shell(f"./ir hunt lost.img k.trc --seeds 0..9 --until {condition} >/dev/full", folder)
+        wants("full", (ended.returncode, ended.stderr), (1, b"ir: standard output can't be written\n"))
+        wants("TRACE", (folder / "k.trc").read_bytes(), b"an older trace")
 
 
 def on_many_machines(folder):
@@ -116,7 +125,7 @@ def all_of_it(folder):
     """All tests of hunts, in a folder of their own."""
     assembled(folder, "lost", examples()["lost_update"])
     (folder / "folder").mkdir(exist_ok=True)
-    for test in (refused, recorded_again, conditions, last_seeds, kept, on_many_machines):
+    for test in (refused, reported_first, recorded_again, conditions, last_seeds, kept, on_many_machines):
         test(folder)
     assembled(folder, "account", (TOP / "docs/guide/account.s").read_text())
     found("hunt account.img account.trc --seeds 0+1000 --until 'word 0 0 0xffffff9c'", folder)

@@ -38,8 +38,10 @@ def matches(found, wanted):
 
 
 def test_pages(folder):
-    """Each command of the README, of the guide and of the page of the examples writes what follows it there; `make` isn't run."""
-    pages = [TOP / "README.md", *sorted((TOP / "docs" / "guide").glob("*.md")), TOP / "examples" / "README.md"]
+    """Each command of the README, of the guide and of the page of the examples writes what follows it there; `make` isn't run. The page of
+    guests from C is run by c_guests.py, since it wants their compiler."""
+    guide = [page for page in sorted((TOP / "docs" / "guide").glob("*.md")) if page.name != "c-guests.md"]
+    pages = [TOP / "README.md", *guide, TOP / "examples" / "README.md"]
     for number, page in enumerate(pages):
         place = folder / f"page{number}"
         place.mkdir()

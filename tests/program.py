@@ -20,6 +20,7 @@ from pathlib import Path
 
 import hunting
 import pages
+import places
 from lib import BAD, DOUBLE, TOP, Wrong, assembled, counters, finish, program, run, shell, use, wants
 
 # Two threads; the first prints a byte, the second nothing.
@@ -507,6 +508,11 @@ def test_interrupt(folder):
 def test_hunts(folder):
     """Seeds are tried until a run fulfils conditions; it is recorded again (see hunting.py)."""
     hunting.all_of_it(folder)
+
+
+def test_places(folder):
+    """Guests from ELF files, maps, and code and events with the names of a map (see places.py)."""
+    places.all_of_it(folder)
 
 
 def test_answers_come(folder):
