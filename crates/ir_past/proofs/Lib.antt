@@ -1,0 +1,7 @@
+mod Open
+mod Rows
+mod Noted
+mod Tables
+mod Totals
+mod Written
+mod Shown

@@ -1,0 +1,4 @@
+pub mod Past
+pub mod Tables
+pub mod Progress
+pub mod Lines
