@@ -12,5 +12,7 @@ mod version_counts;
 
 pub use cause::Cause;
 pub use coherence::first_incoherence;
+pub use counting::count_entries;
+pub use entry_counts::EntryCounts;
 pub use incoherence::Incoherence;
 pub use laws::{coherent_unbroken, one_cause, unbroken_coherent};

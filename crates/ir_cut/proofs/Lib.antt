@@ -7,3 +7,4 @@ mod Searched
 mod Stepping
 mod Closed
 mod Found
+pub mod CallerLemmas

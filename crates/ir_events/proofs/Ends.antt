@@ -1,19 +1,16 @@
 -- The ends of the threads, and that all threads are there where none can go on.
-use Rattle.std.proofs.Common.{◌≡◌, ℕ, ◌<◌, ◌≤◌, List, length, sym, ap, ◌∙◌, subst, inl, inr, ◌⊎◌, arith}
+use Rattle.std.proofs.Common.{◌≡◌, ℕ, ◌<◌, ◌≤◌, List, length, sym, ap, ◌∙◌, inl, inr, arith}
 use Rattle.std.proofs.lemmas.Bool.{cases_lt}
 use Rattle.std.proofs.lemmas.List.{get_or_past}
-use Rattle.ir_flat.specs.Flat.{Flat}
 use Rattle.ir_flat.proofs.CallerLemmas.{start_idle}
 use Rattle.ir_runs.specs.Run.{Step, trail, count}
-use Rattle.ir_runs.specs.Cuts.{Cut, Admitted}
-use Rattle.ir_runs.proofs.CallerLemmas.{Progress, progress}
 use Rattle.ir_fit.specs.Fit.{FittedTrace, IsRunOf}
 use Rattle.ir_fit.proofs.CallerLemmas.{idle_trail, get_at}
 use Rattle.ir_cut.specs.Positions.{machine_of, start_of, cut_of, IsConsistentCut}
 use Rattle.ir_weave.specs.Standing.{Standing, flat_in}
-use Rattle.ir_weave.specs.States.{IsAt, positions}
-use Rattle.ir_weave.specs.Stepping.{IsSame, Rests}
-use Rattle.ir_weave.proofs.CallerLemmas.{law, good}
+use Rattle.ir_weave.specs.States.{positions}
+use Rattle.ir_weave.specs.Stepping.{IsTarget, IsUnder, Rests}
+use Rattle.ir_replay.proofs.CallerLemmas.{all_reached}
 use Rattle.ir_events.specs.Walk.{AreEnds, IsOnWay}
 
 -- each is the number of the thread's steps
@@ -44,24 +41,8 @@ thread_below ends t k less = elim (cases_lt t (length ends)) [
 -- where no thread can go on, all are at their ends
 pub all_done : (f : FittedTrace) (ends : List ℕ) (s : Standing) → AreEnds f ends → IsOnWay f ends s
     → ((t : ℕ) → t < length ends → Rests f ends (flat_in f s) t) → (t : ℕ) → cut_of ends t ≤ positions (flat_in f s) t
-all_done f ends s are way rest t = elim (cases_lt (positions (flat_in f s) t) (cut_of ends t)) [
-  | inr past ↦ past
-  | inl less ↦
-      let run : List Step = are.run.run in
-      let is : IsRunOf f.guest f.recorded run = are.run.whole in
-      let at : IsAt f (positions (flat_in f s)) (flat_in f s) run = way.stands.at.each run is in
-      let goal = ends_consistent f ends are run is in
-      let k : Progress (machine_of f) (start_of f) run (positions (flat_in f s)) (cut_of ends) =
-      progress (machine_of f) (law f) (start_of f) (good f) run is.1.runs (positions (flat_in f s)) (cut_of ends) at.consistent goal.1
-      goal.0 t less in
-      let before : positions (flat_in f s) k.thread < cut_of ends k.thread = k.below in
-      absurd (elim (rest k.thread (thread_below ends k.thread (positions (flat_in f s) k.thread) before)) [
-        | inl done ↦ omega (arith, done, before)
-        | inr none ↦ none run is (let b = goal.0 k.thread in omega (arith, before, b), k.consistent)
-      ])
-]
-
--- a thread that can't go on still can't where no thread has
-pub rests_same : (f : FittedTrace) (ends : List ℕ) (old new : Flat) (t : ℕ) → IsSame old new → Rests f ends old t → Rests f ends new t
-rests_same f ends old new t same rest = subst (λ (p : Cut). (cut_of ends t ≤ p t)
-    ⊎ ((run : List Step) → IsRunOf f.guest f.recorded run → Admitted (machine_of f) (start_of f) run p t → ⊥)) (λ i u. sym (same u) i) rest
+all_done f ends s are way rest t =
+    let target : IsTarget f ends = record { run = are.run; size = are.size; consistent = ends_consistent f ends are } in
+    let under : IsUnder f ends (flat_in f s) = record { state = way.stands.at; below = way.below } in
+    let same = all_reached f ends (flat_in f s) target under rest t in
+    omega (arith, same)

@@ -7,14 +7,10 @@ use Rattle.std.specs.Prelude.{slice_index}
 use Rattle.std.specs.List.{slice_index_or}
 use Rattle.ir_thread.specs.State as thread
 use Rattle.ir_flat.specs.Flat.{idle}
-use Rattle.ir_runs.specs.Run.{Step, trail}
-use Rattle.ir_trace.specs.TraceOf.{recorded_thread}
-use Rattle.ir_log.specs.declared.event.Event.{Event}
-use Rattle.ir_log.specs.declared.event.Event.TheVariants as logged_event
-use Rattle.ir_runs.specs.declared.env_kind.EnvKind.TheVariants.{Clock}
+use Rattle.ir_runs.specs.Run.{Step}
 use Rattle.ir_fit.specs.Fit.{FittedTrace, HasRun, IsRunOf}
-use Rattle.ir_fit.proofs.CallerLemmas.{entries_rise, entries_long, entry_emits, get_at}
-use Rattle.ir_cut.specs.Positions.{machine_of, start_of, cut_of}
+use Rattle.ir_fit.proofs.CallerLemmas.{entries_rise, entries_long, entry_within}
+use Rattle.ir_cut.specs.Positions.{cut_of}
 use Rattle.ir_weave.specs.Ahead.{thread_at}
 use Rattle.ir_weave.specs.Standing.{Standing, StandsAt, flat_in}
 use Rattle.ir_weave.specs.States.{positions}
@@ -54,9 +50,9 @@ pc_here f s t k stands at run whole =
     ap (λ (x : thread.State). x.core.pc) ((stands.at.each run whole).threads t ∙ ap (thread_at f run t) at)
 
 -- the next event, by a list of the positions
-pub entry_within : (f : FittedTrace) (t i k : ℕ) (es pcs : List ℕ) → es ≡ entries_of f t → length pcs ≡ i → k ≤ slice_index es i
+pub next_within : (f : FittedTrace) (t i k : ℕ) (es pcs : List ℕ) → es ≡ entries_of f t → length pcs ≡ i → k ≤ slice_index es i
     → k ≤ entry_of f t (length pcs)
-entry_within f t i k es pcs same size within = subst (λ (z : List ℕ × ℕ). k ≤ slice_index z.0 z.1) (λ j. (same j, sym size j)) within
+next_within f t i k es pcs same size within = subst (λ (z : List ℕ × ℕ). k ≤ slice_index z.0 z.1) (λ j. (same j, sym size j)) within
 
 entry_reached : (f : FittedTrace) (t i k : ℕ) (es pcs : List ℕ) → es ≡ entries_of f t → length pcs ≡ i → k ≡ slice_index es i
     → k ≡ entry_of f t (length pcs)
@@ -95,16 +91,6 @@ listed_more f t i k pc es pcs pcs' s h l is same size more stands at here made =
     (added f t k pc pcs s h l is (let n = ap (λ (xs : List ℕ). length xs) same in omega (arith, n, size, more)) stands
     (entry_reached f t i (positions (flat_in f s) t) es pcs same size at) here)
 
--- an event is before the end of its thread
-entry_before : (f : FittedTrace) (h : HasRun f) (t : ℕ) → t < length f.guest.entries → (i : ℕ) → i < length (entries_of f t)
-    → entry_of f t i < (recorded_thread f.recorded t).steps
-entry_before f h t l i li =
-    let d : Event = logged_event.Answer Clock 0 in
-    let emits = entry_emits f h t l i d (let n = entries_long f h t l in omega (arith, n, li)) in
-    let within = (get_at (trail (machine_of f) (start_of f) h.run t) (entry_of f t i) (emits.0, _) emits.1).0 in
-    let steps = h.whole.1.steps t l in
-    omega (arith, within, steps)
-
 -- at the end of the thread no event is left
 pub listed_all : (f : FittedTrace) (ends : List ℕ) (t k : ℕ) (pcs : List ℕ) → AreEnds f ends → t < length f.guest.entries
     → IsListed f t k pcs → cut_of ends t ≤ k → AreThreadPcs f t pcs
@@ -112,7 +98,7 @@ listed_all f ends t k pcs are l is done = record {
   size = elim (cases_lt (length pcs) (length (entries_of f t))) [
     | inl less ↦
         let left = is.ahead (length pcs) (omega arith) less in
-        let before = entry_before f are.run t l (length pcs) less in
+        let before = entry_within f are.run t l (length pcs) less in
         let end = are.steps t l in
         absurd (omega (arith, left, before, end, done))
     | inr all ↦ let few = is.few in let long = entries_long f are.run t l in omega (arith, few, all, long)

@@ -9,7 +9,8 @@ use Rattle.ir_weave.specs.Standing.{Standing, flat_in}
 use Rattle.ir_weave.specs.States.{positions}
 use Rattle.ir_weave.specs.Stepping.{HasGone, IsSame, Rests, steps_left}
 use Rattle.ir_events.specs.Walk.{AreEnds, IsOnWay, IsFurther, IsListed, AreListed, IsPass}
-use Rattle.ir_events.proofs.Ends.{all_done, rests_same, thread_below}
+use Rattle.ir_replay.proofs.CallerLemmas.{rests_same}
+use Rattle.ir_events.proofs.Ends.{all_done, thread_below}
 
 -- ---- one thread
 

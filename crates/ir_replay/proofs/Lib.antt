@@ -6,3 +6,4 @@ mod Dealt
 mod Down
 mod Below
 mod AfterRound
+pub mod CallerLemmas

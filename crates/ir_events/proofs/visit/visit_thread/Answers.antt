@@ -5,7 +5,7 @@ use Rattle.ir_thread.specs.State as thread
 use Rattle.ir_flat.specs.Flat.{idle}
 use Rattle.ir_weave.specs.Standing.{flat_in}
 use Rattle.ir_weave.specs.States.{positions}
-use Rattle.ir_events.proofs.Listed.{entry_within, listed_on, listed_more, one_longer}
+use Rattle.ir_events.proofs.Listed.{next_within, listed_on, listed_more, one_longer}
 use Rattle.ir_events.proofs.Passes.{further_on}
 use Rattle.ir_events.proofs.visit.visit_thread.Goals as goal
 
@@ -15,7 +15,7 @@ returns-then-not-is_there-clause-listed c =
     let t = c.args.t in
     listed_on f t (positions (flat_in f c.loop-i.state) t) (positions (flat_in f c.go_to-here.result.0) t) c.loop-i.list
     c.requires.ends.run c.requires.thread c.loop-i.invariant.listed
-    (λ _. entry_within f t c.loop-i.i (positions (flat_in f c.go_to-here.result.0) t) c.entries-entries.result.now c.loop-i.list
+    (λ _. next_within f t c.loop-i.i (positions (flat_in f c.go_to-here.result.0) t) c.entries-entries.result.now c.loop-i.list
     c.entries-entries.ensures c.loop-i.invariant.size c.go_to-here.ensures.within)
 
 pub loop-i-preserved : goal.loop-i-preserved
