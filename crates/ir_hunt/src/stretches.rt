@@ -7,10 +7,10 @@ ghost use Rattle.ir_hunt.specs.Seeds.{seeds_from, seeds_left, IsNext};
 use crate::plan::Seeds;
 
 // The most seeds of a stretch, for each worker.
-const MOST_EACH: u64 = 1 << 16;
+const MOST_EACH: u64 = 1 << 20;
 
-// Stretches grow until one takes this many milliseconds.
-const ENOUGH_MILLIS: u32 = 100;
+// Stretches grow until one takes this many milliseconds. At its end each worker waits for the slowest, so a short one wastes processors.
+const ENOUGH_MILLIS: u32 = 400;
 
 // The seeds from the first to the last, if there are any.
 fn seeds_from(first: u64, last: u64) -> Option<Seeds>
