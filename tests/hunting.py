@@ -34,6 +34,9 @@ REFUSED = [
     ("record lost.img h.trc --chaos 1 --order 0", 2, "the argument '--chaos <SEED>' cannot be used with '--order <LIST>'"),
 ]
 
+# How many seeds that show a fault are looked at, each way.
+FOUND_EACH = 20
+
 FOUND = re.compile(rb"found seed (\d+) order ([0-9x,]+)\n")
 
 
@@ -63,16 +66,22 @@ def reported_first(folder):
 
 
 def recorded_again(folder):
-    """LIST gives the same trace, and so does the seed; the session shows what was looked for."""
+    """Of the first seeds that show a fault, each way: LIST gives the same trace, and so does the seed; it fits, and the session shows the fault;
+    no seed before it shows it."""
     for by in ("mix", "walk", "pct:2", "pct:3"):
-        seed, order, lines = found(f"hunt lost.img lost.trc --seeds 0+1000 --until '!word 0 0 2' --by {by}", folder)
-        trace = (folder / "lost.trc").read_bytes()
-        for again in (f"--order {order}", f"--chaos {seed} --by {by}"):
-            wants(f"{by}, {again}", run(f"record lost.img again.trc {again}", folder).stdout, lines)
-            wants(f"{by}, {again}: the trace", (folder / "again.trc").read_bytes(), trace)
-        wants(f"{by}: the word", said(folder, "lost", ["end", "obj 0"]).splitlines()[3][:14], b"words 00000001")
-        for lower in range(seed):
-            wants(f"{by}, seed {lower}", run(f"hunt lost.img no.trc --seeds {lower}+1 --until '!word 0 0 2' --by {by}", folder).returncode, 5)
+        first = 0
+        for _ in range(FOUND_EACH):
+            seed, order, lines = found(f"hunt lost.img lost.trc --seeds {first}+1000 --until '!word 0 0 2' --by {by}", folder)
+            trace = (folder / "lost.trc").read_bytes()
+            for again in (f"--order {order}", f"--chaos {seed} --by {by}"):
+                wants(f"{by}, {again}", run(f"record lost.img again.trc {again}", folder).stdout, lines)
+                wants(f"{by}, {again}: the trace", (folder / "again.trc").read_bytes(), trace)
+            answers = said(folder, "lost", ["end", "obj 0"]).splitlines()
+            wants(f"{by}, seed {seed}: the word", (answers[0], answers[3][:14]), (b"ready", b"words 00000001"))
+            for lower in range(first, seed):
+                ended = run(f"hunt lost.img no.trc --seeds {lower}+1 --until '!word 0 0 2' --by {by}", folder)
+                wants(f"{by}, seed {lower}", ended.returncode, 5)
+            first = seed + 1
 
 
 def conditions(folder):
