@@ -17,13 +17,23 @@
 #endif
 
 /* Write `#define IR_LARGE 1` above `#include "ir.h"` for the large form: at most 16 threads, and 64 objects of 16 words. Without it
-   there are at most 8 threads, and 16 objects of 8 words. All files of a guest have to agree. A guest of more than 8 threads or 16
-   objects is recorded with --profile 2. */
+   there are at most 8 threads, and 16 objects of 8 words. All files of a guest have to agree: with -DIR_LARGE=1 on the command line
+   they do. A guest of more than 8 threads or 16 objects is recorded with --profile 2. */
 #ifndef IR_LARGE
 #define IR_LARGE 0
 #endif
 #if -IR_LARGE - 1 != -1 && -IR_LARGE - 1 != -2 /* it is 1 if IR_LARGE is defined as nothing */
 #error "IR_LARGE is 0 or 1: write #define IR_LARGE 1"
+#endif
+
+/* Which form this file is for. The linker compares these marks: it refuses files that disagree. They are no part of the image.
+   ir_mem.c is for both forms, so it has none. */
+#ifndef IR_BOTH_FORMS_
+#if IR_LARGE
+__asm__(".pushsection .ir.large, \"\"\n\t.byte 1\n\t.popsection");
+#else
+__asm__(".pushsection .ir.small, \"\"\n\t.byte 1\n\t.popsection");
+#endif
 #endif
 
 /* The words of an object. */

@@ -1,4 +1,5 @@
 /* The four functions that compilers call of themselves, to copy a struct or to clear an array. */
+#define IR_BOTH_FORMS_
 #include "ir.h"
 
 /* Keeps a loop as it is: a compiler that knew it again would make a call of the function that it is in. */

@@ -99,6 +99,9 @@ BODY = HEAD + "IR_THREAD(t) {{ {} return 0; }}\nIR_THREADS(t);\nIR_OBJECTS({{1}}
 ENDS = [
     ("ir_end(0);", 1),
     ("__builtin_trap();", 2),
+    ("__asm__ volatile(\".word 0\");", 3),
+    ("((void (*)(void))0x10002)();", 4),
+    ("((void (*)(void))0x100000)();", 5),
     ("return *(volatile int *)0x300000;", 6),
     ("*(volatile int *)ir_self() = 1;", 7),
     ("static const int one = 1; *(volatile int *)&one = 2;", 7),
@@ -116,11 +119,35 @@ ENDS = [
     ("for (;;) ir_pause(1);", 13),
 ]
 
+# Calls that are logged, by name. A thread that makes one again and again has at last this many events.
+LOGGED = {
+    "enter_read": "ir_enter_read(0); ir_leave(0);",
+    "enter_write": "ir_enter_write(0); ir_leave(0);",
+    "try_write": "if (ir_try_write(0)) ir_leave(0);",
+    "clock": "ir_clock();",
+    "random": "ir_random();",
+    "input": "ir_input();",
+}
+MOST_EVENTS = 2**20
+
+# A guest of two files, neither of which says the form. Each thread gives how many words it takes an object to have.
+TWO_FILES = {"one.c": '#include "ir.h"\nir_entry second;\nIR_THREAD(first) { return IR_WORDS; }\nIR_THREADS(first, second);\n',
+             "two.c": '#include "ir.h"\nIR_THREAD(second) { return IR_WORDS; }\nIR_OBJECTS({1}, {2});\n'}
+
+# Pairs of files that disagree, and pairs that agree: two files, more options, and the words of an object.
+UNLIKE = [("large_one.c", "two.c"), ("one.c", "large_two.c"), ("two.c", "large_one.c")]
+ALIKE = [("one.c", "two.c", (), 8), ("large_one.c", "large_two.c", (), 16), ("large_one.c", "two.c", ("-DIR_LARGE=1",), 16)]
+DISAGREE = "ir.ld: some files define IR_LARGE 1 and others don't; -DIR_LARGE=1 defines it in all of them"
+
 # Each row: a name, a source that is refused, more options, and what is reported.
 THREAD = '#include "ir.h"\nIR_THREAD(t) { return 0; }\n'
 REFUSED = [
     ("code", '#include "ir.h"\nconst char large[65536] = {1};\nIR_THREAD(t) { return large[ir_self()]; }\nIR_THREADS(t);\n', [],
      "ir.ld: code and constants are over 65536 bytes"),
+    ("code-section", '#include "ir.h"\n__attribute__((section("mine"))) const char large[65536] = {1};\n'
+     'IR_THREAD(t) { return large[ir_self()]; }\nIR_THREADS(t);\n', [], "ir.ld: code and constants are over 65536 bytes"),
+    ("variables-section", '#include "ir.h"\n__attribute__((section("mine"))) char large[49153] = {1};\n'
+     'IR_THREAD(t) { return large[ir_self()]; }\nIR_THREADS(t);\n', [], "ir.ld: stack and variables are over 65536 bytes"),
     ("variables", '#include "ir.h"\nchar large[49153];\nIR_THREAD(t) { return large[ir_self()]; }\nIR_THREADS(t);\n', [],
      "ir.ld: stack and variables are over 65536 bytes"),
     ("stack", f"{THREAD}IR_THREADS(t);\n", ["-Wl,--defsym=ir_stack=65537"], "ir.ld: stack and variables are over 65536 bytes"),
@@ -261,6 +288,16 @@ def of_mixed(recording):
 JUDGES = {"bank": of_bank, "buffer": of_buffer, "over": of_over, "wide": of_wide, "gas": of_gas, "mixed": of_mixed}
 
 
+def test_map(folder):
+    """The map of a guest has names of its three parts alone, at each level."""
+    for level in LEVELS:
+        for name in ("bank", "wide"):
+            example(folder, name, level)
+            names = tool("nm", folder, "-n", f"{name}.elf").splitlines()
+            wants(f"{name}{level}: a code's name", any(line[:4] == "0001" for line in names), True)
+            wants(f"{name}{level}: names of no part", [line for line in names if line[:4] not in ("0001", "0010", "0020")], [])
+
+
 def both_ways(folder, name, more):
     """An image recorded in order, twice, and by threads."""
     orders = [recorded(folder, name, "--order", "0", *more) for _ in range(2)]
@@ -308,6 +345,28 @@ def test_ends(folder):
             wants(f"{body}: ir elf", run("elf ends.elf ends.img", folder).returncode, 0)
             ended = run("record ends.img ends.trc --budget 2000000", folder)
             wants(f"{body} at {level}", ended.stdout.split()[3:4], [str(end).encode()])
+
+
+def test_filled(folder, body):
+    """The first call for which the thread's log has no room is its end 14."""
+    (folder / "filled.c").write_text(BODY.format(f"for (;;) {{ {body} }}"))
+    converted(folder, "filled.c", "filled", "-O2", "-w")
+    ended = run("record filled.img filled.trc --profile 2 --budget 20000000", folder, timeout=900)
+    wants(body, ended.stdout.split()[2:6] + ended.stdout.split()[8:], [b"end", b"14", b"code", b"0", b"events", str(MOST_EVENTS).encode()])
+
+
+def test_forms(folder):
+    """Files that disagree about the form aren't linked. Those that agree are, and both have objects of as many words."""
+    for name, source in TWO_FILES.items():
+        (folder / name).write_text(source)
+        (folder / f"large_{name}").write_text(f"#define IR_LARGE 1\n{source}")
+    for level in (*LEVELS, "-flto"):
+        for one, two in UNLIKE:
+            ended = gcc(folder, one, "bad.elf", two, level)
+            wants(f"{one} and {two} at {level}", (ended.returncode, DISAGREE in ended.stderr), (1, True))
+        for one, two, more, words in ALIKE:
+            converted(folder, one, "good", two, level, *more)
+            wants(f"{one} and {two} at {level}", recorded(folder, "good", "--order", "0", "--profile", "2").ends(), [(1, words), (1, words)])
 
 
 def test_files(folder):
@@ -446,7 +505,9 @@ def tests():
     """Each test, by its name."""
     all_ = {f"{name}{level}": partial(test_level, name=name, level=level) for name in JUDGES for level in LEVELS}
     all_ |= {f"refused-{name}": partial(test_refused, source=source, more=more, message=why) for name, source, more, why in REFUSED}
-    all_ |= {"refused-unasked": test_unasked, "ends": test_ends, "files": test_files, "clang": test_clang, "page": test_page}
+    all_ |= {f"filled-{name}": partial(test_filled, body=body) for name, body in LOGGED.items()}
+    all_ |= {"refused-unasked": test_unasked, "ends": test_ends, "forms": test_forms, "map": test_map, "files": test_files, "clang": test_clang}
+    all_ |= {"page": test_page}
     all_ |= {f"story-{name}": partial(test_story, name=name) for name in STORIES}
     return all_ | {f"mended-{name}": partial(test_mended, name=name) for name in MENDED}
 

@@ -1,2 +1,3 @@
 mod ShownLines
 mod Labels
+mod LabelNames

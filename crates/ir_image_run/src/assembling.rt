@@ -1,6 +1,7 @@
 //! A source in, its image and its labels or its first fault out.
 
 ghost use Rattle.std.specs.Prelude.{◌≡◌, ◌⊎◌, ◌<◌, ℕ, List, false, map, IfOk, IfErr, Ok, Err};
+ghost use Rattle.std.specs.List.{All};
 ghost use Rattle.std.specs.Option.{option_map};
 ghost use Rattle.std.specs.String.{string_bytes};
 ghost use Rattle.std.specs.Io.KnownBytes.{Appends};
@@ -8,6 +9,7 @@ ghost use Rattle.ir_asm.specs.Answered.{Answers};
 ghost use Rattle.ir_asm.specs.Source.{Fault};
 ghost use Rattle.ir_asm.specs.Passes.{assembled, labels_of};
 ghost use Rattle.ir_image_run.specs.Assembling.{masked, spelled, image_bytes, report, Stops};
+ghost use Rattle.ir_image_run.specs.Mapping.{IsNamed};
 ghost use Rattle.ir_files.specs.Writers.{writer_of, Failed};
 ghost use Rattle.ir_files.specs.declared.exit_status.ExitStatus.TheVariants as status;
 
@@ -38,9 +40,11 @@ fn text_of(alloc: Global, source: &[u8]) -> Result<String, AllocError>
 }
 
 // The bytes of the image of a text, and its labels.
+#[tactic(auto, using(crate::proofs::LabelNames::labels_named))]
 fn assembly_of(alloc: Global, text: &str) -> Result<(Vec<u8>, Labels), AsmErr>
     ensures image { Answers (λ a. a.0.items) result (spelled (assembled text.now)) }
     ensures labels { IfOk result (λ a. labels_of text.now ≡ Ok a.1) }
+    ensures named { IfOk result (λ a. All IsNamed a.1) }
 {
     let Assembly { image, labels } = assemble_with_labels(alloc, text)?;
     Ok((write_image(alloc, &image)?, labels))
@@ -87,6 +91,7 @@ pub fn asm_run<W: Sink, E: Sink>(
     // The image was written, and no fault reported.
     ensures done { IfOk result (λ _. (bytes : List ℕ) × (image_bytes source.now ≡ Ok bytes) × Appends (W.written image.old) (W.written image.new) bytes × (faults.new ≡ faults.old)) }
     ensures labels { IfOk result (λ labels. labels_of (map masked source.now) ≡ Ok labels) }
+    ensures named { IfOk result (λ labels. All IsNamed labels) }
     // The first fault was reported.
     ensures refused { IfErr result (λ e. e ≡ status.Refused → (fault : Fault) × (image_bytes source.now ≡ Err fault)
         × Appends (E.written faults.old) (E.written faults.new) (report (option_map (λ s. s.now) explained.entry) (map masked source.now) fault)) }

@@ -3,10 +3,12 @@
 
 mod assembling;
 mod converting;
+mod laws;
 mod mapping;
 mod reporting;
 mod writing;
 
 pub use assembling::asm_run;
 pub use converting::elf_run;
+pub use laws::labels_are_symbols;
 pub use mapping::map_run;

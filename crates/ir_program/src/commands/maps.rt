@@ -1,6 +1,8 @@
 //! Maps of names: those that are read, and the one of a source's labels.
 
 ghost use Rattle.std.specs.Prelude.{◌≡◌, OnOk, false};
+ghost use Rattle.std.specs.List.{All};
+ghost use Rattle.ir_image_run.specs.Mapping.{IsNamed};
 
 use crate::commands::{bytes_of, put_in_place, say};
 use ir_asm::Labels;
@@ -65,7 +67,9 @@ pub fn labels_into<D: Folder, E: Sink>(
     labels: &Labels,
     path: &str,
     faults: &mut E,
-) -> ExitStatus {
+) -> ExitStatus
+    requires { All IsNamed labels.now }
+{
     let mut file = WholeFile::new(alloc, folder, path);
     let status = map_run(alloc, labels, &mut file);
     put_in_place(&mut file, status, path, faults)
