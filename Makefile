@@ -65,3 +65,4 @@ bench: ir
 	cd crates/ir_bench && rt run < stdin > out.txt && rm out.txt
 	python3 bench/speed.py ./ir crates/ir_bench/out/ir_bench
 	python3 bench/hunting.py ./ir
+	python3 bench/traces.py ./ir

@@ -20,7 +20,8 @@ MAN_PAGE = TOP / "man" / "ir.1"
 TEXT = r'"((?:[^"\\]|\\.)*)"'
 CONSTANT = re.compile(r"const (\w+): &str =\s*" + TEXT)
 ROW = re.compile(rf"name: {TEXT},\s+about: {TEXT},\s+after: (\w+)::(\w+)")
-ARGUMENT = re.compile(r"file_arg\(alloc, (\w+), " + TEXT)
+# An argument, and one that may be left out.
+ARGUMENT = re.compile(rf"file_arg\(\s*alloc,\s*(\w+),\s*{TEXT}|Arg::new\(alloc, (\w+)\)\s*\.help\(\s*{TEXT}")
 OPTION = re.compile(r"fn (\w+)_arg<'a>[^{]*\{\s+Arg::new\(alloc, \w+\)\s*\.long\((\w+)\)(.*?)\.help\(\s*" + TEXT, re.DOTALL)
 # Where a subcommand's arguments are put together, and what is put together there: an option, or the options that are shared.
 PUT_TOGETHER = re.compile(r"pub fn with_arguments<'a>.*?\n\}", re.DOTALL)
@@ -94,7 +95,8 @@ def subcommands():
         for function in named_in(source, PUT_TOGETHER):
             forms += named_in(recording, SHARED) if function == "with_options" else [function]
         constants = files | constants_of(source)
-        arguments = [(constants[argument], text) for argument, text in ARGUMENT.findall(source)]
+        arguments = [(constants[needed], text) if needed else (f"[{constants[other]}]", more)
+                     for needed, text, other, more in ARGUMENT.findall(source)]
         found.append(Subcommand(name, about, arguments, [options[form] for form in forms if form in options], constants[after]))
     return found
 

@@ -20,6 +20,7 @@ from pathlib import Path
 
 import hunting
 import pages
+import past
 import places
 from lib import BAD, DOUBLE, TOP, Wrong, assembled, counters, finish, program, run, shell, use, wants
 
@@ -513,6 +514,11 @@ def test_hunts(folder):
 def test_places(folder):
     """Guests from ELF files, maps, and code and events with the names of a map (see places.py)."""
     places.all_of_it(folder)
+
+
+def test_past(folder):
+    """What a trace says of its past: stale writes, the versions of an object, and what two traces have in common (see past.py)."""
+    past.all_of_it(folder)
 
 
 def test_answers_come(folder):

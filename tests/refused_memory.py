@@ -9,8 +9,8 @@ requests. The start of a thread is a request too.
 - A command of a session answers as it does with ample memory or, if it may, `refused 8 no memory`. After that, position and kept cuts are as
   before, and the same command answers as it would have. So are points: a second run of the session finds them by moves to their hits.
 - A session that can't be opened writes nothing.
-- `ir asm`, `ir record` and `ir trace` end as with ample memory, or with status 1 and a line that says why. Then only the last lines may be
-  missing, and a file that is there is whole.
+- `ir asm`, `ir record`, `ir trace`, `ir stale`, `ir who` and `ir diff` end as with ample memory, or with status 1 and a line that says why.
+  Then only the last lines may be missing, and a file that is there is whole.
 - If a thread isn't started, all is as with ample memory.
 
 Then the same with all requests refused from that one on. A session may then run out of memory again and again, and ends by `quit`. With
@@ -93,6 +93,10 @@ RUNS = (
     ("ir record of tries", "record spinning.img new.trc --order 0x5,1x5 --profile 2", ("new.trc",)),
     ("ir record of eight threads", "record eight_counters.img new.trc", None),
     ("ir trace", "trace lost_update.trc", ()),
+    ("ir stale", "stale lost_update.trc", ()),
+    ("ir who", "who lost_update.trc 0", ()),
+    ("ir who of a version", "who lost_update.trc 0 0", ()),
+    ("ir diff", "diff lost_update.trc two_counters.trc", ()),
 )
 
 

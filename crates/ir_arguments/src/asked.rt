@@ -2,12 +2,15 @@
 
 use crate::assemble::AssembleArguments;
 use crate::debug::DebugArguments;
+use crate::diff::DiffArguments;
 use crate::elf::ElfArguments;
 use crate::events::EventsArguments;
 use crate::hunt::HuntArguments;
 use crate::list::ListArguments;
 use crate::record::RecordArguments;
+use crate::stale::StaleArguments;
 use crate::trace::TraceArguments;
+use crate::who::WhoArguments;
 
 /// An image that is made of another file.
 #[derive(Drop)]
@@ -27,6 +30,12 @@ pub enum Print {
     Trace(TraceArguments),
     /// The events of a recorded run, with their places.
     Events(EventsArguments),
+    /// The writes of a trace that may rest on a read that was written over.
+    Stale(StaleArguments),
+    /// Who made and read the versions of an object.
+    Who(WhoArguments),
+    /// What two traces have in common, and where they part.
+    Diff(DiffArguments),
 }
 
 /// What the arguments ask for.

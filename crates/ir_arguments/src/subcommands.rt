@@ -1,7 +1,7 @@
 //! The subcommands, in one table.
 
 use crate::asked::Asked;
-use crate::{assemble, debug, elf, events, hunt, list, record, trace};
+use crate::{assemble, debug, diff, elf, events, hunt, list, record, stale, trace, who};
 use clap::{ArgMatches, Command};
 use std::alloc::{AllocError, Global};
 
@@ -16,10 +16,13 @@ pub enum Subcommand {
     Debug,
     Trace,
     Events,
+    Stale,
+    Who,
+    Diff,
 }
 
 /// The subcommands, in the order in which the help lists them.
-pub const SUBCOMMANDS: [Subcommand; 8] = [
+pub const SUBCOMMANDS: [Subcommand; 11] = [
     Subcommand::Assemble,
     Subcommand::Elf,
     Subcommand::List,
@@ -28,6 +31,9 @@ pub const SUBCOMMANDS: [Subcommand; 8] = [
     Subcommand::Debug,
     Subcommand::Trace,
     Subcommand::Events,
+    Subcommand::Stale,
+    Subcommand::Who,
+    Subcommand::Diff,
 ];
 
 /// What the help says of a subcommand, beside its arguments.
@@ -82,6 +88,21 @@ impl Subcommand {
                 about: "Prints each event of a recorded run with its position and address",
                 after: events::EVENTS_AFTER,
             },
+            Subcommand::Stale => Row {
+                name: "stale",
+                about: "Prints the writes that may rest on a read that was written over",
+                after: stale::STALE_AFTER,
+            },
+            Subcommand::Who => Row {
+                name: "who",
+                about: "Prints who made and who read the versions of an object",
+                after: who::WHO_AFTER,
+            },
+            Subcommand::Diff => Row {
+                name: "diff",
+                about: "Prints what two recordings have in common, and where they part",
+                after: diff::DIFF_AFTER,
+            },
         }
     }
 
@@ -100,6 +121,9 @@ impl Subcommand {
             Subcommand::Debug => debug::with_arguments(alloc, command),
             Subcommand::Trace => trace::with_arguments(alloc, command),
             Subcommand::Events => events::with_arguments(alloc, command),
+            Subcommand::Stale => stale::with_arguments(alloc, command),
+            Subcommand::Who => who::with_arguments(alloc, command),
+            Subcommand::Diff => diff::with_arguments(alloc, command),
         }
     }
 
@@ -114,6 +138,9 @@ impl Subcommand {
             Subcommand::Debug => debug::asked(alloc, matches),
             Subcommand::Trace => trace::asked(alloc, matches),
             Subcommand::Events => events::asked(alloc, matches),
+            Subcommand::Stale => stale::asked(alloc, matches),
+            Subcommand::Who => who::asked(alloc, matches),
+            Subcommand::Diff => diff::asked(alloc, matches),
         }
     }
 }

@@ -9,6 +9,7 @@ pub mod events;
 pub mod hunt;
 pub mod list;
 pub mod maps;
+pub mod past;
 pub mod record;
 pub mod recording;
 pub mod trace;

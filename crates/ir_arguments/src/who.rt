@@ -1,0 +1,83 @@
+//! The arguments of `ir who`.
+
+use crate::asked::{Asked, Print};
+use crate::values::{TRACE, file_arg, text_of};
+use clap::{Arg, ArgMatches, Command};
+use ir_record_run::number_within;
+use std::alloc::{AllocError, Global};
+
+/// What follows the help of `ir who`.
+pub const WHO_AFTER: &str =
+    "An object has its first words at version 0, and each write entry makes the next version. Without V the first line is
+`object O versions N`. Then comes a line for each version, the last of which says who wrote last:
+  version 0 by first words readers R             R read entries are at version 0
+  version V by thread T event E readers R        event E of thread T made version V, and R read entries are at it
+With V there is the line of that version. Then come its read entries, by rising thread and event, and who wrote over it:
+  read thread T event E                          event E of thread T read it
+  overwritten by thread T event E                event E of thread T wrote over it; or `last`, if no thread did
+Events are numbered as in `ir trace`. A refused or incoherent trace has the one line that `ir stale` has.
+Exit status: 0 printed, 1 a file that can't be read or standard output that can't be written, 2 bad arguments, or an object or
+a version that the trace doesn't have, 3 a refused trace, 4 an incoherent trace.
+";
+
+/// The number of the object.
+const OBJECT: &str = "O";
+
+/// The version.
+const VERSION: &str = "V";
+
+/// The object whose versions are printed, or the version that is.
+#[derive(Drop)]
+pub struct WhoArguments {
+    /// The file of the trace.
+    pub trace: String,
+    /// The number of the object.
+    pub object: u32,
+    /// The version, if one is asked about.
+    pub version: Option<u32>,
+}
+
+/// The command with its arguments.
+pub fn with_arguments<'a>(alloc: Global, command: Command<'a>) -> Result<Command<'a>, AllocError> {
+    command
+        .arg(file_arg(alloc, TRACE, "The file with the trace"))?
+        .arg(file_arg(alloc, OBJECT, "The number of the object"))?
+        .arg(Arg::new(alloc, VERSION).help(
+            "The number of the version; without it all versions are printed",
+        ))
+}
+
+// A number up to 4294967295.
+fn number_of(text: &str) -> Option<u32> {
+    match number_within(0, u32::MAX as u64, text) {
+        Some(number) => Some(number as u32),
+        None => None,
+    }
+}
+
+// That an argument is no number.
+fn no_number(alloc: Global, name: &str, text: &str) -> Result<Asked, AllocError> {
+    Ok(Asked::Nothing(format!(in alloc; "{name}: '{text}' is no number up to 4294967295")?))
+}
+
+/// What its arguments ask for.
+pub fn asked(alloc: Global, matches: &ArgMatches<'_>) -> Result<Asked, AllocError> {
+    let text = matches.get_str(OBJECT).unwrap_or_default();
+    let Some(object) = number_of(text) else {
+        return no_number(alloc, OBJECT, text);
+    };
+    let version = match matches.get_str(VERSION) {
+        None => None,
+        Some(text) => {
+            let Some(version) = number_of(text) else {
+                return no_number(alloc, VERSION, text);
+            };
+            Some(version)
+        }
+    };
+    Ok(Asked::Print(Print::Who(WhoArguments {
+        trace: text_of(alloc, matches, TRACE)?,
+        object,
+        version,
+    })))
+}

@@ -1,0 +1,5 @@
+mod Told
+mod Parts
+mod Needed
+mod ThreadTexts
+mod Written

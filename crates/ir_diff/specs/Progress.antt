@@ -1,0 +1,30 @@
+-- How far a common part is put together.
+use Rattle.std.specs.Prelude.{◌≡◌, ℕ, ◌-◌, List, length}
+use Rattle.std.specs.List.{slice_index_or}
+use Rattle.ir_runs.specs.Coherent.{sum_below}
+use Rattle.ir_trace.specs.Recorded.{Recorded}
+use Rattle.ir_trace.specs.TraceOf.{recorded_thread}
+use Rattle.ir_past.specs.Answers.{AreCoherent}
+use Rattle.ir_past.specs.Progress.{Makes}
+use Rattle.ir_past.specs.declared.makers.Makers.{Makers}
+use Rattle.ir_diff.specs.Common.{part, IsPart}
+
+-- how many first events of each thread, by a list of these numbers
+abbrev pub counts_of : List ℕ → ℕ → ℕ
+counts_of c t = slice_index_or c t 0
+
+-- these are the write entries of a coherent trace
+pub record AreMakersOf (r : Recorded) (m : Makers) : Type 0 where
+  pub coherent : AreCoherent r
+  pub makes : Makes r (length r.threads) 0 m
+
+-- a common part of this many events of each thread was put together
+pub record IsBuilt (a b : Recorded) (c : List ℕ) : Type 0 where
+  pub size : length c ≡ length a.threads
+  pub order : List ℕ
+  pub built : IsPart a b order
+  pub counts : (t : ℕ) → counts_of c t ≡ part order t
+
+-- how many events of all threads are left
+abbrev pub left_over : Recorded → List ℕ → ℕ
+left_over a c = sum_below (length a.threads) (λ t. length (recorded_thread a t).events - counts_of c t)

@@ -1,0 +1,145 @@
+//! `ir diff`: the bytes of two traces in, what they have in common out.
+
+ghost use Rattle.std.specs.Prelude.{◌≡◌, ◌≢◌, Ok, IfOk, IfErr, OnOk, length, false};
+ghost use Rattle.std.specs.Io.KnownBytes.{Appends};
+ghost use Rattle.ir_trace.specs.Reading.{recorded_at};
+ghost use Rattle.ir_files.specs.Writers.{writer_of, Reports, fault_text};
+ghost use Rattle.ir_files.specs.declared.exit_status.ExitStatus.TheVariants as status;
+ghost use Rattle.ir_past.specs.Answers.{AreCoherent, Answered, NotAnswered, Stops, fault_words};
+ghost use Rattle.ir_past.specs.declared.past_err.PastErr.{PastErr};
+ghost use Rattle.ir_diff.specs.Lines.{header_line, IsDiff, IsPairAnswer, IsSecondAnswer, IsDiffAnswer};
+
+use crate::common::common_part;
+use crate::lines::header_line;
+use crate::texts::{Side, diff_text};
+use ir_files::{ExitStatus, tell};
+use ir_past::{Opened, PastErr, makers_of, open_trace, refuse};
+use ir_stream::{Sink, write_all};
+use ir_trace::Trace;
+use std::alloc::{AllocError, Global};
+
+// The lines of two coherent traces of as many threads.
+fn compared(alloc: Global, a: &Trace, b: &Trace) -> Result<Vec<u8>, AllocError>
+    requires first { AreCoherent a.now }
+    requires second { AreCoherent b.now }
+    requires same { length a.now.threads ≡ length b.now.threads }
+    ensures { IfOk result (λ v. IsDiff a.now b.now v.items) }
+{
+    let first = makers_of(alloc, a)?;
+    let second = makers_of(alloc, b)?;
+    let part = common_part(alloc, a, b)?;
+    diff_text(
+        alloc,
+        Side {
+            trace: a,
+            makers: &first,
+        },
+        Side {
+            trace: b,
+            makers: &second,
+        },
+        &part,
+    )
+}
+
+// Writes the line of headers that differ.
+fn put_header<O: Sink>(alloc: Global, cause: u8, out: &mut O) -> Result<ExitStatus, PastErr>
+    requires { O.broken out.old ≡ false }
+    ensures status { IfOk result (λ answered. answered ≡ status.NotFit) }
+    ensures ok { OnOk result (Appends (O.written out.old) (O.written out.new) (header_line cause)) }
+    ensures works { OnOk result (O.broken out.new ≡ false) }
+    ensures fails { IfErr result (λ e. Stops e (writer_of (O.written out.old) (O.written out.new) (O.broken out.new)) (header_line cause)) }
+{
+    let line = header_line(alloc, cause)?;
+    write_all(out, line.as_bytes())?;
+    Ok(ExitStatus::NotFit)
+}
+
+// Writes the answer about two coherent traces.
+fn show_pair<O: Sink>(
+    alloc: Global,
+    a: &Trace,
+    b: &Trace,
+    out: &mut O,
+) -> Result<ExitStatus, PastErr>
+    requires works { O.broken out.old ≡ false }
+    requires first { AreCoherent a.now }
+    requires second { AreCoherent b.now }
+    ensures ok { IfOk result (λ answered. Answered (IsPairAnswer a.now b.now) answered (writer_of (O.written out.old) (O.written out.new) (O.broken out.new))) }
+    ensures fails { IfErr result (λ e. NotAnswered (IsPairAnswer a.now b.now) e (writer_of (O.written out.old) (O.written out.new) (O.broken out.new))) }
+{
+    if a.threads().len() != b.threads().len() {
+        return put_header(alloc, 1, out);
+    }
+    if a.objects() != b.objects() {
+        return put_header(alloc, 2, out);
+    }
+    let text = compared(alloc, a, b)?;
+    write_all(out, &text)?;
+    Ok(ExitStatus::Done)
+}
+
+// Writes the answer about a coherent trace and the bytes of a second one.
+fn show_second<O: Sink>(
+    alloc: Global,
+    a: &Trace,
+    bytes: &[u8],
+    out: &mut O,
+) -> Result<ExitStatus, PastErr>
+    requires works { O.broken out.old ≡ false }
+    requires coherent { AreCoherent a.now }
+    ensures ok { IfOk result (λ answered. Answered (IsSecondAnswer a.now (recorded_at bytes.now)) answered (writer_of (O.written out.old) (O.written out.new) (O.broken out.new))) }
+    ensures fails { IfErr result (λ e. NotAnswered (IsSecondAnswer a.now (recorded_at bytes.now)) e (writer_of (O.written out.old) (O.written out.new) (O.broken out.new))) }
+{
+    match open_trace(alloc, bytes)? {
+        Opened::Coherent(b) => show_pair(alloc, a, &b, out),
+        Opened::Refused(why) => refuse(alloc, &why, out),
+    }
+}
+
+// Writes the answer about the bytes of two traces.
+fn show<O: Sink>(
+    alloc: Global,
+    first: &[u8],
+    second: &[u8],
+    out: &mut O,
+) -> Result<ExitStatus, PastErr>
+    requires { O.broken out.old ≡ false }
+    ensures ok { IfOk result (λ answered. Answered (IsDiffAnswer (recorded_at first.now) (recorded_at second.now)) answered (writer_of (O.written out.old) (O.written out.new) (O.broken out.new))) }
+    ensures fails { IfErr result (λ e. NotAnswered (IsDiffAnswer (recorded_at first.now) (recorded_at second.now)) e (writer_of (O.written out.old) (O.written out.new) (O.broken out.new))) }
+{
+    match open_trace(alloc, first)? {
+        Opened::Coherent(a) => show_second(alloc, &a, second, out),
+        Opened::Refused(why) => refuse(alloc, &why, out),
+    }
+}
+
+/// Writes what the bytes of two traces have in common: how many events of each thread, and for each thread that differs what each trace
+/// has there. The exit status is `Done` if these lines were written. It is `Refused` if bytes are no trace, and `NotFit` if a trace is
+/// incoherent or the traces have another number of threads or objects; then the line that says so was written. It is `Failed` if memory
+/// ran out or the writer failed, with a prefix written at most and the fault reported in one line.
+pub fn diff_run<O: Sink, E: Sink>(
+    alloc: Global,
+    first: &[u8],
+    second: &[u8],
+    out: &mut O,
+    faults: &mut E,
+) -> ExitStatus
+    requires writes { O.broken out.old ≡ false }
+    requires reports { E.broken faults.old ≡ false }
+    // The answer was written, and no fault reported.
+    ensures done { result ≢ status.Failed
+        → Answered (IsDiffAnswer (recorded_at first.now) (recorded_at second.now)) result (writer_of (O.written out.old) (O.written out.new) (O.broken out.new)) × (faults.new ≡ faults.old) }
+    // Else what stopped it, what that leaves, and that it is reported.
+    ensures stopped { result ≡ status.Failed → (e : PastErr)
+        × NotAnswered (IsDiffAnswer (recorded_at first.now) (recorded_at second.now)) e (writer_of (O.written out.old) (O.written out.new) (O.broken out.new))
+        × Reports (writer_of (E.written faults.old) (E.written faults.new) (E.broken faults.new)) (fault_text (fault_words e)) }
+{
+    match show(alloc, first, second, out) {
+        Ok(answered) => answered,
+        Err(why) => {
+            tell(faults, why.words());
+            ExitStatus::Failed
+        }
+    }
+}

@@ -1,0 +1,6 @@
+pub mod Past
+pub mod Tables
+pub mod Progress
+pub mod Answers
+pub mod Naming
+pub mod Lines

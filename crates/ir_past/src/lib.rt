@@ -1,0 +1,31 @@
+//! What a recorded trace says of its past: which writes rest on a read that was written over.
+#![tactic(auto)]
+
+mod counts;
+mod last_reads;
+mod lines;
+mod logs;
+mod made;
+mod makers;
+mod naming;
+mod opened;
+mod opening;
+mod past_err;
+mod place;
+mod readers;
+mod run;
+mod stale;
+mod stale_write;
+
+pub use counts::write_count;
+pub use made::makers_of;
+pub use makers::Makers;
+pub use naming::{maker_text, place_text};
+pub use opened::{Opened, Refusal};
+pub use opening::{open_trace, refuse};
+pub use past_err::PastErr;
+pub use place::Place;
+pub use readers::readers_of;
+pub use run::stale_run;
+pub use stale::stale_writes;
+pub use stale_write::StaleWrite;

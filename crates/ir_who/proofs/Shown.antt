@@ -1,0 +1,48 @@
+-- Lines that are put one after the other.
+use Rattle.std.proofs.Common.{◌≡◌, ◌+◌, ◌<◌, ◌≤◌, ℕ, suc, List, [], ◌++◌, length, drop, get_or, sym, ap, ◌∙◌, append_assoc, append-nil, arith}
+use Rattle.std.proofs.lemmas.List.{at_drop_more, at_drop_all}
+use Rattle.ir_past.specs.declared.place.Place.{Place}
+use Rattle.ir_who.specs.Lines.{version_line, version_lines, read_line, read_lines}
+use Rattle.ir_who.specs.declared.version.Version.{Version}
+
+-- of what is left to put, the first line was put
+pub grown : (so_far line left more text : List ℕ) → so_far ++ left ≡ text → left ≡ line ++ more → so_far ++ (line ++ more) ≡ text
+grown so_far line left more text e first = ap (λ (x : List ℕ). so_far ++ x) (sym first) ∙ e
+
+-- a line was put
+pub put : (so_far line left more text new : List ℕ) → so_far ++ left ≡ text → left ≡ line ++ more → new ≡ so_far ++ line → new ++ more ≡ text
+put so_far line left more text new e first made =
+    ap (λ (x : List ℕ). x ++ more) made ∙ append_assoc so_far line more ∙ grown so_far line left more text e first
+
+-- nothing is left to put
+pub all_put : (so_far left text : List ℕ) → so_far ++ left ≡ text → left ≡ [] → so_far ≡ text
+all_put so_far left text e none = sym (append-nil so_far) ∙ ap (λ (x : List ℕ). so_far ++ x) (sym none) ∙ e
+
+version_next : (k n : ℕ) (xs : List Version) (x : Version) → n < length xs
+    → version_lines k (drop n xs) ≡ version_line k (get_or xs n x) ++ version_lines (suc k) (drop (n + 1) xs)
+unfolding version_lines
+version_next k n xs x some = at_drop_more (version_lines k) xs n x some
+
+-- the line of the next version comes first in what is left
+pub next_version : (n : ℕ) (xs : List Version) (x : Version) (line : List ℕ) → n < length xs → line ≡ version_line n (get_or xs n x)
+    → version_lines n (drop n xs) ≡ line ++ version_lines (n + 1) (drop (n + 1) xs)
+next_version n xs x line some same = version_next n n xs x some
+    ∙ ap (λ (z : List ℕ). z ++ version_lines (suc n) (drop (n + 1) xs)) (sym same)
+    ∙ (let on : suc n ≡ n + 1 = omega arith in ap (λ k. line ++ version_lines k (drop (n + 1) xs)) on)
+
+pub no_version : (k n : ℕ) (xs : List Version) → length xs ≤ n → version_lines k (drop n xs) ≡ []
+unfolding version_lines
+no_version k n xs all = at_drop_all (version_lines k) xs n all
+
+read_next : (n : ℕ) (xs : List Place) (x : Place) → n < length xs → read_lines (drop n xs) ≡ read_line (get_or xs n x) ++ read_lines (drop (n + 1) xs)
+unfolding read_lines
+read_next n xs x some = at_drop_more read_lines xs n x some
+
+-- the line of the next read entry comes first in what is left
+pub next_read : (n : ℕ) (xs : List Place) (x : Place) (line : List ℕ) → n < length xs → line ≡ read_line (get_or xs n x)
+    → read_lines (drop n xs) ≡ line ++ read_lines (drop (n + 1) xs)
+next_read n xs x line some same = read_next n xs x some ∙ ap (λ (z : List ℕ). z ++ read_lines (drop (n + 1) xs)) (sym same)
+
+pub no_read : (n : ℕ) (xs : List Place) → length xs ≤ n → read_lines (drop n xs) ≡ []
+unfolding read_lines
+no_read n xs all = at_drop_all read_lines xs n all

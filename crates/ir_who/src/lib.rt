@@ -1,0 +1,16 @@
+//! Who made each version of an object, and who read it, by a recorded trace.
+#![tactic(auto)]
+
+mod lines;
+mod question;
+mod run;
+mod texts;
+mod version;
+mod versions;
+mod who_err;
+
+pub use question::Question;
+pub use run::who_run;
+pub use version::Version;
+pub use versions::versions_of;
+pub use who_err::{Absent, WhoErr};
