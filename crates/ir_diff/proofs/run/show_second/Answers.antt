@@ -3,7 +3,8 @@ use Rattle.ir_trace.specs.Reading.{recorded_at}
 use Rattle.ir_files.specs.Writers.{Writer, writer_of}
 use Rattle.ir_past.specs.Answers.{refusal_status, refusal_text, NotAnswered, Stops}
 use Rattle.ir_diff.specs.Lines.{IsSecondAnswer}
-use Rattle.ir_diff.proofs.Written.{if_err_more, refused_for, stopped}
+use Rattle.ir_past.proofs.CallerLemmas.{stopped}
+use Rattle.ir_diff.proofs.Written.{if_err_more, refused_for}
 use Rattle.ir_diff.proofs.run.show_second.Goals as goal
 
 pub returns-in-Refused-clause-fails : goal.returns-in-Refused-clause-fails
