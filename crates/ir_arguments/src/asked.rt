@@ -10,6 +10,7 @@ use crate::list::ListArguments;
 use crate::record::RecordArguments;
 use crate::stale::StaleArguments;
 use crate::trace::TraceArguments;
+use crate::view::ViewArguments;
 use crate::who::WhoArguments;
 
 /// An image that is made of another file.
@@ -36,6 +37,8 @@ pub enum Print {
     Who(WhoArguments),
     /// What two traces have in common, and where they part.
     Diff(DiffArguments),
+    /// A picture of a trace.
+    View(ViewArguments),
 }
 
 /// What the arguments ask for.

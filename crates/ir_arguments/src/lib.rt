@@ -17,6 +17,7 @@ mod stale;
 mod subcommands;
 mod trace;
 mod values;
+mod view;
 mod who;
 
 pub use arguments::{collected, parsed};
@@ -32,4 +33,5 @@ pub use record::{Chaos, RecordArguments};
 pub use recording::RecordingOptions;
 pub use stale::StaleArguments;
 pub use trace::TraceArguments;
+pub use view::{Part, ViewArguments};
 pub use who::WhoArguments;

@@ -1,7 +1,7 @@
 //! The subcommands, in one table.
 
 use crate::asked::Asked;
-use crate::{assemble, debug, diff, elf, events, hunt, list, record, stale, trace, who};
+use crate::{assemble, debug, diff, elf, events, hunt, list, record, stale, trace, view, who};
 use clap::{ArgMatches, Command};
 use std::alloc::{AllocError, Global};
 
@@ -19,10 +19,11 @@ pub enum Subcommand {
     Stale,
     Who,
     Diff,
+    View,
 }
 
 /// The subcommands, in the order in which the help lists them.
-pub const SUBCOMMANDS: [Subcommand; 11] = [
+pub const SUBCOMMANDS: [Subcommand; 12] = [
     Subcommand::Assemble,
     Subcommand::Elf,
     Subcommand::List,
@@ -34,6 +35,7 @@ pub const SUBCOMMANDS: [Subcommand; 11] = [
     Subcommand::Stale,
     Subcommand::Who,
     Subcommand::Diff,
+    Subcommand::View,
 ];
 
 /// What the help says of a subcommand, beside its arguments.
@@ -103,6 +105,11 @@ impl Subcommand {
                 about: "Prints what two recordings have in common, and where they part",
                 after: diff::DIFF_AFTER,
             },
+            Subcommand::View => Row {
+                name: "view",
+                about: "Prints a picture of a trace as an HTML page",
+                after: view::VIEW_AFTER,
+            },
         }
     }
 
@@ -124,6 +131,7 @@ impl Subcommand {
             Subcommand::Stale => stale::with_arguments(alloc, command),
             Subcommand::Who => who::with_arguments(alloc, command),
             Subcommand::Diff => diff::with_arguments(alloc, command),
+            Subcommand::View => view::with_arguments(alloc, command),
         }
     }
 
@@ -141,6 +149,7 @@ impl Subcommand {
             Subcommand::Stale => stale::asked(alloc, matches),
             Subcommand::Who => who::asked(alloc, matches),
             Subcommand::Diff => diff::asked(alloc, matches),
+            Subcommand::View => view::asked(alloc, matches),
         }
     }
 }

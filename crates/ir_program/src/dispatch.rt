@@ -9,7 +9,7 @@ use crate::commands::elf::convert_file;
 use crate::commands::events::events_file;
 use crate::commands::hunt::hunt_file;
 use crate::commands::list::list_file;
-use crate::commands::past::{diff_files, stale_file, who_file};
+use crate::commands::past::{diff_files, stale_file, view_file, who_file};
 use crate::commands::record::record_file;
 use crate::commands::say;
 use crate::commands::trace::trace_file;
@@ -118,6 +118,7 @@ fn print<D: Folder, O: Sink, E: Sink>(
         Print::Stale(arguments) => stale_file(alloc, folder, arguments, out, faults),
         Print::Who(arguments) => who_file(alloc, folder, arguments, out, faults),
         Print::Diff(arguments) => diff_files(alloc, folder, arguments, out, faults),
+        Print::View(arguments) => view_file(alloc, folder, arguments, out, faults),
     }
 }
 
