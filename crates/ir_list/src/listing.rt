@@ -51,9 +51,9 @@ fn put_code<O: Sink>(
     Ok(())
 }
 
-/// Writes a guest as text: for each thread a line of its number and its entry, and for each word of the code a line of its
-/// address, the word, its text, and the name of its target if it is a JAL or a branch. A symbol in the code has a line
-/// before the word that it is in.
+/// Writes a guest as text. Each thread has a line with its number and its entry. Each word of the code has a line with its address,
+/// the word and its text. If it is a JAL or a branch, the name of its target follows. A symbol in the code has a line before the word
+/// that it is in.
 ///
 /// Memory is taken for the lines of one word at a time. The time grows with the code and the logarithm of the symbols.
 ///
