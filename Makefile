@@ -1,6 +1,6 @@
 # The commands of the repository. Each needs the Rattle kit's `rt` and Python 3, and nothing else, but for the tests of the built program.
 
-.PHONY: all try run check test edits program-test c-test refuse mutate bench
+.PHONY: all try run check test edits program-test view-test c-test refuse mutate bench
 
 all: ir
 
@@ -38,6 +38,11 @@ edits: ir
 # The program as a person runs it: devices, pipes, signals, the commands of README, guide and examples. Needs Linux, bash and xxd beside.
 program-test: ir
 	python3 tests/program.py ./ir
+
+# The page of `ir view` in a browser, and its data against a plain reading of recordings. Needs chromium beside.
+view-test: ir
+	python3 tests/view.py ./ir
+	python3 tests/view_page.py ./ir
 
 # Guests from C: compiled at four levels, converted, recorded, hunted in. Needs riscv64-unknown-elf-gcc beside, and says so if it isn't there.
 c-test: ir

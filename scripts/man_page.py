@@ -28,6 +28,7 @@ PUT_TOGETHER = re.compile(r"pub fn with_arguments<'a>.*?\n\}", re.DOTALL)
 SHARED = re.compile(r"pub fn with_options<'a>.*?\n\}", re.DOTALL)
 PUT = re.compile(r"(\w+)_arg\(alloc|(with_options)\(alloc")
 VALUE = re.compile(r"\.value_name\(" + TEXT)
+VALUES = re.compile(r"\.value_names\(&\[([^\]]*)\]")
 DEFAULT = re.compile(r"\.default_value\(" + TEXT)
 # A cell of a row with several numbers and what each means.
 NUMBERED = re.compile(r"(\d+) (\S.*)")
@@ -69,8 +70,9 @@ def options_of(source, files):
     """The options of a source by their functions' names, each with its form and its help."""
     constants, found = files | constants_of(source), {}
     for function, name, body, text in OPTION.findall(source):
-        value, default = VALUE.search(body), DEFAULT.search(body)
-        form = f"--{constants[name]}" + (f" {value[1]}" if value else "")
+        value, values, default = VALUE.search(body), VALUES.search(body), DEFAULT.search(body)
+        named = re.findall(TEXT, values[1]) if values else [value[1]] if value else []
+        form = " ".join([f"--{constants[name]}", *named])
         found[function] = (form, text + (f" [default: {default[1]}]" if default else ""))
     return found
 

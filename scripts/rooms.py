@@ -6,7 +6,7 @@ python3 scripts/rooms.py
 Of another crate's proofs a file may cite what its `proofs/CallerLemmas.antt` offers, and nothing else; no other module
 of `proofs/` is public; a crate stands in crates.txt on each crate that its files name; the texts of ir_tests'
 `examples.rt` are those of the files of `examples`, since a test can read no file; the manual page and docs/reference agree with the texts of
-`--help`; and each edit of `must-fail/` and `edits/` applies, has no line that isn't read, and writes no name that its file doesn't have.
+`--help`; the literals of the page of `ir view` are those of page/view.html; and each edit of `must-fail/` and `edits/` applies, has no line that isn't read, and writes no name that its file doesn't have.
 """
 import re
 import sys
@@ -15,6 +15,7 @@ from pathlib import Path
 import definitions
 from edits import BadEdit, applied, pairs_of
 from man_page import differences
+from page import differences as page_differences
 
 TOP = Path(__file__).resolve().parent.parent
 CITED = re.compile(r"\bRattle\.(ir_\w+)\.proofs\.(\w+)")
@@ -114,7 +115,7 @@ def bad_edits():
 
 
 def main():
-    found = [*faults(), *examples(), *differences(), *bad_edits(), *definitions.faults()]
+    found = [*faults(), *examples(), *differences(), *page_differences(), *bad_edits(), *definitions.faults()]
     print("\n".join(found) or "rooms: each crate cites what the others offer; examples, help and definitions agree with the pages; the edits apply")
     return 1 if found else 0
 

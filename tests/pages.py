@@ -80,7 +80,7 @@ def lines_of_help(subcommand):
     yield subcommand.about
     for form, text in subcommand.arguments + subcommand.options:
         name, blank, value = form.partition(" ")
-        form = f"{name} <{value}>" if blank else name if name.startswith(("--", "[")) else f"<{name}>"
+        form = " ".join([name, *(f"<{word}>" for word in value.split())]) if blank else name if name.startswith(("--", "[")) else f"<{name}>"
         yield f"{form} {text}"
     yield from (" ".join(line.split()) for line in subcommand.after.splitlines())
 

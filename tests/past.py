@@ -1,4 +1,4 @@
-"""Tests of `ir stale`, `ir who` and `ir diff` on the built program, which `tests/program.py` runs.
+"""Tests of `ir stale`, `ir who`, `ir why` and `ir diff` on the built program, which `tests/program.py` runs.
 
 What they print is compared with what a slow program, written here from the texts of their help, makes of the lines of `ir trace`. The table
 of stale writes says of each guest in how many of its recordings the result is wrong, and in how many a stale write is listed.
@@ -15,6 +15,7 @@ sys.path.append(str(TOP / "bench"))
 
 import faults  # noqa: E402
 import places  # noqa: E402
+import view  # noqa: E402
 
 FULL = b"ir: standard output can't be written\n"
 
@@ -22,6 +23,10 @@ FULL = b"ir: standard output can't be written\n"
 BAD, GOOD = "0x10,1x25", "0x25"
 STALE = b"""stale 1 of 2
 thread 0 event 1 write 0 version 1 read event 0 version 0 overwritten by thread 1 event 1
+"""
+# With the image, the steps of the events, and the word that thread 0 would have read.
+RESTS = b"""stale 1 of 2
+thread 0 event 1 step 13 write 0 version 1 read event 0 step 2 version 0 overwritten by thread 1 event 1 step 13 word 0 was 00000000 is 00000001 value
 """
 DIFF = b"""common 1 0
 thread 0 differs event 1 ready in 2
@@ -40,6 +45,19 @@ VERSION_0 = b"""version 0 by first words readers 2
 read thread 0 event 0
 read thread 1 event 0
 overwritten by thread 1 event 1
+"""
+
+# Thread 1 wrote after both had read, thread 0 after it.
+WHY_FIRST = b"""thread 1 event 1 write 0 version 0 readers 2
+needs thread 0 event 0 read 0 version 0
+past 1 1
+since thread 1 event 1 waited for thread 0 event 0
+"""
+WHY_LAST = b"""thread 0 event 1 write 0 version 1 readers 0
+needs thread 1 event 1 write 0 version 0 readers 2
+past 1 2
+since thread 0 event 1 waited for thread 1 event 1
+since thread 1 event 1 waited for thread 0 event 0
 """
 
 # A coherent trace that no run has: each of two threads reads what the other writes later.
@@ -74,10 +92,17 @@ ANSWERS = (
     ("stale good.trc", b"stale 0 of 2\n"),
     ("stale hello.trc", b"stale 0 of 0\n"),
     ("stale circle.trc", b"stale 0 of 2\n"),
+    ("stale bad.trc --image lost.img", RESTS),
+    ("stale good.trc --image lost.img", b"stale 0 of 2\n"),
     ("who bad.trc 0", VERSIONS),
     ("who bad.trc 0 0", VERSION_0),
     ("who bad.trc 0 1", b"version 1 by thread 1 event 1 readers 0\noverwritten by thread 0 event 1\n"),
     ("who bad.trc 00 2", b"version 2 by thread 0 event 1 readers 0\nlast\n"),
+    ("why bad.trc 1 1", WHY_FIRST),
+    ("why bad.trc 0 1", WHY_LAST),
+    ("why bad.trc 0 1 --lines 1", b"".join(WHY_LAST.splitlines(True)[:4])),
+    ("why bad.trc 0 1 --lines 0", b"".join(WHY_LAST.splitlines(True)[:3])),
+    ("why bad.trc 01 00", b"thread 1 event 0 read 0 version 0\npast 0 0\n"),
     ("diff bad.trc good.trc", DIFF),
     ("diff bad.trc bad.trc", b"common 2 2\nthread 0 same\nthread 1 same\n"),
     ("diff bad.trc budget.trc", b"common 2 2\nbudget 1000000 and 30\nthread 0 same\nthread 1 same\n"),
@@ -91,22 +116,31 @@ ANSWERS = (
 NO_NUMBER = "ir: {}: '{}' is no number up to 4294967295\n"
 NO_FILE = "ir: none.trc can't be read: no such file or folder\n"
 LACKING = "ir: the following required arguments were not provided: {}\n"
+NO_THREAD, NO_EVENT = "ir: the trace has no thread of this number\n", "ir: the thread has no event of this number\n"
 NO_OBJECT, NO_VERSION = "ir: the trace has no object of this number\n", "ir: the object has no version of this number\n"
 
 # Each row: the arguments, the exit status, what is written, and what standard error says.
 REFUSED = (
     *((f"{words} {more}".strip(), 2, "", LACKING.format(lacking)) for words, more, lacking in (
-        ("stale", "", "<TRACE>"), ("who", "", "<TRACE> <O>"), ("who", "bad.trc", "<O>"), ("diff", "", "<FIRST> <SECOND>"),
+        ("stale", "", "<TRACE>"), ("who", "", "<TRACE> <O>"), ("who", "bad.trc", "<O>"), ("why", "", "<TRACE> <T> <E>"), ("why", "bad.trc 1", "<E>"), ("diff", "", "<FIRST> <SECOND>"),
         ("diff", "bad.trc", "<SECOND>"))),
     *((f"{words}", 1, "", NO_FILE) for words in (
-        "stale none.trc", "who none.trc 0", "who none.trc 9 9", "diff none.trc bad.trc", "diff bad.trc none.trc", "diff lost.img none.trc")),
+        "stale none.trc", "stale none.trc --image lost.img", "who none.trc 0", "who none.trc 9 9", "why none.trc 0 0", "diff none.trc bad.trc", "diff bad.trc none.trc", "diff lost.img none.trc")),
     *((f"{words}", 1, "", "ir: folder can't be read: it is a folder\n") for words in ("stale folder", "who folder 0", "diff bad.trc folder")),
     ("diff bad.trc long", 1, "", "ir: long is over 200000000 bytes\n"),
     *((words, 3, "trace refused 2\n", "") for words in (
-        "stale lost.img", "who lost.img 0", "who lost.img 9", "diff lost.img bad.trc", "diff bad.trc lost.img", "diff lost.img odd.trc")),
+        "stale lost.img", "who lost.img 0", "who lost.img 9", "why lost.img 9 9", "diff lost.img bad.trc", "diff bad.trc lost.img", "diff lost.img odd.trc")),
     *((words, 3, "trace refused 1\n", "") for words in ("stale cut.trc", "who cut.trc 0", "diff cut.trc lost.img", "diff bad.trc cut.trc")),
     *((words, 4, "incoherent thread 0 event 1 cause 2\n", "") for words in (
-        "stale odd.trc", "who odd.trc 0", "who odd.trc 9", "diff odd.trc bad.trc", "diff bad.trc odd.trc", "diff odd.trc lost.img")),
+        "stale odd.trc", "who odd.trc 0", "who odd.trc 9", "why odd.trc 9 9", "diff odd.trc bad.trc", "diff bad.trc odd.trc", "diff odd.trc lost.img")),
+    ("why circle.trc 0 0", 4, "circle thread 0 event 0\n", ""),
+    ("why circle.trc 1 1", 4, "circle thread 0 event 0\n", ""),
+    *((f"why {name} {thread} 0", 2, "", NO_THREAD) for name in ("bad.trc", "circle.trc") for thread in (2, 256, 258, 4294967295)),
+    *((f"why {name} 1 {event}", 2, "", NO_EVENT) for name in ("bad.trc", "circle.trc") for event in (2, 4294967295)),
+    ("why hello.trc 0 0", 2, "", NO_EVENT),
+    *((f"why bad.trc {thread} 0", 2, "", NO_NUMBER.format("T", thread)) for thread in ("x", "0x0", "+1", "4294967296")),
+    *((f"why bad.trc 0 {event}", 2, "", NO_NUMBER.format("E", event)) for event in ("x", "0x0", "+1", "4294967296")),
+    *((f"why bad.trc 0 0 --lines {lines}", 2, "", NO_NUMBER.format("--lines", lines)) for lines in ("x", "+1", "4294967296")),
     ("who bad.trc 1", 2, "", NO_OBJECT),
     ("who bad.trc 1 0", 2, "", NO_OBJECT),
     ("who bad.trc 256", 2, "", NO_OBJECT),
@@ -208,6 +242,46 @@ def who_lines(trace, object_, version=None):
     over = trace.writer(object_, version)
     reads = [f"read {x.place()}" for x in trace.readers(object_, version)]
     return [version_line(trace, object_, version), *reads, f"overwritten by {over.place()}" if over else "last"]
+
+
+def needs_of(trace, thread, event):
+    """What an event needs of other threads: what made the version that it enters, and the read entries that it writes over."""
+    x = trace.entry(thread, event)
+    needs = [trace.writer(x.object, x.version - 1)] if x and x.version else []
+    needs += trace.readers(x.object, x.version) if x and x.is_write else []
+    return [need for need in needs if need.thread != thread]
+
+
+def why_lines(trace, places, thread, event, most):
+    """The lines of `ir why`, `places` being where each event's box starts."""
+    needs, counts = needs_of(trace, thread, event), [0] * len(trace.logs)
+    left = [(thread, i) for i in range(event)] + [(need.thread, i) for need in needs for i in range(need.event + 1)]
+    seen = set(left)
+    while left:
+        own, number = left.pop()
+        counts[own] = max(counts[own], number + 1)
+        more = {(need.thread, i) for need in needs_of(trace, own, number) for i in range(need.event + 1)} - seen
+        seen |= more
+        left += more
+    lines = [f"thread {thread} event {event} {trace.logs[thread][event]}"]
+    lines += [f"needs {need.place()} {trace.logs[need.thread][need.event]}" for need in needs]
+    lines.append("past " + " ".join(map(str, counts)))
+    for _ in range(most):
+        waits = [i for i in range(event + 1) if needs_of(trace, thread, i)]
+        if not waits:
+            break
+        last = min(needs_of(trace, thread, waits[-1]), key=lambda need: (-places[need.thread, need.event], need.thread, need.event))
+        lines.append(f"since thread {thread} event {waits[-1]} waited for {last.place()}")
+        thread, event = last.thread, last.event
+    return lines
+
+
+def starts_of(data):
+    """Where the box of each event of a trace's bytes starts, by slow and plain ways."""
+    threads = view.parsed(data)[2]
+    boxes = view.boxes_of(threads)
+    places, _ = view.places_of(threads, boxes, view.needs_of(threads))
+    return {(thread, first + k): place[0] for (thread, first, count), place in zip(boxes, places) for k in range(count)}
 
 
 def common(one, two):
@@ -347,6 +421,11 @@ def read_alike(folder):
                 wants(f"{way}: who {object_}", written(f"who {name}.trc {object_}", folder), lines)
                 version = numbers.randrange(len(lines) - 1)
                 wants(f"{way}: who {object_} {version}", written(f"who {name}.trc {object_} {version}", folder), who_lines(trace, object_, version))
+            places = starts_of((folder / f"{name}.trc").read_bytes())
+            for thread, event in numbers.sample(sorted(places), min(4, len(places))):
+                most = numbers.choice((0, 1, 3, 20))
+                wants(f"{way}: why {thread} {event}", written(f"why {name}.trc {thread} {event} --lines {most}", folder),
+                      why_lines(trace, places, thread, event, most))
             if before:
                 wants(f"{way}: diff", written(f"diff g{1 - turn % 2}.trc {name}.trc", folder), diff_lines(before, trace))
             before = trace
@@ -420,11 +499,16 @@ def refused(folder):
         opened = run(f"debug lost.img {name}.trc", folder)
         ended = run(f"stale {name}.trc", folder)
         wants(name, (ended.returncode, ended.stdout), (opened.returncode, opened.stdout))
+    # So with an image: bytes that are none, and a trace that none of its runs has.
+    for image, name in (("lost.img", "odd"), ("lost.img", "cut"), ("lost.img", "hello"), ("bad.trc", "bad"), ("bad.trc", "cut")):
+        opened = run(f"debug {image} {name}.trc", folder)
+        ended = run(f"stale {name}.trc --image {image}", folder)
+        wants(f"{name} with {image}", (ended.returncode, ended.stdout), (opened.returncode, opened.stdout))
 
 
 def not_written(folder):
     """A full device, a closed output and a pipe that no process reads are reported."""
-    for arguments in ("stale bad.trc", "stale odd.trc", "stale lost.img", "who bad.trc 0", "who bad.trc 0 0", "diff bad.trc good.trc",
+    for arguments in ("stale bad.trc", "stale bad.trc --image lost.img", "stale odd.trc", "stale lost.img", "who bad.trc 0", "who bad.trc 0 0", "why bad.trc 0 1", "diff bad.trc good.trc",
                       "diff bad.trc counter.trc"):
         for to in (">/dev/full", ">&-"):
             ended = shell(f"./ir {arguments} {to}", folder)

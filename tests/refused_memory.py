@@ -9,7 +9,7 @@ requests. The start of a thread is a request too.
 - A command of a session answers as it does with ample memory or, if it may, `refused 8 no memory`. After that, position and kept cuts are as
   before, and the same command answers as it would have. So are points: a second run of the session finds them by moves to their hits.
 - A session that can't be opened writes nothing.
-- `ir asm`, `ir record`, `ir trace`, `ir stale`, `ir who` and `ir diff` end as with ample memory, or with status 1 and a line that says why.
+- `ir asm`, `ir record`, `ir trace`, `ir stale`, `ir who`, `ir why`, `ir diff` and `ir view` end as with ample memory, or with status 1 and a line that says why.
   Then only the last lines may be missing, and a file that is there is whole.
 - If a thread isn't started, all is as with ample memory.
 
@@ -94,9 +94,14 @@ RUNS = (
     ("ir record of eight threads", "record eight_counters.img new.trc", None),
     ("ir trace", "trace lost_update.trc", ()),
     ("ir stale", "stale lost_update.trc", ()),
+    ("ir stale with the image", "stale lost_update.trc --image lost_update.img", ()),
     ("ir who", "who lost_update.trc 0", ()),
     ("ir who of a version", "who lost_update.trc 0 0", ()),
+    ("ir why", "why lost_update.trc 0 1", ()),
     ("ir diff", "diff lost_update.trc two_counters.trc", ()),
+    ("ir view", "view lost_update.trc", ()),
+    ("ir view for other viewers", "view --chrome lost_update.trc", ()),
+    ("ir view of a part", "view --json --around 0 1 --span 1 lost_update.trc", ()),
 )
 
 

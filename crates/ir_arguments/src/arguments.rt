@@ -15,6 +15,7 @@ const AFTER: &str = "A session of a source of your own:
   ir hunt guest.img guest.trc --seeds 0+1000 --until fault
   ir trace guest.trc
   ir stale guest.trc
+  ir stale guest.trc --image guest.img
   ir debug guest.img guest.trc
 Without a subcommand `ir` reads standard input: a line with an image in hexadecimal, a line with its trace in
 hexadecimal, and then the commands of `ir debug`, a line each. With xxd for the hexadecimal:

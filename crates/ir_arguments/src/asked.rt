@@ -10,7 +10,9 @@ use crate::list::ListArguments;
 use crate::record::RecordArguments;
 use crate::stale::StaleArguments;
 use crate::trace::TraceArguments;
+use crate::view::ViewArguments;
 use crate::who::WhoArguments;
+use crate::why::WhyArguments;
 
 /// An image that is made of another file.
 #[derive(Drop)]
@@ -34,8 +36,12 @@ pub enum Print {
     Stale(StaleArguments),
     /// Who made and read the versions of an object.
     Who(WhoArguments),
+    /// Why an event came when it did.
+    Why(WhyArguments),
     /// What two traces have in common, and where they part.
     Diff(DiffArguments),
+    /// A picture of a trace.
+    View(ViewArguments),
 }
 
 /// What the arguments ask for.

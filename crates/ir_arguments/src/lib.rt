@@ -17,7 +17,9 @@ mod stale;
 mod subcommands;
 mod trace;
 mod values;
+mod view;
 mod who;
+mod why;
 
 pub use arguments::{collected, parsed};
 pub use asked::{Asked, Make, Print};
@@ -32,4 +34,6 @@ pub use record::{Chaos, RecordArguments};
 pub use recording::RecordingOptions;
 pub use stale::StaleArguments;
 pub use trace::TraceArguments;
+pub use view::{Part, ViewArguments};
 pub use who::WhoArguments;
+pub use why::WhyArguments;

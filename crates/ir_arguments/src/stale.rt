@@ -1,8 +1,8 @@
 //! The arguments of `ir stale`.
 
 use crate::asked::{Asked, Print};
-use crate::values::{TRACE, file_arg, text_of};
-use clap::{ArgMatches, Command};
+use crate::values::{TRACE, file_arg, given_text, text_of};
+use clap::{Arg, ArgMatches, Command};
 use std::alloc::{AllocError, Global};
 
 /// What follows the help of `ir stale`.
@@ -14,27 +14,51 @@ write entries. Then comes a line for each, by rising thread and event:
 The write entry is at version W, and the read entry, event I of thread T, was at version V. Event F of thread U was the first
 to write over version V. Events are numbered as in `ir trace`. A trace alone can't say whether a thread looked again in
 the entry in which it wrote. So a right guest that does is listed too.
+With --image only the stale writes are listed that rest on what was read: if the thread had read the words that were there
+when it wrote, it would have put another value into the object, or would have come to another call, object or word, or not
+to the same call within 65536 steps more. Each event has its step, and the line goes on:
+  word K was X is Y value
+Word K is the lowest that the thread read and that is another when it writes; X and Y are the words in hexadecimal digits.
+It ends in `value` if another value would have been put, and else in `way`. A write entry in which nothing is put isn't
+listed.
 If TRACE is no trace, the one line is `trace refused N`, and `incoherent thread T event E cause C` if its events don't fit
-together, as `ir debug` has it.
+together, as `ir debug` has it. With --image it is `image refused N` if IMAGE is no image, and the lines with which
+`ir debug` begins if the trace is of no run of the image.
 Exit status: 0 printed, also if there are stale writes, 1 a file that can't be read or standard output that can't be
-written, 2 bad arguments, 3 a refused trace, 4 an incoherent trace.
+written, 2 bad arguments, 3 a refused image or trace, 4 an incoherent trace, or one of no run of the image.
 ";
+
+// The file of the image.
+const FROM_IMAGE: &str = "image";
 
 /// Whose stale writes are printed.
 #[derive(Drop)]
 pub struct StaleArguments {
     /// The file of the trace.
     pub trace: String,
+    /// The file of the image, if only the writes are printed that rest on what was read.
+    pub image: Option<String>,
+}
+
+// The option that names the file with the image.
+fn image_arg<'a>(alloc: Global) -> Arg<'a> {
+    Arg::new(alloc, FROM_IMAGE)
+        .long(FROM_IMAGE)
+        .value_name("IMAGE")
+        .help("The file with the image: only writes that rest on what was read")
 }
 
 /// The command with its arguments.
 pub fn with_arguments<'a>(alloc: Global, command: Command<'a>) -> Result<Command<'a>, AllocError> {
-    command.arg(file_arg(alloc, TRACE, "The file with the trace"))
+    command
+        .arg(file_arg(alloc, TRACE, "The file with the trace"))?
+        .arg(image_arg(alloc))
 }
 
 /// What its arguments ask for.
 pub fn asked(alloc: Global, matches: &ArgMatches<'_>) -> Result<Asked, AllocError> {
     Ok(Asked::Print(Print::Stale(StaleArguments {
         trace: text_of(alloc, matches, TRACE)?,
+        image: given_text(alloc, matches, FROM_IMAGE)?,
     })))
 }

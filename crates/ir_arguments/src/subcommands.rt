@@ -1,7 +1,7 @@
 //! The subcommands, in one table.
 
 use crate::asked::Asked;
-use crate::{assemble, debug, diff, elf, events, hunt, list, record, stale, trace, who};
+use crate::{assemble, debug, diff, elf, events, hunt, list, record, stale, trace, view, who, why};
 use clap::{ArgMatches, Command};
 use std::alloc::{AllocError, Global};
 
@@ -18,11 +18,13 @@ pub enum Subcommand {
     Events,
     Stale,
     Who,
+    Why,
     Diff,
+    View,
 }
 
 /// The subcommands, in the order in which the help lists them.
-pub const SUBCOMMANDS: [Subcommand; 11] = [
+pub const SUBCOMMANDS: [Subcommand; 13] = [
     Subcommand::Assemble,
     Subcommand::Elf,
     Subcommand::List,
@@ -33,7 +35,9 @@ pub const SUBCOMMANDS: [Subcommand; 11] = [
     Subcommand::Events,
     Subcommand::Stale,
     Subcommand::Who,
+    Subcommand::Why,
     Subcommand::Diff,
+    Subcommand::View,
 ];
 
 /// What the help says of a subcommand, beside its arguments.
@@ -98,10 +102,20 @@ impl Subcommand {
                 about: "Prints who made and who read the versions of an object",
                 after: who::WHO_AFTER,
             },
+            Subcommand::Why => Row {
+                name: "why",
+                about: "Prints what an event needs, and the chain of waits that led to it",
+                after: why::WHY_AFTER,
+            },
             Subcommand::Diff => Row {
                 name: "diff",
                 about: "Prints what two recordings have in common, and where they part",
                 after: diff::DIFF_AFTER,
+            },
+            Subcommand::View => Row {
+                name: "view",
+                about: "Prints a picture of a trace as an HTML page",
+                after: view::VIEW_AFTER,
             },
         }
     }
@@ -123,7 +137,9 @@ impl Subcommand {
             Subcommand::Events => events::with_arguments(alloc, command),
             Subcommand::Stale => stale::with_arguments(alloc, command),
             Subcommand::Who => who::with_arguments(alloc, command),
+            Subcommand::Why => why::with_arguments(alloc, command),
             Subcommand::Diff => diff::with_arguments(alloc, command),
+            Subcommand::View => view::with_arguments(alloc, command),
         }
     }
 
@@ -140,7 +156,9 @@ impl Subcommand {
             Subcommand::Events => events::asked(alloc, matches),
             Subcommand::Stale => stale::asked(alloc, matches),
             Subcommand::Who => who::asked(alloc, matches),
+            Subcommand::Why => why::asked(alloc, matches),
             Subcommand::Diff => diff::asked(alloc, matches),
+            Subcommand::View => view::asked(alloc, matches),
         }
     }
 }

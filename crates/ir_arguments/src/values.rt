@@ -1,6 +1,7 @@
 //! Arguments that more than one subcommand has, and how their values are read.
 
 use clap::{Arg, ArgMatches};
+use ir_record_run::number_within;
 use std::alloc::{AllocError, Global};
 
 /// The file of an image.
@@ -42,4 +43,12 @@ pub fn names_arg<'a>(alloc: Global) -> Arg<'a> {
     Arg::new(alloc, MAP).long(MAP).value_name("MAP").help(
         "The file with the names of addresses, as `nm -n` prints them",
     )
+}
+
+/// The number up to 4294967295 that a text is, or else what is wrong with the argument of this name.
+pub fn number_in(alloc: Global, name: &str, text: &str) -> Result<Result<u32, String>, AllocError> {
+    match number_within(0, u32::MAX as u64, text) {
+        Some(number) => Ok(Ok(number as u32)),
+        None => Ok(Err(format!(in alloc; "{name}: '{text}' is no number up to 4294967295")?)),
+    }
 }

@@ -1,9 +1,8 @@
 //! The arguments of `ir who`.
 
 use crate::asked::{Asked, Print};
-use crate::values::{TRACE, file_arg, text_of};
+use crate::values::{TRACE, file_arg, number_in, text_of};
 use clap::{Arg, ArgMatches, Command};
-use ir_record_run::number_within;
 use std::alloc::{AllocError, Global};
 
 /// What follows the help of `ir who`.
@@ -47,33 +46,19 @@ pub fn with_arguments<'a>(alloc: Global, command: Command<'a>) -> Result<Command
         ))
 }
 
-// A number up to 4294967295.
-fn number_of(text: &str) -> Option<u32> {
-    match number_within(0, u32::MAX as u64, text) {
-        Some(number) => Some(number as u32),
-        None => None,
-    }
-}
-
-// That an argument is no number.
-fn no_number(alloc: Global, name: &str, text: &str) -> Result<Asked, AllocError> {
-    Ok(Asked::Nothing(format!(in alloc; "{name}: '{text}' is no number up to 4294967295")?))
-}
-
 /// What its arguments ask for.
 pub fn asked(alloc: Global, matches: &ArgMatches<'_>) -> Result<Asked, AllocError> {
     let text = matches.get_str(OBJECT).unwrap_or_default();
-    let Some(object) = number_of(text) else {
-        return no_number(alloc, OBJECT, text);
+    let object = match number_in(alloc, OBJECT, text)? {
+        Ok(object) => object,
+        Err(why) => return Ok(Asked::Nothing(why)),
     };
     let version = match matches.get_str(VERSION) {
         None => None,
-        Some(text) => {
-            let Some(version) = number_of(text) else {
-                return no_number(alloc, VERSION, text);
-            };
-            Some(version)
-        }
+        Some(text) => match number_in(alloc, VERSION, text)? {
+            Ok(version) => Some(version),
+            Err(why) => return Ok(Asked::Nothing(why)),
+        },
     };
     Ok(Asked::Print(Print::Who(WhoArguments {
         trace: text_of(alloc, matches, TRACE)?,

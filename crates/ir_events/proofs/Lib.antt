@@ -3,3 +3,4 @@ mod Ends
 mod Listed
 mod Passes
 mod Joined
+pub mod CallerLemmas

@@ -14,4 +14,4 @@ pub use line::event_line;
 pub use lists::EventPcs;
 pub use logged::Logged;
 pub use texts::events_text;
-pub use walk::pcs;
+pub use walk::{are_done, ends_of, pcs};

@@ -14,8 +14,11 @@ use ir_replay::State;
 use ir_thread::Thread;
 use std::alloc::{AllocError, Global};
 
-// Where the threads end.
-fn ends_of(alloc: Global, fitted: &Fitted) -> Result<Cut, AllocError>
+/// Where the threads end: the last position of each.
+///
+/// # Errors
+/// Out of memory.
+pub fn ends_of(alloc: Global, fitted: &Fitted) -> Result<Cut, AllocError>
     ensures { IfOk result (AreEnds fitted.now) }
 {
     let threads = fitted.trace().threads();
@@ -39,8 +42,8 @@ fn empty_lists(alloc: Global, fitted: &Fitted) -> Result<Vec<ThreadPcs>, AllocEr
     Ok(lists)
 }
 
-// Whether each thread is at its end.
-fn are_done(threads: &[Thread], ends: &Cut) -> bool
+/// Whether each thread is at its end.
+pub fn are_done(threads: &[Thread], ends: &Cut) -> bool
     requires { length ends.now ≡ length threads.now }
     ensures done { result ≡ true → (t : ℕ) → t < length threads.now → cut_of ends.now t ≤ (slice_index_or threads.now t idle).steps }
     ensures below { result ≡ false → (t : ℕ) × (t < length threads.now) × ((slice_index_or threads.now t idle).steps < cut_of ends.now t) }

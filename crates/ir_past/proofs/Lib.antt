@@ -6,4 +6,6 @@ mod Totals
 mod Written
 mod Shown
 mod Reading
+mod ReadTables
+mod Returning
 pub mod CallerLemmas

@@ -16,6 +16,7 @@ use Rattle.ir_trace.specs.TraceOf.{recorded_thread, trace_of}
 use Rattle.ir_coherence.specs.Breaking.{IsBefore}
 use Rattle.ir_past.specs.Past.{event_at, IsWriteAt, IsStale}
 use Rattle.ir_past.specs.Tables.{maker_in}
+use Rattle.ir_past.specs.Answers.{AreCoherent}
 use Rattle.ir_past.specs.Progress.{Makes}
 use Rattle.ir_past.specs.declared.place.Place.{Place}
 use Rattle.ir_past.specs.declared.makers.Makers.{Makers}
@@ -28,7 +29,7 @@ at_label [] i e is = absurd (none-some e is)
 at_label (x ∷ xs) zero e is = ap label_of (same_Some x e is)
 at_label (x ∷ xs) (suc i) e is = at_label xs i e is
 
-event_of : (es : List Event) (i : ℕ) (m : Label) → At (map label_of es) i m → (e : Event) × (slice_get es i ≡ Some e) × (label_of e ≡ m)
+pub event_of : (es : List Event) (i : ℕ) (m : Label) → At (map label_of es) i m → (e : Event) × (slice_get es i ≡ Some e) × (label_of e ≡ m)
 event_of [] i m at = absurd at
 event_of (x ∷ xs) zero m at = (x, refl, at)
 event_of (x ∷ xs) (suc i) m at = event_of xs i m at
@@ -179,3 +180,16 @@ makes_noted (Err e) r t n o v l a b p at thread event h objects noted = tt
 
 pub makes_at : (r : Recorded) (t n : ℕ) (m : Makers) → t ≡ n → Makes r t 0 m → Makes r n 0 m
 makes_at r t n m same h = subst (λ z. Makes r z 0 m) same h
+
+-- at most one write entry of an object is at a version
+pub one_writer : (r : Recorded) → AreCoherent r → (t i u j o v l k : ℕ) → IsWriteAt r t i o v l → IsWriteAt r u j o v k
+    → (t ≡ u) × (i ≡ j)
+one_writer r coherent t i u j o v l k one two = coherent.writer t i u j o v l k
+    (at_label (recorded_thread r t).events i (variant.Write o v l) one) (at_label (recorded_thread r u).events j (variant.Write o v k) two)
+
+-- the write entry that is noted is the only one
+pub noted_one : (r : Recorded) (m : Makers) (n o w u j l : ℕ) (p : Place) → AreCoherent r → Makes r n 0 m → maker_in m o w ≡ Some p
+    → IsWriteAt r u j o w l → (u ≡ p.thread) × (j ≡ p.event)
+noted_one r m n o w u j l p coherent makes noted write =
+    let there = makes.sound o w p noted in
+    one_writer r coherent u j p.thread p.event o w l there.0 write there.1

@@ -4,3 +4,4 @@ pub mod Progress
 pub mod Answers
 pub mod Naming
 pub mod Lines
+pub mod Returning

@@ -6,10 +6,11 @@ use Rattle.ir_log.specs.declared.event.Event.TheVariants.{Read}
 use Rattle.ir_trace.specs.Recorded.{Recorded}
 use Rattle.ir_coherence.specs.Breaking.{IsBefore}
 use Rattle.ir_past.specs.Past.{IsReadAt, IsWriteAt, IsStale, IsStaleIn, IsRow, HasRow, IsRising, HasPlace, AreRising, entered}
-use Rattle.ir_past.specs.Tables.{maker_in, last_read}
+use Rattle.ir_past.specs.Tables.{maker_in, read_in, last_read}
 use Rattle.ir_past.specs.declared.stale_write.StaleWrite.{StaleWrite}
 use Rattle.ir_past.specs.declared.place.Place.{Place}
 use Rattle.ir_past.specs.declared.makers.Makers.{Makers}
+use Rattle.ir_past.specs.declared.reads.Reads.{Reads}
 use Rattle.ir_past.specs.declared.last_reads.ReadEntry.{ReadEntry}
 use Rattle.ir_past.specs.declared.last_reads.StalePair.{StalePair}
 
@@ -51,3 +52,8 @@ pub record ReadBefore (r : Recorded) (o v t n : ℕ) (places : List Place) : Typ
   pub before : (k : ℕ) (p : Place) → slice_get places k ≡ Some p → IsBefore p.thread p.event t n
   pub complete : (u i : ℕ) → IsReadAt r u i o v → IsBefore u i t n → HasPlace places u i
   pub rising : AreRising places
+
+-- the read entries before event n of thread t are noted
+pub record HasReads (r : Recorded) (t n : ℕ) (m : Reads) : Type 0 where
+  pub objects : vec_len m.objects ≡ r.objects
+  pub each : (o v : ℕ) → ReadBefore r o v t n (read_in m o v)

@@ -1,8 +1,10 @@
 //! What a recorded trace says of its past: which writes rest on a read that was written over.
 #![tactic(auto)]
 
+mod answer;
 mod counts;
 mod last_reads;
+mod laws;
 mod lines;
 mod logs;
 mod made;
@@ -13,11 +15,15 @@ mod opening;
 mod past_err;
 mod place;
 mod readers;
+mod reads;
 mod run;
 mod stale;
 mod stale_write;
 
+pub use answer::{Answer, line_answer, put_answer};
 pub use counts::write_count;
+pub use laws::returns_counted;
+pub use logs::{event_of, events_of, thread_count};
 pub use made::makers_of;
 pub use makers::Makers;
 pub use naming::{maker_text, place_text};
@@ -26,6 +32,7 @@ pub use opening::{open_trace, refuse};
 pub use past_err::PastErr;
 pub use place::Place;
 pub use readers::readers_of;
+pub use reads::{Reads, reads_of};
 pub use run::stale_run;
 pub use stale::stale_writes;
 pub use stale_write::StaleWrite;

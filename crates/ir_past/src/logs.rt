@@ -1,10 +1,12 @@
 //! The logs of a trace's threads.
 
-ghost use Rattle.std.specs.Prelude.{◌≡◌, ◌<◌, ◌≤◌, length};
+ghost use Rattle.std.specs.Prelude.{◌≡◌, ◌<◌, ◌≤◌, length, Some};
 ghost use Rattle.ir_thread.specs.Calls.{most_events};
 ghost use Rattle.ir_trace.specs.TraceOf.{recorded_thread};
+ghost use Rattle.ir_past.specs.Past.{event_at};
 ghost use Rattle.ir_past.specs.Progress.{Fits};
 
+use crate::place::Place;
 use ir_log::Event;
 use ir_trace::Trace;
 
@@ -16,7 +18,7 @@ pub fn thread_count(trace: &Trace) -> u8
     trace.threads().len() as u8
 }
 
-/// What a thread logged.
+/// What a thread logged, event by event.
 pub fn events_of(trace: &Trace, thread: u8) -> &[Event]
     requires { thread < length trace.now.threads }
     ensures events { result.now ≡ (recorded_thread trace.now thread).events }
@@ -26,4 +28,14 @@ pub fn events_of(trace: &Trace, thread: u8) -> &[Event]
 {
     let threads = trace.threads();
     threads[thread as usize].log().events()
+}
+
+/// An event, by its thread and its place in the thread's log.
+#[tactic(auto, using(crate::proofs::Open::at_place))]
+pub fn event_of(trace: &Trace, here: Place) -> Event
+    requires thread { here.thread < length trace.now.threads }
+    requires event { here.event < length (recorded_thread trace.now here.thread).events }
+    ensures { event_at trace.now here.thread here.event ≡ Some result }
+{
+    events_of(trace, here.thread)[here.event as usize]
 }

@@ -9,7 +9,7 @@ use crate::commands::elf::convert_file;
 use crate::commands::events::events_file;
 use crate::commands::hunt::hunt_file;
 use crate::commands::list::list_file;
-use crate::commands::past::{diff_files, stale_file, who_file};
+use crate::commands::past::{diff_files, stale_file, view_file, who_file, why_file};
 use crate::commands::record::record_file;
 use crate::commands::say;
 use crate::commands::trace::trace_file;
@@ -115,9 +115,11 @@ fn print<D: Folder, O: Sink, E: Sink>(
         Print::Code(arguments) => list_file(alloc, folder, arguments, out, faults),
         Print::Trace(arguments) => trace_file(alloc, folder, arguments, out, faults),
         Print::Events(arguments) => { events_file(alloc, folder, arguments, explains, out, faults) }
-        Print::Stale(arguments) => stale_file(alloc, folder, arguments, out, faults),
+        Print::Stale(arguments) => { stale_file(alloc, folder, arguments, explains, out, faults) }
         Print::Who(arguments) => who_file(alloc, folder, arguments, out, faults),
+        Print::Why(arguments) => why_file(alloc, folder, arguments, out, faults),
         Print::Diff(arguments) => diff_files(alloc, folder, arguments, out, faults),
+        Print::View(arguments) => view_file(alloc, folder, arguments, out, faults),
     }
 }
 

@@ -20,8 +20,14 @@ mod program_tests;
 #[cfg(test)]
 mod record_tests;
 #[cfg(test)]
+mod rests_tests;
+#[cfg(test)]
 mod shelf;
 #[cfg(test)]
 mod trace_tests;
+#[cfg(test)]
+mod view_tests;
+#[cfg(test)]
+mod why_tests;
 #[cfg(test)]
 mod world_tests;

@@ -1,0 +1,149 @@
+//! The arguments of `ir view`.
+
+use crate::asked::{Asked, Print};
+use crate::recording::no_number;
+use crate::values::{TRACE, file_arg, number_in, text_of};
+use clap::{Arg, ArgAction, ArgMatches, Command};
+use ir_record_run::number_within;
+use std::alloc::{AllocError, Global};
+
+/// What follows the help of `ir view`.
+pub const VIEW_AFTER: &str =
+    "The page is one HTML file for a browser, which loads nothing else: `ir view guest.trc > guest.html`. Each thread has a lane, from
+left to right, and each event a box: filled for a write entry, pale for a read entry. An arrow leads from a write to each
+thread that sees what it wrote. Boxes are placed so that each event is right of all that it needs, and no further. That is an
+order that the run may have had, not its times. Repeated reads of one version, and repeated refused tries, are one box. The
+writes that `ir stale` lists are marked. The button Keys lists what the keys do, and #T.E after the page's name shows event E
+of thread T.
+  --json            the data of the page: for each box its thread, its first event, its number of events, the event's
+                    number in a trace's bytes, object or value, version, readers, and where it starts and ends
+  --chrome          the same as events in the Trace Event format, for Perfetto and other viewers
+If events need each other in a circle, which is so in no run, the one line is `circle thread T event E`, the first event that
+can't be placed. If a page would have over 200000 boxes, the one line is `too many boxes N`. A refused or incoherent trace has
+the one line that `ir stale` has.
+Exit status: 0 printed, 1 a file that can't be read or standard output that can't be written, 2 bad arguments, or an event
+that the trace doesn't have, 3 a refused trace, 4 an incoherent trace, a circle or too many boxes.
+";
+
+const JSON: &str = "json";
+
+const CHROME: &str = "chrome";
+
+const AROUND: &str = "around";
+
+const SPAN: &str = "span";
+
+/// The part that is shown.
+#[derive(Clone, Copy, Debug, PartialEq, Eq)]
+pub struct Part {
+    /// The thread of the event that it is around.
+    pub thread: u32,
+    /// The event, by its place in the thread's log.
+    pub event: u32,
+    /// How far from the event's box others may start.
+    pub span: u64,
+}
+
+/// Which trace is shown, and how.
+#[derive(Drop)]
+pub struct ViewArguments {
+    /// The file of the trace.
+    pub trace: String,
+    /// Whether the data of the page is printed alone.
+    pub json: bool,
+    /// Whether events for other viewers are printed.
+    pub chrome: bool,
+    /// The part that is shown; if there is none, all is.
+    pub part: Option<Part>,
+}
+
+fn json_arg<'a>(alloc: Global) -> Arg<'a> {
+    Arg::new(alloc, JSON)
+        .long(JSON)
+        .action(ArgAction::SetTrue)
+        .help("Prints the data of the page alone")
+}
+
+fn chrome_arg<'a>(alloc: Global) -> Arg<'a> {
+    Arg::new(alloc, CHROME)
+        .long(CHROME)
+        .action(ArgAction::SetTrue)
+        .help("Prints events in the Trace Event format")
+}
+
+fn around_arg<'a>(alloc: Global) -> Arg<'a> {
+    Arg::new(alloc, AROUND)
+        .long(AROUND)
+        .num_args(2)
+        .value_names(&["T", "E"])
+        .allow_negative_numbers(true)
+        .help("Shows the boxes near event E of thread T alone")
+}
+
+fn span_arg<'a>(alloc: Global) -> Arg<'a> {
+    Arg::new(alloc, SPAN)
+        .long(SPAN)
+        .value_name("N")
+        .default_value("1000")
+        .allow_negative_numbers(true)
+        .help("How near: boxes that start at most N places left or right of that event's box")
+}
+
+/// The command with its arguments.
+pub fn with_arguments<'a>(alloc: Global, command: Command<'a>) -> Result<Command<'a>, AllocError> {
+    command
+        .arg(file_arg(alloc, TRACE, "The file with the trace"))?
+        .arg(json_arg(alloc))?
+        .arg(chrome_arg(alloc).conflicts_with(JSON)?)?
+        .arg(around_arg(alloc))?
+        .arg(span_arg(alloc))
+}
+
+// How far the part goes, or else what is wrong with the number.
+fn span_of(alloc: Global, matches: &ArgMatches<'_>) -> Result<Result<u64, String>, AllocError> {
+    let text = matches.get_str(SPAN).unwrap_or_default();
+    match number_within(0, u64::MAX, text) {
+        Some(span) => Ok(Ok(span)),
+        None => Ok(Err(no_number(alloc, SPAN, text, u64::MAX)?)),
+    }
+}
+
+// The part that is asked for, if one is, or else what is wrong with it.
+fn part_of(
+    alloc: Global,
+    matches: &ArgMatches<'_>,
+) -> Result<Result<Option<Part>, String>, AllocError> {
+    let span = match span_of(alloc, matches)? {
+        Ok(span) => span,
+        Err(why) => return Ok(Err(why)),
+    };
+    let Some([thread, event]) = matches.get_strs(AROUND) else {
+        return Ok(Ok(None));
+    };
+    let thread = match number_in(alloc, "--around", thread)? {
+        Ok(thread) => thread,
+        Err(why) => return Ok(Err(why)),
+    };
+    match number_in(alloc, "--around", event)? {
+        Ok(event) => Ok(Ok(Some(Part {
+            thread,
+            event,
+            span,
+        }))),
+        Err(why) => Ok(Err(why)),
+    }
+}
+
+/// What its arguments ask for.
+pub fn asked(alloc: Global, matches: &ArgMatches<'_>) -> Result<Asked, AllocError> {
+    let part = match part_of(alloc, matches)? {
+        Ok(part) => part,
+        Err(why) => return Ok(Asked::Nothing(why)),
+    };
+    Ok(Asked::Print(Print::View(ViewArguments {
+        trace: text_of(alloc, matches, TRACE)?,
+        json: matches.get_flag(JSON),
+        chrome: matches.get_flag(CHROME),
+        part,
+    })))
+}

@@ -1,0 +1,96 @@
+//! The arguments of `ir why`.
+
+use crate::asked::{Asked, Print};
+use crate::values::{TRACE, file_arg, number_in, text_of};
+use clap::{Arg, ArgMatches, Command};
+use std::alloc::{AllocError, Global};
+
+/// What follows the help of `ir why`.
+pub const WHY_AFTER: &str =
+    "Prints why event E of thread T came when it did. The first line is the event, as in `ir trace`. Then come
+  needs thread U event F ENTRY                   an entry of another thread that has to be left before
+  past C C ..                                    for each thread how many of its events are before this one
+  since thread T event E waited for thread U event F
+A read entry needs the write entry that made its version. A write entry needs that one too, and each read entry of the
+version that it writes over. An event is before another if it is an earlier one of its thread, or is needed, or is before one
+that is. The chain of waits begins at the last event of T, up to E, that needs another thread. Of what that event needs it
+names the one that `ir view` places furthest right. Then it goes on from there.
+If events need each other in a circle, which is so in no run, the one line is `circle thread T event E`, the first event that
+can't be placed. A refused or incoherent trace has the one line that `ir stale` has.
+Exit status: 0 printed, 1 a file that can't be read or standard output that can't be written, 2 bad arguments, or an event
+that the trace doesn't have, 3 a refused trace, 4 an incoherent trace or a circle.
+";
+
+/// The number of the thread.
+const THREAD: &str = "T";
+
+/// The number of the event.
+const EVENT: &str = "E";
+
+const LINES: &str = "lines";
+
+/// The event that is asked about.
+#[derive(Drop)]
+pub struct WhyArguments {
+    /// The file of the trace.
+    pub trace: String,
+    /// The thread of the event.
+    pub thread: u32,
+    /// The event, by its place in the thread's log.
+    pub event: u32,
+    /// How many waits of the chain are printed at most.
+    pub lines: u32,
+}
+
+fn lines_arg<'a>(alloc: Global) -> Arg<'a> {
+    Arg::new(alloc, LINES)
+        .long(LINES)
+        .value_name("N")
+        .default_value("20")
+        .help("The most lines of the chain of waits")
+}
+
+/// The command with its arguments.
+pub fn with_arguments<'a>(alloc: Global, command: Command<'a>) -> Result<Command<'a>, AllocError> {
+    command
+        .arg(file_arg(alloc, TRACE, "The file with the trace"))?
+        .arg(file_arg(alloc, THREAD, "The number of the thread"))?
+        .arg(file_arg(
+            alloc,
+            EVENT,
+            "The number of the event in the thread's log, from 0",
+        ))?
+        .arg(lines_arg(alloc))
+}
+
+// The number of an argument, or else what is wrong with it.
+fn number_of(
+    alloc: Global,
+    matches: &ArgMatches<'_>,
+    argument: &str,
+    name: &str,
+) -> Result<Result<u32, String>, AllocError> {
+    number_in(alloc, name, matches.get_str(argument).unwrap_or_default())
+}
+
+/// What its arguments ask for.
+pub fn asked(alloc: Global, matches: &ArgMatches<'_>) -> Result<Asked, AllocError> {
+    let thread = match number_of(alloc, matches, THREAD, THREAD)? {
+        Ok(thread) => thread,
+        Err(why) => return Ok(Asked::Nothing(why)),
+    };
+    let event = match number_of(alloc, matches, EVENT, EVENT)? {
+        Ok(event) => event,
+        Err(why) => return Ok(Asked::Nothing(why)),
+    };
+    let lines = match number_of(alloc, matches, LINES, "--lines")? {
+        Ok(lines) => lines,
+        Err(why) => return Ok(Asked::Nothing(why)),
+    };
+    Ok(Asked::Print(Print::Why(WhyArguments {
+        trace: text_of(alloc, matches, TRACE)?,
+        thread,
+        event,
+        lines,
+    })))
+}

@@ -1,0 +1,50 @@
+-- What the events of a box need.
+use Rattle.std.proofs.Common.{◌≡◌, ℕ, suc, zero, ◌+◌, ◌<◌, ◌≤◌, ◌⊎◌, inl, inr, Some, sym, subst, arith}
+use Rattle.std.specs.Prelude.{slice_get}
+use Rattle.std.proofs.lemmas.Bool.{cases_eq, cases_lt}
+use Rattle.ir_log.specs.declared.event.Event.TheVariants.{Read, Try}
+use Rattle.ir_trace.specs.Recorded.{Recorded}
+use Rattle.ir_trace.specs.TraceOf.{recorded_thread}
+use Rattle.ir_picture.specs.Needs.{Needs}
+use Rattle.ir_picture.specs.Boxes.{ReadsAgain, TriesAgain, IsBox}
+use Rattle.ir_picture.specs.declared.event_box.EventBox.{EventBox}
+use Rattle.ir_picture.proofs.Follows.{read_needs, answer_needs}
+
+-- what an event needs that reads again, the read entry before it needs too
+pub again_needs : (r : Recorded) (t i u j : ℕ) (again : ReadsAgain (recorded_thread r t).events i) → Needs r t i u j → Needs r t again.before u j
+again_needs r t i u j again needs =
+    let m = read_needs r t i again.object again.version u j again.read needs in
+    inl record {
+      object = again.object;
+      version = m.0;
+      readers = m.1;
+      entry = inl (subst (λ z. slice_get (recorded_thread r t).events again.before ≡ Some (Read again.object z)) m.2 again.same);
+      made = m.3;
+    }
+
+pub try_needs : (r : Recorded) (t i u j : ℕ) → TriesAgain (recorded_thread r t).events i → Needs r t i u j → ⊥
+try_needs r t i u j again needs = answer_needs r t i u j (Try again.object) again.«try» (λ o v e. cc) (λ o v l e. cc) needs
+
+-- what an event of a box needs, its first event needs, or an earlier event of the thread
+pub fold_needs : (r : Recorded) (b : EventBox) → IsBox r b → (n i u j : ℕ) → i < n → b.event ≤ i → i < b.event + b.count → Needs r b.thread i u j
+    → Needs r b.thread b.event u j ⊎ ((h : ℕ) × (h < b.event) × Needs r b.thread h u j)
+fold_needs r b is zero i u j less from below needs = absurd (omega (arith, less))
+fold_needs r b is (suc n) zero u j less from below needs =
+    let first : b.event ≡ 0 = omega (arith, from) in
+    inl (subst (λ z. Needs r b.thread z u j) (sym first) needs)
+fold_needs r b is (suc n) (suc i) u j less from below needs = elim (cases_eq (suc i) b.event) [
+  | inl first ↦ inl (subst (λ z. Needs r b.thread z u j) first needs)
+  | inr later ↦ elim (is.folds i (omega (arith, from, later)) below).repeats [
+    | inl reads ↦ before reads.1 (λ later_on. fold_needs r b is n reads.1.before u j (omega (arith, reads.1.earlier, less)) later_on
+        (omega (arith, reads.1.earlier, below)) (again_needs r b.thread (suc i) u j reads.1 needs))
+    | inr tries ↦ absurd (try_needs r b.thread (suc i) u j tries.1 needs)
+  ]
+]
+  where
+    before : (again : ReadsAgain (recorded_thread r b.thread).events (suc i))
+        → (b.event ≤ again.before → Needs r b.thread b.event u j ⊎ ((h : ℕ) × (h < b.event) × Needs r b.thread h u j))
+        → Needs r b.thread b.event u j ⊎ ((h : ℕ) × (h < b.event) × Needs r b.thread h u j)
+    before again rest = elim (cases_lt again.before b.event) [
+      | inl earlier ↦ inr (again.before, earlier, again_needs r b.thread (suc i) u j again needs)
+      | inr not ↦ rest (omega (arith, not))
+    ]

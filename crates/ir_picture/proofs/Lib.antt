@@ -1,0 +1,27 @@
+mod Left
+mod Lists
+mod Least
+mod Orders
+mod Counts
+mod Follows
+mod FoldNeeds
+mod Cuts
+mod Known
+mod Steps
+mod Placed
+mod Room
+mod Next
+mod Circles
+mod Noting
+mod Boxed
+mod Fitting
+mod Sorted
+mod Reached
+mod Filtered
+mod Seen
+mod Texts
+mod Folded
+mod StaleReads
+mod OfTrace
+mod ViewAnswers
+pub mod CallerLemmas

@@ -1,0 +1,288 @@
+-- The places of boxes, where one more is placed.
+use Rattle.std.proofs.Common.{◌≡◌, ℕ, suc, zero, ◌+◌, ◌<◌, ◌⊎◌, inl, inr, max, Some, List, [], ◌∷◌, length, slice_set, ◌==◌, refl, sym, ap, ◌∙◌, subst, arith}
+use Rattle.std.specs.Prelude.{slice_get}
+use Rattle.std.specs.Option.{option_map}
+use Rattle.std.proofs.lemmas.Option.{same_Some}
+use Rattle.ir_log.specs.declared.event.Event.{Event}
+use Rattle.ir_log.specs.declared.event.Event.TheVariants.{Answer, Read, Write, Try}
+use Rattle.ir_trace.specs.Recorded.{Recorded}
+use Rattle.ir_trace.specs.TraceOf.{recorded_thread}
+use Rattle.ir_past.specs.Past.{event_at, IsWriteAt}
+use Rattle.ir_past.specs.Answers.{AreCoherent}
+use Rattle.ir_picture.specs.Needs.{Needs, IsEntryAt}
+use Rattle.ir_picture.specs.Boxes.{IsInBox, IsBox, AreBoxes}
+use Rattle.ir_picture.specs.Places.{IsLeastAbove, IsPlaced, EndsBefore, EndsEarlier, length_of}
+use Rattle.ir_picture.specs.Placing.{Knows, EndsWhere, IsAfter, IsOf, ReadsPlaced, WritesPlaced, made_by, after_needs, first_point, later_of, box_at, events_of_all}
+use Rattle.ir_picture.specs.declared.event_box.EventBox.{EventBox}
+use Rattle.ir_picture.specs.declared.placed_box.Point.{Point}
+use Rattle.ir_picture.specs.declared.placed_box.PlacedBox.{PlacedBox}
+use Rattle.ir_picture.specs.declared.table.Version.{Version}
+use Rattle.ir_picture.proofs.Lists.{map_get, map_back}
+use Rattle.ir_picture.proofs.Least.{least_same, after_same, after_none, after_both, after_kept, ends_same, ends_kept, ends_before}
+use Rattle.ir_picture.proofs.FoldNeeds.{fold_needs}
+use Rattle.ir_picture.proofs.Follows.{read_needs, write_needs, answer_needs, if_true, map_some, made_later, ready_follows}
+
+-- ---- the first place after what an event needs
+
+-- event j of thread u made version v of object o
+abbrev pub Makers : Recorded → ℕ → ℕ → ℕ → ℕ → Type 0
+Makers r o v u j = (w k : ℕ) × (v ≡ suc w) × IsWriteAt r u j o w k
+
+made_after : (r : Recorded) (boxes : List PlacedBox) (c : ℕ → ℕ) (f : ℕ → ℕ → Version) → Knows r boxes c f → (o v : ℕ) (p : Point)
+    → made_by (f o v) v ≡ Some p → ((u j : ℕ) → Makers r o v u j → j < c u) → IsAfter boxes (Makers r o v) p
+made_after r boxes c f knows o zero p made all = subst (IsAfter boxes (Makers r o 0)) (same_Some first_point p made)
+    (after_none boxes (Makers r o 0) (λ u i m. omega (arith, m.2)))
+made_after r boxes c f knows o (suc v) p made all = after_same boxes (WritesPlaced r c o v) (Makers r o (suc v)) p
+    (λ u i these. (v, these.1.0, refl, these.1.1))
+    (λ u i m. (all u i m, (m.1, subst (λ z. IsWriteAt r u i o z m.1) (omega (arith, m.2)) m.3)))
+    (knows.made o v p (sym (made_later (f o (suc v)) v) ∙ made)).1
+
+maker_need : (r : Recorded) (t i o v : ℕ) → IsEntryAt r t i o v → (u j : ℕ) → Makers r o v u j → Needs r t i u j
+maker_need r t i o v entry u j m = inl record {
+  object = o;
+  version = m.0;
+  readers = m.1;
+  entry = subst (λ z. IsEntryAt r t i o z) m.2 entry;
+  made = m.3;
+}
+
+pub needed_after : (r : Recorded) (boxes : List PlacedBox) (c : ℕ → ℕ) (f : ℕ → ℕ → Version) → AreCoherent r → Knows r boxes c f → (t : ℕ) (e : Event)
+    (p : Point) → event_at r t (c t) ≡ Some e → after_needs f e ≡ Some p → IsAfter boxes (Needs r t (c t)) p
+needed_after r boxes c f coherent knows t (Answer kind value) p is after = subst (IsAfter boxes (Needs r t (c t))) (same_Some first_point p after)
+    (after_none boxes (Needs r t (c t)) (λ u j needs. answer_needs r t (c t) u j (Answer kind value) is (λ o v e. cc) (λ o v l e. cc) needs))
+needed_after r boxes c f coherent knows t (Try o) p is after = subst (IsAfter boxes (Needs r t (c t))) (same_Some first_point p after)
+    (after_none boxes (Needs r t (c t)) (λ u j needs. answer_needs r t (c t) u j (Try o) is (λ q v e. cc) (λ q v l e. cc) needs))
+needed_after r boxes c f coherent knows t (Read o v) p is after =
+    let follow = ready_follows r boxes c f coherent knows t (Read o v) p is after in
+    after_same boxes (Makers r o v) (Needs r t (c t)) p (maker_need r t (c t) o v (inl is)) (λ u j needs. read_needs r t (c t) o v u j is needs)
+    (made_after r boxes c f knows o v p after (λ u j m. follow.needs u j (maker_need r t (c t) o v (inl is) u j m)))
+needed_after r boxes c f coherent knows t (Write o v l) p is after =
+    let follow = ready_follows r boxes c f coherent knows t (Write o v l) p is after in
+    let test = if_true ((f o v).readers == l) (option_map (λ (q : Point). later_of q (f o v).left) (made_by (f o v) v)) p after in
+    let made = map_some (λ (q : Point). later_of q (f o v).left) (made_by (f o v) v) p test.1 in
+    subst (IsAfter boxes (Needs r t (c t))) made.2
+    (after_both boxes (Makers r o v) (ReadsPlaced r c o v) (Needs r t (c t)) made.0 (f o v).left (maker_need r t (c t) o v (inr (l, is)))
+    (λ u j d. inr (record { object = o; version = v; readers = l; write = is; read = d.1 }))
+    (λ u j needs. elim (write_needs r t (c t) o v l u j is needs) [
+      | inl m ↦ inl m
+      | inr read ↦ inr (follow.needs u j needs, read)
+    ])
+    (made_after r boxes c f knows o v made.0 made.1 (λ u j m. follow.needs u j (maker_need r t (c t) o v (inr (l, is)) u j m))) (knows.left o v))
+
+-- ---- what ends before a box starts, by its events
+
+-- an event of another box has to come before box b: an earlier one of its thread, or one that it needs
+abbrev pub Before : Recorded → EventBox → ℕ → ℕ → Type 0
+Before r b u i = IsOf b.thread b.event u i ⊎ ((h : ℕ) × IsInBox b b.thread h × Needs r b.thread h u i)
+
+pub to_before : (r : Recorded) (boxes : List PlacedBox) (number : Point → ℕ) (b : PlacedBox) → AreBoxes r (events_of_all boxes) → (z : ℕ)
+    → EndsBefore r boxes number b z → EndsWhere boxes number (Before r b.events) z
+to_before r boxes number b are z (inl e) =
+    let box = are.each e.at e.box.events (map_get (λ (x : PlacedBox). x.events) boxes e.at e.box e.there) in
+    record {
+      at = e.at;
+      box = e.box;
+      event = e.box.events.event;
+      there = e.there;
+      has = record { thread = refl; from = omega arith; below = omega (arith, box.some) };
+      these = inl e.earlier;
+      ends = e.ends;
+    }
+to_before r boxes number b are z (inr e) = record {
+  at = e.at;
+  box = e.box;
+  event = e.needs.needed;
+  there = e.there;
+  has = e.needs.other;
+  these = inr (e.needs.event, e.needs.own, e.needs.needs);
+  ends = e.ends;
+}
+
+pub from_before : (r : Recorded) (boxes : List PlacedBox) (number : Point → ℕ) (b : PlacedBox) (z : ℕ) → EndsWhere boxes number (Before r b.events) z
+    → EndsBefore r boxes number b z
+from_before r boxes number b z e = elim e.these [
+  | inl own ↦ inl (record { at = e.at; box = e.box; there = e.there; earlier = (own.0, omega (arith, own.1, e.has.from)); ends = e.ends })
+  | inr needed ↦ inr (record {
+    at = e.at;
+    box = e.box;
+    there = e.there;
+    needs = record { event = needed.0; needed = e.event; own = needed.1; other = e.has; needs = needed.2 };
+    ends = e.ends;
+  })
+]
+
+to_own : (r : Recorded) (boxes : List PlacedBox) (number : Point → ℕ) (b : PlacedBox) → AreBoxes r (events_of_all boxes) → (z : ℕ)
+    → EndsEarlier boxes number b z → EndsWhere boxes number (IsOf b.events.thread b.events.event) z
+to_own r boxes number b are z e =
+    let box = are.each e.at e.box.events (map_get (λ (x : PlacedBox). x.events) boxes e.at e.box e.there) in
+    record {
+      at = e.at;
+      box = e.box;
+      event = e.box.events.event;
+      there = e.there;
+      has = record { thread = refl; from = omega arith; below = omega (arith, box.some) };
+      these = e.earlier;
+      ends = e.ends;
+    }
+
+from_own : (boxes : List PlacedBox) (number : Point → ℕ) (b : PlacedBox) (z : ℕ) → EndsWhere boxes number (IsOf b.events.thread b.events.event) z
+    → EndsEarlier boxes number b z
+from_own boxes number b z e = record {
+  at = e.at;
+  box = e.box;
+  there = e.there;
+  earlier = (e.these.0, omega (arith, e.these.1, e.has.from));
+  ends = e.ends;
+}
+
+-- the places of a box, by events
+pub record PlacedAt (r : Recorded) (boxes : List PlacedBox) (b : PlacedBox) : Type 0 where
+  pub start : IsAfter boxes (Before r b.events) b.start
+  pub end_x : (e : Event) → event_at r b.events.thread b.events.event ≡ Some e → b.end.x ≡ b.start.x + length_of e
+  pub end_u : b.end.u ≡ b.start.u
+  pub came : IsLeastAbove 1 (EndsWhere boxes (λ q. q.u) (IsOf b.events.thread b.events.event)) b.came
+
+pub to_placed : (r : Recorded) (boxes : List PlacedBox) (b : PlacedBox) → AreBoxes r (events_of_all boxes) → PlacedAt r boxes b → IsPlaced r boxes b
+to_placed r boxes b are h = record {
+  start_x = least_same 0 (EndsWhere boxes (λ q. q.x) (Before r b.events)) (EndsBefore r boxes (λ q. q.x) b) b.start.x
+      (from_before r boxes (λ q. q.x) b) (to_before r boxes (λ q. q.x) b are) h.start.x;
+  end_x = h.end_x;
+  start_u = least_same 1 (EndsWhere boxes (λ q. q.u) (Before r b.events)) (EndsBefore r boxes (λ q. q.u) b) b.start.u
+      (from_before r boxes (λ q. q.u) b) (to_before r boxes (λ q. q.u) b are) h.start.u;
+  end_u = h.end_u;
+  came = least_same 1 (EndsWhere boxes (λ q. q.u) (IsOf b.events.thread b.events.event)) (EndsEarlier boxes (λ q. q.u) b) b.came
+      (from_own boxes (λ q. q.u) b) (to_own r boxes (λ q. q.u) b are) h.came;
+}
+
+pub from_placed : (r : Recorded) (boxes : List PlacedBox) (b : PlacedBox) → AreBoxes r (events_of_all boxes) → IsPlaced r boxes b → PlacedAt r boxes b
+from_placed r boxes b are h = record {
+  start = record {
+    x = least_same 0 (EndsBefore r boxes (λ q. q.x) b) (EndsWhere boxes (λ q. q.x) (Before r b.events)) b.start.x
+        (to_before r boxes (λ q. q.x) b are) (from_before r boxes (λ q. q.x) b) h.start_x;
+    u = least_same 1 (EndsBefore r boxes (λ q. q.u) b) (EndsWhere boxes (λ q. q.u) (Before r b.events)) b.start.u
+        (to_before r boxes (λ q. q.u) b are) (from_before r boxes (λ q. q.u) b) h.start_u;
+  };
+  end_x = h.end_x;
+  end_u = h.end_u;
+  came = least_same 1 (EndsEarlier boxes (λ q. q.u) b) (EndsWhere boxes (λ q. q.u) (IsOf b.events.thread b.events.event)) b.came
+      (to_own r boxes (λ q. q.u) b are) (from_own boxes (λ q. q.u) b) h.came;
+}
+
+-- a box that is placed stays so where another is changed whose events are none that it comes after
+pub placed_kept : (r : Recorded) (boxes : List PlacedBox) (k : ℕ) (old new b : PlacedBox) → slice_get boxes k ≡ Some old → new.events ≡ old.events
+    → ((i : ℕ) → IsInBox old.events old.events.thread i → Before r b.events old.events.thread i → ⊥) → PlacedAt r boxes b
+    → PlacedAt r (slice_set boxes k new) b
+placed_kept r boxes k old new b at same not h = record {
+  start = after_kept boxes k old new (Before r b.events) b.start at same not h.start;
+  end_x = h.end_x;
+  end_u = h.end_u;
+  came = least_same 1 (EndsWhere boxes (λ q. q.u) (IsOf b.events.thread b.events.event))
+      (EndsWhere (slice_set boxes k new) (λ q. q.u) (IsOf b.events.thread b.events.event)) b.came
+      (ends_kept boxes k old new (λ q. q.u) (IsOf b.events.thread b.events.event) at (λ i has own. not i has (inl own)))
+      (ends_before boxes k old new (λ q. q.u) (IsOf b.events.thread b.events.event) at same (λ i has own. not i has (inl own))) h.came;
+}
+
+-- ---- the box that is placed
+
+least_into : (from : ℕ) (A B C : ℕ → Type 0) (x y : ℕ) → ((z : ℕ) → A z → C z) → ((z : ℕ) → B z → C z) → ((z : ℕ) → C z → (z < x) ⊎ (z < y))
+    → IsLeastAbove from A x → IsLeastAbove from B y → IsLeastAbove from C (max x y)
+least_into from A B C x y of_a of_b parts h k = record {
+  start = omega (arith, h.start);
+  above = λ z c. elim (parts z c) [
+    | inl less ↦ omega (arith, less)
+    | inr less ↦ omega (arith, less)
+  ];
+  least = λ w low all. omega (arith, h.least w low (λ z a. all z (of_a z a)), k.least w low (λ z b. all z (of_b z b)));
+}
+
+there : (es : List Event) (i : ℕ) → i < length es → (x : Event) × (slice_get es i ≡ Some x)
+there [] i less = absurd (omega (arith, less))
+there (x ∷ es) zero less = (x, refl)
+there (x ∷ es) (suc i) less = there es i (omega (arith, less))
+
+-- a box has a first event
+pub event_there : (r : Recorded) (b : EventBox) → IsBox r b → (x : Event) × (event_at r b.thread b.event ≡ Some x)
+event_there r b box = there (recorded_thread r b.thread).events b.event (omega (arith, box.some, box.within))
+
+-- a box whose first event is e is placed after the earlier boxes of its thread, and after what its first event needs
+pub placed_new : (r : Recorded) (boxes : List PlacedBox) (events : EventBox) (e : Event) (free needed : Point) → AreBoxes r (events_of_all boxes)
+    → IsBox r events → event_at r events.thread events.event ≡ Some e → IsAfter boxes (IsOf events.thread events.event) free
+    → IsAfter boxes (Needs r events.thread events.event) needed
+    → ((m h : ℕ) (a : PlacedBox) → slice_get boxes m ≡ Some a → IsInBox a.events events.thread h → h < events.event → PlacedAt r boxes a)
+    → PlacedAt r boxes (box_at events e free needed)
+placed_new r boxes events e free needed are is first of_free of_needed earlier = record {
+  start = record {
+    x = least_into 0 (EndsWhere boxes (λ q. q.x) (IsOf events.thread events.event)) (EndsWhere boxes (λ q. q.x) (Needs r events.thread events.event))
+        (EndsWhere boxes (λ q. q.x) (Before r events)) free.x needed.x
+        (ends_same boxes (λ q. q.x) (IsOf events.thread events.event) (Before r events) (λ u i own. inl own))
+        (ends_same boxes (λ q. q.x) (Needs r events.thread events.event) (Before r events) (λ u i needs. inr (events.event, own_first, needs)))
+        parts_x of_free.x of_needed.x;
+    u = least_into 1 (EndsWhere boxes (λ q. q.u) (IsOf events.thread events.event)) (EndsWhere boxes (λ q. q.u) (Needs r events.thread events.event))
+        (EndsWhere boxes (λ q. q.u) (Before r events)) free.u needed.u
+        (ends_same boxes (λ q. q.u) (IsOf events.thread events.event) (Before r events) (λ u i own. inl own))
+        (ends_same boxes (λ q. q.u) (Needs r events.thread events.event) (Before r events) (λ u i needs. inr (events.event, own_first, needs)))
+        parts_u of_free.u of_needed.u;
+  };
+  end_x = λ a is_a. ap (λ (x : Event). max free.x needed.x + length_of x) (same_Some e a (sym first ∙ is_a));
+  end_u = refl;
+  came = of_free.u;
+}
+  where
+    own_first : IsInBox events events.thread events.event
+    own_first = record { thread = refl; from = omega arith; below = omega (arith, is.some) }
+
+    -- an earlier box of the thread that needs an event starts right of the event's box, and ends left of where the thread is free
+    earlier_box : (h u j : ℕ) → h < events.event → Needs r events.thread h u j → (m : ℕ) (d : PlacedBox) → slice_get boxes m ≡ Some d
+        → IsInBox d.events u j → u ≡ d.events.thread → (d.end.x < free.x) × (d.end.u < free.u)
+    earlier_box h u j less needs m d at_d has_d thread_d =
+        let home = are.all events.thread h (omega (arith, less, is.within, is.some)) in
+        let back = map_back (λ (x : PlacedBox). x.events) boxes home.number home.box home.there in
+        let a : PlacedBox = back.0 in
+        let has : IsInBox a.events events.thread h = subst (λ (x : EventBox). IsInBox x events.thread h) (sym back.2) home.has in
+        let at : PlacedAt r boxes a = earlier home.number h a back.1 has less in
+        let own : IsInBox a.events a.events.thread h = record { thread = refl; from = has.from; below = has.below } in
+        let needs_a : Needs r a.events.thread h d.events.thread j =
+        subst (λ z. Needs r z h d.events.thread j) (sym has.thread) (subst (λ z. Needs r events.thread h z j) thread_d needs) in
+        let in_d : IsInBox d.events d.events.thread j = record { thread = refl; from = has_d.from; below = has_d.below } in
+        let event_a = event_there r a.events (are.each home.number a.events (map_get (λ (x : PlacedBox). x.events) boxes home.number a back.1)) in (
+          omega (
+            arith,
+            at.start.x.above d.end.x (record { at = m; box = d; event = j; there = at_d; has = in_d; these = inr (h, own, needs_a); ends = refl }),
+            at.end_x event_a.0 event_a.1,
+            of_free.x.above a.end.x (record { at = home.number; box = a; event = h; there = back.1; has = own; these = (has.thread, less); ends = refl }),
+          ),
+          omega (
+            arith,
+            at.start.u.above d.end.u (record { at = m; box = d; event = j; there = at_d; has = in_d; these = inr (h, own, needs_a); ends = refl }),
+            at.end_u,
+            of_free.u.above a.end.u (record { at = home.number; box = a; event = h; there = back.1; has = own; these = (has.thread, less); ends = refl }),
+          ),
+        )
+
+    parts_x : (z : ℕ) → EndsWhere boxes (λ q. q.x) (Before r events) z → (z < free.x) ⊎ (z < needed.x)
+    parts_x z w = elim w.these [
+      | inl own ↦ inl (of_free.x.above z (record { at = w.at; box = w.box; event = w.event; there = w.there; has = w.has; these = own; ends = w.ends }))
+      | inr n ↦ elim (fold_needs r events is (suc n.0) n.0 w.box.events.thread w.event (omega arith) n.1.from n.1.below n.2) [
+        | inl needs ↦ inr (of_needed.x.above z
+            (record { at = w.at; box = w.box; event = w.event; there = w.there; has = w.has; these = needs; ends = w.ends }))
+        | inr old ↦ inl (omega (
+          arith,
+          w.ends,
+          (earlier_box old.0 w.box.events.thread w.event old.1 old.2 w.at w.box w.there w.has refl).0,
+        ))
+      ]
+    ]
+
+    parts_u : (z : ℕ) → EndsWhere boxes (λ q. q.u) (Before r events) z → (z < free.u) ⊎ (z < needed.u)
+    parts_u z w = elim w.these [
+      | inl own ↦ inl (of_free.u.above z (record { at = w.at; box = w.box; event = w.event; there = w.there; has = w.has; these = own; ends = w.ends }))
+      | inr n ↦ elim (fold_needs r events is (suc n.0) n.0 w.box.events.thread w.event (omega arith) n.1.from n.1.below n.2) [
+        | inl needs ↦ inr (of_needed.u.above z
+            (record { at = w.at; box = w.box; event = w.event; there = w.there; has = w.has; these = needs; ends = w.ends }))
+        | inr old ↦ inl (omega (
+          arith,
+          w.ends,
+          (earlier_box old.0 w.box.events.thread w.event old.1 old.2 w.at w.box w.there w.has refl).1,
+        ))
+      ]
+    ]

@@ -1,0 +1,160 @@
+-- Texts that are put one after the other.
+use Rattle.std.proofs.Common.{◌≡◌, ℕ, suc, ◌+◌, ◌<◌, ◌≤◌, List, [], ◌∷◌, ◌++◌, codes, decimal, length, drop, flat_map, get_or, refl, sym, ap, ◌∙◌, append_assoc, append-nil, arith}
+use Rattle.std.proofs.lemmas.List.{at_drop_more, at_drop_all}
+use Rattle.ir_trace.specs.Recorded.{RecordedThread}
+use Rattle.ir_picture.specs.Numbers.{row_start, rows_from, with_commas, thread_row, thread_rows}
+use Rattle.ir_picture.specs.Chrome.{row_number, arrow_end, arrow_lines, all_arrows, thread_lines, all_threads}
+use Rattle.ir_picture.specs.Progress.{arrow_front, arrow_back, name_line, order_line}
+use Rattle.ir_picture.specs.declared.placed_box.Point.{Point}
+use Rattle.ir_picture.specs.declared.sights.Sight.{Sight}
+
+-- of what is left to put, the first text was put
+pub put : (so_far line left more text new : List ℕ) → so_far ++ left ≡ text → left ≡ line ++ more → new ≡ so_far ++ line → new ++ more ≡ text
+put so_far line left more text new e first made =
+    ap (λ (x : List ℕ). x ++ more) made ∙ append_assoc so_far line more ∙ ap (λ (x : List ℕ). so_far ++ x) (sym first) ∙ e
+
+-- the same of two texts
+pub put_two : (so_far one two left more text mid new : List ℕ) → so_far ++ left ≡ text → left ≡ one ++ (two ++ more) → mid ≡ so_far ++ one
+    → new ≡ mid ++ two → new ++ more ≡ text
+put_two so_far one two left more text mid new e first made last =
+    put mid two (two ++ more) more text new (put so_far one left (two ++ more) text mid e first made) refl last
+
+-- nothing is left to put
+pub all_put : (so_far left text : List ℕ) → so_far ++ left ≡ text → left ≡ [] → so_far ≡ text
+all_put so_far left text e none = sym (append-nil so_far) ∙ ap (λ (x : List ℕ). so_far ++ x) (sym none) ∙ e
+
+-- ---- texts with a comma between
+
+-- what comes before a text after these
+abbrev pub comma_after : List (List ℕ) → List ℕ
+comma_after [] = []
+comma_after (x ∷ xs) = codes ","
+
+pub joined_more : (xs : List (List ℕ)) (y : List ℕ) → with_commas (xs ++ y ∷ []) ≡ with_commas xs ++ (comma_after xs ++ y)
+unfolding with_commas
+joined_more [] y = refl
+joined_more (x ∷ []) y = refl
+joined_more (x ∷ z ∷ zs) y =
+    ap (λ (w : List ℕ). x ++ (codes "," ++ w)) (joined_more (z ∷ zs) y)
+    ∙ sym (append_assoc x (codes "," ++ with_commas (z ∷ zs)) (codes "," ++ y)
+    ∙ ap (λ (w : List ℕ). x ++ w) (append_assoc (codes ",") (with_commas (z ∷ zs)) (codes "," ++ y)))
+
+pub comma_more : (xs : List (List ℕ)) (y : List ℕ) → comma_after (xs ++ y ∷ []) ≡ codes ","
+comma_more [] y = refl
+comma_more (x ∷ xs) y = refl
+
+-- ---- rows
+
+row_next : {A : Type 0} (row : A → List ℕ) (k n : ℕ) (xs : List A) (x : A) → n < length xs
+    → rows_from row k (drop n xs) ≡ row_start k ++ (row (get_or xs n x) ++ rows_from row (suc k) (drop (n + 1) xs))
+unfolding rows_from
+row_next row k n xs x some = at_drop_more (rows_from row k) xs n x some
+
+-- the next row comes first in what is left
+pub next_row : {A : Type 0} (row : A → List ℕ) (n : ℕ) (xs : List A) (x : A) (start line : List ℕ) → n < length xs → start ≡ row_start n
+    → line ≡ row (get_or xs n x) → rows_from row n (drop n xs) ≡ start ++ (line ++ rows_from row (n + 1) (drop (n + 1) xs))
+next_row {A} row n xs x start line some begins same = row_next row n n xs x some
+    ∙ ap (λ (z : List ℕ). z ++ (row (get_or xs n x) ++ rows_from row (suc n) (drop (n + 1) xs))) (sym begins)
+    ∙ ap (λ (z : List ℕ). start ++ (z ++ rows_from row (suc n) (drop (n + 1) xs))) (sym same)
+    ∙ (let on : suc n ≡ n + 1 = omega arith in ap (λ k. start ++ (line ++ rows_from row k (drop (n + 1) xs))) on)
+
+pub no_row : {A : Type 0} (row : A → List ℕ) (k n : ℕ) (xs : List A) → length xs ≤ n → rows_from row k (drop n xs) ≡ []
+unfolding rows_from
+no_row row k n xs all = at_drop_all (rows_from row k) xs n all
+
+-- ---- the rows of threads
+
+thread_next : (k n : ℕ) (ts : List RecordedThread) (ps : List Point) (t : RecordedThread) (p : Point) → n < length ts → length ps ≡ length ts
+    → thread_rows k (drop n ts) (drop n ps)
+    ≡ row_start k ++ (thread_row (get_or ts n t) (get_or ps n p) ++ thread_rows (suc k) (drop (n + 1) ts) (drop (n + 1) ps))
+unfolding thread_rows
+thread_next k n ts ps t p some same =
+    at_drop_more (λ (x : List RecordedThread). thread_rows k x (drop n ps)) ts n t some
+    ∙ at_drop_more (λ (y : List Point). thread_rows k (get_or ts n t ∷ drop (n + 1) ts) y) ps n p (omega (arith, some, same))
+
+-- the next thread's row comes first in what is left
+pub next_thread : (n : ℕ) (ts : List RecordedThread) (ps : List Point) (t : RecordedThread) (p : Point) (start line : List ℕ) → n < length ts
+    → length ps ≡ length ts → start ≡ row_start n → line ≡ thread_row (get_or ts n t) (get_or ps n p)
+    → thread_rows n (drop n ts) (drop n ps) ≡ start ++ (line ++ thread_rows (n + 1) (drop (n + 1) ts) (drop (n + 1) ps))
+next_thread n ts ps t p start line some all begins same = thread_next n n ts ps t p some all
+    ∙ ap (λ (z : List ℕ). z ++ (thread_row (get_or ts n t) (get_or ps n p) ++ thread_rows (suc n) (drop (n + 1) ts) (drop (n + 1) ps))) (sym begins)
+    ∙ ap (λ (z : List ℕ). start ++ (z ++ thread_rows (suc n) (drop (n + 1) ts) (drop (n + 1) ps))) (sym same)
+    ∙ (let on : suc n ≡ n + 1 = omega arith in ap (λ k. start ++ (line ++ thread_rows k (drop (n + 1) ts) (drop (n + 1) ps))) on)
+
+pub no_thread : (k n : ℕ) (ts : List RecordedThread) (ps : List Point) → length ts ≤ n → length ps ≡ length ts
+    → thread_rows k (drop n ts) (drop n ps) ≡ []
+unfolding thread_rows
+no_thread k n ts ps all same = at_drop_all (λ (x : List RecordedThread). thread_rows k x (drop n ps)) ts n all
+    ∙ at_drop_all (λ (y : List Point). thread_rows k [] y) ps n (omega (arith, all, same))
+
+-- ---- arrows
+
+-- one end of an arrow, by its two parts
+pub arrow_parts : (object number time thread : ℕ) (phase front back : List ℕ) → front ≡ arrow_front object phase
+    → back ≡ arrow_back number time thread → front ++ back ≡ arrow_end object phase number time thread
+arrow_parts object number time thread phase front back one two =
+    ap (λ (x : List ℕ). x ++ back) one
+    ∙ ap (λ (x : List ℕ). arrow_front object phase ++ x) two ∙ whole
+  where
+    whole : arrow_front object phase ++ arrow_back number time thread ≡ arrow_end object phase number time thread
+    whole = ap (λ (x : List ℕ). codes ",\n{\"name\":\"object " ++ x)
+        (append_assoc (decimal object) (codes "\",\"cat\":\"sees\",\"ph\":" ++ phase) (arrow_back number time thread))
+
+arrow_next : (k n : ℕ) (xs : List Sight) (x : Sight) → n < length xs
+    → all_arrows k (drop n xs) ≡ arrow_lines k (get_or xs n x) ++ all_arrows (suc k) (drop (n + 1) xs)
+unfolding all_arrows
+arrow_next k n xs x some = at_drop_more (all_arrows k) xs n x some
+
+-- the next arrow's lines come first in what is left
+pub next_arrow : (n : ℕ) (xs : List Sight) (x : Sight) (line : List ℕ) → n < length xs → line ≡ arrow_lines n (get_or xs n x)
+    → all_arrows n (drop n xs) ≡ line ++ all_arrows (n + 1) (drop (n + 1) xs)
+next_arrow n xs x line some same = arrow_next n n xs x some
+    ∙ ap (λ (z : List ℕ). z ++ all_arrows (suc n) (drop (n + 1) xs)) (sym same)
+    ∙ (let on : suc n ≡ n + 1 = omega arith in ap (λ k. line ++ all_arrows k (drop (n + 1) xs)) on)
+
+pub no_arrow : (k n : ℕ) (xs : List Sight) → length xs ≤ n → all_arrows k (drop n xs) ≡ []
+unfolding all_arrows
+no_arrow k n xs all = at_drop_all (all_arrows k) xs n all
+
+-- ---- the lines of threads, for other viewers
+
+pub threads_more : (t : ℕ) (so_far text own new : List ℕ) → text ≡ so_far ++ all_threads t → own ≡ thread_lines t → new ≡ text ++ own
+    → new ≡ so_far ++ all_threads (t + 1)
+unfolding all_threads
+threads_more t so_far text own new h same made = made ∙ ap (λ (x : List ℕ). x ++ own) h ∙ append_assoc so_far (all_threads t) own
+    ∙ ap (λ (x : List ℕ). so_far ++ (all_threads t ++ x)) same
+    ∙ (let on : suc t ≡ t + 1 = omega arith in ap (λ n. so_far ++ all_threads n) on)
+
+pub no_threads : (so_far : List ℕ) → so_far ≡ so_far ++ all_threads 0
+unfolding all_threads
+no_threads so_far = sym (append-nil so_far)
+
+-- ---- texts that are put one after the other
+
+pub three_put : (old a b c one two three : List ℕ) → one ≡ old ++ a → two ≡ one ++ b → three ≡ two ++ c → three ≡ old ++ (a ++ (b ++ c))
+three_put old a b c one two three x y z = z ∙ ap (λ (w : List ℕ). w ++ c) (y ∙ ap (λ (w : List ℕ). w ++ b) x)
+    ∙ append_assoc (old ++ a) b c ∙ append_assoc old a (b ++ c)
+
+pub four_put : (old a b c d one two three four : List ℕ) → one ≡ old ++ a → two ≡ one ++ b → three ≡ two ++ c → four ≡ three ++ d
+    → four ≡ old ++ (a ++ (b ++ (c ++ d)))
+four_put old a b c d one two three four x y z w = w ∙ ap (λ (v : List ℕ). v ++ d) (three_put old a b c one two three x y z)
+    ∙ append_assoc old (a ++ (b ++ c)) d
+    ∙ ap (λ (v : List ℕ). old ++ v) (append_assoc a (b ++ c) d ∙ ap (λ (v : List ℕ). a ++ v) (append_assoc b c d))
+
+-- the text of the next element comes first in what is left
+pub next_mapped : {A : Type 0} (f : A → List ℕ) (n : ℕ) (xs : List A) (x : A) (line : List ℕ) → n < length xs → line ≡ f (get_or xs n x)
+    → flat_map f (drop n xs) ≡ line ++ flat_map f (drop (n + 1) xs)
+next_mapped f n xs x line some same = at_drop_more (flat_map f) xs n x some ∙ ap (λ (z : List ℕ). z ++ flat_map f (drop (n + 1) xs)) (sym same)
+
+pub none_mapped : {A : Type 0} (f : A → List ℕ) (n : ℕ) (xs : List A) → length xs ≤ n → flat_map f (drop n xs) ≡ []
+none_mapped f n xs all = at_drop_all (flat_map f) xs n all
+
+-- the lines of a thread, by its two parts
+pub thread_parts : (t : ℕ) (one two : List ℕ) → one ≡ name_line t → two ≡ order_line t → one ++ two ≡ thread_lines t
+thread_parts t one two same next = ap (λ (x : List ℕ). x ++ two) same ∙ ap (λ (x : List ℕ). name_line t ++ x) next ∙ whole
+  where
+    whole : name_line t ++ order_line t ≡ thread_lines t
+    whole = ap (λ (x : List ℕ). codes ",\n{\"name\":\"thread_name\",\"ph\":\"M\",\"pid\":1,\"tid\":" ++ x)
+        (append_assoc (decimal (row_number t)) (codes ",\"args\":{\"name\":\"thread " ++ (decimal t ++ codes "\"}}")) (order_line t)
+        ∙ ap (λ (x : List ℕ). decimal (row_number t) ++ (codes ",\"args\":{\"name\":\"thread " ++ x))
+        (append_assoc (decimal t) (codes "\"}}") (order_line t)))

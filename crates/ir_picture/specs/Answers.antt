@@ -1,0 +1,119 @@
+-- What `ir view` writes.
+use Rattle.std.specs.Prelude.{◌≡◌, ℕ, ◌<◌, ◌≤◌, ◌⊎◌, ⊤, List, [], ◌∷◌, ◌++◌, codes, decimal, length, Option, Some, None, Result, Ok, false}
+use Rattle.std.specs.Io.KnownBytes.{Appends}
+use Rattle.ir_trace.specs.Recorded.{Recorded}
+use Rattle.ir_trace.specs.TraceOf.{recorded_thread}
+use Rattle.ir_trace.specs.declared.trace_err.TraceErr.{TraceErr}
+use Rattle.ir_files.specs.Writers.{Writer}
+use Rattle.ir_files.specs.declared.exit_status.ExitStatus.{ExitStatus}
+use Rattle.ir_files.specs.declared.exit_status.ExitStatus.TheVariants as status
+use Rattle.ir_past.specs.Past.{AreStaleWrites}
+use Rattle.ir_past.specs.Answers.{AreCoherent, IsRefusal, NotAnswered, fault_words as unwritten_words}
+use Rattle.ir_past.specs.declared.stale_write.StaleWrite.{StaleWrite}
+use Rattle.ir_past.specs.declared.past_err.PastErr.TheVariants.{NoMem}
+use Rattle.ir_picture.specs.Needs.{HasNoCircle, IsCircleAt}
+use Rattle.ir_picture.specs.Places.{ArePlaced}
+use Rattle.ir_picture.specs.Shown.{AreShown, shown_stale}
+use Rattle.ir_picture.specs.Numbers.{data_text}
+use Rattle.ir_picture.specs.Chrome.{IsChrome}
+use Rattle.ir_picture.specs.declared.asked.Around.{Around}
+use Rattle.ir_picture.specs.declared.asked.Form.{Form}
+use Rattle.ir_picture.specs.declared.asked.Form.TheVariants as form
+use Rattle.ir_picture.specs.declared.asked.Asked.{Asked}
+use Rattle.ir_picture.specs.declared.limits.TheConstants.{MOST_BOXES}
+use Rattle.ir_picture.specs.declared.placed_box.PlacedBox.{PlacedBox}
+use Rattle.ir_picture.specs.declared.page.TheConstants.{HEAD_1, HEAD_2, TAIL_1, TAIL_2, TAIL_3, TAIL_4}
+use Rattle.ir_picture.specs.declared.picture.Picture.{Picture}
+use Rattle.ir_picture.specs.declared.view_err.Absent.{Absent}
+use Rattle.ir_picture.specs.declared.view_err.Absent.TheVariants as absent
+use Rattle.ir_picture.specs.declared.view_err.ViewErr.{ViewErr}
+use Rattle.ir_picture.specs.declared.view_err.ViewErr.TheVariants as view
+
+-- the picture of a trace, or the part of it that is asked for: its boxes with their places, its stale writes
+pub record IsPicture (r : Recorded) (near : Option Around) (p : Picture) : Type 0 where
+  pub all : List PlacedBox
+  pub placed : ArePlaced r all p.ends.items
+  pub shown : AreShown all near p.boxes.items
+  pub rows : List StaleWrite
+  pub are : AreStaleWrites r rows
+  pub stale : p.stale.items ≡ shown_stale p.boxes.items rows
+
+-- what a page has before its data, always the same
+unfoldable pub page_head : List ℕ
+page_head = HEAD_1.now ++ HEAD_2.now
+
+-- what it has after it
+unfoldable pub page_tail : List ℕ
+page_tail = TAIL_1.now ++ (TAIL_2.now ++ (TAIL_3.now ++ TAIL_4.now))
+
+-- the page of a picture
+abbrev pub page_text : Recorded → Option Around → Picture → List ℕ
+page_text r near p = page_head ++ (data_text r near p ++ page_tail)
+
+-- the line of a circle
+abbrev pub circle_line : ℕ → ℕ → List ℕ
+circle_line t e = codes "circle thread " ++ (decimal t ++ (codes " event " ++ (decimal e ++ 10 ∷ [])))
+
+-- the line that says that a page would have this many boxes
+abbrev pub many_line : ℕ → List ℕ
+many_line count = codes "too many boxes " ++ (decimal count ++ 10 ∷ [])
+
+-- a picture in a form
+abbrev pub IsForm : Form → Recorded → Option Around → Picture → ExitStatus → List ℕ → Type 0
+IsForm form.Page r near p answered text =
+    ((length p.boxes.items ≤ MOST_BOXES) × (answered ≡ status.Done) × (text ≡ page_text r near p))
+    ⊎ ((MOST_BOXES < length p.boxes.items) × (answered ≡ status.NotFit) × (text ≡ many_line (length p.boxes.items)))
+IsForm form.Data r near p answered text = (answered ≡ status.Done) × (text ≡ data_text r near p ++ 10 ∷ [])
+IsForm form.Chrome r near p answered text = (answered ≡ status.Done) × IsChrome r p text
+
+-- the event that a part is asked for around, if it is, is there
+abbrev pub IsThere : Recorded → Option Around → Type 0
+IsThere r None = ⊤
+IsThere r (Some near) = (near.thread < length r.threads) × (near.event < length (recorded_thread r near.thread).events)
+
+-- the answer about a coherent trace: a circle of its events, or its picture
+abbrev pub IsTraceAnswer : Asked → Recorded → ExitStatus → List ℕ → Type 0
+IsTraceAnswer asked r answered text =
+    ((t e : ℕ) × IsCircleAt r t e × (answered ≡ status.NotFit) × (text ≡ circle_line t e))
+    ⊎ (HasNoCircle r × ((p : Picture) × IsPicture r asked.around p × IsForm asked.form r asked.around p answered text))
+
+-- the answer about bytes
+abbrev pub IsViewAnswer : Asked → Result Recorded TraceErr → ExitStatus → List ℕ → Type 0
+IsViewAnswer asked read answered text =
+    ((r : Recorded) × (read ≡ Ok r) × AreCoherent r × IsThere r asked.around × IsTraceAnswer asked r answered text) ⊎ IsRefusal read answered text
+
+-- the trace doesn't have the event that a part is asked for around
+abbrev pub IsAbsent : Option Around → Recorded → Absent → Type 0
+IsAbsent None r what = ⊥
+IsAbsent (Some near) r absent.Thread = length r.threads ≤ near.thread
+IsAbsent (Some near) r absent.Event = (near.thread < length r.threads) × (length (recorded_thread r near.thread).events ≤ near.event)
+
+-- why there is no answer about a coherent trace
+abbrev pub IsUnsaid : Asked → Recorded → ViewErr → Type 0
+IsUnsaid asked r (view.Absent what) = IsAbsent asked.around r what
+IsUnsaid asked r (view.Unwritten e) = e ≡ NoMem
+
+-- a part is asked for around an event that the trace doesn't have, and nothing was written
+pub record IsAroundNothing (asked : Asked) (read : Result Recorded TraceErr) (what : Absent) (w : Writer) : Type 0 where
+  pub trace : Recorded
+  pub is_trace : read ≡ Ok trace
+  pub coherent : AreCoherent trace
+  pub lacks : IsAbsent asked.around trace what
+  pub none : Appends w.before w.after []
+  pub works : w.failed ≡ false
+
+-- why there is no answer about bytes, and what that leaves
+abbrev pub IsUnanswered : Asked → Result Recorded TraceErr → ViewErr → Writer → Type 0
+IsUnanswered asked read (view.Absent what) w = IsAroundNothing asked read what w
+IsUnanswered asked read (view.Unwritten e) w = NotAnswered (IsViewAnswer asked read) e w
+
+-- the exit status where there is no answer
+abbrev pub status_of : ViewErr → ExitStatus
+status_of (view.Absent what) = status.BadArguments
+status_of (view.Unwritten e) = status.Failed
+
+-- why there is none, in words
+abbrev pub fault_words : ViewErr → List ℕ
+fault_words (view.Absent absent.Thread) = codes "the trace has no thread of this number"
+fault_words (view.Absent absent.Event) = codes "the thread has no event of this number"
+fault_words (view.Unwritten e) = unwritten_words e

@@ -1,0 +1,11 @@
+pub mod Needs
+pub mod Boxes
+pub mod Boxing
+pub mod Places
+pub mod Placing
+pub mod Shown
+pub mod Numbers
+pub mod Chrome
+pub mod Seeing
+pub mod Progress
+pub mod Answers

@@ -1,0 +1,69 @@
+-- What the texts of a picture need, and their parts.
+use Rattle.std.specs.Prelude.{◌≡◌, ℕ, ◌-◌, ◌==◌, ◌&&◌, ◌||◌, nat_lt, Bool, List, ◌++◌, codes, decimal, length, Option, Some}
+use Rattle.std.specs.List.{slice_get}
+use Rattle.ir_log.specs.declared.event.Event.{Event}
+use Rattle.ir_trace.specs.Recorded.{Recorded}
+use Rattle.ir_past.specs.Past.{IsRising}
+use Rattle.ir_past.specs.declared.stale_write.StaleWrite.{StaleWrite}
+use Rattle.ir_picture.specs.Boxes.{IsBox}
+use Rattle.ir_picture.specs.Boxing.{AreSomeBoxes}
+use Rattle.ir_picture.specs.Placing.{events_of_all}
+use Rattle.ir_picture.specs.Chrome.{row_number, time_of, drawn_as, stale_argument}
+use Rattle.ir_picture.specs.declared.placed_box.Point.{Point}
+use Rattle.ir_picture.specs.declared.placed_box.PlacedBox.{PlacedBox}
+use Rattle.ir_picture.specs.declared.picture.Picture.{Picture}
+
+-- all of these are boxes of a trace
+abbrev pub AreBoxesOf : Recorded → List PlacedBox → Type 0
+AreBoxesOf r boxes = (k : ℕ) (b : PlacedBox) → slice_get boxes k ≡ Some b → IsBox r b.events
+
+-- a picture is one of a trace: its boxes are boxes of it in their order, each thread has an end, and the stale writes come by rising thread and
+-- event
+pub record IsOf (r : Recorded) (p : Picture) : Type 0 where
+  pub boxes : AreBoxesOf r p.boxes.items
+  pub some : AreSomeBoxes r (events_of_all p.boxes.items)
+  pub ends : length p.ends.items ≡ length r.threads
+  pub stale : IsRising p.stale.items
+
+-- whether a stale write comes before event i of thread t
+abbrev pub comes_before : ℕ → ℕ → StaleWrite → Bool
+comes_before t i x = nat_lt x.thread t || ((x.thread == t) && nat_lt x.event i)
+
+-- how a thread ended, and how many steps it took
+abbrev pub end_part : ℕ → ℕ → ℕ → List ℕ
+end_part end code steps =
+    codes "{\"end\":" ++ (decimal end ++ (codes ",\"code\":" ++ (decimal code ++ (codes ",\"steps\":" ++ decimal steps))))
+
+-- how many events it has, and where it ends
+abbrev pub point_part : ℕ → Point → List ℕ
+point_part events p =
+    codes ",\"events\":" ++ (decimal events ++ (codes ",\"x\":" ++ (decimal p.x ++ (codes ",\"u\":" ++ (decimal p.u ++ codes "}")))))
+
+-- the line of a box after its name
+abbrev pub slice_end : List Event → Option ℕ → PlacedBox → List ℕ
+slice_end es read b =
+    codes "\"," ++ (drawn_as es (time_of (b.end.x - b.start.x)) ++ (codes ",\"ts\":" ++ (decimal (time_of b.start.x)
+    ++ (codes ",\"pid\":1,\"tid\":" ++ (decimal (row_number b.events.thread) ++ (codes ",\"args\":{\"event\":" ++ (decimal b.events.event
+    ++ (codes ",\"events\":" ++ (decimal b.events.count ++ (stale_argument read ++ codes "}}"))))))))))
+
+-- what names a thread's row
+abbrev pub name_line : ℕ → List ℕ
+name_line t =
+    codes ",\n{\"name\":\"thread_name\",\"ph\":\"M\",\"pid\":1,\"tid\":" ++ (decimal (row_number t) ++ (codes ",\"args\":{\"name\":\"thread " ++ (decimal t
+    ++ codes "\"}}")))
+
+-- what sets its place
+abbrev pub order_line : ℕ → List ℕ
+order_line t =
+    codes ",\n{\"name\":\"thread_sort_index\",\"ph\":\"M\",\"pid\":1,\"tid\":" ++ (decimal (row_number t) ++ (codes ",\"args\":{\"sort_index\":"
+    ++ (decimal (row_number t) ++ codes "}}")))
+
+-- of which object an arrow is, and which end this is
+abbrev pub arrow_front : ℕ → List ℕ → List ℕ
+arrow_front object phase = codes ",\n{\"name\":\"object " ++ (decimal object ++ (codes "\",\"cat\":\"sees\",\"ph\":" ++ phase))
+
+-- the number of an arrow, and where this end is
+abbrev pub arrow_back : ℕ → ℕ → ℕ → List ℕ
+arrow_back number time thread =
+    codes ",\"id\":" ++ (decimal number ++ (codes ",\"ts\":" ++ (decimal time ++ (codes ",\"pid\":1,\"tid\":"
+    ++ (decimal (row_number thread) ++ codes "}")))))

@@ -1,0 +1,232 @@
+//! `ir view`: the bytes of a trace in, a picture of it out.
+
+ghost use Rattle.std.specs.Prelude.{◌≡◌, ◌≢◌, ◌⊎◌, ◌++◌, Ok, IfOk, IfErr, OnOk, false};
+ghost use Rattle.std.specs.String.{string_bytes};
+ghost use Rattle.ir_trace.specs.Reading.{recorded_at};
+ghost use Rattle.ir_files.specs.Writers.{writer_of, Reports, fault_text};
+ghost use Rattle.ir_files.specs.declared.exit_status.ExitStatus.TheVariants as status;
+ghost use Rattle.ir_past.specs.Answers.{AreCoherent, Answered};
+ghost use Rattle.ir_picture.specs.Progress.{IsOf};
+ghost use Rattle.ir_picture.specs.Answers.{IsForm, IsThere, IsTraceAnswer, IsViewAnswer, IsUnsaid, IsUnanswered, page_head, page_tail, page_text, circle_line, many_line, status_of, fault_words};
+ghost use Rattle.ir_picture.specs.declared.asked.Form.TheVariants as form;
+ghost use Rattle.ir_picture.specs.declared.view_err.ViewErr.{ViewErr};
+
+use crate::around::is_there;
+use crate::asked::{Around, Asked, Form};
+use crate::chrome::chrome_text;
+use crate::circle::Circle;
+use crate::data::data_text;
+use crate::limits::MOST_BOXES;
+use crate::page::{HEAD_1, HEAD_2, TAIL_1, TAIL_2, TAIL_3, TAIL_4};
+use crate::picture::Picture;
+use crate::pictures::picture_of;
+use crate::view_err::ViewErr;
+use ir_files::{ExitStatus, tell};
+use ir_past::{Answer, Opened, line_answer, open_trace, put_answer, refuse};
+use ir_stream::Sink;
+use ir_trace::Trace;
+use std::alloc::{AllocError, Global};
+
+/// The answer that events need each other in a circle.
+///
+/// # Errors
+/// Out of memory.
+pub fn circle_answer(alloc: Global, circle: &Circle) -> Result<Answer, AllocError>
+    ensures { IfOk result (λ a. (a.status ≡ status.NotFit) × (a.text.items ≡ circle_line (circle.now).thread (circle.now).event)) }
+{
+    let Circle { thread, event } = *circle;
+    let line = format!(in alloc; "circle thread {thread} event {event}\n")?;
+    line_answer(alloc, ExitStatus::NotFit, &line)
+}
+
+// That a page would have this many boxes.
+fn many_answer(alloc: Global, count: usize) -> Result<Answer, AllocError>
+    ensures { IfOk result (λ a. (a.status ≡ status.NotFit) × (a.text.items ≡ many_line count)) }
+{
+    let line = format!(in alloc; "too many boxes {count}\n")?;
+    line_answer(alloc, ExitStatus::NotFit, &line)
+}
+
+// Adds four parts of a text.
+fn push_four(
+    text: &mut Vec<u8>,
+    first: &str,
+    second: &str,
+    third: &str,
+    last: &str,
+) -> Result<(), AllocError>
+    ensures { OnOk result (text.new.items ≡ text.old.items ++ (first.now ++ (second.now ++ (third.now ++ last.now)))) }
+{
+    text.extend_from_slice(first.as_bytes())?;
+    text.extend_from_slice(second.as_bytes())?;
+    text.extend_from_slice(third.as_bytes())?;
+    text.extend_from_slice(last.as_bytes())?;
+    Ok(())
+}
+
+// What a page has before its data.
+fn page_head(alloc: Global) -> Result<Vec<u8>, AllocError>
+    ensures { IfOk result (λ v. v.items ≡ page_head) }
+{
+    let mut text = Vec::from_slice(alloc, HEAD_1.as_bytes())?;
+    text.extend_from_slice(HEAD_2.as_bytes())?;
+    Ok(text)
+}
+
+// Adds what it has after it.
+fn push_tail(text: &mut Vec<u8>) -> Result<(), AllocError>
+    ensures { OnOk result (text.new.items ≡ text.old.items ++ page_tail) }
+{
+    push_four(text, TAIL_1, TAIL_2, TAIL_3, TAIL_4)
+}
+
+// The page of a picture.
+fn page_text(
+    alloc: Global,
+    trace: &Trace,
+    near: &Option<Around>,
+    picture: &Picture,
+) -> Result<Vec<u8>, AllocError>
+    requires { IsOf trace.now picture.now }
+    ensures { IfOk result (λ v. v.items ≡ page_text trace.now near.now picture.now) }
+{
+    let data = data_text(alloc, trace, near, picture)?;
+    let mut text = page_head(alloc)?;
+    text.extend_from_slice(data.as_bytes())?;
+    push_tail(&mut text)?;
+    Ok(text)
+}
+
+// A picture as a page, if it has no more boxes than that may have.
+fn page_answer(
+    alloc: Global,
+    trace: &Trace,
+    near: &Option<Around>,
+    picture: &Picture,
+) -> Result<Answer, AllocError>
+    requires { IsOf trace.now picture.now }
+    ensures { IfOk result (λ a. IsForm form.Page trace.now near.now picture.now a.status a.text.items) }
+{
+    if picture.boxes.len() > MOST_BOXES {
+        return many_answer(alloc, picture.boxes.len());
+    }
+    Ok(Answer {
+        status: ExitStatus::Done,
+        text: page_text(alloc, trace, near, picture)?,
+    })
+}
+
+// The data of a picture.
+fn data_answer(
+    alloc: Global,
+    trace: &Trace,
+    near: &Option<Around>,
+    picture: &Picture,
+) -> Result<Answer, AllocError>
+    requires { IsOf trace.now picture.now }
+    ensures { IfOk result (λ a. IsForm form.Data trace.now near.now picture.now a.status a.text.items) }
+{
+    let mut data = data_text(alloc, trace, near, picture)?;
+    data.push_str("\n")?;
+    line_answer(alloc, ExitStatus::Done, &data)
+}
+
+// A picture in the form that is asked for.
+fn picture_answer(
+    alloc: Global,
+    trace: &Trace,
+    asked: &Asked,
+    picture: &Picture,
+) -> Result<Answer, AllocError>
+    requires coherent { AreCoherent trace.now }
+    requires of_trace { IsOf trace.now picture.now }
+    ensures { IfOk result (λ a. IsForm (asked.now).form trace.now (asked.now).around picture.now a.status a.text.items) }
+{
+    match asked.form {
+        Form::Page => page_answer(alloc, trace, &asked.around, picture),
+        Form::Data => data_answer(alloc, trace, &asked.around, picture),
+        Form::Chrome => Ok(Answer {
+            status: ExitStatus::Done,
+            text: chrome_text(alloc, trace, picture)?,
+        }),
+    }
+}
+
+// The answer about a coherent trace.
+fn answer_of(alloc: Global, trace: &Trace, asked: &Asked) -> Result<Answer, ViewErr>
+    requires { AreCoherent trace.now }
+    ensures ok { IfOk result (λ a. IsTraceAnswer asked.now trace.now a.status a.text.items) }
+    ensures there { OnOk result (IsThere trace.now (asked.now).around) }
+    ensures fails { IfErr result (IsUnsaid asked.now trace.now) }
+{
+    is_there(trace, &asked.around)?;
+    match picture_of(alloc, trace, &asked.around)? {
+        Err(circle) => Ok(circle_answer(alloc, &circle)?),
+        Ok(picture) => Ok(picture_answer(alloc, trace, asked, &picture)?),
+    }
+}
+
+// Writes the answer about a coherent trace.
+fn show_trace<O: Sink>(
+    alloc: Global,
+    trace: &Trace,
+    asked: &Asked,
+    out: &mut O,
+) -> Result<ExitStatus, ViewErr>
+    requires works { O.broken out.old ≡ false }
+    requires coherent { AreCoherent trace.now }
+    ensures ok { IfOk result (λ answered. Answered (IsViewAnswer asked.now (Ok trace.now)) answered (writer_of (O.written out.old) (O.written out.new) (O.broken out.new))) }
+    ensures fails { IfErr result (λ e. IsUnanswered asked.now (Ok trace.now) e (writer_of (O.written out.old) (O.written out.new) (O.broken out.new))) }
+{
+    let answer = answer_of(alloc, trace, asked)?;
+    Ok(put_answer(&answer, out)?)
+}
+
+// Writes the answer about bytes.
+fn show<O: Sink>(
+    alloc: Global,
+    bytes: &[u8],
+    asked: &Asked,
+    out: &mut O,
+) -> Result<ExitStatus, ViewErr>
+    requires { O.broken out.old ≡ false }
+    ensures ok { IfOk result (λ answered. Answered (IsViewAnswer asked.now (recorded_at bytes.now)) answered (writer_of (O.written out.old) (O.written out.new) (O.broken out.new))) }
+    ensures fails { IfErr result (λ e. IsUnanswered asked.now (recorded_at bytes.now) e (writer_of (O.written out.old) (O.written out.new) (O.broken out.new))) }
+{
+    match open_trace(alloc, bytes)? {
+        Opened::Coherent(trace) => show_trace(alloc, &trace, asked, out),
+        Opened::Refused(why) => Ok(refuse(alloc, &why, out)?),
+    }
+}
+
+/// Writes a picture of the bytes of a trace, in the form and of the part that is asked for. The exit status is `Done` if it was written,
+/// `Refused` if the bytes are no trace, and `NotFit` if the trace is incoherent, its events need each other in a circle, or a page would have
+/// too many boxes; then the line that says so was written. It is `BadArguments` if the trace doesn't have the event that a part is asked for
+/// around; nothing was written then. It is `Failed` if memory ran out or the writer failed, with a prefix written at most. In both cases
+/// the fault is reported in one line.
+pub fn view_run<O: Sink, E: Sink>(
+    alloc: Global,
+    bytes: &[u8],
+    asked: &Asked,
+    out: &mut O,
+    faults: &mut E,
+) -> ExitStatus
+    requires writes { O.broken out.old ≡ false }
+    requires reports { E.broken faults.old ≡ false }
+    // The answer was written, and no fault reported.
+    ensures done { result ≢ status.Failed → result ≢ status.BadArguments
+        → Answered (IsViewAnswer asked.now (recorded_at bytes.now)) result (writer_of (O.written out.old) (O.written out.new) (O.broken out.new)) × (faults.new ≡ faults.old) }
+    // Else why there is none, what that leaves, and that it is reported.
+    ensures failed { (result ≡ status.Failed) ⊎ (result ≡ status.BadArguments) → (e : ViewErr)
+        × (result ≡ status_of e)
+        × IsUnanswered asked.now (recorded_at bytes.now) e (writer_of (O.written out.old) (O.written out.new) (O.broken out.new))
+        × Reports (writer_of (E.written faults.old) (E.written faults.new) (E.broken faults.new)) (fault_text (fault_words e)) }
+{
+    match show(alloc, bytes, asked, out) {
+        Ok(answered) => answered,
+        Err(why) => {
+            tell(faults, why.words());
+            why.status()
+        }
+    }
+}

@@ -1,0 +1,12 @@
+mod Looked
+mod Same
+mod Differs
+mod Still
+mod Leaving
+mod Taken
+mod Entered
+mod Opened
+mod OpenRows
+mod Built
+mod Walked
+mod Joined

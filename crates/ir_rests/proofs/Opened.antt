@@ -1,0 +1,138 @@
+-- A row between its read entry and the leave after its write entry.
+use Rattle.std.proofs.Common.{◌≡◌, ◌+◌, ◌-◌, ◌<◌, ◌≤◌, ℕ, List, [], ◌++◌, sym, ap, ◌∙◌, subst, arith, inl, inr}
+use Rattle.std.specs.Prelude.{Option, Some, slice_get}
+use Rattle.std.specs.List.{slice_index_or}
+use Rattle.std.proofs.lemmas.Bool.{cases_lt}
+use Rattle.ir_thread.specs.State as thread
+use Rattle.ir_flat.specs.Flat.{idle, empty}
+use Rattle.ir_fit.specs.Fit.{FittedTrace, HasRun}
+use Rattle.ir_weave.specs.Ahead.{thread_at}
+use Rattle.ir_weave.specs.Standing.{Standing, StandsAt, flat_in}
+use Rattle.ir_weave.specs.States.{positions}
+use Rattle.ir_past.specs.declared.stale_write.StaleWrite.{StaleWrite}
+use Rattle.ir_rests.specs.Calls.{calls_in, AllSuit}
+use Rattle.ir_rests.specs.WhatIf.{rest_of}
+use Rattle.ir_rests.specs.Rests.{behind_read, behind_write, AreWordsAt, IsRestOf}
+use Rattle.ir_rests.specs.Watch.{IsSpan, IsSpanOf, IsOpenAt, IsCallMore, AreCalls}
+use Rattle.ir_rests.specs.declared.exchange.Exchange.{Exchange}
+use Rattle.ir_rests.specs.declared.rest.Rest.{Rest}
+use Rattle.ir_rests.specs.declared.span.Span.{Span}
+use Rattle.ir_rests.specs.declared.kept.Open.{Open}
+use Rattle.ir_rests.proofs.Taken.{calls_then, suit_both}
+use Rattle.ir_rests.proofs.Entered.{holds_read, holds_write, words_there}
+
+-- ---- behind its read entry
+
+no_calls_yet : (code : List ℕ) (at : ℕ → thread.State) (k n : ℕ) → n ≡ 0 → [] ≡ calls_in code at k n
+unfolding calls_in
+no_calls_yet code at k n e = ap (calls_in code at k) (sym e)
+
+pub opened_at : (f : FittedTrace) (rows : List StaleWrite) (s : Standing) (t : ℕ) (o : Open) → HasRun f
+    → StandsAt f (positions (flat_in f s)) s → IsSpanOf f rows t o.span → o.span.read ≡ positions (flat_in f s) t
+    → o.kept.object ≡ o.span.object → o.kept.thread ≡ slice_index_or s.threads t idle
+    → o.kept.was.items ≡ (slice_index_or s.objects o.span.object empty).words → o.kept.calls.items ≡ []
+    → IsOpenAt f rows t o.span.read o
+opened_at f rows s t o h stands of here object copied words none = record {
+  of = of;
+  kept = record {
+    object = object ∙ of.span.object;
+    thread = λ run whole. copied ∙ (stands.at.each run whole).threads t
+        ∙ (λ i. thread_at f run (sym of.thread i) ((sym here ∙ of.span.read) i));
+    was = words_there f s of.row.thread (behind_read f of.row) of.row.object o.kept.was.items stands
+        (ap (positions (flat_in f s)) of.thread ∙ sym here ∙ of.span.read) (holds_read f h of.row of.stale)
+        (words ∙ ap (λ (p : ℕ). (slice_index_or s.objects p empty).words) of.span.object);
+    now = λ past. absurd (let a = of.span.rises in let b = of.span.read in let c = of.span.write in omega (arith, past, a, b, c));
+    calls = λ run whole. none ∙ no_calls_yet f.guest.code (thread_at f run of.row.thread) (behind_read f of.row) (o.span.read - behind_read f of.row)
+        (let b = of.span.read in omega (arith, b));
+    suit = subst AllSuit (sym none) tt;
+  };
+  past = omega arith;
+  before = let a = of.span.rises in let w = of.span.write in let b = of.span.leave.leaves.0 in let c = of.span.end in omega (arith, a, w, b, c);
+}
+
+-- ---- further on
+
+-- the same row, by another span that is the same
+abbrev pub same_span : (f : FittedTrace) (rows : List StaleWrite) (t : ℕ) (old new : Span) → new ≡ old → IsSpanOf f rows t old → IsSpanOf f rows t new
+same_span f rows t old new e of = record {
+  row = of.row;
+  there = ap (λ (s : Span). slice_get rows s.row) e ∙ of.there;
+  thread = of.thread;
+  stale = of.stale;
+  span = subst (IsSpan f of.row) (sym e) of.span;
+}
+
+-- its calls are added
+pub opened_on : (f : FittedTrace) (rows : List StaleWrite) (t from k : ℕ) (old mid new : Open) (calls : List Exchange)
+    → (o : IsOpenAt f rows t from old) → IsCallMore old mid calls → AreCalls f t from (k - from) calls → from ≤ k → k ≤ old.span.end
+    → new.span ≡ mid.span → new.kept.object ≡ mid.kept.object → new.kept.thread ≡ mid.kept.thread → new.kept.was.items ≡ mid.kept.was.items
+    → new.kept.calls.items ≡ mid.kept.calls.items
+    → (behind_write f o.of.row ≤ k → AreWordsAt f o.of.row.thread (behind_write f o.of.row) o.of.row.object new.kept.now.items)
+    → IsOpenAt f rows t k new
+opened_on f rows t from k old mid new calls o more are up within same object copied was calls' now = record {
+  of = same_span f rows t old.span new.span (same ∙ more.span) o.of;
+  kept = record {
+    object = object ∙ more.object ∙ o.kept.object;
+    thread = λ run whole. copied ∙ more.thread ∙ o.kept.thread run whole;
+    was = subst (AreWordsAt f o.of.row.thread (behind_read f o.of.row) o.of.row.object) (sym (was ∙ more.was)) o.kept.was;
+    now = now;
+    calls = λ run whole. calls' ∙ more.calls
+        ∙ (λ i. o.kept.calls run whole i ++ (are.same run whole ∙ ap (λ u. calls_in f.guest.code (thread_at f run u) from (k - from)) (sym o.of.thread)) i)
+        ∙ sym (calls_then f.guest.code (thread_at f run o.of.row.thread) (behind_read f o.of.row) from k
+        (let a = o.past in let b = o.of.span.read in omega (arith, a, b)) up);
+    suit = subst AllSuit (sym (calls' ∙ more.calls)) (suit_both old.kept.calls.items calls o.kept.suit are.suit);
+  };
+  past = let a = o.past in let b = ap (λ (s : Span). s.read) (same ∙ more.span) in omega (arith, a, b, up);
+  before = let b = ap (λ (s : Span). s.end) (same ∙ more.span) in omega (arith, b, within);
+}
+
+-- the words are those that are there behind the write entry
+pub words_now : (f : FittedTrace) (rows : List StaleWrite) (s : Standing) (t from k object : ℕ) (old : Open) (words : List ℕ) → HasRun f
+    → (o : IsOpenAt f rows t from old) → StandsAt f (positions (flat_in f s)) s → positions (flat_in f s) t ≡ k → old.span.write ≡ k
+    → object ≡ old.span.object → words ≡ (slice_index_or s.objects object empty).words
+    → AreWordsAt f o.of.row.thread (behind_write f o.of.row) o.of.row.object words
+words_now f rows s t from k object old words h o stands at here same is =
+    words_there f s o.of.row.thread (behind_write f o.of.row) o.of.row.object words stands
+    (ap (positions (flat_in f s)) o.of.thread ∙ at ∙ sym here ∙ o.of.span.write) (holds_write f h o.of.row o.of.stale)
+    (is ∙ ap (λ (p : ℕ). (slice_index_or s.objects p empty).words) (same ∙ o.of.span.object))
+
+-- or those that were kept before
+pub words_before : (f : FittedTrace) (rows : List StaleWrite) (t from k : ℕ) (old mid : Open) (calls : List Exchange)
+    → (o : IsOpenAt f rows t from old) → IsCallMore old mid calls → (from < old.span.write → k ≤ old.span.write) → (mid.span.write ≡ k → ⊥)
+    → behind_write f o.of.row ≤ k → AreWordsAt f o.of.row.thread (behind_write f o.of.row) o.of.row.object mid.kept.now.items
+words_before f rows t from k old mid calls o more stop other past =
+    subst (AreWordsAt f o.of.row.thread (behind_write f o.of.row) o.of.row.object) (sym more.now) (o.kept.now before)
+  where
+    before : behind_write f o.of.row ≤ from
+    before = elim (cases_lt from old.span.write) [
+      | inl less ↦
+          let a = stop less in let b = o.of.span.write in
+          absurd (other (let c = ap (λ (s : Span). s.write) more.span in omega (arith, a, b, c, past)))
+      | inr le ↦ let b = o.of.span.write in omega (arith, le, b)
+    ]
+
+-- ---- behind the leave after its write entry
+
+some_row : (x y : StaleWrite) → Some x ≡ Some y → x ≡ y
+some_row x y e = cc e
+
+pub judged_as : (f : FittedTrace) (rows : List StaleWrite) (t k : ℕ) (code : List ℕ) (o : Open) (rest : Option Rest) → IsOpenAt f rows t k o
+    → o.span.end ≡ k → code ≡ f.guest.code
+    → rest ≡ rest_of code o.kept.object o.kept.was.items o.kept.now.items (k - o.span.read + 65536) o.kept.thread o.kept.calls.items
+    → (x : StaleWrite) → slice_get rows o.span.row ≡ Some x → IsRestOf f x rest
+judged_as f rows t k code o rest is ends same found x there =
+    subst (λ (y : StaleWrite). IsRestOf f y rest) (some_row is.of.row x (sym is.of.there ∙ there)) (inl record {
+      last = is.of.span.last;
+      leave = is.of.span.leave;
+      was = o.kept.was.items;
+      was_there = is.kept.was;
+      now = o.kept.now.items;
+      now_there = is.kept.now (let a = is.of.span.leave.leaves.0 in let b = is.of.span.end in omega (arith, a, b, ends));
+      found = λ run whole.
+          let to : k ≡ is.of.span.last + 1 = (let b = is.of.span.end in omega (arith, b, ends)) in
+          let fuel : k - o.span.read + 65536 ≡ is.of.span.last + 1 - behind_read f is.of.row + 65536 =
+          (let b = is.of.span.read in omega (arith, b, to)) in
+          let steps : k - behind_read f is.of.row ≡ is.of.span.last + 1 - behind_read f is.of.row = omega (arith, to) in
+          found ∙ (λ i. rest_of (same i) (is.kept.object i) o.kept.was.items o.kept.now.items (fuel i) (is.kept.thread run whole i)
+          ((is.kept.calls run whole ∙ ap (calls_in f.guest.code (thread_at f run is.of.row.thread) (behind_read f is.of.row)) steps) i));
+    })

@@ -1,0 +1,136 @@
+-- What is kept of the threads, and what is found of their rows, as they go on.
+use Rattle.std.proofs.Common.{◌≡◌, ◌⊎◌, ◌<◌, ◌≤◌, ℕ, List, [], ◌∷◌, length, set, length-set, get_or-set_same, get_or-set_other, refl, sym, ap, ◌∙◌, subst, arith, inl, inr}
+use Rattle.std.specs.Prelude.{Option, Some, None, slice_get}
+use Rattle.std.specs.List.{slice_index_or}
+use Rattle.std.specs.List.Sorted.{IsNonDecreasingBy}
+use Rattle.std.proofs.lemmas.Bool.{cases_eq}
+use Rattle.ir_trace.specs.TraceOf.{recorded_thread}
+use Rattle.ir_fit.specs.Fit.{FittedTrace}
+use Rattle.ir_weave.specs.Standing.{Standing, flat_in}
+use Rattle.ir_weave.specs.States.{positions}
+use Rattle.ir_past.specs.declared.stale_write.StaleWrite.{StaleWrite}
+use Rattle.ir_events.specs.Walk.{IsFurther}
+use Rattle.ir_rests.specs.Rests.{IsRestOf}
+use Rattle.ir_rests.specs.Watch.{IsSpanOf, IsOpenAt, IsWatched, IsWatch, IsFound, NoneEnds, IsBeforeStops, AddsRests, AreWatched}
+use Rattle.ir_rests.specs.declared.rest.Rest.{Rest}
+use Rattle.ir_rests.specs.declared.span.Span.{Span}
+use Rattle.ir_rests.specs.declared.kept.Open.{Open}
+use Rattle.ir_rests.specs.declared.watch.Watch.{Watch}
+
+-- ---- one thread goes on
+
+-- at most to the next stop
+pub watch_on : (f : FittedTrace) (rows : List StaleWrite) (t from k stop : ℕ) (w new : Watch) → IsWatch f rows t from w → IsBeforeStops from stop w → k ≤ stop
+    → new.spans ≡ w.spans → new.next ≡ w.next → length new.opened.items ≡ length w.opened.items
+    → ((i : ℕ) (d : Open) → i < length w.opened.items → IsOpenAt f rows t k (slice_index_or new.opened.items i d)) → IsWatch f rows t k new
+watch_on f rows t from k stop w new is stops within spans next size each = record {
+  sorted = subst (λ v. IsNonDecreasingBy (λ (s : Span). s.read) v.items) (sym spans) is.sorted;
+  spans = subst (λ v. (i : ℕ) (d : Span) → i < length v.items → IsSpanOf f rows t (slice_index_or v.items i d)) (sym spans) is.spans;
+  next = let m = ap (λ v. length v.items) spans in let a = is.next in omega (arith, a, next, m);
+  pending = subst (λ v. (i : ℕ) (d : Span) → new.next ≤ i → i < length v.items → k ≤ (slice_index_or v.items i d).read) (sym spans)
+      (λ i d past li. let a = stops.pending i d (omega (arith, past, next)) li in omega (arith, a, within));
+  opened = λ i d l. each i d (omega (arith, l, size));
+}
+
+pub watched_on : (w new : Watch) → new.spans ≡ w.spans → new.next ≡ w.next → length new.opened.items ≡ length w.opened.items
+    → ((i : ℕ) (d : Open) → i < length w.opened.items → (slice_index_or new.opened.items i d).span ≡ (slice_index_or w.opened.items i d).span)
+    → (r : ℕ) → IsWatched w r → IsWatched new r
+watched_on w new spans next size same r (inl p) = inl (
+  p.0,
+  (let a = p.1 in omega (arith, a, next)),
+  (let a = p.2 in let m = ap (λ v. length v.items) spans in omega (arith, a, m)),
+  λ d. ap (λ v. (slice_index_or v.items p.0 d).row) spans ∙ p.3 d,
+)
+watched_on w new spans next size same r (inr q) = inr (
+  q.0,
+  (let a = q.1 in omega (arith, a, size)),
+  λ d. ap (λ (s : Span). s.row) (same q.0 d q.1) ∙ q.2 d,
+)
+
+-- ---- what is found
+
+pub adds_then : (f : FittedTrace) (rows : List StaleWrite) (a b c : List (Option Rest)) → AddsRests f rows a b → AddsRests f rows b c → AddsRests f rows a c
+adds_then f rows a b c first more = record {
+  size = more.size ∙ first.size;
+  each = λ r x there. elim (more.each r x there) [
+    | inr found ↦ inr found
+    | inl same ↦ elim (first.each r x there) [
+      | inl before ↦ inl (same ∙ before)
+      | inr found ↦ inr (subst (IsRestOf f x) (sym same) found)
+    ]
+  ];
+}
+
+-- what was found is found
+pub stays_found : (f : FittedTrace) (rows : List StaleWrite) (a b : List (Option Rest)) (r : ℕ) (x : StaleWrite) → AddsRests f rows a b
+    → slice_get rows r ≡ Some x → IsRestOf f x (slice_index_or a r None) → IsRestOf f x (slice_index_or b r None)
+stays_found f rows a b r x adds there found = elim (adds.each r x there) [
+  | inl same ↦ subst (IsRestOf f x) (sym same) found
+  | inr new ↦ new
+]
+
+-- what was kept is kept or found
+pub found_then : (f : FittedTrace) (rows : List StaleWrite) (w new : Watch) (a b : List (Option Rest)) (r : ℕ) (x : StaleWrite) → AddsRests f rows a b
+    → slice_get rows r ≡ Some x → (IsWatched w r → IsWatched new r ⊎ IsRestOf f x (slice_index_or b r None))
+    → IsWatched w r ⊎ IsRestOf f x (slice_index_or a r None) → IsWatched new r ⊎ IsRestOf f x (slice_index_or b r None)
+found_then f rows w new a b r x adds there more (inl watched) = more watched
+found_then f rows w new a b r x adds there more (inr found) = inr (stays_found f rows a b r x adds there found)
+
+-- ---- all threads, one of which has gone on
+
+pub watched_next : (f : FittedTrace) (rows : List StaleWrite) (t : ℕ) (old new : Standing) (ws : List Watch) (w : Watch) (a b : List (Option Rest))
+    → AreWatched f rows old ws a → IsFurther f t old new → t < length ws → AddsRests f rows a b
+    → IsWatch f rows t (positions (flat_in f new) t) w
+    → ((d : Watch) (r : ℕ) (x : StaleWrite) → slice_get rows r ≡ Some x → IsWatched (slice_index_or ws t d) r
+    → IsWatched w r ⊎ IsRestOf f x (slice_index_or b r None)) → AreWatched f rows new (set ws t w) b
+watched_next f rows t old new ws w a b are further l adds is more u d lu = elim (cases_eq u t) [
+  | inl same ↦ subst (λ j. IsWatch f rows j (positions (flat_in f new) j) (slice_index_or (set ws t w) j d)
+      × IsFound f rows b j (slice_index_or (set ws t w) j d)) (sym same)
+      (subst (λ z. IsWatch f rows t (positions (flat_in f new) t) z × IsFound f rows b t z) (sym (get_or-set_same ws t w d l)) (
+        is,
+        λ r x there own. found_then f rows (slice_index_or ws t d) w a b r x adds there (more d r x there) ((are t d l).1 r x there own),
+      ))
+  | inr ne ↦
+      let before = are u d (let n = length-set ws t w in omega (arith, n, lu)) in
+      subst (λ z. IsWatch f rows u (positions (flat_in f new) u) z × IsFound f rows b u z) (sym (get_or-set_other ws t u w d ne)) (
+        subst (λ k. IsWatch f rows u k (slice_index_or ws u d)) (sym (further.others u ne)) before.0,
+        λ r x there own. found_then f rows (slice_index_or ws u d) (slice_index_or ws u d) a b r x adds there (λ z. inl z) (before.1 r x there own),
+      )
+]
+
+-- ---- at the end of a thread
+
+-- no row is left
+pub none_watched : (f : FittedTrace) (rows : List StaleWrite) (t k : ℕ) (w : Watch) (r : ℕ) → IsWatch f rows t k w → NoneEnds k w.opened.items
+    → (recorded_thread f.recorded t).steps ≤ k → IsWatched w r → ⊥
+none_watched f rows t k w r is ends all (inl p) =
+    let any : Span = record { row = 0; object = 0; read = 0; write = 0; end = 0 } in
+    let s = is.spans p.0 any p.2 in
+    let a = is.pending p.0 any p.1 p.2 in
+    let b = s.span.rises in
+    let c = s.span.write in
+    let d = s.span.leave.leaves.0 in
+    let e = s.span.end in
+    let g = s.span.within in
+    let h = ap (λ u. (recorded_thread f.recorded u).steps) s.thread in
+    omega (arith, a, b, c, d, e, g, h, all)
+none_watched f rows t k w r is ends all (inr q) = no_open q.0 q.1 (w.opened.items) refl
+  where
+    no_open : (i : ℕ) → i < length w.opened.items → (xs : List Open) → xs ≡ w.opened.items → ⊥
+    no_open i l [] e = absurd (let n = ap (λ (ys : List Open). length ys) e in omega (arith, l, n))
+    no_open i l (o ∷ xs) e =
+        let this = is.opened i o l in
+        let a = ends i o l in
+        let g = this.of.span.within in
+        let h = ap (λ u. (recorded_thread f.recorded u).steps) this.of.thread in
+        omega (arith, a, g, h, all)
+
+-- so each is found
+pub closed_next : (f : FittedTrace) (rows : List StaleWrite) (t k : ℕ) (w new : Watch) (a b : List (Option Rest)) (r : ℕ) (x : StaleWrite) → AddsRests f rows a b
+    → slice_get rows r ≡ Some x → IsWatch f rows t k new → NoneEnds k new.opened.items → (recorded_thread f.recorded t).steps ≤ k
+    → (IsWatched w r → IsWatched new r ⊎ IsRestOf f x (slice_index_or b r None))
+    → IsWatched w r ⊎ IsRestOf f x (slice_index_or a r None) → IsRestOf f x (slice_index_or b r None)
+closed_next f rows t k w new a b r x adds there is ends all more was = elim (found_then f rows w new a b r x adds there more was) [
+  | inr found ↦ found
+  | inl watched ↦ absurd (none_watched f rows t k new r is ends all watched)
+]

@@ -1,0 +1,14 @@
+use Rattle.std.proofs.Common.{ℕ, ◌-◌, length}
+use Rattle.ir_weave.specs.Standing.{flat_in}
+use Rattle.ir_weave.specs.States.{positions}
+use Rattle.ir_rests.specs.Watch.{IsWatch, IsWatched}
+use Rattle.ir_rests.proofs.opening.open_due.Given as goal
+
+abbrev pub invariant-due : goal.invariant-due
+invariant-due l = record {
+  watch : IsWatch l.guide.fitted.now l.guide.rows.now l.t (positions (flat_in l.guide.fitted.now l.state) l.t) l.watch;
+  watched : (r : ℕ) → IsWatched l.fn.watch r → IsWatched l.watch r;
+}
+
+abbrev pub decreases-due : goal.decreases-due
+decreases-due l = length l.watch.spans.items - l.watch.next

@@ -1,0 +1,6 @@
+use Rattle.ir_rests.proofs.Joined.{not_failed}
+use Rattle.ir_rests.proofs.run.rests_run.Goals as goal
+
+pub returns-in-Ok-clause-stopped : goal.returns-in-Ok-clause-stopped
+returns-in-Ok-clause-stopped g c =
+    λ same. absurd (not_failed c.args.image.now c.args.trace.now c.in-Ok.status _ c.in-Ok.ensures.ok same)

@@ -1,0 +1,27 @@
+use Rattle.std.proofs.Common.{arith, sym, subst, ℕ, ◌+◌}
+use Rattle.ir_rests.proofs.Leaving.{placed, leave_fits, spanned}
+use Rattle.ir_rests.specs.Watch.{IsSpan}
+use Rattle.ir_rests.proofs.spans.span_of.Goals as goal
+
+pub behind-read-requires-clause-event : goal.behind-read-requires-clause-event
+behind-read-requires-clause-event c = (placed c.args.fitted.now c.known.ensures.run c.args.stale.now c.requires).read
+
+pub behind-write-requires-clause-event : goal.behind-write-requires-clause-event
+behind-write-requires-clause-event c = (placed c.args.fitted.now c.known.ensures.run c.args.stale.now c.requires).event
+
+pub overflow_add-result : goal.overflow_add-result
+overflow_add-result c =
+    let fits = leave_fits c.args.fitted.now c.known.ensures c.args.stale.now c.in_ok-last.last
+    (placed c.args.fitted.now c.known.ensures.run c.args.stale.now c.requires).there c.in_ok-last.ensures.found.leaves in
+    omega (arith, fits)
+
+pub returns-clause-found : goal.returns-clause-found
+returns-clause-found c =
+    subst (λ (z : ℕ × ℕ). IsSpan c.args.fitted.now c.args.stale.now (record {
+      row = c.args.row;
+      object = c.args.stale.now.object;
+      read = z.0;
+      write = z.1;
+      end = c.in_ok-last.last + 1;
+    })) (λ i. (sym c.behind-read.ensures i, sym c.behind-write.ensures i))
+    (spanned c.args.fitted.now c.known.ensures c.args.stale.now c.args.row c.in_ok-last.last c.requires c.in_ok-last.ensures.found)

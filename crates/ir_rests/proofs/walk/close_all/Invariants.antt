@@ -1,0 +1,21 @@
+use Rattle.std.proofs.Common.{◌≡◌, ◌<◌, ◌≤◌, ℕ, length}
+use Rattle.std.specs.Prelude.{Some, None, slice_get}
+use Rattle.std.specs.List.{slice_index_or}
+use Rattle.ir_weave.specs.Standing.{flat_in}
+use Rattle.ir_weave.specs.States.{positions}
+use Rattle.ir_past.specs.declared.stale_write.StaleWrite.{StaleWrite}
+use Rattle.ir_rests.specs.Rests.{IsRestOf}
+use Rattle.ir_rests.specs.Watch.{IsWatch, IsFound}
+use Rattle.ir_rests.specs.declared.watch.Watch.{Watch}
+use Rattle.ir_rests.proofs.walk.close_all.Given as goal
+
+abbrev pub invariant-loop-t : goal.invariant-loop-t
+invariant-loop-t l = record {
+  watches : length l.watches ≡ length l.fn.watches;
+  size : length l.rests ≡ length l.fn.rests;
+  done : (r : ℕ) (x : StaleWrite) → slice_get l.guide.rows.now r ≡ Some x → x.thread < l.t
+      → IsRestOf l.guide.fitted.now x (slice_index_or l.rests r None);
+  others : (u : ℕ) (d : Watch) → l.t ≤ u → u < length l.watches
+      → IsWatch l.guide.fitted.now l.guide.rows.now u (positions (flat_in l.guide.fitted.now l.state) u) (slice_index_or l.watches u d)
+      × IsFound l.guide.fitted.now l.guide.rows.now l.rests u (slice_index_or l.watches u d);
+}

@@ -1,0 +1,9 @@
+use Rattle.std.proofs.Common.{◌≡◌, length}
+use Rattle.ir_rests.specs.Watch.{AreBuilt}
+use Rattle.ir_rests.proofs.watches.empty_watches.Given as goal
+
+abbrev pub invariant-loop : goal.invariant-loop
+invariant-loop l = record {
+  size : length l.watches.items ≡ l.counter;
+  built : AreBuilt l.guide.fitted.now l.guide.rows.now 0 l.watches.items;
+}

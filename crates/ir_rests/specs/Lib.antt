@@ -1,0 +1,6 @@
+pub mod Calls
+pub mod WhatIf
+pub mod Rests
+pub mod Watch
+pub mod Lines
+pub mod Judged

@@ -1,0 +1,35 @@
+//! Which stale writes rest on what was read, by the guest's image.
+#![tactic(auto)]
+
+mod closing;
+mod differences;
+mod exchange;
+mod guide;
+mod hold;
+mod holding;
+mod judged;
+mod judging;
+mod kept;
+mod lines;
+mod noting;
+mod opening;
+mod reason;
+mod rest;
+mod run;
+mod span;
+mod spans;
+mod stepping;
+mod stops;
+mod visit;
+mod walk;
+mod watch;
+mod watches;
+mod what_if;
+mod words;
+
+pub use exchange::Exchange;
+pub use hold::Hold;
+pub use reason::Reason;
+pub use rest::Rest;
+pub use run::rests_run;
+pub use walk::rests;

@@ -1,0 +1,82 @@
+//! A thread that goes on by itself, and its rows on the way.
+
+ghost use Rattle.std.specs.Prelude.{◌≡◌, ◌⊎◌, ◌<◌, ◌≤◌, ℕ, true, false, length, slice_get, slice_index_or, Some, None, IfOk, OnOk};
+ghost use Rattle.ir_weave.specs.Standing.{flat_in};
+ghost use Rattle.ir_weave.specs.States.{positions};
+ghost use Rattle.ir_weave.specs.Stepping.{Rests};
+ghost use Rattle.ir_past.specs.declared.stale_write.StaleWrite.{StaleWrite};
+ghost use Rattle.ir_events.specs.Walk.{IsOnWay, IsFurther};
+ghost use Rattle.ir_rests.specs.Rests.{IsRestOf};
+ghost use Rattle.ir_rests.specs.Watch.{IsGuide, IsWatch, IsWatched, AddsRests};
+
+use crate::closing::close_due;
+use crate::guide::Guide;
+use crate::noting::note;
+use crate::opening::{open_due, thread_of};
+use crate::rest::Rest;
+use crate::stepping::take_steps;
+use crate::stops::next_stop;
+use crate::watch::Watch;
+use ir_replay::State;
+use std::alloc::AllocError;
+
+// Takes thread t on by itself, by at most one call where a row is open. Whether it took a step.
+fn stretch(
+    guide: Guide<'_>,
+    state: State,
+    t: usize,
+    watch: &mut Watch,
+    rests: &mut [Option<Rest>],
+) -> Result<(State, bool), AllocError>
+    requires guide { IsGuide guide.fitted.now guide.rows.now guide.ends.now guide.code.now }
+    requires way { IsOnWay guide.fitted.now guide.ends.now state }
+    requires thread { t < length guide.fitted.now.guest.entries }
+    requires watch { IsWatch guide.fitted.now guide.rows.now t (positions (flat_in guide.fitted.now state) t) watch.old }
+    requires size { length rests.old ≡ length guide.rows.now }
+    ensures way { IfOk result (λ r. IsOnWay guide.entry.fitted.now guide.entry.ends.now r.0) }
+    ensures further { IfOk result (λ r. IsFurther guide.entry.fitted.now t state r.0) }
+    ensures watch { IfOk result (λ r. IsWatch guide.entry.fitted.now guide.entry.rows.now t (positions (flat_in guide.entry.fitted.now r.0) t) watch.new) }
+    ensures adds { OnOk result (AddsRests guide.entry.fitted.now guide.entry.rows.now rests.old rests.new) }
+    ensures found { OnOk result ((r : ℕ) (x : StaleWrite) → slice_get guide.entry.rows.now r ≡ Some x → IsWatched watch.old r → IsWatched watch.new r ⊎ IsRestOf guide.entry.fitted.now x (slice_index_or rests.new r None)) }
+    ensures moved { IfOk result (λ r. r.1 ≡ true → positions (flat_in guide.entry.fitted.now state) t < positions (flat_in guide.entry.fitted.now r.0) t) }
+    ensures rests { IfOk result (λ r. r.1 ≡ false → Rests guide.entry.fitted.now guide.entry.ends.now (flat_in guide.entry.fitted.now r.0) t) }
+{
+    open_due(guide, &state, t, watch)?;
+    let from = thread_of(&state, t).steps();
+    close_due(guide, t, from, watch, rests);
+    let most = next_stop(watch, from, guide.ends.position(t)) - from;
+    let keeps = !watch.opened.is_empty();
+    let (state, taken) = take_steps(guide, state, t, most, keeps);
+    note(guide, &state, t, from, taken.call, &mut watch.opened)?;
+    Ok((state, taken.steps > 0))
+}
+
+// Takes thread t on by itself as far as it can.
+pub fn visit_thread(
+    guide: Guide<'_>,
+    state: State,
+    t: usize,
+    watch: &mut Watch,
+    rests: &mut [Option<Rest>],
+) -> Result<State, AllocError>
+    requires guide { IsGuide guide.fitted.now guide.rows.now guide.ends.now guide.code.now }
+    requires way { IsOnWay guide.fitted.now guide.ends.now state }
+    requires thread { t < length guide.fitted.now.guest.entries }
+    requires watch { IsWatch guide.fitted.now guide.rows.now t (positions (flat_in guide.fitted.now state) t) watch.old }
+    requires size { length rests.old ≡ length guide.rows.now }
+    ensures way { IfOk result (IsOnWay guide.entry.fitted.now guide.entry.ends.now) }
+    ensures further { IfOk result (IsFurther guide.entry.fitted.now t state) }
+    ensures watch { IfOk result (λ s. IsWatch guide.entry.fitted.now guide.entry.rows.now t (positions (flat_in guide.entry.fitted.now s) t) watch.new) }
+    ensures adds { OnOk result (AddsRests guide.entry.fitted.now guide.entry.rows.now rests.old rests.new) }
+    ensures found { OnOk result ((r : ℕ) (x : StaleWrite) → slice_get guide.entry.rows.now r ≡ Some x → IsWatched watch.old r → IsWatched watch.new r ⊎ IsRestOf guide.entry.fitted.now x (slice_index_or rests.new r None)) }
+    ensures rests { IfOk result (λ s. Rests guide.entry.fitted.now guide.entry.ends.now (flat_in guide.entry.fitted.now s) t) }
+{
+    let mut state = state;
+    'stretches: loop {
+        let (there, moved) = stretch(guide, state, t, watch, rests)?;
+        state = there;
+        if !moved {
+            return Ok(state);
+        }
+    }
+}

@@ -1,0 +1,97 @@
+//! The rows of each thread, before the first step.
+
+ghost use Rattle.std.specs.Prelude.{◌≡◌, ◌+◌, ◌++◌, ◌∷◌, [], ◌<◌, ℕ, length, slice_index_or, IfOk, OnOk};
+ghost use Rattle.std.specs.List.Sorted.{IsNonDecreasingBy};
+ghost use Rattle.ir_rests.specs.declared.span.Span.{Span};
+ghost use Rattle.ir_rests.specs.declared.watch.Watch.{Watch};
+ghost use Rattle.ir_rests.specs.Watch.{IsGuide, AreBuilt, IsSorted, AreSorted};
+
+use crate::guide::Guide;
+use crate::span::Span;
+use crate::spans::span_of;
+use crate::watch::Watch;
+use std::alloc::{AllocError, Global};
+
+// No row.
+fn empty_watch(alloc: Global) -> Watch
+    ensures next { result.next ≡ 0 }
+    ensures spans { result.spans.items ≡ [] }
+    ensures opened { result.opened.items ≡ [] }
+{
+    Watch {
+        spans: Vec::new(alloc),
+        next: 0,
+        opened: Vec::new(alloc),
+    }
+}
+
+// One more row.
+fn add_span(watch: &mut Watch, span: Span) -> Result<(), AllocError>
+    ensures { OnOk result ((watch.new.next ≡ watch.old.next) × (watch.new.opened.items ≡ watch.old.opened.items) × (watch.new.spans.items ≡ watch.old.spans.items ++ span ∷ [])) }
+{
+    watch.spans.push(span)?;
+    Ok(())
+}
+
+// Brings its rows into the order of their read entries.
+fn sort(watch: &mut Watch) -> Result<(), AllocError>
+    ensures { OnOk result (IsSorted watch.old watch.new) }
+{
+    watch.spans.sort_by_key(|span| span.read)?;
+    Ok(())
+}
+
+// Adds a row to those of its thread, if its write entry is left.
+fn add_row(guide: Guide<'_>, watches: &mut [Watch], row: usize) -> Result<(), AllocError>
+    requires guide { IsGuide guide.fitted.now guide.rows.now guide.ends.now guide.code.now }
+    requires size { length watches.old ≡ length guide.fitted.now.guest.entries }
+    requires row { row < length guide.rows.now }
+    requires built { AreBuilt guide.fitted.now guide.rows.now row watches.old }
+    ensures size { length watches.new ≡ length watches.old }
+    ensures built { OnOk result (AreBuilt guide.entry.fitted.now guide.entry.rows.now (row + 1) watches.new) }
+{
+    let stale = guide.rows[row];
+    match span_of(guide.fitted, row, &stale) {
+        Some(span) => add_span(&mut watches[stale.thread as usize], span),
+        None => Ok(()),
+    }
+}
+
+// Each thread without rows.
+fn empty_watches(guide: Guide<'_>) -> Result<Vec<Watch>, AllocError>
+    ensures size { IfOk result (λ v. length v.items ≡ length guide.entry.fitted.now.guest.entries) }
+    ensures built { IfOk result (λ v. AreBuilt guide.entry.fitted.now guide.entry.rows.now 0 v.items) }
+{
+    let threads = guide.fitted.image().entries().len();
+    let mut watches = Vec::with_capacity(guide.alloc, threads)?;
+    for _ in 0..threads {
+        watches.push(empty_watch(guide.alloc))?;
+    }
+    Ok(watches)
+}
+
+// Sorts the rows of each thread.
+fn sort_all(watches: &mut [Watch]) -> Result<(), AllocError>
+    ensures size { length watches.new ≡ length watches.old }
+    ensures sorted { OnOk result (AreSorted watches.old watches.new) }
+{
+    for t in 0..watches.len() {
+        sort(&mut watches[t])?;
+    }
+    Ok(())
+}
+
+/// The rows of each thread, in the order of their read entries.
+pub fn watches(guide: Guide<'_>) -> Result<Vec<Watch>, AllocError>
+    requires guide { IsGuide guide.fitted.now guide.rows.now guide.ends.now guide.code.now }
+    ensures size { IfOk result (λ v. length v.items ≡ length guide.entry.fitted.now.guest.entries) }
+    ensures built { IfOk result (λ v. AreBuilt guide.entry.fitted.now guide.entry.rows.now (length guide.entry.rows.now) v.items) }
+    ensures sorted { IfOk result (λ v. (t : ℕ) (d : Watch) → t < length v.items → IsNonDecreasingBy (λ (s : Span). s.read) (slice_index_or v.items t d).spans.items) }
+{
+    let mut watches = empty_watches(guide)?;
+    for row in 0..guide.rows.len() {
+        add_row(guide, &mut watches, row)?;
+    }
+    sort_all(&mut watches)?;
+    Ok(watches)
+}

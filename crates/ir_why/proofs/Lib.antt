@@ -1,0 +1,5 @@
+mod Filtered
+mod NeedLists
+mod Gathered
+mod Linked
+mod Said

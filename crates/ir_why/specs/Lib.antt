@@ -1,0 +1,6 @@
+pub mod Needed
+pub mod Before
+pub mod Chain
+pub mod Tables
+pub mod Lines
+pub mod Answers

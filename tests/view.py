@@ -1,0 +1,280 @@
+#!/usr/bin/env python3
+"""Checks `ir view` against a plain reading of recordings in random orders.
+
+python3 tests/view.py PROGRAM [COUNT]
+
+Records guests COUNT times each (5 if it isn't given) by `ir record --chaos`, and makes ten times as many traces at random, some of them with their
+events in an order in which they need each other in a circle. Looks of each whether the data of `ir view --json` has each event in one box, whether
+each event that another needs ends left of it, and whether boxes, places and stale writes are those that this file finds by slow and plain ways;
+whether the page has that data; whether `--around` shows the boxes near; and whether `--chrome` is in the Trace Event format. Prints a line for
+each guest, and fails at the first difference.
+"""
+import json
+import random
+import struct
+import subprocess
+import sys
+import tempfile
+from pathlib import Path
+
+from view_guests import TOP, guests, many, record
+
+CLOCK, RANDOM, INPUT, READ, WRITE, TRY = range(1, 7)
+MARK = "/*DATA*/"
+
+
+def parsed(data):
+    """The objects and the profile of a trace, and of each thread its end, code, steps and events (tag, object or value, version, readers)."""
+    profile = {b"IRT1": 1, b"IRT2": 2}[data[:4]]
+    count, objects, _, _ = struct.unpack_from("<BBHQ", data, 4)
+    at, threads = 16, []
+    for _ in range(count):
+        steps, end, code, events = struct.unpack_from("<QBII", data, at)
+        at, log = at + 17, []
+        for _ in range(events):
+            tag = data[at]
+            form = {READ: "<BI", WRITE: "<BII", TRY: "<B"}.get(tag, "<I")
+            values = struct.unpack_from(form, data, at + 1)
+            log.append((tag, *values, 0, 0)[:4])
+            at += 1 + struct.calcsize(form)
+        threads.append((end, code, steps, log))
+    return objects, profile, threads
+
+
+def boxes_of(threads):
+    """The boxes, as thread, first event and number of events."""
+    found = []
+    for thread, (*_, log) in enumerate(threads):
+        kinds = []
+        for i, (tag, what, version, _) in enumerate(log):
+            before = [event for event in log[:i] if event[0] in (READ, WRITE) and event[1] == what]
+            again = tag == READ and before and before[-1][:3] == (READ, what, version)
+            kinds.append(tag if again or (tag == TRY and i > 0 and log[i - 1][:2] == (TRY, what)) else 0)
+            if kinds[-1] and i > 0 and kinds[-2] == kinds[-1]:
+                found[-1][2] += 1
+            else:
+                found.append([thread, i, 1])
+    return found
+
+
+def needs_of(threads):
+    """Of each event the events that it needs."""
+    makers, readers, needs = {}, {}, {}
+    for thread, (*_, log) in enumerate(threads):
+        for i, (tag, what, version, _) in enumerate(log):
+            if tag == WRITE:
+                makers[what, version + 1] = (thread, i)
+            elif tag == READ:
+                readers.setdefault((what, version), []).append((thread, i))
+    for thread, (*_, log) in enumerate(threads):
+        for i, (tag, what, version, _) in enumerate(log):
+            needs[thread, i] = [makers[what, version]] if tag in (READ, WRITE) and version > 0 else []
+            if tag == WRITE:
+                needs[thread, i] += readers.get((what, version), [])
+    return needs
+
+
+def places_of(threads, boxes, needs):
+    """Of each box x0, x1, u0, u1 and where it came, and of each thread where it ends; raised until no box moves any more."""
+    inside = {(t, i + k): number for number, (t, i, n) in enumerate(boxes) for k in range(n)}
+    long = [int(threads[t][3][i][0] >= READ) for t, i, _ in boxes]
+    x, u, came = [0] * len(boxes), [1] * len(boxes), [1] * len(boxes)
+    moved = True
+    while moved:
+        moved = False
+        for number, (t, i, n) in enumerate(boxes):
+            own = [number - 1] if i > 0 else []
+            other = {inside[need] for k in range(n) for need in needs[t, i + k]}
+            new = max([0] + [x[b] + long[b] + 1 for b in [*own, *other]]), max([1] + [u[b] + 1 for b in [*own, *other]])
+            came[number] = max([1] + [u[b] + 1 for b in own])
+            if new != (x[number], u[number]):
+                x[number], u[number], moved = *new, True
+    ends = [[0, 1] for _ in threads]
+    for number, (t, *_) in enumerate(boxes):
+        ends[t] = [x[number] + long[number] + 1, u[number] + 1]
+    return [[x[b], x[b] + long[b], u[b], u[b], came[b]] for b in range(len(boxes))], ends
+
+
+def stale_of(threads):
+    """The stale writes, as thread, read and write."""
+    found = []
+    for thread, (*_, log) in enumerate(threads):
+        for j, (tag, what, version, _) in enumerate(log):
+            before = [i for i in range(j) if log[i][0] in (READ, WRITE) and log[i][1] == what]
+            if tag == WRITE and before and log[before[-1]][0] == READ and log[before[-1]][2] < version:
+                found.append([thread, before[-1], j])
+    return found
+
+
+def data_of(trace):
+    """The data that a trace should have."""
+    objects, profile, threads = parsed(trace)
+    boxes, needs = boxes_of(threads), needs_of(threads)
+    places, ends = places_of(threads, boxes, needs)
+    rows = []
+    for (thread, first, count), place in zip(boxes, places):
+        log = threads[thread][3][first:first + count]
+        reads = sorted({(what, version) for tag, what, version, _ in log if tag == READ})
+        fold = [-1, -1, [list(read) for read in reads]] if count > 1 else []
+        rows.append([thread, first, count, *log[0], *place, 0, *fold])
+    return {
+        "ir_view": 1, "steps": False, "objects": objects, "profile": profile,
+        "threads": [{"end": end, "code": code, "steps": steps, "events": len(log), "x": x, "u": u}
+                    for (end, code, steps, log), (x, u) in zip(threads, ends)],
+        "boxes": rows, "stale": stale_of(threads),
+    }
+
+
+def check_order(data, trace):
+    """Each event is in one box, and what an event needs of another box ends left of it."""
+    threads = parsed(trace)[2]
+    inside = {}
+    for box in data["boxes"]:
+        for k in range(box[2]):
+            assert (box[0], box[1] + k) not in inside, box
+            inside[box[0], box[1] + k] = box
+    assert len(inside) == sum(len(log) for *_, log in threads)
+    for event, needs in needs_of(threads).items():
+        for need in needs:
+            assert inside[need][8] < inside[event][7] and inside[need][10] < inside[event][9], (event, need)
+
+
+def check_part(data, part):
+    """A part has the boxes near its event and the stale writes in these."""
+    thread, event, span = part.pop("around")
+    middle = next(box[7] for box in data["boxes"] if box[0] == thread and box[1] <= event < box[1] + box[2])
+    boxes = [box for box in data["boxes"] if abs(box[7] - middle) <= span]
+    inside = {(box[0], box[1] + k) for box in boxes for k in range(box[2])}
+    stale = [row for row in data["stale"] if {(row[0], row[1]), (row[0], row[2])} <= inside]
+    assert part == data | {"boxes": boxes, "stale": stale}
+
+
+FIELDS = {
+    "M": {"name": str, "ph": str, "pid": int, "tid": int, "args": dict},
+    "X": {"name": str, "cat": str, "ph": str, "ts": int, "dur": int, "pid": int, "tid": int, "args": dict},
+    "i": {"name": str, "cat": str, "ph": str, "s": str, "ts": int, "pid": int, "tid": int, "args": dict},
+    "s": {"name": str, "cat": str, "ph": str, "id": int, "ts": int, "pid": int, "tid": int},
+    "f": {"name": str, "cat": str, "ph": str, "bp": str, "id": int, "ts": int, "pid": int, "tid": int},
+}
+
+
+def check_chrome(data, chrome):
+    """Each event has the fields of its phase; slices of a row don't overlap; an arrow leaves and arrives in a slice, forwards."""
+    assert set(chrome) == {"traceEvents", "displayTimeUnit", "otherData"}
+    slices, starts, ends = {}, {}, {}
+    for event in chrome["traceEvents"]:
+        fields = FIELDS[event["ph"]]
+        assert {name: type(value) for name, value in event.items()} == fields, event
+        if event["ph"] == "X":
+            slices.setdefault(event["tid"], []).append((event["ts"], event["ts"] + event["dur"]))
+        elif event["ph"] in "sf":
+            kept = starts if event["ph"] == "s" else ends
+            assert event["id"] not in kept, event
+            kept[event["id"]] = event
+    for row in slices.values():
+        assert all(a[1] <= b[0] for a, b in zip(row, row[1:])), row
+    assert starts.keys() == ends.keys()
+    for number, start in starts.items():
+        end = ends[number]
+        assert start["ts"] < end["ts"] and start["tid"] != end["tid"], (start, end)
+        for event in (start, end):
+            assert any(a <= event["ts"] < b for a, b in slices[event["tid"]]), event
+    drawn = sum(event["ph"] in "Xi" for event in chrome["traceEvents"])
+    assert drawn == len(data["boxes"])
+
+
+def circle_of(threads, needs):
+    """The thread and event of a circle, if there is one."""
+    placed, moved = [0] * len(threads), True
+    while moved:
+        moved = False
+        for thread, (*_, log) in enumerate(threads):
+            while placed[thread] < len(log) and all(i < placed[other] for other, i in needs[thread, placed[thread]]):
+                placed[thread] += 1
+                moved = True
+    left = [(thread, placed[thread]) for thread, (*_, log) in enumerate(threads) if placed[thread] < len(log)]
+    return left[0] if left else None
+
+
+def random_trace(chance):
+    """The bytes of a coherent trace: events in a random order, of which one thread's may be shuffled after all."""
+    threads, objects, length = chance.randint(1, 5), chance.randint(1, 4), chance.randint(0, 60)
+    logs, version, readers = [[] for _ in range(threads)], [0] * objects, [0] * objects
+    lazy = chance.random()
+    for _ in range(length):
+        log, o = logs[chance.randrange(threads)], chance.randrange(objects)
+        kind = chance.choice((READ, WRITE, TRY, chance.randint(CLOCK, INPUT)))
+        if log and chance.random() < lazy:                # often the same again
+            kind = log[-1][0]
+            o = log[-1][1] if kind == TRY else o
+        if kind == READ:
+            readers[o] += 1
+            log += [(READ, o, struct.pack("<BBI", READ, o, version[o]))]
+        elif kind == WRITE:
+            log += [(WRITE, o, struct.pack("<BBII", WRITE, o, version[o], readers[o]))]
+            version[o], readers[o] = version[o] + 1, 0
+        else:
+            log += [(kind, o, struct.pack("<BB", TRY, o) if kind == TRY else struct.pack("<BI", kind, chance.randrange(256)))]
+    if chance.random() < 0.3:
+        chance.shuffle(chance.choice(logs))
+    start = b"IRT2" + struct.pack("<BBHQ", threads, objects, 0, 1000)
+    return start + b"".join(struct.pack("<QBII", 100, 1, 0, len(log)) + b"".join(event[2] for event in log) for log in logs)
+
+
+class Program:
+    """The program, and the page that its pages are made of."""
+
+    def __init__(self, path):
+        self.path = path
+        self.head, self.tail = (TOP / "crates" / "ir_picture" / "page" / "view.html").read_text(encoding="utf-8").split(MARK)
+
+    def run(self, *words, status=0):
+        """What it prints for these arguments, with this exit status."""
+        ran = subprocess.run([self.path, *map(str, words)], stdout=subprocess.PIPE, stderr=subprocess.PIPE, check=False)
+        assert ran.returncode == status, (words, ran.returncode, ran.stdout[:200], ran.stderr)
+        return ran.stdout.decode("ascii")
+
+    def check(self, trace):
+        """Looks at what it shows of a trace in a file; the data, or nothing where that is a circle."""
+        threads = parsed(trace.read_bytes())[2]
+        circle = circle_of(threads, needs_of(threads))
+        if circle:
+            assert self.run("view", trace, status=4) == "circle thread {} event {}\n".format(*circle)
+            return None
+        text = self.run("view", trace, "--json")
+        data = json.loads(text)
+        assert data == data_of(trace.read_bytes()), trace
+        check_order(data, trace.read_bytes())
+        assert self.run("view", trace) == self.head + text.removesuffix("\n") + self.tail
+        check_chrome(data, json.loads(self.run("view", trace, "--chrome")))
+        if data["boxes"]:
+            box = data["boxes"][len(data["boxes"]) // 2]
+            check_part(data, json.loads(self.run("view", trace, "--json", "--around", box[0], box[1], "--span", 9)))
+        return data
+
+
+def summary(found):
+    """What was looked at, in words."""
+    boxes = [box for data in found if data for box in data["boxes"]]
+    return (f"{len(found)} traces, {sum(box[2] for box in boxes)} events, {sum(box[2] > 1 for box in boxes)} folds, "
+            f"{sum(len(data['stale']) for data in found if data)} stale writes, {found.count(None)} circles")
+
+
+def main():
+    program, count = Program(sys.argv[1]), int(sys.argv[2]) if len(sys.argv) > 2 else 5
+    with tempfile.TemporaryDirectory() as folder:
+        folder = Path(folder)
+        for name, text in (guests() | {"many": many(5, 20)}).items():
+            found = [program.check(record(sys.argv[1], folder, name, text, seed)) for seed in range(count)]
+            print(f"{name}: {summary(found)}")
+        chance, found = random.Random(1), []
+        for number in range(10 * count):
+            trace = folder / f"random_{number}.trc"
+            trace.write_bytes(random_trace(chance))
+            found.append(program.check(trace))
+        print(f"at random: {summary(found)}")
+    print("view: data, pages, parts and events for other viewers are as they should be")
+
+
+if __name__ == "__main__":
+    main()

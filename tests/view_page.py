@@ -1,0 +1,299 @@
+#!/usr/bin/env python3
+"""Tries the page of `ir view` in Chromium.
+
+python3 tests/view_page.py PROGRAM [FOLDER]
+
+Records guests of examples/ and larger ones that this file has, opens the page of each recording, light and dark, and keeps pictures in FOLDER if
+it is given. Looks whether the browser reports an error, whether each key and each click does what the page's help says, whether contrast is at
+least 4.5 for text and 3 for lines, and whether the data is digits alone. Wants `chromium`, or another browser that CHROMIUM names.
+"""
+import base64
+import json
+import os
+import re
+import subprocess
+import sys
+import tempfile
+from pathlib import Path
+
+from view_guests import guests, many, record
+
+DATA = re.compile(r'<script type="application/json" id="run">(.*?)</script>', re.DOTALL)
+# What the data may have beside digits: brackets, commas, line feeds, and these names and words.
+NAMES = re.compile(r'"(?:ir_view|steps|objects|profile|around|threads|end|code|events|x|u|boxes|stale)"|false|true')
+
+# Contrast is computed in the page, of the colours that it draws with: pairs of a name and a contrast, texts and lines.
+CONTRAST = """(() => {
+  const channels = c => { const d = document.createElement('canvas').getContext('2d'); d.fillStyle = c; d.fillRect(0, 0, 1, 1);
+    return [...d.getImageData(0, 0, 1, 1).data].slice(0, 3); };
+  const light = c => { const [r, g, b] = c.map(v => { v /= 255; return v <= 0.04045 ? v / 12.92 : ((v + 0.055) / 1.055) ** 2.4; });
+    return 0.2126 * r + 0.7152 * g + 0.0722 * b; };
+  const ratio = (a, b) => { const [x, y] = [light(a), light(b)].sort((p, q) => q - p); return (x + 0.05) / (y + 0.05); };
+  const mix = (a, b, part) => a.map((v, k) => v * part + b[k] * (1 - part));
+  const c = {}; for (const n of ['page', 'card', 'ink', 'soft', 'lane', 'edge', 'mark']) c[n] = channels(css[n]);
+  const texts = [], lines = [];
+  for (const [a, b] of [['ink', 'page'], ['ink', 'card'], ['ink', 'lane'], ['soft', 'page'], ['soft', 'card'], ['soft', 'lane'], ['mark', 'page'],
+    ['mark', 'lane'], ['mark', 'card'], ['card', 'mark'], ['page', 'ink']]) texts.push([a + ' on ' + b, ratio(c[a], c[b])]);
+  for (const [a, b] of [['edge', 'lane'], ['edge', 'card'], ['edge', 'page'], ['mark', 'lane'], ['ink', 'lane'], ['soft', 'lane']]) lines.push([a + ' on ' + b, ratio(c[a], c[b])]);
+  PAINT.forEach(([fill, on, day, night], k) => {
+    const drawn = channels(css.dark ? night : day), full = channels(fill);
+    texts.push(['name in write ' + k, ratio(channels(on), full)], ['name in read ' + k, ratio(c.ink, mix(full, c.card, PALE))]);
+    lines.push(['line ' + k, ratio(drawn, c.lane)], ['edge of read ' + k, ratio(drawn, mix(full, c.card, PALE))]);
+  });
+  return { texts, lines };
+})()"""
+
+
+class Browser:
+    """A browser that is led by messages over a pipe."""
+
+    def __init__(self, folder):
+        to_browser, from_us = os.pipe()
+        to_us, from_browser = os.pipe()
+        words = [os.environ.get("CHROMIUM", "chromium"), "--headless=new", "--no-sandbox", "--disable-gpu", "--remote-debugging-pipe",
+                 "--no-first-run", "--disable-background-networking", "--allow-file-access-from-files", f"--user-data-dir={folder}", "about:blank"]
+
+        def handles():
+            os.dup2(to_browser, 103), os.dup2(from_browser, 104)
+            os.dup2(103, 3), os.dup2(104, 4)
+
+        self.process = subprocess.Popen(words, preexec_fn=handles, close_fds=False, stdout=subprocess.DEVNULL, stderr=subprocess.DEVNULL)
+        os.close(to_browser), os.close(from_browser)
+        self.out, self.into, self.rest, self.number, self.errors = from_us, to_us, b"", 0, []
+        target = self.call("Target.createTarget", url="about:blank")["targetId"]
+        self.session = self.call("Target.attachToTarget", targetId=target, flatten=True)["sessionId"]
+        for domain in ("Page", "Runtime", "Log"):
+            self.call(f"{domain}.enable")
+
+    session = None
+
+    def receive(self):
+        """The next message; errors of the page are kept."""
+        while b"\0" not in self.rest:
+            more = os.read(self.into, 1 << 16)
+            if not more:
+                raise SystemExit("the browser ended")
+            self.rest += more
+        text, _, self.rest = self.rest.partition(b"\0")
+        message = json.loads(text)
+        what, about = message.get("method"), message.get("params", {})
+        if what == "Runtime.exceptionThrown" or (what == "Log.entryAdded" and about["entry"]["level"] == "error") \
+                or (what == "Runtime.consoleAPICalled" and about["type"] in ("error", "assert")):
+            self.errors.append(json.dumps(about)[:600])
+        return message
+
+    def call(self, method, **params):
+        """The answer to a call."""
+        self.number += 1
+        message = {"id": self.number, "method": method, "params": params} | ({"sessionId": self.session} if self.session else {})
+        os.write(self.out, json.dumps(message).encode() + b"\0")
+        while True:
+            answer = self.receive()
+            if answer.get("id") == self.number:
+                if "error" in answer:
+                    raise SystemExit(f"{method}: {answer['error']}")
+                return answer["result"]
+
+    def open(self, address, dark=False, width=1280, height=800):
+        """Opens a page, and waits until it has loaded."""
+        self.call("Emulation.setEmulatedMedia", features=[{"name": "prefers-color-scheme", "value": "dark" if dark else "light"}])
+        self.call("Emulation.setDeviceMetricsOverride", width=width, height=height, deviceScaleFactor=1, mobile=False)
+        self.call("Page.navigate", url="about:blank")
+        self.call("Page.navigate", url=address)
+        while self.value("document.readyState") != "complete" or self.value("location.href").startswith("about"):
+            pass
+
+    def value(self, code):
+        """What code comes to in the page."""
+        found = self.call("Runtime.evaluate", expression=code, returnByValue=True, awaitPromise=True)
+        if "exceptionDetails" in found:
+            raise SystemExit(f"{code}: {found['exceptionDetails']}")
+        return found["result"].get("value")
+
+    def key(self, name, ctrl=False):
+        """Presses a key."""
+        codes = {"ArrowLeft": 37, "ArrowUp": 38, "ArrowRight": 39, "ArrowDown": 40, "Home": 36, "End": 35, "Escape": 27, "Enter": 13}
+        more = {"text": name} if len(name) == 1 else {"text": "\r"} if name == "Enter" else {}
+        code = codes.get(name, ord(name.upper()) if len(name) == 1 and name.isalnum() else 0)
+        for kind in ("keyDown", "keyUp"):
+            self.call("Input.dispatchKeyEvent", type=kind, key=name, windowsVirtualKeyCode=code, modifiers=2 if ctrl else 0,
+                      **(more if kind == "keyDown" else {}))
+
+    def mouse(self, kind, x, y, **more):
+        """Moves the mouse, or presses or releases its button."""
+        self.call("Input.dispatchMouseEvent", type=kind, x=x, y=y, **more)
+
+    def click(self, x, y):
+        """Clicks at a place."""
+        self.mouse("mouseMoved", x, y)
+        self.mouse("mousePressed", x, y, button="left", buttons=1, clickCount=1)
+        self.mouse("mouseReleased", x, y, button="left", clickCount=1)
+
+    def click_on(self, selector):
+        """Clicks in the middle of an element."""
+        self.click(*self.value(f"(() => {{ const r = document.querySelector({selector!r}).getBoundingClientRect(); return [r.x + r.width / 2, r.y + r.height / 2]; }})()"))
+
+    def picture(self, path):
+        """Keeps a picture of the page."""
+        path.write_bytes(base64.b64decode(self.call("Page.captureScreenshot", format="png")["data"]))
+
+    def close(self):
+        """Ends the browser."""
+        self.session = None
+        self.number += 1
+        os.write(self.out, json.dumps({"id": self.number, "method": "Browser.close", "params": {}}).encode() + b"\0")
+        self.process.wait(timeout=20)
+
+
+CHOSEN = "chosen && [chosen.t, chosen.i]"
+MIDDLE = "(b => { const r = main.getBoundingClientRect(); return [r.x + sx(X0(b)) + wide(b) / 2, r.y + midOf(b)]; })"
+
+
+def check_keys(browser, data):
+    """Each key of the help does what the help says."""
+    first = browser.value("boxes[0] && [boxes[0].t, boxes[0].i]")
+    browser.key("Escape")
+    assert browser.value(CHOSEN) is None and browser.value("location.hash") == ""
+    browser.key("ArrowRight")
+    assert browser.value(CHOSEN) == first
+    lane = [box for box in data["boxes"] if box[0] == first[0]]
+    browser.key("End")
+    assert browser.value(CHOSEN) == [first[0], lane[-1][1]]
+    browser.key("Home")
+    assert browser.value(CHOSEN) == first
+    if len(lane) > 1:
+        browser.key("ArrowRight")
+        assert browser.value(CHOSEN) == [first[0], lane[1][1]] and browser.value("location.hash") == f"#{first[0]}.{lane[1][1]}"
+        browser.key("ArrowLeft")
+        assert browser.value(CHOSEN) == first
+    others = sorted({box[0] for box in data["boxes"]} - {first[0]})
+    if others:
+        browser.key("ArrowDown")
+        assert browser.value("chosen.t") == others[0]
+        browser.key("ArrowUp")
+        assert browser.value("chosen.t") == first[0]
+    assert browser.value("[...document.querySelectorAll('tr[data-if=stale]')].every(r => r.hidden)") == (not data["stale"])
+    if data["stale"]:
+        browser.key("Escape")
+        seen = []
+        for _ in data["stale"]:
+            browser.key("n")
+            seen.append(tuple(browser.value(CHOSEN)))
+        assert sorted(seen) == sorted((row[0], row[2]) for row in data["stale"]), seen
+        browser.key("p")
+        assert tuple(browser.value(CHOSEN)) == seen[len(seen) - 2]
+    made = {(box[4], box[5] + 1): (box[0], box[1]) for box in data["boxes"] if box[3] == 5}
+    seer = next((box for box in data["boxes"] if box[3] in (4, 5) and box[2] == 1 and box[5] > 0), None)
+    if seer:
+        browser.value(f"find({seer[0]}, {seer[1]})")
+        browser.key("m")
+        assert tuple(browser.value(CHOSEN)) == made[seer[4], seer[5]]
+    browser.key("g")
+    for letter in f"{lane[-1][0]} {lane[-1][1]}":
+        browser.key(letter)
+    browser.key("Enter")
+    assert browser.value(CHOSEN) == [lane[-1][0], lane[-1][1]]
+    browser.key("g")
+    assert browser.value("document.activeElement.id") == "find"
+    browser.value("el('find').value = ''")
+    for letter in "99 99":
+        browser.key(letter)
+    browser.key("Enter")
+    assert browser.value("el('find').getAttribute('aria-invalid')") == "true"
+    browser.key("Escape")
+    browser.key("0")
+    assert browser.value("sx(Math.max(...run.threads.map(th => th.x))) <= W && left === 0")
+    before = browser.value("scale")
+    browser.key("+")
+    nearer = browser.value("scale")
+    browser.key("-")
+    assert nearer >= before and browser.value("scale") <= nearer
+    browser.key("?")
+    assert browser.value("el('keys').open")
+    browser.key("Escape")
+    assert not browser.value("el('keys').open")
+
+
+def check_mouse(browser, data):
+    """Each click of the help does what the help says."""
+    for button, test in (("whole", "left === 0"), ("in", "true"), ("out", "true")):
+        browser.click_on(f"#{button}")
+        assert browser.value(test)
+    browser.click_on("#whole")
+    for number in (0, len(data["boxes"]) // 2, len(data["boxes"]) - 1):
+        box = data["boxes"][number]
+        browser.value(f"(b => {{ choose(b, true); scale = 40; clamp(); choose(null); choose(b, true); choose(null); }})(boxes[{number}])")
+        browser.value(f"scroll.scrollTop = laneTop[{box[0]}]")
+        browser.value(f"left = X0(boxes[{number}]) - 5, clamp(), draw()")
+        browser.click(*browser.value(f"{MIDDLE}(boxes[{number}])"))
+        assert browser.value(CHOSEN) == [box[0], box[1]], (browser.value(CHOSEN), box)
+    links = browser.value("[...document.querySelectorAll('#what button.ev')].map(b => +b.dataset.box)")
+    if links:
+        browser.click_on("#what button.ev")
+        assert browser.value("chosen.id") == links[0]
+    if browser.value("used.length"):
+        browser.click_on("#legend button.chip")
+        assert browser.value("only === used[0]")
+        browser.click_on("#legend button.chip")
+        assert browser.value("only") == -1
+    if data["stale"]:
+        browser.value("choose(null)")
+        browser.click_on("#stale")
+        assert browser.value("chosen.stale.length > 0")
+    browser.click_on("#help")
+    assert browser.value("el('keys').open")
+    browser.click_on("#keys button")
+    assert not browser.value("el('keys').open")
+    if browser.value("span() * 60 > room() * 1.5"):
+        browser.value("scale = 60, left = start(), clamp(), draw()")
+        x, y = browser.value("(r => [r.x + W / 2, r.y + 12])(main.getBoundingClientRect())")
+        browser.mouse("mousePressed", x, y, button="left", buttons=1, clickCount=1)
+        browser.mouse("mouseMoved", x - 200, y, button="left", buttons=1)
+        browser.mouse("mouseReleased", x - 200, y, button="left", clickCount=1)
+        assert browser.value("left > start()")
+        x, y = browser.value("(r => [r.right - 8, r.y + r.height / 2])(over.getBoundingClientRect())")
+        browser.click(x, y)
+        assert browser.value("left + room() / scale > start() + span() * 0.98")
+
+
+def check_contrast(browser, name):
+    """Texts have a contrast of 4.5 or more, lines of 3 or more."""
+    found = browser.value(CONTRAST)
+    for kind, least in (("texts", 4.5), ("lines", 3)):
+        for what, ratio in found[kind]:
+            assert ratio >= least, f"{name}: {what} has contrast {ratio:.2f}"
+    return min(ratio for _, ratio in found["texts"]), min(ratio for _, ratio in found["lines"])
+
+
+def main():
+    program = sys.argv[1]
+    with tempfile.TemporaryDirectory() as folder:
+        folder = Path(folder)
+        kept = Path(sys.argv[2]) if len(sys.argv) > 2 else folder
+        kept.mkdir(exist_ok=True)
+        texts = guests() | {"many": many(4, 12), "large": many(8, 1500)}
+        browser = Browser(folder / "profile")
+        for name, text in texts.items():
+            trace = record(program, folder, name, text, 3)
+            for form, words in (("", []), ("_part", ["--around", 0, 0, "--span", 12])) if name == "many" else (("", []),):
+                page = subprocess.run([program, "view", str(trace), *map(str, words)], check=True, stdout=subprocess.PIPE).stdout.decode("ascii")
+                path = folder / f"{name}{form}.html"
+                path.write_text(page, encoding="ascii")
+                data = DATA.search(page)[1]
+                assert re.fullmatch(r"[0-9,:\[\]{}\n-]*", NAMES.sub("", data)), name
+                data = json.loads(data)
+                for dark in (False, True):
+                    browser.open(path.as_uri(), dark)
+                    least = check_contrast(browser, name)
+                    browser.picture(kept / f"{name}{form}_{'dark' if dark else 'light'}.png")
+                if data["boxes"] and not form:
+                    check_keys(browser, data)
+                    check_mouse(browser, data)
+                assert not browser.errors, browser.errors
+                print(f"{name}{form}: {len(data['boxes'])} boxes, least contrast {least[0]:.1f} for text and {least[1]:.1f} for lines")
+        browser.close()
+    print("view page: no error, keys and clicks do what the help says, contrast suffices, the data is digits")
+
+
+if __name__ == "__main__":
+    main()
