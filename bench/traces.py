@@ -1,5 +1,5 @@
 #!/usr/bin/env python3
-"""Measures what a trace of a million events takes in `ir stale`, `ir who`, `ir diff` and `ir trace`.
+"""Measures what a trace of a million events takes in `ir stale`, `ir who`, `ir why`, `ir diff`, `ir view` and `ir trace`.
 
 python3 bench/traces.py IR
 
@@ -18,7 +18,8 @@ from guests import counted
 READ, WRITE = (["addi a0, zero, 0", f"addi a7, zero, {call}", "ecall", "addi a7, zero, 9", "ecall"] for call in (7, 8))
 GUEST = counted("reads and writes", READ + WRITE, 16).named("reads and writes", 8, 1)
 COMMANDS = ("trace rounds.trc", "stale rounds.trc", "who rounds.trc 0", "who rounds.trc 0 0", "who rounds.trc 0 524288",
-            "diff rounds.trc rounds.trc", "diff rounds.trc later.trc")
+            "diff rounds.trc rounds.trc", "diff rounds.trc later.trc", "why rounds.trc 7 131071", "view --json rounds.trc", "view --chrome rounds.trc",
+            "view --around 3 65536 rounds.trc", "stale rounds.trc --image g.img")
 
 
 def measured(program, arguments, folder):
@@ -40,10 +41,10 @@ def main():
         (folder / "g.s").write_text(GUEST.source())
         for arguments in ("asm g.s g.img", "record g.img rounds.trc --order 0", "record g.img later.trc --order 0x1000"):
             subprocess.run([program, *arguments.split()], cwd=folder, check=True, stdout=subprocess.DEVNULL)
-        print(f"{'':28} seconds      MB   MB written")
+        print(f"{'':36} seconds      MB   MB written")
         for arguments in COMMANDS:
             runs = [measured(program, arguments, folder) for _ in range(5)]
-            print(f"{arguments:28} {min(run[0] for run in runs):7.2f} {runs[0][1]:7.0f} {runs[0][2] / 1e6:12.1f}", flush=True)
+            print(f"{arguments:36} {min(run[0] for run in runs):7.2f} {runs[0][1]:7.0f} {runs[0][2] / 1e6:12.1f}", flush=True)
 
 
 if __name__ == "__main__":
