@@ -96,8 +96,8 @@ fn each_status_with_its_words(rt: HostRuntime) -> Result<(), Fail> {
 #[test]
 fn an_output_that_fails(rt: HostRuntime) -> Result<(), Fail> {
     let shelf = traces(&rt)?;
-    let (status, out, faults) = ran_at(&rt, &shelf, "ir why lost.trc 0 1", b"", 20, false)?;
-    assert_eq!(rt; (status, out.bytes.len()), (1, 20));
+    let (status, out, faults) = ran_at(&rt, &shelf, "ir why lost.trc 0 1", b"", 0, false)?;
+    assert_eq!(rt; (status, out.bytes.len()), (1, 0));
     assert_eq!(rt;
         faults.bytes.as_slice(),
         b"ir: standard output can't be written\n".as_slice()
