@@ -432,31 +432,33 @@ def read_alike(folder):
 
 
 def row_of(folder, guest, wrong):
-    """Of recordings by forty seeds: in how many a stale write is listed, how many there are in all, in how many the result is wrong, and in how
-    many of these one is listed."""
-    profile, counts = made(folder, "g", guest), [0] * 4
+    """Of recordings by forty seeds: in how many a stale write is listed and how many there are in all, the same of those that rest on what was read,
+    in how many the result is wrong, and in how many of these a stale write is listed, without the image and with it."""
+    profile, counts = made(folder, "g", guest), [0] * 7
     for seed in range(SEEDS):
         wants(f"seed {seed}", run(f"record g.img g.trc --profile {profile} --budget 100000 --chaos {seed}", folder).returncode, 0)
-        stale = int(written("stale g.trc", folder)[0].split()[1])
+        stale, rests = (int(written(f"stale g.trc{image}", folder)[0].split()[1]) for image in ("", " --image g.img"))
         words = said(folder, "g", ["end", "obj 0"]).decode().partition("words ")[2] if wrong else ""
         is_wrong = bool(words and re.match(wrong, words))
-        counts = [count + more for count, more in zip(counts, (stale > 0, stale, is_wrong, is_wrong and stale > 0))]
+        more = (stale > 0, stale, rests > 0, rests, is_wrong, is_wrong and stale > 0, is_wrong and rests > 0)
+        counts = [count + one for count, one in zip(counts, more)]
     return counts
 
 
 def stale_table(folder):
-    """The table of stale writes: each recording of a lost update or a check before an act that came to a wrong result has one. A guest that
-    never reads in one entry and writes in another has none."""
-    print(f"Of {SEEDS} recordings: with a stale write, stale writes in all, wrong, and wrong with a stale write")
+    """The table of stale writes: each recording of a lost update or a check before an act that came to a wrong result has one, which rests on
+    what was read. A guest that never reads in one entry and writes in another has none. Of no right result does a stale write rest on what was
+    read, but for a lost update that was lost for another one."""
+    print(f"Of {SEEDS} recordings: with a stale write, stale writes in all, the same of those that rest, wrong, wrong with a stale write, and with one that rests")
     for name, (guest, wrong) in (WRONG | LISTED | CLEAN).items():
-        counts = row_of(folder, guest, wrong)
+        listed, _, resting, _, bad, bad_listed, bad_resting = counts = row_of(folder, guest, wrong)
         print(f"  {name:26}" + "".join(f"{count:6}" for count in counts), flush=True)
         if name in WRONG:
-            wants(f"{name}: wrong recordings, and those with a stale write", (counts[2] > 0, counts[3]), (True, counts[2]))
+            wants(f"{name}: wrong recordings, and those with a stale write", (bad > 0, bad_listed, bad_resting), (True, bad, bad))
         if name in CLEAN:
-            wants(f"{name}: recordings with a stale write, and wrong ones", (counts[0], counts[2]), (0, 0))
+            wants(f"{name}: recordings with a stale write, and wrong ones", (listed, resting, bad), (0, 0, 0))
         if name == "account, looked at again":
-            wants(f"{name}: recordings with a stale write, and wrong ones", (counts[0] > 0, counts[2]), (True, 0))
+            wants(f"{name}: recordings with a stale write, and wrong ones", (listed > 0, resting, bad), (True, 0, 0))
 
 
 def prepare(folder):

@@ -64,22 +64,22 @@ next_by (Refused p) ks j o w l h = first_logged (Refused p) ks j o w l refl h
 next_by (Out p a v) ks j o w l h = There j (let same : j ≡ 0 + j = omega arith in same) (λ e. e) h
 
 -- the log of thread t from a step on
-log_own : {T : Type 0} (m : Machine T) (s : State T) (e : Step) (run : List Step) (t : ℕ) → e.0 ≡ t
+pub log_own : {T : Type 0} (m : Machine T) (s : State T) (e : Step) (run : List Step) (t : ℕ) → e.0 ≡ t
     → log m s (e ∷ run) t ≡ logged (label m s e) (log m (after m s e) run t)
 log_own m s e run t own = subst (λ z. log m s (e ∷ run) z ≡ logged (label m s e) (log m (after m s e) run z)) own (ap events (trail_same m s e run))
 
-log_other : {T : Type 0} (m : Machine T) (s : State T) (e : Step) (run : List Step) (t : ℕ) → (e.0 ≡ t → ⊥)
+pub log_other : {T : Type 0} (m : Machine T) (s : State T) (e : Step) (run : List Step) (t : ℕ) → (e.0 ≡ t → ⊥)
     → log m s (e ∷ run) t ≡ log m (after m s e) run t
 log_other m s e run t other = ap events (trail_other m s e run t (λ same. other (sym same)))
 
 -- ---- objects
 
-object_after : {T : Type 0} (m : Machine T) (s : State T) (e : Step) → (after m s e).objects (target (act m s e))
+pub object_after : {T : Type 0} (m : Machine T) (s : State T) (e : Step) → (after m s e).objects (target (act m s e))
     ≡ acted (act m s e) e.0 (s.objects (target (act m s e)))
 unfolding after
 object_after m s e = upd_same s.objects (target (act m s e)) (acted (act m s e) e.0 (s.objects (target (act m s e))))
 
-object_stays : {T : Type 0} (m : Machine T) (s : State T) (e : Step) (o : ℕ) → (o ≡ target (act m s e) → ⊥) → (after m s e).objects o ≡ s.objects o
+pub object_stays : {T : Type 0} (m : Machine T) (s : State T) (e : Step) (o : ℕ) → (o ≡ target (act m s e) → ⊥) → (after m s e).objects o ≡ s.objects o
 unfolding after
 object_stays m s e o ne = upd_other s.objects (target (act m s e)) o (acted (act m s e) e.0 (s.objects (target (act m s e)))) ne
 
@@ -138,12 +138,12 @@ leaves_cases (Store p i x) b u t o = inl refl
 leaves_cases Never b u t o = inl refl
 
 -- an entry is of the object that the act is about, and finds its version
-record IsEntering (q : Act) (b : Object) (o : ℕ) (a : Access) (v : ℕ) : Type 0 where
+pub record IsEntering (q : Act) (b : Object) (o : ℕ) (a : Access) (v : ℕ) : Type 0 where
   pub answer : ℕ
   pub does : q ≡ Entry o a answer
   pub version : b.version ≡ v
 
-entering : (q : Act) (b : Object) (o : ℕ) (a : Access) (v l : ℕ) → emitted q b ≡ In o a v l → IsEntering q b o a v
+pub entering : (q : Act) (b : Object) (o : ℕ) (a : Access) (v l : ℕ) → emitted q b ≡ In o a v l → IsEntering q b o a v
 entering Silent b o a v l e = absurd (cc e)
 entering (Result k x) b o a v l e = absurd (cc e)
 entering (Entry p Reading x) b o a v l e =
@@ -189,18 +189,18 @@ entry_held (Get p i) r o a x h e k = absurd (cc e)
 entry_held (Put p i y) r o a x h e k = absurd (cc e)
 entry_held Done r o a x h e k = absurd (cc e)
 
-exit_inside : {T : Type 0} (m : Machine T) → IsLawful m → (s : State T) → Good m s → (e : Step) (o : ℕ) (a : Access) → act m s e ≡ Exit o a
+pub exit_inside : {T : Type 0} (m : Machine T) → IsLawful m → (s : State T) → Good m s → (e : Step) (o : ℕ) (a : Access) → act m s e ≡ Exit o a
     → (s.objects o).inside e.0 ≡ Some a
 exit_inside m law s good e o a is = good.linked e.0 o ∙ exit_held (asked m s e.0) e.1 o a (m.held (s.now e.0)) is (law.holds (s.now e.0))
 
-entry_inside : {T : Type 0} (m : Machine T) → IsLawful m → (s : State T) → Good m s → (e : Step) (o : ℕ) (a : Access) (x : ℕ)
+pub entry_inside : {T : Type 0} (m : Machine T) → IsLawful m → (s : State T) → Good m s → (e : Step) (o : ℕ) (a : Access) (x : ℕ)
     → act m s e ≡ Entry o a x → (s.objects o).inside e.0 ≡ None
 entry_inside m law s good e o a x is = good.linked e.0 o ∙ entry_held (asked m s e.0) e.1 o a x (m.held (s.now e.0)) is (law.holds (s.now e.0))
 
 -- ---- one step
 
 -- a step of thread t that doesn't enter object o leaves it, or changes neither its version nor how t is inside
-own_step : {T : Type 0} (m : Machine T) (s : State T) (e : Step) (t o : ℕ) → e.0 ≡ t → (Enters o (label m s e) → ⊥)
+pub own_step : {T : Type 0} (m : Machine T) (s : State T) (e : Step) (t o : ℕ) → e.0 ≡ t → (Enters o (label m s e) → ⊥)
     → ((((after m s e).objects o).version ≡ (s.objects o).version) × (((after m s e).objects o).inside t ≡ (s.objects o).inside t))
     ⊎ ((a : Access) × (act m s e ≡ Exit o a))
 own_step m s e t o own free = elim (cases_eq (target (act m s e)) o) [
@@ -216,7 +216,7 @@ own_step m s e t o own free = elim (cases_eq (target (act m s e)) o) [
 ]
 
 -- a step of another thread
-other_step : {T : Type 0} (m : Machine T) (s : State T) (e : Step) (t o : ℕ) → (e.0 ≡ t → ⊥)
+pub other_step : {T : Type 0} (m : Machine T) (s : State T) (e : Step) (t o : ℕ) → (e.0 ≡ t → ⊥)
     → (((after m s e).objects o).version ≡ (s.objects o).version + leaves_one t o e.0 (label m s e))
     × (((after m s e).objects o).inside t ≡ (s.objects o).inside t)
 other_step m s e t o other = elim (cases_eq (target (act m s e)) o) [

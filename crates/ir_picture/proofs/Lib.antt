@@ -24,4 +24,5 @@ mod Folded
 mod StaleReads
 mod OfTrace
 mod ViewAnswers
+mod Unrolled
 pub mod CallerLemmas

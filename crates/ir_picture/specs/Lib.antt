@@ -1,4 +1,5 @@
 pub mod Needs
+pub mod Runs
 pub mod Boxes
 pub mod Boxing
 pub mod Places

@@ -32,7 +32,7 @@ pub use asked::{Around, Asked, Form};
 pub use circle::Circle;
 pub use event_box::EventBox;
 pub use finding::box_of;
-pub use laws::needs_are_left;
+pub use laws::{needs_are_left, runs_have_no_circle};
 pub use limits::MOST_BOXES;
 pub use picture::Picture;
 pub use pictures::picture_of;

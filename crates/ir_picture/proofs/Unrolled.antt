@@ -1,0 +1,342 @@
+-- The events of a run, in its order, each come after all that they need.
+use Rattle.std.proofs.Common.{◌≡◌, ℕ, suc, zero, ◌+◌, ◌-◌, ◌<◌, ◌≤◌, ◌⊎◌, inl, inr, Bool, cond, eqb, List, [], ◌∷◌, map, length, drop, Some, None, refl, sym, ap, ◌∙◌, subst, arith, eq-eqb, ne_eqb}
+use Rattle.std.proofs.lemmas.Bool.{cases_eq, cases_lt}
+use Rattle.std.proofs.lemmas.Option.{same_Some, none-some}
+use Rattle.ir_runs.specs.Machine.{Act, Silent, Result, Entry, Refusal, Exit, Load, Store, Never, Machine, IsLawful}
+use Rattle.ir_runs.specs.Labels.{Label, Quiet, Answer, In, Refused, Out, logged}
+use Rattle.ir_runs.specs.declared.access.Access.{Access}
+use Rattle.ir_runs.specs.declared.access.Access.TheVariants.{Reading, Writing}
+use Rattle.ir_runs.specs.Object.{Object, target, Admits, acted}
+use Rattle.ir_runs.specs.Run.{act, State, Step, Can, after, label, IsRun, log, IsStart}
+use Rattle.ir_runs.specs.Cuts.{At}
+use Rattle.ir_runs.proofs.CallerLemmas.{upd_same, Good, stays_good, start_good}
+use Rattle.ir_thread.specs.Instance.{thread_machine}
+use Rattle.ir_thread.specs.State as thread
+use Rattle.ir_thread.proofs.CallerLemmas.{lawful}
+use Rattle.ir_log.specs.Logging.{label_of}
+use Rattle.ir_log.specs.declared.event.Event.{Event}
+use Rattle.ir_log.specs.declared.event.Event.TheVariants as variant
+use Rattle.ir_trace.specs.Recorded.{Recorded}
+use Rattle.ir_trace.specs.TraceOf.{recorded_thread}
+use Rattle.ir_past.specs.Past.{event_at}
+use Rattle.ir_past.specs.Returning.{leaves_one}
+use Rattle.ir_past.proofs.CallerLemmas.{at_label, Enters, log_own, log_other, object_after, object_stays, entering, exit_inside, entry_inside, own_step, other_step}
+use Rattle.ir_picture.specs.Needs.{IsEntryAt, Needs, placed, CanFollow, IsOrder, HasNoCircle}
+
+-- ---- versions only grow
+
+acted_grows : (q : Act) (t : ℕ) (b : Object) → b.version ≤ (acted q t b).version
+acted_grows Silent t b = omega arith
+acted_grows (Result k x) t b = omega arith
+acted_grows (Entry o a x) t b = omega arith
+acted_grows (Refusal o) t b = omega arith
+acted_grows (Exit o Reading) t b = omega arith
+acted_grows (Exit o Writing) t b = let more : b.version ≤ suc b.version = omega arith in more
+acted_grows (Load o i) t b = omega arith
+acted_grows (Store o i x) t b = omega arith
+acted_grows Never t b = omega arith
+
+grows : {T : Type 0} (m : Machine T) (s : State T) (e : Step) (o : ℕ) → (s.objects o).version ≤ ((after m s e).objects o).version
+grows m s e o = elim (cases_eq (target (act m s e)) o) [
+  | inl here ↦ subst (λ z. (s.objects z).version ≤ ((after m s e).objects z).version) here
+      (let same = ap (λ (b : Object). b.version) (object_after m s e) in
+      let more = acted_grows (act m s e) e.0 (s.objects (target (act m s e))) in omega (arith, same, more))
+  | inr ne ↦ let same = ap (λ (b : Object). b.version) (object_stays m s e o (λ z. ne (sym z))) in omega (arith, same)
+]
+
+-- ---- labels of a log
+
+-- a label is at the head of what is logged, or behind it
+head_or_tail : (k : Label) (ks : List Label) (n : ℕ) (x : Label) → At (logged k ks) n x → (k ≡ x) ⊎ ((i : ℕ) × At ks i x)
+head_or_tail Quiet ks n x at = inr (n, at)
+head_or_tail (Answer c v) ks zero x at = inl at
+head_or_tail (Answer c v) ks (suc n) x at = inr (n, at)
+head_or_tail (In p a v l) ks zero x at = inl at
+head_or_tail (In p a v l) ks (suc n) x at = inr (n, at)
+head_or_tail (Refused p) ks zero x at = inl at
+head_or_tail (Refused p) ks (suc n) x at = inr (n, at)
+head_or_tail (Out p a v) ks n x at = inr (n, at)
+
+-- the version that an entry finds is the object's
+found : {T : Type 0} (m : Machine T) (s : State T) (e : Step) (o : ℕ) (a : Access) (v l : ℕ) → label m s e ≡ In o a v l → (s.objects o).version ≡ v
+found m s e o a v l is =
+    let h = entering (act m s e) (s.objects (target (act m s e))) o a v l is in
+    ap (λ z. (s.objects (target z)).version) (sym h.does) ∙ h.version
+
+-- no later write entry is at a version below the object's
+never_made : {T : Type 0} (m : Machine T) (s : State T) (run : List Step) (o v u n l : ℕ) → v < (s.objects o).version
+    → At (log m s run u) n (In o Writing v l) → ⊥
+never_made m s [] o v u n l less at = at
+never_made m s (e ∷ run) o v u n l less at = elim (cases_eq e.0 u) [
+  | inl own ↦ elim (head_or_tail (label m s e) (log m (after m s e) run u) n (In o Writing v l)
+      (subst (λ (ks : List Label). At ks n (In o Writing v l)) (log_own m s e run u own) at)) [
+        | inl head ↦ let same = found m s e o Writing v l head in omega (arith, less, same)
+        | inr tail ↦ never_made m (after m s e) run o v u tail.0 l (let more = grows m s e o in omega (arith, less, more)) tail.1
+      ]
+  | inr other ↦ never_made m (after m s e) run o v u n l (let more = grows m s e o in omega (arith, less, more))
+      (subst (λ (ks : List Label). At ks n (In o Writing v l)) (log_other m s e run u other) at)
+]
+
+-- ---- a version that is written over is read no more
+
+-- the object is past version v, or at it with thread t inside for writing
+abbrev IsOver : ℕ → ℕ → Object → Type 0
+IsOver v t b = (v < b.version) ⊎ ((b.version ≡ v) × (b.inside t ≡ Some Writing))
+
+enters_cases : (k : Label) (o : ℕ) → ((a : Access) × (v l : ℕ) × (k ≡ In o a v l)) ⊎ (Enters o k → ⊥)
+enters_cases Quiet o = inr (λ z. z)
+enters_cases (Answer c x) o = inr (λ z. z)
+enters_cases (In p a v l) o = elim (cases_eq p o) [
+  | inl same ↦ inl (a, v, l, ap (λ z. In z a v l) same)
+  | inr ne ↦ inr ne
+]
+enters_cases (Refused p) o = inr (λ z. z)
+enters_cases (Out p a v) o = inr (λ z. z)
+
+over_stays : {T : Type 0} (m : Machine T) → IsLawful m → (s : State T) → Good m s → (e : Step) (o v t : ℕ) → IsOver v t (s.objects o)
+    → IsOver v t ((after m s e).objects o)
+over_stays m law s good e o v t (inl less) = inl (let more = grows m s e o in omega (arith, less, more))
+over_stays m law s good e o v t (inr is) = elim (cases_eq e.0 t) [
+  | inl own ↦ elim (enters_cases (label m s e) o) [
+    | inl entry ↦ let h = entering (act m s e) (s.objects (target (act m s e))) o entry.0 entry.1 entry.2 entry.3 in
+        absurd (none-some Writing (sym (subst (λ z. (s.objects o).inside z ≡ None) own (entry_inside m law s good e o entry.0 h.answer h.does)) ∙ is.1))
+    | inr none ↦ elim (own_step m s e t o own none) [
+      | inl same ↦ inr (same.0 ∙ is.0, same.1 ∙ is.1)
+      | inr exit ↦ inl (left exit.0 exit.1 (same_Some exit.0 Writing
+          (sym (subst (λ z. (s.objects o).inside z ≡ Some exit.0) own (exit_inside m law s good e o exit.0 exit.1)) ∙ is.1)))
+    ]
+  ]
+  | inr other ↦ let step = other_step m s e t o other in
+      elim (cases_eq (leaves_one t o e.0 (label m s e)) 0) [
+        | inl none ↦ inr ((let same = step.0 in let before = is.0 in omega (arith, same, before, none)), step.1 ∙ is.1)
+        | inr some ↦ inl (let same = step.0 in let before = is.0 in omega (arith, same, before, some))
+      ]
+]
+  where
+    left : (a : Access) → act m s e ≡ Exit o a → a ≡ Writing → v < ((after m s e).objects o).version
+    left a does same =
+        let here : act m s e ≡ Exit o Writing = does ∙ ap (Exit o) same in
+        let object : (after m s e).objects o ≡ acted (Exit o Writing) e.0 (s.objects o) =
+        subst (λ q. (after m s e).objects (target q) ≡ acted q e.0 (s.objects (target q))) here (object_after m s e) in
+        let version : ((after m s e).objects o).version ≡ suc (s.objects o).version = ap (λ (b : Object). b.version) object in
+        let before = is.0 in
+        omega (arith, version, before)
+
+never_read : {T : Type 0} (m : Machine T) → IsLawful m → (s : State T) → Good m s → (run : List Step) → IsRun m s run → (o v t u n : ℕ)
+    → IsOver v t (s.objects o) → At (log m s run u) n (In o Reading v 0) → ⊥
+never_read m law s good [] ok o v t u n over at = at
+never_read m law s good (e ∷ run) ok o v t u n over at = elim (cases_eq e.0 u) [
+  | inl own ↦ elim (head_or_tail (label m s e) (log m (after m s e) run u) n (In o Reading v 0)
+      (subst (λ (ks : List Label). At ks n (In o Reading v 0)) (log_own m s e run u own) at)) [
+        | inl head ↦ by head over
+        | inr tail ↦ never_read m law (after m s e) (stays_good m law s good e ok.0) run ok.1 o v t u tail.0 (over_stays m law s good e o v t over) tail.1
+      ]
+  | inr other ↦ never_read m law (after m s e) (stays_good m law s good e ok.0) run ok.1 o v t u n (over_stays m law s good e o v t over)
+      (subst (λ (ks : List Label). At ks n (In o Reading v 0)) (log_other m s e run u other) at)
+]
+  where
+    by : label m s e ≡ In o Reading v 0 → IsOver v t (s.objects o) → ⊥
+    by head (inl less) = let same = found m s e o Reading v 0 head in omega (arith, less, same)
+    by head (inr is) =
+        let h = entering (act m s e) (s.objects (target (act m s e))) o Reading v 0 head in
+        subst (λ q. Admits m q (s.objects (target q))) h.does ok.0 t is.1
+
+-- behind a write entry the version that it found is read no more
+over_behind : {T : Type 0} (m : Machine T) (s : State T) (e : Step) (o v l : ℕ) → label m s e ≡ In o Writing v l
+    → IsOver v e.0 ((after m s e).objects o)
+over_behind m s e o v l is =
+    let h = entering (act m s e) (s.objects (target (act m s e))) o Writing v l is in
+    let object : (after m s e).objects o ≡ acted (Entry o Writing h.answer) e.0 (s.objects o) =
+    subst (λ q. (after m s e).objects (target q) ≡ acted q e.0 (s.objects (target q))) h.does (object_after m s e) in
+    inr (
+      ap (λ (b : Object). b.version) object ∙ found m s e o Writing v l is,
+      ap (λ (b : Object). b.inside e.0) object ∙ upd_same (s.objects o).inside e.0 (Some Writing),
+    )
+
+-- ---- what is left of a log
+
+at_drop : {A : Type 0} (xs : List A) (k n : ℕ) (x : A) → At (drop k xs) n x → At xs (k + n) x
+at_drop xs zero n x at = let same : n ≡ 0 + n = omega arith in subst (λ z. At xs z x) same at
+at_drop [] (suc k) n x at = absurd at
+at_drop (y ∷ ys) (suc k) n x at =
+    let same : suc (k + n) ≡ suc k + n = omega arith in subst (λ z. At (y ∷ ys) z x) same (at_drop ys k n x at)
+
+drop_at : {A : Type 0} (xs : List A) (k n : ℕ) (x : A) → At xs (k + n) x → At (drop k xs) n x
+drop_at xs zero n x at = let same : 0 + n ≡ n = omega arith in subst (λ z. At xs z x) same at
+drop_at [] (suc k) n x at = absurd at
+drop_at (y ∷ ys) (suc k) n x at =
+    drop_at ys k n x (let same : suc k + n ≡ suc (k + n) = omega arith in subst (λ z. At (y ∷ ys) z x) same at)
+
+one_at : {A : Type 0} (xs : List A) (n : ℕ) (x y : A) → At xs n x → At xs n y → x ≡ y
+one_at [] n x y a b = absurd a
+one_at (z ∷ zs) zero x y a b = sym a ∙ b
+one_at (z ∷ zs) (suc n) x y a b = one_at zs n x y a b
+
+drop_more : {A : Type 0} (xs ys : List A) (k : ℕ) (x : A) → drop k xs ≡ x ∷ ys → drop (suc k) xs ≡ ys
+drop_more [] ys zero x is = absurd (cc is)
+drop_more [] ys (suc k) x is = absurd (cc is)
+drop_more (z ∷ zs) ys zero x is = let same : zs ≡ ys = cc is in same
+drop_more (z ∷ zs) ys (suc k) x is = drop_more zs ys k x is
+
+drop_within : {A : Type 0} (xs ys : List A) (k : ℕ) (x : A) → drop k xs ≡ x ∷ ys → k < length xs
+drop_within [] ys zero x is = absurd (cc is)
+drop_within [] ys (suc k) x is = absurd (cc is)
+drop_within (z ∷ zs) ys zero x is = omega arith
+drop_within (z ∷ zs) ys (suc k) x is = let less = drop_within zs ys k x is in omega (arith, less)
+
+drop_all : {A : Type 0} (xs : List A) (k : ℕ) → drop k xs ≡ [] → length xs ≤ k
+drop_all [] k is = omega arith
+drop_all (z ∷ zs) zero is = absurd (cc is)
+drop_all (z ∷ zs) (suc k) is = let less = drop_all zs k is in omega (arith, less)
+
+map_size : (es : List Event) → length (map label_of es) ≡ length es
+map_size [] = refl
+map_size (e ∷ es) = ap suc (map_size es)
+
+-- the labels of thread t
+abbrev labels : Recorded → ℕ → List Label
+labels r t = map label_of (recorded_thread r t).events
+
+-- ---- the order of a run
+
+-- what is placed, and what the run has yet to log
+record IsUnrolled {T : Type 0} (m : Machine T) (s : State T) (run : List Step) (r : Recorded) (order : List ℕ) : Type 0 where
+  pub is : IsOrder r order
+  pub left : (t : ℕ) → drop (placed order t) (labels r t) ≡ log m s run t
+  pub within : (t : ℕ) → placed order t ≤ length (recorded_thread r t).events
+
+-- nothing is logged, or the label
+logged_cases : (k : Label) → ((ks : List Label) → logged k ks ≡ ks) ⊎ ((ks : List Label) → logged k ks ≡ k ∷ ks)
+logged_cases Quiet = inl (λ ks. refl)
+logged_cases (Answer c x) = inr (λ ks. refl)
+logged_cases (In p a v l) = inr (λ ks. refl)
+logged_cases (Refused p) = inr (λ ks. refl)
+logged_cases (Out p a v) = inl (λ ks. refl)
+
+-- a step that logs nothing
+unrolled_quiet : {T : Type 0} (m : Machine T) (s : State T) (e : Step) (run : List Step) (r : Recorded) (order : List ℕ)
+    → ((ks : List Label) → logged (label m s e) ks ≡ ks) → IsUnrolled m s (e ∷ run) r order → IsUnrolled m (after m s e) run r order
+unrolled_quiet m s e run r order quiet h = record { is = h.is; left = left; within = h.within }
+  where
+    left : (t : ℕ) → drop (placed order t) (labels r t) ≡ log m (after m s e) run t
+    left t = h.left t ∙ elim (cases_eq e.0 t) [
+      | inl own ↦ log_own m s e run t own ∙ quiet (log m (after m s e) run t)
+      | inr other ↦ log_other m s e run t other
+    ]
+
+-- the next event of a step's thread is logged as the step's label, and all that it needs is placed
+next_follows : {T : Type 0} (m : Machine T) → IsLawful m → (s : State T) → Good m s → (e : Step) → Can m s e → (run : List Step)
+    → IsRun m (after m s e) run → (r : Recorded) (order : List ℕ) → ((ks : List Label) → logged (label m s e) ks ≡ label m s e ∷ ks)
+    → IsUnrolled m s (e ∷ run) r order → CanFollow r (placed order) e.0
+next_follows m law s good e can run ok r order logs h = record { there = there; needs = needs }
+  where
+    left : drop (placed order e.0) (labels r e.0) ≡ label m s e ∷ log m (after m s e) run e.0
+    left = h.left e.0 ∙ log_own m s e run e.0 refl ∙ logs (log m (after m s e) run e.0)
+
+    there : placed order e.0 < length (recorded_thread r e.0).events
+    there = let less = drop_within (labels r e.0) (log m (after m s e) run e.0) (placed order e.0) (label m s e) left in
+        let size = map_size (recorded_thread r e.0).events in omega (arith, less, size)
+
+    -- the label of the next event
+    is_label : (ev : Event) → event_at r e.0 (placed order e.0) ≡ Some ev → label m s e ≡ label_of ev
+    is_label ev at = one_at (labels r e.0) (placed order e.0) (label m s e) (label_of ev)
+        (let same : placed order e.0 + 0 ≡ placed order e.0 = omega arith in
+        subst (λ z. At (labels r e.0) z (label m s e)) same (at_drop (labels r e.0) (placed order e.0) 0 (label m s e)
+        (subst (λ (ks : List Label). At ks 0 (label m s e)) (sym left) refl)))
+        (at_label (recorded_thread r e.0).events (placed order e.0) ev at)
+
+    -- an event that isn't placed is logged by this step or a later one
+    later : (u j : ℕ) (ev : Event) → event_at r u j ≡ Some ev → placed order u ≤ j
+        → (label m s e ≡ label_of ev) ⊎ ((n : ℕ) × At (log m (after m s e) run u) n (label_of ev))
+    later u j ev at past =
+        let d : ℕ = j - placed order u in
+        let same : j ≡ placed order u + d = omega (arith, past) in
+        let here = subst (λ (ks : List Label). At ks d (label_of ev)) (h.left u)
+        (drop_at (labels r u) (placed order u) d (label_of ev) (subst (λ z. At (labels r u) z (label_of ev)) same
+        (at_label (recorded_thread r u).events j ev at))) in
+        elim (cases_eq e.0 u) [
+          | inl own ↦ head_or_tail (label m s e) (log m (after m s e) run u) d (label_of ev)
+              (subst (λ (ks : List Label). At ks d (label_of ev)) (log_own m s e run u own) here)
+          | inr other ↦ inr (d, subst (λ (ks : List Label). At ks d (label_of ev)) (log_other m s e run u other) here)
+        ]
+
+    -- the step enters at a version whose maker is later: it can't be
+    made : (o v l : ℕ) (a : Access) (x : ℕ) → label m s e ≡ In o a (suc v) x
+        → (u : ℕ) → (label m s e ≡ In o Writing v l) ⊎ ((n : ℕ) × At (log m (after m s e) run u) n (In o Writing v l)) → ⊥
+    made o v l a x is u (inl head) =
+        let one = found m s e o a (suc v) x is in let two = found m s e o Writing v l head in omega (arith, one, two)
+    made o v l a x is u (inr tail) = never_made m (after m s e) run o v u tail.0 l
+        (let one = found m s e o a (suc v) x is in let more = grows m s e o in omega (arith, one, more)) tail.1
+
+    read : (o v l : ℕ) → label m s e ≡ In o Writing v l
+        → (u : ℕ) → (label m s e ≡ In o Reading v 0) ⊎ ((n : ℕ) × At (log m (after m s e) run u) n (In o Reading v 0)) → ⊥
+    read o v l is u (inl head) = let same : In o Writing v l ≡ In o Reading v 0 = sym is ∙ head in
+        let access : Writing ≡ Reading = cc same in cc access
+    read o v l is u (inr tail) = never_read m law (after m s e) (stays_good m law s good e can) run ok o v e.0 u tail.0
+        (over_behind m s e o v l is) tail.1
+
+    entry_label : (o v : ℕ) → IsEntryAt r e.0 (placed order e.0) o v → (a : Access) × (x : ℕ) × (label m s e ≡ In o a v x)
+    entry_label o v (inl is) = (Reading, 0, is_label (variant.Read o v) is)
+    entry_label o v (inr (l, is)) = (Writing, l, is_label (variant.Write o v l) is)
+
+    unplaced : (u j : ℕ) → Needs r e.0 (placed order e.0) u j → placed order u ≤ j → ⊥
+    unplaced u j (inl maker) past =
+        let own = entry_label maker.object (suc maker.version) maker.entry in
+        made maker.object maker.version maker.readers own.0 own.1 own.2 u
+        (later u j (variant.Write maker.object maker.version maker.readers) maker.made past)
+    unplaced u j (inr reader) past =
+        read reader.object reader.version reader.readers
+        (is_label (variant.Write reader.object reader.version reader.readers) reader.write) u
+        (later u j (variant.Read reader.object reader.version) reader.read past)
+
+    needs : (u j : ℕ) → Needs r e.0 (placed order e.0) u j → j < placed order u
+    needs u j need = elim (cases_lt j (placed order u)) [
+      | inl less ↦ less
+      | inr past ↦ absurd (unplaced u j need past)
+    ]
+
+-- a step that logs its thread's next event
+unrolled_more : {T : Type 0} (m : Machine T) (s : State T) (e : Step) (run : List Step) (r : Recorded) (order : List ℕ)
+    → ((ks : List Label) → logged (label m s e) ks ≡ label m s e ∷ ks) → IsUnrolled m s (e ∷ run) r order → CanFollow r (placed order) e.0
+    → IsUnrolled m (after m s e) run r (e.0 ∷ order)
+unrolled_more m s e run r order logs h follows = record { is = (h.is, follows); left = left; within = within }
+  where
+    own_count : (t : ℕ) → e.0 ≡ t → placed (e.0 ∷ order) t ≡ suc (placed order t)
+    own_count t own = let one : cond (eqb e.0 t) 1 0 ≡ 1 = ap {B = ℕ} (λ (c : Bool). cond c 1 0) (eq-eqb e.0 t own) in omega (arith, one)
+
+    other_count : (t : ℕ) → (e.0 ≡ t → ⊥) → placed (e.0 ∷ order) t ≡ placed order t
+    other_count t other = let none : cond (eqb e.0 t) 1 0 ≡ 0 = ap {B = ℕ} (λ (c : Bool). cond c 1 0) (ne_eqb e.0 t other) in omega (arith, none)
+
+    left : (t : ℕ) → drop (placed (e.0 ∷ order) t) (labels r t) ≡ log m (after m s e) run t
+    left t = elim (cases_eq e.0 t) [
+      | inl own ↦ ap (λ k. drop k (labels r t)) (own_count t own)
+          ∙ drop_more (labels r t) (log m (after m s e) run t) (placed order t) (label m s e)
+          (h.left t ∙ log_own m s e run t own ∙ logs (log m (after m s e) run t))
+      | inr other ↦ ap (λ k. drop k (labels r t)) (other_count t other) ∙ h.left t ∙ log_other m s e run t other
+    ]
+
+    within : (t : ℕ) → placed (e.0 ∷ order) t ≤ length (recorded_thread r t).events
+    within t = elim (cases_eq e.0 t) [
+      | inl own ↦ let count = own_count t own in
+          let less = subst (λ z. placed order z < length (recorded_thread r z).events) own follows.there in omega (arith, count, less)
+      | inr other ↦ let count = other_count t other in let before = h.within t in omega (arith, count, before)
+    ]
+
+unroll : {T : Type 0} (m : Machine T) → IsLawful m → (s : State T) → Good m s → (run : List Step) → IsRun m s run → (r : Recorded) (order : List ℕ)
+    → IsUnrolled m s run r order → HasNoCircle r
+unroll m law s good [] ok r order h = (order, h.is, all)
+  where
+    all : (t : ℕ) → placed order t ≡ length (recorded_thread r t).events
+    all t = let past = drop_all (labels r t) (placed order t) (h.left t) in
+        let size = map_size (recorded_thread r t).events in let within = h.within t in omega (arith, past, size, within)
+unroll m law s good (e ∷ run) ok r order h = elim (logged_cases (label m s e)) [
+  | inl quiet ↦ unroll m law (after m s e) (stays_good m law s good e ok.0) run ok.1 r order (unrolled_quiet m s e run r order quiet h)
+  | inr logs ↦ unroll m law (after m s e) (stays_good m law s good e ok.0) run ok.1 r (e.0 ∷ order)
+      (unrolled_more m s e run r order logs h (next_follows m law s good e ok.0 run ok.1 r order logs h))
+]
+
+pub no_circle : (code : List ℕ) (s : State thread.State) → IsStart (thread_machine code) s → (run : List Step) → IsRun (thread_machine code) s run
+    → (r : Recorded) → ((t : ℕ) → log (thread_machine code) s run t ≡ map label_of (recorded_thread r t).events) → HasNoCircle r
+no_circle code s start run ok r logs =
+    unroll (thread_machine code) (lawful code) s (start_good (thread_machine code) s start) run ok r []
+    (record { is = tt; left = λ t. sym (logs t); within = λ t. omega arith })
