@@ -1,13 +1,17 @@
-use Rattle.std.proofs.Common.{rules, ◌≡◌, ◌≢◌, ℕ, List, IfOk, IfErr, false, ◌+◌, ◌-◌, ◌*◌, ◌<◌, ◌≤◌, length, ◌/◌, ◌%◌, Bool, true, nat_eq, nat_lt, [], ◌∷◌, ◌++◌, slice_index_or, slice_set, bit_and, bit_or, Fits, w8, w32, w64, Bor, MutBor}
-use Rattle.ir_files.specs.Writers.{writer_of, Reports, fault_text}
+use Rattle.std.proofs.Common.{inl, refl}
+use Rattle.std.proofs.lemmas.Result.{err_from_is_err_and}
 use Rattle.ir_files.specs.declared.exit_status.ExitStatus.TheVariants as status
-use Rattle.ir_past.specs.Answers.{Answered, NotAnswered, fault_words}
-use Rattle.ir_past.specs.declared.past_err.PastErr.{PastErr}
-use Rattle.ir_fit_run.specs.Opened.{IsFit}
+use Rattle.ir_files.proofs.CallerLemmas.{if_err}
+use Rattle.ir_past.specs.declared.past_err.PastErr.TheVariants.{Write}
+use Rattle.ir_past.proofs.CallerLemmas.{stopped}
 use Rattle.ir_fit_run.specs.Answers.{IsAnswerOf}
 use Rattle.ir_rests.specs.Lines.{IsRestsAnswer}
 use Rattle.ir_rests.proofs.run.show_fitted.Goals as goal
 
--- src/run.rt:38:5
 pub returns-in_err-write_all-clause-fails : goal.returns-in_err-write_all-clause-fails
-returns-in_err-write_all-clause-fails g c = ?
+returns-in_err-write_all-clause-fails g c =
+    let p = err_from_is_err_and c.from_residual-in_err-write_all.result c.from_residual-in_err-write_all.ensures.1 in
+    if_err _ c.from_residual-in_err-write_all.result Write p.0 p.1 p.2
+    (λ i t fits. stopped (IsAnswerOf IsRestsAnswer i t) status.Done c.in_ok-text.text.items Write _
+    (inl (record { fitted = c.args.fitted.now; fits = fits; status = refl; answer = c.in_ok-text.ensures }))
+    (c.in_err-write_all.ensures.prefix, c.in_err-write_all.ensures.err))
