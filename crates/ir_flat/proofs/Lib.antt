@@ -10,3 +10,4 @@ mod Replies
 mod Lone
 mod Bounded
 pub mod CallerLemmas
+mod Renewed

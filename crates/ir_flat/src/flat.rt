@@ -61,6 +61,31 @@ impl<'a> Flat<'a> {
         })
     }
 
+    /// Becomes the guest before its first step, as `start` makes it. It takes no memory if it has as many threads and objects as the guest.
+    ///
+    /// # Errors
+    /// Out of memory.
+    pub fn restart(
+        &mut self,
+        alloc: Global,
+        image: &'a Image,
+        budget: u64,
+        profile: Profile,
+    ) -> Result<(), AllocError>
+        requires budget { budget ≤ most_budget }
+        requires allowed { IsAllowed profile image.now }
+        ensures { OnOk result (self.new ≡ start_flat image.now budget profile) }
+    {
+        let threads = self.parts.threads().len();
+        let objects = self.parts.objects().len();
+        if threads != image.entries().len() || objects != image.object_count() {
+            *self = Flat::start(alloc, image, budget, profile)?;
+            return Ok(());
+        }
+        self.parts.restart(image, budget, profile);
+        Ok(())
+    }
+
     /// These threads and objects of a guest with this code.
     pub fn new(code: &'a Code, threads: Vec<Thread>, objects: Vec<Object>) -> Flat<'a>
         requires { IsFlat (record { code = code.now; threads = threads.items; objects = objects.items }) }

@@ -1,21 +1,22 @@
 //! The threads and objects of a guest, each for itself.
 
-ghost use Rattle.ir_flat.specs.Flat.{Flat, IsFlat, thread_of, cell_of};
+ghost use Rattle.ir_flat.specs.Flat.{Flat, IsFlat, thread_of, cell_of, start_flat, HaveRoom};
 ghost use Rattle.ir_flat.specs.Next.{with_thread, with_object, answered, next, next_try, MayStep, MayTry};
-ghost use Rattle.ir_image.specs.Guest.{most_object_words};
+ghost use Rattle.ir_image.specs.Guest.{most_object_words, object_count};
 ghost use Rattle.ir_object.specs.Cell.{Admitted, CanLeave};
 ghost use Rattle.ir_object.specs.Word.{IsFields, entered, left_by};
-ghost use Rattle.ir_thread.specs.Calls.{ask_of, run_of, after_reply, Permits, Suits};
+ghost use Rattle.ir_thread.specs.Calls.{ask_of, run_of, after_reply, Permits, Suits, most_budget};
 ghost use Rattle.ir_thread.specs.Instance.{is_result};
 ghost use Rattle.ir_thread.specs.Private.{NoInstruction, UnmarkedSteps, StopsUnmarked};
 ghost use Rattle.ir_thread.specs.declared.ask.Ask.TheVariants.{Private, Try};
 ghost use Rattle.std.specs.Prelude.{ℕ, ◌≡◌, ◌<◌, ◌≤◌, ◌≢◌, ◌↔◌, true, length, slice_index, slice_set, IsTrue, IfOk};
 
-use ir_image::Code;
+use crate::start;
+use ir_image::{Code, Image};
 use ir_mach::MarkedCode;
 use ir_object::Object;
 use ir_runs::{Access, EnvKind};
-use ir_thread::{Ask, Reply, Thread};
+use ir_thread::{Ask, Profile, Reply, Thread};
 use std::alloc::{AllocError, Global};
 use std::marker::Model;
 
@@ -61,6 +62,19 @@ impl<'a> Parts<'a> {
             ..
         } = self;
         (threads, objects)
+    }
+
+    // The guest before its first step, in the memory that there is.
+    pub fn restart(&mut self, image: &'a Image, budget: u64, profile: Profile)
+        requires budget { budget ≤ most_budget }
+        requires threads { length self.old.threads ≡ length image.now.entries }
+        requires objects { length self.old.objects ≡ object_count image.now }
+        requires room { HaveRoom self.old.threads (object_count image.now) }
+        ensures { self.new ≡ start_flat image.now budget profile }
+    {
+        self.code = image.code();
+        start::restart_threads(&mut self.threads, image, budget, profile);
+        start::restart_objects(&mut self.objects, image);
     }
 
     pub fn code(&self) -> &'a Code

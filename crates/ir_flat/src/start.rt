@@ -2,7 +2,7 @@
 
 ghost use Rattle.ir_image.specs.Guest.{most_object_words, object_count, padded, first_words};
 ghost use Rattle.ir_thread.specs.Calls.{most_budget};
-ghost use Rattle.ir_flat.specs.Flat.{start_threads, start_cells};
+ghost use Rattle.ir_flat.specs.Flat.{start_threads, start_cells, HaveRoom};
 ghost use Rattle.std.specs.Prelude.{◌≡◌, ◌<◌, ◌≤◌, length, IfOk};
 
 use ir_image::{Image, MOST_OBJECT_WORDS};
@@ -56,4 +56,26 @@ pub fn objects(alloc: Global, image: &Image) -> Result<Vec<Object>, AllocError>
         objects.push(Object::new(first_words(image, number)))?;
     }
     Ok(objects)
+}
+
+/// The threads become those of a guest before its first step, in the memory that they have.
+pub fn restart_threads(threads: &mut [Thread], image: &Image, budget: u64, profile: Profile)
+    requires budget { budget ≤ most_budget }
+    requires size { length threads.old ≡ length image.now.entries }
+    requires objects { HaveRoom threads.old (object_count image.now) }
+    ensures { threads.new ≡ start_threads image.now budget profile 0 (length image.now.entries) }
+{
+    for number in 0..threads.len() {
+        threads[number].restart(image, number, budget, profile);
+    }
+}
+
+/// The objects become those of a guest before its first step.
+pub fn restart_objects(objects: &mut [Object], image: &Image)
+    requires { length objects.old ≡ object_count image.now }
+    ensures { objects.new ≡ start_cells image.now 0 (object_count image.now) }
+{
+    for number in 0..objects.len() {
+        objects[number] = Object::new(first_words(image, number));
+    }
 }

@@ -125,7 +125,9 @@ impl<'a, C: Clock> Seeker<'a, C> {
         ensures works { OnOk result (NoneFailed (map (λ w. w.failed) self.new.runner.worlds.items)) }
     {
         let record = &self.plan.record;
-        self.runner.flat = Flat::start(self.alloc, self.image, record.budget, record.profile)?;
+        self.runner
+            .flat
+            .restart(self.alloc, self.image, record.budget, record.profile)?;
         restart_all(&mut self.runner.worlds);
         self.runner.turns.clear();
         Ok(())

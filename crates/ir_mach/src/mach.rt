@@ -53,6 +53,17 @@ fn start_memory(alloc: Global, bytes: &[u8]) -> Result<Vec<u8>, AllocError>
     Ok(memory)
 }
 
+// Private memory as at a start, in the room that it has.
+fn restart_memory(memory: &mut [u8], bytes: &[u8])
+    requires size { length memory.old ≡ memory_size }
+    requires fits { length bytes.now ≤ memory_size }
+    ensures { memory.new ≡ start_memory bytes.now }
+{
+    let (data, rest) = memory.split_at_mut(bytes.len());
+    data.copy_from_slice(bytes);
+    rest.fill(0);
+}
+
 // The three below say what the types of the fields hold, for `keeps`.
 fn words_fit(registers: &[u32])
     ensures { (number : ℕ) → IsWord (slice_index registers.now number) }
@@ -90,6 +101,17 @@ impl Mach {
             registers,
             memory,
         })
+    }
+
+    /// Becomes the machine of a thread before its first step, in the memory that it has.
+    pub fn restart(&mut self, image: &Image, thread: usize)
+        requires { thread < length image.now.entries }
+        ensures { self.new ≡ start_core image.now thread }
+    {
+        restart_memory(&mut self.memory, image.bytes());
+        self.registers = [0; 33];
+        self.registers[STACK_POINTER] = STACK_TOP;
+        self.pc = image.entries()[thread];
     }
 
     /// An equal machine with memory of its own.

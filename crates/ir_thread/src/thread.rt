@@ -94,6 +94,27 @@ impl Thread {
         })
     }
 
+    /// Becomes the thread of this number at its start, as `new` makes it, in the memory that it has.
+    #[tactic(auto, using(ir_image::proofs::CallerLemmas::few_threads))]
+    pub fn restart(&mut self, image: &Image, thread: usize, budget: u64, profile: Profile)
+        requires thread { thread < length image.now.entries }
+        requires budget { budget ≤ most_budget }
+        requires objects { length self.old.held ≡ object_count image.now }
+        ensures { self.new ≡ start_state image.now thread budget profile }
+    {
+        let form = image.form();
+        self.mach.restart(image, thread);
+        self.number = thread as u8;
+        self.held.fill(None);
+        self.budget = budget;
+        self.profile = profile;
+        self.form = form;
+        self.steps = 0;
+        self.events = 0;
+        self.output.clear();
+        self.ended = None;
+    }
+
     /// An equal thread with memory of its own.
     ///
     /// # Errors
