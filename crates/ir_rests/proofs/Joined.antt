@@ -1,4 +1,4 @@
--- Lines that are put one after the other, and what the bytes of an image and of a trace are answered.
+-- Lines that are put one after the other.
 use Rattle.std.proofs.Common.{◌≡◌, ◌+◌, ◌<◌, ℕ, suc, List, ◌++◌, length, map, refl, sym, ap, ◌∙◌, subst, arith, inl, inr, append_assoc, append-nil}
 use Rattle.std.specs.Prelude.{Option, Some, None, slice_get}
 use Rattle.std.specs.List.{slice_index_or}
@@ -33,9 +33,6 @@ use Rattle.ir_files.specs.declared.exit_status.ExitStatus.{ExitStatus}
 use Rattle.ir_files.specs.declared.exit_status.ExitStatus.TheVariants as status
 use Rattle.ir_events.specs.Events.{entries_of}
 use Rattle.ir_rests.specs.Lines.{line_if, first_lines, one_if, kept_of}
-use Rattle.ir_rests.specs.Judged.{IsAnswer, judged_status}
-use Rattle.ir_rests.specs.declared.judged.Judged.{Judged}
-use Rattle.ir_rests.specs.declared.judged.Judged.TheVariants as judged
 use Rattle.ir_rests.specs.declared.rest.Rest.{Rest}
 
 -- ---- how many
@@ -82,35 +79,3 @@ over_placed f h x row =
           let b = entries_long f h p.thread t in
           omega (arith, a, b),
     )
-
--- ---- the trace of a run is coherent
-
-pub run_coherent : (f : FittedTrace) → HasRun f → AreCoherent f.recorded
-run_coherent f h =
-    let n : ℕ = length f.recorded.threads in
-    let size : n ≡ length f.guest.entries = h.whole.0.threads in
-    let c = own_coherent (length f.guest.entries) (machine_of f) (law f) (start_of f) (good f)
-    (starts f.guest f.recorded.budget f.recorded.profile) (start_idle f.guest f.recorded.budget f.recorded.profile) h.run h.whole.1.runs in
-    let same : (λ (t : ℕ). log (machine_of f) (start_of f) h.run t) ≡ (trace_of f.recorded).logs = fun_ext (λ t. elim (cases_lt t (length f.guest.entries)) [
-      | inl l ↦ h.whole.1.logs t l
-      | inr past ↦ ap events (no_trail f h.run h.whole t past)
-          ∙ ap (λ (x : RecordedThread). map label_of x.events) (sym (get_or_past f.recorded.threads t absent (omega (arith, past, size))))
-    ]) in
-    record {
-      made = subst (λ (ls : ℕ → List Label). (t i o v l : ℕ) (a : Access) → At (ls t) i (In o a (suc v) l) → (u j k : ℕ) × At (ls u) j (In o Writing v k)) same c.made;
-      writer = subst (λ (ls : ℕ → List Label). (t i u j o v l k : ℕ) → At (ls t) i (In o Writing v l) → At (ls u) j (In o Writing v k) → (t ≡ u) × (i ≡ j)) same
-          c.writer;
-      readers = subst (λ (z : (ℕ → List Label) × ℕ). (t i o v l : ℕ) → At (z.0 t) i (In o Writing v l) → l ≡ sum_below z.1 (λ u. reads o v (z.0 u)))
-          (λ i. (same i, sym size i)) c.readers;
-    }
-
--- ---- no answer leaves the status of a failure
-
-never_failed : (j : Judged) → status.Failed ≡ judged_status j → ⊥
-never_failed (judged.NoImage fault) e = let bad : status.Failed ≡ status.Refused = e in absurd (cc bad)
-never_failed (judged.NoTrace fault) e = let bad : status.Failed ≡ status.Refused = e in absurd (cc bad)
-never_failed (judged.NoRun verdict) e = let bad : status.Failed ≡ status.NotFit = e in absurd (cc bad)
-never_failed (judged.Lines text) e = let bad : status.Failed ≡ status.Done = e in absurd (cc bad)
-
-pub not_failed : (image trace : List ℕ) (s : ExitStatus) (w : Writer) → Answered (IsAnswer image trace) s w → s ≡ status.Failed → ⊥
-not_failed image trace s w a same = never_failed a.is.judged (sym same ∙ a.is.status)

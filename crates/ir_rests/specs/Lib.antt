@@ -3,4 +3,3 @@ pub mod WhatIf
 pub mod Rests
 pub mod Watch
 pub mod Lines
-pub mod Judged

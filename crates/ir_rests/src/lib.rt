@@ -7,7 +7,6 @@ mod exchange;
 mod guide;
 mod hold;
 mod holding;
-mod judged;
 mod judging;
 mod kept;
 mod lines;

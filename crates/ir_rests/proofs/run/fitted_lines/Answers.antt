@@ -1,6 +1,6 @@
 use Rattle.std.proofs.Common.{sym, subst}
 use Rattle.ir_past.specs.Answers.{AreCoherent}
-use Rattle.ir_rests.proofs.Joined.{run_coherent}
+use Rattle.ir_fit_run.proofs.CallerLemmas.{run_coherent}
 use Rattle.ir_rests.proofs.run.fitted_lines.Goals as goal
 
 pub stale_writes-requires : goal.stale_writes-requires

@@ -1,15 +1,14 @@
-use Rattle.std.proofs.Common.{refl}
-use Rattle.std.proofs.lemmas.Result.{err_from_is_err_and}
-use Rattle.ir_files.proofs.CallerLemmas.{if_err}
-use Rattle.ir_past.specs.declared.past_err.PastErr.TheVariants.{Write}
-use Rattle.ir_past.proofs.CallerLemmas.{stopped}
-use Rattle.ir_rests.specs.Judged.{IsAnswer, judged_status, judged_text}
+use Rattle.std.proofs.Common.{subst}
+use Rattle.ir_fit_run.specs.Opened.{IsOpened}
+use Rattle.ir_fit_run.specs.declared.opened.Opened.TheVariants.{Refused}
+use Rattle.ir_fit_run.proofs.CallerLemmas.{refusal_shown}
+use Rattle.ir_rests.specs.Lines.{IsRestsAnswer}
 use Rattle.ir_rests.proofs.run.show.Goals as goal
 
-pub returns-in_err-write_judged-clause-fails : goal.returns-in_err-write_judged-clause-fails
-returns-in_err-write_judged-clause-fails g c =
-    let p = err_from_is_err_and c.from_residual-in_err-write_judged.result c.from_residual-in_err-write_judged.ensures.1 in
-    if_err _ c.from_residual-in_err-write_judged.result Write p.0 p.1 p.2
-    (stopped (IsAnswer c.args.image.now c.args.trace.now) (judged_status c.in_ok-judged.judged) (judged_text c.in_ok-judged.judged) Write _
-    (record { judged = c.in_ok-judged.judged; is = c.in_ok-judged.ensures; status = refl; line = refl })
-    (c.in_err-write_judged.ensures.prefix, c.in_err-write_judged.ensures.err))
+pub returns-in-Refused-clause-fails : goal.returns-in-Refused-clause-fails
+returns-in-Refused-clause-fails g c =
+    let because : IsOpened c.args.image.now c.args.trace.now (Refused c.in-Refused.why) =
+    subst (IsOpened c.args.image.now c.args.trace.now) c.in-Refused.is c.in_ok-open_fit.ensures in
+    (refusal_shown IsRestsAnswer c.args.image.now c.args.trace.now c.in-Refused.why c.refuse.result (g.O.Sink.written c.args.out.now)
+    (g.O.Sink.written c.refuse.new.out) (g.O.Sink.broken c.refuse.new.out) because c.refuse.ensures.status c.refuse.ensures.ok
+    c.refuse.ensures.works c.refuse.ensures.fails).1

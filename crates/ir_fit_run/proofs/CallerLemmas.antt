@@ -1,0 +1,5 @@
+-- What callers may cite of bytes that are opened as a guest and a trace of one of its runs.
+-- the trace of a run is coherent
+pub use Rattle.ir_fit_run.proofs.Coherent.{run_coherent}
+-- answers that say why bytes don't fit, and that no answer leaves the status of a failure or of bad arguments
+pub use Rattle.ir_fit_run.proofs.Shown.{refusal_shown, refusal_not, not_failed}

@@ -1,0 +1,3 @@
+mod Coherent
+mod Shown
+pub mod CallerLemmas

@@ -1,0 +1,8 @@
+//! The bytes of an image and of a trace: a guest and a trace of one of its runs, or why not, in words.
+#![tactic(auto)]
+
+mod opened;
+mod opening;
+
+pub use opened::{Opened, Refusal};
+pub use opening::{open_fit, refuse};
