@@ -60,6 +60,24 @@ since thread 0 event 1 waited for thread 1 event 1
 since thread 1 event 1 waited for thread 0 event 0
 """
 
+# The same with the image.
+WHO_STEPS = b"""object 0 versions 3
+version 0 by first words readers 2
+version 1 by thread 1 event 1 step 18 readers 0
+version 2 by thread 0 event 1 step 18 readers 0
+"""
+WHO_STEPS_0 = b"""version 0 by first words readers 2
+read thread 0 event 0 step 2
+read thread 1 event 0 step 2
+overwritten by thread 1 event 1 step 13
+"""
+WHY_STEPS = b"""thread 1 event 1 step 13 write 0 version 0 readers 2
+needs thread 0 event 0 read 0 version 0 left at step 10
+past 1 1
+least 11 14
+since thread 1 event 1 step 13 waited for thread 0 event 0 step 10
+"""
+
 # A coherent trace that no run has: each of two threads reads what the other writes later.
 CIRCLE = bytes.fromhex("49525431 02 02 0000 40420f0000000000"
                        "0900000000000000 01 00000000 02000000" "04 00 01000000" "05 01 00000000 00000000"
@@ -98,6 +116,13 @@ ANSWERS = (
     ("who bad.trc 0 0", VERSION_0),
     ("who bad.trc 0 1", b"version 1 by thread 1 event 1 readers 0\noverwritten by thread 0 event 1\n"),
     ("who bad.trc 00 2", b"version 2 by thread 0 event 1 readers 0\nlast\n"),
+    ("who bad.trc 0 --image lost.img", WHO_STEPS),
+    ("who bad.trc 0 0 --image lost.img", WHO_STEPS_0),
+    ("who --image lost.img bad.trc 0 2", b"version 2 by thread 0 event 1 step 18 readers 0\nlast\n"),
+    ("why bad.trc 1 1 --image lost.img", WHY_STEPS),
+    ("why bad.trc 1 1 --image lost.img --at 7,13", WHY_STEPS.replace(b"step 10\npast", b"step 10 open\npast")),
+    ("why bad.trc 1 1 --image lost.img --at 11,0", WHY_STEPS.replace(b"step 10\npast", b"step 10 met\npast")),
+    ("why bad.trc 1 1 --image lost.img --lines 0", b"".join(WHY_STEPS.splitlines(True)[:4])),
     ("why bad.trc 1 1", WHY_FIRST),
     ("why bad.trc 0 1", WHY_LAST),
     ("why bad.trc 0 1 --lines 1", b"".join(WHY_LAST.splitlines(True)[:4])),
@@ -141,6 +166,19 @@ REFUSED = (
     *((f"why bad.trc {thread} 0", 2, "", NO_NUMBER.format("T", thread)) for thread in ("x", "0x0", "+1", "4294967296")),
     *((f"why bad.trc 0 {event}", 2, "", NO_NUMBER.format("E", event)) for event in ("x", "0x0", "+1", "4294967296")),
     *((f"why bad.trc 0 0 --lines {lines}", 2, "", NO_NUMBER.format("--lines", lines)) for lines in ("x", "+1", "4294967296")),
+    *((f"{words} --image {image}", status, line, "") for words in ("who {} 0", "who {} 9", "why {} 0 0", "why {} 9 9", "view {}", "view {} --json", "view {} --chrome")
+      for words, image, status, line in (
+        (words.format("bad.trc"), "bad.trc", 3, "image refused 2\n"), (words.format("cut.trc"), "lost.img", 3, "trace refused 1\n"),
+        (words.format("hello.trc"), "lost.img", 4, "header differs 1\n"))),
+    *((f"why bad.trc 1 1 --image lost.img --at {at}", 2, "", "ir: the positions are no consistent cut of the run\n")
+      for at in ("7", "7,13,0", "26,13", "0,14", "18446744073709551615,0")),
+    *((f"why bad.trc 1 1 --image lost.img --at {at}", 2, "", f"ir: --at: '{part}' is no number up to 18446744073709551615\n")
+      for at, part in (("x", "x"), ("7,", ""), ("7,-1", "-1"), ("7,18446744073709551616", "18446744073709551616"))),
+    ("why bad.trc 1 1 --at 0,0", 2, "", LACKING.format("--image <IMAGE>")),
+    ("who bad.trc 0 3 --image lost.img", 2, "", NO_VERSION),
+    ("who bad.trc 1 --image lost.img", 2, "", NO_OBJECT),
+    ("why bad.trc 2 0 --image lost.img", 2, "", NO_THREAD),
+    ("why bad.trc 1 2 --image lost.img", 2, "", NO_EVENT),
     ("who bad.trc 1", 2, "", NO_OBJECT),
     ("who bad.trc 1 0", 2, "", NO_OBJECT),
     ("who bad.trc 256", 2, "", NO_OBJECT),

@@ -256,6 +256,20 @@ def check_mouse(browser, data):
         assert browser.value("left + room() / scale > start() + span() * 0.98")
 
 
+def check_steps(browser, data):
+    """With an image each box of one event has commands that go there, a fold has none, and spacing by steps isn't offered."""
+    assert data["steps"] and browser.value("el('spacing').hidden")
+    for number, box in enumerate(data["boxes"]):
+        browser.value(f"choose(boxes[{number}])")
+        commands = browser.value("[...el('cmds').querySelectorAll('code')].map(c => c.textContent)")
+        first, last = box[13:15]
+        entry = box[2] == 1 and box[3] in (4, 5)
+        steps = [] if first < 0 else [first] + [first + 1] * entry + [last + 1] * (last >= 0)
+        assert commands == [f"goto {box[0]} {step}" for step in steps], box
+    for row in data["stale"]:
+        assert len(row) == 7 and row[6] in (0, 1) and row[4] != row[5], row
+
+
 def check_contrast(browser, name):
     """Texts have a contrast of 4.5 or more, lines of 3 or more."""
     found = browser.value(CONTRAST)
@@ -275,7 +289,8 @@ def main():
         browser = Browser(folder / "profile")
         for name, text in texts.items():
             trace = record(program, folder, name, text, 3)
-            for form, words in (("", []), ("_part", ["--around", 0, 0, "--span", 12])) if name == "many" else (("", []),):
+            forms = [("", [])] + [("_steps", ["--image", trace.with_suffix(".img")])] * (name != "large")
+            for form, words in forms + [("_part", ["--around", 0, 0, "--span", 12])] * (name == "many"):
                 page = subprocess.run([program, "view", str(trace), *map(str, words)], check=True, stdout=subprocess.PIPE).stdout.decode("ascii")
                 path = folder / f"{name}{form}.html"
                 path.write_text(page, encoding="ascii")
@@ -289,6 +304,8 @@ def main():
                 if data["boxes"] and not form:
                     check_keys(browser, data)
                     check_mouse(browser, data)
+                if form == "_steps":
+                    check_steps(browser, data)
                 assert not browser.errors, browser.errors
                 print(f"{name}{form}: {len(data['boxes'])} boxes, least contrast {least[0]:.1f} for text and {least[1]:.1f} for lines")
         browser.close()

@@ -1,8 +1,8 @@
 //! The arguments of `ir stale`.
 
 use crate::asked::{Asked, Print};
-use crate::values::{TRACE, file_arg, given_text, text_of};
-use clap::{Arg, ArgMatches, Command};
+use crate::values::{FROM_IMAGE, TRACE, file_arg, from_image_arg, given_text, text_of};
+use clap::{ArgMatches, Command};
 use std::alloc::{AllocError, Global};
 
 /// What follows the help of `ir stale`.
@@ -28,9 +28,6 @@ Exit status: 0 printed, also if there are stale writes, 1 a file that can't be r
 written, 2 bad arguments, 3 a refused image or trace, 4 an incoherent trace, or one of no run of the image.
 ";
 
-// The file of the image.
-const FROM_IMAGE: &str = "image";
-
 /// Whose stale writes are printed.
 #[derive(Drop)]
 pub struct StaleArguments {
@@ -40,19 +37,14 @@ pub struct StaleArguments {
     pub image: Option<String>,
 }
 
-// The option that names the file with the image.
-fn image_arg<'a>(alloc: Global) -> Arg<'a> {
-    Arg::new(alloc, FROM_IMAGE)
-        .long(FROM_IMAGE)
-        .value_name("IMAGE")
-        .help("The file with the image: only writes that rest on what was read")
-}
-
 /// The command with its arguments.
 pub fn with_arguments<'a>(alloc: Global, command: Command<'a>) -> Result<Command<'a>, AllocError> {
     command
         .arg(file_arg(alloc, TRACE, "The file with the trace"))?
-        .arg(image_arg(alloc))
+        .arg(from_image_arg(
+            alloc,
+            "The file with the image: only writes that rest on what was read",
+        ))
 }
 
 /// What its arguments ask for.

@@ -13,12 +13,23 @@ pub const TRACE: &str = "TRACE";
 /// The file with the names of addresses.
 pub const MAP: &str = "map";
 
+/// The option that names the file of an image.
+pub const FROM_IMAGE: &str = "image";
+
 /// Whether a fault is explained.
 pub const EXPLAIN: &str = "explain";
 
 /// A file that has to be named.
 pub fn file_arg<'a>(alloc: Global, name: &'a str, help: &'a str) -> Arg<'a> {
     Arg::new(alloc, name).required(true).help(help)
+}
+
+/// The option that names the file of an image.
+pub fn from_image_arg<'a>(alloc: Global, help: &'a str) -> Arg<'a> {
+    Arg::new(alloc, FROM_IMAGE)
+        .long(FROM_IMAGE)
+        .value_name("IMAGE")
+        .help(help)
 }
 
 /// The text of an argument, empty where it isn't given.
@@ -43,6 +54,24 @@ pub fn names_arg<'a>(alloc: Global) -> Arg<'a> {
     Arg::new(alloc, MAP).long(MAP).value_name("MAP").help(
         "The file with the names of addresses, as `nm -n` prints them",
     )
+}
+
+/// The numbers up to 18446744073709551615 that a text lists with commas, or else what is wrong with the argument of this name.
+pub fn numbers_in(
+    alloc: Global,
+    name: &str,
+    text: &str,
+) -> Result<Result<Vec<u64>, String>, AllocError> {
+    let mut numbers = Vec::new(alloc);
+    for part in text.split(',') {
+        let Some(number) = number_within(0, u64::MAX, part) else {
+            return Ok(Err(format!(in alloc;
+                "{name}: '{part}' is no number up to 18446744073709551615"
+            )?));
+        };
+        numbers.push(number)?;
+    }
+    Ok(Ok(numbers))
 }
 
 /// The number up to 4294967295 that a text is, or else what is wrong with the argument of this name.

@@ -2,7 +2,7 @@
 
 use crate::asked::{Asked, Print};
 use crate::recording::no_number;
-use crate::values::{TRACE, file_arg, number_in, text_of};
+use crate::values::{FROM_IMAGE, TRACE, file_arg, from_image_arg, given_text, number_in, text_of};
 use clap::{Arg, ArgAction, ArgMatches, Command};
 use ir_record_run::number_within;
 use std::alloc::{AllocError, Global};
@@ -55,6 +55,8 @@ pub struct ViewArguments {
     pub chrome: bool,
     /// The part that is shown; if there is none, all is.
     pub part: Option<Part>,
+    /// The file of the image, if steps are shown too.
+    pub image: Option<String>,
 }
 
 fn json_arg<'a>(alloc: Global) -> Arg<'a> {
@@ -96,7 +98,11 @@ pub fn with_arguments<'a>(alloc: Global, command: Command<'a>) -> Result<Command
         .arg(json_arg(alloc))?
         .arg(chrome_arg(alloc).conflicts_with(JSON)?)?
         .arg(around_arg(alloc))?
-        .arg(span_arg(alloc))
+        .arg(span_arg(alloc))?
+        .arg(from_image_arg(
+            alloc,
+            "The file with the image: the steps of the boxes, and only stale writes that rest on what was read",
+        ))
 }
 
 // How far the part goes, or else what is wrong with the number.
@@ -145,5 +151,6 @@ pub fn asked(alloc: Global, matches: &ArgMatches<'_>) -> Result<Asked, AllocErro
         json: matches.get_flag(JSON),
         chrome: matches.get_flag(CHROME),
         part,
+        image: given_text(alloc, matches, FROM_IMAGE)?,
     })))
 }

@@ -1,7 +1,7 @@
 //! The arguments of `ir who`.
 
 use crate::asked::{Asked, Print};
-use crate::values::{TRACE, file_arg, number_in, text_of};
+use crate::values::{FROM_IMAGE, TRACE, file_arg, from_image_arg, given_text, number_in, text_of};
 use clap::{Arg, ArgMatches, Command};
 use std::alloc::{AllocError, Global};
 
@@ -14,9 +14,11 @@ pub const WHO_AFTER: &str =
 With V there is the line of that version. Then come its read entries, by rising thread and event, and who wrote over it:
   read thread T event E                          event E of thread T read it
   overwritten by thread T event E                event E of thread T wrote over it; or `last`, if no thread did
-Events are numbered as in `ir trace`. A refused or incoherent trace has the one line that `ir stale` has.
-Exit status: 0 printed, 1 a file that can't be read or standard output that can't be written, 2 bad arguments, or an object or
-a version that the trace doesn't have, 3 a refused trace, 4 an incoherent trace.
+Events are numbered as in `ir trace`. With --image each has ` step S` behind it, how many steps its thread takes before it;
+behind `by` before it leaves the object, from when on the version is there.
+What is refused has the lines that `ir stale` has.
+Exit status: 0 printed, 1 a file that can't be read or standard output that can't be written, 2 bad arguments, or an object or a
+version that isn't there, 3 a refused image or trace, 4 an incoherent trace, or one of no run of the image.
 ";
 
 /// The number of the object.
@@ -34,6 +36,8 @@ pub struct WhoArguments {
     pub object: u32,
     /// The version, if one is asked about.
     pub version: Option<u32>,
+    /// The file of the image, if steps are told too.
+    pub image: Option<String>,
 }
 
 /// The command with its arguments.
@@ -43,7 +47,21 @@ pub fn with_arguments<'a>(alloc: Global, command: Command<'a>) -> Result<Command
         .arg(file_arg(alloc, OBJECT, "The number of the object"))?
         .arg(Arg::new(alloc, VERSION).help(
             "The number of the version; without it all versions are printed",
-        ))
+        ))?
+        .arg(from_image_arg(alloc, "The file with the image: the steps of the events"))
+}
+
+// The number of an argument, if it is given, or else what is wrong with it.
+fn given_number(
+    alloc: Global,
+    matches: &ArgMatches<'_>,
+    argument: &str,
+    name: &str,
+) -> Result<Result<Option<u32>, String>, AllocError> {
+    let Some(text) = matches.get_str(argument) else {
+        return Ok(Ok(None));
+    };
+    Ok(number_in(alloc, name, text)?.map(Some))
 }
 
 /// What its arguments ask for.
@@ -53,16 +71,14 @@ pub fn asked(alloc: Global, matches: &ArgMatches<'_>) -> Result<Asked, AllocErro
         Ok(object) => object,
         Err(why) => return Ok(Asked::Nothing(why)),
     };
-    let version = match matches.get_str(VERSION) {
-        None => None,
-        Some(text) => match number_in(alloc, VERSION, text)? {
-            Ok(version) => Some(version),
-            Err(why) => return Ok(Asked::Nothing(why)),
-        },
+    let version = match given_number(alloc, matches, VERSION, VERSION)? {
+        Ok(version) => version,
+        Err(why) => return Ok(Asked::Nothing(why)),
     };
     Ok(Asked::Print(Print::Who(WhoArguments {
         trace: text_of(alloc, matches, TRACE)?,
         object,
         version,
+        image: given_text(alloc, matches, FROM_IMAGE)?,
     })))
 }

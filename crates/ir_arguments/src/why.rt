@@ -1,7 +1,9 @@
 //! The arguments of `ir why`.
 
 use crate::asked::{Asked, Print};
-use crate::values::{TRACE, file_arg, number_in, text_of};
+use crate::values::{
+    FROM_IMAGE, TRACE, file_arg, from_image_arg, given_text, number_in, numbers_in, text_of,
+};
 use clap::{Arg, ArgMatches, Command};
 use std::alloc::{AllocError, Global};
 
@@ -15,10 +17,15 @@ A read entry needs the write entry that made its version. A write entry needs th
 version that it writes over. An event is before another if it is an earlier one of its thread, or is needed, or is before one
 that is. The chain of waits begins at the last event of T, up to E, that needs another thread. Of what that event needs it
 names the one that `ir view` places furthest right. Then it goes on from there.
+With --image each event has the position before its step, as ` step S`. What is needed has where its thread leaves the object,
+as ` left at step S`, and so have what was waited for. There is one line more:
+  least P P ..                                   the least consistent cut with T just behind E: what `goto T S+1` answers
+With --at P0,P1,.. too, the positions of a consistent cut, what is needed is ` met` if it is left there, or else ` open`.
 If events need each other in a circle, which is so in no run, the one line is `circle thread T event E`, the first event that
-can't be placed. A refused or incoherent trace has the one line that `ir stale` has.
-Exit status: 0 printed, 1 a file that can't be read or standard output that can't be written, 2 bad arguments, or an event
-that the trace doesn't have, 3 a refused trace, 4 an incoherent trace or a circle.
+can't be placed. What is refused has the lines that `ir stale` has.
+Exit status: 0 printed, 1 a file that can't be read or standard output that can't be written, 2 bad arguments, an event that
+the trace doesn't have, or positions that are no consistent cut, 3 a refused image or trace, 4 an incoherent trace, a circle,
+or a trace of no run of the image.
 ";
 
 /// The number of the thread.
@@ -28,6 +35,8 @@ const THREAD: &str = "T";
 const EVENT: &str = "E";
 
 const LINES: &str = "lines";
+
+const AT: &str = "at";
 
 /// The event that is asked about.
 #[derive(Drop)]
@@ -40,6 +49,10 @@ pub struct WhyArguments {
     pub event: u32,
     /// How many waits of the chain are printed at most.
     pub lines: u32,
+    /// The file of the image, if steps are told too.
+    pub image: Option<String>,
+    /// The positions of the threads of a cut, if it is asked what is left there.
+    pub at: Option<Vec<u64>>,
 }
 
 fn lines_arg<'a>(alloc: Global) -> Arg<'a> {
@@ -48,6 +61,16 @@ fn lines_arg<'a>(alloc: Global) -> Arg<'a> {
         .value_name("N")
         .default_value("20")
         .help("The most lines of the chain of waits")
+}
+
+fn at_arg<'a>(alloc: Global) -> Arg<'a> {
+    Arg::new(alloc, AT)
+        .long(AT)
+        .value_name("P0,P1,..")
+        .allow_negative_numbers(true)
+        .help(
+            "The positions of a consistent cut, one for each thread: which of the entries that are needed have been left there",
+        )
 }
 
 /// The command with its arguments.
@@ -60,7 +83,12 @@ pub fn with_arguments<'a>(alloc: Global, command: Command<'a>) -> Result<Command
             EVENT,
             "The number of the event in the thread's log, from 0",
         ))?
-        .arg(lines_arg(alloc))
+        .arg(lines_arg(alloc))?
+        .arg(from_image_arg(
+            alloc,
+            "The file with the image: the steps of the events and of the leaves, and the least cut behind the event",
+        ))?
+        .arg(at_arg(alloc).requires_arg(FROM_IMAGE)?)
 }
 
 // The number of an argument, or else what is wrong with it.
@@ -87,10 +115,19 @@ pub fn asked(alloc: Global, matches: &ArgMatches<'_>) -> Result<Asked, AllocErro
         Ok(lines) => lines,
         Err(why) => return Ok(Asked::Nothing(why)),
     };
+    let at = match matches.get_str(AT) {
+        None => None,
+        Some(text) => match numbers_in(alloc, "--at", text)? {
+            Ok(positions) => Some(positions),
+            Err(why) => return Ok(Asked::Nothing(why)),
+        },
+    };
     Ok(Asked::Print(Print::Why(WhyArguments {
         trace: text_of(alloc, matches, TRACE)?,
         thread,
         event,
         lines,
+        image: given_text(alloc, matches, FROM_IMAGE)?,
+        at,
     })))
 }

@@ -5,3 +5,5 @@ pub use Rattle.ir_fit_run.proofs.Coherent.{run_coherent}
 pub use Rattle.ir_fit_run.proofs.Shown.{refusal_shown, refusal_not, not_failed}
 -- where the events of a thread are among its steps, and the leaves of what it entered
 pub use Rattle.ir_fit_run.proofs.Leaves.{inside, event_inside, entry_fits, leave_past, leave_within, leave_fits}
+-- lists whose elements belong to those of another, made one element after the other
+pub use Rattle.ir_fit_run.proofs.Paired.{at_index, ArePairedTo, none_paired, next_paired, all_paired}

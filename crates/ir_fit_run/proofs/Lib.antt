@@ -1,4 +1,5 @@
 mod Coherent
 mod Leaves
+mod Paired
 mod Shown
 pub mod CallerLemmas

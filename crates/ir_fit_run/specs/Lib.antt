@@ -1,3 +1,4 @@
 pub mod Opened
 pub mod Answers
 pub mod Positions
+pub mod Paired

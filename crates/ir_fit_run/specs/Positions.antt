@@ -1,5 +1,5 @@
 -- Where the events of a trace are among the steps of its run, and where the threads leave what they entered.
-use Rattle.std.specs.Prelude.{◌<◌, ◌+◌, ◌≤◌, ℕ, length, Option, Some, None}
+use Rattle.std.specs.Prelude.{◌<◌, ◌+◌, ◌≤◌, ℕ, List, [], ◌++◌, codes, decimal, length, Option, Some, None}
 use Rattle.ir_runs.specs.Labels.{Out}
 use Rattle.ir_runs.specs.Cuts.{Emits}
 use Rattle.ir_runs.specs.declared.access.Access.{Access}
@@ -36,3 +36,17 @@ LeavesAfter f t i k = EntryLeaves f t (entry_of f t i + 1) (event_at f.recorded 
 pub record IsLeaveOf (f : FittedTrace) (t i k : ℕ) : Type 0 where
   pub leaves : LeavesAfter f t i k
   pub first : (j : ℕ) → LeavesAfter f t i j → k ≤ j
+
+-- so of a step, if there is one; none, if no step does
+abbrev pub IsLeft : FittedTrace → ℕ → ℕ → Option ℕ → Type 0
+IsLeft f t i None = (k : ℕ) → LeavesAfter f t i k → ⊥
+IsLeft f t i (Some k) = IsLeaveOf f t i k
+
+-- how many steps come before one, in words
+abbrev pub step_part : ℕ → List ℕ
+step_part k = codes " step " ++ decimal k
+
+-- so of a step, if there is one
+abbrev pub step_if : Option ℕ → List ℕ
+step_if None = []
+step_if (Some k) = step_part k

@@ -7,4 +7,4 @@ mod positions;
 
 pub use opened::{Opened, Refusal};
 pub use opening::{open_fit, refuse};
-pub use positions::{leave_of, step_of};
+pub use positions::{leave_of, step_of, step_text};

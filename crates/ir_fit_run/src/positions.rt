@@ -1,13 +1,15 @@
 //! Where the events of a trace are among the steps of its run, and where the threads leave what they entered.
 
-ghost use Rattle.std.specs.Prelude.{◌≡◌, ◌⊎◌, ◌≤◌, ℕ, Some, IfSome, IfNone};
+ghost use Rattle.std.specs.Prelude.{◌≡◌, ◌⊎◌, ◌≤◌, ℕ, Some, IfSome, IfNone, IfOk};
+ghost use Rattle.std.specs.String.{string_bytes};
 ghost use Rattle.ir_events.specs.Events.{entry_of};
-ghost use Rattle.ir_fit_run.specs.Positions.{IsInside, LeavesFrom, EntryLeaves, LeavesAfter, IsLeaveOf};
+ghost use Rattle.ir_fit_run.specs.Positions.{IsInside, LeavesFrom, EntryLeaves, LeavesAfter, IsLeaveOf, step_if};
 
 use ir_fit::{Fitted, Place as Step};
 use ir_log::Event;
 use ir_past::{Place, event_of};
 use ir_runs::Access;
+use std::alloc::{AllocError, Global};
 
 // What a thread entered: an object, for such access, at such a version.
 #[derive(Clone, Copy)]
@@ -103,4 +105,17 @@ pub fn leave_of(fitted: &Fitted, place: Place) -> Option<u64>
     fitted.known();
     let event = event_of(fitted.trace(), place);
     first_leave_of(fitted, place.thread, event, step_of(fitted, place) + 1)
+}
+
+/// How many steps come before one, in words behind what is said of it; nothing, if there is none.
+///
+/// # Errors
+/// Out of memory.
+pub fn step_text(alloc: Global, step: Option<u64>) -> Result<String, AllocError>
+    ensures { IfOk result (λ s. string_bytes s ≡ step_if step) }
+{
+    match step {
+        None => String::from_str(alloc, ""),
+        Some(step) => format!(in alloc; " step {step}"),
+    }
 }

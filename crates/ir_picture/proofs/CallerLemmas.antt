@@ -1,3 +1,9 @@
 -- What callers may cite of pictures.
 -- each box of a trace ends before the later ones begin
 pub use Rattle.ir_picture.proofs.Cuts.{apart}
+-- the picture of a trace has boxes of the trace in their order, an end for each thread, and stale writes by rising thread and event
+pub use Rattle.ir_picture.proofs.OfTrace.{picture_is_of}
+-- texts that are put one after the other
+pub use Rattle.ir_picture.proofs.Texts.{put, put_two, all_put, three_put, four_put, next_row, no_row}
+-- a trace of a run has no circle
+pub use Rattle.ir_picture.proofs.Unrolled.{no_circle}

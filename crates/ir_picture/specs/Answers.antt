@@ -46,9 +46,13 @@ page_head = HEAD_1.now ++ HEAD_2.now
 unfoldable pub page_tail : List ℕ
 page_tail = TAIL_1.now ++ (TAIL_2.now ++ (TAIL_3.now ++ TAIL_4.now))
 
+-- the page that has this data
+abbrev pub page_of : List ℕ → List ℕ
+page_of text = page_head ++ (text ++ page_tail)
+
 -- the page of a picture
 abbrev pub page_text : Recorded → Option Around → Picture → List ℕ
-page_text r near p = page_head ++ (data_text r near p ++ page_tail)
+page_text r near p = page_of (data_text r near p)
 
 -- the line of a circle
 abbrev pub circle_line : ℕ → ℕ → List ℕ

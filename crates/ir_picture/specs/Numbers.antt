@@ -1,5 +1,5 @@
 -- The data of a picture: numbers in brackets.
-use Rattle.std.specs.Prelude.{ℕ, zero, suc, ◌==◌, nat_lt, if◌then◌else◌, List, [], ◌∷◌, ◌++◌, codes, decimal, length, take, drop, Option, Some, None}
+use Rattle.std.specs.Prelude.{ℕ, zero, suc, ◌==◌, nat_lt, if◌then◌else◌, Bool, true, false, List, [], ◌∷◌, ◌++◌, codes, decimal, length, take, drop, Option, Some, None}
 use Rattle.ir_thread.specs.Ends.{end_number, end_code}
 use Rattle.ir_thread.specs.declared.profile.Profile.{Profile}
 use Rattle.ir_thread.specs.declared.profile.Profile.TheVariants.{One, Two}
@@ -90,11 +90,15 @@ abbrev pub fold_numbers : ℕ → List Event → List ℕ
 fold_numbers objects es =
     if nat_lt 1 (length es) then codes ",-1,-1,[" ++ (with_commas (read_pairs objects es) ++ codes "]") else []
 
+-- the row of a box with these events, which ends so
+abbrev pub row_with : List Event → PlacedBox → List ℕ → List ℕ
+row_with es b last =
+    codes "[" ++ (decimal b.events.thread ++ (comma b.events.event ++ (comma b.events.count ++ (first_numbers es ++ (place_numbers b
+    ++ (last ++ codes "]"))))))
+
 -- the row of a box with these events
 abbrev pub row_of : ℕ → List Event → PlacedBox → List ℕ
-row_of objects es b =
-    codes "[" ++ (decimal b.events.thread ++ (comma b.events.event ++ (comma b.events.count ++ (first_numbers es ++ (place_numbers b
-    ++ (fold_numbers objects es ++ codes "]"))))))
+row_of objects es b = row_with es b (fold_numbers objects es)
 
 -- the row of a box of a trace
 abbrev pub box_row : Recorded → PlacedBox → List ℕ
@@ -121,11 +125,16 @@ abbrev pub around_part : Option Around → List ℕ
 around_part None = []
 around_part (Some near) = codes ",\"around\":[" ++ (decimal near.thread ++ (comma near.event ++ (comma near.span ++ codes "]")))
 
+-- whether the boxes have steps, in a word
+abbrev pub steps_word : Bool → List ℕ
+steps_word true = codes "true"
+steps_word false = codes "false"
+
 -- what comes before the lists
-abbrev pub data_start : Recorded → Option Around → List ℕ
-data_start r near =
-    codes "{\"ir_view\":1,\"steps\":false,\"objects\":" ++ (decimal r.objects ++ (codes ",\"profile\":" ++ (decimal (profile_number r.profile)
-    ++ around_part near)))
+abbrev pub data_start : Bool → Recorded → Option Around → List ℕ
+data_start steps r near =
+    codes "{\"ir_view\":1,\"steps\":" ++ (steps_word steps ++ (codes ",\"objects\":" ++ (decimal r.objects ++ (codes ",\"profile\":"
+    ++ (decimal (profile_number r.profile) ++ around_part near)))))
 
 -- the threads
 abbrev pub thread_list : Recorded → List Point → List ℕ
@@ -134,5 +143,5 @@ thread_list r ends = codes ",\"threads\":[" ++ (thread_rows 0 r.threads ends ++ 
 -- the data of a picture
 abbrev pub data_text : Recorded → Option Around → Picture → List ℕ
 data_text r near p =
-    data_start r near ++ (thread_list r p.ends.items ++ (listed (codes ",\"boxes\":[") (box_row r) p.boxes.items
+    data_start false r near ++ (thread_list r p.ends.items ++ (listed (codes ",\"boxes\":[") (box_row r) p.boxes.items
     ++ (listed (codes ",\"stale\":[") stale_row p.stale.items ++ codes "}")))

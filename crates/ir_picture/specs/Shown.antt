@@ -37,6 +37,10 @@ abbrev pub AreShown : List PlacedBox → Option Around → List PlacedBox → Ty
 AreShown all None shown = shown ≡ all
 AreShown all (Some near) shown = (x : ℕ) × StartsAt all near.thread near.event x × (shown ≡ filter (is_near x near.span) all)
 
--- the stale writes that are shown where these boxes are: those of which the write and the read are
+-- whether a stale write is shown where these boxes are: the write and the read are in them
+abbrev pub is_shown : List PlacedBox → StaleWrite → Bool
+is_shown shown x = has_box shown x.thread x.event && has_box shown x.thread x.read
+
+-- the stale writes that are shown where these boxes are
 abbrev pub shown_stale : List PlacedBox → List StaleWrite → List StaleWrite
-shown_stale shown rows = filter (λ (x : StaleWrite). has_box shown x.thread x.event && has_box shown x.thread x.read) rows
+shown_stale shown rows = filter (is_shown shown) rows

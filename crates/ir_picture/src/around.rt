@@ -1,9 +1,9 @@
 //! The part of a picture that is near an event.
 
-ghost use Rattle.std.specs.Prelude.{◌≡◌, ◌^◌, ◌<◌, ◌&&◌, ℕ, Some, OnOk, IfOk, IfErr};
+ghost use Rattle.std.specs.Prelude.{◌≡◌, ◌^◌, ◌<◌, ℕ, Some, OnOk, IfOk, IfErr};
 ghost use Rattle.ir_picture.specs.Boxing.{AreApart};
 ghost use Rattle.ir_picture.specs.Placing.{events_of_all};
-ghost use Rattle.ir_picture.specs.Shown.{StartsAt, AreShown, is_near, has_box, shown_stale};
+ghost use Rattle.ir_picture.specs.Shown.{StartsAt, AreShown, is_near, is_shown, shown_stale};
 ghost use Rattle.ir_picture.specs.Answers.{IsThere, IsAbsent};
 ghost use Rattle.ir_picture.specs.declared.asked.Around.{Around};
 ghost use Rattle.ir_picture.specs.declared.view_err.Absent.{Absent};
@@ -91,10 +91,10 @@ pub fn shown_boxes(
     }
 }
 
-// Whether the write and the read of a stale write are in these boxes.
-fn is_shown(boxes: &[PlacedBox], row: &StaleWrite) -> bool
+/// Whether the write and the read of a stale write are in these boxes, which are some of a trace's. Time is logarithmic in the boxes.
+pub fn is_shown(boxes: &[PlacedBox], row: &StaleWrite) -> bool
     requires { AreApart (events_of_all boxes.now) }
-    ensures { result ≡ (has_box boxes.now row.now.thread row.now.event && has_box boxes.now row.now.thread row.now.read) }
+    ensures { result ≡ is_shown boxes.now row.now }
 {
     let thread = row.thread;
     let write = Place {

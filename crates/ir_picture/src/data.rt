@@ -1,8 +1,8 @@
 //! The data of a picture: numbers in brackets.
 
-ghost use Rattle.std.specs.Prelude.{◌≡◌, ◌++◌, IfOk, OnOk, codes, length};
+ghost use Rattle.std.specs.Prelude.{◌≡◌, ◌++◌, IfOk, OnOk, codes, false, length};
 ghost use Rattle.std.specs.String.{string_bytes};
-ghost use Rattle.ir_picture.specs.Numbers.{profile_number, around_part, data_start, rows_from, thread_rows, thread_list, listed, box_row, stale_row, data_text};
+ghost use Rattle.ir_picture.specs.Numbers.{profile_number, around_part, steps_word, data_start, rows_from, thread_rows, thread_list, listed, box_row, stale_row, data_text};
 ghost use Rattle.ir_picture.specs.Progress.{AreBoxesOf, IsOf};
 
 use crate::asked::Around;
@@ -41,15 +41,31 @@ fn around_part(alloc: Global, near: &Option<Around>) -> Result<String, AllocErro
     }
 }
 
-// What comes before the lists.
-fn data_start(alloc: Global, trace: &Trace, near: &Option<Around>) -> Result<String, AllocError>
-    ensures { IfOk result (λ s. string_bytes s ≡ data_start trace.now near.now) }
+// Whether the boxes have steps, in a word.
+fn steps_word(steps: bool) -> &'static str
+    ensures { result.now ≡ steps_word steps }
 {
+    if steps { "true" } else { "false" }
+}
+
+/// What the data has before its lists.
+///
+/// # Errors
+/// Out of memory.
+pub fn data_start(
+    alloc: Global,
+    steps: bool,
+    trace: &Trace,
+    near: &Option<Around>,
+) -> Result<String, AllocError>
+    ensures { IfOk result (λ s. string_bytes s ≡ data_start steps trace.now near.now) }
+{
+    let steps = steps_word(steps);
     let objects = trace.objects();
     let profile = profile_number(trace.profile());
     let around = around_part(alloc, near)?;
     format!(in alloc;
-        "{{\"ir_view\":1,\"steps\":false,\"objects\":{objects},\"profile\":{profile}{around}"
+        "{{\"ir_view\":1,\"steps\":{steps},\"objects\":{objects},\"profile\":{profile}{around}"
     )
 }
 
@@ -70,8 +86,11 @@ fn push_thread_rows(
     Ok(())
 }
 
-// Adds the list of the threads.
-fn push_threads(
+/// Adds the list of the threads to the data.
+///
+/// # Errors
+/// Out of memory.
+pub fn push_threads(
     alloc: Global,
     text: &mut String,
     trace: &Trace,
@@ -153,7 +172,7 @@ pub fn data_text(
     requires { IsOf trace.now picture.now }
     ensures { IfOk result (λ s. string_bytes s ≡ data_text trace.now near.now picture.now) }
 {
-    let mut text = data_start(alloc, trace, near)?;
+    let mut text = data_start(alloc, false, trace, near)?;
     push_threads(alloc, &mut text, trace, &picture.ends)?;
     push_boxes(alloc, &mut text, trace, &picture.boxes)?;
     push_stale(alloc, &mut text, &picture.stale)?;

@@ -92,7 +92,7 @@ dialog td { padding: 2px 12px 2px 0; vertical-align: top; } dialog td:first-chil
     <tr data-if=\"steps\"><td><kbd>C</kbd></td><td>copy the command that goes there in a session</td></tr>
     <tr><td><kbd>+</kbd> <kbd>-</kbd></td><td>nearer, farther; the wheel with Ctrl too</td></tr>
     <tr><td><kbd>0</kbd></td><td>all that the page has</td></tr>
-    <tr data-if=\"steps\"><td><kbd>L</kbd></td><td>events evenly spaced, or as wide as their steps</td></tr>
+    <tr data-if=\"spaced\"><td><kbd>L</kbd></td><td>events evenly spaced, or as wide as their steps</td></tr>
     <tr><td><kbd>G</kbd></td><td>type a thread and an event to show</td></tr>
     <tr><td><kbd>Esc</kbd></td><td>choose nothing</td></tr>
     <tr><td>click</td><td>a box: choose it; an object's name: that object alone, and all again</td></tr>
@@ -113,8 +113,9 @@ const run = JSON.parse(el('run').textContent);
 
 // ---- the run -------------------------------------------------------------------------------------------------------
 // A box is one event, or a fold of some that saw nothing new. x: places evenly spaced; u: by steps; came: where it would
-// start if it needed no other thread; s0, s1: the positions before the step that enters and the one that leaves. A page may
-// have a part of a run, the boxes around an event: then what a box needs may not be on the page.
+// start if it needed no other thread; s0, s1: the positions before the step that enters and the one that leaves, or -1:
+// a fold has neither, and an entry that is never left has no s1. A page may have a part of a run, the boxes around an event:
+// then what a box needs may not be on the page.
 const READ = 4, WRITE = 5, TRY = 6, KIND = ['', 'clock', 'random', 'input', 'read', 'write', 'try'];
 const boxes = run.boxes.map((b, id) => ({
   id, t: b[0], i: b[1], n: b[2], k: b[3], o: b[4], v: b[5], r: b[6], x0: b[7], x1: b[8], u0: b[9], u1: b[10],
@@ -145,7 +146,7 @@ function boxAt(t, e) {
   return lanes[t][a];
 }
 const has = (b, e) => b && b.i <= e && e < b.i + b.n;
-const part = run.around;
+const part = run.around, spaced = boxes.some(b => b.u1 > b.u0);   // whether boxes are as wide as their steps
 const maker = b => isEntry(b) ? made.get(key(b.o, b.v - 1)) : undefined;
 const stales = run.stale.map(([t, i, j, word, was, is, way]) => ({ t, read: boxAt(t, i), box: boxAt(t, j), word, was, is, way }));
 stales.sort((a, b) => a.box.x0 - b.box.x0 || a.t - b.t);
@@ -209,11 +210,12 @@ function text(s, x, y, colour, size = 11, align = 'left', weight = '') {
 function widthOf(s, size) { g.font = `${size}px ${FACE}`; return g.measureText(s).width; }
 function path(x, y, w, h, r) { g.beginPath(); g.roundRect(x, y, w, h, Math.min(r, w / 2, h / 2)); }
 function outline(colour, width, dash = []) { g.strokeStyle = colour; g.lineWidth = width; g.setLineDash(dash); g.stroke(); g.setLineDash([]); }
-function line(x, y, x2, y2, colour, width, dash) { g.beginPath(); g.moveTo(x, y); g.lineTo(x2, y2); outline(colour, width, dash); }
 ";
 
 /// Part 2 of what comes after the data.
-pub const TAIL_2: &str = "function triangle(a, b, c, d, e, f, colour) {
+pub const TAIL_2: &str =
+    "function line(x, y, x2, y2, colour, width, dash) { g.beginPath(); g.moveTo(x, y); g.lineTo(x2, y2); outline(colour, width, dash); }
+function triangle(a, b, c, d, e, f, colour) {
   g.beginPath(); g.moveTo(a, b); g.lineTo(c, d); g.lineTo(e, f); g.closePath(); g.fillStyle = colour; g.fill();
 }
 
@@ -337,12 +339,11 @@ function sharp(canvas, c, w, h) {
 function draw() {
   sharp(main, g, W, H); main.style.width = W + 'px';
   const a = left - 2, z = left + (W - GUT) / scale + 2, visible = boxes.filter(b => X1(b) >= a && X0(b) <= z);
-  drawLanes();
 ";
 
 /// Part 3 of what comes after the data.
-pub const TAIL_3: &str =
-    "  if (visible.length < 1500 && visible.length * 7 < (W - GUT) * lanes.length) drawNear(visible); else drawStrips(visible);
+pub const TAIL_3: &str = "  drawLanes();
+  if (visible.length < 1500 && visible.length * 7 < (W - GUT) * lanes.length) drawNear(visible); else drawStrips(visible);
   if (chosen) drawChosen();
   drawEnds(); drawGutter(); drawOver();
 }
@@ -400,8 +401,8 @@ function tell() {
       (next && next !== b ? ` Written over by ${link(next)}.` : '') + '</p>';
   }
   el('what').innerHTML = h;
-  const inside = [[b.s0, 'before it enters'], [b.s0 + 1, 'after it entered'], [b.s1 + 1, 'after it left']];
-  const rows = isEntry(b) ? inside : [[b.s0, 'before'], [b.s1 + 1, 'after']];
+  const inside = [[b.s0, 'before it enters'], [b.s0 + 1, 'after it entered']].concat(b.s1 < 0 ? [] : [[b.s1 + 1, 'after it left']]);
+  const rows = b.s0 < 0 ? [] : isEntry(b) ? inside : [[b.s0, 'before'], [b.s1 + 1, 'after']];
   el('cmds').innerHTML = !run.steps ? '<span><code>ir events IMAGE TRACE</code> prints the positions of events.</span>' :
     rows.map(([s, w]) => `<code>goto ${b.t} ${s}</code><span>${w}</span><button data-copy=\"goto ${b.t} ${s}\">Copy</button>`).join('');
 }
@@ -455,7 +456,7 @@ function across(d) {
   for (let t = chosen.t + d; t >= 0 && t < lanes.length; t += d) if (lanes[t].length) return choose(lanes[t].reduce(near), true);
 }
 function spacing() {
-  if (!run.steps) return;
+  if (!spaced) return;
   const at = middle();
   steps = !steps; fit(); scale = Math.max(scale, steps ? 0 : 30);
   if (chosen) left = X0(chosen) - (at - GUT) / scale;
@@ -475,7 +476,7 @@ const KEYS = {
   ArrowLeft: () => along(-1), ArrowRight: () => along(1), ArrowUp: () => across(-1), ArrowDown: () => across(1),
   Home: () => chosen && choose(lanes[chosen.t][0], true), End: () => chosen && choose(lanes[chosen.t][lanes[chosen.t].length - 1], true),
   n: () => nextStale(1), p: () => nextStale(-1), m: () => chosen && maker(chosen) && choose(maker(chosen), true),
-  c: () => chosen && run.steps && copy(`goto ${chosen.t} ${chosen.s0}`), l: spacing, 0: whole, Escape: () => choose(null),
+  c: () => chosen && run.steps && chosen.s0 >= 0 && copy(`goto ${chosen.t} ${chosen.s0}`), l: spacing, 0: whole, Escape: () => choose(null),
   '+': () => zoom(1.5, middle()), '=': () => zoom(1.5, middle()), '-': () => zoom(1 / 1.5, middle()),
   g: () => el('find').focus(), '?': () => el('keys').showModal(),
 };
@@ -506,7 +507,7 @@ main.addEventListener('pointermove', e => {
   const b = hit(e), tip = el('tip');
   if (b !== hover) { hover = b; draw(); }
   tip.style.display = b ? 'block' : 'none'; if (!b) return;
-  tip.textContent = `thread ${b.t} event ${b.i}: ${nameOf(b)}` + (run.steps ? `\\ngoto ${b.t} ${b.s0}` : '');
+  tip.textContent = `thread ${b.t} event ${b.i}: ${nameOf(b)}` + (run.steps && b.s0 >= 0 ? `\\ngoto ${b.t} ${b.s0}` : '');
   tip.style.left = Math.min(e.clientX + 14, innerWidth - 240) + 'px'; tip.style.top = e.clientY + 16 + 'px';
 });
 main.addEventListener('pointerup', e => { const d = drag; drag = null; main.classList.remove('drag'); if (d && !d.far) choose(hit(e)); });
@@ -554,10 +555,10 @@ function size() {
 el('title').textContent = [many(lanes.length, 'thread'), many(run.objects, 'object'), many(total, 'event')].join(', ') +
   (part ? `; the part around event ${part[1]} of thread ${part[0]}` : '');
 document.title = `Run: ${el('title').textContent}`;
-document.querySelectorAll('[data-if]').forEach(r => { r.hidden = !(r.dataset.if === 'steps' ? run.steps : stales.length); });
+document.querySelectorAll('[data-if]').forEach(r => { r.hidden = !{ steps: run.steps, spaced, stale: stales.length }[r.dataset.if]; });
 el('stale').hidden = !stales.length;
 el('stale').textContent = `\\u26a0 ${many(stales.length, run.steps ? 'stale write' : 'possible stale write')}`;
-el('spacing').hidden = !run.steps;
+el('spacing').hidden = !spaced;
 theme(); legend(); size(); tell();
 const wanted = location.hash.match(/^#(\\d+)\\.(\\d+)/);
 if (location.hash === '#all') whole();

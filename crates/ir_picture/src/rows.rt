@@ -2,7 +2,7 @@
 
 ghost use Rattle.std.specs.Prelude.{◌≡◌, ◌≤◌, length, IfOk};
 ghost use Rattle.std.specs.String.{string_bytes};
-ghost use Rattle.ir_picture.specs.Numbers.{row_start, event_numbers, first_numbers, place_numbers, fold_numbers, row_of, box_row, thread_row, stale_row};
+ghost use Rattle.ir_picture.specs.Numbers.{row_start, event_numbers, first_numbers, place_numbers, fold_numbers, row_with, row_of, box_row, thread_row, stale_row};
 ghost use Rattle.ir_picture.specs.Progress.{end_part, point_part};
 ghost use Rattle.ir_picture.specs.Boxes.{IsBox};
 ghost use Rattle.ir_trace.specs.Encoding.{kind_tag};
@@ -78,8 +78,11 @@ fn first_numbers(alloc: Global, events: &[Event]) -> Result<String, AllocError>
     event_numbers(alloc, events[0])
 }
 
-// What is said of a box of more than one event: that it has no steps, and what it reads of this many objects.
-fn fold_numbers(alloc: Global, events: &[Event], objects: u8) -> Result<String, AllocError>
+/// What is said of a box of more than one event: that it has no steps, and what it reads of this many objects.
+///
+/// # Errors
+/// Out of memory.
+pub fn fold_numbers(alloc: Global, events: &[Event], objects: u8) -> Result<String, AllocError>
     ensures { IfOk result (λ s. string_bytes s ≡ fold_numbers objects events.now) }
 {
     if events.len() <= 1 {
@@ -87,6 +90,29 @@ fn fold_numbers(alloc: Global, events: &[Event], objects: u8) -> Result<String, 
     }
     let pairs = pairs_read(alloc, events, objects)?;
     format!(in alloc; ",-1,-1,[{pairs}]")
+}
+
+/// The row of a box with these events, which ends so.
+///
+/// # Errors
+/// Out of memory.
+pub fn row_with(
+    alloc: Global,
+    events: &[Event],
+    own: &PlacedBox,
+    last: &str,
+) -> Result<String, AllocError>
+    requires { 1 ≤ length events.now }
+    ensures { IfOk result (λ s. string_bytes s ≡ row_with events.now own.now last.now) }
+{
+    let EventBox {
+        thread,
+        event,
+        count,
+    } = own.events;
+    let first = first_numbers(alloc, events)?;
+    let places = place_numbers(alloc, own)?;
+    format!(in alloc; "[{thread},{event},{count}{first}{places}{last}]")
 }
 
 // The row of a box with these events.
@@ -99,15 +125,8 @@ fn row_of(
     requires { 1 ≤ length events.now }
     ensures { IfOk result (λ s. string_bytes s ≡ row_of objects events.now own.now) }
 {
-    let EventBox {
-        thread,
-        event,
-        count,
-    } = own.events;
-    let first = first_numbers(alloc, events)?;
-    let places = place_numbers(alloc, own)?;
     let fold = fold_numbers(alloc, events, objects)?;
-    format!(in alloc; "[{thread},{event},{count}{first}{places}{fold}]")
+    row_with(alloc, events, own, &fold)
 }
 
 /// The row of a box.

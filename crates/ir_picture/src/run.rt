@@ -7,7 +7,7 @@ ghost use Rattle.ir_files.specs.Writers.{writer_of, Reports, fault_text};
 ghost use Rattle.ir_files.specs.declared.exit_status.ExitStatus.TheVariants as status;
 ghost use Rattle.ir_past.specs.Answers.{AreCoherent, Answered};
 ghost use Rattle.ir_picture.specs.Progress.{IsOf};
-ghost use Rattle.ir_picture.specs.Answers.{IsForm, IsThere, IsTraceAnswer, IsViewAnswer, IsUnsaid, IsUnanswered, page_head, page_tail, page_text, circle_line, many_line, status_of, fault_words};
+ghost use Rattle.ir_picture.specs.Answers.{IsForm, IsThere, IsTraceAnswer, IsViewAnswer, IsUnsaid, IsUnanswered, page_head, page_tail, page_of, page_text, circle_line, many_line, status_of, fault_words};
 ghost use Rattle.ir_picture.specs.declared.asked.Form.TheVariants as form;
 ghost use Rattle.ir_picture.specs.declared.view_err.ViewErr.{ViewErr};
 
@@ -39,8 +39,11 @@ pub fn circle_answer(alloc: Global, circle: &Circle) -> Result<Answer, AllocErro
     line_answer(alloc, ExitStatus::NotFit, &line)
 }
 
-// That a page would have this many boxes.
-fn many_answer(alloc: Global, count: usize) -> Result<Answer, AllocError>
+/// The answer that a page would have this many boxes.
+///
+/// # Errors
+/// Out of memory.
+pub fn many_answer(alloc: Global, count: usize) -> Result<Answer, AllocError>
     ensures { IfOk result (λ a. (a.status ≡ status.NotFit) × (a.text.items ≡ many_line count)) }
 {
     let line = format!(in alloc; "too many boxes {count}\n")?;
@@ -80,6 +83,19 @@ fn push_tail(text: &mut Vec<u8>) -> Result<(), AllocError>
     push_four(text, TAIL_1, TAIL_2, TAIL_3, TAIL_4)
 }
 
+/// The page that has this data.
+///
+/// # Errors
+/// Out of memory.
+pub fn page_of(alloc: Global, data: &str) -> Result<Vec<u8>, AllocError>
+    ensures { IfOk result (λ v. v.items ≡ page_of data.now) }
+{
+    let mut text = page_head(alloc)?;
+    text.extend_from_slice(data.as_bytes())?;
+    push_tail(&mut text)?;
+    Ok(text)
+}
+
 // The page of a picture.
 fn page_text(
     alloc: Global,
@@ -91,10 +107,7 @@ fn page_text(
     ensures { IfOk result (λ v. v.items ≡ page_text trace.now near.now picture.now) }
 {
     let data = data_text(alloc, trace, near, picture)?;
-    let mut text = page_head(alloc)?;
-    text.extend_from_slice(data.as_bytes())?;
-    push_tail(&mut text)?;
-    Ok(text)
+    page_of(alloc, &data)
 }
 
 // A picture as a page, if it has no more boxes than that may have.

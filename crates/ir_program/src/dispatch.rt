@@ -116,10 +116,10 @@ fn print<D: Folder, O: Sink, E: Sink>(
         Print::Trace(arguments) => trace_file(alloc, folder, arguments, out, faults),
         Print::Events(arguments) => { events_file(alloc, folder, arguments, explains, out, faults) }
         Print::Stale(arguments) => { stale_file(alloc, folder, arguments, explains, out, faults) }
-        Print::Who(arguments) => who_file(alloc, folder, arguments, out, faults),
+        Print::Who(arguments) => who_file(alloc, folder, arguments, explains, out, faults),
         Print::Why(arguments) => why_file(alloc, folder, arguments, out, faults),
         Print::Diff(arguments) => diff_files(alloc, folder, arguments, out, faults),
-        Print::View(arguments) => view_file(alloc, folder, arguments, out, faults),
+        Print::View(arguments) => view_file(alloc, folder, arguments, explains, out, faults),
     }
 }
 

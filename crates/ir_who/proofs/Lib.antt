@@ -1,2 +1,3 @@
 mod Shown
 mod Listed
+mod Within

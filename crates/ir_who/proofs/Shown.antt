@@ -3,6 +3,9 @@ use Rattle.std.proofs.Common.{◌≡◌, ◌+◌, ◌<◌, ◌≤◌, ℕ, suc, 
 use Rattle.std.proofs.lemmas.List.{at_drop_more, at_drop_all}
 use Rattle.ir_past.specs.declared.place.Place.{Place}
 use Rattle.ir_who.specs.Lines.{version_line, version_lines, read_line, read_lines}
+use Rattle.ir_fit.specs.Fit.{FittedTrace}
+use Rattle.ir_who.specs.FitLines.{dated_line, dated_lines, fit_read_line, fit_read_lines}
+use Rattle.ir_who.specs.declared.dated.Dated.{Dated}
 use Rattle.ir_who.specs.declared.version.Version.{Version}
 
 -- of what is left to put, the first line was put
@@ -46,3 +49,36 @@ next_read n xs x line some same = read_next n xs x some ∙ ap (λ (z : List ℕ
 pub no_read : (n : ℕ) (xs : List Place) → length xs ≤ n → read_lines (drop n xs) ≡ []
 unfolding read_lines
 no_read n xs all = at_drop_all read_lines xs n all
+
+-- ---- with steps
+
+dated_next : (k n : ℕ) (xs : List Dated) (x : Dated) → n < length xs
+    → dated_lines k (drop n xs) ≡ dated_line k (get_or xs n x) ++ dated_lines (suc k) (drop (n + 1) xs)
+unfolding dated_lines
+dated_next k n xs x some = at_drop_more (dated_lines k) xs n x some
+
+-- the line of the next version comes first in what is left
+pub next_dated : (n : ℕ) (xs : List Dated) (x : Dated) (line : List ℕ) → n < length xs → line ≡ dated_line n (get_or xs n x)
+    → dated_lines n (drop n xs) ≡ line ++ dated_lines (n + 1) (drop (n + 1) xs)
+next_dated n xs x line some same = dated_next n n xs x some
+    ∙ ap (λ (z : List ℕ). z ++ dated_lines (suc n) (drop (n + 1) xs)) (sym same)
+    ∙ (let on : suc n ≡ n + 1 = omega arith in ap (λ k. line ++ dated_lines k (drop (n + 1) xs)) on)
+
+pub no_dated : (k n : ℕ) (xs : List Dated) → length xs ≤ n → dated_lines k (drop n xs) ≡ []
+unfolding dated_lines
+no_dated k n xs all = at_drop_all (dated_lines k) xs n all
+
+fit_read_next : (f : FittedTrace) (n : ℕ) (xs : List Place) (x : Place) → n < length xs
+    → fit_read_lines f (drop n xs) ≡ fit_read_line f (get_or xs n x) ++ fit_read_lines f (drop (n + 1) xs)
+unfolding fit_read_lines
+fit_read_next f n xs x some = at_drop_more (fit_read_lines f) xs n x some
+
+-- the line of the next read entry comes first in what is left
+pub next_fit_read : (f : FittedTrace) (n : ℕ) (xs : List Place) (x : Place) (line : List ℕ) → n < length xs → line ≡ fit_read_line f (get_or xs n x)
+    → fit_read_lines f (drop n xs) ≡ line ++ fit_read_lines f (drop (n + 1) xs)
+next_fit_read f n xs x line some same =
+    fit_read_next f n xs x some ∙ ap (λ (z : List ℕ). z ++ fit_read_lines f (drop (n + 1) xs)) (sym same)
+
+pub no_fit_read : (f : FittedTrace) (n : ℕ) (xs : List Place) → length xs ≤ n → fit_read_lines f (drop n xs) ≡ []
+unfolding fit_read_lines
+no_fit_read f n xs all = at_drop_all (fit_read_lines f) xs n all

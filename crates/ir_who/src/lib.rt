@@ -1,6 +1,9 @@
 //! Who made each version of an object, and who read it, by a recorded trace.
 #![tactic(auto)]
 
+mod dated;
+mod fit_lines;
+mod fit_run;
 mod lines;
 mod question;
 mod run;
@@ -9,6 +12,8 @@ mod version;
 mod versions;
 mod who_err;
 
+pub use dated::Dated;
+pub use fit_run::who_fit_run;
 pub use question::Question;
 pub use run::who_run;
 pub use version::Version;

@@ -1,6 +1,6 @@
 //! `ir stale`, `ir who`, `ir diff` and `ir view`: what the traces in files say of their past is printed.
 
-ghost use Rattle.std.specs.Prelude.{◌≡◌, false};
+ghost use Rattle.std.specs.Prelude.{◌≡◌, OnSome, false};
 
 use crate::commands::bytes_of;
 use crate::commands::debug::explain_files;
@@ -9,11 +9,50 @@ use ir_diff::diff_run;
 use ir_files::{ExitStatus, Folder, MOST_BYTES};
 use ir_past::stale_run;
 use ir_picture::{Around, Asked, Form, view_run};
+use ir_picture_run::view_fit_run;
 use ir_rests::rests_run;
 use ir_stream::Sink;
-use ir_who::{Question, who_run};
+use ir_who::{Question, who_fit_run, who_run};
 use ir_why::why_run;
 use std::alloc::Global;
+
+// The bytes of the file of a trace, and of that of an image if one is named.
+#[derive(Drop)]
+struct Given {
+    trace: Vec<u8>,
+    image: Option<Vec<u8>>,
+}
+
+impl Given {
+    // The bytes of the image, if one is named.
+    fn image(&self) -> Option<&[u8]> {
+        match &self.image {
+            Some(image) => Some(image.as_slice()),
+            None => None,
+        }
+    }
+}
+
+// The bytes of the files that are named; if there are none, the reason is reported.
+fn given<D: Folder, E: Sink>(
+    alloc: Global,
+    folder: &D,
+    faults: &mut E,
+    trace: &String,
+    image: &Option<String>,
+) -> Option<Given>
+    ensures kept { OnSome result (faults.new ≡ faults.old) }
+{
+    let trace = bytes_of(alloc, folder, faults, trace.as_str(), MOST_BYTES)?;
+    let Some(image) = image else {
+        return Some(Given { trace, image: None });
+    };
+    let image = bytes_of(alloc, folder, faults, image.as_str(), MOST_BYTES)?;
+    Some(Given {
+        trace,
+        image: Some(image),
+    })
+}
 
 // Prints the stale writes of the trace in a file, with an image those that rest on what was read. If a person looks on, it is said in words
 // why the image has no run with the trace.
@@ -28,28 +67,26 @@ pub fn stale_file<D: Folder, O: Sink, E: Sink>(
     requires writes { O.broken out.old ≡ false }
     requires reports { E.broken faults.old ≡ false }
 {
-    let Some(trace) = bytes_of(alloc, folder, faults, arguments.trace.as_str(), MOST_BYTES) else {
+    let Some(given) = given(alloc, folder, faults, &arguments.trace, &arguments.image) else {
         return ExitStatus::Failed;
     };
-    let trace = trace.as_slice();
-    let Some(image) = &arguments.image else {
+    let trace = given.trace.as_slice();
+    let Some(image) = given.image() else {
         return stale_run(alloc, trace, out, faults);
     };
-    let Some(image) = bytes_of(alloc, folder, faults, image.as_str(), MOST_BYTES) else {
-        return ExitStatus::Failed;
-    };
-    let status = rests_run(alloc, image.as_slice(), trace, out, faults);
+    let status = rests_run(alloc, image, trace, out, faults);
     if explains {
-        explain_files(alloc, image.as_slice(), trace, status, faults);
+        explain_files(alloc, image, trace, status, faults);
     }
     status
 }
 
-// Prints the versions of an object of the trace in a file.
+// Prints the versions of an object of the trace in a file, with an image their steps too.
 pub fn who_file<D: Folder, O: Sink, E: Sink>(
     alloc: Global,
     folder: &D,
     arguments: &WhoArguments,
+    explains: bool,
     out: &mut O,
     faults: &mut E,
 ) -> ExitStatus
@@ -60,10 +97,18 @@ pub fn who_file<D: Folder, O: Sink, E: Sink>(
         object: arguments.object,
         version: arguments.version,
     };
-    match bytes_of(alloc, folder, faults, arguments.trace.as_str(), MOST_BYTES) {
-        Some(bytes) => who_run(alloc, bytes.as_slice(), &asked, out, faults),
-        None => ExitStatus::Failed,
+    let Some(given) = given(alloc, folder, faults, &arguments.trace, &arguments.image) else {
+        return ExitStatus::Failed;
+    };
+    let trace = given.trace.as_slice();
+    let Some(image) = given.image() else {
+        return who_run(alloc, trace, &asked, out, faults);
+    };
+    let status = who_fit_run(alloc, image, trace, &asked, out, faults);
+    if explains {
+        explain_files(alloc, image, trace, status, faults);
     }
+    status
 }
 
 // Prints why an event of the trace in a file came when it did.
@@ -128,11 +173,12 @@ fn picture_asked(arguments: &ViewArguments) -> Asked {
     Asked { form, around }
 }
 
-// Prints a picture of the trace in a file.
+// Prints a picture of the trace in a file, with an image one of the run.
 pub fn view_file<D: Folder, O: Sink, E: Sink>(
     alloc: Global,
     folder: &D,
     arguments: &ViewArguments,
+    explains: bool,
     out: &mut O,
     faults: &mut E,
 ) -> ExitStatus
@@ -140,8 +186,16 @@ pub fn view_file<D: Folder, O: Sink, E: Sink>(
     requires reports { E.broken faults.old ≡ false }
 {
     let asked = picture_asked(arguments);
-    match bytes_of(alloc, folder, faults, arguments.trace.as_str(), MOST_BYTES) {
-        Some(bytes) => view_run(alloc, bytes.as_slice(), &asked, out, faults),
-        None => ExitStatus::Failed,
+    let Some(given) = given(alloc, folder, faults, &arguments.trace, &arguments.image) else {
+        return ExitStatus::Failed;
+    };
+    let trace = given.trace.as_slice();
+    let Some(image) = given.image() else {
+        return view_run(alloc, trace, &asked, out, faults);
+    };
+    let status = view_fit_run(alloc, image, trace, &asked, out, faults);
+    if explains {
+        explain_files(alloc, image, trace, status, faults);
     }
+    status
 }

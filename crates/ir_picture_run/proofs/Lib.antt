@@ -1,0 +1,5 @@
+mod Pushed
+mod Kept
+mod Circles
+mod Lasts
+mod Shown

@@ -1,0 +1,4 @@
+pub mod Steps
+pub mod Resting
+pub mod Numbers
+pub mod Answers

@@ -1,0 +1,14 @@
+//! A picture of a run: that of its trace, with the steps of its boxes, and with the stale writes that rest on what was read.
+#![tactic(auto)]
+
+mod data;
+mod drawing;
+mod drawn;
+mod keeping;
+mod resting;
+mod rows;
+mod run;
+
+pub use drawn::Drawn;
+pub use resting::Resting;
+pub use run::view_fit_run;
