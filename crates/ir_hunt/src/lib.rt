@@ -7,6 +7,7 @@ mod report;
 mod search;
 mod seeker;
 mod shown;
+mod stale;
 mod stretches;
 
 pub use hunting::{hunt_run, order_of_seed};
