@@ -38,6 +38,7 @@ edits: ir
 # The program as a person runs it: devices, pipes, signals, the commands of README, guide and examples. Needs Linux, bash and xxd beside.
 program-test: ir
 	python3 tests/program.py ./ir
+	python3 tests/least.py ./ir
 
 # The page of `ir view` in a browser, and its data against a plain reading of recordings. Needs chromium beside.
 view-test: ir

@@ -22,11 +22,13 @@ CONSTANT = re.compile(r"const (\w+): &str =\s*" + TEXT)
 ROW = re.compile(rf"name: {TEXT},\s+about: {TEXT},\s+after: (\w+)::(\w+)")
 # An argument, and one that may be left out.
 ARGUMENT = re.compile(rf"file_arg\(\s*alloc,\s*(\w+),\s*{TEXT}|Arg::new\(alloc, (\w+)\)\s*\.help\(\s*{TEXT}")
-OPTION = re.compile(r"fn (\w+)_arg<'a>[^{]*\{\s+Arg::new\(alloc, \w+\)\s*\.long\((\w+)\)(.*?)\.help\(\s*" + TEXT, re.DOTALL)
+OPTION = re.compile(r"fn (\w+)_arg<'a>[^{]*\{\s+Arg::new\(alloc, \w+\)\s*\.long\((\w+)\)((?:(?!\n}).)*?)\.help\(\s*" + TEXT, re.DOTALL)
+# The option that names an image, of which each subcommand says what it is for.
+FROM_IMAGE = re.compile(rf"from_image_arg\(\s*alloc,\s*{TEXT}")
 # Where a subcommand's arguments are put together, and what is put together there: an option, or the options that are shared.
 PUT_TOGETHER = re.compile(r"pub fn with_arguments<'a>.*?\n\}", re.DOTALL)
 SHARED = re.compile(r"pub fn with_options<'a>.*?\n\}", re.DOTALL)
-PUT = re.compile(r"(\w+)_arg\(alloc|(with_options)\(alloc")
+PUT = re.compile(r"(\w+)_arg\(\s*alloc|(with_options)\(alloc")
 VALUE = re.compile(r"\.value_name\(" + TEXT)
 VALUES = re.compile(r"\.value_names\(&\[([^\]]*)\]")
 DEFAULT = re.compile(r"\.default_value\(" + TEXT)
@@ -94,6 +96,8 @@ def subcommands():
     for name, about, module, after in ROW.findall(source_of("subcommands")):
         source = source_of(module)
         options, forms = shared | options_of(source, files), []
+        if image := FROM_IMAGE.search(source):
+            options["from_image"] = ("--image IMAGE", meant(image[1]))
         for function in named_in(source, PUT_TOGETHER):
             forms += named_in(recording, SHARED) if function == "with_options" else [function]
         constants = files | constants_of(source)

@@ -63,8 +63,8 @@ since thread 1 event 1 waited for thread 0 event 0
 # The same with the image.
 WHO_STEPS = b"""object 0 versions 3
 version 0 by first words readers 2
-version 1 by thread 1 event 1 step 18 readers 0
-version 2 by thread 0 event 1 step 18 readers 0
+version 1 by thread 1 event 1 step 21 readers 0
+version 2 by thread 0 event 1 step 21 readers 0
 """
 WHO_STEPS_0 = b"""version 0 by first words readers 2
 read thread 0 event 0 step 2
@@ -118,7 +118,7 @@ ANSWERS = (
     ("who bad.trc 00 2", b"version 2 by thread 0 event 1 readers 0\nlast\n"),
     ("who bad.trc 0 --image lost.img", WHO_STEPS),
     ("who bad.trc 0 0 --image lost.img", WHO_STEPS_0),
-    ("who --image lost.img bad.trc 0 2", b"version 2 by thread 0 event 1 step 18 readers 0\nlast\n"),
+    ("who --image lost.img bad.trc 0 2", b"version 2 by thread 0 event 1 step 21 readers 0\nlast\n"),
     ("why bad.trc 1 1 --image lost.img", WHY_STEPS),
     ("why bad.trc 1 1 --image lost.img --at 7,13", WHY_STEPS.replace(b"step 10\npast", b"step 10 open\npast")),
     ("why bad.trc 1 1 --image lost.img --at 11,0", WHY_STEPS.replace(b"step 10\npast", b"step 10 met\npast")),

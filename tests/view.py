@@ -11,6 +11,7 @@ each guest, and fails at the first difference.
 """
 import json
 import random
+import re
 import struct
 import subprocess
 import sys
@@ -253,6 +254,22 @@ class Program:
         return data
 
 
+    def check_image(self, trace, data):
+        """With the image of its guest: the same boxes with their steps, and the stale writes that rest on what was read."""
+        image = trace.with_suffix(".img")
+        steps = {tuple(map(int, found[:2])): int(found[2]) for found in re.findall(r"thread (\d+) event (\d+) step (\d+) ", self.run("events", image, trace))}
+        rests = [(int(t), int(read), int(event), int(word), int(was, 16), int(now, 16), int(reason == "way")) for t, event, read, word, was, now, reason in
+                 re.findall(r"thread (\d+) event (\d+) step .* read event (\d+) .* word (\d+) was (\w+) is (\w+) (value|way)\n", self.run("stale", trace, "--image", image))]
+        shown = json.loads(self.run("view", trace, "--image", image, "--json"))
+        assert [box[:13] for box in shown["boxes"]] == [box[:13] for box in data["boxes"]], trace
+        assert all(box[13] == (steps[box[0], box[1]] if box[2] == 1 else -1) for box in shown["boxes"]), trace
+        assert all(box[14] > box[13] if box[3] in (4, 5) else box[14] == box[13] for box in shown["boxes"] if box[2] == 1), trace
+        assert [tuple(row) for row in shown["stale"]] == rests, (trace, shown["stale"], rests)
+        assert len(self.run("view", trace, "--image", image)) > len(self.head)
+        json.loads(self.run("view", trace, "--image", image, "--chrome"))
+        return len(rests)
+
+
 def summary(found):
     """What was looked at, in words."""
     boxes = [box for data in found if data for box in data["boxes"]]
@@ -265,8 +282,12 @@ def main():
     with tempfile.TemporaryDirectory() as folder:
         folder = Path(folder)
         for name, text in (guests() | {"many": many(5, 20)}).items():
-            found = [program.check(record(sys.argv[1], folder, name, text, seed)) for seed in range(count)]
-            print(f"{name}: {summary(found)}")
+            found, rests = [], 0
+            for seed in range(count):
+                trace = record(sys.argv[1], folder, name, text, seed)
+                found.append(program.check(trace))
+                rests += program.check_image(trace, found[-1])
+            print(f"{name}: {summary(found)}, of which {rests} rest on what was read")
         chance, found = random.Random(1), []
         for number in range(10 * count):
             trace = folder / f"random_{number}.trc"

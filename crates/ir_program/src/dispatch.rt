@@ -103,7 +103,7 @@ fn make<D: Folder, E: Sink>(
 fn print<D: Folder, O: Sink, E: Sink>(
     alloc: Global,
     folder: &D,
-    what: &Print,
+    what: &mut Print,
     explains: bool,
     out: &mut O,
     faults: &mut E,
@@ -117,7 +117,7 @@ fn print<D: Folder, O: Sink, E: Sink>(
         Print::Events(arguments) => { events_file(alloc, folder, arguments, explains, out, faults) }
         Print::Stale(arguments) => { stale_file(alloc, folder, arguments, explains, out, faults) }
         Print::Who(arguments) => who_file(alloc, folder, arguments, explains, out, faults),
-        Print::Why(arguments) => why_file(alloc, folder, arguments, out, faults),
+        Print::Why(arguments) => why_file(alloc, folder, arguments, explains, out, faults),
         Print::Diff(arguments) => diff_files(alloc, folder, arguments, out, faults),
         Print::View(arguments) => view_file(alloc, folder, arguments, explains, out, faults),
     }
@@ -183,7 +183,7 @@ where
                 faults,
             )
         }
-        Asked::Print(what) => print(alloc, folder, &what, terminals.faults, out, faults),
+        Asked::Print(mut what) => print(alloc, folder, &mut what, terminals.faults, out, faults),
         Asked::Help(text) => help(text.as_str(), out, faults),
         Asked::Nothing(why) => {
             say(faults, why.as_str(), "", "");

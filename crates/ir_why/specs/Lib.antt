@@ -4,3 +4,5 @@ pub mod Chain
 pub mod Tables
 pub mod Lines
 pub mod Answers
+pub mod FitLines
+pub mod FitAnswers

@@ -13,7 +13,7 @@ use ir_picture_run::view_fit_run;
 use ir_rests::rests_run;
 use ir_stream::Sink;
 use ir_who::{Question, who_fit_run, who_run};
-use ir_why::why_run;
+use ir_why::{FitQuestion, why_fit_run, why_run};
 use std::alloc::Global;
 
 // The bytes of the file of a trace, and of that of an image if one is named.
@@ -34,7 +34,7 @@ impl Given {
 }
 
 // The bytes of the files that are named; if there are none, the reason is reported.
-fn given<D: Folder, E: Sink>(
+fn files_of<D: Folder, E: Sink>(
     alloc: Global,
     folder: &D,
     faults: &mut E,
@@ -67,7 +67,7 @@ pub fn stale_file<D: Folder, O: Sink, E: Sink>(
     requires writes { O.broken out.old ≡ false }
     requires reports { E.broken faults.old ≡ false }
 {
-    let Some(given) = given(alloc, folder, faults, &arguments.trace, &arguments.image) else {
+    let Some(given) = files_of(alloc, folder, faults, &arguments.trace, &arguments.image) else {
         return ExitStatus::Failed;
     };
     let trace = given.trace.as_slice();
@@ -97,7 +97,7 @@ pub fn who_file<D: Folder, O: Sink, E: Sink>(
         object: arguments.object,
         version: arguments.version,
     };
-    let Some(given) = given(alloc, folder, faults, &arguments.trace, &arguments.image) else {
+    let Some(given) = files_of(alloc, folder, faults, &arguments.trace, &arguments.image) else {
         return ExitStatus::Failed;
     };
     let trace = given.trace.as_slice();
@@ -111,26 +111,39 @@ pub fn who_file<D: Folder, O: Sink, E: Sink>(
     status
 }
 
-// Prints why an event of the trace in a file came when it did.
+// Prints why an event of the trace in a file came when it did, with an image by which steps.
 pub fn why_file<D: Folder, O: Sink, E: Sink>(
     alloc: Global,
     folder: &D,
-    arguments: &WhyArguments,
+    arguments: &mut WhyArguments,
+    explains: bool,
     out: &mut O,
     faults: &mut E,
 ) -> ExitStatus
     requires writes { O.broken out.old ≡ false }
     requires reports { E.broken faults.old ≡ false }
 {
-    let asked = ir_why::Question {
+    let Some(given) = files_of(alloc, folder, faults, &arguments.trace, &arguments.image) else {
+        return ExitStatus::Failed;
+    };
+    let trace = given.trace.as_slice();
+    let what = ir_why::Question {
         thread: arguments.thread,
         event: arguments.event,
         most: arguments.lines,
     };
-    match bytes_of(alloc, folder, faults, arguments.trace.as_str(), MOST_BYTES) {
-        Some(bytes) => why_run(alloc, bytes.as_slice(), &asked, out, faults),
-        None => ExitStatus::Failed,
+    let Some(image) = given.image() else {
+        return why_run(alloc, trace, &what, out, faults);
+    };
+    let asked = FitQuestion {
+        what,
+        at: arguments.at.take(),
+    };
+    let status = why_fit_run(alloc, image, trace, &asked, out, faults);
+    if explains {
+        explain_files(alloc, image, trace, status, faults);
     }
+    status
 }
 
 // Prints what the traces in two files have in common.
@@ -186,7 +199,7 @@ pub fn view_file<D: Folder, O: Sink, E: Sink>(
     requires reports { E.broken faults.old ≡ false }
 {
     let asked = picture_asked(arguments);
-    let Some(given) = given(alloc, folder, faults, &arguments.trace, &arguments.image) else {
+    let Some(given) = files_of(alloc, folder, faults, &arguments.trace, &arguments.image) else {
         return ExitStatus::Failed;
     };
     let trace = given.trace.as_slice();
