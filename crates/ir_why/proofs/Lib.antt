@@ -3,3 +3,5 @@ mod NeedLists
 mod Gathered
 mod Linked
 mod Said
+mod Paired
+mod FitSaid

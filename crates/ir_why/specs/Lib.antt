@@ -4,3 +4,6 @@ pub mod Chain
 pub mod Tables
 pub mod Lines
 pub mod Answers
+pub mod Paired
+pub mod FitLines
+pub mod FitAnswers

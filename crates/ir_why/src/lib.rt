@@ -3,16 +3,26 @@
 
 mod before;
 mod chain;
+mod fit_lines;
+mod fit_question;
+mod fit_run;
+mod fit_texts;
+mod leaves;
 mod lines;
 mod link;
+mod need;
 mod question;
 mod run;
 mod starts;
 mod tables;
 mod texts;
+mod wait;
+mod why_err;
 
 pub use before::past_of;
 pub use chain::chain_of;
+pub use fit_question::FitQuestion;
+pub use fit_run::why_fit_run;
 pub use link::Link;
 pub use question::Question;
 pub use run::why_run;

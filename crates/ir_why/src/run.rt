@@ -20,9 +20,12 @@ use ir_stream::Sink;
 use ir_trace::Trace;
 use std::alloc::{AllocError, Global};
 
-// The event that is asked about, if the trace has it.
+/// The event that is asked about, if the trace has it.
+///
+/// # Errors
+/// The trace has no such thread, or the thread no such event.
 #[tactic(auto, using(ir_trace::proofs::CallerLemmas::most_recorded_threads))]
-fn find(trace: &Trace, asked: &Question) -> Result<Place, Absent>
+pub fn find(trace: &Trace, asked: &Question) -> Result<Place, Absent>
     ensures place { IfOk result (λ place. place ≡ event_asked asked.now) }
     ensures there { OnOk result (IsThere trace.now asked.now) }
     ensures absent { IfErr result (IsAbsent asked.now trace.now) }

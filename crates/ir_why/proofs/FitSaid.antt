@@ -1,0 +1,21 @@
+-- What is answered about bytes of an image and of a trace.
+use Rattle.std.proofs.Common.{◌≡◌, ◌⊎◌, ℕ, inl, inr, List, sym, ◌∙◌}
+use Rattle.ir_fit.specs.Fit.{FittedTrace}
+use Rattle.ir_files.specs.Writers.{Writer}
+use Rattle.ir_files.specs.declared.exit_status.ExitStatus.{ExitStatus}
+use Rattle.ir_files.specs.declared.exit_status.ExitStatus.TheVariants as status
+use Rattle.ir_past.specs.Answers.{Answered}
+use Rattle.ir_fit_run.specs.Answers.{IsAnswerOf}
+use Rattle.ir_fit_run.proofs.CallerLemmas.{refusal_not}
+
+no_fault : (P : FittedTrace → List ℕ → Type 0) (image trace : List ℕ) (s : ExitStatus) (text : List ℕ) → IsAnswerOf P image trace s text
+    → (s ≡ status.Failed) ⊎ (s ≡ status.BadArguments) → ⊥
+no_fault P image trace s text (inl h) (inl failed) = let bad : status.Failed ≡ status.Done = sym failed ∙ h.status in cc
+no_fault P image trace s text (inl h) (inr bad) = let wrong : status.BadArguments ≡ status.Done = sym bad ∙ h.status in cc
+no_fault P image trace s text (inr h) (inl failed) = (refusal_not h.why).0 (sym failed ∙ h.status)
+no_fault P image trace s text (inr h) (inr bad) = (refusal_not h.why).1 (sym bad ∙ h.status)
+
+-- an answer leaves the status of neither a failure nor bad arguments
+pub answer_not : (P : FittedTrace → List ℕ → Type 0) (image trace : List ℕ) (s : ExitStatus) (w : Writer) → Answered (IsAnswerOf P image trace) s w
+    → (s ≡ status.Failed) ⊎ (s ≡ status.BadArguments) → ⊥
+answer_not P image trace s w a = no_fault P image trace s a.text a.is

@@ -1,0 +1,165 @@
+-- Lists whose elements belong to those of another, and events that are inside.
+use Rattle.std.proofs.Common.{◌≡◌, ℕ, zero, suc, ◌+◌, ◌-◌, ◌<◌, ◌≤◌, inl, inr, Some, List, [], ◌∷◌, ◌++◌, get_or, length, map, drop, flat_map, append_assoc, refl, sym, ap, ◌∙◌, subst, arith}
+use Rattle.std.specs.Prelude.{slice_get, replicate}
+use Rattle.std.proofs.lemmas.Bool.{cases_lt}
+use Rattle.std.proofs.lemmas.Option.{same_Some, none-some}
+use Rattle.std.proofs.lemmas.List.{get_or_past}
+use Rattle.ir_runs.specs.Run.{events}
+use Rattle.ir_log.specs.Logging.{label_of}
+use Rattle.ir_trace.specs.Recorded.{Recorded, RecordedThread}
+use Rattle.ir_trace.specs.TraceOf.{recorded_thread, absent}
+use Rattle.ir_fit.specs.Fit.{FittedTrace, HasRun}
+use Rattle.ir_fit.proofs.CallerLemmas.{entries_long, starts}
+use Rattle.ir_cut.specs.Positions.{cut_of, start_of, IsConsistentCut}
+use Rattle.ir_cut.proofs.CallerLemmas.{no_trail}
+use Rattle.ir_past.specs.declared.place.Place.{Place}
+use Rattle.ir_picture.specs.Needs.{HasNoCircle, IsCircleAt}
+use Rattle.ir_picture.specs.Runs.{RunsHaveNoCircle}
+use Rattle.ir_picture.specs.declared.placed_box.PlacedBox.{PlacedBox}
+use Rattle.ir_fit_run.specs.Positions.{IsInside}
+use Rattle.ir_why.specs.Chain.{AreLinks}
+use Rattle.ir_why.specs.FitAnswers.{AreInside, IsLinkInside, AreLinksInside, first_cut}
+use Rattle.ir_why.specs.Paired.{ArePaired}
+use Rattle.ir_why.specs.Tables.{AreThere}
+use Rattle.ir_why.specs.declared.link.Link.{Link}
+use Rattle.ir_why.proofs.Filtered.{joined_cases}
+use Rattle.ir_why.proofs.Linked.{link_there}
+
+-- ---- pairs
+
+-- an element of a list is at its place
+pub at_index : {X : Type 0} (xs : List X) (n : ℕ) (d : X) → n < length xs → slice_get xs n ≡ Some (get_or xs n d)
+at_index [] n d l = absurd (omega arith)
+at_index (x ∷ xs) zero d l = refl
+at_index (x ∷ xs) (suc n) d l = at_index xs n d (omega arith)
+
+-- the first n elements have theirs
+pub record ArePairedTo {X Y : Type 0} (P : X → Y → Type 0) (xs : List X) (n : ℕ) (ys : List Y) : Type 0 where
+  pub size : length ys ≡ n
+  pub each : (k : ℕ) (x : X) (y : Y) → slice_get xs k ≡ Some x → slice_get ys k ≡ Some y → P x y
+
+pub none_paired : {X Y : Type 0} (P : X → Y → Type 0) (xs : List X) → ArePairedTo P xs 0 []
+none_paired P xs = record { size = refl; each = λ k x y a b. absurd (none-some y b) }
+
+pub next_paired : {X Y : Type 0} (P : X → Y → Type 0) (xs : List X) (n : ℕ) (ys : List Y) (x : X) (y : Y) → ArePairedTo P xs n ys
+    → slice_get xs n ≡ Some x → P x y → ArePairedTo P xs (n + 1) (ys ++ y ∷ [])
+next_paired P xs n ys x y h at is = record {
+  size = long ys y ∙ ap (λ k. k + 1) h.size;
+  each = λ k z w a b. elim (joined_cases ys (y ∷ []) k w b) [
+    | inl before ↦ h.each k z w a before
+    | inr here ↦ last k z w a here.0 here.1 here.2
+  ];
+}
+  where
+    long : {Y : Type 0} (ys : List Y) (y : Y) → length (ys ++ y ∷ []) ≡ length ys + 1
+    long [] y = refl
+    long (z ∷ zs) y =
+        let rest = long zs y in
+        let same : suc (length (zs ++ y ∷ [])) ≡ suc (length zs) + 1 = omega (arith, rest) in
+        same
+
+    last : (k : ℕ) (z : _) (w : _) → slice_get xs k ≡ Some z → (m : ℕ) → k ≡ length ys + m → slice_get (y ∷ []) m ≡ Some w → P z w
+    last k z w a zero e b =
+        let same : k ≡ n = let s = h.size in omega (arith, e, s) in
+        subst (λ q. P z q) (same_Some y w b)
+        (subst (λ q. P q y) (same_Some x z (sym at ∙ subst (λ q. slice_get xs q ≡ Some z) same a)) is)
+    last k z w a (suc m) e b = absurd (none-some w b)
+
+pub all_paired : {X Y : Type 0} (P : X → Y → Type 0) (xs : List X) (n : ℕ) (ys : List Y) → ArePairedTo P xs n ys → length xs ≤ n → n ≤ length xs
+    → ArePaired P xs ys
+all_paired P xs n ys h a b = record { size = let s = h.size in omega (arith, s, a, b); each = h.each }
+
+-- ---- what is inside
+
+-- an event of the trace is one of a thread of the guest
+pub there_inside : (f : FittedTrace) → HasRun f → (t i : ℕ) → t < length f.recorded.threads → i < length (recorded_thread f.recorded t).events
+    → IsInside f t i
+there_inside f h t i a b =
+    let l : t < length f.guest.entries = let n = h.whole.0.threads in omega (arith, a, n) in
+    record { thread = l; event = let long = entries_long f h t l in omega (arith, long, b) }
+
+pub are_inside : (f : FittedTrace) → HasRun f → (places : List Place) → AreThere f.recorded places → AreInside f places
+are_inside f h places there k p is = let own = there k p is in there_inside f h p.thread p.event own.0 own.1
+
+-- the other way
+pub inside_there : (f : FittedTrace) → HasRun f → (t i : ℕ) → IsInside f t i
+    → (t < length f.recorded.threads) × (i < length (recorded_thread f.recorded t).events)
+inside_there f h t i inside = (
+  (let a = inside.thread in let n = h.whole.0.threads in omega (arith, a, n)),
+  (let b = inside.event in let long = entries_long f h t inside.thread in omega (arith, b, long)),
+)
+
+-- the events of a chain
+pub links_inside : (f : FittedTrace) → HasRun f → (boxes : List PlacedBox) (n t i : ℕ) (links : List Link)
+    → t < length f.recorded.threads → i < length (recorded_thread f.recorded t).events → AreLinks f.recorded boxes n t i links → AreLinksInside f links
+links_inside f h boxes n t i [] a b are k l is = absurd (none-some l is)
+links_inside f h boxes n t i (x ∷ xs) a b are zero l is =
+    let there = link_there f.recorded boxes t i x are.1 in
+    let by = are.1.waiting.by in
+    let same = are.1.thread in
+    subst (λ (z : Link). IsLinkInside f z) (same_Some x l is) (record {
+      waiting = subst (λ z. IsInside f z x.waiting.event) (sym same) (there_inside f h t x.waiting.event a (omega (arith, by, b)));
+      needed = there_inside f h x.needed.thread x.needed.event there.0 there.1;
+    })
+links_inside f h boxes n t i (x ∷ xs) a b are (suc k) l is =
+    let there = link_there f.recorded boxes t i x are.1 in
+    links_inside f h boxes (n - 1) x.needed.thread x.needed.event xs there.0 there.1 are.2 k l is
+
+-- ---- the first cut
+
+first_number : (n t : ℕ) → cut_of (replicate n 0) t ≡ 0
+first_number zero t = refl
+first_number (suc n) zero = refl
+first_number (suc n) (suc t) = first_number n t
+
+pub first_consistent : (f : FittedTrace) → IsConsistentCut f (first_cut f)
+first_consistent f run whole = (
+  λ t. let none = first_number (length f.guest.entries) t in omega (arith, none),
+  λ t k u j a b emitted needed needs less. let none = first_number (length f.guest.entries) t in absurd (omega (arith, none, less)),
+)
+
+-- ---- circles
+
+-- a trace without a circle has none
+pub no_circle_there : (r : Recorded) (t e : ℕ) → HasNoCircle r → IsCircleAt r t e → ⊥
+no_circle_there r t e h c =
+    let all = h.2 t in
+    let most = c.full.most h.0 h.1 t in
+    let next = c.next in
+    let left = c.left in
+    omega (arith, all, most, next, left)
+
+-- the trace of a run has no circle
+pub run_no_circle : RunsHaveNoCircle → (f : FittedTrace) → HasRun f → (r : Recorded) → r ≡ f.recorded → (t e : ℕ) → IsCircleAt r t e → ⊥
+run_no_circle law f h r same t e c =
+    no_circle_there f.recorded t e
+    (law f.guest.code (start_of f) (starts f.guest f.recorded.budget f.recorded.profile) h.run h.whole.1.runs f.recorded (λ u. elim (cases_lt u (length f.guest.entries)) [
+      | inl l ↦ h.whole.1.logs u l
+      | inr past ↦ ap events (no_trail f h.run h.whole u past)
+          ∙ ap (λ (x : RecordedThread). map label_of x.events) (sym (get_or_past f.recorded.threads u absent
+          (let size = h.whole.0.threads in omega (arith, past, size))))
+    ]))
+    (subst (λ (x : Recorded). IsCircleAt x t e) same c)
+
+-- ---- texts
+
+-- the texts of the elements from one on
+next_text : {X : Type 0} (f : X → List ℕ) (xs : List X) (n : ℕ) (d : X) → n < length xs
+    → flat_map f (drop n xs) ≡ f (get_or xs n d) ++ flat_map f (drop (suc n) xs)
+next_text f [] n d l = absurd (omega (arith, l))
+next_text f (x ∷ xs) zero d l = refl
+next_text f (x ∷ xs) (suc n) d l = next_text f xs n d (omega (arith, l))
+
+-- the text of one element more
+pub one_text : {X : Type 0} (f : X → List ℕ) (xs : List X) (n : ℕ) (d : X) (old new all : List ℕ) → n < length xs → new ≡ old ++ f (get_or xs n d)
+    → old ++ flat_map f (drop n xs) ≡ all → new ++ flat_map f (drop (n + 1) xs) ≡ all
+one_text f xs n d old new all l is h =
+    let same : n + 1 ≡ suc n = omega arith in
+    ap (λ k. new ++ flat_map f (drop k xs)) same ∙ ap (λ t. t ++ flat_map f (drop (suc n) xs)) is
+    ∙ append_assoc old (f (get_or xs n d)) (flat_map f (drop (suc n) xs)) ∙ ap (λ t. old ++ t) (sym (next_text f xs n d l)) ∙ h
+
+-- a text that four others are added to
+pub five_texts : (a b c d e x y z all : List ℕ) → x ≡ a ++ b → y ≡ x ++ c → z ≡ y ++ d → all ≡ z ++ e → all ≡ a ++ (b ++ (c ++ (d ++ e)))
+five_texts a b c d e x y z all first second third last =
+    last ∙ ap (λ t. t ++ e) (third ∙ ap (λ t. t ++ d) (second ∙ ap (λ t. t ++ c) first))
+    ∙ append_assoc ((a ++ b) ++ c) d e ∙ append_assoc (a ++ b) c (d ++ e) ∙ append_assoc a b (c ++ (d ++ e))

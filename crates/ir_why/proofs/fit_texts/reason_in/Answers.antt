@@ -1,0 +1,41 @@
+use Rattle.std.proofs.Common.{◌++◌, ◌∙◌, sym, ap, subst, flat_map}
+use Rattle.ir_past.specs.Answers.{AreCoherent}
+use Rattle.ir_trace.specs.Recorded.{Recorded}
+use Rattle.ir_why.specs.Before.{IsPast}
+use Rattle.ir_why.specs.Lines.{past_line}
+use Rattle.ir_why.specs.FitLines.{need_line, least_line, wait_line}
+use Rattle.ir_fit_run.proofs.CallerLemmas.{run_coherent, event_inside}
+use Rattle.ir_why.proofs.Paired.{five_texts}
+use Rattle.ir_why.proofs.fit_texts.reason_in.Goals as goal
+
+pub past_of-requires-clause-coherent : goal.past_of-requires-clause-coherent
+past_of-requires-clause-coherent c = subst AreCoherent (sym c.trace-2.ensures.value) (run_coherent c.args.fitted.now c.known.ensures.run)
+
+pub past_of-requires-clause-event : goal.past_of-requires-clause-event
+past_of-requires-clause-event c = event_inside c.args.fitted.now c.known.ensures.run c.args.here.thread c.args.here.event c.requires.inside
+    c.trace-2.result.now c.trace-2.ensures.value
+
+pub returns : goal.returns
+returns c = λ ends placed. record {
+  here = c.in_ok-text.text.items;
+  is_here = c.in_ok-text.ensures;
+  needs = c.in_ok-needs.needs.items;
+  needed = c.in_ok-needs.ensures;
+  counts = c.in_ok-past.past.items;
+  past = subst (λ (r : Recorded). IsPast r c.args.here.thread c.args.here.event c.in_ok-past.past.items) c.trace-2.ensures.value c.in_ok-past.ensures;
+  least = c.in_ok-least.least;
+  is_least = c.in_ok-least.ensures;
+  boxes = c.args.boxes.now;
+  ends = ends;
+  placed = placed;
+  waits = c.in_ok-waits.waits.items;
+  chain = c.in_ok-waits.ensures;
+  lines = five_texts c.in_ok-text.text.items (flat_map (need_line c.args.at.now) c.in_ok-needs.needs.items) (past_line c.in_ok-past.past.items)
+      (least_line c.in_ok-least.least) (flat_map wait_line c.in_ok-waits.waits.items) c.push_needs.new.text.items c.extend_from_slice.new.self.items
+      c.extend_from_slice-2.new.self.items c.push_waits.new.text.items
+      (c.in_ok-push_needs.ensures ∙ ap (λ xs. c.in_ok-text.text.items ++ flat_map (need_line c.args.at.now) xs) c.deref.ensures.value)
+      (c.in_ok-extend_from_slice.ensures.items ∙ ap (λ xs. c.push_needs.new.text.items ++ xs)
+      (c.as_bytes.ensures.value ∙ c.in_ok-past_line.ensures ∙ ap past_line c.deref-2.ensures.value))
+      (c.in_ok-extend_from_slice-2.ensures.items ∙ ap (λ xs. c.extend_from_slice.new.self.items ++ xs) (c.as_bytes-2.ensures.value ∙ c.in_ok-least_line.ensures))
+      (c.in_ok-push_waits.ensures ∙ ap (λ xs. c.extend_from_slice-2.new.self.items ++ flat_map wait_line xs) c.deref-3.ensures.value);
+}

@@ -1,0 +1,162 @@
+-- What `ir why` answers where it is asked with an image.
+use Rattle.std.specs.Prelude.{◌≡◌, ◌+◌, ⊤, ℕ, List, [], length, replicate, Option, Some, None, false, codes}
+use Rattle.std.specs.Option.{option_map}
+use Rattle.std.specs.List.{slice_get}
+use Rattle.std.specs.Io.KnownBytes.{Appends}
+use Rattle.ir_log.specs.declared.event.Event.{Event}
+use Rattle.ir_fit.specs.Fit.{FittedTrace}
+use Rattle.ir_cut.specs.Positions.{IsConsistentCut, IsLeastCut}
+use Rattle.ir_files.specs.Writers.{Writer}
+use Rattle.ir_files.specs.declared.exit_status.ExitStatus.{ExitStatus}
+use Rattle.ir_files.specs.declared.exit_status.ExitStatus.TheVariants as status
+use Rattle.ir_past.specs.Answers.{NotAnswered, fault_words as unwritten_words}
+use Rattle.ir_past.specs.Past.{event_at}
+use Rattle.ir_past.specs.declared.past_err.PastErr.TheVariants.{NoMem}
+use Rattle.ir_past.specs.declared.place.Place.{Place}
+use Rattle.ir_picture.specs.Places.{ArePlaced}
+use Rattle.ir_picture.specs.declared.placed_box.PlacedBox.{PlacedBox}
+use Rattle.ir_picture.specs.declared.placed_box.Point.{Point}
+use Rattle.ir_picture.specs.declared.view_err.Absent.TheVariants as absent
+use Rattle.ir_events.specs.Events.{entry_of}
+use Rattle.ir_fit_run.specs.Answers.{IsAnswerOf}
+use Rattle.ir_fit_run.specs.Opened.{IsFit}
+use Rattle.ir_fit_run.specs.Positions.{IsInside, LeavesAfter, IsLeaveOf}
+use Rattle.ir_why.specs.Answers.{event_asked, IsThere, IsAbsent}
+use Rattle.ir_why.specs.Before.{IsPast}
+use Rattle.ir_why.specs.Chain.{AreLinks}
+use Rattle.ir_why.specs.FitLines.{here_line, fit_text}
+use Rattle.ir_why.specs.Needed.{AreNeeds}
+use Rattle.ir_why.specs.Paired.{ArePaired}
+use Rattle.ir_why.specs.declared.fit_question.FitQuestion.{FitQuestion}
+use Rattle.ir_why.specs.declared.link.Link.{Link}
+use Rattle.ir_why.specs.declared.need.Need.{Need}
+use Rattle.ir_why.specs.declared.wait.Wait.{Wait}
+use Rattle.ir_why.specs.declared.why_err.WhyErr.{WhyErr}
+use Rattle.ir_why.specs.declared.why_err.WhyErr.TheVariants as why
+
+-- each of these events is one of a thread of the guest
+abbrev pub AreInside : FittedTrace → List Place → Type 0
+AreInside f places = (k : ℕ) (p : Place) → slice_get places k ≡ Some p → IsInside f p.thread p.event
+
+-- so are the events of a link
+pub record IsLinkInside (f : FittedTrace) (l : Link) : Type 0 where
+  pub waiting : IsInside f l.waiting.thread l.waiting.event
+  pub needed : IsInside f l.needed.thread l.needed.event
+
+-- and of each of these
+abbrev pub AreLinksInside : FittedTrace → List Link → Type 0
+AreLinksInside f links = (k : ℕ) (l : Link) → slice_get links k ≡ Some l → IsLinkInside f l
+
+-- how many steps a thread takes before it leaves what its event entered; none, if it never does
+abbrev pub IsLeft : FittedTrace → Place → Option ℕ → Type 0
+IsLeft f p None = (k : ℕ) → LeavesAfter f p.thread p.event k → ⊥
+IsLeft f p (Some k) = IsLeaveOf f p.thread p.event k
+
+-- an event that is needed: what it logged, and where its thread leaves what it entered
+pub record IsNeed (f : FittedTrace) (p : Place) (x : Need) : Type 0 where
+  pub place : x.place ≡ p
+  pub logged : event_at f.recorded p.thread p.event ≡ Some x.event
+  pub left : IsLeft f p x.left
+
+-- a wait of a chain: the step that logs the event that waits, and where what it needs is left
+pub record IsWait (f : FittedTrace) (l : Link) (w : Wait) : Type 0 where
+  pub waiting : w.waiting ≡ l.waiting
+  pub step : w.step ≡ entry_of f l.waiting.thread l.waiting.event
+  pub needed : w.needed ≡ l.needed
+  pub left : IsLeft f l.needed w.left
+
+-- what an event needs of other threads, in its order
+pub record AreNeedsOf (f : FittedTrace) (p : Place) (xs : List Need) : Type 0 where
+  pub needs : List Place
+  pub are : AreNeeds f.recorded p.thread p.event needs
+  pub each : ArePaired (IsNeed f) needs xs
+
+-- the chain of at most this many waits that led to an event, by the places of a picture
+pub record AreWaitsOf (f : FittedTrace) (boxes : List PlacedBox) (most : ℕ) (p : Place) (ws : List Wait) : Type 0 where
+  pub links : List Link
+  pub are : AreLinks f.recorded boxes most p.thread p.event links
+  pub each : ArePaired (IsWait f) links ws
+
+-- the line of an event, with what it logged and its step
+pub record IsHereLine (f : FittedTrace) (p : Place) (line : List ℕ) : Type 0 where
+  pub event : Event
+  pub logged : event_at f.recorded p.thread p.event ≡ Some event
+  pub text : line ≡ here_line p event (entry_of f p.thread p.event)
+
+-- all threads at 0
+abbrev pub first_cut : FittedTrace → List ℕ
+first_cut f = replicate (length f.guest.entries) 0
+
+-- the least consistent cut that has the step by which an event is logged
+abbrev pub IsLeastFor : FittedTrace → Place → List ℕ → Type 0
+IsLeastFor f p cut = IsLeastCut f (first_cut f) p.thread (entry_of f p.thread p.event + 1) cut
+
+-- the lines about an event of a run: the event, what it needs of other threads, how much is before it, the least cut that has it, and the
+-- chain of at most this many waits that led to it; what is needed is held against a cut, if there is one
+pub record IsReasonIn (f : FittedTrace) (p : Place) (most : ℕ) (at : Option (List ℕ)) (text : List ℕ) : Type 0 where
+  pub here : List ℕ
+  pub is_here : IsHereLine f p here
+  pub needs : List Need
+  pub needed : AreNeedsOf f p needs
+  pub counts : List ℕ
+  pub past : IsPast f.recorded p.thread p.event counts
+  pub least : List ℕ
+  pub is_least : IsLeastFor f p least
+  pub boxes : List PlacedBox
+  pub ends : List Point
+  pub placed : ArePlaced f.recorded boxes ends
+  pub waits : List Wait
+  pub chain : AreWaitsOf f boxes most p waits
+  pub lines : text ≡ fit_text at here needs counts least waits
+
+-- the positions that are asked about, if they are
+abbrev pub positions_asked : FitQuestion → Option (List ℕ)
+positions_asked asked = option_map (λ v. v.items) asked.at
+
+-- these are positions of all threads, and a consistent cut
+abbrev pub IsCutOf : FittedTrace → List ℕ → Type 0
+IsCutOf f ps = (length ps ≡ length f.guest.entries) × IsConsistentCut f ps
+
+-- so are those that are asked about, if they are
+abbrev pub AreCuts : FittedTrace → Option (List ℕ) → Type 0
+AreCuts f None = ⊤
+AreCuts f (Some ps) = IsCutOf f ps
+
+-- the answer about a guest and a trace of one of its runs
+pub record IsFitReason (asked : FitQuestion) (f : FittedTrace) (text : List ℕ) : Type 0 where
+  pub there : IsThere f.recorded asked.what
+  pub at : AreCuts f (positions_asked asked)
+  pub reason : IsReasonIn f (event_asked asked.what) asked.what.most (positions_asked asked) text
+
+-- why there is no answer about a guest and a trace of one of its runs
+abbrev pub IsFitUnsaid : FitQuestion → FittedTrace → WhyErr → Type 0
+IsFitUnsaid asked f (why.Absent what) = IsAbsent asked.what f.recorded what
+IsFitUnsaid asked f why.NoCut = IsThere f.recorded asked.what × (AreCuts f (positions_asked asked) → ⊥)
+IsFitUnsaid asked f (why.Unwritten e) = e ≡ NoMem
+
+-- the run doesn't have what is asked about, and nothing was written
+pub record IsOfNone (asked : FitQuestion) (image trace : List ℕ) (e : WhyErr) (w : Writer) : Type 0 where
+  pub fitted : FittedTrace
+  pub fits : IsFit image trace fitted
+  pub lacks : IsFitUnsaid asked fitted e
+  pub none : Appends w.before w.after []
+  pub works : w.failed ≡ false
+
+-- why there is no answer about bytes, and what that leaves
+abbrev pub IsFitUnanswered : FitQuestion → List ℕ → List ℕ → WhyErr → Writer → Type 0
+IsFitUnanswered asked image trace (why.Absent what) w = IsOfNone asked image trace (why.Absent what) w
+IsFitUnanswered asked image trace why.NoCut w = IsOfNone asked image trace why.NoCut w
+IsFitUnanswered asked image trace (why.Unwritten e) w = NotAnswered (IsAnswerOf (IsFitReason asked) image trace) e w
+
+-- the exit status where there is no answer
+abbrev pub status_of : WhyErr → ExitStatus
+status_of (why.Absent what) = status.BadArguments
+status_of why.NoCut = status.BadArguments
+status_of (why.Unwritten e) = status.Failed
+
+-- why there is none, in words
+abbrev pub fault_words : WhyErr → List ℕ
+fault_words (why.Absent absent.Thread) = codes "the trace has no thread of this number"
+fault_words (why.Absent absent.Event) = codes "the thread has no event of this number"
+fault_words why.NoCut = codes "the positions are no consistent cut of the run"
+fault_words (why.Unwritten e) = unwritten_words e
