@@ -3,3 +3,5 @@
 pub use Rattle.ir_fit_run.proofs.Coherent.{run_coherent}
 -- answers that say why bytes don't fit, and that no answer leaves the status of a failure or of bad arguments
 pub use Rattle.ir_fit_run.proofs.Shown.{refusal_shown, refusal_not, not_failed}
+-- where the events of a thread are among its steps, and the leaves of what it entered
+pub use Rattle.ir_fit_run.proofs.Leaves.{inside, event_inside, entry_fits, leave_past, leave_within, leave_fits}

@@ -1,3 +1,4 @@
 mod Coherent
+mod Leaves
 mod Shown
 pub mod CallerLemmas

@@ -3,6 +3,8 @@
 
 mod opened;
 mod opening;
+mod positions;
 
 pub use opened::{Opened, Refusal};
 pub use opening::{open_fit, refuse};
+pub use positions::{leave_of, step_of};

@@ -28,6 +28,8 @@ mod trace_tests;
 #[cfg(test)]
 mod view_tests;
 #[cfg(test)]
+mod who_tests;
+#[cfg(test)]
 mod why_tests;
 #[cfg(test)]
 mod world_tests;

@@ -12,7 +12,7 @@ use Rattle.std.proofs.Math.Seq.{get_or-append_seam}
 use Rattle.ir_fit.specs.Fit.{FittedTrace}
 use Rattle.ir_past.specs.Past.{IsRow}
 use Rattle.ir_past.specs.declared.stale_write.StaleWrite.{StaleWrite}
-use Rattle.ir_rests.specs.Rests.{LeavesAt}
+use Rattle.ir_fit_run.specs.Positions.{LeavesAfter}
 use Rattle.ir_rests.specs.Watch.{IsSpan, IsSpanOf, IsWatch, IsFound, IsBuilt, AreBuilt, IsSorted, AreSorted}
 use Rattle.ir_rests.specs.declared.rest.Rest.{Rest}
 use Rattle.ir_rests.specs.declared.span.Span.{Span}
@@ -35,7 +35,7 @@ none_built f rows t w next spans opened = record {
 
 -- one row more, which is of another thread or is never left
 pub passed_built : (f : FittedTrace) (rows : List StaleWrite) (n t : ℕ) (w : Watch) (x : StaleWrite) → IsBuilt f rows n t w → slice_get rows n ≡ Some x
-    → (x.thread ≡ t → (k : ℕ) → LeavesAt f x k → ⊥) → IsBuilt f rows (n + 1) t w
+    → (x.thread ≡ t → (k : ℕ) → LeavesAfter f x.thread x.event k → ⊥) → IsBuilt f rows (n + 1) t w
 passed_built f rows n t w x is there none = record {
   next = is.next;
   opened = is.opened;
@@ -43,7 +43,7 @@ passed_built f rows n t w x is there none = record {
   covered = λ r y l here own. elim (cases_eq r n) [
     | inl same ↦
         let e : x ≡ y = same_row x y (sym there ∙ ap (slice_get rows) (sym same) ∙ here) in
-        inr (subst (λ (z : StaleWrite). (k : ℕ) → LeavesAt f z k → ⊥) e (none (ap (λ (z : StaleWrite). z.thread) e ∙ own)))
+        inr (subst (λ (z : StaleWrite). (k : ℕ) → LeavesAfter f z.thread z.event k → ⊥) e (none (ap (λ (z : StaleWrite). z.thread) e ∙ own)))
     | inr ne ↦ is.covered r y (omega (arith, l, ne)) here own
   ];
 }
@@ -95,7 +95,7 @@ set_built f rows n u ws new x l are there own is t d lt = elim (cases_eq t u) [
 ]
 
 pub same_built : (f : FittedTrace) (rows : List StaleWrite) (n : ℕ) (ws : List Watch) (x : StaleWrite) → AreBuilt f rows n ws → slice_get rows n ≡ Some x
-    → ((k : ℕ) → LeavesAt f x k → ⊥) → AreBuilt f rows (n + 1) ws
+    → ((k : ℕ) → LeavesAfter f x.thread x.event k → ⊥) → AreBuilt f rows (n + 1) ws
 same_built f rows n ws x are there none t d l = passed_built f rows n t (slice_index_or ws t d) x (are t d l) there (λ _. none)
 
 -- ---- before the first step

@@ -10,6 +10,7 @@ use Rattle.ir_weave.specs.Ahead.{thread_at}
 use Rattle.ir_weave.specs.Standing.{Standing, StandsAt, flat_in}
 use Rattle.ir_weave.specs.States.{positions}
 use Rattle.ir_past.specs.declared.stale_write.StaleWrite.{StaleWrite}
+use Rattle.ir_fit_run.proofs.CallerLemmas.{leave_past}
 use Rattle.ir_rests.specs.Calls.{calls_in, AllSuit}
 use Rattle.ir_rests.specs.WhatIf.{rest_of}
 use Rattle.ir_rests.specs.Rests.{behind_read, behind_write, AreWordsAt, IsRestOf}
@@ -47,7 +48,7 @@ opened_at f rows s t o h stands of here object copied words none = record {
     suit = subst AllSuit (sym none) tt;
   };
   past = omega arith;
-  before = let a = of.span.rises in let w = of.span.write in let b = of.span.leave.leaves.0 in let c = of.span.end in omega (arith, a, w, b, c);
+  before = let a = of.span.rises in let w = of.span.write in let b = leave_past f of.row.thread of.row.event of.span.last of.span.leave.leaves in let c = of.span.end in omega (arith, a, w, b, c);
 }
 
 -- ---- further on
@@ -127,7 +128,7 @@ judged_as f rows t k code o rest is ends same found x there =
       was = o.kept.was.items;
       was_there = is.kept.was;
       now = o.kept.now.items;
-      now_there = is.kept.now (let a = is.of.span.leave.leaves.0 in let b = is.of.span.end in omega (arith, a, b, ends));
+      now_there = is.kept.now (let a = leave_past f is.of.row.thread is.of.row.event is.of.span.last is.of.span.leave.leaves in let b = is.of.span.end in omega (arith, a, b, ends));
       found = λ run whole.
           let to : k ≡ is.of.span.last + 1 = (let b = is.of.span.end in omega (arith, b, ends)) in
           let fuel : k - o.span.read + 65536 ≡ is.of.span.last + 1 - behind_read f is.of.row + 65536 =

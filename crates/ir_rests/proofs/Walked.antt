@@ -10,6 +10,7 @@ use Rattle.ir_weave.specs.Standing.{Standing, flat_in}
 use Rattle.ir_weave.specs.States.{positions}
 use Rattle.ir_past.specs.declared.stale_write.StaleWrite.{StaleWrite}
 use Rattle.ir_events.specs.Walk.{IsFurther}
+use Rattle.ir_fit_run.proofs.CallerLemmas.{leave_past}
 use Rattle.ir_rests.specs.Rests.{IsRestOf}
 use Rattle.ir_rests.specs.Watch.{IsSpanOf, IsOpenAt, IsWatched, IsWatch, IsFound, NoneEnds, IsBeforeStops, AddsRests, AreWatched}
 use Rattle.ir_rests.specs.declared.rest.Rest.{Rest}
@@ -109,7 +110,7 @@ none_watched f rows t k w r is ends all (inl p) =
     let a = is.pending p.0 any p.1 p.2 in
     let b = s.span.rises in
     let c = s.span.write in
-    let d = s.span.leave.leaves.0 in
+    let d = leave_past f s.row.thread s.row.event s.span.last s.span.leave.leaves in
     let e = s.span.end in
     let g = s.span.within in
     let h = ap (λ u. (recorded_thread f.recorded u).steps) s.thread in

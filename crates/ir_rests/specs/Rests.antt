@@ -1,14 +1,13 @@
 -- Which stale writes of a recorded run rest on what was read.
-use Rattle.std.specs.Prelude.{◌≡◌, ◌⊎◌, ℕ, ◌+◌, ◌-◌, ◌≤◌, List, length, slice_get, slice_index, Option, Some, None}
+use Rattle.std.specs.Prelude.{◌≡◌, ◌⊎◌, ℕ, ◌+◌, ◌-◌, List, length, slice_get, slice_index, Option, Some, None}
 use Rattle.std.specs.List.{slice_index_or}
-use Rattle.ir_runs.specs.Labels.{Out}
-use Rattle.ir_runs.specs.declared.access.Access.TheVariants.{Writing}
-use Rattle.ir_runs.specs.Cuts.{Emits, Cut, IsCut, Consistent, object_at}
+use Rattle.ir_runs.specs.Cuts.{Cut, IsCut, Consistent, object_at}
 use Rattle.ir_fit.specs.Fit.{FittedTrace}
 use Rattle.ir_cut.specs.Positions.{EachRun, machine_of, start_of}
 use Rattle.ir_weave.specs.Ahead.{thread_at}
 use Rattle.ir_past.specs.declared.stale_write.StaleWrite.{StaleWrite}
 use Rattle.ir_events.specs.Events.{entry_of}
+use Rattle.ir_fit_run.specs.Positions.{LeavesAfter, IsLeaveOf}
 use Rattle.ir_rests.specs.Calls.{calls_in}
 use Rattle.ir_rests.specs.WhatIf.{rest_of, more_steps}
 use Rattle.ir_rests.specs.declared.rest.Rest.{Rest}
@@ -21,16 +20,6 @@ behind_read f x = entry_of f x.thread x.read + 1
 abbrev pub behind_write : FittedTrace → StaleWrite → ℕ
 behind_write f x = entry_of f x.thread x.event + 1
 
--- step k of the thread is past its write entry, and leaves the object that it wrote
-abbrev pub LeavesAt : FittedTrace → StaleWrite → ℕ → Type 0
-LeavesAt f x k = (behind_write f x ≤ k)
-    × EachRun f (λ run. Emits (machine_of f) (start_of f) run x.thread k (Out x.object Writing x.written))
-
--- the leave after the write entry
-pub record IsLeave (f : FittedTrace) (x : StaleWrite) (k : ℕ) : Type 0 where
-  pub leaves : LeavesAt f x k
-  pub first : (j : ℕ) → LeavesAt f x j → k ≤ j
-
 -- the words of object o at each consistent cut of the run that has thread t at position k
 abbrev pub AreWordsAt : FittedTrace → ℕ → ℕ → ℕ → List ℕ → Type 0
 AreWordsAt f t k o words = EachRun f (λ run. (p : Cut) → IsCut (machine_of f) (start_of f) run p
@@ -41,7 +30,7 @@ AreWordsAt f t k o words = EachRun f (λ run. (p : Cut) → IsCut (machine_of f)
 -- entry to the leave after the write entry, had it read the words that are there behind the write entry
 pub record RestsAs (f : FittedTrace) (x : StaleWrite) (rest : Option Rest) : Type 0 where
   pub last : ℕ
-  pub leave : IsLeave f x last
+  pub leave : IsLeaveOf f x.thread x.event last
   pub was : List ℕ
   pub was_there : AreWordsAt f x.thread (behind_read f x) x.object was
   pub now : List ℕ
@@ -52,7 +41,7 @@ pub record RestsAs (f : FittedTrace) (x : StaleWrite) (rest : Option Rest) : Typ
 
 -- so; a write entry that is never left rests on nothing
 abbrev pub IsRestOf : FittedTrace → StaleWrite → Option Rest → Type 0
-IsRestOf f x rest = RestsAs f x rest ⊎ (((k : ℕ) → LeavesAt f x k → ⊥) × (rest ≡ None))
+IsRestOf f x rest = RestsAs f x rest ⊎ (((k : ℕ) → LeavesAfter f x.thread x.event k → ⊥) × (rest ≡ None))
 
 -- one for each row
 pub record AreRests (f : FittedTrace) (rows : List StaleWrite) (rests : List (Option Rest)) : Type 0 where

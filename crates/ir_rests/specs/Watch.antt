@@ -13,7 +13,8 @@ use Rattle.ir_past.specs.Past.{IsRow, AreStaleWrites}
 use Rattle.ir_past.specs.declared.stale_write.StaleWrite.{StaleWrite}
 use Rattle.ir_events.specs.Walk.{AreEnds}
 use Rattle.ir_rests.specs.Calls.{calls_in, AllSuit}
-use Rattle.ir_rests.specs.Rests.{behind_read, behind_write, LeavesAt, IsLeave, AreWordsAt, IsRestOf}
+use Rattle.ir_fit_run.specs.Positions.{LeavesAfter, IsLeaveOf}
+use Rattle.ir_rests.specs.Rests.{behind_read, behind_write, AreWordsAt, IsRestOf}
 use Rattle.ir_rests.specs.declared.exchange.Exchange.{Exchange}
 use Rattle.ir_rests.specs.declared.rest.Rest.{Rest}
 use Rattle.ir_rests.specs.declared.span.Span.{Span}
@@ -34,7 +35,7 @@ pub record IsSpan (f : FittedTrace) (x : StaleWrite) (s : Span) : Type 0 where
   pub write : s.write ≡ behind_write f x
   pub rises : s.read < s.write
   pub last : ℕ
-  pub leave : IsLeave f x last
+  pub leave : IsLeaveOf f x.thread x.event last
   pub end : s.end ≡ last + 1
   pub within : s.end ≤ (recorded_thread f.recorded x.thread).steps
 
@@ -139,7 +140,7 @@ pub record IsBuilt (f : FittedTrace) (rows : List StaleWrite) (n t : ℕ) (w : W
   pub opened : w.opened.items ≡ []
   pub spans : (i : ℕ) (d : Span) → i < length w.spans.items → IsSpanOf f rows t (slice_index_or w.spans.items i d)
   pub covered : (r : ℕ) (x : StaleWrite) → r < n → slice_get rows r ≡ Some x → x.thread ≡ t
-      → IsPending w r ⊎ ((k : ℕ) → LeavesAt f x k → ⊥)
+      → IsPending w r ⊎ ((k : ℕ) → LeavesAfter f x.thread x.event k → ⊥)
 
 -- so of each thread
 abbrev pub AreBuilt : FittedTrace → List StaleWrite → ℕ → List Watch → Type 0

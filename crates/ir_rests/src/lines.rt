@@ -6,29 +6,20 @@ ghost use Rattle.std.specs.String.{string_bytes};
 ghost use Rattle.arrayvec.specs.ArrayVec.{array_vec_len};
 ghost use Rattle.ir_past.specs.Past.{IsRow, AreStaleWrites};
 ghost use Rattle.ir_past.specs.Lines.{count_line};
-ghost use Rattle.ir_events.specs.Events.{entries_of, entry_of};
+ghost use Rattle.ir_fit_run.specs.Positions.{IsInside};
 ghost use Rattle.ir_rests.specs.Lines.{write_part, read_part, over_part, reason_text, word_part, rest_line, one_if, kept_of, line_if, first_lines, rests_text};
 ghost use Rattle.ir_rests.specs.declared.rest.Rest.{Rest};
 
 use crate::reason::Reason;
 use crate::rest::Rest;
 use ir_fit::Fitted;
+use ir_fit_run::step_of;
 use ir_past::{Place, StaleWrite, write_count};
 use ir_stream::append;
 use ir_text::{Text, put_number};
 use std::alloc::{AllocError, Global};
 
-// How many steps a thread took before the one that logged an event.
-fn step_of(fitted: &Fitted, thread: u8, event: u32) -> u64
-    requires thread { thread < length fitted.now.guest.entries }
-    requires event { event < length (entries_of fitted.now thread) }
-    ensures { result ≡ entry_of fitted.now thread event }
-{
-    fitted.entries(thread as usize)[event as usize]
-}
-
 // Puts the write of a row into an empty text.
-#[tactic(auto, using(crate::proofs::Leaving::placed))]
 fn put_write(text: &mut Text, fitted: &Fitted, row: &StaleWrite)
     requires empty { array_vec_len text.old ≡ 0 }
     requires row { IsRow fitted.now.recorded row.now }
@@ -37,13 +28,22 @@ fn put_write(text: &mut Text, fitted: &Fitted, row: &StaleWrite)
     fitted.known();
     put_number(text, b"thread ", row.thread as u64);
     put_number(text, b" event ", row.event as u64);
-    put_number(text, b" step ", step_of(fitted, row.thread, row.event));
+    put_number(
+        text,
+        b" step ",
+        step_of(
+            fitted,
+            Place {
+                thread: row.thread,
+                event: row.event,
+            },
+        ),
+    );
     put_number(text, b" write ", row.object as u64);
     put_number(text, b" version ", row.written as u64);
 }
 
 // Puts the read of a row into an empty text.
-#[tactic(auto, using(crate::proofs::Leaving::placed))]
 fn put_read(text: &mut Text, fitted: &Fitted, row: &StaleWrite)
     requires empty { array_vec_len text.old ≡ 0 }
     requires row { IsRow fitted.now.recorded row.now }
@@ -51,20 +51,29 @@ fn put_read(text: &mut Text, fitted: &Fitted, row: &StaleWrite)
 {
     fitted.known();
     put_number(text, b" read event ", row.read as u64);
-    put_number(text, b" step ", step_of(fitted, row.thread, row.read));
+    put_number(
+        text,
+        b" step ",
+        step_of(
+            fitted,
+            Place {
+                thread: row.thread,
+                event: row.read,
+            },
+        ),
+    );
     put_number(text, b" version ", row.version as u64);
 }
 
 // Puts what wrote over the read of a row into an empty text.
 fn put_over(text: &mut Text, fitted: &Fitted, place: &Place)
     requires empty { array_vec_len text.old ≡ 0 }
-    requires thread { place.now.thread < length fitted.now.guest.entries }
-    requires event { place.now.event < length (entries_of fitted.now place.now.thread) }
+    requires placed { IsInside fitted.now place.now.thread place.now.event }
     ensures { text.new.items ≡ text.old.items ++ over_part fitted.now place.now }
 {
     put_number(text, b" overwritten by thread ", place.thread as u64);
     put_number(text, b" event ", place.event as u64);
-    put_number(text, b" step ", step_of(fitted, place.thread, place.event));
+    put_number(text, b" step ", step_of(fitted, *place));
 }
 
 // How the thread would have acted otherwise.

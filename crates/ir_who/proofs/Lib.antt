@@ -1,2 +1,4 @@
 mod Shown
 mod Listed
+mod FitShown
+mod FitListed

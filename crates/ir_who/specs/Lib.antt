@@ -1,2 +1,4 @@
 pub mod Versions
 pub mod Lines
+pub mod Lefts
+pub mod FitLines

@@ -1,6 +1,10 @@
 //! Who made each version of an object, and who read it, by a recorded trace.
 #![tactic(auto)]
 
+mod fit_lines;
+mod fit_run;
+mod fit_texts;
+mod lefts;
 mod lines;
 mod question;
 mod run;
@@ -9,6 +13,7 @@ mod version;
 mod versions;
 mod who_err;
 
+pub use fit_run::who_fit_run;
 pub use question::Question;
 pub use run::who_run;
 pub use version::Version;

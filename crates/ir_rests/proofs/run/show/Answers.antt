@@ -8,7 +8,7 @@ use Rattle.ir_rests.proofs.run.show.Goals as goal
 pub returns-in-Refused-clause-fails : goal.returns-in-Refused-clause-fails
 returns-in-Refused-clause-fails g c =
     let because : IsOpened c.args.image.now c.args.trace.now (Refused c.in-Refused.why) =
-    subst (IsOpened c.args.image.now c.args.trace.now) c.in-Refused.is c.in_ok-open_fit.ensures in
+    subst (IsOpened c.args.image.now c.args.trace.now) c.in-Refused.is c.in_ok-fitted.ensures in
     (refusal_shown IsRestsAnswer c.args.image.now c.args.trace.now c.in-Refused.why c.refuse.result (g.O.Sink.written c.args.out.now)
     (g.O.Sink.written c.refuse.new.out) (g.O.Sink.broken c.refuse.new.out) because c.refuse.ensures.status c.refuse.ensures.ok
     c.refuse.ensures.works c.refuse.ensures.fails).1

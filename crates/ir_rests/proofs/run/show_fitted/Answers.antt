@@ -1,4 +1,4 @@
-use Rattle.std.proofs.Common.{inl, refl}
+use Rattle.std.proofs.Common.{inl, refl, sym, subst}
 use Rattle.std.proofs.lemmas.Result.{err_from_is_err_and}
 use Rattle.ir_files.specs.declared.exit_status.ExitStatus.TheVariants as status
 use Rattle.ir_files.proofs.CallerLemmas.{if_err}
@@ -12,6 +12,6 @@ pub returns-in_err-write_all-clause-fails : goal.returns-in_err-write_all-clause
 returns-in_err-write_all-clause-fails g c =
     let p = err_from_is_err_and c.from_residual-in_err-write_all.result c.from_residual-in_err-write_all.ensures.1 in
     if_err _ c.from_residual-in_err-write_all.result Write p.0 p.1 p.2
-    (λ i t fits. stopped (IsAnswerOf IsRestsAnswer i t) status.Done c.in_ok-text.text.items Write _
-    (inl (record { fitted = c.args.fitted.now; fits = fits; status = refl; answer = c.in_ok-text.ensures }))
+    (λ i t fits. stopped (IsAnswerOf IsRestsAnswer i t) status.Done c.as_slice.result.now Write _
+    (inl (record { fitted = c.args.fitted.now; fits = fits; status = refl; answer = subst (IsRestsAnswer c.args.fitted.now) (sym c.as_slice.ensures.value) c.in_ok-text.ensures }))
     (c.in_err-write_all.ensures.prefix, c.in_err-write_all.ensures.err))

@@ -1,17 +1,21 @@
 use Rattle.std.proofs.Common.{arith, sym, subst, ℕ, ◌+◌}
-use Rattle.ir_rests.proofs.Leaving.{placed, leave_fits, spanned}
+use Rattle.ir_fit_run.proofs.CallerLemmas.{leave_fits}
+use Rattle.ir_rests.proofs.Leaving.{placed, spanned}
 use Rattle.ir_rests.specs.Watch.{IsSpan}
 use Rattle.ir_rests.proofs.spans.span_of.Goals as goal
 
-pub behind-read-requires-clause-event : goal.behind-read-requires-clause-event
-behind-read-requires-clause-event c = (placed c.args.fitted.now c.known.ensures.run c.args.stale.now c.requires).read
+pub behind-read-requires : goal.behind-read-requires
+behind-read-requires c = (placed c.args.fitted.now c.known.ensures.run c.args.stale.now c.requires).read
 
-pub behind-write-requires-clause-event : goal.behind-write-requires-clause-event
-behind-write-requires-clause-event c = (placed c.args.fitted.now c.known.ensures.run c.args.stale.now c.requires).event
+pub behind-write-requires : goal.behind-write-requires
+behind-write-requires c = (placed c.args.fitted.now c.known.ensures.run c.args.stale.now c.requires).event
+
+pub leave_of-requires : goal.leave_of-requires
+leave_of-requires c = (placed c.args.fitted.now c.known.ensures.run c.args.stale.now c.requires).event
 
 pub overflow_add-result : goal.overflow_add-result
 overflow_add-result c =
-    let fits = leave_fits c.args.fitted.now c.known.ensures c.args.stale.now c.in_ok-last.last
+    let fits = leave_fits c.args.fitted.now c.known.ensures c.args.stale.now.thread c.args.stale.now.event c.in_ok-last.last
     (placed c.args.fitted.now c.known.ensures.run c.args.stale.now c.requires).there c.in_ok-last.ensures.found.leaves in
     omega (arith, fits)
 
